@@ -1,0 +1,30 @@
+//! Where bytes come from and where they go, in contracts that say when a device failed.
+#![tactic(auto)]
+
+mod fault;
+mod file_target;
+mod log;
+mod memory;
+mod memory_target;
+mod reading;
+mod sink;
+mod source;
+mod std_devices;
+mod tally;
+mod target;
+#[cfg(test)]
+mod tests;
+mod writing;
+
+pub use fault::{DeviceFault, InFault, NotOpened, PublishFault, WriteFault};
+pub use file_target::FileTarget;
+pub use log::Log;
+pub use memory::{Endless, Full, Pieces, Room, Then};
+pub use memory_target::MemoryTarget;
+pub use reading::read_up_to;
+pub use sink::Sink;
+pub use source::Source;
+pub use std_devices::{Reading, Writing};
+pub use tally::Tally;
+pub use target::{Target, publish};
+pub use writing::write_all;

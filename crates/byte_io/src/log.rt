@@ -1,0 +1,27 @@
+//! A list of bytes that only proofs read. It takes no memory, so it has no last value.
+ghost use Rattle.std.specs.Prelude.{◌≡◌, ℕ, List, [], ◌++◌};
+ghost use Rattle.std.specs.Borrow.{ftrue};
+
+use std::marker::Model;
+
+/// The bytes that have gone by. A clause reads them as `bytes`.
+#[derive(Drop)]
+pub struct Log {
+    pub ghost bytes: { List ℕ },
+}
+
+impl Model for Log {
+    ghost also_owns = { λ _. ftrue };
+}
+
+impl Log {
+    pub fn empty() -> Log
+        ensures { result.bytes ≡ [] }
+    {
+        Log {}
+    }
+
+    pub fn note(&mut self, _bytes: &[u8])
+        ensures { self.new.bytes ≡ self.old.bytes ++ _bytes.now }
+    {}
+}

@@ -1,0 +1,42 @@
+ghost use Rattle.std.specs.Prelude.{◌<◌, IfOk, IfErr};
+ghost use Rattle.byte_io.specs.Whole.{ReadsUpTo, IsInFault, IsChunk};
+
+use crate::fault::InFault;
+use crate::source::Source;
+use std::alloc::Global;
+
+const CHUNK: usize = 4096;
+
+/// Reads once, at most `room` bytes, behind those that are there. It gives none only at the end.
+fn read_chunk<S: Source>(source: &mut S, bytes: &mut Vec<u8>, room: usize) -> Result<usize, InFault>
+    requires { 0 < room }
+    ensures { IsChunk room bytes.old.items bytes.new.items
+        (S.state source.old) (S.state source.new) result }
+{
+    let mut chunk = [0u8; CHUNK];
+    let want = room.min(CHUNK);
+    match source.read_some(&mut chunk[..want]) {
+        Ok(n) => {
+            bytes.extend_from_slice(&chunk[..n])?;
+            Ok(n)
+        }
+        Err(_) => Err(InFault::ReadFailed(bytes.len())),
+    }
+}
+
+/// The bytes of the source up to its end, or the first `most` of them, in whatever pieces it gives them.
+pub fn read_up_to<S: Source>(alloc: Global, source: &mut S, most: usize) -> Result<Vec<u8>, InFault>
+    ensures ok { IfOk result (λ v. ReadsUpTo most (S.state source.old) (S.state source.new) v.items) }
+    ensures fault { IfErr result (IsInFault most (S.state source.old) (S.state source.new)) }
+{
+    let mut bytes = Vec::new(alloc);
+    while bytes.len() < most {
+        let room = most - bytes.len();
+        match read_chunk(source, &mut bytes, room) {
+            Ok(0) => return Ok(bytes),
+            Ok(_) => {}
+            Err(fault) => return Err(fault),
+        }
+    }
+    Ok(bytes)
+}

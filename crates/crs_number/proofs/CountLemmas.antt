@@ -1,0 +1,166 @@
+-- The test of a count decides whether a text is one, and what a text spells is one number.
+use Rattle.std.proofs.Common.{◌≡◌, ℕ, suc, ◌*◌, ◌/◌, ◌%◌, ◌^◌, ◌<◌, ◌≤◌, Bool, true, false, List, [], ◌++◌, length, decimal, ℤ, pos, negsuc, unsigned_abs, Option, Some, None, IfSome, Ok, Err, refl, sym, ap, ◌∙◌, inl, inr, arith, append-nil, mul-one}
+use Rattle.std.specs.Prelude.{nat_le, is_some}
+use Rattle.std.specs.Str.Parse.{digits_value}
+use Rattle.std.proofs.Math.Nat.{mul-div_cancel}
+use Rattle.std.proofs.lemmas.Int.{ints}
+use Rattle.std.proofs.lemmas.Bool.Decides.{nat_tests}
+use Rattle.std.proofs.lemmas.Fmt.{decimal_is_IsNumeral, length-decimal-le}
+use Rattle.crs_number.specs.declared.decimals.Decimal.{Decimal}
+use Rattle.crs_number.specs.declared.decimals.NumberFault.{NumberFault}
+use Rattle.crs_number.specs.Numeral.{Parts, HasParts, IsNormalForm, Spells, number_of, exponent_of}
+use Rattle.crs_number.specs.Value.{IsWhole}
+use Rattle.crs_number.specs.ByValue.{is_below_zero, sign_of}
+use Rattle.crs_number.specs.Laws.{power_pos, sign_size, not_zero}
+use Rattle.crs_number.specs.Count.{SpellsWhole, IsCount, parts_in, is_count}
+use Rattle.crs_number.proofs.Normal.{normal_zero, normal_once}
+use Rattle.crs_number.proofs.Values.{value_of_form}
+use Rattle.crs_number.proofs.CountTexts.{both, and_true, parts_from, parts_to}
+use Rattle.crs_number.proofs.CountValues.{whole_from_normal, count_at_from, count_at_to, normal_of_count}
+
+short_enough : (m n : ℕ) → nat_le m n ≡ true → m ≤ n
+short_enough m n h = grind (arith, nat_tests)
+
+passes_short : (m n : ℕ) → m ≤ n → nat_le m n ≡ true
+passes_short m n h = grind (arith, nat_tests)
+
+-- a numeral with these parts, whose value is a count
+spells_from : (text : List ℕ) (parts : Parts) → HasParts text parts → length text ≤ 100 → length parts.exponent ≤ 4 → (n : ℕ) → n < 2 ^ 32 → IsWhole (number_of parts) (exponent_of parts) (pos n) → SpellsWhole text n
+spells_from text parts form short short_exponent n small whole =
+    let normal = normal_of_count (number_of parts) (exponent_of parts) n small whole in
+    record {
+      coefficient = normal.coefficient;
+      exponent = normal.exponent;
+      spells = record {
+        parts = parts;
+        form = form;
+        value = record { normal = normal.normal; short_exponent = short_exponent; in_range = normal.in_range };
+        short = short;
+      };
+      whole = normal.whole;
+    }
+
+-- a text that passes is a count
+pub count_from : (text : List ℕ) → is_count text ≡ true → IsCount text
+unfolding is_count
+count_from text h =
+    let form = both _ _ h in
+    let short = both _ _ form.1 in
+    let value = both _ _ short.1 in
+    let at = count_at_from (number_of (parts_in text)) (exponent_of (parts_in text)) value.1 in
+    record {
+      count = at.count;
+      spelled = spells_from text (parts_in text) (parts_from text form.0) (short_enough _ _ short.0) (short_enough _ _ value.0) at.count at.small at.whole;
+      small = at.small;
+    }
+
+-- a count passes
+pub count_to : (text : List ℕ) → IsCount text → is_count text ≡ true
+unfolding is_count
+count_to text h =
+    let spells = h.spelled.spells in
+    let numeral = parts_to text spells.parts spells.form in
+    let parts = parts_in text in
+    let value = value_of_form text parts h.spelled.coefficient h.spelled.exponent (parts_from text numeral) spells in
+    let whole = whole_from_normal (number_of parts) (exponent_of parts) h.spelled.coefficient h.spelled.exponent h.count value.normal h.spelled.whole in
+    and_true _ _ numeral (and_true _ _ (passes_short _ _ spells.short) (and_true _ _ (passes_short _ _ value.short_exponent) (count_at_to _ _ h.count whole h.small)))
+
+-- ---- a text spells one number
+
+normal_form_once : (z x c e d f : ℤ) → IsNormalForm z x c e → IsNormalForm z x d f → (c ≡ d) × (e ≡ f)
+normal_form_once z x c e d f (inl h) g =
+    let none = normal_zero (is_below_zero z) (unsigned_abs z) x d f (ap unsigned_abs h.0) (rw (sign_of z) g) in
+    (h.1 ∙ none.0, h.2 ∙ none.1)
+normal_form_once z x c e d f (inr h) g =
+    let size = sign_size (is_below_zero z) (unsigned_abs z) c (10 ^ h.1.0) (power_pos h.1.0) (not_zero (unsigned_abs c) h.0) (sign_of z ∙ h.1.1) in
+    let some = normal_once (is_below_zero z) (unsigned_abs z) (unsigned_abs c) h.1.0 x d f size.0 h.0 (rw (sign_of z) g) in
+    (sym size.1 ∙ some.0, h.1.2 ∙ some.1)
+
+pub spells_once : (text : List ℕ) (c e d f : ℤ) → Spells text c e → Spells text d f → (c ≡ d) × (e ≡ f)
+spells_once text c e d f s t =
+    normal_form_once (number_of s.parts) (exponent_of s.parts) c e d f s.value.normal (value_of_form text s.parts d f s.form t).normal
+
+whole_once : (c e : ℤ) (m n : ℕ) → IsWhole c e (pos m) → IsWhole c e (pos n) → m ≡ n
+whole_once c (pos k) m n h g = omega (arith, ints, h ∙ sym g)
+whole_once c (negsuc k) m n h g =
+    let p = 10 ^ suc k in
+    let same : m * p ≡ n * p = omega (arith, ints, sym h ∙ g) in
+    sym (mul-div_cancel m (power_pos (suc k))) ∙ (ap (λ x. x / p) same ∙ mul-div_cancel n (power_pos (suc k)))
+
+-- a text spells one whole number at most
+pub count_once : (text : List ℕ) (m n : ℕ) → SpellsWhole text m → SpellsWhole text n → m ≡ n
+count_once text m n s t =
+    let same = spells_once text s.coefficient s.exponent t.coefficient t.exponent s.spells t.spells in
+    whole_once t.coefficient t.exponent m n (rw (same.0, same.1) at s.whole) t.whole
+
+-- ---- a count's decimal text
+
+decimal_parts : ℕ → Parts
+decimal_parts n = record { negative = false; whole = decimal n; fraction = []; exponent_negative = false; exponent = [] }
+
+decimal_form : (n : ℕ) → n < 2 ^ 32 → HasParts (decimal n) (decimal_parts n)
+unfolding decimal_parts
+decimal_form n h =
+    let numeral = decimal_is_IsNumeral n (omega (arith, h)) in
+    record {
+      sign = [];
+      point = [];
+      power = [];
+      is_sign = refl;
+      is_whole = numeral.0.1;
+      is_point = refl;
+      is_power = (refl, refl);
+      has_digits = omega (arith, numeral.0.0);
+      is_text = sym (append-nil (decimal n));
+    }
+
+decimal_whole : (n : ℕ) → n < 2 ^ 32 → IsWhole (number_of (decimal_parts n)) (exponent_of (decimal_parts n)) (pos n)
+unfolding decimal_parts
+decimal_whole n h =
+    let value : digits_value 10 (decimal n ++ []) ≡ n = ap (digits_value 10) (append-nil (decimal n)) ∙ (decimal_is_IsNumeral n (omega (arith, h))).1 in
+    ap pos (sym (mul-one (digits_value 10 (decimal n ++ [])) ∙ value))
+
+pub decimal_spells : (n : ℕ) → n < 2 ^ 32 → SpellsWhole (decimal n) n
+unfolding decimal_parts
+decimal_spells n h =
+    spells_from (decimal n) (decimal_parts n) (decimal_form n h) (omega (arith, length-decimal-le 10 n (omega arith) (omega (arith, h)) (omega (arith, h)))) (omega arith) n h (decimal_whole n h)
+
+pub decimal_is_count : (n : ℕ) → n < 2 ^ 32 → is_count (decimal n) ≡ true
+decimal_is_count n h = count_to (decimal n) (record { count = n; spelled = decimal_spells n h; small = h })
+
+-- ---- what reading a numeral tells
+
+zero_only : (z x c e : ℤ) → IsNormalForm z x c e → unsigned_abs c % 10 ≡ 0 → (c ≡ pos 0) × (e ≡ pos 0)
+zero_only z x c e (inl h) t = (h.1, h.2)
+zero_only z x c e (inr h) t = absurd (h.0 t)
+
+decimal_of : (text : List ℕ) (c e : ℤ) → Spells text c e → Decimal
+decimal_of text c e s = record {
+  coefficient = c;
+  exponent = e;
+  small = s.value.in_range.small;
+  low = s.value.in_range.low;
+  high = s.value.in_range.high;
+  tenless = zero_only (number_of s.parts) (exponent_of s.parts) c e s.value.normal;
+}
+
+not_count : (text : List ℕ) (b : Bool) → is_count text ≡ b → (IsCount text → ⊥) → false ≡ b
+not_count text true e h = absurd (h (count_from text e))
+not_count text false e h = refl
+
+-- a text that spells no decimal is no count
+pub refused_count : (text : List ℕ) (fault : NumberFault) → ((d : Decimal) → Spells text d.coefficient d.exponent → Err fault ≡ Ok d) → false ≡ is_count text
+unfolding decimal_of
+refused_count text fault only = not_count text (is_count text) refl (λ h.
+    let s = h.spelled in
+    let found : Err fault ≡ Ok (decimal_of text s.coefficient s.exponent s.spells) = only (decimal_of text s.coefficient s.exponent s.spells) s.spells in
+    cc)
+
+-- the number of a text that spells a decimal
+pub counted : (text : List ℕ) (d : Decimal) (o : Option ℕ) → Spells text d.coefficient d.exponent → IfSome o (λ n. n < 2 ^ 32) → IfSome o (λ n. IsWhole d.coefficient d.exponent (pos n)) → ((n : ℕ) → n < 2 ^ 32 → IsWhole d.coefficient d.exponent (pos n) → o ≡ Some n) → is_some o ≡ is_count text
+counted text d (Some n) s small whole only =
+    sym (count_to text (record { count = n; spelled = record { coefficient = d.coefficient; exponent = d.exponent; spells = s; whole = whole }; small = small }))
+counted text d None s small whole only = not_count text (is_count text) refl (λ h.
+    let same = spells_once text h.spelled.coefficient h.spelled.exponent d.coefficient d.exponent h.spelled.spells s in
+    let found : None ≡ Some h.count = only h.count h.small (rw (same.0, same.1) at h.spelled.whole) in
+    cc)

@@ -1,0 +1,10 @@
+pub mod Numeral
+pub mod Bytes
+pub mod Reading
+pub mod Parts
+pub mod Reduced
+pub mod Value
+pub mod ByValue
+pub mod Laws
+pub mod Canonical
+pub mod Count

@@ -1,0 +1,192 @@
+ghost use Rattle.std.specs.Prelude.{◌≡◌, ◌≢◌, ℕ, ◌+◌, ◌++◌, ◌*◌, ◌%◌, ◌^◌, ◌<◌, ◌≤◌, ◌↔◌, ℤ, pos, negsuc, ◌+ℤ◌, ◌-ℤ◌, ◌≤ℤ◌, unsigned_abs, IfSome, IsSomeAnd, IfOk, OnOk, OnErr, IsOkAnd, IsErrOf, MatchOption, length, vec_len, vec_capacity};
+ghost use Rattle.std.specs.Str.Parse.{AllDigits, digits_value};
+ghost use Rattle.crs_number.specs.Numeral.{signed, IsNormalForm, IsInRange, HasForm, HasDigits, HasValue, Spells};
+ghost use Rattle.crs_number.specs.Parts.{parts_of};
+ghost use Rattle.crs_number.specs.Value.{IsWhole};
+ghost use Rattle.crs_number.specs.Canonical.{canonical, Extends};
+
+use crate::numerals::Numeral;
+use crate::reduced::{Reduced, scaled};
+use crate::text::push_plain;
+use std::alloc::AllocError;
+
+/// A text that does not spell a decimal.
+#[derive(Clone, Copy, Debug, PartialEq, Eq)]
+pub enum NumberFault {
+    /// It has not the form of a numeral.
+    BadNumber,
+    /// It is too long, or its value is no decimal.
+    NumberRange,
+}
+
+/// A coefficient times a power of ten. The coefficient is no multiple of ten, and zero is 0 times
+/// ten to the 0.
+#[derive(Clone, Copy, Debug, PartialEq, Eq)]
+pub struct Decimal {
+    coefficient: i128,
+    exponent: i32,
+    pub ghost small: { unsigned_abs coefficient < 10 ^ 34 },
+    pub ghost low: { negsuc 39 ≤ℤ exponent },
+    pub ghost high: { exponent ≤ℤ pos 40 },
+    pub ghost tenless: { unsigned_abs coefficient % 10 ≡ 0 → (coefficient ≡ pos 0) × (exponent ≡ pos 0) },
+}
+
+impl Decimal {
+    ghost use Rattle.crs_number.specs.declared.decimals.Decimal.{Decimal};
+
+    pub const ZERO: Decimal = Decimal {
+        coefficient: 0,
+        exponent: 0,
+    };
+
+    pub fn coefficient(&self) -> i128
+        ensures { result ≡ self.now.coefficient }
+    {
+        self.coefficient
+    }
+
+    pub fn exponent(&self) -> i32
+        ensures { result ≡ self.now.exponent }
+    {
+        self.exponent
+    }
+
+    /// The decimal that the text spells.
+    pub fn from_numeral(text: &[u8]) -> Result<Decimal, NumberFault>
+        ensures found { IfOk result (λ d. Spells text.now d.coefficient d.exponent) }
+        ensures only { (d : Decimal) → Spells text.now d.coefficient d.exponent → result ≡ Ok d }
+        ensures bad { IsErrOf result NumberFault.BadNumber ↔ ¬ HasForm text.now }
+        ensures range { IsErrOf result NumberFault.NumberRange → HasForm text.now }
+    {
+        let Some(numeral) = Numeral::split(text) else {
+            return Err(NumberFault::BadNumber);
+        };
+        if text.len() > MAX_TEXT {
+            return Err(NumberFault::NumberRange);
+        }
+        Decimal::from_parts(&numeral).ok_or(NumberFault::NumberRange)
+    }
+
+    /// The count that this is, from 0 to 4,294,967,295.
+    pub fn as_count(&self) -> Option<u32>
+        ensures found { IfSome result (λ n. IsWhole self.now.coefficient self.now.exponent (pos n)) }
+        ensures only { (n : ℕ) → n < 2 ^ 32 → IsWhole self.now.coefficient self.now.exponent (pos n)
+            → result ≡ Some n }
+    {
+        if self.coefficient < 0 || self.exponent < 0 {
+            return None;
+        }
+        let size = self.coefficient.unsigned_abs();
+        let whole = scaled(size, self.exponent.unsigned_abs())?;
+        u32::try_from(whole).ok()
+    }
+
+    /// Appends the canonical text, or nothing.
+    pub fn write_to(&self, out: &mut Vec<u8>) -> Result<(), AllocError>
+        ensures ok { OnOk result (out.new.items ≡ out.old.items ++ canonical self.now.coefficient self.now.exponent) }
+        ensures err { OnErr result (out.new.items ≡ out.old.items) }
+        ensures full { OnErr result (vec_capacity out.old
+            < vec_len out.old + length (canonical self.now.coefficient self.now.exponent)) }
+        ensures reads_back { Spells
+            (canonical self.now.coefficient self.now.exponent)
+            self.now.coefficient
+            self.now.exponent }
+    {
+        let before = out.len();
+        let written = self.push_text(out);
+        if written.is_err() {
+            out.truncate(before);
+        }
+        written
+    }
+
+    /// Appends the canonical text, or a part of it.
+    fn push_text(&self, out: &mut Vec<u8>) -> Result<(), AllocError>
+        ensures ok { OnOk result (out.new.items ≡ out.old.items ++ canonical self.now.coefficient self.now.exponent) }
+        ensures err { OnErr result (Extends out.old.items out.new.items) }
+        ensures full { OnErr result (vec_capacity out.old
+            < vec_len out.old + length (canonical self.now.coefficient self.now.exponent)) }
+    {
+        if self.coefficient < 0 {
+            out.push(b'-')?;
+        }
+        push_plain(out, self.coefficient.unsigned_abs(), self.exponent)
+    }
+
+    /// The value of the parts, if it is in range.
+    pub(crate) fn from_parts(numeral: &Numeral<'_>) -> Option<Decimal>
+        requires digits { HasDigits (parts_of numeral.now) }
+        requires short { length numeral.now.whole.now + length numeral.now.fraction.now ≤ 100 }
+        ensures found { IfSome result (λ d. HasValue (parts_of numeral.now) d.coefficient d.exponent) }
+        ensures only { (c e : ℤ) → HasValue (parts_of numeral.now) c e
+            → IsSomeAnd result (λ d. (d.coefficient ≡ c) × (d.exponent ≡ e)) }
+    {
+        let exponent = numeral.power.exponent()?;
+        let whole = Reduced::ZERO.with_digits(numeral.whole)?;
+        let number = whole.with_digits(numeral.fraction)?;
+        let power = lowered(exponent, numeral.fraction.len());
+        Decimal::from_reduced(numeral.negative, number, power)
+    }
+
+    /// The decimal that is this number times ten to the power, if it is in range.
+    fn from_reduced(negative: bool, reduced: Reduced, power: i32) -> Option<Decimal>
+        requires low { negsuc 99999 ≤ℤ power }
+        requires high { power ≤ℤ pos 99999 }
+        requires zeros { reduced.zeros ≤ 100 }
+        ensures found { let n = signed negative (reduced.coefficient * 10 ^ reduced.zeros)
+            in IfSome result (λ d. IsNormalForm n power d.coefficient d.exponent) }
+        ensures only { let n = signed negative (reduced.coefficient * 10 ^ reduced.zeros)
+            in (c e : ℤ) → IsNormalForm n power c e → IsInRange c e
+            → IsSomeAnd result (λ d. (d.coefficient ≡ c) × (d.exponent ≡ e)) }
+    {
+        if reduced.coefficient == 0 {
+            return Some(Decimal::ZERO);
+        }
+        let exponent = raised(power, reduced.zeros);
+        if exponent < MIN_EXPONENT || exponent > MAX_EXPONENT {
+            return None;
+        }
+        Some(Decimal {
+            coefficient: with_sign(negative, reduced.coefficient),
+            exponent,
+        })
+    }
+}
+
+fn with_sign(negative: bool, size: u128) -> i128
+    requires { size < 10 ^ 34 }
+    ensures { result ≡ signed negative size }
+{
+    if negative {
+        -(size as i128)
+    } else {
+        size as i128
+    }
+}
+
+fn lowered(power: i32, places: usize) -> i32
+    requires low { negsuc 65535 ≤ℤ power }
+    requires places { places ≤ 100 }
+    ensures { result ≡ power -ℤ pos places }
+{
+    power - places as i32
+}
+
+fn raised(power: i32, zeros: u32) -> i32
+    requires low { negsuc 99999 ≤ℤ power }
+    requires high { power ≤ℤ pos 99999 }
+    requires zeros { zeros ≤ 100 }
+    ensures { result ≡ power +ℤ pos zeros }
+{
+    power + zeros as i32
+}
+
+/// A longer numeral spells no decimal.
+pub(crate) const MAX_TEXT: usize = 100;
+
+const MIN_EXPONENT: i32 = -40;
+
+const MAX_EXPONENT: i32 = 40;
+
+#[cfg(test)]
+mod tests;

@@ -1,0 +1,301 @@
+//! Coordinate reference systems, one field a slot.
+
+ghost use Rattle.std.specs.Prelude.{◌≡◌, ◌↔◌, IsTrue};
+
+use crate::conversions::Conversion;
+use crate::copies::TryClone;
+use crate::datums::{GeodeticFrame, PrimeMeridian, VerticalFrame};
+use crate::identifiers::Ident;
+use crate::many::{Many, NonEmpty};
+use crate::same::Same;
+use crate::systems::{Axis, CoordSystem};
+use crate::text::Text;
+use crate::units::{AngleUnit, Unit};
+use crate::usages::Usage;
+use std::alloc::{AllocError, Global};
+
+#[derive(Clone, Copy, Debug, PartialEq, Eq)]
+pub enum GeodeticKind {
+    Geodetic,
+    Geographic,
+}
+
+/// The geodetic reference system that a projected one is made of.
+#[derive(Drop)]
+pub struct BaseCrs {
+    pub kind: GeodeticKind,
+    pub name: Text,
+    pub datum: GeodeticFrame,
+    pub prime_meridian: Option<PrimeMeridian>,
+    pub unit: Option<AngleUnit>,
+    pub ids: Many<Ident>,
+}
+
+/// A geodetic or geographic reference system.
+#[derive(Drop)]
+pub struct Geodetic {
+    pub kind: GeodeticKind,
+    pub name: Text,
+    pub datum: GeodeticFrame,
+    pub prime_meridian: Option<PrimeMeridian>,
+    pub system: CoordSystem,
+    pub axes: NonEmpty<Axis>,
+    pub unit: Option<Unit>,
+    pub usages: Many<Usage>,
+    pub ids: Many<Ident>,
+    pub remark: Option<Text>,
+}
+
+/// A projected reference system.
+#[derive(Drop)]
+pub struct Projected {
+    pub name: Text,
+    pub base: BaseCrs,
+    pub conversion: Conversion,
+    pub system: CoordSystem,
+    pub axes: NonEmpty<Axis>,
+    pub unit: Option<Unit>,
+    pub usages: Many<Usage>,
+    pub ids: Many<Ident>,
+    pub remark: Option<Text>,
+}
+
+/// A vertical reference system.
+#[derive(Drop)]
+pub struct Vertical {
+    pub name: Text,
+    pub datum: VerticalFrame,
+    pub system: CoordSystem,
+    pub axes: NonEmpty<Axis>,
+    pub unit: Option<Unit>,
+    pub usages: Many<Usage>,
+    pub ids: Many<Ident>,
+    pub remark: Option<Text>,
+}
+
+/// A reference system of one part.
+#[derive(Drop)]
+pub enum Single {
+    Geodetic(Geodetic),
+    Projected(Projected),
+    Vertical(Vertical),
+}
+
+/// A reference system of two parts.
+#[derive(Drop)]
+pub struct Compound {
+    pub name: Text,
+    pub first: Single,
+    pub second: Single,
+    pub usages: Many<Usage>,
+    pub ids: Many<Ident>,
+    pub remark: Option<Text>,
+}
+
+/// The parts of a coordinate reference system.
+#[derive(Drop)]
+pub enum CrsParts {
+    Single(Single),
+    Compound(Compound),
+}
+
+impl TryClone for BaseCrs {
+    fn try_clone(&self, alloc: Global) -> Result<BaseCrs, AllocError> {
+        Ok(BaseCrs {
+            kind: self.kind,
+            name: self.name.try_clone(alloc)?,
+            datum: self.datum.try_clone(alloc)?,
+            prime_meridian: self.prime_meridian.try_clone(alloc)?,
+            unit: self.unit.try_clone(alloc)?,
+            ids: self.ids.try_clone(alloc)?,
+        })
+    }
+}
+
+impl Same for BaseCrs {
+    fn same(&self, other: &BaseCrs) -> bool {
+        self.kind == other.kind
+            && self.name.same(&other.name)
+            && self.datum.same(&other.datum)
+            && self.prime_meridian.same(&other.prime_meridian)
+            && self.unit.same(&other.unit)
+            && self.ids.same(&other.ids)
+    }
+}
+
+impl TryClone for Geodetic {
+    fn try_clone(&self, alloc: Global) -> Result<Geodetic, AllocError> {
+        Ok(Geodetic {
+            kind: self.kind,
+            name: self.name.try_clone(alloc)?,
+            datum: self.datum.try_clone(alloc)?,
+            prime_meridian: self.prime_meridian.try_clone(alloc)?,
+            system: self.system.try_clone(alloc)?,
+            axes: self.axes.try_clone(alloc)?,
+            unit: self.unit.try_clone(alloc)?,
+            usages: self.usages.try_clone(alloc)?,
+            ids: self.ids.try_clone(alloc)?,
+            remark: self.remark.try_clone(alloc)?,
+        })
+    }
+}
+
+impl Same for Geodetic {
+    fn same(&self, other: &Geodetic) -> bool {
+        self.kind == other.kind
+            && self.name.same(&other.name)
+            && self.datum.same(&other.datum)
+            && self.prime_meridian.same(&other.prime_meridian)
+            && self.system.same(&other.system)
+            && self.axes.same(&other.axes)
+            && self.unit.same(&other.unit)
+            && self.usages.same(&other.usages)
+            && self.ids.same(&other.ids)
+            && self.remark.same(&other.remark)
+    }
+}
+
+impl TryClone for Projected {
+    fn try_clone(&self, alloc: Global) -> Result<Projected, AllocError> {
+        Ok(Projected {
+            name: self.name.try_clone(alloc)?,
+            base: self.base.try_clone(alloc)?,
+            conversion: self.conversion.try_clone(alloc)?,
+            system: self.system.try_clone(alloc)?,
+            axes: self.axes.try_clone(alloc)?,
+            unit: self.unit.try_clone(alloc)?,
+            usages: self.usages.try_clone(alloc)?,
+            ids: self.ids.try_clone(alloc)?,
+            remark: self.remark.try_clone(alloc)?,
+        })
+    }
+}
+
+impl Same for Projected {
+    fn same(&self, other: &Projected) -> bool {
+        self.name.same(&other.name)
+            && self.base.same(&other.base)
+            && self.conversion.same(&other.conversion)
+            && self.system.same(&other.system)
+            && self.axes.same(&other.axes)
+            && self.unit.same(&other.unit)
+            && self.usages.same(&other.usages)
+            && self.ids.same(&other.ids)
+            && self.remark.same(&other.remark)
+    }
+}
+
+impl TryClone for Vertical {
+    fn try_clone(&self, alloc: Global) -> Result<Vertical, AllocError> {
+        Ok(Vertical {
+            name: self.name.try_clone(alloc)?,
+            datum: self.datum.try_clone(alloc)?,
+            system: self.system.try_clone(alloc)?,
+            axes: self.axes.try_clone(alloc)?,
+            unit: self.unit.try_clone(alloc)?,
+            usages: self.usages.try_clone(alloc)?,
+            ids: self.ids.try_clone(alloc)?,
+            remark: self.remark.try_clone(alloc)?,
+        })
+    }
+}
+
+impl Same for Vertical {
+    fn same(&self, other: &Vertical) -> bool {
+        self.name.same(&other.name)
+            && self.datum.same(&other.datum)
+            && self.system.same(&other.system)
+            && self.axes.same(&other.axes)
+            && self.unit.same(&other.unit)
+            && self.usages.same(&other.usages)
+            && self.ids.same(&other.ids)
+            && self.remark.same(&other.remark)
+    }
+}
+
+impl TryClone for Single {
+    fn try_clone(&self, alloc: Global) -> Result<Single, AllocError> {
+        match self {
+            Single::Geodetic(geodetic) => Ok(Single::Geodetic(geodetic.try_clone(alloc)?)),
+            Single::Projected(projected) => Ok(Single::Projected(projected.try_clone(alloc)?)),
+            Single::Vertical(vertical) => Ok(Single::Vertical(vertical.try_clone(alloc)?)),
+        }
+    }
+}
+
+impl Same for Single {
+    fn same(&self, other: &Single) -> bool {
+        match (self, other) {
+            (Single::Geodetic(a), Single::Geodetic(b)) => a.same(b),
+            (Single::Projected(a), Single::Projected(b)) => a.same(b),
+            (Single::Vertical(a), Single::Vertical(b)) => a.same(b),
+            (_, _) => false,
+        }
+    }
+}
+
+impl TryClone for Compound {
+    fn try_clone(&self, alloc: Global) -> Result<Compound, AllocError> {
+        Ok(Compound {
+            name: self.name.try_clone(alloc)?,
+            first: self.first.try_clone(alloc)?,
+            second: self.second.try_clone(alloc)?,
+            usages: self.usages.try_clone(alloc)?,
+            ids: self.ids.try_clone(alloc)?,
+            remark: self.remark.try_clone(alloc)?,
+        })
+    }
+}
+
+impl Same for Compound {
+    fn same(&self, other: &Compound) -> bool {
+        self.name.same(&other.name)
+            && self.first.same(&other.first)
+            && self.second.same(&other.second)
+            && self.usages.same(&other.usages)
+            && self.ids.same(&other.ids)
+            && self.remark.same(&other.remark)
+    }
+}
+
+impl TryClone for CrsParts {
+    fn try_clone(&self, alloc: Global) -> Result<CrsParts, AllocError> {
+        match self {
+            CrsParts::Single(single) => Ok(CrsParts::Single(single.try_clone(alloc)?)),
+            CrsParts::Compound(compound) => Ok(CrsParts::Compound(compound.try_clone(alloc)?)),
+        }
+    }
+}
+
+impl Same for CrsParts {
+    fn same(&self, other: &CrsParts) -> bool {
+        match (self, other) {
+            (CrsParts::Single(a), CrsParts::Single(b)) => a.same(b),
+            (CrsParts::Compound(a), CrsParts::Compound(b)) => a.same(b),
+            (_, _) => false,
+        }
+    }
+}
+
+impl PartialEq for CrsParts {
+    ghost use Rattle.crs_part.specs.Equality.{equal, equal_is_partial_equivalence};
+    ghost use Rattle.crs_part.specs.contracts.crs.CrsParts.{the_row};
+
+    ghost eq = { equal the_row.coded };
+
+    ghost laws = { equal_is_partial_equivalence the_row.coded };
+
+    fn eq(&self, other: &CrsParts) -> bool
+        ensures value { result ≡ equal the_row.coded self.now other.now }
+        ensures exact { IsTrue result ↔ (self.now ≡ other.now) }
+    {
+        self.same(other)
+    }
+}
+
+impl Eq for CrsParts {
+    ghost use Rattle.crs_part.specs.Equality.{equal_is_equivalence};
+    ghost use Rattle.crs_part.specs.contracts.crs.CrsParts.{the_row};
+
+    ghost laws = { equal_is_equivalence the_row.coded };
+}

@@ -1,0 +1,241 @@
+//! Datums, and ensembles of them.
+
+use crate::copies::TryClone;
+use crate::identifiers::{Ident, Named};
+use crate::many::{Many, NonEmpty};
+use crate::same::Same;
+use crate::text::Text;
+use crate::units::{AngleUnit, LengthUnit};
+use crs_number::Decimal;
+use std::alloc::{AllocError, Global};
+
+/// An ellipsoid of revolution: its semi-major axis, and its inverse flattening, 0 for a sphere.
+#[derive(Drop)]
+pub struct Ellipsoid {
+    pub name: Text,
+    pub radius: Decimal,
+    pub flattening: Decimal,
+    pub unit: Option<LengthUnit>,
+    pub ids: Many<Ident>,
+}
+
+/// A prime meridian, by its longitude from Greenwich.
+#[derive(Drop)]
+pub struct PrimeMeridian {
+    pub name: Text,
+    pub longitude: Decimal,
+    pub unit: Option<AngleUnit>,
+    pub ids: Many<Ident>,
+}
+
+/// A geodetic datum.
+#[derive(Drop)]
+pub struct Datum {
+    pub name: Text,
+    pub ellipsoid: Ellipsoid,
+    pub anchor: Option<Text>,
+    pub ids: Many<Ident>,
+}
+
+/// Geodetic datums that are alike but for the accuracy.
+#[derive(Drop)]
+pub struct GeodeticEnsemble {
+    pub name: Text,
+    pub members: NonEmpty<Named>,
+    pub ellipsoid: Ellipsoid,
+    pub accuracy: Decimal,
+    pub ids: Many<Ident>,
+}
+
+/// What a geodetic reference system refers to.
+#[derive(Drop)]
+pub enum GeodeticFrame {
+    Datum(Datum),
+    Ensemble(GeodeticEnsemble),
+}
+
+/// A vertical datum.
+#[derive(Drop)]
+pub struct VerticalDatum {
+    pub name: Text,
+    pub anchor: Option<Text>,
+    pub ids: Many<Ident>,
+}
+
+/// Vertical datums that are alike but for the accuracy.
+#[derive(Drop)]
+pub struct VerticalEnsemble {
+    pub name: Text,
+    pub members: NonEmpty<Named>,
+    pub accuracy: Decimal,
+    pub ids: Many<Ident>,
+}
+
+/// What a vertical reference system refers to.
+#[derive(Drop)]
+pub enum VerticalFrame {
+    Datum(VerticalDatum),
+    Ensemble(VerticalEnsemble),
+}
+
+impl TryClone for Ellipsoid {
+    fn try_clone(&self, alloc: Global) -> Result<Ellipsoid, AllocError> {
+        Ok(Ellipsoid {
+            name: self.name.try_clone(alloc)?,
+            radius: self.radius,
+            flattening: self.flattening,
+            unit: self.unit.try_clone(alloc)?,
+            ids: self.ids.try_clone(alloc)?,
+        })
+    }
+}
+
+impl Same for Ellipsoid {
+    fn same(&self, other: &Ellipsoid) -> bool {
+        self.name.same(&other.name)
+            && self.radius.same(&other.radius)
+            && self.flattening.same(&other.flattening)
+            && self.unit.same(&other.unit)
+            && self.ids.same(&other.ids)
+    }
+}
+
+impl TryClone for PrimeMeridian {
+    fn try_clone(&self, alloc: Global) -> Result<PrimeMeridian, AllocError> {
+        Ok(PrimeMeridian {
+            name: self.name.try_clone(alloc)?,
+            longitude: self.longitude,
+            unit: self.unit.try_clone(alloc)?,
+            ids: self.ids.try_clone(alloc)?,
+        })
+    }
+}
+
+impl Same for PrimeMeridian {
+    fn same(&self, other: &PrimeMeridian) -> bool {
+        self.name.same(&other.name)
+            && self.longitude.same(&other.longitude)
+            && self.unit.same(&other.unit)
+            && self.ids.same(&other.ids)
+    }
+}
+
+impl TryClone for Datum {
+    fn try_clone(&self, alloc: Global) -> Result<Datum, AllocError> {
+        Ok(Datum {
+            name: self.name.try_clone(alloc)?,
+            ellipsoid: self.ellipsoid.try_clone(alloc)?,
+            anchor: self.anchor.try_clone(alloc)?,
+            ids: self.ids.try_clone(alloc)?,
+        })
+    }
+}
+
+impl Same for Datum {
+    fn same(&self, other: &Datum) -> bool {
+        self.name.same(&other.name)
+            && self.ellipsoid.same(&other.ellipsoid)
+            && self.anchor.same(&other.anchor)
+            && self.ids.same(&other.ids)
+    }
+}
+
+impl TryClone for GeodeticEnsemble {
+    fn try_clone(&self, alloc: Global) -> Result<GeodeticEnsemble, AllocError> {
+        Ok(GeodeticEnsemble {
+            name: self.name.try_clone(alloc)?,
+            members: self.members.try_clone(alloc)?,
+            ellipsoid: self.ellipsoid.try_clone(alloc)?,
+            accuracy: self.accuracy,
+            ids: self.ids.try_clone(alloc)?,
+        })
+    }
+}
+
+impl Same for GeodeticEnsemble {
+    fn same(&self, other: &GeodeticEnsemble) -> bool {
+        self.name.same(&other.name)
+            && self.members.same(&other.members)
+            && self.ellipsoid.same(&other.ellipsoid)
+            && self.accuracy.same(&other.accuracy)
+            && self.ids.same(&other.ids)
+    }
+}
+
+impl TryClone for GeodeticFrame {
+    fn try_clone(&self, alloc: Global) -> Result<GeodeticFrame, AllocError> {
+        match self {
+            GeodeticFrame::Datum(datum) => Ok(GeodeticFrame::Datum(datum.try_clone(alloc)?)),
+            GeodeticFrame::Ensemble(ensemble) => Ok(GeodeticFrame::Ensemble(ensemble.try_clone(
+                alloc,
+            )?)),
+        }
+    }
+}
+
+impl Same for GeodeticFrame {
+    fn same(&self, other: &GeodeticFrame) -> bool {
+        match (self, other) {
+            (GeodeticFrame::Datum(a), GeodeticFrame::Datum(b)) => a.same(b),
+            (GeodeticFrame::Ensemble(a), GeodeticFrame::Ensemble(b)) => a.same(b),
+            (_, _) => false,
+        }
+    }
+}
+
+impl TryClone for VerticalDatum {
+    fn try_clone(&self, alloc: Global) -> Result<VerticalDatum, AllocError> {
+        Ok(VerticalDatum {
+            name: self.name.try_clone(alloc)?,
+            anchor: self.anchor.try_clone(alloc)?,
+            ids: self.ids.try_clone(alloc)?,
+        })
+    }
+}
+
+impl Same for VerticalDatum {
+    fn same(&self, other: &VerticalDatum) -> bool {
+        self.name.same(&other.name) && self.anchor.same(&other.anchor) && self.ids.same(&other.ids)
+    }
+}
+
+impl TryClone for VerticalEnsemble {
+    fn try_clone(&self, alloc: Global) -> Result<VerticalEnsemble, AllocError> {
+        Ok(VerticalEnsemble {
+            name: self.name.try_clone(alloc)?,
+            members: self.members.try_clone(alloc)?,
+            accuracy: self.accuracy,
+            ids: self.ids.try_clone(alloc)?,
+        })
+    }
+}
+
+impl Same for VerticalEnsemble {
+    fn same(&self, other: &VerticalEnsemble) -> bool {
+        self.name.same(&other.name)
+            && self.members.same(&other.members)
+            && self.accuracy.same(&other.accuracy)
+            && self.ids.same(&other.ids)
+    }
+}
+
+impl TryClone for VerticalFrame {
+    fn try_clone(&self, alloc: Global) -> Result<VerticalFrame, AllocError> {
+        match self {
+            VerticalFrame::Datum(datum) => Ok(VerticalFrame::Datum(datum.try_clone(alloc)?)),
+            VerticalFrame::Ensemble(ensemble) => Ok(VerticalFrame::Ensemble(ensemble.try_clone(
+                alloc,
+            )?)),
+        }
+    }
+}
+
+impl Same for VerticalFrame {
+    fn same(&self, other: &VerticalFrame) -> bool {
+        match (self, other) {
+            (VerticalFrame::Datum(a), VerticalFrame::Datum(b)) => a.same(b),
+            (VerticalFrame::Ensemble(a), VerticalFrame::Ensemble(b)) => a.same(b),
+            (_, _) => false,
+        }
+    }
+}

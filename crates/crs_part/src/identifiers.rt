@@ -1,0 +1,88 @@
+//! Identifiers, and what has a name and identifiers alone.
+
+use crate::copies::TryClone;
+use crate::many::Many;
+use crate::same::Same;
+use crate::text::Text;
+use crs_number::Decimal;
+use std::alloc::{AllocError, Global};
+
+/// A code or a version.
+#[derive(Drop)]
+pub enum NumberOrText {
+    Number(Decimal),
+    Text(Text),
+}
+
+/// An identifier in the list of an authority.
+#[derive(Drop)]
+pub struct Ident {
+    pub authority: Text,
+    pub code: NumberOrText,
+    pub version: Option<NumberOrText>,
+    pub citation: Option<Text>,
+    pub uri: Option<Text>,
+}
+
+/// A member of an ensemble, or a method of a conversion.
+#[derive(Drop)]
+pub struct Named {
+    pub name: Text,
+    pub ids: Many<Ident>,
+}
+
+impl TryClone for NumberOrText {
+    fn try_clone(&self, alloc: Global) -> Result<NumberOrText, AllocError> {
+        match self {
+            NumberOrText::Number(number) => Ok(NumberOrText::Number(*number)),
+            NumberOrText::Text(text) => Ok(NumberOrText::Text(text.try_clone(alloc)?)),
+        }
+    }
+}
+
+impl Same for NumberOrText {
+    fn same(&self, other: &NumberOrText) -> bool {
+        match (self, other) {
+            (NumberOrText::Number(a), NumberOrText::Number(b)) => a.same(b),
+            (NumberOrText::Text(a), NumberOrText::Text(b)) => a.same(b),
+            (_, _) => false,
+        }
+    }
+}
+
+impl TryClone for Ident {
+    fn try_clone(&self, alloc: Global) -> Result<Ident, AllocError> {
+        Ok(Ident {
+            authority: self.authority.try_clone(alloc)?,
+            code: self.code.try_clone(alloc)?,
+            version: self.version.try_clone(alloc)?,
+            citation: self.citation.try_clone(alloc)?,
+            uri: self.uri.try_clone(alloc)?,
+        })
+    }
+}
+
+impl Same for Ident {
+    fn same(&self, other: &Ident) -> bool {
+        self.authority.same(&other.authority)
+            && self.code.same(&other.code)
+            && self.version.same(&other.version)
+            && self.citation.same(&other.citation)
+            && self.uri.same(&other.uri)
+    }
+}
+
+impl TryClone for Named {
+    fn try_clone(&self, alloc: Global) -> Result<Named, AllocError> {
+        Ok(Named {
+            name: self.name.try_clone(alloc)?,
+            ids: self.ids.try_clone(alloc)?,
+        })
+    }
+}
+
+impl Same for Named {
+    fn same(&self, other: &Named) -> bool {
+        self.name.same(&other.name) && self.ids.same(&other.ids)
+    }
+}

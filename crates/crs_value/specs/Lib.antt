@@ -1,0 +1,4 @@
+pub mod Units
+pub mod Conditions
+pub mod Checking
+pub mod Keys

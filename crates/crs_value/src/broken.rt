@@ -1,0 +1,55 @@
+ghost use Rattle.std.specs.Prelude.{◌≡◌};
+
+/// Which reference system a condition is about: a component of a compound, or the whole.
+#[derive(Clone, Copy, Debug, PartialEq, Eq)]
+pub enum Whose {
+    First,
+    Second,
+    Whole,
+}
+
+#[derive(Clone, Copy, Debug, PartialEq, Eq)]
+pub enum Condition {
+    /// As many axes as the dimension.
+    C1,
+    /// The kind of reference system may have this coordinate system.
+    C2,
+    /// Where an axis has no unit, there is a common unit.
+    C3,
+    /// No axis has an order, or each axis has its own number.
+    C4,
+    /// The units fit the axes.
+    C5,
+    /// The components of a compound are a horizontal and a vertical system.
+    C6,
+    /// The ellipsoid has a size, and every conversion factor is above 0.
+    C7,
+    /// A meridian stands only after north or south.
+    C8,
+}
+
+impl Condition {
+    ghost use Rattle.crs_value.specs.Checking.{name_of};
+
+    pub fn name(self) -> &'static str
+        ensures { result.now ≡ name_of self }
+    {
+        match self {
+            Condition::C1 => "C1",
+            Condition::C2 => "C2",
+            Condition::C3 => "C3",
+            Condition::C4 => "C4",
+            Condition::C5 => "C5",
+            Condition::C6 => "C6",
+            Condition::C7 => "C7",
+            Condition::C8 => "C8",
+        }
+    }
+}
+
+/// A condition that does not hold.
+#[derive(Clone, Copy, Debug, PartialEq, Eq)]
+pub struct Broken {
+    pub whose: Whose,
+    pub condition: Condition,
+}

@@ -1,0 +1,5 @@
+pub mod Steps
+pub mod Rows
+pub mod Only
+pub mod LeafLemmas
+pub mod Chosen

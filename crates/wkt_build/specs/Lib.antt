@@ -1,0 +1,5 @@
+pub mod Reads
+pub mod Leaves
+pub mod Choices
+pub mod Single
+pub mod Rest

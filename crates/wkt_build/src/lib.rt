@@ -1,0 +1,16 @@
+//! Makes values of the tokens of a text whose slots are filled well.
+#![tactic(auto)]
+
+mod built;
+mod choices;
+mod conversions;
+mod crs;
+mod datums;
+mod ending;
+mod identifiers;
+mod leaves;
+mod systems;
+mod units;
+mod usages;
+mod values;
+mod words;

@@ -1,0 +1,115 @@
+//! Coordinate systems and their axes.
+
+ghost use Rattle.std.specs.Prelude.{◌≡◌};
+ghost use Rattle.wkt_slots.specs.declared.table.Takes.TheVariants as kinds;
+ghost use Rattle.wkt_meaning.specs.Denotes.{DenotesAxis, DenotesMeridian, DenotesOrder, DenotesSystem};
+
+use crate::built::{Built, pass, take_each, take_maybe, take_one};
+use crs_number::Decimal;
+use crs_part::{
+    AngleUnit, Axis, CoordSystem, Direction, Ident, Many, Meridian, Order, SystemKind, Text, Unit,
+};
+use std::alloc::{AllocError, Global};
+use wkt_slots::Takes;
+use wkt_tree::Cursor;
+
+fn system_of(kind: SystemKind, dimension: u32, ids: Many<Ident>) -> CoordSystem
+    ensures kind { result.kind ≡ kind }
+    ensures dimension { result.dimension ≡ dimension }
+    ensures ids { result.ids ≡ ids }
+{
+    CoordSystem {
+        kind,
+        dimension,
+        ids,
+    }
+}
+
+fn order_of(position: u32) -> Order
+    ensures { result.position ≡ position }
+{
+    Order { position }
+}
+
+impl Built<CoordSystem> for CoordSystem {
+    ghost slot_kind = { kinds.CoordinateSystem };
+
+    ghost Denotes = { DenotesSystem };
+
+    fn kind() -> Takes {
+        Takes::CoordinateSystem
+    }
+
+    fn build(alloc: Global, cursor: &mut Cursor<'_>) -> Result<CoordSystem, AllocError> {
+        pass(cursor);
+        let kind = take_one::<SystemKind, SystemKind>(alloc, cursor)?;
+        let dimension = take_one::<u32, u32>(alloc, cursor)?;
+        let ids = take_each::<Ident, Ident>(alloc, cursor)?;
+        pass(cursor);
+        Ok(system_of(kind, dimension, ids))
+    }
+}
+
+impl Built<Meridian> for Meridian {
+    ghost slot_kind = { kinds.Meridian };
+
+    ghost Denotes = { DenotesMeridian };
+
+    fn kind() -> Takes {
+        Takes::Meridian
+    }
+
+    fn build(alloc: Global, cursor: &mut Cursor<'_>) -> Result<Meridian, AllocError> {
+        pass(cursor);
+        let longitude = take_one::<Decimal, Decimal>(alloc, cursor)?;
+        let unit = take_one::<AngleUnit, AngleUnit>(alloc, cursor)?;
+        pass(cursor);
+        Ok(Meridian { longitude, unit })
+    }
+}
+
+impl Built<Order> for Order {
+    ghost slot_kind = { kinds.Order };
+
+    ghost Denotes = { DenotesOrder };
+
+    fn kind() -> Takes {
+        Takes::Order
+    }
+
+    fn build(alloc: Global, cursor: &mut Cursor<'_>) -> Result<Order, AllocError> {
+        pass(cursor);
+        let position = take_one::<u32, u32>(alloc, cursor)?;
+        pass(cursor);
+        Ok(order_of(position))
+    }
+}
+
+impl Built<Axis> for Axis {
+    ghost slot_kind = { kinds.Axis };
+
+    ghost Denotes = { DenotesAxis };
+
+    fn kind() -> Takes {
+        Takes::Axis
+    }
+
+    fn build(alloc: Global, cursor: &mut Cursor<'_>) -> Result<Axis, AllocError> {
+        pass(cursor);
+        let name = take_one::<Text, Text>(alloc, cursor)?;
+        let direction = take_one::<Direction, Direction>(alloc, cursor)?;
+        let meridian = take_maybe::<Meridian, Meridian>(alloc, cursor)?;
+        let order = take_maybe::<Order, Order>(alloc, cursor)?;
+        let unit = take_maybe::<Unit, Unit>(alloc, cursor)?;
+        let ids = take_each::<Ident, Ident>(alloc, cursor)?;
+        pass(cursor);
+        Ok(Axis {
+            name,
+            direction,
+            meridian,
+            order,
+            unit,
+            ids,
+        })
+    }
+}

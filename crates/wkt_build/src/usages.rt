@@ -1,0 +1,60 @@
+//! Usages.
+
+ghost use Rattle.wkt_slots.specs.declared.table.Takes.TheVariants as kinds;
+ghost use Rattle.wkt_meaning.specs.Denotes.{DenotesBoundingBox, DenotesUsage};
+
+use crate::built::{Built, pass, take_maybe, take_one};
+use crate::values::{Area, Scope};
+use crs_number::Decimal;
+use crs_part::{BoundingBox, Text, Usage};
+use std::alloc::{AllocError, Global};
+use wkt_slots::Takes;
+use wkt_tree::Cursor;
+
+impl Built<BoundingBox> for BoundingBox {
+    ghost slot_kind = { kinds.BoundingBox };
+
+    ghost Denotes = { DenotesBoundingBox };
+
+    fn kind() -> Takes {
+        Takes::BoundingBox
+    }
+
+    fn build(alloc: Global, cursor: &mut Cursor<'_>) -> Result<BoundingBox, AllocError> {
+        pass(cursor);
+        let south = take_one::<Decimal, Decimal>(alloc, cursor)?;
+        let west = take_one::<Decimal, Decimal>(alloc, cursor)?;
+        let north = take_one::<Decimal, Decimal>(alloc, cursor)?;
+        let east = take_one::<Decimal, Decimal>(alloc, cursor)?;
+        pass(cursor);
+        Ok(BoundingBox {
+            south,
+            west,
+            north,
+            east,
+        })
+    }
+}
+
+impl Built<Usage> for Usage {
+    ghost slot_kind = { kinds.Usage };
+
+    ghost Denotes = { DenotesUsage };
+
+    fn kind() -> Takes {
+        Takes::Usage
+    }
+
+    fn build(alloc: Global, cursor: &mut Cursor<'_>) -> Result<Usage, AllocError> {
+        pass(cursor);
+        let scope = take_one::<Scope, Text>(alloc, cursor)?;
+        let area = take_maybe::<Area, Text>(alloc, cursor)?;
+        let bounding_box = take_maybe::<BoundingBox, BoundingBox>(alloc, cursor)?;
+        pass(cursor);
+        Ok(Usage {
+            scope,
+            area,
+            bounding_box,
+        })
+    }
+}

@@ -1,0 +1,7 @@
+pub mod Runs
+pub mod Leaves
+pub mod Words
+pub mod Denotes
+pub mod Render
+pub mod Trees
+pub mod Canon

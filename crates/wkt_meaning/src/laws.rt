@@ -1,0 +1,4 @@
+//! Laws of what trees denote.
+
+/// Nothing yet.
+pub fn laws() {}

@@ -1,0 +1,5 @@
+pub mod Steps
+pub mod Found
+pub mod Reach
+pub mod Whole
+pub mod Fitting

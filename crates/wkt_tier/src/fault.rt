@@ -1,0 +1,46 @@
+//! What is wrong with the arguments of a node, and where.
+
+ghost use Rattle.std.specs.Prelude.{◌≡◌};
+
+use wkt_slots::SlotName;
+
+/// The first slot fault, with its place: that of the argument, or of the delimiter that closes the node.
+#[derive(Clone, Copy, Debug, PartialEq, Eq)]
+pub enum SlotFault {
+    /// An argument of the wrong kind, keyword or place.
+    NotHere(usize),
+    /// A required slot is empty.
+    Missing(SlotName, usize),
+    /// A number that is no count, where only a count can come.
+    NotCount(usize),
+    /// A word that is not listed, where only a listed word can come.
+    WordUnknown(usize),
+}
+
+impl SlotFault {
+    ghost use Rattle.wkt_tier.specs.Slots.{place};
+    ghost use Rattle.wkt_tier.specs.Names.{fault_name};
+
+    /// The byte that it is told at, from 0.
+    pub fn place(self) -> usize
+        ensures { result ≡ place self }
+    {
+        match self {
+            SlotFault::NotHere(place) => place,
+            SlotFault::Missing(_, place) => place,
+            SlotFault::NotCount(place) => place,
+            SlotFault::WordUnknown(place) => place,
+        }
+    }
+
+    pub fn name(self) -> &'static str
+        ensures { result.now ≡ fault_name self }
+    {
+        match self {
+            SlotFault::NotHere(_) => "NotHere",
+            SlotFault::Missing(_, _) => "Missing",
+            SlotFault::NotCount(_) => "NotCount",
+            SlotFault::WordUnknown(_) => "WordUnknown",
+        }
+    }
+}

@@ -1,0 +1,11 @@
+//! The first slot fault of a text that is a tree.
+#![tactic(auto)]
+
+mod argument;
+mod fault;
+#[cfg(test)]
+mod tests;
+mod tier;
+
+pub use fault::SlotFault;
+pub use tier::{check_slots, coming, next_is_comma};

@@ -1,0 +1,9 @@
+pub mod Bytes
+pub mod Tree
+pub mod Machine
+pub mod Tokens
+pub mod Faults
+pub mod Cut
+pub mod Cursor
+pub mod Names
+pub mod Bits

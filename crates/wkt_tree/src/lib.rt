@@ -1,0 +1,17 @@
+//! Tokens of a text, and the test that they are those of one tree.
+#![tactic(auto)]
+
+mod cursor;
+mod fault;
+pub mod laws;
+mod lexer;
+mod machine;
+mod scanner;
+mod stack;
+#[cfg(test)]
+mod tests;
+mod token;
+
+pub use cursor::{Cursor, Outline, scan};
+pub use fault::TextFault;
+pub use token::{Delimiter, Token, TokenKind};

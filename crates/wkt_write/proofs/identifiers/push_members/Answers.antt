@@ -1,0 +1,11 @@
+use Rattle.std.proofs.lemmas.Result.{on_ok_weaker}
+use Rattle.std.proofs.Common.{map, codes}
+use Rattle.wkt_meaning.specs.Trees.{one, named_tree}
+use Rattle.wkt_write.proofs.Writes.{runs}
+use Rattle.wkt_write.proofs.identifiers.push_members.Goals as goal
+
+pub returns : goal.returns
+returns c =
+    let v = c.args.members.now in
+    let tree = named_tree (codes "MEMBER") in
+    on_ok_weaker c.push_other_members.result (runs c.args.layout _ (one (tree v.first)) (map tree v.others) c.in_ok-push_member.ensures) c.push_other_members.ensures

@@ -1,0 +1,5 @@
+use Rattle.std.proofs.Common.{◌≡◌, ◌*◌, ◌++◌, ◌∷◌, replicate}
+use Rattle.wkt_write.proofs.layout.push_new_line.Given as goal
+
+abbrev pub invariant-loop : goal.invariant-loop
+invariant-loop l = l.out.items ≡ l.fn.out.items ++ (10 ∷ replicate (4 * l.counter) 32)

@@ -1,0 +1,137 @@
+//! Datums, and ensembles of them.
+
+ghost use Rattle.std.specs.Prelude.{◌≡◌, ◌++◌, OnOk};
+ghost use Rattle.wkt_meaning.specs.Trees.{one, accuracy_tree, ellipsoid_tree, prime_meridian_tree, datum_tree, vertical_datum_tree, geodetic_ensemble_tree, vertical_ensemble_tree, geodetic_frame_tree, vertical_frame_tree};
+ghost use Rattle.wkt_write.specs.Layout.{laid, behind};
+
+use crate::arguments::{push_close, push_comma, push_each, push_maybe, push_one, push_open};
+use crate::identifiers::push_members;
+use crate::layout::Layout;
+use crate::values::push_maybe_value;
+use crate::written::Written;
+use crs_number::Decimal;
+use crs_part::{
+    Datum, Ellipsoid, GeodeticEnsemble, GeodeticFrame, PrimeMeridian, VerticalDatum,
+    VerticalEnsemble, VerticalFrame,
+};
+use std::alloc::AllocError;
+
+impl Written for Ellipsoid {
+    ghost tree = { ellipsoid_tree };
+
+    fn push_to(&self, out: &mut Vec<u8>, layout: Layout) -> Result<(), AllocError> {
+        let inside = push_open(out, layout, b"ELLIPSOID")?;
+        self.name.push_to(out, inside)?;
+        push_one(out, inside, &self.radius)?;
+        push_one(out, inside, &self.flattening)?;
+        push_maybe(out, inside, &self.unit)?;
+        push_each(out, inside, &self.ids)?;
+        push_close(out)
+    }
+}
+
+impl Written for PrimeMeridian {
+    ghost tree = { prime_meridian_tree };
+
+    fn push_to(&self, out: &mut Vec<u8>, layout: Layout) -> Result<(), AllocError> {
+        let inside = push_open(out, layout, b"PRIMEM")?;
+        self.name.push_to(out, inside)?;
+        push_one(out, inside, &self.longitude)?;
+        push_maybe(out, inside, &self.unit)?;
+        push_each(out, inside, &self.ids)?;
+        push_close(out)
+    }
+}
+
+impl Written for Datum {
+    ghost tree = { datum_tree };
+
+    fn push_to(&self, out: &mut Vec<u8>, layout: Layout) -> Result<(), AllocError> {
+        let inside = push_open(out, layout, b"DATUM")?;
+        self.name.push_to(out, inside)?;
+        push_one(out, inside, &self.ellipsoid)?;
+        push_maybe_value(out, inside, b"ANCHOR", &self.anchor)?;
+        push_each(out, inside, &self.ids)?;
+        push_close(out)
+    }
+}
+
+impl Written for VerticalDatum {
+    ghost tree = { vertical_datum_tree };
+
+    fn push_to(&self, out: &mut Vec<u8>, layout: Layout) -> Result<(), AllocError> {
+        let inside = push_open(out, layout, b"VDATUM")?;
+        self.name.push_to(out, inside)?;
+        push_maybe_value(out, inside, b"ANCHOR", &self.anchor)?;
+        push_each(out, inside, &self.ids)?;
+        push_close(out)
+    }
+}
+
+fn push_node_of_accuracy(
+    out: &mut Vec<u8>,
+    layout: Layout,
+    accuracy: &Decimal,
+) -> Result<(), AllocError>
+    ensures { OnOk result (out.new.items ≡ out.old.items ++ laid layout (accuracy_tree accuracy.now)) }
+{
+    let inside = push_open(out, layout, b"ENSEMBLEACCURACY")?;
+    accuracy.push_to(out, inside)?;
+    push_close(out)
+}
+
+fn push_accuracy(out: &mut Vec<u8>, layout: Layout, accuracy: &Decimal) -> Result<(), AllocError>
+    ensures { OnOk result (out.new.items ≡ out.old.items ++ behind layout (one (accuracy_tree accuracy.now))) }
+{
+    push_comma(out)?;
+    push_node_of_accuracy(out, layout, accuracy)
+}
+
+impl Written for GeodeticEnsemble {
+    ghost tree = { geodetic_ensemble_tree };
+
+    fn push_to(&self, out: &mut Vec<u8>, layout: Layout) -> Result<(), AllocError> {
+        let inside = push_open(out, layout, b"ENSEMBLE")?;
+        self.name.push_to(out, inside)?;
+        push_members(out, inside, &self.members)?;
+        push_one(out, inside, &self.ellipsoid)?;
+        push_accuracy(out, inside, &self.accuracy)?;
+        push_each(out, inside, &self.ids)?;
+        push_close(out)
+    }
+}
+
+impl Written for VerticalEnsemble {
+    ghost tree = { vertical_ensemble_tree };
+
+    fn push_to(&self, out: &mut Vec<u8>, layout: Layout) -> Result<(), AllocError> {
+        let inside = push_open(out, layout, b"ENSEMBLE")?;
+        self.name.push_to(out, inside)?;
+        push_members(out, inside, &self.members)?;
+        push_accuracy(out, inside, &self.accuracy)?;
+        push_each(out, inside, &self.ids)?;
+        push_close(out)
+    }
+}
+
+impl Written for GeodeticFrame {
+    ghost tree = { geodetic_frame_tree };
+
+    fn push_to(&self, out: &mut Vec<u8>, layout: Layout) -> Result<(), AllocError> {
+        match self {
+            GeodeticFrame::Datum(datum) => datum.push_to(out, layout),
+            GeodeticFrame::Ensemble(ensemble) => ensemble.push_to(out, layout),
+        }
+    }
+}
+
+impl Written for VerticalFrame {
+    ghost tree = { vertical_frame_tree };
+
+    fn push_to(&self, out: &mut Vec<u8>, layout: Layout) -> Result<(), AllocError> {
+        match self {
+            VerticalFrame::Datum(datum) => datum.push_to(out, layout),
+            VerticalFrame::Ensemble(ensemble) => ensemble.push_to(out, layout),
+        }
+    }
+}

@@ -1,0 +1,83 @@
+//! Identifiers, and what has a name and identifiers alone.
+
+ghost use Rattle.std.specs.Prelude.{◌≡◌, ◌++◌, OnOk, map, codes};
+ghost use Rattle.wkt_meaning.specs.Runs.{listed};
+ghost use Rattle.wkt_meaning.specs.Trees.{one, ident_tree, named_tree};
+ghost use Rattle.wkt_write.specs.Layout.{laid, behind};
+
+use crate::arguments::{push_close, push_comma, push_each, push_maybe, push_one, push_open};
+use crate::layout::Layout;
+use crate::values::push_maybe_value;
+use crate::written::Written;
+use crs_part::{Ident, Many, Named, NonEmpty};
+use std::alloc::AllocError;
+
+impl Written for Ident {
+    ghost tree = { ident_tree };
+
+    fn push_to(&self, out: &mut Vec<u8>, layout: Layout) -> Result<(), AllocError> {
+        let inside = push_open(out, layout, b"ID")?;
+        self.authority.push_to(out, inside)?;
+        push_one(out, inside, &self.code)?;
+        push_maybe(out, inside, &self.version)?;
+        push_maybe_value(out, inside, b"CITATION", &self.citation)?;
+        push_maybe_value(out, inside, b"URI", &self.uri)?;
+        push_close(out)
+    }
+}
+
+fn push_named(
+    out: &mut Vec<u8>,
+    layout: Layout,
+    keyword: &[u8],
+    named: &Named,
+) -> Result<(), AllocError>
+    ensures { OnOk result (out.new.items ≡ out.old.items ++ laid layout (named_tree keyword.now named.now)) }
+{
+    let inside = push_open(out, layout, keyword)?;
+    named.name.push_to(out, inside)?;
+    push_each(out, inside, &named.ids)?;
+    push_close(out)
+}
+
+pub(crate) fn push_method(
+    out: &mut Vec<u8>,
+    layout: Layout,
+    method: &Named,
+) -> Result<(), AllocError>
+    ensures { OnOk result (out.new.items ≡ out.old.items ++ behind layout (one (named_tree (codes "METHOD") method.now))) }
+{
+    push_comma(out)?;
+    push_named(out, layout, b"METHOD", method)
+}
+
+fn push_member(out: &mut Vec<u8>, layout: Layout, member: &Named) -> Result<(), AllocError>
+    ensures { OnOk result (out.new.items ≡ out.old.items ++ behind layout (one (named_tree (codes "MEMBER") member.now))) }
+{
+    push_comma(out)?;
+    push_named(out, layout, b"MEMBER", member)
+}
+
+pub(crate) fn push_members(
+    out: &mut Vec<u8>,
+    layout: Layout,
+    members: &NonEmpty<Named>,
+) -> Result<(), AllocError>
+    ensures { OnOk result (out.new.items ≡ out.old.items ++ behind layout (map (named_tree (codes "MEMBER")) (listed members.now))) }
+{
+    push_member(out, layout, &members.first)?;
+    push_other_members(out, layout, &members.others)
+}
+
+fn push_other_members(
+    out: &mut Vec<u8>,
+    layout: Layout,
+    members: &Many<Named>,
+) -> Result<(), AllocError>
+    ensures { OnOk result (out.new.items ≡ out.old.items ++ behind layout (map (named_tree (codes "MEMBER")) members.now)) }
+{
+    for member in members.as_slice() {
+        push_member(out, layout, member)?;
+    }
+    Ok(())
+}

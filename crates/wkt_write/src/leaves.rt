@@ -1,0 +1,129 @@
+//! Texts, numbers and words.
+
+ghost use Rattle.std.specs.Prelude.{◌≡◌, ◌++◌, ◌∷◌, [], List, ℕ, OnOk, IfSome, position, length, ◌<◌};
+ghost use Rattle.std.specs.List.{flat_map};
+ghost use Rattle.wkt_tree.specs.Tokens.{doubled, is_mark};
+ghost use Rattle.wkt_meaning.specs.Words.{system_word, direction_word};
+ghost use Rattle.wkt_meaning.specs.Trees.{text_tree, number_tree, count_tree, kind_tree, direction_tree, code_tree};
+
+use crate::layout::Layout;
+use crate::written::Written;
+use crs_number::Decimal;
+use crs_part::{Direction, NumberOrText, SystemKind, Text};
+use itoa::Buffer;
+use std::alloc::AllocError;
+
+#[tactic(auto, unfolding(crate::specs::Layout::laid))]
+impl Written for Text {
+    ghost tree = { text_tree };
+
+    fn push_to(&self, out: &mut Vec<u8>, _layout: Layout) -> Result<(), AllocError> {
+        out.push(b'"')?;
+        push_doubled(out, self.as_bytes())?;
+        out.push(b'"')?;
+        Ok(())
+    }
+}
+
+/// Appends the bytes with each mark doubled.
+fn push_doubled(out: &mut Vec<u8>, bytes: &[u8]) -> Result<(), AllocError>
+    ensures { OnOk result (out.new.items ≡ out.old.items ++ flat_map doubled bytes.now) }
+{
+    let mut rest = bytes;
+    while let Some(mark) = first_mark(rest) {
+        let (piece, behind) = rest.split_at(mark + 1);
+        out.extend_from_slice(piece)?;
+        out.push(b'"')?;
+        rest = behind;
+    }
+    out.extend_from_slice(rest)
+}
+
+fn first_mark(bytes: &[u8]) -> Option<usize>
+    ensures first { result ≡ position is_mark bytes.now }
+    ensures within { IfSome result (λ mark. mark < length bytes.now) }
+{
+    bytes.iter().position(|byte| *byte == b'"')
+}
+
+#[tactic(auto, unfolding(crate::specs::Layout::laid))]
+impl Written for Decimal {
+    ghost tree = { number_tree };
+
+    fn push_to(&self, out: &mut Vec<u8>, _layout: Layout) -> Result<(), AllocError> {
+        self.write_to(out)
+    }
+}
+
+#[tactic(auto, unfolding(crate::specs::Layout::laid))]
+impl Written for u32 {
+    ghost tree = { count_tree };
+
+    fn push_to(&self, out: &mut Vec<u8>, _layout: Layout) -> Result<(), AllocError> {
+        let mut buffer = Buffer::new();
+        out.extend_from_slice(buffer.format(*self).as_bytes())
+    }
+}
+
+#[tactic(auto, unfolding(crate::specs::Layout::laid))]
+impl Written for SystemKind {
+    ghost tree = { kind_tree };
+
+    fn push_to(&self, out: &mut Vec<u8>, _layout: Layout) -> Result<(), AllocError> {
+        out.extend_from_slice(match self {
+            SystemKind::Ellipsoidal => b"ellipsoidal".as_slice(),
+            SystemKind::Cartesian => b"Cartesian",
+            SystemKind::Spherical => b"spherical",
+            SystemKind::Vertical => b"vertical",
+        })
+    }
+}
+
+#[tactic(auto, unfolding(crate::specs::Layout::laid))]
+impl Written for NumberOrText {
+    ghost tree = { code_tree };
+
+    fn push_to(&self, out: &mut Vec<u8>, layout: Layout) -> Result<(), AllocError> {
+        match self {
+            NumberOrText::Number(number) => number.push_to(out, layout),
+            NumberOrText::Text(text) => text.push_to(out, layout),
+        }
+    }
+}
+
+#[tactic(auto, unfolding(crate::specs::Layout::laid))]
+impl Written for Direction {
+    ghost tree = { direction_tree };
+
+    fn push_to(&self, out: &mut Vec<u8>, _layout: Layout) -> Result<(), AllocError> {
+        out.extend_from_slice(direction_bytes(*self))
+    }
+}
+
+fn direction_bytes(direction: Direction) -> &'static [u8]
+    ensures { result.now ≡ direction_word direction }
+{
+    match direction {
+        Direction::North => b"north",
+        Direction::NorthNorthEast => b"northNorthEast",
+        Direction::NorthEast => b"northEast",
+        Direction::EastNorthEast => b"eastNorthEast",
+        Direction::East => b"east",
+        Direction::EastSouthEast => b"eastSouthEast",
+        Direction::SouthEast => b"southEast",
+        Direction::SouthSouthEast => b"southSouthEast",
+        Direction::South => b"south",
+        Direction::SouthSouthWest => b"southSouthWest",
+        Direction::SouthWest => b"southWest",
+        Direction::WestSouthWest => b"westSouthWest",
+        Direction::West => b"west",
+        Direction::WestNorthWest => b"westNorthWest",
+        Direction::NorthWest => b"northWest",
+        Direction::NorthNorthWest => b"northNorthWest",
+        Direction::GeocentricX => b"geocentricX",
+        Direction::GeocentricY => b"geocentricY",
+        Direction::GeocentricZ => b"geocentricZ",
+        Direction::Up => b"up",
+        Direction::Down => b"down",
+    }
+}

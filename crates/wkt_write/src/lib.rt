@@ -1,0 +1,23 @@
+//! Writes coordinate reference systems as texts: canonical, or indented.
+#![tactic(auto)]
+
+mod arguments;
+mod conversions;
+mod crs;
+mod datums;
+mod identifiers;
+mod laws;
+mod layout;
+mod leaves;
+mod systems;
+mod units;
+mod usages;
+mod values;
+mod write;
+mod written;
+
+pub use laws::reading_laws;
+pub use write::{write_crs, write_pretty};
+
+#[cfg(test)]
+mod tests;

@@ -1,0 +1,57 @@
+//! Coordinate systems and their axes.
+
+ghost use Rattle.wkt_meaning.specs.Trees.{system_tree, meridian_tree, order_tree, axis_tree};
+
+use crate::arguments::{push_close, push_each, push_maybe, push_one, push_open};
+use crate::layout::Layout;
+use crate::written::Written;
+use crs_part::{Axis, CoordSystem, Meridian, Order};
+use std::alloc::AllocError;
+
+impl Written for CoordSystem {
+    ghost tree = { system_tree };
+
+    fn push_to(&self, out: &mut Vec<u8>, layout: Layout) -> Result<(), AllocError> {
+        let inside = push_open(out, layout, b"CS")?;
+        self.kind.push_to(out, inside)?;
+        push_one(out, inside, &self.dimension)?;
+        push_each(out, inside, &self.ids)?;
+        push_close(out)
+    }
+}
+
+impl Written for Meridian {
+    ghost tree = { meridian_tree };
+
+    fn push_to(&self, out: &mut Vec<u8>, layout: Layout) -> Result<(), AllocError> {
+        let inside = push_open(out, layout, b"MERIDIAN")?;
+        self.longitude.push_to(out, inside)?;
+        push_one(out, inside, &self.unit)?;
+        push_close(out)
+    }
+}
+
+impl Written for Order {
+    ghost tree = { order_tree };
+
+    fn push_to(&self, out: &mut Vec<u8>, layout: Layout) -> Result<(), AllocError> {
+        let inside = push_open(out, layout, b"ORDER")?;
+        self.position.push_to(out, inside)?;
+        push_close(out)
+    }
+}
+
+impl Written for Axis {
+    ghost tree = { axis_tree };
+
+    fn push_to(&self, out: &mut Vec<u8>, layout: Layout) -> Result<(), AllocError> {
+        let inside = push_open(out, layout, b"AXIS")?;
+        self.name.push_to(out, inside)?;
+        push_one(out, inside, &self.direction)?;
+        push_maybe(out, inside, &self.meridian)?;
+        push_maybe(out, inside, &self.order)?;
+        push_maybe(out, inside, &self.unit)?;
+        push_each(out, inside, &self.ids)?;
+        push_close(out)
+    }
+}

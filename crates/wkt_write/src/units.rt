@@ -1,0 +1,61 @@
+//! Units.
+
+ghost use Rattle.std.specs.Prelude.{◌≡◌, ◌++◌, OnOk};
+ghost use Rattle.wkt_meaning.specs.Trees.{unit_of_tree, unit_tree, length_unit_tree, angle_unit_tree};
+ghost use Rattle.wkt_write.specs.Layout.{laid};
+
+use crate::arguments::{push_close, push_each, push_one, push_open};
+use crate::layout::Layout;
+use crate::written::Written;
+use crs_part::{AngleUnit, LengthUnit, Unit, UnitDefinition};
+use std::alloc::AllocError;
+
+fn push_unit(
+    out: &mut Vec<u8>,
+    layout: Layout,
+    keyword: &[u8],
+    unit: &UnitDefinition,
+) -> Result<(), AllocError>
+    ensures { OnOk result (out.new.items ≡ out.old.items ++ laid layout (unit_of_tree keyword.now unit.now)) }
+{
+    let inside = push_open(out, layout, keyword)?;
+    unit.name.push_to(out, inside)?;
+    push_one(out, inside, &unit.factor)?;
+    push_each(out, inside, &unit.ids)?;
+    push_close(out)
+}
+
+impl Written for Unit {
+    ghost tree = { unit_tree };
+
+    fn push_to(&self, out: &mut Vec<u8>, layout: Layout) -> Result<(), AllocError> {
+        match self {
+            Unit::Length(unit) => push_unit(out, layout, b"LENGTHUNIT", unit),
+            Unit::Angle(unit) => push_unit(out, layout, b"ANGLEUNIT", unit),
+            Unit::Scale(unit) => push_unit(out, layout, b"SCALEUNIT", unit),
+            Unit::Generic(unit) => push_unit(out, layout, b"UNIT", unit),
+        }
+    }
+}
+
+impl Written for LengthUnit {
+    ghost tree = { length_unit_tree };
+
+    fn push_to(&self, out: &mut Vec<u8>, layout: Layout) -> Result<(), AllocError> {
+        match self {
+            LengthUnit::Length(unit) => push_unit(out, layout, b"LENGTHUNIT", unit),
+            LengthUnit::Generic(unit) => push_unit(out, layout, b"UNIT", unit),
+        }
+    }
+}
+
+impl Written for AngleUnit {
+    ghost tree = { angle_unit_tree };
+
+    fn push_to(&self, out: &mut Vec<u8>, layout: Layout) -> Result<(), AllocError> {
+        match self {
+            AngleUnit::Angle(unit) => push_unit(out, layout, b"ANGLEUNIT", unit),
+            AngleUnit::Generic(unit) => push_unit(out, layout, b"UNIT", unit),
+        }
+    }
+}

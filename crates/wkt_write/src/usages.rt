@@ -1,0 +1,35 @@
+//! What a reference system is used for, and where.
+
+ghost use Rattle.wkt_meaning.specs.Trees.{bounding_box_tree, usage_tree};
+
+use crate::arguments::{push_close, push_maybe, push_one, push_open};
+use crate::layout::Layout;
+use crate::values::{push_maybe_value, push_value};
+use crate::written::Written;
+use crs_part::{BoundingBox, Usage};
+use std::alloc::AllocError;
+
+impl Written for BoundingBox {
+    ghost tree = { bounding_box_tree };
+
+    fn push_to(&self, out: &mut Vec<u8>, layout: Layout) -> Result<(), AllocError> {
+        let inside = push_open(out, layout, b"BBOX")?;
+        self.south.push_to(out, inside)?;
+        push_one(out, inside, &self.west)?;
+        push_one(out, inside, &self.north)?;
+        push_one(out, inside, &self.east)?;
+        push_close(out)
+    }
+}
+
+impl Written for Usage {
+    ghost tree = { usage_tree };
+
+    fn push_to(&self, out: &mut Vec<u8>, layout: Layout) -> Result<(), AllocError> {
+        let inside = push_open(out, layout, b"USAGE")?;
+        push_value(out, inside, b"SCOPE", &self.scope)?;
+        push_maybe_value(out, inside, b"AREA", &self.area)?;
+        push_maybe(out, inside, &self.bounding_box)?;
+        push_close(out)
+    }
+}

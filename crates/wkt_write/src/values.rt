@@ -1,0 +1,51 @@
+//! Nodes of one text: a scope, an area, an anchor, a citation, a URI, a remark.
+
+ghost use Rattle.std.specs.Prelude.{◌≡◌, ◌++◌, OnOk, codes};
+ghost use Rattle.wkt_meaning.specs.Trees.{maybe, value_tree};
+ghost use Rattle.wkt_write.specs.Layout.{laid, behind};
+
+use crate::arguments::{push_close, push_comma, push_open};
+use crate::layout::Layout;
+use crate::written::Written;
+use crs_part::Text;
+use std::alloc::AllocError;
+
+pub(crate) fn push_value(
+    out: &mut Vec<u8>,
+    layout: Layout,
+    keyword: &[u8],
+    value: &Text,
+) -> Result<(), AllocError>
+    ensures { OnOk result (out.new.items ≡ out.old.items ++ laid layout (value_tree keyword.now value.now)) }
+{
+    let inside = push_open(out, layout, keyword)?;
+    value.push_to(out, inside)?;
+    push_close(out)
+}
+
+pub(crate) fn push_maybe_value(
+    out: &mut Vec<u8>,
+    layout: Layout,
+    keyword: &[u8],
+    value: &Option<Text>,
+) -> Result<(), AllocError>
+    ensures { OnOk result (out.new.items ≡ out.old.items ++ behind layout (maybe (value_tree keyword.now) value.now)) }
+{
+    match value {
+        Some(value) => {
+            push_comma(out)?;
+            push_value(out, layout, keyword, value)
+        }
+        None => Ok(()),
+    }
+}
+
+pub(crate) fn push_remark(
+    out: &mut Vec<u8>,
+    layout: Layout,
+    remark: &Option<Text>,
+) -> Result<(), AllocError>
+    ensures { OnOk result (out.new.items ≡ out.old.items ++ behind layout (maybe (value_tree (codes "REMARK")) remark.now)) }
+{
+    push_maybe_value(out, layout, b"REMARK", remark)
+}
