@@ -3,3 +3,4 @@ pub mod Rows
 pub mod Only
 pub mod LeafLemmas
 pub mod Chosen
+pub mod Roots

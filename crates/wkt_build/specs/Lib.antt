@@ -3,3 +3,4 @@ pub mod Leaves
 pub mod Choices
 pub mod Single
 pub mod Rest
+pub mod Whole

@@ -9,8 +9,11 @@ mod datums;
 mod ending;
 mod identifiers;
 mod leaves;
+mod root;
 mod systems;
 mod units;
 mod usages;
 mod values;
 mod words;
+
+pub use root::build_parts;
