@@ -1,0 +1,4 @@
+pub mod Spells
+pub mod Faults
+pub mod Source
+pub mod Passing

@@ -1,0 +1,29 @@
+//! What holds of all texts and all values.
+
+ghost use Rattle.std.specs.Prelude.{◌≡◌, ◌≤◌, length, List, ℕ};
+ghost use Rattle.crs_value.specs.declared.crs.Crs.{Crs};
+ghost use Rattle.wkt_crs.specs.declared.fault.ReadFault.{ReadFault};
+ghost use Rattle.wkt_crs.specs.declared.fault.ReadFault.TheVariants as fault;
+ghost use Rattle.wkt_crs.specs.Spells.{Spells, canon, pretty};
+ghost use Rattle.wkt_crs.specs.Faults.{FirstFault};
+
+/// A text spells one value at most.
+pub fn one_value()
+    ensures { (text : List ℕ) (v w : Crs) → Spells text v → Spells text w → v ≡ w }
+{}
+
+/// A text that spells a value has no fault but want of memory.
+pub fn value_or_fault()
+    ensures { (text : List ℕ) (v : Crs) (f : ReadFault) → Spells text v → FirstFault text f → f ≡ fault.Memory }
+{}
+
+/// A text has one first fault, apart from want of memory.
+pub fn one_first_fault()
+    ensures { (text : List ℕ) (f g : ReadFault) → ¬ (f ≡ fault.Memory) → ¬ (g ≡ fault.Memory) → FirstFault text f → FirstFault text g → f ≡ g }
+{}
+
+/// What is written of a value is read back, where it is no longer than a text may be.
+pub fn written_is_read()
+    ensures canonical { (v : Crs) → length (canon v) ≤ 1048576 → Spells (canon v) v }
+    ensures indented { (v : Crs) → length (pretty v) ≤ 1048576 → Spells (pretty v) v }
+{}

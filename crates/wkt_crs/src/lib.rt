@@ -1,0 +1,22 @@
+//! Texts of coordinate reference systems: reading and writing them, from slices, sources and to sinks.
+#![tactic(auto)]
+
+mod fault;
+pub mod laws;
+mod places;
+mod reading;
+mod source;
+mod writing;
+
+pub use byte_io::{
+    DeviceFault, Endless, FileTarget, Full, InFault, MemoryTarget, NotOpened, Pieces, PublishFault,
+    Reading, Room, Sink, Source, Target, Then, WriteFault, Writing, publish, read_up_to, write_all,
+};
+pub use crs_value::{Condition, Crs};
+pub use fault::ReadFault;
+pub use reading::read_crs;
+pub use source::{ReadFromFault, read_crs_from};
+pub use wkt_slots::SlotName;
+pub use wkt_tier::SlotFault;
+pub use wkt_tree::TextFault;
+pub use writing::{write_crs, write_pretty};
