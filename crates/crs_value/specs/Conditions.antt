@@ -3,7 +3,7 @@ use Rattle.std.specs.Prelude.{ℕ, ◌+◌, ◌==◌, nat_lt, Bool, true, false,
 use Rattle.std.specs.Int.{is_positive, is_negative}
 use Rattle.std.specs.List.{list_all, enumerate_from}
 use Rattle.std.specs.Option.{option_or, option_map_or}
-use Rattle.crs_part.specs.Slots.{system_of, axes_of, common_unit_of, ellipsoid_of}
+use Rattle.crs_part.specs.Slots.{ellipsoid_of}
 use Rattle.crs_part.specs.declared.units.UnitDefinition.{UnitDefinition}
 use Rattle.crs_part.specs.declared.units.Unit.{Unit}
 use Rattle.crs_part.specs.declared.units.Unit.TheVariants.{Length, Angle, Scale, Generic}
@@ -19,7 +19,6 @@ use Rattle.crs_part.specs.declared.crs.GeodeticKind.{GeodeticKind}
 use Rattle.crs_part.specs.declared.crs.GeodeticKind.TheVariants as geodetic
 use Rattle.crs_part.specs.declared.crs.Single.{Single}
 use Rattle.crs_part.specs.declared.crs.Single.TheVariants.{Geodetic, Projected, Vertical}
-use Rattle.crs_part.specs.declared.crs.Compound.{Compound}
 use Rattle.crs_value.specs.Units.{units_of}
 
 -- C1: as many axes as the dimension

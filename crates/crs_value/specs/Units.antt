@@ -1,5 +1,5 @@
 -- The units that stand anywhere in a coordinate reference system. Usages and identifiers have none.
-use Rattle.std.specs.Prelude.{List, [], ◌∷◌, ◌++◌, Option}
+use Rattle.std.specs.Prelude.{List, [], ◌∷◌, ◌++◌}
 use Rattle.std.specs.Option.{option_map_or}
 use Rattle.std.specs.List.{flat_map}
 use Rattle.crs_part.specs.Slots.{items_of, ellipsoid_of}

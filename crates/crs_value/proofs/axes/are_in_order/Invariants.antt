@@ -1,6 +1,6 @@
 use Rattle.std.proofs.Common.{◌≡◌, ◌+◌, drop}
 use Rattle.std.specs.List.{list_all, enumerate_from}
-use Rattle.crs_value.specs.Conditions.{is_order, axis_fits}
+use Rattle.crs_value.specs.Conditions.{is_order}
 use Rattle.crs_value.proofs.axes.are_in_order.Given as goal
 
 abbrev pub invariant-loop-i : goal.invariant-loop-i
