@@ -3,8 +3,8 @@ ghost use Rattle.wkt_crs.specs.Source.{Finds, IsReadFromFault};
 
 use crate::fault::ReadFault;
 use crate::reading::read_crs;
-use crs_value::Crs;
 use byte_io::{InFault, Source, read_up_to};
+use crs_value::Crs;
 use std::alloc::Global;
 
 /// The most bytes that are read of a text: one more than a text may have.

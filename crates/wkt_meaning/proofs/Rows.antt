@@ -226,7 +226,6 @@ module _ {A B : Type 0} (s : Slot) (row : List Slot) (h k : ℕ) (P : A → List
   }
 
 infixr 5 ◌>>◌
-
 pub ◌>>◌ : {A B : Type 0} {s : Slot} {row : List Slot} {h k : ℕ} {P : A → List Bare → Type 0} {run : A → List Bare} {F : B → Fields} {others : B → List Bare} → SlotLaw s h P run → RowLaw row k F others
     → RowLaw {A = A × B} (s ∷ row) (max h k) (λ p. P p.0 & F p.1) (λ p. run p.0 ++ others p.1)
 ◌>>◌ {A} {B} {s} {row} {h} {k} {P} {run} {F} {others} law rest = then s row h k P run F others law rest

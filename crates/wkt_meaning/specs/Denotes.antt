@@ -65,12 +65,12 @@ DenotesCode x (code.Text t) = DenotesText x t
 
 abbrev pub ident_fields : Ident → Fields
 ident_fields v =
-  One DenotesText v.authority
-  & One DenotesCode v.code
-  & Maybe DenotesCode v.version
-  & Maybe (DenotesValue keywords.Citation) v.citation
-  & Maybe (DenotesValue keywords.Uri) v.uri
-  & nothing
+    One DenotesText v.authority
+    & One DenotesCode v.code
+    & Maybe DenotesCode v.version
+    & Maybe (DenotesValue keywords.Citation) v.citation
+    & Maybe (DenotesValue keywords.Uri) v.uri
+    & nothing
 
 abbrev pub DenotesIdent : Bare → Ident → Type 0
 DenotesIdent x v = IsNode keywords.Identifier nodes.Identifier (ident_fields v) x
@@ -108,21 +108,21 @@ DenotesAngleUnit x (angle_unit.Generic v) = DenotesUnitOf keywords.Unit x v
 
 abbrev pub bounding_box_fields : BoundingBox → Fields
 bounding_box_fields v =
-  One DenotesNumber v.south
-  & One DenotesNumber v.west
-  & One DenotesNumber v.north
-  & One DenotesNumber v.east
-  & nothing
+    One DenotesNumber v.south
+    & One DenotesNumber v.west
+    & One DenotesNumber v.north
+    & One DenotesNumber v.east
+    & nothing
 
 abbrev pub DenotesBoundingBox : Bare → BoundingBox → Type 0
 DenotesBoundingBox x v = IsNode keywords.BoundingBox nodes.BoundingBox (bounding_box_fields v) x
 
 abbrev pub usage_fields : Usage → Fields
 usage_fields v =
-  One (DenotesValue keywords.Scope) v.scope
-  & Maybe (DenotesValue keywords.Area) v.area
-  & Maybe DenotesBoundingBox v.bounding_box
-  & nothing
+    One (DenotesValue keywords.Scope) v.scope
+    & Maybe (DenotesValue keywords.Area) v.area
+    & Maybe DenotesBoundingBox v.bounding_box
+    & nothing
 
 abbrev pub DenotesUsage : Bare → Usage → Type 0
 DenotesUsage x v = IsNode keywords.Usage nodes.Usage (usage_fields v) x
@@ -131,44 +131,44 @@ DenotesUsage x v = IsNode keywords.Usage nodes.Usage (usage_fields v) x
 
 abbrev pub ellipsoid_fields : Ellipsoid → Fields
 ellipsoid_fields v =
-  One DenotesText v.name
-  & One DenotesNumber v.radius
-  & One DenotesNumber v.flattening
-  & Maybe DenotesLengthUnit v.unit
-  & Each DenotesIdent v.ids
-  & nothing
+    One DenotesText v.name
+    & One DenotesNumber v.radius
+    & One DenotesNumber v.flattening
+    & Maybe DenotesLengthUnit v.unit
+    & Each DenotesIdent v.ids
+    & nothing
 
 abbrev pub DenotesEllipsoid : Bare → Ellipsoid → Type 0
 DenotesEllipsoid x v = IsNode keywords.Ellipsoid nodes.Ellipsoid (ellipsoid_fields v) x
 
 abbrev pub prime_meridian_fields : PrimeMeridian → Fields
 prime_meridian_fields v =
-  One DenotesText v.name
-  & One DenotesNumber v.longitude
-  & Maybe DenotesAngleUnit v.unit
-  & Each DenotesIdent v.ids
-  & nothing
+    One DenotesText v.name
+    & One DenotesNumber v.longitude
+    & Maybe DenotesAngleUnit v.unit
+    & Each DenotesIdent v.ids
+    & nothing
 
 abbrev pub DenotesPrimeMeridian : Bare → PrimeMeridian → Type 0
 DenotesPrimeMeridian x v = IsNode keywords.PrimeMeridian nodes.PrimeMeridian (prime_meridian_fields v) x
 
 abbrev pub datum_fields : Datum → Fields
 datum_fields v =
-  One DenotesText v.name
-  & One DenotesEllipsoid v.ellipsoid
-  & Maybe (DenotesValue keywords.Anchor) v.anchor
-  & Each DenotesIdent v.ids
-  & nothing
+    One DenotesText v.name
+    & One DenotesEllipsoid v.ellipsoid
+    & Maybe (DenotesValue keywords.Anchor) v.anchor
+    & Each DenotesIdent v.ids
+    & nothing
 
 abbrev pub DenotesDatum : Bare → Datum → Type 0
 DenotesDatum x v = IsNode keywords.Datum nodes.Datum (datum_fields v) x
 
 abbrev pub vertical_datum_fields : VerticalDatum → Fields
 vertical_datum_fields v =
-  One DenotesText v.name
-  & Maybe (DenotesValue keywords.Anchor) v.anchor
-  & Each DenotesIdent v.ids
-  & nothing
+    One DenotesText v.name
+    & Maybe (DenotesValue keywords.Anchor) v.anchor
+    & Each DenotesIdent v.ids
+    & nothing
 
 abbrev pub DenotesVerticalDatum : Bare → VerticalDatum → Type 0
 DenotesVerticalDatum x v = IsNode keywords.VerticalDatum nodes.VerticalDatum (vertical_datum_fields v) x
@@ -182,23 +182,23 @@ DenotesAccuracy x v = IsNode keywords.EnsembleAccuracy nodes.EnsembleAccuracy (a
 
 abbrev pub geodetic_ensemble_fields : GeodeticEnsemble → Fields
 geodetic_ensemble_fields v =
-  One DenotesText v.name
-  & AtLeastOne (DenotesNamed keywords.Member) v.members
-  & One DenotesEllipsoid v.ellipsoid
-  & One DenotesAccuracy v.accuracy
-  & Each DenotesIdent v.ids
-  & nothing
+    One DenotesText v.name
+    & AtLeastOne (DenotesNamed keywords.Member) v.members
+    & One DenotesEllipsoid v.ellipsoid
+    & One DenotesAccuracy v.accuracy
+    & Each DenotesIdent v.ids
+    & nothing
 
 abbrev pub DenotesGeodeticEnsemble : Bare → GeodeticEnsemble → Type 0
 DenotesGeodeticEnsemble x v = IsNode keywords.Ensemble nodes.GeodeticEnsemble (geodetic_ensemble_fields v) x
 
 abbrev pub vertical_ensemble_fields : VerticalEnsemble → Fields
 vertical_ensemble_fields v =
-  One DenotesText v.name
-  & AtLeastOne (DenotesNamed keywords.Member) v.members
-  & One DenotesAccuracy v.accuracy
-  & Each DenotesIdent v.ids
-  & nothing
+    One DenotesText v.name
+    & AtLeastOne (DenotesNamed keywords.Member) v.members
+    & One DenotesAccuracy v.accuracy
+    & Each DenotesIdent v.ids
+    & nothing
 
 abbrev pub DenotesVerticalEnsemble : Bare → VerticalEnsemble → Type 0
 DenotesVerticalEnsemble x v = IsNode keywords.Ensemble nodes.VerticalEnsemble (vertical_ensemble_fields v) x
@@ -215,10 +215,10 @@ DenotesVerticalFrame x (vertical_frame.Ensemble v) = DenotesVerticalEnsemble x v
 
 abbrev pub system_fields : CoordSystem → Fields
 system_fields v =
-  One (DenotesWord system_word) v.kind
-  & One DenotesCount v.dimension
-  & Each DenotesIdent v.ids
-  & nothing
+    One (DenotesWord system_word) v.kind
+    & One DenotesCount v.dimension
+    & Each DenotesIdent v.ids
+    & nothing
 
 abbrev pub DenotesSystem : Bare → CoordSystem → Type 0
 DenotesSystem x v = IsNode keywords.CoordinateSystem nodes.CoordinateSystem (system_fields v) x
@@ -237,13 +237,13 @@ DenotesOrder x v = IsNode keywords.Order nodes.Order (order_fields v) x
 
 abbrev pub axis_fields : Axis → Fields
 axis_fields v =
-  One DenotesText v.name
-  & One (DenotesWord direction_word) v.direction
-  & Maybe DenotesMeridian v.meridian
-  & Maybe DenotesOrder v.order
-  & Maybe DenotesUnit v.unit
-  & Each DenotesIdent v.ids
-  & nothing
+    One DenotesText v.name
+    & One (DenotesWord direction_word) v.direction
+    & Maybe DenotesMeridian v.meridian
+    & Maybe DenotesOrder v.order
+    & Maybe DenotesUnit v.unit
+    & Each DenotesIdent v.ids
+    & nothing
 
 abbrev pub DenotesAxis : Bare → Axis → Type 0
 DenotesAxis x v = IsNode keywords.Axis nodes.Axis (axis_fields v) x
@@ -252,22 +252,22 @@ DenotesAxis x v = IsNode keywords.Axis nodes.Axis (axis_fields v) x
 
 abbrev pub parameter_fields : Parameter → Fields
 parameter_fields v =
-  One DenotesText v.name
-  & One DenotesNumber v.value
-  & Maybe DenotesUnit v.unit
-  & Each DenotesIdent v.ids
-  & nothing
+    One DenotesText v.name
+    & One DenotesNumber v.value
+    & Maybe DenotesUnit v.unit
+    & Each DenotesIdent v.ids
+    & nothing
 
 abbrev pub DenotesParameter : Bare → Parameter → Type 0
 DenotesParameter x v = IsNode keywords.Parameter nodes.Parameter (parameter_fields v) x
 
 abbrev pub conversion_fields : Conversion → Fields
 conversion_fields v =
-  One DenotesText v.name
-  & One (DenotesNamed keywords.Method) v.method
-  & Each DenotesParameter v.parameters
-  & Each DenotesIdent v.ids
-  & nothing
+    One DenotesText v.name
+    & One (DenotesNamed keywords.Method) v.method
+    & Each DenotesParameter v.parameters
+    & Each DenotesIdent v.ids
+    & nothing
 
 abbrev pub DenotesConversion : Bare → Conversion → Type 0
 DenotesConversion x v = IsNode keywords.Conversion nodes.Conversion (conversion_fields v) x
@@ -284,59 +284,59 @@ base_keyword geodetic_kind.Geographic = keywords.BaseGeographicCrs
 
 abbrev pub base_fields : BaseCrs → Fields
 base_fields v =
-  One DenotesText v.name
-  & One DenotesGeodeticFrame v.datum
-  & Maybe DenotesPrimeMeridian v.prime_meridian
-  & Maybe DenotesAngleUnit v.unit
-  & Each DenotesIdent v.ids
-  & nothing
+    One DenotesText v.name
+    & One DenotesGeodeticFrame v.datum
+    & Maybe DenotesPrimeMeridian v.prime_meridian
+    & Maybe DenotesAngleUnit v.unit
+    & Each DenotesIdent v.ids
+    & nothing
 
 abbrev pub DenotesBase : Bare → BaseCrs → Type 0
 DenotesBase x v = IsNode (base_keyword v.kind) nodes.BaseCrs (base_fields v) x
 
 abbrev pub geodetic_fields : Geodetic → Fields
 geodetic_fields v =
-  One DenotesText v.name
-  & One DenotesGeodeticFrame v.datum
-  & Maybe DenotesPrimeMeridian v.prime_meridian
-  & One DenotesSystem v.system
-  & AtLeastOne DenotesAxis v.axes
-  & Maybe DenotesUnit v.unit
-  & Each DenotesUsage v.usages
-  & Each DenotesIdent v.ids
-  & Maybe (DenotesValue keywords.Remark) v.remark
-  & nothing
+    One DenotesText v.name
+    & One DenotesGeodeticFrame v.datum
+    & Maybe DenotesPrimeMeridian v.prime_meridian
+    & One DenotesSystem v.system
+    & AtLeastOne DenotesAxis v.axes
+    & Maybe DenotesUnit v.unit
+    & Each DenotesUsage v.usages
+    & Each DenotesIdent v.ids
+    & Maybe (DenotesValue keywords.Remark) v.remark
+    & nothing
 
 abbrev pub DenotesGeodetic : Bare → Geodetic → Type 0
 DenotesGeodetic x v = IsNode (geodetic_keyword v.kind) nodes.GeodeticCrs (geodetic_fields v) x
 
 abbrev pub projected_fields : Projected → Fields
 projected_fields v =
-  One DenotesText v.name
-  & One DenotesBase v.base
-  & One DenotesConversion v.conversion
-  & One DenotesSystem v.system
-  & AtLeastOne DenotesAxis v.axes
-  & Maybe DenotesUnit v.unit
-  & Each DenotesUsage v.usages
-  & Each DenotesIdent v.ids
-  & Maybe (DenotesValue keywords.Remark) v.remark
-  & nothing
+    One DenotesText v.name
+    & One DenotesBase v.base
+    & One DenotesConversion v.conversion
+    & One DenotesSystem v.system
+    & AtLeastOne DenotesAxis v.axes
+    & Maybe DenotesUnit v.unit
+    & Each DenotesUsage v.usages
+    & Each DenotesIdent v.ids
+    & Maybe (DenotesValue keywords.Remark) v.remark
+    & nothing
 
 abbrev pub DenotesProjected : Bare → Projected → Type 0
 DenotesProjected x v = IsNode keywords.ProjectedCrs nodes.ProjectedCrs (projected_fields v) x
 
 abbrev pub vertical_fields : verticals.Vertical → Fields
 vertical_fields v =
-  One DenotesText v.name
-  & One DenotesVerticalFrame v.datum
-  & One DenotesSystem v.system
-  & AtLeastOne DenotesAxis v.axes
-  & Maybe DenotesUnit v.unit
-  & Each DenotesUsage v.usages
-  & Each DenotesIdent v.ids
-  & Maybe (DenotesValue keywords.Remark) v.remark
-  & nothing
+    One DenotesText v.name
+    & One DenotesVerticalFrame v.datum
+    & One DenotesSystem v.system
+    & AtLeastOne DenotesAxis v.axes
+    & Maybe DenotesUnit v.unit
+    & Each DenotesUsage v.usages
+    & Each DenotesIdent v.ids
+    & Maybe (DenotesValue keywords.Remark) v.remark
+    & nothing
 
 abbrev pub DenotesVertical : Bare → verticals.Vertical → Type 0
 DenotesVertical x v = IsNode keywords.VerticalCrs nodes.VerticalCrs (vertical_fields v) x
@@ -348,13 +348,13 @@ DenotesSingle x (single.Vertical v) = DenotesVertical x v
 
 abbrev pub compound_fields : Compound → Fields
 compound_fields v =
-  One DenotesText v.name
-  & One DenotesSingle v.first
-  & One DenotesSingle v.second
-  & Each DenotesUsage v.usages
-  & Each DenotesIdent v.ids
-  & Maybe (DenotesValue keywords.Remark) v.remark
-  & nothing
+    One DenotesText v.name
+    & One DenotesSingle v.first
+    & One DenotesSingle v.second
+    & Each DenotesUsage v.usages
+    & Each DenotesIdent v.ids
+    & Maybe (DenotesValue keywords.Remark) v.remark
+    & nothing
 
 abbrev pub DenotesCompound : Bare → Compound → Type 0
 DenotesCompound x v = IsNode keywords.CompoundCrs nodes.CompoundCrs (compound_fields v) x

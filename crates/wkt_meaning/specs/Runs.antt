@@ -11,7 +11,6 @@ use Rattle.wkt_tier.specs.Bare.{Bare, Bares, node, args, shape}
 
 -- what is said of the run of each slot, in the order of the slots
 infixr 5 ◌&◌
-
 pub data Fields : Type 1 where
   nothing : Fields
   ◌&◌ : (List Bare → Type 0) → Fields → Fields

@@ -96,13 +96,13 @@ value_tree keyword v = branch keyword (one (text_tree v) ∷ [])
 
 abbrev pub ident_tree : Ident → Bare
 ident_tree v = branch (codes "ID") (
-  one (text_tree v.authority)
-  ∷ one (code_tree v.code)
-  ∷ maybe code_tree v.version
-  ∷ maybe (value_tree (codes "CITATION")) v.citation
-  ∷ maybe (value_tree (codes "URI")) v.uri
-  ∷ []
-)
+    one (text_tree v.authority)
+    ∷ one (code_tree v.code)
+    ∷ maybe code_tree v.version
+    ∷ maybe (value_tree (codes "CITATION")) v.citation
+    ∷ maybe (value_tree (codes "URI")) v.uri
+    ∷ []
+    )
 
 abbrev pub named_tree : List ℕ → Named → Bare
 named_tree keyword v = branch keyword (one (text_tree v.name) ∷ map ident_tree v.ids ∷ [])
@@ -130,80 +130,80 @@ angle_unit_tree (angle_unit.Generic v) = unit_of_tree (codes "UNIT") v
 
 abbrev pub bounding_box_tree : BoundingBox → Bare
 bounding_box_tree v = branch (codes "BBOX") (
-  one (number_tree v.south)
-  ∷ one (number_tree v.west)
-  ∷ one (number_tree v.north)
-  ∷ one (number_tree v.east)
-  ∷ []
-)
+    one (number_tree v.south)
+    ∷ one (number_tree v.west)
+    ∷ one (number_tree v.north)
+    ∷ one (number_tree v.east)
+    ∷ []
+    )
 
 abbrev pub usage_tree : Usage → Bare
 usage_tree v = branch (codes "USAGE") (
-  one (value_tree (codes "SCOPE") v.scope)
-  ∷ maybe (value_tree (codes "AREA")) v.area
-  ∷ maybe bounding_box_tree v.bounding_box
-  ∷ []
-)
+    one (value_tree (codes "SCOPE") v.scope)
+    ∷ maybe (value_tree (codes "AREA")) v.area
+    ∷ maybe bounding_box_tree v.bounding_box
+    ∷ []
+    )
 
 -- ---- datums
 
 abbrev pub ellipsoid_tree : Ellipsoid → Bare
 ellipsoid_tree v = branch (codes "ELLIPSOID") (
-  one (text_tree v.name)
-  ∷ one (number_tree v.radius)
-  ∷ one (number_tree v.flattening)
-  ∷ maybe length_unit_tree v.unit
-  ∷ map ident_tree v.ids
-  ∷ []
-)
+    one (text_tree v.name)
+    ∷ one (number_tree v.radius)
+    ∷ one (number_tree v.flattening)
+    ∷ maybe length_unit_tree v.unit
+    ∷ map ident_tree v.ids
+    ∷ []
+    )
 
 abbrev pub prime_meridian_tree : PrimeMeridian → Bare
 prime_meridian_tree v = branch (codes "PRIMEM") (
-  one (text_tree v.name)
-  ∷ one (number_tree v.longitude)
-  ∷ maybe angle_unit_tree v.unit
-  ∷ map ident_tree v.ids
-  ∷ []
-)
+    one (text_tree v.name)
+    ∷ one (number_tree v.longitude)
+    ∷ maybe angle_unit_tree v.unit
+    ∷ map ident_tree v.ids
+    ∷ []
+    )
 
 abbrev pub datum_tree : Datum → Bare
 datum_tree v = branch (codes "DATUM") (
-  one (text_tree v.name)
-  ∷ one (ellipsoid_tree v.ellipsoid)
-  ∷ maybe (value_tree (codes "ANCHOR")) v.anchor
-  ∷ map ident_tree v.ids
-  ∷ []
-)
+    one (text_tree v.name)
+    ∷ one (ellipsoid_tree v.ellipsoid)
+    ∷ maybe (value_tree (codes "ANCHOR")) v.anchor
+    ∷ map ident_tree v.ids
+    ∷ []
+    )
 
 abbrev pub vertical_datum_tree : VerticalDatum → Bare
 vertical_datum_tree v = branch (codes "VDATUM") (
-  one (text_tree v.name)
-  ∷ maybe (value_tree (codes "ANCHOR")) v.anchor
-  ∷ map ident_tree v.ids
-  ∷ []
-)
+    one (text_tree v.name)
+    ∷ maybe (value_tree (codes "ANCHOR")) v.anchor
+    ∷ map ident_tree v.ids
+    ∷ []
+    )
 
 abbrev pub accuracy_tree : Decimal → Bare
 accuracy_tree v = branch (codes "ENSEMBLEACCURACY") (one (number_tree v) ∷ [])
 
 abbrev pub geodetic_ensemble_tree : GeodeticEnsemble → Bare
 geodetic_ensemble_tree v = branch (codes "ENSEMBLE") (
-  one (text_tree v.name)
-  ∷ map (named_tree (codes "MEMBER")) (listed v.members)
-  ∷ one (ellipsoid_tree v.ellipsoid)
-  ∷ one (accuracy_tree v.accuracy)
-  ∷ map ident_tree v.ids
-  ∷ []
-)
+    one (text_tree v.name)
+    ∷ map (named_tree (codes "MEMBER")) (listed v.members)
+    ∷ one (ellipsoid_tree v.ellipsoid)
+    ∷ one (accuracy_tree v.accuracy)
+    ∷ map ident_tree v.ids
+    ∷ []
+    )
 
 abbrev pub vertical_ensemble_tree : VerticalEnsemble → Bare
 vertical_ensemble_tree v = branch (codes "ENSEMBLE") (
-  one (text_tree v.name)
-  ∷ map (named_tree (codes "MEMBER")) (listed v.members)
-  ∷ one (accuracy_tree v.accuracy)
-  ∷ map ident_tree v.ids
-  ∷ []
-)
+    one (text_tree v.name)
+    ∷ map (named_tree (codes "MEMBER")) (listed v.members)
+    ∷ one (accuracy_tree v.accuracy)
+    ∷ map ident_tree v.ids
+    ∷ []
+    )
 
 abbrev pub geodetic_frame_tree : GeodeticFrame → Bare
 geodetic_frame_tree (geodetic_frame.Datum v) = datum_tree v
@@ -226,34 +226,34 @@ order_tree v = branch (codes "ORDER") (one (count_tree v.position) ∷ [])
 
 abbrev pub axis_tree : Axis → Bare
 axis_tree v = branch (codes "AXIS") (
-  one (text_tree v.name)
-  ∷ one (direction_tree v.direction)
-  ∷ maybe meridian_tree v.meridian
-  ∷ maybe order_tree v.order
-  ∷ maybe unit_tree v.unit
-  ∷ map ident_tree v.ids
-  ∷ []
-)
+    one (text_tree v.name)
+    ∷ one (direction_tree v.direction)
+    ∷ maybe meridian_tree v.meridian
+    ∷ maybe order_tree v.order
+    ∷ maybe unit_tree v.unit
+    ∷ map ident_tree v.ids
+    ∷ []
+    )
 
 -- ---- conversions
 
 abbrev pub parameter_tree : Parameter → Bare
 parameter_tree v = branch (codes "PARAMETER") (
-  one (text_tree v.name)
-  ∷ one (number_tree v.value)
-  ∷ maybe unit_tree v.unit
-  ∷ map ident_tree v.ids
-  ∷ []
-)
+    one (text_tree v.name)
+    ∷ one (number_tree v.value)
+    ∷ maybe unit_tree v.unit
+    ∷ map ident_tree v.ids
+    ∷ []
+    )
 
 abbrev pub conversion_tree : Conversion → Bare
 conversion_tree v = branch (codes "CONVERSION") (
-  one (text_tree v.name)
-  ∷ one (named_tree (codes "METHOD") v.method)
-  ∷ map parameter_tree v.parameters
-  ∷ map ident_tree v.ids
-  ∷ []
-)
+    one (text_tree v.name)
+    ∷ one (named_tree (codes "METHOD") v.method)
+    ∷ map parameter_tree v.parameters
+    ∷ map ident_tree v.ids
+    ∷ []
+    )
 
 -- ---- coordinate reference systems
 
@@ -267,54 +267,54 @@ base_name geodetic_kind.Geographic = codes "BASEGEOGCRS"
 
 abbrev pub base_tree : BaseCrs → Bare
 base_tree v = branch (base_name v.kind) (
-  one (text_tree v.name)
-  ∷ one (geodetic_frame_tree v.datum)
-  ∷ maybe prime_meridian_tree v.prime_meridian
-  ∷ maybe angle_unit_tree v.unit
-  ∷ map ident_tree v.ids
-  ∷ []
-)
+    one (text_tree v.name)
+    ∷ one (geodetic_frame_tree v.datum)
+    ∷ maybe prime_meridian_tree v.prime_meridian
+    ∷ maybe angle_unit_tree v.unit
+    ∷ map ident_tree v.ids
+    ∷ []
+    )
 
 abbrev pub geodetic_tree : Geodetic → Bare
 geodetic_tree v = branch (geodetic_name v.kind) (
-  one (text_tree v.name)
-  ∷ one (geodetic_frame_tree v.datum)
-  ∷ maybe prime_meridian_tree v.prime_meridian
-  ∷ one (system_tree v.system)
-  ∷ map axis_tree (listed v.axes)
-  ∷ maybe unit_tree v.unit
-  ∷ map usage_tree v.usages
-  ∷ map ident_tree v.ids
-  ∷ maybe (value_tree (codes "REMARK")) v.remark
-  ∷ []
-)
+    one (text_tree v.name)
+    ∷ one (geodetic_frame_tree v.datum)
+    ∷ maybe prime_meridian_tree v.prime_meridian
+    ∷ one (system_tree v.system)
+    ∷ map axis_tree (listed v.axes)
+    ∷ maybe unit_tree v.unit
+    ∷ map usage_tree v.usages
+    ∷ map ident_tree v.ids
+    ∷ maybe (value_tree (codes "REMARK")) v.remark
+    ∷ []
+    )
 
 abbrev pub projected_tree : Projected → Bare
 projected_tree v = branch (codes "PROJCRS") (
-  one (text_tree v.name)
-  ∷ one (base_tree v.base)
-  ∷ one (conversion_tree v.conversion)
-  ∷ one (system_tree v.system)
-  ∷ map axis_tree (listed v.axes)
-  ∷ maybe unit_tree v.unit
-  ∷ map usage_tree v.usages
-  ∷ map ident_tree v.ids
-  ∷ maybe (value_tree (codes "REMARK")) v.remark
-  ∷ []
-)
+    one (text_tree v.name)
+    ∷ one (base_tree v.base)
+    ∷ one (conversion_tree v.conversion)
+    ∷ one (system_tree v.system)
+    ∷ map axis_tree (listed v.axes)
+    ∷ maybe unit_tree v.unit
+    ∷ map usage_tree v.usages
+    ∷ map ident_tree v.ids
+    ∷ maybe (value_tree (codes "REMARK")) v.remark
+    ∷ []
+    )
 
 abbrev pub vertical_tree : verticals.Vertical → Bare
 vertical_tree v = branch (codes "VERTCRS") (
-  one (text_tree v.name)
-  ∷ one (vertical_frame_tree v.datum)
-  ∷ one (system_tree v.system)
-  ∷ map axis_tree (listed v.axes)
-  ∷ maybe unit_tree v.unit
-  ∷ map usage_tree v.usages
-  ∷ map ident_tree v.ids
-  ∷ maybe (value_tree (codes "REMARK")) v.remark
-  ∷ []
-)
+    one (text_tree v.name)
+    ∷ one (vertical_frame_tree v.datum)
+    ∷ one (system_tree v.system)
+    ∷ map axis_tree (listed v.axes)
+    ∷ maybe unit_tree v.unit
+    ∷ map usage_tree v.usages
+    ∷ map ident_tree v.ids
+    ∷ maybe (value_tree (codes "REMARK")) v.remark
+    ∷ []
+    )
 
 abbrev pub single_tree : Single → Bare
 single_tree (single.Geodetic v) = geodetic_tree v
@@ -323,14 +323,14 @@ single_tree (single.Vertical v) = vertical_tree v
 
 abbrev pub compound_tree : Compound → Bare
 compound_tree v = branch (codes "COMPOUNDCRS") (
-  one (text_tree v.name)
-  ∷ one (single_tree v.first)
-  ∷ one (single_tree v.second)
-  ∷ map usage_tree v.usages
-  ∷ map ident_tree v.ids
-  ∷ maybe (value_tree (codes "REMARK")) v.remark
-  ∷ []
-)
+    one (text_tree v.name)
+    ∷ one (single_tree v.first)
+    ∷ one (single_tree v.second)
+    ∷ map usage_tree v.usages
+    ∷ map ident_tree v.ids
+    ∷ maybe (value_tree (codes "REMARK")) v.remark
+    ∷ []
+    )
 
 abbrev pub parts_tree : CrsParts → Bare
 parts_tree (parts.Single v) = single_tree v

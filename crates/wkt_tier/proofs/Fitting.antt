@@ -70,15 +70,13 @@ mutual
 
   items_none : (items : Items) (n : Node) (left : List Slot) (filled : Bool) (end : ℕ) → items_fault n left filled items end ≡ None → WalksWell left filled (all_bare items) × AllInside n (all_bare items)
   items_none (last i) n left filled end e =
-      let t = none_taken (refusal left filled (argument i) (begin i)) (item_fault n i) (λ l. missing_fault l end) (next left filled (argument i)) e in
-      (
+      let t = none_taken (refusal left filled (argument i) (begin i)) (item_fault n i) (λ l. missing_fault l end) (next left filled (argument i)) e in (
         walk_step left t.0 filled (bare i) none (ap (next left filled) (shape-bare i) ∙ t.1) ((t.0, true), refl, none_missing (missing t.0 true) end t.3),
         (item_none i n t.2, tt),
       )
   items_none (more i c rest) n left filled end e =
       let t = none_taken (refusal left filled (argument i) (begin i)) (item_fault n i) (λ l. items_fault n l true rest end) (next left filled (argument i)) e in
-      let r = items_none rest n t.0 true end t.3 in
-      (
+      let r = items_none rest n t.0 true end t.3 in (
         walk_step left t.0 filled (bare i) (all_bare rest) (ap (next left filled) (shape-bare i) ∙ t.1) r.0,
         (item_none i n t.2, r.1),
       )
@@ -170,8 +168,7 @@ cuts_from : (row : List Slot) (n : Node) (xs : List Bare) → Decides n row → 
 cuts_from [] n xs h f i = no_shapes xs f
 cuts_from (s ∷ row) n xs h f i =
     let p = split_of f.0 f.1 xs f.2 in
-    let inside = front_inside n p.front p.back (subst (EachInside n) p.parts i) in
-    (
+    let inside = front_inside n p.front p.back (subst (EachInside n) p.parts i) in (
       p.front,
       p.back,
       p.parts,
@@ -219,8 +216,7 @@ map_shapes (x ∷ a) b = ap (λ (l : List Argument). shape x ∷ l) (map_shapes 
 cuts_back : (row : List Slot) (n : Node) (xs : List Bare) → Decides n row → Cuts row xs → Fits row (map shape xs) × EachInside n xs
 cuts_back [] n xs h c = (ap (map shape) c, subst (EachInside n) (sym c) tt)
 cuts_back (s ∷ row) n xs h c =
-    let r = cuts_back row n c.1 (decides_rest n s row h) c.5 in
-    (
+    let r = cuts_back row n c.1 (decides_rest n s row h) c.5 in (
       (map shape c.0, map shape c.1, ap (map shape) c.2 ∙ map_shapes c.0 c.1, passes_of s.takes c.0 c.3, subst (λ k. Times s.often k) (sym (length_shapes c.0)) c.4, r.0),
       subst (EachInside n) (sym c.2) (back_inside n c.0 c.1 (run_inside n s.takes c.0 (decides_head n s row h) c.3) r.1),
     )

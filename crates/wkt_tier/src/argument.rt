@@ -7,10 +7,9 @@ ghost use Rattle.wkt_tier.specs.First.{refusal};
 
 use crate::fault::SlotFault;
 use crs_number::is_count;
-use wkt_slots::enters;
-use wkt_slots::{Argument, Keyword, Node, row_of};
-use wkt_slots::{Place, step};
-use wkt_slots::{is_cs_kind, is_direction, keyword_of};
+use wkt_slots::{
+    Argument, Keyword, Node, Place, enters, is_cs_kind, is_direction, keyword_of, row_of, step,
+};
 use wkt_tree::TokenKind;
 
 fn word_argument(bytes: &[u8]) -> Argument

@@ -9,8 +9,7 @@ ghost use Rattle.wkt_tier.specs.Next.{coming, is_comma, is_open, next_is, place_
 
 use crate::argument::{argument_of, refusal, row_in};
 use crate::fault::SlotFault;
-use wkt_slots::{Argument, Node, row_of};
-use wkt_slots::{Place, first_missing, step};
+use wkt_slots::{Argument, Node, Place, first_missing, row_of, step};
 use wkt_tree::{Cursor, Outline, TokenKind};
 
 fn next_is_open(cursor: &Cursor<'_>) -> bool
