@@ -7,7 +7,7 @@ use Rattle.crs_part.specs.declared.units.UnitDefinition.{UnitDefinition}
 use Rattle.crs_part.specs.declared.units.Unit.{Unit}
 use Rattle.crs_part.specs.declared.units.Unit.TheVariants as any
 use Rattle.crs_part.specs.declared.units.LengthUnit.{LengthUnit}
-use Rattle.crs_part.specs.declared.units.LengthUnit.TheVariants as length
+use Rattle.crs_part.specs.declared.units.LengthUnit.TheVariants as length_unit
 use Rattle.crs_part.specs.declared.units.AngleUnit.{AngleUnit}
 use Rattle.crs_part.specs.declared.units.AngleUnit.TheVariants as angle
 use Rattle.crs_part.specs.declared.datums.Ellipsoid.{Ellipsoid}
@@ -28,8 +28,8 @@ any_units (any.Scale unit) = unit ∷ []
 any_units (any.Generic unit) = unit ∷ []
 
 abbrev pub length_units : LengthUnit → List UnitDefinition
-length_units (length.Length unit) = unit ∷ []
-length_units (length.Generic unit) = unit ∷ []
+length_units (length_unit.Length unit) = unit ∷ []
+length_units (length_unit.Generic unit) = unit ∷ []
 
 abbrev pub angle_units : AngleUnit → List UnitDefinition
 angle_units (angle.Angle unit) = unit ∷ []

@@ -1,5 +1,5 @@
 -- What is built where the keyword that comes decides.
-use Rattle.std.proofs.Common.{◌≡◌, ℕ, Bool, true, false, List, [], ◌∷◌, ◌++◌, Option, Some, None, Result, Ok, Err, IfOk, refl, sym, ap, ◌∙◌, subst}
+use Rattle.std.proofs.Common.{◌≡◌, ℕ, Bool, true, false, List, ◌++◌, Option, Some, None, Result, Ok, Err, IfOk, refl, sym, ap, ◌∙◌, subst}
 use Rattle.crs_part.specs.declared.units.UnitDefinition.{UnitDefinition}
 use Rattle.crs_part.specs.declared.datums.Datum.{Datum}
 use Rattle.crs_part.specs.declared.datums.GeodeticEnsemble.{GeodeticEnsemble}
@@ -8,7 +8,6 @@ use Rattle.crs_part.specs.declared.datums.VerticalDatum.{VerticalDatum}
 use Rattle.crs_part.specs.declared.datums.VerticalEnsemble.{VerticalEnsemble}
 use Rattle.crs_part.specs.declared.datums.VerticalFrame.TheVariants as vertical_frame
 use Rattle.crs_part.specs.declared.crs.GeodeticKind.{GeodeticKind}
-use Rattle.crs_part.specs.declared.crs.GeodeticKind.TheVariants as geodetic_kind
 use Rattle.crs_part.specs.declared.crs.BaseCrs.{BaseCrs}
 use Rattle.crs_part.specs.declared.crs.Geodetic.{Geodetic}
 use Rattle.crs_part.specs.declared.crs.Projected.{Projected}
@@ -30,7 +29,7 @@ use Rattle.wkt_slots.specs.Words.{keyword_of}
 use Rattle.wkt_tier.specs.Bare.{Bare, Bares, text, number, word, node, bare}
 use Rattle.wkt_tier.specs.Fitted.{Fitted, Fitting}
 use Rattle.wkt_meaning.specs.Runs.{Fields, IsNode}
-use Rattle.wkt_meaning.specs.Denotes.{unit_fields, DenotesUnit, DenotesLengthUnit, DenotesAngleUnit, datum_fields, geodetic_ensemble_fields, DenotesGeodeticFrame, vertical_datum_fields, vertical_ensemble_fields, DenotesVerticalFrame, base_fields, DenotesBase, geodetic_fields, projected_fields, vertical_fields, DenotesSingle, compound_fields, DenotesParts, base_keyword, geodetic_keyword, DenotesGeodetic}
+use Rattle.wkt_meaning.specs.Denotes.{unit_fields, DenotesUnit, DenotesLengthUnit, DenotesAngleUnit, datum_fields, geodetic_ensemble_fields, DenotesGeodeticFrame, vertical_datum_fields, vertical_ensemble_fields, DenotesVerticalFrame, base_fields, DenotesBase, geodetic_fields, projected_fields, vertical_fields, DenotesSingle, compound_fields, DenotesParts, base_keyword, geodetic_keyword}
 use Rattle.wkt_build.specs.Reads.{Next, BuildsNode}
 use Rattle.wkt_build.specs.Single.{IsSingle}
 use Rattle.wkt_build.specs.Choices.{next_keyword, unit_as, length_unit_as, angle_unit_as, geodetic_kind_of, is_ensemble, is_projected, is_vertical, is_compound}

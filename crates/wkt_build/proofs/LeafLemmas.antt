@@ -2,22 +2,17 @@
 use Rattle.std.proofs.Common.{◌≡◌, ℕ, zero, suc, ◌<◌, ◌^◌, length, get_or, arith, Bool, true, false, List, [], ◌∷◌, ◌++◌, map, drop, slice_get, Option, Some, None, Result, Ok, Err, IfOk, refl, sym, ap, ◌∙◌, subst, pos}
 use Rattle.std.specs.Prelude.{cond, if◌then◌else◌, ◌||◌}
 use Rattle.std.specs.List.{list_any}
-use Rattle.std.specs.Option.{is_some}
 use Rattle.std.specs.Char.{to_ascii_lowercase}
 use Rattle.std.specs.Str.{bytes_eq, is_utf8}
 use Rattle.std.proofs.lemmas.Str.{is_utf8-from_IsUtf8}
 use Rattle.std.proofs.lemmas.Slice.Eq.{bytes_eq-Decides}
 use Rattle.std.specs.Bool.{Decides}
-use Rattle.crs_number.specs.Numeral.{Spells}
 use Rattle.crs_number.specs.Value.{IsWhole}
 use Rattle.crs_number.specs.Count.{SpellsWhole, IsCount, is_count}
 use Rattle.crs_number.specs.declared.decimals.Decimal.{Decimal}
 use Rattle.crs_number.proofs.CountLemmas.{count_from, spells_once}
 use Rattle.crs_part.specs.declared.text.Text.{Text}
-use Rattle.crs_part.specs.declared.identifiers.NumberOrText.{NumberOrText}
 use Rattle.crs_part.specs.declared.identifiers.NumberOrText.TheVariants as code
-use Rattle.crs_part.specs.declared.systems.Direction.{Direction}
-use Rattle.crs_part.specs.declared.systems.SystemKind.{SystemKind}
 use Rattle.wkt_tree.specs.declared.token.TokenKind.TheVariants.{Word, Quoted, Number}
 use Rattle.wkt_tree.specs.Tree.{Piece, Tok, tok, Item, tokens}
 use Rattle.wkt_tree.specs.Tree as tree
@@ -26,13 +21,12 @@ use Rattle.wkt_slots.specs.declared.table.Takes.{Takes}
 use Rattle.wkt_slots.specs.declared.table.Takes.TheVariants as kinds
 use Rattle.wkt_slots.specs.declared.table.Argument.TheVariants as arguments
 use Rattle.wkt_slots.specs.declared.table.Keyword.{Keyword}
-use Rattle.wkt_slots.specs.declared.words.TheConstants.{CS_KINDS, DIRECTIONS}
 use Rattle.wkt_slots.specs.Rows.{takes}
 use Rattle.wkt_slots.specs.Words.{keyword_of, is_cs_kind, is_direction}
 use Rattle.wkt_tier.specs.Slots.{argument_by}
-use Rattle.wkt_tier.specs.Bare.{Bare, text, number, word, node, bare, shape}
+use Rattle.wkt_tier.specs.Bare.{Bare, text, bare, shape}
 use Rattle.wkt_tier.specs.Fitted.{Fitting}
-use Rattle.wkt_meaning.specs.Leaves.{undoubled, SameWord, DenotesText, DenotesNumber, DenotesCount, DenotesWord}
+use Rattle.wkt_meaning.specs.Leaves.{undoubled, DenotesText, DenotesNumber, DenotesCount, DenotesWord}
 use Rattle.wkt_meaning.specs.Words.{system_word, direction_word, first_word, kinds_listed, directions_listed}
 use Rattle.wkt_meaning.specs.Denotes.{DenotesCode}
 use Rattle.wkt_meaning.proofs.Leaves.{undoubled-quoted}

@@ -1,6 +1,5 @@
 -- Slots that take nodes with one keyword alone.
-use Rattle.std.proofs.Common.{◌≡◌, Option, Some, None, refl, sym}
-use Rattle.wkt_slots.specs.declared.table.Keyword.{Keyword}
+use Rattle.std.proofs.Common.{◌≡◌, Option, Some, None, refl}
 use Rattle.wkt_slots.specs.declared.table.Keyword.TheVariants as keywords
 use Rattle.wkt_slots.specs.declared.table.Node.{Node}
 use Rattle.wkt_slots.specs.declared.table.Node.TheVariants as nodes

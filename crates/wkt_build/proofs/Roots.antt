@@ -1,12 +1,11 @@
 -- What is built of a whole text.
-use Rattle.std.proofs.Common.{◌≡◌, ℕ, suc, List, [], ◌∷◌, ◌++◌, length, refl, sym, ap, ◌∙◌, subst}
+use Rattle.std.proofs.Common.{◌≡◌, List, [], ◌∷◌, ◌++◌, length, refl, ap, ◌∙◌, subst}
 use Rattle.std.specs.Prelude.{Result, Ok, Err, IfOk}
 use Rattle.crs_part.specs.declared.crs.CrsParts.{CrsParts}
 use Rattle.wkt_tree.specs.Tree.{Tok, tokens, node}
 use Rattle.wkt_slots.specs.declared.table.Takes.TheVariants as kinds
 use Rattle.wkt_slots.specs.declared.table.Node.TheVariants as nodes
-use Rattle.wkt_tier.specs.Bare.{Bare, bare, all_bare, and, none}
-use Rattle.wkt_tier.specs.Bare as bares
+use Rattle.wkt_tier.specs.Bare.{Bare, bare, and, none}
 use Rattle.wkt_tier.specs.Fitted.{Fitting, AllFitting}
 use Rattle.wkt_tier.proofs.Fitting.{clean_fitted, fitted_cuts}
 use Rattle.wkt_meaning.specs.Denotes.{DenotesParts}

@@ -1,12 +1,10 @@
 -- What is built of a row, slot by slot.
-use Rattle.std.proofs.Common.{◌≡◌, ℕ, zero, suc, ◌+◌, ◌≤◌, ◌<◌, ◌^◌, Bool, true, false, List, [], ◌∷◌, ◌++◌, length, map, drop, Option, Some, None, Result, Ok, Err, IfOk, refl, sym, ap, ◌∙◌, subst, arith, append_assoc, append-nil}
+use Rattle.std.proofs.Common.{◌≡◌, ℕ, ◌≤◌, ◌<◌, ◌^◌, Bool, true, false, List, [], ◌∷◌, ◌++◌, length, map, drop, Option, Some, None, Result, Ok, Err, IfOk, refl, sym, ap, ◌∙◌, subst, arith, append_assoc}
 use Rattle.std.specs.Prelude.{◌&&◌, not, cond}
 use Rattle.std.specs.List.{AllPass, list_all}
 use Rattle.std.specs.Option.{is_some}
-use Rattle.std.proofs.lemmas.List.Elements.{All-nil, All-cons}
 use Rattle.crs_part.specs.declared.many.NonEmpty.{NonEmpty}
-use Rattle.wkt_tree.specs.declared.token.Delimiter.{Delimiter}
-use Rattle.wkt_tree.specs.declared.token.TokenKind.TheVariants.{Word, Comma, Open, Close}
+use Rattle.wkt_tree.specs.declared.token.TokenKind.TheVariants.{Comma, Open, Close}
 use Rattle.wkt_tree.specs.Tree.{Piece, Tok, tok, Item, Items, last, more, tokens, all_tokens}
 use Rattle.wkt_tree.specs.Tree as tree
 use Rattle.wkt_slots.specs.declared.table.Slot.{Slot}
@@ -15,26 +13,24 @@ use Rattle.wkt_slots.specs.declared.table.Node.{Node}
 use Rattle.wkt_slots.specs.declared.table.Keyword.{Keyword}
 use Rattle.wkt_slots.specs.declared.table.Takes.{Takes}
 use Rattle.wkt_slots.specs.declared.table.Takes.TheVariants as kinds
-use Rattle.wkt_slots.specs.declared.table.Argument.{Argument}
 use Rattle.wkt_slots.specs.declared.table.Argument.TheVariants as arguments
-use Rattle.wkt_slots.specs.declared.table.Often.{Often}
 use Rattle.wkt_slots.specs.declared.table.Often.TheVariants.{Once, AtMostOnce, Any, AtLeastOnce}
-use Rattle.wkt_slots.specs.Rows.{row_of, takes, enters, Times, Fits, is_required}
+use Rattle.wkt_slots.specs.Rows.{row_of, takes, enters, is_required}
 use Rattle.wkt_slots.specs.Words.{keyword_of, is_cs_kind, is_direction}
 use Rattle.crs_number.specs.Count.{is_count}
 use Rattle.wkt_slots.specs.Walk.{is_many, may_begin, all_arguments, is_clear}
-use Rattle.wkt_slots.proofs.Walks.{begins, each_argument, rows_clear}
+use Rattle.wkt_slots.proofs.Walks.{begins, each_argument}
 use Rattle.wkt_tier.specs.Slots.{argument_by}
-use Rattle.wkt_tier.specs.Next.{next_is, is_comma, is_open, coming, Follows}
-use Rattle.wkt_tier.specs.Bare.{Bare, Bares, text, number, word, node, none, and, args, bare, all_bare, shape}
+use Rattle.wkt_tier.specs.Next.{next_is, is_open, Follows}
+use Rattle.wkt_tier.specs.Bare.{Bare, Bares, text, number, word, node, args, bare, all_bare, shape}
 use Rattle.wkt_tier.specs.Fitted.{Fitted, entered, Fitting, AllFitting, Cuts}
 use Rattle.wkt_tier.proofs.Fitting.{fitted_cuts, cuts_fits, passes_of}
-use Rattle.wkt_meaning.specs.Runs.{Fields, nothing, ◌&◌, Meets, Runs, IsNode, One, Maybe, Each, listed, AtLeastOne}
+use Rattle.wkt_meaning.specs.Runs.{Fields, nothing, ◌&◌, Runs, IsNode, One, Maybe, Each, AtLeastOne}
 use Rattle.wkt_meaning.specs.Leaves.{DenotesCount}
 use Rattle.wkt_meaning.proofs.Leaves.{DenotesSmall}
 use Rattle.wkt_meaning.proofs.Rows.{slot, Law}
 use Rattle.wkt_build.specs.Rest.{Ends, Reads}
-use Rattle.wkt_build.specs.Reads.{Next, Behind, Come, comes, Builds, BuildsNode, BuildsOne, BuildsSome, BuildsEach}
+use Rattle.wkt_build.specs.Reads.{Next, Behind, Come, comes, BuildsNode}
 use Rattle.wkt_build.proofs.Steps.{comes_next}
 
 -- ---- the arguments of a node

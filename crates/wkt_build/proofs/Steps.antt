@@ -1,25 +1,17 @@
 -- What the builders of arguments make of the tokens that come.
-use Rattle.std.proofs.Common.{◌≡◌, ℕ, zero, suc, ◌+◌, ◌≤◌, ◌<◌, Bool, true, false, List, [], ◌∷◌, ◌++◌, length, map, drop, Option, Some, None, Result, Ok, Err, IfOk, refl, sym, ap, ◌∙◌, subst, arith, append_assoc, append-nil}
-use Rattle.std.specs.Prelude.{◌&&◌, not}
-use Rattle.std.specs.List.{AllPass, list_all}
-use Rattle.std.proofs.lemmas.List.Elements.{All-nil, All-cons}
-use Rattle.wkt_tree.specs.declared.token.Delimiter.{Delimiter}
-use Rattle.wkt_tree.specs.declared.token.TokenKind.TheVariants.{Word, Comma, Open, Close}
+use Rattle.std.proofs.Common.{◌≡◌, ◌<◌, true, false, List, [], ◌∷◌, ◌++◌, length, drop, refl, sym, ap, ◌∙◌, subst, arith, append_assoc, append-nil}
+use Rattle.wkt_tree.specs.declared.token.TokenKind.TheVariants.{Comma}
 use Rattle.wkt_tree.specs.Tree.{Piece, Tok, tok, Item, Items, last, more, tokens, all_tokens}
 use Rattle.wkt_tree.specs.Tree as tree
-use Rattle.wkt_slots.specs.declared.table.Slot.{Slot}
-use Rattle.wkt_slots.specs.declared.table.Node.{Node}
-use Rattle.wkt_slots.specs.declared.table.Keyword.{Keyword}
 use Rattle.wkt_slots.specs.declared.table.Takes.{Takes}
-use Rattle.wkt_slots.specs.declared.table.Argument.{Argument}
 use Rattle.wkt_slots.specs.Rows.{takes}
 use Rattle.wkt_tier.specs.Slots.{argument}
-use Rattle.wkt_tier.specs.Next.{next_is, is_comma, is_open, coming, Follows}
-use Rattle.wkt_tier.specs.Bare.{Bare, bare, shape}
+use Rattle.wkt_tier.specs.Next.{coming, Follows}
+use Rattle.wkt_tier.specs.Bare.{Bare, shape}
 use Rattle.wkt_tier.specs.Fitted.{Fitting, AllFitting}
 use Rattle.wkt_tier.proofs.Fitting.{shape-bare}
 use Rattle.wkt_meaning.specs.Runs.{Each}
-use Rattle.wkt_build.specs.Reads.{Next, Behind, Come, comes, Builds, BuildsOne, BuildsSome, BuildsEach}
+use Rattle.wkt_build.specs.Reads.{Next, Behind, comes}
 
 -- ---- which argument comes
 

@@ -1,5 +1,5 @@
 -- Which tokens come, in terms of the trees that they are, and what is built of them.
-use Rattle.std.specs.Prelude.{◌≡◌, ℕ, Bool, true, false, ◌&&◌, List, [], ◌∷◌, ◌++◌, Result, IfOk, Option, Some, None, drop}
+use Rattle.std.specs.Prelude.{◌≡◌, ℕ, Bool, false, ◌&&◌, List, [], ◌∷◌, ◌++◌, Result, IfOk, Option, Some, drop}
 use Rattle.wkt_tree.specs.declared.token.TokenKind.TheVariants.{Comma}
 use Rattle.wkt_tree.specs.Tree.{Piece, Tok, tok, Item, tokens}
 use Rattle.wkt_slots.specs.declared.table.Takes.{Takes}

@@ -1,6 +1,5 @@
 -- What is built of the rest of a row.
 use Rattle.std.specs.Prelude.{◌≡◌, List, [], ◌∷◌, Result, IfOk}
-use Rattle.crs_part.specs.declared.crs.Geodetic.{Geodetic}
 use Rattle.wkt_tree.specs.declared.token.Delimiter.{Delimiter}
 use Rattle.wkt_tree.specs.declared.token.TokenKind.TheVariants.{Close}
 use Rattle.wkt_tree.specs.Tree.{Piece, Tok, tok}

@@ -19,7 +19,7 @@ use Rattle.wkt_tier.specs.declared.fault.SlotFault.{SlotFault}
 use Rattle.wkt_tier.specs.declared.fault.SlotFault.TheVariants.{Missing}
 use Rattle.wkt_tier.specs.Slots.{argument, begin, whole, HasFault}
 use Rattle.wkt_tier.specs.First.{refusal, missing_fault, first, taken, row_by, item_fault, items_fault}
-use Rattle.wkt_tier.specs.Bare.{Bare, Bares, none, and, args, bare, all_bare, shape}
+use Rattle.wkt_tier.specs.Bare.{Bares, none, and, args, bare, all_bare, shape}
 use Rattle.wkt_tier.specs.Fitted.{Inside, AllInside, Fitted, Fitting}
 use Rattle.wkt_tier.proofs.Fitting.{shape-bare, cuts_fitted}
 use Rattle.wkt_tier.proofs.Found.{Rising, items_found}

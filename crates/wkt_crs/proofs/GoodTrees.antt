@@ -1,55 +1,22 @@
 -- The canonical tree of each value is good: its leaves are tokens, and it is not too deep. A line a slot.
-use Rattle.std.proofs.Common.{◌≡◌, ℕ, zero, suc, ◌≤◌, ◌<◌, ◌^◌, Bool, true, List, [], ◌∷◌, ◌++◌, map, decimal, Option, Some, None, refl, codes, arith}
+use Rattle.std.proofs.Common.{◌≡◌, ℕ, zero, suc, ◌≤◌, true, List, [], ◌∷◌, ◌++◌, map, Option, Some, None, refl, codes, arith}
 use Rattle.std.specs.Prelude.{max}
 use Rattle.crs_part.specs.declared.many.NonEmpty.{NonEmpty}
-use Rattle.crs_part.specs.declared.identifiers.NumberOrText.{NumberOrText}
 use Rattle.crs_part.specs.declared.identifiers.NumberOrText.TheVariants as code
-use Rattle.crs_part.specs.declared.systems.Direction.{Direction}
 use Rattle.crs_part.specs.declared.systems.Direction.TheVariants as to
-use Rattle.crs_part.specs.declared.systems.SystemKind.{SystemKind}
 use Rattle.crs_part.specs.declared.systems.SystemKind.TheVariants as kind
-use Rattle.crs_number.specs.declared.decimals.Decimal.{Decimal}
-use Rattle.crs_part.specs.declared.text.Text.{Text}
-use Rattle.crs_part.specs.declared.identifiers.Ident.{Ident}
-use Rattle.crs_part.specs.declared.identifiers.Named.{Named}
-use Rattle.crs_part.specs.declared.units.UnitDefinition.{UnitDefinition}
-use Rattle.crs_part.specs.declared.units.Unit as units
 use Rattle.crs_part.specs.declared.units.Unit.TheVariants as unit
-use Rattle.crs_part.specs.declared.units.LengthUnit.{LengthUnit}
 use Rattle.crs_part.specs.declared.units.LengthUnit.TheVariants as length_unit
-use Rattle.crs_part.specs.declared.units.AngleUnit.{AngleUnit}
 use Rattle.crs_part.specs.declared.units.AngleUnit.TheVariants as angle_unit
-use Rattle.crs_part.specs.declared.usages.BoundingBox.{BoundingBox}
-use Rattle.crs_part.specs.declared.usages.Usage.{Usage}
-use Rattle.crs_part.specs.declared.datums.Ellipsoid.{Ellipsoid}
-use Rattle.crs_part.specs.declared.datums.PrimeMeridian.{PrimeMeridian}
-use Rattle.crs_part.specs.declared.datums.Datum.{Datum}
-use Rattle.crs_part.specs.declared.datums.GeodeticEnsemble.{GeodeticEnsemble}
-use Rattle.crs_part.specs.declared.datums.GeodeticFrame.{GeodeticFrame}
 use Rattle.crs_part.specs.declared.datums.GeodeticFrame.TheVariants as geodetic_frame
-use Rattle.crs_part.specs.declared.datums.VerticalDatum.{VerticalDatum}
-use Rattle.crs_part.specs.declared.datums.VerticalEnsemble.{VerticalEnsemble}
-use Rattle.crs_part.specs.declared.datums.VerticalFrame.{VerticalFrame}
 use Rattle.crs_part.specs.declared.datums.VerticalFrame.TheVariants as vertical_frame
-use Rattle.crs_part.specs.declared.systems.CoordSystem.{CoordSystem}
-use Rattle.crs_part.specs.declared.systems.Meridian.{Meridian}
-use Rattle.crs_part.specs.declared.systems.Order.{Order}
-use Rattle.crs_part.specs.declared.systems.Axis.{Axis}
-use Rattle.crs_part.specs.declared.conversions.Parameter.{Parameter}
-use Rattle.crs_part.specs.declared.conversions.Conversion.{Conversion}
 use Rattle.crs_part.specs.declared.crs.GeodeticKind.{GeodeticKind}
 use Rattle.crs_part.specs.declared.crs.GeodeticKind.TheVariants as geodetic_kind
-use Rattle.crs_part.specs.declared.crs.BaseCrs.{BaseCrs}
-use Rattle.crs_part.specs.declared.crs.Geodetic.{Geodetic}
-use Rattle.crs_part.specs.declared.crs.Projected.{Projected}
-use Rattle.crs_part.specs.declared.crs.Vertical as verticals
-use Rattle.crs_part.specs.declared.crs.Single.{Single}
 use Rattle.crs_part.specs.declared.crs.Single.TheVariants as single
-use Rattle.crs_part.specs.declared.crs.Compound.{Compound}
 use Rattle.crs_part.specs.declared.crs.CrsParts.{CrsParts}
 use Rattle.crs_part.specs.declared.crs.CrsParts.TheVariants as parts
 use Rattle.wkt_tier.specs.Bare.{Bare, bares, node}
-use Rattle.wkt_good.specs.Good.{Good, SomeGood, AllGood, is_name}
+use Rattle.wkt_good.specs.Good.{Good, AllGood, is_name}
 use Rattle.wkt_good.proofs.Tokens.{word_token, text_is, number_token, count_token}
 use Rattle.wkt_meaning.specs.Runs.{listed}
 use Rattle.wkt_meaning.specs.Words.{system_word, direction_word}

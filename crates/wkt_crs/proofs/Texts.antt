@@ -1,7 +1,6 @@
 -- A text spells one value at most, and none where it has a fault.
-use Rattle.std.proofs.Common.{◌≡◌, ℕ, suc, ◌<◌, List, [], ◌∷◌, Some, refl, sym, ap, ◌∙◌, subst, arith}
+use Rattle.std.proofs.Common.{◌≡◌, ℕ, suc, List, Some, sym, ap, ◌∙◌, subst, arith}
 use Rattle.std.proofs.Common.{inl, inr}
-use Rattle.std.specs.Prelude.{◌⊎◌}
 use Rattle.crs_part.specs.declared.crs.CrsParts.{CrsParts}
 use Rattle.crs_value.specs.declared.crs.Crs.{Crs}
 use Rattle.crs_value.proofs.Wholes.{same_crs}
@@ -12,7 +11,7 @@ use Rattle.wkt_tree.specs.Faults.{IsOutline}
 use Rattle.wkt_tree.proofs.Cuts.{cut_of}
 use Rattle.wkt_tree.proofs.OneTree.{one_tree}
 use Rattle.wkt_tier.specs.declared.fault.SlotFault.{SlotFault}
-use Rattle.wkt_tier.specs.Slots.{whole, place, HasFault, IsClean, IsFirst}
+use Rattle.wkt_tier.specs.Slots.{whole, HasFault, IsClean, IsFirst}
 use Rattle.wkt_tier.specs.Bare.{bare}
 use Rattle.wkt_meaning.specs.Denotes.{DenotesParts}
 use Rattle.wkt_meaning.proofs.Nodes.{parts_law}

@@ -1,6 +1,5 @@
 -- A text has a value or one first fault.
 use Rattle.std.proofs.Common.{◌≡◌, ℕ, List, Option, Some, None, refl, sym, ap, ◌∙◌, subst}
-use Rattle.crs_part.specs.declared.crs.CrsParts.{CrsParts}
 use Rattle.crs_value.specs.declared.crs.Crs.{Crs}
 use Rattle.crs_value.specs.declared.broken.Broken.{Broken}
 use Rattle.crs_value.specs.declared.broken.Condition.{Condition}

@@ -1,7 +1,6 @@
 -- The first fault of a text: of its tokens, else of its slots, else of its conditions.
 use Rattle.std.specs.Prelude.{◌≡◌, ℕ, List, Some}
 use Rattle.crs_part.specs.declared.crs.CrsParts.{CrsParts}
-use Rattle.crs_value.specs.declared.broken.Broken.{Broken}
 use Rattle.crs_value.specs.declared.broken.Condition.{Condition}
 use Rattle.crs_value.specs.declared.broken.Whose.{Whose}
 use Rattle.crs_value.specs.declared.broken.Whose.TheVariants.{First, Second, Whole}
@@ -9,9 +8,8 @@ use Rattle.crs_value.specs.Checking.{first_broken}
 use Rattle.wkt_tree.specs.Tree.{Tok, Item, Items, text, number, word, node, last, more, tokens}
 use Rattle.wkt_tree.specs.Faults.{IsOutline}
 use Rattle.wkt_tree.specs.Faults as tree
-use Rattle.wkt_tree.specs.declared.fault.TextFault.{TextFault}
 use Rattle.wkt_tier.specs.declared.fault.SlotFault.{SlotFault}
-use Rattle.wkt_tier.specs.Slots.{IsClean, IsFirst, begin}
+use Rattle.wkt_tier.specs.Slots.{IsFirst, begin}
 use Rattle.wkt_tier.specs.Bare.{bare}
 use Rattle.wkt_meaning.specs.Denotes.{DenotesParts}
 use Rattle.wkt_crs.specs.declared.fault.ReadFault.{ReadFault}

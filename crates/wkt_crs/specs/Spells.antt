@@ -1,5 +1,5 @@
 -- Which texts spell a coordinate reference system.
-use Rattle.std.specs.Prelude.{◌≡◌, ℕ, List}
+use Rattle.std.specs.Prelude.{ℕ, List}
 use Rattle.crs_value.specs.declared.crs.Crs.{Crs}
 use Rattle.wkt_tree.specs.Tree.{Item, tokens}
 use Rattle.wkt_tree.specs.Faults.{IsOutline}

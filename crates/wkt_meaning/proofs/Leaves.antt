@@ -1,5 +1,5 @@
 -- The laws of texts, numbers and words.
-use Rattle.std.proofs.Common.{◌≡◌, ℕ, ◌<◌, ◌^◌, Bool, true, false, List, [], ◌∷◌, ◌++◌, map, drop, decimal, Option, Some, None, refl, sym, ap, ◌∙◌, subst, codes, ⊎_elim, arith}
+use Rattle.std.proofs.Common.{◌≡◌, ℕ, ◌<◌, ◌^◌, Bool, true, false, List, [], ◌∷◌, ◌++◌, map, drop, decimal, Some, refl, sym, ap, ◌∙◌, subst, ⊎_elim, arith}
 use Rattle.std.specs.Prelude.{if◌then◌else◌, cond}
 use Rattle.std.specs.List.{flat_map, list_any}
 use Rattle.std.specs.Char.{to_ascii_lowercase}
@@ -9,7 +9,7 @@ use Rattle.std.proofs.Props.{props}
 use mathlib.Core.HLevel.{is_prop→PathP}
 use Rattle.crs_number.specs.Numeral.{Spells}
 use Rattle.crs_number.specs.Canonical.{canonical}
-use Rattle.crs_number.specs.Count.{SpellsWhole, IsCount, is_count}
+use Rattle.crs_number.specs.Count.{SpellsWhole, is_count}
 use Rattle.crs_number.specs.declared.decimals.Decimal.{Decimal}
 use Rattle.crs_number.proofs.CountLemmas.{count_to, spells_once, count_once, decimal_spells}
 use Rattle.crs_number.proofs.Spelled.{canonical_spells}
@@ -32,7 +32,7 @@ use Rattle.wkt_slots.specs.declared.words.TheConstants.{CS_KINDS, DIRECTIONS}
 use Rattle.wkt_slots.specs.Rows.{takes}
 use Rattle.wkt_slots.specs.Words.{is_cs_kind, is_direction}
 use Rattle.wkt_tier.specs.Slots.{number_argument, word_argument}
-use Rattle.wkt_tier.specs.Bare.{Bare, text, number, word, shape}
+use Rattle.wkt_tier.specs.Bare.{Bare, text, number, word}
 use Rattle.wkt_tier.specs.Fitted.{Fitting}
 use Rattle.wkt_meaning.specs.Leaves.{undoubled, SameWord, DenotesText, DenotesNumber, DenotesCount, DenotesWord}
 use Rattle.wkt_meaning.specs.Words.{system_word, direction_word, first_word, kinds_listed, directions_listed}

@@ -1,42 +1,21 @@
 -- The laws of each node, from those of its slots: a line a slot, in the order of its row.
-use Rattle.std.proofs.Common.{◌≡◌, ℕ, ◌<◌, ◌^◌, List, Some, refl, sym, ap, ◌∙◌, subst, codes}
+use Rattle.std.proofs.Common.{◌≡◌, ℕ, ◌<◌, ◌^◌, List, Some, refl, sym, ap, ◌∙◌, codes}
 use Rattle.std.proofs.Props.{props}
 use mathlib.Core.HLevel.{is_prop→PathP}
-use Rattle.crs_number.specs.declared.decimals.Decimal.{Decimal}
-use Rattle.crs_part.specs.declared.text.Text.{Text}
-use Rattle.crs_part.specs.declared.identifiers.Ident.{Ident}
-use Rattle.crs_part.specs.declared.identifiers.Named.{Named}
-use Rattle.crs_part.specs.declared.units.UnitDefinition.{UnitDefinition}
 use Rattle.crs_part.specs.declared.units.Unit as units
 use Rattle.crs_part.specs.declared.units.Unit.TheVariants as unit
 use Rattle.crs_part.specs.declared.units.LengthUnit.{LengthUnit}
 use Rattle.crs_part.specs.declared.units.LengthUnit.TheVariants as length_unit
 use Rattle.crs_part.specs.declared.units.AngleUnit.{AngleUnit}
 use Rattle.crs_part.specs.declared.units.AngleUnit.TheVariants as angle_unit
-use Rattle.crs_part.specs.declared.usages.BoundingBox.{BoundingBox}
-use Rattle.crs_part.specs.declared.usages.Usage.{Usage}
-use Rattle.crs_part.specs.declared.datums.Ellipsoid.{Ellipsoid}
-use Rattle.crs_part.specs.declared.datums.PrimeMeridian.{PrimeMeridian}
-use Rattle.crs_part.specs.declared.datums.Datum.{Datum}
-use Rattle.crs_part.specs.declared.datums.GeodeticEnsemble.{GeodeticEnsemble}
 use Rattle.crs_part.specs.declared.datums.GeodeticFrame.{GeodeticFrame}
 use Rattle.crs_part.specs.declared.datums.GeodeticFrame.TheVariants as geodetic_frame
-use Rattle.crs_part.specs.declared.datums.VerticalDatum.{VerticalDatum}
-use Rattle.crs_part.specs.declared.datums.VerticalEnsemble.{VerticalEnsemble}
 use Rattle.crs_part.specs.declared.datums.VerticalFrame.{VerticalFrame}
 use Rattle.crs_part.specs.declared.datums.VerticalFrame.TheVariants as vertical_frame
 use Rattle.crs_part.specs.declared.systems.CoordSystem.{CoordSystem}
-use Rattle.crs_part.specs.declared.systems.Meridian.{Meridian}
 use Rattle.crs_part.specs.declared.systems.Order.{Order}
-use Rattle.crs_part.specs.declared.systems.Axis.{Axis}
-use Rattle.crs_part.specs.declared.conversions.Parameter.{Parameter}
-use Rattle.crs_part.specs.declared.conversions.Conversion.{Conversion}
 use Rattle.crs_part.specs.declared.crs.GeodeticKind.{GeodeticKind}
 use Rattle.crs_part.specs.declared.crs.GeodeticKind.TheVariants as geodetic_kind
-use Rattle.crs_part.specs.declared.crs.BaseCrs.{BaseCrs}
-use Rattle.crs_part.specs.declared.crs.Geodetic.{Geodetic}
-use Rattle.crs_part.specs.declared.crs.Projected.{Projected}
-use Rattle.crs_part.specs.declared.crs.Vertical as verticals
 use Rattle.crs_part.specs.declared.crs.Single.{Single}
 use Rattle.crs_part.specs.declared.crs.Single.TheVariants as single
 use Rattle.crs_part.specs.declared.crs.Compound.{Compound}

@@ -1,6 +1,6 @@
 -- The laws of a node follow from those of its slots.
 use Rattle.std.proofs.Common.{◌≡◌, ℕ, zero, suc, ◌+◌, ◌≤◌, Bool, true, false, List, [], ◌∷◌, ◌++◌, length, map, Option, Some, None, refl, sym, ap, ◌∙◌, subst, arith}
-use Rattle.std.specs.Prelude.{◌&&◌, ◌||◌, not, max}
+use Rattle.std.specs.Prelude.{◌&&◌, not, max}
 use Rattle.std.specs.Option.{is_some}
 use Rattle.std.specs.List.{AllPass, list_all}
 use Rattle.std.proofs.lemmas.List.Elements.{All-nil, All-cons, All-head, All-tail}
@@ -10,7 +10,6 @@ use Rattle.wkt_slots.specs.declared.table.Node.{Node}
 use Rattle.wkt_slots.specs.declared.table.Keyword.{Keyword}
 use Rattle.wkt_slots.specs.declared.table.Takes.{Takes}
 use Rattle.wkt_slots.specs.declared.table.Argument.{Argument}
-use Rattle.wkt_slots.specs.declared.table.Argument.TheVariants as arguments
 use Rattle.wkt_slots.specs.declared.table.Often.{Often}
 use Rattle.wkt_slots.specs.declared.table.Often.TheVariants.{Once, AtMostOnce, Any, AtLeastOnce}
 use Rattle.wkt_slots.specs.Rows.{row_of, takes, enters, Times, Fits, is_required}
@@ -18,10 +17,10 @@ use Rattle.wkt_slots.specs.Words.{keyword_of}
 use Rattle.wkt_slots.specs.Walk.{is_many, may_begin, all_arguments, is_clear}
 use Rattle.wkt_slots.proofs.Walks.{begins, each_argument, rows_clear}
 use Rattle.wkt_tier.specs.Slots.{argument_by}
-use Rattle.wkt_tier.specs.Bare.{Bare, Bares, node, none, and, args, bares, shape}
+use Rattle.wkt_tier.specs.Bare.{Bare, Bares, node, args, bares, shape}
 use Rattle.wkt_tier.specs.Fitted.{Fitted, entered, Fitting, AllFitting, Cuts}
 use Rattle.wkt_tier.proofs.Fitting.{cuts_fitted}
-use Rattle.wkt_meaning.specs.Runs.{Fields, nothing, ◌&◌, Meets, Runs, IsNode, One, Maybe, Each, listed, AtLeastOne}
+use Rattle.wkt_meaning.specs.Runs.{Fields, nothing, ◌&◌, Runs, IsNode, One, Maybe, Each, listed, AtLeastOne}
 use Rattle.crs_part.specs.declared.many.NonEmpty.{NonEmpty}
 use Rattle.wkt_meaning.specs.Trees as trees
 

@@ -1,5 +1,4 @@
 -- What each node denotes: a line a slot, in the order of its row.
-use Rattle.std.specs.Prelude.{◌≡◌, ℕ, List}
 use Rattle.crs_number.specs.declared.decimals.Decimal.{Decimal}
 use Rattle.crs_part.specs.declared.text.Text.{Text}
 use Rattle.crs_part.specs.declared.identifiers.NumberOrText.{NumberOrText}

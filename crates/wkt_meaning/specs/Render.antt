@@ -1,5 +1,5 @@
 -- The text of a tree: canonical, and indented.
-use Rattle.std.specs.Prelude.{ℕ, zero, suc, ◌*◌, List, [], ◌∷◌, ◌++◌, replicate}
+use Rattle.std.specs.Prelude.{ℕ, suc, ◌*◌, List, [], ◌∷◌, ◌++◌, replicate}
 use Rattle.wkt_tier.specs.Bare.{Bare, Bares, text, number, word, node, none, and}
 
 abbrev mutual

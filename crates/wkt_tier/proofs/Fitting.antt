@@ -1,5 +1,5 @@
 -- A tree without a slot fault has arguments that fit their rows, everywhere.
-use Rattle.std.proofs.Common.{◌≡◌, ℕ, suc, ◌<◌, ◌+◌, Bool, true, false, List, [], ◌∷◌, ◌++◌, length, map, get_or, Option, Some, None, refl, sym, ap, ◌∙◌, subst, arith}
+use Rattle.std.proofs.Common.{◌≡◌, ℕ, suc, ◌<◌, Bool, true, false, List, [], ◌∷◌, ◌++◌, length, map, get_or, Option, Some, None, refl, sym, ap, ◌∙◌, subst, arith}
 use Rattle.std.specs.Prelude.{option_and_then}
 use Rattle.std.specs.Option.{option_map, is_some}
 use Rattle.std.specs.List.{AllPass}
@@ -22,7 +22,7 @@ use Rattle.wkt_slots.proofs.Tables.{decides}
 use Rattle.wkt_tier.specs.declared.fault.SlotFault.{SlotFault}
 use Rattle.wkt_tier.specs.declared.fault.SlotFault.TheVariants.{Missing}
 use Rattle.wkt_tier.specs.Slots.{argument, begin, IsClean, argument_by}
-use Rattle.wkt_tier.specs.First.{refusal, missing_fault, first, taken, row_by, item_fault, items_fault}
+use Rattle.wkt_tier.specs.First.{refusal, missing_fault, taken, row_by, item_fault, items_fault}
 use Rattle.wkt_tier.specs.Bare.{Bare, Bares, text, number, word, node, none, and, args, bare, all_bare, shape}
 use Rattle.wkt_tier.specs.Fitted.{Inside, AllInside, Fitted, entered, IsSound, Fitting, AllFitting, Cuts}
 use Rattle.wkt_tier.proofs.Found.{items_sound}

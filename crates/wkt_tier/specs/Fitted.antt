@@ -1,5 +1,5 @@
 -- Trees whose nodes all have arguments that fit their rows.
-use Rattle.std.specs.Prelude.{◌≡◌, ℕ, List, [], ◌∷◌, ◌++◌, length, map, Option, Some, true, option_and_then}
+use Rattle.std.specs.Prelude.{◌≡◌, List, [], ◌∷◌, ◌++◌, length, map, Option, Some, true, option_and_then}
 use Rattle.wkt_slots.specs.declared.table.Node.{Node}
 use Rattle.wkt_slots.specs.declared.table.Keyword.{Keyword}
 use Rattle.wkt_slots.specs.declared.table.Takes.{Takes}

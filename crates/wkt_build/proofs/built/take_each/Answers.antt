@@ -1,4 +1,4 @@
-use Rattle.std.proofs.Common.{◌≡◌, Bool, true, false, length, sym, ap, ◌∙◌, subst, arith}
+use Rattle.std.proofs.Common.{◌≡◌, true, false, length, sym, ap, ◌∙◌, arith}
 use Rattle.wkt_build.specs.Reads.{comes}
 use Rattle.wkt_build.proofs.Steps.{taken_more, taken_all, shorter_by_one, made_behind}
 use Rattle.wkt_build.proofs.built.take_each.Goals as goal

@@ -1,5 +1,5 @@
 use Rattle.crs_part.specs.declared.systems.Direction.TheVariants as to
-use Rattle.std.proofs.Common.{sym, ap, ◌∙◌}
+use Rattle.std.proofs.Common.{sym, ap}
 use Rattle.wkt_slots.specs.Words.{is_direction}
 use Rattle.wkt_meaning.specs.Words.{direction_word, directions_listed}
 use Rattle.wkt_tree.specs.Faults.{view}

@@ -1,5 +1,5 @@
 use Rattle.crs_part.specs.declared.systems.SystemKind.TheVariants as kind
-use Rattle.std.proofs.Common.{sym, ap, ◌∙◌}
+use Rattle.std.proofs.Common.{sym, ap}
 use Rattle.wkt_slots.specs.Words.{is_cs_kind}
 use Rattle.wkt_meaning.specs.Words.{system_word, kinds_listed}
 use Rattle.wkt_tree.specs.Faults.{view}

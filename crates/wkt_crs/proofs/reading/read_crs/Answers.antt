@@ -1,5 +1,5 @@
 use Rattle.std.proofs.Common.{Ok, Err, sym, ap, ◌∙◌}
-use Rattle.std.proofs.Common.{inl, inr}
+use Rattle.std.proofs.Common.{inl}
 use Rattle.crs_value.proofs.Wholes.{same_crs}
 use Rattle.wkt_tree.proofs.Exclusion.{fault_no}
 use Rattle.wkt_crs.specs.declared.fault.ReadFault.TheVariants as fault

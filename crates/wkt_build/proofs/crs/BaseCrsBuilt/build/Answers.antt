@@ -1,4 +1,4 @@
-use Rattle.std.proofs.Common.{sym, ap, ◌∙◌}
+use Rattle.std.proofs.Common.{ap, ◌∙◌}
 use Rattle.wkt_build.specs.Choices.{geodetic_kind_of}
 use Rattle.wkt_build.proofs.Chosen.{base_result}
 use Rattle.wkt_build.proofs.crs.BaseCrsBuilt.build.Goals as goal

@@ -1,4 +1,4 @@
-use Rattle.wkt_build.proofs.LeafLemmas.{text_made, text_result}
+use Rattle.wkt_build.proofs.LeafLemmas.{text_result}
 use Rattle.wkt_build.proofs.leaves.TextBuilt.build.Goals as goal
 
 pub returns-clause-builds : goal.returns-clause-builds

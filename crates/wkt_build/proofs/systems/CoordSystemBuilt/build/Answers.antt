@@ -1,4 +1,4 @@
-use Rattle.std.proofs.Common.{refl, sym, subst}
+use Rattle.std.proofs.Common.{refl}
 use Rattle.wkt_slots.specs.declared.table.Takes.TheVariants as kinds
 use Rattle.wkt_slots.specs.declared.table.Keyword.TheVariants as keywords
 use Rattle.wkt_slots.specs.declared.table.Node.TheVariants as nodes

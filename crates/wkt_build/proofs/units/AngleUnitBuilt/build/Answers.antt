@@ -1,4 +1,3 @@
-use Rattle.std.proofs.Common.{sym, ap, ◌∙◌}
 use Rattle.wkt_meaning.specs.Denotes.{DenotesAngleUnit}
 use Rattle.wkt_build.specs.Choices.{angle_unit_as}
 use Rattle.wkt_build.proofs.Chosen.{angle_unit_made, as_chosen}

@@ -1,4 +1,3 @@
-use Rattle.std.proofs.Common.{sym, ap, ◌∙◌}
 use Rattle.wkt_meaning.specs.Denotes.{DenotesLengthUnit}
 use Rattle.wkt_build.specs.Choices.{length_unit_as}
 use Rattle.wkt_build.proofs.Chosen.{length_unit_made, as_chosen}

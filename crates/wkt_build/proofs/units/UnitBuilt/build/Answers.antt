@@ -1,4 +1,3 @@
-use Rattle.std.proofs.Common.{sym, ap, ◌∙◌}
 use Rattle.wkt_meaning.specs.Denotes.{DenotesUnit}
 use Rattle.wkt_build.specs.Choices.{unit_as}
 use Rattle.wkt_build.proofs.Chosen.{unit_made, as_chosen}
