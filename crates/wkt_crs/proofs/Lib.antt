@@ -6,3 +6,4 @@ pub mod Texts
 pub mod Sources
 pub mod Verdicts
 pub mod Written
+pub mod Defining

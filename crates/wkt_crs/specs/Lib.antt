@@ -2,3 +2,4 @@ pub mod Spells
 pub mod Faults
 pub mod Source
 pub mod Passing
+pub mod Definition

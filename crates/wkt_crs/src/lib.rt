@@ -1,6 +1,7 @@
 //! Texts of coordinate reference systems: reading and writing them, from slices, sources and to sinks.
 #![tactic(auto)]
 
+mod definition;
 mod fault;
 pub mod laws;
 mod places;
@@ -12,7 +13,8 @@ pub use byte_io::{
     DeviceFault, Endless, FileTarget, Full, InFault, MemoryTarget, NotOpened, Pieces, PublishFault,
     Reading, Room, Sink, Source, Target, Then, WriteFault, Writing, publish, read_up_to, write_all,
 };
-pub use crs_value::{Condition, Crs};
+pub use crs_value::{Condition, Crs, Key};
+pub use definition::{Definition, DefinitionFault};
 pub use fault::ReadFault;
 pub use reading::read_crs;
 pub use source::{ReadFromFault, read_crs_from};

@@ -1,0 +1,105 @@
+-- What makes a definition.
+use Rattle.std.proofs.Common.{◌≡◌, ℕ, suc, nat_eq, ◌≤◌, ◌+◌, Bool, true, false, List, [], ◌∷◌, length, refl, sym, ap, ◌∙◌, subst, arith, inl, inr}
+use Rattle.std.specs.Prelude.{◌⊎◌, ◌==◌, ◌&&◌, not, Result, Ok, Err, IfOk, IfErr}
+use Rattle.std.specs.Cmp.Lexicographic.{pointwise}
+use Rattle.std.proofs.lemmas.Bool.{eqb-true, eq-eqb}
+use Rattle.std.proofs.Math.Dec.{eqb-suc-zero}
+use Rattle.crs_part.specs.declared.identifiers.Ident.{Ident}
+use Rattle.crs_part.specs.Slots.{ids_of}
+use Rattle.crs_value.specs.declared.crs.Crs.{Crs}
+use Rattle.crs_value.specs.declared.key.Key.{Key}
+use Rattle.wkt_crs.specs.declared.fault.ReadFault.{ReadFault}
+use Rattle.wkt_crs.specs.declared.fault.ReadFault.TheVariants as read
+use Rattle.wkt_crs.specs.Faults.{FirstFault}
+use Rattle.wkt_crs.specs.declared.definition.DefinitionFault.{DefinitionFault}
+use Rattle.wkt_crs.specs.declared.definition.DefinitionFault.TheVariants as fault
+use Rattle.wkt_crs.specs.Spells.{Spells, canon}
+use Rattle.wkt_crs.specs.Definition.{HasNone, IsDefinedBy, IsDefinition, IsCrsOf, IsKeyIn, IsCanonicalFault, of_read}
+use Rattle.wkt_crs.proofs.Texts.{one_value}
+use Rattle.wkt_crs.proofs.Written.{canonical_spells}
+
+pub is_definition : (crs : Crs) (key : Key) (bytes : List ℕ) → IsDefinedBy crs key bytes → IsDefinition bytes
+is_definition crs key bytes d = record { crs = crs; canonical = d.canonical; short = d.short; identified = d.identified }
+
+canonical_text : (crs : Crs) (bytes : List ℕ) → bytes ≡ canon crs → length bytes ≤ 65536 → Spells bytes crs
+canonical_text crs bytes e short =
+    let n = ap length e in
+    subst (λ b. Spells b crs) (sym e) (canonical_spells crs (omega (arith, n, short)))
+
+pub is_crs_of : (crs : Crs) (key : Key) (bytes : List ℕ) → IsDefinedBy crs key bytes → IsCrsOf crs bytes
+is_crs_of crs key bytes d = (d.canonical, canonical_text crs bytes d.canonical d.short)
+
+pub is_key_in : (crs : Crs) (key : Key) (bytes : List ℕ) → IsDefinedBy crs key bytes → IsKeyIn key bytes
+is_key_in crs key bytes d = (crs, canonical_text crs bytes d.canonical d.short, d.identified, d.keyed)
+
+-- ---- with or without an identifier
+
+no_zero : (n : ℕ) → (suc n == 0) ≡ true → ⊥
+no_zero n h = let e = sym (eqb-suc-zero n) ∙ h in absurd cc
+
+pub has_none : (ids got : List Ident) → got ≡ ids → (length got == 0) ≡ true → ids ≡ []
+has_none ids [] e h = sym e
+has_none ids (x ∷ xs) e h = absurd (no_zero (length xs) h)
+
+pub has_one : (ids got : List Ident) → got ≡ ids → (length got == 0) ≡ false → ids ≡ [] → ⊥
+has_one ids [] e h g = absurd cc
+has_one ids (x ∷ xs) e h g = let f = e ∙ g in absurd cc
+
+-- ---- bytes that are compared
+
+both_true : (a b : Bool) → (a && b) ≡ true → (a ≡ true) × (b ≡ true)
+both_true true b h = (refl, h)
+both_true false b h = absurd cc
+
+pub same_bytes : (a b : List ℕ) → pointwise nat_eq a b ≡ true → a ≡ b
+same_bytes [] [] h = refl
+same_bytes [] (y ∷ ys) h = absurd cc
+same_bytes (x ∷ xs) [] h = absurd cc
+same_bytes (x ∷ xs) (y ∷ ys) h =
+    let t = both_true (nat_eq x y) (pointwise nat_eq xs ys) h in
+    let first = eqb-true x y t.0 in
+    let rest = same_bytes xs ys t.1 in
+    cc
+
+itself : (a : List ℕ) → pointwise nat_eq a a ≡ true
+itself [] = refl
+itself (x ∷ xs) = ap (λ b. b && pointwise nat_eq xs xs) (eq-eqb x x refl) ∙ itself xs
+
+pub not_same : (a b : List ℕ) → pointwise nat_eq a b ≡ false → a ≡ b → ⊥
+not_same a b h e = let t = sym (itself a) ∙ (ap (λ l. pointwise nat_eq a l) e ∙ h) in absurd cc
+
+pub told_true : (b : Bool) → not b ≡ false → b ≡ true
+told_true true h = refl
+told_true false h = absurd cc
+
+pub told_false : (b : Bool) → not b ≡ true → b ≡ false
+told_false false h = refl
+told_false true h = absurd cc
+
+-- ---- where a text is a definition
+
+-- it spells the value that is defined
+pub of_definition : (bytes : List ℕ) (crs : Crs) → IsDefinition bytes → Spells bytes crs → (bytes ≡ canon crs) × (HasNone crs → ⊥)
+of_definition bytes crs d s =
+    let same : d.crs ≡ crs = one_value bytes d.crs crs (canonical_text d.crs bytes d.canonical d.short) s in
+    subst (λ v. (bytes ≡ canon v) × (HasNone v → ⊥)) same (d.canonical, d.identified)
+
+pub same_ok : (result : Result (List ℕ) DefinitionFault) (text bytes : List ℕ) → text ≡ bytes → IfOk result (λ d. d ≡ text) → IfOk result (λ d. d ≡ bytes)
+same_ok (Ok d) text bytes e h = h ∙ e
+same_ok (Err f) text bytes e h = h
+
+pub same_only : (result : Result (List ℕ) DefinitionFault) (text bytes : List ℕ) → text ≡ bytes → IfOk result (λ d. d ≡ text) → IfErr result (λ f. f ≡ fault.Memory) → (result ≡ Ok bytes) ⊎ (result ≡ Err fault.Memory)
+same_only (Ok d) text bytes e h g = inl (ap Ok (h ∙ e))
+same_only (Err f) text bytes e h g = inr (ap Err g)
+
+pub spelled_by_definition : (bytes : List ℕ) (d : IsDefinition bytes) → Spells bytes d.crs
+spelled_by_definition bytes d = canonical_text d.crs bytes d.canonical d.short
+
+pub spelled_as_defined : (crs : Crs) → IsDefinition (canon crs) → Spells (canon crs) crs
+spelled_as_defined crs d = let short = d.short in canonical_spells crs (omega (arith, short))
+
+pub read_refused : (bytes : List ℕ) (f : ReadFault) → length bytes ≤ 65536 → FirstFault bytes f → IsCanonicalFault bytes (of_read f)
+read_refused bytes (read.Text f) short h = (short, h)
+read_refused bytes (read.Slot f) short h = (short, h)
+read_refused bytes (read.Broken condition at) short h = (short, h)
+read_refused bytes read.Memory short h = tt

@@ -1,0 +1,62 @@
+use Rattle.std.proofs.Common.{◌≡◌, ◌≤◌, length, List, [], sym, ap, ◌∙◌, subst, arith, nat_eq, inr, Err}
+use Rattle.std.specs.Cmp.Lexicographic.{pointwise}
+use Rattle.crs_part.specs.Slots.{ids_of}
+use Rattle.wkt_crs.specs.Definition.{IsCanonicalFault, of_read}
+use Rattle.wkt_crs.proofs.Verdicts.{value_or_fault}
+use Rattle.wkt_crs.proofs.Defining.{has_none, has_one, of_definition, spelled_by_definition, read_refused, same_bytes, not_same, told_true, told_false, same_ok, same_only}
+use Rattle.wkt_crs.proofs.definition.Definition.from_canonical.Goals as goal
+
+pub returns-then-is_empty-clause-fault : goal.returns-then-is_empty-clause-fault
+returns-then-is_empty-clause-fault c =
+    let below = c.if-bytes-gt-MOST.false in
+    (omega (arith, below), (c.in-Ok.crs, c.in-Ok.ensures.found, has_none (ids_of c.in-Ok.crs.parts) c.ids.result.now (c.ids.ensures ∙ ap ids_of c.parts.ensures) (sym c.is_empty.ensures ∙ c.if-is_empty.true)))
+
+pub returns-then-is_empty-clause-only : goal.returns-then-is_empty-clause-only
+returns-then-is_empty-clause-only c = λ d.
+    absurd ((of_definition c.args.bytes.now c.in-Ok.crs d c.in-Ok.ensures.found).1 (has_none (ids_of c.in-Ok.crs.parts) c.ids.result.now (c.ids.ensures ∙ ap ids_of c.parts.ensures) (sym c.is_empty.ensures ∙ c.if-is_empty.true)))
+
+pub returns-then-ne-clause-fault : goal.returns-then-ne-clause-fault
+returns-then-ne-clause-fault c =
+    let below = c.if-bytes-gt-MOST.false in
+    let other = not_same c.as_slice.result.now c.args.bytes.now (told_false (pointwise nat_eq c.as_slice.result.now c.args.bytes.now) (sym c.ne.ensures ∙ c.if-ne.true)) in
+    (
+      omega (arith, below),
+      (
+        c.in-Ok.crs,
+        c.in-Ok.ensures.found,
+        has_one (ids_of c.in-Ok.crs.parts) c.ids.result.now (c.ids.ensures ∙ ap ids_of c.parts.ensures) (sym c.is_empty.ensures ∙ c.if-is_empty.false),
+        λ e. other (c.as_slice.ensures.value ∙ (c.in-Ok-write_crs.ensures ∙ sym e)),
+      ),
+    )
+
+pub returns-then-ne-clause-only : goal.returns-then-ne-clause-only
+returns-then-ne-clause-only c = λ d.
+    let other = not_same c.as_slice.result.now c.args.bytes.now (told_false (pointwise nat_eq c.as_slice.result.now c.args.bytes.now) (sym c.ne.ensures ∙ c.if-ne.true)) in
+    absurd (other (c.as_slice.ensures.value ∙ (c.in-Ok-write_crs.ensures ∙ sym (of_definition c.args.bytes.now c.in-Ok.crs d c.in-Ok.ensures.found).0)))
+
+pub defined-requires : goal.defined-requires
+defined-requires c =
+    let below = c.if-bytes-gt-MOST.false in
+    let same = sym c.as_slice.ensures.value ∙ same_bytes c.as_slice.result.now c.args.bytes.now (told_true (pointwise nat_eq c.as_slice.result.now c.args.bytes.now) (sym c.ne.ensures ∙ c.if-ne.false)) in
+    (
+      c.in-Ok-write_crs.ensures,
+      (let n = ap length same in omega (arith, n, below)),
+      has_one (ids_of c.in-Ok.crs.parts) c.ids.result.now (c.ids.ensures ∙ ap ids_of c.parts.ensures) (sym c.is_empty.ensures ∙ c.if-is_empty.false),
+    )
+
+pub returns-clause-ok : goal.returns-clause-ok
+returns-clause-ok c =
+    let same = sym c.as_slice.ensures.value ∙ same_bytes c.as_slice.result.now c.args.bytes.now (told_true (pointwise nat_eq c.as_slice.result.now c.args.bytes.now) (sym c.ne.ensures ∙ c.if-ne.false)) in
+    same_ok c.defined.result c.in-Ok-write_crs.text.items c.args.bytes.now same c.defined.ensures.ok
+
+pub returns-clause-only : goal.returns-clause-only
+returns-clause-only c = λ d.
+    let same = sym c.as_slice.ensures.value ∙ same_bytes c.as_slice.result.now c.args.bytes.now (told_true (pointwise nat_eq c.as_slice.result.now c.args.bytes.now) (sym c.ne.ensures ∙ c.if-ne.false)) in
+    same_only c.defined.result c.in-Ok-write_crs.text.items c.args.bytes.now same c.defined.ensures.ok c.defined.ensures.fault
+
+pub returns-in-Err-clause-fault : goal.returns-in-Err-clause-fault
+returns-in-Err-clause-fault c = subst (IsCanonicalFault c.args.bytes.now) (sym c.of_read.ensures) (read_refused c.args.bytes.now c.in-Err.fault c.if-bytes-gt-MOST.false c.in-Err.ensures.fault)
+
+pub returns-in-Err-clause-only : goal.returns-in-Err-clause-only
+returns-in-Err-clause-only c = λ d.
+    inr (ap Err (c.of_read.ensures ∙ ap of_read (value_or_fault c.args.bytes.now d.crs c.in-Err.fault (spelled_by_definition c.args.bytes.now d) c.in-Err.ensures.fault)))

@@ -1,0 +1,10 @@
+use Rattle.std.proofs.Common.{List, ℕ, sym, ap, ◌∙◌, subst}
+use Rattle.wkt_crs.specs.declared.definition.Body.{Body}
+use Rattle.wkt_crs.specs.Definition.{IsKeyIn}
+use Rattle.wkt_crs.proofs.Defining.{is_key_in}
+use Rattle.wkt_crs.proofs.definition.Definition.key.Goals as goal
+
+pub returns : goal.returns
+returns c =
+    let b = c.self.inside.body.value in
+    subst (λ (r : Body). IsKeyIn r.key c.args.self.now) (sym c.deref.ensures) (subst (IsKeyIn b.key) c.self.view_is (is_key_in b.crs b.key b.text.items b.defined))

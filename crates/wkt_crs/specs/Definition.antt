@@ -1,0 +1,64 @@
+-- What a definition is, and why a reference system or a text is none.
+use Rattle.std.specs.Prelude.{◌≡◌, ℕ, ◌≤◌, ◌<◌, List, [], ◌∷◌, length}
+use Rattle.crs_part.specs.declared.identifiers.Ident.{Ident}
+use Rattle.crs_part.specs.Slots.{ids_of}
+use Rattle.crs_value.specs.declared.crs.Crs.{Crs}
+use Rattle.crs_value.specs.declared.key.Key.{Key}
+use Rattle.crs_value.specs.Keys.{IsKeyOf}
+use Rattle.wkt_crs.specs.declared.fault.ReadFault.{ReadFault}
+use Rattle.wkt_crs.specs.declared.fault.ReadFault.TheVariants as read
+use Rattle.wkt_crs.specs.declared.definition.DefinitionFault.{DefinitionFault}
+use Rattle.wkt_crs.specs.declared.definition.DefinitionFault.TheVariants as fault
+use Rattle.wkt_crs.specs.Spells.{Spells, canon}
+use Rattle.wkt_crs.specs.Faults.{FirstFault}
+
+-- the reference system has no identifier of its own
+abbrev pub HasNone : Crs → Type 0
+HasNone crs = ids_of crs.parts ≡ []
+
+-- the key of its first identifier
+abbrev pub HasKey : Crs → Key → Type 0
+HasKey crs key = (id : Ident) (others : List Ident) → ids_of crs.parts ≡ id ∷ others → IsKeyOf id key
+
+-- the bytes are the reference system's canonical text, not too long, and this is its key
+pub record IsDefinedBy (crs : Crs) (key : Key) (bytes : List ℕ) : Type 0 where
+  pub canonical : bytes ≡ canon crs
+  pub short : length bytes ≤ 65536
+  pub identified : ¬ (HasNone crs)
+  pub keyed : HasKey crs key
+
+-- the bytes are the canonical text of a reference system with an identifier, and not too long
+pub record IsDefinition (bytes : List ℕ) : Type 0 where
+  pub crs : Crs
+  pub canonical : bytes ≡ canon crs
+  pub short : length bytes ≤ 65536
+  pub identified : ¬ (HasNone crs)
+
+-- the text spells it
+abbrev pub IsCrsOf : Crs → List ℕ → Type 0
+IsCrsOf crs bytes = (bytes ≡ canon crs) × Spells bytes crs
+
+-- the first identifier in the text has this key
+abbrev pub IsKeyIn : Key → List ℕ → Type 0
+IsKeyIn key bytes = (crs : Crs) × Spells bytes crs × (¬ (HasNone crs)) × HasKey crs key
+
+abbrev pub IsNewFault : Crs → DefinitionFault → Type 0
+IsNewFault crs (fault.Read f) = ⊥
+IsNewFault crs fault.NoIdentifier = HasNone crs
+IsNewFault crs fault.CanonicalTooLong = (¬ (HasNone crs)) × (65536 < length (canon crs))
+IsNewFault crs fault.NotCanonical = ⊥
+IsNewFault crs fault.Memory = Unit {0}
+
+abbrev pub IsCanonicalFault : List ℕ → DefinitionFault → Type 0
+IsCanonicalFault bytes fault.CanonicalTooLong = 65536 < length bytes
+IsCanonicalFault bytes (fault.Read f) = (length bytes ≤ 65536) × FirstFault bytes f
+IsCanonicalFault bytes fault.NoIdentifier = (length bytes ≤ 65536) × ((crs : Crs) × Spells bytes crs × HasNone crs)
+IsCanonicalFault bytes fault.NotCanonical = (length bytes ≤ 65536) × ((crs : Crs) × Spells bytes crs × ¬ (HasNone crs) × ¬ (bytes ≡ canon crs))
+IsCanonicalFault bytes fault.Memory = Unit {0}
+
+-- want of memory is one fault
+abbrev pub of_read : ReadFault → DefinitionFault
+of_read (read.Text f) = fault.Read (read.Text f)
+of_read (read.Slot f) = fault.Read (read.Slot f)
+of_read (read.Broken condition at) = fault.Read (read.Broken condition at)
+of_read read.Memory = fault.Memory

@@ -1,0 +1,161 @@
+//! Definitions: what a register holds.
+
+ghost use Rattle.std.specs.Prelude.{◌≡◌, ◌≤◌, length, IfOk, IfErr};
+ghost use Rattle.crs_part.specs.Slots.{ids_of};
+ghost use Rattle.wkt_crs.specs.Spells.{canon};
+ghost use Rattle.wkt_crs.specs.Definition.{HasNone, IsDefinedBy, of_read};
+ghost use Rattle.wkt_crs.specs.declared.definition.DefinitionFault.TheVariants as fault;
+
+use crate::fault::ReadFault;
+use crate::reading::read_crs;
+use crate::writing::write_crs;
+use crs_value::{Crs, Key};
+use std::alloc::{AllocError, Global};
+use std::marker::Model;
+use std::rc::Rc;
+
+/// The most bytes of a definition's canonical text.
+const MOST: usize = 65_536;
+
+/// Why a reference system, or a text, is no definition.
+#[derive(Clone, Copy, Debug, PartialEq, Eq)]
+pub enum DefinitionFault {
+    /// The text spells no reference system, and this is its first fault.
+    Read(ReadFault),
+    /// The reference system has no identifier of its own.
+    NoIdentifier,
+    /// The canonical text has more than 65,536 bytes.
+    CanonicalTooLong,
+    /// The text is not the canonical one of its value.
+    NotCanonical,
+    /// A growth was refused.
+    Memory,
+}
+
+#[derive(Drop)]
+struct Body {
+    crs: Crs,
+    key: Key,
+    text: Vec<u8>,
+    ghost defined: { IsDefinedBy crs key text.items },
+}
+
+/// A reference system with an identifier, seen as its canonical text. Its copies share it.
+#[derive(Drop)]
+pub struct Definition {
+    body: Rc<Body>,
+}
+
+impl Model for Definition {
+    ghost use Rattle.std.specs.Prelude.{ℕ, List};
+
+    ghost Value = { List ℕ };
+
+    ghost view = { λ d. d.body.value.text.items };
+}
+
+impl Definition {
+    ghost use Rattle.std.specs.Prelude.{◌≡◌, ◌⊎◌, Ok, Err, IfOk, IfErr};
+    ghost use Rattle.wkt_crs.specs.declared.definition.DefinitionFault.TheVariants as fault;
+    ghost use Rattle.wkt_crs.specs.Spells.{canon};
+    ghost use Rattle.wkt_crs.specs.Definition.{IsDefinition, IsNewFault, IsCanonicalFault, IsDefinedBy, IsCrsOf, IsKeyIn};
+
+    /// The definition of a reference system.
+    pub fn new(alloc: Global, crs: Crs) -> Result<Definition, DefinitionFault>
+        ensures ok { IfOk result (λ d. d ≡ canon crs) }
+        ensures fault { IfErr result (IsNewFault crs) }
+        ensures only { IsDefinition (canon crs) → (result ≡ Ok (canon crs)) ⊎ (result ≡ Err fault.Memory) }
+    {
+        if crs.parts().ids().is_empty() {
+            return Err(DefinitionFault::NoIdentifier);
+        }
+        let Ok(text) = write_crs(alloc, &crs) else {
+            return Err(DefinitionFault::Memory);
+        };
+        if text.len() > MOST {
+            return Err(DefinitionFault::CanonicalTooLong);
+        }
+        defined(alloc, crs, text)
+    }
+
+    /// The definition with this canonical text.
+    pub fn from_canonical(alloc: Global, bytes: &[u8]) -> Result<Definition, DefinitionFault>
+        ensures ok { IfOk result (λ d. d ≡ bytes.now) }
+        ensures fault { IfErr result (IsCanonicalFault bytes.now) }
+        ensures only { IsDefinition bytes.now → (result ≡ Ok bytes.now) ⊎ (result ≡ Err fault.Memory) }
+    {
+        if bytes.len() > MOST {
+            return Err(DefinitionFault::CanonicalTooLong);
+        }
+        let crs = match read_crs(alloc, bytes) {
+            Ok(crs) => crs,
+            Err(fault) => return Err(of_read(fault)),
+        };
+        if crs.parts().ids().is_empty() {
+            return Err(DefinitionFault::NoIdentifier);
+        }
+        let Ok(text) = write_crs(alloc, &crs) else {
+            return Err(DefinitionFault::Memory);
+        };
+        if text.as_slice() != bytes {
+            return Err(DefinitionFault::NotCanonical);
+        }
+        defined(alloc, crs, text)
+    }
+
+    /// The canonical text.
+    pub fn as_bytes(&self) -> &[u8]
+        ensures bytes { result.now ≡ self.now }
+        ensures canonical { IsDefinition self.now }
+    {
+        self.body.text.as_slice()
+    }
+
+    /// The reference system that the text spells.
+    pub fn crs(&self) -> &Crs
+        ensures { IsCrsOf result.now self.now }
+    {
+        &self.body.crs
+    }
+
+    /// The key of its first identifier.
+    pub fn key(&self) -> &Key
+        ensures { IsKeyIn result.now self.now }
+    {
+        &self.body.key
+    }
+
+    /// The same, which shares its text.
+    pub fn try_clone(&self, alloc: Global) -> Result<Definition, AllocError>
+        ensures { IfOk result (λ copy. copy ≡ self.now) }
+    {
+        let _ = alloc;
+        let body = self.body.clone()?;
+        Ok(Definition { body })
+    }
+}
+
+// The definition of a reference system with an identifier, of which this is the canonical text.
+fn defined(alloc: Global, crs: Crs, text: Vec<u8>) -> Result<Definition, DefinitionFault>
+    requires { (text.items ≡ canon crs) × (length text.items ≤ 65536) × ¬ (HasNone crs) }
+    ensures ok { IfOk result (λ d. d ≡ text.items) }
+    ensures fault { IfErr result (λ f. f ≡ fault.Memory) }
+{
+    let key = match crs.key(alloc) {
+        Ok(Some(key)) => key,
+        _ => return Err(DefinitionFault::Memory),
+    };
+    match Rc::new(alloc, Body { crs, key, text }) {
+        Ok(body) => Ok(Definition { body }),
+        Err(_) => Err(DefinitionFault::Memory),
+    }
+}
+
+fn of_read(fault: ReadFault) -> DefinitionFault
+    ensures { result ≡ of_read fault }
+{
+    match fault {
+        ReadFault::Memory => DefinitionFault::Memory,
+        other => DefinitionFault::Read(other),
+    }
+}
