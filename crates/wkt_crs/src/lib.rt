@@ -7,6 +7,8 @@ pub mod laws;
 mod places;
 mod reading;
 mod source;
+#[cfg(test)]
+mod tests;
 mod writing;
 
 pub use byte_io::{

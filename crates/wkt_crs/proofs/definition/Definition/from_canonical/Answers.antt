@@ -18,8 +18,7 @@ returns-then-is_empty-clause-only c = λ d.
 pub returns-then-ne-clause-fault : goal.returns-then-ne-clause-fault
 returns-then-ne-clause-fault c =
     let below = c.if-bytes-gt-MOST.false in
-    let other = not_same c.as_slice.result.now c.args.bytes.now (told_false (pointwise nat_eq c.as_slice.result.now c.args.bytes.now) (sym c.ne.ensures ∙ c.if-ne.true)) in
-    (
+    let other = not_same c.as_slice.result.now c.args.bytes.now (told_false (pointwise nat_eq c.as_slice.result.now c.args.bytes.now) (sym c.ne.ensures ∙ c.if-ne.true)) in (
       omega (arith, below),
       (
         c.in-Ok.crs,
@@ -37,8 +36,7 @@ returns-then-ne-clause-only c = λ d.
 pub defined-requires : goal.defined-requires
 defined-requires c =
     let below = c.if-bytes-gt-MOST.false in
-    let same = sym c.as_slice.ensures.value ∙ same_bytes c.as_slice.result.now c.args.bytes.now (told_true (pointwise nat_eq c.as_slice.result.now c.args.bytes.now) (sym c.ne.ensures ∙ c.if-ne.false)) in
-    (
+    let same = sym c.as_slice.ensures.value ∙ same_bytes c.as_slice.result.now c.args.bytes.now (told_true (pointwise nat_eq c.as_slice.result.now c.args.bytes.now) (sym c.ne.ensures ∙ c.if-ne.false)) in (
       c.in-Ok-write_crs.ensures,
       (let n = ap length same in omega (arith, n, below)),
       has_one (ids_of c.in-Ok.crs.parts) c.ids.result.now (c.ids.ensures ∙ ap ids_of c.parts.ensures) (sym c.is_empty.ensures ∙ c.if-is_empty.false),

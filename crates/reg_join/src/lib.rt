@@ -1,0 +1,63 @@
+//! Values that are joined: the laws, and the join of many, proved once from the laws.
+#![tactic(auto)]
+
+ghost use Rattle.std.specs.Prelude.{◌≡◌, ◌↔◌, List, [], ◌∷◌, Ok, Err, Result, IfOk};
+ghost use Rattle.reg_join.specs.Joining.{JoinLaws, all_joined, AllAgree, SameMembers};
+
+use std::alloc::{AllocError, Global};
+
+/// Why a join is refused.
+#[derive(Clone, Copy, Debug, PartialEq, Eq, Drop)]
+pub enum JoinFault<C> {
+    Clash(C),
+    Memory,
+}
+
+pub trait Join: Sized + Drop {
+    /// What a refusal names.
+    type Clash: Drop;
+
+    ghost nothing: { Self };
+
+    ghost joined: { Self → Self → Result Self Self.Clash };
+
+    /// What the join of two that agree is.
+    ghost merged: { Self → Self → Self };
+
+    /// They can be joined.
+    ghost agree: { Self → Self → Type 0 };
+
+    /// The values that there are.
+    ghost is_value: { Self → Type 0 };
+
+    fn empty(alloc: Global) -> Self
+        ensures { result ≡ nothing };
+
+    /// A clash is looked for before memory is asked for.
+    fn join(&self, alloc: Global, other: &Self) -> Result<Self, JoinFault<Self::Clash>>
+        ensures ok { IfOk result (λ r. joined self.now other.now ≡ Ok r) }
+        ensures clash { (c : Self.Clash) → (result ≡ Err (JoinFault.Clash c)) ↔ (joined self.now other.now ≡ Err c) };
+
+    /// What each `impl` proves.
+    ghost laws: { JoinLaws nothing joined merged agree is_value };
+}
+
+/// Joins all, from the left, starting with nothing.
+pub fn join_all<T: Join>(alloc: Global, xs: &[T]) -> Result<T, JoinFault<T::Clash>>
+    ensures ok { IfOk result (λ r. all_joined T.joined (Ok T.nothing) xs.now ≡ Ok r) }
+    ensures clash { (c : T.Clash) → result ≡ Err (JoinFault.Clash c) → all_joined T.joined (Ok T.nothing) xs.now ≡ Err c }
+{
+    let mut all = T::empty(alloc);
+    for x in xs {
+        all = all.join(alloc, x)?;
+    }
+    Ok(all)
+}
+
+/// Where each value of a list agrees with each, there is a join of them, and neither their order nor how often each
+/// stands there matters to it. The join of one is that one.
+pub fn order_is_free<T: Join>()
+    ensures agreement { (xs : List T) → AllAgree T.agree xs → (r : T) × (all_joined T.joined (Ok T.nothing) xs ≡ Ok r) }
+    ensures order { (xs ys : List T) → AllAgree T.agree xs → SameMembers xs ys → all_joined T.joined (Ok T.nothing) xs ≡ all_joined T.joined (Ok T.nothing) ys }
+    ensures one { (x : T) → T.is_value x → all_joined T.joined (Ok T.nothing) (x ∷ []) ≡ Ok x }
+{}

@@ -1,0 +1,235 @@
+-- The first marks of sorted ones are the least.
+use Rattle.std.proofs.Common.{◌≡◌, ℕ, ◌<◌, ◌≤◌, suc, Bool, true, false, ◌||◌, cond, List, [], ◌∷◌, length, get_or, Option, Some, None, refl, sym, ap, ◌∙◌, subst, inl, inr, arith}
+use Rattle.std.proofs.lemmas.Bool.{true≢false, and_from, and_parts, or_cases, or_left, or_right, false_from_ne_true, true_from_ne_false, not-true, not_from_false}
+use Rattle.std.proofs.lemmas.List.Sorted.{ranks_by, sorted_far, list_any-IsPermutation}
+use Rattle.std.proofs.lemmas.List.Folds.{list_any-append}
+use Rattle.std.proofs.Common.{◌++◌}
+use Rattle.std.specs.List.{list_any, find}
+use Rattle.std.specs.List.Sorted.{IsSorted, IsPermutation}
+use Rattle.std.specs.Cmp.{tied_itself, Equal-is, both_ways}
+use Rattle.std.specs.Ordering.{is_lt, is_eq, eq_by_cmp, ordering_then}
+use Rattle.std.specs.declared.cmp.Ordering.{Ordering}
+use Rattle.std.specs.declared.cmp.Ordering.TheVariants.{Less, Equal, Greater}
+use Rattle.reg_op.specs.Set as set
+use Rattle.reg_op.specs.Set.{contains, contains-from_list, same_set}
+use Rattle.reg_op.specs.Ids.{id_cmp, is_before}
+use Rattle.reg_op.specs.Finite.{any}
+use Rattle.reg_op.proofs.FiniteLemmas.{among, any_from_member, member_from_any, contains-topmost}
+use Rattle.reg_op.proofs.ClashLemmas.{tied_of, same_id}
+use Rattle.reg_marks.specs.declared.mark.Mark.{Mark}
+use Rattle.reg_marks.specs.declared.mark.Target.{Target}
+use Rattle.reg_marks.specs.Marks.{target_cmp, mark_cmp, is_at, MarkSet, lessens, least, was_at, firsts}
+use Rattle.reg_marks.specs.MarkLaws.{target_total, mark_total, mark_exact, at_exact, lessens_irreflexive, lessens_chain}
+
+abbrev has : List Mark → Mark → Bool
+has xs q = list_any (eq_by_cmp mark_cmp q) xs
+
+-- m stands no later than n
+abbrev IsBy : Mark → Mark → Type 0
+IsBy m n = is_lt (mark_cmp n m) ≡ false
+
+abbrev AllBy : Mark → List Mark → Type 0
+AllBy x [] = Unit {0}
+AllBy x (y ∷ ys) = IsBy x y × AllBy x ys
+
+abbrev Up : List Mark → Type 0
+Up [] = Unit {0}
+Up (x ∷ xs) = AllBy x xs × Up xs
+
+up_of : (xs : List Mark) → ((i j : ℕ) (d : Mark) → i ≤ j → j < length xs → IsBy (get_or xs i d) (get_or xs j d)) → Up xs
+up_of [] far = tt
+up_of (x ∷ xs) far = (all xs (λ j d h. far 0 (suc j) d (omega arith) (omega arith)), up_of xs (λ i j d a b. far (suc i) (suc j) d (omega arith) (omega arith)))
+  where
+    all : (ys : List Mark) → ((j : ℕ) (d : Mark) → j < length ys → IsBy x (get_or ys j d)) → AllBy x ys
+    all [] h = tt
+    all (y ∷ ys) h = (h 0 y (omega arith), all ys (λ j d k. h (suc j) d (omega arith)))
+
+sorted_up : (xs : List Mark) → IsSorted mark_cmp xs → Up xs
+sorted_up xs h = up_of xs (sorted_far (λ m n. is_lt (mark_cmp m n)) (ranks_by mark_total (λ m. m)) xs h)
+
+all_by : (x : Mark) (xs : List Mark) (q : Mark) → AllBy x xs → has xs q ≡ true → IsBy x q
+all_by x [] q h k = absurd (true≢false (sym k))
+all_by x (y ∷ ys) q h k = elim (or_cases (eq_by_cmp mark_cmp q y) (has ys q) k) [
+  | inl e ↦ subst (IsBy x) (sym (mark_exact q y ((Equal-is (mark_cmp q y)).0 e))) h.0
+  | inr e ↦ all_by x ys q h.1 e
+]
+
+lt_then : (a b : Ordering) → is_lt a ≡ true → is_lt (ordering_then a b) ≡ true
+lt_then Less b h = refl
+lt_then Equal b h = absurd (true≢false (sym h))
+lt_then Greater b h = absurd (true≢false (sym h))
+
+by_target : (x q : Mark) → IsBy x q → is_lt (target_cmp q.target x.target) ≡ false
+by_target x q h = false_from_ne_true _ (λ k. true≢false (sym (lt_then _ (id_cmp q.id x.id) k) ∙ h))
+
+by_id : (x q : Mark) → IsBy x q → q.target ≡ x.target → is_before q.id x.id ≡ false
+by_id x q h e =
+    (λ k. is_lt (ordering_then (sym (tied_itself target_total x.target) k) (id_cmp q.id x.id)))
+    ∙ (λ k. is_lt (ordering_then (target_cmp (sym e k) x.target) (id_cmp q.id x.id)))
+    ∙ h
+
+same_mark : (a b : Mark) → a.target ≡ b.target → a.id ≡ b.id → a ≡ b
+same_mark a b e f = λ k. record { target = e k; id = f k }
+
+at_itself : (t : Target) → is_eq (target_cmp t t) ≡ true
+at_itself t = ap is_eq (tied_itself target_total t)
+
+at_of : (t : Target) (m : Mark) → m.target ≡ t → is_at t m ≡ true
+at_of t m e = subst (λ u. is_eq (target_cmp m.target u) ≡ true) e (at_itself m.target)
+
+-- a later mark of the same target that is another has a greater id
+lessened : (x q : Mark) → IsBy x q → q.target ≡ x.target → (q ≡ x → ⊥) → lessens x q ≡ true
+lessened x q h e other =
+    and_from _ _ (at_of q.target x (sym e))
+    (true_from_ne_false _ (λ late. other (same_mark q x e (same_id q.id x.id (by_id x q h e) late))))
+
+-- each is no sooner than a target
+abbrev AllFrom : Option Target → List Mark → Type 0
+AllFrom None xs = Unit {0}
+AllFrom (Some t) xs = (q : Mark) → has xs q ≡ true → is_lt (target_cmp q.target t) ≡ false
+
+from_by : (x : Mark) (xs : List Mark) → AllBy x xs → AllFrom (Some x.target) xs
+from_by x xs h q k = by_target x q (all_by x xs q h k)
+
+from_rest : (t : Option Target) (x : Mark) (xs : List Mark) → AllFrom t (x ∷ xs) → AllFrom t xs
+from_rest None x xs h = tt
+from_rest (Some t) x xs h = λ q k. h q (or_right (eq_by_cmp mark_cmp q x) _ k)
+
+itself : (x : Mark) → eq_by_cmp mark_cmp x x ≡ true
+itself x = ap is_eq (tied_itself mark_total x)
+
+-- between two of one target all have it
+not_at_later : (t : Option Target) (x : Mark) (xs : List Mark) (q : Mark) → AllFrom t (x ∷ xs) → IsBy x q → was_at t x ≡ false → was_at t q ≡ false
+not_at_later None x xs q from by no_x = refl
+not_at_later (Some t) x xs q from by no_x = false_from_ne_true _ (λ at.
+    let q_is : q.target ≡ t = at_exact t q at in
+    let low : is_lt (target_cmp x.target t) ≡ false = from x (or_left _ _ (itself x)) in
+    let high : is_lt (target_cmp t x.target) ≡ false = subst (λ u. is_lt (target_cmp u x.target) ≡ false) q_is (by_target x q by) in
+    true≢false (sym (tied_of target_total x.target t low high) ∙ no_x))
+
+was_at_same : (t : Option Target) (x q : Mark) → was_at t x ≡ true → q.target ≡ x.target → was_at t q ≡ true
+was_at_same None x q h e = absurd (true≢false (sym h))
+was_at_same (Some t) x q h e = at_of t q (e ∙ at_exact t x h)
+
+abbrev NoLesser : List Mark → Mark → Type 0
+NoLesser xs q = (p : Mark) → has xs p ≡ true → lessens p q ≡ true → ⊥
+
+eq_of : (q x : Mark) → eq_by_cmp mark_cmp q x ≡ true → q ≡ x
+eq_of q x h = mark_exact q x ((Equal-is (mark_cmp q x)).0 h)
+
+lesser_target : (p q : Mark) → lessens p q ≡ true → p.target ≡ q.target
+lesser_target p q h = at_exact q.target p (and_parts _ _ h).0
+
+pub sound : (t : Option Target) (xs : List Mark) (q : Mark) → Up xs → AllFrom t xs → has (firsts t xs) q ≡ true → (has xs q ≡ true) × NoLesser xs q × (was_at t q ≡ false)
+sound t [] q up from h = absurd (true≢false (sym h))
+sound t (x ∷ xs) q up from h =
+    elim (was_at t x) as (λ b. was_at t x ≡ b → has (cond b (firsts t xs) (x ∷ firsts (Some x.target) xs)) q ≡ true → (has (x ∷ xs) q ≡ true) × NoLesser (x ∷ xs) q × (was_at t q ≡ false)) [
+      | true ↦ λ at h.
+          let r = sound t xs q up.1 (from_rest t x xs from) h in (
+            or_right (eq_by_cmp mark_cmp q x) _ r.0,
+            λ p k l. elim (or_cases (eq_by_cmp mark_cmp p x) (has xs p) k) [
+              | inl e ↦ true≢false (sym (was_at_same t x q at (sym (lesser_target p q l) ∙ ap (λ (m : Mark). m.target) (eq_of p x e))) ∙ r.2)
+              | inr e ↦ r.1 p e l
+            ],
+            r.2,
+          )
+      | false ↦ λ no_x h. elim (or_cases (eq_by_cmp mark_cmp q x) (has (firsts (Some x.target) xs) q) h) [
+        | inl e ↦ let is = eq_of q x e in (
+          or_left _ _ e,
+          λ p k l. elim (or_cases (eq_by_cmp mark_cmp p x) (has xs p) k) [
+            | inl f ↦ lessens_irreflexive x (subst (λ m. lessens x m ≡ true) is (subst (λ m. lessens m q ≡ true) (eq_of p x f) l))
+            | inr f ↦
+                let l' : lessens p x ≡ true = subst (λ m. lessens p m ≡ true) is l in
+                true≢false (sym (and_parts _ _ l').1 ∙ by_id x p (all_by x xs p up.0 f) (lesser_target p x l'))
+          ],
+          subst (λ m. was_at t m ≡ false) (sym is) no_x,
+        )
+        | inr e ↦
+            let r = sound (Some x.target) xs q up.1 (from_by x xs up.0) e in (
+              or_right (eq_by_cmp mark_cmp q x) _ r.0,
+              λ p k l. elim (or_cases (eq_by_cmp mark_cmp p x) (has xs p) k) [
+                | inl f ↦ true≢false (sym (at_of x.target q (sym (lesser_target p q l) ∙ ap (λ (m : Mark). m.target) (eq_of p x f))) ∙ r.2)
+                | inr f ↦ r.1 p f l
+              ],
+              not_at_later t x xs q from (all_by x xs q up.0 r.0) no_x,
+            )
+      ]
+    ] refl h
+
+pub complete : (t : Option Target) (xs : List Mark) (q : Mark) → Up xs → has xs q ≡ true → NoLesser xs q → was_at t q ≡ false → has (firsts t xs) q ≡ true
+complete t [] q up h none no_q = absurd (true≢false (sym h))
+complete t (x ∷ xs) q up h none no_q =
+    elim (was_at t x) as (λ b. was_at t x ≡ b → has (cond b (firsts t xs) (x ∷ firsts (Some x.target) xs)) q ≡ true) [
+      | true ↦ λ at. elim (or_cases (eq_by_cmp mark_cmp q x) (has xs q) h) [
+        | inl e ↦ absurd (true≢false (sym (was_at_same t x q at (ap (λ (m : Mark). m.target) (eq_of q x e))) ∙ no_q))
+        | inr e ↦ complete t xs q up.1 e (λ p k l. none p (or_right (eq_by_cmp mark_cmp p x) _ k) l) no_q
+      ]
+      | false ↦ λ no_x. elim (eq_by_cmp mark_cmp q x) as (λ b. eq_by_cmp mark_cmp q x ≡ b → (b || has (firsts (Some x.target) xs) q) ≡ true) [
+        | true ↦ λ e. refl
+        | false ↦ λ other.
+            let later : has xs q ≡ true = (λ k. sym other k || has xs q) ∙ h in
+            complete (Some x.target) xs q up.1 later (λ p k l. none p (or_right (eq_by_cmp mark_cmp p x) _ k) l)
+            (false_from_ne_true _ (λ at. none x (or_left _ _ (itself x))
+            (lessened x q (all_by x xs q up.0 later) (at_exact x.target q at) (λ e. true≢false (sym (subst (λ m. eq_by_cmp mark_cmp q m ≡ true) e (itself q)) ∙ other)))))
+      ] refl
+    ] refl
+
+pub firsts_least : (xs : List Mark) → IsSorted mark_cmp xs → set.from_list {R = mark_cmp} (firsts None xs) ≡ least (set.from_list {R = mark_cmp} xs)
+firsts_least xs sorted =
+    let s : MarkSet = set.from_list xs in
+    let up = sorted_up xs sorted in
+    same_set mark_total mark_exact _ _ (λ q.
+    contains-from_list mark_total (firsts None xs) q
+    ∙ both_ways _ _
+    (λ h. let r = sound None xs q up tt h in
+    contains-topmost mark_total mark_exact lessens lessens_irreflexive lessens_chain s q
+    ∙ and_from _ _ (contains-from_list mark_total xs q ∙ r.0) (not_from_false _ (false_from_ne_true _ (λ a.
+    let m = member_from_any mark_total mark_exact (λ p. lessens p q) s a in r.1 m.0 (sym (contains-from_list mark_total xs m.0) ∙ m.1) m.2))))
+    (λ h. let p = and_parts _ _ (sym (contains-topmost mark_total mark_exact lessens lessens_irreflexive lessens_chain s q) ∙ h) in
+    complete None xs q up (sym (contains-from_list mark_total xs q) ∙ p.0)
+    (λ m k l. true≢false (sym (any_from_member mark_total mark_exact (λ y. lessens y q) s m (contains-from_list mark_total xs m ∙ k) l) ∙ not-true _ p.1))
+    refl))
+
+-- a permutation has the same set
+pub same_members : (xs ys : List Mark) → IsPermutation xs ys → set.from_list {R = mark_cmp} ys ≡ set.from_list {R = mark_cmp} xs
+same_members xs ys h = same_set mark_total mark_exact _ _ (λ q.
+    contains-from_list mark_total ys q
+    ∙ sym (list_any-IsPermutation (eq_by_cmp mark_cmp q) xs ys h)
+    ∙ sym (contains-from_list mark_total xs q))
+
+-- two lists together have the union
+pub set-append : (xs ys : List Mark) → set.from_list {R = mark_cmp} (xs ++ ys) ≡ set.union (set.from_list xs) (set.from_list ys)
+set-append xs ys = same_set mark_total mark_exact _ _ (λ q.
+    contains-from_list mark_total (xs ++ ys) q
+    ∙ list_any-append (eq_by_cmp mark_cmp q) xs ys
+    ∙ sym (set.contains-union mark_total (set.from_list xs) (set.from_list ys) q ∙ (λ k. contains-from_list mark_total xs q k || contains-from_list mark_total ys q k)))
+
+-- ---- the mark at a target
+
+found_in : (t : Target) (xs : List Mark) (m : Mark) → find (λ q. is_at t q) xs ≡ Some m → (has xs m ≡ true) × (is_at t m ≡ true)
+found_in t [] m h = cc
+found_in t (x ∷ xs) m h =
+    elim (is_at t x) as (λ b. is_at t x ≡ b → cond b (Some x) (find (λ q. is_at t q) xs) ≡ Some m → (has (x ∷ xs) m ≡ true) × (is_at t m ≡ true)) [
+      | true ↦ λ e h. let same : x ≡ m = some_same x m h in (or_left _ _ (subst (λ q. eq_by_cmp mark_cmp q x ≡ true) same (itself x)), subst (λ q. is_at t q ≡ true) same e)
+      | false ↦ λ e h. let r = found_in t xs m h in (or_right (eq_by_cmp mark_cmp m x) _ r.0, r.1)
+    ] refl h
+  where
+    some_same : (a b : Mark) → ◌≡◌ {A = Option Mark} (Some a) (Some b) → a ≡ b
+    some_same a b h = cc
+
+none_in : (t : Target) (xs : List Mark) → find (λ q. is_at t q) xs ≡ None → list_any (λ q. is_at t q) xs ≡ false
+none_in t [] h = refl
+none_in t (x ∷ xs) h =
+    elim (is_at t x) as (λ b. cond b (Some x) (find (λ q. is_at t q) xs) ≡ None → (b || list_any (λ q. is_at t q) xs) ≡ false) [ true ↦ λ e. cc | false ↦ λ e. none_in t xs e ] h
+
+pub found_at : (xs : List Mark) (t : Target) (m : Mark) → find (λ q. is_at t q) xs ≡ Some m → contains (set.from_list {R = mark_cmp} xs) (record { target = t; id = m.id }) ≡ true
+found_at xs t m h =
+    let r = found_in t xs m h in
+    subst (λ q. contains (set.from_list {R = mark_cmp} xs) q ≡ true) (same_mark m (record { target = t; id = m.id }) (at_exact t m r.1) refl)
+    (contains-from_list mark_total xs m ∙ r.0)
+
+pub none_at : (xs : List Mark) (t : Target) → find (λ q. is_at t q) xs ≡ None → any (λ q. is_at t q) (set.from_list {R = mark_cmp} xs) ≡ false
+none_at xs t h = false_from_ne_true _ (λ a.
+    let s : MarkSet = set.from_list xs in
+    let m = member_from_any mark_total mark_exact (λ q. is_at t q) s a in
+    true≢false (sym (among mark_total mark_exact (λ q. is_at t q) xs m.0 (sym (contains-from_list mark_total xs m.0) ∙ m.1) m.2) ∙ none_in t xs h))

@@ -1,0 +1,46 @@
+-- Marks, and the least of them by what they are about.
+use Rattle.std.specs.Prelude.{Bool, false, ◌&&◌, List, [], ◌∷◌, Option, Some, None, if◌then◌else◌, refl}
+use Rattle.std.specs.declared.cmp.Ordering.{Ordering}
+use Rattle.std.specs.Option.{option_cmp}
+use Rattle.std.specs.Ordering.{ordering_then, is_eq}
+use Rattle.std.specs.Coded.{Coded, code_by, coded×, coded_option}
+use Rattle.reg_op.specs.Set as set
+use Rattle.reg_op.specs.Finite.{topmost}
+use Rattle.reg_op.specs.Ids.{Id, id_cmp, is_before, id_code}
+use Rattle.reg_marks.specs.declared.mark.Mark.{Mark}
+use Rattle.reg_marks.specs.declared.mark.Target.{Target}
+
+-- marks are ordered by the entry, its retirement before its supersessions, and by the id
+abbrev pub target_cmp : Target → Target → Ordering
+target_cmp a b = ordering_then (id_cmp a.entry b.entry) (option_cmp id_cmp a.by b.by)
+
+abbrev pub mark_cmp : Mark → Mark → Ordering
+mark_cmp a b = ordering_then (target_cmp a.target b.target) (id_cmp a.id b.id)
+
+abbrev pub is_at : Target → Mark → Bool
+is_at t m = is_eq (target_cmp m.target t)
+
+abbrev pub MarkSet : Type 0
+MarkSet = set.Set mark_cmp
+
+abbrev pub mark_code : Coded Mark
+mark_code =
+    code_by ((Id × Option Id) × Id) (coded× (coded× id_code (coded_option id_code)) id_code) (λ m. ((m.target.entry, m.target.by), m.id))
+    (λ p. record { target = record { entry = p.0.0; by = p.0.1 }; id = p.1 }) (λ _. refl)
+
+-- beside p there is no need of m: it is about the same, and has a lesser id
+abbrev pub lessens : Mark → Mark → Bool
+lessens p m = is_at m.target p && is_before p.id m.id
+
+-- the least of each target
+abbrev pub least : MarkSet → MarkSet
+least s = topmost lessens s
+
+-- the first mark of each target, of sorted marks that follow one of a target
+abbrev pub was_at : Option Target → Mark → Bool
+was_at None m = false
+was_at (Some t) m = is_at t m
+
+abbrev pub firsts : Option Target → List Mark → List Mark
+firsts t [] = []
+firsts t (m ∷ ms) = if was_at t m then firsts t ms else (m ∷ firsts (Some m.target) ms)

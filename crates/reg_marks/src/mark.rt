@@ -1,0 +1,24 @@
+ghost use Rattle.std.specs.Prelude.{◌≡◌};
+ghost use Rattle.reg_marks.specs.Marks.{is_at};
+
+use reg_op::OpId;
+
+/// What a mark is about: an entry that is retired, or superseded by another.
+#[derive(Clone, Copy, Debug, PartialEq, Eq, PartialOrd, Ord)]
+pub struct Target {
+    pub entry: OpId,
+    pub by: Option<OpId>,
+}
+
+/// That an operation retires or supersedes.
+#[derive(Clone, Copy, Debug, PartialEq, Eq, PartialOrd, Ord)]
+pub struct Mark {
+    pub target: Target,
+    pub id: OpId,
+}
+
+pub(crate) fn is_at(mark: &Mark, target: &Target) -> bool
+    ensures { result ≡ is_at target.now mark.now }
+{
+    mark.target.cmp(target).is_eq()
+}

@@ -1,0 +1,12 @@
+pub mod FiniteLemmas
+pub mod OpLemmas
+pub mod ContentLemmas
+pub mod StatusLemmas
+pub mod OneLemmas
+pub mod TextLemmas
+pub mod SetLemmas
+pub mod RowLemmas
+pub mod KeptLemmas
+pub mod ClashLemmas
+pub mod JoinLemmas
+pub mod PointLemmas

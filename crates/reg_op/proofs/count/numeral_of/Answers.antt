@@ -1,0 +1,9 @@
+use Rattle.std.proofs.Common.{◌<◌, ◌^◌, arith}
+use Rattle.std.proofs.lemmas.Str.{IsUtf8-from_ascii}
+use Rattle.std.proofs.lemmas.Fmt.{IsAscii-decimal}
+use Rattle.reg_op.proofs.count.numeral_of.Goals as goal
+
+pub returns-in_default-clause-none : goal.returns-in_default-clause-none
+returns-in_default-clause-none c = λ n h.
+    let fits : n < 2 ^ 32 = h.fits in
+    c.in_default.ensures.cases.0 (rw h.digits (IsUtf8-from_ascii _ (IsAscii-decimal n (omega arith))))

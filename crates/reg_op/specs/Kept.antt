@@ -1,0 +1,36 @@
+-- Which operations are kept, and which id clashes: the least.
+use Rattle.std.specs.Prelude.{◌≡◌, ℕ, true, false, List}
+use Rattle.reg_op.specs.Set as set
+use Rattle.reg_op.specs.Ids.{Id, is_before}
+use Rattle.reg_op.specs.Operations.{Op, Enter, Supersede, Retire, Ops, clashes}
+use Rattle.reg_op.specs.Status.{retires}
+
+abbrev pub entering : Id → List ℕ → Op
+entering i text = record { id = i; body = Enter text }
+
+abbrev pub superseding : Id → Id → Id → Op
+superseding i old newer = record { id = i; body = Supersede old newer }
+
+abbrev pub retiring : Id → Id → Op
+retiring i entry = record { id = i; body = Retire entry }
+
+-- the retirement of an entry that has the least id
+pub record IsLeastRetirement (s : Ops) (i entry : Id) : Type 0 where
+  pub there : set.contains s (retiring i entry) ≡ true
+  pub least : (j : Id) → set.contains s (retiring j entry) ≡ true → is_before j i ≡ false
+
+-- the supersession of a pair that has the least id, where the old entry is not retired
+pub record IsLeastSupersession (s : Ops) (i old newer : Id) : Type 0 where
+  pub there : set.contains s (superseding i old newer) ≡ true
+  pub least : (j : Id) → set.contains s (superseding j old newer) ≡ true → is_before j i ≡ false
+  pub stands : retires s old ≡ false
+
+-- the least id that has two bodies
+pub record IsLeastClash (s : Ops) (i : Id) : Type 0 where
+  pub one : Op
+  pub other : Op
+  pub has_one : set.contains s one ≡ true
+  pub has_other : set.contains s other ≡ true
+  pub at : one.id ≡ i
+  pub differ : clashes other one ≡ true
+  pub least : (p o : Op) → set.contains s p ≡ true → set.contains s o ≡ true → clashes p o ≡ true → is_before o.id i ≡ false

@@ -1,0 +1,11 @@
+pub mod Codes
+pub mod Contents
+pub mod Finite
+pub mod Ids
+pub mod Kept
+pub mod Lists
+pub mod Operations
+pub mod Rows
+pub mod Set
+pub mod Status
+pub mod Text

@@ -1,0 +1,187 @@
+ghost use Rattle.std.specs.Prelude.{◌≡◌, ◌↔◌, false, IsTrue, IfOk, IsErr};
+ghost use Rattle.std.specs.Ordering.{is_eq};
+ghost use Rattle.reg_op.specs.Operations.{Op as Operation, IsBody, IsOperation, IsOfItself, op_cmp, clashes, replaces};
+
+use crate::OpId;
+use std::alloc::{AllocError, Global};
+use std::marker::Model;
+use wkt_crs::Definition;
+
+/// What an operation does. An entry is named by the id of the operation that entered it.
+#[derive(Drop)]
+pub enum OpBody {
+    Enter(Definition),
+    Supersede { old: OpId, newer: OpId },
+    Retire { entry: OpId },
+}
+
+/// An entry was to supersede itself.
+#[derive(Clone, Copy, Debug, PartialEq, Eq)]
+pub struct SameEntry;
+
+/// An operation: one effect, under an id of its own.
+#[derive(Drop)]
+pub struct Op {
+    id: OpId,
+    body: OpBody,
+}
+
+impl Model for Op {
+    ghost use Rattle.reg_op.specs.Operations.{Op as Operation, IsOperation};
+    ghost use Rattle.reg_op.specs.Codes.{op_code};
+
+    ghost Value = { Operation };
+
+    ghost coded = { op_code };
+
+    ghost view = { λ o. record { id = o.id; body = o.body } };
+
+    ghost invariant = { λ o. IsOperation (record { id = o.id; body = o.body }) };
+}
+
+impl Op {
+    pub fn new(id: OpId, body: OpBody) -> Result<Op, SameEntry>
+        ensures ok { IfOk result (λ op. op ≡ record { id = id; body = body }) }
+        ensures same { IsErr result ↔ IsOfItself body }
+    {
+        let _count = id.count();
+        if body.is_of_itself() {
+            return Err(SameEntry);
+        }
+        Ok(Op { id, body })
+    }
+
+    pub fn id(&self) -> OpId
+        ensures value { result ≡ self.now.id }
+        ensures operation { IsOperation self.now }
+    {
+        self.id
+    }
+
+    pub fn body(&self) -> &OpBody
+        ensures { result.now ≡ self.now.body }
+    {
+        &self.body
+    }
+
+    /// Gives back what the operation was made of.
+    pub fn into_parts(self) -> (OpId, OpBody)
+        ensures id { result.0 ≡ self.id }
+        ensures body { result.1 ≡ self.body }
+    {
+        let Op { id, body } = self;
+        (id, body)
+    }
+
+    /// The same. A definition's text is shared.
+    pub fn try_clone(&self, alloc: Global) -> Result<Op, AllocError>
+        ensures { IfOk result (λ copy. copy ≡ self.now) }
+    {
+        let body = self.body.try_clone(alloc)?;
+        Ok(Op { id: self.id, body })
+    }
+
+    /// Whether they are one operation.
+    pub fn is_same(&self, other: &Op) -> bool
+        ensures { result ≡ is_eq (op_cmp self.now other.now) }
+    {
+        self.equals(other)
+    }
+
+    fn equals(&self, other: &Op) -> bool
+        ensures { IsTrue result ↔ (self.now ≡ other.now) }
+    {
+        self.id == other.id && self.body.is_same(&other.body)
+    }
+
+    /// Whether the id is the same, and the body is not.
+    pub fn clashes(&self, other: &Op) -> bool
+        ensures { result ≡ clashes self.now other.now }
+    {
+        self.id.is_same(&other.id) && !self.is_same(other)
+    }
+
+    /// Whether there is no need of the other beside this one.
+    pub fn replaces(&self, other: &Op) -> bool
+        ensures { result ≡ replaces self.now other.now }
+    {
+        let before = self.id.is_before(&other.id);
+        match (&self.body, &other.body) {
+            (OpBody::Retire { entry }, OpBody::Retire { entry: other_entry }) => {
+                entry.is_same(other_entry) && before
+            }
+            (OpBody::Retire { entry }, OpBody::Supersede { old, newer: _ }) => entry.is_same(old),
+            (
+                OpBody::Supersede { old, newer },
+                OpBody::Supersede {
+                    old: other_old,
+                    newer: other_newer,
+                },
+            ) => old.is_same(other_old) && newer.is_same(other_newer) && before,
+            _ => false,
+        }
+    }
+}
+
+impl OpBody {
+    /// Whether an entry would supersede itself. Anything else can be done.
+    pub fn is_of_itself(&self) -> bool
+        ensures value { IsTrue result ↔ IsOfItself self.now }
+        ensures possible { result ≡ false → IsBody self.now }
+    {
+        match self {
+            OpBody::Enter(definition) => {
+                let _text = definition.as_bytes();
+                false
+            }
+            OpBody::Supersede { old, newer } => {
+                let _counts = (old.count(), newer.count());
+                old == newer
+            }
+            OpBody::Retire { entry } => {
+                let _count = entry.count();
+                false
+            }
+        }
+    }
+
+    /// The same. A definition's text is shared.
+    pub fn try_clone(&self, alloc: Global) -> Result<OpBody, AllocError>
+        ensures { IfOk result (λ copy. copy ≡ self.now) }
+    {
+        match self {
+            OpBody::Enter(definition) => Ok(OpBody::Enter(definition.try_clone(alloc)?)),
+            OpBody::Supersede { old, newer } => Ok(OpBody::Supersede {
+                old: *old,
+                newer: *newer,
+            }),
+            OpBody::Retire { entry } => Ok(OpBody::Retire { entry: *entry }),
+        }
+    }
+
+    /// Whether they do the same.
+    pub fn is_same(&self, other: &OpBody) -> bool
+        ensures { IsTrue result ↔ (self.now ≡ other.now) }
+    {
+        match (self, other) {
+            (OpBody::Enter(a), OpBody::Enter(b)) => has_same_text(a, b),
+            (
+                OpBody::Supersede { old, newer },
+                OpBody::Supersede {
+                    old: other_old,
+                    newer: other_newer,
+                },
+            ) => { *old == *other_old && *newer == *other_newer }
+            (OpBody::Retire { entry }, OpBody::Retire { entry: other_entry }) => {
+                *entry == *other_entry
+            }
+            _ => false,
+        }
+    }
+}
+
+fn has_same_text(left: &Definition, right: &Definition) -> bool
+    ensures { IsTrue result ↔ (left.now ≡ right.now) }
+{
+    left.as_bytes() == right.as_bytes()
+}

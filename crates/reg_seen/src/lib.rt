@@ -1,0 +1,11 @@
+//! The ids that were seen, as runs of counts.
+#![tactic(auto)]
+
+mod run;
+mod runs;
+mod seen;
+#[cfg(test)]
+mod tests;
+
+pub use run::Run;
+pub use seen::Seen;

@@ -1,0 +1,6 @@
+pub mod MarkLemmas
+pub mod MergeLemmas
+pub mod TableLemmas
+pub mod TakeLemmas
+pub mod ManyLemmas
+pub mod PlainLemmas

@@ -1,0 +1,7 @@
+use Rattle.std.proofs.Common.{sym, ap, ◌∙◌}
+use Rattle.reg_op.specs.Set as set
+use Rattle.reg_op.proofs.ClashLemmas.{items_are}
+use Rattle.reg_state.proofs.register.Register.ops.Goals as goal
+
+pub returns-clause-items : goal.returns-clause-items
+returns-clause-items c = c.of.ensures ∙ c.deref.ensures.value ∙ sym (items_are _ c.self.invariant.by_id) ∙ ap (λ x. set.items x.ops) c.self.view_is

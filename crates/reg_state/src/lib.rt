@@ -1,0 +1,17 @@
+//! Registers that join: the operations that are kept, and the ids that were seen.
+#![tactic(auto)]
+
+pub mod laws;
+mod marks;
+mod merge;
+mod register;
+mod table;
+#[cfg(test)]
+mod tests;
+mod view;
+
+pub use reg_join::{Join, JoinFault, join_all};
+pub use reg_marks::{Mark, Marks, Target};
+pub use reg_seen::{Run, Seen};
+pub use register::{ContentFault, Register, TakeFault};
+pub use view::{BodyView, OpView, Ops};

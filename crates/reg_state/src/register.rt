@@ -1,0 +1,242 @@
+ghost use Rattle.std.specs.Prelude.{◌≡◌, ◌↔◌, true, false, List, Ok, Err, OnOk, OnErr, IfOk, IfSome, IfNone, Some, None};
+ghost use Rattle.reg_op.specs.Set as set;
+ghost use Rattle.reg_op.specs.Ids.{Id};
+ghost use Rattle.reg_op.specs.Operations.{Op as Operation, one, op_cmp, OneBody};
+ghost use Rattle.reg_op.specs.Contents.{Content, Agreed, IsContent, state, nothing, merged, joined};
+ghost use Rattle.reg_op.specs.Status.{enters, status};
+ghost use Rattle.reg_op.specs.Kept.{entering};
+ghost use Rattle.reg_op.specs.Lists.{ById, has, content_at};
+ghost use Rattle.reg_state.specs.Tables.{first_dropped};
+ghost use Rattle.reg_state.specs.RegisterLaws.{register_laws};
+
+use crate::marks::{is_marked, is_touched, marks_of};
+use crate::merge::join_ops;
+use crate::table::{definition_in, first_clash, first_replaced};
+use crate::view::Ops;
+use reg_join::{Join, JoinFault};
+use reg_marks::{Mark, Target};
+use reg_op::{Op, OpId, Status};
+use reg_seen::{Run, Seen};
+use std::alloc::{AllocError, Global};
+use std::marker::Model;
+use std::slice;
+use wkt_crs::Definition;
+
+/// Why operations are no register's.
+#[derive(Clone, Copy, Debug, PartialEq, Eq)]
+pub enum ContentFault {
+    /// The least id that is not kept.
+    NotKept(OpId),
+    Memory,
+}
+
+/// Why an operation is not taken.
+#[derive(Clone, Copy, Debug, PartialEq, Eq)]
+pub enum TakeFault {
+    /// Its id has another body.
+    Clash(OpId),
+    Memory,
+}
+
+/// A register: the operations that it keeps by id, the marks that they set, and the ids that it has seen.
+#[derive(Drop)]
+pub struct Register {
+    ops: Vec<Op>,
+    marks: Vec<Mark>,
+    seen: Seen,
+}
+
+impl Model for Register {
+    ghost use Rattle.reg_op.specs.Contents.{Content};
+    ghost use Rattle.reg_op.specs.Codes.{content_code};
+    ghost use Rattle.reg_op.specs.Lists.{content_at};
+    ghost use Rattle.reg_state.specs.Tables.{AreTables};
+
+    ghost Value = { Content };
+
+    ghost coded = { content_code };
+
+    ghost view = { λ r. content_at r.ops.items r.seen };
+
+    ghost invariant = { λ r. AreTables r.ops.items r.marks.items r.seen };
+}
+
+impl Register {
+    pub fn new(alloc: Global) -> Register
+        ensures { result ≡ nothing }
+    {
+        Register {
+            ops: Vec::new(alloc),
+            marks: Vec::new(alloc),
+            seen: Seen::new(alloc),
+        }
+    }
+
+    /// A register of operations by id, all of which are seen, and of which none replaces another.
+    pub fn from_content(alloc: Global, ops: Vec<Op>, seen: Seen) -> Result<Register, ContentFault>
+        requires by_id { ById ops.items }
+        requires are_seen { (o : Operation) → has ops.items o ≡ true → set.contains seen o.id ≡ true }
+        ensures ok { IfOk result (λ r. r ≡ content_at ops.items seen) }
+        ensures kept { OnOk result (first_dropped (set.from_list {R = op_cmp} ops.items) ≡ None) }
+        ensures not_kept { (id : Id) → result ≡ Err (ContentFault.NotKept id) → first_dropped (set.from_list {R = op_cmp} ops.items) ≡ Some id }
+    {
+        let marks = match marks_of(alloc, &ops) {
+            Ok(marks) => marks,
+            Err(_) => return Err(ContentFault::Memory),
+        };
+        if let Some(id) = first_replaced(&ops, &marks) {
+            return Err(ContentFault::NotKept(id));
+        }
+        let _first = seen.run(0);
+        Ok(Register { ops, marks, seen })
+    }
+
+    /// The operations that are kept, by id.
+    pub fn ops(&self) -> Ops<'_>
+        ensures items { result ≡ set.items self.now.ops }
+        ensures content { IsContent self.now }
+    {
+        Ops::of(&self.ops)
+    }
+
+    /// The ids that were seen.
+    pub fn seen(&self) -> &Seen
+        ensures value { result.now ≡ self.now.seen }
+        ensures content { IsContent self.now }
+    {
+        &self.seen
+    }
+
+    /// The status of an entry, of which other ids have none.
+    pub fn status(&self, entry: OpId) -> Option<Status>
+        ensures { result ≡ status self.now.ops entry }
+    {
+        if definition_in(&self.ops, entry).is_none() {
+            return None;
+        }
+        if is_marked(&self.marks, &Target { entry, by: None }) {
+            return Some(Status::Retired);
+        }
+        if is_touched(&self.marks, entry) {
+            return Some(Status::Superseded);
+        }
+        Some(Status::Valid)
+    }
+
+    /// The definition that an id entered.
+    pub fn definition(&self, entry: OpId) -> Option<&Definition>
+        ensures found { IfSome result (λ d. set.contains self.now.ops (entering entry d.now) ≡ true) }
+        ensures none { IfNone result (enters self.now.ops entry ≡ false) }
+    {
+        definition_in(&self.ops, entry)
+    }
+
+    /// Joins one operation. A clash is looked for before memory is asked for.
+    pub fn take(&mut self, op: Op) -> Result<(), TakeFault>
+        ensures ok { OnOk result (joined self.old (state (one op)) ≡ Ok self.new) }
+        ensures clash { (id : Id) → (result ≡ Err (TakeFault.Clash id)) ↔ (joined self.old (state (one op)) ≡ Err id) }
+        ensures err { OnErr result (self.new ≡ self.old) }
+    {
+        if let Some(id) = first_clash(&self.ops, slice::from_ref(&op)) {
+            return Err(TakeFault::Clash(id));
+        }
+        let alloc = *self.ops.allocator();
+        match self.merge_op(alloc, op) {
+            Ok(register) => {
+                *self = register;
+                Ok(())
+            }
+            Err(_) => Err(TakeFault::Memory),
+        }
+    }
+
+    /// The same. Definitions are shared.
+    pub fn try_clone(&self, alloc: Global) -> Result<Register, AllocError>
+        ensures { IfOk result (λ copy. copy ≡ self.now) }
+    {
+        let ops = copies(alloc, &self.ops)?;
+        let marks = Vec::from_slice(alloc, &self.marks)?;
+        let seen = self.seen.try_clone(alloc)?;
+        Ok(Register { ops, marks, seen })
+    }
+
+    // The register of one operation.
+    fn of_op(alloc: Global, op: Op) -> Result<Register, AllocError>
+        ensures { IfOk result (λ register. register ≡ state (one op)) }
+    {
+        let id = op.id();
+        let mut seen = Seen::new(alloc);
+        seen.add_run(Run {
+            replica: id.replica(),
+            low: id.count(),
+            high: id.count(),
+        })?;
+        let mut ops = Vec::new(alloc);
+        ops.push(op)?;
+        let marks = marks_of(alloc, &ops)?;
+        Ok(Register { ops, marks, seen })
+    }
+
+    // Joins one operation whose id has no other body.
+    fn merge_op(&self, alloc: Global, op: Op) -> Result<Register, AllocError>
+        requires { OneBody (set.union self.now.ops (one op)) }
+        ensures { IfOk result (λ register. register ≡ merged self.now (state (one op))) }
+    {
+        let one = Register::of_op(alloc, op)?;
+        self.merge(alloc, &one)
+    }
+
+    // Joins registers in which no id has two bodies.
+    fn merge(&self, alloc: Global, other: &Register) -> Result<Register, AllocError>
+        requires { OneBody (set.union self.now.ops other.now.ops) }
+        ensures { IfOk result (λ r. r ≡ merged self.now other.now) }
+    {
+        let ops = join_ops(alloc, &self.ops, &self.marks, &other.ops, &other.marks)?;
+        let marks = marks_of(alloc, &ops)?;
+        match self.seen.join(alloc, &other.seen) {
+            Ok(seen) => Ok(Register { ops, marks, seen }),
+            Err(_) => Err(AllocError),
+        }
+    }
+}
+
+// Copies of operations, in their order.
+fn copies(alloc: Global, ops: &[Op]) -> Result<Vec<Op>, AllocError>
+    ensures { IfOk result (λ made. made.items ≡ ops.now) }
+{
+    let mut made = Vec::with_capacity(alloc, ops.len())?;
+    for op in ops {
+        made.push(op.try_clone(alloc)?)?;
+    }
+    Ok(made)
+}
+
+impl Join for Register {
+    type Clash = OpId;
+
+    ghost nothing = { nothing };
+
+    ghost joined = { joined };
+
+    ghost merged = { merged };
+
+    ghost agree = { Agreed };
+
+    ghost is_value = { IsContent };
+
+    fn empty(alloc: Global) -> Register {
+        Register::new(alloc)
+    }
+
+    fn join(&self, alloc: Global, other: &Register) -> Result<Register, JoinFault<OpId>> {
+        if let Some(id) = first_clash(&self.ops, &other.ops) {
+            return Err(JoinFault::Clash(id));
+        }
+        match self.merge(alloc, other) {
+            Ok(register) => Ok(register),
+            Err(_) => Err(JoinFault::Memory),
+        }
+    }
+
+    ghost laws = { register_laws };
+}

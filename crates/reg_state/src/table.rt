@@ -1,0 +1,100 @@
+ghost use Rattle.std.specs.Prelude.{◌≡◌, ◌&&◌, true, IfSome, IfNone, is_some};
+ghost use Rattle.std.specs.List.{list_any};
+ghost use Rattle.std.specs.List.Sorted.{IsSorted};
+ghost use Rattle.reg_op.specs.Ids.{is_same, is_before};
+ghost use Rattle.reg_op.specs.Operations.{Op as Operation, IsOperation};
+ghost use Rattle.reg_op.specs.Status.{is_enter};
+ghost use Rattle.reg_op.specs.Kept.{entering};
+ghost use Rattle.reg_op.specs.Lists.{ById, has};
+ghost use Rattle.reg_marks.specs.Marks.{mark_cmp};
+ghost use Rattle.reg_state.specs.Merge.{clash_in, first_off};
+
+use crate::marks::is_replaced;
+use reg_marks::Mark;
+use reg_op::{Op, OpBody, OpId};
+use wkt_crs::Definition;
+
+fn is_earlier(op: &Op, id: OpId) -> bool
+    ensures { result ≡ is_before op.now.id id }
+{
+    op.id().is_before(&id)
+}
+
+/// Whether the first has the lesser id.
+pub fn comes_first(first: &Op, second: &Op) -> bool
+    ensures { result ≡ is_before first.now.id second.now.id }
+{
+    first.id().is_before(&second.id())
+}
+
+// What the operation enters, if the id is its own.
+fn definition_of(op: &Op, id: OpId) -> Option<&Definition>
+    ensures told { is_some result ≡ (is_same id op.now.id && is_enter op.now.body) }
+    ensures found { IfSome result (λ d. op.now ≡ entering id d.now) }
+{
+    if !id.is_same(&op.id()) {
+        return None;
+    }
+    match op.body() {
+        OpBody::Enter(definition) => Some(definition),
+        OpBody::Supersede { old: _, newer: _ } => None,
+        OpBody::Retire { entry: _ } => None,
+    }
+}
+
+/// What the operation of the id enters, among operations by id.
+pub fn definition_in(ops: &[Op], id: OpId) -> Option<&Definition>
+    requires { ById ops.now }
+    ensures told { is_some result ≡ list_any (λ o. is_same id o.id && is_enter o.body) ops.now }
+    ensures found { IfSome result (λ d. has ops.now (entering id d.now) ≡ true) }
+{
+    let at = ops.partition_point(|op| is_earlier(op, id));
+    if at < ops.len() {
+        return definition_of(&ops[at], id);
+    }
+    None
+}
+
+/// The least id of what is replaced.
+pub fn first_replaced(ops: &[Op], marks: &[Mark]) -> Option<OpId>
+    requires { IsSorted mark_cmp marks.now }
+    ensures value { result ≡ first_off marks.now ops.now }
+    ensures operations { IfNone result ((o : Operation) → has ops.now o ≡ true → IsOperation o) }
+{
+    let mut rest = ops;
+    while let Some((op, others)) = rest.split_first() {
+        let id = op.id();
+        if is_replaced(marks, op) {
+            return Some(id);
+        }
+        rest = others;
+    }
+    None
+}
+
+/// The least id that has another body in the second.
+pub fn first_clash(left: &[Op], right: &[Op]) -> Option<OpId>
+    requires left { ById left.now }
+    requires right { ById right.now }
+    ensures { result ≡ clash_in left.now right.now }
+{
+    let mut lefts = left;
+    let mut rights = right;
+    while let (Some((a, left_rest)), Some((b, right_rest))) = (
+        lefts.split_first(),
+        rights.split_first(),
+    ) {
+        if comes_first(a, b) {
+            lefts = left_rest;
+        } else if comes_first(b, a) {
+            rights = right_rest;
+        } else {
+            if b.clashes(a) {
+                return Some(a.id());
+            }
+            lefts = left_rest;
+            rights = right_rest;
+        }
+    }
+    None
+}

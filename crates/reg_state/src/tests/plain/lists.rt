@@ -1,0 +1,49 @@
+use super::Plain;
+use crate::Register;
+use crate::tests::{Refused, taken, worked};
+use std::alloc::Global;
+use std::test::Fail;
+
+fn agrees(alloc: Global, plain: &Plain, register: &Register) -> Result<bool, Refused> {
+    for k in 0..4 {
+        let op = worked(alloc, k)?;
+        let id = op.id();
+        let kept = register
+            .ops()
+            .as_slice()
+            .iter()
+            .any(|other| other.is_same(&op));
+        if kept != plain.has(&op) || register.seen().contains(id) != plain.has_seen(id) {
+            return Ok(false);
+        }
+        if register.status(id) != plain.status(id) {
+            return Ok(false);
+        }
+    }
+    Ok(true)
+}
+
+#[test]
+fn each_short_list_is_as_the_plain_program_has_it(rt: HostRuntime) -> Result<(), Fail> {
+    let alloc = rt.alloc();
+    let mut lists = 0u32;
+    for (len, codes) in [(0, 1), (1, 4), (2, 16), (3, 64), (4, 256usize)] {
+        for code in 0..codes {
+            let mut rest = code;
+            let mut ops = Vec::new(alloc);
+            let mut plain = Plain::new(alloc);
+            for _ in 0..len {
+                ops.push(worked(alloc, rest % 4)?)?;
+                if plain.take(worked(alloc, rest % 4)?).is_err() {
+                    return Err(Fail::new("not taken"));
+                }
+                rest = rest / 4;
+            }
+            let register = taken(alloc, ops)?;
+            assert!(rt; agrees(alloc, &plain, &register)?);
+            lists = lists.saturating_add(1);
+        }
+    }
+    assert_eq!(rt; lists, 341);
+    Ok(())
+}

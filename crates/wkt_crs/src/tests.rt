@@ -1,0 +1,88 @@
+use crate::{Condition, Definition, DefinitionFault, ReadFault, read_crs, write_crs, write_pretty};
+use std::alloc::Global;
+use std::test::Fail;
+
+/// A vertical system, canonical.
+const HEIGHT: &[u8] =
+    b"VERTCRS[\"H\",VDATUM[\"D\"],CS[vertical,1],AXIS[\"height (H)\",up],LENGTHUNIT[\"metre\",1],ID[\"X\",7]]";
+
+/// A compound of a geographic and a vertical system, canonical.
+const COMPOUND: &[u8] =
+    b"COMPOUNDCRS[\"C\",GEOGCRS[\"G\",DATUM[\"D\",ELLIPSOID[\"S\",6371000,0]],CS[ellipsoidal,2],AXIS[\"(Lat)\",north],AXIS[\"(Lon)\",east],ANGLEUNIT[\"degree\",0.0174532925199433]],VERTCRS[\"H\",VDATUM[\"D\"],CS[vertical,1],AXIS[\"height (H)\",up],LENGTHUNIT[\"metre\",1]],ID[\"X\",9]]";
+
+/// A projected system on polar axes, canonical.
+const POLAR: &[u8] =
+    b"PROJCRS[\"Polar example\",BASEGEOGCRS[\"Example\",DATUM[\"Example frame\",ELLIPSOID[\"GRS 1980\",6378137,298.257222101]]],CONVERSION[\"Polar example\",METHOD[\"Polar Stereographic (variant A)\"]],CS[Cartesian,2],AXIS[\"(E)\",south,MERIDIAN[90,ANGLEUNIT[\"degree\",0.0174532925199433]],ORDER[1]],AXIS[\"(N)\",south,MERIDIAN[180,ANGLEUNIT[\"degree\",0.0174532925199433]],ORDER[2]],LENGTHUNIT[\"metre\",1],ID[\"X\",\"polar\",1,URI[\"urn:example:polar\"]]]";
+
+/// The same as the first, spelled with alternate keywords, other delimiters and another numeral.
+const SPELLED: &[u8] =
+    b"verticalcrs( \"H\" , VRF[\"D\"],cs(Vertical,1),\n AXIS[\"height (H)\",UP],LENGTHUNIT[\"metre\",1.0],ID[\"X\",7.0e0])";
+
+fn is_canonical(alloc: Global, text: &[u8]) -> Result<bool, Fail> {
+    let crs = read_crs(alloc, text).ok().ok_or("refused")?;
+    Ok(write_crs(alloc, &crs)?.as_slice() == text)
+}
+
+fn refusal(alloc: Global, text: &[u8]) -> Option<ReadFault> {
+    read_crs(alloc, text).err()
+}
+
+#[test]
+fn canonical_texts_give_themselves(rt: HostRuntime) -> Result<(), Fail> {
+    for text in [HEIGHT, COMPOUND, POLAR] {
+        assert!(rt; is_canonical(rt.alloc(), text)?);
+    }
+    Ok(())
+}
+
+#[test]
+fn every_spelling_gives_the_canonical_text(rt: HostRuntime) -> Result<(), Fail> {
+    let alloc = rt.alloc();
+    let crs = read_crs(alloc, SPELLED).ok().ok_or("refused")?;
+    assert!(rt; write_crs(alloc, &crs)?.as_slice() == HEIGHT);
+    let pretty = write_pretty(alloc, &crs)?;
+    let again = read_crs(alloc, &pretty).ok().ok_or("refused")?;
+    assert!(rt; write_crs(alloc, &again)?.as_slice() == HEIGHT);
+    Ok(())
+}
+
+#[test]
+fn definitions_are_canonical_and_have_a_key(rt: HostRuntime) -> Result<(), Fail> {
+    let alloc = rt.alloc();
+    let compound = Definition::from_canonical(alloc, COMPOUND)
+        .ok()
+        .ok_or("refused")?;
+    assert!(rt; compound.as_bytes() == COMPOUND);
+    assert!(rt; compound.key().authority.as_bytes() == b"X".as_slice());
+    assert!(rt; compound.key().code.as_bytes() == b"9".as_slice());
+    let copy = compound.try_clone(alloc)?;
+    assert!(rt; copy.as_bytes() == COMPOUND);
+    let spelled = Definition::from_canonical(alloc, SPELLED).err();
+    assert!(rt; spelled == Some(DefinitionFault::NotCanonical));
+    let crs = read_crs(alloc, SPELLED).ok().ok_or("refused")?;
+    let made = Definition::new(alloc, crs).ok().ok_or("refused")?;
+    assert!(rt; made.as_bytes() == HEIGHT);
+    Ok(())
+}
+
+#[test]
+fn a_system_without_an_identifier_is_no_definition(rt: HostRuntime) {
+    let text =
+        b"VERTCRS[\"H\",VDATUM[\"D\"],CS[vertical,1],AXIS[\"height (H)\",up],LENGTHUNIT[\"metre\",1]]";
+    let refused = Definition::from_canonical(rt.alloc(), text).err();
+    assert!(rt; refused == Some(DefinitionFault::NoIdentifier));
+}
+
+#[test]
+fn conditions_are_told_of_the_component(rt: HostRuntime) {
+    let text =
+        b"COMPOUNDCRS[\"C\",GEOGCRS[\"G\",DATUM[\"D\",ELLIPSOID[\"S\",6371000,0]],CS[ellipsoidal,2],AXIS[\"(Lat)\",north],AXIS[\"(Lon)\",east],ANGLEUNIT[\"degree\",0.0174532925199433]],VERTCRS[\"H\",VDATUM[\"D\"],CS[vertical,1],AXIS[\"height (H)\",up]],ID[\"X\",9]]";
+    let refused = refusal(rt.alloc(), text);
+    assert!(rt;
+        refused
+            == Some(ReadFault::Broken {
+                condition: Condition::C3,
+                place: 161
+            })
+    );
+}

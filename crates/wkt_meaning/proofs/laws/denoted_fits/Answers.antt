@@ -1,0 +1,5 @@
+use Rattle.wkt_meaning.proofs.Nodes.{parts_law}
+use Rattle.wkt_meaning.proofs.laws.denoted_fits.Goals as goal
+
+pub returns : goal.returns
+returns c = parts_law.fits
