@@ -1,11 +1,10 @@
 -- What makes a definition.
-use Rattle.std.proofs.Common.{◌≡◌, ℕ, suc, nat_eq, ◌≤◌, ◌+◌, Bool, true, false, List, [], ◌∷◌, length, refl, sym, ap, ◌∙◌, subst, arith, inl, inr}
+use Rattle.std.proofs.Common.{◌≡◌, ℕ, suc, nat_eq, ◌≤◌, Bool, true, false, List, [], ◌∷◌, length, refl, sym, ap, ◌∙◌, subst, arith, inl, inr}
 use Rattle.std.specs.Prelude.{◌⊎◌, ◌==◌, ◌&&◌, not, Result, Ok, Err, IfOk, IfErr}
 use Rattle.std.specs.Cmp.Lexicographic.{pointwise}
 use Rattle.std.proofs.lemmas.Bool.{eqb-true, eq-eqb}
 use Rattle.std.proofs.Math.Dec.{eqb-suc-zero}
 use Rattle.crs_part.specs.declared.identifiers.Ident.{Ident}
-use Rattle.crs_part.specs.Slots.{ids_of}
 use Rattle.crs_value.specs.declared.crs.Crs.{Crs}
 use Rattle.crs_value.specs.declared.key.Key.{Key}
 use Rattle.wkt_crs.specs.declared.fault.ReadFault.{ReadFault}

@@ -1,5 +1,4 @@
-use Rattle.std.proofs.Common.{List, ℕ, sym, ap, ◌∙◌, subst}
-use Rattle.wkt_crs.specs.declared.definition.Body.{Body}
+use Rattle.std.proofs.Common.{subst}
 use Rattle.wkt_crs.specs.Definition.{IsDefinition}
 use Rattle.wkt_crs.proofs.Defining.{is_definition}
 use Rattle.wkt_crs.proofs.definition.Definition.as_bytes.Goals as goal

@@ -1,4 +1,4 @@
-use Rattle.std.proofs.Common.{◌≡◌, ◌≤◌, length, List, [], sym, ap, ◌∙◌, subst, arith, nat_eq, inr, Err}
+use Rattle.std.proofs.Common.{length, sym, ap, ◌∙◌, subst, arith, nat_eq, inr, Err}
 use Rattle.std.specs.Cmp.Lexicographic.{pointwise}
 use Rattle.crs_part.specs.Slots.{ids_of}
 use Rattle.wkt_crs.specs.Definition.{IsCanonicalFault, of_read}

@@ -1,4 +1,4 @@
-use Rattle.std.proofs.Common.{List, ℕ, sym, ap, ◌∙◌, subst}
+use Rattle.std.proofs.Common.{sym, subst}
 use Rattle.wkt_crs.specs.declared.definition.Body.{Body}
 use Rattle.wkt_crs.specs.Definition.{IsKeyIn}
 use Rattle.wkt_crs.proofs.Defining.{is_key_in}
