@@ -1,3 +1,5 @@
+mod refused;
+
 use crate::{Condition, Definition, DefinitionFault, ReadFault, read_crs, write_crs, write_pretty};
 use std::alloc::Global;
 use std::test::Fail;
