@@ -16,15 +16,15 @@ pub const B: u128 = 0x0000_0000_0000_4000_8000_0000_0000_000b;
 pub const C: u128 = 0x0000_0000_0000_4000_8000_0000_0000_000c;
 
 /// A vertical system, of 93 bytes.
-pub const D1: &[u8] =
+pub const HEIGHT: &[u8] =
     b"VERTCRS[\"H\",VDATUM[\"D\"],CS[vertical,1],AXIS[\"height (H)\",up],LENGTHUNIT[\"metre\",1],ID[\"X\",7]]";
 
 /// Another name and another code.
-pub const D2: &[u8] =
+pub const OTHER_HEIGHT: &[u8] =
     b"VERTCRS[\"G\",VDATUM[\"D\"],CS[vertical,1],AXIS[\"height (H)\",up],LENGTHUNIT[\"metre\",1],ID[\"X\",8]]";
 
 /// The same key, spelled with a text.
-pub const D3: &[u8] =
+pub const SAME_KEY: &[u8] =
     b"VERTCRS[\"H\",VDATUM[\"D\"],CS[vertical,1],AXIS[\"height (H)\",up],LENGTHUNIT[\"metre\",1],ID[\"X\",\"7\"]]";
 
 /// What could not be made.
@@ -60,8 +60,8 @@ pub fn supersede(id: OpId, old: OpId, newer: OpId) -> Result<Op, Refused> {
 /// Two entries, of which the first is retired by one replica and superseded by another.
 pub fn worked(alloc: Global, k: usize) -> Result<Op, Refused> {
     match k {
-        0 => enter(alloc, id_of(A, 1)?, D1),
-        1 => enter(alloc, id_of(A, 2)?, D2),
+        0 => enter(alloc, id_of(A, 1)?, HEIGHT),
+        1 => enter(alloc, id_of(A, 2)?, OTHER_HEIGHT),
         2 => retire(id_of(A, 3)?, id_of(A, 1)?),
         _ => supersede(id_of(B, 1)?, id_of(A, 1)?, id_of(A, 2)?),
     }

@@ -1,7 +1,7 @@
 //! What a refused growth leaves. The growths are refused one by one by `rt try --test --fail-alloc N`; where none is,
 //! these tests see that each call succeeds.
 
-use super::{A, D1, D2, D3, enter, has_same, id_of, worked};
+use super::{A, HEIGHT, OTHER_HEIGHT, SAME_KEY, enter, has_same, id_of, worked};
 use crate::{Join, JoinFault, Register, TakeFault};
 use reg_op::OpId;
 use std::alloc::Global;
@@ -78,13 +78,13 @@ fn a_clash_is_told_without_memory(rt: HostRuntime) {
     let Ok(id) = id_of(A, 1) else {
         return;
     };
-    let Some(mut left) = entered(alloc, id, D1) else {
+    let Some(mut left) = entered(alloc, id, HEIGHT) else {
         return;
     };
-    let Some(right) = entered(alloc, id, D2) else {
+    let Some(right) = entered(alloc, id, OTHER_HEIGHT) else {
         return;
     };
-    let Ok(third) = enter(alloc, id, D3) else {
+    let Ok(third) = enter(alloc, id, SAME_KEY) else {
         return;
     };
     assert!(rt; clash_at(left.join(alloc, &right)) == Some(id));

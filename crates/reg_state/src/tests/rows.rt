@@ -1,4 +1,6 @@
-use super::{A, B, C, D1, D2, D3, enter, id_of, keeps, retire, supersede, taken, worked};
+use super::{
+    A, B, C, HEIGHT, OTHER_HEIGHT, SAME_KEY, enter, id_of, keeps, retire, supersede, taken, worked,
+};
 use crate::{BodyView, ContentFault, Join, JoinFault, Register, Run, Seen};
 use reg_op::Status;
 use std::test::Fail;
@@ -13,15 +15,15 @@ fn a_retirement_may_come_before_its_entry(rt: HostRuntime) -> Result<(), Fail> {
     assert!(rt; keeps(&early, &[mark]));
     let both = taken(
         alloc,
-        vec![in alloc; retire(mark, entry)?, enter(alloc, entry, D1)?]?,
+        vec![in alloc; retire(mark, entry)?, enter(alloc, entry, HEIGHT)?]?,
     )?;
     assert!(rt; both.status(entry) == Some(Status::Retired));
     assert!(rt; keeps(&both, &[entry, mark]));
     let twice = taken(
         alloc,
         vec![in alloc;
-            enter(alloc, entry, D1)?,
-            enter(alloc, entry, D1)?,
+            enter(alloc, entry, HEIGHT)?,
+            enter(alloc, entry, HEIGHT)?,
             retire(mark, entry)?,
             retire(mark, entry)?,
         ]?,
@@ -75,7 +77,7 @@ fn the_least_of_two_retirements_is_kept(rt: HostRuntime) -> Result<(), Fail> {
     let later_first = taken(
         alloc,
         vec![in alloc;
-            enter(alloc, entry, D1)?,
+            enter(alloc, entry, HEIGHT)?,
             retire(c, entry)?,
             retire(b, entry)?,
         ]?,
@@ -84,7 +86,7 @@ fn the_least_of_two_retirements_is_kept(rt: HostRuntime) -> Result<(), Fail> {
         alloc,
         vec![in alloc;
             retire(b, entry)?,
-            enter(alloc, entry, D1)?,
+            enter(alloc, entry, HEIGHT)?,
             retire(c, entry)?,
         ]?,
     )?;
@@ -102,7 +104,7 @@ fn entries_of_one_key_are_all_kept(rt: HostRuntime) -> Result<(), Fail> {
     let (one, other) = (id_of(A, 1)?, id_of(B, 1)?);
     let register = taken(
         alloc,
-        vec![in alloc; enter(alloc, other, D3)?, enter(alloc, one, D1)?]?,
+        vec![in alloc; enter(alloc, other, SAME_KEY)?, enter(alloc, one, HEIGHT)?]?,
     )?;
     assert!(rt; keeps(&register, &[one, other]));
     let mut texts = 0usize;
@@ -114,7 +116,7 @@ fn entries_of_one_key_are_all_kept(rt: HostRuntime) -> Result<(), Fail> {
     }
     assert_eq!(rt; texts, 188);
     let definition = register.definition(other).ok_or("not entered")?;
-    assert!(rt; definition.as_bytes() == D3);
+    assert!(rt; definition.as_bytes() == SAME_KEY);
     assert!(rt; register.definition(id_of(C, 1)?).is_none());
     Ok(())
 }
@@ -126,8 +128,8 @@ fn entries_may_supersede_each_other(rt: HostRuntime) -> Result<(), Fail> {
     let register = taken(
         alloc,
         vec![in alloc;
-            enter(alloc, one, D1)?,
-            enter(alloc, two, D2)?,
+            enter(alloc, one, HEIGHT)?,
+            enter(alloc, two, OTHER_HEIGHT)?,
             supersede(id_of(A, 3)?, one, two)?,
             supersede(id_of(B, 1)?, two, one)?,
         ]?,
@@ -142,8 +144,8 @@ fn entries_may_supersede_each_other(rt: HostRuntime) -> Result<(), Fail> {
 fn two_bodies_of_one_id_clash(rt: HostRuntime) -> Result<(), Fail> {
     let alloc = rt.alloc();
     let id = id_of(A, 1)?;
-    let left = taken(alloc, vec![in alloc; enter(alloc, id, D1)?]?)?;
-    let right = taken(alloc, vec![in alloc; enter(alloc, id, D2)?]?)?;
+    let left = taken(alloc, vec![in alloc; enter(alloc, id, HEIGHT)?]?)?;
+    let right = taken(alloc, vec![in alloc; enter(alloc, id, OTHER_HEIGHT)?]?)?;
     assert!(rt; matches!(left.join(alloc, &right), Err(JoinFault::Clash(at)) if at == id));
     assert!(rt; matches!(left.join(alloc, &left), Ok(_)));
     Ok(())
