@@ -1,9 +1,10 @@
 -- The test of a count decides whether a text is one, and what a text spells is one number.
-use Rattle.std.proofs.Common.{◌≡◌, ℕ, suc, ◌*◌, ◌/◌, ◌%◌, ◌^◌, ◌<◌, ◌≤◌, Bool, true, false, List, [], ◌++◌, length, decimal, ℤ, pos, negsuc, unsigned_abs, Option, Some, None, IfSome, Ok, Err, refl, sym, ap, ◌∙◌, inl, inr, arith, append-nil, mul-one}
+use Rattle.std.proofs.Common.{subst, ◌≡◌, ℕ, suc, ◌*◌, ◌/◌, ◌%◌, ◌^◌, ◌<◌, ◌≤◌, Bool, true, false, List, [], ◌++◌, length, decimal, ℤ, pos, negsuc, unsigned_abs, Option, Some, None, IfSome, Ok, Err, refl, sym, ap, ◌∙◌, inl, inr, arith, append-nil, mul-one}
 use Rattle.std.specs.Prelude.{nat_le, is_some}
-use Rattle.std.specs.Str.Parse.{digits_value}
-use Rattle.std.proofs.Math.Nat.{mul-div_cancel}
+use Rattle.std.specs.Str.Parse.{AllDigits, digits_value}
+use Rattle.std.proofs.Math.Nat.{mul-div_cancel, pow-le-pow_right}
 use Rattle.std.proofs.lemmas.Int.{ints}
+use Rattle.std.proofs.lemmas.Int.Digits.{digits_value-lt}
 use Rattle.std.proofs.lemmas.Bool.Decides.{nat_tests}
 use Rattle.std.proofs.lemmas.Fmt.{decimal_is_IsNumeral, length-decimal-le}
 use Rattle.crs_number.specs.declared.decimals.Decimal.{Decimal}
@@ -13,9 +14,9 @@ use Rattle.crs_number.specs.Value.{IsWhole}
 use Rattle.crs_number.specs.ByValue.{is_below_zero, sign_of}
 use Rattle.crs_number.specs.Laws.{power_pos, sign_size, not_zero}
 use Rattle.crs_number.specs.Count.{SpellsWhole, IsCount, parts_in, is_count}
-use Rattle.crs_number.proofs.Normal.{normal_zero, normal_once}
 use Rattle.crs_number.proofs.Values.{value_of_form}
 use Rattle.crs_number.proofs.CountTexts.{both, and_true, parts_from, parts_to}
+use Rattle.crs_number.proofs.Once.{spells_once}
 use Rattle.crs_number.proofs.CountValues.{whole_from_normal, count_at_from, count_at_to, normal_of_count}
 
 short_enough : (m n : ℕ) → nat_le m n ≡ true → m ≤ n
@@ -65,20 +66,7 @@ count_to text h =
     let whole = whole_from_normal (number_of parts) (exponent_of parts) h.spelled.coefficient h.spelled.exponent h.count value.normal h.spelled.whole in
     and_true _ _ numeral (and_true _ _ (passes_short _ _ spells.short) (and_true _ _ (passes_short _ _ value.short_exponent) (count_at_to _ _ h.count whole h.small)))
 
--- ---- a text spells one number
-
-normal_form_once : (z x c e d f : ℤ) → IsNormalForm z x c e → IsNormalForm z x d f → (c ≡ d) × (e ≡ f)
-normal_form_once z x c e d f (inl h) g =
-    let none = normal_zero (is_below_zero z) (unsigned_abs z) x d f (ap unsigned_abs h.0) (rw (sign_of z) g) in
-    (h.1 ∙ none.0, h.2 ∙ none.1)
-normal_form_once z x c e d f (inr h) g =
-    let size = sign_size (is_below_zero z) (unsigned_abs z) c (10 ^ h.1.0) (power_pos h.1.0) (not_zero (unsigned_abs c) h.0) (sign_of z ∙ h.1.1) in
-    let some = normal_once (is_below_zero z) (unsigned_abs z) (unsigned_abs c) h.1.0 x d f size.0 h.0 (rw (sign_of z) g) in
-    (sym size.1 ∙ some.0, h.1.2 ∙ some.1)
-
-pub spells_once : (text : List ℕ) (c e d f : ℤ) → Spells text c e → Spells text d f → (c ≡ d) × (e ≡ f)
-spells_once text c e d f s t =
-    normal_form_once (number_of s.parts) (exponent_of s.parts) c e d f s.value.normal (value_of_form text s.parts d f s.form t).normal
+-- ---- a text spells one whole number
 
 whole_once : (c e : ℤ) (m n : ℕ) → IsWhole c e (pos m) → IsWhole c e (pos n) → m ≡ n
 whole_once c (pos k) m n h g = omega (arith, ints, h ∙ sym g)
@@ -90,40 +78,58 @@ whole_once c (negsuc k) m n h g =
 -- a text spells one whole number at most
 pub count_once : (text : List ℕ) (m n : ℕ) → SpellsWhole text m → SpellsWhole text n → m ≡ n
 count_once text m n s t =
-    let same = spells_once text s.coefficient s.exponent t.coefficient t.exponent s.spells t.spells in
+    let same = spells_once text s.coefficient t.coefficient s.exponent t.exponent s.spells t.spells in
     whole_once t.coefficient t.exponent m n (rw (same.0, same.1) at s.whole) t.whole
+
+-- ---- texts of digits alone
+
+digits_parts : List ℕ → Parts
+digits_parts text = record { negative = false; whole = text; fraction = []; exponent_negative = false; exponent = [] }
+
+digits_form : (text : List ℕ) → AllDigits 10 text → 0 < length text → HasParts text (digits_parts text)
+unfolding digits_parts
+digits_form text digits some = record {
+  sign = [];
+  point = [];
+  power = [];
+  is_sign = refl;
+  is_whole = digits;
+  is_point = refl;
+  is_power = (refl, refl);
+  has_digits = omega (arith, some);
+  is_text = sym (append-nil text);
+}
+
+digits_whole : (text : List ℕ) → IsWhole (number_of (digits_parts text)) (exponent_of (digits_parts text)) (pos (digits_value 10 text))
+unfolding digits_parts
+digits_whole text =
+    let value : digits_value 10 (text ++ []) ≡ digits_value 10 text = ap (digits_value 10) (append-nil text) in
+    ap pos (sym (mul-one (digits_value 10 (text ++ [])) ∙ value))
+
+digits_spell : (text : List ℕ) → AllDigits 10 text → 0 < length text → length text ≤ 100 → digits_value 10 text < 2 ^ 32 → SpellsWhole text (digits_value 10 text)
+unfolding digits_parts
+digits_spell text digits some short small =
+    spells_from text (digits_parts text) (digits_form text digits some) short (omega arith) (digits_value 10 text) small (digits_whole text)
+
+few_digits : (n : ℕ) → n ≤ 9 → 10 ^ n ≤ 10 ^ 9
+few_digits n h = pow-le-pow_right (omega arith) h
+
+-- up to nine digits spell a count
+pub digits_count : (text : List ℕ) → AllDigits 10 text → 0 < length text → length text ≤ 9 → is_count text ≡ true
+digits_count text digits some short =
+    let below = digits_value-lt 10 text digits in
+    let few = few_digits (length text) short in
+    let small : digits_value 10 text < 2 ^ 32 = omega (arith, below, few) in
+    count_to text (record { count = digits_value 10 text; spelled = digits_spell text digits some (omega (arith, short)) small; small = small })
 
 -- ---- a count's decimal text
 
-decimal_parts : ℕ → Parts
-decimal_parts n = record { negative = false; whole = decimal n; fraction = []; exponent_negative = false; exponent = [] }
-
-decimal_form : (n : ℕ) → n < 2 ^ 32 → HasParts (decimal n) (decimal_parts n)
-unfolding decimal_parts
-decimal_form n h =
-    let numeral = decimal_is_IsNumeral n (omega (arith, h)) in
-    record {
-      sign = [];
-      point = [];
-      power = [];
-      is_sign = refl;
-      is_whole = numeral.0.1;
-      is_point = refl;
-      is_power = (refl, refl);
-      has_digits = omega (arith, numeral.0.0);
-      is_text = sym (append-nil (decimal n));
-    }
-
-decimal_whole : (n : ℕ) → n < 2 ^ 32 → IsWhole (number_of (decimal_parts n)) (exponent_of (decimal_parts n)) (pos n)
-unfolding decimal_parts
-decimal_whole n h =
-    let value : digits_value 10 (decimal n ++ []) ≡ n = ap (digits_value 10) (append-nil (decimal n)) ∙ (decimal_is_IsNumeral n (omega (arith, h))).1 in
-    ap pos (sym (mul-one (digits_value 10 (decimal n ++ [])) ∙ value))
-
 pub decimal_spells : (n : ℕ) → n < 2 ^ 32 → SpellsWhole (decimal n) n
-unfolding decimal_parts
 decimal_spells n h =
-    spells_from (decimal n) (decimal_parts n) (decimal_form n h) (omega (arith, length-decimal-le 10 n (omega arith) (omega (arith, h)) (omega (arith, h)))) (omega arith) n h (decimal_whole n h)
+    let numeral = decimal_is_IsNumeral n (omega (arith, h)) in
+    let some = numeral.0.0 in
+    let short = length-decimal-le 10 n (omega arith) (omega (arith, h)) (omega (arith, h)) in
+    subst (SpellsWhole (decimal n)) numeral.1 (digits_spell (decimal n) numeral.0.1 (omega (arith, some)) (omega (arith, short)) (rw numeral.1 h))
 
 pub decimal_is_count : (n : ℕ) → n < 2 ^ 32 → is_count (decimal n) ≡ true
 decimal_is_count n h = count_to (decimal n) (record { count = n; spelled = decimal_spells n h; small = h })
@@ -161,6 +167,6 @@ pub counted : (text : List ℕ) (d : Decimal) (o : Option ℕ) → Spells text d
 counted text d (Some n) s small whole only =
     sym (count_to text (record { count = n; spelled = record { coefficient = d.coefficient; exponent = d.exponent; spells = s; whole = whole }; small = small }))
 counted text d None s small whole only = not_count text (is_count text) refl (λ h.
-    let same = spells_once text h.spelled.coefficient h.spelled.exponent d.coefficient d.exponent h.spelled.spells s in
+    let same = spells_once text h.spelled.coefficient d.coefficient h.spelled.exponent d.exponent h.spelled.spells s in
     let found : None ≡ Some h.count = only h.count h.small (rw (same.0, same.1) at h.spelled.whole) in
     cc)

@@ -11,5 +11,5 @@ mod reduced;
 mod text;
 
 pub use check::check_numeral;
-pub use counts::{count_laws, is_count, spelling_law};
+pub use counts::{count_laws, is_count};
 pub use decimals::{Decimal, NumberFault};

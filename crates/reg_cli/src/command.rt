@@ -1,11 +1,15 @@
 //! From the words of the command line to an engine, and from its answer to the exit status.
-use crate::check::run_check;
-use crate::fault::{CliFault, FileFault, OutFault};
 use crate::words::command_line;
 use clap::ArgMatches;
 use clap::error::ErrorKind;
+use reg_engine::{
+    CliFault, FileFault, Form, OutFault, Refusal, run_check, run_export, run_merge, run_new,
+    run_wkt,
+};
+use reg_op::OpId;
+use std::rt::Files;
 use std::{env, fmt, fs, io};
-use wkt_crs::{Reading, Writing, write_all};
+use wkt_crs::{FileTarget, Reading, Writing, write_all};
 
 const MISUSE: u8 = 2;
 
@@ -44,8 +48,27 @@ pub(crate) fn answer(rt: &HostRuntime, words: &[String]) -> u8 {
 fn perform(rt: &HostRuntime, matches: &ArgMatches<'_>) -> Result<(), CliFault> {
     match matches.subcommand() {
         Some(("check", inner)) => check(rt, inner.get_str("TEXT")),
+        Some(("new", inner)) => run_new(rt.alloc(), &mut FileTarget::new(rt, word(inner, "OUT"))),
+        Some(("merge", inner)) => match inner.get_strs("FILE") {
+            Some(paths) => merge(rt, word(inner, "OUT"), paths),
+            None => Ok(()),
+        },
+        Some(("wkt", inner)) => {
+            let form = if inner.get_flag("pretty") {
+                Form::Indented
+            } else {
+                Form::Canonical
+            };
+            wkt(rt, word(inner, "REG"), word(inner, "ENTRY"), form)
+        }
+        Some(("export", inner)) => export(rt, word(inner, "REG")),
         _ => Ok(()),
     }
+}
+
+// A word that its command requires, so clap has seen it.
+fn word<'a>(matches: &ArgMatches<'a>, name: &str) -> &'a str {
+    matches.get_str(name).unwrap_or("")
 }
 
 fn check(rt: &HostRuntime, path: Option<&str>) -> Result<(), CliFault> {
@@ -53,10 +76,41 @@ fn check(rt: &HostRuntime, path: Option<&str>) -> Result<(), CliFault> {
     let Some(path) = path else {
         return run_check(rt.alloc(), &mut Reading::new(rt.reader()), &mut sink);
     };
+    run_check(rt.alloc(), &mut open(rt, 1, path)?, &mut sink)
+}
+
+// All files are opened, in their order, before the first is read.
+fn merge(rt: &HostRuntime, out: &str, paths: &[&str]) -> Result<(), CliFault> {
+    let mut sources = Vec::new(rt.alloc());
+    for (i, path) in paths.iter().enumerate() {
+        let source = open(rt, i.saturating_add(1), path)?;
+        if sources.push(source).is_err() {
+            return Err(CliFault::Memory);
+        }
+    }
+    run_merge(rt.alloc(), &mut sources, &mut FileTarget::new(rt, out))
+}
+
+// The id is read before the file is opened.
+fn wkt(rt: &HostRuntime, path: &str, entry: &str, form: Form) -> Result<(), CliFault> {
+    let Some(entry) = OpId::parse(entry.as_bytes()) else {
+        return Err(CliFault::Refused(Refusal::BadId));
+    };
+    let mut source = open(rt, 1, path)?;
+    let mut sink = Writing::new(io::writer(rt));
+    run_wkt(rt.alloc(), &mut source, entry, form, &mut sink)
+}
+
+fn export(rt: &HostRuntime, path: &str) -> Result<(), CliFault> {
+    let mut source = open(rt, 1, path)?;
+    run_export(rt.alloc(), &mut source, &mut Writing::new(io::writer(rt)))
+}
+
+fn open<R: Files>(rt: &R, number: usize, path: &str) -> Result<Reading<R::File>, CliFault> {
     match fs::open(rt, path) {
-        Ok(file) => run_check(rt.alloc(), &mut Reading::new(file), &mut sink),
+        Ok(file) => Ok(Reading::new(file)),
         Err(_) => Err(CliFault::File {
-            number: 1,
+            number,
             fault: FileFault::NotOpened,
         }),
     }

@@ -1,13 +1,13 @@
-//! The commands of `crsreg`: an engine a command, the faults with their lines and statuses, the command line.
+//! The command line of `crsreg`: its words, the files and streams that they name, the engine of each command.
 #![tactic(auto)]
 
-mod check;
 mod command;
-mod fault;
 #[cfg(test)]
 mod tests;
 mod words;
 
-pub use check::run_check;
 pub use command::run;
-pub use fault::{CliFault, FileFault, OutFault, Refusal};
+pub use reg_engine::{
+    CliFault, FileFault, Form, OutFault, Refusal, run_check, run_export, run_merge, run_new,
+    run_wkt,
+};

@@ -1,3 +1,1 @@
-mod check;
-mod faults;
 mod words;

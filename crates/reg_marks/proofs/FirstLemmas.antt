@@ -1,32 +1,22 @@
 -- The first marks of sorted ones are the least.
-use Rattle.std.proofs.Common.{◌≡◌, ℕ, ◌<◌, ◌≤◌, suc, Bool, true, false, ◌||◌, cond, List, [], ◌∷◌, length, get_or, Option, Some, None, refl, sym, ap, ◌∙◌, subst, inl, inr, arith}
+use Rattle.std.proofs.Common.{◌≡◌, ℕ, ◌<◌, ◌≤◌, ◌+◌, zero, suc, true, false, ◌||◌, cond, List, [], ◌∷◌, length, get_or, Option, Some, None, refl, sym, ap, ◌∙◌, subst, inl, inr, arith}
 use Rattle.std.proofs.lemmas.Bool.{true≢false, and_from, and_parts, or_cases, or_left, or_right, false_from_ne_true, true_from_ne_false, not-true, not_from_false}
 use Rattle.std.proofs.lemmas.List.Sorted.{ranks_by, sorted_far, list_any-IsPermutation}
 use Rattle.std.proofs.lemmas.List.Folds.{list_any-append}
 use Rattle.std.proofs.Common.{◌++◌}
-use Rattle.std.specs.List.{list_any, find}
 use Rattle.std.specs.List.Sorted.{IsSorted, IsPermutation}
 use Rattle.std.specs.Cmp.{tied_itself, Equal-is, both_ways}
 use Rattle.std.specs.Ordering.{is_lt, is_eq, eq_by_cmp, ordering_then}
-use Rattle.std.specs.declared.cmp.Ordering.{Ordering}
-use Rattle.std.specs.declared.cmp.Ordering.TheVariants.{Less, Equal, Greater}
 use Rattle.reg_op.specs.Set as set
 use Rattle.reg_op.specs.Set.{contains, contains-from_list, same_set}
 use Rattle.reg_op.specs.Ids.{id_cmp, is_before}
-use Rattle.reg_op.specs.Finite.{any}
-use Rattle.reg_op.proofs.FiniteLemmas.{among, any_from_member, member_from_any, contains-topmost}
+use Rattle.reg_op.proofs.FiniteLemmas.{any_from_member, member_from_any, contains-topmost}
 use Rattle.reg_op.proofs.ClashLemmas.{tied_of, same_id}
 use Rattle.reg_marks.specs.declared.mark.Mark.{Mark}
 use Rattle.reg_marks.specs.declared.mark.Target.{Target}
-use Rattle.reg_marks.specs.Marks.{target_cmp, mark_cmp, is_at, MarkSet, lessens, least, was_at, firsts}
+use Rattle.reg_marks.specs.Marks.{target_cmp, mark_cmp, is_at, has, MarkSet, lessens, least, was_at, firsts}
 use Rattle.reg_marks.specs.MarkLaws.{target_total, mark_total, mark_exact, at_exact, lessens_irreflexive, lessens_chain}
-
-abbrev has : List Mark → Mark → Bool
-has xs q = list_any (eq_by_cmp mark_cmp q) xs
-
--- m stands no later than n
-abbrev IsBy : Mark → Mark → Type 0
-IsBy m n = is_lt (mark_cmp n m) ≡ false
+use Rattle.reg_marks.proofs.OrderLemmas.{IsBy, by_target, same_mark, lesser_target}
 
 abbrev AllBy : Mark → List Mark → Type 0
 AllBy x [] = Unit {0}
@@ -54,22 +44,11 @@ all_by x (y ∷ ys) q h k = elim (or_cases (eq_by_cmp mark_cmp q y) (has ys q) k
   | inr e ↦ all_by x ys q h.1 e
 ]
 
-lt_then : (a b : Ordering) → is_lt a ≡ true → is_lt (ordering_then a b) ≡ true
-lt_then Less b h = refl
-lt_then Equal b h = absurd (true≢false (sym h))
-lt_then Greater b h = absurd (true≢false (sym h))
-
-by_target : (x q : Mark) → IsBy x q → is_lt (target_cmp q.target x.target) ≡ false
-by_target x q h = false_from_ne_true _ (λ k. true≢false (sym (lt_then _ (id_cmp q.id x.id) k) ∙ h))
-
 by_id : (x q : Mark) → IsBy x q → q.target ≡ x.target → is_before q.id x.id ≡ false
 by_id x q h e =
     (λ k. is_lt (ordering_then (sym (tied_itself target_total x.target) k) (id_cmp q.id x.id)))
     ∙ (λ k. is_lt (ordering_then (target_cmp (sym e k) x.target) (id_cmp q.id x.id)))
     ∙ h
-
-same_mark : (a b : Mark) → a.target ≡ b.target → a.id ≡ b.id → a ≡ b
-same_mark a b e f = λ k. record { target = e k; id = f k }
 
 at_itself : (t : Target) → is_eq (target_cmp t t) ≡ true
 at_itself t = ap is_eq (tied_itself target_total t)
@@ -116,9 +95,6 @@ NoLesser xs q = (p : Mark) → has xs p ≡ true → lessens p q ≡ true → �
 
 eq_of : (q x : Mark) → eq_by_cmp mark_cmp q x ≡ true → q ≡ x
 eq_of q x h = mark_exact q x ((Equal-is (mark_cmp q x)).0 h)
-
-lesser_target : (p q : Mark) → lessens p q ≡ true → p.target ≡ q.target
-lesser_target p q h = at_exact q.target p (and_parts _ _ h).0
 
 pub sound : (t : Option Target) (xs : List Mark) (q : Mark) → Up xs → AllFrom t xs → has (firsts t xs) q ≡ true → (has xs q ≡ true) × NoLesser xs q × (was_at t q ≡ false)
 sound t [] q up from h = absurd (true≢false (sym h))
@@ -204,32 +180,37 @@ set-append xs ys = same_set mark_total mark_exact _ _ (λ q.
     ∙ list_any-append (eq_by_cmp mark_cmp q) xs ys
     ∙ sym (set.contains-union mark_total (set.from_list xs) (set.from_list ys) q ∙ (λ k. contains-from_list mark_total xs q k || contains-from_list mark_total ys q k)))
 
--- ---- the mark at a target
+-- ---- they ascend
 
-found_in : (t : Target) (xs : List Mark) (m : Mark) → find (λ q. is_at t q) xs ≡ Some m → (has xs m ≡ true) × (is_at t m ≡ true)
-found_in t [] m h = cc
-found_in t (x ∷ xs) m h =
-    elim (is_at t x) as (λ b. is_at t x ≡ b → cond b (Some x) (find (λ q. is_at t q) xs) ≡ Some m → (has (x ∷ xs) m ≡ true) × (is_at t m ≡ true)) [
-      | true ↦ λ e h. let same : x ≡ m = some_same x m h in (or_left _ _ (subst (λ q. eq_by_cmp mark_cmp q x ≡ true) same (itself x)), subst (λ q. is_at t q ≡ true) same e)
-      | false ↦ λ e h. let r = found_in t xs m h in (or_right (eq_by_cmp mark_cmp m x) _ r.0, r.1)
-    ] refl h
-  where
-    some_same : (a b : Mark) → ◌≡◌ {A = Option Mark} (Some a) (Some b) → a ≡ b
-    some_same a b h = cc
+all_firsts : (x : Mark) (t : Option Target) (xs : List Mark) → AllBy x xs → AllBy x (firsts t xs)
+all_firsts x t [] h = tt
+all_firsts x t (y ∷ ys) h =
+    elim (was_at t y) as (λ b. AllBy x (cond b (firsts t ys) (y ∷ firsts (Some y.target) ys))) [ true ↦ all_firsts x t ys h.1 | false ↦ (h.0, all_firsts x (Some y.target) ys h.1) ]
 
-none_in : (t : Target) (xs : List Mark) → find (λ q. is_at t q) xs ≡ None → list_any (λ q. is_at t q) xs ≡ false
-none_in t [] h = refl
-none_in t (x ∷ xs) h =
-    elim (is_at t x) as (λ b. cond b (Some x) (find (λ q. is_at t q) xs) ≡ None → (b || list_any (λ q. is_at t q) xs) ≡ false) [ true ↦ λ e. cc | false ↦ λ e. none_in t xs e ] h
+firsts_up : (t : Option Target) (xs : List Mark) → Up xs → Up (firsts t xs)
+firsts_up t [] up = tt
+firsts_up t (x ∷ xs) up =
+    elim (was_at t x) as (λ b. Up (cond b (firsts t xs) (x ∷ firsts (Some x.target) xs))) [
+      | true ↦ firsts_up t xs up.1
+      | false ↦ (all_firsts x (Some x.target) xs up.0, firsts_up (Some x.target) xs up.1)
+    ]
 
-pub found_at : (xs : List Mark) (t : Target) (m : Mark) → find (λ q. is_at t q) xs ≡ Some m → contains (set.from_list {R = mark_cmp} xs) (record { target = t; id = m.id }) ≡ true
-found_at xs t m h =
-    let r = found_in t xs m h in
-    subst (λ q. contains (set.from_list {R = mark_cmp} xs) q ≡ true) (same_mark m (record { target = t; id = m.id }) (at_exact t m r.1) refl)
-    (contains-from_list mark_total xs m ∙ r.0)
+all_at : (x : Mark) (xs : List Mark) → AllBy x xs → (j : ℕ) (d : Mark) → j < length xs → IsBy x (get_or xs j d)
+all_at x [] h j d k = absurd (omega arith)
+all_at x (y ∷ ys) h zero d k = h.0
+all_at x (y ∷ ys) h (suc j) d k = all_at x ys h.1 j d (omega arith)
 
-pub none_at : (xs : List Mark) (t : Target) → find (λ q. is_at t q) xs ≡ None → any (λ q. is_at t q) (set.from_list {R = mark_cmp} xs) ≡ false
-none_at xs t h = false_from_ne_true _ (λ a.
-    let s : MarkSet = set.from_list xs in
-    let m = member_from_any mark_total mark_exact (λ q. is_at t q) s a in
-    true≢false (sym (among mark_total mark_exact (λ q. is_at t q) xs m.0 (sym (contains-from_list mark_total xs m.0) ∙ m.1) m.2) ∙ none_in t xs h))
+up_far : (xs : List Mark) → Up xs → (i j : ℕ) (d : Mark) → i < j → j < length xs → IsBy (get_or xs i d) (get_or xs j d)
+up_far [] up i j d a b = absurd (omega arith)
+up_far (x ∷ xs) up i zero d a b = absurd (omega arith)
+up_far (x ∷ xs) up zero (suc j) d a b = all_at x xs up.0 j d (omega arith)
+up_far (x ∷ xs) up (suc i) (suc j) d a b = up_far xs up.1 i j d (omega arith) (omega arith)
+
+up_sorted : (xs : List Mark) → Up xs → IsSorted mark_cmp xs
+up_sorted xs up k d a b = up_far xs up k (k + 1) d (omega arith) b
+
+pub firsts_sorted : (xs : List Mark) → IsSorted mark_cmp xs → IsSorted mark_cmp (firsts None xs)
+firsts_sorted xs h = up_sorted (firsts None xs) (firsts_up None xs (sorted_up xs h))
+
+pub empty_sorted : IsSorted mark_cmp []
+empty_sorted = up_sorted [] tt

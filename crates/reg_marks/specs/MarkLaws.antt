@@ -16,7 +16,7 @@ use Rattle.reg_op.proofs.OpLemmas.{id_total, id_exact, is_before_chain, not_befo
 use Rattle.reg_join.specs.Joining.{JoinLaws}
 use Rattle.reg_marks.specs.declared.mark.Mark.{Mark}
 use Rattle.reg_marks.specs.declared.mark.Target.{Target}
-use Rattle.reg_marks.specs.Marks.{target_cmp, mark_cmp, is_at, MarkSet, lessens, least}
+use Rattle.reg_marks.specs.Marks.{target_cmp, mark_cmp, is_at, MarkSet, lessens, least, AreLeast}
 
 -- ---- the order of marks
 
@@ -87,10 +87,6 @@ joined_marks x y = Ok (merged_marks x y)
 
 abbrev pub AlwaysAgree : MarkSet → MarkSet → Type 0
 AlwaysAgree x y = Unit {0}
-
--- each mark is the least of its target
-abbrev pub AreLeast : MarkSet → Type 0
-AreLeast x = least x ≡ x
 
 pub least-empty : least set.empty ≡ set.empty
 least-empty = same_set mark_total mark_exact _ _ (λ m.

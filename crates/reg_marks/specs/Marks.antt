@@ -1,8 +1,10 @@
 -- Marks, and the least of them by what they are about.
-use Rattle.std.specs.Prelude.{Bool, false, ◌&&◌, List, [], ◌∷◌, Option, Some, None, if◌then◌else◌, refl}
+use Rattle.std.specs.Prelude.{◌≡◌, Bool, true, false, ◌&&◌, List, [], ◌∷◌, Option, Some, None, if◌then◌else◌, refl}
+use Rattle.std.specs.List.{list_any}
+use Rattle.std.specs.List.Sorted.{IsSorted}
 use Rattle.std.specs.declared.cmp.Ordering.{Ordering}
 use Rattle.std.specs.Option.{option_cmp}
-use Rattle.std.specs.Ordering.{ordering_then, is_eq}
+use Rattle.std.specs.Ordering.{ordering_then, is_eq, is_lt, eq_by_cmp}
 use Rattle.std.specs.Coded.{Coded, code_by, coded×, coded_option}
 use Rattle.reg_op.specs.Set as set
 use Rattle.reg_op.specs.Finite.{topmost}
@@ -35,6 +37,23 @@ lessens p m = is_at m.target p && is_before p.id m.id
 -- the least of each target
 abbrev pub least : MarkSet → MarkSet
 least s = topmost lessens s
+
+-- each mark is the least of its target
+abbrev pub AreLeast : MarkSet → Type 0
+AreLeast s = least s ≡ s
+
+-- they ascend, and each is the least of its target
+pub record AreMarks (ms : List Mark) : Type 0 where
+  pub sorted : IsSorted mark_cmp ms
+  pub are_least : AreLeast (set.from_list ms)
+
+abbrev pub has : List Mark → Mark → Bool
+has ms m = list_any (eq_by_cmp mark_cmp m) ms
+
+-- the marks that pass begin at a target, in ascending marks: none is below it, and those from it on pass up to one that passes
+pub record BeginsAt (target : Target) (t : Mark → Bool) : Type 0 where
+  pub from : (m : Mark) → t m ≡ true → is_lt (target_cmp m.target target) ≡ false
+  pub down : (m n : Mark) → is_lt (mark_cmp n m) ≡ false → is_lt (target_cmp m.target target) ≡ false → t n ≡ true → t m ≡ true
 
 -- the first mark of each target, of sorted marks that follow one of a target
 abbrev pub was_at : Option Target → Mark → Bool

@@ -1,5 +1,6 @@
 ghost use Rattle.std.specs.Prelude.{◌≡◌};
-ghost use Rattle.reg_marks.specs.Marks.{is_at};
+ghost use Rattle.std.specs.Ordering.{is_lt};
+ghost use Rattle.reg_marks.specs.Marks.{is_at, target_cmp};
 
 use reg_op::OpId;
 
@@ -21,4 +22,10 @@ pub(crate) fn is_at(mark: &Mark, target: &Target) -> bool
     ensures { result ≡ is_at target.now mark.now }
 {
     mark.target.cmp(target).is_eq()
+}
+
+pub(crate) fn is_below(mark: &Mark, target: &Target) -> bool
+    ensures { result ≡ is_lt (target_cmp mark.now.target target.now) }
+{
+    mark.target.cmp(target).is_lt()
 }

@@ -1,18 +1,21 @@
-ghost use Rattle.std.specs.Prelude.{◌≡◌, ◌++◌, true, false, None, List, IfOk, IfSome, IfNone, find};
+ghost use Rattle.std.specs.Prelude.{◌≡◌, ◌++◌, true, false, Bool, None, IfOk, IfSome, IfNone};
+ghost use Rattle.std.specs.List.{list_any};
 ghost use Rattle.std.specs.List.Sorted.{IsSorted};
 ghost use Rattle.reg_op.specs.Set as set;
 ghost use Rattle.reg_op.specs.Finite.{any};
-ghost use Rattle.reg_marks.specs.Marks.{mark_cmp, firsts, is_at, least, was_at};
-ghost use Rattle.reg_marks.specs.MarkLaws.{joined_marks, merged_marks, AlwaysAgree, AreLeast, marks_laws};
+ghost use Rattle.reg_op.specs.Ids.{is_same};
+ghost use Rattle.reg_op.specs.Lists.{passes};
+ghost use Rattle.reg_marks.specs.Marks.{mark_cmp, firsts, has, is_at, least, was_at, AreLeast, BeginsAt};
+ghost use Rattle.reg_marks.specs.MarkLaws.{joined_marks, merged_marks, AlwaysAgree, marks_laws};
 
-use crate::mark::{Mark, Target, is_at};
+use crate::mark::{Mark, Target, is_at, is_below};
 use reg_join::{Join, JoinFault};
 use reg_op::OpId;
 use std::alloc::{AllocError, Global};
 use std::convert::Infallible;
 use std::marker::Model;
 
-/// The least mark of each target.
+/// The least mark of each target: by the entry, and for an entry its retirement before its supersessions.
 #[derive(Drop)]
 pub struct Marks {
     marks: Vec<Mark>,
@@ -20,8 +23,7 @@ pub struct Marks {
 
 impl Model for Marks {
     ghost use Rattle.reg_op.specs.Set as set;
-    ghost use Rattle.reg_marks.specs.Marks.{MarkSet, mark_code};
-    ghost use Rattle.reg_marks.specs.MarkLaws.{AreLeast};
+    ghost use Rattle.reg_marks.specs.Marks.{MarkSet, mark_code, AreMarks};
 
     ghost Value = { MarkSet };
 
@@ -29,7 +31,7 @@ impl Model for Marks {
 
     ghost view = { λ m. set.from_list m.marks.items };
 
-    ghost invariant = { λ m. AreLeast (set.from_list m.marks.items) };
+    ghost invariant = { λ m. AreMarks m.marks.items };
 }
 
 impl Marks {
@@ -42,11 +44,10 @@ impl Marks {
     }
 
     /// The least of some marks.
-    pub fn of(alloc: Global, marks: &[Mark]) -> Result<Marks, AllocError>
-        ensures { IfOk result (λ made. made ≡ least (set.from_list marks.now)) }
+    pub fn of(alloc: Global, marks: Vec<Mark>) -> Result<Marks, AllocError>
+        ensures { IfOk result (λ made. made ≡ least (set.from_list marks.items)) }
     {
-        let all = Vec::from_slice(alloc, marks)?;
-        let marks = least_of(alloc, all)?;
+        let marks = least_of(alloc, marks)?;
         Ok(Marks { marks })
     }
 
@@ -56,30 +57,50 @@ impl Marks {
         ensures none { IfNone result (any (λ m. is_at target.now m) self.now ≡ false) }
         ensures least { AreLeast self.now }
     {
-        match first_at(&self.marks, target) {
-            Some(mark) => Some(mark.id),
-            None => None,
+        let Some(mark) = first_from(&self.marks, target) else {
+            return None;
+        };
+        if is_at(&mark, target) {
+            return Some(mark.id);
         }
+        None
+    }
+
+    /// Whether an entry is retired, or superseded by another.
+    pub fn is_touched(&self, entry: OpId) -> bool
+        ensures { result ≡ any (λ m. is_same entry m.target.entry) self.now }
+    {
+        match first_from(&self.marks, &Target { entry, by: None }) {
+            Some(mark) => entry.is_same(&mark.target.entry),
+            None => false,
+        }
+    }
+
+    pub fn try_clone(&self, alloc: Global) -> Result<Marks, AllocError>
+        ensures { IfOk result (λ copy. copy ≡ self.now) }
+    {
+        let marks = Vec::from_slice(alloc, &self.marks)?;
+        Ok(Marks { marks })
     }
 }
 
-// The first mark of a target.
-fn first_at(marks: &[Mark], target: &Target) -> Option<Mark>
-    ensures { result ≡ find (λ m. is_at target.now m) marks.now }
+// The first mark at a target or after it, which tells of all.
+fn first_from(marks: &[Mark], target: &Target) -> Option<Mark>
+    requires { IsSorted mark_cmp marks.now }
+    ensures told { (t : Mark → Bool) → BeginsAt target.now t → list_any t marks.now ≡ passes t result }
+    ensures there { IfSome result (λ m. has marks.now m ≡ true) }
 {
-    let mut rest = marks;
-    while let Some((mark, others)) = rest.split_first() {
-        if is_at(mark, target) {
-            return Some(*mark);
-        }
-        rest = others;
+    let at = marks.partition_point(|mark| is_below(mark, target));
+    if at < marks.len() {
+        return Some(marks[at]);
     }
     None
 }
 
-// The least marks of a list that is sorted first.
+// The least marks of a list, sorted.
 fn least_of(alloc: Global, all: Vec<Mark>) -> Result<Vec<Mark>, AllocError>
-    ensures { IfOk result (λ made. set.from_list {R = mark_cmp} made.items ≡ least (set.from_list all.items)) }
+    ensures sorted { IfOk result (λ made. IsSorted mark_cmp made.items) }
+    ensures least { IfOk result (λ made. set.from_list {R = mark_cmp} made.items ≡ least (set.from_list all.items)) }
 {
     let mut sorted = all;
     sorted.sort()?;
@@ -90,7 +111,7 @@ fn least_of(alloc: Global, all: Vec<Mark>) -> Result<Vec<Mark>, AllocError>
 fn firsts_of(alloc: Global, sorted: &[Mark]) -> Result<Vec<Mark>, AllocError>
     ensures { IfOk result (λ made. made.items ≡ firsts None sorted.now) }
 {
-    let mut made = Vec::new(alloc);
+    let mut made = Vec::with_capacity(alloc, sorted.len())?;
     let mut last: Option<Target> = None;
     let mut rest = sorted;
     while let Some((mark, others)) = rest.split_first() {
@@ -141,7 +162,8 @@ impl Join for Marks {
 
 // The least marks of two lists.
 fn both_of(alloc: Global, left: &[Mark], right: &[Mark]) -> Result<Vec<Mark>, AllocError>
-    ensures { IfOk result (λ made. set.from_list {R = mark_cmp} made.items ≡ least (set.from_list (left.now ++ right.now))) }
+    ensures sorted { IfOk result (λ made. IsSorted mark_cmp made.items) }
+    ensures least { IfOk result (λ made. set.from_list {R = mark_cmp} made.items ≡ least (set.from_list (left.now ++ right.now))) }
 {
     let mut all = Vec::from_slice(alloc, left)?;
     all.extend_from_slice(right)?;

@@ -21,7 +21,7 @@ fn the_least_of_each_target_is_kept(rt: HostRuntime) -> Result<(), Fail> {
     };
     let one = Marks::of(
         alloc,
-        &[
+        vec![in alloc;
             Mark {
                 target: retired,
                 id: later,
@@ -30,11 +30,11 @@ fn the_least_of_each_target_is_kept(rt: HostRuntime) -> Result<(), Fail> {
                 target: replaced,
                 id: later,
             },
-        ],
+        ]?,
     )?;
     let other = Marks::of(
         alloc,
-        &[
+        vec![in alloc;
             Mark {
                 target: retired,
                 id: later,
@@ -43,7 +43,7 @@ fn the_least_of_each_target_is_kept(rt: HostRuntime) -> Result<(), Fail> {
                 target: retired,
                 id: sooner,
             },
-        ],
+        ]?,
     )?;
     assert!(rt; one.least(&retired) == Some(later));
     assert!(rt; other.least(&retired) == Some(sooner));

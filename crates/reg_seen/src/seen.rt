@@ -2,7 +2,7 @@ ghost use Rattle.std.specs.Prelude.{◌≡◌, List, IfOk, OnOk, OnErr};
 ghost use Rattle.std.specs.Bool.{OnTrue, OnFalse};
 ghost use Rattle.reg_op.specs.Set as set;
 ghost use Rattle.reg_op.specs.Ids.{Id, IsId};
-ghost use Rattle.reg_seen.specs.Runs.{is_in_runs, ids_of_run, last_of, AreRuns, EndInIds, AllIds, AllUnder, IsAbove, IsGreatest, IsLastCount, IsRun, IsRunAt};
+ghost use Rattle.reg_seen.specs.Runs.{is_in_runs, ids_of_run, last_of, seen_of, AreRuns, EndInIds, AllIds, AllUnder, IsAbove, IsGreatest, IsLastCount, IsRun, IsRunAt};
 ghost use Rattle.reg_seen.specs.SeenLaws.{united, Always, AlwaysAgree, seen_laws};
 
 use crate::run::{Run, ends_before, has_id, is_apart, is_of_or_before};
@@ -63,6 +63,15 @@ impl Seen {
         ensures ids { AllIds self.now }
     {
         self.runs.get(k).copied()
+    }
+
+    /// The runs, made as long as possible, by replica and then by count.
+    pub fn runs(&self) -> &[Run]
+        ensures runs { AreRuns result.now }
+        ensures all { seen_of result.now ≡ self.now }
+        ensures ids { EndInIds result.now }
+    {
+        self.runs.as_slice()
     }
 
     /// Whether the run is one, is above all ids, and touches none: such a run can be added.

@@ -1,14 +1,13 @@
--- Marks are in a total order, and what a search at a target asks.
-use Rattle.std.proofs.Common.{◌≡◌, ℕ, Bool, true, false, ◌&&◌, ◌≤◌, ◌<◌, List, [], ◌∷◌, ◌++◌, append-nil, arith, length, get_or, refl, sym, ap, ◌∙◌, Option, None, Some, ◌||◌}
-use Rattle.std.proofs.lemmas.Bool.{and_from, and_parts, true≢false, true_from_ne_false, false_from_ne_true}
-use Rattle.std.proofs.lemmas.List.Sorted.{ranks_by, sorted_far}
-use Rattle.std.specs.List.Sorted.{IsSorted}
-use Rattle.std.specs.Cmp.{IsTotalOrder, IsStrictWeakOrder, then_total, on_total, Equal-is, tied_back, eq_by_cmp_equiv, tied_then}
-use Rattle.std.specs.Cmp.Lexicographic.{options_total}
-use Rattle.std.specs.Ordering.{is_lt, is_eq, ordering_then}
+-- The marks that operations set, and what they replace.
+use Rattle.std.proofs.Common.{◌≡◌, ℕ, Bool, true, false, ◌&&◌, ◌<◌, List, [], ◌∷◌, ◌++◌, append-nil, arith, length, refl, sym, ap, ◌∙◌, subst, Option, None, Some, ◌||◌}
+use Rattle.std.proofs.lemmas.Bool.{and_from, and_parts, true≢false}
+use Rattle.std.specs.Cmp.{eq_by_cmp_equiv, tied_then}
+use Rattle.std.specs.Ordering.{is_eq, ordering_then}
 use Rattle.std.specs.declared.cmp.Ordering.{Ordering}
 use Rattle.std.specs.declared.cmp.Ordering.TheVariants.{Less, Equal, Greater}
+use Rattle.reg_op.specs.Set as set
 use Rattle.reg_op.specs.Ids.{Id}
+use Rattle.reg_op.specs.Finite.{any}
 use Rattle.reg_op.specs.Operations.{Op}
 use Rattle.std.specs.List.{list_any}
 use Rattle.std.specs.Option.{option_cmp}
@@ -19,79 +18,12 @@ use Rattle.reg_op.proofs.FiniteLemmas.{list_any-or}
 use Rattle.std.proofs.lemmas.List.Folds.{list_any-append}
 use Rattle.reg_op.specs.declared.operation.OpBody.{OpBody as Body}
 use Rattle.reg_op.specs.Status.{is_retirement, is_supersession}
-use Rattle.reg_op.proofs.OpLemmas.{id_total}
-use Rattle.reg_op.proofs.ClashLemmas.{tied_of}
+use Rattle.reg_op.proofs.OpLemmas.{id_total, is_before_chain}
 use Rattle.reg_marks.specs.declared.mark.Mark.{Mark}
 use Rattle.reg_marks.specs.declared.mark.Target.{Target}
-use Rattle.reg_marks.specs.Marks.{target_cmp, mark_cmp, is_at}
-use Rattle.reg_state.specs.Marks.{marks_of, marks_of_body, target_body, op_of, BeginsAt}
-
-pub target_total : IsTotalOrder target_cmp
-target_total = then_total (on_total (λ t. t.entry) id_total) (on_total (λ t. t.by) (options_total id_total))
-
-pub mark_total : IsTotalOrder mark_cmp
-mark_total = then_total (on_total (λ m. m.target) target_total) (on_total (λ m. m.id) id_total)
-
-lt_target : IsStrictWeakOrder (λ a b. is_lt (target_cmp a b))
-lt_target = ranks_by target_total (λ t. t)
-
-lt_id : IsStrictWeakOrder (λ a b. is_lt (id_cmp a b))
-lt_id = ranks_by id_total (λ i. i)
-
-lt_then : (a b : Ordering) → is_lt a ≡ true → is_lt (ordering_then a b) ≡ true
-lt_then Less b h = refl
-lt_then Equal b h = absurd (true≢false (sym h))
-lt_then Greater b h = absurd (true≢false (sym h))
-
-lt_then_eq : (a b : Ordering) → is_eq a ≡ true → is_lt b ≡ true → is_lt (ordering_then a b) ≡ true
-lt_then_eq Less b h k = absurd (true≢false (sym h))
-lt_then_eq Equal b h k = k
-lt_then_eq Greater b h k = absurd (true≢false (sym h))
-
-eq_not_lt : (a : Ordering) → is_eq a ≡ true → is_lt a ≡ false
-eq_not_lt Less h = absurd (true≢false (sym h))
-eq_not_lt Equal h = refl
-eq_not_lt Greater h = refl
-
--- m stands no later than n
-abbrev pub IsBy : Mark → Mark → Type 0
-IsBy m n = is_lt (mark_cmp n m) ≡ false
-
-pub marks_far : (ms : List Mark) → IsSorted mark_cmp ms → (i j : ℕ) (d : Mark) → i ≤ j → j < length ms → IsBy (get_or ms i d) (get_or ms j d)
-marks_far ms up = sorted_far (λ m n. is_lt (mark_cmp m n)) (ranks_by mark_total (λ m. m)) ms up
-
-by_target : (m n : Mark) → IsBy m n → is_lt (target_cmp n.target m.target) ≡ false
-by_target m n h = false_from_ne_true _ (λ k. true≢false (sym (lt_then _ (id_cmp n.id m.id) k) ∙ h))
-
-pub below_low : (t : Target) (m n : Mark) → IsBy m n → is_lt (target_cmp n.target t) ≡ true → is_lt (target_cmp m.target t) ≡ true
-below_low t m n h b = true_from_ne_false _ (λ k. true≢false (sym b ∙ lt_target.chain n.target m.target t (by_target m n h) k))
-
-at_back : (t : Target) (n : Mark) → is_at t n ≡ true → is_eq (target_cmp t n.target) ≡ true
-at_back t n a = ap is_eq (tied_back target_total n.target t ((Equal-is (target_cmp n.target t)).0 a))
-
-at_both : (t : Target) (m n : Mark) → is_at t m ≡ true → is_at t n ≡ true → is_eq (target_cmp n.target m.target) ≡ true
-at_both t m n a b = (eq_by_cmp_equiv target_total).congr n.target t m.target b ∙ at_back t m a
-
--- of the marks from a target on, the earlier of two is at it where the later is
-at_earlier : (t : Target) (m n : Mark) → IsBy m n → is_lt (target_cmp m.target t) ≡ false → is_at t n ≡ true → is_at t m ≡ true
-at_earlier t m n h k a =
-    tied_of target_total m.target t k
-    (lt_target.chain t n.target m.target (eq_not_lt _ (at_back t n a)) (by_target m n h))
-
-pub begins_at : (t : Target) → BeginsAt t (λ m. is_at t m)
-begins_at t = record {
-  from = λ m h. eq_not_lt _ h;
-  down = λ m n h k a. at_earlier t m n h k a;
-}
-
-pub begins_before : (t : Target) (i : Id) → BeginsAt t (λ m. is_at t m && is_before m.id i)
-begins_before t i = record {
-  from = λ m h. eq_not_lt _ (and_parts _ _ h).0;
-  down = λ m n h k a. let p = and_parts _ _ a in let at : is_at t m ≡ true = at_earlier t m n h k p.0 in
-      and_from _ _ at (true_from_ne_false _ (λ late.
-      let back : is_lt (id_cmp n.id m.id) ≡ false = false_from_ne_true _ (λ less. true≢false (sym (lt_then_eq _ _ (at_both t m n at p.0) less) ∙ h)) in
-      true≢false (sym p.1 ∙ lt_id.chain n.id m.id i back late)));
-}
+use Rattle.reg_marks.specs.Marks.{MarkSet, target_cmp, is_at, lessens}
+use Rattle.reg_marks.proofs.OrderLemmas.{any-from_list, any-least, lesser_target}
+use Rattle.reg_state.specs.Marks.{marks_of, marks_of_body, least_marks, target_body, op_of}
 
 pub marks_whole : (ms : List Mark) (rest : List Op) (all : List Mark) → length rest < 1 → ms ++ marks_of rest ≡ all → ms ≡ all
 marks_whole ms [] all e h = sym (append-nil ms) ∙ h
@@ -158,34 +90,15 @@ replaced_supersede ms i old newer =
 
 -- ---- the marks of an entry
 
-less_not_eq : (a b : Ordering) → is_eq a ≡ true → is_lt (ordering_then a b) ≡ is_lt b
-less_not_eq Less b h = absurd (true≢false (sym h))
-less_not_eq Equal b h = refl
-less_not_eq Greater b h = absurd (true≢false (sym h))
-
-none_least : (by : Option Id) → is_lt (option_cmp id_cmp by None) ≡ false
-none_least None = refl
-none_least (Some n) = refl
-
 same_back : (a b : Id) → is_same a b ≡ is_same b a
 same_back a b = (eq_by_cmp_equiv id_total).symm a b
-
-pub begins_entry : (e : Id) → BeginsAt (record { entry = e; by = None }) (λ m. is_same e m.target.entry)
-begins_entry e = record {
-  from = λ m h. less_not_eq (id_cmp m.target.entry e) _ (same_back m.target.entry e ∙ h) ∙ none_least m.target.by;
-  down = λ m n h k a.
-      let no_sooner : is_lt (id_cmp m.target.entry e) ≡ false = false_from_ne_true _ (λ l. true≢false (sym (lt_then _ (option_cmp id_cmp m.target.by None) l) ∙ k)) in
-      let no_later : is_lt (id_cmp n.target.entry m.target.entry) ≡ false = false_from_ne_true _ (λ l. true≢false (sym (lt_then _ (option_cmp id_cmp n.target.by m.target.by) l) ∙ by_target m n h)) in
-      let at_e : is_lt (id_cmp e n.target.entry) ≡ false = eq_not_lt _ a in
-      tied_of id_total e m.target.entry (lt_id.chain e n.target.entry m.target.entry at_e no_later) no_sooner;
-}
 
 -- what holds of the marks of an operation alone holds of the marks of all
 through : (t : Mark → Bool) (u : Op → Bool) → ((i : Id) (b : Body) → list_any t (marks_of_body i b) ≡ u (record { id = i; body = b })) → (os : List Op) → list_any t (marks_of os) ≡ list_any u os
 through t u each [] = refl
 through t u each (o ∷ os) = list_any-append t (marks_of_body o.id o.body) (marks_of os) ∙ (λ k. each o.id o.body k || through t u each os k)
 
-pub marks_retire : (e : Id) (os : List Op) → list_any (λ m. is_at (record { entry = e; by = None }) m) (marks_of os) ≡ list_any (λ o. is_retirement e o.body) os
+marks_retire : (e : Id) (os : List Op) → list_any (λ m. is_at (record { entry = e; by = None }) m) (marks_of os) ≡ list_any (λ o. is_retirement e o.body) os
 marks_retire e os = through _ (λ o. is_retirement e o.body) each os
   where
     each : (i : Id) (b : Body) → list_any (λ m. is_at (record { entry = e; by = None }) m) (marks_of_body i b) ≡ is_retirement e b
@@ -193,7 +106,7 @@ marks_retire e os = through _ (λ o. is_retirement e o.body) each os
     each i (Supersede old newer) = or_false _ ∙ then_greater (id_cmp old e)
     each i (Retire entry) = or_false _ ∙ then_equal (id_cmp entry e) ∙ same_back entry e
 
-pub marks_touch : (e : Id) (os : List Op)
+marks_touch : (e : Id) (os : List Op)
     → list_any (λ m. is_same e m.target.entry) (marks_of os) ≡ (list_any (λ o. is_retirement e o.body) os || list_any (λ o. is_supersession e (λ n. true) o.body) os)
 marks_touch e os =
     through _ (λ o. is_retirement e o.body || is_supersession e (λ n. true) o.body) each os
@@ -207,3 +120,36 @@ marks_touch e os =
     each i (Enter text) = refl
     each i (Supersede old newer) = or_false _ ∙ and_true (is_same e old)
     each i (Retire entry) = refl
+
+-- ---- what the least marks tell of all
+
+pub any_marks : (t : Mark → Bool) → ((p m : Mark) → lessens p m ≡ true → t m ≡ true → t p ≡ true) → (os : List Op) (ms : MarkSet) → ms ≡ least_marks os → any t ms ≡ list_any t (marks_of os)
+any_marks t falls os ms e = ap (any t) e ∙ any-least t falls (set.from_list (marks_of os)) ∙ any-from_list t (marks_of os)
+
+sooner_replaces : (b c : Bool) → (b ≡ true → c ≡ true) → (x y : Body) → replaces_body b x y ≡ true → replaces_body c x y ≡ true
+sooner_replaces b c h (Enter s) (Enter t) r = absurd (true≢false (sym r))
+sooner_replaces b c h (Enter s) (Supersede old newer) r = absurd (true≢false (sym r))
+sooner_replaces b c h (Enter s) (Retire e) r = absurd (true≢false (sym r))
+sooner_replaces b c h (Supersede old newer) (Enter t) r = absurd (true≢false (sym r))
+sooner_replaces b c h (Supersede old newer) (Supersede old2 newer2) r = let p = and_parts _ _ r in let q = and_parts _ _ p.1 in and_from _ _ p.0 (and_from _ _ q.0 (h q.1))
+sooner_replaces b c h (Supersede old newer) (Retire e) r = absurd (true≢false (sym r))
+sooner_replaces b c h (Retire e) (Enter t) r = absurd (true≢false (sym r))
+sooner_replaces b c h (Retire e) (Supersede old newer) r = r
+sooner_replaces b c h (Retire e) (Retire f) r = let p = and_parts _ _ r in and_from _ _ p.0 (h p.1)
+
+-- what a mark replaces, a lesser one of its target does
+pub replacing_falls : (q : Op) (p m : Mark) → lessens p m ≡ true → replaces (op_of m) q ≡ true → replaces (op_of p) q ≡ true
+replacing_falls q p m h r =
+    subst (λ (t : Target). replaces_body (is_before p.id q.id) (target_body t.entry t.by) q.body ≡ true) (sym (lesser_target p m h))
+    (sooner_replaces (is_before m.id q.id) (is_before p.id q.id) (λ k. is_before_chain p.id m.id q.id (and_parts _ _ h).1 k) (target_body m.target.entry m.target.by) q.body r)
+
+pub any_retired : (e : Id) (os : List Op) (ms : MarkSet) → ms ≡ least_marks os → any (λ m. is_at (record { entry = e; by = None }) m) ms ≡ list_any (λ o. is_retirement e o.body) os
+any_retired e os ms is =
+    any_marks (λ m. is_at (record { entry = e; by = None }) m) (λ p m h k. ap (λ t. is_eq (target_cmp t (record { entry = e; by = None }))) (lesser_target p m h) ∙ k) os ms is
+    ∙ marks_retire e os
+
+pub any_touched : (e : Id) (os : List Op) (ms : MarkSet) → ms ≡ least_marks os
+    → any (λ m. is_same e m.target.entry) ms ≡ (list_any (λ o. is_retirement e o.body) os || list_any (λ o. is_supersession e (λ n. true) o.body) os)
+any_touched e os ms is =
+    any_marks (λ m. is_same e m.target.entry) (λ p m h k. ap (λ (t : Target). is_same e t.entry) (lesser_target p m h) ∙ k) os ms is
+    ∙ marks_touch e os

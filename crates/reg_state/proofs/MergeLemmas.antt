@@ -13,7 +13,7 @@ use Rattle.reg_op.specs.Operations.{Op}
 use Rattle.reg_op.specs.Ids.{id_cmp, is_same, is_before}
 use Rattle.reg_op.specs.Operations.{op_cmp, clashes}
 use Rattle.reg_op.proofs.OpLemmas.{id_total, op_total, op_exact, is_same_exact}
-use Rattle.reg_marks.specs.declared.mark.Mark.{Mark}
+use Rattle.reg_marks.specs.Marks.{MarkSet}
 use Rattle.reg_op.specs.Lists.{has, AllAfter, ById}
 use Rattle.reg_state.specs.Merge.{lasts, stays, is_marked_off, Agree, clash_in, IsMerging}
 
@@ -305,10 +305,10 @@ entry_down i u p o (inr e) h k = absurd (true≢false (sym (subst (λ j. is_befo
 
 -- ---- what no mark of one list replaces
 
-pub own_left : (ms ns : List Mark) (q : Op) → is_marked_off ms q ≡ false → lasts ns q ≡ stays ms ns q
+pub own_left : (ms ns : MarkSet) (q : Op) → is_marked_off ms q ≡ false → lasts ns q ≡ stays ms ns q
 own_left ms ns q h = λ k. not (sym h k || is_marked_off ns q)
 
-pub own_right : (ms ns : List Mark) (q : Op) → is_marked_off ns q ≡ false → lasts ms q ≡ stays ms ns q
+pub own_right : (ms ns : MarkSet) (q : Op) → is_marked_off ns q ≡ false → lasts ms q ≡ stays ms ns q
 own_right ms ns q h = ap not (or_comm false (is_marked_off ms q) ∙ (λ k. is_marked_off ms q || sym h k))
 
 pub filter_on : (f g : Op → Bool) (xs : List Op) → ((q : Op) → has xs q ≡ true → f q ≡ g q) → filter f xs ≡ filter g xs

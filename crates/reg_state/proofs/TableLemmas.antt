@@ -3,7 +3,6 @@ use Rattle.std.proofs.Common.{◌≡◌, ℕ, Bool, true, false, not, ◌&&◌, 
 use Rattle.std.proofs.lemmas.Bool.{true≢false, and_parts, or_cases, false_from_ne_true, not-true}
 use Rattle.std.proofs.lemmas.List.Folds.{list_any-append}
 use Rattle.std.specs.List.{list_any, find}
-use Rattle.std.specs.List.Sorted.{IsSorted}
 use Rattle.std.proofs.Common.{Result, length, arith, ◌<◌, get_or, IfSome, IfNone, is_some}
 use Rattle.std.proofs.lemmas.List.Folds.{list_any_at}
 use Rattle.std.specs.Option.{option_map}
@@ -25,9 +24,9 @@ use Rattle.reg_op.proofs.OpLemmas.{op_total, op_exact, is_same_exact}
 use Rattle.reg_op.proofs.ContentLemmas.{contains_op-union, contains-kept, union_left, union_right, one_body_from, same_content, nothing_is_content}
 use Rattle.reg_op.proofs.OneLemmas.{any-from_list, merged_is_content}
 use Rattle.reg_op.proofs.ClashLemmas.{items_are, items_rise, found, any_of, Matched, same_first, rises_by_id, clashes_back, same_no_clash, lt_id_itself}
-use Rattle.reg_marks.specs.declared.mark.Mark.{Mark}
-use Rattle.reg_marks.specs.Marks.{mark_cmp, is_at}
-use Rattle.reg_state.specs.Marks.{marks_of, marks_of_body, op_of}
+use Rattle.reg_marks.specs.Marks.{MarkSet, is_at}
+use Rattle.reg_marks.specs.MarkLaws.{least-empty}
+use Rattle.reg_state.specs.Marks.{marks_of, marks_of_body, least_marks, op_of}
 use Rattle.reg_op.specs.Lists.{has, AllAfter, ById}
 use Rattle.reg_state.specs.Merge.{Agree, clash_in, is_marked_off, stays, first_off}
 use Rattle.reg_op.specs.Lists.{content_at}
@@ -35,7 +34,7 @@ use Rattle.reg_state.specs.Tables.{AreTables, first_dropped}
 use Rattle.reg_op.specs.declared.status.Status.{Status}
 use Rattle.reg_op.specs.declared.status.Status.TheVariants.{Retired, Superseded, Valid}
 use Rattle.reg_op.specs.Status.{enters, retires, supersedes, status, is_enter, is_retirement, is_supersession}
-use Rattle.reg_state.proofs.MarkLemmas.{marks_retire, marks_touch}
+use Rattle.reg_state.proofs.MarkLemmas.{any_marks, any_retired, any_touched, replacing_falls}
 
 -- ---- the clash of two contents, by a walk along both
 
@@ -105,13 +104,13 @@ marks_replace (o ∷ os) q =
     one (Supersede old newer) = or_end _
     one (Retire entry) = or_end _
 
-pub marked_off : (os : List Op) (ms : List Mark) → ((t : Mark → Bool) → list_any t ms ≡ list_any t (marks_of os)) → (q : Op) → is_marked_off ms q ≡ any (λ p. replaces p q) (set.from_list {R = op_cmp} os)
-marked_off os ms marked q = marked (λ m. replaces (op_of m) q) ∙ marks_replace os q ∙ sym (any-from_list (λ p. replaces p q) os)
+pub marked_off : (os : List Op) (ms : MarkSet) → ms ≡ least_marks os → (q : Op) → is_marked_off ms q ≡ any (λ p. replaces p q) (set.from_list {R = op_cmp} os)
+marked_off os ms marked q = any_marks (λ m. replaces (op_of m) q) (replacing_falls q) os ms marked ∙ marks_replace os q ∙ sym (any-from_list (λ p. replaces p q) os)
 
 -- ---- the join
 
-pub kept_is : (xs ys out : List Op) (ms ns : List Mark)
-    → ((t : Mark → Bool) → list_any t ms ≡ list_any t (marks_of xs)) → ((t : Mark → Bool) → list_any t ns ≡ list_any t (marks_of ys))
+pub kept_is : (xs ys out : List Op) (ms ns : MarkSet)
+    → ms ≡ least_marks xs → ns ≡ least_marks ys
     → ((q : Op) → has out q ≡ (stays ms ns q && (has xs q || has ys q)))
     → set.from_list {R = op_cmp} out ≡ kept (union (set.from_list {R = op_cmp} xs) (set.from_list {R = op_cmp} ys))
 kept_is xs ys out ms ns left right covered =
@@ -134,32 +133,31 @@ pub agree_from : (xs ys : List Op) → OneBody (union (set.from_list {R = op_cmp
 agree_from xs ys one p o h k e =
     one p o (union_left (set.from_list xs) (set.from_list ys) p (contains-from_list op_total xs p ∙ h)) (union_right (set.from_list xs) (set.from_list ys) o (contains-from_list op_total ys o ∙ k)) e
 
-pub merged_at : (xs ys out : List Op) (ms ns : List Mark) (v w z : Ids) → AreTables xs ms v → AreTables ys ns w
+pub merged_at : (xs ys out : List Op) (ms ns : MarkSet) (v w z : Ids) → AreTables xs ms v → AreTables ys ns w
     → ((q : Op) → has out q ≡ (stays ms ns q && (has xs q || has ys q))) → z ≡ union v w → content_at out z ≡ merged (content_at xs v) (content_at ys w)
 merged_at xs ys out ms ns v w z is js covered seen = same_content _ _ (kept_is xs ys out ms ns is.marked js.marked covered) seen
 
-pub merged_tables : (xs ys out : List Op) (ms ns os : List Mark) (v w z : Ids) → AreTables xs ms v → AreTables ys ns w → OneBody (union (set.from_list {R = op_cmp} xs) (set.from_list {R = op_cmp} ys))
+pub merged_tables : (xs ys out : List Op) (ms ns os : MarkSet) (v w z : Ids) → AreTables xs ms v → AreTables ys ns w → OneBody (union (set.from_list {R = op_cmp} xs) (set.from_list {R = op_cmp} ys))
     → ById out → ((q : Op) → has out q ≡ (stays ms ns q && (has xs q || has ys q))) → z ≡ union v w
-    → IsSorted mark_cmp os → ((t : Mark → Bool) → list_any t os ≡ list_any t (marks_of out)) → AreTables out os z
-merged_tables xs ys out ms ns os v w z is js one by_id covered seen sorted marked = record {
+    → os ≡ least_marks out → AreTables out os z
+merged_tables xs ys out ms ns os v w z is js one by_id covered seen marked = record {
   by_id = by_id;
-  sorted = sorted;
   marked = marked;
   is_content = subst IsContent (sym (merged_at xs ys out ms ns v w z is js covered seen)) (merged_is_content (content_at xs v) (content_at ys w) is.is_content js.is_content one);
 }
 
 -- a clash that the walk finds is the join's, and none is none
-pub joined_is : (xs ys : List Op) (ms ns : List Mark) (v w : Ids) → AreTables xs ms v → AreTables ys ns w
+pub joined_is : (xs ys : List Op) (ms ns : MarkSet) (v w : Ids) → AreTables xs ms v → AreTables ys ns w
     → joined (content_at xs v) (content_at ys w) ≡ joined_unless (clash_in xs ys) (merged (content_at xs v) (content_at ys w))
 joined_is xs ys ms ns v w is js = ap (λ c. joined_unless c (merged (content_at xs v) (content_at ys w))) (sym (clash_is xs ys is.by_id js.by_id is.is_content.one_body js.is_content.one_body))
 
-pub one_body_of : (xs ys : List Op) (ms ns : List Mark) (v w : Ids) → AreTables xs ms v → AreTables ys ns w → clash_in xs ys ≡ None → OneBody (union (set.from_list {R = op_cmp} xs) (set.from_list {R = op_cmp} ys))
+pub one_body_of : (xs ys : List Op) (ms ns : MarkSet) (v w : Ids) → AreTables xs ms v → AreTables ys ns w → clash_in xs ys ≡ None → OneBody (union (set.from_list {R = op_cmp} xs) (set.from_list {R = op_cmp} ys))
 one_body_of xs ys ms ns v w is js h = one_body_from _ (sym (clash_is xs ys is.by_id js.by_id is.is_content.one_body js.is_content.one_body) ∙ h)
 
-pub tables_empty : (os : List Op) (ms : List Mark) (v : Ids) → os ≡ [] → ms ≡ [] → v ≡ set.empty → AreTables os ms v
+pub tables_empty : (os : List Op) (ms : MarkSet) (v : Ids) → os ≡ [] → ms ≡ set.empty → v ≡ set.empty → AreTables os ms v
 tables_empty os ms v e f g =
-    subst (λ (p : List Op × (List Mark × Ids)). AreTables p.0 p.1.0 p.1.1) (λ k. (sym e k, (sym f k, sym g k)))
-    (record { by_id = tt; sorted = λ k d a b. absurd (omega arith); marked = λ t. refl; is_content = nothing_is_content })
+    subst (λ (p : List Op × (MarkSet × Ids)). AreTables p.0 p.1.0 p.1.1) (λ k. (sym e k, (sym f k, sym g k)))
+    (record { by_id = tt; marked = sym least-empty; is_content = nothing_is_content })
 
 pub err_same : (a b : Id) → ◌≡◌ {A = Result Content Id} (Err a) (Err b) → a ≡ b
 err_same a b h = cc
@@ -169,9 +167,9 @@ ok_not_err x b h = cc
 
 -- ---- statuses
 
-pub retired_at : (xs : List Op) (ms : List Mark) → ((t : Mark → Bool) → list_any t ms ≡ list_any t (marks_of xs)) → (e : Id)
-    → list_any (λ m. is_at (record { entry = e; by = None }) m) ms ≡ retires (set.from_list {R = op_cmp} xs) e
-retired_at xs ms marked e = marked _ ∙ marks_retire e xs ∙ sym (any-from_list (λ o. is_retirement e o.body) xs)
+pub retired_at : (xs : List Op) (ms : MarkSet) → ms ≡ least_marks xs → (e : Id)
+    → any (λ m. is_at (record { entry = e; by = None }) m) ms ≡ retires (set.from_list {R = op_cmp} xs) e
+retired_at xs ms marked e = any_retired e xs ms marked ∙ sym (any-from_list (λ o. is_retirement e o.body) xs)
 
 abbrev pub status_by : Bool → Bool → Bool → Option Status
 status_by entered retired touched = cond entered (Some (cond retired Retired (cond touched Superseded Valid))) None
@@ -180,14 +178,14 @@ inner : (r s t : Bool) → t ≡ (r || s) → cond r Retired (cond s Superseded 
 inner true s t h = refl
 inner false s t h = ap (λ b. cond b Superseded Valid) (sym h)
 
-pub status_at : (xs : List Op) (ms : List Mark) → ((t : Mark → Bool) → list_any t ms ≡ list_any t (marks_of xs)) → (e : Id)
-    → status (set.from_list {R = op_cmp} xs) e ≡ status_by (list_any (λ o. is_same e o.id && is_enter o.body) xs) (list_any (λ m. is_at (record { entry = e; by = None }) m) ms) (list_any (λ m. is_same e m.target.entry) ms)
+pub status_at : (xs : List Op) (ms : MarkSet) → ms ≡ least_marks xs → (e : Id)
+    → status (set.from_list {R = op_cmp} xs) e ≡ status_by (list_any (λ o. is_same e o.id && is_enter o.body) xs) (any (λ m. is_at (record { entry = e; by = None }) m) ms) (any (λ m. is_same e m.target.entry) ms)
 status_at xs ms marked e =
     let s : Ops = set.from_list xs in
-    let touched : list_any (λ m. is_same e m.target.entry) ms ≡ (retires s e || supersedes s e) =
-    marked _ ∙ marks_touch e xs ∙ sym (λ k. any-from_list (λ o. is_retirement e o.body) xs k || any-from_list (λ o. is_supersession e (λ n. true) o.body) xs k) in
+    let touched : any (λ m. is_same e m.target.entry) ms ≡ (retires s e || supersedes s e) =
+    any_touched e xs ms marked ∙ sym (λ k. any-from_list (λ o. is_retirement e o.body) xs k || any-from_list (λ o. is_supersession e (λ n. true) o.body) xs k) in
     (λ k. cond (any-from_list (λ o. is_same e o.id && is_enter o.body) xs k) (Some (inner (retires s e) (supersedes s e) _ touched k)) None)
-    ∙ (λ k. cond (list_any (λ o. is_same e o.id && is_enter o.body) xs) (Some (cond (sym (retired_at xs ms marked e) k) Retired (cond (list_any (λ m. is_same e m.target.entry) ms) Superseded Valid))) None)
+    ∙ (λ k. cond (list_any (λ o. is_same e o.id && is_enter o.body) xs) (Some (cond (sym (retired_at xs ms marked e) k) Retired (cond (any (λ m. is_same e m.target.entry) ms) Superseded Valid))) None)
 
 -- ---- from operations by id
 
@@ -223,19 +221,18 @@ none_found t [] h = refl
 none_found t (x ∷ xs) h =
     elim (t x) as (λ b. option_map (λ (o : Op). o.id) (cond b (Some x) (find t xs)) ≡ None → (b || list_any t xs) ≡ false) [ true ↦ λ e. cc | false ↦ λ e. none_found t xs e ] h
 
-pub dropped_at : (os : List Op) (ms : List Mark) → ById os → ((t : Mark → Bool) → list_any t ms ≡ list_any t (marks_of os)) → first_dropped (set.from_list {R = op_cmp} os) ≡ first_off ms os
+pub dropped_at : (os : List Op) (ms : MarkSet) → ById os → ms ≡ least_marks os → first_dropped (set.from_list {R = op_cmp} os) ≡ first_off ms os
 dropped_at os ms up marked =
     let s : Ops = set.from_list os in
     (λ k. option_map (λ o. o.id) (find (λ o. sym (marked_off os ms marked o) k) (items_are os up k)))
 
-pub own_tables : (os : List Op) (ms : List Mark) (v : Ids) → ById os → IsSorted mark_cmp ms → ((t : Mark → Bool) → list_any t ms ≡ list_any t (marks_of os))
+pub own_tables : (os : List Op) (ms : MarkSet) (v : Ids) → ById os → ms ≡ least_marks os
     → ((o : Op) → has os o ≡ true → contains v o.id ≡ true) → ((o : Op) → has os o ≡ true → IsOperation o) → ((i : Id) → contains v i ≡ true → IsId i) → first_off ms os ≡ None → AreTables os ms v
-own_tables os ms v up sorted marked seen operations are_ids none =
+own_tables os ms v up marked seen operations are_ids none =
     let s : Ops = set.from_list os in
     let in_list : (o : Op) → contains s o ≡ true → has os o ≡ true = λ o h. sym (contains-from_list op_total os o) ∙ h in
     record {
       by_id = up;
-      sorted = sorted;
       marked = marked;
       is_content = record {
         are_operations = λ o h. operations o (in_list o h);
@@ -251,7 +248,7 @@ own_tables os ms v up sorted marked seen operations are_ids none =
     keeps true b h = ap not (h refl)
     keeps false b h = refl
 
-pub kept_off : (xs : List Op) (ms : List Mark) (v : Ids) → AreTables xs ms v → (q : Op) → has xs q ≡ true → is_marked_off ms q ≡ false
+pub kept_off : (xs : List Op) (ms : MarkSet) (v : Ids) → AreTables xs ms v → (q : Op) → has xs q ≡ true → is_marked_off ms q ≡ false
 kept_off xs ms v is q h =
     let s : Ops = set.from_list xs in
     let k : contains (kept s) q ≡ true = subst (λ z. contains z q ≡ true) (sym is.is_content.is_kept) (contains-from_list op_total xs q ∙ h) in

@@ -1,7 +1,5 @@
 -- The register of one operation, and what it is to join it.
-use Rattle.std.proofs.Common.{◌≡◌, ℕ, ◌+◌, ◌-◌, Bool, List, [], ◌∷◌, map, None, Ok, sym, ap, ◌∙◌, subst, arith}
-use Rattle.std.specs.List.{list_any}
-use Rattle.std.specs.List.Sorted.{IsSorted}
+use Rattle.std.proofs.Common.{◌≡◌, ℕ, ◌+◌, ◌-◌, List, [], ◌∷◌, map, None, Ok, sym, ap, ◌∙◌, subst, arith}
 use Rattle.reg_op.specs.Set as set
 use Rattle.reg_op.specs.Set.{contains, union, items-from_list}
 use Rattle.reg_op.specs.Ids.{Id, Ids}
@@ -13,9 +11,8 @@ use Rattle.reg_op.proofs.FiniteLemmas.{union-empty}
 use Rattle.reg_op.proofs.ContentLemmas.{one_body_from, joined_content, same_content}
 use Rattle.reg_op.proofs.OneLemmas.{one_is, kept_one, one_is_content}
 use Rattle.reg_seen.specs.Runs.{ids_from, ids_of_run}
-use Rattle.reg_marks.specs.declared.mark.Mark.{Mark}
-use Rattle.reg_marks.specs.Marks.{mark_cmp}
-use Rattle.reg_state.specs.Marks.{marks_of}
+use Rattle.reg_marks.specs.Marks.{MarkSet}
+use Rattle.reg_state.specs.Marks.{least_marks}
 use Rattle.reg_state.specs.Merge.{clash_in}
 use Rattle.reg_state.specs.Tables.{AreTables}
 use Rattle.reg_state.proofs.TableLemmas.{clash_is}
@@ -41,10 +38,9 @@ seen_one o v w r m n e f a b d =
 pub content_of_one : (o : Op) (os : List Op) (w : Ids) → os ≡ o ∷ [] → w ≡ ids (one o) → content_at os w ≡ state (one o)
 content_of_one o os w e f = same_content _ _ (ap (λ (l : List Op). set.from_list {R = op_cmp} l) e ∙ sym (kept_one o)) f
 
-pub tables_of_one : (o : Op) (os : List Op) (ms : List Mark) (w : Ids) → IsOperation o → os ≡ o ∷ [] → w ≡ ids (one o) → IsSorted mark_cmp ms → ((t : Mark → Bool) → list_any t ms ≡ list_any t (marks_of os)) → AreTables os ms w
-tables_of_one o os ms w is e f sorted marked = record {
+pub tables_of_one : (o : Op) (os : List Op) (ms : MarkSet) (w : Ids) → IsOperation o → os ≡ o ∷ [] → w ≡ ids (one o) → ms ≡ least_marks os → AreTables os ms w
+tables_of_one o os ms w is e f marked = record {
   by_id = subst ById (sym e) (tt, tt);
-  sorted = sorted;
   marked = marked;
   is_content = subst IsContent (sym (content_of_one o os w e f)) (one_is_content o is);
 }
@@ -54,13 +50,13 @@ tables_of_one o os ms w is e f sorted marked = record {
 one_body_of_one : (o : Op) → OneBody (one o)
 one_body_of_one o p q a b e = one_is o p a ∙ sym (one_is o q b)
 
-pub taken_is : (xs : List Op) (ms : List Mark) (v : Ids) (x : Content) (o : Op) → AreTables xs ms v → content_at xs v ≡ x → joined x (state (one o)) ≡ joined_unless (clash_in xs (o ∷ [])) (merged x (state (one o)))
+pub taken_is : (xs : List Op) (ms : MarkSet) (v : Ids) (x : Content) (o : Op) → AreTables xs ms v → content_at xs v ≡ x → joined x (state (one o)) ≡ joined_unless (clash_in xs (o ∷ [])) (merged x (state (one o)))
 taken_is xs ms v x o is e =
     ap (λ c. joined_unless c (merged x (state (one o))))
     (sym ((λ k. clash_is xs (o ∷ []) is.by_id (tt, tt) is.is_content.one_body (one_body_of_one o) k)
     ∙ (λ k. clash_of (e k) (record { ops = sym (kept_one o) k; seen = ids (one o) }))))
 
-pub none_clash : (xs : List Op) (ms : List Mark) (v : Ids) (x : Content) (o : Op) → AreTables xs ms v → content_at xs v ≡ x → clash_in xs (o ∷ []) ≡ None → OneBody (union x.ops (one o))
+pub none_clash : (xs : List Op) (ms : MarkSet) (v : Ids) (x : Content) (o : Op) → AreTables xs ms v → content_at xs v ≡ x → clash_in xs (o ∷ []) ≡ None → OneBody (union x.ops (one o))
 none_clash xs ms v x o is e h =
     subst (λ (y : Content). OneBody (union y.ops (one o))) e
     (one_body_from _ (sym (clash_is xs (o ∷ []) is.by_id (tt, tt) is.is_content.one_body (one_body_of_one o)) ∙ h))

@@ -1,13 +1,12 @@
 -- Marks, and the operations that set them.
-use Rattle.reg_marks.specs.Marks.{target_cmp, mark_cmp}
-use Rattle.std.specs.Prelude.{◌≡◌, Bool, true, false, List, [], ◌∷◌, ◌++◌, Option, Some, None}
-use Rattle.std.specs.Ordering.{is_lt}
+use Rattle.std.specs.Prelude.{List, [], ◌∷◌, ◌++◌, Option, Some, None}
+use Rattle.reg_op.specs.Set as set
 use Rattle.reg_op.specs.Ids.{Id}
 use Rattle.reg_op.specs.Operations.{Op}
 use Rattle.reg_op.specs.declared.operation.OpBody.{OpBody as Body}
 use Rattle.reg_op.specs.declared.operation.OpBody.TheVariants.{Enter, Supersede, Retire}
 use Rattle.reg_marks.specs.declared.mark.Mark.{Mark}
-use Rattle.reg_marks.specs.declared.mark.Target.{Target}
+use Rattle.reg_marks.specs.Marks.{MarkSet, least}
 
 abbrev pub target_body : Id → Option Id → Body
 target_body e None = Retire e
@@ -29,11 +28,6 @@ abbrev pub marks_of : List Op → List Mark
 marks_of [] = []
 marks_of (o ∷ os) = marks_of_body o.id o.body ++ marks_of os
 
-abbrev pub to_list : Option Mark → List Mark
-to_list None = []
-to_list (Some m) = m ∷ []
-
--- the marks that pass begin at a target, in ascending marks: none is below it, and those from it on pass up to one that passes
-pub record BeginsAt (target : Target) (t : Mark → Bool) : Type 0 where
-  pub from : (m : Mark) → t m ≡ true → is_lt (target_cmp m.target target) ≡ false
-  pub down : (m n : Mark) → is_lt (mark_cmp n m) ≡ false → is_lt (target_cmp m.target target) ≡ false → t n ≡ true → t m ≡ true
+-- of each target the least that they set
+abbrev pub least_marks : List Op → MarkSet
+least_marks os = least (set.from_list (marks_of os))

@@ -4,22 +4,23 @@ use Rattle.std.specs.List.{list_any}
 use Rattle.reg_op.specs.Ids.{Id}
 use Rattle.reg_op.specs.Operations.{Op}
 use Rattle.reg_op.specs.Operations.{clashes, replaces}
-use Rattle.reg_marks.specs.declared.mark.Mark.{Mark}
+use Rattle.reg_op.specs.Finite.{any}
+use Rattle.reg_marks.specs.Marks.{MarkSet}
 use Rattle.reg_op.specs.Lists.{has, ById}
 use Rattle.reg_state.specs.Marks.{op_of}
 
 -- some mark replaces the operation
-abbrev pub is_marked_off : List Mark → Op → Bool
-is_marked_off ms o = list_any (λ m. replaces (op_of m) o) ms
+abbrev pub is_marked_off : MarkSet → Op → Bool
+is_marked_off ms o = any (λ m. replaces (op_of m) o) ms
 
-abbrev pub lasts : List Mark → Op → Bool
+abbrev pub lasts : MarkSet → Op → Bool
 lasts ms o = not (is_marked_off ms o)
 
-abbrev pub stays : List Mark → List Mark → Op → Bool
+abbrev pub stays : MarkSet → MarkSet → Op → Bool
 stays ms ns o = not (is_marked_off ms o || is_marked_off ns o)
 
 -- the first that some mark replaces
-abbrev pub first_off : List Mark → List Op → Option Id
+abbrev pub first_off : MarkSet → List Op → Option Id
 first_off ms os = option_map (λ o. o.id) (find (is_marked_off ms) os)
 
 -- an id has one body in the two

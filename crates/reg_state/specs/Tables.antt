@@ -1,7 +1,5 @@
 -- What a register's tables are seen as.
-use Rattle.std.specs.Prelude.{◌≡◌, Bool, List, Option, option_map, find}
-use Rattle.std.specs.List.{list_any}
-use Rattle.std.specs.List.Sorted.{IsSorted}
+use Rattle.std.specs.Prelude.{◌≡◌, List, Option, option_map, find}
 use Rattle.reg_op.specs.Set as set
 use Rattle.reg_op.specs.Operations.{Op}
 use Rattle.reg_op.specs.Ids.{Ids}
@@ -9,16 +7,14 @@ use Rattle.reg_op.specs.Operations.{Ops, replaces}
 use Rattle.reg_op.specs.Contents.{IsContent}
 use Rattle.reg_op.specs.Ids.{Id}
 use Rattle.reg_op.specs.Finite.{any}
-use Rattle.reg_marks.specs.declared.mark.Mark.{Mark}
-use Rattle.reg_marks.specs.Marks.{mark_cmp}
-use Rattle.reg_state.specs.Marks.{marks_of}
+use Rattle.reg_marks.specs.Marks.{MarkSet}
+use Rattle.reg_state.specs.Marks.{least_marks}
 use Rattle.reg_op.specs.Lists.{ById, content_at}
 
 -- the operations ascend, and the marks are theirs
-pub record AreTables (ops : List Op) (marks : List Mark) (seen : Ids) : Type 0 where
+pub record AreTables (ops : List Op) (marks : MarkSet) (seen : Ids) : Type 0 where
   pub by_id : ById ops
-  pub sorted : IsSorted mark_cmp marks
-  pub marked : (t : Mark → Bool) → list_any t marks ≡ list_any t (marks_of ops)
+  pub marked : marks ≡ least_marks ops
   pub is_content : IsContent (content_at ops seen)
 
 -- the least id that kept drops

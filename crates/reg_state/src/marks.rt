@@ -1,78 +1,37 @@
-ghost use Rattle.std.specs.Prelude.{◌≡◌, Bool, ◌&&◌, ◌++◌, List, OnOk, IfOk};
-ghost use Rattle.std.specs.List.{list_any};
-ghost use Rattle.std.specs.Ordering.{is_lt};
-ghost use Rattle.std.specs.List.Sorted.{IsSorted};
-ghost use Rattle.reg_op.specs.Ids.{is_same, is_before};
+ghost use Rattle.std.specs.Prelude.{◌≡◌, ◌&&◌, ◌++◌, OnOk, IfOk};
+ghost use Rattle.reg_op.specs.Ids.{is_before};
+ghost use Rattle.reg_op.specs.Finite.{any};
 ghost use Rattle.reg_op.specs.Operations.{replaces};
-ghost use Rattle.reg_op.specs.Lists.{passes};
-ghost use Rattle.reg_marks.specs.Marks.{target_cmp, mark_cmp, is_at};
-ghost use Rattle.reg_state.specs.Marks.{marks_of, marks_of_body, BeginsAt, op_of};
+ghost use Rattle.reg_marks.specs.Marks.{is_at};
+ghost use Rattle.reg_state.specs.Marks.{least_marks, marks_of_body, op_of};
 
-use reg_marks::{Mark, Target};
+use reg_marks::{Mark, Marks, Target};
 use reg_op::{Op, OpBody, OpId};
 use std::alloc::{AllocError, Global};
 
-fn is_below(mark: &Mark, target: &Target) -> bool
-    ensures { result ≡ is_lt (target_cmp mark.now.target target.now) }
-{
-    mark.target.cmp(target).is_lt()
-}
-
-fn is_at(mark: &Mark, target: &Target) -> bool
-    ensures { result ≡ is_at target.now mark.now }
-{
-    mark.target.cmp(target).is_eq()
-}
-
-// The first mark at a target or after it, which tells of all.
-fn first_from(marks: &[Mark], target: &Target) -> Option<Mark>
-    requires { IsSorted mark_cmp marks.now }
-    ensures { (t : Mark → Bool) → BeginsAt target.now t → list_any t marks.now ≡ passes t result }
-{
-    let at = marks.partition_point(|mark| is_below(mark, target));
-    if at < marks.len() {
-        return Some(marks[at]);
-    }
-    None
-}
-
 /// Whether the target is marked.
-pub fn is_marked(marks: &[Mark], target: &Target) -> bool
-    requires { IsSorted mark_cmp marks.now }
-    ensures { result ≡ list_any (λ m. is_at target.now m) marks.now }
+pub fn is_marked(marks: &Marks, target: &Target) -> bool
+    ensures { result ≡ any (λ m. is_at target.now m) marks.now }
 {
-    match first_from(marks, target) {
-        Some(mark) => is_at(&mark, target),
-        None => false,
-    }
-}
-
-/// Whether the entry has a mark.
-pub fn is_touched(marks: &[Mark], entry: OpId) -> bool
-    requires { IsSorted mark_cmp marks.now }
-    ensures { result ≡ list_any (λ m. is_same entry m.target.entry) marks.now }
-{
-    match first_from(marks, &Target { entry, by: None }) {
-        Some(mark) => entry.is_same(&mark.target.entry),
+    match marks.least(target) {
+        Some(_) => true,
         None => false,
     }
 }
 
 // Whether the target is marked by a lesser id.
-fn is_marked_before(marks: &[Mark], target: &Target, id: OpId) -> bool
-    requires { IsSorted mark_cmp marks.now }
-    ensures { result ≡ list_any (λ m. is_at target.now m && is_before m.id id) marks.now }
+fn is_marked_before(marks: &Marks, target: &Target, id: OpId) -> bool
+    ensures { result ≡ any (λ m. is_at target.now m && is_before m.id id) marks.now }
 {
-    match first_from(marks, target) {
-        Some(mark) => is_at(&mark, target) && mark.id.is_before(&id),
+    match marks.least(target) {
+        Some(least) => least.is_before(&id),
         None => false,
     }
 }
 
 /// Whether beside what is marked there is no need of the operation.
-pub fn is_replaced(marks: &[Mark], op: &Op) -> bool
-    requires { IsSorted mark_cmp marks.now }
-    ensures { result ≡ list_any (λ m. replaces (op_of m) op.now) marks.now }
+pub fn is_replaced(marks: &Marks, op: &Op) -> bool
+    ensures { result ≡ any (λ m. replaces (op_of m) op.now) marks.now }
 {
     let id = op.id();
     match op.body() {
@@ -127,10 +86,9 @@ fn push_mark(marks: &mut Vec<Mark>, op: &Op) -> Result<(), AllocError>
     Ok(())
 }
 
-/// The marks of operations, sorted.
-pub fn marks_of(alloc: Global, ops: &[Op]) -> Result<Vec<Mark>, AllocError>
-    ensures sorted { IfOk result (λ marks. IsSorted mark_cmp marks.items) }
-    ensures marks { IfOk result (λ marks. (t : Mark → Bool) → list_any t marks.items ≡ list_any t (marks_of ops.now)) }
+/// The marks that operations set.
+pub fn marks_of(alloc: Global, ops: &[Op]) -> Result<Marks, AllocError>
+    ensures { IfOk result (λ marks. marks ≡ least_marks ops.now) }
 {
     let mut marks = Vec::new(alloc);
     let mut rest = ops;
@@ -138,6 +96,5 @@ pub fn marks_of(alloc: Global, ops: &[Op]) -> Result<Vec<Mark>, AllocError>
         push_mark(&mut marks, op)?;
         rest = others;
     }
-    marks.sort()?;
-    Ok(marks)
+    Marks::of(alloc, marks)
 }

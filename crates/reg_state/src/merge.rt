@@ -1,19 +1,16 @@
 ghost use Rattle.std.specs.Prelude.{◌≡◌, true, false, ◌++◌, [], ◌∷◌, ◌&&◌, ◌||◌, IfOk, OnOk, filter};
-ghost use Rattle.std.specs.List.Sorted.{IsSorted};
 ghost use Rattle.reg_op.specs.Operations.{Op as Operation};
 ghost use Rattle.reg_op.specs.Lists.{ById, has};
-ghost use Rattle.reg_marks.specs.Marks.{mark_cmp};
 ghost use Rattle.reg_state.specs.Merge.{Agree, stays, lasts, is_marked_off};
 
 use crate::marks::is_replaced;
 use crate::table::comes_first;
-use reg_marks::Mark;
+use reg_marks::Marks;
 use reg_op::Op;
 use std::alloc::{AllocError, Global};
 
 // Puts a copy of an operation at the end, unless it is replaced.
-fn push_kept(alloc: Global, out: &mut Vec<Op>, op: &Op, marks: &[Mark]) -> Result<(), AllocError>
-    requires { IsSorted mark_cmp marks.now }
+fn push_kept(alloc: Global, out: &mut Vec<Op>, op: &Op, marks: &Marks) -> Result<(), AllocError>
     ensures { OnOk result (out.new.items ≡ out.old.items ++ filter (lasts marks.now) (op.now ∷ [])) }
 {
     if is_replaced(marks, op) {
@@ -28,9 +25,8 @@ fn push_all_kept(
     alloc: Global,
     out: &mut Vec<Op>,
     ops: &[Op],
-    marks: &[Mark],
+    marks: &Marks,
 ) -> Result<(), AllocError>
-    requires { IsSorted mark_cmp marks.now }
     ensures { OnOk result (out.new.items ≡ out.old.items ++ filter (lasts marks.now) ops.now) }
 {
     let mut rest = ops;
@@ -45,14 +41,12 @@ fn push_all_kept(
 pub fn join_ops(
     alloc: Global,
     left: &[Op],
-    left_marks: &[Mark],
+    left_marks: &Marks,
     right: &[Op],
-    right_marks: &[Mark],
+    right_marks: &Marks,
 ) -> Result<Vec<Op>, AllocError>
     requires left { ById left.now }
     requires right { ById right.now }
-    requires left_marks { IsSorted mark_cmp left_marks.now }
-    requires right_marks { IsSorted mark_cmp right_marks.now }
     requires left_kept { (q : Operation) → has left.now q ≡ true → is_marked_off left_marks.now q ≡ false }
     requires right_kept { (q : Operation) → has right.now q ≡ true → is_marked_off right_marks.now q ≡ false }
     requires agree { Agree left.now right.now }

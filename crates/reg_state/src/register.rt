@@ -9,12 +9,12 @@ ghost use Rattle.reg_op.specs.Lists.{ById, has, content_at};
 ghost use Rattle.reg_state.specs.Tables.{first_dropped};
 ghost use Rattle.reg_state.specs.RegisterLaws.{register_laws};
 
-use crate::marks::{is_marked, is_touched, marks_of};
+use crate::marks::{is_marked, marks_of};
 use crate::merge::join_ops;
 use crate::table::{definition_in, first_clash, first_replaced};
 use crate::view::Ops;
 use reg_join::{Join, JoinFault};
-use reg_marks::{Mark, Target};
+use reg_marks::{Marks, Target};
 use reg_op::{Op, OpId, Status};
 use reg_seen::{Run, Seen};
 use std::alloc::{AllocError, Global};
@@ -42,7 +42,7 @@ pub enum TakeFault {
 #[derive(Drop)]
 pub struct Register {
     ops: Vec<Op>,
-    marks: Vec<Mark>,
+    marks: Marks,
     seen: Seen,
 }
 
@@ -58,7 +58,7 @@ impl Model for Register {
 
     ghost view = { λ r. content_at r.ops.items r.seen };
 
-    ghost invariant = { λ r. AreTables r.ops.items r.marks.items r.seen };
+    ghost invariant = { λ r. AreTables r.ops.items r.marks r.seen };
 }
 
 impl Register {
@@ -67,7 +67,7 @@ impl Register {
     {
         Register {
             ops: Vec::new(alloc),
-            marks: Vec::new(alloc),
+            marks: Marks::new(alloc),
             seen: Seen::new(alloc),
         }
     }
@@ -94,6 +94,7 @@ impl Register {
     /// The operations that are kept, by id.
     pub fn ops(&self) -> Ops<'_>
         ensures items { result ≡ set.items self.now.ops }
+        ensures by_id { ById result }
         ensures content { IsContent self.now }
     {
         Ops::of(&self.ops)
@@ -117,7 +118,7 @@ impl Register {
         if is_marked(&self.marks, &Target { entry, by: None }) {
             return Some(Status::Retired);
         }
-        if is_touched(&self.marks, entry) {
+        if self.marks.is_touched(entry) {
             return Some(Status::Superseded);
         }
         Some(Status::Valid)
@@ -155,7 +156,7 @@ impl Register {
         ensures { IfOk result (λ copy. copy ≡ self.now) }
     {
         let ops = copies(alloc, &self.ops)?;
-        let marks = Vec::from_slice(alloc, &self.marks)?;
+        let marks = self.marks.try_clone(alloc)?;
         let seen = self.seen.try_clone(alloc)?;
         Ok(Register { ops, marks, seen })
     }

@@ -1,16 +1,14 @@
 ghost use Rattle.std.specs.Prelude.{◌≡◌, ◌&&◌, true, IfSome, IfNone, is_some};
 ghost use Rattle.std.specs.List.{list_any};
-ghost use Rattle.std.specs.List.Sorted.{IsSorted};
 ghost use Rattle.reg_op.specs.Ids.{is_same, is_before};
 ghost use Rattle.reg_op.specs.Operations.{Op as Operation, IsOperation};
 ghost use Rattle.reg_op.specs.Status.{is_enter};
 ghost use Rattle.reg_op.specs.Kept.{entering};
 ghost use Rattle.reg_op.specs.Lists.{ById, has};
-ghost use Rattle.reg_marks.specs.Marks.{mark_cmp};
 ghost use Rattle.reg_state.specs.Merge.{clash_in, first_off};
 
 use crate::marks::is_replaced;
-use reg_marks::Mark;
+use reg_marks::Marks;
 use reg_op::{Op, OpBody, OpId};
 use wkt_crs::Definition;
 
@@ -56,8 +54,7 @@ pub fn definition_in(ops: &[Op], id: OpId) -> Option<&Definition>
 }
 
 /// The least id of what is replaced.
-pub fn first_replaced(ops: &[Op], marks: &[Mark]) -> Option<OpId>
-    requires { IsSorted mark_cmp marks.now }
+pub fn first_replaced(ops: &[Op], marks: &Marks) -> Option<OpId>
     ensures value { result ≡ first_off marks.now ops.now }
     ensures operations { IfNone result ((o : Operation) → has ops.now o ≡ true → IsOperation o) }
 {

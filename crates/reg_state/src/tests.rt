@@ -1,3 +1,4 @@
+mod contents;
 mod growth;
 mod orders;
 mod plain;

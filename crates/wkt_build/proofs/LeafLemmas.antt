@@ -10,7 +10,8 @@ use Rattle.std.specs.Bool.{Decides}
 use Rattle.crs_number.specs.Value.{IsWhole}
 use Rattle.crs_number.specs.Count.{SpellsWhole, IsCount, is_count}
 use Rattle.crs_number.specs.declared.decimals.Decimal.{Decimal}
-use Rattle.crs_number.proofs.CountLemmas.{count_from, spells_once}
+use Rattle.crs_number.proofs.CountLemmas.{count_from}
+use Rattle.crs_number.proofs.Once.{spells_once}
 use Rattle.crs_part.specs.declared.text.Text.{Text}
 use Rattle.crs_part.specs.declared.identifiers.NumberOrText.TheVariants as code
 use Rattle.wkt_tree.specs.declared.token.TokenKind.TheVariants.{Word, Quoted, Number}
@@ -25,7 +26,7 @@ use Rattle.wkt_slots.specs.Rows.{takes}
 use Rattle.wkt_slots.specs.Words.{keyword_of, is_cs_kind, is_direction}
 use Rattle.wkt_tier.specs.Slots.{argument_by}
 use Rattle.wkt_tier.specs.Bare.{Bare, text, bare, shape}
-use Rattle.wkt_tier.specs.Fitted.{Fitting}
+use Rattle.wkt_meaning.specs.FirstEdition.{Fitting}
 use Rattle.wkt_meaning.specs.Leaves.{undoubled, DenotesText, DenotesNumber, DenotesCount, DenotesWord}
 use Rattle.wkt_meaning.specs.Words.{system_word, direction_word, first_word, kinds_listed, directions_listed}
 use Rattle.wkt_meaning.specs.Denotes.{DenotesCode}
@@ -84,7 +85,7 @@ count_takes old new d o m h n = (λ s t rest e k c. some s t rest e k c, λ s t 
     counted t rest e k c =
         let q = count_from t.piece.bytes c in
         let a = m t rest e k in
-        let s = spells_once t.piece.bytes q.spelled.coefficient q.spelled.exponent d.coefficient d.exponent q.spelled.spells a.0 in
+        let s = spells_once t.piece.bytes q.spelled.coefficient d.coefficient q.spelled.exponent d.exponent q.spelled.spells a.0 in
         (q, h q.count q.small (subst (λ z. IsWhole z d.exponent (pos q.count)) s.0 (subst (λ z. IsWhole q.spelled.coefficient z (pos q.count)) s.1 q.spelled.whole)), a.1)
 
     some_same : (a b : ℕ) → Some a ≡ Some b → a ≡ b

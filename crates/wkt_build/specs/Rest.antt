@@ -9,7 +9,7 @@ use Rattle.wkt_slots.specs.declared.table.SlotName.TheVariants as slots
 use Rattle.wkt_slots.specs.declared.table.Takes.TheVariants as kinds
 use Rattle.wkt_slots.specs.declared.table.Keyword.TheVariants as keywords
 use Rattle.wkt_tier.specs.Bare.{Bare}
-use Rattle.wkt_tier.specs.Fitted.{Cuts}
+use Rattle.wkt_meaning.specs.FirstEdition.{Cuts}
 use Rattle.wkt_meaning.specs.Runs.{Fields, nothing, ◌&◌, Runs, One, Maybe, Each, AtLeastOne}
 use Rattle.wkt_meaning.specs.Denotes.{DenotesSystem, DenotesAxis, DenotesUnit, DenotesUsage, DenotesIdent, DenotesValue}
 use Rattle.wkt_build.specs.Reads.{Behind}

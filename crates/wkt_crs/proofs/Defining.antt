@@ -1,10 +1,8 @@
 -- What makes a definition.
-use Rattle.std.proofs.Common.{◌≡◌, ℕ, suc, nat_eq, ◌≤◌, Bool, true, false, List, [], ◌∷◌, length, refl, sym, ap, ◌∙◌, subst, arith, inl, inr}
-use Rattle.std.specs.Prelude.{◌⊎◌, ◌==◌, ◌&&◌, not, Result, Ok, Err, IfOk, IfErr}
+use Rattle.std.proofs.Common.{◌≡◌, ℕ, nat_eq, ◌≤◌, Bool, true, false, List, [], ◌∷◌, length, refl, sym, ap, ◌∙◌, subst, arith, inl, inr}
+use Rattle.std.specs.Prelude.{◌⊎◌, ◌&&◌, not, Result, Ok, Err, IfOk, IfErr}
 use Rattle.std.specs.Cmp.Lexicographic.{pointwise}
 use Rattle.std.proofs.lemmas.Bool.{eqb-true, eq-eqb}
-use Rattle.std.proofs.Math.Dec.{eqb-suc-zero}
-use Rattle.crs_part.specs.declared.identifiers.Ident.{Ident}
 use Rattle.crs_value.specs.declared.crs.Crs.{Crs}
 use Rattle.crs_value.specs.declared.key.Key.{Key}
 use Rattle.wkt_crs.specs.declared.fault.ReadFault.{ReadFault}
@@ -30,19 +28,6 @@ is_crs_of crs key bytes d = (d.canonical, canonical_text crs bytes d.canonical d
 
 pub is_key_in : (crs : Crs) (key : Key) (bytes : List ℕ) → IsDefinedBy crs key bytes → IsKeyIn key bytes
 is_key_in crs key bytes d = (crs, canonical_text crs bytes d.canonical d.short, d.identified, d.keyed)
-
--- ---- with or without an identifier
-
-no_zero : (n : ℕ) → (suc n == 0) ≡ true → ⊥
-no_zero n h = let e = sym (eqb-suc-zero n) ∙ h in absurd cc
-
-pub has_none : (ids got : List Ident) → got ≡ ids → (length got == 0) ≡ true → ids ≡ []
-has_none ids [] e h = sym e
-has_none ids (x ∷ xs) e h = absurd (no_zero (length xs) h)
-
-pub has_one : (ids got : List Ident) → got ≡ ids → (length got == 0) ≡ false → ids ≡ [] → ⊥
-has_one ids [] e h g = absurd cc
-has_one ids (x ∷ xs) e h g = let f = e ∙ g in absurd cc
 
 -- ---- bytes that are compared
 
@@ -102,3 +87,10 @@ read_refused bytes (read.Text f) short h = (short, h)
 read_refused bytes (read.Slot f) short h = (short, h)
 read_refused bytes (read.Broken condition at) short h = (short, h)
 read_refused bytes read.Memory short h = tt
+
+-- a text that is refused as one that spells nothing has a first fault
+pub read_fault : (bytes : List ℕ) (f : ReadFault) → IsCanonicalFault bytes (fault.Read f) → (length bytes ≤ 65536) × FirstFault bytes f
+read_fault bytes (read.Text f) h = h
+read_fault bytes (read.Slot f) h = h
+read_fault bytes (read.Broken condition at) h = h
+read_fault bytes read.Memory h = absurd h

@@ -1,6 +1,5 @@
 pub mod GoodTrees
 pub mod Passes
-pub mod Clean
 pub mod Systems
 pub mod Texts
 pub mod Sources

@@ -75,8 +75,8 @@ whole_only (Some k) who condition e = sym (ap who_of e)
 of_single : (crs : Single) (whose : Whose) (condition : Condition) → first_broken (parts.Single crs) ≡ Some (record { whose = whose; condition = condition }) → whose ≡ Whole
 of_single crs whose condition e = whole_only _ whose condition (sym (first_of_single crs) ∙ e)
 
-whole_place : (item : Item) (whose : Whose) (at : ℕ) → whose ≡ Whole → TellsPlace (tokens item) whose at → at ≡ keyword_place item whose
-whole_place item whose at e h =
+whole_place : (item : Item) (who : Whose) (at : ℕ) → who ≡ Whole → TellsPlace (tokens item) who at → at ≡ keyword_place item who
+whole_place item who at e h =
     subst (λ w. at ≡ keyword_place item w) (sym e) (subst (λ w. TellsPlace (tokens item) w at) e h ∙ item_start item)
 
 three_place : (item : Item) → Three item → (whose : Whose) (at : ℕ) → TellsPlace (tokens item) whose at → at ≡ keyword_place item whose

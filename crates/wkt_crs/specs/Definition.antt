@@ -51,7 +51,10 @@ IsNewFault crs fault.Memory = Unit {0}
 
 abbrev pub IsCanonicalFault : List ℕ → DefinitionFault → Type 0
 IsCanonicalFault bytes fault.CanonicalTooLong = 65536 < length bytes
-IsCanonicalFault bytes (fault.Read f) = (length bytes ≤ 65536) × FirstFault bytes f
+IsCanonicalFault bytes (fault.Read (read.Text f)) = (length bytes ≤ 65536) × FirstFault bytes (read.Text f)
+IsCanonicalFault bytes (fault.Read (read.Slot f)) = (length bytes ≤ 65536) × FirstFault bytes (read.Slot f)
+IsCanonicalFault bytes (fault.Read (read.Broken condition at)) = (length bytes ≤ 65536) × FirstFault bytes (read.Broken condition at)
+IsCanonicalFault bytes (fault.Read read.Memory) = ⊥
 IsCanonicalFault bytes fault.NoIdentifier = (length bytes ≤ 65536) × ((crs : Crs) × Spells bytes crs × HasNone crs)
 IsCanonicalFault bytes fault.NotCanonical = (length bytes ≤ 65536) × ((crs : Crs) × Spells bytes crs × ¬ (HasNone crs) × ¬ (bytes ≡ canon crs))
 IsCanonicalFault bytes fault.Memory = Unit {0}

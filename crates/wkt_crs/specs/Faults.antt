@@ -8,6 +8,7 @@ use Rattle.crs_value.specs.Checking.{first_broken}
 use Rattle.wkt_tree.specs.Tree.{Tok, Item, Items, text, number, word, node, last, more, tokens}
 use Rattle.wkt_tree.specs.Faults.{IsOutline}
 use Rattle.wkt_tree.specs.Faults as tree
+use Rattle.wkt_slots.specs.declared.table.Edition.TheVariants as editions
 use Rattle.wkt_tier.specs.declared.fault.SlotFault.{SlotFault}
 use Rattle.wkt_tier.specs.Slots.{IsFirst, begin}
 use Rattle.wkt_tier.specs.Bare.{bare}
@@ -15,11 +16,11 @@ use Rattle.wkt_meaning.specs.Denotes.{DenotesParts}
 use Rattle.wkt_crs.specs.declared.fault.ReadFault.{ReadFault}
 use Rattle.wkt_crs.specs.declared.fault.ReadFault.TheVariants as fault
 
--- the text is written with the tokens of a tree, whose first slot fault this is
+-- the text is written with the tokens of a tree, whose first slot fault in the first edition this is
 pub record FirstSlot (text : List ℕ) (f : SlotFault) : Type 0 where
   pub toks : List Tok
   pub outline : IsOutline text toks
-  pub first : IsFirst toks f
+  pub first : IsFirst editions.First toks f
 
 -- where the first of these items begins
 abbrev pub first_begin : Items → ℕ

@@ -1,6 +1,6 @@
 //! Definitions: what a register holds.
 
-ghost use Rattle.std.specs.Prelude.{◌≡◌, ◌≤◌, length, IfOk, IfErr};
+ghost use Rattle.std.specs.Prelude.{◌≡◌, ◌≤◌, true, false, length, IfOk, IfErr};
 ghost use Rattle.crs_part.specs.Slots.{ids_of};
 ghost use Rattle.wkt_crs.specs.Spells.{canon};
 ghost use Rattle.wkt_crs.specs.Definition.{HasNone, IsDefinedBy, of_read};
@@ -55,18 +55,25 @@ impl Model for Definition {
 }
 
 impl Definition {
-    ghost use Rattle.std.specs.Prelude.{◌≡◌, ◌⊎◌, Ok, Err, IfOk, IfErr};
+    ghost use Rattle.std.specs.Prelude.{◌≡◌, ◌≤◌, ◌<◌, ◌⊎◌, length, Ok, Err, IfOk, IfErr};
+    ghost use Rattle.wkt_tree.specs.declared.fault.TextFault.{TextFault};
+    ghost use Rattle.wkt_tree.specs.Faults as tree;
+    ghost use Rattle.wkt_tier.specs.declared.fault.SlotFault.{SlotFault};
+    ghost use Rattle.wkt_crs.specs.declared.fault.ReadFault.TheVariants as read;
+    ghost use Rattle.wkt_crs.specs.Faults.{FirstSlot};
     ghost use Rattle.wkt_crs.specs.declared.definition.DefinitionFault.TheVariants as fault;
     ghost use Rattle.wkt_crs.specs.Spells.{canon};
-    ghost use Rattle.wkt_crs.specs.Definition.{IsDefinition, IsNewFault, IsCanonicalFault, IsDefinedBy, IsCrsOf, IsKeyIn};
+    ghost use Rattle.wkt_crs.specs.Definition.{HasNone, IsDefinition, IsNewFault, IsCanonicalFault, IsDefinedBy, IsCrsOf, IsKeyIn};
 
     /// The definition of a reference system.
     pub fn new(alloc: Global, crs: Crs) -> Result<Definition, DefinitionFault>
         ensures ok { IfOk result (λ d. d ≡ canon crs) }
         ensures fault { IfErr result (IsNewFault crs) }
         ensures only { IsDefinition (canon crs) → (result ≡ Ok (canon crs)) ⊎ (result ≡ Err fault.Memory) }
+        // This comes without memory.
+        ensures none { HasNone crs → result ≡ Err fault.NoIdentifier }
     {
-        if crs.parts().ids().is_empty() {
+        if !has_identifier(&crs) {
             return Err(DefinitionFault::NoIdentifier);
         }
         let Ok(text) = write_crs(alloc, &crs) else {
@@ -83,6 +90,10 @@ impl Definition {
         ensures ok { IfOk result (λ d. d ≡ bytes.now) }
         ensures fault { IfErr result (IsCanonicalFault bytes.now) }
         ensures only { IsDefinition bytes.now → (result ≡ Ok bytes.now) ⊎ (result ≡ Err fault.Memory) }
+        // These come without memory.
+        ensures long { 65536 < length bytes.now → result ≡ Err fault.CanonicalTooLong }
+        ensures text { (f : TextFault) → length bytes.now ≤ 65536 → tree.FirstFault bytes.now f → result ≡ Err (fault.Read (read.Text f)) }
+        ensures slot { (f : SlotFault) → length bytes.now ≤ 65536 → FirstSlot bytes.now f → result ≡ Err (fault.Read (read.Slot f)) }
     {
         if bytes.len() > MOST {
             return Err(DefinitionFault::CanonicalTooLong);
@@ -91,7 +102,7 @@ impl Definition {
             Ok(crs) => crs,
             Err(fault) => return Err(of_read(fault)),
         };
-        if crs.parts().ids().is_empty() {
+        if !has_identifier(&crs) {
             return Err(DefinitionFault::NoIdentifier);
         }
         let Ok(text) = write_crs(alloc, &crs) else {
@@ -129,10 +140,19 @@ impl Definition {
     pub fn try_clone(&self, alloc: Global) -> Result<Definition, AllocError>
         ensures { IfOk result (λ copy. copy ≡ self.now) }
     {
+        // The text is shared, so the copy needs no room.
         let _ = alloc;
         let body = self.body.clone()?;
         Ok(Definition { body })
     }
+}
+
+// Whether the reference system has an identifier of its own.
+fn has_identifier(crs: &Crs) -> bool
+    ensures some { result ≡ true → ¬ (HasNone crs.now) }
+    ensures none { result ≡ false → HasNone crs.now }
+{
+    !crs.parts().ids().is_empty()
 }
 
 // The definition of a reference system with an identifier, of which this is the canonical text.

@@ -14,6 +14,7 @@ use crate::places::keyword_place;
 use crs_value::Crs;
 use std::alloc::Global;
 use wkt_build::build_parts;
+use wkt_slots::Edition;
 use wkt_tier::check_slots;
 use wkt_tree::scan;
 
@@ -31,7 +32,7 @@ pub fn read_crs(alloc: Global, text: &[u8]) -> Result<Crs, ReadFault>
         Ok(outline) => outline,
         Err(fault) => return Err(ReadFault::Text(fault)),
     };
-    if let Err(fault) = check_slots(&outline) {
+    if let Err(fault) = check_slots(Edition::First, &outline) {
         return Err(ReadFault::Slot(fault));
     }
     let parts = match build_parts(alloc, &outline) {

@@ -1,6 +1,8 @@
+mod definitions;
+mod growth;
 mod refused;
 
-use crate::{Condition, Definition, DefinitionFault, ReadFault, read_crs, write_crs, write_pretty};
+use crate::{Condition, ReadFault, read_crs, write_crs, write_pretty};
 use std::alloc::Global;
 use std::test::Fail;
 
@@ -46,33 +48,6 @@ fn every_spelling_gives_the_canonical_text(rt: HostRuntime) -> Result<(), Fail> 
     let again = read_crs(alloc, &pretty).ok().ok_or("refused")?;
     assert!(rt; write_crs(alloc, &again)?.as_slice() == HEIGHT);
     Ok(())
-}
-
-#[test]
-fn definitions_are_canonical_and_have_a_key(rt: HostRuntime) -> Result<(), Fail> {
-    let alloc = rt.alloc();
-    let compound = Definition::from_canonical(alloc, COMPOUND)
-        .ok()
-        .ok_or("refused")?;
-    assert!(rt; compound.as_bytes() == COMPOUND);
-    assert!(rt; compound.key().authority.as_bytes() == b"X".as_slice());
-    assert!(rt; compound.key().code.as_bytes() == b"9".as_slice());
-    let copy = compound.try_clone(alloc)?;
-    assert!(rt; copy.as_bytes() == COMPOUND);
-    let spelled = Definition::from_canonical(alloc, SPELLED).err();
-    assert!(rt; spelled == Some(DefinitionFault::NotCanonical));
-    let crs = read_crs(alloc, SPELLED).ok().ok_or("refused")?;
-    let made = Definition::new(alloc, crs).ok().ok_or("refused")?;
-    assert!(rt; made.as_bytes() == HEIGHT);
-    Ok(())
-}
-
-#[test]
-fn a_system_without_an_identifier_is_no_definition(rt: HostRuntime) {
-    let text =
-        b"VERTCRS[\"H\",VDATUM[\"D\"],CS[vertical,1],AXIS[\"height (H)\",up],LENGTHUNIT[\"metre\",1]]";
-    let refused = Definition::from_canonical(rt.alloc(), text).err();
-    assert!(rt; refused == Some(DefinitionFault::NoIdentifier));
 }
 
 #[test]

@@ -11,7 +11,8 @@ use Rattle.crs_number.specs.Numeral.{Spells}
 use Rattle.crs_number.specs.Canonical.{canonical}
 use Rattle.crs_number.specs.Count.{SpellsWhole, is_count}
 use Rattle.crs_number.specs.declared.decimals.Decimal.{Decimal}
-use Rattle.crs_number.proofs.CountLemmas.{count_to, spells_once, count_once, decimal_spells}
+use Rattle.crs_number.proofs.CountLemmas.{count_to, count_once, decimal_spells}
+use Rattle.crs_number.proofs.Once.{spells_once}
 use Rattle.crs_number.proofs.Spelled.{canonical_spells}
 use Rattle.crs_number.proofs.Same.{same_decimal}
 use Rattle.crs_part.specs.declared.text.Text.{Text}
@@ -33,7 +34,7 @@ use Rattle.wkt_slots.specs.Rows.{takes}
 use Rattle.wkt_slots.specs.Words.{is_cs_kind, is_direction}
 use Rattle.wkt_tier.specs.Slots.{number_argument, word_argument}
 use Rattle.wkt_tier.specs.Bare.{Bare, text, number, word}
-use Rattle.wkt_tier.specs.Fitted.{Fitting}
+use Rattle.wkt_meaning.specs.FirstEdition.{Fitting}
 use Rattle.wkt_meaning.specs.Leaves.{undoubled, SameWord, DenotesText, DenotesNumber, DenotesCount, DenotesWord}
 use Rattle.wkt_meaning.specs.Words.{system_word, direction_word, first_word, kinds_listed, directions_listed}
 use Rattle.wkt_meaning.specs.Denotes.{DenotesCode}
@@ -84,7 +85,7 @@ number_taken t b p q = elim (is_count b) as (λ c. takes t (cond c arguments.Cou
 number_once : (x : Bare) (v w : Decimal) → DenotesNumber x v → DenotesNumber x w → v ≡ w
 number_once x v w d e =
     let same = number_injective d.bytes e.bytes (sym d.is ∙ e.is) in
-    let s = spells_once d.bytes v.coefficient v.exponent w.coefficient w.exponent d.spells (subst (λ b. Spells b w.coefficient w.exponent) (sym same) e.spells) in
+    let s = spells_once d.bytes v.coefficient w.coefficient v.exponent w.exponent d.spells (subst (λ b. Spells b w.coefficient w.exponent) (sym same) e.spells) in
     same_decimal v w s.0 s.1
 
 pub number_law : Law kinds.Number 0 DenotesNumber number_tree

@@ -1,3 +1,4 @@
+pub mod FirstEdition
 pub mod Runs
 pub mod Leaves
 pub mod Words

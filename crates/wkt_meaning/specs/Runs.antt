@@ -5,7 +5,8 @@ use Rattle.crs_part.specs.declared.many.NonEmpty.{NonEmpty}
 use Rattle.wkt_slots.specs.declared.table.Slot.{Slot}
 use Rattle.wkt_slots.specs.declared.table.Node.{Node}
 use Rattle.wkt_slots.specs.declared.table.Keyword.{Keyword}
-use Rattle.wkt_slots.specs.Rows.{row_of, takes, Times}
+use Rattle.wkt_slots.specs.Rows.{takes, Times}
+use Rattle.wkt_meaning.specs.FirstEdition.{row_of}
 use Rattle.wkt_slots.specs.Words.{keyword_of}
 use Rattle.wkt_tier.specs.Bare.{Bare, Bares, node, args, shape}
 

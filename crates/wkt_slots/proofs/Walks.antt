@@ -5,6 +5,8 @@ use Rattle.std.specs.List.{AllPass, list_all}
 use Rattle.std.proofs.lemmas.List.{append-nil}
 use Rattle.std.proofs.lemmas.List.Sums.{AllPass-from_list_all}
 use Rattle.std.proofs.lemmas.List.Elements.{All-nil, All-cons, All-head, All-tail}
+use Rattle.wkt_slots.specs.declared.table.Edition.{Edition}
+use Rattle.wkt_slots.specs.declared.table.Edition.TheVariants as editions
 use Rattle.wkt_slots.specs.declared.table.Slot.{Slot}
 use Rattle.wkt_slots.specs.declared.table.SlotName.{SlotName}
 use Rattle.wkt_slots.specs.declared.table.Takes.{Takes}
@@ -15,7 +17,6 @@ use Rattle.wkt_slots.specs.declared.table.Often.{Often}
 use Rattle.wkt_slots.specs.declared.table.Often.TheVariants.{Once, AtMostOnce, Any, AtLeastOnce}
 use Rattle.wkt_slots.specs.declared.table.Node.{Node}
 use Rattle.wkt_slots.specs.declared.table.Node.TheVariants as nodes
-use Rattle.wkt_slots.specs.declared.table.Keyword.{Keyword}
 use Rattle.wkt_slots.specs.declared.table.Keyword.TheVariants as keywords
 use Rattle.wkt_slots.specs.Rows.{row_of, takes, Times, Fits, Admitted, is_required, FirstMissing}
 use Rattle.wkt_slots.specs.declared.walk.Place.{Place}
@@ -339,33 +340,35 @@ end_fits row args at e m = left_fits row args (subst (λ l. Left row false l) (a
 
 -- ---- one more argument
 
-pub rows_clear : (node : Node) → is_clear (row_of node) ≡ true
-rows_clear nodes.Root = refl
-rows_clear nodes.GeodeticCrs = refl
-rows_clear nodes.ProjectedCrs = refl
-rows_clear nodes.VerticalCrs = refl
-rows_clear nodes.CompoundCrs = refl
-rows_clear nodes.BaseCrs = refl
-rows_clear nodes.Datum = refl
-rows_clear nodes.VerticalDatum = refl
-rows_clear nodes.GeodeticEnsemble = refl
-rows_clear nodes.VerticalEnsemble = refl
-rows_clear nodes.Named = refl
-rows_clear nodes.EnsembleAccuracy = refl
-rows_clear nodes.Ellipsoid = refl
-rows_clear nodes.PrimeMeridian = refl
-rows_clear nodes.Conversion = refl
-rows_clear nodes.Parameter = refl
-rows_clear nodes.Unit = refl
-rows_clear nodes.CoordinateSystem = refl
-rows_clear nodes.Axis = refl
-rows_clear nodes.Meridian = refl
-rows_clear nodes.Order = refl
-rows_clear nodes.Usage = refl
-rows_clear nodes.BoundingBox = refl
-rows_clear nodes.VerticalExtent = refl
-rows_clear nodes.Value = refl
-rows_clear nodes.Identifier = refl
+pub rows_clear : (ed : Edition) (node : Node) → is_clear (row_of ed node) ≡ true
+rows_clear ed nodes.Root = refl
+rows_clear ed nodes.GeodeticCrs = refl
+rows_clear ed nodes.ProjectedCrs = refl
+rows_clear editions.First nodes.VerticalCrs = refl
+rows_clear editions.Second nodes.VerticalCrs = refl
+rows_clear ed nodes.CompoundCrs = refl
+rows_clear ed nodes.BaseCrs = refl
+rows_clear ed nodes.Datum = refl
+rows_clear ed nodes.VerticalDatum = refl
+rows_clear ed nodes.GeodeticEnsemble = refl
+rows_clear ed nodes.VerticalEnsemble = refl
+rows_clear ed nodes.Named = refl
+rows_clear ed nodes.EnsembleAccuracy = refl
+rows_clear ed nodes.Ellipsoid = refl
+rows_clear ed nodes.PrimeMeridian = refl
+rows_clear ed nodes.Conversion = refl
+rows_clear ed nodes.Parameter = refl
+rows_clear ed nodes.Unit = refl
+rows_clear ed nodes.CoordinateSystem = refl
+rows_clear ed nodes.Axis = refl
+rows_clear ed nodes.Meridian = refl
+rows_clear ed nodes.Order = refl
+rows_clear editions.First nodes.Usage = refl
+rows_clear editions.Second nodes.Usage = refl
+rows_clear ed nodes.BoundingBox = refl
+rows_clear ed nodes.VerticalExtent = refl
+rows_clear ed nodes.Value = refl
+rows_clear ed nodes.Identifier = refl
 
 walk-append : (args others : List Argument) (row : List Slot) (filled : Bool) → walk row filled (args ++ others) ≡ option_and_then (λ (at : Stands). walk at.0 at.1 others) (walk row filled args)
 walk-append [] others row filled = refl
@@ -378,46 +381,46 @@ walk-append (a ∷ args) others row filled =
 pub walk_push : (args : List Argument) (a : Argument) (row : List Slot) (left : List Slot) (filled : Bool) → walk row false args ≡ Some (left, filled) → walk row false (args ++ a ∷ []) ≡ option_and_then (λ next_left. Some (next_left, true)) (next left filled a)
 walk_push args a row left filled e = walk-append args (a ∷ []) row false ∙ ap (option_and_then (λ (at : Stands). walk at.0 at.1 (a ∷ []))) e
 
-module _ (node : Node) (slot : ℕ) (filled : Bool) (a : Argument) where
-  pub step_at : (left : List Slot) → next (drop slot (row_of node)) filled a ≡ Some left → (args : List Argument) → walk (row_of node) false args ≡ Some (drop slot (row_of node), filled) → walk (row_of node) false (args ++ a ∷ []) ≡ Some (left, true)
-  step_at left e args h = walk_push args a (row_of node) (drop slot (row_of node)) filled h ∙ ap (option_and_then (λ next_left. Some (next_left, true))) e
+module _ (ed : Edition) (node : Node) (slot : ℕ) (filled : Bool) (a : Argument) where
+  pub step_at : (left : List Slot) → next (drop slot (row_of ed node)) filled a ≡ Some left → (args : List Argument) → walk (row_of ed node) false args ≡ Some (drop slot (row_of ed node), filled) → walk (row_of ed node) false (args ++ a ∷ []) ≡ Some (left, true)
+  step_at left e args h = walk_push args a (row_of ed node) (drop slot (row_of ed node)) filled h ∙ ap (option_and_then (λ next_left. Some (next_left, true))) e
 
-  pub step_refused : next (drop slot (row_of node)) filled a ≡ None → (args : List Argument) → walk (row_of node) false args ≡ Some (drop slot (row_of node), filled) → Admitted (row_of node) (args ++ a ∷ []) → ⊥
+  pub step_refused : next (drop slot (row_of ed node)) filled a ≡ None → (args : List Argument) → walk (row_of ed node) false args ≡ Some (drop slot (row_of ed node), filled) → Admitted (row_of ed node) (args ++ a ∷ []) → ⊥
   step_refused e args h ad =
-      let g = goes_on (row_of node) (args ++ a ∷ []) (rows_clear node) ad in
-      let n = walk_push args a (row_of node) (drop slot (row_of node)) filled h ∙ ap (option_and_then (λ next_left. Some (next_left, true))) e in
+      let g = goes_on (row_of ed node) (args ++ a ∷ []) (rows_clear ed node) ad in
+      let n = walk_push args a (row_of ed node) (drop slot (row_of ed node)) filled h ∙ ap (option_and_then (λ next_left. Some (next_left, true))) e in
       cc
 
-pub missing_unfit : (node : Node) (at : Stands) (name : SlotName) (args : List Argument) → walk (row_of node) false args ≡ Some at → missing at.0 at.1 ≡ Some name → Fits (row_of node) args → ⊥
-missing_unfit node at n0 args h m f =
-    let g = fits_end (row_of node) args (rows_clear node) f in
+pub missing_unfit : (ed : Edition) (node : Node) (at : Stands) (name : SlotName) (args : List Argument) → walk (row_of ed node) false args ≡ Some at → missing at.0 at.1 ≡ Some name → Fits (row_of ed node) args → ⊥
+missing_unfit ed node at n0 args h m f =
+    let g = fits_end (row_of ed node) args (rows_clear ed node) f in
     let same : ◌≡◌ {A = Stands} g.0 at = cc in
     let n : missing at.0 at.1 ≡ None = subst (λ (x : Stands). missing x.0 x.1 ≡ None) same g.2 in
     cc
 
 -- what a step answered, by cases
-abbrev Answered : Node → Place → Argument → Option Place → Type 0
-Answered node place a r = MatchOption r (next (drop place.slot (row_of node)) place.filled a ≡ None) (λ p. (next (drop place.slot (row_of node)) place.filled a ≡ Some (drop p.slot (row_of node))) × (p.slot ≤ length (row_of node)) × (p.filled ≡ true))
+abbrev Answered : Edition → Node → Place → Argument → Option Place → Type 0
+Answered ed node place a r = MatchOption r (next (drop place.slot (row_of ed node)) place.filled a ≡ None) (λ p. (next (drop place.slot (row_of ed node)) place.filled a ≡ Some (drop p.slot (row_of ed node))) × (p.slot ≤ length (row_of ed node)) × (p.filled ≡ true))
 
-pub answered_at : (node : Node) (place : Place) (a : Argument) (r : Option Place) → Answered node place a r → IfSome r (λ p. (args : List Argument) → IsAt node args place → IsAt node (args ++ a ∷ []) p)
-answered_at node place a None h = tt
-answered_at node place a (Some p) h = λ args e. step_at node place.slot place.filled a (drop p.slot (row_of node)) h.0 args e ∙ ap (λ f. Some (drop p.slot (row_of node), f)) (sym h.2)
+pub answered_at : (ed : Edition) (node : Node) (place : Place) (a : Argument) (r : Option Place) → Answered ed node place a r → IfSome r (λ p. (args : List Argument) → IsAt ed node args place → IsAt ed node (args ++ a ∷ []) p)
+answered_at ed node place a None h = tt
+answered_at ed node place a (Some p) h = λ args e. step_at ed node place.slot place.filled a (drop p.slot (row_of ed node)) h.0 args e ∙ ap (λ f. Some (drop p.slot (row_of ed node), f)) (sym h.2)
 
-pub answered_admitted : (node : Node) (place : Place) (a : Argument) (r : Option Place) → Answered node place a r → IfSome r (λ p. (args : List Argument) → IsAt node args place → Admitted (row_of node) (args ++ a ∷ []))
-answered_admitted node place a None h = tt
-answered_admitted node place a (Some p) h = λ args e. admits (row_of node) (args ++ a ∷ []) _ (step_at node place.slot place.filled a (drop p.slot (row_of node)) h.0 args e)
+pub answered_admitted : (ed : Edition) (node : Node) (place : Place) (a : Argument) (r : Option Place) → Answered ed node place a r → IfSome r (λ p. (args : List Argument) → IsAt ed node args place → Admitted (row_of ed node) (args ++ a ∷ []))
+answered_admitted ed node place a None h = tt
+answered_admitted ed node place a (Some p) h = λ args e. admits (row_of ed node) (args ++ a ∷ []) _ (step_at ed node place.slot place.filled a (drop p.slot (row_of ed node)) h.0 args e)
 
-pub answered_refused : (node : Node) (place : Place) (a : Argument) (r : Option Place) → Answered node place a r → IfNone r ((args : List Argument) → IsAt node args place → Admitted (row_of node) (args ++ a ∷ []) → ⊥)
-answered_refused node place a None h = λ args e. step_refused node place.slot place.filled a h args e
-answered_refused node place a (Some p) h = tt
+pub answered_refused : (ed : Edition) (node : Node) (place : Place) (a : Argument) (r : Option Place) → Answered ed node place a r → IfNone r ((args : List Argument) → IsAt ed node args place → Admitted (row_of ed node) (args ++ a ∷ []) → ⊥)
+answered_refused ed node place a None h = λ args e. step_refused ed node place.slot place.filled a h args e
+answered_refused ed node place a (Some p) h = tt
 
-pub ended_fits : (node : Node) (place : Place) (r : Option SlotName) → r ≡ missing (drop place.slot (row_of node)) place.filled → IfNone r ((args : List Argument) → IsAt node args place → Fits (row_of node) args)
-ended_fits node place None h = λ args e. end_fits (row_of node) args _ e (sym h)
-ended_fits node place (Some p) h = tt
+pub ended_fits : (ed : Edition) (node : Node) (place : Place) (r : Option SlotName) → r ≡ missing (drop place.slot (row_of ed node)) place.filled → IfNone r ((args : List Argument) → IsAt ed node args place → Fits (row_of ed node) args)
+ended_fits ed node place None h = λ args e. end_fits (row_of ed node) args _ e (sym h)
+ended_fits ed node place (Some p) h = tt
 
-pub ended_unfit : (node : Node) (place : Place) (r : Option SlotName) → r ≡ missing (drop place.slot (row_of node)) place.filled → IfSome r (λ _. (args : List Argument) → IsAt node args place → Fits (row_of node) args → ⊥)
-ended_unfit node place None h = tt
-ended_unfit node place (Some p) h = λ args e. missing_unfit node _ p args e (sym h)
+pub ended_unfit : (ed : Edition) (node : Node) (place : Place) (r : Option SlotName) → r ≡ missing (drop place.slot (row_of ed node)) place.filled → IfSome r (λ _. (args : List Argument) → IsAt ed node args place → Fits (row_of ed node) args → ⊥)
+ended_unfit ed node place None h = tt
+ended_unfit ed node place (Some p) h = λ args e. missing_unfit ed node _ p args e (sym h)
 
 -- ---- the first slot that is missing
 
@@ -507,9 +510,9 @@ first_missing_is row args at n e m =
     let h = lacks_walk args row false at n e m in
     record { before = h.before; slot = h.slot; after = h.after; parts = h.parts; fit = left_fits h.before args h.fit; required = h.required; is = h.is }
 
-pub ended_missing : (node : Node) (place : Place) (r : Option SlotName) → r ≡ missing (drop place.slot (row_of node)) place.filled → IfSome r (λ n. (args : List Argument) → IsAt node args place → FirstMissing (row_of node) args n)
-ended_missing node place None h = tt
-ended_missing node place (Some p) h = λ args e. first_missing_is (row_of node) args _ p e (sym h)
+pub ended_missing : (ed : Edition) (node : Node) (place : Place) (r : Option SlotName) → r ≡ missing (drop place.slot (row_of ed node)) place.filled → IfSome r (λ n. (args : List Argument) → IsAt ed node args place → FirstMissing (row_of ed node) args n)
+ended_missing ed node place None h = tt
+ended_missing ed node place (Some p) h = λ args e. first_missing_is (row_of ed node) args _ p e (sym h)
 
 -- ---- a row of which the arguments fill a front
 

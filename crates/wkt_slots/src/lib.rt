@@ -4,11 +4,13 @@
 mod choice;
 pub mod laws;
 mod names;
+mod rows;
 mod table;
 mod walk;
 mod words;
 
 pub use choice::{enters, takes};
-pub use table::{Argument, Keyword, Node, Often, Slot, SlotName, Takes, row_of};
+pub use rows::row_of;
+pub use table::{Argument, Edition, Keyword, Node, Often, Slot, SlotName, Takes};
 pub use walk::{Place, first_missing, step};
 pub use words::{is_cs_kind, is_direction, keyword_of};

@@ -7,6 +7,7 @@ use Rattle.std.proofs.lemmas.List.Elements.{All-nil, All-cons, All-head, All-tai
 use Rattle.wkt_tree.specs.declared.token.Delimiter.{Delimiter}
 use Rattle.wkt_tree.specs.Tree.{Piece, Tok, Item, Items, last, more, tokens}
 use Rattle.wkt_tree.specs.Tree as tree
+use Rattle.wkt_slots.specs.declared.table.Edition.{Edition}
 use Rattle.wkt_slots.specs.declared.table.Slot.{Slot}
 use Rattle.wkt_slots.specs.declared.table.SlotName.{SlotName}
 use Rattle.wkt_slots.specs.declared.table.Node.{Node}
@@ -55,62 +56,62 @@ WalksWell left filled xs = (at : Stands) × (walk left filled (map shape (args x
 walk_step : (left l : List Slot) (filled : Bool) (x : Bare) (xs : Bares) → next left filled (shape x) ≡ Some l → WalksWell l true xs → WalksWell left filled (and x xs)
 walk_step left l filled x xs e w = (w.0, ap (option_and_then (λ k. walk k true (map shape (args xs)))) e ∙ w.1, w.2)
 
-fitted_by : (n : Node) (xs : Bares) → WalksWell (row_of n) false xs → AllInside n xs → Fitted n xs
-fitted_by n xs w a = (end_fits (row_of n) (map shape (args xs)) w.0 w.1 w.2, a)
+fitted_by : (ed : Edition) (n : Node) (xs : Bares) → WalksWell (row_of ed n) false xs → AllInside ed n xs → Fitted ed n xs
+fitted_by ed n xs w a = (end_fits (row_of ed n) (map shape (args xs)) w.0 w.1 w.2, a)
 
 mutual
-  item_none : (i : Item) (n : Node) → item_fault n i ≡ None → Inside n (bare i)
-  item_none (tree.text p) n e = tt
-  item_none (tree.number p) n e = tt
-  item_none (tree.word p) n e = tt
-  item_none (tree.node k d o items c) n e = λ m h.
-      let f : items_fault m (row_of m) false items c.place ≡ None = sym (ap (option_and_then (λ q. items_fault q (row_of q) false items c.place)) h) ∙ e in
-      let g = items_none items m (row_of m) false c.place f in
-      fitted_by m (all_bare items) g.0 g.1
+  item_none : (ed : Edition) (i : Item) (n : Node) → item_fault ed n i ≡ None → Inside ed n (bare i)
+  item_none ed (tree.text p) n e = tt
+  item_none ed (tree.number p) n e = tt
+  item_none ed (tree.word p) n e = tt
+  item_none ed (tree.node k d o items c) n e = λ m h.
+      let f : items_fault ed m (row_of ed m) false items c.place ≡ None = sym (ap (option_and_then (λ q. items_fault ed q (row_of ed q) false items c.place)) h) ∙ e in
+      let g = items_none ed items m (row_of ed m) false c.place f in
+      fitted_by ed m (all_bare items) g.0 g.1
 
-  items_none : (items : Items) (n : Node) (left : List Slot) (filled : Bool) (end : ℕ) → items_fault n left filled items end ≡ None → WalksWell left filled (all_bare items) × AllInside n (all_bare items)
-  items_none (last i) n left filled end e =
-      let t = none_taken (refusal left filled (argument i) (begin i)) (item_fault n i) (λ l. missing_fault l end) (next left filled (argument i)) e in (
+  items_none : (ed : Edition) (items : Items) (n : Node) (left : List Slot) (filled : Bool) (end : ℕ) → items_fault ed n left filled items end ≡ None → WalksWell left filled (all_bare items) × AllInside ed n (all_bare items)
+  items_none ed (last i) n left filled end e =
+      let t = none_taken (refusal left filled (argument i) (begin i)) (item_fault ed n i) (λ l. missing_fault l end) (next left filled (argument i)) e in (
         walk_step left t.0 filled (bare i) none (ap (next left filled) (shape-bare i) ∙ t.1) ((t.0, true), refl, none_missing (missing t.0 true) end t.3),
-        (item_none i n t.2, tt),
+        (item_none ed i n t.2, tt),
       )
-  items_none (more i c rest) n left filled end e =
-      let t = none_taken (refusal left filled (argument i) (begin i)) (item_fault n i) (λ l. items_fault n l true rest end) (next left filled (argument i)) e in
-      let r = items_none rest n t.0 true end t.3 in (
+  items_none ed (more i c rest) n left filled end e =
+      let t = none_taken (refusal left filled (argument i) (begin i)) (item_fault ed n i) (λ l. items_fault ed n l true rest end) (next left filled (argument i)) e in
+      let r = items_none ed rest n t.0 true end t.3 in (
         walk_step left t.0 filled (bare i) (all_bare rest) (ap (next left filled) (shape-bare i) ∙ t.1) r.0,
-        (item_none i n t.2, r.1),
+        (item_none ed i n t.2, r.1),
       )
 
 -- a tree without a slot fault
-pub clean_fitted : (ts : List Tok) → IsClean ts → (k : Piece) (d : Delimiter) (o : Piece) (items : Items) (c : Piece) → ts ≡ tokens (tree.node k d o items c) → Fitted nodes.Root (and (bare (tree.node k d o items c)) none)
-clean_fitted ts clean k d o items c e =
+pub clean_fitted : (ed : Edition) (ts : List Tok) → IsClean ed ts → (k : Piece) (d : Delimiter) (o : Piece) (items : Items) (c : Piece) → ts ≡ tokens (tree.node k d o items c) → Fitted ed nodes.Root (and (bare (tree.node k d o items c)) none)
+clean_fitted ed ts clean k d o items c e =
     let t = tree.node k d o items c in
-    elim (items_fault nodes.Root (row_of nodes.Root) false (last t) (suc c.place)) as (λ f. items_fault nodes.Root (row_of nodes.Root) false (last t) (suc c.place) ≡ f → Fitted nodes.Root (and (bare t) none)) [
-      | None ↦ λ h. let g = items_none (last t) nodes.Root (row_of nodes.Root) false (suc c.place) h in fitted_by nodes.Root (and (bare t) none) g.0 g.1
-      | Some f ↦ λ h. absurd (clean k d o items c e f (items_has (last t) nodes.Root (row_of nodes.Root) false (suc c.place) f [] refl (items_sound (last t) nodes.Root (row_of nodes.Root) false (suc c.place) f h)))
+    elim (items_fault ed nodes.Root (row_of ed nodes.Root) false (last t) (suc c.place)) as (λ f. items_fault ed nodes.Root (row_of ed nodes.Root) false (last t) (suc c.place) ≡ f → Fitted ed nodes.Root (and (bare t) none)) [
+      | None ↦ λ h. let g = items_none ed (last t) nodes.Root (row_of ed nodes.Root) false (suc c.place) h in fitted_by ed nodes.Root (and (bare t) none) g.0 g.1
+      | Some f ↦ λ h. absurd (clean k d o items c e f (items_has ed (last t) nodes.Root (row_of ed nodes.Root) false (suc c.place) f [] refl (items_sound ed (last t) nodes.Root (row_of ed nodes.Root) false (suc c.place) f h)))
     ] refl
 
 -- ---- slot by slot
 
-abbrev EachInside : Node → List Bare → Type 0
-EachInside n [] = Unit {0}
-EachInside n (x ∷ xs) = Inside n x × EachInside n xs
+abbrev EachInside : Edition → Node → List Bare → Type 0
+EachInside ed n [] = Unit {0}
+EachInside ed n (x ∷ xs) = Inside ed n x × EachInside ed n xs
 
-each_inside : (n : Node) (xs : Bares) → AllInside n xs → EachInside n (args xs)
-each_inside n none a = tt
-each_inside n (and x xs) a = (a.0, each_inside n xs a.1)
+each_inside : (ed : Edition) (n : Node) (xs : Bares) → AllInside ed n xs → EachInside ed n (args xs)
+each_inside ed n none a = tt
+each_inside ed n (and x xs) a = (a.0, each_inside ed n xs a.1)
 
-all_inside : (n : Node) (xs : Bares) → EachInside n (args xs) → AllInside n xs
-all_inside n none a = tt
-all_inside n (and x xs) a = (a.0, all_inside n xs a.1)
+all_inside : (ed : Edition) (n : Node) (xs : Bares) → EachInside ed n (args xs) → AllInside ed n xs
+all_inside ed n none a = tt
+all_inside ed n (and x xs) a = (a.0, all_inside ed n xs a.1)
 
-front_inside : (n : Node) (a b : List Bare) → EachInside n (a ++ b) → EachInside n a × EachInside n b
-front_inside n [] b h = (tt, h)
-front_inside n (x ∷ a) b h = let r = front_inside n a b h.1 in ((h.0, r.0), r.1)
+front_inside : (ed : Edition) (n : Node) (a b : List Bare) → EachInside ed n (a ++ b) → EachInside ed n a × EachInside ed n b
+front_inside ed n [] b h = (tt, h)
+front_inside ed n (x ∷ a) b h = let r = front_inside ed n a b h.1 in ((h.0, r.0), r.1)
 
-back_inside : (n : Node) (a b : List Bare) → EachInside n a → EachInside n b → EachInside n (a ++ b)
-back_inside n [] b h g = g
-back_inside n (x ∷ a) b h g = (h.0, back_inside n a b h.1 g)
+back_inside : (ed : Edition) (n : Node) (a b : List Bare) → EachInside ed n a → EachInside ed n b → EachInside ed n (a ++ b)
+back_inside ed n [] b h g = g
+back_inside ed n (x ∷ a) b h g = (h.0, back_inside ed n a b h.1 g)
 
 record Split (xs : List Bare) (run rest : List Argument) : Type 0 where
   front : List Bare
@@ -129,32 +130,32 @@ split_of (a ∷ run) rest (x ∷ xs) e =
     record { front = x ∷ s.front; back = s.back; parts = ap (λ (l : List Bare). x ∷ l) s.parts; front_is = let f = s.front_is in cc; back_is = s.back_is }
 
 -- each slot of what is left of the row gives a keyword the row that the whole row gives it
-abbrev Decides : Node → List Slot → Type 0
-Decides n row = (i : ℕ) (d : Slot) (k : Keyword) (m : Node) → i < length row → enters (get_or row i d).takes k ≡ Some m → row_in (row_of n) k ≡ Some m
+abbrev Decides : Edition → Node → List Slot → Type 0
+Decides ed n row = (i : ℕ) (d : Slot) (k : Keyword) (m : Node) → i < length row → enters (get_or row i d).takes k ≡ Some m → row_in (row_of ed n) k ≡ Some m
 
-decides_rest : (n : Node) (s : Slot) (row : List Slot) → Decides n (s ∷ row) → Decides n row
-decides_rest n s row h i d k m below e = h (suc i) d k m (omega (arith, below)) e
+decides_rest : (ed : Edition) (n : Node) (s : Slot) (row : List Slot) → Decides ed n (s ∷ row) → Decides ed n row
+decides_rest ed n s row h i d k m below e = h (suc i) d k m (omega (arith, below)) e
 
-decides_head : (n : Node) (s : Slot) (row : List Slot) → Decides n (s ∷ row) → (k : Keyword) (m : Node) → enters s.takes k ≡ Some m → row_in (row_of n) k ≡ Some m
-decides_head n s row h k m e = h 0 s k m (omega arith) e
+decides_head : (ed : Edition) (n : Node) (s : Slot) (row : List Slot) → Decides ed n (s ∷ row) → (k : Keyword) (m : Node) → enters s.takes k ≡ Some m → row_in (row_of ed n) k ≡ Some m
+decides_head ed n s row h k m e = h 0 s k m (omega arith) e
 
-entered_by : (n : Node) (t : Takes) (o : Option Keyword) (m : Node) → ((k : Keyword) (q : Node) → enters t k ≡ Some q → row_in (row_of n) k ≡ Some q) → entered t o ≡ Some m → row_by n o ≡ Some m
-entered_by n t None m h e = absurd cc
-entered_by n t (Some k) m h e = h k m e
+entered_by : (ed : Edition) (n : Node) (t : Takes) (o : Option Keyword) (m : Node) → ((k : Keyword) (q : Node) → enters t k ≡ Some q → row_in (row_of ed n) k ≡ Some q) → entered t o ≡ Some m → row_by ed n o ≡ Some m
+entered_by ed n t None m h e = absurd cc
+entered_by ed n t (Some k) m h e = h k m e
 
-sound_of : (n : Node) (t : Takes) (x : Bare) → ((k : Keyword) (q : Node) → enters t k ≡ Some q → row_in (row_of n) k ≡ Some q) → Inside n x → IsSound t x
-sound_of n t (text b) h i = tt
-sound_of n t (number b) h i = tt
-sound_of n t (word b) h i = tt
-sound_of n t (node k xs) h i = λ m e. i m (entered_by n t (keyword_of k) m h e)
+sound_of : (ed : Edition) (n : Node) (t : Takes) (x : Bare) → ((k : Keyword) (q : Node) → enters t k ≡ Some q → row_in (row_of ed n) k ≡ Some q) → Inside ed n x → IsSound ed t x
+sound_of ed n t (text b) h i = tt
+sound_of ed n t (number b) h i = tt
+sound_of ed n t (word b) h i = tt
+sound_of ed n t (node k xs) h i = λ m e. i m (entered_by ed n t (keyword_of k) m h e)
 
 abbrev Takes-pass : Takes → Argument → Type 0
 Takes-pass t a = takes t a ≡ true
 
-all_fitting : (n : Node) (t : Takes) (xs : List Bare) → ((k : Keyword) (q : Node) → enters t k ≡ Some q → row_in (row_of n) k ≡ Some q) → AllPass (takes t) (map shape xs) → EachInside n xs → AllFitting t xs
-all_fitting n t [] h a i = tt
-all_fitting n t (x ∷ xs) h a i =
-    (record { taken = All-head (Takes-pass t) (shape x) (map shape xs) a; sound = sound_of n t x h i.0 }, all_fitting n t xs h (All-tail (Takes-pass t) (shape x) (map shape xs) a) i.1)
+all_fitting : (ed : Edition) (n : Node) (t : Takes) (xs : List Bare) → ((k : Keyword) (q : Node) → enters t k ≡ Some q → row_in (row_of ed n) k ≡ Some q) → AllPass (takes t) (map shape xs) → EachInside ed n xs → AllFitting ed t xs
+all_fitting ed n t [] h a i = tt
+all_fitting ed n t (x ∷ xs) h a i =
+    (record { taken = All-head (Takes-pass t) (shape x) (map shape xs) a; sound = sound_of ed n t x h i.0 }, all_fitting ed n t xs h (All-tail (Takes-pass t) (shape x) (map shape xs) a) i.1)
 
 length_shapes : (xs : List Bare) → length (map shape xs) ≡ length xs
 length_shapes [] = refl
@@ -164,22 +165,22 @@ no_shapes : (xs : List Bare) → map shape xs ≡ [] → xs ≡ []
 no_shapes [] e = refl
 no_shapes (x ∷ xs) e = absurd cc
 
-cuts_from : (row : List Slot) (n : Node) (xs : List Bare) → Decides n row → Fits row (map shape xs) → EachInside n xs → Cuts row xs
-cuts_from [] n xs h f i = no_shapes xs f
-cuts_from (s ∷ row) n xs h f i =
+cuts_from : (ed : Edition) (row : List Slot) (n : Node) (xs : List Bare) → Decides ed n row → Fits row (map shape xs) → EachInside ed n xs → Cuts ed row xs
+cuts_from ed [] n xs h f i = no_shapes xs f
+cuts_from ed (s ∷ row) n xs h f i =
     let p = split_of f.0 f.1 xs f.2 in
-    let inside = front_inside n p.front p.back (subst (EachInside n) p.parts i) in (
+    let inside = front_inside ed n p.front p.back (subst (EachInside ed n) p.parts i) in (
       p.front,
       p.back,
       p.parts,
-      all_fitting n s.takes p.front (decides_head n s row h) (subst (λ l. AllPass (takes s.takes) l) (sym p.front_is) f.3) inside.0,
+      all_fitting ed n s.takes p.front (decides_head ed n s row h) (subst (λ l. AllPass (takes s.takes) l) (sym p.front_is) f.3) inside.0,
       subst (λ k. Times s.often k) (ap length (sym p.front_is) ∙ length_shapes p.front) f.4,
-      cuts_from row n p.back (decides_rest n s row h) (subst (λ l. Fits row l) (sym p.back_is) f.5) inside.1,
+      cuts_from ed row n p.back (decides_rest ed n s row h) (subst (λ l. Fits row l) (sym p.back_is) f.5) inside.1,
     )
 
 -- what fits, slot by slot
-pub fitted_cuts : (n : Node) (xs : Bares) → Fitted n xs → Cuts (row_of n) (args xs)
-fitted_cuts n xs f = cuts_from (row_of n) n (args xs) (λ i d k m below e. decides n m i d k below e) f.0 (each_inside n xs f.1)
+pub fitted_cuts : (ed : Edition) (n : Node) (xs : Bares) → Fitted ed n xs → Cuts ed (row_of ed n) (args xs)
+fitted_cuts ed n xs f = cuts_from ed (row_of ed n) n (args xs) (λ i d k m below e. decides ed n m i d k below e) f.0 (each_inside ed n xs f.1)
 
 -- ---- and back
 
@@ -191,39 +192,39 @@ entering t (Some k) e = some_of (enters t k) e
     some_of None e = absurd cc
     some_of (Some m) e = (m, refl)
 
-inside_of : (n : Node) (t : Takes) (x : Bare) → ((k : Keyword) (q : Node) → enters t k ≡ Some q → row_in (row_of n) k ≡ Some q) → Fitting t x → Inside n x
-inside_of n t (text b) h f = tt
-inside_of n t (number b) h f = tt
-inside_of n t (word b) h f = tt
-inside_of n t (node k xs) h f = λ m e.
+inside_of : (ed : Edition) (n : Node) (t : Takes) (x : Bare) → ((k : Keyword) (q : Node) → enters t k ≡ Some q → row_in (row_of ed n) k ≡ Some q) → Fitting ed t x → Inside ed n x
+inside_of ed n t (text b) h f = tt
+inside_of ed n t (number b) h f = tt
+inside_of ed n t (word b) h f = tt
+inside_of ed n t (node k xs) h f = λ m e.
     let g = entering t (keyword_of k) f.taken in
-    let q = entered_by n t (keyword_of k) g.0 h g.1 in
+    let q = entered_by ed n t (keyword_of k) g.0 h g.1 in
     let same : g.0 ≡ m = let z = sym q ∙ e in cc in
-    subst (λ r. Fitted r xs) same (f.sound g.0 g.1)
+    subst (λ r. Fitted ed r xs) same (f.sound g.0 g.1)
 
-run_inside : (n : Node) (t : Takes) (xs : List Bare) → ((k : Keyword) (q : Node) → enters t k ≡ Some q → row_in (row_of n) k ≡ Some q) → AllFitting t xs → EachInside n xs
-run_inside n t [] h f = tt
-run_inside n t (x ∷ xs) h f = (inside_of n t x h f.0, run_inside n t xs h f.1)
+run_inside : (ed : Edition) (n : Node) (t : Takes) (xs : List Bare) → ((k : Keyword) (q : Node) → enters t k ≡ Some q → row_in (row_of ed n) k ≡ Some q) → AllFitting ed t xs → EachInside ed n xs
+run_inside ed n t [] h f = tt
+run_inside ed n t (x ∷ xs) h f = (inside_of ed n t x h f.0, run_inside ed n t xs h f.1)
 
-pub passes_of : (t : Takes) (xs : List Bare) → AllFitting t xs → AllPass (takes t) (map shape xs)
-passes_of t [] f = All-nil (Takes-pass t)
-passes_of t (x ∷ xs) f = All-cons (Takes-pass t) (shape x) (map shape xs) f.0.taken (passes_of t xs f.1)
+pub passes_of : (ed : Edition) (t : Takes) (xs : List Bare) → AllFitting ed t xs → AllPass (takes t) (map shape xs)
+passes_of ed t [] f = All-nil (Takes-pass t)
+passes_of ed t (x ∷ xs) f = All-cons (Takes-pass t) (shape x) (map shape xs) f.0.taken (passes_of ed t xs f.1)
 
 map_shapes : (a b : List Bare) → map shape (a ++ b) ≡ map shape a ++ map shape b
 map_shapes [] b = refl
 map_shapes (x ∷ a) b = ap (λ (l : List Argument). shape x ∷ l) (map_shapes a b)
 
-cuts_back : (row : List Slot) (n : Node) (xs : List Bare) → Decides n row → Cuts row xs → Fits row (map shape xs) × EachInside n xs
-cuts_back [] n xs h c = (ap (map shape) c, subst (EachInside n) (sym c) tt)
-cuts_back (s ∷ row) n xs h c =
-    let r = cuts_back row n c.1 (decides_rest n s row h) c.5 in (
-      (map shape c.0, map shape c.1, ap (map shape) c.2 ∙ map_shapes c.0 c.1, passes_of s.takes c.0 c.3, subst (λ k. Times s.often k) (sym (length_shapes c.0)) c.4, r.0),
-      subst (EachInside n) (sym c.2) (back_inside n c.0 c.1 (run_inside n s.takes c.0 (decides_head n s row h) c.3) r.1),
+cuts_back : (ed : Edition) (row : List Slot) (n : Node) (xs : List Bare) → Decides ed n row → Cuts ed row xs → Fits row (map shape xs) × EachInside ed n xs
+cuts_back ed [] n xs h c = (ap (map shape) c, subst (EachInside ed n) (sym c) tt)
+cuts_back ed (s ∷ row) n xs h c =
+    let r = cuts_back ed row n c.1 (decides_rest ed n s row h) c.5 in (
+      (map shape c.0, map shape c.1, ap (map shape) c.2 ∙ map_shapes c.0 c.1, passes_of ed s.takes c.0 c.3, subst (λ k. Times s.often k) (sym (length_shapes c.0)) c.4, r.0),
+      subst (EachInside ed n) (sym c.2) (back_inside ed n c.0 c.1 (run_inside ed n s.takes c.0 (decides_head ed n s row h) c.3) r.1),
     )
 
-pub cuts_fitted : (n : Node) (xs : Bares) → Cuts (row_of n) (args xs) → Fitted n xs
-cuts_fitted n xs c = let r = cuts_back (row_of n) n (args xs) (λ i d k m below e. decides n m i d k below e) c in (r.0, all_inside n xs r.1)
+pub cuts_fitted : (ed : Edition) (n : Node) (xs : Bares) → Cuts ed (row_of ed n) (args xs) → Fitted ed n xs
+cuts_fitted ed n xs c = let r = cuts_back ed (row_of ed n) n (args xs) (λ i d k m below e. decides ed n m i d k below e) c in (r.0, all_inside ed n xs r.1)
 
-pub cuts_fits : (row : List Slot) (xs : List Bare) → Cuts row xs → Fits row (map shape xs)
-cuts_fits [] xs c = ap (map shape) c
-cuts_fits (s ∷ row) xs c = (map shape c.0, map shape c.1, ap (map shape) c.2 ∙ map_shapes c.0 c.1, passes_of s.takes c.0 c.3, subst (λ k. Times s.often k) (sym (length_shapes c.0)) c.4, cuts_fits row c.1 c.5)
+pub cuts_fits : (ed : Edition) (row : List Slot) (xs : List Bare) → Cuts ed row xs → Fits row (map shape xs)
+cuts_fits ed [] xs c = ap (map shape) c
+cuts_fits ed (s ∷ row) xs c = (map shape c.0, map shape c.1, ap (map shape) c.2 ∙ map_shapes c.0 c.1, passes_of ed s.takes c.0 c.3, subst (λ k. Times s.often k) (sym (length_shapes c.0)) c.4, cuts_fits ed row c.1 c.5)

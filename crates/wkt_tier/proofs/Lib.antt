@@ -3,3 +3,5 @@ pub mod Found
 pub mod Reach
 pub mod Whole
 pub mod Fitting
+pub mod Clean
+pub mod Editions

@@ -5,6 +5,7 @@ use Rattle.wkt_tree.specs.declared.token.Delimiter.{Delimiter}
 use Rattle.wkt_tree.specs.declared.token.TokenKind.{TokenKind}
 use Rattle.wkt_tree.specs.declared.token.TokenKind.TheVariants.{Word, Quoted, Number, Comma, Open, Close}
 use Rattle.wkt_tree.specs.Tree.{Piece, Tok, Item, Items, text, number, word, node, last, more, tokens}
+use Rattle.wkt_slots.specs.declared.table.Edition.{Edition}
 use Rattle.wkt_slots.specs.declared.table.Slot.{Slot}
 use Rattle.wkt_slots.specs.declared.table.SlotName.{SlotName}
 use Rattle.wkt_slots.specs.declared.table.Keyword.{Keyword}
@@ -70,18 +71,18 @@ abbrev pub body : Node → List Item → ℕ → Body
 body n args c = record { row = n; args = args; closing = c }
 
 -- The row of a node that is an argument of this row: the slot that takes its keyword decides.
-abbrev pub IsRowOf : Node → Piece → Node → Type 0
-IsRowOf outer keyword n = (k : Keyword) × (keyword_of keyword.bytes ≡ Some k) × (row_in (row_of outer) k ≡ Some n)
+abbrev pub IsRowOf : Edition → Node → Piece → Node → Type 0
+IsRowOf e outer keyword n = (k : Keyword) × (keyword_of keyword.bytes ≡ Some k) × (row_in (row_of e outer) k ≡ Some n)
 
 -- From a node are reached the node itself, and what is reached from an argument that is a node and admitted.
-pub data Reaches : Body → Body → Type 0 where
-  itself : (b : Body) → Reaches b b
+pub data Reaches (e : Edition) : Body → Body → Type 0 where
+  itself : (b : Body) → Reaches e b b
   inside : (b m : Body) (before : List Item) (k : Piece) (d : Delimiter) (o : Piece) (items : Items) (c : Piece) (after : List Item) (n : Node)
       → b.args ≡ before ++ node k d o items c ∷ after
-      → Admitted (row_of b.row) (map argument before ++ argument (node k d o items c) ∷ [])
-      → IsRowOf b.row k n
-      → Reaches (body n (list items) c.place) m
-      → Reaches b m
+      → Admitted (row_of e b.row) (map argument before ++ argument (node k d o items c) ∷ [])
+      → IsRowOf e b.row k n
+      → Reaches e (body n (list items) c.place) m
+      → Reaches e b m
 
 -- ---- the faults
 
@@ -102,28 +103,28 @@ IsRefusal row before (text p) f = f ≡ NotHere p.place
 IsRefusal row before (node k d o items c) f = f ≡ NotHere k.place
 
 -- the first argument with which the arguments so far are not admitted
-pub record IsRefused (b : Body) (f : SlotFault) : Type 0 where
+pub record IsRefused (e : Edition) (b : Body) (f : SlotFault) : Type 0 where
   pub before : List Item
   pub item : Item
   pub after : List Item
   pub parts : b.args ≡ before ++ item ∷ after
-  pub admitted : Admitted (row_of b.row) (map argument before)
-  pub refused : Admitted (row_of b.row) (map argument before ++ argument item ∷ []) → ⊥
-  pub fault : IsRefusal (row_of b.row) (map argument before) item f
+  pub admitted : Admitted (row_of e b.row) (map argument before)
+  pub refused : Admitted (row_of e b.row) (map argument before ++ argument item ∷ []) → ⊥
+  pub fault : IsRefusal (row_of e b.row) (map argument before) item f
 
 -- the arguments are admitted and do not fit: the first required slot that is empty, at the closing delimiter
-pub record IsMissing (b : Body) (f : SlotFault) : Type 0 where
-  pub admitted : Admitted (row_of b.row) (map argument b.args)
-  pub unfit : Fits (row_of b.row) (map argument b.args) → ⊥
+pub record IsMissing (e : Edition) (b : Body) (f : SlotFault) : Type 0 where
+  pub admitted : Admitted (row_of e b.row) (map argument b.args)
+  pub unfit : Fits (row_of e b.row) (map argument b.args) → ⊥
   pub name : SlotName
-  pub slot : FirstMissing (row_of b.row) (map argument b.args) name
+  pub slot : FirstMissing (row_of e b.row) (map argument b.args) name
   pub fault : f ≡ Missing name b.closing
 
 -- a fault of a node that is reached from this one
-pub record HasFault (b : Body) (f : SlotFault) : Type 0 where
+pub record HasFault (e : Edition) (b : Body) (f : SlotFault) : Type 0 where
   pub at : Body
-  pub reached : Reaches b at
-  pub own : IsRefused at f ⊎ IsMissing at f
+  pub reached : Reaches e b at
+  pub own : IsRefused e at f ⊎ IsMissing e at f
 
 abbrev pub place : SlotFault → ℕ
 place (NotHere at) = at
@@ -136,10 +137,10 @@ abbrev pub whole : Item → ℕ → Body
 whole tree end = body nodes.Root (tree ∷ []) end
 
 -- a tree with these tokens has no slot fault
-abbrev pub IsClean : List Tok → Type 0
-IsClean ts = (k : Piece) (d : Delimiter) (o : Piece) (items : Items) (c : Piece) → ts ≡ tokens (node k d o items c) → (f : SlotFault) → HasFault (whole (node k d o items c) (suc c.place)) f → ⊥
+abbrev pub IsClean : Edition → List Tok → Type 0
+IsClean e ts = (k : Piece) (d : Delimiter) (o : Piece) (items : Items) (c : Piece) → ts ≡ tokens (node k d o items c) → (f : SlotFault) → HasFault e (whole (node k d o items c) (suc c.place)) f → ⊥
 
 -- a tree with these tokens has this slot fault, and each other one has a greater place
-abbrev pub IsFirst : List Tok → SlotFault → Type 0
-IsFirst ts f = (k : Piece) (d : Delimiter) (o : Piece) (items : Items) (c : Piece) → ts ≡ tokens (node k d o items c)
-    → HasFault (whole (node k d o items c) (suc c.place)) f × ((g : SlotFault) → HasFault (whole (node k d o items c) (suc c.place)) g → (g ≡ f) ⊎ (place f < place g))
+abbrev pub IsFirst : Edition → List Tok → SlotFault → Type 0
+IsFirst e ts f = (k : Piece) (d : Delimiter) (o : Piece) (items : Items) (c : Piece) → ts ≡ tokens (node k d o items c)
+    → HasFault e (whole (node k d o items c) (suc c.place)) f × ((g : SlotFault) → HasFault e (whole (node k d o items c) (suc c.place)) g → (g ≡ f) ⊎ (place f < place g))

@@ -8,7 +8,8 @@ ghost use Rattle.wkt_tier.specs.First.{refusal};
 use crate::fault::SlotFault;
 use crs_number::is_count;
 use wkt_slots::{
-    Argument, Keyword, Node, Place, enters, is_cs_kind, is_direction, keyword_of, row_of, step,
+    Argument, Edition, Keyword, Node, Place, enters, is_cs_kind, is_direction, keyword_of, row_of,
+    step,
 };
 use wkt_tree::TokenKind;
 
@@ -60,11 +61,17 @@ pub fn argument_of(kind: TokenKind, bytes: &[u8], is_node: bool) -> Argument
 }
 
 /// Which fault an argument is that the row refuses here.
-pub fn refusal(node: Node, place: Place, argument: Argument, at: usize) -> SlotFault
-    requires { place.slot ≤ length (row_of node) }
-    ensures { result ≡ refusal (drop place.slot (row_of node)) place.filled argument at }
+pub fn refusal(
+    edition: Edition,
+    node: Node,
+    place: Place,
+    argument: Argument,
+    at: usize,
+) -> SlotFault
+    requires { place.slot ≤ length (row_of edition node) }
+    ensures { result ≡ refusal (drop place.slot (row_of edition node)) place.filled argument at }
 {
-    let row = row_of(node);
+    let row = row_of(edition, node);
     let count = step(row, place, Argument::Count).is_some();
     let kind = step(row, place, Argument::CsKind).is_some();
     let direction = step(row, place, Argument::Direction).is_some();
@@ -88,10 +95,10 @@ pub fn refusal(node: Node, place: Place, argument: Argument, at: usize) -> SlotF
 }
 
 /// The row that a node with this keyword has as an argument.
-pub fn row_in(node: Node, keyword: Keyword) -> Option<Node>
-    ensures { result ≡ row_in (row_of node) keyword }
+pub fn row_in(edition: Edition, node: Node, keyword: Keyword) -> Option<Node>
+    ensures { result ≡ row_in (row_of edition node) keyword }
 {
-    let row = row_of(node);
+    let row = row_of(edition, node);
     let mut i = 0;
     while i < row.len() {
         if let Some(inner) = enters(row[i].takes, keyword) {

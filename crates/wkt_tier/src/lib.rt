@@ -3,6 +3,7 @@
 
 mod argument;
 mod fault;
+pub mod laws;
 #[cfg(test)]
 mod tests;
 mod tier;

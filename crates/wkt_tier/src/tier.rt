@@ -9,7 +9,7 @@ ghost use Rattle.wkt_tier.specs.Next.{coming, is_comma, is_open, next_is, place_
 
 use crate::argument::{argument_of, refusal, row_in};
 use crate::fault::SlotFault;
-use wkt_slots::{Argument, Node, Place, first_missing, row_of, step};
+use wkt_slots::{Argument, Edition, Node, Place, first_missing, row_of, step};
 use wkt_tree::{Cursor, Outline, TokenKind};
 
 fn next_is_open(cursor: &Cursor<'_>) -> bool
@@ -60,11 +60,16 @@ fn next_place(cursor: &Cursor<'_>) -> usize
 
 /// Goes over an argument, where the row of the node takes it and nothing inside it is wrong.
 #[cycle(tier)]
-fn check_argument(cursor: &mut Cursor<'_>, node: Node, place: Place) -> Result<Place, SlotFault>
-    requires { place.slot ≤ length (row_of node) }
+fn check_argument(
+    edition: Edition,
+    cursor: &mut Cursor<'_>,
+    node: Node,
+    place: Place,
+) -> Result<Place, SlotFault>
+    requires { place.slot ≤ length (row_of edition node) }
     ensures shorter { length cursor.new ≤ length cursor.old }
-    ensures within { IfOk result (λ p. p.slot ≤ length (row_of node)) }
-    ensures answers { AnswersItem node place cursor.old cursor.new result }
+    ensures within { IfOk result (λ p. p.slot ≤ length (row_of edition node)) }
+    ensures answers { AnswersItem edition node place cursor.old cursor.new result }
 {
     let Some(token) = cursor.peek() else {
         return Ok(place);
@@ -72,13 +77,13 @@ fn check_argument(cursor: &mut Cursor<'_>, node: Node, place: Place) -> Result<P
     cursor.advance();
     let is_node = next_is_open(cursor);
     let argument = argument_of(token.kind, token.bytes, is_node);
-    let Some(next) = step(row_of(node), place, argument) else {
-        return Err(refusal(node, place, argument, token.place));
+    let Some(next) = step(row_of(edition, node), place, argument) else {
+        return Err(refusal(edition, node, place, argument, token.place));
     };
     if let Argument::Node(keyword) = argument {
-        if let Some(inner) = row_in(node, keyword) {
+        if let Some(inner) = row_in(edition, node, keyword) {
             cursor.advance();
-            if let Err(fault) = check_node(cursor, inner) {
+            if let Err(fault) = check_node(edition, cursor, inner) {
                 return Err(fault);
             }
         }
@@ -88,44 +93,44 @@ fn check_argument(cursor: &mut Cursor<'_>, node: Node, place: Place) -> Result<P
 
 /// Goes over the arguments of a node and its closing delimiter, where nothing in it is wrong.
 #[cycle(tier)]
-fn check_node(cursor: &mut Cursor<'_>, node: Node) -> Result<(), SlotFault>
+fn check_node(edition: Edition, cursor: &mut Cursor<'_>, node: Node) -> Result<(), SlotFault>
     ensures shorter { length cursor.new ≤ length cursor.old }
-    ensures answers { AnswersNode node cursor.old cursor.new result }
+    ensures answers { AnswersNode edition node cursor.old cursor.new result }
 {
     let start = Place {
         slot: 0,
         filled: false,
     };
-    let mut place = match check_argument(cursor, node, start) {
+    let mut place = match check_argument(edition, cursor, node, start) {
         Ok(first) => first,
         Err(fault) => return Err(fault),
     };
     while next_is_comma(cursor) {
         cursor.advance();
-        match check_argument(cursor, node, place) {
+        match check_argument(edition, cursor, node, place) {
             Ok(next) => place = next,
             Err(fault) => return Err(fault),
         }
     }
     let end = next_place(cursor);
     cursor.advance();
-    match first_missing(row_of(node), place) {
+    match first_missing(row_of(edition, node), place) {
         Some(name) => Err(SlotFault::Missing(name, end)),
         None => Ok(()),
     }
 }
 
-/// The first slot fault of the tree.
-pub fn check_slots(outline: &Outline<'_>) -> Result<(), SlotFault>
-    ensures ok { OnOk result (IsClean (cut 0 outline.now)) }
-    ensures err { IfErr result (IsFirst (cut 0 outline.now)) }
+/// The first slot fault of the tree, by the rows of the edition.
+pub fn check_slots(edition: Edition, outline: &Outline<'_>) -> Result<(), SlotFault>
+    ensures ok { OnOk result (IsClean edition (cut 0 outline.now)) }
+    ensures err { IfErr result (IsFirst edition (cut 0 outline.now)) }
 {
     let mut cursor = outline.cursor();
     let start = Place {
         slot: 0,
         filled: false,
     };
-    match check_argument(&mut cursor, Node::Root, start) {
+    match check_argument(edition, &mut cursor, Node::Root, start) {
         Ok(_) => Ok(()),
         Err(fault) => Err(fault),
     }

@@ -143,3 +143,7 @@ cut_is (t ∷ ts) (suc n) place bytes h c =
 pub cut_of : (place : ℕ) (bytes : List ℕ) (ts : List Tok) → Cut place bytes ts → cut place bytes ≡ ts
 unfolding cut
 cut_of place bytes ts c = cut_is ts (length bytes) place bytes (omega arith) c
+
+-- a text has one list of tokens
+pub one_cut : (text : List ℕ) (ts us : List Tok) → Cut 0 text ts → Cut 0 text us → ts ≡ us
+one_cut text ts us f g = sym (cut_of 0 text ts f) ∙ cut_of 0 text us g

@@ -1,8 +1,10 @@
 use super::{
-    A, B, C, HEIGHT, OTHER_HEIGHT, SAME_KEY, enter, id_of, keeps, retire, supersede, taken, worked,
+    A, B, C, HEIGHT, OTHER_HEIGHT, Refused, SAME_KEY, enter, id_of, keeps, retire, supersede,
+    taken, worked,
 };
-use crate::{BodyView, ContentFault, Join, JoinFault, Register, Run, Seen};
-use reg_op::Status;
+use crate::{BodyView, Join, JoinFault, Register, Run};
+use reg_op::{Op, Status};
+use std::alloc::Global;
 use std::test::Fail;
 use uuid::Uuid;
 
@@ -70,30 +72,36 @@ fn a_supersession_of_a_retired_entry_is_only_seen(rt: HostRuntime) -> Result<(),
     Ok(())
 }
 
+// An entry, and two retirements of it.
+fn retired_twice(alloc: Global, k: usize) -> Result<Op, Refused> {
+    let entry = id_of(A, 1)?;
+    match k {
+        0 => enter(alloc, entry, HEIGHT),
+        1 => retire(id_of(C, 1)?, entry),
+        _ => retire(id_of(B, 1)?, entry),
+    }
+}
+
 #[test]
 fn the_least_of_two_retirements_is_kept(rt: HostRuntime) -> Result<(), Fail> {
     let alloc = rt.alloc();
-    let (entry, b, c) = (id_of(A, 1)?, id_of(B, 1)?, id_of(C, 1)?);
-    let later_first = taken(
-        alloc,
-        vec![in alloc;
-            enter(alloc, entry, HEIGHT)?,
-            retire(c, entry)?,
-            retire(b, entry)?,
-        ]?,
-    )?;
-    let sooner_first = taken(
-        alloc,
-        vec![in alloc;
-            retire(b, entry)?,
-            enter(alloc, entry, HEIGHT)?,
-            retire(c, entry)?,
-        ]?,
-    )?;
-    assert!(rt; keeps(&later_first, &[entry, b]));
-    assert!(rt; super::has_same(&later_first, &sooner_first));
-    for id in [entry, b, c] {
-        assert!(rt; later_first.seen().contains(id));
+    let ids = [id_of(A, 1)?, id_of(B, 1)?, id_of(C, 1)?];
+    for order in [
+        [0, 1, 2],
+        [0, 2, 1],
+        [1, 0, 2],
+        [1, 2, 0],
+        [2, 0, 1],
+        [2, 1, 0usize],
+    ] {
+        let mut register = Register::new(alloc);
+        for k in order {
+            assert!(rt; register.take(retired_twice(alloc, k)?).is_ok());
+        }
+        assert!(rt; keeps(&register, &ids[..2]));
+        for id in ids {
+            assert!(rt; register.seen().contains(id));
+        }
     }
     Ok(())
 }
@@ -148,18 +156,6 @@ fn two_bodies_of_one_id_clash(rt: HostRuntime) -> Result<(), Fail> {
     let right = taken(alloc, vec![in alloc; enter(alloc, id, OTHER_HEIGHT)?]?)?;
     assert!(rt; matches!(left.join(alloc, &right), Err(JoinFault::Clash(at)) if at == id));
     assert!(rt; matches!(left.join(alloc, &left), Ok(_)));
-    Ok(())
-}
-
-#[test]
-fn only_what_is_kept_is_a_content(rt: HostRuntime) -> Result<(), Fail> {
-    let alloc = rt.alloc();
-    assert!(rt;
-        matches!(
-            Register::from_content(alloc, Vec::new(alloc), Seen::new(alloc)),
-            Ok(_)
-        )
-    );
     Ok(())
 }
 

@@ -1,5 +1,5 @@
-use Rattle.std.proofs.Common.{rules}
-use Rattle.crs_number.proofs.CountLemmas.{counted, refused_count}
+use Rattle.std.proofs.Common.{rules, sym}
+use Rattle.crs_number.proofs.CountLemmas.{counted, digits_count, refused_count}
 use Rattle.crs_number.proofs.counts.is_count.Goals as goal
 
 pub returns-in-Ok : goal.returns-in-Ok
@@ -8,3 +8,8 @@ returns-in-Ok c =
 
 pub returns-in-Err : goal.returns-in-Err
 returns-in-Err c = refused_count c.args.numeral.now c.in-Err.field-0 c.in-Err.ensures.only
+
+pub returns-then-has_few_digits : goal.returns-then-has_few_digits
+returns-then-has_few_digits c =
+    let few = c.has_few_digits.ensures.few c.if-has_few_digits.true in
+    sym (digits_count c.args.numeral.now (c.has_few_digits.ensures.digits c.if-has_few_digits.true) few.0 few.1)

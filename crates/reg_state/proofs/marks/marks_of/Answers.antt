@@ -1,10 +1,13 @@
-use Rattle.std.proofs.Common.{sym, ap, ◌∙◌}
-use Rattle.std.specs.List.{list_any}
-use Rattle.std.proofs.lemmas.List.Sorted.{list_any-IsPermutation}
+use Rattle.std.proofs.Common.{List, ap, ◌∙◌}
+use Rattle.std.proofs.lemmas.Result.{IfOk-weaker}
+use Rattle.reg_op.specs.Set as set
+use Rattle.reg_marks.specs.declared.mark.Mark.{Mark}
+use Rattle.reg_marks.specs.Marks.{mark_cmp, least}
 use Rattle.reg_state.proofs.MarkLemmas.{marks_whole}
 use Rattle.reg_state.proofs.marks.marks_of.Goals as goal
 
-pub returns-clause-marks : goal.returns-clause-marks
-returns-clause-marks c = λ t.
-    sym (list_any-IsPermutation t _ _ c.in_ok-sort.ensures.permutation)
-    ∙ ap (list_any t) (marks_whole c.loop-rest.marks.items c.loop-rest.rest.now _ c.in_default.len_below c.loop-rest.invariant)
+pub returns : goal.returns
+returns c =
+    IfOk-weaker c.of.result _ _
+    (λ made e. e ∙ ap (λ (ms : List Mark). least (set.from_list {R = mark_cmp} ms)) (marks_whole c.loop-rest.marks.items c.loop-rest.rest.now _ c.in_default.len_below c.loop-rest.invariant))
+    c.of.ensures

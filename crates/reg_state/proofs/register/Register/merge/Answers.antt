@@ -1,12 +1,11 @@
 use Rattle.std.proofs.Common.{◌&&◌, ◌||◌, List, sym, ap, ◌∙◌, subst}
-use Rattle.std.specs.List.{list_any}
 use Rattle.reg_op.specs.Set as set
 use Rattle.reg_op.specs.Operations.{Op}
 use Rattle.reg_op.specs.Operations.{OneBody, op_cmp}
 use Rattle.reg_op.specs.Contents.{merged}
-use Rattle.reg_state.specs.Marks.{marks_of}
+use Rattle.reg_state.specs.Marks.{least_marks}
 use Rattle.reg_op.specs.Lists.{has}
-use Rattle.reg_state.specs.Merge.{Agree, stays, is_marked_off}
+use Rattle.reg_state.specs.Merge.{Agree, stays}
 use Rattle.reg_state.proofs.TableLemmas.{agree_from, merged_at, merged_tables, kept_off, united_same}
 use Rattle.reg_state.proofs.register.Register.merge.Goals as goal
 
@@ -14,28 +13,27 @@ pub join_ops-requires-clause-agree : goal.join_ops-requires-clause-agree
 join_ops-requires-clause-agree c =
     let one : OneBody (set.union (set.from_list {R = op_cmp} c.self.inside.ops.items) (set.from_list {R = op_cmp} c.other.inside.ops.items)) =
     subst OneBody (λ k. set.union (sym c.self.view_is k).ops (sym c.other.view_is k).ops) c.requires in
-    subst (λ (p : List Op × List Op). Agree p.0 p.1) (λ k. (sym c.deref.ensures.value k, sym c.deref-3.ensures.value k)) (agree_from _ _ one)
+    subst (λ (p : List Op × List Op). Agree p.0 p.1) (λ k. (sym c.deref.ensures.value k, sym c.deref-2.ensures.value k)) (agree_from _ _ one)
 
 pub join_ops-requires-clause-left_kept : goal.join_ops-requires-clause-left_kept
 join_ops-requires-clause-left_kept c = λ q h.
-    ap (λ ms. is_marked_off ms q) c.deref-2.ensures.value ∙ kept_off c.self.inside.ops.items c.self.inside.marks.items c.self.inside.seen c.self.invariant q (ap (λ xs. has xs q) (sym c.deref.ensures.value) ∙ h)
+    kept_off c.self.inside.ops.items c.self.inside.marks c.self.inside.seen c.self.invariant q (ap (λ xs. has xs q) (sym c.deref.ensures.value) ∙ h)
 
 pub join_ops-requires-clause-right_kept : goal.join_ops-requires-clause-right_kept
 join_ops-requires-clause-right_kept c = λ q h.
-    ap (λ ms. is_marked_off ms q) c.deref-4.ensures.value ∙ kept_off c.other.inside.ops.items c.other.inside.marks.items c.other.inside.seen c.other.invariant q (ap (λ xs. has xs q) (sym c.deref-3.ensures.value) ∙ h)
+    kept_off c.other.inside.ops.items c.other.inside.marks c.other.inside.seen c.other.invariant q (ap (λ xs. has xs q) (sym c.deref-2.ensures.value) ∙ h)
 
 pub invariant_of-result : goal.invariant_of-result
 invariant_of-result c =
     let one : OneBody (set.union (set.from_list {R = op_cmp} c.self.inside.ops.items) (set.from_list {R = op_cmp} c.other.inside.ops.items)) =
     subst OneBody (λ k. set.union (sym c.self.view_is k).ops (sym c.other.view_is k).ops) c.requires in
-    merged_tables c.self.inside.ops.items c.other.inside.ops.items _ c.self.inside.marks.items c.other.inside.marks.items _ c.self.inside.seen c.other.inside.seen _ c.self.invariant c.other.invariant one c.in_ok-ops.ensures.by_id
-    (λ q. c.in_ok-ops.ensures.covered q ∙ (λ k. stays (c.deref-2.ensures.value k) (c.deref-4.ensures.value k) q && (has (c.deref.ensures.value k) q || has (c.deref-3.ensures.value k) q)))
-    (sym (united_same _ _ c.in-Ok.ensures.ok)) c.in_ok-marks.ensures.sorted
-    (λ t. c.in_ok-marks.ensures.marks t ∙ ap (λ l. list_any t (marks_of l)) c.deref-5.ensures.value)
+    merged_tables c.self.inside.ops.items c.other.inside.ops.items _ c.self.inside.marks c.other.inside.marks _ c.self.inside.seen c.other.inside.seen _ c.self.invariant c.other.invariant one c.in_ok-ops.ensures.by_id
+    (λ q. c.in_ok-ops.ensures.covered q ∙ (λ k. stays c.self.inside.marks c.other.inside.marks q && (has (c.deref.ensures.value k) q || has (c.deref-2.ensures.value k) q)))
+    (sym (united_same _ _ c.in-Ok.ensures.ok)) (c.in_ok-marks.ensures ∙ ap least_marks c.deref-3.ensures.value)
 
 pub returns-in-Ok : goal.returns-in-Ok
 returns-in-Ok c =
-    merged_at c.self.inside.ops.items c.other.inside.ops.items _ c.self.inside.marks.items c.other.inside.marks.items c.self.inside.seen c.other.inside.seen _ c.self.invariant c.other.invariant
-    (λ q. c.in_ok-ops.ensures.covered q ∙ (λ k. stays (c.deref-2.ensures.value k) (c.deref-4.ensures.value k) q && (has (c.deref.ensures.value k) q || has (c.deref-3.ensures.value k) q)))
+    merged_at c.self.inside.ops.items c.other.inside.ops.items _ c.self.inside.marks c.other.inside.marks c.self.inside.seen c.other.inside.seen _ c.self.invariant c.other.invariant
+    (λ q. c.in_ok-ops.ensures.covered q ∙ (λ k. stays c.self.inside.marks c.other.inside.marks q && (has (c.deref.ensures.value k) q || has (c.deref-2.ensures.value k) q)))
     (sym (united_same _ _ c.in-Ok.ensures.ok))
     ∙ (λ k. merged (c.self.view_is k) (c.other.view_is k))

@@ -7,7 +7,7 @@ use Rattle.reg_state.proofs.TableLemmas.{tables_empty}
 use Rattle.reg_state.proofs.register.Register.new.Goals as goal
 
 pub invariant_of-result : goal.invariant_of-result
-invariant_of-result c = tables_empty _ _ _ c.new.ensures.items c.new-2.ensures.items c.new-3.ensures
+invariant_of-result c = tables_empty _ _ _ c.new.ensures.items c.new-2.ensures c.new-3.ensures
 
 pub returns : goal.returns
 returns c = same_content _ _ (ap (λ (l : List Op). set.from_list {R = op_cmp} l) c.new.ensures.items) c.new-3.ensures

@@ -1,19 +1,20 @@
-use Rattle.std.proofs.Common.{length, sym, ap, ◌∙◌, subst, arith, nat_eq, inr, Err}
+use Rattle.std.proofs.Common.{◌≡◌, length, sym, ap, ◌∙◌, subst, arith, nat_eq, inr, Err}
 use Rattle.std.specs.Cmp.Lexicographic.{pointwise}
-use Rattle.crs_part.specs.Slots.{ids_of}
 use Rattle.wkt_crs.specs.Definition.{IsCanonicalFault, of_read}
+use Rattle.wkt_crs.specs.declared.fault.ReadFault.TheVariants as read
+use Rattle.wkt_crs.proofs.Texts.{no_slot}
 use Rattle.wkt_crs.proofs.Verdicts.{value_or_fault}
-use Rattle.wkt_crs.proofs.Defining.{has_none, has_one, of_definition, spelled_by_definition, read_refused, same_bytes, not_same, told_true, told_false, same_ok, same_only}
+use Rattle.wkt_crs.proofs.Defining.{of_definition, spelled_by_definition, read_refused, same_bytes, not_same, told_true, told_false, same_ok, same_only}
 use Rattle.wkt_crs.proofs.definition.Definition.from_canonical.Goals as goal
 
-pub returns-then-is_empty-clause-fault : goal.returns-then-is_empty-clause-fault
-returns-then-is_empty-clause-fault c =
+pub returns-then-not-has_identifier-clause-fault : goal.returns-then-not-has_identifier-clause-fault
+returns-then-not-has_identifier-clause-fault c =
     let below = c.if-bytes-gt-MOST.false in
-    (omega (arith, below), (c.in-Ok.crs, c.in-Ok.ensures.found, has_none (ids_of c.in-Ok.crs.parts) c.ids.result.now (c.ids.ensures ∙ ap ids_of c.parts.ensures) (sym c.is_empty.ensures ∙ c.if-is_empty.true)))
+    (omega (arith, below), (c.in-Ok.crs, c.in-Ok.ensures.found, c.has_identifier.ensures.none c.if-not-has_identifier.true))
 
-pub returns-then-is_empty-clause-only : goal.returns-then-is_empty-clause-only
-returns-then-is_empty-clause-only c = λ d.
-    absurd ((of_definition c.args.bytes.now c.in-Ok.crs d c.in-Ok.ensures.found).1 (has_none (ids_of c.in-Ok.crs.parts) c.ids.result.now (c.ids.ensures ∙ ap ids_of c.parts.ensures) (sym c.is_empty.ensures ∙ c.if-is_empty.true)))
+pub returns-then-not-has_identifier-clause-only : goal.returns-then-not-has_identifier-clause-only
+returns-then-not-has_identifier-clause-only c = λ d.
+    absurd ((of_definition c.args.bytes.now c.in-Ok.crs d c.in-Ok.ensures.found).1 (c.has_identifier.ensures.none c.if-not-has_identifier.true))
 
 pub returns-then-ne-clause-fault : goal.returns-then-ne-clause-fault
 returns-then-ne-clause-fault c =
@@ -23,7 +24,7 @@ returns-then-ne-clause-fault c =
       (
         c.in-Ok.crs,
         c.in-Ok.ensures.found,
-        has_one (ids_of c.in-Ok.crs.parts) c.ids.result.now (c.ids.ensures ∙ ap ids_of c.parts.ensures) (sym c.is_empty.ensures ∙ c.if-is_empty.false),
+        c.has_identifier.ensures.some c.if-not-has_identifier.false,
         λ e. other (c.as_slice.ensures.value ∙ (c.in-Ok-write_crs.ensures ∙ sym e)),
       ),
     )
@@ -39,7 +40,7 @@ defined-requires c =
     let same = sym c.as_slice.ensures.value ∙ same_bytes c.as_slice.result.now c.args.bytes.now (told_true (pointwise nat_eq c.as_slice.result.now c.args.bytes.now) (sym c.ne.ensures ∙ c.if-ne.false)) in (
       c.in-Ok-write_crs.ensures,
       (let n = ap length same in omega (arith, n, below)),
-      has_one (ids_of c.in-Ok.crs.parts) c.ids.result.now (c.ids.ensures ∙ ap ids_of c.parts.ensures) (sym c.is_empty.ensures ∙ c.if-is_empty.false),
+      c.has_identifier.ensures.some c.if-not-has_identifier.false,
     )
 
 pub returns-clause-ok : goal.returns-clause-ok
@@ -58,3 +59,23 @@ returns-in-Err-clause-fault c = subst (IsCanonicalFault c.args.bytes.now) (sym c
 pub returns-in-Err-clause-only : goal.returns-in-Err-clause-only
 returns-in-Err-clause-only c = λ d.
     inr (ap Err (c.of_read.ensures ∙ ap of_read (value_or_fault c.args.bytes.now d.crs c.in-Err.fault (spelled_by_definition c.args.bytes.now d) c.in-Err.ensures.fault)))
+
+-- a text with a slot fault spells no value
+
+pub returns-in-Err-clause-slot : goal.returns-in-Err-clause-slot
+returns-in-Err-clause-slot c = λ f short first.
+    let told = c.in-Err.ensures.slot f first in
+    let same : c.in-Err.fault ≡ read.Slot f = cc in
+    ap Err (c.of_read.ensures ∙ ap of_read same)
+
+pub returns-then-not-has_identifier-clause-slot : goal.returns-then-not-has_identifier-clause-slot
+returns-then-not-has_identifier-clause-slot c = λ f short first. absurd (no_slot c.args.bytes.now c.in-Ok.crs f c.in-Ok.ensures.found first)
+
+pub returns-in_default-clause-slot : goal.returns-in_default-clause-slot
+returns-in_default-clause-slot c = λ f short first. absurd (no_slot c.args.bytes.now c.in-Ok.crs f c.in-Ok.ensures.found first)
+
+pub returns-then-ne-clause-slot : goal.returns-then-ne-clause-slot
+returns-then-ne-clause-slot c = λ f short first. absurd (no_slot c.args.bytes.now c.in-Ok.crs f c.in-Ok.ensures.found first)
+
+pub returns-clause-slot : goal.returns-clause-slot
+returns-clause-slot c = λ f short first. absurd (no_slot c.args.bytes.now c.in-Ok.crs f c.in-Ok.ensures.found first)

@@ -1,0 +1,101 @@
+//! Registers of many operations, some of which replace others.
+
+use crate::Refused;
+use reg_op::{Op, OpBody, OpId};
+use reg_state::{Join, Register};
+use std::alloc::Global;
+use uuid::Uuid;
+use wkt_crs::Definition;
+
+const TEXT: &[u8] =
+    b"VERTCRS[\"H\",VDATUM[\"D\"],CS[vertical,1],AXIS[\"height (H)\",up],LENGTHUNIT[\"metre\",1],ID[\"X\",7]]";
+
+const REPLICAS: u32 = 21;
+
+/// The operations of two thirds of the replicas: of those whose number, divided by three, doesn't leave this one.
+pub fn side(alloc: Global, size: u32, left_out: u32) -> Result<Register, Refused> {
+    let Ok(definition) = Definition::from_canonical(alloc, TEXT) else {
+        return Err(Refused);
+    };
+    let own = size / 14;
+    let mut all = Register::new(alloc);
+    for number in 0..REPLICAS {
+        if number % 3 != left_out {
+            let replica = Uuid::from_u128(number as u128);
+            let part = part_of(alloc, &definition, replica, 1, own)?;
+            let Ok(joined) = all.join(alloc, &part) else {
+                return Err(Refused);
+            };
+            all = joined;
+        }
+    }
+    Ok(all)
+}
+
+// The operations of a replica with some counts.
+fn part_of(
+    alloc: Global,
+    definition: &Definition,
+    replica: Uuid,
+    first: u32,
+    count: u32,
+) -> Result<Register, Refused> {
+    if count < 10 {
+        return few(alloc, definition, replica, first, count);
+    }
+    let half = count / 2;
+    let left = part_of(alloc, definition, replica, first, half)?;
+    let right = part_of(
+        alloc,
+        definition,
+        replica,
+        first.saturating_add(half),
+        count - half,
+    )?;
+    match left.join(alloc, &right) {
+        Ok(joined) => Ok(joined),
+        Err(_) => Err(Refused),
+    }
+}
+
+fn few(
+    alloc: Global,
+    definition: &Definition,
+    replica: Uuid,
+    first: u32,
+    count: u32,
+) -> Result<Register, Refused> {
+    let mut register = Register::new(alloc);
+    for k in 0..count {
+        let op = op_of(alloc, definition, replica, first.saturating_add(k))?;
+        if let Err(_) = register.take(op) {
+            return Err(Refused);
+        }
+    }
+    Ok(register)
+}
+
+// Of ten operations seven enter, two supersede, and one retires what was superseded first.
+fn op_of(alloc: Global, definition: &Definition, replica: Uuid, count: u32) -> Result<Op, Refused> {
+    let block = count / 10 * 10;
+    let entry = |k: u32| OpId::new(replica, block.saturating_add(k)).ok_or(Refused);
+    let body = match count % 10 {
+        7 => OpBody::Supersede {
+            old: entry(1)?,
+            newer: entry(2)?,
+        },
+        8 => OpBody::Supersede {
+            old: entry(3)?,
+            newer: entry(4)?,
+        },
+        9 => OpBody::Retire { entry: entry(1)? },
+        _ => match definition.try_clone(alloc) {
+            Ok(copy) => OpBody::Enter(copy),
+            Err(_) => return Err(Refused),
+        },
+    };
+    match Op::new(OpId::new(replica, count).ok_or(Refused)?, body) {
+        Ok(op) => Ok(op),
+        Err(_) => Err(Refused),
+    }
+}

@@ -1,0 +1,3 @@
+mod ExportLemmas
+mod InputLemmas
+mod MergeLemmas

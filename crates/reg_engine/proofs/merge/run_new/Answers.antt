@@ -1,0 +1,10 @@
+use Rattle.std.proofs.Common.{subst}
+use Rattle.reg_engine.specs.Outputs.{IsUnpublished}
+use Rattle.reg_engine.proofs.MergeLemmas.{never_too_large}
+use Rattle.reg_engine.proofs.merge.run_new.Goals as goal
+
+pub returns-clause-small : goal.returns-clause-small
+returns-clause-small g c =
+    let before = g.T.Sink.state c.args.target.now in
+    let after = g.T.Sink.state c.publish_register-2.new.target in
+    never_too_large before after c.in-Err.fault (subst (λ x. IsUnpublished x before after c.in-Err.fault) c.new.ensures c.in-Err.ensures.fault)

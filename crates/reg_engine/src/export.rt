@@ -1,0 +1,73 @@
+ghost use Rattle.std.specs.Prelude.{◌≡◌, ◌++◌, IfOk, OnOk, IfErr};
+ghost use Rattle.reg_engine.specs.Devices.{devices};
+ghost use Rattle.reg_engine.specs.Export.{export, is_retired, op_line, IsExported, IsExportFault};
+ghost use Rattle.reg_op.specs.Status.{status};
+
+use crate::fault::{CliFault, OutFault};
+use crate::inputs::read_file;
+use reg_op::{Op, OpBody, Status};
+use reg_state::Register;
+use std::alloc::{AllocError, Global};
+use wkt_crs::{Sink, Source, write_all};
+
+/// Reads the register of the source, which is file 1, and writes the canonical text of each entry that is not retired,
+/// by id, each with a newline.
+pub fn run_export<S: Source, K: Sink>(
+    alloc: Global,
+    source: &mut S,
+    sink: &mut K,
+) -> Result<(), CliFault>
+    ensures exported { OnOk result (IsExported
+        (devices (S.state source.old) (K.state sink.old))
+        (devices (S.state source.new) (K.state sink.new))) }
+    ensures fault { IfErr result (IsExportFault
+        (devices (S.state source.old) (K.state sink.old))
+        (devices (S.state source.new) (K.state sink.new))) }
+{
+    let register = match read_file(alloc, 1, source) {
+        Ok(register) => register,
+        Err(fault) => return Err(fault),
+    };
+    let Ok(lines) = lines_of(alloc, &register) else {
+        return Err(CliFault::Memory);
+    };
+    match write_all(sink, &lines) {
+        Ok(()) => Ok(()),
+        Err(fault) => Err(CliFault::Out(OutFault::WriteFailed(fault.written))),
+    }
+}
+
+fn lines_of(alloc: Global, register: &Register) -> Result<Vec<u8>, AllocError>
+    ensures { IfOk result (λ lines. lines.items ≡ export register.now.ops) }
+{
+    let ops = register.ops().as_slice();
+    let mut lines = Vec::new(alloc);
+    for op in ops {
+        push_line(&mut lines, register, op)?;
+    }
+    Ok(lines)
+}
+
+// Appends the line of an entry that is not retired, where the operation entered one.
+fn push_line(lines: &mut Vec<u8>, register: &Register, op: &Op) -> Result<(), AllocError>
+    ensures { OnOk result (lines.new.items ≡ lines.old.items ++ op_line register.now.ops op.now) }
+{
+    let OpBody::Enter(definition) = op.body() else {
+        return Ok(());
+    };
+    if is_retired(register, op) {
+        return Ok(());
+    }
+    lines.extend_from_slice(definition.as_bytes())?;
+    lines.push(b'\n')?;
+    Ok(())
+}
+
+fn is_retired(register: &Register, op: &Op) -> bool
+    ensures { result ≡ is_retired (status register.now.ops op.now.id) }
+{
+    match register.status(op.id()) {
+        Some(Status::Retired) => true,
+        _ => false,
+    }
+}

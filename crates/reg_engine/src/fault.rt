@@ -1,0 +1,207 @@
+ghost use Rattle.std.specs.Prelude.{◌≡◌};
+ghost use Rattle.reg_engine.specs.Fault.{status_of, text_fault, register_fault};
+
+use reg_file::ReadFileFault;
+use reg_op::OpId;
+use std::fmt;
+use thiserror::Error;
+use wkt_crs::{Condition, DefinitionFault, ReadFault, ReadFromFault, SlotFault, TextFault};
+
+/// Why a command's input is refused. It prints as the fault's name, what it names, and its place.
+#[derive(Clone, Copy, Debug, PartialEq, Eq)]
+pub enum Refusal {
+    Text(TextFault),
+    Slot(SlotFault),
+    /// A CRS fails a condition. Its keyword stands at the place.
+    Broken { condition: Condition, place: usize },
+    /// The id has two bodies in the registers that were to be joined.
+    Clash(OpId),
+    /// No operation of the register entered the id.
+    UnknownEntry(OpId),
+    /// A word that is to be an entry is no id.
+    BadId,
+    /// A word that is to be a replica is no UUID.
+    BadReplica,
+}
+
+impl fmt::Display for Refusal {
+    fn fmt<W: fmt::Write>(&self, f: &mut fmt::Formatter<W>) -> fmt::Result {
+        match self {
+            Refusal::Text(fault) => named(f, fault.name(), fault.place()),
+            Refusal::Slot(SlotFault::Missing(slot, place)) => {
+                let slot = slot.name();
+                write!(f, "Missing {slot} at {place}")
+            }
+            Refusal::Slot(fault) => named(f, fault.name(), Some(fault.place())),
+            Refusal::Broken { condition, place } => {
+                let condition = condition.name();
+                write!(f, "Broken {condition} at {place}")
+            }
+            Refusal::Clash(id) => of_id(f, "Clash", *id),
+            Refusal::UnknownEntry(id) => of_id(f, "UnknownEntry", *id),
+            Refusal::BadId => f.write_str("BadId"),
+            Refusal::BadReplica => f.write_str("BadReplica"),
+        }
+    }
+}
+
+fn named<W: fmt::Write>(
+    f: &mut fmt::Formatter<W>,
+    name: &str,
+    place: Option<usize>,
+) -> fmt::Result {
+    match place {
+        Some(place) => write!(f, "{name} at {place}"),
+        None => f.write_str(name),
+    }
+}
+
+fn of_id<W: fmt::Write>(f: &mut fmt::Formatter<W>, name: &str, id: OpId) -> fmt::Result {
+    let replica = id.replica();
+    let count = id.count();
+    write!(f, "{name} {replica}:{count}")
+}
+
+/// What went wrong with an input file. It prints as the fault's name and its place.
+#[derive(Clone, Copy, Debug, PartialEq, Eq)]
+pub enum FileFault {
+    NotOpened,
+    /// Reading failed after this many bytes.
+    ReadFailed(usize),
+    /// There are more bytes than a register's file may have.
+    TooLarge,
+    /// The bytes are no register's file, and this is their first fault.
+    NoRegister {
+        fault: reg_file::FileFault,
+        place: usize,
+    },
+}
+
+impl fmt::Display for FileFault {
+    fn fmt<W: fmt::Write>(&self, f: &mut fmt::Formatter<W>) -> fmt::Result {
+        match self {
+            FileFault::NotOpened => f.write_str("NotOpened"),
+            FileFault::ReadFailed(place) => write!(f, "ReadFailed at {place}"),
+            FileFault::TooLarge => f.write_str("TooLarge"),
+            FileFault::NoRegister {
+                fault: reg_file::FileFault::Definition(fault),
+                place,
+            } => {
+                let name = definition_fault_name(*fault);
+                write!(f, "Definition {name} at {place}")
+            }
+            FileFault::NoRegister { fault, place } => {
+                let name = file_fault_name(*fault);
+                write!(f, "{name} at {place}")
+            }
+        }
+    }
+}
+
+fn file_fault_name(fault: reg_file::FileFault) -> &'static str {
+    match fault {
+        reg_file::FileFault::Magic => "Magic",
+        reg_file::FileFault::Version => "Version",
+        reg_file::FileFault::Kind => "Kind",
+        reg_file::FileFault::Truncated => "Truncated",
+        reg_file::FileFault::Ranges => "Ranges",
+        reg_file::FileFault::ReplicaOrder => "ReplicaOrder",
+        reg_file::FileFault::OpOrder => "OpOrder",
+        reg_file::FileFault::OpIdBad => "OpIdBad",
+        reg_file::FileFault::OpKind => "OpKind",
+        reg_file::FileFault::NotSeen => "NotSeen",
+        reg_file::FileFault::SameEntry => "SameEntry",
+        reg_file::FileFault::Definition(_) => "Definition",
+        reg_file::FileFault::NotCanonical => "NotCanonical",
+        reg_file::FileFault::NotKept => "NotKept",
+        reg_file::FileFault::Trailing => "Trailing",
+    }
+}
+
+// The name alone: what `Missing` and `Broken` name is left out.
+fn definition_fault_name(fault: DefinitionFault) -> &'static str {
+    match fault {
+        DefinitionFault::Read(ReadFault::Text(fault)) => fault.name(),
+        DefinitionFault::Read(ReadFault::Slot(fault)) => fault.name(),
+        DefinitionFault::Read(ReadFault::Broken { .. }) => "Broken",
+        DefinitionFault::NoIdentifier => "NoIdentifier",
+        DefinitionFault::CanonicalTooLong => "CanonicalTooLong",
+        DefinitionFault::NotCanonical => "NotCanonical",
+        DefinitionFault::Read(ReadFault::Memory) | DefinitionFault::Memory => "Memory",
+    }
+}
+
+/// What went wrong with the output.
+#[derive(Clone, Copy, Debug, PartialEq, Eq, Error)]
+pub enum OutFault {
+    #[error("NotOpened")]
+    NotOpened,
+    /// The register's file would have too many bytes. The output was not opened.
+    #[error("TooLarge")]
+    TooLarge,
+    /// Exactly this many bytes went out.
+    #[error("WriteFailed at {0}")]
+    WriteFailed(usize),
+}
+
+/// Why a command did not do its work. It prints as one line.
+#[derive(Clone, Copy, Debug, PartialEq, Eq, Error)]
+pub enum CliFault {
+    #[error("refused: {0}")]
+    Refused(Refusal),
+    /// The number is that of the file among those that the command reads, from 1.
+    #[error("file {number}: {fault}")]
+    File { number: usize, fault: FileFault },
+    #[error("out: {0}")]
+    Out(OutFault),
+    #[error("out of memory")]
+    Memory,
+}
+
+impl CliFault {
+    /// The fault of reading the text in the file of this number.
+    pub(crate) fn of_text(number: usize, fault: ReadFromFault) -> CliFault
+        ensures { result ≡ text_fault number fault }
+    {
+        match fault {
+            ReadFromFault::ReadFailed(n) => CliFault::File {
+                number,
+                fault: FileFault::ReadFailed(n),
+            },
+            ReadFromFault::Refused(ReadFault::Text(fault)) => {
+                CliFault::Refused(Refusal::Text(fault))
+            }
+            ReadFromFault::Refused(ReadFault::Slot(fault)) => {
+                CliFault::Refused(Refusal::Slot(fault))
+            }
+            ReadFromFault::Refused(ReadFault::Broken { condition, place }) => {
+                CliFault::Refused(Refusal::Broken { condition, place })
+            }
+            ReadFromFault::Refused(ReadFault::Memory) => CliFault::Memory,
+        }
+    }
+
+    /// The fault of reading the register in the file of this number.
+    pub(crate) fn of_register(number: usize, fault: ReadFileFault) -> CliFault
+        ensures { result ≡ register_fault number fault }
+    {
+        let fault = match fault {
+            ReadFileFault::File { fault, place } => FileFault::NoRegister { fault, place },
+            ReadFileFault::TooLarge => FileFault::TooLarge,
+            ReadFileFault::ReadFailed(n) => FileFault::ReadFailed(n),
+            ReadFileFault::Memory => return CliFault::Memory,
+        };
+        CliFault::File { number, fault }
+    }
+
+    /// The exit status of the program: 1 for what is refused, 3 for a file, 4 for memory.
+    pub fn status(&self) -> u8
+        ensures { result ≡ status_of self.now }
+    {
+        match self {
+            CliFault::Refused(_) => 1,
+            CliFault::File { .. } | CliFault::Out(_) => 3,
+            CliFault::Memory => 4,
+        }
+    }
+}

@@ -1,0 +1,21 @@
+//! The engines of `crsreg`: a function a command, over any source, sink and target, and the faults that they answer.
+#![tactic(auto)]
+
+mod check;
+mod export;
+mod fault;
+mod inputs;
+pub mod laws;
+mod merge;
+mod outputs;
+#[cfg(test)]
+mod tests;
+mod wkt;
+
+pub use check::run_check;
+pub use export::run_export;
+pub use fault::{CliFault, FileFault, OutFault, Refusal};
+pub use inputs::{read_file, read_files};
+pub use merge::{run_merge, run_new};
+pub use outputs::publish_register;
+pub use wkt::{Form, run_wkt};

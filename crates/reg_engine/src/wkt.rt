@@ -1,0 +1,58 @@
+ghost use Rattle.std.specs.Prelude.{◌≡◌, ◌++◌, ◌∷◌, [], IfOk, OnOk, IfErr};
+ghost use Rattle.reg_engine.specs.Devices.{devices};
+ghost use Rattle.reg_engine.specs.Export.{text_in, IsShown, IsShowFault};
+
+use crate::fault::{CliFault, OutFault, Refusal};
+use crate::inputs::read_file;
+use reg_op::OpId;
+use std::alloc::{AllocError, Global};
+use wkt_crs::{Crs, Sink, Source, write_all, write_crs, write_pretty};
+
+/// How a text is laid out.
+#[derive(Clone, Copy, Debug, PartialEq, Eq)]
+pub enum Form {
+    Canonical,
+    Indented,
+}
+
+/// Reads the register of the source, which is file 1, and writes the text of the entry and a newline.
+pub fn run_wkt<S: Source, K: Sink>(
+    alloc: Global,
+    source: &mut S,
+    entry: OpId,
+    form: Form,
+    sink: &mut K,
+) -> Result<(), CliFault>
+    ensures shown { OnOk result (IsShown form entry
+        (devices (S.state source.old) (K.state sink.old))
+        (devices (S.state source.new) (K.state sink.new))) }
+    ensures fault { IfErr result (IsShowFault form entry
+        (devices (S.state source.old) (K.state sink.old))
+        (devices (S.state source.new) (K.state sink.new))) }
+{
+    let register = match read_file(alloc, 1, source) {
+        Ok(register) => register,
+        Err(fault) => return Err(fault),
+    };
+    let Some(definition) = register.definition(entry) else {
+        return Err(CliFault::Refused(Refusal::UnknownEntry(entry)));
+    };
+    let Ok(line) = line_in(alloc, form, definition.crs()) else {
+        return Err(CliFault::Memory);
+    };
+    match write_all(sink, &line) {
+        Ok(()) => Ok(()),
+        Err(fault) => Err(CliFault::Out(OutFault::WriteFailed(fault.written))),
+    }
+}
+
+fn line_in(alloc: Global, form: Form, crs: &Crs) -> Result<Vec<u8>, AllocError>
+    ensures { IfOk result (λ line. line.items ≡ text_in form crs.now ++ 10 ∷ []) }
+{
+    let mut line = match form {
+        Form::Canonical => write_crs(alloc, crs)?,
+        Form::Indented => write_pretty(alloc, crs)?,
+    };
+    line.push(b'\n')?;
+    Ok(line)
+}

@@ -1,0 +1,14 @@
+pub mod BodyLemmas
+pub mod DefinitionLemmas
+pub mod ExactLemmas
+pub mod FieldLemmas
+pub mod GroupLemmas
+pub mod HoldLemmas
+pub mod ListLemmas
+pub mod MadeRuns
+pub mod PlaceLemmas
+pub mod RangeLemmas
+pub mod Sequences
+pub mod SizeLemmas
+pub mod SpellLemmas
+pub mod WholeLemmas

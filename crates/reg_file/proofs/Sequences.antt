@@ -1,0 +1,25 @@
+-- Items that are read one after the other.
+use Rattle.std.proofs.Common.{◌≡◌, ℕ, suc, ◌<◌, List, [], ◌∷◌, ◌++◌, length, refl, sym, subst, arith}
+use Rattle.reg_file.specs.declared.fault.Refused.{Refused}
+use Rattle.reg_file.specs.declared.fault.Stop.{Stop}
+use Rattle.reg_file.specs.declared.fault.Stop.TheVariants as stop
+use Rattle.reg_file.specs.Readers.{Part, ReadsEach, state_after, FailsAtOne, StopsIn, repeated}
+
+module _ {A S : Type 0} (item : S → Part A) (next : S → A → S) where
+  pub state-push : (s : S) (xs : List A) (x : A) → state_after next s (xs ++ x ∷ []) ≡ next (state_after next s xs) x
+  state-push s [] x = refl
+  state-push s (y ∷ xs) x = state-push (next s y) xs x
+
+  pub each-push : (s : S) (bytes : List ℕ) (xs : List A) (mid : List ℕ) (x : A) (rest : List ℕ) → ReadsEach item next s bytes xs mid → (item (state_after next s xs)).Reads mid x rest → ReadsEach item next s bytes (xs ++ x ∷ []) rest
+  each-push s bytes [] mid x rest h k = (rest, subst (λ b. (item s).Reads b x rest) (sym h) k, refl)
+  each-push s bytes (y ∷ xs) mid x rest h k = (h.0, h.1, each-push (next s y) h.0 xs mid x rest h.2 k)
+
+  -- one item, and those behind it
+  pub fails_later : (s : S) (count : ℕ) (bytes : List ℕ) (x : A) (mid : List ℕ) (r : Refused) → (item s).Reads bytes x mid → FailsAtOne item next (next s x) count mid r → FailsAtOne item next s (suc count) bytes r
+  fails_later s count bytes x mid r h f = record { before = x ∷ f.before; rest = f.rest; reads = (mid, h, f.reads); fewer = (let k : length f.before < count = f.fewer in omega arith); fails = f.fails }
+
+module _ {A S : Type 0} (item : S → Part A) (next : S → A → S) where
+  pub stops_at_one : (s : S) (count : ℕ) (bytes : List ℕ) (xs : List A) (rest : List ℕ) (e : Stop) → ReadsEach item next s bytes xs rest → length xs < count → StopsIn (item (state_after next s xs)) rest e
+      → StopsIn (repeated item next s count) bytes e
+  stops_at_one s count bytes xs rest stop.Memory h k f = tt
+  stops_at_one s count bytes xs rest (stop.Refused r) h k f = record { before = xs; rest = rest; reads = h; fewer = k; fails = f }

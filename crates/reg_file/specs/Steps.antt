@@ -1,0 +1,122 @@
+-- What the steps of reading do.
+use Rattle.std.specs.Prelude.{◌≡◌, ◌⊎◌, ◌+◌, ◌<◌, ◌≤◌, ℕ, true, map, Option, Some, None, List, [], ◌∷◌, length, Result}
+use Rattle.reg_op.specs.Set as set
+use Rattle.reg_op.specs.Ids.{Id, Ids}
+use Rattle.reg_op.specs.Operations.{Op}
+use Rattle.reg_op.specs.Contents.{Content, IsContent}
+use Rattle.reg_op.specs.Lists.{content_at}
+use Rattle.reg_state.specs.declared.register.ContentFault.{ContentFault}
+use Rattle.reg_state.specs.declared.register.ContentFault.TheVariants as content
+use Rattle.reg_op.specs.declared.operation.OpBody.{OpBody as Body}
+use Rattle.reg_op.specs.declared.operation.OpBody.TheVariants.{Enter}
+use Rattle.reg_file.specs.declared.fault.Refused.{Refused}
+use Rattle.reg_file.specs.declared.fault.Stop.{Stop}
+use Rattle.reg_file.specs.declared.fault.Stop.TheVariants as stop
+use Rattle.reg_file.specs.declared.fault.FileFault.TheVariants as fault
+use Rattle.reg_file.specs.declared.place.Place.{Place}
+use Rattle.reg_seen.specs.declared.run.Run.{Run}
+use Rattle.reg_seen.specs.Runs.{IsBelow, ids_of_run, seen_of}
+use Rattle.reg_file.specs.declared.span.Span.{Span}
+use Rattle.reg_file.specs.Layout.{Group, run_at, runs_of}
+use Rattle.reg_file.specs.Readers.{ReadsEach, state_after}
+use Rattle.reg_file.specs.Reading.{IsUnfit, FailsAs, span, floor_after, spans, group, groups, replica_after, ranges, left_in, IsDropped, IsTrailing, ending, register}
+
+-- a text that is no definition, behind a body that begins with so many bytes left
+abbrev pub StopsInText : List ℕ → ℕ → Stop → Type 0
+StopsInText text left stop.Memory = Unit {0}
+StopsInText text left (stop.Refused r) = IsUnfit (Enter text) left r
+
+abbrev pub StopsAs : {X : Type 0} → (X → Body) → ℕ → Result (X × List ℕ) Refused → Stop → Type 0
+StopsAs of left read stop.Memory = Unit {0}
+StopsAs of left read (stop.Refused r) = FailsAs of left read r
+
+-- ---- ranges
+
+-- a set with the ids of some runs
+abbrev pub with_runs : Ids → List Run → Ids
+with_runs s [] = s
+with_runs s (r ∷ rs) = with_runs (set.union s (set.from_list (ids_of_run r))) rs
+
+-- the ids are of replicas below this one, or are apart from what begins at a floor
+abbrev pub IsUnder : Ids → List ℕ → ℕ → Type 0
+IsUnder s replica floor = (i : Id) → set.contains s i ≡ true → IsBelow i.replica replica ⊎ ((i.replica ≡ replica) × (i.count + 1 < floor))
+
+-- the ids are of replicas up to the last one
+abbrev pub IsUpTo : Ids → Option (List ℕ) → Type 0
+IsUpTo s None = (i : Id) → set.contains s i ≡ true → ⊥
+IsUpTo s (Some last) = (i : Id) → set.contains s i ≡ true → IsBelow i.replica last ⊎ (i.replica ≡ last)
+
+-- ranges of a replica were read, and a set has them besides
+pub record AddsSpans (old new : Ids) (replica : List ℕ) (count : ℕ) (bytes rest : List ℕ) : Type 0 where
+  pub all : List Span
+  pub reads : (spans count).Reads bytes all rest
+  pub adds : new ≡ with_runs old (map (run_at replica) all)
+  pub up_to : IsUpTo new (Some replica)
+
+pub record AddsGroup (old new : Ids) (last : Option (List ℕ)) (bytes replica rest : List ℕ) : Type 0 where
+  pub one : Group
+  pub reads : (group last).Reads bytes one rest
+  pub of : replica ≡ one.replica
+  pub adds : new ≡ with_runs old (map (run_at one.replica) one.spans)
+  pub up_to : IsUpTo new (Some replica)
+
+-- so many replicas were read, and these are their ids
+pub record ReadsGroups (count : ℕ) (bytes : List ℕ) (seen : Ids) (rest : List ℕ) : Type 0 where
+  pub all : List Group
+  pub reads : (groups count).Reads bytes all rest
+  pub ids : seen ≡ seen_of (runs_of all)
+
+-- all ranges were read, and these are their ids
+pub record ReadsSeen (bytes : List ℕ) (seen : Ids) (rest : List ℕ) : Type 0 where
+  pub count : ℕ
+  pub all : List Group
+  pub reads : ranges.Reads bytes (count, all) rest
+  pub ids : seen ≡ seen_of (runs_of all)
+
+-- in the midst of a replica's ranges
+pub record IsAddingSpans (old now : Ids) (replica bytes rest : List ℕ) (floor n : ℕ) : Type 0 where
+  pub all : List Span
+  pub reads : ReadsEach span floor_after 1 bytes all rest
+  pub floor_is : floor ≡ state_after floor_after 1 all
+  pub adds : now ≡ with_runs old (map (run_at replica) all)
+  pub counted : length all ≡ n
+  pub under : IsUnder now replica floor
+  pub positive : 1 ≤ floor
+
+-- in the midst of the replicas
+pub record IsAddingGroups (now : Ids) (bytes rest : List ℕ) (last : Option (List ℕ)) (n : ℕ) : Type 0 where
+  pub all : List Group
+  pub reads : ReadsEach group replica_after None bytes all rest
+  pub last_is : last ≡ state_after replica_after None all
+  pub adds : now ≡ with_runs set.empty (runs_of all)
+  pub counted : length all ≡ n
+  pub up_to : IsUpTo now last
+
+-- ---- the end
+
+-- the operations are a content's, and nothing follows
+pub record EndsWell (os : List Op) (seen : Ids) (rest : List ℕ) (x : Content) : Type 0 where
+  pub reads : (ending os).Reads rest tt []
+  pub is : x ≡ content_at os seen
+  pub content : IsContent x
+
+-- with the places of the operations
+abbrev pub StopsAtEnd : List Op → List Place → List ℕ → Stop → Type 0
+StopsAtEnd os places rest stop.Memory = Unit {0}
+StopsAtEnd os places rest (stop.Refused r) = IsDropped os places r ⊎ IsTrailing os rest r
+
+-- what is told where a content is refused
+abbrev pub IsStopOf : ContentFault → List Place → Stop → Type 0
+IsStopOf (content.NotKept id) places s = s ≡ stop.Refused (record { fault = fault.NotKept; left = left_in places id })
+IsStopOf content.Memory places s = s ≡ stop.Memory
+
+-- ---- the whole
+
+pub record ReadsContent (bytes : List ℕ) (x : Content) : Type 0 where
+  pub replicas : ℕ
+  pub seen : List Group
+  pub count : ℕ
+  pub ops : List Op
+  pub reads : register.Reads bytes (tt, ((replicas, seen), ((count, ops), tt))) []
+  pub is : x ≡ content_at ops (seen_of (runs_of seen))
+  pub content : IsContent x

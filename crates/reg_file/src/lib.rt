@@ -1,0 +1,20 @@
+//! Replica files, read exactly: the bytes of a register, and the first fault of other bytes, at its place.
+#![tactic(auto)]
+
+mod fault;
+mod fields;
+pub mod laws;
+mod length;
+mod operations;
+mod place;
+mod ranges;
+mod reading;
+mod span;
+mod spelling;
+#[cfg(test)]
+mod tests;
+mod writing;
+
+pub use fault::{FileFault, ReadFileFault, WriteFileFault};
+pub use reading::{read_bytes, read_register};
+pub use writing::{write_bytes, write_register};

@@ -1,0 +1,154 @@
+//! Operations, read one after the other.
+
+ghost use Rattle.std.specs.Prelude.{◌≡◌, ◌≤◌, length, IfOk, IfErr};
+ghost use Rattle.reg_file.specs.Fields.{body_at};
+ghost use Rattle.reg_file.specs.Readers.{StopsIn};
+ghost use Rattle.reg_file.specs.Reading.{operation, operations, left_in, places_of};
+ghost use Rattle.reg_file.specs.Steps.{StopsInText, StopsAs};
+
+use crate::fault::{FileFault, Stop};
+use crate::fields::{id_of, op_kind_of, own_of, pair_of, refused, text_of};
+use crate::place::Place;
+use reg_op::{Op, OpBody, OpId, SameEntry};
+use reg_state::Seen;
+use std::alloc::Global;
+use wkt_crs::{Definition, DefinitionFault, ReadFault};
+
+fn definition_of(alloc: Global, text: &[u8], left: usize) -> Result<Definition, Stop>
+    ensures ok { IfOk result (λ d. d ≡ text.now) }
+    ensures err { IfErr result (StopsInText text.now left) }
+{
+    match Definition::from_canonical(alloc, text) {
+        Ok(definition) => Ok(definition),
+        Err(DefinitionFault::Memory) => Err(Stop::Memory),
+        Err(DefinitionFault::Read(ReadFault::Memory)) => Err(Stop::Memory),
+        Err(DefinitionFault::NotCanonical) => Err(refused(FileFault::NotCanonical, left)),
+        Err(fault) => Err(refused(FileFault::Definition(fault), left)),
+    }
+}
+
+fn enter_of(alloc: Global, bytes: &[u8]) -> Result<(OpBody, &[u8]), Stop>
+    ensures ok { IfOk result (λ x. body_at 1 bytes.now ≡ Ok (x.0, x.1.now)) }
+    ensures err { IfErr result (StopsAs (λ b. b) (length bytes.now) (body_at 1 bytes.now)) }
+{
+    let (text, rest) = match text_of(bytes) {
+        Ok(read) => read,
+        Err(stop) => return Err(stop),
+    };
+    match definition_of(alloc, text, bytes.len()) {
+        Ok(definition) => Ok((OpBody::Enter(definition), rest)),
+        Err(stop) => Err(stop),
+    }
+}
+
+fn supersede_of(bytes: &[u8]) -> Result<(OpBody, &[u8]), Stop>
+    ensures ok { IfOk result (λ x. body_at 2 bytes.now ≡ Ok (x.0, x.1.now)) }
+    ensures err { IfErr result (StopsAs (λ b. b) (length bytes.now) (body_at 2 bytes.now)) }
+{
+    let (pair, rest) = match pair_of(bytes) {
+        Ok(read) => read,
+        Err(stop) => return Err(stop),
+    };
+    let (old, newer) = pair;
+    Ok((OpBody::Supersede { old, newer }, rest))
+}
+
+fn retire_of(bytes: &[u8]) -> Result<(OpBody, &[u8]), Stop>
+    ensures ok { IfOk result (λ x. body_at 3 bytes.now ≡ Ok (x.0, x.1.now)) }
+    ensures err { IfErr result (StopsAs (λ b. b) (length bytes.now) (body_at 3 bytes.now)) }
+{
+    let (entry, rest) = match id_of(bytes) {
+        Ok(read) => read,
+        Err(stop) => return Err(stop),
+    };
+    Ok((OpBody::Retire { entry }, rest))
+}
+
+fn body_of(alloc: Global, kind: u8, bytes: &[u8]) -> Result<(OpBody, &[u8]), Stop>
+    requires { (1 ≤ kind) × (kind ≤ 3) }
+    ensures ok { IfOk result (λ x. body_at kind bytes.now ≡ Ok (x.0, x.1.now)) }
+    ensures err { IfErr result (StopsAs (λ b. b) (length bytes.now) (body_at kind bytes.now)) }
+{
+    if kind == 1 {
+        return enter_of(alloc, bytes);
+    }
+    if kind == 2 {
+        return supersede_of(bytes);
+    }
+    retire_of(bytes)
+}
+
+fn op_of<'a>(
+    alloc: Global,
+    last: Option<OpId>,
+    seen: &Seen,
+    bytes: &'a [u8],
+) -> Result<(Op, &'a [u8]), Stop>
+    ensures ok { IfOk result (λ x. (operation seen.now last).Reads bytes.now x.0 x.1.now) }
+    ensures err { IfErr result (StopsIn (operation seen.now last) bytes.now) }
+{
+    let (id, rest) = match own_of(last, seen, bytes) {
+        Ok(read) => read,
+        Err(stop) => return Err(stop),
+    };
+    let (kind, rest) = match op_kind_of(rest) {
+        Ok(read) => read,
+        Err(stop) => return Err(stop),
+    };
+    let (body, rest) = match body_of(alloc, kind, rest) {
+        Ok(read) => read,
+        Err(stop) => return Err(stop),
+    };
+    match Op::new(id, body) {
+        Ok(op) => {
+            let _id = op.id();
+            Ok((op, rest))
+        }
+        Err(SameEntry) => unreachable!(),
+    }
+}
+
+/// So many operations, each after the one before it, and where each was read.
+pub fn ops_of<'a>(
+    alloc: Global,
+    seen: &Seen,
+    count: u32,
+    bytes: &'a [u8],
+) -> Result<(Vec<Op>, Vec<Place>, &'a [u8]), Stop>
+    ensures ok { IfOk result (λ x. (operations seen.now count).Reads bytes.now x.0.items x.2.now × (x.1.items ≡ places_of x.0.items x.2.now)) }
+    ensures err { IfErr result (StopsIn (operations seen.now count) bytes.now) }
+{
+    let mut ops = Vec::new(alloc);
+    let mut places = Vec::new(alloc);
+    let mut last = None;
+    let mut rest = bytes;
+    for _ in 0..count {
+        let (op, after) = match op_of(alloc, last, seen, rest) {
+            Ok(read) => read,
+            Err(stop) => return Err(stop),
+        };
+        let id = op.id();
+        places.push(Place {
+            id,
+            left: rest.len(),
+        })?;
+        ops.push(op)?;
+        last = Some(id);
+        rest = after;
+    }
+    Ok((ops, places, rest))
+}
+
+/// The place of the first operation of an id.
+pub fn left_of(places: &[Place], id: OpId) -> usize
+    ensures { result ≡ left_in places.now id }
+{
+    let mut rest = places;
+    while let Some((place, others)) = rest.split_first() {
+        if place.id.is_same(&id) {
+            return place.left;
+        }
+        rest = others;
+    }
+    0
+}

@@ -1,0 +1,8 @@
+use Rattle.std.proofs.Common.{◌≡◌, ◌++◌, take}
+use Rattle.std.specs.List.{flat_map}
+use Rattle.csv.specs.Writing.{row_text, default_writer}
+use Rattle.reg_office.specs.Lines.{gaps_header, gap_fields, sheet_of, sheet_text, IsReady}
+use Rattle.reg_office.proofs.lines.gaps_text.Given as goal
+
+abbrev pub invariant-loop-gap : goal.invariant-loop-gap
+invariant-loop-gap l = IsReady l.wtr × (sheet_text l.wtr ≡ sheet_of gaps_header gap_fields (take l.gap-index l.gaps))

@@ -1,0 +1,9 @@
+pub mod Making
+pub mod Commands
+pub mod Effects
+pub mod Pairs
+pub mod Seen
+pub mod Gaps
+pub mod Lines
+pub mod Reports
+pub mod Between

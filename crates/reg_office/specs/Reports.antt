@@ -1,0 +1,31 @@
+-- What reports are.
+use Rattle.std.specs.Prelude.{◌≡◌, ℕ, List, [], ◌∷◌}
+use Rattle.reg_op.specs.Set as set
+use Rattle.reg_op.specs.Contents.{Content}
+use Rattle.reg_op.specs.Rows.{rows, awaited}
+use Rattle.byte_io.specs.Device.{SinkState}
+use Rattle.byte_io.specs.Whole.{WritesAll, IsCutAt}
+use Rattle.reg_office.specs.declared.gap.Gap.{Gap}
+use Rattle.reg_office.specs.declared.writing.ReportKind.{ReportKind}
+use Rattle.reg_office.specs.declared.writing.ReportKind.TheVariants.{Entries, Awaited, Gaps}
+use Rattle.reg_office.specs.declared.writing.ReportFault.{ReportFault}
+use Rattle.reg_office.specs.declared.writing.ReportFault.TheVariants as fault
+use Rattle.reg_office.specs.Gaps.{AreGaps}
+use Rattle.reg_office.specs.Lines.{sheet_of, IsSheet, awaited_header, awaited_fields, gaps_header, gap_fields, entries_header, IsEntryLine, ops_header, op_fields}
+
+abbrev pub IsReport : ReportKind → Content → List ℕ → Type 0
+IsReport Entries x text = IsSheet entries_header IsEntryLine (rows x.ops) text
+IsReport Awaited x text = text ≡ sheet_of awaited_header awaited_fields (set.items (awaited x.ops))
+IsReport Gaps x text = (gaps : List Gap) × AreGaps x.seen gaps × (text ≡ sheet_of gaps_header gap_fields gaps)
+
+abbrev pub IsOpsReport : Content → List ℕ → Type 0
+IsOpsReport x text = text ≡ sheet_of ops_header op_fields (set.items x.ops)
+
+-- some text that is a report went out whole
+abbrev pub Reports : (List ℕ → Type 0) → SinkState → SinkState → Type 0
+Reports IsText old new = (text : List ℕ) × IsText text × WritesAll text old new
+
+-- exactly the first n bytes of such a text went out, or nothing was written
+abbrev pub IsReportFault : (List ℕ → Type 0) → SinkState → SinkState → ReportFault → Type 0
+IsReportFault IsText old new (fault.WriteFailed n) = (text : List ℕ) × IsText text × IsCutAt n text old new
+IsReportFault IsText old new fault.Memory = new ≡ old

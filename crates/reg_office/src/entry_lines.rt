@@ -1,0 +1,114 @@
+ghost use Rattle.std.specs.Prelude.{◌≡◌, ℕ, ◌++◌, List, [], ◌∷◌, map, Some, IfOk, OnOk};
+ghost use Rattle.reg_op.specs.Text.{printed};
+ghost use Rattle.reg_office.specs.Lines.{entries_header, status_word, spaced, spaced_after, IsEntryLine, IsSheet, IsReady, WritesRow};
+ghost use Rattle.reg_office.specs.Seen.{row_seen};
+
+use crate::lines::printed;
+use crate::row::Row;
+use csv::Writer;
+use reg_op::{OpId, Status};
+use std::alloc::{AllocError, Global};
+
+fn status_word(status: Status) -> &'static [u8]
+    ensures { result.now ≡ status_word (Some status) }
+{
+    match status {
+        Status::Valid => b"valid",
+        Status::Superseded => b"superseded",
+        Status::Retired => b"retired",
+    }
+}
+
+fn spaced_after(text: &mut Vec<u8>, ids: &[OpId]) -> Result<(), AllocError>
+    ensures { OnOk result (text.new.items ≡ text.old.items ++ spaced_after ids.now) }
+{
+    let mut rest = ids;
+    while let Some((id, others)) = rest.split_first() {
+        text.push(b' ')?;
+        id.write_to(text)?;
+        rest = others;
+    }
+    Ok(())
+}
+
+// The ids with one space between.
+fn spaced(alloc: Global, ids: &[OpId]) -> Result<Vec<u8>, AllocError>
+    ensures { IfOk result (λ text. text.items ≡ spaced ids.now) }
+{
+    let mut text = Vec::new(alloc);
+    let Some((first, others)) = ids.split_first() else {
+        return Ok(text);
+    };
+    first.write_to(&mut text)?;
+    spaced_after(&mut text, others)?;
+    Ok(text)
+}
+
+fn write_six(
+    wtr: &mut Writer<Vec<u8>>,
+    first: &[u8],
+    second: &[u8],
+    third: &[u8],
+    fourth: &[u8],
+    fifth: &[u8],
+    sixth: &[u8],
+) -> Result<(), AllocError>
+    requires { IsReady wtr.old }
+    ensures { OnOk result (WritesRow wtr.old wtr.new (first.now ∷ second.now ∷ third.now ∷ fourth.now ∷ fifth.now ∷ sixth.now ∷ [])) }
+{
+    let fields = [first, second, third, fourth, fifth, sixth];
+    wtr.write_fields(&fields).map_err(|_| AllocError)?;
+    Ok(())
+}
+
+fn write_header(wtr: &mut Writer<Vec<u8>>) -> Result<(), AllocError>
+    requires { IsReady wtr.old }
+    ensures { OnOk result (WritesRow wtr.old wtr.new entries_header) }
+{
+    write_six(
+        wtr,
+        b"entry",
+        b"authority",
+        b"code",
+        b"name",
+        b"status",
+        b"replaced_by",
+    )
+}
+
+fn write_entry(alloc: Global, wtr: &mut Writer<Vec<u8>>, row: &Row) -> Result<(), AllocError>
+    requires { IsReady wtr.old }
+    ensures { OnOk result ((fields : List (List ℕ)) × IsEntryLine (row_seen row.now) fields × WritesRow wtr.old wtr.new fields) }
+{
+    let entry = printed(alloc, row.entry)?;
+    let newer = spaced(alloc, &row.newer)?;
+    let key = row.definition.key();
+    let name = row.definition.crs().name();
+    write_six(
+        wtr,
+        &entry,
+        key.authority.as_bytes(),
+        key.code.as_bytes(),
+        name.as_bytes(),
+        status_word(row.status),
+        &newer,
+    )?;
+    Ok(())
+}
+
+/// A header, and a line for each entry.
+pub fn entries_text(alloc: Global, rows: &[Row]) -> Result<Vec<u8>, AllocError>
+    ensures { IfOk result (λ text. IsSheet entries_header IsEntryLine (map row_seen rows.now) text.items) }
+{
+    let mut wtr = Writer::from_writer(Vec::new(alloc));
+    write_header(&mut wtr)?;
+    let mut rest = rows;
+    while let Some((row, others)) = rest.split_first() {
+        write_entry(alloc, &mut wtr, row)?;
+        rest = others;
+    }
+    match wtr.into_inner() {
+        Ok(text) => Ok(text),
+        Err(_) => Err(AllocError),
+    }
+}

@@ -1,0 +1,25 @@
+//! Offices: what their commands make of a register.
+#![tactic(auto)]
+
+mod command;
+mod distinct;
+mod entry;
+mod entry_lines;
+mod fault;
+mod gap;
+pub mod laws;
+mod lines;
+mod named;
+mod office;
+mod row;
+mod supersession;
+#[cfg(test)]
+mod tests;
+mod writing;
+
+pub use fault::OfficeFault;
+pub use gap::{Gap, gaps};
+pub use named::awaited;
+pub use office::Office;
+pub use row::{Row, rows};
+pub use writing::{ReportFault, ReportKind, report, report_ops};

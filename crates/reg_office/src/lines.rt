@@ -1,0 +1,172 @@
+ghost use Rattle.std.specs.Prelude.{◌≡◌, [], ◌∷◌, IfOk, OnOk};
+ghost use Rattle.reg_op.specs.Text.{printed};
+ghost use Rattle.reg_office.specs.Lines.{sheet_of, awaited_header, awaited_fields, gaps_header, gap_fields, ops_header, op_fields, IsReady, WritesRow};
+
+use crate::gap::Gap;
+use csv::Writer;
+use reg_op::{Op, OpBody, OpId};
+use std::alloc::{AllocError, Global};
+use uuid::Uuid;
+
+pub fn printed(alloc: Global, id: OpId) -> Result<Vec<u8>, AllocError>
+    ensures { IfOk result (λ text. text.items ≡ printed id) }
+{
+    let mut text = Vec::new(alloc);
+    id.write_to(&mut text)?;
+    Ok(text)
+}
+
+fn write_awaited_header(wtr: &mut Writer<Vec<u8>>) -> Result<(), AllocError>
+    requires { IsReady wtr.old }
+    ensures { OnOk result (WritesRow wtr.old wtr.new awaited_header) }
+{
+    let fields = [b"entry".as_slice()];
+    wtr.write_fields(&fields).map_err(|_| AllocError)?;
+    Ok(())
+}
+
+fn write_awaited(alloc: Global, wtr: &mut Writer<Vec<u8>>, id: OpId) -> Result<(), AllocError>
+    requires { IsReady wtr.old }
+    ensures { OnOk result (WritesRow wtr.old wtr.new (awaited_fields id)) }
+{
+    let text = printed(alloc, id)?;
+    let fields = [text.as_slice()];
+    wtr.write_fields(&fields).map_err(|_| AllocError)?;
+    Ok(())
+}
+
+/// A header, and a line for each id.
+pub fn awaited_text(alloc: Global, ids: &[OpId]) -> Result<Vec<u8>, AllocError>
+    ensures { IfOk result (λ text. text.items ≡ sheet_of awaited_header awaited_fields ids.now) }
+{
+    let mut wtr = Writer::from_writer(Vec::new(alloc));
+    write_awaited_header(&mut wtr)?;
+    for id in ids {
+        write_awaited(alloc, &mut wtr, *id)?;
+    }
+    match wtr.into_inner() {
+        Ok(text) => Ok(text),
+        Err(_) => Err(AllocError),
+    }
+}
+
+fn write_gaps_header(wtr: &mut Writer<Vec<u8>>) -> Result<(), AllocError>
+    requires { IsReady wtr.old }
+    ensures { OnOk result (WritesRow wtr.old wtr.new gaps_header) }
+{
+    let fields = [b"replica".as_slice(), b"low".as_slice(), b"high".as_slice()];
+    wtr.write_fields(&fields).map_err(|_| AllocError)?;
+    Ok(())
+}
+
+fn write_gap(alloc: Global, wtr: &mut Writer<Vec<u8>>, gap: &Gap) -> Result<(), AllocError>
+    requires { IsReady wtr.old }
+    ensures { OnOk result (WritesRow wtr.old wtr.new (gap_fields gap.now)) }
+{
+    let mut buffer = Uuid::encode_buffer();
+    let replica = gap.replica.hyphenated().encode_lower(&mut buffer);
+    let low = gap.low.to_string(alloc)?;
+    let high = gap.high.to_string(alloc)?;
+    let fields = [replica.as_bytes(), low.as_bytes(), high.as_bytes()];
+    wtr.write_fields(&fields).map_err(|_| AllocError)?;
+    Ok(())
+}
+
+/// A header, and a line for each gap.
+pub fn gaps_text(alloc: Global, gaps: &[Gap]) -> Result<Vec<u8>, AllocError>
+    ensures { IfOk result (λ text. text.items ≡ sheet_of gaps_header gap_fields gaps.now) }
+{
+    let mut wtr = Writer::from_writer(Vec::new(alloc));
+    write_gaps_header(&mut wtr)?;
+    for gap in gaps {
+        write_gap(alloc, &mut wtr, gap)?;
+    }
+    match wtr.into_inner() {
+        Ok(text) => Ok(text),
+        Err(_) => Err(AllocError),
+    }
+}
+
+fn write_ops_header(wtr: &mut Writer<Vec<u8>>) -> Result<(), AllocError>
+    requires { IsReady wtr.old }
+    ensures { OnOk result (WritesRow wtr.old wtr.new ops_header) }
+{
+    write_five(
+        wtr,
+        b"operation",
+        b"effect",
+        b"entry",
+        b"replaced_by",
+        b"definition",
+    )
+}
+
+fn write_five(
+    wtr: &mut Writer<Vec<u8>>,
+    first: &[u8],
+    second: &[u8],
+    third: &[u8],
+    fourth: &[u8],
+    fifth: &[u8],
+) -> Result<(), AllocError>
+    requires { IsReady wtr.old }
+    ensures { OnOk result (WritesRow wtr.old wtr.new (first.now ∷ second.now ∷ third.now ∷ fourth.now ∷ fifth.now ∷ [])) }
+{
+    let fields = [first, second, third, fourth, fifth];
+    wtr.write_fields(&fields).map_err(|_| AllocError)?;
+    Ok(())
+}
+
+fn write_op(alloc: Global, wtr: &mut Writer<Vec<u8>>, op: &Op) -> Result<(), AllocError>
+    requires { IsReady wtr.old }
+    ensures { OnOk result (WritesRow wtr.old wtr.new (op_fields op.now)) }
+{
+    let id = printed(alloc, op.id())?;
+    match op.body() {
+        OpBody::Enter(definition) => {
+            let fields = [
+                id.as_slice(),
+                b"enter",
+                id.as_slice(),
+                b"",
+                definition.as_bytes(),
+            ];
+            wtr.write_fields(&fields).map_err(|_| AllocError)?;
+            Ok(())
+        }
+        OpBody::Supersede { old, newer } => {
+            let old = printed(alloc, *old)?;
+            let newer = printed(alloc, *newer)?;
+            let fields = [
+                id.as_slice(),
+                b"supersede",
+                old.as_slice(),
+                newer.as_slice(),
+                b"",
+            ];
+            wtr.write_fields(&fields).map_err(|_| AllocError)?;
+            Ok(())
+        }
+        OpBody::Retire { entry } => {
+            let entry = printed(alloc, *entry)?;
+            let fields = [id.as_slice(), b"retire", entry.as_slice(), b"", b""];
+            wtr.write_fields(&fields).map_err(|_| AllocError)?;
+            Ok(())
+        }
+    }
+}
+
+/// A header, and a line for each operation.
+pub fn ops_text(alloc: Global, ops: &[Op]) -> Result<Vec<u8>, AllocError>
+    ensures { IfOk result (λ text. text.items ≡ sheet_of ops_header op_fields ops.now) }
+{
+    let mut wtr = Writer::from_writer(Vec::new(alloc));
+    write_ops_header(&mut wtr)?;
+    for op in ops {
+        write_op(alloc, &mut wtr, op)?;
+    }
+    match wtr.into_inner() {
+        Ok(text) => Ok(text),
+        Err(_) => Err(AllocError),
+    }
+}

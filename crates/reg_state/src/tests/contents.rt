@@ -1,0 +1,74 @@
+//! Registers made of their content.
+
+use super::{A, B, C, HEIGHT, Refused, enter, id_of, keeps, retire, supersede, taken};
+use crate::{ContentFault, Register, Seen};
+use reg_op::{Op, OpId, Status};
+use std::alloc::Global;
+use std::test::Fail;
+
+// What is made of two operations by id, both of which are seen.
+fn made_of(alloc: Global, first: Op, second: Op, seen: Seen) -> Result<Register, ContentFault> {
+    let (id, later) = (first.id(), second.id());
+    if !id.is_before(&later) {
+        return Err(ContentFault::Memory);
+    }
+    if !seen.contains(id) {
+        return Err(ContentFault::Memory);
+    }
+    if !seen.contains(later) {
+        return Err(ContentFault::Memory);
+    }
+    let mut ops = Vec::new(alloc);
+    if let Err(_) = ops.push(first) {
+        return Err(ContentFault::Memory);
+    }
+    if let Err(_) = ops.push(second) {
+        return Err(ContentFault::Memory);
+    }
+    Register::from_content(alloc, ops, seen)
+}
+
+// What has seen both.
+fn seen_of(alloc: Global, first: Op, second: Op) -> Result<Seen, Refused> {
+    let register = taken(alloc, vec![in alloc; first, second].ok().ok_or(Refused)?)?;
+    register.seen().try_clone(alloc).ok().ok_or(Refused)
+}
+
+fn is_not_kept(refused: Result<Register, ContentFault>, id: OpId) -> bool {
+    match refused.err() {
+        None => false,
+        Some(fault) => fault == ContentFault::NotKept(id),
+    }
+}
+
+#[test]
+fn an_entry_and_its_retirement_are_a_content(rt: HostRuntime) -> Result<(), Fail> {
+    let alloc = rt.alloc();
+    let (entry, mark) = (id_of(A, 1)?, id_of(B, 1)?);
+    let seen = seen_of(alloc, enter(alloc, entry, HEIGHT)?, retire(mark, entry)?)?;
+    let made = made_of(
+        alloc,
+        enter(alloc, entry, HEIGHT)?,
+        retire(mark, entry)?,
+        seen,
+    );
+    let Ok(register) = made else {
+        return Err(Fail::new("refused"));
+    };
+    assert!(rt; keeps(&register, &[entry, mark]));
+    assert!(rt; register.status(entry) == Some(Status::Retired));
+    Ok(())
+}
+
+#[test]
+fn what_would_be_dropped_is_named(rt: HostRuntime) -> Result<(), Fail> {
+    let alloc = rt.alloc();
+    let (entry, newer, b, c) = (id_of(A, 1)?, id_of(A, 2)?, id_of(B, 1)?, id_of(C, 1)?);
+    let seen = seen_of(alloc, retire(b, entry)?, retire(c, entry)?)?;
+    let copy = seen.try_clone(alloc)?;
+    let two_retirements = made_of(alloc, retire(b, entry)?, retire(c, entry)?, copy);
+    assert!(rt; is_not_kept(two_retirements, c));
+    let superseded = made_of(alloc, supersede(b, entry, newer)?, retire(c, entry)?, seen);
+    assert!(rt; is_not_kept(superseded, b));
+    Ok(())
+}

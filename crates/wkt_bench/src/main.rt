@@ -1,0 +1,133 @@
+//! Reads each text of a file, one a line, and writes it again, as often as asked: `wkt_bench FILE TIMES [WORK]`, where
+//! WORK is how far it goes: `scan`, `slots`, `read`, `canonical`, `pretty` or `define`. It prints counts alone: the time
+//! is taken from outside.
+#![tactic(auto)]
+
+use std::alloc::{AllocError, Global};
+use std::{env, fs, io};
+use wkt_crs::{Definition, DefinitionFault, ReadFault, read_crs, write_crs, write_pretty};
+use wkt_slots::Edition;
+use wkt_tier::check_slots;
+use wkt_tree::scan;
+
+/// What is done with a text.
+#[derive(Clone, Copy)]
+enum Work {
+    /// Its tokens and brackets are tested.
+    Scan,
+    /// Its slots are tested too.
+    Slots,
+    /// Its value is built, and the conditions are tested.
+    Read,
+    /// It is read, and its canonical text is made.
+    Canonical,
+    /// It is read, and its indented text is made.
+    Pretty,
+    /// It is read as a definition, which is canonical.
+    Define,
+}
+
+impl Work {
+    fn of_word(word: &str) -> Work {
+        match word {
+            "scan" => Work::Scan,
+            "slots" => Work::Slots,
+            "read" => Work::Read,
+            "pretty" => Work::Pretty,
+            "define" => Work::Define,
+            _ => Work::Canonical,
+        }
+    }
+}
+
+#[derive(Clone, Copy)]
+struct Counts {
+    written: usize,
+    refused: usize,
+    bytes: usize,
+}
+
+const NONE: Counts = Counts {
+    written: 0,
+    refused: 0,
+    bytes: 0,
+};
+
+fn main(rt: HostRuntime) -> io::Result<()> {
+    let words: Vec<String> = env::args(&rt)?.collect(rt.alloc())?;
+    let Some(file) = words.get(1) else {
+        return println!(rt; "wkt_bench FILE TIMES [scan|slots|read|canonical|pretty|define]");
+    };
+    let times = match words.get(2) {
+        Some(word) => word.as_str().parse::<u32>().unwrap_or(1),
+        None => 1,
+    };
+    let work = match words.get(3) {
+        Some(word) => Work::of_word(word),
+        None => Work::Canonical,
+    };
+    let texts = fs::read(&rt, file.as_str())?;
+    let mut counts = NONE;
+    for _ in 0..times {
+        counts = do_all(rt.alloc(), &texts, work)?;
+    }
+    println!(rt;
+        "{} written, {} refused, {} bytes",
+        counts.written, counts.refused, counts.bytes
+    )
+}
+
+fn do_all(alloc: Global, texts: &[u8], work: Work) -> Result<Counts, AllocError> {
+    let mut counts = NONE;
+    for text in texts.split(|byte| *byte == b'\n') {
+        if text.is_empty() {
+            continue;
+        }
+        match written(alloc, text, work)? {
+            Some(bytes) => {
+                counts.written = counts.written.wrapping_add(1);
+                counts.bytes = counts.bytes.wrapping_add(bytes);
+            }
+            None => counts.refused = counts.refused.wrapping_add(1),
+        }
+    }
+    Ok(counts)
+}
+
+// How many bytes were made of the text, unless it is refused.
+fn written(alloc: Global, text: &[u8], work: Work) -> Result<Option<usize>, AllocError> {
+    match work {
+        Work::Scan => Ok(scan(text).ok().map(|_| 0)),
+        Work::Slots => Ok(has_slots(text)),
+        Work::Define => defined(alloc, text),
+        Work::Read | Work::Canonical | Work::Pretty => read(alloc, text, work),
+    }
+}
+
+fn has_slots(text: &[u8]) -> Option<usize> {
+    let Ok(outline) = scan(text) else {
+        return None;
+    };
+    check_slots(Edition::First, &outline).ok().map(|_| 0)
+}
+
+fn defined(alloc: Global, text: &[u8]) -> Result<Option<usize>, AllocError> {
+    match Definition::from_canonical(alloc, text) {
+        Ok(definition) => Ok(Some(definition.as_bytes().len())),
+        Err(DefinitionFault::Memory) => Err(AllocError),
+        Err(_) => Ok(None),
+    }
+}
+
+fn read(alloc: Global, text: &[u8], work: Work) -> Result<Option<usize>, AllocError> {
+    let crs = match read_crs(alloc, text) {
+        Ok(crs) => crs,
+        Err(ReadFault::Memory) => return Err(AllocError),
+        Err(_) => return Ok(None),
+    };
+    match work {
+        Work::Canonical => Ok(Some(write_crs(alloc, &crs)?.len())),
+        Work::Pretty => Ok(Some(write_pretty(alloc, &crs)?.len())),
+        _ => Ok(Some(0)),
+    }
+}
