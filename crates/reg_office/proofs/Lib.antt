@@ -6,3 +6,8 @@ pub mod PairLemmas
 pub mod AwaitedLemmas
 pub mod SheetLemmas
 pub mod GapLemmas
+pub mod WorldCommands
+pub mod WorldLemmas
+pub mod WorldFollows
+pub mod WorldGaps
+pub mod WorldReports

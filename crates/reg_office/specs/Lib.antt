@@ -7,3 +7,4 @@ pub mod Gaps
 pub mod Lines
 pub mod Reports
 pub mod Between
+pub mod World
