@@ -1,3 +1,8 @@
+pub mod WorldCommands
+pub mod WorldFollows
+pub mod WorldGaps
+pub mod WorldLemmas
+pub mod WorldReports
 pub mod EffectLemmas
 pub mod NumberLemmas
 pub mod LawLemmas
@@ -6,8 +11,3 @@ pub mod PairLemmas
 pub mod AwaitedLemmas
 pub mod SheetLemmas
 pub mod GapLemmas
-pub mod WorldCommands
-pub mod WorldLemmas
-pub mod WorldFollows
-pub mod WorldGaps
-pub mod WorldReports

@@ -1,4 +1,4 @@
-//! The laws of what commands make. A call does nothing: its contract is the law.
+//! The laws of what commands make, of reports, and of every world. A call does nothing: its contract is the law.
 
 ghost use Rattle.std.specs.Prelude.{◌≡◌, ◌≢◌, ◌↔◌, ◌⊎◌, ◌+◌, ◌<◌, ℕ, List, map, length, slice_get, true, false, None, Some, Ok, Err};
 ghost use Rattle.reg_op.specs.Set as set;

@@ -1,6 +1,7 @@
 mod commands;
 mod growth;
 mod reports;
+mod worlds;
 
 use crate::{Office, OfficeFault};
 use reg_op::{Op, OpBody, OpId};
