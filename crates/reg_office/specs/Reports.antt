@@ -1,8 +1,9 @@
 -- What reports are.
-use Rattle.std.specs.Prelude.{◌≡◌, ℕ, List, [], ◌∷◌}
+use Rattle.std.specs.Prelude.{◌≡◌, ℕ, List, [], ◌∷◌, filter}
 use Rattle.reg_op.specs.Set as set
 use Rattle.reg_op.specs.Contents.{Content}
-use Rattle.reg_op.specs.Rows.{rows, awaited}
+use Rattle.reg_op.specs.Ids.{Id, is_same}
+use Rattle.reg_op.specs.Rows.{Row, rows, awaited}
 use Rattle.byte_io.specs.Device.{SinkState}
 use Rattle.byte_io.specs.Whole.{WritesAll, IsCutAt}
 use Rattle.reg_office.specs.declared.gap.Gap.{Gap}
@@ -17,6 +18,10 @@ abbrev pub IsReport : ReportKind → Content → List ℕ → Type 0
 IsReport Entries x text = IsSheet entries_header IsEntryLine (rows x.ops) text
 IsReport Awaited x text = text ≡ sheet_of awaited_header awaited_fields (set.items (awaited x.ops))
 IsReport Gaps x text = (gaps : List Gap) × AreGaps x.seen gaps × (text ≡ sheet_of gaps_header gap_fields gaps)
+
+-- the line of one entry alone, behind the header
+abbrev pub IsEntryReport : Id → Content → List ℕ → Type 0
+IsEntryReport entry x text = IsSheet entries_header IsEntryLine (filter (λ (r : Row). is_same entry r.entry) (rows x.ops)) text
 
 abbrev pub IsOpsReport : Content → List ℕ → Type 0
 IsOpsReport x text = text ≡ sheet_of ops_header op_fields (set.items x.ops)

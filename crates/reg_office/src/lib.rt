@@ -11,6 +11,7 @@ pub mod laws;
 mod lines;
 mod named;
 mod office;
+mod one_entry;
 mod row;
 mod supersession;
 #[cfg(test)]
@@ -21,5 +22,6 @@ pub use fault::OfficeFault;
 pub use gap::{Gap, gaps};
 pub use named::awaited;
 pub use office::Office;
+pub use one_entry::report_entry;
 pub use row::{Row, rows};
 pub use writing::{ReportFault, ReportKind, report, report_ops};
