@@ -33,7 +33,8 @@ pub fn run(rt: &HostRuntime) -> u8 {
     }
 }
 
-pub(crate) fn answer(rt: &HostRuntime, words: &[String]) -> u8 {
+/// Runs the command of these words, of which the first is the program's name. The answer is the exit status.
+pub fn answer(rt: &HostRuntime, words: &[String]) -> u8 {
     let Ok(command) = command_line(rt.alloc()) else {
         return failed(rt, &CliFault::Memory);
     };

@@ -6,3 +6,4 @@ pub mod PairLemmas
 pub mod AwaitedLemmas
 pub mod SheetLemmas
 pub mod GapLemmas
+mod ShownLemmas

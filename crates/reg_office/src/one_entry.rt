@@ -20,12 +20,18 @@ fn is_of(row: &Row, entry: OpId) -> bool
     entry.is_same(&row.entry)
 }
 
+fn keep_those_of(rows: &mut Vec<Row>, entry: OpId)
+    ensures { rows.new.items ≡ filter (λ r. is_same entry r.entry) rows.old.items }
+{
+    rows.retain(|row| is_of(row, entry));
+}
+
 // The entry's row, where it has one.
 fn rows_of(alloc: Global, register: &Register, entry: OpId) -> Result<Vec<Row>, AllocError>
     ensures { IfOk result (λ made. map row_seen made.items ≡ filter (λ (r : RowOf). is_same entry r.entry) (rows register.now.ops)) }
 {
     let mut rows = rows(alloc, register)?;
-    rows.retain(|row| is_of(row, entry));
+    keep_those_of(&mut rows, entry);
     Ok(rows)
 }
 
