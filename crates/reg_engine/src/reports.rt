@@ -79,9 +79,9 @@ pub fn run_show<S: Source, K: Sink>(
         Ok(register) => register,
         Err(fault) => return Err(fault),
     };
-    if register.definition(entry).is_none() {
+    let Some(_) = register.definition(entry) else {
         return Err(CliFault::Refused(Refusal::UnknownEntry(entry)));
-    }
+    };
     match report_entry(alloc, &register, entry, sink) {
         Ok(()) => Ok(()),
         Err(ReportFault::WriteFailed(n)) => Err(CliFault::Out(OutFault::WriteFailed(n))),
