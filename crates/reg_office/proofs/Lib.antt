@@ -6,3 +6,8 @@ pub mod PairLemmas
 pub mod AwaitedLemmas
 pub mod SheetLemmas
 pub mod GapLemmas
+pub mod ConflictLemmas
+pub mod ContenderLemmas
+pub mod RepeatLemmas
+pub mod NewLemmas
+pub mod OneLemmas
