@@ -2,6 +2,9 @@
 #![tactic(auto)]
 
 mod command;
+mod conflict;
+mod conflict_lines;
+mod contender;
 mod distinct;
 mod entry;
 mod entry_lines;
@@ -11,13 +14,18 @@ pub mod laws;
 mod lines;
 mod named;
 mod office;
+<<<<<<< HEAD
 mod one_entry;
+=======
+mod repeat;
+>>>>>>> d5d5f6463b37614cd94c303ecc7dfe3b6d1cd837
 mod row;
 mod supersession;
 #[cfg(test)]
 mod tests;
 mod writing;
 
+pub use conflict::{Conflict, conflicts};
 pub use fault::OfficeFault;
 pub use gap::{Gap, gaps};
 pub use named::awaited;
