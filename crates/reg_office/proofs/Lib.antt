@@ -6,12 +6,14 @@ pub mod PairLemmas
 pub mod AwaitedLemmas
 pub mod SheetLemmas
 pub mod GapLemmas
-<<<<<<< HEAD
-mod ShownLemmas
-=======
+pub mod ShownLemmas
 pub mod ConflictLemmas
 pub mod ContenderLemmas
 pub mod RepeatLemmas
 pub mod NewLemmas
 pub mod OneLemmas
->>>>>>> d5d5f6463b37614cd94c303ecc7dfe3b6d1cd837
+pub mod WorldCommands
+pub mod WorldLemmas
+pub mod WorldFollows
+pub mod WorldGaps
+pub mod WorldReports

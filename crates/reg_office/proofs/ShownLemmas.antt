@@ -9,7 +9,7 @@ pub rows_of_one : (e : Id) (rs : List Row) → map row_seen (filter (λ (r : Row
 rows_of_one e [] = refl
 rows_of_one e (r ∷ rs) =
     elim (is_same e r.entry) as (λ b. map row_seen (cond b (r ∷ filter (λ (s : Row). is_same e s.entry) rs) (filter (λ (s : Row). is_same e s.entry) rs))
-        ≡ cond b (row_seen r ∷ filter (λ (s : RowOf). is_same e s.entry) (map row_seen rs)) (filter (λ (s : RowOf). is_same e s.entry) (map row_seen rs))) [
+    ≡ cond b (row_seen r ∷ filter (λ (s : RowOf). is_same e s.entry) (map row_seen rs)) (filter (λ (s : RowOf). is_same e s.entry) (map row_seen rs))) [
       | true ↦ ap (λ k. row_seen r ∷ k) (rows_of_one e rs)
       | false ↦ rows_of_one e rs
     ]

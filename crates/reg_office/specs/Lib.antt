@@ -10,3 +10,4 @@ pub mod Gaps
 pub mod Lines
 pub mod Reports
 pub mod Between
+pub mod World

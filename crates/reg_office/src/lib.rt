@@ -14,11 +14,8 @@ pub mod laws;
 mod lines;
 mod named;
 mod office;
-<<<<<<< HEAD
 mod one_entry;
-=======
 mod repeat;
->>>>>>> d5d5f6463b37614cd94c303ecc7dfe3b6d1cd837
 mod row;
 mod supersession;
 #[cfg(test)]

@@ -1,0 +1,121 @@
+-- Offices that exchange files, under any list of events.
+use Rattle.std.specs.Prelude.{◌≡◌, ℕ, ◌<◌, List, [], ◌∷◌, All, length, Option, Some, None, Result, Ok, Err, find, slice_get, if◌then◌else◌}
+use Rattle.std.specs.Ordering.{is_eq}
+use Rattle.wkt_crs.specs.Definition.{IsDefinition}
+use Rattle.reg_op.specs.Set as set
+use Rattle.reg_op.specs.Ids.{Id, IsId, is_same}
+use Rattle.reg_op.specs.Operations.{Op, Ops, one}
+use Rattle.reg_op.specs.declared.operation.OpBody.{OpBody as Body}
+use Rattle.reg_op.specs.declared.operation.OpBody.TheVariants.{Enter, Supersede, Retire}
+use Rattle.reg_op.specs.Contents.{Content, state, nothing, joined}
+use Rattle.reg_seen.specs.Runs.{replica_cmp}
+use Rattle.reg_file.specs.Layout.{file}
+use Rattle.reg_file.specs.Files.{Holds, IsTooLarge}
+use Rattle.reg_office.specs.declared.fault.OfficeFault.{OfficeFault}
+use Rattle.reg_office.specs.Making.{made}
+
+-- an office: its register's content, its last file, and the operations that it made and was sent, which no code keeps
+pub record Office : Type 0 where
+  pub content : Content
+  pub last : List ℕ
+  pub reached : Ops
+
+-- a file that was sent, and what its sender had reached then
+pub record Sent : Type 0 where
+  pub bytes : List ℕ
+  pub reached : Ops
+
+-- an office for each UUID, and every file that was ever sent, the newest first
+pub record World : Type 0 where
+  pub offices : List ℕ → Office
+  pub pool : List Sent
+
+-- nobody has anything: each last file is that of an empty register
+abbrev pub start : World
+start = record { offices = λ i. record { content = nothing; last = file [] []; reached = set.empty }; pool = [] }
+
+-- an office makes the operations of one command; sends its last file; takes a file from a place of the pool; takes the
+-- operation of one id in such a file; begins again from its last file
+pub data Event : Type 0 where
+  Make : (office : List ℕ) (effects : List Body) → Event
+  Send : (office : List ℕ) → Event
+  Take : (office : List ℕ) (place : ℕ) → Event
+  TakeOne : (office : List ℕ) (place : ℕ) (id : Id) → Event
+  Restart : (office : List ℕ) → Event
+
+-- who commands has a UUID, enters definitions, and names entries by ids
+abbrev pub IsEffect : Body → Type 0
+IsEffect (Enter text) = IsDefinition text
+IsEffect (Supersede old newer) = IsId old × IsId newer
+IsEffect (Retire entry) = IsId entry
+
+abbrev pub IsEvent : Event → Type 0
+IsEvent (Make i effects) = (length i ≡ 16) × All (λ b. b < 256) i × All IsEffect effects
+IsEvent e = Unit {0}
+
+-- ---- what comes of an event
+
+-- nothing, as of what is refused; a clash; a file that is sent; or an office's content, and what it has reached
+pub data Outcome : Type 0 where
+  Unchanged : Outcome
+  Clashes : (id : Id) → Outcome
+  Sends : (sent : Sent) → Outcome
+  Gains : (office : List ℕ) (content : Content) (reached : Ops) → Outcome
+
+abbrev pub gained : List ℕ → Ops → Result Content Id → Outcome
+gained i reached (Ok x) = Gains i x reached
+gained i reached (Err id) = Clashes id
+
+-- an office joins a content, and reaches more
+abbrev pub joins : World → List ℕ → Content → Ops → Outcome
+joins w i x more = gained i (set.union (w.offices i).reached more) (joined (w.offices i).content x)
+
+abbrev pub makes : World → List ℕ → Result (List Op) OfficeFault → Outcome
+makes w i (Ok os) = joins w i (state (set.from_list os)) (set.from_list os)
+makes w i (Err fault) = Unchanged
+
+abbrev pub takes_one : World → List ℕ → Option Op → Outcome
+takes_one w i (Some o) = joins w i (state (one o)) (one o)
+takes_one w i None = Unchanged
+
+-- the file is read as a content, and this comes of it
+abbrev pub Reads : (Content → Ops → Outcome) → Option Sent → Outcome → Type 0
+Reads next None out = out ≡ Unchanged
+Reads next (Some sent) out = (x : Content) × Holds sent.bytes x × (out ≡ next x sent.reached)
+
+abbrev pub ComesOf : World → Event → Outcome → Type 0
+ComesOf w (Make i effects) out = out ≡ makes w i (made (w.offices i).content i effects)
+ComesOf w (Send i) out = out ≡ Sends (record { bytes = (w.offices i).last; reached = (w.offices i).reached })
+ComesOf w (Take i place) out = Reads (joins w i) (slice_get w.pool place) out
+ComesOf w (TakeOne i place id) out = Reads (λ x reached. takes_one w i (find (λ o. is_same o.id id) (set.items x.ops))) (slice_get w.pool place) out
+ComesOf w (Restart i) out = (x : Content) × Holds (w.offices i).last x × (out ≡ Gains i x (w.offices i).reached)
+
+-- ---- the world after it
+
+-- the world with one office changed
+abbrev pub put : World → List ℕ → Office → World
+put w i office = record { offices = λ j. if is_eq (replica_cmp j i) then office else w.offices j; pool = w.pool }
+
+-- the last file of an office holds its content: no world comes after a content whose file is too large
+abbrev pub After : World → Outcome → World → Type 0
+After w Unchanged v = v ≡ w
+After w (Clashes id) v = v ≡ w
+After w (Sends sent) v = v ≡ record { offices = w.offices; pool = sent ∷ w.pool }
+After w (Gains i x reached) v = (last : List ℕ) × Holds last x × (v ≡ put w i (record { content = x; last = last; reached = reached }))
+
+-- an office would have a content whose file is too large
+abbrev pub IsTooMuch : Outcome → Type 0
+IsTooMuch (Gains i x reached) = IsTooLarge x
+IsTooMuch out = ⊥
+
+abbrev pub Happens : World → Event → World → Type 0
+Happens w e v = IsEvent e × ((out : Outcome) × ComesOf w e out × After w out v)
+
+-- from w, the events lead to v, one after another
+abbrev pub Leads : World → List Event → World → Type 0
+Leads w [] v = v ≡ w
+Leads w (e ∷ es) v = (u : World) × Happens w e u × Leads u es v
+
+-- some events lead to it from the start
+abbrev pub IsWorld : World → Type 0
+IsWorld w = (events : List Event) × Leads start events w
