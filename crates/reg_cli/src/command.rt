@@ -3,12 +3,15 @@ use crate::words::command_line;
 use clap::ArgMatches;
 use clap::error::ErrorKind;
 use reg_engine::{
-    CliFault, FileFault, Form, OutFault, Refusal, run_check, run_export, run_merge, run_new,
-    run_wkt,
+    CliFault, FileFault, Form, OutFault, Refusal, run_check, run_enter, run_export, run_merge,
+    run_new, run_ops, run_report, run_retire, run_show, run_supersede, run_wkt,
 };
+use reg_office::ReportKind;
 use reg_op::OpId;
+use std::alloc::Global;
 use std::rt::Files;
 use std::{env, fmt, fs, io};
+use uuid::Uuid;
 use wkt_crs::{FileTarget, Reading, Writing, write_all};
 
 const MISUSE: u8 = 2;
@@ -30,7 +33,8 @@ pub fn run(rt: &HostRuntime) -> u8 {
     }
 }
 
-pub(crate) fn answer(rt: &HostRuntime, words: &[String]) -> u8 {
+/// Runs the command of these words, of which the first is the program's name. The answer is the exit status.
+pub fn answer(rt: &HostRuntime, words: &[String]) -> u8 {
     let Ok(command) = command_line(rt.alloc()) else {
         return failed(rt, &CliFault::Memory);
     };
@@ -49,10 +53,10 @@ fn perform(rt: &HostRuntime, matches: &ArgMatches<'_>) -> Result<(), CliFault> {
     match matches.subcommand() {
         Some(("check", inner)) => check(rt, inner.get_str("TEXT")),
         Some(("new", inner)) => run_new(rt.alloc(), &mut FileTarget::new(rt, word(inner, "OUT"))),
-        Some(("merge", inner)) => match inner.get_strs("FILE") {
-            Some(paths) => merge(rt, word(inner, "OUT"), paths),
-            None => Ok(()),
-        },
+        Some(("enter", inner)) => enter(rt, inner),
+        Some(("supersede", inner)) => supersede(rt, inner),
+        Some(("retire", inner)) => retire(rt, inner),
+        Some(("show", inner)) => show(rt, word(inner, "REG"), word(inner, "ENTRY")),
         Some(("wkt", inner)) => {
             let form = if inner.get_flag("pretty") {
                 Form::Indented
@@ -62,6 +66,9 @@ fn perform(rt: &HostRuntime, matches: &ArgMatches<'_>) -> Result<(), CliFault> {
             wkt(rt, word(inner, "REG"), word(inner, "ENTRY"), form)
         }
         Some(("export", inner)) => export(rt, word(inner, "REG")),
+        Some(("ops", inner)) => ops(rt, word(inner, "REG")),
+        Some(("report", inner)) => report(rt, word(inner, "REG"), kind(word(inner, "KIND"))),
+        Some(("merge", inner)) => merge(rt, word(inner, "OUT"), words(inner, "FILE")),
         _ => Ok(()),
     }
 }
@@ -69,6 +76,38 @@ fn perform(rt: &HostRuntime, matches: &ArgMatches<'_>) -> Result<(), CliFault> {
 // A word that its command requires, so clap has seen it.
 fn word<'a>(matches: &ArgMatches<'a>, name: &str) -> &'a str {
     matches.get_str(name).unwrap_or("")
+}
+
+fn words<'m, 'a>(matches: &'m ArgMatches<'a>, name: &str) -> &'m [&'a str] {
+    matches.get_strs(name).unwrap_or(&[])
+}
+
+// clap lets no other word through.
+fn kind(word: &str) -> ReportKind {
+    match word {
+        "conflicts" => ReportKind::Conflicts,
+        "awaited" => ReportKind::Awaited,
+        "gaps" => ReportKind::Gaps,
+        _ => ReportKind::Entries,
+    }
+}
+
+fn replica(word: &str) -> Result<Uuid, CliFault> {
+    Uuid::parse_str(word).map_err(|_| CliFault::Refused(Refusal::BadReplica))
+}
+
+fn entry(word: &str) -> Result<OpId, CliFault> {
+    OpId::parse(word.as_bytes()).ok_or(CliFault::Refused(Refusal::BadId))
+}
+
+fn entries(alloc: Global, words: &[&str]) -> Result<Vec<OpId>, CliFault> {
+    let mut entries = Vec::new(alloc);
+    for word in words {
+        if entries.push(entry(word)?).is_err() {
+            return Err(CliFault::Memory);
+        }
+    }
+    Ok(entries)
 }
 
 fn check(rt: &HostRuntime, path: Option<&str>) -> Result<(), CliFault> {
@@ -91,14 +130,88 @@ fn merge(rt: &HostRuntime, out: &str, paths: &[&str]) -> Result<(), CliFault> {
     run_merge(rt.alloc(), &mut sources, &mut FileTarget::new(rt, out))
 }
 
-// The id is read before the file is opened.
-fn wkt(rt: &HostRuntime, path: &str, entry: &str, form: Form) -> Result<(), CliFault> {
-    let Some(entry) = OpId::parse(entry.as_bytes()) else {
-        return Err(CliFault::Refused(Refusal::BadId));
-    };
+// The replica and the entries are read from the words, and then the files are opened.
+fn enter(rt: &HostRuntime, matches: &ArgMatches<'_>) -> Result<(), CliFault> {
+    let replica = replica(word(matches, "as"))?;
+    let mut source = open(rt, 1, word(matches, "REG"))?;
+    let mut text = open(rt, 2, word(matches, "text"))?;
+    let mut target = FileTarget::new(rt, word(matches, "out"));
+    let mut sink = Writing::new(io::writer(rt));
+    run_enter(
+        rt.alloc(),
+        &mut source,
+        replica,
+        &mut text,
+        &mut target,
+        &mut sink,
+    )
+}
+
+fn supersede(rt: &HostRuntime, matches: &ArgMatches<'_>) -> Result<(), CliFault> {
+    let replica = replica(word(matches, "as"))?;
+    let old = entry(word(matches, "OLD"))?;
+    let newer = entries(rt.alloc(), words(matches, "BY"))?;
+    let mut source = open(rt, 1, word(matches, "REG"))?;
+    let mut target = FileTarget::new(rt, word(matches, "out"));
+    let mut sink = Writing::new(io::writer(rt));
+    run_supersede(
+        rt.alloc(),
+        &mut source,
+        replica,
+        old,
+        &newer,
+        &mut target,
+        &mut sink,
+    )
+}
+
+fn retire(rt: &HostRuntime, matches: &ArgMatches<'_>) -> Result<(), CliFault> {
+    let replica = replica(word(matches, "as"))?;
+    let entries = entries(rt.alloc(), words(matches, "ENTRY"))?;
+    let mut source = open(rt, 1, word(matches, "REG"))?;
+    let mut target = FileTarget::new(rt, word(matches, "out"));
+    let mut sink = Writing::new(io::writer(rt));
+    run_retire(
+        rt.alloc(),
+        &mut source,
+        replica,
+        &entries,
+        &mut target,
+        &mut sink,
+    )
+}
+
+fn show(rt: &HostRuntime, path: &str, id: &str) -> Result<(), CliFault> {
+    let entry = entry(id)?;
+    let mut source = open(rt, 1, path)?;
+    run_show(
+        rt.alloc(),
+        &mut source,
+        entry,
+        &mut Writing::new(io::writer(rt)),
+    )
+}
+
+fn wkt(rt: &HostRuntime, path: &str, id: &str, form: Form) -> Result<(), CliFault> {
+    let entry = entry(id)?;
     let mut source = open(rt, 1, path)?;
     let mut sink = Writing::new(io::writer(rt));
     run_wkt(rt.alloc(), &mut source, entry, form, &mut sink)
+}
+
+fn ops(rt: &HostRuntime, path: &str) -> Result<(), CliFault> {
+    let mut source = open(rt, 1, path)?;
+    run_ops(rt.alloc(), &mut source, &mut Writing::new(io::writer(rt)))
+}
+
+fn report(rt: &HostRuntime, path: &str, kind: ReportKind) -> Result<(), CliFault> {
+    let mut source = open(rt, 1, path)?;
+    run_report(
+        rt.alloc(),
+        &mut source,
+        kind,
+        &mut Writing::new(io::writer(rt)),
+    )
 }
 
 fn export(rt: &HostRuntime, path: &str) -> Result<(), CliFault> {

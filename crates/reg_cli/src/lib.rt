@@ -2,12 +2,13 @@
 #![tactic(auto)]
 
 mod command;
+mod help;
 #[cfg(test)]
 mod tests;
 mod words;
 
-pub use command::run;
+pub use command::{answer, run};
 pub use reg_engine::{
-    CliFault, FileFault, Form, OutFault, Refusal, run_check, run_export, run_merge, run_new,
-    run_wkt,
+    CliFault, FileFault, Form, OutFault, Refusal, run_check, run_enter, run_export, run_merge,
+    run_new, run_ops, run_report, run_retire, run_show, run_supersede, run_wkt,
 };

@@ -1,58 +1,12 @@
-//! The words of the command line, and what help says of them.
+//! The words of the command line.
+use crate::help::{
+    CHECK_HELP, ENTER_HELP, EXPORT_HELP, MERGE_HELP, NEW_HELP, OPS_HELP, REPORT_HELP, RETIRE_HELP,
+    SHOW_HELP, STATUS_HELP, SUPERSEDE_HELP, WKT_HELP,
+};
 use clap::{Arg, ArgAction, Command};
 use std::alloc::{AllocError, Global};
 
-const CHECK_HELP: &str = "\
-Where the text spells a coordinate reference system of the profile, its canonical text goes to standard
-output, on one line. Else its first fault is named on standard error, with its place: an offset in bytes,
-from 0.
-
-Example:
-  crsreg check height.wkt";
-
-const NEW_HELP: &str = "\
-The file is that of a register that has seen no operation: what each office starts from.
-
-Example:
-  crsreg new office.crs";
-
-const MERGE_HELP: &str = "\
-All files are read, in the order given, before OUT is opened; so OUT may be one of them. What is written is
-the register of all their operations. The order of the files does not matter to it, nor how often one is
-given.
-
-It is refused as Clash ID where two files have different operations of one id: then one replica's number was
-given twice. Nothing is written then.
-
-Example:
-  crsreg merge office.crs office.crs north.crs south.crs";
-
-const WKT_HELP: &str = "\
-An entry is named by the id of the operation that entered it: a replica's UUID, a colon and a number. It is
-printed whatever its status, on one line, or indented with --pretty.
-
-Example:
-  crsreg wkt office.crs 00000000-0000-4000-8000-00000000000a:1";
-
-const EXPORT_HELP: &str = "\
-Each entry that is not retired is printed on a line, in its canonical text, by id; also one that is
-superseded. A line break inside quotation marks is kept.
-
-Example:
-  crsreg export office.crs > all.wkt";
-
-const STATUS_HELP: &str = "\
-Exit status:
-  0  done
-  1  refused: the fault is named on standard error
-  2  the command line is wrong
-  3  a file could not be opened, read or written
-  4  out of memory
-
-A file is named by its number among those that the command reads, from 1: `file 2: Truncated at 0`.
-
-Example:
-  crsreg check < height.wkt";
+const KINDS: [&str; 4] = ["entries", "conflicts", "awaited", "gaps"];
 
 /// The commands and their words.
 pub fn command_line<'a>(alloc: Global) -> Result<Command<'a>, AllocError> {
@@ -62,9 +16,15 @@ pub fn command_line<'a>(alloc: Global) -> Result<Command<'a>, AllocError> {
         .subcommand_required(true)
         .subcommand(check(alloc)?)?
         .subcommand(new(alloc)?)?
-        .subcommand(merge(alloc)?)?
+        .subcommand(enter(alloc)?)?
+        .subcommand(supersede(alloc)?)?
+        .subcommand(retire(alloc)?)?
+        .subcommand(show(alloc)?)?
         .subcommand(wkt(alloc)?)?
-        .subcommand(export(alloc)?)
+        .subcommand(export(alloc)?)?
+        .subcommand(ops(alloc)?)?
+        .subcommand(report(alloc)?)?
+        .subcommand(merge(alloc)?)
 }
 
 fn check<'a>(alloc: Global) -> Result<Command<'a>, AllocError> {
@@ -84,6 +44,72 @@ fn new<'a>(alloc: Global) -> Result<Command<'a>, AllocError> {
         .arg(out(alloc))
 }
 
+fn enter<'a>(alloc: Global) -> Result<Command<'a>, AllocError> {
+    let text = Arg::new(alloc, "text")
+        .long("text")
+        .value_name("TEXT")
+        .help("The file with the text of a coordinate reference system")
+        .required(true);
+    Command::new(alloc, "enter")
+        .about("Enters a coordinate reference system into a register")
+        .after_help(ENTER_HELP)
+        .arg(register(alloc))?
+        .arg(replica(alloc))?
+        .arg(text)?
+        .arg(changed(alloc))
+}
+
+fn supersede<'a>(alloc: Global) -> Result<Command<'a>, AllocError> {
+    let old = Arg::new(alloc, "OLD")
+        .help("The id of the entry that is superseded, as UUID:NUMBER")
+        .required(true);
+    Command::new(alloc, "supersede")
+        .about("Supersedes an entry of a register by others")
+        .after_help(SUPERSEDE_HELP)
+        .arg(register(alloc))?
+        .arg(old)?
+        .arg(entries(alloc, "BY", "The ids of the entries that supersede it"))?
+        .arg(replica(alloc))?
+        .arg(changed(alloc))
+}
+
+fn retire<'a>(alloc: Global) -> Result<Command<'a>, AllocError> {
+    Command::new(alloc, "retire")
+        .about("Retires entries of a register")
+        .after_help(RETIRE_HELP)
+        .arg(register(alloc))?
+        .arg(entries(alloc, "ENTRY", "The ids of the entries, as UUID:NUMBER"))?
+        .arg(replica(alloc))?
+        .arg(changed(alloc))
+}
+
+fn show<'a>(alloc: Global) -> Result<Command<'a>, AllocError> {
+    Command::new(alloc, "show")
+        .about("Prints the key, the name and the status of one entry")
+        .after_help(SHOW_HELP)
+        .arg(register(alloc))?
+        .arg(entry(alloc))
+}
+
+fn ops<'a>(alloc: Global) -> Result<Command<'a>, AllocError> {
+    Command::new(alloc, "ops")
+        .about("Prints the operations that a register keeps")
+        .after_help(OPS_HELP)
+        .arg(register(alloc))
+}
+
+fn report<'a>(alloc: Global) -> Result<Command<'a>, AllocError> {
+    let kind = Arg::new(alloc, "KIND")
+        .help("What is listed")
+        .value_parser(KINDS.as_slice())
+        .required(true);
+    Command::new(alloc, "report")
+        .about("Prints a report on a register")
+        .after_help(REPORT_HELP)
+        .arg(register(alloc))?
+        .arg(kind)
+}
+
 fn merge<'a>(alloc: Global) -> Result<Command<'a>, AllocError> {
     let files = Arg::new(alloc, "FILE")
         .help("The register files to join")
@@ -98,9 +124,6 @@ fn merge<'a>(alloc: Global) -> Result<Command<'a>, AllocError> {
 }
 
 fn wkt<'a>(alloc: Global) -> Result<Command<'a>, AllocError> {
-    let entry = Arg::new(alloc, "ENTRY")
-        .help("The id of the entry, as UUID:NUMBER")
-        .required(true);
     let pretty = Arg::new(alloc, "pretty")
         .long("pretty")
         .help("Indents the text, with a line for each node")
@@ -109,7 +132,7 @@ fn wkt<'a>(alloc: Global) -> Result<Command<'a>, AllocError> {
         .about("Prints the text of one entry")
         .after_help(WKT_HELP)
         .arg(register(alloc))?
-        .arg(entry)?
+        .arg(entry(alloc))?
         .arg(pretty)
 }
 
@@ -129,5 +152,36 @@ fn out<'a>(alloc: Global) -> Arg<'a> {
 fn register<'a>(alloc: Global) -> Arg<'a> {
     Arg::new(alloc, "REG")
         .help("The register file to read")
+        .required(true)
+}
+
+fn entry<'a>(alloc: Global) -> Arg<'a> {
+    Arg::new(alloc, "ENTRY")
+        .help("The id of the entry, as UUID:NUMBER")
+        .required(true)
+}
+
+// One or more entries.
+fn entries<'a>(alloc: Global, name: &'a str, help: &'a str) -> Arg<'a> {
+    Arg::new(alloc, name)
+        .help(help)
+        .required(true)
+        .action(ArgAction::Append)
+        .num_args(1..)
+}
+
+fn replica<'a>(alloc: Global) -> Arg<'a> {
+    Arg::new(alloc, "as")
+        .long("as")
+        .value_name("UUID")
+        .help("The UUID of the office; no two offices share one")
+        .required(true)
+}
+
+fn changed<'a>(alloc: Global) -> Arg<'a> {
+    Arg::new(alloc, "out")
+        .long("out")
+        .value_name("OUT")
+        .help("The register file to write; it may be REG")
         .required(true)
 }

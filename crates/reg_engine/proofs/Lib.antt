@@ -1,3 +1,4 @@
+mod ChangeLemmas
 mod ExportLemmas
 mod InputLemmas
 mod MergeLemmas

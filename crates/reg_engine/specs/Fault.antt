@@ -5,6 +5,8 @@ use Rattle.wkt_crs.specs.declared.source.ReadFromFault.{ReadFromFault}
 use Rattle.wkt_crs.specs.declared.source.ReadFromFault.TheVariants as from
 use Rattle.reg_file.specs.declared.fault.ReadFileFault.{ReadFileFault}
 use Rattle.reg_file.specs.declared.fault.ReadFileFault.TheVariants as reading
+use Rattle.reg_office.specs.declared.fault.OfficeFault.{OfficeFault}
+use Rattle.reg_office.specs.declared.fault.OfficeFault.TheVariants as office
 use Rattle.reg_engine.specs.declared.fault.Refusal.TheVariants as refusal
 use Rattle.reg_engine.specs.declared.fault.FileFault.TheVariants as file
 use Rattle.reg_engine.specs.declared.fault.CliFault.{CliFault}
@@ -31,3 +33,12 @@ register_fault number (reading.File f place) = cli.File number (file.NoRegister 
 register_fault number reading.TooLarge = cli.File number file.TooLarge
 register_fault number (reading.ReadFailed n) = cli.File number (file.ReadFailed n)
 register_fault number reading.Memory = cli.Memory
+
+-- the fault of a command that an office was given
+abbrev pub office_fault : OfficeFault → CliFault
+office_fault (office.UnknownEntry id) = cli.Refused (refusal.UnknownEntry id)
+office_fault office.SameEntry = cli.Refused refusal.SameEntry
+office_fault (office.AlreadyRetired id) = cli.Refused (refusal.AlreadyRetired id)
+office_fault (office.AlreadySuperseded id) = cli.Refused (refusal.AlreadySuperseded id)
+office_fault office.CountSpent = cli.Refused refusal.CountSpent
+office_fault office.Memory = cli.Memory

@@ -5,3 +5,5 @@ pub mod Inputs
 pub mod Outputs
 pub mod Merge
 pub mod Export
+pub mod Change
+pub mod Report

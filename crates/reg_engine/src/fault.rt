@@ -1,7 +1,8 @@
 ghost use Rattle.std.specs.Prelude.{◌≡◌};
-ghost use Rattle.reg_engine.specs.Fault.{status_of, text_fault, register_fault};
+ghost use Rattle.reg_engine.specs.Fault.{status_of, text_fault, register_fault, office_fault};
 
 use reg_file::ReadFileFault;
+use reg_office::OfficeFault;
 use reg_op::OpId;
 use std::fmt;
 use thiserror::Error;
@@ -14,10 +15,21 @@ pub enum Refusal {
     Slot(SlotFault),
     /// A CRS fails a condition. Its keyword stands at the place.
     Broken { condition: Condition, place: usize },
+    /// A CRS that was to be entered has no identifier of its own.
+    NoIdentifier,
+    /// The canonical text of a CRS that was to be entered has more than 65,536 bytes.
+    CanonicalTooLong,
     /// The id has two bodies in the registers that were to be joined.
     Clash(OpId),
     /// No operation of the register entered the id.
     UnknownEntry(OpId),
+    /// An entry was to supersede itself.
+    SameEntry,
+    AlreadyRetired(OpId),
+    /// The old entry is superseded by this one already.
+    AlreadySuperseded(OpId),
+    /// The number of an operation would pass 4,294,967,295.
+    CountSpent,
     /// A word that is to be an entry is no id.
     BadId,
     /// A word that is to be a replica is no UUID.
@@ -37,8 +49,14 @@ impl fmt::Display for Refusal {
                 let condition = condition.name();
                 write!(f, "Broken {condition} at {place}")
             }
+            Refusal::NoIdentifier => f.write_str("NoIdentifier"),
+            Refusal::CanonicalTooLong => f.write_str("CanonicalTooLong"),
             Refusal::Clash(id) => of_id(f, "Clash", *id),
             Refusal::UnknownEntry(id) => of_id(f, "UnknownEntry", *id),
+            Refusal::SameEntry => f.write_str("SameEntry"),
+            Refusal::AlreadyRetired(id) => of_id(f, "AlreadyRetired", *id),
+            Refusal::AlreadySuperseded(id) => of_id(f, "AlreadySuperseded", *id),
+            Refusal::CountSpent => f.write_str("CountSpent"),
             Refusal::BadId => f.write_str("BadId"),
             Refusal::BadReplica => f.write_str("BadReplica"),
         }
@@ -192,6 +210,21 @@ impl CliFault {
             ReadFileFault::Memory => return CliFault::Memory,
         };
         CliFault::File { number, fault }
+    }
+
+    /// The fault of a command that an office was given.
+    pub(crate) fn of_office(fault: OfficeFault) -> CliFault
+        ensures { result ≡ office_fault fault }
+    {
+        let refusal = match fault {
+            OfficeFault::UnknownEntry(id) => Refusal::UnknownEntry(id),
+            OfficeFault::SameEntry => Refusal::SameEntry,
+            OfficeFault::AlreadyRetired(id) => Refusal::AlreadyRetired(id),
+            OfficeFault::AlreadySuperseded(id) => Refusal::AlreadySuperseded(id),
+            OfficeFault::CountSpent => Refusal::CountSpent,
+            OfficeFault::Memory => return CliFault::Memory,
+        };
+        CliFault::Refused(refusal)
     }
 
     /// The exit status of the program: 1 for what is refused, 3 for a file, 4 for memory.

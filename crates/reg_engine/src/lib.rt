@@ -1,6 +1,7 @@
 //! The engines of `crsreg`: a function a command, over any source, sink and target, and the faults that they answer.
 #![tactic(auto)]
 
+mod change;
 mod check;
 mod export;
 mod fault;
@@ -8,14 +9,17 @@ mod inputs;
 pub mod laws;
 mod merge;
 mod outputs;
+mod reports;
 #[cfg(test)]
 mod tests;
 mod wkt;
 
+pub use change::{run_enter, run_retire, run_supersede};
 pub use check::run_check;
 pub use export::run_export;
 pub use fault::{CliFault, FileFault, OutFault, Refusal};
 pub use inputs::{read_file, read_files};
 pub use merge::{run_merge, run_new};
-pub use outputs::publish_register;
+pub use outputs::{give_out, publish_register};
+pub use reports::{run_ops, run_report, run_show};
 pub use wkt::{Form, run_wkt};

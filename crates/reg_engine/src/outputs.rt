@@ -1,13 +1,15 @@
-//! Registers, written to targets.
+//! Registers, written to targets, and ids, printed behind them.
 
-ghost use Rattle.std.specs.Prelude.{OnOk, IfErr};
-ghost use Rattle.reg_engine.specs.Outputs.{PublishesFile, IsUnpublished};
+ghost use Rattle.std.specs.Prelude.{◌≡◌, ◌++◌, ◌∷◌, [], IfOk, OnOk, IfErr};
+ghost use Rattle.reg_op.specs.Text.{printed};
+ghost use Rattle.reg_engine.specs.Outputs.{PublishesFile, IsUnpublished, id_lines, outputs, GivesOut, IsUngiven};
 
 use crate::fault::{CliFault, OutFault};
 use reg_file::{WriteFileFault, write_bytes};
+use reg_op::OpId;
 use reg_state::Register;
-use std::alloc::Global;
-use wkt_crs::{PublishFault, Target, publish};
+use std::alloc::{AllocError, Global};
+use wkt_crs::{PublishFault, Sink, Target, publish, write_all};
 
 /// Writes the register's file to the target, which is opened once the file is made.
 pub fn publish_register<T: Target>(
@@ -27,5 +29,51 @@ pub fn publish_register<T: Target>(
         Ok(()) => Ok(()),
         Err(PublishFault::NotOpened) => Err(CliFault::Out(OutFault::NotOpened)),
         Err(PublishFault::WriteFailed(n)) => Err(CliFault::Out(OutFault::WriteFailed(n))),
+    }
+}
+
+fn id_lines(alloc: Global, ids: &[OpId]) -> Result<Vec<u8>, AllocError>
+    ensures { IfOk result (λ lines. lines.items ≡ id_lines ids.now) }
+{
+    let mut lines = Vec::new(alloc);
+    for id in ids {
+        push_line(&mut lines, id)?;
+    }
+    Ok(lines)
+}
+
+fn push_line(lines: &mut Vec<u8>, id: &OpId) -> Result<(), AllocError>
+    ensures { OnOk result (lines.new.items ≡ lines.old.items ++ (printed id.now ++ 10 ∷ [])) }
+{
+    id.write_to(lines)?;
+    lines.push(b'\n')?;
+    Ok(())
+}
+
+/// Writes the register's file to the target, and then a line for each id to the sink. The lines are made before the
+/// target is opened.
+pub fn give_out<T: Target, K: Sink>(
+    alloc: Global,
+    register: &Register,
+    ids: &[OpId],
+    target: &mut T,
+    sink: &mut K,
+) -> Result<(), CliFault>
+    ensures given { OnOk result (GivesOut register.now ids.now
+        (outputs (T.state target.old) (K.state sink.old))
+        (outputs (T.state target.new) (K.state sink.new))) }
+    ensures fault { IfErr result (IsUngiven register.now ids.now
+        (outputs (T.state target.old) (K.state sink.old))
+        (outputs (T.state target.new) (K.state sink.new))) }
+{
+    let Ok(lines) = id_lines(alloc, ids) else {
+        return Err(CliFault::Memory);
+    };
+    if let Err(fault) = publish_register(alloc, register, target) {
+        return Err(fault);
+    }
+    match write_all(sink, &lines) {
+        Ok(()) => Ok(()),
+        Err(fault) => Err(CliFault::Out(OutFault::WriteFailed(fault.written))),
     }
 }

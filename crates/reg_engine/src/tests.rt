@@ -1,8 +1,10 @@
+mod change;
 mod check;
 mod export;
 mod faults;
 mod growth;
 mod merge;
+mod reports;
 
 use std::alloc::{AllocError, Global};
 use wkt_crs::{Pieces, Then};

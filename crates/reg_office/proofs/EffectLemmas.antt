@@ -138,7 +138,7 @@ same_chain : (old newer : Id) (a b same r q p t u : Bool) → p ≡ (not r && (t
 same_chain old newer a b same true q p t u h = refl
 same_chain old newer a b same false q p t u h = ap (chain old newer a b same false q) h
 
-objection_is : (c : Command) (ops : Ops) (before : List Id) (now : Ops) (e : Id) → Grown c ops before now → objection now (effect_of c e) ≡ fault_of c ops before e
+objection_is : (c : Command) (ops : Ops) (before : List Id) (now : Ops) (e : Id) → Grown c ops before now → objection now (effect_of c e) ≡ fault_of c ops (list_any (is_same e) before) e
 objection_is Retire ops before now e g = λ k. cond (not (g.entered e k)) (Some (fault.UnknownEntry e)) (cond (g.retired e k) (Some (fault.AlreadyRetired e)) None)
 objection_is (Supersede old) ops before now e g =
     (λ k. chain old e (g.entered old k) (g.entered e k) (is_same old e) (not_retired old k) (not_retired e k) (g.replaced old e k))
@@ -152,7 +152,7 @@ objection_is (Supersede old) ops before now e g =
 
 abbrev pub faults : Command → Ops → List Id → List Id → Option OfficeFault
 faults c ops before [] = None
-faults c ops before (e ∷ es) = else_next (fault_of c ops before e) (faults c ops (before ++ e ∷ []) es)
+faults c ops before (e ∷ es) = else_next (fault_of c ops (list_any (is_same e) before) e) (faults c ops (before ++ e ∷ []) es)
 
 abbrev pub effects : Command → List Id → List Body
 effects c es = map (effect_of c) es
@@ -168,11 +168,11 @@ objections_are c x replica n es = against c x.ops [] x replica n es (grown_none 
 
 -- the first of those that are left is at fault
 pub first_at : (c : Command) (x : Content) (replica : List ℕ) (n : ℕ) (es : List Id) (k : ℕ) (e : Id) (f : OfficeFault) → k < length es → e ≡ get_or es k e
-    → faults c x.ops [] es ≡ faults c x.ops (take k es) (drop k es) → Some f ≡ fault_of c x.ops (take k es) e → Some f ≡ objections x (numbered replica n (effects c es))
+    → faults c x.ops [] es ≡ faults c x.ops (take k es) (drop k es) → Some f ≡ fault_of c x.ops (list_any (is_same e) (take k es)) e → Some f ≡ objections x (numbered replica n (effects c es))
 first_at c x replica n es k e f h at walked found =
     sym (objections_are c x replica n es ∙ walked
     ∙ ap (faults c x.ops (take k es)) (drop_more es k e h)
-    ∙ (λ j. else_next (fault_of c x.ops (take k es) (sym at j)) (faults c x.ops (take k es ++ sym at j ∷ []) (drop (k + 1) es)))
+    ∙ (λ j. else_next (fault_of c x.ops (list_any (is_same (sym at j)) (take k es)) (sym at j)) (faults c x.ops (take k es ++ sym at j ∷ []) (drop (k + 1) es)))
     ∙ (λ j. else_next (sym found j) (faults c x.ops (take k es ++ e ∷ []) (drop (k + 1) es))))
 
 pub none_left : (c : Command) (x : Content) (replica : List ℕ) (n : ℕ) (es : List Id) (k : ℕ) → length es ≤ k → faults c x.ops [] es ≡ faults c x.ops (take k es) (drop k es) → None ≡ objections x (numbered replica n (effects c es))
@@ -180,7 +180,7 @@ none_left c x replica n es k h walked = sym (objections_are c x replica n es ∙
 
 -- ---- a command that is not refused has possible effects
 
-nothing_against : (r rest : Option OfficeFault) → else_next r rest ≡ None → (r ≡ None) × (rest ≡ None)
+pub nothing_against : (r rest : Option OfficeFault) → else_next r rest ≡ None → (r ≡ None) × (rest ≡ None)
 nothing_against None rest h = (refl, h)
 nothing_against (Some f) rest h = cc
 

@@ -1,8 +1,3 @@
-pub mod WorldCommands
-pub mod WorldFollows
-pub mod WorldGaps
-pub mod WorldLemmas
-pub mod WorldReports
 pub mod EffectLemmas
 pub mod NumberLemmas
 pub mod LawLemmas
@@ -11,3 +6,14 @@ pub mod PairLemmas
 pub mod AwaitedLemmas
 pub mod SheetLemmas
 pub mod GapLemmas
+pub mod ShownLemmas
+pub mod ConflictLemmas
+pub mod ContenderLemmas
+pub mod RepeatLemmas
+pub mod NewLemmas
+pub mod OneLemmas
+pub mod WorldCommands
+pub mod WorldLemmas
+pub mod WorldFollows
+pub mod WorldGaps
+pub mod WorldReports

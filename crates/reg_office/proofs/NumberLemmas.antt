@@ -29,7 +29,7 @@ use Rattle.reg_office.specs.Making.{greatest_of, greatest, numbered, objections,
 use Rattle.reg_office.specs.Commands.{Does}
 
 -- the head or the tail of a list has it
-op_cases : (o x : Op) (xs : List Op) → has (x ∷ xs) o ≡ true → (o ≡ x) ⊎ (has xs o ≡ true)
+pub op_cases : (o x : Op) (xs : List Op) → has (x ∷ xs) o ≡ true → (o ≡ x) ⊎ (has xs o ≡ true)
 op_cases o x xs h =
     elim (or_cases (eq_by_cmp op_cmp o x) (has xs o) h) [
       | inl e ↦ inl (op_exact o x ((Equal-is (op_cmp o x)).0 e))

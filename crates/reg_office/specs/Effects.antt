@@ -1,6 +1,5 @@
 -- What a command does with the entries that it names.
-use Rattle.std.specs.Prelude.{ℕ, not, ◌&&◌, ◌||◌, List, Option, Some, None, if◌then◌else◌}
-use Rattle.std.specs.List.{list_any}
+use Rattle.std.specs.Prelude.{Bool, not, ◌||◌, Option, Some, None, if◌then◌else◌}
 use Rattle.reg_op.specs.Ids.{Id, is_same}
 use Rattle.reg_op.specs.Operations.{Ops}
 use Rattle.reg_op.specs.declared.operation.OpBody.{OpBody as Body}
@@ -15,15 +14,15 @@ abbrev pub effect_of : Command → Id → Body
 effect_of Retire named = Retiring named
 effect_of (Supersede old) named = Superseding old named
 
--- what there is against one effect, where those on some entries before it are made
-abbrev pub fault_of : Command → Ops → List Id → Id → Option OfficeFault
-fault_of Retire ops before entry =
+-- what there is against one effect, which may be made by the same command already
+abbrev pub fault_of : Command → Ops → Bool → Id → Option OfficeFault
+fault_of Retire ops again entry =
     if not (enters ops entry) then Some (fault.UnknownEntry entry)
-    else (if retires ops entry || list_any (is_same entry) before then Some (fault.AlreadyRetired entry) else None)
-fault_of (Supersede old) ops before newer =
+    else (if retires ops entry || again then Some (fault.AlreadyRetired entry) else None)
+fault_of (Supersede old) ops again newer =
     if not (enters ops old) then Some (fault.UnknownEntry old)
     else (if not (enters ops newer) then Some (fault.UnknownEntry newer)
     else (if is_same old newer then Some fault.SameEntry
     else (if retires ops old then Some (fault.AlreadyRetired old)
     else (if retires ops newer then Some (fault.AlreadyRetired newer)
-    else (if is_replaced_by ops old newer || list_any (is_same newer) before then Some (fault.AlreadySuperseded newer) else None)))))
+    else (if is_replaced_by ops old newer || again then Some (fault.AlreadySuperseded newer) else None)))))

@@ -1,8 +1,11 @@
 pub mod Making
 pub mod Commands
 pub mod Effects
+pub mod Repeats
 pub mod Pairs
 pub mod Seen
+pub mod Conflicts
+pub mod Contenders
 pub mod Gaps
 pub mod Lines
 pub mod Reports

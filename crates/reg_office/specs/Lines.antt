@@ -1,5 +1,5 @@
 -- The lines of reports.
-use Rattle.std.specs.Prelude.{◌≡◌, ℕ, List, [], ◌∷◌, ◌++◌, false, codes, decimal, Option, Some, None}
+use Rattle.std.specs.Prelude.{◌≡◌, ℕ, List, [], ◌∷◌, ◌++◌, map, false, codes, decimal, Option, Some, None}
 use Rattle.std.specs.List.{flat_map}
 use Rattle.std.specs.Global.{Vec}
 use Rattle.csv.specs.Writing.{row_text, default_writer, writer_under, writer_pending, writer_setup, fields_written, has_written}
@@ -18,6 +18,7 @@ use Rattle.crs_value.specs.declared.crs.Crs.{Crs}
 use Rattle.crs_value.specs.declared.key.Key.{Key}
 use Rattle.wkt_crs.specs.Definition.{IsCrsOf, IsKeyIn}
 use Rattle.reg_office.specs.declared.gap.Gap.{Gap}
+use Rattle.reg_office.specs.Conflicts.{Contested}
 
 -- a header, and a line for each item
 abbrev pub sheet_of : {T : Type 0} → List (List ℕ) → (T → List (List ℕ)) → List T → List ℕ
@@ -34,6 +35,16 @@ gaps_header = codes "replica" ∷ codes "low" ∷ codes "high" ∷ []
 
 abbrev pub gap_fields : Gap → List (List ℕ)
 gap_fields g = hyphenated_text lower g.replica ∷ decimal g.low ∷ decimal g.high ∷ []
+
+abbrev pub conflicts_header : List (List ℕ)
+conflicts_header = codes "authority" ∷ codes "code" ∷ codes "entry" ∷ []
+
+abbrev pub contender_fields : List ℕ → List ℕ → Id → List (List ℕ)
+contender_fields authority code entry = authority ∷ code ∷ printed entry ∷ []
+
+-- a line for each entry of a key
+abbrev pub conflict_lines : Contested → List (List (List ℕ))
+conflict_lines c = map (contender_fields c.key.authority c.key.code) c.entries
 
 abbrev pub ops_header : List (List ℕ)
 ops_header = codes "operation" ∷ codes "effect" ∷ codes "entry" ∷ codes "replaced_by" ∷ codes "definition" ∷ []
@@ -61,6 +72,14 @@ pub record IsReady (w : Sheet) : Type 0 where
 
 pub record WritesRow (old new : Sheet) (fields : List (List ℕ)) : Type 0 where
   pub text : sheet_text new ≡ sheet_text old ++ row_text default_writer fields
+  pub ready : IsReady new
+
+-- a line for each of some fields
+abbrev pub rows_text : List (List (List ℕ)) → List ℕ
+rows_text lines = flat_map (λ fields. row_text default_writer fields) lines
+
+pub record WritesRows (old new : Sheet) (lines : List (List (List ℕ))) : Type 0 where
+  pub text : sheet_text new ≡ sheet_text old ++ rows_text lines
   pub ready : IsReady new
 
 -- a line for each item, whose fields a relation tells
@@ -97,3 +116,7 @@ pub record IsEntryLine (r : Row) (fields : List (List ℕ)) : Type 0 where
   pub keyed : IsKeyIn key r.definition
   pub spelled : IsCrsOf crs r.definition
   pub are : fields ≡ printed r.entry ∷ key.authority.bytes ∷ key.code.bytes ∷ (name_of crs.parts).bytes ∷ status_word r.status ∷ spaced r.newer ∷ []
+
+-- a header, and a line for each entry of each key
+abbrev pub conflicts_sheet : List Contested → List ℕ
+conflicts_sheet cs = row_text default_writer conflicts_header ++ flat_map (λ c. rows_text (conflict_lines c)) cs

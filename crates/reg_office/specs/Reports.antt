@@ -1,22 +1,29 @@
 -- What reports are.
-use Rattle.std.specs.Prelude.{◌≡◌, ℕ, List, [], ◌∷◌}
+use Rattle.std.specs.Prelude.{◌≡◌, ℕ, List, [], ◌∷◌, filter}
 use Rattle.reg_op.specs.Set as set
 use Rattle.reg_op.specs.Contents.{Content}
-use Rattle.reg_op.specs.Rows.{rows, awaited}
+use Rattle.reg_op.specs.Ids.{Id, is_same}
+use Rattle.reg_op.specs.Rows.{Row, rows, awaited}
 use Rattle.byte_io.specs.Device.{SinkState}
 use Rattle.byte_io.specs.Whole.{WritesAll, IsCutAt}
 use Rattle.reg_office.specs.declared.gap.Gap.{Gap}
 use Rattle.reg_office.specs.declared.writing.ReportKind.{ReportKind}
-use Rattle.reg_office.specs.declared.writing.ReportKind.TheVariants.{Entries, Awaited, Gaps}
+use Rattle.reg_office.specs.declared.writing.ReportKind.TheVariants.{Entries, Conflicts, Awaited, Gaps}
 use Rattle.reg_office.specs.declared.writing.ReportFault.{ReportFault}
 use Rattle.reg_office.specs.declared.writing.ReportFault.TheVariants as fault
 use Rattle.reg_office.specs.Gaps.{AreGaps}
-use Rattle.reg_office.specs.Lines.{sheet_of, IsSheet, awaited_header, awaited_fields, gaps_header, gap_fields, entries_header, IsEntryLine, ops_header, op_fields}
+use Rattle.reg_office.specs.Conflicts.{Contested, AreConflicts}
+use Rattle.reg_office.specs.Lines.{sheet_of, IsSheet, awaited_header, awaited_fields, gaps_header, gap_fields, entries_header, IsEntryLine, conflicts_sheet, ops_header, op_fields}
 
 abbrev pub IsReport : ReportKind → Content → List ℕ → Type 0
 IsReport Entries x text = IsSheet entries_header IsEntryLine (rows x.ops) text
+IsReport Conflicts x text = (cs : List Contested) × AreConflicts (rows x.ops) cs × (text ≡ conflicts_sheet cs)
 IsReport Awaited x text = text ≡ sheet_of awaited_header awaited_fields (set.items (awaited x.ops))
 IsReport Gaps x text = (gaps : List Gap) × AreGaps x.seen gaps × (text ≡ sheet_of gaps_header gap_fields gaps)
+
+-- the line of one entry alone, behind the header
+abbrev pub IsEntryReport : Id → Content → List ℕ → Type 0
+IsEntryReport entry x text = IsSheet entries_header IsEntryLine (filter (λ (r : Row). is_same entry r.entry) (rows x.ops)) text
 
 abbrev pub IsOpsReport : Content → List ℕ → Type 0
 IsOpsReport x text = text ≡ sheet_of ops_header op_fields (set.items x.ops)

@@ -1,14 +1,11 @@
 ghost use Rattle.std.specs.Prelude.{◌≡◌, ℕ, ◌+◌, ◌<◌, ◌≤◌, true, List, map, length, All, IfOk};
-ghost use Rattle.std.specs.List.{list_any};
-ghost use Rattle.reg_op.specs.Ids.{Id, is_same};
-ghost use Rattle.reg_op.specs.Status.{is_supersession};
-ghost use Rattle.reg_op.specs.Finite.{any};
 ghost use Rattle.reg_op.specs.Operations.{IsOfItself};
 ghost use Rattle.reg_office.specs.Making.{objections, numbered};
 ghost use Rattle.reg_office.specs.Effects.{effect_of, fault_of};
 
 use crate::OfficeFault;
 use crate::entry::{is_entered, is_retired};
+use crate::repeat::first_repeat;
 use reg_op::{Op, OpBody, OpId};
 use reg_state::Register;
 use std::alloc::{AllocError, Global};
@@ -21,47 +18,17 @@ pub enum Command {
     Supersede(OpId),
 }
 
-fn supersedes(op: &Op, old: OpId, newer: OpId) -> bool
-    ensures { result ≡ is_supersession old (λ n. is_same newer n) op.now.body }
-{
-    match op.body() {
-        OpBody::Supersede {
-            old: entry,
-            newer: by,
-        } => old.is_same(entry) && newer.is_same(by),
-        OpBody::Enter(_) => false,
-        OpBody::Retire { entry: _ } => false,
-    }
-}
-
-fn is_superseded_by(register: &Register, old: OpId, newer: OpId) -> bool
-    ensures { result ≡ any (λ o. is_supersession old (λ n. is_same newer n) o.body) register.now.ops }
-{
-    register
-        .ops()
-        .as_slice()
-        .iter()
-        .any(|op| supersedes(op, old, newer))
-}
-
-// Whether the entry is among some.
-fn is_among(entries: &[OpId], entry: OpId) -> bool
-    ensures { result ≡ list_any (is_same entry) entries.now }
-{
-    entries.iter().any(|other| entry.is_same(other))
-}
-
 impl Command {
-    // Why there is no effect on an entry, where those on some entries before it are made.
-    fn fault(&self, register: &Register, before: &[OpId], entry: OpId) -> Option<OfficeFault>
-        ensures { result ≡ fault_of self.now register.now.ops before.now entry }
+    // Why there is no effect on an entry, which may have been named before.
+    fn fault(&self, register: &Register, again: bool, entry: OpId) -> Option<OfficeFault>
+        ensures { result ≡ fault_of self.now register.now.ops again entry }
     {
         match *self {
             Command::Retire => {
                 if !is_entered(register, entry) {
                     return Some(OfficeFault::UnknownEntry(entry));
                 }
-                if is_retired(register, entry) || is_among(before, entry) {
+                if is_retired(register, entry) || again {
                     return Some(OfficeFault::AlreadyRetired(entry));
                 }
                 None
@@ -82,7 +49,7 @@ impl Command {
                 if is_retired(register, entry) {
                     return Some(OfficeFault::AlreadyRetired(entry));
                 }
-                if is_superseded_by(register, old, entry) || is_among(before, entry) {
+                if register.is_superseded_by(old, entry) || again {
                     return Some(OfficeFault::AlreadySuperseded(entry));
                 }
                 None
@@ -91,11 +58,17 @@ impl Command {
     }
 
     /// Why the command is refused for the first of the entries for which it is.
-    pub fn first_fault(&self, register: &Register, named: &[OpId]) -> Option<OfficeFault>
+    pub fn first_fault(
+        &self,
+        alloc: Global,
+        register: &Register,
+        named: &[OpId],
+    ) -> Option<OfficeFault>
         ensures { (replica : List ℕ) (n : ℕ) → result ≡ objections register.now (numbered replica n (map (effect_of self.now) named.now)) }
     {
+        let repeat = first_repeat(alloc, named);
         for (k, entry) in named.iter().enumerate() {
-            if let Some(fault) = self.fault(register, &named[..k], *entry) {
+            if let Some(fault) = self.fault(register, k == repeat, *entry) {
                 return Some(fault);
             }
         }

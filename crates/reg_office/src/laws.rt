@@ -1,11 +1,13 @@
 //! The laws of what commands make, of reports, and of every world. A call does nothing: its contract is the law.
 
-ghost use Rattle.std.specs.Prelude.{◌≡◌, ◌≢◌, ◌↔◌, ◌⊎◌, ◌+◌, ◌<◌, ℕ, List, map, length, slice_get, true, false, None, Some, Ok, Err};
+ghost use Rattle.std.specs.Prelude.{◌≡◌, ◌≢◌, ◌↔◌, ◌⊎◌, ◌+◌, ◌<◌, ℕ, List, [], ◌∷◌, map, length, slice_get, true, false, None, Some, Ok, Err};
 ghost use Rattle.reg_op.specs.Set as set;
 ghost use Rattle.reg_op.specs.Ids.{Id, Ids};
 ghost use Rattle.reg_op.specs.Lists.{has, ById};
-ghost use Rattle.reg_op.specs.Operations.{Op, Ops, op_cmp, OneBody};
+ghost use Rattle.reg_op.specs.Operations.{Op, Ops, op_cmp, OneBody, kept};
+ghost use Rattle.reg_op.specs.Rows.{rows};
 ghost use Rattle.reg_op.specs.declared.operation.OpBody.{OpBody as Body};
+ghost use Rattle.reg_op.specs.declared.operation.OpBody.TheVariants.{Enter};
 ghost use Rattle.reg_op.specs.Contents.{Content, state, merged, joined, IsContent};
 ghost use Rattle.reg_op.specs.declared.status.Status.TheVariants.{Retired};
 ghost use Rattle.reg_op.specs.Status.{status};
@@ -13,8 +15,10 @@ ghost use Rattle.reg_seen.specs.Runs.{ids_from, IsGreatest};
 ghost use Rattle.reg_state.specs.ManyLaws.{all_of};
 ghost use Rattle.reg_file.specs.Files.{Holds};
 ghost use Rattle.reg_office.specs.declared.fault.OfficeFault.TheVariants as fault;
+ghost use Rattle.reg_office.specs.Commands.{retirements, supersessions};
+ghost use Rattle.reg_office.specs.Conflicts.{Contested, AreConflicts};
 ghost use Rattle.reg_office.specs.Making.{greatest, numbered, objections, made};
-ghost use Rattle.reg_office.specs.declared.writing.ReportKind.TheVariants.{Entries, Awaited, Gaps};
+ghost use Rattle.reg_office.specs.declared.writing.ReportKind.TheVariants.{Entries, Conflicts, Awaited, Gaps};
 ghost use Rattle.reg_office.specs.Reports.{IsReport, IsOpsReport};
 ghost use Rattle.reg_office.specs.World.{World, Event, Sent, Outcome, Clashes, IsEvent, IsTooMuch, IsWorld, ComesOf, After, Happens, Leads};
 
@@ -37,9 +41,26 @@ pub fn counts_are_spent_last()
         ↔ ((objections x (numbered replica (greatest replica x.seen + 1) bodies) ≡ None) × (0 < length bodies) × (4294967295 < greatest replica x.seen + length bodies)) }
 {}
 
+/// Each operation that a command makes is kept, since its effect is new.
+pub fn effects_are_kept()
+    ensures entered { (x : Content) (replica text : List ℕ) (os : List Op) (o : Op) → made x replica (Enter text ∷ []) ≡ Ok os → has os o ≡ true
+        → set.contains (merged x (state (set.from_list {R = op_cmp} os))).ops o ≡ true }
+    ensures retired { (x : Content) (replica : List ℕ) (entries : List Id) (os : List Op) (o : Op) → made x replica (retirements entries) ≡ Ok os → has os o ≡ true
+        → set.contains (merged x (state (set.from_list {R = op_cmp} os))).ops o ≡ true }
+    ensures superseded { (x : Content) (replica : List ℕ) (old : Id) (newer : List Id) (os : List Op) (o : Op) → made x replica (supersessions old newer) ≡ Ok os → has os o ≡ true
+        → set.contains (merged x (state (set.from_list {R = op_cmp} os))).ops o ≡ true }
+{}
+
+/// The keys in conflict are over what is kept what they are over the whole set, and there is one list of them.
+pub fn conflicts_of_kept()
+    ensures conflicts { (s : Ops) (cs : List Contested) → AreConflicts (rows (kept s)) cs ↔ AreConflicts (rows s) cs }
+    ensures one { (s : Ops) (cs ds : List Contested) → AreConflicts (rows s) cs → AreConflicts (rows s) ds → cs ≡ ds }
+{}
+
 /// A content has one report of each kind, and one of its operations.
 pub fn one_report()
     ensures entries { (x : Content) (text other : List ℕ) → IsReport Entries x text → IsReport Entries x other → text ≡ other }
+    ensures conflicts { (x : Content) (text other : List ℕ) → IsReport Conflicts x text → IsReport Conflicts x other → text ≡ other }
     ensures awaited { (x : Content) (text other : List ℕ) → IsReport Awaited x text → IsReport Awaited x other → text ≡ other }
     ensures gaps { (x : Content) (text other : List ℕ) → IsReport Gaps x text → IsReport Gaps x other → text ≡ other }
     ensures operations { (x : Content) (text other : List ℕ) → IsOpsReport x text → IsOpsReport x other → text ≡ other }

@@ -2,6 +2,9 @@
 #![tactic(auto)]
 
 mod command;
+mod conflict;
+mod conflict_lines;
+mod contender;
 mod distinct;
 mod entry;
 mod entry_lines;
@@ -11,15 +14,19 @@ pub mod laws;
 mod lines;
 mod named;
 mod office;
+mod one_entry;
+mod repeat;
 mod row;
 mod supersession;
 #[cfg(test)]
 mod tests;
 mod writing;
 
+pub use conflict::{Conflict, conflicts};
 pub use fault::OfficeFault;
 pub use gap::{Gap, gaps};
 pub use named::awaited;
 pub use office::Office;
+pub use one_entry::report_entry;
 pub use row::{Row, rows};
 pub use writing::{ReportFault, ReportKind, report, report_ops};

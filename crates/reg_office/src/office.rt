@@ -1,4 +1,4 @@
-ghost use Rattle.std.specs.Prelude.{◌≡◌, ◌+◌, ◌<◌, ◌≤◌, ◌⊎◌, List, [], ◌∷◌, map, length, All, Ok, Err, OnErr, IfOk, IfErr, IfSome, IfNone};
+ghost use Rattle.std.specs.Prelude.{◌≡◌, ◌+◌, ◌<◌, ◌≤◌, ◌⊎◌, List, [], ◌∷◌, map, length, All, None, Ok, Err, OnErr, IfOk, IfErr, IfSome, IfNone};
 ghost use Rattle.reg_op.specs.Set as set;
 ghost use Rattle.reg_op.specs.Ids.{Id};
 ghost use Rattle.reg_op.specs.Lists.{ById};
@@ -6,6 +6,7 @@ ghost use Rattle.reg_op.specs.Operations.{Op as Operation, IsOfItself, op_cmp};
 ghost use Rattle.reg_op.specs.declared.operation.OpBody.TheVariants as body;
 ghost use Rattle.reg_op.specs.Contents.{state, joined};
 ghost use Rattle.reg_seen.specs.Runs.{IsRun, ids_of_run};
+ghost use Rattle.reg_state.specs.Tables.{first_dropped};
 ghost use Rattle.reg_office.specs.declared.fault.OfficeFault.TheVariants as fault;
 ghost use Rattle.reg_office.specs.Making.{greatest, numbered, objections, made};
 ghost use Rattle.reg_office.specs.Commands.{retirements, supersessions, Does};
@@ -14,7 +15,7 @@ ghost use Rattle.reg_office.specs.Effects.{effect_of};
 use crate::OfficeFault;
 use crate::command::Command;
 use reg_op::{Op, OpBody, OpId};
-use reg_state::{Join, JoinFault, Register, Run, Seen, TakeFault};
+use reg_state::{ContentFault, Join, JoinFault, Register, Run, Seen, TakeFault};
 use std::alloc::{AllocError, Global};
 use uuid::Uuid;
 use wkt_crs::Definition;
@@ -113,7 +114,7 @@ impl Office {
         ensures unchanged { OnErr result (self.new ≡ self.old) }
         ensures replica { self.new.replica ≡ self.old.replica }
     {
-        if let Some(fault) = command.first_fault(&self.register, named) {
+        if let Some(fault) = command.first_fault(alloc, &self.register, named) {
             return Err(fault);
         }
         let seen = self.register.seen();
@@ -143,6 +144,7 @@ impl Office {
         requires some { 0 < length named.now }
         requires fits { first + length named.now ≤ 4294967296 }
         requires first { first ≡ greatest self.now.replica self.now.register.seen + 1 }
+        requires made { objections self.now.register (numbered self.now.replica first (map (effect_of command.now) named.now)) ≡ None }
         requires possible { All (λ e. ¬ (IsOfItself (effect_of command.now e))) named.now }
         ensures register { IfOk result (λ p. joined self.now.register (state (set.from_list {R = op_cmp} (numbered self.now.replica first (map (effect_of command.now) named.now)))) ≡ Ok p.0) }
         ensures ids { IfOk result (λ p. p.1.items ≡ map (λ (o : Operation). o.id) (numbered self.now.replica first (map (effect_of command.now) named.now))) }
@@ -179,6 +181,7 @@ fn register_of(alloc: Global, ops: Vec<Op>, run: Run) -> Result<Register, AllocE
     requires run { IsRun run }
     requires by_id { ById ops.items }
     requires ids { map (λ (o : Operation). o.id) ops.items ≡ ids_of_run run }
+    requires kept { first_dropped (set.from_list {R = op_cmp} ops.items) ≡ None }
     ensures { IfOk result (λ register. register ≡ state (set.from_list {R = op_cmp} ops.items)) }
 {
     let mut seen = Seen::new(alloc);
@@ -188,7 +191,8 @@ fn register_of(alloc: Global, ops: Vec<Op>, run: Run) -> Result<Register, AllocE
             let _content = register.seen();
             Ok(register)
         }
-        Err(_) => Err(AllocError),
+        Err(ContentFault::Memory) => Err(AllocError),
+        Err(ContentFault::NotKept(_)) => unreachable!(),
     }
 }
 

@@ -24,6 +24,10 @@ pub const HEIGHT: &[u8] =
 pub const OTHER_HEIGHT: &[u8] =
     b"VERTCRS[\"G\",VDATUM[\"D\"],CS[vertical,1],AXIS[\"height (H)\",up],LENGTHUNIT[\"metre\",1],ID[\"X\",8]]";
 
+/// The code of the other one, and a third name.
+pub const ANOTHER_NAME: &[u8] =
+    b"VERTCRS[\"F\",VDATUM[\"D\"],CS[vertical,1],AXIS[\"height (H)\",up],LENGTHUNIT[\"metre\",1],ID[\"X\",8]]";
+
 /// The same key, spelled with a text.
 pub const SAME_KEY: &[u8] =
     b"VERTCRS[\"H\",VDATUM[\"D\"],CS[vertical,1],AXIS[\"height (H)\",up],LENGTHUNIT[\"metre\",1],ID[\"X\",\"7\"]]";

@@ -1,6 +1,8 @@
 ghost use Rattle.std.specs.Prelude.{◌≡◌, IfOk, IfErr, OnOk};
 ghost use Rattle.reg_office.specs.Reports.{IsReport, IsOpsReport, Reports, IsReportFault};
 
+use crate::conflict::conflicts;
+use crate::conflict_lines::conflicts_text;
 use crate::entry_lines::entries_text;
 use crate::gap::gaps;
 use crate::lines::{awaited_text, gaps_text, ops_text};
@@ -14,6 +16,7 @@ use std::alloc::{AllocError, Global};
 #[derive(Clone, Copy, Debug, PartialEq, Eq)]
 pub enum ReportKind {
     Entries,
+    Conflicts,
     Awaited,
     Gaps,
 }
@@ -32,6 +35,14 @@ fn entries_report(alloc: Global, register: &Register) -> Result<Vec<u8>, AllocEr
 {
     let rows = rows(alloc, register)?;
     let text = entries_text(alloc, &rows)?;
+    Ok(text)
+}
+
+fn conflicts_report(alloc: Global, register: &Register) -> Result<Vec<u8>, AllocError>
+    ensures { IfOk result (λ text. IsReport ReportKind.Conflicts register.now text.items) }
+{
+    let conflicts = conflicts(alloc, register)?;
+    let text = conflicts_text(alloc, &conflicts)?;
     Ok(text)
 }
 
@@ -56,6 +67,7 @@ fn text_of(alloc: Global, register: &Register, kind: ReportKind) -> Result<Vec<u
 {
     match kind {
         ReportKind::Entries => entries_report(alloc, register),
+        ReportKind::Conflicts => conflicts_report(alloc, register),
         ReportKind::Awaited => awaited_report(alloc, register),
         ReportKind::Gaps => gaps_report(alloc, register),
     }

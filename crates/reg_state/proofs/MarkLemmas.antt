@@ -106,6 +106,14 @@ marks_retire e os = through _ (λ o. is_retirement e o.body) each os
     each i (Supersede old newer) = or_false _ ∙ then_greater (id_cmp old e)
     each i (Retire entry) = or_false _ ∙ then_equal (id_cmp entry e) ∙ same_back entry e
 
+marks_supersede : (e n : Id) (os : List Op) → list_any (λ m. is_at (record { entry = e; by = Some n }) m) (marks_of os) ≡ list_any (λ o. is_supersession e (is_same n) o.body) os
+marks_supersede e n os = through _ (λ o. is_supersession e (is_same n) o.body) each os
+  where
+    each : (i : Id) (b : Body) → list_any (λ m. is_at (record { entry = e; by = Some n }) m) (marks_of_body i b) ≡ is_supersession e (is_same n) b
+    each i (Enter text) = refl
+    each i (Supersede old newer) = or_false _ ∙ sym (tied_then (id_cmp old e) (id_cmp newer n)) ∙ (λ k. same_back old e k && same_back newer n k)
+    each i (Retire entry) = or_false _ ∙ then_less (id_cmp entry e)
+
 marks_touch : (e : Id) (os : List Op)
     → list_any (λ m. is_same e m.target.entry) (marks_of os) ≡ (list_any (λ o. is_retirement e o.body) os || list_any (λ o. is_supersession e (λ n. true) o.body) os)
 marks_touch e os =
@@ -153,3 +161,8 @@ pub any_touched : (e : Id) (os : List Op) (ms : MarkSet) → ms ≡ least_marks 
 any_touched e os ms is =
     any_marks (λ m. is_same e m.target.entry) (λ p m h k. ap (λ (t : Target). is_same e t.entry) (lesser_target p m h) ∙ k) os ms is
     ∙ marks_touch e os
+
+pub any_superseded : (e n : Id) (os : List Op) (ms : MarkSet) → ms ≡ least_marks os → any (λ m. is_at (record { entry = e; by = Some n }) m) ms ≡ list_any (λ o. is_supersession e (is_same n) o.body) os
+any_superseded e n os ms is =
+    any_marks (λ m. is_at (record { entry = e; by = Some n }) m) (λ p m h k. ap (λ t. is_eq (target_cmp t (record { entry = e; by = Some n }))) (lesser_target p m h) ∙ k) os ms is
+    ∙ marks_supersede e n os

@@ -34,7 +34,7 @@ use Rattle.reg_state.specs.Tables.{AreTables, first_dropped}
 use Rattle.reg_op.specs.declared.status.Status.{Status}
 use Rattle.reg_op.specs.declared.status.Status.TheVariants.{Retired, Superseded, Valid}
 use Rattle.reg_op.specs.Status.{enters, retires, supersedes, status, is_enter, is_retirement, is_supersession}
-use Rattle.reg_state.proofs.MarkLemmas.{any_marks, any_retired, any_touched, replacing_falls}
+use Rattle.reg_state.proofs.MarkLemmas.{any_marks, any_retired, any_superseded, any_touched, replacing_falls}
 
 -- ---- the clash of two contents, by a walk along both
 
@@ -170,6 +170,10 @@ ok_not_err x b h = cc
 pub retired_at : (xs : List Op) (ms : MarkSet) → ms ≡ least_marks xs → (e : Id)
     → any (λ m. is_at (record { entry = e; by = None }) m) ms ≡ retires (set.from_list {R = op_cmp} xs) e
 retired_at xs ms marked e = any_retired e xs ms marked ∙ sym (any-from_list (λ o. is_retirement e o.body) xs)
+
+pub superseded_at : (xs : List Op) (ms : MarkSet) → ms ≡ least_marks xs → (e n : Id)
+    → any (λ m. is_at (record { entry = e; by = Some n }) m) ms ≡ any (λ o. is_supersession e (is_same n) o.body) (set.from_list {R = op_cmp} xs)
+superseded_at xs ms marked e n = any_superseded e n xs ms marked ∙ sym (any-from_list (λ o. is_supersession e (is_same n) o.body) xs)
 
 abbrev pub status_by : Bool → Bool → Bool → Option Status
 status_by entered retired touched = cond entered (Some (cond retired Retired (cond touched Superseded Valid))) None

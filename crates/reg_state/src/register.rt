@@ -1,9 +1,10 @@
 ghost use Rattle.std.specs.Prelude.{◌≡◌, ◌↔◌, true, false, List, Ok, Err, OnOk, OnErr, IfOk, IfSome, IfNone, Some, None};
 ghost use Rattle.reg_op.specs.Set as set;
-ghost use Rattle.reg_op.specs.Ids.{Id};
+ghost use Rattle.reg_op.specs.Ids.{Id, is_same};
 ghost use Rattle.reg_op.specs.Operations.{Op as Operation, one, op_cmp, OneBody};
 ghost use Rattle.reg_op.specs.Contents.{Content, Agreed, IsContent, state, nothing, merged, joined};
-ghost use Rattle.reg_op.specs.Status.{enters, status};
+ghost use Rattle.reg_op.specs.Finite.{any};
+ghost use Rattle.reg_op.specs.Status.{enters, status, is_supersession};
 ghost use Rattle.reg_op.specs.Kept.{entering};
 ghost use Rattle.reg_op.specs.Lists.{ById, has, content_at};
 ghost use Rattle.reg_state.specs.Tables.{first_dropped};
@@ -122,6 +123,14 @@ impl Register {
             return Some(Status::Superseded);
         }
         Some(Status::Valid)
+    }
+
+    /// Whether what is kept supersedes an entry by a newer one.
+    pub fn is_superseded_by(&self, old: OpId, newer: OpId) -> bool
+        ensures { result ≡ any (λ o. is_supersession old (is_same newer) o.body) self.now.ops }
+    {
+        let by = Some(newer);
+        is_marked(&self.marks, &Target { entry: old, by })
     }
 
     /// The definition that an id entered.

@@ -80,6 +80,18 @@ fn names_the_ids_of_refusals(rt: HostRuntime) -> Result<(), Fail> {
             Refusal::UnknownEntry(id),
             b"refused: UnknownEntry 936da01f-9abd-4d9d-80c7-02af85c822a8:4294967295",
         ),
+        (
+            Refusal::AlreadyRetired(id),
+            b"refused: AlreadyRetired 936da01f-9abd-4d9d-80c7-02af85c822a8:4294967295",
+        ),
+        (
+            Refusal::AlreadySuperseded(id),
+            b"refused: AlreadySuperseded 936da01f-9abd-4d9d-80c7-02af85c822a8:4294967295",
+        ),
+        (Refusal::SameEntry, b"refused: SameEntry"),
+        (Refusal::CountSpent, b"refused: CountSpent"),
+        (Refusal::NoIdentifier, b"refused: NoIdentifier"),
+        (Refusal::CanonicalTooLong, b"refused: CanonicalTooLong"),
         (Refusal::BadId, b"refused: BadId"),
         (Refusal::BadReplica, b"refused: BadReplica"),
     ];

@@ -10,8 +10,8 @@ use std::test::Fail;
 use uuid::Uuid;
 use wkt_crs::{MemoryTarget, Pieces, Then};
 
-// What a merge of the files writes, or why it does not.
-fn merged(alloc: Global, files: &[&[u8]]) -> Result<Result<Vec<u8>, CliFault>, AllocError> {
+/// What a merge of the files writes, or why it does not.
+pub fn merged(alloc: Global, files: &[&[u8]]) -> Result<Result<Vec<u8>, CliFault>, AllocError> {
     let mut target = MemoryTarget::new(alloc, true);
     let mut sources = sources(alloc, files, 7)?;
     match run_merge(alloc, &mut sources, &mut target) {

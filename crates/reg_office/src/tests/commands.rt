@@ -104,4 +104,6 @@ fn the_first_entry_is_number_one(rt: HostRuntime) -> Result<(), Fail> {
 fn laws_can_be_called() {
     crate::laws::numbers_are_new();
     crate::laws::counts_are_spent_last();
+    crate::laws::effects_are_kept();
+    crate::laws::conflicts_of_kept();
 }

@@ -48,6 +48,24 @@ fn a_refused_entry_leaves_the_office(rt: HostRuntime) {
 }
 
 #[test]
+fn refused_conflicts_write_nothing(rt: HostRuntime) {
+    let alloc = rt.alloc();
+    let Some((register, _copy)) = before_and_after(alloc) else {
+        return;
+    };
+    let Ok(mut room) = Vec::with_capacity(alloc, 1000) else {
+        return;
+    };
+    room.clear();
+    let mut sink = Writing::new(room);
+    match report(alloc, &register, ReportKind::Conflicts, &mut sink) {
+        Ok(()) => assert!(rt; sink.into_inner().len() > 100),
+        Err(ReportFault::Memory) => assert!(rt; sink.into_inner().is_empty()),
+        Err(ReportFault::WriteFailed(_)) => assert!(rt; false),
+    }
+}
+
+#[test]
 fn a_refused_report_writes_nothing(rt: HostRuntime) {
     let alloc = rt.alloc();
     let Some((register, _copy)) = before_and_after(alloc) else {

@@ -1,7 +1,8 @@
 use super::{
-    A, B, HEIGHT, OTHER_HEIGHT, enter, id_of, retire, seen_up_to, supersede, taken, worked,
+    A, ANOTHER_NAME, B, HEIGHT, OTHER_HEIGHT, SAME_KEY, contested, enter, id_of, joined, retire,
+    seen_up_to, supersede, taken, worked,
 };
-use crate::{Gap, ReportFault, ReportKind, awaited, gaps, report, report_ops, rows};
+use crate::{Gap, ReportFault, ReportKind, awaited, conflicts, gaps, report, report_ops, rows};
 use byte_io::{Full, Room, Writing};
 use reg_op::Status;
 use reg_state::{Join, Register};
@@ -65,6 +66,88 @@ fn entries_that_supersede_each_other(rt: HostRuntime) -> Result<(), Fail> {
         assert!(rt; row.entry == entry);
         assert!(rt; row.status == Status::Superseded);
         assert!(rt; row.newer.as_slice() == [newer].as_slice());
+    }
+    Ok(())
+}
+
+#[test]
+fn conflicts_of_the_worked_example(rt: HostRuntime) -> Result<(), Fail> {
+    let alloc = rt.alloc();
+    let register = contested(alloc)?;
+    assert!(rt;
+        is_text(
+            text_of(alloc, &register, ReportKind::Conflicts),
+            b"authority,code,entry\n\
+              X,7,00000000-0000-4000-8000-00000000000a:1\n\
+              X,7,00000000-0000-4000-8000-00000000000b:1\n"
+        )
+    );
+    let mark = taken(alloc, vec![in alloc; retire(id_of(B, 2)?, id_of(B, 1)?)?]?)?;
+    let settled = joined(alloc, &register, &mark)?;
+    assert!(rt;
+        is_text(
+            text_of(alloc, &settled, ReportKind::Conflicts),
+            b"authority,code,entry\n"
+        )
+    );
+    let same = taken(
+        alloc,
+        vec![in alloc;
+            enter(alloc, id_of(A, 1)?, HEIGHT)?,
+            enter(alloc, id_of(B, 1)?, HEIGHT)?,
+        ]?,
+    )?;
+    assert!(rt;
+        is_text(
+            text_of(alloc, &same, ReportKind::Conflicts),
+            b"authority,code,entry\n"
+        )
+    );
+    Ok(())
+}
+
+#[test]
+fn all_entries_of_a_key_in_conflict_are_listed(rt: HostRuntime) -> Result<(), Fail> {
+    let alloc = rt.alloc();
+    let register = taken(
+        alloc,
+        vec![in alloc;
+            enter(alloc, id_of(B, 1)?, HEIGHT)?,
+            enter(alloc, id_of(A, 3)?, OTHER_HEIGHT)?,
+            enter(alloc, id_of(A, 2)?, SAME_KEY)?,
+            enter(alloc, id_of(A, 1)?, HEIGHT)?,
+            supersede(id_of(B, 2)?, id_of(A, 2)?, id_of(A, 3)?)?,
+        ]?,
+    )?;
+    let found = conflicts(alloc, &register)?;
+    assert_eq!(rt; found.len(), 1);
+    assert!(rt;
+        found[0].authority.as_bytes() == b"X".as_slice()
+            && found[0].code.as_bytes() == b"7".as_slice()
+    );
+    assert!(rt;
+        found[0].entries.as_slice() == [id_of(A, 1)?, id_of(A, 2)?, id_of(B, 1)?].as_slice()
+    );
+    Ok(())
+}
+
+#[test]
+fn keys_in_conflict_are_in_the_order_of_their_bytes(rt: HostRuntime) -> Result<(), Fail> {
+    let alloc = rt.alloc();
+    let register = taken(
+        alloc,
+        vec![in alloc;
+            enter(alloc, id_of(A, 1)?, ANOTHER_NAME)?,
+            enter(alloc, id_of(A, 2)?, SAME_KEY)?,
+            enter(alloc, id_of(B, 1)?, OTHER_HEIGHT)?,
+            enter(alloc, id_of(B, 2)?, HEIGHT)?,
+        ]?,
+    )?;
+    let found = conflicts(alloc, &register)?;
+    assert_eq!(rt; found.len(), 2);
+    for (conflict, code) in found.iter().zip([b"7".as_slice(), b"8"]) {
+        assert!(rt; conflict.code.as_bytes() == code);
+        assert_eq!(rt; conflict.entries.len(), 2);
     }
     Ok(())
 }

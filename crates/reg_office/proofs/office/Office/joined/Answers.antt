@@ -1,12 +1,14 @@
-use Rattle.std.proofs.Common.{◌≡◌, ◌+◌, ◌-◌, ◌<◌, Err, map, length, sym, ap, ◌∙◌, subst}
+use Rattle.std.proofs.Common.{◌≡◌, ◌+◌, ◌-◌, ◌<◌, Err, List, map, length, sym, ap, ◌∙◌, subst}
 use Rattle.reg_op.specs.Set as set
-use Rattle.reg_op.specs.Operations.{op_cmp}
+use Rattle.reg_op.specs.Operations.{Op as Operation, op_cmp}
 use Rattle.reg_op.specs.Contents.{state, joined}
 use Rattle.reg_op.specs.Lists.{ById}
 use Rattle.reg_state.proofs.TableLemmas.{ok_not_err}
 use Rattle.reg_office.specs.Effects.{effect_of}
 use Rattle.reg_office.specs.Making.{numbered, greatest}
 use Rattle.reg_office.proofs.NumberLemmas.{numbered_by_id, run_of_numbered, numbers_join, length_map}
+use Rattle.reg_state.specs.Tables.{first_dropped}
+use Rattle.reg_office.proofs.NewLemmas.{none_dropped}
 use Rattle.reg_office.proofs.office.Office.joined.Goals as goal
 
 pub register_of-requires-clause-by_id : goal.register_of-requires-clause-by_id
@@ -29,3 +31,8 @@ unreachable-requires c =
     ok_not_err _ c.in-Err-Clash.field-0-0 (sym (numbers_join x r bs c.seen-content.ensures.content (set.from_list c.in_ok-ops.ops.items) same)
     ∙ ap (joined x) (sym c.in_ok-fresh.ensures)
     ∙ (c.join.ensures.clash c.in-Err-Clash.field-0-0).0 (c.in-Err-Clash.is ∙ ap Err c.in-Err-Clash.field-0-is))
+
+pub register_of-requires-clause-kept : goal.register_of-requires-clause-kept
+register_of-requires-clause-kept c =
+    ap (λ (l : List Operation). first_dropped (set.from_list l)) c.in_ok-ops.ensures
+    ∙ none_dropped c.args.command.now c.args.self.now.register c.args.self.now.replica c.args.first c.args.named.now c.requires.made

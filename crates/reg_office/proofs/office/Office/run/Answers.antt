@@ -11,3 +11,6 @@ returns-then-is_empty-clause-ok c = none_done c.args.self.now.register c.args.se
 
 pub joined-requires-clause-possible : goal.joined-requires-clause-possible
 joined-requires-clause-possible c = possible c.args.command.now c.args.self.now.register c.args.self.now.replica 0 c.args.named.now (sym (c.first_fault.ensures c.args.self.now.replica 0) ∙ c.in_default.is)
+
+pub joined-requires-clause-made : goal.joined-requires-clause-made
+joined-requires-clause-made c = sym (c.first_fault.ensures c.args.self.now.replica c.in-Some-next_count.first) ∙ c.in_default.is

@@ -1,0 +1,8 @@
+use Rattle.std.proofs.Common.{◌≡◌, ◌++◌, ◌∷◌, [], drop}
+use Rattle.reg_op.specs.Text.{printed}
+use Rattle.reg_engine.specs.Outputs.{id_lines}
+use Rattle.reg_engine.proofs.outputs.id_lines.Given as goal
+
+-- the lines so far, and those of the ids that remain, are all
+abbrev pub invariant-loop-id : goal.invariant-loop-id
+invariant-loop-id l = l.lines.items ++ id_lines (drop l.id-index l.fn.ids) ≡ id_lines l.fn.ids

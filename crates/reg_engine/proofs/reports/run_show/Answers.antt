@@ -1,0 +1,13 @@
+use Rattle.std.proofs.Common.{subst}
+use Rattle.reg_office.specs.Reports.{IsEntryReport, IsReportFault}
+use Rattle.reg_engine.proofs.reports.run_show.Goals as goal
+
+pub returns-in-Ok-report_entry-clause-reported : goal.returns-in-Ok-report_entry-clause-reported
+returns-in-Ok-report_entry-clause-reported g c = (c.in-Ok.register, c.in-Ok.ensures.found, c.in-Ok-report_entry.ensures.ok)
+
+pub returns-in-Err-WriteFailed-clause-fault : goal.returns-in-Err-WriteFailed-clause-fault
+returns-in-Err-WriteFailed-clause-fault g c = (
+  c.in-Ok.register,
+  c.in-Ok.ensures.found,
+  subst (IsReportFault (IsEntryReport c.args.entry c.in-Ok.register) (g.K.Sink.state c.args.sink.now) (g.K.Sink.state c.report_entry.new.sink)) c.in-Err-WriteFailed.field-0-is c.in-Err-WriteFailed.ensures.fault,
+)

@@ -1,0 +1,136 @@
+//! Commands that an office is given on a register's file.
+
+ghost use Rattle.std.specs.Prelude.{◌≡◌, IfOk, OnOk, IfErr};
+ghost use Rattle.wkt_crs.specs.Spells.{canon};
+ghost use Rattle.reg_office.specs.Commands.{retirements, supersessions};
+ghost use Rattle.reg_engine.specs.Outputs.{outputs};
+ghost use Rattle.reg_engine.specs.Change.{desk, IsChanged, IsChangeFault, entry_desk, IsEntered, IsUndefined, IsEnterFault};
+
+use crate::fault::{CliFault, Refusal};
+use crate::inputs::read_file;
+use crate::outputs::give_out;
+use reg_office::Office;
+use reg_op::OpId;
+use std::alloc::Global;
+use uuid::Uuid;
+use wkt_crs::{Crs, Definition, DefinitionFault, Sink, Source, Target, read_crs_from};
+
+/// Reads the register of the source, which is file 1, retires entries of it as the replica, and writes the register's
+/// file to the target and the new ids to the sink, each with a newline.
+pub fn run_retire<S: Source, T: Target, K: Sink>(
+    alloc: Global,
+    source: &mut S,
+    replica: Uuid,
+    entries: &[OpId],
+    target: &mut T,
+    sink: &mut K,
+) -> Result<(), CliFault>
+    ensures changed { OnOk result (IsChanged replica (retirements entries.now)
+        (desk (S.state source.old) (outputs (T.state target.old) (K.state sink.old)))
+        (desk (S.state source.new) (outputs (T.state target.new) (K.state sink.new)))) }
+    ensures fault { IfErr result (IsChangeFault replica (retirements entries.now)
+        (desk (S.state source.old) (outputs (T.state target.old) (K.state sink.old)))
+        (desk (S.state source.new) (outputs (T.state target.new) (K.state sink.new)))) }
+{
+    let register = match read_file(alloc, 1, source) {
+        Ok(register) => register,
+        Err(fault) => return Err(fault),
+    };
+    let mut office = Office::new(replica, register);
+    let ids = match office.retire(alloc, entries) {
+        Ok(ids) => ids,
+        Err(fault) => return Err(CliFault::of_office(fault)),
+    };
+    match give_out(alloc, office.register(), &ids, target, sink) {
+        Ok(()) => Ok(()),
+        Err(fault) => Err(fault),
+    }
+}
+
+/// Reads the register of the source, which is file 1, supersedes an old entry of it by newer ones as the replica, and
+/// writes the register's file to the target and the new ids to the sink, each with a newline.
+pub fn run_supersede<S: Source, T: Target, K: Sink>(
+    alloc: Global,
+    source: &mut S,
+    replica: Uuid,
+    old: OpId,
+    newer: &[OpId],
+    target: &mut T,
+    sink: &mut K,
+) -> Result<(), CliFault>
+    ensures changed { OnOk result (IsChanged replica (supersessions old newer.now)
+        (desk (S.state source.old) (outputs (T.state target.old) (K.state sink.old)))
+        (desk (S.state source.new) (outputs (T.state target.new) (K.state sink.new)))) }
+    ensures fault { IfErr result (IsChangeFault replica (supersessions old newer.now)
+        (desk (S.state source.old) (outputs (T.state target.old) (K.state sink.old)))
+        (desk (S.state source.new) (outputs (T.state target.new) (K.state sink.new)))) }
+{
+    let register = match read_file(alloc, 1, source) {
+        Ok(register) => register,
+        Err(fault) => return Err(fault),
+    };
+    let mut office = Office::new(replica, register);
+    let ids = match office.supersede(alloc, old, newer) {
+        Ok(ids) => ids,
+        Err(fault) => return Err(CliFault::of_office(fault)),
+    };
+    match give_out(alloc, office.register(), &ids, target, sink) {
+        Ok(()) => Ok(()),
+        Err(fault) => Err(fault),
+    }
+}
+
+// The definition of the value, or why it has none.
+fn defined(alloc: Global, crs: Crs) -> Result<Definition, CliFault>
+    ensures ok { IfOk result (λ d. d ≡ canon crs) }
+    ensures fault { IfErr result (IsUndefined crs) }
+{
+    match Definition::new(alloc, crs) {
+        Ok(definition) => Ok(definition),
+        Err(DefinitionFault::NoIdentifier) => Err(CliFault::Refused(Refusal::NoIdentifier)),
+        Err(DefinitionFault::CanonicalTooLong) => {
+            Err(CliFault::Refused(Refusal::CanonicalTooLong))
+        }
+        Err(_) => Err(CliFault::Memory),
+    }
+}
+
+/// Reads the register of the source, which is file 1, and then the text of another, which is file 2; enters the text's
+/// value as the replica; and writes the register's file to the target and the new id to the sink, with a newline.
+pub fn run_enter<S: Source, X: Source, T: Target, K: Sink>(
+    alloc: Global,
+    source: &mut S,
+    replica: Uuid,
+    text: &mut X,
+    target: &mut T,
+    sink: &mut K,
+) -> Result<(), CliFault>
+    ensures entered { OnOk result (IsEntered replica
+        (entry_desk (S.state source.old) (X.state text.old) (outputs (T.state target.old) (K.state sink.old)))
+        (entry_desk (S.state source.new) (X.state text.new) (outputs (T.state target.new) (K.state sink.new)))) }
+    ensures fault { IfErr result (IsEnterFault replica
+        (entry_desk (S.state source.old) (X.state text.old) (outputs (T.state target.old) (K.state sink.old)))
+        (entry_desk (S.state source.new) (X.state text.new) (outputs (T.state target.new) (K.state sink.new)))) }
+{
+    let register = match read_file(alloc, 1, source) {
+        Ok(register) => register,
+        Err(fault) => return Err(fault),
+    };
+    let crs = match read_crs_from(alloc, text) {
+        Ok(crs) => crs,
+        Err(fault) => return Err(CliFault::of_text(2, fault)),
+    };
+    let definition = match defined(alloc, crs) {
+        Ok(definition) => definition,
+        Err(fault) => return Err(fault),
+    };
+    let mut office = Office::new(replica, register);
+    let id = match office.enter(definition) {
+        Ok(id) => id,
+        Err(fault) => return Err(CliFault::of_office(fault)),
+    };
+    match give_out(alloc, office.register(), &[id], target, sink) {
+        Ok(()) => Ok(()),
+        Err(fault) => Err(fault),
+    }
+}

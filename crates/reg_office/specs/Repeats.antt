@@ -1,0 +1,10 @@
+-- Where an entry is named again.
+use Rattle.std.specs.Prelude.{◌≡◌, ℕ, ◌<◌, ◌≤◌, true, false, List, length, slice_index_or, take}
+use Rattle.std.specs.List.{list_any}
+use Rattle.reg_op.specs.Ids.{Id, is_same}
+
+-- none of the entries before this place stands before itself; the one at it does, where there is one
+pub record IsFirstRepeat (named : List Id) (at : ℕ) : Type 0 where
+  pub within : at ≤ length named
+  pub fresh : (k : ℕ) (d : Id) → k < at → list_any (is_same (slice_index_or named k d)) (take k named) ≡ false
+  pub again : (d : Id) → at < length named → list_any (is_same (slice_index_or named at d)) (take at named) ≡ true

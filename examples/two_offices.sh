@@ -1,0 +1,20 @@
+#!/bin/sh
+# Two offices out of touch, one conflict, one merge: runs each line of a tour in a new folder, and prints what it prints.
+# Another tour can be named: sh examples/two_offices.sh three_offices.txt
+root=$(cd "$(dirname "$0")/.." && pwd)
+folder=$(mktemp -d) && cp "$root"/crates/tour/data/* "$folder" && cd "$folder" || exit 1
+
+crsreg() {
+    "$root/crsreg" "$@"
+}
+
+while IFS= read -r line; do
+    case $line in
+    '' | '#'*) printf '%s\n' "$line" ;;
+    *)
+        printf '$ %s\n' "$line"
+        eval "$line" </dev/null
+        ;;
+    esac
+done <"${1:-two_offices.txt}"
+rm -r "$folder"
