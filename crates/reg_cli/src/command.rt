@@ -68,7 +68,10 @@ fn perform(rt: &HostRuntime, matches: &ArgMatches<'_>) -> Result<(), CliFault> {
         Some(("export", inner)) => export(rt, word(inner, "REG")),
         Some(("ops", inner)) => ops(rt, word(inner, "REG")),
         Some(("report", inner)) => report(rt, word(inner, "REG"), kind(word(inner, "KIND"))),
-        Some(("merge", inner)) => merge(rt, word(inner, "OUT"), words(inner, "FILE")),
+        Some(("merge", inner)) => match inner.get_strs("FILE") {
+            Some(paths) => merge(rt, word(inner, "OUT"), paths),
+            None => Ok(()),
+        },
         _ => Ok(()),
     }
 }
@@ -76,10 +79,6 @@ fn perform(rt: &HostRuntime, matches: &ArgMatches<'_>) -> Result<(), CliFault> {
 // A word that its command requires, so clap has seen it.
 fn word<'a>(matches: &ArgMatches<'a>, name: &str) -> &'a str {
     matches.get_str(name).unwrap_or("")
-}
-
-fn words<'m, 'a>(matches: &'m ArgMatches<'a>, name: &str) -> &'m [&'a str] {
-    matches.get_strs(name).unwrap_or(&[])
 }
 
 // clap lets no other word through.
@@ -100,8 +99,11 @@ fn entry(word: &str) -> Result<OpId, CliFault> {
     OpId::parse(word.as_bytes()).ok_or(CliFault::Refused(Refusal::BadId))
 }
 
-fn entries(alloc: Global, words: &[&str]) -> Result<Vec<OpId>, CliFault> {
+fn entries(alloc: Global, matches: &ArgMatches<'_>, name: &str) -> Result<Vec<OpId>, CliFault> {
     let mut entries = Vec::new(alloc);
+    let Some(words) = matches.get_strs(name) else {
+        return Ok(entries);
+    };
     for word in words {
         if entries.push(entry(word)?).is_err() {
             return Err(CliFault::Memory);
@@ -150,7 +152,7 @@ fn enter(rt: &HostRuntime, matches: &ArgMatches<'_>) -> Result<(), CliFault> {
 fn supersede(rt: &HostRuntime, matches: &ArgMatches<'_>) -> Result<(), CliFault> {
     let replica = replica(word(matches, "as"))?;
     let old = entry(word(matches, "OLD"))?;
-    let newer = entries(rt.alloc(), words(matches, "BY"))?;
+    let newer = entries(rt.alloc(), matches, "BY")?;
     let mut source = open(rt, 1, word(matches, "REG"))?;
     let mut target = FileTarget::new(rt, word(matches, "out"));
     let mut sink = Writing::new(io::writer(rt));
@@ -167,7 +169,7 @@ fn supersede(rt: &HostRuntime, matches: &ArgMatches<'_>) -> Result<(), CliFault>
 
 fn retire(rt: &HostRuntime, matches: &ArgMatches<'_>) -> Result<(), CliFault> {
     let replica = replica(word(matches, "as"))?;
-    let entries = entries(rt.alloc(), words(matches, "ENTRY"))?;
+    let entries = entries(rt.alloc(), matches, "ENTRY")?;
     let mut source = open(rt, 1, word(matches, "REG"))?;
     let mut target = FileTarget::new(rt, word(matches, "out"));
     let mut sink = Writing::new(io::writer(rt));
