@@ -1,5 +1,5 @@
 -- What reports are.
-use Rattle.std.specs.Prelude.{◌≡◌, ℕ, List, [], ◌∷◌}
+use Rattle.std.specs.Prelude.{◌≡◌, ℕ, List}
 use Rattle.reg_op.specs.Set as set
 use Rattle.reg_op.specs.Contents.{Content}
 use Rattle.reg_op.specs.Rows.{rows, awaited}
