@@ -1,5 +1,5 @@
 -- The entries that are not retired, and what they tell of rows.
-use Rattle.std.proofs.Common.{◌≡◌, ◌≢◌, ℕ, ◌+◌, ◌<◌, ◌≤◌, List, [], ◌∷◌, ◌++◌, map, length, get_or, take, Some, ◌↔◌, true, refl, sym, ap, ◌∙◌, subst, inl, inr, ◌⊎◌, arith}
+use Rattle.std.proofs.Common.{◌≡◌, ℕ, ◌+◌, ◌<◌, ◌≤◌, List, [], ◌∷◌, ◌++◌, map, length, get_or, take, refl, sym, ap, ◌∙◌, subst, inl, inr}
 use Rattle.std.proofs.lemmas.List.{take_more, take_all}
 use Rattle.std.proofs.lemmas.List.Elements.{Contains-append_left, Contains-push, Contains-push_cases}
 use Rattle.std.proofs.lemmas.List.Sorted.{Contains-permutation, IsPermutation-sym}
@@ -10,20 +10,17 @@ use Rattle.crs_part.specs.Slots.{ids_of}
 use Rattle.crs_value.specs.declared.crs.Crs.{Crs}
 use Rattle.crs_value.specs.declared.key.Key.{Key}
 use Rattle.crs_value.specs.Keys.{IsKeyOf}
-use Rattle.wkt_crs.specs.Spells.{Spells}
 use Rattle.wkt_crs.specs.Definition.{HasNone, IsKeyIn}
 use Rattle.wkt_crs.specs.Definition as definition
 use Rattle.wkt_crs.proofs.Texts.{one_value}
-use Rattle.reg_op.specs.Set as set
 use Rattle.reg_op.specs.Ids.{Id}
 use Rattle.reg_op.specs.Rows.{Row, IsInConflict}
-use Rattle.reg_op.specs.declared.status.Status.TheVariants.{Retired}
 use Rattle.reg_office.specs.declared.row.Row.{Row as MadeRow}
 use Rattle.reg_office.specs.declared.contender.Contender.{Contender}
 use Rattle.reg_office.specs.Seen.{row_seen}
 use Rattle.reg_office.specs.Conflicts.{KeyBytes, bytes_of, HasKey, Stands, Contested, AreConflicts}
 use Rattle.reg_office.specs.Contenders.{key_of, IsOfRow, AreContenders, Adds, Differ, Enters, Tells}
-use Rattle.reg_office.proofs.ConflictLemmas.{none_in, in_map, from_map}
+use Rattle.reg_office.proofs.ConflictLemmas.{none_in, from_map}
 
 -- ---- a text has one key
 

@@ -10,10 +10,9 @@ use Rattle.std.specs.Ordering.{is_eq}
 use Rattle.reg_op.specs.Set as set
 use Rattle.reg_op.specs.Ids.{Id, is_same}
 use Rattle.reg_op.specs.Finite.{any}
-use Rattle.reg_op.specs.Operations.{Op, Ops, one, kept, IsOfItself}
+use Rattle.reg_op.specs.Operations.{Op, Ops, one, IsOfItself}
 use Rattle.reg_op.specs.declared.operation.OpBody.{OpBody as Body}
-use Rattle.reg_op.specs.declared.operation.OpBody.TheVariants.{Enter, Supersede as Superseding, Retire as Retiring}
-use Rattle.reg_op.specs.Contents.{Content, state, merged}
+use Rattle.reg_op.specs.Contents.{Content}
 use Rattle.reg_op.specs.Status.{enters, retires, is_replaced_by, is_enter, is_retirement, is_supersession}
 use Rattle.reg_op.proofs.FiniteLemmas.{any-union}
 use Rattle.reg_op.proofs.OpLemmas.{id_total, op_total, op_exact}

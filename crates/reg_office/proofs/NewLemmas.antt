@@ -1,14 +1,14 @@
 -- What a command makes is kept: each of its effects is new.
-use Rattle.std.proofs.Common.{◌≡◌, ℕ, ◌+◌, ◌<◌, ◌≤◌, Bool, true, false, not, ◌&&◌, ◌||◌, cond, List, [], ◌∷◌, ◌++◌, map, length, Option, Some, None, Result, Ok, Err, refl, sym, ap, ◌∙◌, subst, inl, inr, ◌⊎◌, arith}
+use Rattle.std.proofs.Common.{◌≡◌, ℕ, ◌+◌, Bool, true, false, not, ◌&&◌, ◌||◌, cond, List, [], ◌∷◌, ◌++◌, map, length, Option, Some, None, Ok, refl, sym, ap, ◌∙◌, subst, inl, inr}
 use Rattle.std.proofs.lemmas.Bool.{true≢false, and_parts, and_from, or_cases, or_left, or_right, false_from_ne_true}
 use Rattle.std.proofs.lemmas.List.Folds.{list_any-append}
-use Rattle.std.specs.List.{list_any, find}
+use Rattle.std.specs.List.{list_any}
 use Rattle.std.specs.Prelude.{option_map}
-use Rattle.std.specs.Cmp.{tied_itself, Equal-is}
-use Rattle.std.specs.Ordering.{is_eq, eq_by_cmp}
+use Rattle.std.specs.Cmp.{tied_itself}
+use Rattle.std.specs.Ordering.{is_eq}
 use Rattle.reg_op.specs.Set as set
 use Rattle.reg_op.specs.Set.{contains, contains-from_list}
-use Rattle.reg_op.specs.Ids.{Id, id_cmp, is_same, is_before}
+use Rattle.reg_op.specs.Ids.{Id, is_same, is_before}
 use Rattle.reg_op.specs.Finite.{any}
 use Rattle.reg_op.specs.Lists.{has}
 use Rattle.reg_op.specs.Operations.{Op, Ops, op_cmp, kept, replaces, replaces_body}
@@ -21,8 +21,6 @@ use Rattle.reg_op.proofs.FiniteLemmas.{any_from_member, member_from_any}
 use Rattle.reg_op.proofs.ContentLemmas.{contains_op-union, kept_is_within}
 use Rattle.reg_op.proofs.OneLemmas.{kept_has}
 use Rattle.reg_op.proofs.ClashLemmas.{find_none}
-use Rattle.reg_op.proofs.KeptLemmas.{kept_enter}
-use Rattle.reg_seen.specs.Runs.{id_at}
 use Rattle.reg_state.specs.Tables.{first_dropped}
 use Rattle.reg_office.specs.declared.command.Command.{Command}
 use Rattle.reg_office.specs.declared.command.Command.TheVariants.{Retire, Supersede}

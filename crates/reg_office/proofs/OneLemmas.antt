@@ -1,11 +1,10 @@
 -- Rows have one list of keys in conflict.
-use Rattle.std.proofs.Common.{◌≡◌, ◌↔◌, Bool, true, List, [], ◌∷◌, map, refl, sym, ap, ◌∙◌, subst}
+use Rattle.std.proofs.Common.{◌≡◌, ◌↔◌, true, List, [], ◌∷◌, map, refl, sym, ap, ◌∙◌, subst}
 use Rattle.std.specs.List.{Contains, list_any}
 use Rattle.std.specs.Cmp.{Equal-is, tied_itself, both_ways}
 use Rattle.std.specs.Ordering.{is_eq, eq_by_cmp}
 use Rattle.reg_op.specs.Set as set
 use Rattle.reg_op.specs.Set.{Ascends, contains-from_list, items-from_list, same_set}
-use Rattle.reg_op.specs.Ids.{Id, Ids}
 use Rattle.reg_op.specs.Rows.{Row}
 use Rattle.reg_op.proofs.OpLemmas.{id_total, id_exact}
 use Rattle.reg_office.specs.Conflicts.{KeyBytes, key_cmp, Stands, Contested, AreConflicts}

@@ -1,5 +1,5 @@
 -- Entries that are not retired, with their keys, and which keys are in conflict among them.
-use Rattle.std.specs.Prelude.{◌≡◌, ◌≢◌, ◌↔◌, ℕ, nat_eq, Bool, true, not, List, [], ◌∷◌, ◌++◌, ◌⊎◌, map, Contains, Some, if◌then◌else◌}
+use Rattle.std.specs.Prelude.{◌≡◌, ◌≢◌, ◌↔◌, nat_eq, Bool, true, not, List, [], ◌∷◌, ◌++◌, ◌⊎◌, map, Contains, Some, if◌then◌else◌}
 use Rattle.std.specs.List.{list_any}
 use Rattle.std.specs.declared.cmp.Ordering.{Ordering}
 use Rattle.std.specs.Ordering.{is_eq}

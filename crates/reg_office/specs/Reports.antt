@@ -1,5 +1,5 @@
 -- What reports are.
-use Rattle.std.specs.Prelude.{◌≡◌, ℕ, List, [], ◌∷◌, filter}
+use Rattle.std.specs.Prelude.{◌≡◌, ℕ, List, filter}
 use Rattle.reg_op.specs.Set as set
 use Rattle.reg_op.specs.Contents.{Content}
 use Rattle.reg_op.specs.Ids.{Id, is_same}

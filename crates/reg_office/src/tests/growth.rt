@@ -31,6 +31,23 @@ fn a_refused_command_leaves_the_office(rt: HostRuntime) {
 }
 
 #[test]
+fn a_repeat_is_told_whatever_memory_there_is(rt: HostRuntime) {
+    let alloc = rt.alloc();
+    let Some((register, before)) = before_and_after(alloc) else {
+        return;
+    };
+    let (Ok(one), Ok(other)) = (id_of(A, 1), id_of(B, 1)) else {
+        return;
+    };
+    let mut office = office(C, register);
+    match office.retire(alloc, &[one, other, one, other]) {
+        Err(fault) => assert!(rt; fault == OfficeFault::AlreadyRetired(one)),
+        Ok(_) => assert!(rt; false),
+    }
+    assert!(rt; has_same(office.register(), &before));
+}
+
+#[test]
 fn a_refused_entry_leaves_the_office(rt: HostRuntime) {
     let alloc = rt.alloc();
     let Some((register, before)) = before_and_after(alloc) else {

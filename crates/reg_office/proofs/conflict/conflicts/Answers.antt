@@ -1,4 +1,4 @@
-use Rattle.std.proofs.Common.{List, map, sym, ap, ◌∙◌, subst}
+use Rattle.std.proofs.Common.{List, map, ap, ◌∙◌, subst}
 use Rattle.reg_op.specs.Rows.{Row, rows}
 use Rattle.reg_office.specs.declared.contender.Contender.{Contender}
 use Rattle.reg_office.specs.Contenders.{AreContenders, conflict_seen, Tells}

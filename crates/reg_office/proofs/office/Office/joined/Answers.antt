@@ -1,7 +1,7 @@
-use Rattle.std.proofs.Common.{◌≡◌, ◌+◌, ◌-◌, ◌<◌, Err, List, map, length, sym, ap, ◌∙◌, subst}
+use Rattle.std.proofs.Common.{◌≡◌, ◌+◌, ◌-◌, ◌<◌, Err, List, map, sym, ap, ◌∙◌, subst}
 use Rattle.reg_op.specs.Set as set
 use Rattle.reg_op.specs.Operations.{Op as Operation, op_cmp}
-use Rattle.reg_op.specs.Contents.{state, joined}
+use Rattle.reg_op.specs.Contents.{joined}
 use Rattle.reg_op.specs.Lists.{ById}
 use Rattle.reg_state.proofs.TableLemmas.{ok_not_err}
 use Rattle.reg_office.specs.Effects.{effect_of}

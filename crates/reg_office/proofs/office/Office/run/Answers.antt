@@ -1,7 +1,6 @@
 use Rattle.std.proofs.Common.{sym, ◌∙◌}
 use Rattle.std.proofs.lemmas.Bool.{eqb-true}
 use Rattle.reg_office.specs.Effects.{effect_of}
-use Rattle.reg_office.specs.Making.{greatest}
 use Rattle.reg_office.proofs.EffectLemmas.{possible}
 use Rattle.reg_office.proofs.NumberLemmas.{none_done}
 use Rattle.reg_office.proofs.office.Office.run.Goals as goal
