@@ -1,6 +1,6 @@
 -- What the spellings mean.
 use Rattle.std.proofs.Common.{◌≡◌, ℕ, ◌<◌, List, length, get_or, map, sym, ap, ◌∙◌, arith}
-use Rattle.std.specs.Prelude.{Option, Some}
+use Rattle.std.specs.Prelude.{Some}
 use Rattle.std.proofs.lemmas.List.{get_or-map}
 use Rattle.wkt_slots.specs.declared.table.Keyword.{Keyword}
 use Rattle.wkt_slots.specs.Words.{look}
