@@ -11,8 +11,7 @@ use Rattle.crs_number.specs.declared.decimals.Decimal.{Decimal}
 use Rattle.crs_number.specs.declared.decimals.NumberFault.{NumberFault}
 use Rattle.crs_number.specs.Numeral.{Parts, HasParts, IsNormalForm, Spells, number_of, exponent_of}
 use Rattle.crs_number.specs.Value.{IsWhole}
-use Rattle.crs_number.specs.ByValue.{is_below_zero, sign_of}
-use Rattle.crs_number.specs.Laws.{power_pos, sign_size, not_zero}
+use Rattle.crs_number.specs.Laws.{power_pos}
 use Rattle.crs_number.specs.Count.{SpellsWhole, IsCount, parts_in, is_count}
 use Rattle.crs_number.proofs.Values.{value_of_form}
 use Rattle.crs_number.proofs.CountTexts.{both, and_true, parts_from, parts_to}

@@ -13,3 +13,4 @@ pub mod Forms
 pub mod CountTexts
 pub mod CountValues
 pub mod CountLemmas
+mod Few

@@ -6,7 +6,7 @@ ghost use Rattle.crs_number.specs.Value.{IsWhole};
 ghost use Rattle.crs_number.specs.Canonical.{canonical, Extends};
 
 use crate::numerals::Numeral;
-use crate::reduced::{Reduced, scaled};
+use crate::reduced::{Reduced, reduced_of, scaled};
 use crate::text::push_plain;
 use std::alloc::AllocError;
 
@@ -122,8 +122,7 @@ impl Decimal {
             → IsSomeAnd result (λ d. (d.coefficient ≡ c) × (d.exponent ≡ e)) }
     {
         let exponent = numeral.power.exponent()?;
-        let whole = Reduced::ZERO.with_digits(numeral.whole)?;
-        let number = whole.with_digits(numeral.fraction)?;
+        let number = reduced_of(numeral.whole, numeral.fraction)?;
         let power = lowered(exponent, numeral.fraction.len());
         Decimal::from_reduced(numeral.negative, number, power)
     }

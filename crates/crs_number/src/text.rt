@@ -22,6 +22,9 @@ pub(crate) fn push_plain(out: &mut Vec<u8>, size: u128, exponent: i32) -> Result
     }
 }
 
+/// Numbers up to this one have 64 bits, and are written without wider divisions.
+const LARGEST_SMALL: u128 = 18_446_744_073_709_551_615;
+
 /// Appends the digits of a number.
 fn push_whole(out: &mut Vec<u8>, number: u128) -> Result<(), AllocError>
     requires { number < 10 ^ 34 }
@@ -30,10 +33,24 @@ fn push_whole(out: &mut Vec<u8>, number: u128) -> Result<(), AllocError>
     ensures capacity { vec_capacity out.old ≤ vec_capacity out.new }
     ensures full { OnErr result (vec_capacity out.old < vec_len out.old + length (decimal number)) }
 {
+    if number <= LARGEST_SMALL {
+        return push_small(out, number as u64);
+    }
+    push_whole(out, number / 10)?;
+    push_digit(out, (number % 10) as u8)
+}
+
+/// Appends the digits of a number of 64 bits.
+fn push_small(out: &mut Vec<u8>, number: u64) -> Result<(), AllocError>
+    ensures ok { OnOk result (out.new.items ≡ out.old.items ++ decimal number) }
+    ensures err { OnErr result (Extends out.old.items out.new.items) }
+    ensures capacity { vec_capacity out.old ≤ vec_capacity out.new }
+    ensures full { OnErr result (vec_capacity out.old < vec_len out.old + length (decimal number)) }
+{
     if number < 10 {
         return push_digit(out, number as u8);
     }
-    push_whole(out, number / 10)?;
+    push_small(out, number / 10)?;
     push_digit(out, (number % 10) as u8)
 }
 
@@ -44,10 +61,27 @@ fn push_last_digits(out: &mut Vec<u8>, number: u128, places: u32) -> Result<(), 
     ensures capacity { vec_capacity out.old ≤ vec_capacity out.new }
     ensures full { OnErr result (vec_capacity out.old < vec_len out.old + length (last_digits places number)) }
 {
+    if number <= LARGEST_SMALL {
+        return push_last_small(out, number as u64, places);
+    }
     if places == 0 {
         return Ok(());
     }
     push_last_digits(out, number / 10, places - 1)?;
+    push_digit(out, (number % 10) as u8)
+}
+
+/// Appends the last digits of a number of 64 bits.
+fn push_last_small(out: &mut Vec<u8>, number: u64, places: u32) -> Result<(), AllocError>
+    ensures ok { OnOk result (out.new.items ≡ out.old.items ++ last_digits places number) }
+    ensures err { OnErr result (Extends out.old.items out.new.items) }
+    ensures capacity { vec_capacity out.old ≤ vec_capacity out.new }
+    ensures full { OnErr result (vec_capacity out.old < vec_len out.old + length (last_digits places number)) }
+{
+    if places == 0 {
+        return Ok(());
+    }
+    push_last_small(out, number / 10, places - 1)?;
     push_digit(out, (number % 10) as u8)
 }
 
@@ -76,6 +110,20 @@ fn push_digit(out: &mut Vec<u8>, digit: u8) -> Result<(), AllocError>
 
 /// The number without its last digits.
 fn without_last_digits(number: u128, places: u32) -> u128
+    ensures { result ≡ number / 10 ^ places }
+{
+    if number <= LARGEST_SMALL {
+        return u128::from(without_last_small(number as u64, places));
+    }
+    let mut rest = number;
+    for _ in 0..places {
+        rest /= 10;
+    }
+    rest
+}
+
+/// The same for a number of 64 bits.
+fn without_last_small(number: u64, places: u32) -> u64
     ensures { result ≡ number / 10 ^ places }
 {
     let mut rest = number;

@@ -87,7 +87,19 @@ pub(crate) fn take_each<N: Built<V>, V: Drop>(
     while comes(cursor, N::kind()) {
         cursor.advance();
         let item = N::build(alloc, cursor)?;
+        items = with_room(alloc, items)?;
         items.push(item)?;
     }
     Ok(items)
+}
+
+/// The same items, with room for one where there is none: most lists have one item, and are kept.
+fn with_room<V: Drop>(alloc: Global, items: Many<V>) -> Result<Many<V>, AllocError>
+    ensures { IfOk result (λ same. same ≡ items) }
+{
+    if !items.as_slice().is_empty() {
+        return Ok(items);
+    }
+    let room = Vec::with_capacity(alloc, 1)?;
+    Ok(Many::from_vec(room))
 }

@@ -61,6 +61,7 @@ impl Built<BaseCrs> for BaseCrs {
     }
 }
 
+#[inline(never)]
 pub(crate) fn build_geodetic(
     kind: GeodeticKind,
     alloc: Global,
@@ -90,6 +91,7 @@ pub(crate) fn build_geodetic(
     })
 }
 
+#[inline(never)]
 pub(crate) fn build_projected(
     alloc: Global,
     cursor: &mut Cursor<'_>,
@@ -116,6 +118,7 @@ pub(crate) fn build_projected(
     })
 }
 
+#[inline(never)]
 pub(crate) fn build_vertical(alloc: Global, cursor: &mut Cursor<'_>) -> Result<Vertical, AllocError>
     ensures builds { BuildsNode nodes.VerticalCrs vertical_fields cursor.old cursor.new result }
     ensures shorter { length cursor.new ≤ length cursor.old }
@@ -169,6 +172,8 @@ impl Built<Single> for Single {
     }
 }
 
+// Apart, so that no other system pays for the size of two.
+#[inline(never)]
 pub(crate) fn build_compound(alloc: Global, cursor: &mut Cursor<'_>) -> Result<Compound, AllocError>
     ensures builds { BuildsNode nodes.CompoundCrs compound_fields cursor.old cursor.new result }
     ensures shorter { length cursor.new ≤ length cursor.old }

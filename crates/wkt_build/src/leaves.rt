@@ -1,8 +1,9 @@
 //! Texts, numbers and words.
 
-ghost use Rattle.std.specs.Prelude.{◌≡◌, ◌≤◌, length, false, drop, IfOk};
+ghost use Rattle.std.specs.Prelude.{◌≡◌, ◌≤◌, length, false, drop, IfOk, IfSome};
+ghost use Rattle.std.specs.List.{list_any};
 ghost use Rattle.crs_number.specs.Numeral.{Spells};
-ghost use Rattle.wkt_tree.specs.Tokens.{IsQuoted, IsNumber};
+ghost use Rattle.wkt_tree.specs.Tokens.{IsQuoted, IsNumber, is_mark};
 ghost use Rattle.wkt_slots.specs.declared.table.Takes.TheVariants as kinds;
 ghost use Rattle.wkt_meaning.specs.Leaves.{DenotesCount, DenotesText, DenotesNumber, undoubled};
 ghost use Rattle.wkt_meaning.specs.Denotes.{DenotesCode};
@@ -132,13 +133,40 @@ fn text_of(alloc: Global, bytes: &[u8]) -> Result<Text, AllocError>
 fn undoubled(alloc: Global, bytes: &[u8]) -> Result<Many<u8>, AllocError>
     ensures { IfOk result (λ content. content ≡ undoubled false (drop 1 bytes.now)) }
 {
+    let Some((_, others)) = bytes.split_first() else {
+        return Ok(Many::new(alloc));
+    };
+    match plain(others) {
+        Some(content) => Many::copied(alloc, content),
+        None => each_undoubled(alloc, others),
+    }
+}
+
+/// What stands before the mark at the end, where it is the only one.
+fn plain(bytes: &[u8]) -> Option<&[u8]>
+    ensures { IfSome result (λ content. content.now ≡ undoubled false bytes.now) }
+{
+    let (last, content) = bytes.split_last()?;
+    if *last != b'"' || has_mark(content) {
+        return None;
+    }
+    Some(content)
+}
+
+fn has_mark(bytes: &[u8]) -> bool
+    ensures { result ≡ list_any is_mark bytes.now }
+{
+    bytes.iter().any(|byte| *byte == b'"')
+}
+
+/// The bytes up to the mark that closes them, without the first of two marks.
+fn each_undoubled(alloc: Global, bytes: &[u8]) -> Result<Many<u8>, AllocError>
+    ensures { IfOk result (λ content. content ≡ undoubled false bytes.now) }
+{
     let mut content = Many::new(alloc);
     content.reserve(bytes.len())?;
-    let Some((_, others)) = bytes.split_first() else {
-        return Ok(content);
-    };
     let mut marked = false;
-    for byte in others {
+    for byte in bytes {
         if marked || *byte != b'"' {
             content.push(*byte)?;
             marked = false;

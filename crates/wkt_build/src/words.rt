@@ -85,9 +85,13 @@ fn direction_word(direction: Direction) -> &'static [u8]
 }
 
 /// Whether two words are the same but for letter case.
+#[inline(always)]
 fn same_word(a: &[u8], b: &[u8]) -> bool
     ensures { result ≡ same_word a.now b.now }
 {
+    if a.len() != b.len() {
+        return false;
+    }
     a.eq_ignore_ascii_case(b)
 }
 

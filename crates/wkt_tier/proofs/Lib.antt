@@ -5,3 +5,4 @@ pub mod Whole
 pub mod Fitting
 pub mod Clean
 pub mod Editions
+mod Entered

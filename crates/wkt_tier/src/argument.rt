@@ -94,11 +94,16 @@ pub fn refusal(
     }
 }
 
-/// The row that a node with this keyword has as an argument.
-pub fn row_in(edition: Edition, node: Node, keyword: Keyword) -> Option<Node>
+/// The row that a node with this keyword has as an argument. It is found at once where the slot takes it.
+pub fn row_in(edition: Edition, node: Node, slot: usize, keyword: Keyword) -> Option<Node>
     ensures { result ≡ row_in (row_of edition node) keyword }
 {
     let row = row_of(edition, node);
+    if slot < row.len() {
+        if let Some(inner) = enters(row[slot].takes, keyword) {
+            return Some(inner);
+        }
+    }
     let mut i = 0;
     while i < row.len() {
         if let Some(inner) = enters(row[i].takes, keyword) {

@@ -81,7 +81,7 @@ fn check_argument(
         return Err(refusal(edition, node, place, argument, token.place));
     };
     if let Argument::Node(keyword) = argument {
-        if let Some(inner) = row_in(edition, node, keyword) {
+        if let Some(inner) = row_in(edition, node, next.slot, keyword) {
             cursor.advance();
             if let Err(fault) = check_node(edition, cursor, inner) {
                 return Err(fault);

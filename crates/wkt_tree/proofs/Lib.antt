@@ -11,3 +11,4 @@ pub mod Sound
 pub mod Stands
 pub mod First
 pub mod OneTree
+mod Classes

@@ -9,29 +9,30 @@ ghost use Rattle.wkt_tree.specs.Bytes.{is_blank, is_word_byte, is_number_byte, b
 ghost use Rattle.wkt_tree.specs.Tokens.{Follow, Ends, IsUnclosed, Stops, IsReadable};
 ghost use Rattle.wkt_tree.specs.Faults.{Lexes, Reads, Misread};
 
+use crate::bytes::{BEGINNINGS, BLANKS, NUMBER_BYTES, WORD_BYTES};
 use crate::fault::TextFault;
-use crate::token::{Delimiter, Token, TokenKind};
+use crate::token::{Token, TokenKind};
 use crs_number::{NumberFault, check_numeral};
 
 #[inline(always)]
 fn is_blank(b: u8) -> bool
     ensures { result ≡ is_blank b }
 {
-    b == b' ' || b == b'\t' || b == b'\r' || b == b'\n'
+    BLANKS[b as usize]
 }
 
 #[inline(always)]
 fn is_word_byte(b: u8) -> bool
     ensures { result ≡ is_word_byte b }
 {
-    b.is_ascii_alphabetic() || b.is_ascii_digit() || b == b'_'
+    WORD_BYTES[b as usize]
 }
 
 #[inline(always)]
 fn is_number_byte(b: u8) -> bool
     ensures { result ≡ is_number_byte b }
 {
-    b.is_ascii_digit() || b == b'+' || b == b'-' || b == b'.' || b == b'E' || b == b'e'
+    NUMBER_BYTES[b as usize]
 }
 
 #[tactic(auto, unfolding(crate::specs::Bytes::begun_by))]
@@ -39,21 +40,7 @@ fn is_number_byte(b: u8) -> bool
 fn kind_of(b: u8) -> Option<TokenKind>
     ensures { result ≡ begun_by b }
 {
-    if b.is_ascii_alphabetic() {
-        return Some(TokenKind::Word);
-    }
-    if b.is_ascii_digit() || b == b'+' || b == b'-' || b == b'.' {
-        return Some(TokenKind::Number);
-    }
-    match b {
-        b'"' => Some(TokenKind::Quoted),
-        b',' => Some(TokenKind::Comma),
-        b'[' => Some(TokenKind::Open(Delimiter::Square)),
-        b']' => Some(TokenKind::Close(Delimiter::Square)),
-        b'(' => Some(TokenKind::Open(Delimiter::Round)),
-        b')' => Some(TokenKind::Close(Delimiter::Round)),
-        _ => None,
-    }
+    BEGINNINGS[b as usize]
 }
 
 #[inline(always)]

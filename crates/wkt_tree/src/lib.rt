@@ -1,6 +1,7 @@
 //! Tokens of a text, and the test that they are those of one tree.
 #![tactic(auto)]
 
+mod bytes;
 mod cursor;
 mod fault;
 pub mod laws;

@@ -1,7 +1,7 @@
 //! Texts, numbers and words.
 
 ghost use Rattle.std.specs.Prelude.{◌≡◌, ◌++◌, ◌∷◌, [], List, ℕ, OnOk, IfSome, position, length, ◌<◌};
-ghost use Rattle.std.specs.List.{flat_map};
+ghost use Rattle.std.specs.List.{flat_map, list_any};
 ghost use Rattle.wkt_tree.specs.Tokens.{doubled, is_mark};
 ghost use Rattle.wkt_meaning.specs.Words.{system_word, direction_word};
 ghost use Rattle.wkt_meaning.specs.Trees.{text_tree, number_tree, count_tree, kind_tree, direction_tree, code_tree};
@@ -43,7 +43,17 @@ fn first_mark(bytes: &[u8]) -> Option<usize>
     ensures first { result ≡ position is_mark bytes.now }
     ensures within { IfSome result (λ mark. mark < length bytes.now) }
 {
+    // Most texts have none, and that is seen sooner than a place.
+    if !has_mark(bytes) {
+        return None;
+    }
     bytes.iter().position(|byte| *byte == b'"')
+}
+
+fn has_mark(bytes: &[u8]) -> bool
+    ensures { result ≡ list_any is_mark bytes.now }
+{
+    bytes.iter().any(|byte| *byte == b'"')
 }
 
 #[tactic(auto, unfolding(crate::specs::Layout::laid))]

@@ -1,21 +1,13 @@
-use Rattle.std.proofs.Common.{◌++◌, ◌∷◌, [], ◌/◌, ◌%◌, ◌+◌, decimal, length, length-append, arith, ap, sym, ◌∙◌}
+use Rattle.std.proofs.Common.{◌∷◌, [], ◌/◌, ◌%◌, ◌+◌, decimal, length, length-append, arith, ap, ◌∙◌}
 use Rattle.std.proofs.lemmas.Result.{on_ok_weaker, on_err_weaker, err_from_is_err_and}
-use Rattle.std.proofs.lemmas.Fmt.{decimal_step_wide, decimal_digit}
+use Rattle.std.proofs.lemmas.Fmt.{decimal_step_wide}
 use Rattle.crs_number.proofs.Rooms.{longer, no_room, no_room_behind}
 use Rattle.crs_number.proofs.Texts.{appended}
 use Rattle.crs_number.proofs.text.+push_whole.Goals as goal
 
-pub returns-then-number-lt10-clause-ok : goal.returns-then-number-lt10-clause-ok
-returns-then-number-lt10-clause-ok t c =
-    on_ok_weaker c.push_digit.result (λ e. e ∙ ap (λ ds. c.args.out.now.items ++ ds) (sym (decimal_digit c.args.number c.if-number-lt10.true))) c.push_digit.ensures.ok
-
 pub returns-clause-ok : goal.returns-clause-ok
 returns-clause-ok t c =
-    on_ok_weaker c.push_digit-2.result (appended _ _ _ _ _ _ c.in_ok-push_whole.ensures.ok (decimal_step_wide c.args.number (omega arith) (omega arith))) c.push_digit-2.ensures.ok
-
-pub returns-then-number-lt10-clause-full : goal.returns-then-number-lt10-clause-full
-returns-then-number-lt10-clause-full t c =
-    on_err_weaker c.push_digit.result (λ h. omega (arith, h, ap length (decimal_digit c.args.number c.if-number-lt10.true))) c.push_digit.ensures.full
+    on_ok_weaker c.push_digit.result (appended _ _ _ _ _ _ c.in_ok-push_whole.ensures.ok (decimal_step_wide c.args.number (omega arith) (omega arith))) c.push_digit.ensures.ok
 
 pub returns-in_err-push_whole-clause-full : goal.returns-in_err-push_whole-clause-full
 returns-in_err-push_whole-clause-full t c =
@@ -29,4 +21,4 @@ returns-clause-full t c =
     let n = c.args.number in
     let whole = ap length (decimal_step_wide n (omega arith) (omega arith)) ∙ length-append (decimal (n / 10)) ((48 + n % 10) ∷ []) in
     let moved = longer c.args.out.now c.push_whole.new.out (decimal (n / 10)) c.in_ok-push_whole.ensures.ok in
-    on_err_weaker c.push_digit-2.result (λ h. no_room_behind _ _ _ _ _ _ _ whole c.push_whole.ensures.capacity moved (omega (arith, h))) c.push_digit-2.ensures.full
+    on_err_weaker c.push_digit.result (λ h. no_room_behind _ _ _ _ _ _ _ whole c.push_whole.ensures.capacity moved (omega (arith, h))) c.push_digit.ensures.full
