@@ -110,8 +110,8 @@ fn superseded(
     outcome(alloc, done, &target, sink)
 }
 
-// A command that was done.
-fn done(outcome: Result<Done, CliFault>) -> Result<Done, Fail> {
+// A command that was not refused.
+fn accepted(outcome: Result<Done, CliFault>) -> Result<Done, Fail> {
     match outcome {
         Ok(done) => Ok(done),
         Err(_) => Err(Fail::new("refused")),
@@ -144,7 +144,7 @@ fn the_first_entry_has_160_bytes(rt: HostRuntime) -> Result<(), Fail> {
     let alloc = rt.alloc();
     let want = entry_file(alloc, HEIGHT)?;
     for text in [HEIGHT, HEIGHT_AS_ENTERED] {
-        let done = done(entered(alloc, EMPTY, OFFICE_A, text)?)?;
+        let done = accepted(entered(alloc, EMPTY, OFFICE_A, text)?)?;
         assert!(rt; done.file.as_slice() == want.as_slice());
         let line = b"00000000-0000-4000-8000-00000000000a:1\n".as_slice();
         assert_eq!(rt; done.ids.as_slice(), line);
@@ -230,7 +230,7 @@ fn new_ids_are_printed_in_their_order(rt: HostRuntime) -> Result<(), Fail> {
     let second = id(OFFICE_B, 1)?;
     let twice = superseded(alloc, &file, OFFICE_C, first, &[second, second])?;
     assert_eq!(rt; twice.err(), refused(Refusal::AlreadySuperseded(second)));
-    let done = done(retired(alloc, &file, OFFICE_C, &[first, second])?)?;
+    let done = accepted(retired(alloc, &file, OFFICE_C, &[first, second])?)?;
     let lines = b"00000000-0000-4000-8000-00000000000c:1\n00000000-0000-4000-8000-00000000000c:2\n";
     assert_eq!(rt; done.ids.as_slice(), lines.as_slice());
     Ok(())
@@ -292,11 +292,11 @@ fn three_offices_end_with_equal_files(rt: HostRuntime) -> Result<(), Fail> {
     let alloc = rt.alloc();
     let first = id(OFFICE_A, 1)?;
     let second = id(OFFICE_B, 1)?;
-    let a_sent = done(entered(alloc, EMPTY, OFFICE_A, HEIGHT)?)?.file;
+    let a_sent = accepted(entered(alloc, EMPTY, OFFICE_A, HEIGHT)?)?.file;
     let b_took = merge(alloc, &[EMPTY, &a_sent])?;
-    let b_entered = done(entered(alloc, &b_took, OFFICE_B, OTHER_HEIGHT)?)?.file;
-    let b_sent = done(superseded(alloc, &b_entered, OFFICE_B, first, &[second])?)?.file;
-    let a_retired = done(retired(alloc, &a_sent, OFFICE_A, &[first])?)?.file;
+    let b_entered = accepted(entered(alloc, &b_took, OFFICE_B, OTHER_HEIGHT)?)?.file;
+    let b_sent = accepted(superseded(alloc, &b_entered, OFFICE_B, first, &[second])?)?.file;
+    let a_retired = accepted(retired(alloc, &a_sent, OFFICE_A, &[first])?)?.file;
 
     let c = merge(alloc, &[EMPTY, &a_retired])?;
     let c = merge(alloc, &[&c, &b_sent])?;
@@ -315,7 +315,7 @@ fn three_offices_end_with_equal_files(rt: HostRuntime) -> Result<(), Fail> {
     assert!(rt; a.as_slice() == want.as_slice());
     assert!(rt; b.as_slice() == want.as_slice());
     assert!(rt; c.as_slice() == want.as_slice());
-    let next = done(retired(alloc, &b, OFFICE_B, &[second])?)?;
+    let next = accepted(retired(alloc, &b, OFFICE_B, &[second])?)?;
     let line = b"00000000-0000-4000-8000-00000000000b:3\n".as_slice();
     assert_eq!(rt; next.ids.as_slice(), line);
     Ok(())
