@@ -1,5 +1,6 @@
 use crate::check::run_check;
 use crate::fault::{CliFault, FileFault, OutFault, Refusal};
+use std::alloc::Global;
 use std::test::Fail;
 use wkt_crs::{
     Condition, Endless, Full, Pieces, Reading, Room, SlotFault, SlotName, TextFault, Then, Writing,
@@ -23,49 +24,47 @@ fn prints_the_canonical_text_however_reads_and_writes_are_cut(rt: HostRuntime) -
         ] {
             let mut source = Pieces::new(text, cut, Then::Ends);
             let mut sink = Room::new(rt.alloc(), cut, 100, Full::Fails);
-            let fault = run_check(rt.alloc(), &mut source, &mut sink).err();
-            assert_eq!(rt; fault, None);
+            let done = run_check(rt.alloc(), &mut source, &mut sink).is_ok();
+            assert!(rt; done);
             assert_eq!(rt; sink.taken(), HEIGHT_LINE.as_slice());
         }
     }
     let mut sink = Writing::new(Vec::new(rt.alloc()));
-    let fault = run_check(rt.alloc(), &mut Reading::new(HEIGHT.as_slice()), &mut sink).err();
-    assert_eq!(rt; fault, None);
+    let done = run_check(rt.alloc(), &mut Reading::new(HEIGHT.as_slice()), &mut sink).is_ok();
+    assert!(rt; done);
     assert_eq!(rt; sink.into_inner().as_slice(), HEIGHT_LINE.as_slice());
     Ok(())
 }
 
+// Whether the text is refused for this reason, and nothing is printed.
+fn is_refused(alloc: Global, text: &[u8], cut: usize, refusal: Refusal) -> bool {
+    let mut sink = Room::new(alloc, cut, 100, Full::Fails);
+    let mut source = Pieces::new(text, cut, Then::Ends);
+    let fault = run_check(alloc, &mut source, &mut sink).err();
+    fault == Some(CliFault::Refused(refusal)) && sink.taken().is_empty()
+}
+
 #[test]
-fn refuses_a_text_at_its_first_fault_and_prints_nothing(rt: HostRuntime) -> Result<(), Fail> {
+fn refuses_a_text_at_its_first_fault_and_prints_nothing(rt: HostRuntime) {
+    let alloc = rt.alloc();
     let missing = b"VERTCRS[\"H\",VDATUM[\"D\"],CS[vertical,1]]";
     let unitless =
         b"VERTCRS[\"H\",VDATUM[\"D\"],CS[vertical,1],AXIS[\"height (H)\",up],ID[\"X\",7]]";
-    let refusals = [
-        (b"".as_slice(), Refusal::Text(TextFault::EndEarly(0))),
-        (b"\x56\xff", Refusal::Text(TextFault::NotUtf8(1))),
-        (b"VERTCRS[\"H", Refusal::Text(TextFault::TextOpen(8))),
-        (
-            missing,
-            Refusal::Slot(SlotFault::Missing(SlotName::Axis, 38)),
-        ),
-        (
-            unitless,
-            Refusal::Broken {
-                condition: Condition::C3,
-                place: 0,
-            },
-        ),
-    ];
-    for (text, refusal) in refusals {
-        for cut in CUTS {
-            let mut sink = Room::new(rt.alloc(), cut, 100, Full::Fails);
-            let mut source = Pieces::new(text, cut, Then::Ends);
-            let fault = run_check(rt.alloc(), &mut source, &mut sink).err();
-            assert_eq!(rt; fault, Some(CliFault::Refused(refusal)));
-            assert_eq!(rt; sink.taken().len(), 0);
-        }
+    for cut in CUTS {
+        let early = Refusal::Text(TextFault::EndEarly(0));
+        assert!(rt; is_refused(alloc, b"", cut, early));
+        let not_utf8 = Refusal::Text(TextFault::NotUtf8(1));
+        assert!(rt; is_refused(alloc, b"\x56\xff", cut, not_utf8));
+        let text_open = Refusal::Text(TextFault::TextOpen(8));
+        assert!(rt; is_refused(alloc, b"VERTCRS[\"H", cut, text_open));
+        let no_axis = Refusal::Slot(SlotFault::Missing(SlotName::Axis, 38));
+        assert!(rt; is_refused(alloc, missing, cut, no_axis));
+        let no_unit = Refusal::Broken {
+            condition: Condition::C3,
+            place: 0,
+        };
+        assert!(rt; is_refused(alloc, unitless, cut, no_unit));
     }
-    Ok(())
 }
 
 #[test]

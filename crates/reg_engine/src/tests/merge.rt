@@ -135,6 +135,9 @@ fn tells_which_file_failed_and_where(rt: HostRuntime) -> Result<(), Fail> {
     let alloc = rt.alloc();
     let entry = entry_file(alloc, HEIGHT)?;
     for n in [0, 1, 7, 159, 160] {
+        if n > entry.len() {
+            return Err(Fail::new("too short"));
+        }
         let mut sources = sources(alloc, &[EMPTY, &entry], 4096)?;
         sources.push(Pieces::new(&entry[..n], 3, Then::Fails))?;
         sources.push(Pieces::new(b"", 1, Then::Fails))?;

@@ -76,8 +76,8 @@ fn each_report_is_that_of_the_file(rt: HostRuntime) -> Result<(), Fail> {
         for cut in [1, 7, 4096] {
             let mut source = Pieces::new(file, cut, Then::Ends);
             let mut sink = Room::new(alloc, cut, text.len(), Full::Fails);
-            let fault = run_report(alloc, &mut source, kind, &mut sink).err();
-            assert_eq!(rt; fault, None);
+            let done = run_report(alloc, &mut source, kind, &mut sink).is_ok();
+            assert!(rt; done);
             assert_eq!(rt; sink.taken(), text);
         }
     }
@@ -90,7 +90,8 @@ fn operations_are_told_by_id(rt: HostRuntime) -> Result<(), Fail> {
     let file = one_retired(alloc)?;
     let mut source = Pieces::new(&file, 4096, Then::Ends);
     let mut sink = Room::new(alloc, 4096, 4096, Full::Fails);
-    assert_eq!(rt; run_ops(alloc, &mut source, &mut sink).err(), None);
+    let done = run_ops(alloc, &mut source, &mut sink).is_ok();
+    assert!(rt; done);
     let header = b"operation,effect,entry,replaced_by,definition\n".as_slice();
     assert!(rt; sink.taken().starts_with(header));
     assert!(rt; sink.taken().ends_with(LAST_OPERATION));
@@ -130,12 +131,12 @@ fn a_report_tells_how_much_of_it_went_out(rt: HostRuntime) -> Result<(), Fail> {
         let fault = run_ops(alloc, &mut source, &mut sink).err();
         assert_eq!(rt; fault, Some(CliFault::Out(OutFault::WriteFailed(n))));
     }
-    let mut source = Pieces::new(&entry[..100], 4096, Then::Ends);
+    let mut source = Pieces::new(b"CRSR\x01\x01\x00", 4096, Then::Ends);
     let mut sink = Room::new(alloc, 4096, 1000, Full::Fails);
     let fault = run_report(alloc, &mut source, ReportKind::Gaps, &mut sink).err();
     let truncated = FileFault::NoRegister {
         fault: reg_file::FileFault::Truncated,
-        place: 100,
+        place: 7,
     };
     let want = CliFault::File {
         number: 1,
