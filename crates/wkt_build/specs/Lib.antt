@@ -1,3 +1,4 @@
+pub mod Ahead
 pub mod Reads
 pub mod Leaves
 pub mod Choices

@@ -3,12 +3,12 @@
 ghost use Rattle.std.specs.Prelude.{◌≡◌};
 ghost use Rattle.wkt_build.specs.Choices.{angle_unit_as, geodetic_kind_of, is_compound, is_ensemble, is_projected, is_vertical, length_unit_as, next_keyword, unit_as};
 
+use crate::reader::Reader;
 use crs_part::{AngleUnit, GeodeticKind, LengthUnit, Unit, UnitDefinition};
 use wkt_slots::{Keyword, keyword_of};
-use wkt_tree::Cursor;
 
 /// What the token that comes means as a keyword.
-pub(crate) fn next_keyword(cursor: &Cursor<'_>) -> Option<Keyword>
+pub(crate) fn next_keyword(cursor: &Reader<'_>) -> Option<Keyword>
     ensures { result ≡ next_keyword cursor.now }
 {
     match cursor.peek() {

@@ -5,11 +5,11 @@ ghost use Rattle.wkt_meaning.specs.Denotes.{DenotesConversion, DenotesParameter}
 
 use crate::built::{Built, pass, take_each, take_maybe, take_one};
 use crate::identifiers::Method;
+use crate::reader::Reader;
 use crs_number::Decimal;
 use crs_part::{Conversion, Ident, Named, Parameter, Text, Unit};
 use std::alloc::{AllocError, Global};
 use wkt_slots::Takes;
-use wkt_tree::Cursor;
 
 impl Built<Parameter> for Parameter {
     ghost slot_kind = { kinds.Parameter };
@@ -20,7 +20,7 @@ impl Built<Parameter> for Parameter {
         Takes::Parameter
     }
 
-    fn build(alloc: Global, cursor: &mut Cursor<'_>) -> Result<Parameter, AllocError> {
+    fn build(alloc: Global, cursor: &mut Reader<'_>) -> Result<Parameter, AllocError> {
         pass(cursor);
         let name = take_one::<Text, Text>(alloc, cursor)?;
         let value = take_one::<Decimal, Decimal>(alloc, cursor)?;
@@ -45,7 +45,7 @@ impl Built<Conversion> for Conversion {
         Takes::Conversion
     }
 
-    fn build(alloc: Global, cursor: &mut Cursor<'_>) -> Result<Conversion, AllocError> {
+    fn build(alloc: Global, cursor: &mut Reader<'_>) -> Result<Conversion, AllocError> {
         pass(cursor);
         let name = take_one::<Text, Text>(alloc, cursor)?;
         let method = take_one::<Method, Named>(alloc, cursor)?;

@@ -10,6 +10,7 @@ ghost use Rattle.wkt_build.specs.Reads.{BuildsNode};
 use crate::built::{Built, pass, take_each, take_maybe, take_one};
 use crate::choices::{geodetic_kind_of, is_compound, is_projected, is_vertical, next_keyword};
 use crate::ending::take_ending;
+use crate::reader::Reader;
 use crate::values::Remark;
 use crs_part::{
     AngleUnit, Axis, BaseCrs, Compound, Conversion, CoordSystem, CrsParts, Geodetic, GeodeticFrame,
@@ -18,12 +19,11 @@ use crs_part::{
 };
 use std::alloc::{AllocError, Global};
 use wkt_slots::Takes;
-use wkt_tree::Cursor;
 
 pub(crate) fn build_base(
     kind: GeodeticKind,
     alloc: Global,
-    cursor: &mut Cursor<'_>,
+    cursor: &mut Reader<'_>,
 ) -> Result<BaseCrs, AllocError>
     ensures builds { BuildsNode nodes.BaseCrs base_fields cursor.old cursor.new result }
     ensures shorter { length cursor.new ≤ length cursor.old }
@@ -55,7 +55,7 @@ impl Built<BaseCrs> for BaseCrs {
         Takes::BaseCrs
     }
 
-    fn build(alloc: Global, cursor: &mut Cursor<'_>) -> Result<BaseCrs, AllocError> {
+    fn build(alloc: Global, cursor: &mut Reader<'_>) -> Result<BaseCrs, AllocError> {
         let kind = geodetic_kind_of(next_keyword(cursor));
         build_base(kind, alloc, cursor)
     }
@@ -65,7 +65,7 @@ impl Built<BaseCrs> for BaseCrs {
 pub(crate) fn build_geodetic(
     kind: GeodeticKind,
     alloc: Global,
-    cursor: &mut Cursor<'_>,
+    cursor: &mut Reader<'_>,
 ) -> Result<Geodetic, AllocError>
     ensures builds { BuildsNode nodes.GeodeticCrs geodetic_fields cursor.old cursor.new result }
     ensures shorter { length cursor.new ≤ length cursor.old }
@@ -94,7 +94,7 @@ pub(crate) fn build_geodetic(
 #[inline(never)]
 pub(crate) fn build_projected(
     alloc: Global,
-    cursor: &mut Cursor<'_>,
+    cursor: &mut Reader<'_>,
 ) -> Result<Projected, AllocError>
     ensures builds { BuildsNode nodes.ProjectedCrs projected_fields cursor.old cursor.new result }
     ensures shorter { length cursor.new ≤ length cursor.old }
@@ -119,7 +119,7 @@ pub(crate) fn build_projected(
 }
 
 #[inline(never)]
-pub(crate) fn build_vertical(alloc: Global, cursor: &mut Cursor<'_>) -> Result<Vertical, AllocError>
+pub(crate) fn build_vertical(alloc: Global, cursor: &mut Reader<'_>) -> Result<Vertical, AllocError>
     ensures builds { BuildsNode nodes.VerticalCrs vertical_fields cursor.old cursor.new result }
     ensures shorter { length cursor.new ≤ length cursor.old }
 {
@@ -141,7 +141,7 @@ pub(crate) fn build_vertical(alloc: Global, cursor: &mut Cursor<'_>) -> Result<V
 }
 
 /// A reference system of one part, by the keyword that comes.
-fn build_single(alloc: Global, cursor: &mut Cursor<'_>) -> Result<Single, AllocError>
+fn build_single(alloc: Global, cursor: &mut Reader<'_>) -> Result<Single, AllocError>
     ensures builds { BuildsSingle cursor.old cursor.new result }
     ensures shorter { length cursor.new ≤ length cursor.old }
 {
@@ -167,14 +167,14 @@ impl Built<Single> for Single {
         Takes::SingleCrs
     }
 
-    fn build(alloc: Global, cursor: &mut Cursor<'_>) -> Result<Single, AllocError> {
+    fn build(alloc: Global, cursor: &mut Reader<'_>) -> Result<Single, AllocError> {
         build_single(alloc, cursor)
     }
 }
 
 // Apart, so that no other system pays for the size of two.
 #[inline(never)]
-pub(crate) fn build_compound(alloc: Global, cursor: &mut Cursor<'_>) -> Result<Compound, AllocError>
+pub(crate) fn build_compound(alloc: Global, cursor: &mut Reader<'_>) -> Result<Compound, AllocError>
     ensures builds { BuildsNode nodes.CompoundCrs compound_fields cursor.old cursor.new result }
     ensures shorter { length cursor.new ≤ length cursor.old }
 {
@@ -205,7 +205,7 @@ impl Built<CrsParts> for CrsParts {
         Takes::AnyCrs
     }
 
-    fn build(alloc: Global, cursor: &mut Cursor<'_>) -> Result<CrsParts, AllocError> {
+    fn build(alloc: Global, cursor: &mut Reader<'_>) -> Result<CrsParts, AllocError> {
         if is_compound(next_keyword(cursor)) {
             let compound = build_compound(alloc, cursor)?;
             return Ok(CrsParts::Compound(compound));

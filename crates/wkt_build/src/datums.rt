@@ -9,6 +9,7 @@ ghost use Rattle.wkt_build.specs.Reads.{BuildsNode};
 use crate::built::{Built, pass, take_each, take_maybe, take_one};
 use crate::choices::{is_ensemble, next_keyword};
 use crate::identifiers::Member;
+use crate::reader::Reader;
 use crate::values::Anchor;
 use crs_number::Decimal;
 use crs_part::{
@@ -17,7 +18,6 @@ use crs_part::{
 };
 use std::alloc::{AllocError, Global};
 use wkt_slots::Takes;
-use wkt_tree::Cursor;
 
 impl Built<Ellipsoid> for Ellipsoid {
     ghost slot_kind = { kinds.Ellipsoid };
@@ -28,7 +28,7 @@ impl Built<Ellipsoid> for Ellipsoid {
         Takes::Ellipsoid
     }
 
-    fn build(alloc: Global, cursor: &mut Cursor<'_>) -> Result<Ellipsoid, AllocError> {
+    fn build(alloc: Global, cursor: &mut Reader<'_>) -> Result<Ellipsoid, AllocError> {
         pass(cursor);
         let name = take_one::<Text, Text>(alloc, cursor)?;
         let radius = take_one::<Decimal, Decimal>(alloc, cursor)?;
@@ -55,7 +55,7 @@ impl Built<PrimeMeridian> for PrimeMeridian {
         Takes::PrimeMeridian
     }
 
-    fn build(alloc: Global, cursor: &mut Cursor<'_>) -> Result<PrimeMeridian, AllocError> {
+    fn build(alloc: Global, cursor: &mut Reader<'_>) -> Result<PrimeMeridian, AllocError> {
         pass(cursor);
         let name = take_one::<Text, Text>(alloc, cursor)?;
         let longitude = take_one::<Decimal, Decimal>(alloc, cursor)?;
@@ -71,7 +71,7 @@ impl Built<PrimeMeridian> for PrimeMeridian {
     }
 }
 
-pub(crate) fn build_datum(alloc: Global, cursor: &mut Cursor<'_>) -> Result<Datum, AllocError>
+pub(crate) fn build_datum(alloc: Global, cursor: &mut Reader<'_>) -> Result<Datum, AllocError>
     ensures builds { BuildsNode nodes.Datum datum_fields cursor.old cursor.new result }
     ensures shorter { length cursor.new ≤ length cursor.old }
 {
@@ -91,7 +91,7 @@ pub(crate) fn build_datum(alloc: Global, cursor: &mut Cursor<'_>) -> Result<Datu
 
 pub(crate) fn build_vertical_datum(
     alloc: Global,
-    cursor: &mut Cursor<'_>,
+    cursor: &mut Reader<'_>,
 ) -> Result<VerticalDatum, AllocError>
     ensures builds { BuildsNode nodes.VerticalDatum vertical_datum_fields cursor.old cursor.new result }
     ensures shorter { length cursor.new ≤ length cursor.old }
@@ -104,7 +104,7 @@ pub(crate) fn build_vertical_datum(
     Ok(VerticalDatum { name, anchor, ids })
 }
 
-pub(crate) fn build_accuracy(alloc: Global, cursor: &mut Cursor<'_>) -> Result<Decimal, AllocError>
+pub(crate) fn build_accuracy(alloc: Global, cursor: &mut Reader<'_>) -> Result<Decimal, AllocError>
     ensures builds { BuildsNode nodes.EnsembleAccuracy accuracy_fields cursor.old cursor.new result }
     ensures shorter { length cursor.new ≤ length cursor.old }
 {
@@ -126,14 +126,14 @@ impl Built<Decimal> for Accuracy {
         Takes::EnsembleAccuracy
     }
 
-    fn build(alloc: Global, cursor: &mut Cursor<'_>) -> Result<Decimal, AllocError> {
+    fn build(alloc: Global, cursor: &mut Reader<'_>) -> Result<Decimal, AllocError> {
         build_accuracy(alloc, cursor)
     }
 }
 
 pub(crate) fn build_geodetic_ensemble(
     alloc: Global,
-    cursor: &mut Cursor<'_>,
+    cursor: &mut Reader<'_>,
 ) -> Result<GeodeticEnsemble, AllocError>
     ensures builds { BuildsNode nodes.GeodeticEnsemble geodetic_ensemble_fields cursor.old cursor.new result }
     ensures shorter { length cursor.new ≤ length cursor.old }
@@ -160,7 +160,7 @@ pub(crate) fn build_geodetic_ensemble(
 
 pub(crate) fn build_vertical_ensemble(
     alloc: Global,
-    cursor: &mut Cursor<'_>,
+    cursor: &mut Reader<'_>,
 ) -> Result<VerticalEnsemble, AllocError>
     ensures builds { BuildsNode nodes.VerticalEnsemble vertical_ensemble_fields cursor.old cursor.new result }
     ensures shorter { length cursor.new ≤ length cursor.old }
@@ -192,7 +192,7 @@ impl Built<GeodeticFrame> for GeodeticFrame {
         Takes::GeodeticDatum
     }
 
-    fn build(alloc: Global, cursor: &mut Cursor<'_>) -> Result<GeodeticFrame, AllocError> {
+    fn build(alloc: Global, cursor: &mut Reader<'_>) -> Result<GeodeticFrame, AllocError> {
         if is_ensemble(next_keyword(cursor)) {
             let ensemble = build_geodetic_ensemble(alloc, cursor)?;
             return Ok(GeodeticFrame::Ensemble(ensemble));
@@ -211,7 +211,7 @@ impl Built<VerticalFrame> for VerticalFrame {
         Takes::VerticalDatum
     }
 
-    fn build(alloc: Global, cursor: &mut Cursor<'_>) -> Result<VerticalFrame, AllocError> {
+    fn build(alloc: Global, cursor: &mut Reader<'_>) -> Result<VerticalFrame, AllocError> {
         if is_ensemble(next_keyword(cursor)) {
             let ensemble = build_vertical_ensemble(alloc, cursor)?;
             return Ok(VerticalFrame::Ensemble(ensemble));

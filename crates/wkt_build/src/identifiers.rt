@@ -8,11 +8,11 @@ ghost use Rattle.wkt_meaning.specs.Denotes.{DenotesIdent, DenotesNamed, named_fi
 ghost use Rattle.wkt_build.specs.Reads.{BuildsNode};
 
 use crate::built::{Built, pass, take_each, take_maybe, take_one};
+use crate::reader::Reader;
 use crate::values::{Citation, Uri};
 use crs_part::{Ident, Named, NumberOrText, Text};
 use std::alloc::{AllocError, Global};
 use wkt_slots::Takes;
-use wkt_tree::Cursor;
 
 impl Built<Ident> for Ident {
     ghost slot_kind = { kinds.Identifier };
@@ -23,7 +23,7 @@ impl Built<Ident> for Ident {
         Takes::Identifier
     }
 
-    fn build(alloc: Global, cursor: &mut Cursor<'_>) -> Result<Ident, AllocError> {
+    fn build(alloc: Global, cursor: &mut Reader<'_>) -> Result<Ident, AllocError> {
         pass(cursor);
         let authority = take_one::<Text, Text>(alloc, cursor)?;
         let code = take_one::<NumberOrText, NumberOrText>(alloc, cursor)?;
@@ -41,7 +41,7 @@ impl Built<Ident> for Ident {
     }
 }
 
-pub(crate) fn build_named(alloc: Global, cursor: &mut Cursor<'_>) -> Result<Named, AllocError>
+pub(crate) fn build_named(alloc: Global, cursor: &mut Reader<'_>) -> Result<Named, AllocError>
     ensures builds { BuildsNode nodes.Named named_fields cursor.old cursor.new result }
     ensures shorter { length cursor.new ≤ length cursor.old }
 {
@@ -64,7 +64,7 @@ impl Built<Named> for Member {
         Takes::Member
     }
 
-    fn build(alloc: Global, cursor: &mut Cursor<'_>) -> Result<Named, AllocError> {
+    fn build(alloc: Global, cursor: &mut Reader<'_>) -> Result<Named, AllocError> {
         build_named(alloc, cursor)
     }
 }
@@ -81,7 +81,7 @@ impl Built<Named> for Method {
         Takes::Method
     }
 
-    fn build(alloc: Global, cursor: &mut Cursor<'_>) -> Result<Named, AllocError> {
+    fn build(alloc: Global, cursor: &mut Reader<'_>) -> Result<Named, AllocError> {
         build_named(alloc, cursor)
     }
 }

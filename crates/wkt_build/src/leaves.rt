@@ -10,11 +10,12 @@ ghost use Rattle.wkt_meaning.specs.Denotes.{DenotesCode};
 ghost use Rattle.wkt_build.specs.Leaves.{TakesCount, TakesNumber, TakesText, next_is_number};
 
 use crate::built::Built;
+use crate::reader::Reader;
 use crs_number::Decimal;
 use crs_part::{Many, NumberOrText, Text};
 use std::alloc::{AllocError, Global};
 use wkt_slots::Takes;
-use wkt_tree::{Cursor, TokenKind};
+use wkt_tree::TokenKind;
 
 // ---- numbers
 
@@ -27,13 +28,13 @@ impl Built<Decimal> for Decimal {
         Takes::Number
     }
 
-    fn build(alloc: Global, cursor: &mut Cursor<'_>) -> Result<Decimal, AllocError> {
+    fn build(alloc: Global, cursor: &mut Reader<'_>) -> Result<Decimal, AllocError> {
         Ok(take_number(cursor))
     }
 }
 
 /// The number that comes.
-pub(crate) fn take_number(cursor: &mut Cursor<'_>) -> Decimal
+pub(crate) fn take_number(cursor: &mut Reader<'_>) -> Decimal
     ensures takes { TakesNumber cursor.old cursor.new result }
     ensures shorter { length cursor.new ≤ length cursor.old }
 {
@@ -58,13 +59,13 @@ impl Built<u32> for u32 {
         Takes::Count
     }
 
-    fn build(alloc: Global, cursor: &mut Cursor<'_>) -> Result<u32, AllocError> {
+    fn build(alloc: Global, cursor: &mut Reader<'_>) -> Result<u32, AllocError> {
         Ok(take_count(cursor))
     }
 }
 
 /// The count that comes.
-fn take_count(cursor: &mut Cursor<'_>) -> u32
+fn take_count(cursor: &mut Reader<'_>) -> u32
     ensures takes { TakesCount cursor.old cursor.new result }
     ensures shorter { length cursor.new ≤ length cursor.old }
 {
@@ -97,13 +98,13 @@ impl Built<Text> for Text {
         Takes::Text
     }
 
-    fn build(alloc: Global, cursor: &mut Cursor<'_>) -> Result<Text, AllocError> {
+    fn build(alloc: Global, cursor: &mut Reader<'_>) -> Result<Text, AllocError> {
         take_text(alloc, cursor)
     }
 }
 
 /// The text that comes.
-pub(crate) fn take_text(alloc: Global, cursor: &mut Cursor<'_>) -> Result<Text, AllocError>
+pub(crate) fn take_text(alloc: Global, cursor: &mut Reader<'_>) -> Result<Text, AllocError>
     ensures takes { IfOk result (TakesText cursor.old cursor.new) }
     ensures shorter { length cursor.new ≤ length cursor.old }
 {
@@ -188,7 +189,7 @@ impl Built<NumberOrText> for NumberOrText {
         Takes::NumberOrText
     }
 
-    fn build(alloc: Global, cursor: &mut Cursor<'_>) -> Result<NumberOrText, AllocError> {
+    fn build(alloc: Global, cursor: &mut Reader<'_>) -> Result<NumberOrText, AllocError> {
         if number_comes(cursor) {
             return Ok(NumberOrText::Number(take_number(cursor)));
         }
@@ -197,7 +198,7 @@ impl Built<NumberOrText> for NumberOrText {
     }
 }
 
-fn number_comes(cursor: &Cursor<'_>) -> bool
+fn number_comes(cursor: &Reader<'_>) -> bool
     ensures { result ≡ next_is_number cursor.now }
 {
     match cursor.peek() {

@@ -9,6 +9,7 @@ mod datums;
 mod ending;
 mod identifiers;
 mod leaves;
+mod reader;
 mod root;
 mod systems;
 mod units;

@@ -4,6 +4,7 @@ ghost use Rattle.wkt_tree.specs.Cut.{cut};
 ghost use Rattle.wkt_build.specs.Whole.{BuildsParts};
 
 use crate::built::Built;
+use crate::reader::Reader;
 use crs_part::CrsParts;
 use std::alloc::{AllocError, Global};
 use wkt_tree::Outline;
@@ -16,6 +17,6 @@ use wkt_tree::Outline;
 pub fn build_parts(alloc: Global, outline: &Outline<'_>) -> Result<CrsParts, AllocError>
     ensures { BuildsParts (cut 0 outline.now) result }
 {
-    let mut cursor = outline.cursor();
-    CrsParts::build(alloc, &mut cursor)
+    let mut reader = Reader::new(outline.cursor());
+    CrsParts::build(alloc, &mut reader)
 }

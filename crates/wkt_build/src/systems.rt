@@ -5,13 +5,13 @@ ghost use Rattle.wkt_slots.specs.declared.table.Takes.TheVariants as kinds;
 ghost use Rattle.wkt_meaning.specs.Denotes.{DenotesAxis, DenotesMeridian, DenotesOrder, DenotesSystem};
 
 use crate::built::{Built, pass, take_each, take_maybe, take_one};
+use crate::reader::Reader;
 use crs_number::Decimal;
 use crs_part::{
     AngleUnit, Axis, CoordSystem, Direction, Ident, Many, Meridian, Order, SystemKind, Text, Unit,
 };
 use std::alloc::{AllocError, Global};
 use wkt_slots::Takes;
-use wkt_tree::Cursor;
 
 fn system_of(kind: SystemKind, dimension: u32, ids: Many<Ident>) -> CoordSystem
     ensures kind { result.kind ≡ kind }
@@ -40,7 +40,7 @@ impl Built<CoordSystem> for CoordSystem {
         Takes::CoordinateSystem
     }
 
-    fn build(alloc: Global, cursor: &mut Cursor<'_>) -> Result<CoordSystem, AllocError> {
+    fn build(alloc: Global, cursor: &mut Reader<'_>) -> Result<CoordSystem, AllocError> {
         pass(cursor);
         let kind = take_one::<SystemKind, SystemKind>(alloc, cursor)?;
         let dimension = take_one::<u32, u32>(alloc, cursor)?;
@@ -59,7 +59,7 @@ impl Built<Meridian> for Meridian {
         Takes::Meridian
     }
 
-    fn build(alloc: Global, cursor: &mut Cursor<'_>) -> Result<Meridian, AllocError> {
+    fn build(alloc: Global, cursor: &mut Reader<'_>) -> Result<Meridian, AllocError> {
         pass(cursor);
         let longitude = take_one::<Decimal, Decimal>(alloc, cursor)?;
         let unit = take_one::<AngleUnit, AngleUnit>(alloc, cursor)?;
@@ -77,7 +77,7 @@ impl Built<Order> for Order {
         Takes::Order
     }
 
-    fn build(alloc: Global, cursor: &mut Cursor<'_>) -> Result<Order, AllocError> {
+    fn build(alloc: Global, cursor: &mut Reader<'_>) -> Result<Order, AllocError> {
         pass(cursor);
         let position = take_one::<u32, u32>(alloc, cursor)?;
         pass(cursor);
@@ -94,7 +94,7 @@ impl Built<Axis> for Axis {
         Takes::Axis
     }
 
-    fn build(alloc: Global, cursor: &mut Cursor<'_>) -> Result<Axis, AllocError> {
+    fn build(alloc: Global, cursor: &mut Reader<'_>) -> Result<Axis, AllocError> {
         pass(cursor);
         let name = take_one::<Text, Text>(alloc, cursor)?;
         let direction = take_one::<Direction, Direction>(alloc, cursor)?;

@@ -8,15 +8,15 @@ ghost use Rattle.wkt_build.specs.Reads.{BuildsNode};
 
 use crate::built::{Built, pass, take_each, take_one};
 use crate::choices::{angle_unit_as, length_unit_as, next_keyword, unit_as};
+use crate::reader::Reader;
 use crs_number::Decimal;
 use crs_part::{AngleUnit, Ident, LengthUnit, Text, Unit, UnitDefinition};
 use std::alloc::{AllocError, Global};
 use wkt_slots::Takes;
-use wkt_tree::Cursor;
 
 pub(crate) fn build_unit(
     alloc: Global,
-    cursor: &mut Cursor<'_>,
+    cursor: &mut Reader<'_>,
 ) -> Result<UnitDefinition, AllocError>
     ensures builds { BuildsNode nodes.Unit unit_fields cursor.old cursor.new result }
     ensures shorter { length cursor.new ≤ length cursor.old }
@@ -38,7 +38,7 @@ impl Built<Unit> for Unit {
         Takes::AnyUnit
     }
 
-    fn build(alloc: Global, cursor: &mut Cursor<'_>) -> Result<Unit, AllocError> {
+    fn build(alloc: Global, cursor: &mut Reader<'_>) -> Result<Unit, AllocError> {
         let keyword = next_keyword(cursor);
         let unit = build_unit(alloc, cursor)?;
         Ok(unit_as(keyword, unit))
@@ -54,7 +54,7 @@ impl Built<LengthUnit> for LengthUnit {
         Takes::LengthUnit
     }
 
-    fn build(alloc: Global, cursor: &mut Cursor<'_>) -> Result<LengthUnit, AllocError> {
+    fn build(alloc: Global, cursor: &mut Reader<'_>) -> Result<LengthUnit, AllocError> {
         let keyword = next_keyword(cursor);
         let unit = build_unit(alloc, cursor)?;
         Ok(length_unit_as(keyword, unit))
@@ -70,7 +70,7 @@ impl Built<AngleUnit> for AngleUnit {
         Takes::AngleUnit
     }
 
-    fn build(alloc: Global, cursor: &mut Cursor<'_>) -> Result<AngleUnit, AllocError> {
+    fn build(alloc: Global, cursor: &mut Reader<'_>) -> Result<AngleUnit, AllocError> {
         let keyword = next_keyword(cursor);
         let unit = build_unit(alloc, cursor)?;
         Ok(angle_unit_as(keyword, unit))

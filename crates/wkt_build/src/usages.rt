@@ -4,12 +4,12 @@ ghost use Rattle.wkt_slots.specs.declared.table.Takes.TheVariants as kinds;
 ghost use Rattle.wkt_meaning.specs.Denotes.{DenotesBoundingBox, DenotesUsage};
 
 use crate::built::{Built, pass, take_maybe, take_one};
+use crate::reader::Reader;
 use crate::values::{Area, Scope};
 use crs_number::Decimal;
 use crs_part::{BoundingBox, Text, Usage};
 use std::alloc::{AllocError, Global};
 use wkt_slots::Takes;
-use wkt_tree::Cursor;
 
 impl Built<BoundingBox> for BoundingBox {
     ghost slot_kind = { kinds.BoundingBox };
@@ -20,7 +20,7 @@ impl Built<BoundingBox> for BoundingBox {
         Takes::BoundingBox
     }
 
-    fn build(alloc: Global, cursor: &mut Cursor<'_>) -> Result<BoundingBox, AllocError> {
+    fn build(alloc: Global, cursor: &mut Reader<'_>) -> Result<BoundingBox, AllocError> {
         pass(cursor);
         let south = take_one::<Decimal, Decimal>(alloc, cursor)?;
         let west = take_one::<Decimal, Decimal>(alloc, cursor)?;
@@ -45,7 +45,7 @@ impl Built<Usage> for Usage {
         Takes::Usage
     }
 
-    fn build(alloc: Global, cursor: &mut Cursor<'_>) -> Result<Usage, AllocError> {
+    fn build(alloc: Global, cursor: &mut Reader<'_>) -> Result<Usage, AllocError> {
         pass(cursor);
         let scope = take_one::<Scope, Text>(alloc, cursor)?;
         let area = take_maybe::<Area, Text>(alloc, cursor)?;

@@ -8,12 +8,12 @@ ghost use Rattle.wkt_meaning.specs.Denotes.{DenotesValue, value_fields};
 ghost use Rattle.wkt_build.specs.Reads.{BuildsNode};
 
 use crate::built::{Built, pass, take_one};
+use crate::reader::Reader;
 use crs_part::Text;
 use std::alloc::{AllocError, Global};
 use wkt_slots::Takes;
-use wkt_tree::Cursor;
 
-pub(crate) fn build_value(alloc: Global, cursor: &mut Cursor<'_>) -> Result<Text, AllocError>
+pub(crate) fn build_value(alloc: Global, cursor: &mut Reader<'_>) -> Result<Text, AllocError>
     ensures builds { BuildsNode nodes.Value value_fields cursor.old cursor.new result }
     ensures shorter { length cursor.new ≤ length cursor.old }
 {
@@ -35,7 +35,7 @@ impl Built<Text> for Scope {
         Takes::Scope
     }
 
-    fn build(alloc: Global, cursor: &mut Cursor<'_>) -> Result<Text, AllocError> {
+    fn build(alloc: Global, cursor: &mut Reader<'_>) -> Result<Text, AllocError> {
         build_value(alloc, cursor)
     }
 }
@@ -52,7 +52,7 @@ impl Built<Text> for Area {
         Takes::Area
     }
 
-    fn build(alloc: Global, cursor: &mut Cursor<'_>) -> Result<Text, AllocError> {
+    fn build(alloc: Global, cursor: &mut Reader<'_>) -> Result<Text, AllocError> {
         build_value(alloc, cursor)
     }
 }
@@ -69,7 +69,7 @@ impl Built<Text> for Anchor {
         Takes::Anchor
     }
 
-    fn build(alloc: Global, cursor: &mut Cursor<'_>) -> Result<Text, AllocError> {
+    fn build(alloc: Global, cursor: &mut Reader<'_>) -> Result<Text, AllocError> {
         build_value(alloc, cursor)
     }
 }
@@ -86,7 +86,7 @@ impl Built<Text> for Citation {
         Takes::Citation
     }
 
-    fn build(alloc: Global, cursor: &mut Cursor<'_>) -> Result<Text, AllocError> {
+    fn build(alloc: Global, cursor: &mut Reader<'_>) -> Result<Text, AllocError> {
         build_value(alloc, cursor)
     }
 }
@@ -103,7 +103,7 @@ impl Built<Text> for Uri {
         Takes::Uri
     }
 
-    fn build(alloc: Global, cursor: &mut Cursor<'_>) -> Result<Text, AllocError> {
+    fn build(alloc: Global, cursor: &mut Reader<'_>) -> Result<Text, AllocError> {
         build_value(alloc, cursor)
     }
 }
@@ -120,7 +120,7 @@ impl Built<Text> for Remark {
         Takes::Remark
     }
 
-    fn build(alloc: Global, cursor: &mut Cursor<'_>) -> Result<Text, AllocError> {
+    fn build(alloc: Global, cursor: &mut Reader<'_>) -> Result<Text, AllocError> {
         build_value(alloc, cursor)
     }
 }

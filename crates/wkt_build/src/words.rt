@@ -9,10 +9,11 @@ ghost use Rattle.wkt_meaning.specs.Words.{direction_word, directions_listed, fir
 ghost use Rattle.wkt_build.specs.Leaves.{TakesWord};
 
 use crate::built::Built;
+use crate::reader::Reader;
 use crs_part::{Direction, SystemKind};
 use std::alloc::{AllocError, Global};
 use wkt_slots::Takes;
-use wkt_tree::{Cursor, TokenKind};
+use wkt_tree::TokenKind;
 
 static KINDS: [SystemKind; 4] = [
     SystemKind::Ellipsoidal,
@@ -136,7 +137,7 @@ fn direction_of(bytes: &[u8]) -> Option<Direction>
     first_direction(&DIRECTIONS, bytes)
 }
 
-fn take_kind(cursor: &mut Cursor<'_>) -> SystemKind
+fn take_kind(cursor: &mut Reader<'_>) -> SystemKind
     ensures takes { TakesWord is_cs_kind system_word cursor.old cursor.new result }
     ensures shorter { length cursor.new ≤ length cursor.old }
 {
@@ -150,7 +151,7 @@ fn take_kind(cursor: &mut Cursor<'_>) -> SystemKind
     }
 }
 
-fn take_direction(cursor: &mut Cursor<'_>) -> Direction
+fn take_direction(cursor: &mut Reader<'_>) -> Direction
     ensures takes { TakesWord is_direction direction_word cursor.old cursor.new result }
     ensures shorter { length cursor.new ≤ length cursor.old }
 {
@@ -173,7 +174,7 @@ impl Built<SystemKind> for SystemKind {
         Takes::CsKind
     }
 
-    fn build(alloc: Global, cursor: &mut Cursor<'_>) -> Result<SystemKind, AllocError> {
+    fn build(alloc: Global, cursor: &mut Reader<'_>) -> Result<SystemKind, AllocError> {
         Ok(take_kind(cursor))
     }
 }
@@ -187,7 +188,7 @@ impl Built<Direction> for Direction {
         Takes::Direction
     }
 
-    fn build(alloc: Global, cursor: &mut Cursor<'_>) -> Result<Direction, AllocError> {
+    fn build(alloc: Global, cursor: &mut Reader<'_>) -> Result<Direction, AllocError> {
         Ok(take_direction(cursor))
     }
 }

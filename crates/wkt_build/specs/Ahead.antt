@@ -1,0 +1,19 @@
+-- What a reader knows of the argument behind a comma.
+use Rattle.std.specs.Prelude.{◌≡◌, ⊤, true, false, List, drop}
+use Rattle.wkt_tree.specs.Tree.{Tok}
+use Rattle.wkt_slots.specs.declared.table.Argument.TheVariants as arguments
+use Rattle.wkt_tier.specs.Next.{next_is, is_comma, coming}
+use Rattle.wkt_build.specs.declared.reader.Ahead.{Ahead}
+use Rattle.wkt_build.specs.declared.reader.Ahead.TheVariants.{NoComma, Node, Anything}
+
+-- what is said of the argument that comes is so
+abbrev pub IsTold : Ahead → List Tok → Type 0
+IsTold NoComma toks = ⊥
+IsTold (Node keyword) toks = coming toks ≡ arguments.Node keyword
+IsTold Anything toks = ⊤
+
+-- what is said of the argument behind a comma is so
+abbrev pub IsAhead : Ahead → List Tok → List Tok → Type 0
+IsAhead NoComma behind toks = next_is is_comma toks ≡ false
+IsAhead (Node keyword) behind toks = (next_is is_comma toks ≡ true) × (behind ≡ drop 1 toks) × IsTold (Node keyword) behind
+IsAhead Anything behind toks = (next_is is_comma toks ≡ true) × (behind ≡ drop 1 toks)

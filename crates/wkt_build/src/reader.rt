@@ -1,0 +1,125 @@
+//! The tokens that come, and which argument comes behind a comma.
+
+ghost use Rattle.std.specs.Prelude.{◌≡◌, drop, slice_get, IfSome};
+ghost use Rattle.std.specs.Option.{option_map};
+ghost use Rattle.wkt_tree.specs.Tokens.{IsSound};
+ghost use Rattle.wkt_tree.specs.Faults.{view};
+ghost use Rattle.wkt_tier.specs.Next.{is_comma, next_is};
+ghost use Rattle.wkt_build.specs.Ahead.{IsAhead, IsTold};
+ghost use Rattle.wkt_build.specs.Reads.{comes};
+
+use std::marker::Model;
+use wkt_slots::{Argument, Keyword, Takes, enters, takes};
+use wkt_tier::{coming, next_is_comma};
+use wkt_tree::{Cursor, Token, TokenKind};
+
+/// What comes behind a comma, as far as it is looked up before it is asked for.
+#[derive(Clone, Copy)]
+pub(crate) enum Ahead {
+    /// No comma comes.
+    NoComma,
+    /// A node with this keyword.
+    Node(Keyword),
+    /// Anything.
+    Anything,
+}
+
+/// A cursor that looks up what comes behind a comma once, and not for each slot that asks.
+#[derive(Drop)]
+pub(crate) struct Reader<'a> {
+    cursor: Cursor<'a>,
+    behind: Cursor<'a>,
+    ahead: Ahead,
+}
+
+impl<'a> Model for Reader<'a> {
+    ghost use Rattle.std.specs.Prelude.{List};
+    ghost use Rattle.wkt_tree.specs.Tree.{Tok};
+    ghost use Rattle.wkt_build.specs.Ahead.{IsAhead};
+
+    ghost Value = { List Tok };
+
+    ghost view = { λ r. r.cursor };
+
+    ghost invariant = { λ r. IsAhead r.ahead r.behind r.cursor };
+}
+
+/// What the argument is that begins here, where it is a node.
+#[inline(always)]
+fn told(behind: &Cursor<'_>) -> Ahead
+    ensures { IsTold result behind.now }
+{
+    let Some(token) = behind.peek() else {
+        return Ahead::Anything;
+    };
+    match token.kind {
+        TokenKind::Word => match coming(behind) {
+            Argument::Node(keyword) => Ahead::Node(keyword),
+            _ => Ahead::Anything,
+        },
+        _ => Ahead::Anything,
+    }
+}
+
+impl<'a> Reader<'a> {
+    #[inline(always)]
+    pub(crate) fn new(cursor: Cursor<'a>) -> Reader<'a>
+        ensures { result ≡ cursor.entry }
+    {
+        let mut behind = cursor.fork();
+        if !next_is_comma(&cursor) {
+            return Reader {
+                cursor,
+                behind,
+                ahead: Ahead::NoComma,
+            };
+        }
+        behind.advance();
+        let ahead = told(&behind);
+        Reader {
+            cursor,
+            behind,
+            ahead,
+        }
+    }
+
+    /// The token that comes.
+    #[inline(always)]
+    pub(crate) fn peek(&self) -> Option<Token<'a>>
+        ensures comes { option_map view result ≡ slice_get self.now 0 }
+        ensures sound { IfSome result (λ token. IsSound token.kind token.bytes.now) }
+    {
+        self.cursor.peek()
+    }
+
+    /// Goes behind the token that comes, where one does.
+    #[inline(always)]
+    pub(crate) fn advance(&mut self)
+        ensures { self.new ≡ drop 1 self.old }
+    {
+        match self.ahead {
+            Ahead::NoComma => self.cursor.advance(),
+            Ahead::Node(_) => self.cursor = self.behind.fork(),
+            Ahead::Anything => self.cursor = self.behind.fork(),
+        }
+        if next_is_comma(&self.cursor) {
+            self.behind = self.cursor.fork();
+            self.behind.advance();
+            self.ahead = told(&self.behind);
+        } else {
+            self.ahead = Ahead::NoComma;
+        }
+    }
+
+    /// Whether a comma comes, and then an argument that a slot of this kind takes.
+    #[inline(always)]
+    pub(crate) fn comes(&self, kind: Takes) -> bool
+        ensures { result ≡ comes kind self.now }
+    {
+        match self.ahead {
+            Ahead::NoComma => false,
+            Ahead::Node(keyword) => enters(kind, keyword).is_some(),
+            Ahead::Anything => takes(kind, coming(&self.behind)),
+        }
+    }
+}
