@@ -3,12 +3,13 @@
 ghost use Rattle.wkt_slots.specs.declared.table.Takes.TheVariants as kinds;
 ghost use Rattle.wkt_meaning.specs.Denotes.{DenotesConversion, DenotesParameter};
 
-use crate::built::{Built, pass, take_each, take_maybe, take_one};
+use crate::built::{Built, close, pass, take_each, take_first, take_maybe, take_one};
+use crate::fault::BuildFault;
 use crate::identifiers::Method;
 use crate::reader::Reader;
 use crs_number::Decimal;
 use crs_part::{Conversion, Ident, Named, Parameter, Text, Unit};
-use std::alloc::{AllocError, Global};
+use std::alloc::Global;
 use wkt_slots::Takes;
 
 impl Built<Parameter> for Parameter {
@@ -20,13 +21,13 @@ impl Built<Parameter> for Parameter {
         Takes::Parameter
     }
 
-    fn build(alloc: Global, cursor: &mut Reader<'_>) -> Result<Parameter, AllocError> {
+    fn build(alloc: Global, cursor: &mut Reader<'_>) -> Result<Parameter, BuildFault> {
         pass(cursor);
-        let name = take_one::<Text, Text>(alloc, cursor)?;
+        let name = take_first::<Text, Text>(alloc, cursor)?;
         let value = take_one::<Decimal, Decimal>(alloc, cursor)?;
         let unit = take_maybe::<Unit, Unit>(alloc, cursor)?;
         let ids = take_each::<Ident, Ident>(alloc, cursor)?;
-        pass(cursor);
+        close(cursor)?;
         Ok(Parameter {
             name,
             value,
@@ -45,13 +46,13 @@ impl Built<Conversion> for Conversion {
         Takes::Conversion
     }
 
-    fn build(alloc: Global, cursor: &mut Reader<'_>) -> Result<Conversion, AllocError> {
+    fn build(alloc: Global, cursor: &mut Reader<'_>) -> Result<Conversion, BuildFault> {
         pass(cursor);
-        let name = take_one::<Text, Text>(alloc, cursor)?;
+        let name = take_first::<Text, Text>(alloc, cursor)?;
         let method = take_one::<Method, Named>(alloc, cursor)?;
         let parameters = take_each::<Parameter, Parameter>(alloc, cursor)?;
         let ids = take_each::<Ident, Ident>(alloc, cursor)?;
-        pass(cursor);
+        close(cursor)?;
         Ok(Conversion {
             name,
             method,

@@ -6,8 +6,9 @@ ghost use Rattle.wkt_slots.specs.declared.table.Takes.TheVariants as kinds;
 ghost use Rattle.wkt_meaning.specs.Denotes.{DenotesAccuracy, DenotesEllipsoid, DenotesGeodeticFrame, DenotesPrimeMeridian, DenotesVerticalFrame, accuracy_fields, datum_fields, geodetic_ensemble_fields, vertical_datum_fields, vertical_ensemble_fields};
 ghost use Rattle.wkt_build.specs.Reads.{BuildsNode};
 
-use crate::built::{Built, pass, take_each, take_maybe, take_one};
+use crate::built::{Built, close, pass, take_each, take_first, take_maybe, take_one};
 use crate::choices::{is_ensemble, next_keyword};
+use crate::fault::BuildFault;
 use crate::identifiers::Member;
 use crate::reader::Reader;
 use crate::values::Anchor;
@@ -16,7 +17,7 @@ use crs_part::{
     AngleUnit, Datum, Ellipsoid, GeodeticEnsemble, GeodeticFrame, Ident, LengthUnit, Named,
     NonEmpty, PrimeMeridian, Text, VerticalDatum, VerticalEnsemble, VerticalFrame,
 };
-use std::alloc::{AllocError, Global};
+use std::alloc::Global;
 use wkt_slots::Takes;
 
 impl Built<Ellipsoid> for Ellipsoid {
@@ -28,14 +29,14 @@ impl Built<Ellipsoid> for Ellipsoid {
         Takes::Ellipsoid
     }
 
-    fn build(alloc: Global, cursor: &mut Reader<'_>) -> Result<Ellipsoid, AllocError> {
+    fn build(alloc: Global, cursor: &mut Reader<'_>) -> Result<Ellipsoid, BuildFault> {
         pass(cursor);
-        let name = take_one::<Text, Text>(alloc, cursor)?;
+        let name = take_first::<Text, Text>(alloc, cursor)?;
         let radius = take_one::<Decimal, Decimal>(alloc, cursor)?;
         let flattening = take_one::<Decimal, Decimal>(alloc, cursor)?;
         let unit = take_maybe::<LengthUnit, LengthUnit>(alloc, cursor)?;
         let ids = take_each::<Ident, Ident>(alloc, cursor)?;
-        pass(cursor);
+        close(cursor)?;
         Ok(Ellipsoid {
             name,
             radius,
@@ -55,13 +56,13 @@ impl Built<PrimeMeridian> for PrimeMeridian {
         Takes::PrimeMeridian
     }
 
-    fn build(alloc: Global, cursor: &mut Reader<'_>) -> Result<PrimeMeridian, AllocError> {
+    fn build(alloc: Global, cursor: &mut Reader<'_>) -> Result<PrimeMeridian, BuildFault> {
         pass(cursor);
-        let name = take_one::<Text, Text>(alloc, cursor)?;
+        let name = take_first::<Text, Text>(alloc, cursor)?;
         let longitude = take_one::<Decimal, Decimal>(alloc, cursor)?;
         let unit = take_maybe::<AngleUnit, AngleUnit>(alloc, cursor)?;
         let ids = take_each::<Ident, Ident>(alloc, cursor)?;
-        pass(cursor);
+        close(cursor)?;
         Ok(PrimeMeridian {
             name,
             longitude,
@@ -71,16 +72,16 @@ impl Built<PrimeMeridian> for PrimeMeridian {
     }
 }
 
-pub(crate) fn build_datum(alloc: Global, cursor: &mut Reader<'_>) -> Result<Datum, AllocError>
+pub(crate) fn build_datum(alloc: Global, cursor: &mut Reader<'_>) -> Result<Datum, BuildFault>
     ensures builds { BuildsNode nodes.Datum datum_fields cursor.old cursor.new result }
     ensures shorter { length cursor.new ≤ length cursor.old }
 {
     pass(cursor);
-    let name = take_one::<Text, Text>(alloc, cursor)?;
+    let name = take_first::<Text, Text>(alloc, cursor)?;
     let ellipsoid = take_one::<Ellipsoid, Ellipsoid>(alloc, cursor)?;
     let anchor = take_maybe::<Anchor, Text>(alloc, cursor)?;
     let ids = take_each::<Ident, Ident>(alloc, cursor)?;
-    pass(cursor);
+    close(cursor)?;
     Ok(Datum {
         name,
         ellipsoid,
@@ -92,25 +93,25 @@ pub(crate) fn build_datum(alloc: Global, cursor: &mut Reader<'_>) -> Result<Datu
 pub(crate) fn build_vertical_datum(
     alloc: Global,
     cursor: &mut Reader<'_>,
-) -> Result<VerticalDatum, AllocError>
+) -> Result<VerticalDatum, BuildFault>
     ensures builds { BuildsNode nodes.VerticalDatum vertical_datum_fields cursor.old cursor.new result }
     ensures shorter { length cursor.new ≤ length cursor.old }
 {
     pass(cursor);
-    let name = take_one::<Text, Text>(alloc, cursor)?;
+    let name = take_first::<Text, Text>(alloc, cursor)?;
     let anchor = take_maybe::<Anchor, Text>(alloc, cursor)?;
     let ids = take_each::<Ident, Ident>(alloc, cursor)?;
-    pass(cursor);
+    close(cursor)?;
     Ok(VerticalDatum { name, anchor, ids })
 }
 
-pub(crate) fn build_accuracy(alloc: Global, cursor: &mut Reader<'_>) -> Result<Decimal, AllocError>
+pub(crate) fn build_accuracy(alloc: Global, cursor: &mut Reader<'_>) -> Result<Decimal, BuildFault>
     ensures builds { BuildsNode nodes.EnsembleAccuracy accuracy_fields cursor.old cursor.new result }
     ensures shorter { length cursor.new ≤ length cursor.old }
 {
     pass(cursor);
-    let accuracy = take_one::<Decimal, Decimal>(alloc, cursor)?;
-    pass(cursor);
+    let accuracy = take_first::<Decimal, Decimal>(alloc, cursor)?;
+    close(cursor)?;
     Ok(accuracy)
 }
 
@@ -126,7 +127,7 @@ impl Built<Decimal> for Accuracy {
         Takes::EnsembleAccuracy
     }
 
-    fn build(alloc: Global, cursor: &mut Reader<'_>) -> Result<Decimal, AllocError> {
+    fn build(alloc: Global, cursor: &mut Reader<'_>) -> Result<Decimal, BuildFault> {
         build_accuracy(alloc, cursor)
     }
 }
@@ -134,18 +135,18 @@ impl Built<Decimal> for Accuracy {
 pub(crate) fn build_geodetic_ensemble(
     alloc: Global,
     cursor: &mut Reader<'_>,
-) -> Result<GeodeticEnsemble, AllocError>
+) -> Result<GeodeticEnsemble, BuildFault>
     ensures builds { BuildsNode nodes.GeodeticEnsemble geodetic_ensemble_fields cursor.old cursor.new result }
     ensures shorter { length cursor.new ≤ length cursor.old }
 {
     pass(cursor);
-    let name = take_one::<Text, Text>(alloc, cursor)?;
+    let name = take_first::<Text, Text>(alloc, cursor)?;
     let first_members = take_one::<Member, Named>(alloc, cursor)?;
     let others_members = take_each::<Member, Named>(alloc, cursor)?;
     let ellipsoid = take_one::<Ellipsoid, Ellipsoid>(alloc, cursor)?;
     let accuracy = take_one::<Accuracy, Decimal>(alloc, cursor)?;
     let ids = take_each::<Ident, Ident>(alloc, cursor)?;
-    pass(cursor);
+    close(cursor)?;
     Ok(GeodeticEnsemble {
         name,
         members: NonEmpty {
@@ -161,17 +162,17 @@ pub(crate) fn build_geodetic_ensemble(
 pub(crate) fn build_vertical_ensemble(
     alloc: Global,
     cursor: &mut Reader<'_>,
-) -> Result<VerticalEnsemble, AllocError>
+) -> Result<VerticalEnsemble, BuildFault>
     ensures builds { BuildsNode nodes.VerticalEnsemble vertical_ensemble_fields cursor.old cursor.new result }
     ensures shorter { length cursor.new ≤ length cursor.old }
 {
     pass(cursor);
-    let name = take_one::<Text, Text>(alloc, cursor)?;
+    let name = take_first::<Text, Text>(alloc, cursor)?;
     let first_members = take_one::<Member, Named>(alloc, cursor)?;
     let others_members = take_each::<Member, Named>(alloc, cursor)?;
     let accuracy = take_one::<Accuracy, Decimal>(alloc, cursor)?;
     let ids = take_each::<Ident, Ident>(alloc, cursor)?;
-    pass(cursor);
+    close(cursor)?;
     Ok(VerticalEnsemble {
         name,
         members: NonEmpty {
@@ -192,7 +193,7 @@ impl Built<GeodeticFrame> for GeodeticFrame {
         Takes::GeodeticDatum
     }
 
-    fn build(alloc: Global, cursor: &mut Reader<'_>) -> Result<GeodeticFrame, AllocError> {
+    fn build(alloc: Global, cursor: &mut Reader<'_>) -> Result<GeodeticFrame, BuildFault> {
         if is_ensemble(next_keyword(cursor)) {
             let ensemble = build_geodetic_ensemble(alloc, cursor)?;
             return Ok(GeodeticFrame::Ensemble(ensemble));
@@ -211,7 +212,7 @@ impl Built<VerticalFrame> for VerticalFrame {
         Takes::VerticalDatum
     }
 
-    fn build(alloc: Global, cursor: &mut Reader<'_>) -> Result<VerticalFrame, AllocError> {
+    fn build(alloc: Global, cursor: &mut Reader<'_>) -> Result<VerticalFrame, BuildFault> {
         if is_ensemble(next_keyword(cursor)) {
             let ensemble = build_vertical_ensemble(alloc, cursor)?;
             return Ok(VerticalFrame::Ensemble(ensemble));

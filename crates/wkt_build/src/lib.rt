@@ -7,6 +7,7 @@ mod conversions;
 mod crs;
 mod datums;
 mod ending;
+mod fault;
 mod identifiers;
 mod leaves;
 mod reader;
@@ -17,4 +18,5 @@ mod usages;
 mod values;
 mod words;
 
+pub use fault::BuildFault;
 pub use root::build_parts;

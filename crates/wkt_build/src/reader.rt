@@ -4,10 +4,12 @@ ghost use Rattle.std.specs.Prelude.{◌≡◌, drop, slice_get, IfSome};
 ghost use Rattle.std.specs.Option.{option_map};
 ghost use Rattle.wkt_tree.specs.Tokens.{IsSound};
 ghost use Rattle.wkt_tree.specs.Faults.{view};
-ghost use Rattle.wkt_tier.specs.Next.{is_comma, next_is};
+ghost use Rattle.wkt_slots.specs.Rows.{takes};
+ghost use Rattle.wkt_tier.specs.Next.{coming, is_comma, next_is};
 ghost use Rattle.wkt_build.specs.Ahead.{IsAhead, IsTold};
 ghost use Rattle.wkt_build.specs.Reads.{comes};
 
+use crs_number::is_count;
 use std::marker::Model;
 use wkt_slots::{Argument, Keyword, Takes, enters, takes};
 use wkt_tier::{coming, next_is_comma};
@@ -61,6 +63,24 @@ fn told(behind: &Cursor<'_>) -> Ahead
     }
 }
 
+/// Whether a slot of this kind takes the argument that comes.
+#[inline(always)]
+fn is_taken(kind: Takes, cursor: &Cursor<'_>) -> bool
+    ensures { result ≡ takes kind (coming cursor.now) }
+{
+    let Some(token) = cursor.peek() else {
+        return takes(kind, Argument::OtherNode);
+    };
+    match token.kind {
+        TokenKind::Quoted => takes(kind, Argument::Text),
+        // A slot that takes any number is not asked whether it is a count.
+        TokenKind::Number => {
+            takes(kind, Argument::Number) || takes(kind, Argument::Count) && is_count(token.bytes)
+        }
+        _ => takes(kind, coming(cursor)),
+    }
+}
+
 impl<'a> Reader<'a> {
     #[inline(always)]
     pub(crate) fn new(cursor: Cursor<'a>) -> Reader<'a>
@@ -111,6 +131,26 @@ impl<'a> Reader<'a> {
         }
     }
 
+    /// Whether a comma comes.
+    #[inline(always)]
+    pub(crate) fn is_at_comma(&self) -> bool
+        ensures { result ≡ next_is is_comma self.now }
+    {
+        match self.ahead {
+            Ahead::NoComma => false,
+            Ahead::Node(_) => true,
+            Ahead::Anything => true,
+        }
+    }
+
+    /// Whether a slot of this kind takes the argument that comes.
+    #[inline(always)]
+    pub(crate) fn is_of(&self, kind: Takes) -> bool
+        ensures { result ≡ takes kind (coming self.now) }
+    {
+        is_taken(kind, &self.cursor)
+    }
+
     /// Whether a comma comes, and then an argument that a slot of this kind takes.
     #[inline(always)]
     pub(crate) fn comes(&self, kind: Takes) -> bool
@@ -119,7 +159,7 @@ impl<'a> Reader<'a> {
         match self.ahead {
             Ahead::NoComma => false,
             Ahead::Node(keyword) => enters(kind, keyword).is_some(),
-            Ahead::Anything => takes(kind, coming(&self.behind)),
+            Ahead::Anything => is_taken(kind, &self.behind),
         }
     }
 }

@@ -3,12 +3,13 @@
 ghost use Rattle.wkt_slots.specs.declared.table.Takes.TheVariants as kinds;
 ghost use Rattle.wkt_meaning.specs.Denotes.{DenotesBoundingBox, DenotesUsage};
 
-use crate::built::{Built, pass, take_maybe, take_one};
+use crate::built::{Built, close, pass, take_first, take_maybe, take_one};
+use crate::fault::BuildFault;
 use crate::reader::Reader;
 use crate::values::{Area, Scope};
 use crs_number::Decimal;
 use crs_part::{BoundingBox, Text, Usage};
-use std::alloc::{AllocError, Global};
+use std::alloc::Global;
 use wkt_slots::Takes;
 
 impl Built<BoundingBox> for BoundingBox {
@@ -20,13 +21,13 @@ impl Built<BoundingBox> for BoundingBox {
         Takes::BoundingBox
     }
 
-    fn build(alloc: Global, cursor: &mut Reader<'_>) -> Result<BoundingBox, AllocError> {
+    fn build(alloc: Global, cursor: &mut Reader<'_>) -> Result<BoundingBox, BuildFault> {
         pass(cursor);
-        let south = take_one::<Decimal, Decimal>(alloc, cursor)?;
+        let south = take_first::<Decimal, Decimal>(alloc, cursor)?;
         let west = take_one::<Decimal, Decimal>(alloc, cursor)?;
         let north = take_one::<Decimal, Decimal>(alloc, cursor)?;
         let east = take_one::<Decimal, Decimal>(alloc, cursor)?;
-        pass(cursor);
+        close(cursor)?;
         Ok(BoundingBox {
             south,
             west,
@@ -45,12 +46,12 @@ impl Built<Usage> for Usage {
         Takes::Usage
     }
 
-    fn build(alloc: Global, cursor: &mut Reader<'_>) -> Result<Usage, AllocError> {
+    fn build(alloc: Global, cursor: &mut Reader<'_>) -> Result<Usage, BuildFault> {
         pass(cursor);
-        let scope = take_one::<Scope, Text>(alloc, cursor)?;
+        let scope = take_first::<Scope, Text>(alloc, cursor)?;
         let area = take_maybe::<Area, Text>(alloc, cursor)?;
         let bounding_box = take_maybe::<BoundingBox, BoundingBox>(alloc, cursor)?;
-        pass(cursor);
+        close(cursor)?;
         Ok(Usage {
             scope,
             area,

@@ -7,19 +7,20 @@ ghost use Rattle.wkt_slots.specs.declared.table.Takes.TheVariants as kinds;
 ghost use Rattle.wkt_meaning.specs.Denotes.{DenotesValue, value_fields};
 ghost use Rattle.wkt_build.specs.Reads.{BuildsNode};
 
-use crate::built::{Built, pass, take_one};
+use crate::built::{Built, close, pass, take_first};
+use crate::fault::BuildFault;
 use crate::reader::Reader;
 use crs_part::Text;
-use std::alloc::{AllocError, Global};
+use std::alloc::Global;
 use wkt_slots::Takes;
 
-pub(crate) fn build_value(alloc: Global, cursor: &mut Reader<'_>) -> Result<Text, AllocError>
+pub(crate) fn build_value(alloc: Global, cursor: &mut Reader<'_>) -> Result<Text, BuildFault>
     ensures builds { BuildsNode nodes.Value value_fields cursor.old cursor.new result }
     ensures shorter { length cursor.new ≤ length cursor.old }
 {
     pass(cursor);
-    let value = take_one::<Text, Text>(alloc, cursor)?;
-    pass(cursor);
+    let value = take_first::<Text, Text>(alloc, cursor)?;
+    close(cursor)?;
     Ok(value)
 }
 
@@ -35,7 +36,7 @@ impl Built<Text> for Scope {
         Takes::Scope
     }
 
-    fn build(alloc: Global, cursor: &mut Reader<'_>) -> Result<Text, AllocError> {
+    fn build(alloc: Global, cursor: &mut Reader<'_>) -> Result<Text, BuildFault> {
         build_value(alloc, cursor)
     }
 }
@@ -52,7 +53,7 @@ impl Built<Text> for Area {
         Takes::Area
     }
 
-    fn build(alloc: Global, cursor: &mut Reader<'_>) -> Result<Text, AllocError> {
+    fn build(alloc: Global, cursor: &mut Reader<'_>) -> Result<Text, BuildFault> {
         build_value(alloc, cursor)
     }
 }
@@ -69,7 +70,7 @@ impl Built<Text> for Anchor {
         Takes::Anchor
     }
 
-    fn build(alloc: Global, cursor: &mut Reader<'_>) -> Result<Text, AllocError> {
+    fn build(alloc: Global, cursor: &mut Reader<'_>) -> Result<Text, BuildFault> {
         build_value(alloc, cursor)
     }
 }
@@ -86,7 +87,7 @@ impl Built<Text> for Citation {
         Takes::Citation
     }
 
-    fn build(alloc: Global, cursor: &mut Reader<'_>) -> Result<Text, AllocError> {
+    fn build(alloc: Global, cursor: &mut Reader<'_>) -> Result<Text, BuildFault> {
         build_value(alloc, cursor)
     }
 }
@@ -103,7 +104,7 @@ impl Built<Text> for Uri {
         Takes::Uri
     }
 
-    fn build(alloc: Global, cursor: &mut Reader<'_>) -> Result<Text, AllocError> {
+    fn build(alloc: Global, cursor: &mut Reader<'_>) -> Result<Text, BuildFault> {
         build_value(alloc, cursor)
     }
 }
@@ -120,7 +121,7 @@ impl Built<Text> for Remark {
         Takes::Remark
     }
 
-    fn build(alloc: Global, cursor: &mut Reader<'_>) -> Result<Text, AllocError> {
+    fn build(alloc: Global, cursor: &mut Reader<'_>) -> Result<Text, BuildFault> {
         build_value(alloc, cursor)
     }
 }

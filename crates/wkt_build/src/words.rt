@@ -9,9 +9,10 @@ ghost use Rattle.wkt_meaning.specs.Words.{direction_word, directions_listed, fir
 ghost use Rattle.wkt_build.specs.Leaves.{TakesWord};
 
 use crate::built::Built;
+use crate::fault::BuildFault;
 use crate::reader::Reader;
 use crs_part::{Direction, SystemKind};
-use std::alloc::{AllocError, Global};
+use std::alloc::Global;
 use wkt_slots::Takes;
 use wkt_tree::TokenKind;
 
@@ -174,7 +175,7 @@ impl Built<SystemKind> for SystemKind {
         Takes::CsKind
     }
 
-    fn build(alloc: Global, cursor: &mut Reader<'_>) -> Result<SystemKind, AllocError> {
+    fn build(alloc: Global, cursor: &mut Reader<'_>) -> Result<SystemKind, BuildFault> {
         Ok(take_kind(cursor))
     }
 }
@@ -188,7 +189,7 @@ impl Built<Direction> for Direction {
         Takes::Direction
     }
 
-    fn build(alloc: Global, cursor: &mut Reader<'_>) -> Result<Direction, AllocError> {
+    fn build(alloc: Global, cursor: &mut Reader<'_>) -> Result<Direction, BuildFault> {
         Ok(take_direction(cursor))
     }
 }
