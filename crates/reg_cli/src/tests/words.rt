@@ -43,6 +43,68 @@ fn knows_its_command_lines(rt: HostRuntime) -> Result<(), Fail> {
             "crsreg wkt --pretty no/such/file 00000000-0000-4000-8000-00000000000a:1",
             3,
         ),
+        ("crsreg enter --help", 0),
+        ("crsreg enter", 2),
+        ("crsreg supersede --help", 0),
+        ("crsreg supersede", 2),
+        ("crsreg retire --help", 0),
+        ("crsreg retire", 2),
+        ("crsreg show --help", 0),
+        ("crsreg show", 2),
+        ("crsreg ops --help", 0),
+        ("crsreg ops", 2),
+        ("crsreg report --help", 0),
+        ("crsreg report", 2),
+        (
+            "crsreg enter no/such/file --as 00000000-0000-4000-8000-00000000000a --text no/such/text",
+            2,
+        ),
+        (
+            "crsreg enter no/such/file --as 7 --text no/such/text --out no/such/folder/out",
+            1,
+        ),
+        (
+            "crsreg enter no/such/file --as 00000000-0000-4000-8000-00000000000a --text no/such/text --out no/such/folder/out",
+            3,
+        ),
+        (
+            "crsreg supersede no/such/file 00000000-0000-4000-8000-00000000000a:1 --as 00000000-0000-4000-8000-00000000000a --out no/such/folder/out",
+            2,
+        ),
+        (
+            "crsreg supersede no/such/file 00000000-0000-4000-8000-00000000000a:1 7 --as 00000000-0000-4000-8000-00000000000a --out no/such/folder/out",
+            1,
+        ),
+        (
+            "crsreg supersede no/such/file 00000000-0000-4000-8000-00000000000a:1 00000000-0000-4000-8000-00000000000a:2 --as 7 --out no/such/folder/out",
+            1,
+        ),
+        (
+            "crsreg supersede no/such/file 00000000-0000-4000-8000-00000000000a:1 00000000-0000-4000-8000-00000000000a:2 --as 00000000-0000-4000-8000-00000000000a --out no/such/folder/out",
+            3,
+        ),
+        (
+            "crsreg retire no/such/file --as 00000000-0000-4000-8000-00000000000a --out no/such/folder/out",
+            2,
+        ),
+        (
+            "crsreg retire no/such/file 7 --as 00000000-0000-4000-8000-00000000000a --out no/such/folder/out",
+            1,
+        ),
+        (
+            "crsreg retire no/such/file 00000000-0000-4000-8000-00000000000a:1 00000000-0000-4000-8000-00000000000a:2 --as 00000000-0000-4000-8000-00000000000a --out no/such/folder/out",
+            3,
+        ),
+        ("crsreg show no/such/file", 2),
+        ("crsreg show no/such/file 7", 1),
+        (
+            "crsreg show no/such/file 00000000-0000-4000-8000-00000000000a:1",
+            3,
+        ),
+        ("crsreg ops no/such/file", 3),
+        ("crsreg report no/such/file", 2),
+        ("crsreg report no/such/file statuses", 2),
+        ("crsreg report no/such/file gaps", 3),
     ];
     for (line, status) in lines {
         let mut words = Vec::new(rt.alloc());
