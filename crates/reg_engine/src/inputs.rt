@@ -5,7 +5,7 @@ ghost use Rattle.reg_file.specs.Files.{Finds};
 ghost use Rattle.reg_engine.specs.Inputs.{IsUnread, HoldAll, AreUnread};
 
 use crate::fault::CliFault;
-use reg_file::read_register;
+use reg_file::read_register_beside;
 use reg_state::Register;
 use std::alloc::Global;
 use wkt_crs::Source;
@@ -19,7 +19,20 @@ pub fn read_file<S: Source>(
     ensures found { IfOk result (Finds (S.state source.old) (S.state source.new)) }
     ensures fault { IfErr result (IsUnread number (S.state source.old) (S.state source.new)) }
 {
-    match read_register(alloc, source) {
+    read_file_beside(alloc, &[], number, source)
+}
+
+/// The same, where some registers are read already: what they have of it is not read again.
+fn read_file_beside<S: Source>(
+    alloc: Global,
+    known: &[Register],
+    number: usize,
+    source: &mut S,
+) -> Result<Register, CliFault>
+    ensures found { IfOk result (Finds (S.state source.old) (S.state source.new)) }
+    ensures fault { IfErr result (IsUnread number (S.state source.old) (S.state source.new)) }
+{
+    match read_register_beside(alloc, known, source) {
         Ok(register) => Ok(register),
         Err(fault) => Err(CliFault::of_register(number, fault)),
     }
@@ -32,7 +45,7 @@ pub fn read_files<S: Source>(alloc: Global, sources: &mut [S]) -> Result<Vec<Reg
 {
     let mut registers = Vec::new(alloc);
     for i in 0..sources.len() {
-        let register = match read_file(alloc, i + 1, &mut sources[i]) {
+        let register = match read_file_beside(alloc, &registers, i + 1, &mut sources[i]) {
             Ok(register) => register,
             Err(fault) => return Err(fault),
         };

@@ -16,5 +16,5 @@ mod tests;
 mod writing;
 
 pub use fault::{FileFault, ReadFileFault, WriteFileFault};
-pub use reading::{read_bytes, read_register};
+pub use reading::{read_bytes, read_register, read_register_beside};
 pub use writing::{write_bytes, write_register};

@@ -1,6 +1,6 @@
 //! Operations, read one after the other.
 
-ghost use Rattle.std.specs.Prelude.{◌≡◌, ◌≤◌, length, IfOk, IfErr};
+ghost use Rattle.std.specs.Prelude.{◌≡◌, ◌≤◌, length, IfOk, IfErr, IfSome};
 ghost use Rattle.reg_file.specs.Fields.{body_at};
 ghost use Rattle.reg_file.specs.Readers.{StopsIn};
 ghost use Rattle.reg_file.specs.Reading.{operation, operations, left_in, places_of};
@@ -10,14 +10,38 @@ use crate::fault::{FileFault, Stop};
 use crate::fields::{id_of, op_kind_of, own_of, pair_of, refused, text_of};
 use crate::place::Place;
 use reg_op::{Op, OpBody, OpId, SameEntry};
-use reg_state::Seen;
+use reg_state::{Register, Seen};
 use std::alloc::Global;
 use wkt_crs::{Definition, DefinitionFault, ReadFault};
 
-fn definition_of(alloc: Global, text: &[u8], left: usize) -> Result<Definition, Stop>
+/// The definition with this text that is known, where it has the text.
+fn known_as(alloc: Global, known: Option<&Definition>, text: &[u8]) -> Option<Definition>
+    ensures { IfSome result (λ d. d ≡ text.now) }
+{
+    let Some(definition) = known else {
+        return None;
+    };
+    if definition.as_bytes() != text {
+        return None;
+    }
+    match definition.try_clone(alloc) {
+        Ok(shared) => Some(shared),
+        Err(_) => None,
+    }
+}
+
+fn definition_of(
+    alloc: Global,
+    known: Option<&Definition>,
+    text: &[u8],
+    left: usize,
+) -> Result<Definition, Stop>
     ensures ok { IfOk result (λ d. d ≡ text.now) }
     ensures err { IfErr result (StopsInText text.now left) }
 {
+    if let Some(definition) = known_as(alloc, known, text) {
+        return Ok(definition);
+    }
     match Definition::from_canonical(alloc, text) {
         Ok(definition) => Ok(definition),
         Err(DefinitionFault::Memory) => Err(Stop::Memory),
@@ -27,7 +51,11 @@ fn definition_of(alloc: Global, text: &[u8], left: usize) -> Result<Definition, 
     }
 }
 
-fn enter_of(alloc: Global, bytes: &[u8]) -> Result<(OpBody, &[u8]), Stop>
+fn enter_of<'a>(
+    alloc: Global,
+    known: Option<&Definition>,
+    bytes: &'a [u8],
+) -> Result<(OpBody, &'a [u8]), Stop>
     ensures ok { IfOk result (λ x. body_at 1 bytes.now ≡ Ok (x.0, x.1.now)) }
     ensures err { IfErr result (StopsAs (λ b. b) (length bytes.now) (body_at 1 bytes.now)) }
 {
@@ -35,7 +63,7 @@ fn enter_of(alloc: Global, bytes: &[u8]) -> Result<(OpBody, &[u8]), Stop>
         Ok(read) => read,
         Err(stop) => return Err(stop),
     };
-    match definition_of(alloc, text, bytes.len()) {
+    match definition_of(alloc, known, text, bytes.len()) {
         Ok(definition) => Ok((OpBody::Enter(definition), rest)),
         Err(stop) => Err(stop),
     }
@@ -64,13 +92,18 @@ fn retire_of(bytes: &[u8]) -> Result<(OpBody, &[u8]), Stop>
     Ok((OpBody::Retire { entry }, rest))
 }
 
-fn body_of(alloc: Global, kind: u8, bytes: &[u8]) -> Result<(OpBody, &[u8]), Stop>
+fn body_of<'a>(
+    alloc: Global,
+    known: Option<&Definition>,
+    kind: u8,
+    bytes: &'a [u8],
+) -> Result<(OpBody, &'a [u8]), Stop>
     requires { (1 ≤ kind) × (kind ≤ 3) }
     ensures ok { IfOk result (λ x. body_at kind bytes.now ≡ Ok (x.0, x.1.now)) }
     ensures err { IfErr result (StopsAs (λ b. b) (length bytes.now) (body_at kind bytes.now)) }
 {
     if kind == 1 {
-        return enter_of(alloc, bytes);
+        return enter_of(alloc, known, bytes);
     }
     if kind == 2 {
         return supersede_of(bytes);
@@ -78,8 +111,14 @@ fn body_of(alloc: Global, kind: u8, bytes: &[u8]) -> Result<(OpBody, &[u8]), Sto
     retire_of(bytes)
 }
 
+/// What the id entered in the first of the registers that has it.
+fn entered_in(known: &[Register], id: OpId) -> Option<&Definition> {
+    known.iter().find_map(|register| register.definition(id))
+}
+
 fn op_of<'a>(
     alloc: Global,
+    known: &[Register],
     last: Option<OpId>,
     seen: &Seen,
     bytes: &'a [u8],
@@ -95,7 +134,7 @@ fn op_of<'a>(
         Ok(read) => read,
         Err(stop) => return Err(stop),
     };
-    let (body, rest) = match body_of(alloc, kind, rest) {
+    let (body, rest) = match body_of(alloc, entered_in(known, id), kind, rest) {
         Ok(read) => read,
         Err(stop) => return Err(stop),
     };
@@ -111,6 +150,7 @@ fn op_of<'a>(
 /// So many operations, each after the one before it, and where each was read.
 pub fn ops_of<'a>(
     alloc: Global,
+    known: &[Register],
     seen: &Seen,
     count: u32,
     bytes: &'a [u8],
@@ -123,7 +163,7 @@ pub fn ops_of<'a>(
     let mut last = None;
     let mut rest = bytes;
     for _ in 0..count {
-        let (op, after) = match op_of(alloc, last, seen, rest) {
+        let (op, after) = match op_of(alloc, known, last, seen, rest) {
             Ok(read) => read,
             Err(stop) => return Err(stop),
         };

@@ -62,7 +62,7 @@ fn register_of(
     Ok(register)
 }
 
-fn read_all(alloc: Global, bytes: &[u8]) -> Result<Register, Stop>
+fn read_all(alloc: Global, known: &[Register], bytes: &[u8]) -> Result<Register, Stop>
     ensures ok { IfOk result (λ r. ReadsContent bytes.now r) }
     ensures err { IfErr result (StopsIn register bytes.now) }
 {
@@ -78,7 +78,7 @@ fn read_all(alloc: Global, bytes: &[u8]) -> Result<Register, Stop>
         Ok(read) => read,
         Err(stop) => return Err(stop),
     };
-    let (ops, places, rest) = match ops_of(alloc, &seen, count, rest) {
+    let (ops, places, rest) = match ops_of(alloc, known, &seen, count, rest) {
         Ok(read) => read,
         Err(stop) => return Err(stop),
     };
@@ -97,10 +97,24 @@ pub fn read_bytes(alloc: Global, bytes: &[u8]) -> Result<Register, ReadFileFault
     // Which fault it is.
     ensures fault { IfErr result (IsReadFault bytes.now) }
 {
+    read_bytes_beside(alloc, &[], bytes)
+}
+
+/// The same, where some registers are known: a definition that an operation of the same id entered there is taken over
+/// where its text is the same, and not read again.
+fn read_bytes_beside(
+    alloc: Global,
+    known: &[Register],
+    bytes: &[u8],
+) -> Result<Register, ReadFileFault>
+    ensures found { IfOk result (λ r. Holds bytes.now r) }
+    ensures only { (x : Content) → Holds bytes.now x → (result ≡ Ok x) ⊎ (result ≡ Err ReadFileFault.Memory) }
+    ensures fault { IfErr result (IsReadFault bytes.now) }
+{
     if bytes.len() > MOST {
         return Err(ReadFileFault::TooLarge);
     }
-    match read_all(alloc, bytes) {
+    match read_all(alloc, known, bytes) {
         Ok(register) => Ok(register),
         Err(Stop::Memory) => Err(ReadFileFault::Memory),
         Err(Stop::Refused(first)) => Err(ReadFileFault::File {
@@ -116,12 +130,25 @@ pub fn read_register<S: Source>(alloc: Global, source: &mut S) -> Result<Registe
     ensures found { IfOk result (Finds (S.state source.old) (S.state source.new)) }
     ensures fault { IfErr result (IsReadFromFault (S.state source.old) (S.state source.new)) }
 {
+    read_register_beside(alloc, &[], source)
+}
+
+/// The same, where some registers are known: a definition that an operation of the same id entered there is taken over
+/// where its text is the same, and not read again.
+pub fn read_register_beside<S: Source>(
+    alloc: Global,
+    known: &[Register],
+    source: &mut S,
+) -> Result<Register, ReadFileFault>
+    ensures found { IfOk result (Finds (S.state source.old) (S.state source.new)) }
+    ensures fault { IfErr result (IsReadFromFault (S.state source.old) (S.state source.new)) }
+{
     let bytes = match read_up_to(alloc, source, MOST + 1) {
         Ok(bytes) => bytes,
         Err(InFault::ReadFailed(n)) => return Err(ReadFileFault::ReadFailed(n)),
         Err(InFault::Memory) => return Err(ReadFileFault::Memory),
     };
-    match read_bytes(alloc, &bytes) {
+    match read_bytes_beside(alloc, known, &bytes) {
         Ok(register) => Ok(register),
         Err(fault) => Err(fault),
     }

@@ -26,6 +26,7 @@ use Rattle.wkt_slots.specs.Rows.{takes}
 use Rattle.wkt_slots.specs.Words.{keyword_of, is_cs_kind, is_direction}
 use Rattle.wkt_tier.specs.Slots.{argument_by}
 use Rattle.wkt_tier.specs.Bare.{Bare, text, bare, shape}
+use Rattle.wkt_meaning.specs.FirstEdition.{Fitting}
 use Rattle.wkt_meaning.specs.Leaves.{undoubled, DenotesText, DenotesNumber, DenotesCount, DenotesWord}
 use Rattle.wkt_meaning.specs.Words.{system_word, direction_word, first_word, kinds_listed, directions_listed}
 use Rattle.wkt_meaning.specs.Denotes.{DenotesCode}
@@ -70,9 +71,9 @@ number_item (tree.text p) old new rest d t e m = absurd cc
 number_item (tree.word p) old new rest d t e m = absurd (no_word kinds.Number refl refl (is_cs_kind p.bytes) (is_direction p.bytes) t)
 number_item (tree.node k f o items c) old new rest d t e m = absurd (no_node kinds.Number (λ k. refl) (keyword_of k.bytes) t)
 
-pub number_made : (old new : List Tok) (d : Decimal) → TakesNumber old new d → (x : Bare) (rest : List Tok) → takes kinds.Number (shape x) ≡ true → Next x old rest → DenotesNumber x d × (new ≡ rest)
+pub number_made : (old new : List Tok) (d : Decimal) → TakesNumber old new d → (x : Bare) (rest : List Tok) → Fitting kinds.Number x → Next x old rest → DenotesNumber x d × (new ≡ rest)
 number_made old new d m x rest f n =
-    let a = number_item n.item old new rest d (ap (λ y. takes kinds.Number (shape y)) n.is ∙ f) n.tokens_are m in
+    let a = number_item n.item old new rest d (ap (λ y. takes kinds.Number (shape y)) n.is ∙ f.taken) n.tokens_are m in
     (subst (λ y. DenotesNumber y d) n.is a.0, a.1)
 
 -- ---- counts
@@ -109,9 +110,9 @@ count_item (tree.text p) old new rest n t e m = absurd cc
 count_item (tree.word p) old new rest n t e m = absurd (no_word kinds.Count refl refl (is_cs_kind p.bytes) (is_direction p.bytes) t)
 count_item (tree.node k f o items c) old new rest n t e m = absurd (no_node kinds.Count (λ k. refl) (keyword_of k.bytes) t)
 
-pub count_made : (old new : List Tok) (v : ℕ) → TakesCount old new v → (x : Bare) (rest : List Tok) → takes kinds.Count (shape x) ≡ true → Next x old rest → DenotesCount x v × (new ≡ rest)
+pub count_made : (old new : List Tok) (v : ℕ) → TakesCount old new v → (x : Bare) (rest : List Tok) → Fitting kinds.Count x → Next x old rest → DenotesCount x v × (new ≡ rest)
 count_made old new v m x rest f n =
-    let a = count_item n.item old new rest v (ap (λ y. takes kinds.Count (shape y)) n.is ∙ f) n.tokens_are m in
+    let a = count_item n.item old new rest v (ap (λ y. takes kinds.Count (shape y)) n.is ∙ f.taken) n.tokens_are m in
     (subst (λ y. DenotesCount y v) n.is a.0, a.1)
 
 -- ---- texts
@@ -126,9 +127,9 @@ text_item (tree.number p) old new rest v t e m = absurd (no_number kinds.Text re
 text_item (tree.word p) old new rest v t e m = absurd (no_word kinds.Text refl refl (is_cs_kind p.bytes) (is_direction p.bytes) t)
 text_item (tree.node k f o items c) old new rest v t e m = absurd (no_node kinds.Text (λ k. refl) (keyword_of k.bytes) t)
 
-pub text_made : (old new : List Tok) (v : Text) → TakesText old new v → (x : Bare) (rest : List Tok) → takes kinds.Text (shape x) ≡ true → Next x old rest → DenotesText x v × (new ≡ rest)
+pub text_made : (old new : List Tok) (v : Text) → TakesText old new v → (x : Bare) (rest : List Tok) → Fitting kinds.Text x → Next x old rest → DenotesText x v × (new ≡ rest)
 text_made old new v m x rest f n =
-    let a = text_item n.item old new rest v (ap (λ y. takes kinds.Text (shape y)) n.is ∙ f) n.tokens_are m in
+    let a = text_item n.item old new rest v (ap (λ y. takes kinds.Text (shape y)) n.is ∙ f.taken) n.tokens_are m in
     (subst (λ y. DenotesText y v) n.is a.0, a.1)
 
 -- ---- a number or a text
@@ -145,14 +146,14 @@ code_text_item (tree.number p) old new rest v h t e m = absurd (let z = sym h �
 code_text_item (tree.word p) old new rest v h t e m = absurd (no_word kinds.NumberOrText refl refl (is_cs_kind p.bytes) (is_direction p.bytes) t)
 code_text_item (tree.node k f o items c) old new rest v h t e m = absurd (no_node kinds.NumberOrText (λ k. refl) (keyword_of k.bytes) t)
 
-pub number_code_made : (old new : List Tok) (d : Decimal) → next_is_number old ≡ true → TakesNumber old new d → (x : Bare) (rest : List Tok) → takes kinds.NumberOrText (shape x) ≡ true → Next x old rest → DenotesCode x (code.Number d) × (new ≡ rest)
+pub number_code_made : (old new : List Tok) (d : Decimal) → next_is_number old ≡ true → TakesNumber old new d → (x : Bare) (rest : List Tok) → Fitting kinds.NumberOrText x → Next x old rest → DenotesCode x (code.Number d) × (new ≡ rest)
 number_code_made old new d h m x rest f n =
-    let a = code_number_item n.item old new rest d h (ap (λ y. takes kinds.NumberOrText (shape y)) n.is ∙ f) n.tokens_are m in
+    let a = code_number_item n.item old new rest d h (ap (λ y. takes kinds.NumberOrText (shape y)) n.is ∙ f.taken) n.tokens_are m in
     (subst (λ y. DenotesNumber y d) n.is a.0, a.1)
 
-pub text_code_made : (old new : List Tok) (v : Text) → next_is_number old ≡ false → TakesText old new v → (x : Bare) (rest : List Tok) → takes kinds.NumberOrText (shape x) ≡ true → Next x old rest → DenotesCode x (code.Text v) × (new ≡ rest)
+pub text_code_made : (old new : List Tok) (v : Text) → next_is_number old ≡ false → TakesText old new v → (x : Bare) (rest : List Tok) → Fitting kinds.NumberOrText x → Next x old rest → DenotesCode x (code.Text v) × (new ≡ rest)
 text_code_made old new v h m x rest f n =
-    let a = code_text_item n.item old new rest v h (ap (λ y. takes kinds.NumberOrText (shape y)) n.is ∙ f) n.tokens_are m in
+    let a = code_text_item n.item old new rest v h (ap (λ y. takes kinds.NumberOrText (shape y)) n.is ∙ f.taken) n.tokens_are m in
     (subst (λ y. DenotesText y v) n.is a.0, a.1)
 
 -- ---- words
@@ -207,9 +208,9 @@ pub peeked : (old new : List Tok) (t : Tok) → Some t ≡ slice_get old 0 → n
 peeked old new t e n u rest h = (let g = e ∙ ap (λ (l : List Tok). slice_get l 0) h in cc, n ∙ ap (drop 1) h)
 
 pub word_made : {A : Type 0} (kind : Takes) (is_listed : List ℕ → Bool) (f : A → List ℕ) (old new : List Tok) (v : A) → ((i : Item) → takes kind (shape (bare i)) ≡ true → (p : Piece) × (i ≡ tree.word p) × (is_listed p.bytes ≡ true)) → TakesWord is_listed f old new v
-    → (x : Bare) (rest : List Tok) → takes kind (shape x) ≡ true → Next x old rest → DenotesWord f x v × (new ≡ rest)
+    → (x : Bare) (rest : List Tok) → Fitting kind x → Next x old rest → DenotesWord f x v × (new ≡ rest)
 word_made kind is_listed f old new v item m x rest fit n =
-    let w = item n.item (ap (λ y. takes kind (shape y)) n.is ∙ fit) in
+    let w = item n.item (ap (λ y. takes kind (shape y)) n.is ∙ fit.taken) in
     let a = m (tok Word w.0) rest (n.tokens_are ∙ ap (λ i. tokens i ++ rest) w.1) w.2 in
     (record { bytes = w.0.bytes; is = sym n.is ∙ ap bare w.1; spells = a.0 }, a.1)
 
@@ -236,7 +237,7 @@ direction_item (tree.text p) t = absurd cc
 direction_item (tree.number p) t = absurd (no_number kinds.Direction refl refl (is_count p.bytes) t)
 direction_item (tree.node k f o items c) t = absurd (no_node kinds.Direction (λ k. refl) (keyword_of k.bytes) t)
 
-pub text_result : {E : Type 0} (old new : List Tok) (r : Result Text E) → IfOk r (TakesText old new) → (x : Bare) (rest : List Tok) → takes kinds.Text (shape x) ≡ true → Next x old rest → IfOk r (λ v. DenotesText x v × (new ≡ rest))
+pub text_result : {E : Type 0} (old new : List Tok) (r : Result Text E) → IfOk r (TakesText old new) → (x : Bare) (rest : List Tok) → Fitting kinds.Text x → Next x old rest → IfOk r (λ v. DenotesText x v × (new ≡ rest))
 text_result old new (Ok v) m x rest f n = text_made old new v m x rest f n
 text_result old new (Err e) m x rest f n = tt
 

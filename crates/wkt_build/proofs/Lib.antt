@@ -4,4 +4,4 @@ pub mod Only
 pub mod LeafLemmas
 pub mod Chosen
 pub mod Roots
-mod Plain
+pub mod Plain

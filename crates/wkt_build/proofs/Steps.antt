@@ -1,17 +1,17 @@
 -- What the builders of arguments make of the tokens that come.
-use Rattle.std.proofs.Common.{◌≡◌, ◌<◌, Bool, true, false, Result, Ok, Err, List, [], ◌∷◌, ◌++◌, length, drop, refl, sym, ap, ◌∙◌, subst, arith, append_assoc}
-use Rattle.std.specs.Prelude.{◌&&◌}
+use Rattle.std.proofs.Common.{◌≡◌, ◌<◌, true, false, List, [], ◌∷◌, ◌++◌, length, drop, refl, sym, ap, ◌∙◌, subst, arith, append_assoc, append-nil}
 use Rattle.wkt_tree.specs.declared.token.TokenKind.TheVariants.{Comma}
 use Rattle.wkt_tree.specs.Tree.{Piece, Tok, tok, Item, Items, last, more, tokens, all_tokens}
 use Rattle.wkt_tree.specs.Tree as tree
 use Rattle.wkt_slots.specs.declared.table.Takes.{Takes}
 use Rattle.wkt_slots.specs.Rows.{takes}
 use Rattle.wkt_tier.specs.Slots.{argument}
-use Rattle.wkt_tier.specs.Next.{coming, next_is, is_comma, Follows}
+use Rattle.wkt_tier.specs.Next.{coming, Follows}
 use Rattle.wkt_tier.specs.Bare.{Bare, shape}
+use Rattle.wkt_meaning.specs.FirstEdition.{Fitting, AllFitting}
 use Rattle.wkt_tier.proofs.Fitting.{shape-bare}
 use Rattle.wkt_meaning.specs.Runs.{Each}
-use Rattle.wkt_build.specs.Reads.{Next, Behind, Builds, BuildsFirst, Front, comes}
+use Rattle.wkt_build.specs.Reads.{Next, Behind, comes}
 
 -- ---- which argument comes
 
@@ -29,19 +29,20 @@ comes_next t c x behind rest n = ap (takes t) (coming_next x behind rest n)
 
 -- ---- any number of arguments
 
--- what was taken of some arguments, and what is to come
-pub record Taken {A : Type 0} (t : Takes) (D : Bare → A → Type 0) (xs : List Bare) (items : List A) (toks end : List Tok) : Type 0 where
+-- what was taken of a run, and what is to come
+pub record Taken {A : Type 0} (t : Takes) (D : Bare → A → Type 0) (run : List Bare) (items : List A) (toks end : List Tok) : Type 0 where
   pub before : List Bare
   pub after : List Bare
-  pub parts : xs ≡ before ++ after
+  pub parts : run ≡ before ++ after
   pub made : Each D items before
+  pub fit : AllFitting t after
   pub comes_after : Behind after toks end
 
 abbrev pub TakesOn : {A : Type 0} → Takes → (Bare → A → Type 0) → List Tok → List Tok → List A → Type 0
-TakesOn t D old toks items = (xs : List Bare) (end : List Tok) → Behind xs old end → comes t end ≡ false → Taken t D xs items toks end
+TakesOn t D old toks items = (run : List Bare) (end : List Tok) → AllFitting t run → Behind run old end → Follows end → comes t end ≡ false → Taken t D run items toks end
 
 pub taken_none : {A : Type 0} (t : Takes) (D : Bare → A → Type 0) (old : List Tok) (items : List A) → items ≡ [] → TakesOn t D old old items
-taken_none t D old items e xs end b n = record { before = []; after = xs; parts = refl; made = subst (λ vs. Each D vs []) (sym e) tt; comes_after = b }
+taken_none t D old items e run end f b o n = record { before = []; after = run; parts = refl; made = subst (λ vs. Each D vs []) (sym e) tt; fit = f; comes_after = b }
 
 each_more : {A : Type 0} (D : Bare → A → Type 0) (vs : List A) (xs : List Bare) (v : A) (x : Bare) → Each D vs xs → D x v → Each D (vs ++ v ∷ []) (xs ++ x ∷ [])
 each_more D [] [] v x e d = (d, tt)
@@ -50,50 +51,42 @@ each_more D (w ∷ vs) [] v x e d = absurd e
 each_more D (w ∷ vs) (y ∷ xs) v x e d = (e.0, each_more D vs xs v x e.1 d)
 
 pub taken_more : {A : Type 0} (t : Takes) (D : Bare → A → Type 0) (old toks new : List Tok) (items items' : List A) (v : A) → TakesOn t D old toks items → comes t toks ≡ true
-    → ((x : Bare) (first : Tok) (behind rest : List Tok) → toks ≡ first ∷ behind → Next x behind rest → D x v × (new ≡ rest)) → items' ≡ items ++ v ∷ [] → TakesOn t D old new items'
-taken_more {A} t D old toks new items items' v h c b e xs end g n = step (h xs end g n)
+    → ((x : Bare) (first : Tok) (behind rest : List Tok) → Fitting t x → toks ≡ first ∷ behind → Next x behind rest → D x v × (new ≡ rest)) → items' ≡ items ++ v ∷ [] → TakesOn t D old new items'
+taken_more {A} t D old toks new items items' v h c b e run end f g o n = step (h run end f g o n)
   where
-    step : Taken t D xs items toks end → Taken t D xs items' new end
-    step w = by w.after w.parts w.comes_after
+    step : Taken t D run items toks end → Taken t D run items' new end
+    step w = by w.after w.parts w.fit w.comes_after
       where
-        by : (after : List Bare) → xs ≡ w.before ++ after → Behind after toks end → Taken t D xs items' new end
-        by [] p r = absurd (let z = sym c ∙ (ap (comes t) r ∙ n) in cc)
-        by (x ∷ after) p r =
-            let made = b x (tok Comma r.0) r.1 r.2 r.3 r.4 in
+        by : (after : List Bare) → run ≡ w.before ++ after → AllFitting t after → Behind after toks end → Taken t D run items' new end
+        by [] p q r = absurd (let z = sym c ∙ (ap (comes t) r ∙ n) in cc)
+        by (x ∷ after) p q r =
+            let made = b x (tok Comma r.0) r.1 r.2 q.0 r.3 r.4 in
             record {
               before = w.before ++ x ∷ [];
               after = after;
               parts = p ∙ sym (append_assoc w.before (x ∷ []) after);
               made = subst (λ vs. Each D vs (w.before ++ x ∷ [])) (sym e) (each_more D items w.before v x w.made made.0);
+              fit = q.1;
               comes_after = subst (λ l. Behind after l end) (sym made.1) r.5;
             }
 
-pub taken_all : {A : Type 0} (t : Takes) (D : Bare → A → Type 0) (old toks : List Tok) (items : List A) → TakesOn t D old toks items → (xs : List Bare) (end : List Tok) → Behind xs old end → comes t end ≡ false → Front D xs items toks end
-taken_all t D old toks items h xs end b n =
-    let w = h xs end b n in
-    record { run = w.before; others = w.after; parts = w.parts; made = w.made; left = w.comes_after }
+pub taken_all : {A : Type 0} (t : Takes) (D : Bare → A → Type 0) (old toks : List Tok) (items : List A) → TakesOn t D old toks items → comes t toks ≡ false
+    → (run : List Bare) (end : List Tok) → AllFitting t run → Behind run old end → Follows end → comes t end ≡ false → Each D items run × (toks ≡ end)
+taken_all t D old toks items h c run end f g o n = by w.after w.parts w.fit w.comes_after
+  where
+    w : Taken t D run items toks end
+    w = h run end f g o n
+
+    by : (after : List Bare) → run ≡ w.before ++ after → AllFitting t after → Behind after toks end → Each D items run × (toks ≡ end)
+    by [] p q r = (subst (Each D items) (sym (p ∙ append-nil w.before)) w.made, r)
+    by (x ∷ after) p q r = absurd (let z = sym c ∙ (ap (comes t) r.3 ∙ (comes_next t r.0 x r.1 r.2 r.4 ∙ q.0.taken)) in cc)
 
 -- a token less
 pub shorter_by_one : (t : Takes) (toks : List Tok) → comes t toks ≡ true → length (drop 1 toks) < length toks
 shorter_by_one t [] e = absurd cc
 shorter_by_one t (x ∷ toks) e = omega arith
 
--- what is built behind a token, where the slot takes what comes there
-pub made_behind : {A : Type 0} (t : Takes) (D : Bare → A → Type 0) (old one new : List Tok) (v : A) → one ≡ drop 1 old → takes t (coming one) ≡ true → ((x : Bare) (rest : List Tok) → takes t (shape x) ≡ true → Next x one rest → D x v × (new ≡ rest))
-    → (x : Bare) (first : Tok) (behind rest : List Tok) → old ≡ first ∷ behind → Next x behind rest → D x v × (new ≡ rest)
-made_behind t D old one new v o k b x first behind rest e n =
-    let m = subst (λ l. Next x l rest) (sym (o ∙ ap (drop 1) e)) n in
-    b x rest (ap (takes t) (sym (coming_next x one rest m)) ∙ k) m
-
--- the same of any result
-pub result_behind : {A E : Type 0} (t : Takes) (D : Bare → A → Type 0) (old one new : List Tok) (r : Result A E) → one ≡ drop 1 old → takes t (coming one) ≡ true → Builds t D one new r → BuildsFirst D old new r
-result_behind t D old one new (Ok v) o k b x first behind rest e n = made_behind t D old one new v o k b x first behind rest e n
-result_behind t D old one new (Err f) o k b x first behind rest e n = tt
-
--- what comes behind a comma, the slot takes
-pub comes_taken : (t : Takes) (toks : List Tok) → comes t toks ≡ true → takes t (coming (drop 1 toks)) ≡ true
-comes_taken t toks e = by (next_is is_comma toks) e
-  where
-    by : (b : Bool) → (b && takes t (coming (drop 1 toks))) ≡ true → takes t (coming (drop 1 toks)) ≡ true
-    by true h = h
-    by false h = absurd cc
+-- what is built behind a token
+pub made_behind : {A : Type 0} (t : Takes) (D : Bare → A → Type 0) (old one new : List Tok) (v : A) → one ≡ drop 1 old → ((x : Bare) (rest : List Tok) → Fitting t x → Next x one rest → D x v × (new ≡ rest))
+    → (x : Bare) (first : Tok) (behind rest : List Tok) → Fitting t x → old ≡ first ∷ behind → Next x behind rest → D x v × (new ≡ rest)
+made_behind t D old one new v o b x first behind rest f e n = b x rest f (subst (λ l. Next x l rest) (sym (o ∙ ap (drop 1) e)) n)

@@ -1,5 +1,5 @@
 -- Which tokens come, in terms of the trees that they are, and what is built of them.
-use Rattle.std.specs.Prelude.{◌≡◌, ℕ, Bool, true, false, ◌&&◌, List, [], ◌∷◌, ◌++◌, Result, IfOk, Option, Some, drop}
+use Rattle.std.specs.Prelude.{◌≡◌, ℕ, Bool, false, ◌&&◌, List, [], ◌∷◌, ◌++◌, Result, IfOk, Option, Some, drop}
 use Rattle.wkt_tree.specs.declared.token.TokenKind.TheVariants.{Comma}
 use Rattle.wkt_tree.specs.Tree.{Piece, Tok, tok, Item, tokens}
 use Rattle.wkt_slots.specs.declared.table.Takes.{Takes}
@@ -8,7 +8,8 @@ use Rattle.wkt_slots.specs.declared.table.Keyword.{Keyword}
 use Rattle.wkt_slots.specs.Rows.{takes}
 use Rattle.wkt_slots.specs.Words.{keyword_of}
 use Rattle.wkt_tier.specs.Next.{next_is, is_comma, coming, Follows}
-use Rattle.wkt_tier.specs.Bare.{Bare, Bares, node, bare, shape}
+use Rattle.wkt_tier.specs.Bare.{Bare, Bares, node, bare}
+use Rattle.wkt_meaning.specs.FirstEdition.{Fitted, Fitting, AllFitting}
 use Rattle.wkt_meaning.specs.Runs.{Fields, IsNode, Each}
 
 -- the tokens are those of an item that is x, and then the rest
@@ -32,30 +33,23 @@ Come (x ∷ xs) toks rest = (first : Tok) × (behind : List Tok) × (mid : List 
 abbrev pub comes : Takes → List Tok → Bool
 comes kind toks = next_is is_comma toks && takes kind (coming (drop 1 toks))
 
--- Where an argument comes that the slot takes, what is built is what it denotes, and what follows it is left.
+-- Where an argument comes that fits, what is built is what it denotes, and what follows it is left.
 abbrev pub Builds : {A E : Type 0} → Takes → (Bare → A → Type 0) → List Tok → List Tok → Result A E → Type 0
-Builds kind D old new result = (x : Bare) (rest : List Tok) → takes kind (shape x) ≡ true → Next x old rest → IfOk result (λ v. D x v × (new ≡ rest))
+Builds kind D old new result = (x : Bare) (rest : List Tok) → Fitting kind x → Next x old rest → IfOk result (λ v. D x v × (new ≡ rest))
 
 -- the same of a node with any keyword, by its row
 abbrev pub BuildsNode : {A E : Type 0} → Node → (A → Fields) → List Tok → List Tok → Result A E → Type 0
 BuildsNode row F old new result = (x : Bare) (keyword : List ℕ) (items : Bares) (means : Keyword) (rest : List Tok)
-    → x ≡ node keyword items → keyword_of keyword ≡ Some means → Next x old rest → IfOk result (λ v. IsNode means row (F v) x × (new ≡ rest))
+    → x ≡ node keyword items → keyword_of keyword ≡ Some means → Fitted row items → Next x old rest → IfOk result (λ v. IsNode means row (F v) x × (new ≡ rest))
 
--- the same of the argument behind a token
-abbrev pub BuildsFirst : {A E : Type 0} → (Bare → A → Type 0) → List Tok → List Tok → Result A E → Type 0
-BuildsFirst D old new result = (x : Bare) (first : Tok) (behind rest : List Tok) → old ≡ first ∷ behind → Next x behind rest → IfOk result (λ v. D x v × (new ≡ rest))
+-- the same behind a token
+abbrev pub BuildsOne : {A E : Type 0} → Takes → (Bare → A → Type 0) → List Tok → List Tok → Result A E → Type 0
+BuildsOne kind D old new result = (x : Bare) (first : Tok) (behind rest : List Tok) → Fitting kind x → old ≡ first ∷ behind → Next x behind rest → IfOk result (λ v. D x v × (new ≡ rest))
 
--- the same, where the slot may be empty
-abbrev pub BuildsSome : {A E : Type 0} → (Bare → A → Type 0) → List Tok → List Tok → Result (Option A) E → Type 0
-BuildsSome D old new result = (x : Bare) (first : Tok) (behind rest : List Tok) → old ≡ first ∷ behind → Next x behind rest → IfOk result (λ o. (v : _) × (o ≡ Some v) × D x v × (new ≡ rest))
+-- an argument of this kind comes, or none does
+abbrev pub BuildsSome : {A E : Type 0} → Takes → (Bare → A → Type 0) → List Tok → List Tok → Result (Option A) E → Type 0
+BuildsSome kind D old new result = (x : Bare) (first : Tok) (behind rest : List Tok) → Fitting kind x → old ≡ first ∷ behind → Next x behind rest → IfOk result (λ o. (v : _) × (o ≡ Some v) × D x v × (new ≡ rest))
 
--- of the arguments that come, these were built, and the others are left
-pub record Front {A : Type 0} (D : Bare → A → Type 0) (xs : List Bare) (vs : List A) (new end : List Tok) : Type 0 where
-  pub run : List Bare
-  pub others : List Bare
-  pub parts : xs ≡ run ++ others
-  pub made : Each D vs run
-  pub left : Behind others new end
-
+-- arguments of this kind come, and behind them none
 abbrev pub BuildsEach : {A E : Type 0} → Takes → (Bare → A → Type 0) → List Tok → List Tok → Result (List A) E → Type 0
-BuildsEach kind D old new result = (xs : List Bare) (end : List Tok) → Behind xs old end → comes kind end ≡ false → IfOk result (λ vs. Front D xs vs new end)
+BuildsEach kind D old new result = (run : List Bare) (end : List Tok) → AllFitting kind run → Behind run old end → Follows end → comes kind end ≡ false → IfOk result (λ vs. Each D vs run × (new ≡ end))

@@ -1,5 +1,5 @@
 -- What is built of the rest of a row.
-use Rattle.std.specs.Prelude.{◌≡◌, false, List, [], ◌∷◌, Result, IfOk}
+use Rattle.std.specs.Prelude.{◌≡◌, List, [], ◌∷◌, Result, IfOk}
 use Rattle.wkt_tree.specs.declared.token.Delimiter.{Delimiter}
 use Rattle.wkt_tree.specs.declared.token.TokenKind.TheVariants.{Close}
 use Rattle.wkt_tree.specs.Tree.{Piece, Tok, tok}
@@ -9,7 +9,7 @@ use Rattle.wkt_slots.specs.declared.table.SlotName.TheVariants as slots
 use Rattle.wkt_slots.specs.declared.table.Takes.TheVariants as kinds
 use Rattle.wkt_slots.specs.declared.table.Keyword.TheVariants as keywords
 use Rattle.wkt_tier.specs.Bare.{Bare}
-use Rattle.wkt_tier.specs.Next.{next_is, is_comma}
+use Rattle.wkt_meaning.specs.FirstEdition.{Cuts}
 use Rattle.wkt_meaning.specs.Runs.{Fields, nothing, ◌&◌, Runs, One, Maybe, Each, AtLeastOne}
 use Rattle.wkt_meaning.specs.Denotes.{DenotesSystem, DenotesAxis, DenotesUnit, DenotesUsage, DenotesIdent, DenotesValue}
 use Rattle.wkt_build.specs.Reads.{Behind}
@@ -21,9 +21,9 @@ pub record Ends (end rest : List Tok) : Type 0 where
   pub piece : Piece
   pub is : end ≡ tok (Close delimiter) piece ∷ rest
 
--- where arguments come and the node then ends, and none of them is left, they are the rest of the row, and this was built of them
+-- where what fits the rest of the row comes, this is what was built of it
 pub record Reads (row : List Slot) (fields : Fields) (old new : List Tok) : Type 0 where
-  pub of : (xs : List Bare) (end rest : List Tok) → Behind xs old end → Ends end rest → next_is is_comma new ≡ false → Runs row fields xs × (new ≡ end)
+  pub of : (xs : List Bare) (end rest : List Tok) → Cuts row xs → Behind xs old end → Ends end rest → Runs row fields xs × (new ≡ end)
 
 -- the slots that the rows of all reference systems of one part end with
 abbrev pub ending_row : List Slot
@@ -46,6 +46,6 @@ ending_fields v =
     & Maybe (DenotesValue keywords.Remark) v.remark
     & nothing
 
--- what is built of the rest of the row
+-- where what fits the rest of the row comes, this is built of it
 abbrev pub BuildsRest : {A E : Type 0} → List Slot → (A → Fields) → List Tok → List Tok → Result A E → Type 0
 BuildsRest row F old new result = IfOk result (λ v. Reads row (F v) old new)

@@ -9,6 +9,7 @@ use Rattle.wkt_slots.specs.Rows.{enters}
 use Rattle.wkt_slots.specs.Words.{keyword_of}
 use Rattle.std.specs.Prelude.{ℕ, Some}
 use Rattle.wkt_tier.specs.Bare.{Bare, Bares, node}
+use Rattle.wkt_meaning.specs.FirstEdition.{Fitted}
 use Rattle.wkt_meaning.specs.Denotes.{DenotesSingle}
 use Rattle.wkt_build.specs.Reads.{Next}
 use Rattle.wkt_build.specs.Choices.{next_keyword}
@@ -22,6 +23,7 @@ pub record IsSingle (x : Bare) (toks : List Tok) : Type 0 where
   pub is : x ≡ node keyword items
   pub meaning : keyword_of keyword ≡ Some means
   pub enters : enters kinds.SingleCrs means ≡ Some row
+  pub fitted : Fitted row items
   pub comes : next_keyword toks ≡ Some means
 
 abbrev pub BuildsSingle : {E : Type 0} → List Tok → List Tok → Result Single E → Type 0

@@ -3,13 +3,12 @@
 ghost use Rattle.wkt_slots.specs.declared.table.Takes.TheVariants as kinds;
 ghost use Rattle.wkt_meaning.specs.Denotes.{DenotesConversion, DenotesParameter};
 
-use crate::built::{Built, close, pass, take_each, take_first, take_maybe, take_one};
-use crate::fault::BuildFault;
+use crate::built::{Built, pass, take_each, take_maybe, take_one};
 use crate::identifiers::Method;
 use crate::reader::Reader;
 use crs_number::Decimal;
 use crs_part::{Conversion, Ident, Named, Parameter, Text, Unit};
-use std::alloc::Global;
+use std::alloc::{AllocError, Global};
 use wkt_slots::Takes;
 
 impl Built<Parameter> for Parameter {
@@ -21,13 +20,13 @@ impl Built<Parameter> for Parameter {
         Takes::Parameter
     }
 
-    fn build(alloc: Global, cursor: &mut Reader<'_>) -> Result<Parameter, BuildFault> {
+    fn build(alloc: Global, cursor: &mut Reader<'_>) -> Result<Parameter, AllocError> {
         pass(cursor);
-        let name = take_first::<Text, Text>(alloc, cursor)?;
+        let name = take_one::<Text, Text>(alloc, cursor)?;
         let value = take_one::<Decimal, Decimal>(alloc, cursor)?;
         let unit = take_maybe::<Unit, Unit>(alloc, cursor)?;
         let ids = take_each::<Ident, Ident>(alloc, cursor)?;
-        close(cursor)?;
+        pass(cursor);
         Ok(Parameter {
             name,
             value,
@@ -46,13 +45,13 @@ impl Built<Conversion> for Conversion {
         Takes::Conversion
     }
 
-    fn build(alloc: Global, cursor: &mut Reader<'_>) -> Result<Conversion, BuildFault> {
+    fn build(alloc: Global, cursor: &mut Reader<'_>) -> Result<Conversion, AllocError> {
         pass(cursor);
-        let name = take_first::<Text, Text>(alloc, cursor)?;
+        let name = take_one::<Text, Text>(alloc, cursor)?;
         let method = take_one::<Method, Named>(alloc, cursor)?;
         let parameters = take_each::<Parameter, Parameter>(alloc, cursor)?;
         let ids = take_each::<Ident, Ident>(alloc, cursor)?;
-        close(cursor)?;
+        pass(cursor);
         Ok(Conversion {
             name,
             method,

@@ -7,10 +7,9 @@ ghost use Rattle.wkt_slots.specs.declared.table.Takes.TheVariants as kinds;
 ghost use Rattle.wkt_meaning.specs.Denotes.{DenotesBase, DenotesParts, DenotesSingle, base_fields, compound_fields, geodetic_fields, projected_fields, vertical_fields};
 ghost use Rattle.wkt_build.specs.Reads.{BuildsNode};
 
-use crate::built::{Built, close, pass, take_each, take_first, take_maybe, take_one};
+use crate::built::{Built, pass, take_each, take_maybe, take_one};
 use crate::choices::{geodetic_kind_of, is_compound, is_projected, is_vertical, next_keyword};
 use crate::ending::take_ending;
-use crate::fault::BuildFault;
 use crate::reader::Reader;
 use crate::values::Remark;
 use crs_part::{
@@ -18,25 +17,25 @@ use crs_part::{
     GeodeticKind, Ident, NonEmpty, PrimeMeridian, Projected, Single, Text, Unit, Usage, Vertical,
     VerticalFrame,
 };
-use std::alloc::Global;
+use std::alloc::{AllocError, Global};
 use wkt_slots::Takes;
 
 pub(crate) fn build_base(
     kind: GeodeticKind,
     alloc: Global,
     cursor: &mut Reader<'_>,
-) -> Result<BaseCrs, BuildFault>
+) -> Result<BaseCrs, AllocError>
     ensures builds { BuildsNode nodes.BaseCrs base_fields cursor.old cursor.new result }
     ensures shorter { length cursor.new ≤ length cursor.old }
     ensures kind { IfOk result (λ v. v.kind ≡ kind) }
 {
     pass(cursor);
-    let name = take_first::<Text, Text>(alloc, cursor)?;
+    let name = take_one::<Text, Text>(alloc, cursor)?;
     let datum = take_one::<GeodeticFrame, GeodeticFrame>(alloc, cursor)?;
     let prime_meridian = take_maybe::<PrimeMeridian, PrimeMeridian>(alloc, cursor)?;
     let unit = take_maybe::<AngleUnit, AngleUnit>(alloc, cursor)?;
     let ids = take_each::<Ident, Ident>(alloc, cursor)?;
-    close(cursor)?;
+    pass(cursor);
     Ok(BaseCrs {
         kind,
         name,
@@ -56,7 +55,7 @@ impl Built<BaseCrs> for BaseCrs {
         Takes::BaseCrs
     }
 
-    fn build(alloc: Global, cursor: &mut Reader<'_>) -> Result<BaseCrs, BuildFault> {
+    fn build(alloc: Global, cursor: &mut Reader<'_>) -> Result<BaseCrs, AllocError> {
         let kind = geodetic_kind_of(next_keyword(cursor));
         build_base(kind, alloc, cursor)
     }
@@ -67,17 +66,17 @@ pub(crate) fn build_geodetic(
     kind: GeodeticKind,
     alloc: Global,
     cursor: &mut Reader<'_>,
-) -> Result<Geodetic, BuildFault>
+) -> Result<Geodetic, AllocError>
     ensures builds { BuildsNode nodes.GeodeticCrs geodetic_fields cursor.old cursor.new result }
     ensures shorter { length cursor.new ≤ length cursor.old }
     ensures kind { IfOk result (λ v. v.kind ≡ kind) }
 {
     pass(cursor);
-    let name = take_first::<Text, Text>(alloc, cursor)?;
+    let name = take_one::<Text, Text>(alloc, cursor)?;
     let datum = take_one::<GeodeticFrame, GeodeticFrame>(alloc, cursor)?;
     let prime_meridian = take_maybe::<PrimeMeridian, PrimeMeridian>(alloc, cursor)?;
     let ending = take_ending(alloc, cursor)?;
-    close(cursor)?;
+    pass(cursor);
     Ok(Geodetic {
         kind,
         name,
@@ -96,16 +95,16 @@ pub(crate) fn build_geodetic(
 pub(crate) fn build_projected(
     alloc: Global,
     cursor: &mut Reader<'_>,
-) -> Result<Projected, BuildFault>
+) -> Result<Projected, AllocError>
     ensures builds { BuildsNode nodes.ProjectedCrs projected_fields cursor.old cursor.new result }
     ensures shorter { length cursor.new ≤ length cursor.old }
 {
     pass(cursor);
-    let name = take_first::<Text, Text>(alloc, cursor)?;
+    let name = take_one::<Text, Text>(alloc, cursor)?;
     let base = take_one::<BaseCrs, BaseCrs>(alloc, cursor)?;
     let conversion = take_one::<Conversion, Conversion>(alloc, cursor)?;
     let ending = take_ending(alloc, cursor)?;
-    close(cursor)?;
+    pass(cursor);
     Ok(Projected {
         name,
         base,
@@ -120,15 +119,15 @@ pub(crate) fn build_projected(
 }
 
 #[inline(never)]
-pub(crate) fn build_vertical(alloc: Global, cursor: &mut Reader<'_>) -> Result<Vertical, BuildFault>
+pub(crate) fn build_vertical(alloc: Global, cursor: &mut Reader<'_>) -> Result<Vertical, AllocError>
     ensures builds { BuildsNode nodes.VerticalCrs vertical_fields cursor.old cursor.new result }
     ensures shorter { length cursor.new ≤ length cursor.old }
 {
     pass(cursor);
-    let name = take_first::<Text, Text>(alloc, cursor)?;
+    let name = take_one::<Text, Text>(alloc, cursor)?;
     let datum = take_one::<VerticalFrame, VerticalFrame>(alloc, cursor)?;
     let ending = take_ending(alloc, cursor)?;
-    close(cursor)?;
+    pass(cursor);
     Ok(Vertical {
         name,
         datum,
@@ -142,7 +141,7 @@ pub(crate) fn build_vertical(alloc: Global, cursor: &mut Reader<'_>) -> Result<V
 }
 
 /// A reference system of one part, by the keyword that comes.
-fn build_single(alloc: Global, cursor: &mut Reader<'_>) -> Result<Single, BuildFault>
+fn build_single(alloc: Global, cursor: &mut Reader<'_>) -> Result<Single, AllocError>
     ensures builds { BuildsSingle cursor.old cursor.new result }
     ensures shorter { length cursor.new ≤ length cursor.old }
 {
@@ -168,25 +167,25 @@ impl Built<Single> for Single {
         Takes::SingleCrs
     }
 
-    fn build(alloc: Global, cursor: &mut Reader<'_>) -> Result<Single, BuildFault> {
+    fn build(alloc: Global, cursor: &mut Reader<'_>) -> Result<Single, AllocError> {
         build_single(alloc, cursor)
     }
 }
 
 // Apart, so that no other system pays for the size of two.
 #[inline(never)]
-pub(crate) fn build_compound(alloc: Global, cursor: &mut Reader<'_>) -> Result<Compound, BuildFault>
+pub(crate) fn build_compound(alloc: Global, cursor: &mut Reader<'_>) -> Result<Compound, AllocError>
     ensures builds { BuildsNode nodes.CompoundCrs compound_fields cursor.old cursor.new result }
     ensures shorter { length cursor.new ≤ length cursor.old }
 {
     pass(cursor);
-    let name = take_first::<Text, Text>(alloc, cursor)?;
+    let name = take_one::<Text, Text>(alloc, cursor)?;
     let first = take_one::<Single, Single>(alloc, cursor)?;
     let second = take_one::<Single, Single>(alloc, cursor)?;
     let usages = take_each::<Usage, Usage>(alloc, cursor)?;
     let ids = take_each::<Ident, Ident>(alloc, cursor)?;
     let remark = take_maybe::<Remark, Text>(alloc, cursor)?;
-    close(cursor)?;
+    pass(cursor);
     Ok(Compound {
         name,
         first,
@@ -206,7 +205,7 @@ impl Built<CrsParts> for CrsParts {
         Takes::AnyCrs
     }
 
-    fn build(alloc: Global, cursor: &mut Reader<'_>) -> Result<CrsParts, BuildFault> {
+    fn build(alloc: Global, cursor: &mut Reader<'_>) -> Result<CrsParts, AllocError> {
         if is_compound(next_keyword(cursor)) {
             let compound = build_compound(alloc, cursor)?;
             return Ok(CrsParts::Compound(compound));

@@ -6,9 +6,8 @@ ghost use Rattle.wkt_slots.specs.declared.table.Takes.TheVariants as kinds;
 ghost use Rattle.wkt_meaning.specs.Denotes.{DenotesAccuracy, DenotesEllipsoid, DenotesGeodeticFrame, DenotesPrimeMeridian, DenotesVerticalFrame, accuracy_fields, datum_fields, geodetic_ensemble_fields, vertical_datum_fields, vertical_ensemble_fields};
 ghost use Rattle.wkt_build.specs.Reads.{BuildsNode};
 
-use crate::built::{Built, close, pass, take_each, take_first, take_maybe, take_one};
+use crate::built::{Built, pass, take_each, take_maybe, take_one};
 use crate::choices::{is_ensemble, next_keyword};
-use crate::fault::BuildFault;
 use crate::identifiers::Member;
 use crate::reader::Reader;
 use crate::values::Anchor;
@@ -17,7 +16,7 @@ use crs_part::{
     AngleUnit, Datum, Ellipsoid, GeodeticEnsemble, GeodeticFrame, Ident, LengthUnit, Named,
     NonEmpty, PrimeMeridian, Text, VerticalDatum, VerticalEnsemble, VerticalFrame,
 };
-use std::alloc::Global;
+use std::alloc::{AllocError, Global};
 use wkt_slots::Takes;
 
 impl Built<Ellipsoid> for Ellipsoid {
@@ -29,14 +28,14 @@ impl Built<Ellipsoid> for Ellipsoid {
         Takes::Ellipsoid
     }
 
-    fn build(alloc: Global, cursor: &mut Reader<'_>) -> Result<Ellipsoid, BuildFault> {
+    fn build(alloc: Global, cursor: &mut Reader<'_>) -> Result<Ellipsoid, AllocError> {
         pass(cursor);
-        let name = take_first::<Text, Text>(alloc, cursor)?;
+        let name = take_one::<Text, Text>(alloc, cursor)?;
         let radius = take_one::<Decimal, Decimal>(alloc, cursor)?;
         let flattening = take_one::<Decimal, Decimal>(alloc, cursor)?;
         let unit = take_maybe::<LengthUnit, LengthUnit>(alloc, cursor)?;
         let ids = take_each::<Ident, Ident>(alloc, cursor)?;
-        close(cursor)?;
+        pass(cursor);
         Ok(Ellipsoid {
             name,
             radius,
@@ -56,13 +55,13 @@ impl Built<PrimeMeridian> for PrimeMeridian {
         Takes::PrimeMeridian
     }
 
-    fn build(alloc: Global, cursor: &mut Reader<'_>) -> Result<PrimeMeridian, BuildFault> {
+    fn build(alloc: Global, cursor: &mut Reader<'_>) -> Result<PrimeMeridian, AllocError> {
         pass(cursor);
-        let name = take_first::<Text, Text>(alloc, cursor)?;
+        let name = take_one::<Text, Text>(alloc, cursor)?;
         let longitude = take_one::<Decimal, Decimal>(alloc, cursor)?;
         let unit = take_maybe::<AngleUnit, AngleUnit>(alloc, cursor)?;
         let ids = take_each::<Ident, Ident>(alloc, cursor)?;
-        close(cursor)?;
+        pass(cursor);
         Ok(PrimeMeridian {
             name,
             longitude,
@@ -72,16 +71,16 @@ impl Built<PrimeMeridian> for PrimeMeridian {
     }
 }
 
-pub(crate) fn build_datum(alloc: Global, cursor: &mut Reader<'_>) -> Result<Datum, BuildFault>
+pub(crate) fn build_datum(alloc: Global, cursor: &mut Reader<'_>) -> Result<Datum, AllocError>
     ensures builds { BuildsNode nodes.Datum datum_fields cursor.old cursor.new result }
     ensures shorter { length cursor.new ≤ length cursor.old }
 {
     pass(cursor);
-    let name = take_first::<Text, Text>(alloc, cursor)?;
+    let name = take_one::<Text, Text>(alloc, cursor)?;
     let ellipsoid = take_one::<Ellipsoid, Ellipsoid>(alloc, cursor)?;
     let anchor = take_maybe::<Anchor, Text>(alloc, cursor)?;
     let ids = take_each::<Ident, Ident>(alloc, cursor)?;
-    close(cursor)?;
+    pass(cursor);
     Ok(Datum {
         name,
         ellipsoid,
@@ -93,25 +92,25 @@ pub(crate) fn build_datum(alloc: Global, cursor: &mut Reader<'_>) -> Result<Datu
 pub(crate) fn build_vertical_datum(
     alloc: Global,
     cursor: &mut Reader<'_>,
-) -> Result<VerticalDatum, BuildFault>
+) -> Result<VerticalDatum, AllocError>
     ensures builds { BuildsNode nodes.VerticalDatum vertical_datum_fields cursor.old cursor.new result }
     ensures shorter { length cursor.new ≤ length cursor.old }
 {
     pass(cursor);
-    let name = take_first::<Text, Text>(alloc, cursor)?;
+    let name = take_one::<Text, Text>(alloc, cursor)?;
     let anchor = take_maybe::<Anchor, Text>(alloc, cursor)?;
     let ids = take_each::<Ident, Ident>(alloc, cursor)?;
-    close(cursor)?;
+    pass(cursor);
     Ok(VerticalDatum { name, anchor, ids })
 }
 
-pub(crate) fn build_accuracy(alloc: Global, cursor: &mut Reader<'_>) -> Result<Decimal, BuildFault>
+pub(crate) fn build_accuracy(alloc: Global, cursor: &mut Reader<'_>) -> Result<Decimal, AllocError>
     ensures builds { BuildsNode nodes.EnsembleAccuracy accuracy_fields cursor.old cursor.new result }
     ensures shorter { length cursor.new ≤ length cursor.old }
 {
     pass(cursor);
-    let accuracy = take_first::<Decimal, Decimal>(alloc, cursor)?;
-    close(cursor)?;
+    let accuracy = take_one::<Decimal, Decimal>(alloc, cursor)?;
+    pass(cursor);
     Ok(accuracy)
 }
 
@@ -127,7 +126,7 @@ impl Built<Decimal> for Accuracy {
         Takes::EnsembleAccuracy
     }
 
-    fn build(alloc: Global, cursor: &mut Reader<'_>) -> Result<Decimal, BuildFault> {
+    fn build(alloc: Global, cursor: &mut Reader<'_>) -> Result<Decimal, AllocError> {
         build_accuracy(alloc, cursor)
     }
 }
@@ -135,18 +134,18 @@ impl Built<Decimal> for Accuracy {
 pub(crate) fn build_geodetic_ensemble(
     alloc: Global,
     cursor: &mut Reader<'_>,
-) -> Result<GeodeticEnsemble, BuildFault>
+) -> Result<GeodeticEnsemble, AllocError>
     ensures builds { BuildsNode nodes.GeodeticEnsemble geodetic_ensemble_fields cursor.old cursor.new result }
     ensures shorter { length cursor.new ≤ length cursor.old }
 {
     pass(cursor);
-    let name = take_first::<Text, Text>(alloc, cursor)?;
+    let name = take_one::<Text, Text>(alloc, cursor)?;
     let first_members = take_one::<Member, Named>(alloc, cursor)?;
     let others_members = take_each::<Member, Named>(alloc, cursor)?;
     let ellipsoid = take_one::<Ellipsoid, Ellipsoid>(alloc, cursor)?;
     let accuracy = take_one::<Accuracy, Decimal>(alloc, cursor)?;
     let ids = take_each::<Ident, Ident>(alloc, cursor)?;
-    close(cursor)?;
+    pass(cursor);
     Ok(GeodeticEnsemble {
         name,
         members: NonEmpty {
@@ -162,17 +161,17 @@ pub(crate) fn build_geodetic_ensemble(
 pub(crate) fn build_vertical_ensemble(
     alloc: Global,
     cursor: &mut Reader<'_>,
-) -> Result<VerticalEnsemble, BuildFault>
+) -> Result<VerticalEnsemble, AllocError>
     ensures builds { BuildsNode nodes.VerticalEnsemble vertical_ensemble_fields cursor.old cursor.new result }
     ensures shorter { length cursor.new ≤ length cursor.old }
 {
     pass(cursor);
-    let name = take_first::<Text, Text>(alloc, cursor)?;
+    let name = take_one::<Text, Text>(alloc, cursor)?;
     let first_members = take_one::<Member, Named>(alloc, cursor)?;
     let others_members = take_each::<Member, Named>(alloc, cursor)?;
     let accuracy = take_one::<Accuracy, Decimal>(alloc, cursor)?;
     let ids = take_each::<Ident, Ident>(alloc, cursor)?;
-    close(cursor)?;
+    pass(cursor);
     Ok(VerticalEnsemble {
         name,
         members: NonEmpty {
@@ -193,7 +192,8 @@ impl Built<GeodeticFrame> for GeodeticFrame {
         Takes::GeodeticDatum
     }
 
-    fn build(alloc: Global, cursor: &mut Reader<'_>) -> Result<GeodeticFrame, BuildFault> {
+    #[inline(never)]
+    fn build(alloc: Global, cursor: &mut Reader<'_>) -> Result<GeodeticFrame, AllocError> {
         if is_ensemble(next_keyword(cursor)) {
             let ensemble = build_geodetic_ensemble(alloc, cursor)?;
             return Ok(GeodeticFrame::Ensemble(ensemble));
@@ -212,7 +212,8 @@ impl Built<VerticalFrame> for VerticalFrame {
         Takes::VerticalDatum
     }
 
-    fn build(alloc: Global, cursor: &mut Reader<'_>) -> Result<VerticalFrame, BuildFault> {
+    #[inline(never)]
+    fn build(alloc: Global, cursor: &mut Reader<'_>) -> Result<VerticalFrame, AllocError> {
         if is_ensemble(next_keyword(cursor)) {
             let ensemble = build_vertical_ensemble(alloc, cursor)?;
             return Ok(VerticalFrame::Ensemble(ensemble));

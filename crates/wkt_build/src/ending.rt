@@ -4,11 +4,10 @@ ghost use Rattle.std.specs.Prelude.{◌≤◌, length};
 ghost use Rattle.wkt_build.specs.Rest.{BuildsRest, ending_fields, ending_row};
 
 use crate::built::{take_each, take_maybe, take_one};
-use crate::fault::BuildFault;
 use crate::reader::Reader;
 use crate::values::Remark;
 use crs_part::{Axis, CoordSystem, Ident, Many, NonEmpty, Text, Unit, Usage};
-use std::alloc::Global;
+use std::alloc::{AllocError, Global};
 
 /// The slots from the coordinate system on.
 #[derive(Drop)]
@@ -21,7 +20,7 @@ pub(crate) struct Ending {
     pub(crate) remark: Option<Text>,
 }
 
-pub(crate) fn take_ending(alloc: Global, cursor: &mut Reader<'_>) -> Result<Ending, BuildFault>
+pub(crate) fn take_ending(alloc: Global, cursor: &mut Reader<'_>) -> Result<Ending, AllocError>
     ensures builds { BuildsRest ending_row ending_fields cursor.old cursor.new result }
     ensures shorter { length cursor.new ≤ length cursor.old }
 {

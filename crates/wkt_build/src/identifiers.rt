@@ -7,12 +7,11 @@ ghost use Rattle.wkt_slots.specs.declared.table.Takes.TheVariants as kinds;
 ghost use Rattle.wkt_meaning.specs.Denotes.{DenotesIdent, DenotesNamed, named_fields};
 ghost use Rattle.wkt_build.specs.Reads.{BuildsNode};
 
-use crate::built::{Built, close, pass, take_each, take_first, take_maybe, take_one};
-use crate::fault::BuildFault;
+use crate::built::{Built, pass, take_each, take_maybe, take_one};
 use crate::reader::Reader;
 use crate::values::{Citation, Uri};
 use crs_part::{Ident, Named, NumberOrText, Text};
-use std::alloc::Global;
+use std::alloc::{AllocError, Global};
 use wkt_slots::Takes;
 
 impl Built<Ident> for Ident {
@@ -24,14 +23,14 @@ impl Built<Ident> for Ident {
         Takes::Identifier
     }
 
-    fn build(alloc: Global, cursor: &mut Reader<'_>) -> Result<Ident, BuildFault> {
+    fn build(alloc: Global, cursor: &mut Reader<'_>) -> Result<Ident, AllocError> {
         pass(cursor);
-        let authority = take_first::<Text, Text>(alloc, cursor)?;
+        let authority = take_one::<Text, Text>(alloc, cursor)?;
         let code = take_one::<NumberOrText, NumberOrText>(alloc, cursor)?;
         let version = take_maybe::<NumberOrText, NumberOrText>(alloc, cursor)?;
         let citation = take_maybe::<Citation, Text>(alloc, cursor)?;
         let uri = take_maybe::<Uri, Text>(alloc, cursor)?;
-        close(cursor)?;
+        pass(cursor);
         Ok(Ident {
             authority,
             code,
@@ -42,14 +41,14 @@ impl Built<Ident> for Ident {
     }
 }
 
-pub(crate) fn build_named(alloc: Global, cursor: &mut Reader<'_>) -> Result<Named, BuildFault>
+pub(crate) fn build_named(alloc: Global, cursor: &mut Reader<'_>) -> Result<Named, AllocError>
     ensures builds { BuildsNode nodes.Named named_fields cursor.old cursor.new result }
     ensures shorter { length cursor.new ≤ length cursor.old }
 {
     pass(cursor);
-    let name = take_first::<Text, Text>(alloc, cursor)?;
+    let name = take_one::<Text, Text>(alloc, cursor)?;
     let ids = take_each::<Ident, Ident>(alloc, cursor)?;
-    close(cursor)?;
+    pass(cursor);
     Ok(Named { name, ids })
 }
 
@@ -65,7 +64,7 @@ impl Built<Named> for Member {
         Takes::Member
     }
 
-    fn build(alloc: Global, cursor: &mut Reader<'_>) -> Result<Named, BuildFault> {
+    fn build(alloc: Global, cursor: &mut Reader<'_>) -> Result<Named, AllocError> {
         build_named(alloc, cursor)
     }
 }
@@ -82,7 +81,7 @@ impl Built<Named> for Method {
         Takes::Method
     }
 
-    fn build(alloc: Global, cursor: &mut Reader<'_>) -> Result<Named, BuildFault> {
+    fn build(alloc: Global, cursor: &mut Reader<'_>) -> Result<Named, AllocError> {
         build_named(alloc, cursor)
     }
 }

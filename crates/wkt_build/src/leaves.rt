@@ -10,7 +10,6 @@ ghost use Rattle.wkt_meaning.specs.Denotes.{DenotesCode};
 ghost use Rattle.wkt_build.specs.Leaves.{TakesCount, TakesNumber, TakesText, next_is_number};
 
 use crate::built::Built;
-use crate::fault::BuildFault;
 use crate::reader::Reader;
 use crs_number::Decimal;
 use crs_part::{Many, NumberOrText, Text};
@@ -29,7 +28,7 @@ impl Built<Decimal> for Decimal {
         Takes::Number
     }
 
-    fn build(alloc: Global, cursor: &mut Reader<'_>) -> Result<Decimal, BuildFault> {
+    fn build(alloc: Global, cursor: &mut Reader<'_>) -> Result<Decimal, AllocError> {
         Ok(take_number(cursor))
     }
 }
@@ -60,7 +59,7 @@ impl Built<u32> for u32 {
         Takes::Count
     }
 
-    fn build(alloc: Global, cursor: &mut Reader<'_>) -> Result<u32, BuildFault> {
+    fn build(alloc: Global, cursor: &mut Reader<'_>) -> Result<u32, AllocError> {
         Ok(take_count(cursor))
     }
 }
@@ -99,9 +98,8 @@ impl Built<Text> for Text {
         Takes::Text
     }
 
-    fn build(alloc: Global, cursor: &mut Reader<'_>) -> Result<Text, BuildFault> {
-        let text = take_text(alloc, cursor)?;
-        Ok(text)
+    fn build(alloc: Global, cursor: &mut Reader<'_>) -> Result<Text, AllocError> {
+        take_text(alloc, cursor)
     }
 }
 
@@ -191,7 +189,7 @@ impl Built<NumberOrText> for NumberOrText {
         Takes::NumberOrText
     }
 
-    fn build(alloc: Global, cursor: &mut Reader<'_>) -> Result<NumberOrText, BuildFault> {
+    fn build(alloc: Global, cursor: &mut Reader<'_>) -> Result<NumberOrText, AllocError> {
         if number_comes(cursor) {
             return Ok(NumberOrText::Number(take_number(cursor)));
         }

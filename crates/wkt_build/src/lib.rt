@@ -7,7 +7,6 @@ mod conversions;
 mod crs;
 mod datums;
 mod ending;
-mod fault;
 mod identifiers;
 mod leaves;
 mod reader;
@@ -18,5 +17,4 @@ mod usages;
 mod values;
 mod words;
 
-pub use fault::BuildFault;
 pub use root::build_parts;

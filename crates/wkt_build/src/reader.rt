@@ -131,26 +131,6 @@ impl<'a> Reader<'a> {
         }
     }
 
-    /// Whether a comma comes.
-    #[inline(always)]
-    pub(crate) fn is_at_comma(&self) -> bool
-        ensures { result ≡ next_is is_comma self.now }
-    {
-        match self.ahead {
-            Ahead::NoComma => false,
-            Ahead::Node(_) => true,
-            Ahead::Anything => true,
-        }
-    }
-
-    /// Whether a slot of this kind takes the argument that comes.
-    #[inline(always)]
-    pub(crate) fn is_of(&self, kind: Takes) -> bool
-        ensures { result ≡ takes kind (coming self.now) }
-    {
-        is_taken(kind, &self.cursor)
-    }
-
     /// Whether a comma comes, and then an argument that a slot of this kind takes.
     #[inline(always)]
     pub(crate) fn comes(&self, kind: Takes) -> bool

@@ -4,14 +4,13 @@ ghost use Rattle.std.specs.Prelude.{◌≡◌};
 ghost use Rattle.wkt_slots.specs.declared.table.Takes.TheVariants as kinds;
 ghost use Rattle.wkt_meaning.specs.Denotes.{DenotesAxis, DenotesMeridian, DenotesOrder, DenotesSystem};
 
-use crate::built::{Built, close, pass, take_each, take_first, take_maybe, take_one};
-use crate::fault::BuildFault;
+use crate::built::{Built, pass, take_each, take_maybe, take_one};
 use crate::reader::Reader;
 use crs_number::Decimal;
 use crs_part::{
     AngleUnit, Axis, CoordSystem, Direction, Ident, Many, Meridian, Order, SystemKind, Text, Unit,
 };
-use std::alloc::Global;
+use std::alloc::{AllocError, Global};
 use wkt_slots::Takes;
 
 fn system_of(kind: SystemKind, dimension: u32, ids: Many<Ident>) -> CoordSystem
@@ -41,12 +40,12 @@ impl Built<CoordSystem> for CoordSystem {
         Takes::CoordinateSystem
     }
 
-    fn build(alloc: Global, cursor: &mut Reader<'_>) -> Result<CoordSystem, BuildFault> {
+    fn build(alloc: Global, cursor: &mut Reader<'_>) -> Result<CoordSystem, AllocError> {
         pass(cursor);
-        let kind = take_first::<SystemKind, SystemKind>(alloc, cursor)?;
+        let kind = take_one::<SystemKind, SystemKind>(alloc, cursor)?;
         let dimension = take_one::<u32, u32>(alloc, cursor)?;
         let ids = take_each::<Ident, Ident>(alloc, cursor)?;
-        close(cursor)?;
+        pass(cursor);
         Ok(system_of(kind, dimension, ids))
     }
 }
@@ -60,11 +59,11 @@ impl Built<Meridian> for Meridian {
         Takes::Meridian
     }
 
-    fn build(alloc: Global, cursor: &mut Reader<'_>) -> Result<Meridian, BuildFault> {
+    fn build(alloc: Global, cursor: &mut Reader<'_>) -> Result<Meridian, AllocError> {
         pass(cursor);
-        let longitude = take_first::<Decimal, Decimal>(alloc, cursor)?;
+        let longitude = take_one::<Decimal, Decimal>(alloc, cursor)?;
         let unit = take_one::<AngleUnit, AngleUnit>(alloc, cursor)?;
-        close(cursor)?;
+        pass(cursor);
         Ok(Meridian { longitude, unit })
     }
 }
@@ -78,10 +77,10 @@ impl Built<Order> for Order {
         Takes::Order
     }
 
-    fn build(alloc: Global, cursor: &mut Reader<'_>) -> Result<Order, BuildFault> {
+    fn build(alloc: Global, cursor: &mut Reader<'_>) -> Result<Order, AllocError> {
         pass(cursor);
-        let position = take_first::<u32, u32>(alloc, cursor)?;
-        close(cursor)?;
+        let position = take_one::<u32, u32>(alloc, cursor)?;
+        pass(cursor);
         Ok(order_of(position))
     }
 }
@@ -95,15 +94,15 @@ impl Built<Axis> for Axis {
         Takes::Axis
     }
 
-    fn build(alloc: Global, cursor: &mut Reader<'_>) -> Result<Axis, BuildFault> {
+    fn build(alloc: Global, cursor: &mut Reader<'_>) -> Result<Axis, AllocError> {
         pass(cursor);
-        let name = take_first::<Text, Text>(alloc, cursor)?;
+        let name = take_one::<Text, Text>(alloc, cursor)?;
         let direction = take_one::<Direction, Direction>(alloc, cursor)?;
         let meridian = take_maybe::<Meridian, Meridian>(alloc, cursor)?;
         let order = take_maybe::<Order, Order>(alloc, cursor)?;
         let unit = take_maybe::<Unit, Unit>(alloc, cursor)?;
         let ids = take_each::<Ident, Ident>(alloc, cursor)?;
-        close(cursor)?;
+        pass(cursor);
         Ok(Axis {
             name,
             direction,

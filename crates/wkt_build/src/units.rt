@@ -6,27 +6,26 @@ ghost use Rattle.wkt_slots.specs.declared.table.Takes.TheVariants as kinds;
 ghost use Rattle.wkt_meaning.specs.Denotes.{DenotesAngleUnit, DenotesLengthUnit, DenotesUnit, unit_fields};
 ghost use Rattle.wkt_build.specs.Reads.{BuildsNode};
 
-use crate::built::{Built, close, pass, take_each, take_first, take_one};
+use crate::built::{Built, pass, take_each, take_one};
 use crate::choices::{angle_unit_as, length_unit_as, next_keyword, unit_as};
-use crate::fault::BuildFault;
 use crate::reader::Reader;
 use crs_number::Decimal;
 use crs_part::{AngleUnit, Ident, LengthUnit, Text, Unit, UnitDefinition};
-use std::alloc::Global;
+use std::alloc::{AllocError, Global};
 use wkt_slots::Takes;
 
 pub(crate) fn build_unit(
     alloc: Global,
     cursor: &mut Reader<'_>,
-) -> Result<UnitDefinition, BuildFault>
+) -> Result<UnitDefinition, AllocError>
     ensures builds { BuildsNode nodes.Unit unit_fields cursor.old cursor.new result }
     ensures shorter { length cursor.new ≤ length cursor.old }
 {
     pass(cursor);
-    let name = take_first::<Text, Text>(alloc, cursor)?;
+    let name = take_one::<Text, Text>(alloc, cursor)?;
     let factor = take_one::<Decimal, Decimal>(alloc, cursor)?;
     let ids = take_each::<Ident, Ident>(alloc, cursor)?;
-    close(cursor)?;
+    pass(cursor);
     Ok(UnitDefinition { name, factor, ids })
 }
 
@@ -39,7 +38,7 @@ impl Built<Unit> for Unit {
         Takes::AnyUnit
     }
 
-    fn build(alloc: Global, cursor: &mut Reader<'_>) -> Result<Unit, BuildFault> {
+    fn build(alloc: Global, cursor: &mut Reader<'_>) -> Result<Unit, AllocError> {
         let keyword = next_keyword(cursor);
         let unit = build_unit(alloc, cursor)?;
         Ok(unit_as(keyword, unit))
@@ -55,7 +54,7 @@ impl Built<LengthUnit> for LengthUnit {
         Takes::LengthUnit
     }
 
-    fn build(alloc: Global, cursor: &mut Reader<'_>) -> Result<LengthUnit, BuildFault> {
+    fn build(alloc: Global, cursor: &mut Reader<'_>) -> Result<LengthUnit, AllocError> {
         let keyword = next_keyword(cursor);
         let unit = build_unit(alloc, cursor)?;
         Ok(length_unit_as(keyword, unit))
@@ -71,7 +70,7 @@ impl Built<AngleUnit> for AngleUnit {
         Takes::AngleUnit
     }
 
-    fn build(alloc: Global, cursor: &mut Reader<'_>) -> Result<AngleUnit, BuildFault> {
+    fn build(alloc: Global, cursor: &mut Reader<'_>) -> Result<AngleUnit, AllocError> {
         let keyword = next_keyword(cursor);
         let unit = build_unit(alloc, cursor)?;
         Ok(angle_unit_as(keyword, unit))

@@ -3,13 +3,12 @@
 ghost use Rattle.wkt_slots.specs.declared.table.Takes.TheVariants as kinds;
 ghost use Rattle.wkt_meaning.specs.Denotes.{DenotesBoundingBox, DenotesUsage};
 
-use crate::built::{Built, close, pass, take_first, take_maybe, take_one};
-use crate::fault::BuildFault;
+use crate::built::{Built, pass, take_maybe, take_one};
 use crate::reader::Reader;
 use crate::values::{Area, Scope};
 use crs_number::Decimal;
 use crs_part::{BoundingBox, Text, Usage};
-use std::alloc::Global;
+use std::alloc::{AllocError, Global};
 use wkt_slots::Takes;
 
 impl Built<BoundingBox> for BoundingBox {
@@ -21,13 +20,13 @@ impl Built<BoundingBox> for BoundingBox {
         Takes::BoundingBox
     }
 
-    fn build(alloc: Global, cursor: &mut Reader<'_>) -> Result<BoundingBox, BuildFault> {
+    fn build(alloc: Global, cursor: &mut Reader<'_>) -> Result<BoundingBox, AllocError> {
         pass(cursor);
-        let south = take_first::<Decimal, Decimal>(alloc, cursor)?;
+        let south = take_one::<Decimal, Decimal>(alloc, cursor)?;
         let west = take_one::<Decimal, Decimal>(alloc, cursor)?;
         let north = take_one::<Decimal, Decimal>(alloc, cursor)?;
         let east = take_one::<Decimal, Decimal>(alloc, cursor)?;
-        close(cursor)?;
+        pass(cursor);
         Ok(BoundingBox {
             south,
             west,
@@ -46,12 +45,12 @@ impl Built<Usage> for Usage {
         Takes::Usage
     }
 
-    fn build(alloc: Global, cursor: &mut Reader<'_>) -> Result<Usage, BuildFault> {
+    fn build(alloc: Global, cursor: &mut Reader<'_>) -> Result<Usage, AllocError> {
         pass(cursor);
-        let scope = take_first::<Scope, Text>(alloc, cursor)?;
+        let scope = take_one::<Scope, Text>(alloc, cursor)?;
         let area = take_maybe::<Area, Text>(alloc, cursor)?;
         let bounding_box = take_maybe::<BoundingBox, BoundingBox>(alloc, cursor)?;
-        close(cursor)?;
+        pass(cursor);
         Ok(Usage {
             scope,
             area,

@@ -7,20 +7,19 @@ ghost use Rattle.wkt_slots.specs.declared.table.Takes.TheVariants as kinds;
 ghost use Rattle.wkt_meaning.specs.Denotes.{DenotesValue, value_fields};
 ghost use Rattle.wkt_build.specs.Reads.{BuildsNode};
 
-use crate::built::{Built, close, pass, take_first};
-use crate::fault::BuildFault;
+use crate::built::{Built, pass, take_one};
 use crate::reader::Reader;
 use crs_part::Text;
-use std::alloc::Global;
+use std::alloc::{AllocError, Global};
 use wkt_slots::Takes;
 
-pub(crate) fn build_value(alloc: Global, cursor: &mut Reader<'_>) -> Result<Text, BuildFault>
+pub(crate) fn build_value(alloc: Global, cursor: &mut Reader<'_>) -> Result<Text, AllocError>
     ensures builds { BuildsNode nodes.Value value_fields cursor.old cursor.new result }
     ensures shorter { length cursor.new ≤ length cursor.old }
 {
     pass(cursor);
-    let value = take_first::<Text, Text>(alloc, cursor)?;
-    close(cursor)?;
+    let value = take_one::<Text, Text>(alloc, cursor)?;
+    pass(cursor);
     Ok(value)
 }
 
@@ -36,7 +35,7 @@ impl Built<Text> for Scope {
         Takes::Scope
     }
 
-    fn build(alloc: Global, cursor: &mut Reader<'_>) -> Result<Text, BuildFault> {
+    fn build(alloc: Global, cursor: &mut Reader<'_>) -> Result<Text, AllocError> {
         build_value(alloc, cursor)
     }
 }
@@ -53,7 +52,7 @@ impl Built<Text> for Area {
         Takes::Area
     }
 
-    fn build(alloc: Global, cursor: &mut Reader<'_>) -> Result<Text, BuildFault> {
+    fn build(alloc: Global, cursor: &mut Reader<'_>) -> Result<Text, AllocError> {
         build_value(alloc, cursor)
     }
 }
@@ -70,7 +69,7 @@ impl Built<Text> for Anchor {
         Takes::Anchor
     }
 
-    fn build(alloc: Global, cursor: &mut Reader<'_>) -> Result<Text, BuildFault> {
+    fn build(alloc: Global, cursor: &mut Reader<'_>) -> Result<Text, AllocError> {
         build_value(alloc, cursor)
     }
 }
@@ -87,7 +86,7 @@ impl Built<Text> for Citation {
         Takes::Citation
     }
 
-    fn build(alloc: Global, cursor: &mut Reader<'_>) -> Result<Text, BuildFault> {
+    fn build(alloc: Global, cursor: &mut Reader<'_>) -> Result<Text, AllocError> {
         build_value(alloc, cursor)
     }
 }
@@ -104,7 +103,7 @@ impl Built<Text> for Uri {
         Takes::Uri
     }
 
-    fn build(alloc: Global, cursor: &mut Reader<'_>) -> Result<Text, BuildFault> {
+    fn build(alloc: Global, cursor: &mut Reader<'_>) -> Result<Text, AllocError> {
         build_value(alloc, cursor)
     }
 }
@@ -121,7 +120,7 @@ impl Built<Text> for Remark {
         Takes::Remark
     }
 
-    fn build(alloc: Global, cursor: &mut Reader<'_>) -> Result<Text, BuildFault> {
+    fn build(alloc: Global, cursor: &mut Reader<'_>) -> Result<Text, AllocError> {
         build_value(alloc, cursor)
     }
 }

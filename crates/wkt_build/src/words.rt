@@ -9,10 +9,9 @@ ghost use Rattle.wkt_meaning.specs.Words.{direction_word, directions_listed, fir
 ghost use Rattle.wkt_build.specs.Leaves.{TakesWord};
 
 use crate::built::Built;
-use crate::fault::BuildFault;
 use crate::reader::Reader;
 use crs_part::{Direction, SystemKind};
-use std::alloc::Global;
+use std::alloc::{AllocError, Global};
 use wkt_slots::Takes;
 use wkt_tree::TokenKind;
 
@@ -175,7 +174,7 @@ impl Built<SystemKind> for SystemKind {
         Takes::CsKind
     }
 
-    fn build(alloc: Global, cursor: &mut Reader<'_>) -> Result<SystemKind, BuildFault> {
+    fn build(alloc: Global, cursor: &mut Reader<'_>) -> Result<SystemKind, AllocError> {
         Ok(take_kind(cursor))
     }
 }
@@ -189,7 +188,7 @@ impl Built<Direction> for Direction {
         Takes::Direction
     }
 
-    fn build(alloc: Global, cursor: &mut Reader<'_>) -> Result<Direction, BuildFault> {
+    fn build(alloc: Global, cursor: &mut Reader<'_>) -> Result<Direction, AllocError> {
         Ok(take_direction(cursor))
     }
 }

@@ -5,7 +5,7 @@ use Rattle.crs_part.specs.declared.crs.CrsParts.{CrsParts}
 use Rattle.crs_value.specs.declared.crs.Crs.{Crs}
 use Rattle.crs_value.proofs.Wholes.{same_crs}
 use Rattle.wkt_tree.specs.declared.token.Delimiter.{Delimiter}
-use Rattle.wkt_tree.specs.Tree.{Piece, Item, Items, node, tokens}
+use Rattle.wkt_tree.specs.Tree.{Piece, Tok, Item, Items, node, tokens}
 use Rattle.wkt_tree.specs.Tokens.{Cut}
 use Rattle.wkt_tree.specs.Faults.{IsOutline}
 use Rattle.wkt_tree.proofs.Cuts.{one_cut}
@@ -57,6 +57,11 @@ of_spells text v s = record { item = s.item; outline = s.outline; denotes = s.de
 pub no_slot : (text : List ℕ) (v : Crs) (f : SlotFault) → Spells text v → FirstSlot text f → ⊥
 no_slot text v f s h = no_slot_fault text v.parts f (of_spells text v s) h
 
+pub not_clean : (text : List ℕ) (ts : List Tok) (f : SlotFault) → Cut 0 text ts → IsClean editions.First ts → FirstSlot text f → ⊥
+not_clean text ts f cut clean h =
+    let t = h.outline.tree in
+    clean t.keyword t.delimiter t.opening t.items t.closing (one_cut text ts h.toks cut h.outline.cut ∙ t.spelled) f (h.first t.keyword t.delimiter t.opening t.items t.closing t.spelled).0
+
 pub one_slot : (text : List ℕ) (f g : SlotFault) → FirstSlot text f → FirstSlot text g → f ≡ g
 one_slot text f g a b =
     let t = a.outline.tree in
@@ -76,20 +81,18 @@ one_slot text f g a b =
 pub slot_told : (text outline : List ℕ) (f : SlotFault) → outline ≡ text → IsOutline text (cut 0 text) → IsFirst editions.First (cut 0 outline) f → FirstSlot text f
 slot_told text outline f e o h = record { toks = cut 0 text; outline = o; first = subst (λ b. IsFirst editions.First (cut 0 b) f) e h }
 
-pub not_clean : (text outline : List ℕ) (f : SlotFault) → outline ≡ text → IsOutline text (cut 0 text) → IsClean editions.First (cut 0 outline) → FirstSlot text f → ⊥
-not_clean text outline f e o clean h =
-    let t = h.outline.tree in
-    clean t.keyword t.delimiter t.opening t.items t.closing (ap (cut 0) e ∙ (one_cut text (cut 0 text) h.toks o.cut h.outline.cut ∙ t.spelled)) f (h.first t.keyword t.delimiter t.opening t.items t.closing t.spelled).0
+pub clean_told : (text outline : List ℕ) (f : SlotFault) → outline ≡ text → IsOutline text (cut 0 text) → IsClean editions.First (cut 0 outline) → FirstSlot text f → ⊥
+clean_told text outline f e o h s = not_clean text (cut 0 text) f o.cut (subst (λ b. IsClean editions.First (cut 0 b)) e h) s
 
-pub denoted : (text outline : List ℕ) (parts : CrsParts) → outline ≡ text → IsOutline text (cut 0 text)
-    → ((k : Piece) (d : Delimiter) (o : Piece) (items : Items) (c : Piece) → cut 0 outline ≡ tokens (node k d o items c) → DenotesParts (bare (node k d o items c)) parts)
+pub denoted : (text outline : List ℕ) (parts : CrsParts) → outline ≡ text → IsOutline text (cut 0 text) → IsClean editions.First (cut 0 outline)
+    → ((k : Piece) (d : Delimiter) (o : Piece) (items : Items) (c : Piece) → cut 0 outline ≡ tokens (node k d o items c) → IsClean editions.First (cut 0 outline) → DenotesParts (bare (node k d o items c)) parts)
     → Denoted text parts
-denoted text outline parts e o builds =
+denoted text outline parts e o clean builds =
     let t = o.tree in
     record {
       item = node t.keyword t.delimiter t.opening t.items t.closing;
       outline = subst (λ ts. IsOutline text ts) t.spelled o;
-      denotes = builds t.keyword t.delimiter t.opening t.items t.closing (ap (cut 0) e ∙ t.spelled);
+      denotes = builds t.keyword t.delimiter t.opening t.items t.closing (ap (cut 0) e ∙ t.spelled) clean;
     }
 
 pub spells_of : (text : List ℕ) (parts : CrsParts) (crs : Crs) → Denoted text parts → crs.parts ≡ parts → Spells text crs

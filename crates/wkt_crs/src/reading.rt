@@ -18,14 +18,13 @@ use wkt_slots::Edition;
 use wkt_tier::check_slots;
 use wkt_tree::scan;
 
-/// The value that the text spells, or its first fault. Faults of the text are answered before anything grows. The
-/// builder tests the slots as it fills them; where it built nothing, they are walked for the first fault, which takes no
-/// memory.
+/// The value that the text spells, or its first fault. Faults of the text and of its slots are answered before
+/// anything grows.
 pub fn read_crs(alloc: Global, text: &[u8]) -> Result<Crs, ReadFault>
     ensures found { IfOk result (Spells text.now) }
     ensures only { (v : Crs) → Spells text.now v → (result ≡ Ok v) ⊎ (result ≡ Err fault.Memory) }
     ensures fault { IfErr result (FirstFault text.now) }
-    // These always come: want of memory never stands in their place.
+    // These come without memory.
     ensures text { (f : TextFault) → tree.FirstFault text.now f → result ≡ Err (fault.Text f) }
     ensures slot { (f : SlotFault) → FirstSlot text.now f → result ≡ Err (fault.Slot f) }
 {
@@ -33,11 +32,12 @@ pub fn read_crs(alloc: Global, text: &[u8]) -> Result<Crs, ReadFault>
         Ok(outline) => outline,
         Err(fault) => return Err(ReadFault::Text(fault)),
     };
-    let Ok(parts) = build_parts(alloc, &outline) else {
-        return match check_slots(Edition::First, &outline) {
-            Ok(()) => Err(ReadFault::Memory),
-            Err(fault) => Err(ReadFault::Slot(fault)),
-        };
+    if let Err(fault) = check_slots(Edition::First, &outline) {
+        return Err(ReadFault::Slot(fault));
+    }
+    let parts = match build_parts(alloc, &outline) {
+        Ok(parts) => parts,
+        Err(_) => return Err(ReadFault::Memory),
     };
     match Crs::check(parts) {
         Ok(crs) => Ok(crs),

@@ -1,7 +1,7 @@
 //! Sources and sinks that fail, cut what goes by, or never end.
 
-use super::{A, HEIGHT, enter, entry_file, id_of};
-use crate::{ReadFileFault, WriteFileFault, read_register, write_register};
+use super::{A, HEIGHT, OTHER_HEIGHT, enter, enter_bytes, entry_file, file_of, id_of, is_written};
+use crate::{ReadFileFault, WriteFileFault, read_register, read_register_beside, write_register};
 use byte_io::{Full, Pieces, Reading, Room, Then};
 use reg_state::Register;
 use std::io;
@@ -31,6 +31,25 @@ fn pieces_change_no_answer(rt: HostRuntime) -> Result<(), Fail> {
         assert_eq!(rt; register.ops().as_slice().len(), 1);
         let mut cut = Pieces::new(&file[..file.len().min(100)], piece, Then::Ends);
         assert!(rt; read_register(alloc, &mut cut).is_err());
+    }
+    Ok(())
+}
+
+#[test]
+fn what_is_known_changes_no_answer(rt: HostRuntime) -> Result<(), Fail> {
+    let alloc = rt.alloc();
+    let file = entry_file(alloc)?;
+    let enter = enter_bytes(alloc, 1, OTHER_HEIGHT)?;
+    let other = file_of(alloc, &[(1, 1)], 1, &enter)?;
+    let mut known = Vec::new(alloc);
+    // The second has the first one's id with another text, and the third the second one's text.
+    for bytes in [&other, &file, &file] {
+        let mut source = Pieces::new(bytes, 7, Then::Ends);
+        let Ok(register) = read_register_beside(alloc, &known, &mut source) else {
+            return Err(Fail::new("not read"));
+        };
+        assert!(rt; is_written(alloc, &register, bytes));
+        known.push(register)?;
     }
     Ok(())
 }

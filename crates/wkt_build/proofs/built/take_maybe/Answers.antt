@@ -2,4 +2,4 @@ use Rattle.std.proofs.Common.{refl}
 use Rattle.wkt_build.proofs.built.take_maybe.Goals as goal
 
 pub returns-clause-some : goal.returns-clause-some
-returns-clause-some g c = λ h x first behind rest e n. let b = c.in_ok-value.ensures.builds x first behind rest e n in (c.in_ok-value.value, refl, b.0, b.1)
+returns-clause-some g c = λ h x first behind rest f e n. let b = c.in_ok-value.ensures.builds x first behind rest f e n in (c.in_ok-value.value, refl, b.0, b.1)

@@ -1,3 +1,4 @@
+use Rattle.std.proofs.Common.{refl}
 use Rattle.wkt_slots.specs.declared.table.Node.TheVariants as nodes
 use Rattle.wkt_slots.specs.declared.table.SlotName.TheVariants as slots
 use Rattle.wkt_meaning.specs.Denotes.{base_fields}
@@ -10,10 +11,10 @@ use Rattle.wkt_build.proofs.crs.build_base.Goals as goal
 pub returns-clause-builds : goal.returns-clause-builds
 returns-clause-builds c =
     let v : BaseCrs = record { kind = c.args.kind; name = c.in_ok-name.name; datum = c.in_ok-datum.datum; prime_meridian = c.in_ok-prime_meridian.prime_meridian; unit = c.in_ok-unit.unit; ids = c.in_ok-ids.ids } in
-    made_node nodes.BaseCrs base_fields c.args.cursor.now c.close.new.cursor v c.pass.ensures.left
+    made_node nodes.BaseCrs base_fields c.args.cursor.now c.pass-2.new.cursor v c.pass.ensures.left
     (first_one slots.Name text_law c.pass.new.cursor c.in_ok-name.name c.in_ok-name.ensures.builds
-    (then_one slots.Datum geodetic_frame_law c.take_first.new.cursor c.in_ok-datum.datum c.in_ok-datum.ensures.builds c.in_ok-datum.ensures.comes
-    (then_maybe slots.PrimeMeridian prime_meridian_law c.take_one.new.cursor c.in_ok-prime_meridian.prime_meridian c.in_ok-prime_meridian.ensures.some c.in_ok-prime_meridian.ensures.none c.in_ok-prime_meridian.ensures.absent
-    (then_maybe slots.Unit angle_unit_law c.take_maybe.new.cursor c.in_ok-unit.unit c.in_ok-unit.ensures.some c.in_ok-unit.ensures.none c.in_ok-unit.ensures.absent
-    (then_each slots.Id ident_law c.take_maybe-2.new.cursor c.in_ok-ids.ids c.in_ok-ids.ensures.builds
-    (done c.take_each.new.cursor)))))) c.in_ok-close.ensures.left c.in_ok-close.ensures.ends
+    (then_one slots.Datum geodetic_frame_law c.take_one.new.cursor c.in_ok-datum.datum c.in_ok-datum.ensures.builds
+    (then_maybe slots.PrimeMeridian prime_meridian_law refl c.take_one-2.new.cursor c.in_ok-prime_meridian.prime_meridian c.in_ok-prime_meridian.ensures.some c.in_ok-prime_meridian.ensures.none c.in_ok-prime_meridian.ensures.absent
+    (then_maybe slots.Unit angle_unit_law refl c.take_maybe.new.cursor c.in_ok-unit.unit c.in_ok-unit.ensures.some c.in_ok-unit.ensures.none c.in_ok-unit.ensures.absent
+    (then_each slots.Id ident_law refl c.take_maybe-2.new.cursor c.in_ok-ids.ids c.in_ok-ids.ensures.builds
+    (done c.take_each.new.cursor)))))) c.pass-2.ensures.left

@@ -1,3 +1,4 @@
+use Rattle.std.proofs.Common.{refl}
 use Rattle.wkt_slots.specs.declared.table.Node.TheVariants as nodes
 use Rattle.wkt_slots.specs.declared.table.SlotName.TheVariants as slots
 use Rattle.wkt_meaning.specs.Denotes.{compound_fields}
@@ -10,11 +11,11 @@ use Rattle.wkt_build.proofs.crs.build_compound.Goals as goal
 pub returns-clause-builds : goal.returns-clause-builds
 returns-clause-builds c =
     let v : Compound = record { name = c.in_ok-name.name; first = c.in_ok-first.first; second = c.in_ok-second.second; usages = c.in_ok-usages.usages; ids = c.in_ok-ids.ids; remark = c.in_ok-remark.remark } in
-    made_node nodes.CompoundCrs compound_fields c.args.cursor.now c.close.new.cursor v c.pass.ensures.left
+    made_node nodes.CompoundCrs compound_fields c.args.cursor.now c.pass-2.new.cursor v c.pass.ensures.left
     (first_one slots.Name text_law c.pass.new.cursor c.in_ok-name.name c.in_ok-name.ensures.builds
-    (then_one slots.First component_law c.take_first.new.cursor c.in_ok-first.first c.in_ok-first.ensures.builds c.in_ok-first.ensures.comes
-    (then_one slots.Second component_law c.take_one.new.cursor c.in_ok-second.second c.in_ok-second.ensures.builds c.in_ok-second.ensures.comes
-    (then_each slots.Usage usage_law c.take_one-2.new.cursor c.in_ok-usages.usages c.in_ok-usages.ensures.builds
-    (then_each slots.Id ident_law c.take_each.new.cursor c.in_ok-ids.ids c.in_ok-ids.ensures.builds
-    (then_maybe slots.Remark remark_law c.take_each-2.new.cursor c.in_ok-remark.remark c.in_ok-remark.ensures.some c.in_ok-remark.ensures.none c.in_ok-remark.ensures.absent
-    (done c.take_maybe.new.cursor))))))) c.in_ok-close.ensures.left c.in_ok-close.ensures.ends
+    (then_one slots.First component_law c.take_one.new.cursor c.in_ok-first.first c.in_ok-first.ensures.builds
+    (then_one slots.Second component_law c.take_one-2.new.cursor c.in_ok-second.second c.in_ok-second.ensures.builds
+    (then_each slots.Usage usage_law refl c.take_one-3.new.cursor c.in_ok-usages.usages c.in_ok-usages.ensures.builds
+    (then_each slots.Id ident_law refl c.take_each.new.cursor c.in_ok-ids.ids c.in_ok-ids.ensures.builds
+    (then_maybe slots.Remark remark_law refl c.take_each-2.new.cursor c.in_ok-remark.remark c.in_ok-remark.ensures.some c.in_ok-remark.ensures.none c.in_ok-remark.ensures.absent
+    (done c.take_maybe.new.cursor))))))) c.pass-2.ensures.left

@@ -9,6 +9,6 @@ use Rattle.wkt_build.proofs.datums.build_accuracy.Goals as goal
 pub returns-clause-builds : goal.returns-clause-builds
 returns-clause-builds c =
     let v : Decimal = c.in_ok-accuracy.accuracy in
-    made_node nodes.EnsembleAccuracy accuracy_fields c.args.cursor.now c.close.new.cursor v c.pass.ensures.left
+    made_node nodes.EnsembleAccuracy accuracy_fields c.args.cursor.now c.pass-2.new.cursor v c.pass.ensures.left
     (first_one slots.Value number_law c.pass.new.cursor c.in_ok-accuracy.accuracy c.in_ok-accuracy.ensures.builds
-    (done c.take_first.new.cursor)) c.in_ok-close.ensures.left c.in_ok-close.ensures.ends
+    (done c.take_one.new.cursor)) c.pass-2.ensures.left

@@ -1,3 +1,4 @@
+use Rattle.std.proofs.Common.{refl}
 use Rattle.wkt_slots.specs.declared.table.Node.TheVariants as nodes
 use Rattle.wkt_slots.specs.declared.table.SlotName.TheVariants as slots
 use Rattle.wkt_meaning.specs.Denotes.{geodetic_ensemble_fields}
@@ -10,10 +11,10 @@ use Rattle.wkt_build.proofs.datums.build_geodetic_ensemble.Goals as goal
 pub returns-clause-builds : goal.returns-clause-builds
 returns-clause-builds c =
     let v : GeodeticEnsemble = record { name = c.in_ok-name.name; members = record { first = c.in_ok-first_members.first_members; others = c.in_ok-others_members.others_members }; ellipsoid = c.in_ok-ellipsoid.ellipsoid; accuracy = c.in_ok-accuracy.accuracy; ids = c.in_ok-ids.ids } in
-    made_node nodes.GeodeticEnsemble geodetic_ensemble_fields c.args.cursor.now c.close.new.cursor v c.pass.ensures.left
+    made_node nodes.GeodeticEnsemble geodetic_ensemble_fields c.args.cursor.now c.pass-2.new.cursor v c.pass.ensures.left
     (first_one slots.Name text_law c.pass.new.cursor c.in_ok-name.name c.in_ok-name.ensures.builds
-    (then_some slots.Member member_law c.take_first.new.cursor c.take_one.new.cursor (record { first = c.in_ok-first_members.first_members; others = c.in_ok-others_members.others_members }) c.in_ok-first_members.ensures.builds c.in_ok-first_members.ensures.comes c.in_ok-others_members.ensures.builds
-    (then_one slots.Ellipsoid ellipsoid_law c.take_each.new.cursor c.in_ok-ellipsoid.ellipsoid c.in_ok-ellipsoid.ensures.builds c.in_ok-ellipsoid.ensures.comes
-    (then_one slots.Accuracy accuracy_law c.take_one-2.new.cursor c.in_ok-accuracy.accuracy c.in_ok-accuracy.ensures.builds c.in_ok-accuracy.ensures.comes
-    (then_each slots.Id ident_law c.take_one-3.new.cursor c.in_ok-ids.ids c.in_ok-ids.ensures.builds
-    (done c.take_each-2.new.cursor)))))) c.in_ok-close.ensures.left c.in_ok-close.ensures.ends
+    (then_some slots.Member member_law refl c.take_one.new.cursor c.take_one-2.new.cursor (record { first = c.in_ok-first_members.first_members; others = c.in_ok-others_members.others_members }) c.in_ok-first_members.ensures.builds c.in_ok-others_members.ensures.builds
+    (then_one slots.Ellipsoid ellipsoid_law c.take_each.new.cursor c.in_ok-ellipsoid.ellipsoid c.in_ok-ellipsoid.ensures.builds
+    (then_one slots.Accuracy accuracy_law c.take_one-3.new.cursor c.in_ok-accuracy.accuracy c.in_ok-accuracy.ensures.builds
+    (then_each slots.Id ident_law refl c.take_one-4.new.cursor c.in_ok-ids.ids c.in_ok-ids.ensures.builds
+    (done c.take_each-2.new.cursor)))))) c.pass-2.ensures.left

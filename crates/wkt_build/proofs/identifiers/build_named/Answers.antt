@@ -1,3 +1,4 @@
+use Rattle.std.proofs.Common.{refl}
 use Rattle.wkt_slots.specs.declared.table.Node.TheVariants as nodes
 use Rattle.wkt_slots.specs.declared.table.SlotName.TheVariants as slots
 use Rattle.wkt_meaning.specs.Denotes.{named_fields}
@@ -10,7 +11,7 @@ use Rattle.wkt_build.proofs.identifiers.build_named.Goals as goal
 pub returns-clause-builds : goal.returns-clause-builds
 returns-clause-builds c =
     let v : Named = record { name = c.in_ok-name.name; ids = c.in_ok-ids.ids } in
-    made_node nodes.Named named_fields c.args.cursor.now c.close.new.cursor v c.pass.ensures.left
+    made_node nodes.Named named_fields c.args.cursor.now c.pass-2.new.cursor v c.pass.ensures.left
     (first_one slots.Name text_law c.pass.new.cursor c.in_ok-name.name c.in_ok-name.ensures.builds
-    (then_each slots.Id ident_law c.take_first.new.cursor c.in_ok-ids.ids c.in_ok-ids.ensures.builds
-    (done c.take_each.new.cursor))) c.in_ok-close.ensures.left c.in_ok-close.ensures.ends
+    (then_each slots.Id ident_law refl c.take_one.new.cursor c.in_ok-ids.ids c.in_ok-ids.ensures.builds
+    (done c.take_each.new.cursor))) c.pass-2.ensures.left

@@ -9,6 +9,6 @@ use Rattle.wkt_build.proofs.values.build_value.Goals as goal
 pub returns-clause-builds : goal.returns-clause-builds
 returns-clause-builds c =
     let v : Text = c.in_ok-value.value in
-    made_node nodes.Value value_fields c.args.cursor.now c.close.new.cursor v c.pass.ensures.left
+    made_node nodes.Value value_fields c.args.cursor.now c.pass-2.new.cursor v c.pass.ensures.left
     (first_one slots.Value text_law c.pass.new.cursor c.in_ok-value.value c.in_ok-value.ensures.builds
-    (done c.take_first.new.cursor)) c.in_ok-close.ensures.left c.in_ok-close.ensures.ends
+    (done c.take_one.new.cursor)) c.pass-2.ensures.left

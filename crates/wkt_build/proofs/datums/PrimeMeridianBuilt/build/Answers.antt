@@ -14,10 +14,10 @@ use Rattle.wkt_build.proofs.datums.PrimeMeridianBuilt.build.Goals as goal
 pub returns-clause-builds : goal.returns-clause-builds
 returns-clause-builds c =
     let v : PrimeMeridian = record { name = c.in_ok-name.name; longitude = c.in_ok-longitude.longitude; unit = c.in_ok-unit.unit; ids = c.in_ok-ids.ids } in
-    made_argument kinds.PrimeMeridian keywords.PrimeMeridian nodes.PrimeMeridian prime_meridian_fields c.args.cursor.now c.close.new.cursor v refl only_prime_meridian
-    (made_node nodes.PrimeMeridian prime_meridian_fields c.args.cursor.now c.close.new.cursor v c.pass.ensures.left
+    made_argument kinds.PrimeMeridian keywords.PrimeMeridian nodes.PrimeMeridian prime_meridian_fields c.args.cursor.now c.pass-2.new.cursor v refl only_prime_meridian
+    (made_node nodes.PrimeMeridian prime_meridian_fields c.args.cursor.now c.pass-2.new.cursor v c.pass.ensures.left
     (first_one slots.Name text_law c.pass.new.cursor c.in_ok-name.name c.in_ok-name.ensures.builds
-    (then_one slots.Longitude number_law c.take_first.new.cursor c.in_ok-longitude.longitude c.in_ok-longitude.ensures.builds c.in_ok-longitude.ensures.comes
-    (then_maybe slots.Unit angle_unit_law c.take_one.new.cursor c.in_ok-unit.unit c.in_ok-unit.ensures.some c.in_ok-unit.ensures.none c.in_ok-unit.ensures.absent
-    (then_each slots.Id ident_law c.take_maybe.new.cursor c.in_ok-ids.ids c.in_ok-ids.ensures.builds
-    (done c.take_each.new.cursor))))) c.in_ok-close.ensures.left c.in_ok-close.ensures.ends)
+    (then_one slots.Longitude number_law c.take_one.new.cursor c.in_ok-longitude.longitude c.in_ok-longitude.ensures.builds
+    (then_maybe slots.Unit angle_unit_law refl c.take_one-2.new.cursor c.in_ok-unit.unit c.in_ok-unit.ensures.some c.in_ok-unit.ensures.none c.in_ok-unit.ensures.absent
+    (then_each slots.Id ident_law refl c.take_maybe.new.cursor c.in_ok-ids.ids c.in_ok-ids.ensures.builds
+    (done c.take_each.new.cursor))))) c.pass-2.ensures.left)

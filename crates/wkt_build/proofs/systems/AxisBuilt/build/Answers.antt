@@ -14,12 +14,12 @@ use Rattle.wkt_build.proofs.systems.AxisBuilt.build.Goals as goal
 pub returns-clause-builds : goal.returns-clause-builds
 returns-clause-builds c =
     let v : Axis = record { name = c.in_ok-name.name; direction = c.in_ok-direction.direction; meridian = c.in_ok-meridian.meridian; order = c.in_ok-order.order; unit = c.in_ok-unit.unit; ids = c.in_ok-ids.ids } in
-    made_argument kinds.Axis keywords.Axis nodes.Axis axis_fields c.args.cursor.now c.close.new.cursor v refl only_axis
-    (made_node nodes.Axis axis_fields c.args.cursor.now c.close.new.cursor v c.pass.ensures.left
+    made_argument kinds.Axis keywords.Axis nodes.Axis axis_fields c.args.cursor.now c.pass-2.new.cursor v refl only_axis
+    (made_node nodes.Axis axis_fields c.args.cursor.now c.pass-2.new.cursor v c.pass.ensures.left
     (first_one slots.Name text_law c.pass.new.cursor c.in_ok-name.name c.in_ok-name.ensures.builds
-    (then_one slots.Direction direction_law c.take_first.new.cursor c.in_ok-direction.direction c.in_ok-direction.ensures.builds c.in_ok-direction.ensures.comes
-    (then_maybe slots.Meridian meridian_law c.take_one.new.cursor c.in_ok-meridian.meridian c.in_ok-meridian.ensures.some c.in_ok-meridian.ensures.none c.in_ok-meridian.ensures.absent
-    (then_maybe slots.Order order_law c.take_maybe.new.cursor c.in_ok-order.order c.in_ok-order.ensures.some c.in_ok-order.ensures.none c.in_ok-order.ensures.absent
-    (then_maybe slots.Unit unit_law c.take_maybe-2.new.cursor c.in_ok-unit.unit c.in_ok-unit.ensures.some c.in_ok-unit.ensures.none c.in_ok-unit.ensures.absent
-    (then_each slots.Id ident_law c.take_maybe-3.new.cursor c.in_ok-ids.ids c.in_ok-ids.ensures.builds
-    (done c.take_each.new.cursor))))))) c.in_ok-close.ensures.left c.in_ok-close.ensures.ends)
+    (then_one slots.Direction direction_law c.take_one.new.cursor c.in_ok-direction.direction c.in_ok-direction.ensures.builds
+    (then_maybe slots.Meridian meridian_law refl c.take_one-2.new.cursor c.in_ok-meridian.meridian c.in_ok-meridian.ensures.some c.in_ok-meridian.ensures.none c.in_ok-meridian.ensures.absent
+    (then_maybe slots.Order order_law refl c.take_maybe.new.cursor c.in_ok-order.order c.in_ok-order.ensures.some c.in_ok-order.ensures.none c.in_ok-order.ensures.absent
+    (then_maybe slots.Unit unit_law refl c.take_maybe-2.new.cursor c.in_ok-unit.unit c.in_ok-unit.ensures.some c.in_ok-unit.ensures.none c.in_ok-unit.ensures.absent
+    (then_each slots.Id ident_law refl c.take_maybe-3.new.cursor c.in_ok-ids.ids c.in_ok-ids.ensures.builds
+    (done c.take_each.new.cursor))))))) c.pass-2.ensures.left)

@@ -14,9 +14,9 @@ use Rattle.wkt_build.proofs.systems.CoordSystemBuilt.build.Goals as goal
 pub returns-clause-builds : goal.returns-clause-builds
 returns-clause-builds c =
     let v : CoordSystem = c.system_of.result in
-    made_argument kinds.CoordinateSystem keywords.CoordinateSystem nodes.CoordinateSystem system_fields c.args.cursor.now c.close.new.cursor v refl only_system
-    (made_node nodes.CoordinateSystem system_fields c.args.cursor.now c.close.new.cursor v c.pass.ensures.left
-    (first_one slots.Kind kind_law c.pass.new.cursor v.kind (made_as kind_law c.pass.new.cursor c.take_first.new.cursor c.in_ok-kind.kind v.kind c.system_of.ensures.kind c.in_ok-kind.ensures.builds)
-    (then_one slots.Dimension count_law c.take_first.new.cursor (record { value = v.dimension; small = v.count }) (count_as c.take_first.new.cursor c.take_one.new.cursor c.in_ok-dimension.dimension v.dimension v.count c.system_of.ensures.dimension c.in_ok-dimension.ensures.builds) c.in_ok-dimension.ensures.comes
-    (then_each slots.Id ident_law c.take_one.new.cursor v.ids (each_as ident_law c.take_one.new.cursor c.take_each.new.cursor c.in_ok-ids.ids v.ids c.system_of.ensures.ids c.in_ok-ids.ensures.builds)
-    (done c.take_each.new.cursor)))) c.in_ok-close.ensures.left c.in_ok-close.ensures.ends)
+    made_argument kinds.CoordinateSystem keywords.CoordinateSystem nodes.CoordinateSystem system_fields c.args.cursor.now c.pass-2.new.cursor v refl only_system
+    (made_node nodes.CoordinateSystem system_fields c.args.cursor.now c.pass-2.new.cursor v c.pass.ensures.left
+    (first_one slots.Kind kind_law c.pass.new.cursor v.kind (made_as kind_law c.pass.new.cursor c.take_one.new.cursor c.in_ok-kind.kind v.kind c.system_of.ensures.kind c.in_ok-kind.ensures.builds)
+    (then_one slots.Dimension count_law c.take_one.new.cursor (record { value = v.dimension; small = v.count }) (count_as c.take_one.new.cursor c.take_one-2.new.cursor c.in_ok-dimension.dimension v.dimension v.count c.system_of.ensures.dimension c.in_ok-dimension.ensures.builds)
+    (then_each slots.Id ident_law refl c.take_one-2.new.cursor v.ids (each_as ident_law c.take_one-2.new.cursor c.take_each.new.cursor c.in_ok-ids.ids v.ids c.system_of.ensures.ids c.in_ok-ids.ensures.builds)
+    (done c.take_each.new.cursor)))) c.pass-2.ensures.left)

@@ -14,8 +14,8 @@ use Rattle.wkt_build.proofs.systems.MeridianBuilt.build.Goals as goal
 pub returns-clause-builds : goal.returns-clause-builds
 returns-clause-builds c =
     let v : Meridian = record { longitude = c.in_ok-longitude.longitude; unit = c.in_ok-unit.unit } in
-    made_argument kinds.Meridian keywords.Meridian nodes.Meridian meridian_fields c.args.cursor.now c.close.new.cursor v refl only_meridian
-    (made_node nodes.Meridian meridian_fields c.args.cursor.now c.close.new.cursor v c.pass.ensures.left
+    made_argument kinds.Meridian keywords.Meridian nodes.Meridian meridian_fields c.args.cursor.now c.pass-2.new.cursor v refl only_meridian
+    (made_node nodes.Meridian meridian_fields c.args.cursor.now c.pass-2.new.cursor v c.pass.ensures.left
     (first_one slots.Longitude number_law c.pass.new.cursor c.in_ok-longitude.longitude c.in_ok-longitude.ensures.builds
-    (then_one slots.Unit angle_unit_law c.take_first.new.cursor c.in_ok-unit.unit c.in_ok-unit.ensures.builds c.in_ok-unit.ensures.comes
-    (done c.take_one.new.cursor))) c.in_ok-close.ensures.left c.in_ok-close.ensures.ends)
+    (then_one slots.Unit angle_unit_law c.take_one.new.cursor c.in_ok-unit.unit c.in_ok-unit.ensures.builds
+    (done c.take_one-2.new.cursor))) c.pass-2.ensures.left)

@@ -13,7 +13,7 @@ use Rattle.wkt_build.proofs.systems.OrderBuilt.build.Goals as goal
 pub returns-clause-builds : goal.returns-clause-builds
 returns-clause-builds c =
     let v : Order = c.order_of.result in
-    made_argument kinds.Order keywords.Order nodes.Order order_fields c.args.cursor.now c.close.new.cursor v refl only_order
-    (made_node nodes.Order order_fields c.args.cursor.now c.close.new.cursor v c.pass.ensures.left
-    (first_one slots.Position count_law c.pass.new.cursor (record { value = v.position; small = v.count }) (count_as c.pass.new.cursor c.take_first.new.cursor c.in_ok-position.position v.position v.count c.order_of.ensures c.in_ok-position.ensures.builds)
-    (done c.take_first.new.cursor)) c.in_ok-close.ensures.left c.in_ok-close.ensures.ends)
+    made_argument kinds.Order keywords.Order nodes.Order order_fields c.args.cursor.now c.pass-2.new.cursor v refl only_order
+    (made_node nodes.Order order_fields c.args.cursor.now c.pass-2.new.cursor v c.pass.ensures.left
+    (first_one slots.Position count_law c.pass.new.cursor (record { value = v.position; small = v.count }) (count_as c.pass.new.cursor c.take_one.new.cursor c.in_ok-position.position v.position v.count c.order_of.ensures c.in_ok-position.ensures.builds)
+    (done c.take_one.new.cursor)) c.pass-2.ensures.left)

@@ -13,9 +13,9 @@ use Rattle.wkt_build.proofs.usages.UsageBuilt.build.Goals as goal
 pub returns-clause-builds : goal.returns-clause-builds
 returns-clause-builds c =
     let v : Usage = record { scope = c.in_ok-scope.scope; area = c.in_ok-area.area; bounding_box = c.in_ok-bounding_box.bounding_box } in
-    made_argument kinds.Usage keywords.Usage nodes.Usage usage_fields c.args.cursor.now c.close.new.cursor v refl only_usage
-    (made_node nodes.Usage usage_fields c.args.cursor.now c.close.new.cursor v c.pass.ensures.left
+    made_argument kinds.Usage keywords.Usage nodes.Usage usage_fields c.args.cursor.now c.pass-2.new.cursor v refl only_usage
+    (made_node nodes.Usage usage_fields c.args.cursor.now c.pass-2.new.cursor v c.pass.ensures.left
     (first_one slots.Scope scope_law c.pass.new.cursor c.in_ok-scope.scope c.in_ok-scope.ensures.builds
-    (then_maybe slots.Area area_law c.take_first.new.cursor c.in_ok-area.area c.in_ok-area.ensures.some c.in_ok-area.ensures.none c.in_ok-area.ensures.absent
-    (then_maybe slots.BoundingBox bounding_box_law c.take_maybe.new.cursor c.in_ok-bounding_box.bounding_box c.in_ok-bounding_box.ensures.some c.in_ok-bounding_box.ensures.none c.in_ok-bounding_box.ensures.absent
-    (done c.take_maybe-2.new.cursor)))) c.in_ok-close.ensures.left c.in_ok-close.ensures.ends)
+    (then_maybe slots.Area area_law refl c.take_one.new.cursor c.in_ok-area.area c.in_ok-area.ensures.some c.in_ok-area.ensures.none c.in_ok-area.ensures.absent
+    (then_maybe slots.BoundingBox bounding_box_law refl c.take_maybe.new.cursor c.in_ok-bounding_box.bounding_box c.in_ok-bounding_box.ensures.some c.in_ok-bounding_box.ensures.none c.in_ok-bounding_box.ensures.absent
+    (done c.take_maybe-2.new.cursor)))) c.pass-2.ensures.left)
