@@ -99,15 +99,17 @@ pub enum CrsParts {
     Compound(Compound),
 }
 
+// Here and in `Vertical` what holds enums is copied last: a copy that fails drops those before it, and the prover goes
+// through each variant of them once more.
 impl TryClone for BaseCrs {
     fn try_clone(&self, alloc: Global) -> Result<BaseCrs, AllocError> {
         Ok(BaseCrs {
             kind: self.kind,
             name: self.name.try_clone(alloc)?,
-            datum: self.datum.try_clone(alloc)?,
-            prime_meridian: self.prime_meridian.try_clone(alloc)?,
-            unit: self.unit.try_clone(alloc)?,
             ids: self.ids.try_clone(alloc)?,
+            unit: self.unit.try_clone(alloc)?,
+            prime_meridian: self.prime_meridian.try_clone(alloc)?,
+            datum: self.datum.try_clone(alloc)?,
         })
     }
 }
@@ -189,13 +191,13 @@ impl TryClone for Vertical {
     fn try_clone(&self, alloc: Global) -> Result<Vertical, AllocError> {
         Ok(Vertical {
             name: self.name.try_clone(alloc)?,
-            datum: self.datum.try_clone(alloc)?,
             system: self.system.try_clone(alloc)?,
-            axes: self.axes.try_clone(alloc)?,
-            unit: self.unit.try_clone(alloc)?,
             usages: self.usages.try_clone(alloc)?,
             ids: self.ids.try_clone(alloc)?,
             remark: self.remark.try_clone(alloc)?,
+            datum: self.datum.try_clone(alloc)?,
+            unit: self.unit.try_clone(alloc)?,
+            axes: self.axes.try_clone(alloc)?,
         })
     }
 }

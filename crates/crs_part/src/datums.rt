@@ -163,7 +163,6 @@ impl Same for GeodeticEnsemble {
 }
 
 impl TryClone for GeodeticFrame {
-    #[inline(never)]
     fn try_clone(&self, alloc: Global) -> Result<GeodeticFrame, AllocError> {
         match self {
             GeodeticFrame::Datum(datum) => Ok(GeodeticFrame::Datum(datum.try_clone(alloc)?)),
@@ -221,7 +220,6 @@ impl Same for VerticalEnsemble {
 }
 
 impl TryClone for VerticalFrame {
-    #[inline(never)]
     fn try_clone(&self, alloc: Global) -> Result<VerticalFrame, AllocError> {
         match self {
             VerticalFrame::Datum(datum) => Ok(VerticalFrame::Datum(datum.try_clone(alloc)?)),

@@ -10,15 +10,26 @@ const KINDS: [&str; 4] = ["entries", "conflicts", "awaited", "gaps"];
 
 /// The commands and their words.
 pub fn command_line<'a>(alloc: Global) -> Result<Command<'a>, AllocError> {
-    Command::new(alloc, "crsreg")
+    let whole = Command::new(alloc, "crsreg")
         .about("A register of coordinate reference systems in WKT 2, and checks of their texts")
         .after_help(STATUS_HELP)
-        .subcommand_required(true)
+        .subcommand_required(true);
+    with_readers(alloc, with_makers(alloc, whole)?)
+}
+
+// Those that check a text, and that make or change a register.
+fn with_makers<'a>(alloc: Global, whole: Command<'a>) -> Result<Command<'a>, AllocError> {
+    whole
         .subcommand(check(alloc)?)?
         .subcommand(new(alloc)?)?
         .subcommand(enter(alloc)?)?
         .subcommand(supersede(alloc)?)?
-        .subcommand(retire(alloc)?)?
+        .subcommand(retire(alloc)?)
+}
+
+// Those that show what registers have, and that join them.
+fn with_readers<'a>(alloc: Global, whole: Command<'a>) -> Result<Command<'a>, AllocError> {
+    whole
         .subcommand(show(alloc)?)?
         .subcommand(wkt(alloc)?)?
         .subcommand(export(alloc)?)?

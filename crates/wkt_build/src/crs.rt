@@ -9,11 +9,11 @@ ghost use Rattle.wkt_build.specs.Reads.{BuildsNode};
 
 use crate::built::{Built, pass, take_each, take_maybe, take_one};
 use crate::choices::{geodetic_kind_of, is_compound, is_projected, is_vertical, next_keyword};
-use crate::ending::take_ending;
+use crate::ending::{take_base_ending, take_ending};
 use crate::reader::Reader;
 use crate::values::Remark;
 use crs_part::{
-    AngleUnit, Axis, BaseCrs, Compound, Conversion, CoordSystem, CrsParts, Geodetic, GeodeticFrame,
+    Axis, BaseCrs, Compound, Conversion, CoordSystem, CrsParts, Geodetic, GeodeticFrame,
     GeodeticKind, Ident, NonEmpty, PrimeMeridian, Projected, Single, Text, Unit, Usage, Vertical,
     VerticalFrame,
 };
@@ -32,17 +32,15 @@ pub(crate) fn build_base(
     pass(cursor);
     let name = take_one::<Text, Text>(alloc, cursor)?;
     let datum = take_one::<GeodeticFrame, GeodeticFrame>(alloc, cursor)?;
-    let prime_meridian = take_maybe::<PrimeMeridian, PrimeMeridian>(alloc, cursor)?;
-    let unit = take_maybe::<AngleUnit, AngleUnit>(alloc, cursor)?;
-    let ids = take_each::<Ident, Ident>(alloc, cursor)?;
+    let ending = take_base_ending(alloc, cursor)?;
     pass(cursor);
     Ok(BaseCrs {
         kind,
         name,
         datum,
-        prime_meridian,
-        unit,
-        ids,
+        prime_meridian: ending.prime_meridian,
+        unit: ending.unit,
+        ids: ending.ids,
     })
 }
 

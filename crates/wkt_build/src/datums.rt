@@ -192,7 +192,6 @@ impl Built<GeodeticFrame> for GeodeticFrame {
         Takes::GeodeticDatum
     }
 
-    #[inline(never)]
     fn build(alloc: Global, cursor: &mut Reader<'_>) -> Result<GeodeticFrame, AllocError> {
         if is_ensemble(next_keyword(cursor)) {
             let ensemble = build_geodetic_ensemble(alloc, cursor)?;
@@ -212,7 +211,6 @@ impl Built<VerticalFrame> for VerticalFrame {
         Takes::VerticalDatum
     }
 
-    #[inline(never)]
     fn build(alloc: Global, cursor: &mut Reader<'_>) -> Result<VerticalFrame, AllocError> {
         if is_ensemble(next_keyword(cursor)) {
             let ensemble = build_vertical_ensemble(alloc, cursor)?;

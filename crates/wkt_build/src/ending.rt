@@ -1,12 +1,16 @@
-//! What all reference systems of one part end with.
+//! What reference systems of one part, and those that they stand on, end with.
+//!
+//! Each ending is a function of its own, so that few values are held where a step fails: a proof goes through them.
 
 ghost use Rattle.std.specs.Prelude.{◌≤◌, length};
-ghost use Rattle.wkt_build.specs.Rest.{BuildsRest, ending_fields, ending_row};
+ghost use Rattle.wkt_build.specs.Rest.{BuildsRest, base_ending_fields, base_ending_row, ending_fields, ending_row, tail_fields, tail_row};
 
 use crate::built::{take_each, take_maybe, take_one};
 use crate::reader::Reader;
 use crate::values::Remark;
-use crs_part::{Axis, CoordSystem, Ident, Many, NonEmpty, Text, Unit, Usage};
+use crs_part::{
+    AngleUnit, Axis, CoordSystem, Ident, Many, NonEmpty, PrimeMeridian, Text, Unit, Usage,
+};
 use std::alloc::{AllocError, Global};
 
 /// The slots from the coordinate system on.
@@ -20,6 +24,53 @@ pub(crate) struct Ending {
     pub(crate) remark: Option<Text>,
 }
 
+/// The slots behind the unit of the axes.
+#[derive(Drop)]
+pub(crate) struct Tail {
+    pub(crate) usages: Many<Usage>,
+    pub(crate) ids: Many<Ident>,
+    pub(crate) remark: Option<Text>,
+}
+
+/// The slots of a base system behind its datum.
+#[derive(Drop)]
+pub(crate) struct BaseEnding {
+    pub(crate) prime_meridian: Option<PrimeMeridian>,
+    pub(crate) unit: Option<AngleUnit>,
+    pub(crate) ids: Many<Ident>,
+}
+
+pub(crate) fn take_tail(alloc: Global, cursor: &mut Reader<'_>) -> Result<Tail, AllocError>
+    ensures builds { BuildsRest tail_row tail_fields cursor.old cursor.new result }
+    ensures shorter { length cursor.new ≤ length cursor.old }
+{
+    let usages = take_each::<Usage, Usage>(alloc, cursor)?;
+    let ids = take_each::<Ident, Ident>(alloc, cursor)?;
+    let remark = take_maybe::<Remark, Text>(alloc, cursor)?;
+    Ok(Tail {
+        usages,
+        ids,
+        remark,
+    })
+}
+
+pub(crate) fn take_base_ending(
+    alloc: Global,
+    cursor: &mut Reader<'_>,
+) -> Result<BaseEnding, AllocError>
+    ensures builds { BuildsRest base_ending_row base_ending_fields cursor.old cursor.new result }
+    ensures shorter { length cursor.new ≤ length cursor.old }
+{
+    let prime_meridian = take_maybe::<PrimeMeridian, PrimeMeridian>(alloc, cursor)?;
+    let unit = take_maybe::<AngleUnit, AngleUnit>(alloc, cursor)?;
+    let ids = take_each::<Ident, Ident>(alloc, cursor)?;
+    Ok(BaseEnding {
+        prime_meridian,
+        unit,
+        ids,
+    })
+}
+
 pub(crate) fn take_ending(alloc: Global, cursor: &mut Reader<'_>) -> Result<Ending, AllocError>
     ensures builds { BuildsRest ending_row ending_fields cursor.old cursor.new result }
     ensures shorter { length cursor.new ≤ length cursor.old }
@@ -28,9 +79,7 @@ pub(crate) fn take_ending(alloc: Global, cursor: &mut Reader<'_>) -> Result<Endi
     let first_axes = take_one::<Axis, Axis>(alloc, cursor)?;
     let others_axes = take_each::<Axis, Axis>(alloc, cursor)?;
     let unit = take_maybe::<Unit, Unit>(alloc, cursor)?;
-    let usages = take_each::<Usage, Usage>(alloc, cursor)?;
-    let ids = take_each::<Ident, Ident>(alloc, cursor)?;
-    let remark = take_maybe::<Remark, Text>(alloc, cursor)?;
+    let tail = take_tail(alloc, cursor)?;
     Ok(Ending {
         system,
         axes: NonEmpty {
@@ -38,8 +87,8 @@ pub(crate) fn take_ending(alloc: Global, cursor: &mut Reader<'_>) -> Result<Endi
             others: others_axes,
         },
         unit,
-        usages,
-        ids,
-        remark,
+        usages: tail.usages,
+        ids: tail.ids,
+        remark: tail.remark,
     })
 }

@@ -1,20 +1,16 @@
-use Rattle.std.proofs.Common.{refl}
 use Rattle.wkt_slots.specs.declared.table.Node.TheVariants as nodes
 use Rattle.wkt_slots.specs.declared.table.SlotName.TheVariants as slots
 use Rattle.wkt_meaning.specs.Denotes.{base_fields}
 use Rattle.wkt_meaning.proofs.Leaves.{text_law}
-use Rattle.wkt_meaning.proofs.Nodes.{angle_unit_law, geodetic_frame_law, ident_law, prime_meridian_law}
+use Rattle.wkt_meaning.proofs.Nodes.{geodetic_frame_law}
 use Rattle.crs_part.specs.declared.crs.BaseCrs.{BaseCrs}
-use Rattle.wkt_build.proofs.Rows.{done, first_one, made_node, then_each, then_maybe, then_one}
+use Rattle.wkt_build.proofs.Rows.{first_one, made_node, then_one}
 use Rattle.wkt_build.proofs.crs.build_base.Goals as goal
 
 pub returns-clause-builds : goal.returns-clause-builds
 returns-clause-builds c =
-    let v : BaseCrs = record { kind = c.args.kind; name = c.in_ok-name.name; datum = c.in_ok-datum.datum; prime_meridian = c.in_ok-prime_meridian.prime_meridian; unit = c.in_ok-unit.unit; ids = c.in_ok-ids.ids } in
+    let v : BaseCrs = record { kind = c.args.kind; name = c.in_ok-name.name; datum = c.in_ok-datum.datum; prime_meridian = c.in_ok-ending.ending.prime_meridian; unit = c.in_ok-ending.ending.unit; ids = c.in_ok-ending.ending.ids } in
     made_node nodes.BaseCrs base_fields c.args.cursor.now c.pass-2.new.cursor v c.pass.ensures.left
     (first_one slots.Name text_law c.pass.new.cursor c.in_ok-name.name c.in_ok-name.ensures.builds
     (then_one slots.Datum geodetic_frame_law c.take_one.new.cursor c.in_ok-datum.datum c.in_ok-datum.ensures.builds
-    (then_maybe slots.PrimeMeridian prime_meridian_law refl c.take_one-2.new.cursor c.in_ok-prime_meridian.prime_meridian c.in_ok-prime_meridian.ensures.some c.in_ok-prime_meridian.ensures.none c.in_ok-prime_meridian.ensures.absent
-    (then_maybe slots.Unit angle_unit_law refl c.take_maybe.new.cursor c.in_ok-unit.unit c.in_ok-unit.ensures.some c.in_ok-unit.ensures.none c.in_ok-unit.ensures.absent
-    (then_each slots.Id ident_law refl c.take_maybe-2.new.cursor c.in_ok-ids.ids c.in_ok-ids.ensures.builds
-    (done c.take_each.new.cursor)))))) c.pass-2.ensures.left
+    c.in_ok-ending.ensures.builds)) c.pass-2.ensures.left
