@@ -1,6 +1,6 @@
 -- What makes a definition.
 use Rattle.std.proofs.Common.{◌≡◌, ℕ, nat_eq, ◌≤◌, Bool, true, false, List, [], ◌∷◌, length, refl, sym, ap, ◌∙◌, subst, arith, inl, inr}
-use Rattle.std.specs.Prelude.{◌⊎◌, ◌&&◌, not, Result, Ok, Err, IfOk, IfErr}
+use Rattle.std.specs.Prelude.{◌⊎◌, ◌&&◌, not, Option, Some, Result, Ok, Err, IfSome, IfOk, IfErr}
 use Rattle.std.specs.Cmp.Lexicographic.{pointwise}
 use Rattle.std.proofs.lemmas.Bool.{eqb-true, eq-eqb}
 use Rattle.crs_value.specs.declared.crs.Crs.{Crs}
@@ -28,6 +28,10 @@ is_crs_of crs key bytes d = (d.canonical, canonical_text crs bytes d.canonical d
 
 pub is_key_in : (crs : Crs) (key : Key) (bytes : List ℕ) → IsDefinedBy crs key bytes → IsKeyIn key bytes
 is_key_in crs key bytes d = (crs, canonical_text crs bytes d.canonical d.short, d.identified, d.keyed)
+
+-- what is told of a definition that may be there is told of the one that is
+pub told_of : (bytes : List ℕ) (found : Option (List ℕ)) (d : List ℕ) → found ≡ Some d → IfSome found (λ d. (d ≡ bytes) × IsDefinition bytes) → (d ≡ bytes) × IsDefinition bytes
+told_of bytes found d e h = subst (λ o. IfSome o (λ d. (d ≡ bytes) × IsDefinition bytes)) e h
 
 -- ---- bytes that are compared
 

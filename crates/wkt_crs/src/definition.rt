@@ -1,14 +1,19 @@
 //! Definitions: what a register holds.
 
-ghost use Rattle.std.specs.Prelude.{◌≡◌, ◌≤◌, true, false, length, IfOk, IfErr};
+ghost use Rattle.std.specs.Prelude.{◌≡◌, ◌≤◌, ◌⊎◌, true, false, length, Ok, Err, IfSome, IfOk, IfErr};
 ghost use Rattle.crs_part.specs.Slots.{ids_of};
+ghost use Rattle.wkt_tree.specs.declared.fault.TextFault.{TextFault};
+ghost use Rattle.wkt_tree.specs.Faults as tree;
+ghost use Rattle.wkt_tier.specs.declared.fault.SlotFault.{SlotFault};
+ghost use Rattle.wkt_crs.specs.declared.fault.ReadFault.TheVariants as read;
 ghost use Rattle.wkt_crs.specs.Spells.{canon};
-ghost use Rattle.wkt_crs.specs.Definition.{HasNone, IsDefinedBy, of_read};
+ghost use Rattle.wkt_crs.specs.Faults.{FirstSlot};
+ghost use Rattle.wkt_crs.specs.Definition.{HasNone, IsCanonicalFault, IsDefinedBy, IsDefinition, of_read};
 ghost use Rattle.wkt_crs.specs.declared.definition.DefinitionFault.TheVariants as fault;
 
 use crate::fault::ReadFault;
-use crate::reading::read_crs;
-use crate::writing::write_crs;
+use crate::reading::{fault_without_memory, guess_crs, read_crs};
+use crate::writing::{write_crs, write_crs_with_room};
 use crs_value::{Crs, Key};
 use std::alloc::{AllocError, Global};
 use std::marker::Model;
@@ -98,20 +103,11 @@ impl Definition {
         if bytes.len() > MOST {
             return Err(DefinitionFault::CanonicalTooLong);
         }
-        let crs = match read_crs(alloc, bytes) {
-            Ok(crs) => crs,
-            Err(fault) => return Err(of_read(fault)),
-        };
-        if !has_identifier(&crs) {
-            return Err(DefinitionFault::NoIdentifier);
+        match written_back(alloc, bytes) {
+            Ok(Some(definition)) => Ok(definition),
+            Ok(None) => read_canonical(alloc, bytes),
+            Err(_) => Err(of_read(fault_without_memory(bytes))),
         }
-        let Ok(text) = write_crs(alloc, &crs) else {
-            return Err(DefinitionFault::Memory);
-        };
-        if text.as_slice() != bytes {
-            return Err(DefinitionFault::NotCanonical);
-        }
-        defined(alloc, crs, text)
     }
 
     /// The canonical text.
@@ -153,6 +149,53 @@ fn has_identifier(crs: &Crs) -> bool
     ensures none { result ≡ false → HasNone crs.now }
 {
     !crs.parts().ids().is_empty()
+}
+
+// The definition with these bytes, if they are what is written of the value that is guessed. What is written of a value
+// is read back, so that it doesn't matter where the value comes from.
+fn written_back(alloc: Global, bytes: &[u8]) -> Result<Option<Definition>, AllocError>
+    requires { length bytes.now ≤ 65536 }
+    ensures { IfOk result (λ found. IfSome found (λ d. (d ≡ bytes.now) × IsDefinition bytes.now)) }
+{
+    let Some(crs) = guess_crs(alloc, bytes)? else {
+        return Ok(None);
+    };
+    if !has_identifier(&crs) {
+        return Ok(None);
+    }
+    let text = write_crs_with_room(alloc, &crs, bytes.len())?;
+    if bytes != text.as_slice() {
+        return Ok(None);
+    }
+    match defined(alloc, crs, text) {
+        Ok(definition) => Ok(Some(definition)),
+        Err(_) => Err(AllocError),
+    }
+}
+
+// The definition with these bytes, or their first fault.
+fn read_canonical(alloc: Global, bytes: &[u8]) -> Result<Definition, DefinitionFault>
+    requires { length bytes.now ≤ 65536 }
+    ensures ok { IfOk result (λ d. d ≡ bytes.now) }
+    ensures fault { IfErr result (IsCanonicalFault bytes.now) }
+    ensures only { IsDefinition bytes.now → (result ≡ Ok bytes.now) ⊎ (result ≡ Err fault.Memory) }
+    ensures text { (f : TextFault) → tree.FirstFault bytes.now f → result ≡ Err (fault.Read (read.Text f)) }
+    ensures slot { (f : SlotFault) → FirstSlot bytes.now f → result ≡ Err (fault.Read (read.Slot f)) }
+{
+    let crs = match read_crs(alloc, bytes) {
+        Ok(crs) => crs,
+        Err(fault) => return Err(of_read(fault)),
+    };
+    if !has_identifier(&crs) {
+        return Err(DefinitionFault::NoIdentifier);
+    }
+    let Ok(text) = write_crs(alloc, &crs) else {
+        return Err(DefinitionFault::Memory);
+    };
+    if text.as_slice() != bytes {
+        return Err(DefinitionFault::NotCanonical);
+    }
+    defined(alloc, crs, text)
 }
 
 // The definition of a reference system with an identifier, of which this is the canonical text.

@@ -12,8 +12,9 @@ ghost use Rattle.wkt_crs.specs.Faults.{FirstFault, FirstSlot};
 use crate::fault::ReadFault;
 use crate::places::keyword_place;
 use crs_value::Crs;
-use std::alloc::Global;
+use std::alloc::{AllocError, Global};
 use wkt_build::build_parts;
+use wkt_guess::guess_parts;
 use wkt_slots::Edition;
 use wkt_tier::check_slots;
 use wkt_tree::scan;
@@ -46,4 +47,30 @@ pub fn read_crs(alloc: Global, text: &[u8]) -> Result<Crs, ReadFault>
             place: keyword_place(&outline, broken.whose),
         }),
     }
+}
+
+/// The fault of a text that is refused for want of memory: that of the text or of its slots, if it has one.
+pub(crate) fn fault_without_memory(text: &[u8]) -> ReadFault
+    ensures fault { FirstFault text.now result }
+    ensures only { (v : Crs) → Spells text.now v → result ≡ fault.Memory }
+    ensures text { (f : TextFault) → tree.FirstFault text.now f → result ≡ fault.Text f }
+    ensures slot { (f : SlotFault) → FirstSlot text.now f → result ≡ fault.Slot f }
+{
+    let outline = match scan(text) {
+        Ok(outline) => outline,
+        Err(fault) => return ReadFault::Text(fault),
+    };
+    match check_slots(Edition::First, &outline) {
+        Ok(()) => ReadFault::Memory,
+        Err(fault) => ReadFault::Slot(fault),
+    }
+}
+
+/// The value of a canonical text, and of any other text some value or none. Nothing is claimed of it: who asks writes the
+/// value and compares.
+pub(crate) fn guess_crs(alloc: Global, text: &[u8]) -> Result<Option<Crs>, AllocError> {
+    let Some(parts) = guess_parts(alloc, text)? else {
+        return Ok(None);
+    };
+    Ok(Crs::check(parts).ok())
 }

@@ -2,6 +2,7 @@ mod definitions;
 mod growth;
 mod refused;
 
+use crate::reading::guess_crs;
 use crate::{Condition, ReadFault, read_crs, write_crs, write_pretty};
 use std::alloc::Global;
 use std::test::Fail;
@@ -47,6 +48,17 @@ fn every_spelling_gives_the_canonical_text(rt: HostRuntime) -> Result<(), Fail> 
     let pretty = write_pretty(alloc, &crs)?;
     let again = read_crs(alloc, &pretty).ok().ok_or("refused")?;
     assert!(rt; write_crs(alloc, &again)?.as_slice() == HEIGHT);
+    Ok(())
+}
+
+#[test]
+fn canonical_texts_alone_are_guessed(rt: HostRuntime) -> Result<(), Fail> {
+    let alloc = rt.alloc();
+    for text in [HEIGHT, COMPOUND, POLAR] {
+        let guess = guess_crs(alloc, text)?.ok_or("no guess")?;
+        assert!(rt; write_crs(alloc, &guess)?.as_slice() == text);
+    }
+    assert!(rt; guess_crs(alloc, SPELLED)?.is_none());
     Ok(())
 }
 

@@ -17,7 +17,7 @@ mod write;
 mod written;
 
 pub use laws::reading_laws;
-pub use write::{write_crs, write_pretty};
+pub use write::{write_crs, write_crs_with_room, write_pretty};
 
 #[cfg(test)]
 mod tests;

@@ -15,7 +15,18 @@ const COMMON_LENGTH: usize = 1024;
 pub fn write_crs(alloc: Global, parts: &CrsParts) -> Result<Vec<u8>, AllocError>
     ensures { IfOk result (λ text. text.items ≡ canon parts.now) }
 {
-    let mut out = Vec::with_capacity(alloc, COMMON_LENGTH)?;
+    write_crs_with_room(alloc, parts, COMMON_LENGTH)
+}
+
+/// The canonical text, with room for so many bytes found at once: a text that is longer grows.
+pub fn write_crs_with_room(
+    alloc: Global,
+    parts: &CrsParts,
+    room: usize,
+) -> Result<Vec<u8>, AllocError>
+    ensures { IfOk result (λ text. text.items ≡ canon parts.now) }
+{
+    let mut out = Vec::with_capacity(alloc, room)?;
     parts.push_to(&mut out, Layout::OneLine)?;
     Ok(out)
 }

@@ -3,7 +3,7 @@ use Rattle.wkt_meaning.specs.Trees.{parts_tree}
 use Rattle.wkt_write.specs.declared.layout.Layout.TheVariants.{OneLine}
 use Rattle.wkt_write.specs.Layout.{laid}
 use Rattle.wkt_write.proofs.Layouts.{on_one_line}
-use Rattle.wkt_write.proofs.write.write_crs.Goals as goal
+use Rattle.wkt_write.proofs.write.write_crs_with_room.Goals as goal
 
 pub returns : goal.returns
 returns c =

@@ -1,0 +1,85 @@
+//! Texts, numbers and words.
+
+use crate::rest::Rest;
+use crs_number::Decimal;
+use crs_part::{Many, NumberOrText, Text};
+use std::alloc::Global;
+
+/// A text between marks. One that has marks itself is left to who reads without guessing.
+pub(crate) fn text(alloc: Global, rest: &mut Rest<'_>) -> Text {
+    rest.want(b"\"");
+    let content = rest.before_mark();
+    rest.want(b"\"");
+    if rest.begins_with(b"\"") {
+        rest.stray();
+        return empty(alloc);
+    }
+    let Ok(bytes) = Many::copied(alloc, content) else {
+        rest.refuse();
+        return empty(alloc);
+    };
+    match Text::from_utf8(bytes) {
+        Some(text) => text,
+        None => {
+            rest.stray();
+            empty(alloc)
+        }
+    }
+}
+
+/// The text of no characters.
+fn empty(alloc: Global) -> Text {
+    match Text::from_utf8(Many::new(alloc)) {
+        Some(text) => text,
+        None => unreachable!(),
+    }
+}
+
+/// The text of a node that holds one alone, behind its opening delimiter.
+pub(crate) fn value(alloc: Global, rest: &mut Rest<'_>) -> Text {
+    let text = text(alloc, rest);
+    rest.want(b"]");
+    text
+}
+
+/// The text of a node with this opening, if it comes.
+pub(crate) fn maybe_value(opening: &[u8], alloc: Global, rest: &mut Rest<'_>) -> Option<Text> {
+    if rest.eat(opening) {
+        Some(value(alloc, rest))
+    } else {
+        None
+    }
+}
+
+pub(crate) fn number(rest: &mut Rest<'_>) -> Decimal {
+    match Decimal::from_numeral(rest.before_delimiter()) {
+        Ok(number) => number,
+        Err(_) => {
+            rest.stray();
+            Decimal::ZERO
+        }
+    }
+}
+
+pub(crate) fn number_behind_comma(rest: &mut Rest<'_>) -> Decimal {
+    rest.want(b",");
+    number(rest)
+}
+
+/// The count that the digits make, and some count where they are no digits, or too many.
+pub(crate) fn count(rest: &mut Rest<'_>) -> u32 {
+    let mut count: u32 = 0;
+    for byte in rest.before_delimiter() {
+        let digit = u32::from(byte.wrapping_sub(b'0'));
+        count = count.wrapping_mul(10).wrapping_add(digit);
+    }
+    count
+}
+
+pub(crate) fn number_or_text(alloc: Global, rest: &mut Rest<'_>) -> NumberOrText {
+    if rest.begins_with(b"\"") {
+        NumberOrText::Text(text(alloc, rest))
+    } else {
+        NumberOrText::Number(number(rest))
+    }
+}

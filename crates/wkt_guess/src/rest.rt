@@ -1,0 +1,101 @@
+//! What is left of a text.
+
+ghost use Rattle.std.specs.Prelude.{◌≤◌, length};
+
+/// What is left of a text that is taken for a canonical one. Once it goes on as no canonical text does, or a growth is
+/// refused, nothing of it is left, and what is still to be filled is filled with nothing.
+#[derive(Drop)]
+pub(crate) struct Rest<'a> {
+    bytes: &'a [u8],
+    strayed: bool,
+    refused: bool,
+}
+
+impl<'a> Rest<'a> {
+    pub(crate) fn new(bytes: &'a [u8]) -> Rest<'a> {
+        Rest {
+            bytes,
+            strayed: false,
+            refused: false,
+        }
+    }
+
+    pub(crate) fn len(&self) -> usize {
+        self.bytes.len()
+    }
+
+    /// Whether all of the text was as guessed.
+    pub(crate) fn is_read(&self) -> bool {
+        !self.strayed && self.bytes.is_empty()
+    }
+
+    pub(crate) fn is_refused(&self) -> bool {
+        self.refused
+    }
+
+    /// Gives up: the text is no canonical one.
+    pub(crate) fn stray(&mut self) {
+        self.bytes = &[];
+        self.strayed = true;
+    }
+
+    /// Gives up: a growth was refused.
+    pub(crate) fn refuse(&mut self) {
+        self.bytes = &[];
+        self.refused = true;
+    }
+
+    #[inline(always)]
+    pub(crate) fn begins_with(&self, word: &[u8]) -> bool {
+        self.bytes.starts_with(word)
+    }
+
+    /// Goes behind the word, if it comes.
+    #[inline(always)]
+    pub(crate) fn eat(&mut self, word: &[u8]) -> bool {
+        match self.bytes.strip_prefix(word) {
+            Some(bytes) => {
+                self.bytes = bytes;
+                true
+            }
+            None => false,
+        }
+    }
+
+    /// Goes behind the word, which has to come.
+    #[inline(always)]
+    pub(crate) fn want(&mut self, word: &[u8]) {
+        if !self.eat(word) {
+            self.stray();
+        }
+    }
+
+    /// The bytes before the next mark.
+    pub(crate) fn before_mark(&mut self) -> &'a [u8] {
+        let (text, bytes) = self.bytes.split_at(mark_place(self.bytes));
+        self.bytes = bytes;
+        text
+    }
+
+    /// The bytes before the next comma or closing delimiter.
+    pub(crate) fn before_delimiter(&mut self) -> &'a [u8] {
+        let (word, bytes) = self.bytes.split_at(delimiter_place(self.bytes));
+        self.bytes = bytes;
+        word
+    }
+}
+
+fn mark_place(bytes: &[u8]) -> usize
+    ensures { result ≤ length bytes.now }
+{
+    bytes.iter().take_while(|b| **b != b'"').count()
+}
+
+fn delimiter_place(bytes: &[u8]) -> usize
+    ensures { result ≤ length bytes.now }
+{
+    bytes
+        .iter()
+        .take_while(|b| **b != b',' && **b != b']')
+        .count()
+}
