@@ -12,12 +12,13 @@ ghost use Rattle.wkt_crs.specs.Definition.{HasNone, IsCanonicalFault, IsDefinedB
 ghost use Rattle.wkt_crs.specs.declared.definition.DefinitionFault.TheVariants as fault;
 
 use crate::fault::ReadFault;
-use crate::reading::{fault_without_memory, guess_crs, read_crs};
+use crate::reading::{fault_without_memory, read_crs};
 use crate::writing::{write_crs, write_crs_with_room};
 use crs_value::{Crs, Key};
 use std::alloc::{AllocError, Global};
 use std::marker::Model;
 use std::rc::Rc;
+use wkt_guess::{Guess, Outcome, guess_parts};
 
 /// The most bytes of a definition's canonical text.
 const MOST: usize = 65_536;
@@ -157,7 +158,13 @@ fn written_back(alloc: Global, bytes: &[u8]) -> Result<Option<Definition>, Alloc
     requires { length bytes.now ≤ 65536 }
     ensures { IfOk result (λ found. IfSome found (λ d. (d ≡ bytes.now) × IsDefinition bytes.now)) }
 {
-    let Some(crs) = guess_crs(alloc, bytes)? else {
+    let Guess { parts, outcome } = guess_parts(alloc, bytes);
+    match outcome {
+        Outcome::Read => {}
+        Outcome::Strayed => return Ok(None),
+        Outcome::Refused => return Err(AllocError),
+    }
+    let Ok(crs) = Crs::check(parts) else {
         return Ok(None);
     };
     if !has_identifier(&crs) {

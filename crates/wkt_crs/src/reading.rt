@@ -12,9 +12,8 @@ ghost use Rattle.wkt_crs.specs.Faults.{FirstFault, FirstSlot};
 use crate::fault::ReadFault;
 use crate::places::keyword_place;
 use crs_value::Crs;
-use std::alloc::{AllocError, Global};
+use std::alloc::Global;
 use wkt_build::build_parts;
-use wkt_guess::guess_parts;
 use wkt_slots::Edition;
 use wkt_tier::check_slots;
 use wkt_tree::scan;
@@ -64,13 +63,4 @@ pub(crate) fn fault_without_memory(text: &[u8]) -> ReadFault
         Ok(()) => ReadFault::Memory,
         Err(fault) => ReadFault::Slot(fault),
     }
-}
-
-/// The value of a canonical text, and of any other text some value or none. Nothing is claimed of it: who asks writes the
-/// value and compares.
-pub(crate) fn guess_crs(alloc: Global, text: &[u8]) -> Result<Option<Crs>, AllocError> {
-    let Some(parts) = guess_parts(alloc, text)? else {
-        return Ok(None);
-    };
-    Ok(Crs::check(parts).ok())
 }

@@ -2,10 +2,10 @@ mod definitions;
 mod growth;
 mod refused;
 
-use crate::reading::guess_crs;
 use crate::{Condition, ReadFault, read_crs, write_crs, write_pretty};
 use std::alloc::Global;
 use std::test::Fail;
+use wkt_guess::{Outcome, guess_parts};
 
 /// A vertical system, canonical.
 const HEIGHT: &[u8] =
@@ -55,10 +55,11 @@ fn every_spelling_gives_the_canonical_text(rt: HostRuntime) -> Result<(), Fail> 
 fn canonical_texts_alone_are_guessed(rt: HostRuntime) -> Result<(), Fail> {
     let alloc = rt.alloc();
     for text in [HEIGHT, COMPOUND, POLAR] {
-        let guess = guess_crs(alloc, text)?.ok_or("no guess")?;
-        assert!(rt; write_crs(alloc, &guess)?.as_slice() == text);
+        let guess = guess_parts(alloc, text);
+        assert!(rt; guess.outcome == Outcome::Read);
+        assert!(rt; wkt_write::write_crs(alloc, &guess.parts)?.as_slice() == text);
     }
-    assert!(rt; guess_crs(alloc, SPELLED)?.is_none());
+    assert!(rt; guess_parts(alloc, SPELLED).outcome == Outcome::Strayed);
     Ok(())
 }
 

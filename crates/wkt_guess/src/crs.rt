@@ -3,23 +3,25 @@
 use crate::datums::{geodetic_frame, vertical_frame};
 use crate::guess::{each, maybe, one, some};
 use crate::leaves::{maybe_value, text};
-use crate::rest::Rest;
+use crate::rest::{Outcome, Rest};
 use crate::units::{maybe_angle_unit, maybe_unit};
 use crs_part::{BaseCrs, Compound, CrsParts, Geodetic, GeodeticKind, Projected, Single, Vertical};
-use std::alloc::{AllocError, Global};
+use std::alloc::Global;
 
-/// What a canonical text spells, nothing for many of the others, and of the rest any parts. Nothing is claimed of them: who
-/// asks writes the parts, and compares.
-pub fn guess_parts(alloc: Global, text: &[u8]) -> Result<Option<CrsParts>, AllocError> {
+/// What was guessed. It is one struct and no `Option`: the parts are large, and each wrapper copies them once more.
+#[derive(Drop)]
+pub struct Guess {
+    pub parts: CrsParts,
+    pub outcome: Outcome,
+}
+
+/// What a canonical text spells, and any parts of another text. Nothing is claimed of them: who asks writes the parts, and
+/// compares.
+pub fn guess_parts(alloc: Global, text: &[u8]) -> Guess {
     let mut rest = Rest::new(text);
     let parts = parts(alloc, &mut rest);
-    if rest.is_refused() {
-        return Err(AllocError);
-    }
-    if !rest.is_read() {
-        return Ok(None);
-    }
-    Ok(Some(parts))
+    let outcome = rest.outcome();
+    Guess { parts, outcome }
 }
 
 fn parts(alloc: Global, rest: &mut Rest<'_>) -> CrsParts {

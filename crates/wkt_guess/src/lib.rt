@@ -13,4 +13,5 @@ mod units;
 mod usages;
 mod words;
 
-pub use crs::guess_parts;
+pub use crs::{Guess, guess_parts};
+pub use rest::Outcome;

@@ -2,6 +2,17 @@
 
 ghost use Rattle.std.specs.Prelude.{◌≤◌, length};
 
+/// How a guess ended.
+#[derive(Clone, Copy, Debug, PartialEq, Eq)]
+pub enum Outcome {
+    /// All of the text was as a canonical one is.
+    Read,
+    /// It is no canonical text, or it has marks in a text.
+    Strayed,
+    /// A growth was refused.
+    Refused,
+}
+
 /// What is left of a text that is taken for a canonical one. Once it goes on as no canonical text does, or a growth is
 /// refused, nothing of it is left, and what is still to be filled is filled with nothing.
 #[derive(Drop)]
@@ -24,13 +35,15 @@ impl<'a> Rest<'a> {
         self.bytes.len()
     }
 
-    /// Whether all of the text was as guessed.
-    pub(crate) fn is_read(&self) -> bool {
-        !self.strayed && self.bytes.is_empty()
-    }
-
-    pub(crate) fn is_refused(&self) -> bool {
-        self.refused
+    /// How it ended, if nothing more is asked of it.
+    pub(crate) fn outcome(&self) -> Outcome {
+        if self.refused {
+            Outcome::Refused
+        } else if self.strayed || !self.bytes.is_empty() {
+            Outcome::Strayed
+        } else {
+            Outcome::Read
+        }
     }
 
     /// Gives up: the text is no canonical one.

@@ -12,12 +12,12 @@ defined-requires c =
       c.has_identifier.ensures.some c.if-not-has_identifier.false,
     )
 
-pub returns-in-Ok : goal.returns-in-Ok
-returns-in-Ok c =
+pub returns-in-Ok-defined : goal.returns-in-Ok-defined
+returns-in-Ok-defined c =
     let same = sym c.as_slice.ensures.value ∙ sym (same_bytes c.args.bytes.now c.as_slice.result.now (told_true (pointwise nat_eq c.args.bytes.now c.as_slice.result.now) (sym c.ne.ensures ∙ c.if-ne.false))) in (
-      c.in-Ok.ensures.ok ∙ same,
+      c.in-Ok-defined.ensures.ok ∙ same,
       record {
-        crs = c.in-Some.crs;
+        crs = c.in-Ok.crs;
         canonical = sym same ∙ c.in_ok-text.ensures;
         short = c.requires;
         identified = c.has_identifier.ensures.some c.if-not-has_identifier.false;
