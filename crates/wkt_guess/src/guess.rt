@@ -4,7 +4,7 @@ use crate::rest::Rest;
 use crs_part::{Many, NonEmpty};
 use std::alloc::{AllocError, Global};
 
-/// A node that comes in lists.
+/// A node that is known by how it opens.
 pub(crate) trait Guess {
     /// The comma before it, its keyword and its opening delimiter.
     fn opening() -> &'static [u8];
