@@ -1,6 +1,6 @@
 //! Conversions.
 
-use crate::guess::{Guess, each};
+use crate::guess::{Node, each};
 use crate::identifiers::named;
 use crate::leaves::{number_behind_comma, text};
 use crate::rest::Rest;
@@ -8,7 +8,7 @@ use crate::units::maybe_unit;
 use crs_part::{Conversion, Parameter};
 use std::alloc::Global;
 
-impl Guess for Parameter {
+impl Node for Parameter {
     fn opening() -> &'static [u8] {
         b",PARAMETER["
     }
@@ -28,7 +28,7 @@ impl Guess for Parameter {
     }
 }
 
-impl Guess for Conversion {
+impl Node for Conversion {
     fn opening() -> &'static [u8] {
         b",CONVERSION["
     }

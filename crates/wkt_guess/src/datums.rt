@@ -1,6 +1,6 @@
 //! Datums, and ensembles of them.
 
-use crate::guess::{Guess, each, one, some};
+use crate::guess::{Node, each, one, some};
 use crate::identifiers::named;
 use crate::leaves::{maybe_value, number, number_behind_comma, text};
 use crate::rest::Rest;
@@ -12,7 +12,7 @@ use crs_part::{
 };
 use std::alloc::Global;
 
-impl Guess for Ellipsoid {
+impl Node for Ellipsoid {
     fn opening() -> &'static [u8] {
         b",ELLIPSOID["
     }
@@ -34,7 +34,7 @@ impl Guess for Ellipsoid {
     }
 }
 
-impl Guess for PrimeMeridian {
+impl Node for PrimeMeridian {
     fn opening() -> &'static [u8] {
         b",PRIMEM["
     }
@@ -55,7 +55,7 @@ impl Guess for PrimeMeridian {
 }
 
 /// A member of an ensemble.
-impl Guess for Named {
+impl Node for Named {
     fn opening() -> &'static [u8] {
         b",MEMBER["
     }

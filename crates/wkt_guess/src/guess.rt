@@ -5,7 +5,7 @@ use crs_part::{Many, NonEmpty};
 use std::alloc::{AllocError, Global};
 
 /// A node that is known by how it opens.
-pub(crate) trait Guess {
+pub(crate) trait Node {
     /// The comma before it, its keyword and its opening delimiter.
     fn opening() -> &'static [u8];
 
@@ -14,7 +14,7 @@ pub(crate) trait Guess {
 }
 
 /// The node, if it comes.
-pub(crate) fn maybe<T: Guess>(alloc: Global, rest: &mut Rest<'_>) -> Option<T> {
+pub(crate) fn maybe<T: Node>(alloc: Global, rest: &mut Rest<'_>) -> Option<T> {
     if rest.eat(T::opening()) {
         Some(T::guess(alloc, rest))
     } else {
@@ -23,13 +23,13 @@ pub(crate) fn maybe<T: Guess>(alloc: Global, rest: &mut Rest<'_>) -> Option<T> {
 }
 
 /// The node, which has to come.
-pub(crate) fn one<T: Guess>(alloc: Global, rest: &mut Rest<'_>) -> T {
+pub(crate) fn one<T: Node>(alloc: Global, rest: &mut Rest<'_>) -> T {
     rest.want(T::opening());
     T::guess(alloc, rest)
 }
 
 /// The nodes that come.
-pub(crate) fn each<T: Guess + Drop>(alloc: Global, rest: &mut Rest<'_>) -> Many<T> {
+pub(crate) fn each<T: Node + Drop>(alloc: Global, rest: &mut Rest<'_>) -> Many<T> {
     let mut items = Vec::new(alloc);
     for _ in 0..rest.len() {
         if !rest.eat(T::opening()) {
@@ -53,7 +53,7 @@ fn push<T: Drop>(alloc: Global, items: &mut Vec<T>, item: T) -> Result<(), Alloc
 }
 
 /// The nodes that come, of which there has to be one.
-pub(crate) fn some<T: Guess + Drop>(alloc: Global, rest: &mut Rest<'_>) -> NonEmpty<T> {
+pub(crate) fn some<T: Node + Drop>(alloc: Global, rest: &mut Rest<'_>) -> NonEmpty<T> {
     NonEmpty {
         first: one(alloc, rest),
         others: each(alloc, rest),

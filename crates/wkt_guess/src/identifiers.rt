@@ -1,12 +1,12 @@
 //! Identifiers, and nodes that have a name and identifiers alone.
 
-use crate::guess::{Guess, each};
+use crate::guess::{Node, each};
 use crate::leaves::{maybe_value, number_or_text, text};
 use crate::rest::Rest;
 use crs_part::{Ident, Named, NumberOrText};
 use std::alloc::Global;
 
-impl Guess for Ident {
+impl Node for Ident {
     fn opening() -> &'static [u8] {
         b",ID["
     }

@@ -1,6 +1,6 @@
 //! Coordinate systems and their axes.
 
-use crate::guess::{Guess, each, maybe};
+use crate::guess::{Node, each, maybe};
 use crate::leaves::{count, number, text};
 use crate::rest::Rest;
 use crate::units::{angle_unit, maybe_unit};
@@ -8,7 +8,7 @@ use crate::words::{direction, system_kind};
 use crs_part::{Axis, CoordSystem, Meridian, Order};
 use std::alloc::Global;
 
-impl Guess for CoordSystem {
+impl Node for CoordSystem {
     fn opening() -> &'static [u8] {
         b",CS["
     }
@@ -27,7 +27,7 @@ impl Guess for CoordSystem {
     }
 }
 
-impl Guess for Meridian {
+impl Node for Meridian {
     fn opening() -> &'static [u8] {
         b",MERIDIAN["
     }
@@ -40,7 +40,7 @@ impl Guess for Meridian {
     }
 }
 
-impl Guess for Order {
+impl Node for Order {
     fn opening() -> &'static [u8] {
         b",ORDER["
     }
@@ -52,7 +52,7 @@ impl Guess for Order {
     }
 }
 
-impl Guess for Axis {
+impl Node for Axis {
     fn opening() -> &'static [u8] {
         b",AXIS["
     }

@@ -1,12 +1,12 @@
 //! Usages.
 
-use crate::guess::{Guess, maybe};
+use crate::guess::{Node, maybe};
 use crate::leaves::{maybe_value, number, number_behind_comma, value};
 use crate::rest::Rest;
 use crs_part::{BoundingBox, Usage};
 use std::alloc::Global;
 
-impl Guess for BoundingBox {
+impl Node for BoundingBox {
     fn opening() -> &'static [u8] {
         b",BBOX["
     }
@@ -26,7 +26,7 @@ impl Guess for BoundingBox {
     }
 }
 
-impl Guess for Usage {
+impl Node for Usage {
     fn opening() -> &'static [u8] {
         b",USAGE[SCOPE["
     }
