@@ -2,6 +2,7 @@
 
 ghost use Rattle.std.specs.Prelude.{◌≡◌, ◌↔◌, IsTrue};
 
+use crate::boxed::Boxed;
 use crate::conversions::Conversion;
 use crate::copies::TryClone;
 use crate::datums::{GeodeticFrame, PrimeMeridian, VerticalFrame};
@@ -96,7 +97,7 @@ pub struct Compound {
 #[derive(Drop)]
 pub enum CrsParts {
     Single(Single),
-    Compound(Compound),
+    Compound(Boxed<Compound>),
 }
 
 // Here and in `Vertical` what holds enums is copied last: a copy that fails drops those before it, and the prover goes

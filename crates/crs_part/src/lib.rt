@@ -1,6 +1,7 @@
 //! The parts of coordinate reference systems, as plain values.
 #![tactic(auto)]
 
+mod boxed;
 mod conversions;
 mod copies;
 mod crs;
@@ -14,6 +15,7 @@ mod text;
 mod units;
 mod usages;
 
+pub use boxed::Boxed;
 pub use conversions::{Conversion, Parameter};
 pub use copies::TryClone;
 pub use crs::{BaseCrs, Compound, CrsParts, Geodetic, GeodeticKind, Projected, Single, Vertical};

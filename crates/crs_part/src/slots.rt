@@ -63,7 +63,7 @@ impl CrsParts {
             CrsParts::Single(Single::Geodetic(crs)) => &crs.name,
             CrsParts::Single(Single::Projected(crs)) => &crs.name,
             CrsParts::Single(Single::Vertical(crs)) => &crs.name,
-            CrsParts::Compound(compound) => &compound.name,
+            CrsParts::Compound(compound) => &compound.get().name,
         }
     }
 
@@ -75,7 +75,7 @@ impl CrsParts {
             CrsParts::Single(Single::Geodetic(crs)) => crs.ids.as_slice(),
             CrsParts::Single(Single::Projected(crs)) => crs.ids.as_slice(),
             CrsParts::Single(Single::Vertical(crs)) => crs.ids.as_slice(),
-            CrsParts::Compound(compound) => compound.ids.as_slice(),
+            CrsParts::Compound(compound) => compound.get().ids.as_slice(),
         }
     }
 }

@@ -3,6 +3,7 @@
 ghost use Rattle.std.specs.Prelude.{◌≡◌, not};
 ghost use Rattle.std.specs.List.{find};
 ghost use Rattle.std.specs.Option.{option_map};
+ghost use Rattle.crs_part.specs.declared.crs.CrsParts.TheVariants as parts;
 ghost use Rattle.crs_value.specs.Checking.{holds, holds_of_compound, conditions, first_broken};
 
 use crate::axes::{has_axis_a_dimension, has_meridians, has_orders, has_units, units_fit};
@@ -16,10 +17,16 @@ pub(crate) fn first_broken(parts: &CrsParts) -> Option<Broken>
 {
     match parts {
         CrsParts::Single(crs) => broken_at(Whose::Whole, broken_of(crs)),
-        CrsParts::Compound(crs) => broken_at(Whose::First, broken_of(&crs.first))
-            .or(broken_at(Whose::Second, broken_of(&crs.second)))
-            .or(broken_at(Whose::Whole, broken_of_compound(crs))),
+        CrsParts::Compound(crs) => first_broken_of(crs.get()),
     }
+}
+
+fn first_broken_of(crs: &Compound) -> Option<Broken>
+    ensures { result ≡ first_broken (parts.Compound crs.now) }
+{
+    broken_at(Whose::First, broken_of(&crs.first))
+        .or(broken_at(Whose::Second, broken_of(&crs.second)))
+        .or(broken_at(Whose::Whole, broken_of_compound(crs)))
 }
 
 fn broken_at(whose: Whose, condition: Option<Condition>) -> Option<Broken>

@@ -8,10 +8,17 @@ use crs_part::{CrsParts, Same, Text, TryClone};
 use std::alloc::{AllocError, Global};
 
 /// A coordinate reference system: parts of which all conditions hold.
-#[derive(Drop)]
 pub struct Crs {
     parts: CrsParts,
     pub ghost conditions: { HasConditions parts },
+}
+
+// By hand, as the prover else goes through all forms of the parts wherever a reference system is let go.
+impl Drop for Crs {
+    fn drop(self) {
+        let Crs { parts } = self;
+        drop(parts);
+    }
 }
 
 impl Crs {
@@ -27,7 +34,10 @@ impl Crs {
         ensures broken { (b : Broken) → (result ≡ Err b) ↔ (first_broken parts ≡ Some b) }
     {
         match first_broken(&parts) {
-            Some(broken) => Err(broken),
+            Some(broken) => {
+                drop(parts);
+                Err(broken)
+            }
             None => Ok(Crs { parts }),
         }
     }

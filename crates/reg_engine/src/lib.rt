@@ -10,8 +10,6 @@ pub mod laws;
 mod merge;
 mod outputs;
 mod reports;
-#[cfg(test)]
-mod tests;
 mod wkt;
 
 pub use change::{run_enter, run_retire, run_supersede};

@@ -37,7 +37,10 @@ pub fn run_wkt<S: Source, K: Sink>(
     let Some(definition) = register.definition(entry) else {
         return Err(CliFault::Refused(Refusal::UnknownEntry(entry)));
     };
-    let Ok(line) = line_in(alloc, form, definition.crs()) else {
+    let Ok(crs) = definition.crs(alloc) else {
+        return Err(CliFault::Memory);
+    };
+    let Ok(line) = line_in(alloc, form, &crs) else {
         return Err(CliFault::Memory);
     };
     match write_all(sink, &line) {

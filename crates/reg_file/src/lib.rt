@@ -11,8 +11,6 @@ mod ranges;
 mod reading;
 mod span;
 mod spelling;
-#[cfg(test)]
-mod tests;
 mod writing;
 
 pub use fault::{FileFault, ReadFileFault, WriteFileFault};

@@ -83,7 +83,7 @@ fn write_entry(alloc: Global, wtr: &mut Writer<Vec<u8>>, row: &Row) -> Result<()
     let entry = printed(alloc, row.entry)?;
     let newer = spaced(alloc, &row.newer)?;
     let key = row.definition.key();
-    let name = row.definition.crs().name();
+    let name = row.definition.name();
     write_six(
         wtr,
         &entry,

@@ -18,8 +18,6 @@ mod one_entry;
 mod repeat;
 mod row;
 mod supersession;
-#[cfg(test)]
-mod tests;
 mod writing;
 
 pub use conflict::{Conflict, conflicts};

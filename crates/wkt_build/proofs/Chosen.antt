@@ -250,6 +250,10 @@ compound_only k m e a = no_row _ m e
 pub compound_made : (old new : List Tok) (v : Compound) → is_compound (next_keyword old) ≡ true → MadeNode nodes.CompoundCrs compound_fields old new v → (x : Bare) (rest : List Tok) → Fitting kinds.AnyCrs x → Next x old rest → DenotesParts x (parts.Compound v) × (new ≡ rest)
 compound_made old new v a m = one_way kinds.AnyCrs is_compound true keywords.CompoundCrs nodes.CompoundCrs compound_fields old new v refl compound_only a m
 
+-- the same of what is put in a box
+pub compound_placed : (old new : List Tok) (v w : Compound) → w ≡ v → is_compound (next_keyword old) ≡ true → MadeNode nodes.CompoundCrs compound_fields old new v → (x : Bare) (rest : List Tok) → Fitting kinds.AnyCrs x → Next x old rest → DenotesParts x (parts.Compound w) × (new ≡ rest)
+compound_placed old new v w e a m = compound_made old new w a (subst (λ u. MadeNode nodes.CompoundCrs compound_fields old new u) (sym e) m)
+
 -- ---- results
 
 pub as_chosen : {A B : Type 0} (D : Bare → B → Type 0) (choose : Option Keyword → A → B) (old new : List Tok) (keyword : Option Keyword) (v : A) (w : B) → keyword ≡ next_keyword old → w ≡ choose keyword v

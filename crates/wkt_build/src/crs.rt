@@ -13,7 +13,7 @@ use crate::ending::{take_base_ending, take_ending};
 use crate::reader::Reader;
 use crate::values::Remark;
 use crs_part::{
-    Axis, BaseCrs, Compound, Conversion, CoordSystem, CrsParts, Geodetic, GeodeticFrame,
+    Axis, BaseCrs, Boxed, Compound, Conversion, CoordSystem, CrsParts, Geodetic, GeodeticFrame,
     GeodeticKind, Ident, NonEmpty, PrimeMeridian, Projected, Single, Text, Unit, Usage, Vertical,
     VerticalFrame,
 };
@@ -206,7 +206,8 @@ impl Built<CrsParts> for CrsParts {
     fn build(alloc: Global, cursor: &mut Reader<'_>) -> Result<CrsParts, AllocError> {
         if is_compound(next_keyword(cursor)) {
             let compound = build_compound(alloc, cursor)?;
-            return Ok(CrsParts::Compound(compound));
+            let boxed = Boxed::new(alloc, compound)?;
+            return Ok(CrsParts::Compound(boxed));
         }
         let single = build_single(alloc, cursor)?;
         Ok(CrsParts::Single(single))

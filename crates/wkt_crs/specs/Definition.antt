@@ -1,7 +1,8 @@
 -- What a definition is, and why a reference system or a text is none.
 use Rattle.std.specs.Prelude.{◌≡◌, ℕ, ◌≤◌, ◌<◌, List, [], ◌∷◌, length}
 use Rattle.crs_part.specs.declared.identifiers.Ident.{Ident}
-use Rattle.crs_part.specs.Slots.{ids_of}
+use Rattle.crs_part.specs.declared.text.Text.{Text}
+use Rattle.crs_part.specs.Slots.{ids_of, name_of}
 use Rattle.crs_value.specs.declared.crs.Crs.{Crs}
 use Rattle.crs_value.specs.declared.key.Key.{Key}
 use Rattle.crs_value.specs.Keys.{IsKeyOf}
@@ -20,12 +21,9 @@ HasNone crs = ids_of crs.parts ≡ []
 abbrev pub HasKey : Crs → Key → Type 0
 HasKey crs key = (id : Ident) (others : List Ident) → ids_of crs.parts ≡ id ∷ others → IsKeyOf id key
 
--- the bytes are the reference system's canonical text, not too long, and this is its key
-pub record IsDefinedBy (crs : Crs) (key : Key) (bytes : List ℕ) : Type 0 where
-  pub canonical : bytes ≡ canon crs
-  pub short : length bytes ≤ 65536
-  pub identified : ¬ (HasNone crs)
-  pub keyed : HasKey crs key
+-- its name
+abbrev pub HasName : Crs → Text → Type 0
+HasName crs name = name.bytes ≡ (name_of crs.parts).bytes
 
 -- the bytes are the canonical text of a reference system with an identifier, and not too long
 pub record IsDefinition (bytes : List ℕ) : Type 0 where
@@ -34,9 +32,19 @@ pub record IsDefinition (bytes : List ℕ) : Type 0 where
   pub short : length bytes ≤ 65536
   pub identified : ¬ (HasNone crs)
 
+-- the bytes are a definition, and what they spell has this key and this name
+pub record IsDefinedBy (key : Key) (name : Text) (bytes : List ℕ) : Type 0 where
+  pub definition : ∥ IsDefinition bytes ∥₁
+  pub keyed : (crs : Crs) → Spells bytes crs → HasKey crs key
+  pub named : (crs : Crs) → Spells bytes crs → HasName crs name
+
 -- the text spells it
 abbrev pub IsCrsOf : Crs → List ℕ → Type 0
 IsCrsOf crs bytes = (bytes ≡ canon crs) × Spells bytes crs
+
+-- the text spells a reference system of this name
+abbrev pub IsNameIn : Text → List ℕ → Type 0
+IsNameIn name bytes = (crs : Crs) × IsCrsOf crs bytes × HasName crs name
 
 -- the first identifier in the text has this key
 abbrev pub IsKeyIn : Key → List ℕ → Type 0

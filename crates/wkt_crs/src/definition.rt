@@ -14,6 +14,7 @@ ghost use Rattle.wkt_crs.specs.declared.definition.DefinitionFault.TheVariants a
 use crate::fault::ReadFault;
 use crate::reading::{fault_without_memory, read_crs};
 use crate::writing::{write_crs, write_crs_with_room};
+use crs_part::{Text, TryClone};
 use crs_value::{Crs, Key};
 use std::alloc::{AllocError, Global};
 use std::marker::Model;
@@ -40,13 +41,14 @@ pub enum DefinitionFault {
 
 #[derive(Drop)]
 struct Body {
-    crs: Crs,
     key: Key,
+    name: Text,
     text: Vec<u8>,
-    ghost defined: { IsDefinedBy crs key text.items },
+    ghost defined: { IsDefinedBy key name text.items },
 }
 
-/// A reference system with an identifier, seen as its canonical text. Its copies share it.
+/// A reference system with an identifier, seen as its canonical text. Its copies share that, and it keeps no value: a
+/// register of many definitions takes little more than their texts.
 #[derive(Drop)]
 pub struct Definition {
     body: Rc<Body>,
@@ -69,7 +71,7 @@ impl Definition {
     ghost use Rattle.wkt_crs.specs.Faults.{FirstSlot};
     ghost use Rattle.wkt_crs.specs.declared.definition.DefinitionFault.TheVariants as fault;
     ghost use Rattle.wkt_crs.specs.Spells.{canon};
-    ghost use Rattle.wkt_crs.specs.Definition.{HasNone, IsDefinition, IsNewFault, IsCanonicalFault, IsDefinedBy, IsCrsOf, IsKeyIn};
+    ghost use Rattle.wkt_crs.specs.Definition.{HasNone, IsDefinition, IsNewFault, IsCanonicalFault, IsDefinedBy, IsCrsOf, IsNameIn, IsKeyIn};
 
     /// The definition of a reference system.
     pub fn new(alloc: Global, crs: Crs) -> Result<Definition, DefinitionFault>
@@ -88,7 +90,7 @@ impl Definition {
         if text.len() > MOST {
             return Err(DefinitionFault::CanonicalTooLong);
         }
-        defined(alloc, crs, text)
+        defined(alloc, &crs, text)
     }
 
     /// The definition with this canonical text.
@@ -119,11 +121,21 @@ impl Definition {
         self.body.text.as_slice()
     }
 
-    /// The reference system that the text spells.
-    pub fn crs(&self) -> &Crs
-        ensures { IsCrsOf result.now self.now }
+    /// The reference system that the text spells, read anew.
+    pub fn crs(&self, alloc: Global) -> Result<Crs, AllocError>
+        ensures { IfOk result (λ crs. IsCrsOf crs self.now) }
     {
-        &self.body.crs
+        match read_crs(alloc, self.as_bytes()) {
+            Ok(crs) => Ok(crs),
+            Err(_) => Err(AllocError),
+        }
+    }
+
+    /// The name of the reference system.
+    pub fn name(&self) -> &Text
+        ensures { IsNameIn result.now self.now }
+    {
+        &self.body.name
     }
 
     /// The key of its first identifier.
@@ -174,7 +186,7 @@ fn written_back(alloc: Global, bytes: &[u8]) -> Result<Option<Definition>, Alloc
     if bytes != text.as_slice() {
         return Ok(None);
     }
-    match defined(alloc, crs, text) {
+    match defined(alloc, &crs, text) {
         Ok(definition) => Ok(Some(definition)),
         Err(_) => Err(AllocError),
     }
@@ -202,12 +214,12 @@ fn read_canonical(alloc: Global, bytes: &[u8]) -> Result<Definition, DefinitionF
     if text.as_slice() != bytes {
         return Err(DefinitionFault::NotCanonical);
     }
-    defined(alloc, crs, text)
+    defined(alloc, &crs, text)
 }
 
 // The definition of a reference system with an identifier, of which this is the canonical text.
-fn defined(alloc: Global, crs: Crs, text: Vec<u8>) -> Result<Definition, DefinitionFault>
-    requires { (text.items ≡ canon crs) × (length text.items ≤ 65536) × ¬ (HasNone crs) }
+fn defined(alloc: Global, crs: &Crs, text: Vec<u8>) -> Result<Definition, DefinitionFault>
+    requires { (text.items ≡ canon crs.now) × (length text.items ≤ 65536) × ¬ (HasNone crs.now) }
     ensures ok { IfOk result (λ d. d ≡ text.items) }
     ensures fault { IfErr result (λ f. f ≡ fault.Memory) }
 {
@@ -215,7 +227,10 @@ fn defined(alloc: Global, crs: Crs, text: Vec<u8>) -> Result<Definition, Definit
         Ok(Some(key)) => key,
         _ => return Err(DefinitionFault::Memory),
     };
-    match Rc::new(alloc, Body { crs, key, text }) {
+    let Ok(name) = crs.name().try_clone(alloc) else {
+        return Err(DefinitionFault::Memory);
+    };
+    match Rc::new(alloc, Body { key, name, text }) {
         Ok(body) => Ok(Definition { body }),
         Err(_) => Err(DefinitionFault::Memory),
     }

@@ -7,8 +7,6 @@ pub mod laws;
 mod places;
 mod reading;
 mod source;
-#[cfg(test)]
-mod tests;
 mod writing;
 
 pub use byte_io::{

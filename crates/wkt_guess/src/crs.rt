@@ -5,7 +5,9 @@ use crate::guess::{each, maybe, one, some};
 use crate::leaves::{maybe_value, text};
 use crate::rest::{Outcome, Rest};
 use crate::units::{maybe_angle_unit, maybe_unit};
-use crs_part::{BaseCrs, Compound, CrsParts, Geodetic, GeodeticKind, Projected, Single, Vertical};
+use crs_part::{
+    BaseCrs, Boxed, Compound, CrsParts, Geodetic, GeodeticKind, Projected, Single, Vertical,
+};
 use std::alloc::Global;
 
 /// What was guessed. It is one struct and no `Option`: the parts are large, and each wrapper copies them once more.
@@ -26,7 +28,10 @@ pub fn guess_parts(alloc: Global, text: &[u8]) -> Guess {
 
 fn parts(alloc: Global, rest: &mut Rest<'_>) -> CrsParts {
     if rest.eat(b"COMPOUNDCRS[") {
-        return CrsParts::Compound(compound(alloc, rest));
+        match Boxed::new(alloc, compound(alloc, rest)) {
+            Ok(compound) => return CrsParts::Compound(compound),
+            Err(_) => rest.refuse(),
+        }
     }
     CrsParts::Single(single(alloc, rest))
 }

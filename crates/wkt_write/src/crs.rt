@@ -128,7 +128,7 @@ impl Written for CrsParts {
     fn push_to(&self, out: &mut Vec<u8>, layout: Layout) -> Result<(), AllocError> {
         match self {
             CrsParts::Single(single) => single.push_to(out, layout),
-            CrsParts::Compound(compound) => compound.push_to(out, layout),
+            CrsParts::Compound(compound) => compound.get().push_to(out, layout),
         }
     }
 }

@@ -18,6 +18,3 @@ mod written;
 
 pub use laws::reading_laws;
 pub use write::{write_crs, write_crs_with_room, write_pretty};
-
-#[cfg(test)]
-mod tests;

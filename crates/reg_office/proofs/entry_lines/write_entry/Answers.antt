@@ -7,14 +7,14 @@ returns c = (
   c.deref-2.result.now ∷ c.as_bytes.result.now ∷ c.as_bytes-2.result.now ∷ c.as_bytes-3.result.now ∷ c.status_word.result.now ∷ c.deref-3.result.now ∷ [],
   record {
     key = c.key-key.result.now;
-    crs = c.crs.result.now;
+    crs = c.name-name.ensures.0;
     keyed = c.key-key.ensures;
-    spelled = c.crs.ensures;
+    spelled = c.name-name.ensures.1;
     are = λ k.
         (c.deref-2.ensures.value ∙ c.in_ok-entry.ensures) k
         ∷ c.as_bytes.ensures k
         ∷ c.as_bytes-2.ensures k
-        ∷ (c.as_bytes-3.ensures ∙ ap (λ t. t.bytes) c.name-name.ensures) k
+        ∷ (c.as_bytes-3.ensures ∙ c.name-name.ensures.2) k
         ∷ c.status_word.ensures k
         ∷ (c.deref-3.ensures.value ∙ c.in_ok-newer.ensures ∙ ap spaced c.deref.ensures.value) k
         ∷ [];

@@ -1,10 +1,9 @@
 use Rattle.std.proofs.Common.{sym, subst}
-use Rattle.wkt_crs.specs.declared.definition.Body.{Body}
-use Rattle.wkt_crs.specs.Definition.{IsCrsOf}
-use Rattle.wkt_crs.proofs.Defining.{is_crs_of}
+use Rattle.wkt_crs.specs.Definition.{IsCrsOf, IsDefinition}
+use Rattle.wkt_crs.proofs.Defining.{crs_of_definition}
 use Rattle.wkt_crs.proofs.definition.Definition.crs.Goals as goal
 
-pub returns : goal.returns
-returns c =
-    let b = c.self.inside.body.value in
-    subst (λ (r : Body). IsCrsOf r.crs c.args.self.now) (sym c.deref.ensures) (subst (IsCrsOf b.crs) c.self.view_is (is_crs_of b.crs b.key b.text.items b.defined))
+pub returns-in-Ok : goal.returns-in-Ok
+returns-in-Ok c =
+    subst (IsCrsOf c.in-Ok.crs) c.as_bytes.ensures.bytes
+    (crs_of_definition c.as_bytes.result.now c.in-Ok.crs (subst (λ b. IsDefinition b) (sym c.as_bytes.ensures.bytes) c.as_bytes.ensures.canonical) c.in-Ok.ensures.found)

@@ -1,0 +1,175 @@
+use super::{
+    A, B, EMPTY, HEIGHT, OTHER_HEIGHT, Replica, enter, entry_file, file_of, joined,
+    retirement_file, sources,
+};
+use reg_engine::{CliFault, FileFault, OutFault, Refusal, run_merge, run_new};
+use reg_op::OpId;
+use std::alloc::{AllocError, Global};
+use std::test::Fail;
+use uuid::Uuid;
+use wkt_crs::{MemoryTarget, Pieces, Then};
+
+/// What a merge of the files writes, or why it does not.
+pub fn merged(alloc: Global, files: &[&[u8]]) -> Result<Result<Vec<u8>, CliFault>, AllocError> {
+    let mut target = MemoryTarget::new(alloc, true);
+    let mut sources = sources(alloc, files, 7)?;
+    match run_merge(alloc, &mut sources, &mut target) {
+        Ok(()) => Ok(Ok(Vec::from_slice(alloc, target.taken())?)),
+        Err(fault) => {
+            // Nothing goes out where a merge refuses.
+            if !target.taken().is_empty() {
+                return Err(AllocError);
+            }
+            Ok(Err(fault))
+        }
+    }
+}
+
+#[test]
+fn a_new_register_has_14_bytes(rt: HostRuntime) -> Result<(), Fail> {
+    let mut target = MemoryTarget::new(rt.alloc(), true);
+    assert_eq!(rt; run_new(rt.alloc(), &mut target).err(), None);
+    assert_eq!(rt; target.taken(), EMPTY);
+    let Ok(bytes) = merged(rt.alloc(), &[EMPTY, EMPTY])? else {
+        return Err(Fail::new("not merged"));
+    };
+    assert_eq!(rt; bytes.as_slice(), EMPTY);
+
+    let mut closed = MemoryTarget::new(rt.alloc(), false);
+    let fault = run_new(rt.alloc(), &mut closed).err();
+    assert_eq!(rt; fault, Some(CliFault::Out(OutFault::NotOpened)));
+    Ok(())
+}
+
+#[test]
+fn an_entry_and_its_retirement_in_any_order_have_229_bytes(rt: HostRuntime) -> Result<(), Fail> {
+    let alloc = rt.alloc();
+    let entry = entry_file(alloc, HEIGHT)?;
+    let retired = retirement_file(alloc)?;
+    assert_eq!(rt; (entry.len(), retired.len()), (160, 83));
+    let enter = enter(alloc, A, 1, HEIGHT)?;
+    let retire = joined(alloc, &[B, &[0, 0, 0, 1, 3], A, &[0, 0, 0, 1]])?;
+    let replicas = [Replica { uuid: A, last: 1 }, Replica { uuid: B, last: 1 }];
+    let want = file_of(alloc, &replicas, 2, &[&enter, &retire])?;
+    assert_eq!(rt; want.len(), 229);
+    let lists = [
+        [entry.as_slice(), retired.as_slice(), EMPTY],
+        [&retired, EMPTY, &entry],
+        [EMPTY, &entry, &retired],
+        [&retired, &entry, &retired],
+        [&want, &want, &want],
+        [&entry, &want, &entry],
+    ];
+    for list in lists {
+        let Ok(bytes) = merged(alloc, &list)? else {
+            return Err(Fail::new("not merged"));
+        };
+        assert!(rt; bytes.as_slice() == want.as_slice());
+    }
+    Ok(())
+}
+
+#[test]
+fn a_retirement_drops_the_supersession_that_another_file_has(rt: HostRuntime) -> Result<(), Fail> {
+    let alloc = rt.alloc();
+    let one = enter(alloc, A, 1, HEIGHT)?;
+    let two = enter(alloc, A, 2, OTHER_HEIGHT)?;
+    let retire = joined(alloc, &[A, &[0, 0, 0, 3, 3], A, &[0, 0, 0, 1]])?;
+    let supersede = joined(
+        alloc,
+        &[B, &[0, 0, 0, 1, 2], A, &[0, 0, 0, 1], A, &[0, 0, 0, 2]],
+    )?;
+    let first = file_of(
+        alloc,
+        &[Replica { uuid: A, last: 3 }],
+        3,
+        &[&one, &two, &retire],
+    )?;
+    let seen = [Replica { uuid: A, last: 2 }, Replica { uuid: B, last: 1 }];
+    let second = file_of(alloc, &seen, 3, &[&one, &two, &supersede])?;
+    let all = [Replica { uuid: A, last: 3 }, Replica { uuid: B, last: 1 }];
+    let want = file_of(alloc, &all, 3, &[&one, &two, &retire])?;
+    assert_eq!(rt; want.len(), 347);
+    for list in [[first.as_slice(), second.as_slice()], [&second, &first]] {
+        let Ok(bytes) = merged(alloc, &list)? else {
+            return Err(Fail::new("not merged"));
+        };
+        assert!(rt; bytes.as_slice() == want.as_slice());
+    }
+    Ok(())
+}
+
+#[test]
+fn two_operations_of_one_id_clash(rt: HostRuntime) -> Result<(), Fail> {
+    let alloc = rt.alloc();
+    let one = entry_file(alloc, HEIGHT)?;
+    let other = entry_file(alloc, OTHER_HEIGHT)?;
+    let id = OpId::parse(b"00000000-0000-4000-8000-00000000000a:1").ok_or("no id")?;
+    let clash = CliFault::Refused(Refusal::Clash(id));
+    assert_eq!(rt; merged(alloc, &[&one, &other])?.err(), Some(clash));
+    assert_eq!(rt;
+        merged(alloc, &[&one, EMPTY, &one, &other])?.err(),
+        Some(clash)
+    );
+    // A file's fault is told before a clash.
+    let truncated = CliFault::File {
+        number: 3,
+        fault: FileFault::NoRegister {
+            fault: reg_file::FileFault::Truncated,
+            place: 0,
+        },
+    };
+    assert_eq!(rt; merged(alloc, &[&one, &other, b""])?.err(), Some(truncated));
+    assert_eq!(rt;
+        merged(alloc, &[&one, &other, b"", b"CRSX"])?.err(),
+        Some(truncated)
+    );
+    let line = truncated.to_string(alloc)?;
+    assert_eq!(rt; line.as_bytes(), b"file 3: Truncated at 0".as_slice());
+    Ok(())
+}
+
+#[test]
+fn tells_which_file_failed_and_where(rt: HostRuntime) -> Result<(), Fail> {
+    let alloc = rt.alloc();
+    let entry = entry_file(alloc, HEIGHT)?;
+    for n in [0, 1, 7, 159, 160] {
+        if n > entry.len() {
+            return Err(Fail::new("too short"));
+        }
+        let mut sources = sources(alloc, &[EMPTY, &entry], 4096)?;
+        sources.push(Pieces::new(&entry[..n], 3, Then::Fails))?;
+        sources.push(Pieces::new(b"", 1, Then::Fails))?;
+        let mut target = MemoryTarget::new(alloc, true);
+        let fault = run_merge(alloc, &mut sources, &mut target).err();
+        let want = CliFault::File {
+            number: 3,
+            fault: FileFault::ReadFailed(n),
+        };
+        assert_eq!(rt; fault, Some(want));
+        assert_eq!(rt; target.taken().len(), 0);
+    }
+    Ok(())
+}
+
+#[test]
+fn tells_an_output_that_does_not_open_last(rt: HostRuntime) -> Result<(), Fail> {
+    let alloc = rt.alloc();
+    let entry = entry_file(alloc, HEIGHT)?;
+    let other = entry_file(alloc, OTHER_HEIGHT)?;
+    let mut closed = MemoryTarget::new(alloc, false);
+    let mut good = sources(alloc, &[&entry, EMPTY], 4096)?;
+    let fault = run_merge(alloc, &mut good, &mut closed).err();
+    assert_eq!(rt; fault, Some(CliFault::Out(OutFault::NotOpened)));
+    let mut clashing = sources(alloc, &[&entry, &other], 4096)?;
+    let fault = run_merge(alloc, &mut clashing, &mut closed).err();
+    let id = OpId::new(Uuid::from_u128(0x4000_8000_0000_0000_000a), 1).ok_or("no id")?;
+    assert_eq!(rt; fault, Some(CliFault::Refused(Refusal::Clash(id))));
+    Ok(())
+}
+
+#[test]
+fn laws_can_be_called() {
+    reg_engine::laws::merge_of_many();
+    reg_engine::laws::nothing_is_small();
+}

@@ -1,0 +1,150 @@
+mod commands;
+mod growth;
+mod reports;
+mod worlds;
+
+use reg_office::{Office, OfficeFault};
+use reg_op::{Op, OpBody, OpId};
+use reg_state::{Join, Register};
+use std::alloc::Global;
+use uuid::Uuid;
+use wkt_crs::Definition;
+
+pub const A: u128 = 0x0000_0000_0000_4000_8000_0000_0000_000a;
+
+pub const B: u128 = 0x0000_0000_0000_4000_8000_0000_0000_000b;
+
+pub const C: u128 = 0x0000_0000_0000_4000_8000_0000_0000_000c;
+
+/// A vertical system, of 93 bytes.
+pub const HEIGHT: &[u8] =
+    b"VERTCRS[\"H\",VDATUM[\"D\"],CS[vertical,1],AXIS[\"height (H)\",up],LENGTHUNIT[\"metre\",1],ID[\"X\",7]]";
+
+/// Another name and another code.
+pub const OTHER_HEIGHT: &[u8] =
+    b"VERTCRS[\"G\",VDATUM[\"D\"],CS[vertical,1],AXIS[\"height (H)\",up],LENGTHUNIT[\"metre\",1],ID[\"X\",8]]";
+
+/// The code of the other one, and a third name.
+pub const ANOTHER_NAME: &[u8] =
+    b"VERTCRS[\"F\",VDATUM[\"D\"],CS[vertical,1],AXIS[\"height (H)\",up],LENGTHUNIT[\"metre\",1],ID[\"X\",8]]";
+
+/// The same key, spelled with a text.
+pub const SAME_KEY: &[u8] =
+    b"VERTCRS[\"H\",VDATUM[\"D\"],CS[vertical,1],AXIS[\"height (H)\",up],LENGTHUNIT[\"metre\",1],ID[\"X\",\"7\"]]";
+
+/// What could not be made.
+#[derive(Debug, Drop)]
+pub struct Refused;
+
+pub fn id_of(replica: u128, count: u32) -> Result<OpId, Refused> {
+    OpId::new(Uuid::from_u128(replica), count).ok_or(Refused)
+}
+
+pub fn definition(alloc: Global, text: &[u8]) -> Result<Definition, Refused> {
+    match Definition::from_canonical(alloc, text) {
+        Ok(definition) => Ok(definition),
+        Err(_) => Err(Refused),
+    }
+}
+
+fn op_of(id: OpId, body: OpBody) -> Result<Op, Refused> {
+    match Op::new(id, body) {
+        Ok(op) => Ok(op),
+        Err(_) => Err(Refused),
+    }
+}
+
+pub fn enter(alloc: Global, id: OpId, text: &[u8]) -> Result<Op, Refused> {
+    op_of(id, OpBody::Enter(definition(alloc, text)?))
+}
+
+pub fn retire(id: OpId, entry: OpId) -> Result<Op, Refused> {
+    op_of(id, OpBody::Retire { entry })
+}
+
+pub fn supersede(id: OpId, old: OpId, newer: OpId) -> Result<Op, Refused> {
+    op_of(id, OpBody::Supersede { old, newer })
+}
+
+pub fn taken(alloc: Global, ops: Vec<Op>) -> Result<Register, Refused> {
+    let mut register = Register::new(alloc);
+    for op in ops {
+        match register.take(op) {
+            Ok(()) => {}
+            Err(_) => return Err(Refused),
+        }
+    }
+    Ok(register)
+}
+
+/// Two entries, of which the first is retired by one replica and superseded by another.
+pub fn worked(alloc: Global) -> Result<Register, Refused> {
+    let Ok(ops) = vec![in alloc;
+        enter(alloc, id_of(A, 1)?, HEIGHT)?,
+        enter(alloc, id_of(A, 2)?, OTHER_HEIGHT)?,
+        retire(id_of(A, 3)?, id_of(A, 1)?)?,
+        supersede(id_of(B, 1)?, id_of(A, 1)?, id_of(A, 2)?)?,
+    ] else {
+        return Err(Refused);
+    };
+    taken(alloc, ops)
+}
+
+/// Two entries of one key, whose texts differ.
+pub fn contested(alloc: Global) -> Result<Register, Refused> {
+    let Ok(ops) = vec![in alloc;
+        enter(alloc, id_of(A, 1)?, HEIGHT)?,
+        enter(alloc, id_of(B, 1)?, SAME_KEY)?,
+    ] else {
+        return Err(Refused);
+    };
+    taken(alloc, ops)
+}
+
+/// Whether two registers have the same operations and the same runs.
+pub fn has_same(left: &Register, right: &Register) -> bool {
+    let (ops, others) = (left.ops().as_slice(), right.ops().as_slice());
+    if ops.len() != others.len() || !ops.iter().zip(others).all(|(op, other)| op.is_same(other)) {
+        return false;
+    }
+    (0..8).all(|k| left.seen().run(k) == right.seen().run(k))
+}
+
+pub fn office(replica: u128, register: Register) -> Office {
+    Office::new(Uuid::from_u128(replica), register)
+}
+
+/// A register in which ids of a replica up to a count were seen, but no operation is kept.
+pub fn seen_up_to(
+    alloc: Global,
+    replica: u128,
+    ranges: &[(u32, u32)],
+) -> Result<Register, Refused> {
+    let mut seen = reg_state::Seen::new(alloc);
+    for (low, high) in ranges {
+        let run = reg_state::Run {
+            replica: Uuid::from_u128(replica),
+            low: *low,
+            high: *high,
+        };
+        if !seen.is_next(&run) || seen.add_run(run).is_err() {
+            return Err(Refused);
+        }
+    }
+    match Register::from_content(alloc, Vec::new(alloc), seen) {
+        Ok(register) => Ok(register),
+        Err(_) => Err(Refused),
+    }
+}
+
+pub fn joined(alloc: Global, left: &Register, right: &Register) -> Result<Register, Refused> {
+    match left.join(alloc, right) {
+        Ok(register) => Ok(register),
+        Err(_) => Err(Refused),
+    }
+}
+
+/// The refusal of a command.
+pub fn fault_of(outcome: Result<Vec<OpId>, OfficeFault>) -> Option<OfficeFault> {
+    outcome.err()
+}

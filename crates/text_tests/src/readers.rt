@@ -1,0 +1,78 @@
+mod definitions;
+mod growth;
+mod refused;
+
+use std::alloc::Global;
+use std::test::Fail;
+use wkt_crs::{Condition, ReadFault, read_crs, write_crs, write_pretty};
+use wkt_guess::{Outcome, guess_parts};
+
+/// A vertical system, canonical.
+const HEIGHT: &[u8] =
+    b"VERTCRS[\"H\",VDATUM[\"D\"],CS[vertical,1],AXIS[\"height (H)\",up],LENGTHUNIT[\"metre\",1],ID[\"X\",7]]";
+
+/// A compound of a geographic and a vertical system, canonical.
+const COMPOUND: &[u8] =
+    b"COMPOUNDCRS[\"C\",GEOGCRS[\"G\",DATUM[\"D\",ELLIPSOID[\"S\",6371000,0]],CS[ellipsoidal,2],AXIS[\"(Lat)\",north],AXIS[\"(Lon)\",east],ANGLEUNIT[\"degree\",0.0174532925199433]],VERTCRS[\"H\",VDATUM[\"D\"],CS[vertical,1],AXIS[\"height (H)\",up],LENGTHUNIT[\"metre\",1]],ID[\"X\",9]]";
+
+/// A projected system on polar axes, canonical.
+const POLAR: &[u8] =
+    b"PROJCRS[\"Polar example\",BASEGEOGCRS[\"Example\",DATUM[\"Example frame\",ELLIPSOID[\"GRS 1980\",6378137,298.257222101]]],CONVERSION[\"Polar example\",METHOD[\"Polar Stereographic (variant A)\"]],CS[Cartesian,2],AXIS[\"(E)\",south,MERIDIAN[90,ANGLEUNIT[\"degree\",0.0174532925199433]],ORDER[1]],AXIS[\"(N)\",south,MERIDIAN[180,ANGLEUNIT[\"degree\",0.0174532925199433]],ORDER[2]],LENGTHUNIT[\"metre\",1],ID[\"X\",\"polar\",1,URI[\"urn:example:polar\"]]]";
+
+/// The same as the first, spelled with alternate keywords, other delimiters and another numeral.
+const SPELLED: &[u8] =
+    b"verticalcrs( \"H\" , VRF[\"D\"],cs(Vertical,1),\n AXIS[\"height (H)\",UP],LENGTHUNIT[\"metre\",1.0],ID[\"X\",7.0e0])";
+
+fn is_canonical(alloc: Global, text: &[u8]) -> Result<bool, Fail> {
+    let crs = read_crs(alloc, text).ok().ok_or("refused")?;
+    Ok(write_crs(alloc, &crs)?.as_slice() == text)
+}
+
+fn refusal(alloc: Global, text: &[u8]) -> Option<ReadFault> {
+    read_crs(alloc, text).err()
+}
+
+#[test]
+fn canonical_texts_give_themselves(rt: HostRuntime) -> Result<(), Fail> {
+    for text in [HEIGHT, COMPOUND, POLAR] {
+        assert!(rt; is_canonical(rt.alloc(), text)?);
+    }
+    Ok(())
+}
+
+#[test]
+fn every_spelling_gives_the_canonical_text(rt: HostRuntime) -> Result<(), Fail> {
+    let alloc = rt.alloc();
+    let crs = read_crs(alloc, SPELLED).ok().ok_or("refused")?;
+    assert!(rt; write_crs(alloc, &crs)?.as_slice() == HEIGHT);
+    let pretty = write_pretty(alloc, &crs)?;
+    let again = read_crs(alloc, &pretty).ok().ok_or("refused")?;
+    assert!(rt; write_crs(alloc, &again)?.as_slice() == HEIGHT);
+    Ok(())
+}
+
+#[test]
+fn canonical_texts_alone_are_guessed(rt: HostRuntime) -> Result<(), Fail> {
+    let alloc = rt.alloc();
+    for text in [HEIGHT, COMPOUND, POLAR] {
+        let guess = guess_parts(alloc, text);
+        assert!(rt; guess.outcome == Outcome::Read);
+        assert!(rt; wkt_write::write_crs(alloc, &guess.parts)?.as_slice() == text);
+    }
+    assert!(rt; guess_parts(alloc, SPELLED).outcome == Outcome::Strayed);
+    Ok(())
+}
+
+#[test]
+fn conditions_are_told_of_the_component(rt: HostRuntime) {
+    let text =
+        b"COMPOUNDCRS[\"C\",GEOGCRS[\"G\",DATUM[\"D\",ELLIPSOID[\"S\",6371000,0]],CS[ellipsoidal,2],AXIS[\"(Lat)\",north],AXIS[\"(Lon)\",east],ANGLEUNIT[\"degree\",0.0174532925199433]],VERTCRS[\"H\",VDATUM[\"D\"],CS[vertical,1],AXIS[\"height (H)\",up]],ID[\"X\",9]]";
+    let refused = refusal(rt.alloc(), text);
+    assert!(rt;
+        refused
+            == Some(ReadFault::Broken {
+                condition: Condition::C3,
+                place: 161
+            })
+    );
+}
