@@ -1,6 +1,6 @@
 //! Conversions.
 
-use crate::copies::TryClone;
+use crate::copies::{TryClone, four, three};
 use crate::identifiers::{Ident, Named};
 use crate::many::Many;
 use crate::same::Same;
@@ -29,11 +29,12 @@ pub struct Conversion {
 
 impl TryClone for Parameter {
     fn try_clone(&self, alloc: Global) -> Result<Parameter, AllocError> {
+        let (name, unit, ids) = three(alloc, &self.name, &self.unit, &self.ids)?;
         Ok(Parameter {
-            name: self.name.try_clone(alloc)?,
+            name,
             value: self.value,
-            unit: self.unit.try_clone(alloc)?,
-            ids: self.ids.try_clone(alloc)?,
+            unit,
+            ids,
         })
     }
 }
@@ -49,11 +50,18 @@ impl Same for Parameter {
 
 impl TryClone for Conversion {
     fn try_clone(&self, alloc: Global) -> Result<Conversion, AllocError> {
+        let (name, method, parameters, ids) = four(
+            alloc,
+            &self.name,
+            &self.method,
+            &self.parameters,
+            &self.ids,
+        )?;
         Ok(Conversion {
-            name: self.name.try_clone(alloc)?,
-            method: self.method.try_clone(alloc)?,
-            parameters: self.parameters.try_clone(alloc)?,
-            ids: self.ids.try_clone(alloc)?,
+            name,
+            method,
+            parameters,
+            ids,
         })
     }
 }

@@ -25,3 +25,73 @@ impl TryClone for Decimal {
         Ok(*self)
     }
 }
+
+// Copies of several values at once. Who copies a struct so holds no other copy while one may be refused: of what is held there
+// the prover goes through each form.
+
+pub(crate) fn two<A: TryClone + Drop, B: TryClone + Drop>(
+    alloc: Global,
+    first: &A,
+    second: &B,
+) -> Result<(A, B), AllocError>
+    ensures { IfOk result (λ copies. (copies.0 ≡ first.now) × (copies.1 ≡ second.now)) }
+{
+    Ok((first.try_clone(alloc)?, second.try_clone(alloc)?))
+}
+
+pub(crate) fn three<A: TryClone + Drop, B: TryClone + Drop, C: TryClone + Drop>(
+    alloc: Global,
+    first: &A,
+    second: &B,
+    third: &C,
+) -> Result<(A, B, C), AllocError>
+    ensures { IfOk result (λ copies. (copies.0 ≡ first.now) × (copies.1 ≡ second.now) × (copies.2 ≡ third.now)) }
+{
+    Ok((
+        first.try_clone(alloc)?,
+        second.try_clone(alloc)?,
+        third.try_clone(alloc)?,
+    ))
+}
+
+pub(crate) fn four<A: TryClone + Drop, B: TryClone + Drop, C: TryClone + Drop, D: TryClone + Drop>(
+    alloc: Global,
+    first: &A,
+    second: &B,
+    third: &C,
+    fourth: &D,
+) -> Result<(A, B, C, D), AllocError>
+    ensures { IfOk result (λ copies. (copies.0 ≡ first.now) × (copies.1 ≡ second.now) × (copies.2 ≡ third.now) × (copies.3 ≡ fourth.now)) }
+{
+    Ok((
+        first.try_clone(alloc)?,
+        second.try_clone(alloc)?,
+        third.try_clone(alloc)?,
+        fourth.try_clone(alloc)?,
+    ))
+}
+
+pub(crate) fn five<
+    A: TryClone + Drop,
+    B: TryClone + Drop,
+    C: TryClone + Drop,
+    D: TryClone + Drop,
+    E: TryClone + Drop,
+>(
+    alloc: Global,
+    first: &A,
+    second: &B,
+    third: &C,
+    fourth: &D,
+    fifth: &E,
+) -> Result<(A, B, C, D, E), AllocError>
+    ensures { IfOk result (λ copies. (copies.0 ≡ first.now) × (copies.1 ≡ second.now) × (copies.2 ≡ third.now) × (copies.3 ≡ fourth.now) × (copies.4 ≡ fifth.now)) }
+{
+    Ok((
+        first.try_clone(alloc)?,
+        second.try_clone(alloc)?,
+        third.try_clone(alloc)?,
+        fourth.try_clone(alloc)?,
+        fifth.try_clone(alloc)?,
+    ))
+}

@@ -4,7 +4,7 @@ ghost use Rattle.std.specs.Prelude.{◌≡◌, ◌↔◌, IsTrue};
 
 use crate::boxed::Boxed;
 use crate::conversions::Conversion;
-use crate::copies::TryClone;
+use crate::copies::{TryClone, five, four, two};
 use crate::datums::{GeodeticFrame, PrimeMeridian, VerticalFrame};
 use crate::identifiers::Ident;
 use crate::many::{Many, NonEmpty};
@@ -100,17 +100,23 @@ pub enum CrsParts {
     Compound(Boxed<Compound>),
 }
 
-// Here and in `Vertical` what holds enums is copied last: a copy that fails drops those before it, and the prover goes
-// through each variant of them once more.
 impl TryClone for BaseCrs {
     fn try_clone(&self, alloc: Global) -> Result<BaseCrs, AllocError> {
+        let (name, datum, prime_meridian, unit, ids) = five(
+            alloc,
+            &self.name,
+            &self.datum,
+            &self.prime_meridian,
+            &self.unit,
+            &self.ids,
+        )?;
         Ok(BaseCrs {
             kind: self.kind,
-            name: self.name.try_clone(alloc)?,
-            ids: self.ids.try_clone(alloc)?,
-            unit: self.unit.try_clone(alloc)?,
-            prime_meridian: self.prime_meridian.try_clone(alloc)?,
-            datum: self.datum.try_clone(alloc)?,
+            name,
+            datum,
+            prime_meridian,
+            unit,
+            ids,
         })
     }
 }
@@ -128,17 +134,32 @@ impl Same for BaseCrs {
 
 impl TryClone for Geodetic {
     fn try_clone(&self, alloc: Global) -> Result<Geodetic, AllocError> {
+        let (name, usages, ids, remark) = four(
+            alloc,
+            &self.name,
+            &self.usages,
+            &self.ids,
+            &self.remark,
+        )?;
+        let (datum, prime_meridian, system, axes, unit) = five(
+            alloc,
+            &self.datum,
+            &self.prime_meridian,
+            &self.system,
+            &self.axes,
+            &self.unit,
+        )?;
         Ok(Geodetic {
             kind: self.kind,
-            name: self.name.try_clone(alloc)?,
-            datum: self.datum.try_clone(alloc)?,
-            prime_meridian: self.prime_meridian.try_clone(alloc)?,
-            system: self.system.try_clone(alloc)?,
-            axes: self.axes.try_clone(alloc)?,
-            unit: self.unit.try_clone(alloc)?,
-            usages: self.usages.try_clone(alloc)?,
-            ids: self.ids.try_clone(alloc)?,
-            remark: self.remark.try_clone(alloc)?,
+            name,
+            datum,
+            prime_meridian,
+            system,
+            axes,
+            unit,
+            usages,
+            ids,
+            remark,
         })
     }
 }
@@ -160,16 +181,31 @@ impl Same for Geodetic {
 
 impl TryClone for Projected {
     fn try_clone(&self, alloc: Global) -> Result<Projected, AllocError> {
+        let (name, usages, ids, remark) = four(
+            alloc,
+            &self.name,
+            &self.usages,
+            &self.ids,
+            &self.remark,
+        )?;
+        let (base, conversion, system, axes, unit) = five(
+            alloc,
+            &self.base,
+            &self.conversion,
+            &self.system,
+            &self.axes,
+            &self.unit,
+        )?;
         Ok(Projected {
-            name: self.name.try_clone(alloc)?,
-            base: self.base.try_clone(alloc)?,
-            conversion: self.conversion.try_clone(alloc)?,
-            system: self.system.try_clone(alloc)?,
-            axes: self.axes.try_clone(alloc)?,
-            unit: self.unit.try_clone(alloc)?,
-            usages: self.usages.try_clone(alloc)?,
-            ids: self.ids.try_clone(alloc)?,
-            remark: self.remark.try_clone(alloc)?,
+            name,
+            base,
+            conversion,
+            system,
+            axes,
+            unit,
+            usages,
+            ids,
+            remark,
         })
     }
 }
@@ -190,15 +226,29 @@ impl Same for Projected {
 
 impl TryClone for Vertical {
     fn try_clone(&self, alloc: Global) -> Result<Vertical, AllocError> {
+        let (name, usages, ids, remark) = four(
+            alloc,
+            &self.name,
+            &self.usages,
+            &self.ids,
+            &self.remark,
+        )?;
+        let (datum, system, axes, unit) = four(
+            alloc,
+            &self.datum,
+            &self.system,
+            &self.axes,
+            &self.unit,
+        )?;
         Ok(Vertical {
-            name: self.name.try_clone(alloc)?,
-            system: self.system.try_clone(alloc)?,
-            usages: self.usages.try_clone(alloc)?,
-            ids: self.ids.try_clone(alloc)?,
-            remark: self.remark.try_clone(alloc)?,
-            datum: self.datum.try_clone(alloc)?,
-            unit: self.unit.try_clone(alloc)?,
-            axes: self.axes.try_clone(alloc)?,
+            name,
+            datum,
+            system,
+            axes,
+            unit,
+            usages,
+            ids,
+            remark,
         })
     }
 }
@@ -239,13 +289,21 @@ impl Same for Single {
 
 impl TryClone for Compound {
     fn try_clone(&self, alloc: Global) -> Result<Compound, AllocError> {
+        let (name, usages, ids, remark) = four(
+            alloc,
+            &self.name,
+            &self.usages,
+            &self.ids,
+            &self.remark,
+        )?;
+        let (first, second) = two(alloc, &self.first, &self.second)?;
         Ok(Compound {
-            name: self.name.try_clone(alloc)?,
-            first: self.first.try_clone(alloc)?,
-            second: self.second.try_clone(alloc)?,
-            usages: self.usages.try_clone(alloc)?,
-            ids: self.ids.try_clone(alloc)?,
-            remark: self.remark.try_clone(alloc)?,
+            name,
+            first,
+            second,
+            usages,
+            ids,
+            remark,
         })
     }
 }

@@ -1,6 +1,6 @@
 //! Datums, and ensembles of them.
 
-use crate::copies::TryClone;
+use crate::copies::{TryClone, four, three};
 use crate::identifiers::{Ident, Named};
 use crate::many::{Many, NonEmpty};
 use crate::same::Same;
@@ -80,12 +80,13 @@ pub enum VerticalFrame {
 
 impl TryClone for Ellipsoid {
     fn try_clone(&self, alloc: Global) -> Result<Ellipsoid, AllocError> {
+        let (name, unit, ids) = three(alloc, &self.name, &self.unit, &self.ids)?;
         Ok(Ellipsoid {
-            name: self.name.try_clone(alloc)?,
+            name,
             radius: self.radius,
             flattening: self.flattening,
-            unit: self.unit.try_clone(alloc)?,
-            ids: self.ids.try_clone(alloc)?,
+            unit,
+            ids,
         })
     }
 }
@@ -102,11 +103,12 @@ impl Same for Ellipsoid {
 
 impl TryClone for PrimeMeridian {
     fn try_clone(&self, alloc: Global) -> Result<PrimeMeridian, AllocError> {
+        let (name, unit, ids) = three(alloc, &self.name, &self.unit, &self.ids)?;
         Ok(PrimeMeridian {
-            name: self.name.try_clone(alloc)?,
+            name,
             longitude: self.longitude,
-            unit: self.unit.try_clone(alloc)?,
-            ids: self.ids.try_clone(alloc)?,
+            unit,
+            ids,
         })
     }
 }
@@ -122,11 +124,18 @@ impl Same for PrimeMeridian {
 
 impl TryClone for Datum {
     fn try_clone(&self, alloc: Global) -> Result<Datum, AllocError> {
+        let (name, ellipsoid, anchor, ids) = four(
+            alloc,
+            &self.name,
+            &self.ellipsoid,
+            &self.anchor,
+            &self.ids,
+        )?;
         Ok(Datum {
-            name: self.name.try_clone(alloc)?,
-            ellipsoid: self.ellipsoid.try_clone(alloc)?,
-            anchor: self.anchor.try_clone(alloc)?,
-            ids: self.ids.try_clone(alloc)?,
+            name,
+            ellipsoid,
+            anchor,
+            ids,
         })
     }
 }
@@ -142,12 +151,19 @@ impl Same for Datum {
 
 impl TryClone for GeodeticEnsemble {
     fn try_clone(&self, alloc: Global) -> Result<GeodeticEnsemble, AllocError> {
+        let (name, members, ellipsoid, ids) = four(
+            alloc,
+            &self.name,
+            &self.members,
+            &self.ellipsoid,
+            &self.ids,
+        )?;
         Ok(GeodeticEnsemble {
-            name: self.name.try_clone(alloc)?,
-            members: self.members.try_clone(alloc)?,
-            ellipsoid: self.ellipsoid.try_clone(alloc)?,
+            name,
+            members,
+            ellipsoid,
             accuracy: self.accuracy,
-            ids: self.ids.try_clone(alloc)?,
+            ids,
         })
     }
 }
@@ -185,11 +201,8 @@ impl Same for GeodeticFrame {
 
 impl TryClone for VerticalDatum {
     fn try_clone(&self, alloc: Global) -> Result<VerticalDatum, AllocError> {
-        Ok(VerticalDatum {
-            name: self.name.try_clone(alloc)?,
-            anchor: self.anchor.try_clone(alloc)?,
-            ids: self.ids.try_clone(alloc)?,
-        })
+        let (name, anchor, ids) = three(alloc, &self.name, &self.anchor, &self.ids)?;
+        Ok(VerticalDatum { name, anchor, ids })
     }
 }
 
@@ -201,11 +214,12 @@ impl Same for VerticalDatum {
 
 impl TryClone for VerticalEnsemble {
     fn try_clone(&self, alloc: Global) -> Result<VerticalEnsemble, AllocError> {
+        let (name, members, ids) = three(alloc, &self.name, &self.members, &self.ids)?;
         Ok(VerticalEnsemble {
-            name: self.name.try_clone(alloc)?,
-            members: self.members.try_clone(alloc)?,
+            name,
+            members,
             accuracy: self.accuracy,
-            ids: self.ids.try_clone(alloc)?,
+            ids,
         })
     }
 }

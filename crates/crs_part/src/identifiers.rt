@@ -1,6 +1,6 @@
 //! Identifiers, and what has a name and identifiers alone.
 
-use crate::copies::TryClone;
+use crate::copies::{TryClone, five, two};
 use crate::many::Many;
 use crate::same::Same;
 use crate::text::Text;
@@ -52,12 +52,20 @@ impl Same for NumberOrText {
 
 impl TryClone for Ident {
     fn try_clone(&self, alloc: Global) -> Result<Ident, AllocError> {
+        let (authority, code, version, citation, uri) = five(
+            alloc,
+            &self.authority,
+            &self.code,
+            &self.version,
+            &self.citation,
+            &self.uri,
+        )?;
         Ok(Ident {
-            authority: self.authority.try_clone(alloc)?,
-            code: self.code.try_clone(alloc)?,
-            version: self.version.try_clone(alloc)?,
-            citation: self.citation.try_clone(alloc)?,
-            uri: self.uri.try_clone(alloc)?,
+            authority,
+            code,
+            version,
+            citation,
+            uri,
         })
     }
 }
@@ -74,10 +82,8 @@ impl Same for Ident {
 
 impl TryClone for Named {
     fn try_clone(&self, alloc: Global) -> Result<Named, AllocError> {
-        Ok(Named {
-            name: self.name.try_clone(alloc)?,
-            ids: self.ids.try_clone(alloc)?,
-        })
+        let (name, ids) = two(alloc, &self.name, &self.ids)?;
+        Ok(Named { name, ids })
     }
 }
 

@@ -2,7 +2,7 @@
 
 ghost use Rattle.std.specs.Prelude.{◌<◌, ◌^◌};
 
-use crate::copies::TryClone;
+use crate::copies::{TryClone, four};
 use crate::identifiers::Ident;
 use crate::many::Many;
 use crate::same::Same;
@@ -112,13 +112,20 @@ impl Same for Meridian {
 
 impl TryClone for Axis {
     fn try_clone(&self, alloc: Global) -> Result<Axis, AllocError> {
+        let (name, meridian, unit, ids) = four(
+            alloc,
+            &self.name,
+            &self.meridian,
+            &self.unit,
+            &self.ids,
+        )?;
         Ok(Axis {
-            name: self.name.try_clone(alloc)?,
+            name,
             direction: self.direction,
-            meridian: self.meridian.try_clone(alloc)?,
+            meridian,
             order: self.order,
-            unit: self.unit.try_clone(alloc)?,
-            ids: self.ids.try_clone(alloc)?,
+            unit,
+            ids,
         })
     }
 }

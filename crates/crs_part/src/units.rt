@@ -1,6 +1,6 @@
 //! Units, an enum for each group of them.
 
-use crate::copies::TryClone;
+use crate::copies::{TryClone, two};
 use crate::identifiers::Ident;
 use crate::many::Many;
 use crate::same::Same;
@@ -41,10 +41,11 @@ pub enum AngleUnit {
 
 impl TryClone for UnitDefinition {
     fn try_clone(&self, alloc: Global) -> Result<UnitDefinition, AllocError> {
+        let (name, ids) = two(alloc, &self.name, &self.ids)?;
         Ok(UnitDefinition {
-            name: self.name.try_clone(alloc)?,
+            name,
             factor: self.factor,
-            ids: self.ids.try_clone(alloc)?,
+            ids,
         })
     }
 }

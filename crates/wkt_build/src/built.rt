@@ -1,6 +1,6 @@
 //! Values that are built of the arguments that come.
 
-ghost use Rattle.std.specs.Prelude.{◌≡◌, ◌≤◌, length, false, true, List, drop, IfOk, OnOk, None};
+ghost use Rattle.std.specs.Prelude.{◌≡◌, ◌≤◌, length, false, true, List, drop, IfOk, OnOk, None, Ok};
 ghost use Rattle.wkt_slots.specs.declared.table.Takes as declared;
 ghost use Rattle.wkt_tier.specs.Bare.{Bare};
 ghost use Rattle.wkt_build.specs.Reads.{Builds, BuildsEach, BuildsOne, BuildsSome, comes};
@@ -31,6 +31,17 @@ pub(crate) fn pass(cursor: &mut Reader<'_>)
     ensures shorter { length cursor.new ≤ length cursor.old }
 {
     cursor.advance();
+}
+
+/// The value that is held, with the next one. A step that fails so holds no value of many forms, which its proof would go
+/// through one by one.
+pub(crate) fn with<V: Drop, W>(held: V, next: Result<W, AllocError>) -> Result<(V, W), AllocError>
+    ensures { IfOk result (λ both. (both.0 ≡ held) × (next ≡ Ok both.1)) }
+{
+    match next {
+        Ok(next) => Ok((held, next)),
+        Err(refused) => Err(refused),
+    }
 }
 
 /// The argument behind the token that comes.

@@ -7,7 +7,7 @@ ghost use Rattle.wkt_slots.specs.declared.table.Takes.TheVariants as kinds;
 ghost use Rattle.wkt_meaning.specs.Denotes.{DenotesBase, DenotesParts, DenotesSingle, base_fields, compound_fields, geodetic_fields, projected_fields, vertical_fields};
 ghost use Rattle.wkt_build.specs.Reads.{BuildsNode};
 
-use crate::built::{Built, pass, take_each, take_maybe, take_one};
+use crate::built::{Built, pass, take_each, take_maybe, take_one, with};
 use crate::choices::{geodetic_kind_of, is_compound, is_projected, is_vertical, next_keyword};
 use crate::ending::{take_base_ending, take_ending};
 use crate::reader::Reader;
@@ -72,8 +72,14 @@ pub(crate) fn build_geodetic(
     pass(cursor);
     let name = take_one::<Text, Text>(alloc, cursor)?;
     let datum = take_one::<GeodeticFrame, GeodeticFrame>(alloc, cursor)?;
-    let prime_meridian = take_maybe::<PrimeMeridian, PrimeMeridian>(alloc, cursor)?;
-    let ending = take_ending(alloc, cursor)?;
+    let (datum, prime_meridian) = with(
+        datum,
+        take_maybe::<PrimeMeridian, PrimeMeridian>(alloc, cursor),
+    )?;
+    let ((datum, prime_meridian), ending) = with(
+        (datum, prime_meridian),
+        take_ending(alloc, cursor),
+    )?;
     pass(cursor);
     Ok(Geodetic {
         kind,
@@ -100,8 +106,8 @@ pub(crate) fn build_projected(
     pass(cursor);
     let name = take_one::<Text, Text>(alloc, cursor)?;
     let base = take_one::<BaseCrs, BaseCrs>(alloc, cursor)?;
-    let conversion = take_one::<Conversion, Conversion>(alloc, cursor)?;
-    let ending = take_ending(alloc, cursor)?;
+    let (base, conversion) = with(base, take_one::<Conversion, Conversion>(alloc, cursor))?;
+    let ((base, conversion), ending) = with((base, conversion), take_ending(alloc, cursor))?;
     pass(cursor);
     Ok(Projected {
         name,

@@ -5,7 +5,7 @@
 ghost use Rattle.std.specs.Prelude.{◌≤◌, length};
 ghost use Rattle.wkt_build.specs.Rest.{BuildsRest, base_ending_fields, base_ending_row, ending_fields, ending_row, tail_fields, tail_row};
 
-use crate::built::{take_each, take_maybe, take_one};
+use crate::built::{take_each, take_maybe, take_one, with};
 use crate::reader::Reader;
 use crate::values::Remark;
 use crs_part::{
@@ -76,16 +76,14 @@ pub(crate) fn take_ending(alloc: Global, cursor: &mut Reader<'_>) -> Result<Endi
     ensures shorter { length cursor.new ≤ length cursor.old }
 {
     let system = take_one::<CoordSystem, CoordSystem>(alloc, cursor)?;
-    let first_axes = take_one::<Axis, Axis>(alloc, cursor)?;
-    let others_axes = take_each::<Axis, Axis>(alloc, cursor)?;
-    let unit = take_maybe::<Unit, Unit>(alloc, cursor)?;
-    let tail = take_tail(alloc, cursor)?;
+    let first = take_one::<Axis, Axis>(alloc, cursor)?;
+    let (first, others) = with(first, take_each::<Axis, Axis>(alloc, cursor))?;
+    let axes = NonEmpty { first, others };
+    let (axes, unit) = with(axes, take_maybe::<Unit, Unit>(alloc, cursor))?;
+    let ((axes, unit), tail) = with((axes, unit), take_tail(alloc, cursor))?;
     Ok(Ending {
         system,
-        axes: NonEmpty {
-            first: first_axes,
-            others: others_axes,
-        },
+        axes,
         unit,
         usages: tail.usages,
         ids: tail.ids,
