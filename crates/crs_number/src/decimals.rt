@@ -67,6 +67,24 @@ impl Decimal {
         Decimal::from_parts(&numeral).ok_or(NumberFault::NumberRange)
     }
 
+    /// The number that at most 18 digits write, with a period before so many of the last: at most 100.
+    pub fn from_digits(negative: bool, digits: u64, places: u32) -> Option<Decimal>
+        ensures found { IfSome result
+            (λ d. IsNormalForm (signed negative digits) (pos 0 -ℤ pos places) d.coefficient d.exponent) }
+        ensures only { digits < 10 ^ 18 → places ≤ 100 → (c e : ℤ)
+            → IsNormalForm (signed negative digits) (pos 0 -ℤ pos places) c e → IsInRange c e
+            → IsSomeAnd result (λ d. (d.coefficient ≡ c) × (d.exponent ≡ e)) }
+    {
+        if digits >= DIGITS_LIMIT || places > 100 {
+            return None;
+        }
+        Decimal::from_reduced(
+            negative,
+            Reduced::of_small(digits),
+            lowered(0, places as usize),
+        )
+    }
+
     /// The count that this is, from 0 to 4,294,967,295.
     pub fn as_count(&self) -> Option<u32>
         ensures found { IfSome result (λ n. IsWhole self.now.coefficient self.now.exponent (pos n)) }
@@ -182,6 +200,9 @@ fn raised(power: i32, zeros: u32) -> i32
 
 /// A longer numeral spells no decimal.
 pub(crate) const MAX_TEXT: usize = 100;
+
+/// Numbers below this one have at most 18 digits.
+const DIGITS_LIMIT: u64 = 1_000_000_000_000_000_000;
 
 const MIN_EXPONENT: i32 = -40;
 

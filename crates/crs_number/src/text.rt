@@ -1,6 +1,7 @@
-ghost use Rattle.std.specs.Prelude.{◌≡◌, ◌+◌, ◌/◌, ◌^◌, ◌<◌, ◌≤◌, ◌++◌, ◌∷◌, [], ℕ, ℤ, length, vec_len, vec_capacity, pos, negsuc, OnOk, OnErr, decimal, replicate, unsigned_abs};
-ghost use Rattle.crs_number.specs.Canonical.{Extends, last_digits, plain_text};
+ghost use Rattle.std.specs.Prelude.{◌≡◌, ◌+◌, ◌-◌, ◌^◌, ◌<◌, ◌≤◌, ◌++◌, ◌∷◌, ℕ, ℤ, length, take, drop, vec_len, vec_capacity, OnOk, OnErr, decimal, replicate};
+ghost use Rattle.crs_number.specs.Canonical.{Extends, plain_text};
 
+use itoa::Buffer;
 use std::alloc::AllocError;
 
 /// Appends a size below 10 ^ 34 times ten to the exponent.
@@ -11,124 +12,79 @@ pub(crate) fn push_plain(out: &mut Vec<u8>, size: u128, exponent: i32) -> Result
     ensures capacity { vec_capacity out.old ≤ vec_capacity out.new }
     ensures full { OnErr result (vec_capacity out.old < vec_len out.old + length (plain_text size exponent)) }
 {
+    let mut buffer = Buffer::new();
+    let digits = digits_of(&mut buffer, size);
+    let places = exponent.unsigned_abs() as usize;
     if exponent >= 0 {
-        push_whole(out, size)?;
-        push_zeros(out, exponent.unsigned_abs())
+        push_whole(out, digits, places)
+    } else if places < digits.len() {
+        push_places(out, digits, places)
     } else {
-        let places = exponent.unsigned_abs();
-        push_whole(out, without_last_digits(size, places))?;
-        out.push(b'.')?;
-        push_last_digits(out, size, places)
+        push_fraction(out, digits, places)
     }
 }
 
-/// Numbers up to this one have 64 bits, and are written without wider divisions.
+/// Numbers up to this one have 64 bits, and are divided faster.
 const LARGEST_SMALL: u128 = 18_446_744_073_709_551_615;
 
-/// Appends the digits of a number.
-fn push_whole(out: &mut Vec<u8>, number: u128) -> Result<(), AllocError>
-    requires { number < 10 ^ 34 }
-    ensures ok { OnOk result (out.new.items ≡ out.old.items ++ decimal number) }
-    ensures err { OnErr result (Extends out.old.items out.new.items) }
-    ensures capacity { vec_capacity out.old ≤ vec_capacity out.new }
-    ensures full { OnErr result (vec_capacity out.old < vec_len out.old + length (decimal number)) }
+fn digits_of(buffer: &mut Buffer, number: u128) -> &[u8]
+    ensures { result.now ≡ decimal number }
 {
     if number <= LARGEST_SMALL {
-        return push_small(out, number as u64);
+        buffer.format(number as u64).as_bytes()
+    } else {
+        buffer.format(number).as_bytes()
     }
-    push_whole(out, number / 10)?;
-    push_digit(out, (number % 10) as u8)
 }
 
-/// Appends the digits of a number of 64 bits.
-fn push_small(out: &mut Vec<u8>, number: u64) -> Result<(), AllocError>
-    ensures ok { OnOk result (out.new.items ≡ out.old.items ++ decimal number) }
+/// Appends digits, and so many zeros.
+fn push_whole(out: &mut Vec<u8>, digits: &[u8], zeros: usize) -> Result<(), AllocError>
+    ensures ok { OnOk result (out.new.items ≡ out.old.items ++ (digits.now ++ replicate zeros 48)) }
     ensures err { OnErr result (Extends out.old.items out.new.items) }
     ensures capacity { vec_capacity out.old ≤ vec_capacity out.new }
-    ensures full { OnErr result (vec_capacity out.old < vec_len out.old + length (decimal number)) }
+    ensures full { OnErr result (vec_capacity out.old < vec_len out.old + (length digits.now + zeros)) }
 {
-    if number < 10 {
-        return push_digit(out, number as u8);
-    }
-    push_small(out, number / 10)?;
-    push_digit(out, (number % 10) as u8)
+    out.extend_from_slice(digits)?;
+    push_zeros(out, zeros)
 }
 
-/// Appends the last digits of a number, as many as there are places.
-fn push_last_digits(out: &mut Vec<u8>, number: u128, places: u32) -> Result<(), AllocError>
-    ensures ok { OnOk result (out.new.items ≡ out.old.items ++ last_digits places number) }
+/// Appends digits, with a period before so many of the last.
+fn push_places(out: &mut Vec<u8>, digits: &[u8], places: usize) -> Result<(), AllocError>
+    requires { places < length digits.now }
+    ensures ok { let before = length digits.now - places
+        in OnOk result (out.new.items ≡ out.old.items ++ (take before digits.now ++ 46 ∷ drop before digits.now)) }
     ensures err { OnErr result (Extends out.old.items out.new.items) }
     ensures capacity { vec_capacity out.old ≤ vec_capacity out.new }
-    ensures full { OnErr result (vec_capacity out.old < vec_len out.old + length (last_digits places number)) }
+    ensures full { OnErr result (vec_capacity out.old < vec_len out.old + (length digits.now + 1)) }
 {
-    if number <= LARGEST_SMALL {
-        return push_last_small(out, number as u64, places);
-    }
-    if places == 0 {
-        return Ok(());
-    }
-    push_last_digits(out, number / 10, places - 1)?;
-    push_digit(out, (number % 10) as u8)
+    let (whole, fraction) = digits.split_at(digits.len() - places);
+    out.extend_from_slice(whole)?;
+    out.push(b'.')?;
+    out.extend_from_slice(fraction)
 }
 
-/// Appends the last digits of a number of 64 bits.
-fn push_last_small(out: &mut Vec<u8>, number: u64, places: u32) -> Result<(), AllocError>
-    ensures ok { OnOk result (out.new.items ≡ out.old.items ++ last_digits places number) }
+/// Appends a zero, a period, and so many places, which the digits end.
+fn push_fraction(out: &mut Vec<u8>, digits: &[u8], places: usize) -> Result<(), AllocError>
+    requires { length digits.now ≤ places }
+    ensures ok { OnOk result
+        (out.new.items ≡ out.old.items ++ (48 ∷ 46 ∷ replicate (places - length digits.now) 48 ++ digits.now)) }
     ensures err { OnErr result (Extends out.old.items out.new.items) }
     ensures capacity { vec_capacity out.old ≤ vec_capacity out.new }
-    ensures full { OnErr result (vec_capacity out.old < vec_len out.old + length (last_digits places number)) }
+    ensures full { OnErr result (vec_capacity out.old < vec_len out.old + (places + 2)) }
 {
-    if places == 0 {
-        return Ok(());
-    }
-    push_last_small(out, number / 10, places - 1)?;
-    push_digit(out, (number % 10) as u8)
+    out.extend_from_slice(b"0.")?;
+    push_zeros(out, places - digits.len())?;
+    out.extend_from_slice(digits)
 }
 
-fn push_zeros(out: &mut Vec<u8>, count: u32) -> Result<(), AllocError>
+fn push_zeros(out: &mut Vec<u8>, count: usize) -> Result<(), AllocError>
     ensures ok { OnOk result (out.new.items ≡ out.old.items ++ replicate count 48) }
     ensures err { OnErr result (Extends out.old.items out.new.items) }
     ensures capacity { vec_capacity out.old ≤ vec_capacity out.new }
-    ensures full { OnErr result (vec_capacity out.old < vec_len out.old + length (replicate {A = ℕ} count 48)) }
+    ensures full { OnErr result (vec_capacity out.old < vec_len out.old + count) }
 {
     for _ in 0..count {
-        push_digit(out, 0)?;
+        out.push(b'0')?;
     }
     Ok(())
-}
-
-fn push_digit(out: &mut Vec<u8>, digit: u8) -> Result<(), AllocError>
-    requires { digit < 10 }
-    ensures ok { OnOk result (out.new.items ≡ out.old.items ++ (48 + digit) ∷ []) }
-    ensures err { OnErr result (out.new.items ≡ out.old.items) }
-    ensures capacity { vec_capacity out.old ≤ vec_capacity out.new }
-    ensures full { OnErr result (vec_capacity out.old ≤ vec_len out.old) }
-{
-    out.push(b'0' + digit)?;
-    Ok(())
-}
-
-/// The number without its last digits.
-fn without_last_digits(number: u128, places: u32) -> u128
-    ensures { result ≡ number / 10 ^ places }
-{
-    if number <= LARGEST_SMALL {
-        return u128::from(without_last_small(number as u64, places));
-    }
-    let mut rest = number;
-    for _ in 0..places {
-        rest /= 10;
-    }
-    rest
-}
-
-/// The same for a number of 64 bits.
-fn without_last_small(number: u64, places: u32) -> u64
-    ensures { result ≡ number / 10 ^ places }
-{
-    let mut rest = number;
-    for _ in 0..places {
-        rest /= 10;
-    }
-    rest
 }

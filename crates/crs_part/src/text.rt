@@ -60,6 +60,10 @@ impl Text {
 fn is_text(bytes: &[u8]) -> bool
     ensures { result ≡ is_utf8 bytes.now }
 {
+    // Most texts are of ASCII, which is seen sooner.
+    if bytes.is_ascii() {
+        return true;
+    }
     std::str::from_utf8(bytes).is_ok()
 }
 

@@ -47,58 +47,103 @@ pub fn definition(alloc: Global, text: &[u8]) -> Result<Definition, Refused> {
     }
 }
 
-fn op_of(id: OpId, body: OpBody) -> Result<Op, Refused> {
-    match Op::new(id, body) {
+/// A text that is entered.
+#[derive(Clone, Copy)]
+pub enum Sample {
+    Height,
+    OtherHeight,
+    AnotherName,
+    SameKey,
+}
+
+fn text_of(sample: Sample) -> &'static [u8] {
+    match sample {
+        Sample::Height => HEIGHT,
+        Sample::OtherHeight => OTHER_HEIGHT,
+        Sample::AnotherName => ANOTHER_NAME,
+        Sample::SameKey => SAME_KEY,
+    }
+}
+
+/// An operation that is to be made. It holds no memory, so that tests can hold many of them.
+#[derive(Clone, Copy)]
+pub struct Step {
+    id: OpId,
+    body: StepBody,
+}
+
+#[derive(Clone, Copy)]
+enum StepBody {
+    Enter(Sample),
+    Retire(OpId),
+    Supersede(OpId, OpId),
+}
+
+pub fn enter(id: OpId, sample: Sample) -> Step {
+    let body = StepBody::Enter(sample);
+    Step { id, body }
+}
+
+pub fn retire(id: OpId, entry: OpId) -> Step {
+    let body = StepBody::Retire(entry);
+    Step { id, body }
+}
+
+pub fn supersede(id: OpId, old: OpId, newer: OpId) -> Step {
+    let body = StepBody::Supersede(old, newer);
+    Step { id, body }
+}
+
+fn made(alloc: Global, step: Step) -> Result<Op, Refused> {
+    let body = match step.body {
+        StepBody::Enter(sample) => OpBody::Enter(definition(alloc, text_of(sample))?),
+        StepBody::Retire(entry) => OpBody::Retire { entry },
+        StepBody::Supersede(old, newer) => OpBody::Supersede { old, newer },
+    };
+    match Op::new(step.id, body) {
         Ok(op) => Ok(op),
         Err(_) => Err(Refused),
     }
 }
 
-pub fn enter(alloc: Global, id: OpId, text: &[u8]) -> Result<Op, Refused> {
-    op_of(id, OpBody::Enter(definition(alloc, text)?))
+pub fn take(register: &mut Register, op: Op) -> Result<(), Refused> {
+    match register.take(op) {
+        Ok(()) => Ok(()),
+        Err(_) => Err(Refused),
+    }
 }
 
-pub fn retire(id: OpId, entry: OpId) -> Result<Op, Refused> {
-    op_of(id, OpBody::Retire { entry })
-}
-
-pub fn supersede(id: OpId, old: OpId, newer: OpId) -> Result<Op, Refused> {
-    op_of(id, OpBody::Supersede { old, newer })
-}
-
-pub fn taken(alloc: Global, ops: Vec<Op>) -> Result<Register, Refused> {
+pub fn taken(alloc: Global, steps: &[Step]) -> Result<Register, Refused> {
     let mut register = Register::new(alloc);
-    for op in ops {
-        match register.take(op) {
-            Ok(()) => {}
-            Err(_) => return Err(Refused),
-        }
+    for step in steps {
+        take(&mut register, made(alloc, *step)?)?;
     }
     Ok(register)
 }
 
 /// Two entries, of which the first is retired by one replica and superseded by another.
 pub fn worked(alloc: Global) -> Result<Register, Refused> {
-    let Ok(ops) = vec![in alloc;
-        enter(alloc, id_of(A, 1)?, HEIGHT)?,
-        enter(alloc, id_of(A, 2)?, OTHER_HEIGHT)?,
-        retire(id_of(A, 3)?, id_of(A, 1)?)?,
-        supersede(id_of(B, 1)?, id_of(A, 1)?, id_of(A, 2)?)?,
-    ] else {
-        return Err(Refused);
-    };
-    taken(alloc, ops)
+    let (one, two) = (id_of(A, 1)?, id_of(A, 2)?);
+    taken(
+        alloc,
+        &[
+            enter(one, Sample::Height),
+            enter(two, Sample::OtherHeight),
+            retire(id_of(A, 3)?, one),
+            supersede(id_of(B, 1)?, one, two),
+        ],
+    )
 }
 
 /// Two entries of one key, whose texts differ.
 pub fn contested(alloc: Global) -> Result<Register, Refused> {
-    let Ok(ops) = vec![in alloc;
-        enter(alloc, id_of(A, 1)?, HEIGHT)?,
-        enter(alloc, id_of(B, 1)?, SAME_KEY)?,
-    ] else {
-        return Err(Refused);
-    };
-    taken(alloc, ops)
+    taken(
+        alloc,
+        &[
+            enter(id_of(A, 1)?, Sample::Height),
+            enter(id_of(B, 1)?, Sample::SameKey),
+        ],
+    )
 }
 
 /// Whether two registers have the same operations and the same runs.

@@ -36,45 +36,87 @@ pub fn id_of(replica: u128, count: u32) -> Result<OpId, Refused> {
     OpId::new(Uuid::from_u128(replica), count).ok_or(Refused)
 }
 
-fn op_of(id: OpId, body: OpBody) -> Result<Op, Refused> {
-    match Op::new(id, body) {
+/// A text that is entered.
+#[derive(Clone, Copy)]
+pub enum Sample {
+    Height,
+    OtherHeight,
+    SameKey,
+}
+
+fn text_of(sample: Sample) -> &'static [u8] {
+    match sample {
+        Sample::Height => HEIGHT,
+        Sample::OtherHeight => OTHER_HEIGHT,
+        Sample::SameKey => SAME_KEY,
+    }
+}
+
+/// An operation that is to be made. It holds no memory, so that tests can hold many of them.
+#[derive(Clone, Copy)]
+pub struct Step {
+    id: OpId,
+    body: StepBody,
+}
+
+#[derive(Clone, Copy)]
+enum StepBody {
+    Enter(Sample),
+    Retire(OpId),
+    Supersede(OpId, OpId),
+}
+
+pub fn enter(id: OpId, sample: Sample) -> Step {
+    let body = StepBody::Enter(sample);
+    Step { id, body }
+}
+
+pub fn retire(id: OpId, entry: OpId) -> Step {
+    let body = StepBody::Retire(entry);
+    Step { id, body }
+}
+
+pub fn supersede(id: OpId, old: OpId, newer: OpId) -> Step {
+    let body = StepBody::Supersede(old, newer);
+    Step { id, body }
+}
+
+pub fn made(alloc: Global, step: Step) -> Result<Op, Refused> {
+    let body = match step.body {
+        StepBody::Enter(sample) => match Definition::from_canonical(alloc, text_of(sample)) {
+            Ok(definition) => OpBody::Enter(definition),
+            Err(_) => return Err(Refused),
+        },
+        StepBody::Retire(entry) => OpBody::Retire { entry },
+        StepBody::Supersede(old, newer) => OpBody::Supersede { old, newer },
+    };
+    match Op::new(step.id, body) {
         Ok(op) => Ok(op),
         Err(_) => Err(Refused),
     }
 }
 
-pub fn enter(alloc: Global, id: OpId, text: &[u8]) -> Result<Op, Refused> {
-    match Definition::from_canonical(alloc, text) {
-        Ok(definition) => op_of(id, OpBody::Enter(definition)),
+/// Two entries, of which the first is retired by one replica and superseded by another.
+pub fn worked(k: usize) -> Result<Step, Refused> {
+    Ok(match k {
+        0 => enter(id_of(A, 1)?, Sample::Height),
+        1 => enter(id_of(A, 2)?, Sample::OtherHeight),
+        2 => retire(id_of(A, 3)?, id_of(A, 1)?),
+        _ => supersede(id_of(B, 1)?, id_of(A, 1)?, id_of(A, 2)?),
+    })
+}
+
+pub fn take(alloc: Global, register: &mut Register, step: Step) -> Result<(), Refused> {
+    match register.take(made(alloc, step)?) {
+        Ok(()) => Ok(()),
         Err(_) => Err(Refused),
     }
 }
 
-pub fn retire(id: OpId, entry: OpId) -> Result<Op, Refused> {
-    op_of(id, OpBody::Retire { entry })
-}
-
-pub fn supersede(id: OpId, old: OpId, newer: OpId) -> Result<Op, Refused> {
-    op_of(id, OpBody::Supersede { old, newer })
-}
-
-/// Two entries, of which the first is retired by one replica and superseded by another.
-pub fn worked(alloc: Global, k: usize) -> Result<Op, Refused> {
-    match k {
-        0 => enter(alloc, id_of(A, 1)?, HEIGHT),
-        1 => enter(alloc, id_of(A, 2)?, OTHER_HEIGHT),
-        2 => retire(id_of(A, 3)?, id_of(A, 1)?),
-        _ => supersede(id_of(B, 1)?, id_of(A, 1)?, id_of(A, 2)?),
-    }
-}
-
-pub fn taken(alloc: Global, ops: Vec<Op>) -> Result<Register, Refused> {
+pub fn taken(alloc: Global, steps: &[Step]) -> Result<Register, Refused> {
     let mut register = Register::new(alloc);
-    for op in ops {
-        match register.take(op) {
-            Ok(()) => {}
-            Err(_) => return Err(Refused),
-        }
+    for step in steps {
+        take(alloc, &mut register, *step)?;
     }
     Ok(register)
 }

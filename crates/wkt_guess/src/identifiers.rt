@@ -15,6 +15,16 @@ impl Node for Ident {
         let authority = text(alloc, rest);
         rest.want(b",");
         let code = number_or_text(alloc, rest);
+        // Most identifiers have nothing more.
+        if rest.eat(b"]") {
+            return Ident {
+                authority,
+                code,
+                version: None,
+                citation: None,
+                uri: None,
+            };
+        }
         let version = version(alloc, rest);
         let citation = maybe_value(b",CITATION[", alloc, rest);
         let uri = maybe_value(b",URI[", alloc, rest);
@@ -30,7 +40,7 @@ impl Node for Ident {
 }
 
 fn version(alloc: Global, rest: &mut Rest<'_>) -> Option<NumberOrText> {
-    if rest.begins_with(b"]") || rest.begins_with(b",C") || rest.begins_with(b",U") {
+    if rest.begins_with(b",C") || rest.begins_with(b",U") {
         return None;
     }
     rest.want(b",");

@@ -52,6 +52,9 @@ pub(crate) fn maybe_value(opening: &[u8], alloc: Global, rest: &mut Rest<'_>) ->
 }
 
 pub(crate) fn number(rest: &mut Rest<'_>) -> Decimal {
+    if let Some(number) = rest.plain_number() {
+        return number;
+    }
     match Decimal::from_numeral(rest.before_delimiter()) {
         Ok(number) => number,
         Err(_) => {

@@ -2,6 +2,8 @@
 
 ghost use Rattle.std.specs.Prelude.{◌≤◌, length};
 
+use crs_number::Decimal;
+
 /// How a guess ended.
 #[derive(Clone, Copy, Debug, PartialEq, Eq)]
 pub enum Outcome {
@@ -90,6 +92,19 @@ impl<'a> Rest<'a> {
         text
     }
 
+    /// The number before the next comma or closing delimiter, if it is digits alone, with a minus and a period or without:
+    /// most are.
+    pub(crate) fn plain_number(&mut self) -> Option<Decimal> {
+        let (negative, unsigned) = match self.bytes.strip_prefix(b"-") {
+            Some(unsigned) => (true, unsigned),
+            None => (false, self.bytes),
+        };
+        let numeral = plain_numeral(unsigned)?;
+        let number = Decimal::from_digits(negative, numeral.digits, numeral.places)?;
+        self.bytes = unsigned.split_at_checked(numeral.len)?.1;
+        Some(number)
+    }
+
     /// The bytes before the next comma or closing delimiter.
     pub(crate) fn before_delimiter(&mut self) -> &'a [u8] {
         let (word, bytes) = self.bytes.split_at(delimiter_place(self.bytes));
@@ -98,17 +113,58 @@ impl<'a> Rest<'a> {
     }
 }
 
+/// Digits, how many of them stand behind a period, and the length of both.
+#[derive(Clone, Copy)]
+struct PlainNumeral {
+    digits: u64,
+    places: u32,
+    len: usize,
+}
+
+/// The plain numeral before the next delimiter. One of more than 18 digits is read in another way.
+fn plain_numeral(bytes: &[u8]) -> Option<PlainNumeral> {
+    let mut digits = 0u64;
+    let mut places = 0u32;
+    // One behind the period, and nothing before it.
+    let mut step = 0u32;
+    for (len, byte) in bytes.iter().enumerate() {
+        let digit = byte.wrapping_sub(b'0');
+        if digit < 10 {
+            digits = digits.wrapping_mul(10).wrapping_add(u64::from(digit));
+            places = places.wrapping_add(step);
+        } else if *byte == b'.' && step == 0 {
+            step = 1;
+        } else if (*byte == b',' || *byte == b']') && 0 < len && len < 20 {
+            return Some(PlainNumeral {
+                digits,
+                places,
+                len,
+            });
+        } else {
+            return None;
+        }
+    }
+    None
+}
+
 fn mark_place(bytes: &[u8]) -> usize
     ensures { result ≤ length bytes.now }
 {
-    bytes.iter().take_while(|b| **b != b'"').count()
+    for (i, byte) in bytes.iter().enumerate() {
+        if *byte == b'"' {
+            return i;
+        }
+    }
+    bytes.len()
 }
 
 fn delimiter_place(bytes: &[u8]) -> usize
     ensures { result ≤ length bytes.now }
 {
-    bytes
-        .iter()
-        .take_while(|b| **b != b',' && **b != b']')
-        .count()
+    for (i, byte) in bytes.iter().enumerate() {
+        if *byte == b',' || *byte == b']' {
+            return i;
+        }
+    }
+    bytes.len()
 }

@@ -1,6 +1,5 @@
 use super::{
-    A, ANOTHER_NAME, B, HEIGHT, OTHER_HEIGHT, SAME_KEY, contested, enter, id_of, joined, retire,
-    seen_up_to, supersede, taken, worked,
+    A, B, Sample, contested, enter, id_of, joined, retire, seen_up_to, supersede, taken, worked,
 };
 use byte_io::{Full, Room, Writing};
 use reg_office::{
@@ -55,12 +54,12 @@ fn entries_that_supersede_each_other(rt: HostRuntime) -> Result<(), Fail> {
     let (one, two) = (id_of(A, 1)?, id_of(A, 2)?);
     let register = taken(
         alloc,
-        vec![in alloc;
-            enter(alloc, one, HEIGHT)?,
-            enter(alloc, two, OTHER_HEIGHT)?,
-            supersede(id_of(A, 3)?, one, two)?,
-            supersede(id_of(B, 1)?, two, one)?,
-        ]?,
+        &[
+            enter(one, Sample::Height),
+            enter(two, Sample::OtherHeight),
+            supersede(id_of(A, 3)?, one, two),
+            supersede(id_of(B, 1)?, two, one),
+        ],
     )?;
     let rows = rows(alloc, &register)?;
     assert_eq!(rt; rows.len(), 2);
@@ -84,7 +83,7 @@ fn conflicts_of_the_worked_example(rt: HostRuntime) -> Result<(), Fail> {
               X,7,00000000-0000-4000-8000-00000000000b:1\n"
         )
     );
-    let mark = taken(alloc, vec![in alloc; retire(id_of(B, 2)?, id_of(B, 1)?)?]?)?;
+    let mark = taken(alloc, &[retire(id_of(B, 2)?, id_of(B, 1)?)])?;
     let settled = joined(alloc, &register, &mark)?;
     assert!(rt;
         is_text(
@@ -94,10 +93,10 @@ fn conflicts_of_the_worked_example(rt: HostRuntime) -> Result<(), Fail> {
     );
     let same = taken(
         alloc,
-        vec![in alloc;
-            enter(alloc, id_of(A, 1)?, HEIGHT)?,
-            enter(alloc, id_of(B, 1)?, HEIGHT)?,
-        ]?,
+        &[
+            enter(id_of(A, 1)?, Sample::Height),
+            enter(id_of(B, 1)?, Sample::Height),
+        ],
     )?;
     assert!(rt;
         is_text(
@@ -113,13 +112,13 @@ fn all_entries_of_a_key_in_conflict_are_listed(rt: HostRuntime) -> Result<(), Fa
     let alloc = rt.alloc();
     let register = taken(
         alloc,
-        vec![in alloc;
-            enter(alloc, id_of(B, 1)?, HEIGHT)?,
-            enter(alloc, id_of(A, 3)?, OTHER_HEIGHT)?,
-            enter(alloc, id_of(A, 2)?, SAME_KEY)?,
-            enter(alloc, id_of(A, 1)?, HEIGHT)?,
-            supersede(id_of(B, 2)?, id_of(A, 2)?, id_of(A, 3)?)?,
-        ]?,
+        &[
+            enter(id_of(B, 1)?, Sample::Height),
+            enter(id_of(A, 3)?, Sample::OtherHeight),
+            enter(id_of(A, 2)?, Sample::SameKey),
+            enter(id_of(A, 1)?, Sample::Height),
+            supersede(id_of(B, 2)?, id_of(A, 2)?, id_of(A, 3)?),
+        ],
     )?;
     let found = conflicts(alloc, &register)?;
     assert_eq!(rt; found.len(), 1);
@@ -138,12 +137,12 @@ fn keys_in_conflict_are_in_the_order_of_their_bytes(rt: HostRuntime) -> Result<(
     let alloc = rt.alloc();
     let register = taken(
         alloc,
-        vec![in alloc;
-            enter(alloc, id_of(A, 1)?, ANOTHER_NAME)?,
-            enter(alloc, id_of(A, 2)?, SAME_KEY)?,
-            enter(alloc, id_of(B, 1)?, OTHER_HEIGHT)?,
-            enter(alloc, id_of(B, 2)?, HEIGHT)?,
-        ]?,
+        &[
+            enter(id_of(A, 1)?, Sample::AnotherName),
+            enter(id_of(A, 2)?, Sample::SameKey),
+            enter(id_of(B, 1)?, Sample::OtherHeight),
+            enter(id_of(B, 2)?, Sample::Height),
+        ],
     )?;
     let found = conflicts(alloc, &register)?;
     assert_eq!(rt; found.len(), 2);
@@ -160,13 +159,13 @@ fn several_newer_entries_stand_in_one_field(rt: HostRuntime) -> Result<(), Fail>
     let (one, two, three) = (id_of(A, 1)?, id_of(A, 2)?, id_of(B, 1)?);
     let register = taken(
         alloc,
-        vec![in alloc;
-            enter(alloc, one, HEIGHT)?,
-            enter(alloc, two, OTHER_HEIGHT)?,
-            enter(alloc, three, OTHER_HEIGHT)?,
-            supersede(id_of(A, 3)?, one, three)?,
-            supersede(id_of(A, 4)?, one, two)?,
-        ]?,
+        &[
+            enter(one, Sample::Height),
+            enter(two, Sample::OtherHeight),
+            enter(three, Sample::OtherHeight),
+            supersede(id_of(A, 3)?, one, three),
+            supersede(id_of(A, 4)?, one, two),
+        ],
     )?;
     assert!(rt;
         is_text(
@@ -184,7 +183,7 @@ fn several_newer_entries_stand_in_one_field(rt: HostRuntime) -> Result<(), Fail>
 fn a_retired_entry_is_awaited_until_it_comes(rt: HostRuntime) -> Result<(), Fail> {
     let alloc = rt.alloc();
     let (entry, mark) = (id_of(A, 1)?, id_of(B, 1)?);
-    let early = taken(alloc, vec![in alloc; retire(mark, entry)?]?)?;
+    let early = taken(alloc, &[retire(mark, entry)])?;
     assert!(rt; awaited(alloc, &early)?.as_slice() == [entry].as_slice());
     assert!(rt;
         is_text(
@@ -192,10 +191,7 @@ fn a_retired_entry_is_awaited_until_it_comes(rt: HostRuntime) -> Result<(), Fail
             b"entry\n00000000-0000-4000-8000-00000000000a:1\n"
         )
     );
-    let both = taken(
-        alloc,
-        vec![in alloc; retire(mark, entry)?, enter(alloc, entry, HEIGHT)?]?,
-    )?;
+    let both = taken(alloc, &[retire(mark, entry), enter(entry, Sample::Height)])?;
     assert!(rt; is_text(text_of(alloc, &both, ReportKind::Awaited), b"entry\n"));
     Ok(())
 }

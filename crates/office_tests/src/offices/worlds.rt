@@ -1,8 +1,8 @@
 //! Offices that send their files to one another, and restart from them.
 
 use super::{
-    A, B, C, HEIGHT, OTHER_HEIGHT, Refused, definition, enter, id_of, joined, office, retire,
-    seen_up_to, supersede, taken, worked,
+    A, B, C, HEIGHT, OTHER_HEIGHT, Refused, Sample, definition, enter, id_of, joined, office,
+    retire, seen_up_to, supersede, take, taken, worked,
 };
 use reg_file::{read_bytes, write_bytes};
 use reg_office::Office;
@@ -149,14 +149,14 @@ fn an_office_goes_on_after_a_restart(rt: HostRuntime) -> Result<(), Fail> {
 fn two_orders_make_one_file(rt: HostRuntime) -> Result<(), Fail> {
     let alloc = rt.alloc();
     let (one, two) = (id_of(A, 1)?, id_of(A, 2)?);
-    let ops = vec![in alloc;
-        supersede(id_of(B, 1)?, one, two)?,
-        retire(id_of(A, 3)?, one)?,
-        enter(alloc, two, OTHER_HEIGHT)?,
-        enter(alloc, one, HEIGHT)?,
-    ]?;
+    let steps = [
+        supersede(id_of(B, 1)?, one, two),
+        retire(id_of(A, 3)?, one),
+        enter(two, Sample::OtherHeight),
+        enter(one, Sample::Height),
+    ];
     let first = sent(alloc, &office(B, worked(alloc)?))?;
-    let second = sent(alloc, &office(C, taken(alloc, ops)?))?;
+    let second = sent(alloc, &office(C, taken(alloc, &steps)?))?;
     assert_eq!(rt; first.len(), 347);
     assert!(rt; first.as_slice() == second.as_slice());
     Ok(())
@@ -181,8 +181,9 @@ fn one_operation_of_a_file_is_taken(rt: HostRuntime) -> Result<(), Fail> {
     let alloc = rt.alloc();
     let file = whole_file(alloc)?;
     let (one, other) = (id_of(A, 1)?, id_of(B, 1)?);
-    let ops = vec![in alloc; one_of(alloc, &file, other)?]?;
-    let c = office(C, taken(alloc, ops)?);
+    let mut part = Register::new(alloc);
+    take(&mut part, one_of(alloc, &file, other)?)?;
+    let c = office(C, part);
     assert!(rt; c.register().status(other) == Some(Status::Valid));
     assert!(rt; c.register().status(one) == None);
     // The rest comes later.

@@ -1,13 +1,23 @@
 //! Registers made of their content.
 
-use super::{A, B, C, HEIGHT, Refused, enter, id_of, keeps, retire, supersede, taken};
+use super::{A, B, C, Refused, Sample, Step, enter, id_of, keeps, made, retire, supersede, taken};
 use crate::{ContentFault, Register, Seen};
 use reg_op::{Op, OpId, Status};
 use std::alloc::Global;
 use std::test::Fail;
 
 // What is made of two operations by id, both of which are seen.
-fn made_of(alloc: Global, first: Op, second: Op, seen: Seen) -> Result<Register, ContentFault> {
+fn made_of(alloc: Global, steps: &[Step; 2], seen: Seen) -> Result<Register, ContentFault> {
+    let Ok(first) = made(alloc, steps[0]) else {
+        return Err(ContentFault::Memory);
+    };
+    let Ok(second) = made(alloc, steps[1]) else {
+        return Err(ContentFault::Memory);
+    };
+    content_of(alloc, first, second, seen)
+}
+
+fn content_of(alloc: Global, first: Op, second: Op, seen: Seen) -> Result<Register, ContentFault> {
     let (id, later) = (first.id(), second.id());
     if !id.is_before(&later) {
         return Err(ContentFault::Memory);
@@ -29,8 +39,8 @@ fn made_of(alloc: Global, first: Op, second: Op, seen: Seen) -> Result<Register,
 }
 
 // What has seen both.
-fn seen_of(alloc: Global, first: Op, second: Op) -> Result<Seen, Refused> {
-    let register = taken(alloc, vec![in alloc; first, second].ok().ok_or(Refused)?)?;
+fn seen_of(alloc: Global, steps: &[Step; 2]) -> Result<Seen, Refused> {
+    let register = taken(alloc, steps)?;
     register.seen().try_clone(alloc).ok().ok_or(Refused)
 }
 
@@ -45,14 +55,9 @@ fn is_not_kept(refused: Result<Register, ContentFault>, id: OpId) -> bool {
 fn an_entry_and_its_retirement_are_a_content(rt: HostRuntime) -> Result<(), Fail> {
     let alloc = rt.alloc();
     let (entry, mark) = (id_of(A, 1)?, id_of(B, 1)?);
-    let seen = seen_of(alloc, enter(alloc, entry, HEIGHT)?, retire(mark, entry)?)?;
-    let made = made_of(
-        alloc,
-        enter(alloc, entry, HEIGHT)?,
-        retire(mark, entry)?,
-        seen,
-    );
-    let Ok(register) = made else {
+    let steps = [enter(entry, Sample::Height), retire(mark, entry)];
+    let seen = seen_of(alloc, &steps)?;
+    let Ok(register) = made_of(alloc, &steps, seen) else {
         return Err(Fail::new("refused"));
     };
     assert!(rt; keeps(&register, &[entry, mark]));
@@ -64,11 +69,11 @@ fn an_entry_and_its_retirement_are_a_content(rt: HostRuntime) -> Result<(), Fail
 fn what_would_be_dropped_is_named(rt: HostRuntime) -> Result<(), Fail> {
     let alloc = rt.alloc();
     let (entry, newer, b, c) = (id_of(A, 1)?, id_of(A, 2)?, id_of(B, 1)?, id_of(C, 1)?);
-    let seen = seen_of(alloc, retire(b, entry)?, retire(c, entry)?)?;
+    let retirements = [retire(b, entry), retire(c, entry)];
+    let seen = seen_of(alloc, &retirements)?;
     let copy = seen.try_clone(alloc)?;
-    let two_retirements = made_of(alloc, retire(b, entry)?, retire(c, entry)?, copy);
-    assert!(rt; is_not_kept(two_retirements, c));
-    let superseded = made_of(alloc, supersede(b, entry, newer)?, retire(c, entry)?, seen);
-    assert!(rt; is_not_kept(superseded, b));
+    assert!(rt; is_not_kept(made_of(alloc, &retirements, copy), c));
+    let both = [supersede(b, entry, newer), retire(c, entry)];
+    assert!(rt; is_not_kept(made_of(alloc, &both, seen), b));
     Ok(())
 }

@@ -1,31 +1,29 @@
 //! What a refused growth leaves. The growths are refused one by one by `rt try --test --fail-alloc N`; where none is,
 //! these tests see that each call succeeds.
 
-use super::{A, HEIGHT, OTHER_HEIGHT, SAME_KEY, enter, has_same, id_of, worked};
+use super::{A, Sample, enter, has_same, id_of, made, taken, worked};
 use crate::{Join, JoinFault, Register, TakeFault};
 use reg_op::OpId;
 use std::alloc::Global;
 
-// What could be made before memory was refused.
-fn made(alloc: Global) -> Option<(Register, Register)> {
-    let mut left = Register::new(alloc);
-    let mut right = Register::new(alloc);
-    for k in [0, 3] {
-        left.take(worked(alloc, k).ok()?).ok()?;
-    }
-    for k in [1, 2] {
-        right.take(worked(alloc, k).ok()?).ok()?;
-    }
-    Some((left, right))
+// The register of two operations of the worked example, unless memory is refused.
+fn two_of(alloc: Global, one: usize, other: usize) -> Option<Register> {
+    taken(alloc, &[worked(one).ok()?, worked(other).ok()?]).ok()
 }
 
 #[test]
 fn a_refused_take_leaves_the_register(rt: HostRuntime) {
     let alloc = rt.alloc();
-    let Some((mut left, _right)) = made(alloc) else {
+    let Some(mut left) = two_of(alloc, 0, 3) else {
         return;
     };
-    let (Ok(before), Ok(op), Ok(id)) = (left.try_clone(alloc), worked(alloc, 2), id_of(A, 3)) else {
+    let Ok(before) = left.try_clone(alloc) else {
+        return;
+    };
+    let (Ok(step), Ok(id)) = (worked(2), id_of(A, 3)) else {
+        return;
+    };
+    let Ok(op) = made(alloc, step) else {
         return;
     };
     match left.take(op) {
@@ -38,7 +36,10 @@ fn a_refused_take_leaves_the_register(rt: HostRuntime) {
 #[test]
 fn a_refused_join_leaves_both(rt: HostRuntime) {
     let alloc = rt.alloc();
-    let Some((left, right)) = made(alloc) else {
+    let Some(left) = two_of(alloc, 0, 3) else {
+        return;
+    };
+    let Some(right) = two_of(alloc, 1, 2) else {
         return;
     };
     match left.join(alloc, &right) {
@@ -46,13 +47,6 @@ fn a_refused_join_leaves_both(rt: HostRuntime) {
         Err(JoinFault::Memory) => assert!(rt; left.ops().as_slice().len() == 2),
         Err(JoinFault::Clash(_)) => assert!(rt; false),
     }
-}
-
-// A register of one entry.
-fn entered(alloc: Global, id: OpId, text: &[u8]) -> Option<Register> {
-    let mut register = Register::new(alloc);
-    register.take(enter(alloc, id, text).ok()?).ok()?;
-    Some(register)
 }
 
 fn clash_at(refused: Result<Register, JoinFault<OpId>>) -> Option<OpId> {
@@ -78,13 +72,13 @@ fn a_clash_is_told_without_memory(rt: HostRuntime) {
     let Ok(id) = id_of(A, 1) else {
         return;
     };
-    let Some(mut left) = entered(alloc, id, HEIGHT) else {
+    let Ok(mut left) = taken(alloc, &[enter(id, Sample::Height)]) else {
         return;
     };
-    let Some(right) = entered(alloc, id, OTHER_HEIGHT) else {
+    let Ok(right) = taken(alloc, &[enter(id, Sample::OtherHeight)]) else {
         return;
     };
-    let Ok(third) = enter(alloc, id, SAME_KEY) else {
+    let Ok(third) = made(alloc, enter(id, Sample::SameKey)) else {
         return;
     };
     assert!(rt; clash_at(left.join(alloc, &right)) == Some(id));

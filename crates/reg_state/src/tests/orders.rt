@@ -1,18 +1,15 @@
-use super::{A, Refused, has_same, id_of, retire, taken, worked};
+use super::{A, Refused, has_same, id_of, retire, take, worked};
 use crate::{Register, Run};
-use reg_op::Op;
 use std::alloc::Global;
 use std::test::Fail;
 use uuid::Uuid;
 
 fn taken_in(alloc: Global, order: &[usize]) -> Result<Register, Refused> {
-    let mut ops = Vec::new(alloc);
+    let mut register = Register::new(alloc);
     for k in order {
-        if let Err(_) = ops.push(worked(alloc, *k)?) {
-            return Err(Refused);
-        }
+        take(alloc, &mut register, worked(*k)?)?;
     }
-    taken(alloc, ops)
+    Ok(register)
 }
 
 #[test]
@@ -44,11 +41,8 @@ fn ids_taken_out_of_order_make_the_runs(rt: HostRuntime) -> Result<(), Fail> {
     let replica = Uuid::from_u128(A);
     let mut register = Register::new(alloc);
     for (count, runs) in steps {
-        assert!(rt;
-            register
-                .take(retire(id_of(A, count)?, id_of(A, 9)?)?)
-                .is_ok()
-        );
+        let step = retire(id_of(A, count)?, id_of(A, 9)?);
+        take(alloc, &mut register, step)?;
         for (k, (low, high)) in runs.iter().enumerate() {
             let run = Run {
                 replica,

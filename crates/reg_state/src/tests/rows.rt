@@ -1,10 +1,8 @@
 use super::{
-    A, B, C, HEIGHT, OTHER_HEIGHT, Refused, SAME_KEY, enter, id_of, keeps, retire, supersede,
-    taken, worked,
+    A, B, C, SAME_KEY, Sample, enter, id_of, keeps, retire, supersede, take, taken, worked,
 };
 use crate::{BodyView, Join, JoinFault, Register, Run};
-use reg_op::{Op, Status};
-use std::alloc::Global;
+use reg_op::Status;
 use std::test::Fail;
 use uuid::Uuid;
 
@@ -12,24 +10,14 @@ use uuid::Uuid;
 fn a_retirement_may_come_before_its_entry(rt: HostRuntime) -> Result<(), Fail> {
     let alloc = rt.alloc();
     let (entry, mark) = (id_of(A, 1)?, id_of(B, 1)?);
-    let early = taken(alloc, vec![in alloc; retire(mark, entry)?]?)?;
+    let (entered, retired) = (enter(entry, Sample::Height), retire(mark, entry));
+    let early = taken(alloc, &[retired])?;
     assert!(rt; early.status(entry) == None);
     assert!(rt; keeps(&early, &[mark]));
-    let both = taken(
-        alloc,
-        vec![in alloc; retire(mark, entry)?, enter(alloc, entry, HEIGHT)?]?,
-    )?;
+    let both = taken(alloc, &[retired, entered])?;
     assert!(rt; both.status(entry) == Some(Status::Retired));
     assert!(rt; keeps(&both, &[entry, mark]));
-    let twice = taken(
-        alloc,
-        vec![in alloc;
-            enter(alloc, entry, HEIGHT)?,
-            enter(alloc, entry, HEIGHT)?,
-            retire(mark, entry)?,
-            retire(mark, entry)?,
-        ]?,
-    )?;
+    let twice = taken(alloc, &[entered, entered, retired, retired])?;
     assert!(rt; super::has_same(&both, &twice));
     Ok(())
 }
@@ -37,13 +25,7 @@ fn a_retirement_may_come_before_its_entry(rt: HostRuntime) -> Result<(), Fail> {
 #[test]
 fn a_supersession_of_a_retired_entry_is_only_seen(rt: HostRuntime) -> Result<(), Fail> {
     let alloc = rt.alloc();
-    let ops = vec![in alloc;
-        worked(alloc, 0)?,
-        worked(alloc, 1)?,
-        worked(alloc, 2)?,
-        worked(alloc, 3)?,
-    ]?;
-    let register = taken(alloc, ops)?;
+    let register = taken(alloc, &[worked(0)?, worked(1)?, worked(2)?, worked(3)?])?;
     assert!(rt; keeps(&register, &[id_of(A, 1)?, id_of(A, 2)?, id_of(A, 3)?]));
     assert!(rt; register.status(id_of(A, 1)?) == Some(Status::Retired));
     assert!(rt; register.status(id_of(A, 2)?) == Some(Status::Valid));
@@ -72,20 +54,15 @@ fn a_supersession_of_a_retired_entry_is_only_seen(rt: HostRuntime) -> Result<(),
     Ok(())
 }
 
-// An entry, and two retirements of it.
-fn retired_twice(alloc: Global, k: usize) -> Result<Op, Refused> {
-    let entry = id_of(A, 1)?;
-    match k {
-        0 => enter(alloc, entry, HEIGHT),
-        1 => retire(id_of(C, 1)?, entry),
-        _ => retire(id_of(B, 1)?, entry),
-    }
-}
-
 #[test]
 fn the_least_of_two_retirements_is_kept(rt: HostRuntime) -> Result<(), Fail> {
     let alloc = rt.alloc();
     let ids = [id_of(A, 1)?, id_of(B, 1)?, id_of(C, 1)?];
+    let steps = [
+        enter(ids[0], Sample::Height),
+        retire(ids[2], ids[0]),
+        retire(ids[1], ids[0]),
+    ];
     for order in [
         [0, 1, 2],
         [0, 2, 1],
@@ -96,7 +73,7 @@ fn the_least_of_two_retirements_is_kept(rt: HostRuntime) -> Result<(), Fail> {
     ] {
         let mut register = Register::new(alloc);
         for k in order {
-            assert!(rt; register.take(retired_twice(alloc, k)?).is_ok());
+            take(alloc, &mut register, steps[k])?;
         }
         assert!(rt; keeps(&register, &ids[..2]));
         for id in ids {
@@ -112,7 +89,7 @@ fn entries_of_one_key_are_all_kept(rt: HostRuntime) -> Result<(), Fail> {
     let (one, other) = (id_of(A, 1)?, id_of(B, 1)?);
     let register = taken(
         alloc,
-        vec![in alloc; enter(alloc, other, SAME_KEY)?, enter(alloc, one, HEIGHT)?]?,
+        &[enter(other, Sample::SameKey), enter(one, Sample::Height)],
     )?;
     assert!(rt; keeps(&register, &[one, other]));
     let mut texts = 0usize;
@@ -135,12 +112,12 @@ fn entries_may_supersede_each_other(rt: HostRuntime) -> Result<(), Fail> {
     let (one, two) = (id_of(A, 1)?, id_of(A, 2)?);
     let register = taken(
         alloc,
-        vec![in alloc;
-            enter(alloc, one, HEIGHT)?,
-            enter(alloc, two, OTHER_HEIGHT)?,
-            supersede(id_of(A, 3)?, one, two)?,
-            supersede(id_of(B, 1)?, two, one)?,
-        ]?,
+        &[
+            enter(one, Sample::Height),
+            enter(two, Sample::OtherHeight),
+            supersede(id_of(A, 3)?, one, two),
+            supersede(id_of(B, 1)?, two, one),
+        ],
     )?;
     assert!(rt; register.status(one) == Some(Status::Superseded));
     assert!(rt; register.status(two) == Some(Status::Superseded));
@@ -152,8 +129,8 @@ fn entries_may_supersede_each_other(rt: HostRuntime) -> Result<(), Fail> {
 fn two_bodies_of_one_id_clash(rt: HostRuntime) -> Result<(), Fail> {
     let alloc = rt.alloc();
     let id = id_of(A, 1)?;
-    let left = taken(alloc, vec![in alloc; enter(alloc, id, HEIGHT)?]?)?;
-    let right = taken(alloc, vec![in alloc; enter(alloc, id, OTHER_HEIGHT)?]?)?;
+    let left = taken(alloc, &[enter(id, Sample::Height)])?;
+    let right = taken(alloc, &[enter(id, Sample::OtherHeight)])?;
     assert!(rt; matches!(left.join(alloc, &right), Err(JoinFault::Clash(at)) if at == id));
     assert!(rt; matches!(left.join(alloc, &left), Ok(_)));
     Ok(())

@@ -1,66 +1,41 @@
-use Rattle.std.proofs.Common.{length, length-append, ◌≡◌, ◌++◌, ◌∷◌, ◌/◌, ◌^◌, replicate, decimal, unsigned_abs, rules, arith, ap, sym, ◌∙◌}
-use Rattle.std.proofs.lemmas.Result.{on_ok_weaker, on_err_weaker, err_from_is_err_and}
+use Rattle.std.proofs.Common.{length, ◌≡◌, ◌++◌, ◌-◌, unsigned_abs, rules, arith, ap, sym, ◌∙◌}
+use Rattle.std.proofs.lemmas.Result.{on_ok_weaker, on_err_weaker}
 use Rattle.std.proofs.lemmas.Int.{ints, to_z-of_z}
-use Rattle.crs_number.specs.Canonical.{last_digits}
-use Rattle.crs_number.proofs.Rooms.{longer, no_room, no_room_behind}
-use Rattle.crs_number.proofs.Texts.{appended, appended_point, whole_text, places_text}
+use Rattle.crs_number.proofs.Texts.{whole_of, cut_of, fraction_of, whole_length, cut_length, fraction_length}
 use Rattle.crs_number.proofs.text.push_plain.Goals as goal
 
-pub returns-in_ok-push_whole-clause-ok : goal.returns-in_ok-push_whole-clause-ok
-returns-in_ok-push_whole-clause-ok c =
-    let zeros : c.unsigned_abs.result ≡ unsigned_abs c.args.exponent = search (rules, to_z-of_z) in
-    let text = whole_text c.args.size c.args.exponent (omega (arith, ints)) ∙ ap (λ k. decimal c.args.size ++ replicate k 48) (sym zeros) in
-    on_ok_weaker c.push_zeros.result (appended _ _ _ _ _ _ c.in_ok-push_whole.ensures.ok text) c.push_zeros.ensures.ok
+pub returns-then-exponent-ge0-clause-ok : goal.returns-then-exponent-ge0-clause-ok
+returns-then-exponent-ge0-clause-ok c =
+    let k : c.unsigned_abs-places.result ≡ unsigned_abs c.args.exponent = search (rules, to_z-of_z) in
+    let text = whole_of c.args.size c.args.exponent _ _ c.digits_of-digits.ensures k (omega (arith, ints)) in
+    on_ok_weaker c.push_whole.result (λ e. e ∙ ap (λ xs. c.args.out.now.items ++ xs) (sym text)) c.push_whole.ensures.ok
 
-pub returns-in_ok-push-clause-ok : goal.returns-in_ok-push-clause-ok
-returns-in_ok-push-clause-ok c =
-    let size = c.args.size in
-    let places : c.unsigned_abs-places.result ≡ unsigned_abs c.args.exponent = search (rules, to_z-of_z) in
-    let text = places_text size c.args.exponent (omega (arith, ints)) ∙ (ap (λ k. decimal (size / 10 ^ k) ++ (46 ∷ last_digits k size)) (sym places) ∙ ap (λ n. decimal n ++ (46 ∷ last_digits c.unsigned_abs-places.result size)) (sym c.without_last_digits.ensures)) in
-    on_ok_weaker c.push_last_digits.result (appended_point _ _ _ _ _ _ _ c.in_ok-push_whole-2.ensures.ok c.in_ok-push.ensures.items text) c.push_last_digits.ensures.ok
+pub returns-then-exponent-ge0-clause-full : goal.returns-then-exponent-ge0-clause-full
+returns-then-exponent-ge0-clause-full c =
+    let k : c.unsigned_abs-places.result ≡ unsigned_abs c.args.exponent = search (rules, to_z-of_z) in
+    let text = whole_of c.args.size c.args.exponent _ _ c.digits_of-digits.ensures k (omega (arith, ints)) in
+    on_err_weaker c.push_whole.result (λ h. omega (arith, h, ap length text, whole_length c.digits_of-digits.result.now c.unsigned_abs-places.result)) c.push_whole.ensures.full
 
-pub returns-in_err-push_whole-clause-full : goal.returns-in_err-push_whole-clause-full
-returns-in_err-push_whole-clause-full c =
-    let p = err_from_is_err_and c.from_residual.result c.from_residual.ensures.1 in
-    let whole = ap length (whole_text c.args.size c.args.exponent (omega (arith, ints))) ∙ length-append (decimal c.args.size) (replicate (unsigned_abs c.args.exponent) 48) in
-    rw (p.1) (no_room _ _ _ _ _ whole c.in_err-push_whole.ensures.full)
+pub returns-then-places-digits-clause-ok : goal.returns-then-places-digits-clause-ok
+returns-then-places-digits-clause-ok c =
+    let k : c.unsigned_abs-places.result ≡ unsigned_abs c.args.exponent = search (rules, to_z-of_z) in
+    let text = cut_of c.args.size c.args.exponent _ _ c.digits_of-digits.ensures k c.requires (omega (arith, ints)) c.if-places-digits.true in
+    on_ok_weaker c.push_places.result (λ e. e ∙ ap (λ xs. c.args.out.now.items ++ xs) (sym text)) c.push_places.ensures.ok
 
-pub returns-in_ok-push_whole-clause-full : goal.returns-in_ok-push_whole-clause-full
-returns-in_ok-push_whole-clause-full c =
-    let zeros : c.unsigned_abs.result ≡ unsigned_abs c.args.exponent = search (rules, to_z-of_z) in
-    let text = whole_text c.args.size c.args.exponent (omega (arith, ints)) ∙ ap (λ k. decimal c.args.size ++ replicate k 48) (sym zeros) in
-    let whole = ap length text ∙ length-append (decimal c.args.size) (replicate c.unsigned_abs.result 48) in
-    let moved = longer c.args.out.now c.push_whole.new.out (decimal c.args.size) c.in_ok-push_whole.ensures.ok in
-    on_err_weaker c.push_zeros.result (λ h. no_room_behind _ _ _ _ _ _ _ whole c.push_whole.ensures.capacity moved h) c.push_zeros.ensures.full
+pub returns-then-places-digits-clause-full : goal.returns-then-places-digits-clause-full
+returns-then-places-digits-clause-full c =
+    let k : c.unsigned_abs-places.result ≡ unsigned_abs c.args.exponent = search (rules, to_z-of_z) in
+    let text = cut_of c.args.size c.args.exponent _ _ c.digits_of-digits.ensures k c.requires (omega (arith, ints)) c.if-places-digits.true in
+    on_err_weaker c.push_places.result (λ h. omega (arith, h, ap length text, cut_length c.digits_of-digits.result.now (length c.digits_of-digits.result.now - c.unsigned_abs-places.result))) c.push_places.ensures.full
 
-pub returns-in_err-push_whole-2-clause-full : goal.returns-in_err-push_whole-2-clause-full
-returns-in_err-push_whole-2-clause-full c =
-    let size = c.args.size in
-    let places : c.unsigned_abs-places.result ≡ unsigned_abs c.args.exponent = search (rules, to_z-of_z) in
-    let text = places_text size c.args.exponent (omega (arith, ints)) ∙ (ap (λ k. decimal (size / 10 ^ k) ++ (46 ∷ last_digits k size)) (sym places) ∙ ap (λ n. decimal n ++ (46 ∷ last_digits c.unsigned_abs-places.result size)) (sym c.without_last_digits.ensures)) in
-    let whole = ap length text ∙ length-append (decimal c.without_last_digits.result) (46 ∷ last_digits c.unsigned_abs-places.result size) in
-    let p = err_from_is_err_and c.from_residual-in_err-push_whole-2.result c.from_residual-in_err-push_whole-2.ensures.1 in
-    rw (p.1) (no_room _ _ _ _ _ whole c.in_err-push_whole-2.ensures.full)
+pub returns-else-places-digits-clause-ok : goal.returns-else-places-digits-clause-ok
+returns-else-places-digits-clause-ok c =
+    let k : c.unsigned_abs-places.result ≡ unsigned_abs c.args.exponent = search (rules, to_z-of_z) in
+    let text = fraction_of c.args.size c.args.exponent _ _ c.digits_of-digits.ensures k c.requires (omega (arith, ints)) c.if-places-digits.false in
+    on_ok_weaker c.push_fraction.result (λ e. e ∙ ap (λ xs. c.args.out.now.items ++ xs) (sym text)) c.push_fraction.ensures.ok
 
-pub returns-in_err-push-clause-full : goal.returns-in_err-push-clause-full
-returns-in_err-push-clause-full c =
-    let size = c.args.size in
-    let places : c.unsigned_abs-places.result ≡ unsigned_abs c.args.exponent = search (rules, to_z-of_z) in
-    let text = places_text size c.args.exponent (omega (arith, ints)) ∙ (ap (λ k. decimal (size / 10 ^ k) ++ (46 ∷ last_digits k size)) (sym places) ∙ ap (λ n. decimal n ++ (46 ∷ last_digits c.unsigned_abs-places.result size)) (sym c.without_last_digits.ensures)) in
-    let whole = ap length text ∙ length-append (decimal c.without_last_digits.result) (46 ∷ last_digits c.unsigned_abs-places.result size) in
-    let p = err_from_is_err_and c.from_residual-in_err-push.result c.from_residual-in_err-push.ensures.1 in
-    let v = c.push_whole-else-exponent-ge0 in
-    let moved = longer c.args.out.now v.new.out (decimal c.without_last_digits.result) c.in_ok-push_whole-2.ensures.ok in
-    rw (p.1) (no_room_behind _ _ _ _ _ _ _ whole v.ensures.capacity moved (omega (arith, c.in_err-push.ensures.full)))
-
-pub returns-in_ok-push-clause-full : goal.returns-in_ok-push-clause-full
-returns-in_ok-push-clause-full c =
-    let size = c.args.size in
-    let places : c.unsigned_abs-places.result ≡ unsigned_abs c.args.exponent = search (rules, to_z-of_z) in
-    let text = places_text size c.args.exponent (omega (arith, ints)) ∙ (ap (λ k. decimal (size / 10 ^ k) ++ (46 ∷ last_digits k size)) (sym places) ∙ ap (λ n. decimal n ++ (46 ∷ last_digits c.unsigned_abs-places.result size)) (sym c.without_last_digits.ensures)) in
-    let whole = ap length text ∙ length-append (decimal c.without_last_digits.result) (46 ∷ last_digits c.unsigned_abs-places.result size) in
-    let v = c.push_whole-else-exponent-ge0 in
-    let moved = longer c.args.out.now v.new.out (decimal c.without_last_digits.result) c.in_ok-push_whole-2.ensures.ok in
-    on_err_weaker c.push_last_digits.result
-    (λ h. no_room_behind _ _ _ _ _ _ _ whole v.ensures.capacity moved (omega (arith, h, c.push.ensures.capacity, c.in_ok-push.ensures.len)))
-    c.push_last_digits.ensures.full
+pub returns-else-places-digits-clause-full : goal.returns-else-places-digits-clause-full
+returns-else-places-digits-clause-full c =
+    let k : c.unsigned_abs-places.result ≡ unsigned_abs c.args.exponent = search (rules, to_z-of_z) in
+    let text = fraction_of c.args.size c.args.exponent _ _ c.digits_of-digits.ensures k c.requires (omega (arith, ints)) c.if-places-digits.false in
+    on_err_weaker c.push_fraction.result (λ h. omega (arith, h, ap length text, fraction_length c.digits_of-digits.result.now c.unsigned_abs-places.result c.if-places-digits.false)) c.push_fraction.ensures.full

@@ -1,12 +1,12 @@
 use super::Plain;
 use crate::Register;
-use crate::tests::{Refused, taken, worked};
+use crate::tests::{Refused, made, take, worked};
 use std::alloc::Global;
 use std::test::Fail;
 
 fn agrees(alloc: Global, plain: &Plain, register: &Register) -> Result<bool, Refused> {
     for k in 0..4 {
-        let op = worked(alloc, k)?;
+        let op = made(alloc, worked(k)?)?;
         let id = op.id();
         let kept = register
             .ops()
@@ -30,16 +30,16 @@ fn each_short_list_is_as_the_plain_program_has_it(rt: HostRuntime) -> Result<(),
     for (len, codes) in [(0, 1), (1, 4), (2, 16), (3, 64), (4, 256usize)] {
         for code in 0..codes {
             let mut rest = code;
-            let mut ops = Vec::new(alloc);
+            let mut register = Register::new(alloc);
             let mut plain = Plain::new(alloc);
             for _ in 0..len {
-                ops.push(worked(alloc, rest % 4)?)?;
-                if plain.take(worked(alloc, rest % 4)?).is_err() {
+                let step = worked(rest % 4)?;
+                take(alloc, &mut register, step)?;
+                if plain.take(made(alloc, step)?).is_err() {
                     return Err(Fail::new("not taken"));
                 }
                 rest = rest / 4;
             }
-            let register = taken(alloc, ops)?;
             assert!(rt; agrees(alloc, &plain, &register)?);
             lists = lists.saturating_add(1);
         }

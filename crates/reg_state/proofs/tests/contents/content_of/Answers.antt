@@ -7,7 +7,7 @@ use Rattle.reg_op.specs.Ids.{Ids, is_before}
 use Rattle.reg_op.specs.Operations.{Op, op_cmp}
 use Rattle.reg_op.specs.Lists.{ById, has}
 use Rattle.reg_op.proofs.OpLemmas.{op_exact}
-use Rattle.reg_state.proofs.tests.contents.made_of.Goals as goal
+use Rattle.reg_state.proofs.tests.contents.content_of.Goals as goal
 
 two_by_id : (os : List Op) (a b : Op) → os ≡ a ∷ b ∷ [] → is_before a.id b.id ≡ true → ById os
 two_by_id os a b e h = subst ById (sym e) ((h, tt), (tt, tt))
