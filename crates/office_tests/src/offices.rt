@@ -65,42 +65,69 @@ fn text_of(sample: Sample) -> &'static [u8] {
     }
 }
 
-/// An operation that is to be made. It holds no memory, so that tests can hold many of them.
+/// What an operation does.
+#[derive(Clone, Copy)]
+enum Effect {
+    Enter,
+    Retire,
+    Supersede,
+}
+
+/// An operation that is to be made. It holds no memory, so that tests can hold many of them. What its effect doesn't need is
+/// filled with what is at hand.
 #[derive(Clone, Copy)]
 pub struct Step {
     id: OpId,
-    body: StepBody,
-}
-
-#[derive(Clone, Copy)]
-enum StepBody {
-    Enter(Sample),
-    Retire(OpId),
-    Supersede(OpId, OpId),
+    effect: Effect,
+    sample: Sample,
+    entry: OpId,
+    newer: OpId,
 }
 
 pub fn enter(id: OpId, sample: Sample) -> Step {
-    let body = StepBody::Enter(sample);
-    Step { id, body }
+    Step {
+        id,
+        effect: Effect::Enter,
+        sample,
+        entry: id,
+        newer: id,
+    }
 }
 
 pub fn retire(id: OpId, entry: OpId) -> Step {
-    let body = StepBody::Retire(entry);
-    Step { id, body }
+    Step {
+        id,
+        effect: Effect::Retire,
+        sample: Sample::Height,
+        entry,
+        newer: id,
+    }
 }
 
 pub fn supersede(id: OpId, old: OpId, newer: OpId) -> Step {
-    let body = StepBody::Supersede(old, newer);
-    Step { id, body }
+    Step {
+        id,
+        effect: Effect::Supersede,
+        sample: Sample::Height,
+        entry: old,
+        newer,
+    }
+}
+
+fn body_of(alloc: Global, step: Step) -> Result<OpBody, Refused> {
+    let Step { entry, newer, .. } = step;
+    match step.effect {
+        Effect::Enter => match Definition::from_canonical(alloc, text_of(step.sample)) {
+            Ok(definition) => Ok(OpBody::Enter(definition)),
+            Err(_) => Err(Refused),
+        },
+        Effect::Retire => Ok(OpBody::Retire { entry }),
+        Effect::Supersede => Ok(OpBody::Supersede { old: entry, newer }),
+    }
 }
 
 fn made(alloc: Global, step: Step) -> Result<Op, Refused> {
-    let body = match step.body {
-        StepBody::Enter(sample) => OpBody::Enter(definition(alloc, text_of(sample))?),
-        StepBody::Retire(entry) => OpBody::Retire { entry },
-        StepBody::Supersede(old, newer) => OpBody::Supersede { old, newer },
-    };
-    match Op::new(step.id, body) {
+    match Op::new(step.id, body_of(alloc, step)?) {
         Ok(op) => Ok(op),
         Err(_) => Err(Refused),
     }

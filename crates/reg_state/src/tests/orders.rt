@@ -1,4 +1,4 @@
-use super::{A, Refused, has_same, id_of, retire, take, worked};
+use super::{A, Refused, Step, has_same, id_of, retire, take, worked};
 use crate::{Register, Run};
 use std::alloc::Global;
 use std::test::Fail;
@@ -28,6 +28,25 @@ fn each_order_gives_one_content(rt: HostRuntime) -> Result<(), Fail> {
     Ok(())
 }
 
+// Whether the runs of what was seen are these, from the first on, and no more.
+fn has_runs(register: &Register, replica: Uuid, runs: &[(u32, u32)]) -> bool {
+    for (k, (low, high)) in runs.iter().enumerate() {
+        let run = Run {
+            replica,
+            low: *low,
+            high: *high,
+        };
+        if register.seen().run(k) != Some(run) {
+            return false;
+        }
+    }
+    register.seen().run(runs.len()) == None
+}
+
+fn seen_once(count: u32) -> Result<Step, Refused> {
+    Ok(retire(id_of(A, count)?, id_of(A, 9)?))
+}
+
 #[test]
 fn ids_taken_out_of_order_make_the_runs(rt: HostRuntime) -> Result<(), Fail> {
     let alloc = rt.alloc();
@@ -41,17 +60,8 @@ fn ids_taken_out_of_order_make_the_runs(rt: HostRuntime) -> Result<(), Fail> {
     let replica = Uuid::from_u128(A);
     let mut register = Register::new(alloc);
     for (count, runs) in steps {
-        let step = retire(id_of(A, count)?, id_of(A, 9)?);
-        take(alloc, &mut register, step)?;
-        for (k, (low, high)) in runs.iter().enumerate() {
-            let run = Run {
-                replica,
-                low: *low,
-                high: *high,
-            };
-            assert!(rt; register.seen().run(k) == Some(run));
-        }
-        assert!(rt; register.seen().run(runs.len()) == None);
+        take(alloc, &mut register, seen_once(count)?)?;
+        assert!(rt; has_runs(&register, replica, runs));
     }
     assert_eq!(rt; register.ops().count(), 1);
     Ok(())
