@@ -25,6 +25,30 @@ pub fn merged(alloc: Global, files: &[&[u8]]) -> Result<Result<Vec<u8>, CliFault
     }
 }
 
+// Whether a merge of the files writes just this.
+fn merges_to(alloc: Global, files: &[&[u8]], want: &[u8]) -> Result<bool, AllocError> {
+    match merged(alloc, files)? {
+        Ok(bytes) => Ok(bytes.as_slice() == want),
+        Err(_) => Ok(false),
+    }
+}
+
+// Whether a merge of the files is refused with this fault.
+fn refuses(alloc: Global, files: &[&[u8]], fault: CliFault) -> Result<bool, AllocError> {
+    match merged(alloc, files)? {
+        Ok(_) => Ok(false),
+        Err(found) => Ok(found == fault),
+    }
+}
+
+// The file of an entry of the first replica and its retirement by the second.
+fn retired_file(alloc: Global) -> Result<Vec<u8>, AllocError> {
+    let enter = enter(alloc, A, 1, HEIGHT)?;
+    let retire = joined(alloc, &[B, &[0, 0, 0, 1, 3], A, &[0, 0, 0, 1]])?;
+    let replicas = [Replica { uuid: A, last: 1 }, Replica { uuid: B, last: 1 }];
+    file_of(alloc, &replicas, 2, &[&enter, &retire])
+}
+
 #[test]
 fn a_new_register_has_14_bytes(rt: HostRuntime) -> Result<(), Fail> {
     let mut target = MemoryTarget::new(rt.alloc(), true);
@@ -47,10 +71,7 @@ fn an_entry_and_its_retirement_in_any_order_have_229_bytes(rt: HostRuntime) -> R
     let entry = entry_file(alloc, HEIGHT)?;
     let retired = retirement_file(alloc)?;
     assert_eq!(rt; (entry.len(), retired.len()), (160, 83));
-    let enter = enter(alloc, A, 1, HEIGHT)?;
-    let retire = joined(alloc, &[B, &[0, 0, 0, 1, 3], A, &[0, 0, 0, 1]])?;
-    let replicas = [Replica { uuid: A, last: 1 }, Replica { uuid: B, last: 1 }];
-    let want = file_of(alloc, &replicas, 2, &[&enter, &retire])?;
+    let want = retired_file(alloc)?;
     assert_eq!(rt; want.len(), 229);
     let lists = [
         [entry.as_slice(), retired.as_slice(), EMPTY],
@@ -61,40 +82,32 @@ fn an_entry_and_its_retirement_in_any_order_have_229_bytes(rt: HostRuntime) -> R
         [&entry, &want, &entry],
     ];
     for list in lists {
-        let Ok(bytes) = merged(alloc, &list)? else {
-            return Err(Fail::new("not merged"));
-        };
-        assert!(rt; bytes.as_slice() == want.as_slice());
+        assert!(rt; merges_to(alloc, &list, &want)?);
     }
     Ok(())
+}
+
+// The file of two entries and one more operation, of replicas that each saw these.
+fn file_with(alloc: Global, replicas: &[Replica], more: &[&[u8]]) -> Result<Vec<u8>, AllocError> {
+    let one = enter(alloc, A, 1, HEIGHT)?;
+    let two = enter(alloc, A, 2, OTHER_HEIGHT)?;
+    let more = joined(alloc, more)?;
+    file_of(alloc, replicas, 3, &[&one, &two, &more])
 }
 
 #[test]
 fn a_retirement_drops_the_supersession_that_another_file_has(rt: HostRuntime) -> Result<(), Fail> {
     let alloc = rt.alloc();
-    let one = enter(alloc, A, 1, HEIGHT)?;
-    let two = enter(alloc, A, 2, OTHER_HEIGHT)?;
-    let retire = joined(alloc, &[A, &[0, 0, 0, 3, 3], A, &[0, 0, 0, 1]])?;
-    let supersede = joined(
-        alloc,
-        &[B, &[0, 0, 0, 1, 2], A, &[0, 0, 0, 1], A, &[0, 0, 0, 2]],
-    )?;
-    let first = file_of(
-        alloc,
-        &[Replica { uuid: A, last: 3 }],
-        3,
-        &[&one, &two, &retire],
-    )?;
+    let retire: &[&[u8]] = &[A, &[0, 0, 0, 3, 3], A, &[0, 0, 0, 1]];
+    let supersede: &[&[u8]] = &[B, &[0, 0, 0, 1, 2], A, &[0, 0, 0, 1], A, &[0, 0, 0, 2]];
+    let first = file_with(alloc, &[Replica { uuid: A, last: 3 }], retire)?;
     let seen = [Replica { uuid: A, last: 2 }, Replica { uuid: B, last: 1 }];
-    let second = file_of(alloc, &seen, 3, &[&one, &two, &supersede])?;
+    let second = file_with(alloc, &seen, supersede)?;
     let all = [Replica { uuid: A, last: 3 }, Replica { uuid: B, last: 1 }];
-    let want = file_of(alloc, &all, 3, &[&one, &two, &retire])?;
+    let want = file_with(alloc, &all, retire)?;
     assert_eq!(rt; want.len(), 347);
     for list in [[first.as_slice(), second.as_slice()], [&second, &first]] {
-        let Ok(bytes) = merged(alloc, &list)? else {
-            return Err(Fail::new("not merged"));
-        };
-        assert!(rt; bytes.as_slice() == want.as_slice());
+        assert!(rt; merges_to(alloc, &list, &want)?);
     }
     Ok(())
 }
@@ -106,11 +119,8 @@ fn two_operations_of_one_id_clash(rt: HostRuntime) -> Result<(), Fail> {
     let other = entry_file(alloc, OTHER_HEIGHT)?;
     let id = OpId::parse(b"00000000-0000-4000-8000-00000000000a:1").ok_or("no id")?;
     let clash = CliFault::Refused(Refusal::Clash(id));
-    assert_eq!(rt; merged(alloc, &[&one, &other])?.err(), Some(clash));
-    assert_eq!(rt;
-        merged(alloc, &[&one, EMPTY, &one, &other])?.err(),
-        Some(clash)
-    );
+    assert!(rt; refuses(alloc, &[&one, &other], clash)?);
+    assert!(rt; refuses(alloc, &[&one, EMPTY, &one, &other], clash)?);
     // A file's fault is told before a clash.
     let truncated = CliFault::File {
         number: 3,
@@ -119,11 +129,8 @@ fn two_operations_of_one_id_clash(rt: HostRuntime) -> Result<(), Fail> {
             place: 0,
         },
     };
-    assert_eq!(rt; merged(alloc, &[&one, &other, b""])?.err(), Some(truncated));
-    assert_eq!(rt;
-        merged(alloc, &[&one, &other, b"", b"CRSX"])?.err(),
-        Some(truncated)
-    );
+    assert!(rt; refuses(alloc, &[&one, &other, b""], truncated)?);
+    assert!(rt; refuses(alloc, &[&one, &other, b"", b"CRSX"], truncated)?);
     let line = truncated.to_string(alloc)?;
     assert_eq!(rt; line.as_bytes(), b"file 3: Truncated at 0".as_slice());
     Ok(())

@@ -5,7 +5,7 @@ use super::{
     goes_round, joined,
 };
 use reg_file::FileFault;
-use std::alloc::Global;
+use std::alloc::{AllocError, Global};
 use std::test::Fail;
 use wkt_crs::{DefinitionFault, ReadFault, TextFault};
 
@@ -117,35 +117,153 @@ fn a_text_is_the_canonical_one(rt: HostRuntime) -> Result<(), Fail> {
     Ok(())
 }
 
+// The file of one replica's counts up to the last, and of so many operations in these parts.
+fn file_with(alloc: Global, last: u32, count: u32, parts: &[&[u8]]) -> Result<Vec<u8>, AllocError> {
+    let operations = joined(alloc, parts)?;
+    file_of(alloc, &[(1, last)], count, &operations)
+}
+
+fn fault_with(
+    alloc: Global,
+    last: u32,
+    count: u32,
+    parts: &[&[u8]],
+) -> Result<Option<(FileFault, usize)>, AllocError> {
+    let file = file_with(alloc, last, count, parts)?;
+    Ok(fault_of(alloc, &file))
+}
+
 #[test]
-fn operations_are_by_id_and_each_is_kept(rt: HostRuntime) -> Result<(), Fail> {
+fn operations_are_by_id(rt: HostRuntime) -> Result<(), Fail> {
     let alloc = rt.alloc();
-    let enter = enter_bytes(alloc, 1, HEIGHT)?;
-    let second = joined(alloc, &[UUID_A, &four(2), &[3], UUID_A, &four(1)])?;
-    let third = joined(alloc, &[UUID_A, &four(3), &[3], UUID_A, &four(1)])?;
-    let file = file_of(alloc, &[(1, 2)], 2, &joined(alloc, &[&enter, &second])?)?;
-    assert_eq!(rt; file.len(), 201);
-    assert!(rt; goes_round(alloc, &file));
-    let swapped = file_of(alloc, &[(1, 2)], 2, &joined(alloc, &[&second, &enter])?)?;
-    assert!(rt; fault_of(alloc, &swapped) == Some((FileFault::OpOrder, 83)));
-    let twice = file_of(
+    let (one, two, len) = (four(1), four(2), four(93));
+    let swapped = fault_with(
         alloc,
-        &[(1, 3)],
+        2,
+        2,
+        &[
+            UUID_A,
+            &two,
+            &[3],
+            UUID_A,
+            &one,
+            UUID_A,
+            &one,
+            &[1],
+            &len,
+            HEIGHT,
+        ],
+    )?;
+    assert!(rt; swapped == Some((FileFault::OpOrder, 83)));
+    let same_id = fault_with(
+        alloc,
+        2,
+        2,
+        &[
+            UUID_A,
+            &one,
+            &[1],
+            &len,
+            HEIGHT,
+            UUID_A,
+            &one,
+            &[1],
+            &len,
+            OTHER_HEIGHT,
+        ],
+    )?;
+    assert!(rt; same_id == Some((FileFault::OpOrder, 160)));
+    let of_itself = fault_with(
+        alloc,
+        2,
+        2,
+        &[
+            UUID_A,
+            &one,
+            &[1],
+            &len,
+            HEIGHT,
+            UUID_A,
+            &two,
+            &[2],
+            UUID_A,
+            &one,
+            UUID_A,
+            &one,
+        ],
+    )?;
+    assert!(rt; of_itself == Some((FileFault::SameEntry, 181)));
+    Ok(())
+}
+
+#[test]
+fn an_operation_that_is_not_kept_has_its_place(rt: HostRuntime) -> Result<(), Fail> {
+    let alloc = rt.alloc();
+    let (one, two, three, len) = (four(1), four(2), four(3), four(93));
+    let twice = fault_with(
+        alloc,
         3,
-        &joined(alloc, &[&enter, &second, &third])?,
+        3,
+        &[
+            UUID_A,
+            &one,
+            &[1],
+            &len,
+            HEIGHT,
+            UUID_A,
+            &two,
+            &[3],
+            UUID_A,
+            &one,
+            UUID_A,
+            &three,
+            &[3],
+            UUID_A,
+            &one,
+        ],
     )?;
-    assert_eq!(rt; twice.len(), 242);
-    assert!(rt; fault_of(alloc, &twice) == Some((FileFault::NotKept, 201)));
-    let also_more = joined(alloc, &[&twice, &[0]])?;
-    assert!(rt; fault_of(alloc, &also_more) == Some((FileFault::NotKept, 201)));
-    let itself = joined(
+    assert!(rt; twice == Some((FileFault::NotKept, 201)));
+    let also_more = fault_with(
         alloc,
-        &[UUID_A, &four(2), &[2], UUID_A, &four(1), UUID_A, &four(1)],
+        3,
+        3,
+        &[
+            UUID_A,
+            &one,
+            &[1],
+            &len,
+            HEIGHT,
+            UUID_A,
+            &two,
+            &[3],
+            UUID_A,
+            &one,
+            UUID_A,
+            &three,
+            &[3],
+            UUID_A,
+            &one,
+            &[0],
+        ],
     )?;
-    let of_itself = file_of(alloc, &[(1, 2)], 2, &joined(alloc, &[&enter, &itself])?)?;
-    assert!(rt; fault_of(alloc, &of_itself) == Some((FileFault::SameEntry, 181)));
-    let other = enter_bytes(alloc, 1, OTHER_HEIGHT)?;
-    let same_id = file_of(alloc, &[(1, 2)], 2, &joined(alloc, &[&enter, &other])?)?;
-    assert!(rt; fault_of(alloc, &same_id) == Some((FileFault::OpOrder, 160)));
+    assert!(rt; also_more == Some((FileFault::NotKept, 201)));
+    let file = file_with(
+        alloc,
+        2,
+        2,
+        &[
+            UUID_A,
+            &one,
+            &[1],
+            &len,
+            HEIGHT,
+            UUID_A,
+            &two,
+            &[3],
+            UUID_A,
+            &one,
+        ],
+    )?;
+    assert!(rt; file.len() == 201 && goes_round(alloc, &file));
     Ok(())
 }
