@@ -35,10 +35,8 @@ fn merges_to(alloc: Global, files: &[&[u8]], want: &[u8]) -> Result<bool, AllocE
 
 // Whether a merge of the files is refused with this fault.
 fn refuses(alloc: Global, files: &[&[u8]], fault: CliFault) -> Result<bool, AllocError> {
-    match merged(alloc, files)? {
-        Ok(_) => Ok(false),
-        Err(found) => Ok(found == fault),
-    }
+    let found = merged(alloc, files)?.err();
+    Ok(found == Some(fault))
 }
 
 // The file of an entry of the first replica and its retirement by the second.
