@@ -2,7 +2,7 @@
 # Two offices out of touch, one conflict, one merge: runs each line of a tour in a new folder, and prints what it prints.
 # Another tour can be named: sh examples/two_offices.sh three_offices.txt
 root=$(cd "$(dirname "$0")/.." && pwd)
-folder=$(mktemp -d) && cp "$root"/crates/tour/data/* "$folder" && cd "$folder" || exit 1
+folder=$(mktemp -d) && cp "$root"/crates/conformance/data/* "$folder" && cd "$folder" || exit 1
 
 crsreg() {
     "$root/crsreg" "$@"

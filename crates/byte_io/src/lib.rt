@@ -12,8 +12,6 @@ mod source;
 mod std_devices;
 mod tally;
 mod target;
-#[cfg(test)]
-mod tests;
 mod writing;
 
 pub use fault::{DeviceFault, InFault, NotOpened, PublishFault, WriteFault};

@@ -1,63 +1,23 @@
-//! Runs `check` on each text of a table and compares what it prints: `conformance TABLE`, a CSV file whose records are
-//! a name, a text, and the line that is printed for it. What differs is shown, and then the counts.
+//! Follows scripts of commands and compares tables of texts: `conformance FILE..`. A file whose name ends in `.csv` is a
+//! table, any other a script.
 #![tactic(auto)]
 
-use csv::{ByteRecord, Error, ReaderBuilder};
-use reg_cli::run_check;
-use std::alloc::{AllocError, Global};
+mod script;
+mod table;
+#[cfg(test)]
+mod words;
+
 use std::{env, fs, io};
-use wkt_crs::{Reading, Writing};
 
 fn main(rt: HostRuntime) -> io::Result<()> {
     let words: Vec<String> = env::args(&rt)?.collect(rt.alloc())?;
-    let Some(path) = words.get(1) else {
-        return println!(rt; "conformance TABLE");
-    };
-    let table = fs::read(&rt, path.as_str())?;
-    match records(rt.alloc(), &table) {
-        Ok(records) => compare_all(&rt, &records),
-        Err(error) => println!(rt; "{error}"),
-    }
-}
-
-fn records(alloc: Global, table: &[u8]) -> Result<Vec<ByteRecord>, Error> {
-    let reader = ReaderBuilder::new().from_reader(alloc, table);
-    let mut records = Vec::new(alloc);
-    for record in reader.into_byte_records() {
-        if records.push(record?).is_err() {
-            return Err(Error::out_of_memory());
+    for path in words.iter().skip(1) {
+        let path = path.as_str();
+        if path.ends_with(".csv") {
+            table::compare(&rt, &fs::read(&rt, path)?)?;
+        } else {
+            script::follow(&rt, fs::read_to_string(&rt, path)?.as_str())?;
         }
     }
-    Ok(records)
-}
-
-fn compare_all(rt: &HostRuntime, records: &[ByteRecord]) -> io::Result<()> {
-    let mut differ = 0usize;
-    for record in records {
-        let (Some(name), Some(text), Some(line)) = (record.get(0), record.get(1), record.get(2))
-        else {
-            return println!(rt; "a record without a name, a text and a line");
-        };
-        let printed = printed(rt.alloc(), text)?;
-        if printed.as_slice() != line {
-            differ = differ.wrapping_add(1);
-            let name = String::from_utf8_lossy(rt.alloc(), name)?;
-            let printed = String::from_utf8_lossy(rt.alloc(), &printed)?;
-            println!(rt; "{name}: {printed}")?;
-        }
-    }
-    println!(rt; "{} texts, {differ} differ", records.len())
-}
-
-// What `check` prints for the text, on standard output or standard error, without the newline.
-fn printed(alloc: Global, text: &[u8]) -> Result<Vec<u8>, AllocError> {
-    let mut sink = Writing::new(Vec::new(alloc));
-    match run_check(alloc, &mut Reading::new(text), &mut sink) {
-        Ok(()) => {
-            let mut line = sink.into_inner();
-            line.pop();
-            Ok(line)
-        }
-        Err(fault) => Ok(format!(in alloc; "{fault}")?.into_bytes()),
-    }
+    Ok(())
 }

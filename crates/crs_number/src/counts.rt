@@ -35,6 +35,3 @@ pub fn count_laws()
     ensures spelled { (n : ℕ) → n < 2 ^ 32 → SpellsWhole (decimal n) n }
     ensures passes { (n : ℕ) → n < 2 ^ 32 → is_count (decimal n) ≡ true }
 {}
-
-#[cfg(test)]
-mod tests;

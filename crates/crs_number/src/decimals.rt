@@ -207,6 +207,3 @@ const DIGITS_LIMIT: u64 = 1_000_000_000_000_000_000;
 const MIN_EXPONENT: i32 = -40;
 
 const MAX_EXPONENT: i32 = 40;
-
-#[cfg(test)]
-mod tests;

@@ -1,9 +1,5 @@
-//! Tests of `reg_file`, `reg_office` and `reg_engine` through their public calls.
+//! Tests of offices and their reports through the public calls of `reg_office`.
 #![tactic(auto)]
 
-#[cfg(test)]
-mod engines;
-#[cfg(test)]
-mod files;
 #[cfg(test)]
 mod offices;

@@ -50,29 +50,46 @@ pub fn answer(rt: &HostRuntime, words: &[String]) -> u8 {
 }
 
 fn perform(rt: &HostRuntime, matches: &ArgMatches<'_>) -> Result<(), CliFault> {
-    match matches.subcommand() {
-        Some(("check", inner)) => check(rt, inner.get_str("TEXT")),
-        Some(("new", inner)) => run_new(rt.alloc(), &mut FileTarget::new(rt, word(inner, "OUT"))),
-        Some(("enter", inner)) => enter(rt, inner),
-        Some(("supersede", inner)) => supersede(rt, inner),
-        Some(("retire", inner)) => retire(rt, inner),
-        Some(("show", inner)) => show(rt, word(inner, "REG"), word(inner, "ENTRY")),
-        Some(("wkt", inner)) => {
-            let form = if inner.get_flag("pretty") {
-                Form::Indented
-            } else {
-                Form::Canonical
-            };
-            wkt(rt, word(inner, "REG"), word(inner, "ENTRY"), form)
-        }
-        Some(("export", inner)) => export(rt, word(inner, "REG")),
-        Some(("ops", inner)) => ops(rt, word(inner, "REG")),
-        Some(("report", inner)) => report(rt, word(inner, "REG"), kind(word(inner, "KIND"))),
-        Some(("merge", inner)) => match inner.get_strs("FILE") {
-            Some(paths) => merge(rt, word(inner, "OUT"), paths),
-            None => Ok(()),
-        },
+    let Some((name, inner)) = matches.subcommand() else {
+        return Ok(());
+    };
+    match name {
+        "check" => check(rt, inner.get_str("TEXT")),
+        "new" => run_new(rt.alloc(), &mut FileTarget::new(rt, word(inner, "OUT"))),
+        "enter" => enter(rt, inner),
+        "supersede" => supersede(rt, inner),
+        "retire" => retire(rt, inner),
+        "merge" => merge(
+            rt,
+            word(inner, "OUT"),
+            inner.get_strs("FILE").unwrap_or(&[]),
+        ),
+        _ => show_any(rt, name, word(inner, "REG"), inner),
+    }
+}
+
+// What shows something of a register, and changes none.
+fn show_any(
+    rt: &HostRuntime,
+    name: &str,
+    register: &str,
+    matches: &ArgMatches<'_>,
+) -> Result<(), CliFault> {
+    match name {
+        "show" => show(rt, register, word(matches, "ENTRY")),
+        "wkt" => wkt(rt, register, word(matches, "ENTRY"), form(matches)),
+        "export" => export(rt, register),
+        "ops" => ops(rt, register),
+        "report" => report(rt, register, kind(word(matches, "KIND"))),
         _ => Ok(()),
+    }
+}
+
+fn form(matches: &ArgMatches<'_>) -> Form {
+    if matches.get_flag("pretty") {
+        Form::Indented
+    } else {
+        Form::Canonical
     }
 }
 

@@ -3,8 +3,6 @@
 
 mod command;
 mod help;
-#[cfg(test)]
-mod tests;
 mod words;
 
 pub use command::{answer, run};

@@ -41,11 +41,24 @@ fn lines_of(alloc: Global, register: &Register) -> Result<Vec<u8>, AllocError>
     ensures { IfOk result (λ lines. lines.items ≡ export register.now.ops) }
 {
     let ops = register.ops().as_slice();
-    let mut lines = Vec::new(alloc);
+    // At once, as lines that grow while they are made take up to three times their length.
+    let mut lines = Vec::with_capacity(alloc, room(ops))?;
     for op in ops {
         push_line(&mut lines, register, op)?;
     }
     Ok(lines)
+}
+
+// The bytes that the lines of all entries take.
+fn room(ops: &[Op]) -> usize {
+    let mut room = 0usize;
+    for op in ops {
+        if let OpBody::Enter(definition) = op.body() {
+            room = room.saturating_add(definition.as_bytes().len());
+            room = room.saturating_add(1);
+        }
+    }
+    room
 }
 
 // Appends the line of an entry that is not retired, where the operation entered one.

@@ -3,8 +3,6 @@
 
 mod mark;
 mod marks;
-#[cfg(test)]
-mod tests;
 
 pub use mark::{Mark, Target};
 pub use marks::Marks;

@@ -6,8 +6,6 @@ pub mod laws;
 mod op_id;
 mod operation;
 mod status;
-#[cfg(test)]
-mod tests;
 
 pub use op_id::OpId;
 pub use operation::{Op, OpBody, SameEntry};

@@ -4,8 +4,6 @@
 mod run;
 mod runs;
 mod seen;
-#[cfg(test)]
-mod tests;
 
 pub use run::Run;
 pub use seen::Seen;

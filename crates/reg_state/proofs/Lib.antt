@@ -3,4 +3,3 @@ pub mod MergeLemmas
 pub mod TableLemmas
 pub mod TakeLemmas
 pub mod ManyLemmas
-pub mod PlainLemmas

@@ -6,8 +6,6 @@ mod marks;
 mod merge;
 mod register;
 mod table;
-#[cfg(test)]
-mod tests;
 mod view;
 
 pub use reg_join::{Join, JoinFault, join_all};

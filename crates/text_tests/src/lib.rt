@@ -1,7 +1,17 @@
-//! Tests of `wkt_write` and `wkt_crs` through their public calls.
+//! Tests of the crates of numbers, devices and texts through their public calls.
 #![tactic(auto)]
 
 #[cfg(test)]
+mod counts;
+#[cfg(test)]
+mod devices;
+#[cfg(test)]
+mod numerals;
+#[cfg(test)]
 mod readers;
+#[cfg(test)]
+mod slots;
+#[cfg(test)]
+mod tokens;
 #[cfg(test)]
 mod writers;

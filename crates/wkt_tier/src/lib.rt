@@ -4,8 +4,6 @@
 mod argument;
 mod fault;
 pub mod laws;
-#[cfg(test)]
-mod tests;
 mod tier;
 
 pub use fault::SlotFault;

@@ -9,8 +9,6 @@ mod lexer;
 mod machine;
 mod scanner;
 mod stack;
-#[cfg(test)]
-mod tests;
 mod token;
 
 pub use cursor::{Cursor, Outline, scan};

@@ -1,0 +1,79 @@
+//! Registers made of their content.
+
+use super::{A, B, C, Refused, Sample, Step, enter, id_of, keeps, made, retire, supersede, taken};
+use reg_op::{Op, OpId, Status};
+use reg_state::{ContentFault, Register, Seen};
+use std::alloc::Global;
+use std::test::Fail;
+
+// What is made of two operations by id, both of which are seen.
+fn made_of(alloc: Global, steps: &[Step; 2], seen: Seen) -> Result<Register, ContentFault> {
+    let Ok(first) = made(alloc, steps[0]) else {
+        return Err(ContentFault::Memory);
+    };
+    let Ok(second) = made(alloc, steps[1]) else {
+        return Err(ContentFault::Memory);
+    };
+    content_of(alloc, first, second, seen)
+}
+
+fn content_of(alloc: Global, first: Op, second: Op, seen: Seen) -> Result<Register, ContentFault> {
+    let (id, later) = (first.id(), second.id());
+    if !id.is_before(&later) {
+        return Err(ContentFault::Memory);
+    }
+    if !seen.contains(id) {
+        return Err(ContentFault::Memory);
+    }
+    if !seen.contains(later) {
+        return Err(ContentFault::Memory);
+    }
+    let mut ops = Vec::new(alloc);
+    if let Err(_) = ops.push(first) {
+        return Err(ContentFault::Memory);
+    }
+    if let Err(_) = ops.push(second) {
+        return Err(ContentFault::Memory);
+    }
+    Register::from_content(alloc, ops, seen)
+}
+
+// What has seen both.
+fn seen_of(alloc: Global, steps: &[Step; 2]) -> Result<Seen, Refused> {
+    let register = taken(alloc, steps)?;
+    register.seen().try_clone(alloc).ok().ok_or(Refused)
+}
+
+fn is_not_kept(refused: Result<Register, ContentFault>, id: OpId) -> bool {
+    match refused.err() {
+        None => false,
+        Some(fault) => fault == ContentFault::NotKept(id),
+    }
+}
+
+#[test]
+fn an_entry_and_its_retirement_are_a_content(rt: HostRuntime) -> Result<(), Fail> {
+    let alloc = rt.alloc();
+    let (entry, mark) = (id_of(A, 1)?, id_of(B, 1)?);
+    let steps = [enter(entry, Sample::Height), retire(mark, entry)];
+    let seen = seen_of(alloc, &steps)?;
+    let Ok(register) = made_of(alloc, &steps, seen) else {
+        return Err(Fail::new("refused"));
+    };
+    assert!(rt; keeps(&register, &[entry, mark]));
+    assert!(rt; register.status(entry) == Some(Status::Retired));
+    Ok(())
+}
+
+#[test]
+fn what_would_be_dropped_is_named(rt: HostRuntime) -> Result<(), Fail> {
+    let alloc = rt.alloc();
+    let (entry, newer, b, c) = (id_of(A, 1)?, id_of(A, 2)?, id_of(B, 1)?, id_of(C, 1)?);
+    let retirements = [retire(b, entry), retire(c, entry)];
+    let seen = seen_of(alloc, &retirements)?;
+    let copy = seen.try_clone(alloc)?;
+    assert!(rt; is_not_kept(made_of(alloc, &retirements, copy), c));
+    let both = [supersede(b, entry, newer), retire(c, entry)];
+    assert!(rt; is_not_kept(made_of(alloc, &both, seen), b));
+    Ok(())
+}
