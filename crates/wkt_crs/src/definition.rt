@@ -12,14 +12,14 @@ ghost use Rattle.wkt_crs.specs.Definition.{HasNone, IsCanonicalFault, IsDefinedB
 ghost use Rattle.wkt_crs.specs.declared.definition.DefinitionFault.TheVariants as fault;
 
 use crate::fault::ReadFault;
-use crate::reading::{fault_without_memory, read_crs};
-use crate::writing::{write_crs, write_crs_with_room};
+use crate::guessed::{Written, written_back};
+use crate::reading::{build_crs, fault_without_memory, read_crs};
+use crate::writing::write_crs;
 use crs_part::{Text, TryClone};
 use crs_value::{Crs, Key};
 use std::alloc::{AllocError, Global};
 use std::marker::Model;
 use std::rc::Rc;
-use wkt_guess::{Guess, Outcome, guess_parts};
 
 /// The most bytes of a definition's canonical text.
 const MOST: usize = 65_536;
@@ -106,7 +106,7 @@ impl Definition {
         if bytes.len() > MOST {
             return Err(DefinitionFault::CanonicalTooLong);
         }
-        match written_back(alloc, bytes) {
+        match guessed_definition(alloc, bytes) {
             Ok(Some(definition)) => Ok(definition),
             Ok(None) => read_canonical(alloc, bytes),
             Err(_) => Err(of_read(fault_without_memory(bytes))),
@@ -164,26 +164,15 @@ fn has_identifier(crs: &Crs) -> bool
     !crs.parts().ids().is_empty()
 }
 
-// The definition with these bytes, if they are what is written of the value that is guessed. What is written of a value
-// is read back, so that it doesn't matter where the value comes from.
-fn written_back(alloc: Global, bytes: &[u8]) -> Result<Option<Definition>, AllocError>
+// The definition with these bytes, if it is guessed.
+fn guessed_definition(alloc: Global, bytes: &[u8]) -> Result<Option<Definition>, AllocError>
     requires { length bytes.now ≤ 65536 }
     ensures { IfOk result (λ found. IfSome found (λ d. (d ≡ bytes.now) × IsDefinition bytes.now)) }
 {
-    let Guess { parts, outcome } = guess_parts(alloc, bytes);
-    match outcome {
-        Outcome::Read => {}
-        Outcome::Strayed => return Ok(None),
-        Outcome::Refused => return Err(AllocError),
-    }
-    let Ok(crs) = Crs::check(parts) else {
+    let Some(Written { crs, text }) = written_back(alloc, bytes)? else {
         return Ok(None);
     };
     if !has_identifier(&crs) {
-        return Ok(None);
-    }
-    let text = write_crs_with_room(alloc, &crs, bytes.len())?;
-    if bytes != text.as_slice() {
         return Ok(None);
     }
     match defined(alloc, &crs, text) {
@@ -201,7 +190,7 @@ fn read_canonical(alloc: Global, bytes: &[u8]) -> Result<Definition, DefinitionF
     ensures text { (f : TextFault) → tree.FirstFault bytes.now f → result ≡ Err (fault.Read (read.Text f)) }
     ensures slot { (f : SlotFault) → FirstSlot bytes.now f → result ≡ Err (fault.Read (read.Slot f)) }
 {
-    let crs = match read_crs(alloc, bytes) {
+    let crs = match build_crs(alloc, bytes) {
         Ok(crs) => crs,
         Err(fault) => return Err(of_read(fault)),
     };

@@ -3,6 +3,7 @@
 
 mod definition;
 mod fault;
+mod guessed;
 pub mod laws;
 mod places;
 mod reading;

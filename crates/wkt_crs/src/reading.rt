@@ -10,6 +10,7 @@ ghost use Rattle.wkt_crs.specs.Spells.{Spells};
 ghost use Rattle.wkt_crs.specs.Faults.{FirstFault, FirstSlot};
 
 use crate::fault::ReadFault;
+use crate::guessed::guessed;
 use crate::places::keyword_place;
 use crs_value::Crs;
 use std::alloc::Global;
@@ -25,6 +26,21 @@ pub fn read_crs(alloc: Global, text: &[u8]) -> Result<Crs, ReadFault>
     ensures only { (v : Crs) → Spells text.now v → (result ≡ Ok v) ⊎ (result ≡ Err fault.Memory) }
     ensures fault { IfErr result (FirstFault text.now) }
     // These come without memory.
+    ensures text { (f : TextFault) → tree.FirstFault text.now f → result ≡ Err (fault.Text f) }
+    ensures slot { (f : SlotFault) → FirstSlot text.now f → result ≡ Err (fault.Slot f) }
+{
+    match guessed(alloc, text) {
+        Ok(Some(crs)) => Ok(crs),
+        Ok(None) => build_crs(alloc, text),
+        Err(_) => Err(fault_without_memory(text)),
+    }
+}
+
+/// The same, for a text that is not guessed.
+pub(crate) fn build_crs(alloc: Global, text: &[u8]) -> Result<Crs, ReadFault>
+    ensures found { IfOk result (Spells text.now) }
+    ensures only { (v : Crs) → Spells text.now v → (result ≡ Ok v) ⊎ (result ≡ Err fault.Memory) }
+    ensures fault { IfErr result (FirstFault text.now) }
     ensures text { (f : TextFault) → tree.FirstFault text.now f → result ≡ Err (fault.Text f) }
     ensures slot { (f : SlotFault) → FirstSlot text.now f → result ≡ Err (fault.Slot f) }
 {

@@ -3,6 +3,7 @@
 use crate::rest::Rest;
 use crs_part::{Many, NonEmpty};
 use std::alloc::{AllocError, Global};
+use std::mem::forget;
 
 /// A node that is known by how it opens.
 pub(crate) trait Node {
@@ -36,7 +37,9 @@ pub(crate) fn each<T: Node + Drop>(alloc: Global, rest: &mut Rest<'_>) -> Many<T
             break;
         }
         let item = T::guess(alloc, rest);
-        if push(alloc, &mut items, item).is_err() {
+        if !rest.keeps() {
+            forget(item);
+        } else if push(alloc, &mut items, item).is_err() {
             rest.refuse();
         }
     }

@@ -1,7 +1,7 @@
 //! Texts, numbers and words.
 
 use crate::rest::Rest;
-use crs_number::Decimal;
+use crs_number::{Decimal, is_count};
 use crs_part::{Many, NumberOrText, Text};
 use std::alloc::Global;
 
@@ -12,6 +12,9 @@ pub(crate) fn text(alloc: Global, rest: &mut Rest<'_>) -> Text {
     rest.want(b"\"");
     if rest.begins_with(b"\"") {
         rest.stray();
+        return empty(alloc);
+    }
+    if !rest.keeps() {
         return empty(alloc);
     }
     let Ok(bytes) = Many::copied(alloc, content) else {
@@ -69,10 +72,14 @@ pub(crate) fn number_behind_comma(rest: &mut Rest<'_>) -> Decimal {
     number(rest)
 }
 
-/// The count that the digits make, and some count where they are no digits, or too many.
+/// The count that at most nine digits make.
 pub(crate) fn count(rest: &mut Rest<'_>) -> u32 {
+    let digits = rest.before_delimiter();
+    if !is_count(digits) {
+        rest.stray();
+    }
     let mut count: u32 = 0;
-    for byte in rest.before_delimiter() {
+    for byte in digits {
         let digit = u32::from(byte.wrapping_sub(b'0'));
         count = count.wrapping_mul(10).wrapping_add(digit);
     }

@@ -20,6 +20,7 @@ pub enum Outcome {
 #[derive(Drop)]
 pub(crate) struct Rest<'a> {
     bytes: &'a [u8],
+    keeps: bool,
     strayed: bool,
     refused: bool,
 }
@@ -28,9 +29,23 @@ impl<'a> Rest<'a> {
     pub(crate) fn new(bytes: &'a [u8]) -> Rest<'a> {
         Rest {
             bytes,
+            keeps: true,
             strayed: false,
             refused: false,
         }
+    }
+
+    /// A text that is walked alone: texts and lists stay empty.
+    pub(crate) fn without_keeping(bytes: &'a [u8]) -> Rest<'a> {
+        Rest {
+            keeps: false,
+            ..Rest::new(bytes)
+        }
+    }
+
+    /// Whether texts and lists are filled.
+    pub(crate) fn keeps(&self) -> bool {
+        self.keeps
     }
 
     pub(crate) fn len(&self) -> usize {
@@ -100,7 +115,11 @@ impl<'a> Rest<'a> {
             None => (false, self.bytes),
         };
         let numeral = plain_numeral(unsigned)?;
-        let number = Decimal::from_digits(negative, numeral.digits, numeral.places)?;
+        let number = if self.keeps {
+            Decimal::from_digits(negative, numeral.digits, numeral.places)?
+        } else {
+            Decimal::ZERO
+        };
         self.bytes = unsigned.split_at_checked(numeral.len)?.1;
         Some(number)
     }
@@ -132,9 +151,9 @@ fn plain_numeral(bytes: &[u8]) -> Option<PlainNumeral> {
         if digit < 10 {
             digits = digits.wrapping_mul(10).wrapping_add(u64::from(digit));
             places = places.wrapping_add(step);
-        } else if *byte == b'.' && step == 0 {
+        } else if *byte == b'.' && step == 0 && 0 < len {
             step = 1;
-        } else if (*byte == b',' || *byte == b']') && 0 < len && len < 20 {
+        } else if (*byte == b',' || *byte == b']') && 0 < len && len < 20 && step <= places {
             return Some(PlainNumeral {
                 digits,
                 places,
