@@ -21,6 +21,7 @@ pub(crate) struct Written {
 
 /// The value that is guessed, if these bytes are what is written of it. What is written of a value is read back, so that
 /// it doesn't matter where the value comes from.
+#[inline(always)]
 pub(crate) fn written_back(alloc: Global, bytes: &[u8]) -> Result<Option<Written>, AllocError>
     ensures { IfOk result (λ found. IfSome found (λ written. written.text.items ≡ bytes.now)) }
 {

@@ -4,6 +4,13 @@ ghost use Rattle.std.specs.Prelude.{◌≤◌, length};
 
 use crs_number::Decimal;
 
+/// Eight marks.
+const MARKS: u64 = 0x2222_2222_2222_2222;
+/// The lowest and the highest bit of each of eight bytes.
+const ONES: u64 = 0x0101_0101_0101_0101;
+
+const HIGHS: u64 = 0x8080_8080_8080_8080;
+
 /// How a guess ended.
 #[derive(Clone, Copy, Debug, PartialEq, Eq)]
 pub enum Outcome {
@@ -166,11 +173,23 @@ fn plain_numeral(bytes: &[u8]) -> Option<PlainNumeral> {
     None
 }
 
+// The place of the first mark, found eight bytes at once.
 fn mark_place(bytes: &[u8]) -> usize
     ensures { result ≤ length bytes.now }
 {
-    for (i, byte) in bytes.iter().enumerate() {
-        if *byte == b'"' {
+    let mut before = 0usize;
+    for eight in bytes.as_chunks::<8>().0 {
+        // A byte is zero where there is a mark.
+        let others = u64::from_le_bytes(*eight) ^ MARKS;
+        let found = others.wrapping_sub(ONES) & !others & HIGHS;
+        if found != 0 {
+            let place = before.wrapping_add(found.trailing_zeros() as usize / 8);
+            return place.min(bytes.len());
+        }
+        before = before.wrapping_add(8);
+    }
+    for i in before..bytes.len() {
+        if bytes[i] == b'"' {
             return i;
         }
     }
