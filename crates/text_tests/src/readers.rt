@@ -22,6 +22,10 @@ const COMPOUND: &[u8] =
 const POLAR: &[u8] =
     b"PROJCRS[\"Polar example\",BASEGEOGCRS[\"Example\",DATUM[\"Example frame\",ELLIPSOID[\"GRS 1980\",6378137,298.257222101]]],CONVERSION[\"Polar example\",METHOD[\"Polar Stereographic (variant A)\"]],CS[Cartesian,2],AXIS[\"(E)\",south,MERIDIAN[90,ANGLEUNIT[\"degree\",0.0174532925199433]],ORDER[1]],AXIS[\"(N)\",south,MERIDIAN[180,ANGLEUNIT[\"degree\",0.0174532925199433]],ORDER[2]],LENGTHUNIT[\"metre\",1],ID[\"X\",\"polar\",1,URI[\"urn:example:polar\"]]]";
 
+/// A projected system on an ensemble, with all that a text of a list of systems has, canonical.
+const LISTED: &[u8] =
+    b"PROJCRS[\"WGS 84 / TM 6 NE\",BASEGEOGCRS[\"WGS 84\",ENSEMBLE[\"World Geodetic System 1984 ensemble\",MEMBER[\"World Geodetic System 1984 (Transit)\",ID[\"EPSG\",1166]],MEMBER[\"World Geodetic System 1984 (G2139)\"],ELLIPSOID[\"WGS 84\",6378137,298.257223563,LENGTHUNIT[\"metre\",1]],ENSEMBLEACCURACY[2]],PRIMEM[\"Greenwich\",0,ANGLEUNIT[\"degree\",0.0174532925199433]],ID[\"EPSG\",4326]],CONVERSION[\"TM 6 NE\",METHOD[\"Transverse Mercator\",ID[\"EPSG\",9807]],PARAMETER[\"Longitude of natural origin\",6,ANGLEUNIT[\"degree\",0.0174532925199433],ID[\"EPSG\",8802]],PARAMETER[\"Scale factor at natural origin\",0.9996,SCALEUNIT[\"unity\",1],ID[\"EPSG\",8805]]],CS[Cartesian,2],AXIS[\"(E)\",east,ORDER[1],LENGTHUNIT[\"metre\",1]],AXIS[\"(N)\",north,ORDER[2],LENGTHUNIT[\"metre\",1]],USAGE[SCOPE[\"Oil and gas exploration and production.\"],AREA[\"Nigeria - offshore.\"],BBOX[-1.92,2.66,6.38,8.49]],ID[\"EPSG\",2311,CITATION[\"List\"],URI[\"urn:example:2311\"]],REMARK[\"C\xc3\xb4te\"]]";
+
 /// The same as the first, spelled with alternate keywords, other delimiters and another numeral.
 const SPELLED: &[u8] =
     b"verticalcrs( \"H\" , VRF[\"D\"],cs(Vertical,1),\n AXIS[\"height (H)\",UP],LENGTHUNIT[\"metre\",1.0],ID[\"X\",7.0e0])";
@@ -57,7 +61,7 @@ fn every_spelling_gives_the_canonical_text(rt: HostRuntime) -> Result<(), Fail> 
 #[test]
 fn canonical_texts_alone_are_guessed(rt: HostRuntime) -> Result<(), Fail> {
     let alloc = rt.alloc();
-    for text in [HEIGHT, COMPOUND, POLAR] {
+    for text in [HEIGHT, COMPOUND, POLAR, LISTED] {
         let guess = guess_parts(alloc, text);
         assert!(rt; guess.outcome == Outcome::Read);
         assert!(rt; wkt_write::write_crs(alloc, &guess.parts)?.as_slice() == text);
@@ -80,7 +84,7 @@ fn looks_right(alloc: Global, text: &[u8]) -> bool {
 #[test]
 fn nothing_is_guessed_of_a_text_with_a_fault(rt: HostRuntime) -> Result<(), Fail> {
     let alloc = rt.alloc();
-    for text in [HEIGHT, COMPOUND, POLAR] {
+    for text in [HEIGHT, COMPOUND, POLAR, LISTED] {
         assert!(rt; looks_canonical(alloc, text));
         let mut turned = Vec::new(alloc);
         turned.extend_from_slice(text)?;

@@ -58,6 +58,11 @@ pub(crate) fn number(rest: &mut Rest<'_>) -> Decimal {
     if let Some(number) = rest.plain_number() {
         return number;
     }
+    // One of another form is mostly not canonical.
+    if !rest.keeps() {
+        rest.stray();
+        return Decimal::ZERO;
+    }
     match Decimal::from_numeral(rest.before_delimiter()) {
         Ok(number) => number,
         Err(_) => {

@@ -147,20 +147,27 @@ struct PlainNumeral {
     len: usize,
 }
 
-/// The plain numeral before the next delimiter. One of more than 18 digits is read in another way.
+/// The plain numeral before the next delimiter. One of more than 18 digits, or with a zero at the end of its places, is read in
+/// another way.
 fn plain_numeral(bytes: &[u8]) -> Option<PlainNumeral> {
     let mut digits = 0u64;
     let mut places = 0u32;
     // One behind the period, and nothing before it.
     let mut step = 0u32;
+    let mut last = b'.';
     for (len, byte) in bytes.iter().enumerate() {
         let digit = byte.wrapping_sub(b'0');
         if digit < 10 {
             digits = digits.wrapping_mul(10).wrapping_add(u64::from(digit));
             places = places.wrapping_add(step);
+            last = *byte;
         } else if *byte == b'.' && step == 0 && 0 < len {
             step = 1;
-        } else if (*byte == b',' || *byte == b']') && 0 < len && len < 20 && step <= places {
+            last = b'0';
+        } else if (*byte == b',' || *byte == b']') && 0 < len && len < 20 {
+            if step == 1 && last == b'0' {
+                return None;
+            }
             return Some(PlainNumeral {
                 digits,
                 places,
