@@ -1,3 +1,4 @@
+mod canonical;
 mod definitions;
 mod growth;
 mod refused;

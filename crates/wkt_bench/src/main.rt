@@ -1,11 +1,13 @@
 //! Reads each text of a file, one a line, and writes it again, as often as asked: `wkt_bench FILE TIMES [WORK]`, where
-//! WORK is how far it goes: `scan`, `slots`, `read`, `canonical`, `pretty` or `define`. It prints counts alone: the time
-//! is taken from outside.
+//! WORK is how far it goes: `scan`, `slots`, `read`, `write`, `canonical`, `pretty` or `define`. It prints counts alone: the
+//! time is taken from outside.
 #![tactic(auto)]
 
 use std::alloc::{AllocError, Global};
 use std::{env, fs, io};
-use wkt_crs::{Definition, DefinitionFault, ReadFault, read_crs, write_crs, write_pretty};
+use wkt_crs::{
+    Definition, DefinitionFault, ReadFault, canonical_text, read_crs, write_crs, write_pretty,
+};
 use wkt_slots::Edition;
 use wkt_tier::check_slots;
 use wkt_tree::scan;
@@ -19,7 +21,9 @@ enum Work {
     Slots,
     /// Its value is built, and the conditions are tested.
     Read,
-    /// It is read, and its canonical text is made.
+    /// It is read, and what is read is written.
+    Write,
+    /// Its canonical text is made.
     Canonical,
     /// It is read, and its indented text is made.
     Pretty,
@@ -33,6 +37,7 @@ impl Work {
             "scan" => Work::Scan,
             "slots" => Work::Slots,
             "read" => Work::Read,
+            "write" => Work::Write,
             "pretty" => Work::Pretty,
             "define" => Work::Define,
             _ => Work::Canonical,
@@ -56,7 +61,7 @@ const NONE: Counts = Counts {
 fn main(rt: HostRuntime) -> io::Result<()> {
     let words: Vec<String> = env::args(&rt)?.collect(rt.alloc())?;
     let Some(file) = words.get(1) else {
-        return println!(rt; "wkt_bench FILE TIMES [scan|slots|read|canonical|pretty|define]");
+        return println!(rt; "wkt_bench FILE TIMES [scan|slots|read|write|canonical|pretty|define]");
     };
     let times = match words.get(2) {
         Some(word) => word.as_str().parse::<u32>().unwrap_or(1),
@@ -109,7 +114,8 @@ fn written(alloc: Global, text: &[u8], work: Work) -> Result<Option<usize>, Allo
         Work::Scan => Ok(scan(text).ok().map(|_| 0)),
         Work::Slots => Ok(has_slots(text)),
         Work::Define => defined(alloc, text),
-        Work::Read | Work::Canonical | Work::Pretty => read(alloc, text, work),
+        Work::Canonical => canonical(alloc, text),
+        Work::Read | Work::Write | Work::Pretty => read(alloc, text, work),
     }
 }
 
@@ -118,6 +124,14 @@ fn has_slots(text: &[u8]) -> Option<usize> {
         return None;
     };
     check_slots(Edition::First, &outline).ok().map(|_| 0)
+}
+
+fn canonical(alloc: Global, text: &[u8]) -> Result<Option<usize>, AllocError> {
+    match canonical_text(alloc, text) {
+        Ok(canonical) => Ok(Some(canonical.len())),
+        Err(ReadFault::Memory) => Err(AllocError),
+        Err(_) => Ok(None),
+    }
 }
 
 fn defined(alloc: Global, text: &[u8]) -> Result<Option<usize>, AllocError> {
@@ -135,7 +149,7 @@ fn read(alloc: Global, text: &[u8], work: Work) -> Result<Option<usize>, AllocEr
         Err(_) => return Ok(None),
     };
     match work {
-        Work::Canonical => Ok(Some(write_crs(alloc, &crs)?.len())),
+        Work::Write => Ok(Some(write_crs(alloc, &crs)?.len())),
         Work::Pretty => Ok(Some(write_pretty(alloc, &crs)?.len())),
         _ => Ok(Some(0)),
     }

@@ -1,5 +1,5 @@
 -- Which texts spell a coordinate reference system.
-use Rattle.std.specs.Prelude.{ℕ, List}
+use Rattle.std.specs.Prelude.{◌≡◌, ℕ, List}
 use Rattle.crs_value.specs.declared.crs.Crs.{Crs}
 use Rattle.wkt_tree.specs.Tree.{Item, tokens}
 use Rattle.wkt_tree.specs.Faults.{IsOutline}
@@ -19,3 +19,9 @@ canon v = meaning.canon v.parts
 
 abbrev pub pretty : Crs → List ℕ
 pretty v = meaning.pretty v.parts
+
+-- the text spells a value, and the other is the canonical text of that
+pub record SpellsCanon (text canonical : List ℕ) : Type 0 where
+  pub value : Crs
+  pub spells : Spells text value
+  pub is : canonical ≡ canon value

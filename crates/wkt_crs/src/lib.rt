@@ -1,6 +1,7 @@
 //! Texts of coordinate reference systems: reading and writing them, from slices, sources and to sinks.
 #![tactic(auto)]
 
+mod canonical;
 mod definition;
 mod fault;
 mod guessed;
@@ -14,6 +15,7 @@ pub use byte_io::{
     DeviceFault, Endless, FileTarget, Full, InFault, MemoryTarget, NotOpened, Pieces, PublishFault,
     Reading, Room, Sink, Source, Target, Then, WriteFault, Writing, publish, read_up_to, write_all,
 };
+pub use canonical::canonical_text;
 pub use crs_value::{Condition, Crs, Key};
 pub use definition::{Definition, DefinitionFault};
 pub use fault::ReadFault;

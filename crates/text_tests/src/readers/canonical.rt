@@ -1,0 +1,52 @@
+//! Canonical texts that are seen to be so.
+
+use super::{COMPOUND, HEIGHT, LISTED, POLAR, SPELLED, refusal};
+use std::test::Fail;
+use wkt_canonical::is_canonical;
+use wkt_crs::canonical_text;
+
+/// A geocentric system.
+const GEOCENTRIC: &[u8] =
+    b"GEODCRS[\"G\",DATUM[\"D\",ELLIPSOID[\"S\",6371000,0]],PRIMEM[\"P\",-0.5],CS[Cartesian,3],AXIS[\"(X)\",geocentricX,LENGTHUNIT[\"metre\",1]],AXIS[\"(Y)\",geocentricY,LENGTHUNIT[\"metre\",1]],AXIS[\"(Z)\",geocentricZ,LENGTHUNIT[\"metre\",1]],ID[\"X\",10]]";
+
+const PLANE_AND_HEIGHT: &[u8] =
+    b"COMPOUNDCRS[\"C\",GEOGCRS[\"G\",DATUM[\"D\",ELLIPSOID[\"S\",6371000,0]],CS[ellipsoidal,2],AXIS[\"(Lat)\",north,ANGLEUNIT[\"degree\",0.0174532925199433]],AXIS[\"(Lon)\",east,ANGLEUNIT[\"degree\",0.0174532925199433]]],VERTCRS[\"H\",VDATUM[\"D\",ANCHOR[\"A\"]],CS[vertical,1],AXIS[\"height (H)\",up,LENGTHUNIT[\"metre\",1]]],ID[\"X\",9]]";
+
+const GEOCENTRIC_AND_HEIGHT: &[u8] =
+    b"COMPOUNDCRS[\"C\",GEODCRS[\"G\",DATUM[\"D\",ELLIPSOID[\"S\",6371000,0]],CS[Cartesian,3],AXIS[\"(X)\",geocentricX,LENGTHUNIT[\"metre\",1]],AXIS[\"(Y)\",geocentricY,LENGTHUNIT[\"metre\",1]],AXIS[\"(Z)\",geocentricZ,LENGTHUNIT[\"metre\",1]]],VERTCRS[\"H\",VDATUM[\"D\"],CS[vertical,1],AXIS[\"height (H)\",up,LENGTHUNIT[\"metre\",1]]],ID[\"X\",9]]";
+
+#[test]
+fn canonical_texts_with_units_of_each_axis_are_seen(rt: HostRuntime) {
+    for text in [LISTED, GEOCENTRIC, PLANE_AND_HEIGHT] {
+        assert!(rt; is_canonical(text));
+    }
+    // A common unit is not seen.
+    for text in [HEIGHT, COMPOUND, POLAR] {
+        assert!(rt; !is_canonical(text));
+    }
+    assert!(rt; !is_canonical(SPELLED));
+    assert!(rt; !is_canonical(GEOCENTRIC_AND_HEIGHT));
+}
+
+#[test]
+fn each_text_has_one_canonical_text(rt: HostRuntime) -> Result<(), Fail> {
+    for (text, canonical) in [
+        (LISTED, LISTED),
+        (PLANE_AND_HEIGHT, PLANE_AND_HEIGHT),
+        (COMPOUND, COMPOUND),
+        (SPELLED, HEIGHT),
+    ] {
+        let found = canonical_text(rt.alloc(), text).ok().ok_or("refused")?;
+        assert!(rt; found.as_slice() == canonical);
+    }
+    Ok(())
+}
+
+#[test]
+fn a_text_with_a_fault_has_no_canonical_text(rt: HostRuntime) {
+    for text in [b"VERTCRS[".as_slice(), b"VERTCRS[1]", GEOCENTRIC_AND_HEIGHT] {
+        let fault = canonical_text(rt.alloc(), text).err();
+        assert!(rt; fault.is_some());
+        assert!(rt; fault == refusal(rt.alloc(), text));
+    }
+}

@@ -1,0 +1,7 @@
+pub mod Axes
+pub mod Groups
+pub mod Nodes
+pub mod Numbers
+pub mod Runs
+pub mod Texts
+pub mod Wholes

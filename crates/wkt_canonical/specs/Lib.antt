@@ -1,0 +1,4 @@
+pub mod Digits
+pub mod Groups
+pub mod Tests
+pub mod Reads

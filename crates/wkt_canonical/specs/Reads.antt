@@ -1,0 +1,174 @@
+-- What stands at the front of a text: the canonical text of a value that passes a test, and the rest behind it.
+use Rattle.std.specs.Prelude.{◌≡◌, ℕ, ◌+◌, ◌<◌, Bool, true, false, not, ◌||◌, is_none, codes, List, [], ◌∷◌, ◌++◌, map, Option}
+use Rattle.std.specs.Int.{is_positive, is_negative}
+use Rattle.std.specs.List.{list_all}
+use Rattle.std.specs.Option.{option_map_or}
+use Rattle.crs_number.specs.declared.decimals.Decimal.{Decimal}
+use Rattle.crs_part.specs.declared.many.NonEmpty.{NonEmpty}
+use Rattle.crs_part.specs.declared.systems.SystemKind.{SystemKind}
+use Rattle.crs_part.specs.declared.systems.CoordSystem.{CoordSystem}
+use Rattle.crs_part.specs.declared.systems.Direction.{Direction}
+use Rattle.crs_part.specs.declared.systems.Meridian.{Meridian}
+use Rattle.crs_part.specs.declared.systems.Order.{Order}
+use Rattle.crs_part.specs.declared.systems.Axis.{Axis}
+use Rattle.crs_part.specs.declared.text.Text.{Text}
+use Rattle.crs_part.specs.declared.identifiers.Ident.{Ident}
+use Rattle.crs_part.specs.declared.usages.Usage.{Usage}
+use Rattle.crs_part.specs.declared.crs.Single.{Single}
+use Rattle.crs_part.specs.declared.crs.CrsParts.{CrsParts}
+use Rattle.crs_value.specs.Conditions.{is_order, is_north_or_south, unit_fits, may_be_first, may_be_second}
+use Rattle.crs_value.specs.Checking.{HasConditions}
+use Rattle.wkt_meaning.specs.Canon.{canon}
+use Rattle.crs_part.specs.declared.units.Unit.{Unit}
+use Rattle.crs_part.specs.declared.units.Unit.TheVariants as unit
+use Rattle.wkt_canonical.specs.declared.units.Group.{Group}
+use Rattle.wkt_canonical.specs.declared.units.Group.TheVariants as group
+use Rattle.wkt_canonical.specs.Tests.{unit_passes, meridian_passes, IsAxis, AxesHold, Holds}
+use Rattle.wkt_tier.specs.Bare.{Bare, bares}
+use Rattle.wkt_meaning.specs.Render.{render, render_behind}
+use Rattle.wkt_meaning.specs.Runs.{listed}
+use Rattle.wkt_meaning.specs.Trees.{one, maybe, joined, unit_tree, system_tree, meridian_tree, order_tree, axis_tree, usage_tree, ident_tree, value_tree, single_tree}
+
+-- the text of arguments behind the first
+unfoldable pub behind : List Bare → List ℕ
+behind xs = render_behind (bares xs)
+
+-- the first argument of a node
+pub record ReadsFirst {A : Type 0} (test : A → Bool) (tree : A → Bare) (text rest : List ℕ) : Type 0 where
+  pub value : A
+  pub passes : test value ≡ true
+  pub is : text ≡ render (tree value) ++ rest
+
+-- a further argument, behind its comma
+pub record ReadsOne {A : Type 0} (test : A → Bool) (tree : A → Bare) (text rest : List ℕ) : Type 0 where
+  pub value : A
+  pub passes : test value ≡ true
+  pub is : text ≡ behind (one (tree value)) ++ rest
+
+-- one or none
+pub record ReadsMaybe {A : Type 0} (test : A → Bool) (tree : A → Bare) (text rest : List ℕ) : Type 0 where
+  pub value : Option A
+  pub passes : option_map_or test value true ≡ true
+  pub is : text ≡ behind (maybe tree value) ++ rest
+
+-- any number
+pub record ReadsEach {A : Type 0} (test : A → Bool) (tree : A → Bare) (text rest : List ℕ) : Type 0 where
+  pub values : List A
+  pub passes : list_all test values ≡ true
+  pub is : text ≡ behind (map tree values) ++ rest
+
+-- what passes where nothing is asked
+abbrev pub any : {A : Type 0} → A → Bool
+any value = true
+
+-- a node, of which the opening was read before
+pub record ReadsInside {A : Type 0} (test : A → Bool) (tree : A → Bare) (opening text rest : List ℕ) : Type 0 where
+  pub value : A
+  pub passes : test value ≡ true
+  pub is : opening ++ text ≡ behind (one (tree value)) ++ rest
+
+-- a number above zero, and one not below zero
+abbrev pub is_above_zero : Decimal → Bool
+is_above_zero d = is_positive d.coefficient
+
+abbrev pub is_not_below_zero : Decimal → Bool
+is_not_below_zero d = not (is_negative d.coefficient)
+
+-- a node of any keyword, of which the opening was read before
+pub record ReadsWithin {A : Type 0} (test : A → Bool) (tree : List ℕ → A → Bare) (text rest : List ℕ) : Type 0 where
+  pub value : A
+  pub passes : test value ≡ true
+  pub is : (k : List ℕ) → (44 ∷ (k ++ 91 ∷ [])) ++ text ≡ behind (one (tree k value)) ++ rest
+
+-- one at least
+pub record ReadsSome {A : Type 0} (test : A → Bool) (tree : A → Bare) (text rest : List ℕ) : Type 0 where
+  pub value : NonEmpty A
+  pub passes : list_all test (listed value) ≡ true
+  pub is : text ≡ behind (map tree (listed value)) ++ rest
+
+-- the group of a unit
+abbrev pub group_of : Unit → Group
+group_of (unit.Length u) = group.Length
+group_of (unit.Angle u) = group.Angle
+group_of (unit.Scale u) = group.Scale
+group_of (unit.Generic u) = group.Generic
+
+-- a unit of this group
+pub record ReadsUnit (which : Group) (text rest : List ℕ) : Type 0 where
+  pub value : Unit
+  pub passes : unit_passes value ≡ true
+  pub group : group_of value ≡ which
+  pub is : text ≡ behind (one (unit_tree value)) ++ rest
+
+-- a digit
+pub record ReadsDigit (n : ℕ) (text rest : List ℕ) : Type 0 where
+  pub small : n < 10
+  pub is : text ≡ (48 + n) ∷ rest
+
+-- a coordinate system of this kind and dimension
+pub record ReadsSystem (kind : SystemKind) (dimension : ℕ) (text rest : List ℕ) : Type 0 where
+  pub value : CoordSystem
+  pub kind_is : value.kind ≡ kind
+  pub dimension_is : value.dimension ≡ dimension
+  pub is : text ≡ behind (one (system_tree value)) ++ rest
+
+-- a meridian, which an axis of this direction may have, or none
+pub record ReadsMeridian (direction : Direction) (text rest : List ℕ) : Type 0 where
+  pub value : Option Meridian
+  pub passes : option_map_or meridian_passes value true ≡ true
+  pub allowed : (is_none value || is_north_or_south direction) ≡ true
+  pub is : text ≡ behind (maybe meridian_tree value) ++ rest
+
+-- the order of the axis at this place, or none
+pub record ReadsOrder (k : ℕ) (has_order : Bool) (text rest : List ℕ) : Type 0 where
+  pub value : Option Order
+  pub ordered : has_order ≡ true → is_order k value ≡ true
+  pub unordered : has_order ≡ false → is_none value ≡ true
+  pub is : text ≡ behind (maybe order_tree value) ++ rest
+
+-- a unit that fits the axis at this place
+pub record ReadsAxisUnit (system : SystemKind) (k : ℕ) (text rest : List ℕ) : Type 0 where
+  pub value : Unit
+  pub passes : unit_passes value ≡ true
+  pub fits : unit_fits system k value ≡ true
+  pub is : text ≡ behind (one (unit_tree value)) ++ rest
+
+pub record ReadsAxis (system : SystemKind) (k : ℕ) (has_order : Bool) (text rest : List ℕ) : Type 0 where
+  pub value : Axis
+  pub axis : IsAxis system k has_order value
+  pub is : text ≡ behind (one (axis_tree value)) ++ rest
+
+-- the axes of a system, each with a unit of its own
+pub record ReadsAxes (system : SystemKind) (dimension : ℕ) (text rest : List ℕ) : Type 0 where
+  pub value : NonEmpty Axis
+  pub hold : AxesHold system dimension (listed value)
+  pub is : text ≡ behind (map axis_tree (listed value)) ++ rest
+
+-- ---- reference systems
+
+-- a reference system of one part, of which all conditions hold, and whether it may be a component
+pub record ReadsSingle (is_first is_second : Bool) (text rest : List ℕ) : Type 0 where
+  pub value : Single
+  pub holds : Holds value
+  pub first : may_be_first value ≡ is_first
+  pub second : may_be_second value ≡ is_second
+  pub is : text ≡ render (single_tree value) ++ rest
+
+-- the usages, identifiers and remark at the end of a reference system, and its closing delimiter
+pub record ReadsEnd (text rest : List ℕ) : Type 0 where
+  pub usages : List Usage
+  pub ids : List Ident
+  pub remark : Option Text
+  pub is : text ≡ behind (joined (map usage_tree usages ∷ map ident_tree ids ∷ maybe (value_tree (codes "REMARK")) remark ∷ [])) ++ 93 ∷ rest
+
+-- the parts of a reference system, of which all conditions hold
+pub record ReadsWhole (text rest : List ℕ) : Type 0 where
+  pub value : CrsParts
+  pub conditions : HasConditions value
+  pub is : text ≡ canon value ++ rest
+
+-- the text is the canonical one of parts of which all conditions hold
+pub record IsCanonical (text : List ℕ) : Type 0 where
+  pub value : CrsParts
+  pub conditions : HasConditions value
+  pub is : text ≡ canon value

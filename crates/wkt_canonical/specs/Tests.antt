@@ -1,0 +1,88 @@
+-- What is asked of a value on the way, so that all conditions hold of the whole.
+use Rattle.std.specs.Prelude.{◌≡◌, ℕ, Bool, true, false, ◌||◌, ◌&&◌, is_none, List, length, Option, Some, None}
+use Rattle.std.specs.List.{list_all, flat_map}
+use Rattle.std.specs.Option.{option_map_or}
+use Rattle.crs_part.specs.Slots.{ellipsoid_of}
+use Rattle.crs_part.specs.declared.units.UnitDefinition.{UnitDefinition}
+use Rattle.crs_part.specs.declared.units.Unit.{Unit}
+use Rattle.crs_part.specs.declared.units.LengthUnit.{LengthUnit}
+use Rattle.crs_part.specs.declared.units.AngleUnit.{AngleUnit}
+use Rattle.crs_part.specs.declared.datums.Ellipsoid.{Ellipsoid}
+use Rattle.crs_part.specs.declared.datums.Datum.{Datum}
+use Rattle.crs_part.specs.declared.datums.GeodeticEnsemble.{GeodeticEnsemble}
+use Rattle.crs_part.specs.declared.datums.PrimeMeridian.{PrimeMeridian}
+use Rattle.crs_part.specs.declared.datums.GeodeticFrame.{GeodeticFrame}
+use Rattle.crs_part.specs.declared.systems.SystemKind.{SystemKind}
+use Rattle.crs_part.specs.declared.systems.Meridian.{Meridian}
+use Rattle.crs_part.specs.declared.systems.Axis.{Axis}
+use Rattle.crs_part.specs.declared.conversions.Parameter.{Parameter}
+use Rattle.crs_part.specs.declared.conversions.Conversion.{Conversion}
+use Rattle.crs_part.specs.declared.crs.BaseCrs.{BaseCrs}
+use Rattle.crs_part.specs.declared.crs.Single.{Single}
+use Rattle.crs_value.specs.declared.broken.Condition.{Condition}
+use Rattle.crs_value.specs.Checking.{holds}
+use Rattle.crs_value.specs.Units.{any_units, length_units, angle_units, ellipsoid_units, prime_meridian_units, meridian_units, axis_units, parameter_units, conversion_units, base_units}
+use Rattle.crs_value.specs.Conditions.{has_positive_factor, has_size, has_units, has_orders, units_fit, has_meridians, unit_fits, is_order, is_north_or_south}
+
+-- every conversion factor is above 0
+abbrev pub all_positive : List UnitDefinition → Bool
+all_positive units = list_all has_positive_factor units
+
+abbrev pub unit_passes : Unit → Bool
+unit_passes unit = all_positive (any_units unit)
+
+abbrev pub length_unit_passes : LengthUnit → Bool
+length_unit_passes unit = all_positive (length_units unit)
+
+abbrev pub angle_unit_passes : AngleUnit → Bool
+angle_unit_passes unit = all_positive (angle_units unit)
+
+abbrev pub ellipsoid_passes : Ellipsoid → Bool
+ellipsoid_passes ellipsoid = has_size ellipsoid && all_positive (ellipsoid_units ellipsoid)
+
+abbrev pub datum_passes : Datum → Bool
+datum_passes datum = ellipsoid_passes datum.ellipsoid
+
+abbrev pub ensemble_passes : GeodeticEnsemble → Bool
+ensemble_passes ensemble = ellipsoid_passes ensemble.ellipsoid
+
+abbrev pub frame_passes : GeodeticFrame → Bool
+frame_passes frame = ellipsoid_passes (ellipsoid_of frame)
+
+abbrev pub prime_meridian_passes : PrimeMeridian → Bool
+prime_meridian_passes meridian = all_positive (prime_meridian_units meridian)
+
+abbrev pub meridian_passes : Meridian → Bool
+meridian_passes meridian = all_positive (meridian_units meridian)
+
+abbrev pub parameter_passes : Parameter → Bool
+parameter_passes parameter = all_positive (parameter_units parameter)
+
+abbrev pub conversion_passes : Conversion → Bool
+conversion_passes conversion = all_positive (conversion_units conversion)
+
+abbrev pub base_passes : BaseCrs → Bool
+base_passes base = has_size (ellipsoid_of base.datum) && all_positive (base_units base)
+
+-- an axis at this place with a unit of its own that fits it, with its number or without one
+pub record IsAxis (system : SystemKind) (k : ℕ) (has_order : Bool) (axis : Axis) : Type 0 where
+  pub unit : Unit
+  pub has_unit : axis.unit ≡ Some unit
+  pub fits : unit_fits system k unit ≡ true
+  pub ordered : has_order ≡ true → is_order k axis.order ≡ true
+  pub unordered : has_order ≡ false → is_none axis.order ≡ true
+  pub meridian : (is_none axis.meridian || is_north_or_south axis.direction) ≡ true
+  pub units : all_positive (axis_units axis) ≡ true
+
+-- what the conditions say of the axes of a system of this kind and dimension, where there is no common unit
+pub record AxesHold (system : SystemKind) (dimension : ℕ) (axes : List Axis) : Type 0 where
+  pub count : length axes ≡ dimension
+  pub have_units : has_units axes None ≡ true
+  pub have_orders : has_orders axes ≡ true
+  pub units_fit : units_fit system axes None ≡ true
+  pub have_meridians : has_meridians axes ≡ true
+  pub units : all_positive (flat_map axis_units axes) ≡ true
+
+-- all conditions hold of a reference system of one part
+abbrev pub Holds : Single → Type 0
+Holds single = (condition : Condition) → holds single condition ≡ true

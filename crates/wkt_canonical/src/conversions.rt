@@ -1,0 +1,55 @@
+//! Conversions.
+
+ghost use Rattle.std.specs.Prelude.{codes, IfSome};
+ghost use Rattle.wkt_meaning.specs.Trees.{parameter_tree, conversion_tree};
+ghost use Rattle.wkt_canonical.specs.Tests.{parameter_passes, conversion_passes};
+
+use crate::front::behind;
+use crate::identifiers::method;
+use crate::leaves::text;
+use crate::node::{Node, each};
+use crate::numerals::number_behind_comma;
+use crate::units::maybe_unit;
+use crs_part::{Conversion, Ident, Parameter};
+
+impl Node for Parameter {
+    ghost tree = { parameter_tree };
+
+    ghost test = { parameter_passes };
+
+    ghost opening = { codes ",PARAMETER[" };
+
+    fn opening() -> &'static [u8] {
+        b",PARAMETER["
+    }
+
+    fn inside(bytes: &[u8]) -> Option<&[u8]> {
+        let rest = text(bytes)?;
+        let rest = number_behind_comma(rest)?;
+        let rest = maybe_unit(rest);
+        let rest = each::<Ident>(rest)?;
+        let rest = behind(rest, b"]")?;
+        Some(rest)
+    }
+}
+
+impl Node for Conversion {
+    ghost tree = { conversion_tree };
+
+    ghost test = { conversion_passes };
+
+    ghost opening = { codes ",CONVERSION[" };
+
+    fn opening() -> &'static [u8] {
+        b",CONVERSION["
+    }
+
+    fn inside(bytes: &[u8]) -> Option<&[u8]> {
+        let rest = text(bytes)?;
+        let rest = method(rest)?;
+        let rest = each::<Parameter>(rest)?;
+        let rest = each::<Ident>(rest)?;
+        let rest = behind(rest, b"]")?;
+        Some(rest)
+    }
+}

@@ -1,0 +1,143 @@
+//! Datums, and ensembles of them.
+
+ghost use Rattle.std.specs.Prelude.{codes, IfSome};
+ghost use Rattle.wkt_meaning.specs.Trees.{ellipsoid_tree, prime_meridian_tree, accuracy_tree, datum_tree, geodetic_ensemble_tree, vertical_datum_tree, vertical_ensemble_tree, geodetic_frame_tree, vertical_frame_tree};
+ghost use Rattle.wkt_canonical.specs.Reads.{ReadsOne, ReadsInside, any};
+ghost use Rattle.wkt_canonical.specs.Tests.{ellipsoid_passes, datum_passes, ensemble_passes, frame_passes, prime_meridian_passes};
+
+use crate::front::behind;
+use crate::leaves::text;
+use crate::node::{Node, each, one, some};
+use crate::numerals::{
+    number, number_behind_comma, positive_number_behind_comma, unsigned_number_behind_comma,
+};
+use crate::units::{maybe_angle_unit, maybe_length_unit};
+use crate::values::anchor;
+use crs_part::{Ellipsoid, Ident, Named, PrimeMeridian};
+
+impl Node for Ellipsoid {
+    ghost tree = { ellipsoid_tree };
+
+    ghost test = { ellipsoid_passes };
+
+    ghost opening = { codes ",ELLIPSOID[" };
+
+    fn opening() -> &'static [u8] {
+        b",ELLIPSOID["
+    }
+
+    fn inside(bytes: &[u8]) -> Option<&[u8]> {
+        let rest = text(bytes)?;
+        let rest = positive_number_behind_comma(rest)?;
+        let rest = unsigned_number_behind_comma(rest)?;
+        let rest = maybe_length_unit(rest);
+        let rest = each::<Ident>(rest)?;
+        let rest = behind(rest, b"]")?;
+        Some(rest)
+    }
+}
+
+impl Node for PrimeMeridian {
+    ghost tree = { prime_meridian_tree };
+
+    ghost test = { prime_meridian_passes };
+
+    ghost opening = { codes ",PRIMEM[" };
+
+    fn opening() -> &'static [u8] {
+        b",PRIMEM["
+    }
+
+    fn inside(bytes: &[u8]) -> Option<&[u8]> {
+        let rest = text(bytes)?;
+        let rest = number_behind_comma(rest)?;
+        let rest = maybe_angle_unit(rest);
+        let rest = each::<Ident>(rest)?;
+        let rest = behind(rest, b"]")?;
+        Some(rest)
+    }
+}
+
+/// What stands behind the accuracy of an ensemble.
+fn accuracy(bytes: &[u8]) -> Option<&[u8]>
+    ensures { IfSome result (λ rest. ReadsOne any accuracy_tree bytes.now rest.now) }
+{
+    let inside = behind(bytes, b",ENSEMBLEACCURACY[")?;
+    let rest = number(inside)?;
+    let rest = behind(rest, b"]")?;
+    Some(rest)
+}
+
+/// What stands behind a geodetic datum, from behind its opening delimiter on.
+fn datum(bytes: &[u8]) -> Option<&[u8]>
+    ensures { IfSome result (λ rest. ReadsInside datum_passes datum_tree (codes ",DATUM[") bytes.now rest.now) }
+{
+    let rest = text(bytes)?;
+    let rest = one::<Ellipsoid>(rest)?;
+    let rest = anchor(rest)?;
+    let rest = each::<Ident>(rest)?;
+    let rest = behind(rest, b"]")?;
+    Some(rest)
+}
+
+/// What stands behind an ensemble of geodetic datums, from behind its opening delimiter on.
+fn geodetic_ensemble(bytes: &[u8]) -> Option<&[u8]>
+    ensures { IfSome result (λ rest. ReadsInside ensemble_passes geodetic_ensemble_tree (codes ",ENSEMBLE[") bytes.now rest.now) }
+{
+    let rest = text(bytes)?;
+    let rest = some::<Named>(rest)?;
+    let rest = one::<Ellipsoid>(rest)?;
+    let rest = accuracy(rest)?;
+    let rest = each::<Ident>(rest)?;
+    let rest = behind(rest, b"]")?;
+    Some(rest)
+}
+
+/// What stands behind a geodetic datum, or an ensemble of them.
+pub(crate) fn geodetic_frame(bytes: &[u8]) -> Option<&[u8]>
+    ensures { IfSome result (λ rest. ReadsOne frame_passes geodetic_frame_tree bytes.now rest.now) }
+{
+    if let Some(inside) = behind(bytes, b",ENSEMBLE[") {
+        let rest = geodetic_ensemble(inside)?;
+        return Some(rest);
+    }
+    let inside = behind(bytes, b",DATUM[")?;
+    let rest = datum(inside)?;
+    Some(rest)
+}
+
+/// What stands behind a vertical datum, from behind its opening delimiter on.
+fn vertical_datum(bytes: &[u8]) -> Option<&[u8]>
+    ensures { IfSome result (λ rest. ReadsInside any vertical_datum_tree (codes ",VDATUM[") bytes.now rest.now) }
+{
+    let rest = text(bytes)?;
+    let rest = anchor(rest)?;
+    let rest = each::<Ident>(rest)?;
+    let rest = behind(rest, b"]")?;
+    Some(rest)
+}
+
+/// What stands behind an ensemble of vertical datums, from behind its opening delimiter on.
+fn vertical_ensemble(bytes: &[u8]) -> Option<&[u8]>
+    ensures { IfSome result (λ rest. ReadsInside any vertical_ensemble_tree (codes ",ENSEMBLE[") bytes.now rest.now) }
+{
+    let rest = text(bytes)?;
+    let rest = some::<Named>(rest)?;
+    let rest = accuracy(rest)?;
+    let rest = each::<Ident>(rest)?;
+    let rest = behind(rest, b"]")?;
+    Some(rest)
+}
+
+/// What stands behind a vertical datum, or an ensemble of them.
+pub(crate) fn vertical_frame(bytes: &[u8]) -> Option<&[u8]>
+    ensures { IfSome result (λ rest. ReadsOne any vertical_frame_tree bytes.now rest.now) }
+{
+    if let Some(inside) = behind(bytes, b",ENSEMBLE[") {
+        let rest = vertical_ensemble(inside)?;
+        return Some(rest);
+    }
+    let inside = behind(bytes, b",VDATUM[")?;
+    let rest = vertical_datum(inside)?;
+    Some(rest)
+}

@@ -1,0 +1,54 @@
+//! Texts, and numbers or texts.
+
+ghost use Rattle.std.specs.Prelude.{◌≡◌, ◌<◌, length, IfSome, position};
+ghost use Rattle.std.specs.Str.{is_utf8};
+ghost use Rattle.wkt_tree.specs.Tokens.{is_mark};
+ghost use Rattle.wkt_meaning.specs.Trees.{text_tree, code_tree};
+ghost use Rattle.wkt_canonical.specs.Reads.{ReadsFirst, ReadsOne, any};
+
+use crate::front::behind;
+use crate::numerals::number;
+
+/// What stands behind a text between marks.
+pub(crate) fn text(text: &[u8]) -> Option<&[u8]>
+    ensures { IfSome result (λ rest. ReadsFirst any text_tree text.now rest.now) }
+{
+    let inside = behind(text, b"\"")?;
+    let mark = first_mark(inside)?;
+    let (content, rest) = inside.split_at(mark);
+    if !is_utf8(content) {
+        return None;
+    }
+    let rest = behind(rest, b"\"")?;
+    Some(rest)
+}
+
+fn first_mark(bytes: &[u8]) -> Option<usize>
+    ensures first { result ≡ position is_mark bytes.now }
+    ensures within { IfSome result (λ mark. mark < length bytes.now) }
+{
+    bytes.iter().position(|byte| *byte == b'"')
+}
+
+fn is_utf8(bytes: &[u8]) -> bool
+    ensures { result ≡ is_utf8 bytes.now }
+{
+    // Most texts are of ASCII, which is seen sooner.
+    if bytes.is_ascii() {
+        return true;
+    }
+    std::str::from_utf8(bytes).is_ok()
+}
+
+/// What stands behind a code, which is a number or a text, behind its comma.
+pub(crate) fn code_behind_comma(bytes: &[u8]) -> Option<&[u8]>
+    ensures { IfSome result (λ rest. ReadsOne any code_tree bytes.now rest.now) }
+{
+    let inside = behind(bytes, b",")?;
+    if inside.first() == Some(&b'"') {
+        let rest = text(inside)?;
+        return Some(rest);
+    }
+    let rest = number(inside)?;
+    Some(rest)
+}

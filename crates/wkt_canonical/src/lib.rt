@@ -1,0 +1,19 @@
+//! Recognizes canonical texts.
+#![tactic(auto)]
+
+mod canonical;
+mod conversions;
+mod crs;
+mod datums;
+mod front;
+mod identifiers;
+mod leaves;
+mod node;
+mod numerals;
+mod systems;
+mod units;
+mod usages;
+mod values;
+mod words;
+
+pub use canonical::is_canonical;

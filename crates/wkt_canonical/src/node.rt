@@ -1,0 +1,67 @@
+//! Nodes, behind their opening delimiters.
+
+ghost use Rattle.std.specs.Prelude.{◌≡◌, ◌++◌, Bool, List, ℕ, IfSome};
+ghost use Rattle.wkt_tier.specs.Bare.{Bare};
+ghost use Rattle.wkt_canonical.specs.Reads.{ReadsOne, ReadsMaybe, ReadsEach, ReadsSome, ReadsInside};
+
+use crate::front::behind;
+
+/// A value whose text is a node that is known by how it opens.
+pub(crate) trait Node {
+    ghost tree: { Self → Bare };
+
+    ghost test: { Self → Bool };
+
+    ghost opening: { List ℕ };
+
+    /// The comma before it, its keyword and its opening delimiter.
+    fn opening() -> &'static [u8]
+        ensures { result.now ≡ opening };
+
+    /// What stands behind the node, from behind its opening delimiter on.
+    fn inside(text: &[u8]) -> Option<&[u8]>
+        ensures { IfSome result (λ rest. ReadsInside test tree opening text.now rest.now) };
+}
+
+/// What stands behind the node, which has to come.
+pub(crate) fn one<T: Node>(text: &[u8]) -> Option<&[u8]>
+    ensures { IfSome result (λ rest. ReadsOne T.test T.tree text.now rest.now) }
+{
+    let inside = behind(text, T::opening())?;
+    let rest = T::inside(inside)?;
+    Some(rest)
+}
+
+/// What stands behind the node, if it comes.
+pub(crate) fn maybe<T: Node>(text: &[u8]) -> Option<&[u8]>
+    ensures { IfSome result (λ rest. ReadsMaybe T.test T.tree text.now rest.now) }
+{
+    let Some(inside) = behind(text, T::opening()) else {
+        return Some(text);
+    };
+    let rest = T::inside(inside)?;
+    Some(rest)
+}
+
+/// What stands behind the nodes that come.
+pub(crate) fn each<T: Node>(text: &[u8]) -> Option<&[u8]>
+    ensures { IfSome result (λ rest. ReadsEach T.test T.tree text.now rest.now) }
+{
+    let mut rest = text;
+    for _ in 0..text.len() {
+        let Some(inside) = behind(rest, T::opening()) else {
+            return Some(rest);
+        };
+        rest = T::inside(inside)?;
+    }
+    None
+}
+
+/// What stands behind the nodes that come, of which there has to be one.
+pub(crate) fn some<T: Node>(text: &[u8]) -> Option<&[u8]>
+    ensures { IfSome result (λ rest. ReadsSome T.test T.tree text.now rest.now) }
+{
+    let rest = one::<T>(text)?;
+    let rest = each::<T>(rest)?;
+    Some(rest)
+}

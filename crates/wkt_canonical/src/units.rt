@@ -1,0 +1,109 @@
+//! Units.
+
+ghost use Rattle.std.specs.Prelude.{IfSome};
+ghost use Rattle.wkt_meaning.specs.Trees.{unit_of_tree, unit_tree, length_unit_tree, angle_unit_tree};
+ghost use Rattle.crs_value.specs.Conditions.{has_positive_factor};
+ghost use Rattle.wkt_canonical.specs.Reads.{ReadsOne, ReadsMaybe, ReadsWithin, ReadsUnit};
+ghost use Rattle.wkt_canonical.specs.Tests.{unit_passes, length_unit_passes, angle_unit_passes};
+
+use crate::front::behind;
+use crate::leaves::text;
+use crate::node::each;
+use crate::numerals::positive_number_behind_comma;
+use crs_part::Ident;
+
+/// What a unit measures, if it tells that.
+#[derive(Clone, Copy, PartialEq, Eq)]
+pub(crate) enum Group {
+    Length,
+    Angle,
+    Scale,
+    Generic,
+}
+
+/// What stands behind a unit, from behind its opening delimiter on.
+fn definition(bytes: &[u8]) -> Option<&[u8]>
+    ensures { IfSome result (λ rest. ReadsWithin has_positive_factor unit_of_tree bytes.now rest.now) }
+{
+    let rest = text(bytes)?;
+    let rest = positive_number_behind_comma(rest)?;
+    let rest = each::<Ident>(rest)?;
+    let rest = behind(rest, b"]")?;
+    Some(rest)
+}
+
+/// The group of a unit that comes, and what stands behind it.
+pub(crate) fn unit(bytes: &[u8]) -> Option<(Group, &[u8])>
+    ensures { IfSome result (λ found. ReadsUnit found.0 bytes.now found.1.now) }
+{
+    if let Some(inside) = behind(bytes, b",LENGTHUNIT[") {
+        let rest = definition(inside)?;
+        return Some((Group::Length, rest));
+    }
+    if let Some(inside) = behind(bytes, b",ANGLEUNIT[") {
+        let rest = definition(inside)?;
+        return Some((Group::Angle, rest));
+    }
+    if let Some(inside) = behind(bytes, b",SCALEUNIT[") {
+        let rest = definition(inside)?;
+        return Some((Group::Scale, rest));
+    }
+    let inside = behind(bytes, b",UNIT[")?;
+    let rest = definition(inside)?;
+    Some((Group::Generic, rest))
+}
+
+/// What stands behind a unit, if it comes.
+pub(crate) fn maybe_unit(bytes: &[u8]) -> &[u8]
+    ensures { ReadsMaybe unit_passes unit_tree bytes.now result.now }
+{
+    match unit(bytes) {
+        Some((_, rest)) => rest,
+        None => bytes,
+    }
+}
+
+fn length_unit(bytes: &[u8]) -> Option<&[u8]>
+    ensures { IfSome result (λ rest. ReadsOne length_unit_passes length_unit_tree bytes.now rest.now) }
+{
+    if let Some(inside) = behind(bytes, b",LENGTHUNIT[") {
+        let rest = definition(inside)?;
+        return Some(rest);
+    }
+    let inside = behind(bytes, b",UNIT[")?;
+    let rest = definition(inside)?;
+    Some(rest)
+}
+
+/// What stands behind a unit of length, if it comes.
+pub(crate) fn maybe_length_unit(bytes: &[u8]) -> &[u8]
+    ensures { ReadsMaybe length_unit_passes length_unit_tree bytes.now result.now }
+{
+    match length_unit(bytes) {
+        Some(rest) => rest,
+        None => bytes,
+    }
+}
+
+/// What stands behind a unit of angle.
+pub(crate) fn angle_unit(bytes: &[u8]) -> Option<&[u8]>
+    ensures { IfSome result (λ rest. ReadsOne angle_unit_passes angle_unit_tree bytes.now rest.now) }
+{
+    if let Some(inside) = behind(bytes, b",ANGLEUNIT[") {
+        let rest = definition(inside)?;
+        return Some(rest);
+    }
+    let inside = behind(bytes, b",UNIT[")?;
+    let rest = definition(inside)?;
+    Some(rest)
+}
+
+/// What stands behind a unit of angle, if it comes.
+pub(crate) fn maybe_angle_unit(bytes: &[u8]) -> &[u8]
+    ensures { ReadsMaybe angle_unit_passes angle_unit_tree bytes.now result.now }
+{
+    match angle_unit(bytes) {
+        Some(rest) => rest,
+        None => bytes,
+    }
+}

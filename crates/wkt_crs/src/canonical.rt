@@ -1,0 +1,55 @@
+//! Canonical texts of texts.
+
+ghost use Rattle.std.specs.Prelude.{◌≡◌, ◌≤◌, true, length, IfOk, IfErr};
+ghost use Rattle.crs_value.specs.declared.crs.Crs.{Crs};
+ghost use Rattle.wkt_tree.specs.declared.fault.TextFault.{TextFault};
+ghost use Rattle.wkt_tree.specs.Faults as tree;
+ghost use Rattle.wkt_tier.specs.declared.fault.SlotFault.{SlotFault};
+ghost use Rattle.wkt_crs.specs.declared.fault.ReadFault.TheVariants as fault;
+ghost use Rattle.wkt_crs.specs.Spells.{Spells, SpellsCanon};
+ghost use Rattle.wkt_crs.specs.Faults.{FirstFault, FirstSlot};
+
+use crate::fault::ReadFault;
+use crate::reading::{fault_without_memory, read_crs};
+use crate::writing::write_crs;
+use std::alloc::Global;
+use wkt_canonical::is_canonical;
+
+/// The most bytes of a text.
+const MOST: usize = 1_048_576;
+
+/// The canonical text of what the text spells, or the first fault of the text. Most canonical texts are seen to be so, and
+/// no value is made of them.
+pub fn canonical_text(alloc: Global, text: &[u8]) -> Result<Vec<u8>, ReadFault>
+    ensures found { IfOk result (λ canonical. SpellsCanon text.now canonical.items) }
+    ensures only { (v : Crs) → Spells text.now v → IfErr result (λ f. f ≡ fault.Memory) }
+    ensures fault { IfErr result (FirstFault text.now) }
+    // These come without memory.
+    ensures text { (f : TextFault) → tree.FirstFault text.now f → IfErr result (λ g. g ≡ fault.Text f) }
+    ensures slot { (f : SlotFault) → FirstSlot text.now f → IfErr result (λ g. g ≡ fault.Slot f) }
+{
+    if is_seen(text) {
+        let Ok(copy) = Vec::from_slice(alloc, text) else {
+            return Err(fault_without_memory(text));
+        };
+        return Ok(copy);
+    }
+    let crs = match read_crs(alloc, text) {
+        Ok(crs) => crs,
+        Err(fault) => return Err(fault),
+    };
+    match write_crs(alloc, &crs) {
+        Ok(canonical) => Ok(canonical),
+        Err(_) => Err(fault_without_memory(text)),
+    }
+}
+
+// Whether the text is seen to be its own canonical text.
+fn is_seen(text: &[u8]) -> bool
+    ensures { result ≡ true → SpellsCanon text.now text.now }
+{
+    if text.len() > MOST {
+        return false;
+    }
+    is_canonical(text)
+}
