@@ -1,8 +1,8 @@
 -- Coordinate systems and their axes.
-use Rattle.std.proofs.Common.{◌≡◌, ℕ, ◌+◌, ◌<◌, ◌^◌, Bool, true, false, ◌&&◌, List, [], ◌∷◌, ◌++◌, ◌∙◌, ap, sym, refl, length, arith, append_assoc, subst}
+use Rattle.std.proofs.Common.{◌≡◌, ℕ, ◌+◌, Bool, true, false, List, [], ◌∷◌, ◌++◌, ◌∙◌, ap, sym, refl, arith, subst}
 use mathlib.Core.Bool.{beq}
-use Rattle.std.specs.Prelude.{Option, Some, None, codes, not, ◌||◌, ◌==◌, is_some, is_none, decimal}
-use Rattle.std.specs.List.{list_all, flat_map, enumerate_from}
+use Rattle.std.specs.Prelude.{Option, Some, None, codes, not, ◌||◌, ◌==◌, is_some, is_none}
+use Rattle.std.specs.List.{list_all, enumerate_from}
 use Rattle.std.specs.Option.{option_map_or}
 use Rattle.std.proofs.lemmas.Fmt.{decimal_digit}
 use Rattle.crs_part.specs.declared.units.Unit.{Unit}
@@ -12,14 +12,14 @@ use Rattle.crs_part.specs.declared.systems.Direction.{Direction}
 use Rattle.crs_part.specs.declared.systems.Meridian.{Meridian}
 use Rattle.crs_part.specs.declared.systems.Axis.{Axis}
 use Rattle.crs_value.specs.Units.{any_units, meridian_units, axis_units}
-use Rattle.crs_value.specs.Conditions.{has_units, has_orders, units_fit, axis_fits, has_meridians, unit_fits, is_order, is_north_or_south}
+use Rattle.crs_value.specs.Conditions.{axis_fits, unit_fits, is_order, is_north_or_south}
 use Rattle.wkt_meaning.specs.Words.{system_word, direction_word}
 use Rattle.wkt_meaning.specs.Render.{render}
-use Rattle.wkt_meaning.specs.Trees.{one, maybe, text_tree, number_tree, kind_tree, count_tree, direction_tree, ident_tree, angle_unit_tree, unit_tree, system_tree, meridian_tree, order_tree, axis_tree}
+use Rattle.wkt_meaning.specs.Trees.{one, text_tree, number_tree, kind_tree, count_tree, direction_tree, ident_tree, angle_unit_tree, meridian_tree, axis_tree}
 use Rattle.wkt_canonical.specs.declared.units.Group.{Group}
 use Rattle.wkt_canonical.specs.Groups.{group_fits}
-use Rattle.wkt_canonical.specs.Reads.{ReadsFirst, ReadsOne, ReadsMaybe, ReadsEach, ReadsInside, ReadsUnit, ReadsDigit, ReadsSystem, ReadsMeridian, ReadsOrder, ReadsAxisUnit, ReadsAxis, ReadsAxes, any, group_of}
-use Rattle.wkt_canonical.specs.Tests.{all_positive, angle_unit_passes, unit_passes, meridian_passes, IsAxis, AxesHold}
+use Rattle.wkt_canonical.specs.Reads.{ReadsFirst, ReadsOne, ReadsEach, ReadsInside, ReadsUnit, ReadsDigit, ReadsSystem, ReadsMeridian, ReadsOrder, ReadsAxisUnit, ReadsAxis, ReadsAxes, any, group_of}
+use Rattle.wkt_canonical.specs.Tests.{all_positive, angle_unit_passes, meridian_passes, IsAxis, AxesHold}
 use Rattle.wkt_canonical.proofs.Runs.{closed, also, whole, behind_comma_is, no_run, two_runs}
 use Rattle.wkt_canonical.proofs.Nodes.{both_pass}
 

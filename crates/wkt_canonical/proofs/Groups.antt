@@ -1,5 +1,5 @@
 -- Units of each group.
-use Rattle.std.proofs.Common.{◌≡◌, ℕ, Bool, true, false, ◌&&◌, List, [], ◌∷◌, ◌++◌, refl}
+use Rattle.std.proofs.Common.{◌≡◌, ℕ, Bool, true, false, ◌&&◌, List, ◌++◌, refl}
 use Rattle.std.specs.Prelude.{codes}
 use Rattle.crs_part.specs.declared.units.Unit.TheVariants as unit
 use Rattle.crs_part.specs.declared.units.LengthUnit.TheVariants as length_unit
@@ -8,7 +8,7 @@ use Rattle.crs_value.specs.Conditions.{has_positive_factor}
 use Rattle.wkt_meaning.specs.Trees.{unit_of_tree, unit_tree, length_unit_tree, angle_unit_tree}
 use Rattle.wkt_canonical.specs.declared.units.Group.{Group}
 use Rattle.wkt_canonical.specs.declared.units.Group.TheVariants as group
-use Rattle.wkt_canonical.specs.Reads.{ReadsOne, ReadsMaybe, ReadsWithin, ReadsUnit}
+use Rattle.wkt_canonical.specs.Reads.{ReadsOne, ReadsWithin, ReadsUnit}
 use Rattle.wkt_canonical.specs.Tests.{unit_passes, length_unit_passes, angle_unit_passes}
 use Rattle.wkt_canonical.proofs.Runs.{came_within}
 

@@ -1,16 +1,15 @@
 -- Coordinate reference systems.
 use Rattle.std.proofs.Common.{◌≡◌, ℕ, Bool, true, false, ◌&&◌, List, [], ◌∷◌, ◌++◌, ◌∙◌, ap, sym, refl, subst, length, arith, map, append-nil}
 use Rattle.std.specs.Prelude.{Option, Some, None, codes, ◌==◌}
-use Rattle.std.specs.List.{list_all, flat_map}
+use Rattle.std.specs.List.{flat_map}
 use Rattle.std.specs.Option.{option_map_or}
-use Rattle.crs_part.specs.Slots.{items_of, ellipsoid_of, system_of, axes_of, common_unit_of}
+use Rattle.crs_part.specs.Slots.{ellipsoid_of, system_of, axes_of, common_unit_of}
 use Rattle.crs_part.specs.declared.datums.GeodeticFrame.{GeodeticFrame}
 use Rattle.crs_part.specs.declared.datums.PrimeMeridian.{PrimeMeridian}
 use Rattle.crs_part.specs.declared.systems.SystemKind.{SystemKind}
 use Rattle.crs_part.specs.declared.systems.CoordSystem.{CoordSystem}
 use Rattle.crs_part.specs.declared.systems.Axis.{Axis}
 use Rattle.crs_part.specs.declared.crs.GeodeticKind.{GeodeticKind}
-use Rattle.crs_part.specs.declared.crs.GeodeticKind.TheVariants as kinds
 use Rattle.crs_part.specs.declared.crs.Geodetic.{Geodetic}
 use Rattle.crs_part.specs.declared.crs.Projected.{Projected}
 use Rattle.crs_part.specs.declared.crs.Vertical as verticals
@@ -18,17 +17,14 @@ use Rattle.crs_part.specs.declared.crs.Compound.{Compound}
 use Rattle.crs_part.specs.declared.crs.Single.{Single}
 use Rattle.crs_part.specs.declared.crs.Single.TheVariants as single
 use Rattle.crs_part.specs.declared.crs.CrsParts.TheVariants as parts
-use Rattle.crs_value.specs.Units.{any_units, angle_units, frame_units, prime_meridian_units, axis_units, conversion_units, base_units, units_of}
-use Rattle.crs_value.specs.Conditions.{has_positive_factor, has_size, may_be_of, may_be_projected, may_be_vertical, may_have_system, may_be_first, may_be_second, is_ellipsoidal, is_cartesian, has_sizes}
-use Rattle.crs_value.specs.declared.broken.Condition.{Condition}
+use Rattle.crs_value.specs.Units.{angle_units, frame_units, prime_meridian_units, axis_units, conversion_units, base_units}
+use Rattle.crs_value.specs.Conditions.{has_size, may_be_of, may_be_projected, may_be_vertical, may_have_system, may_be_first, may_be_second, is_ellipsoidal, is_cartesian, has_sizes}
 use Rattle.crs_value.specs.declared.broken.Condition.TheVariants.{C1, C2, C3, C4, C5, C6, C7, C8}
-use Rattle.crs_value.specs.declared.broken.Whose.{Whose}
 use Rattle.crs_value.specs.declared.broken.Whose.TheVariants.{First, Second, Whole}
-use Rattle.crs_value.specs.Checking.{holds, HasConditions}
+use Rattle.crs_value.specs.Checking.{HasConditions}
 use Rattle.wkt_meaning.specs.Canon.{canon}
-use Rattle.wkt_meaning.specs.Render.{render}
 use Rattle.wkt_meaning.specs.Runs.{listed}
-use Rattle.wkt_meaning.specs.Trees.{one, maybe, text_tree, number_tree, ident_tree, value_tree, usage_tree, angle_unit_tree, geodetic_frame_tree, vertical_frame_tree, prime_meridian_tree, system_tree, axis_tree, unit_tree, conversion_tree, base_tree, base_name, geodetic_name, geodetic_tree, projected_tree, vertical_tree, single_tree, compound_tree}
+use Rattle.wkt_meaning.specs.Trees.{maybe, text_tree, ident_tree, value_tree, usage_tree, angle_unit_tree, geodetic_frame_tree, vertical_frame_tree, prime_meridian_tree, conversion_tree, base_tree, base_name, geodetic_name, single_tree}
 use Rattle.wkt_canonical.specs.Reads.{ReadsFirst, ReadsOne, ReadsMaybe, ReadsEach, ReadsInside, ReadsSystem, ReadsAxes, ReadsSingle, ReadsEnd, ReadsWhole, IsCanonical, any}
 use Rattle.wkt_canonical.specs.Tests.{all_positive, angle_unit_passes, frame_passes, prime_meridian_passes, conversion_passes, base_passes, AxesHold, Holds}
 use Rattle.wkt_canonical.proofs.Runs.{Goes, closed, also, whole, root, no_run, behind_comma_is, and_both}

@@ -1,7 +1,6 @@
 -- What is asked of a value on the way, so that all conditions hold of the whole.
-use Rattle.std.specs.Prelude.{◌≡◌, ℕ, Bool, true, false, ◌||◌, ◌&&◌, is_none, List, length, Option, Some, None}
+use Rattle.std.specs.Prelude.{◌≡◌, ℕ, Bool, true, false, ◌||◌, ◌&&◌, is_none, List, length, Some, None}
 use Rattle.std.specs.List.{list_all, flat_map}
-use Rattle.std.specs.Option.{option_map_or}
 use Rattle.crs_part.specs.Slots.{ellipsoid_of}
 use Rattle.crs_part.specs.declared.units.UnitDefinition.{UnitDefinition}
 use Rattle.crs_part.specs.declared.units.Unit.{Unit}

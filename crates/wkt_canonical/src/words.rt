@@ -1,6 +1,6 @@
 //! Words of kinds and directions, and digits.
 
-ghost use Rattle.std.specs.Prelude.{◌≡◌, ◌≤◌, ◌++◌, [], length, true, IfSome};
+ghost use Rattle.std.specs.Prelude.{◌≡◌, ◌++◌, IfSome};
 ghost use Rattle.wkt_meaning.specs.Words.{system_word, direction_word};
 ghost use Rattle.wkt_canonical.specs.Reads.{ReadsDigit};
 
