@@ -1,4 +1,4 @@
-use Rattle.std.proofs.Common.{◌≡◌, List, ℕ, sym, ap, ◌∙◌, subst, ⊎_elim}
+use Rattle.std.proofs.Common.{◌≡◌, sym, subst, ⊎_elim}
 use Rattle.std.specs.Prelude.{◌⊎◌, Result, Ok, Err}
 use Rattle.crs_value.specs.declared.crs.Crs.{Crs}
 use Rattle.wkt_crs.specs.declared.fault.ReadFault.{ReadFault}

@@ -1,7 +1,7 @@
-use Rattle.std.proofs.Common.{◌≡◌, ◌≤◌, ℕ, List, length, true, sym, ap, subst, arith}
+use Rattle.std.proofs.Common.{◌≤◌, ℕ, List, length, sym, subst, arith}
 use Rattle.crs_value.specs.declared.crs.Crs.{Crs}
 use Rattle.wkt_canonical.specs.Reads.{IsCanonical}
-use Rattle.wkt_crs.specs.Spells.{Spells, SpellsCanon, canon}
+use Rattle.wkt_crs.specs.Spells.{Spells, SpellsCanon}
 use Rattle.wkt_crs.proofs.Written.{canonical_spells}
 use Rattle.wkt_crs.proofs.canonical.is_seen.Goals as goal
 

@@ -1,4 +1,4 @@
-use Rattle.std.proofs.Common.{Ok, Err, ap, sym, subst}
+use Rattle.std.proofs.Common.{Ok, Err, ap, subst}
 use Rattle.std.proofs.Common.{inl, inr}
 use Rattle.std.specs.Prelude.{IfSome}
 use Rattle.wkt_tree.proofs.Exclusion.{fault_no}
