@@ -6,10 +6,7 @@ mod refused;
 use std::alloc::Global;
 use std::test::Fail;
 use wkt_crs::{Condition, ReadFault, read_crs, write_crs, write_pretty};
-use wkt_guess::{Outcome, guess_parts, looks_canonical};
-use wkt_slots::Edition;
-use wkt_tier::check_slots;
-use wkt_tree::scan;
+use wkt_guess::{Outcome, guess_parts};
 
 /// A vertical system, canonical.
 const HEIGHT: &[u8] =
@@ -68,37 +65,6 @@ fn canonical_texts_alone_are_guessed(rt: HostRuntime) -> Result<(), Fail> {
         assert!(rt; wkt_write::write_crs(alloc, &guess.parts)?.as_slice() == text);
     }
     assert!(rt; guess_parts(alloc, SPELLED).outcome == Outcome::Strayed);
-    Ok(())
-}
-
-// Whether the text has no fault of its tokens or slots, if it looks canonical.
-fn looks_right(alloc: Global, text: &[u8]) -> bool {
-    if !looks_canonical(alloc, text) {
-        return true;
-    }
-    match scan(text) {
-        Ok(outline) => check_slots(Edition::First, &outline).is_ok(),
-        Err(_) => false,
-    }
-}
-
-#[test]
-fn nothing_is_guessed_of_a_text_with_a_fault(rt: HostRuntime) -> Result<(), Fail> {
-    let alloc = rt.alloc();
-    for text in [HEIGHT, COMPOUND, POLAR, LISTED] {
-        assert!(rt; looks_canonical(alloc, text));
-        let mut turned = Vec::new(alloc);
-        turned.extend_from_slice(text)?;
-        for place in 0..text.len() {
-            assert!(rt; !looks_canonical(alloc, &text[..place]));
-            let byte = text[place];
-            for other in [0, 255, byte ^ 1, byte ^ 2, b'0', b'.', b'"', b',', b']'] {
-                turned[place] = other;
-                assert!(rt; looks_right(alloc, &turned));
-            }
-            turned[place] = byte;
-        }
-    }
     Ok(())
 }
 

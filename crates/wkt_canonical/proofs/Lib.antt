@@ -1,4 +1,5 @@
 pub mod Axes
+pub mod Codes
 pub mod Groups
 pub mod Nodes
 pub mod Numbers

@@ -3,7 +3,6 @@ use Rattle.std.proofs.Common.{◌≡◌, ℕ, Bool, true, ◌&&◌, List, [], �
 use Rattle.std.specs.Prelude.{Option, Some, None, codes}
 use Rattle.std.specs.List.{list_all, flat_map}
 use Rattle.std.specs.Option.{option_map_or}
-use Rattle.crs_part.specs.declared.identifiers.NumberOrText.TheVariants as code
 use Rattle.crs_part.specs.declared.units.UnitDefinition.{UnitDefinition}
 use Rattle.crs_part.specs.declared.units.Unit.{Unit}
 use Rattle.crs_part.specs.declared.units.LengthUnit.{LengthUnit}
@@ -12,10 +11,10 @@ use Rattle.crs_part.specs.declared.datums.GeodeticFrame.TheVariants as geodetic_
 use Rattle.crs_part.specs.declared.datums.VerticalFrame.TheVariants as vertical_frame
 use Rattle.crs_value.specs.Conditions.{has_positive_factor}
 use Rattle.crs_value.specs.Units.{any_units, length_units, angle_units, parameter_units}
-use Rattle.wkt_meaning.specs.Trees.{text_tree, number_tree, code_tree, ident_tree, value_tree, named_tree, unit_of_tree, unit_tree, length_unit_tree, angle_unit_tree, bounding_box_tree, usage_tree, ellipsoid_tree, prime_meridian_tree, accuracy_tree, datum_tree, geodetic_ensemble_tree, vertical_datum_tree, vertical_ensemble_tree, geodetic_frame_tree, vertical_frame_tree, parameter_tree, conversion_tree}
+use Rattle.wkt_meaning.specs.Trees.{text_tree, number_tree, ident_tree, value_tree, named_tree, unit_of_tree, unit_tree, length_unit_tree, angle_unit_tree, bounding_box_tree, usage_tree, ellipsoid_tree, prime_meridian_tree, accuracy_tree, datum_tree, geodetic_ensemble_tree, vertical_datum_tree, vertical_ensemble_tree, geodetic_frame_tree, vertical_frame_tree, parameter_tree, conversion_tree}
 use Rattle.wkt_canonical.specs.Reads.{ReadsFirst, ReadsOne, ReadsMaybe, ReadsEach, ReadsSome, ReadsInside, ReadsWithin, any, is_above_zero, is_not_below_zero}
 use Rattle.wkt_canonical.specs.Tests.{all_positive, unit_passes, length_unit_passes, angle_unit_passes, ellipsoid_passes, datum_passes, ensemble_passes, frame_passes, prime_meridian_passes, parameter_passes, conversion_passes}
-use Rattle.wkt_canonical.proofs.Runs.{closed, also, whole, behind_comma, first_within, and_both}
+use Rattle.wkt_canonical.proofs.Runs.{closed, also, whole, first_within, and_both}
 
 pub value : {text a rest : List ℕ} → ReadsFirst any text_tree text a → a ≡ 93 ∷ rest → ReadsWithin any value_tree text rest
 value content close = record { value = content.value; passes = refl; is = λ k. whole k _ _ content.is (closed close) }
@@ -25,13 +24,6 @@ named name ids close = record {
   value = record { name = name.value; ids = ids.values };
   passes = refl;
   is = λ k. whole k _ _ name.is (also _ _ ids.is (closed close));
-}
-
-pub ident : {text a b c d e rest : List ℕ} → ReadsFirst any text_tree text a → ReadsOne any code_tree a b → ReadsMaybe any code_tree b c → ReadsMaybe any (value_tree (codes "CITATION")) c d → ReadsMaybe any (value_tree (codes "URI")) d e → e ≡ 93 ∷ rest → ReadsInside any ident_tree (codes ",ID[") text rest
-ident authority code version citation uri close = record {
-  value = record { authority = authority.value; code = code.value; version = version.value; citation = citation.value; uri = uri.value };
-  passes = refl;
-  is = whole (codes "ID") _ _ authority.is (also _ _ code.is (also _ _ version.is (also _ _ citation.is (also _ _ uri.is (closed close)))));
 }
 
 pub member : {text rest : List ℕ} → ReadsWithin any named_tree text rest → ReadsInside any (named_tree (codes "MEMBER")) (codes ",MEMBER[") text rest
@@ -50,12 +42,6 @@ bounding_box south west north east close = record {
   passes = refl;
   is = whole (codes "BBOX") _ _ south.is (also _ _ west.is (also _ _ north.is (also _ _ east.is (closed close))));
 }
-
-pub code_of_text : {text inside rest : List ℕ} → text ≡ 44 ∷ inside → ReadsFirst any text_tree inside rest → ReadsOne any code_tree text rest
-code_of_text e r = behind_comma any code_tree e (record { value = code.Text r.value; passes = refl; is = r.is })
-
-pub code_of_number : {text inside rest : List ℕ} → text ≡ 44 ∷ inside → ReadsFirst any number_tree inside rest → ReadsOne any code_tree text rest
-code_of_number e r = behind_comma any code_tree e (record { value = code.Number r.value; passes = refl; is = r.is })
 
 pub usage : {text scope a b c rest : List ℕ} → text ≡ codes "SCOPE[" ++ scope → ReadsWithin any value_tree scope a → ReadsMaybe any (value_tree (codes "AREA")) a b → ReadsMaybe any bounding_box_tree b c → c ≡ 93 ∷ rest → ReadsInside any usage_tree (codes ",USAGE[") text rest
 usage e scope area box close =
@@ -79,7 +65,7 @@ pub angle_units_pass : (o : Option AngleUnit) → option_map_or angle_unit_passe
 angle_units_pass None h = refl
 angle_units_pass (Some unit) h = h
 
-any_units_pass : (o : Option Unit) → option_map_or unit_passes o true ≡ true → all_positive (option_map_or any_units o []) ≡ true
+pub any_units_pass : (o : Option Unit) → option_map_or unit_passes o true ≡ true → all_positive (option_map_or any_units o []) ≡ true
 any_units_pass None h = refl
 any_units_pass (Some unit) h = h
 

@@ -1,5 +1,5 @@
 -- Which units fit an axis, by their groups.
-use Rattle.std.specs.Prelude.{ℕ, Bool, true, false}
+use Rattle.std.specs.Prelude.{◌≡◌, ℕ, ◌<◌, Bool, true, false}
 use Rattle.crs_part.specs.declared.systems.SystemKind.{SystemKind}
 use Rattle.crs_value.specs.Conditions.{takes_length, takes_angle}
 use Rattle.wkt_canonical.specs.declared.units.Group.{Group}
@@ -11,3 +11,7 @@ group_fits system k Length = takes_length system k
 group_fits system k Angle = takes_angle system k
 group_fits system k Scale = false
 group_fits system k Generic = true
+
+-- each axis of a system of at most three may have a unit of the group
+abbrev pub FitsEach : SystemKind → ℕ → Group → Type 0
+FitsEach system dimension group = (k : ℕ) → k < 3 → k < dimension → group_fits system k group ≡ true

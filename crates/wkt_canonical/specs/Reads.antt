@@ -1,5 +1,5 @@
 -- What stands at the front of a text: the canonical text of a value that passes a test, and the rest behind it.
-use Rattle.std.specs.Prelude.{◌≡◌, ℕ, ◌+◌, ◌<◌, Bool, true, false, not, ◌||◌, is_none, codes, List, [], ◌∷◌, ◌++◌, map, Option}
+use Rattle.std.specs.Prelude.{◌≡◌, ℕ, ◌+◌, ◌<◌, Bool, true, false, not, ◌||◌, None, is_some, is_none, codes, List, [], ◌∷◌, ◌++◌, map, Option}
 use Rattle.std.specs.Int.{is_positive, is_negative}
 use Rattle.std.specs.List.{list_all}
 use Rattle.std.specs.Option.{option_map_or}
@@ -13,9 +13,12 @@ use Rattle.crs_part.specs.declared.systems.Order.{Order}
 use Rattle.crs_part.specs.declared.systems.Axis.{Axis}
 use Rattle.crs_part.specs.declared.text.Text.{Text}
 use Rattle.crs_part.specs.declared.identifiers.Ident.{Ident}
+use Rattle.crs_part.specs.declared.identifiers.NumberOrText.{NumberOrText}
 use Rattle.crs_part.specs.declared.usages.Usage.{Usage}
 use Rattle.crs_part.specs.declared.crs.Single.{Single}
 use Rattle.crs_part.specs.declared.crs.CrsParts.{CrsParts}
+use Rattle.crs_part.specs.declared.crs.CrsParts.TheVariants as parts
+use Rattle.crs_value.specs.Keys.{text_of}
 use Rattle.crs_value.specs.Conditions.{is_order, is_north_or_south, unit_fits, may_be_first, may_be_second}
 use Rattle.crs_value.specs.Checking.{HasConditions}
 use Rattle.wkt_meaning.specs.Canon.{canon}
@@ -23,11 +26,15 @@ use Rattle.crs_part.specs.declared.units.Unit.{Unit}
 use Rattle.crs_part.specs.declared.units.Unit.TheVariants as unit
 use Rattle.wkt_canonical.specs.declared.units.Group.{Group}
 use Rattle.wkt_canonical.specs.declared.units.Group.TheVariants as group
+use Rattle.wkt_canonical.specs.declared.identifiers.Identifier.{Identifier}
+use Rattle.wkt_canonical.specs.declared.crs.Seen.{Seen}
+use Rattle.wkt_canonical.specs.declared.crs.Component.{Component}
+use Rattle.wkt_canonical.specs.Seen.{Identifies, IsFirst, IsSeen}
 use Rattle.wkt_canonical.specs.Tests.{unit_passes, meridian_passes, IsAxis, AxesHold, Holds}
 use Rattle.wkt_tier.specs.Bare.{Bare, bares}
 use Rattle.wkt_meaning.specs.Render.{render, render_behind}
 use Rattle.wkt_meaning.specs.Runs.{listed}
-use Rattle.wkt_meaning.specs.Trees.{one, maybe, joined, unit_tree, system_tree, meridian_tree, order_tree, axis_tree, usage_tree, ident_tree, value_tree, single_tree}
+use Rattle.wkt_meaning.specs.Trees.{one, maybe, joined, unit_tree, system_tree, meridian_tree, order_tree, axis_tree, usage_tree, ident_tree, text_tree, code_tree, value_tree, single_tree}
 
 -- the text of arguments behind the first
 unfoldable pub behind : List Bare → List ℕ
@@ -44,6 +51,18 @@ pub record ReadsOne {A : Type 0} (test : A → Bool) (tree : A → Bare) (text r
   pub value : A
   pub passes : test value ≡ true
   pub is : text ≡ behind (one (tree value)) ++ rest
+
+-- a text with these characters
+pub record ReadsText (content text rest : List ℕ) : Type 0 where
+  pub value : Text
+  pub content_is : value.bytes ≡ content
+  pub is : text ≡ render (text_tree value) ++ rest
+
+-- a code behind its comma, which counts as these characters
+pub record ReadsCode (content text rest : List ℕ) : Type 0 where
+  pub value : NumberOrText
+  pub content_is : text_of value ≡ content
+  pub is : text ≡ behind (one (code_tree value)) ++ rest
 
 -- one or none
 pub record ReadsMaybe {A : Type 0} (test : A → Bool) (tree : A → Bare) (text rest : List ℕ) : Type 0 where
@@ -126,46 +145,82 @@ pub record ReadsOrder (k : ℕ) (has_order : Bool) (text rest : List ℕ) : Type
   pub unordered : has_order ≡ false → is_none value ≡ true
   pub is : text ≡ behind (maybe order_tree value) ++ rest
 
--- a unit that fits the axis at this place
-pub record ReadsAxisUnit (system : SystemKind) (k : ℕ) (text rest : List ℕ) : Type 0 where
-  pub value : Unit
-  pub passes : unit_passes value ≡ true
-  pub fits : unit_fits system k value ≡ true
-  pub is : text ≡ behind (one (unit_tree value)) ++ rest
+-- a unit that fits the axis at this place, or none
+pub record ReadsAxisUnit (system : SystemKind) (k : ℕ) (has_unit : Bool) (text rest : List ℕ) : Type 0 where
+  pub value : Option Unit
+  pub passes : option_map_or unit_passes value true ≡ true
+  pub with_unit : has_unit ≡ true → (is_some value ≡ true) × (option_map_or (unit_fits system k) value true ≡ true)
+  pub without_unit : has_unit ≡ false → value ≡ None
+  pub is : text ≡ behind (maybe unit_tree value) ++ rest
 
-pub record ReadsAxis (system : SystemKind) (k : ℕ) (has_order : Bool) (text rest : List ℕ) : Type 0 where
+-- the common unit, which fits each of at most three axes where they have none
+pub record ReadsCommonUnit (system : SystemKind) (dimension : ℕ) (has_unit : Bool) (text rest : List ℕ) : Type 0 where
+  pub value : Option Unit
+  pub passes : option_map_or unit_passes value true ≡ true
+  pub fits : has_unit ≡ false → (is_some value ≡ true) × ((k : ℕ) → k < 3 → k < dimension → option_map_or (unit_fits system k) value true ≡ true)
+  pub is : text ≡ behind (maybe unit_tree value) ++ rest
+
+pub record ReadsAxis (system : SystemKind) (k : ℕ) (has_order has_unit : Bool) (text rest : List ℕ) : Type 0 where
   pub value : Axis
-  pub axis : IsAxis system k has_order value
+  pub axis : IsAxis system k has_order has_unit value
   pub is : text ≡ behind (one (axis_tree value)) ++ rest
 
--- the axes of a system, each with a unit of its own
+-- the axes of a system and the unit that they have in common
 pub record ReadsAxes (system : SystemKind) (dimension : ℕ) (text rest : List ℕ) : Type 0 where
   pub value : NonEmpty Axis
-  pub hold : AxesHold system dimension (listed value)
-  pub is : text ≡ behind (map axis_tree (listed value)) ++ rest
+  pub common : Option Unit
+  pub hold : AxesHold system dimension (listed value) common
+  pub passes : option_map_or unit_passes common true ≡ true
+  pub mid : List ℕ
+  pub is : text ≡ behind (map axis_tree (listed value)) ++ mid
+  pub common_is : mid ≡ behind (maybe unit_tree common) ++ rest
+
+-- ---- identifiers
+
+-- an identifier, of which the opening was read before
+pub record ReadsIdentifier (seen : Identifier) (text rest : List ℕ) : Type 0 where
+  pub value : Ident
+  pub identifies : Identifies seen value
+  pub is : codes ",ID[" ++ text ≡ behind (one (ident_tree value)) ++ rest
+
+-- any number of identifiers, and which is the first
+pub record ReadsIdentifiers (first : Option Identifier) (text rest : List ℕ) : Type 0 where
+  pub values : List Ident
+  pub first_is : IsFirst values first
+  pub is : text ≡ behind (map ident_tree values) ++ rest
 
 -- ---- reference systems
 
--- a reference system of one part, of which all conditions hold, and whether it may be a component
-pub record ReadsSingle (is_first is_second : Bool) (text rest : List ℕ) : Type 0 where
+-- a reference system of one part, of which all conditions hold
+pub record ReadsSingle (component : Component) (text rest : List ℕ) : Type 0 where
   pub value : Single
   pub holds : Holds value
-  pub first : may_be_first value ≡ is_first
-  pub second : may_be_second value ≡ is_second
+  pub first : may_be_first value ≡ component.may_be_first
+  pub second : may_be_second value ≡ component.may_be_second
+  pub seen : IsSeen component.seen (parts.Single value)
   pub is : text ≡ render (single_tree value) ++ rest
 
 -- the usages, identifiers and remark at the end of a reference system, and its closing delimiter
-pub record ReadsEnd (text rest : List ℕ) : Type 0 where
+pub record ReadsEnd (first : Option Identifier) (text rest : List ℕ) : Type 0 where
   pub usages : List Usage
   pub ids : List Ident
+  pub first_is : IsFirst ids first
   pub remark : Option Text
   pub is : text ≡ behind (joined (map usage_tree usages ∷ map ident_tree ids ∷ maybe (value_tree (codes "REMARK")) remark ∷ [])) ++ 93 ∷ rest
 
 -- the parts of a reference system, of which all conditions hold
-pub record ReadsWhole (text rest : List ℕ) : Type 0 where
+pub record ReadsWhole (seen : Seen) (text rest : List ℕ) : Type 0 where
   pub value : CrsParts
   pub conditions : HasConditions value
+  pub seen_of : IsSeen seen value
   pub is : text ≡ canon value ++ rest
+
+-- the text is the canonical one of parts of which all conditions hold, and this is seen of them
+pub record IsCanonicalOf (seen : Seen) (text : List ℕ) : Type 0 where
+  pub value : CrsParts
+  pub conditions : HasConditions value
+  pub seen_of : IsSeen seen value
+  pub is : text ≡ canon value
 
 -- the text is the canonical one of parts of which all conditions hold
 pub record IsCanonical (text : List ℕ) : Type 0 where

@@ -1,6 +1,7 @@
 -- What is asked of a value on the way, so that all conditions hold of the whole.
-use Rattle.std.specs.Prelude.{◌≡◌, ℕ, Bool, true, false, ◌||◌, ◌&&◌, is_none, List, length, Some, None}
+use Rattle.std.specs.Prelude.{◌≡◌, ℕ, Bool, true, false, ◌||◌, ◌&&◌, Option, None, is_some, is_none, List, length}
 use Rattle.std.specs.List.{list_all, flat_map}
+use Rattle.std.specs.Option.{option_map_or}
 use Rattle.crs_part.specs.Slots.{ellipsoid_of}
 use Rattle.crs_part.specs.declared.units.UnitDefinition.{UnitDefinition}
 use Rattle.crs_part.specs.declared.units.Unit.{Unit}
@@ -63,22 +64,21 @@ conversion_passes conversion = all_positive (conversion_units conversion)
 abbrev pub base_passes : BaseCrs → Bool
 base_passes base = has_size (ellipsoid_of base.datum) && all_positive (base_units base)
 
--- an axis at this place with a unit of its own that fits it, with its number or without one
-pub record IsAxis (system : SystemKind) (k : ℕ) (has_order : Bool) (axis : Axis) : Type 0 where
-  pub unit : Unit
-  pub has_unit : axis.unit ≡ Some unit
-  pub fits : unit_fits system k unit ≡ true
+-- an axis at this place, with its number or without one, with a unit of its own that fits it or without one
+pub record IsAxis (system : SystemKind) (k : ℕ) (has_order has_unit : Bool) (axis : Axis) : Type 0 where
+  pub with_unit : has_unit ≡ true → (is_some axis.unit ≡ true) × (option_map_or (unit_fits system k) axis.unit true ≡ true)
+  pub without_unit : has_unit ≡ false → axis.unit ≡ None
   pub ordered : has_order ≡ true → is_order k axis.order ≡ true
   pub unordered : has_order ≡ false → is_none axis.order ≡ true
   pub meridian : (is_none axis.meridian || is_north_or_south axis.direction) ≡ true
   pub units : all_positive (axis_units axis) ≡ true
 
--- what the conditions say of the axes of a system of this kind and dimension, where there is no common unit
-pub record AxesHold (system : SystemKind) (dimension : ℕ) (axes : List Axis) : Type 0 where
+-- what the conditions say of the axes of a system of this kind and dimension, and of their common unit
+pub record AxesHold (system : SystemKind) (dimension : ℕ) (axes : List Axis) (common : Option Unit) : Type 0 where
   pub count : length axes ≡ dimension
-  pub have_units : has_units axes None ≡ true
+  pub have_units : has_units axes common ≡ true
   pub have_orders : has_orders axes ≡ true
-  pub units_fit : units_fit system axes None ≡ true
+  pub units_fit : units_fit system axes common ≡ true
   pub have_meridians : has_meridians axes ≡ true
   pub units : all_positive (flat_map axis_units axes) ≡ true
 

@@ -1,17 +1,26 @@
 //! Canonical texts.
 
-ghost use Rattle.std.specs.Prelude.{◌≡◌, true};
-ghost use Rattle.wkt_canonical.specs.Reads.{IsCanonical};
+ghost use Rattle.std.specs.Prelude.{◌≡◌, true, IfSome};
+ghost use Rattle.wkt_canonical.specs.Reads.{IsCanonical, IsCanonicalOf};
 
-use crate::crs::whole;
+use crate::crs::{Seen, whole};
 
-/// Whether the text is seen to be the canonical one of a reference system of which all conditions hold. Nothing grows. Some
-/// canonical texts are not seen: those with marks in their texts, with a common unit of their axes, or with long numbers.
+/// The name and the first identifier of a reference system of which all conditions hold, if the text is seen to be its
+/// canonical one. Nothing grows. Some canonical texts are not seen: those with marks in their texts, with a common unit of
+/// their axes, or with long numbers.
+pub fn recognize(bytes: &[u8]) -> Option<Seen<'_>>
+    ensures { IfSome result (λ seen. IsCanonicalOf seen bytes.now) }
+{
+    let (seen, rest) = whole(bytes)?;
+    if !rest.is_empty() {
+        return None;
+    }
+    Some(seen)
+}
+
+/// Whether the text is seen to be the canonical one of a reference system of which all conditions hold.
 pub fn is_canonical(bytes: &[u8]) -> bool
     ensures { result ≡ true → IsCanonical bytes.now }
 {
-    match whole(bytes) {
-        Some(rest) => rest.is_empty(),
-        None => false,
-    }
+    recognize(bytes).is_some()
 }

@@ -8,82 +8,97 @@ ghost use Rattle.wkt_canonical.specs.Tests.{base_passes};
 
 use crate::datums::{geodetic_frame, vertical_frame};
 use crate::front::behind;
-use crate::leaves::text;
+use crate::identifiers::{Identifier, identifiers};
+use crate::leaves::{content, text};
 use crate::node::{each, maybe, one};
 use crate::systems::{axes, system};
 use crate::units::maybe_angle_unit;
 use crate::values::remark;
 use crs_part::{Conversion, GeodeticKind, Ident, PrimeMeridian, SystemKind, Usage};
 
-/// What stands behind the canonical text of a reference system of which all conditions hold.
-pub(crate) fn whole(bytes: &[u8]) -> Option<&[u8]>
-    ensures { IfSome result (λ rest. ReadsWhole bytes.now rest.now) }
+/// The name of a reference system, as it stands between its marks, and its first identifier.
+#[derive(Clone, Copy)]
+pub struct Seen<'a> {
+    pub name: &'a [u8],
+    pub identifier: Option<Identifier<'a>>,
+}
+
+/// What is seen of a reference system of one part.
+#[derive(Clone, Copy)]
+struct Component<'a> {
+    seen: Seen<'a>,
+    may_be_first: bool,
+    may_be_second: bool,
+}
+
+/// What is seen of a reference system of which all conditions hold, and what stands behind its canonical text.
+pub(crate) fn whole(bytes: &[u8]) -> Option<(Seen<'_>, &[u8])>
+    ensures { IfSome result (λ found. ReadsWhole found.0 bytes.now found.1.now) }
 {
     if let Some(inside) = behind(bytes, b"COMPOUNDCRS[") {
-        let rest = compound(inside)?;
-        return Some(rest);
+        let (seen, rest) = compound(inside)?;
+        return Some((seen, rest));
     }
-    let (_, _, rest) = single(bytes)?;
-    Some(rest)
+    let (component, rest) = single(bytes)?;
+    Some((component.seen, rest))
 }
 
-/// What stands behind a compound reference system, from behind its opening delimiter on.
-fn compound(bytes: &[u8]) -> Option<&[u8]>
-    ensures { IfSome result (λ rest. ReadsWhole (codes "COMPOUNDCRS[" ++ bytes.now) rest.now) }
+/// What is seen of a compound reference system, and what stands behind it, from behind its opening delimiter on.
+fn compound(bytes: &[u8]) -> Option<(Seen<'_>, &[u8])>
+    ensures { IfSome result (λ found. ReadsWhole found.0 (codes "COMPOUNDCRS[" ++ bytes.now) found.1.now) }
 {
-    let rest = text(bytes)?;
+    let (name, rest) = content(bytes)?;
     let rest = behind(rest, b",")?;
-    let (may_be_first, _, rest) = single(rest)?;
+    let (first, rest) = single(rest)?;
     let rest = behind(rest, b",")?;
-    let (_, may_be_second, rest) = single(rest)?;
-    if !may_be_first {
+    let (second, rest) = single(rest)?;
+    if !first.may_be_first {
         return None;
     }
-    if !may_be_second {
+    if !second.may_be_second {
         return None;
     }
-    let rest = end(rest)?;
-    Some(rest)
+    let (identifier, rest) = end(rest)?;
+    Some((Seen { name, identifier }, rest))
 }
 
-/// Whether a reference system of one part may be the first component of a compound, whether it may be the second, and what
-/// stands behind it.
-fn single(bytes: &[u8]) -> Option<(bool, bool, &[u8])>
-    ensures { IfSome result (λ found. ReadsSingle found.0 found.1 bytes.now found.2.now) }
+/// What is seen of a reference system of one part, and what stands behind it.
+fn single(bytes: &[u8]) -> Option<(Component<'_>, &[u8])>
+    ensures { IfSome result (λ found. ReadsSingle found.0 bytes.now found.1.now) }
 {
     if let Some(inside) = behind(bytes, b"PROJCRS[") {
-        let (is_plane, rest) = projected(inside)?;
-        return Some((is_plane, false, rest));
+        let (component, rest) = projected(inside)?;
+        return Some((component, rest));
     }
     if let Some(inside) = behind(bytes, b"VERTCRS[") {
-        let rest = vertical(inside)?;
-        return Some((false, true, rest));
+        let (component, rest) = vertical(inside)?;
+        return Some((component, rest));
     }
     if let Some(inside) = behind(bytes, b"GEOGCRS[") {
-        let (is_plane, rest) = geodetic(GeodeticKind::Geographic, inside)?;
-        return Some((is_plane, false, rest));
+        let (component, rest) = geodetic(GeodeticKind::Geographic, inside)?;
+        return Some((component, rest));
     }
     let inside = behind(bytes, b"GEODCRS[")?;
-    let (is_plane, rest) = geodetic(GeodeticKind::Geodetic, inside)?;
-    Some((is_plane, false, rest))
+    let (component, rest) = geodetic(GeodeticKind::Geodetic, inside)?;
+    Some((component, rest))
 }
 
-/// What stands behind the usages, identifiers and remark of a reference system, and its closing delimiter.
-fn end(bytes: &[u8]) -> Option<&[u8]>
-    ensures { IfSome result (λ rest. ReadsEnd bytes.now rest.now) }
+/// The first identifier of a reference system, and what stands behind its usages, identifiers, remark and closing delimiter.
+fn end(bytes: &[u8]) -> Option<(Option<Identifier<'_>>, &[u8])>
+    ensures { IfSome result (λ found. ReadsEnd found.0 bytes.now found.1.now) }
 {
     let rest = each::<Usage>(bytes)?;
-    let rest = each::<Ident>(rest)?;
+    let (identifier, rest) = identifiers(rest)?;
     let rest = remark(rest)?;
     let rest = behind(rest, b"]")?;
-    Some(rest)
+    Some((identifier, rest))
 }
 
-/// Whether a geodetic reference system has two axes, and what stands behind it, from behind its opening delimiter on.
-fn geodetic(kind: GeodeticKind, bytes: &[u8]) -> Option<(bool, &[u8])>
-    ensures { IfSome result (λ found. ReadsSingle found.0 false ((geodetic_name kind ++ 91 ∷ []) ++ bytes.now) found.1.now) }
+/// What is seen of a geodetic reference system, and what stands behind it, from behind its opening delimiter on.
+fn geodetic(kind: GeodeticKind, bytes: &[u8]) -> Option<(Component<'_>, &[u8])>
+    ensures { IfSome result (λ found. ReadsSingle found.0 ((geodetic_name kind ++ 91 ∷ []) ++ bytes.now) found.1.now) }
 {
-    let rest = text(bytes)?;
+    let (name, rest) = content(bytes)?;
     let rest = geodetic_frame(rest)?;
     let rest = maybe::<PrimeMeridian>(rest)?;
     let (system, dimension, rest) = system(rest)?;
@@ -91,8 +106,13 @@ fn geodetic(kind: GeodeticKind, bytes: &[u8]) -> Option<(bool, &[u8])>
         return None;
     }
     let rest = axes(system, dimension, rest)?;
-    let rest = end(rest)?;
-    Some((is_ellipsoidal_plane(system, dimension), rest))
+    let (identifier, rest) = end(rest)?;
+    let component = Component {
+        seen: Seen { name, identifier },
+        may_be_first: is_ellipsoidal_plane(system, dimension),
+        may_be_second: false,
+    };
+    Some((component, rest))
 }
 
 /// What stands behind the base of a projected reference system, from behind its opening delimiter on.
@@ -121,11 +141,11 @@ fn base(bytes: &[u8]) -> Option<&[u8]>
     Some(rest)
 }
 
-/// Whether a projected reference system has two axes, and what stands behind it, from behind its opening delimiter on.
-fn projected(bytes: &[u8]) -> Option<(bool, &[u8])>
-    ensures { IfSome result (λ found. ReadsSingle found.0 false (codes "PROJCRS[" ++ bytes.now) found.1.now) }
+/// What is seen of a projected reference system, and what stands behind it, from behind its opening delimiter on.
+fn projected(bytes: &[u8]) -> Option<(Component<'_>, &[u8])>
+    ensures { IfSome result (λ found. ReadsSingle found.0 (codes "PROJCRS[" ++ bytes.now) found.1.now) }
 {
-    let rest = text(bytes)?;
+    let (name, rest) = content(bytes)?;
     let rest = base(rest)?;
     let rest = one::<Conversion>(rest)?;
     let (system, dimension, rest) = system(rest)?;
@@ -133,23 +153,33 @@ fn projected(bytes: &[u8]) -> Option<(bool, &[u8])>
         return None;
     }
     let rest = axes(system, dimension, rest)?;
-    let rest = end(rest)?;
-    Some((is_cartesian_plane(system, dimension), rest))
+    let (identifier, rest) = end(rest)?;
+    let component = Component {
+        seen: Seen { name, identifier },
+        may_be_first: is_cartesian_plane(system, dimension),
+        may_be_second: false,
+    };
+    Some((component, rest))
 }
 
-/// What stands behind a vertical reference system, from behind its opening delimiter on.
-fn vertical(bytes: &[u8]) -> Option<&[u8]>
-    ensures { IfSome result (λ rest. ReadsSingle false true (codes "VERTCRS[" ++ bytes.now) rest.now) }
+/// What is seen of a vertical reference system, and what stands behind it, from behind its opening delimiter on.
+fn vertical(bytes: &[u8]) -> Option<(Component<'_>, &[u8])>
+    ensures { IfSome result (λ found. ReadsSingle found.0 (codes "VERTCRS[" ++ bytes.now) found.1.now) }
 {
-    let rest = text(bytes)?;
+    let (name, rest) = content(bytes)?;
     let rest = vertical_frame(rest)?;
     let (system, dimension, rest) = system(rest)?;
     if !may_be_vertical(system, dimension) {
         return None;
     }
     let rest = axes(system, dimension, rest)?;
-    let rest = end(rest)?;
-    Some(rest)
+    let (identifier, rest) = end(rest)?;
+    let component = Component {
+        seen: Seen { name, identifier },
+        may_be_first: false,
+        may_be_second: true,
+    };
+    Some((component, rest))
 }
 
 fn is_two_or_three(dimension: u32) -> bool

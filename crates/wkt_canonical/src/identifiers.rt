@@ -2,13 +2,45 @@
 
 ghost use Rattle.std.specs.Prelude.{codes, IfSome};
 ghost use Rattle.wkt_meaning.specs.Trees.{ident_tree, named_tree, code_tree};
-ghost use Rattle.wkt_canonical.specs.Reads.{ReadsMaybe, ReadsOne, ReadsWithin, any};
+ghost use Rattle.wkt_canonical.specs.Reads.{ReadsMaybe, ReadsOne, ReadsWithin, ReadsIdentifier, ReadsIdentifiers, any};
 
 use crate::front::behind;
-use crate::leaves::{code_behind_comma, text};
+use crate::leaves::{code, code_behind_comma, content, text};
 use crate::node::{Node, each};
 use crate::values::{citation, uri};
 use crs_part::{Ident, Named};
+
+/// The authority and the code of an identifier, as they stand between their marks. A number counts as it is written.
+#[derive(Clone, Copy)]
+pub struct Identifier<'a> {
+    pub authority: &'a [u8],
+    pub code: &'a [u8],
+}
+
+/// An identifier, and what stands behind it, from behind its opening delimiter on.
+fn one_identifier(bytes: &[u8]) -> Option<(Identifier<'_>, &[u8])>
+    ensures { IfSome result (λ found. ReadsIdentifier found.0 bytes.now found.1.now) }
+{
+    let (authority, rest) = content(bytes)?;
+    let (code, rest) = code(rest)?;
+    let rest = version(rest);
+    let rest = citation(rest)?;
+    let rest = uri(rest)?;
+    let rest = behind(rest, b"]")?;
+    Some((Identifier { authority, code }, rest))
+}
+
+/// The first of the identifiers that come, and what stands behind them all.
+pub(crate) fn identifiers(bytes: &[u8]) -> Option<(Option<Identifier<'_>>, &[u8])>
+    ensures { IfSome result (λ found. ReadsIdentifiers found.0 bytes.now found.1.now) }
+{
+    let Some(inside) = behind(bytes, b",ID[") else {
+        return Some((None, bytes));
+    };
+    let (first, rest) = one_identifier(inside)?;
+    let rest = each::<Ident>(rest)?;
+    Some((Some(first), rest))
+}
 
 impl Node for Ident {
     ghost tree = { ident_tree };
@@ -22,12 +54,7 @@ impl Node for Ident {
     }
 
     fn inside(bytes: &[u8]) -> Option<&[u8]> {
-        let rest = text(bytes)?;
-        let rest = code_behind_comma(rest)?;
-        let rest = version(rest);
-        let rest = citation(rest)?;
-        let rest = uri(rest)?;
-        let rest = behind(rest, b"]")?;
+        let (_, rest) = one_identifier(bytes)?;
         Some(rest)
     }
 }

@@ -16,4 +16,6 @@ mod usages;
 mod values;
 mod words;
 
-pub use canonical::is_canonical;
+pub use canonical::{is_canonical, recognize};
+pub use crs::Seen;
+pub use identifiers::Identifier;

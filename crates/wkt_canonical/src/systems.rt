@@ -1,10 +1,10 @@
 //! Coordinate systems and their axes.
 
-ghost use Rattle.std.specs.Prelude.{◌≡◌, ◌<◌, codes, IfSome};
+ghost use Rattle.std.specs.Prelude.{◌≡◌, ◌<◌, true, codes, IfSome};
 ghost use Rattle.crs_value.specs.Conditions.{takes_length, takes_angle, is_north_or_south};
 ghost use Rattle.wkt_meaning.specs.Trees.{meridian_tree};
-ghost use Rattle.wkt_canonical.specs.Groups.{group_fits};
-ghost use Rattle.wkt_canonical.specs.Reads.{ReadsSystem, ReadsMeridian, ReadsOrder, ReadsAxisUnit, ReadsAxis, ReadsAxes};
+ghost use Rattle.wkt_canonical.specs.Groups.{group_fits, FitsEach};
+ghost use Rattle.wkt_canonical.specs.Reads.{ReadsSystem, ReadsMeridian, ReadsOrder, ReadsAxisUnit, ReadsCommonUnit, ReadsAxis, ReadsAxes};
 ghost use Rattle.wkt_canonical.specs.Tests.{meridian_passes};
 
 use crate::front::behind;
@@ -85,15 +85,52 @@ fn order(k: u32, bytes: &[u8]) -> Option<(bool, &[u8])>
     Some((true, rest))
 }
 
-/// What stands behind a unit that fits the axis.
-fn axis_unit(kind: SystemKind, k: u32, bytes: &[u8]) -> Option<&[u8]>
-    ensures { IfSome result (λ rest. ReadsAxisUnit kind k bytes.now rest.now) }
+/// Whether the axis has a unit, which fits it, and what stands behind that.
+fn axis_unit(kind: SystemKind, k: u32, bytes: &[u8]) -> Option<(bool, &[u8])>
+    ensures { IfSome result (λ found. ReadsAxisUnit kind k found.0 bytes.now found.1.now) }
 {
-    let (group, rest) = unit(bytes)?;
+    let Some((group, rest)) = unit(bytes) else {
+        return Some((false, bytes));
+    };
     if !fits(kind, k, group) {
         return None;
     }
+    Some((true, rest))
+}
+
+/// What stands behind the unit that the axes have in common, if it comes. It has to where they have none, and fits each of them.
+fn common_unit(kind: SystemKind, dimension: u32, has_unit: bool, bytes: &[u8]) -> Option<&[u8]>
+    ensures { IfSome result (λ rest. ReadsCommonUnit kind dimension has_unit bytes.now rest.now) }
+{
+    let Some((group, rest)) = unit(bytes) else {
+        if !has_unit {
+            return None;
+        }
+        return Some(bytes);
+    };
+    if has_unit {
+        return Some(rest);
+    }
+    if !fits_each(kind, dimension, group) {
+        return None;
+    }
     Some(rest)
+}
+
+/// Whether a unit fits each of at most three axes.
+fn fits_each(kind: SystemKind, dimension: u32, group: Group) -> bool
+    ensures { result ≡ true → FitsEach kind dimension group }
+{
+    if !fits(kind, 0, group) {
+        return false;
+    }
+    if 1 < dimension && !fits(kind, 1, group) {
+        return false;
+    }
+    if 2 < dimension && !fits(kind, 2, group) {
+        return false;
+    }
+    true
 }
 
 fn fits(kind: SystemKind, k: u32, group: Group) -> bool
@@ -126,10 +163,10 @@ fn takes_angle(kind: SystemKind, k: u32) -> bool
     }
 }
 
-/// Whether the axis at this place has its order, and what stands behind the axis.
-fn axis(system: SystemKind, k: u32, bytes: &[u8]) -> Option<(bool, &[u8])>
+/// Whether the axis at this place has its order, whether it has a unit, and what stands behind the axis.
+fn axis(system: SystemKind, k: u32, bytes: &[u8]) -> Option<(bool, bool, &[u8])>
     requires { k < 3 }
-    ensures { IfSome result (λ found. ReadsAxis system k found.0 bytes.now found.1.now) }
+    ensures { IfSome result (λ found. ReadsAxis system k found.0 found.1 bytes.now found.2.now) }
 {
     let inside = behind(bytes, b",AXIS[")?;
     let rest = text(inside)?;
@@ -137,39 +174,45 @@ fn axis(system: SystemKind, k: u32, bytes: &[u8]) -> Option<(bool, &[u8])>
     let (direction, rest) = direction(rest)?;
     let rest = meridian(direction, rest)?;
     let (has_order, rest) = order(k, rest)?;
-    let rest = axis_unit(system, k, rest)?;
+    let (has_unit, rest) = axis_unit(system, k, rest)?;
     let rest = each::<Ident>(rest)?;
     let rest = behind(rest, b"]")?;
-    Some((has_order, rest))
+    Some((has_order, has_unit, rest))
 }
 
-/// What stands behind an axis that has its order, or has none, as an axis before it.
-fn further_axis(system: SystemKind, k: u32, has_order: bool, bytes: &[u8]) -> Option<&[u8]>
+/// What stands behind an axis that has its order and a unit, or has none, as an axis before it.
+fn further_axis(system: SystemKind, k: u32, has_order: bool, has_unit: bool, bytes: &[u8]) -> Option<&[u8]>
     requires { k < 3 }
-    ensures { IfSome result (λ rest. ReadsAxis system k has_order bytes.now rest.now) }
+    ensures { IfSome result (λ rest. ReadsAxis system k has_order has_unit bytes.now rest.now) }
 {
-    let (has_too, rest) = axis(system, k, bytes)?;
-    if has_too != has_order {
+    let (has_order_too, has_unit_too, rest) = axis(system, k, bytes)?;
+    if has_order_too != has_order {
+        return None;
+    }
+    if has_unit_too != has_unit {
         return None;
     }
     Some(rest)
 }
 
-/// What stands behind the axes of a system.
+/// What stands behind the axes of a system and their common unit.
 pub(crate) fn axes(system: SystemKind, dimension: u32, bytes: &[u8]) -> Option<&[u8]>
     ensures { IfSome result (λ rest. ReadsAxes system dimension bytes.now rest.now) }
 {
-    let (has_order, rest) = axis(system, 0, bytes)?;
+    let (has_order, has_unit, rest) = axis(system, 0, bytes)?;
     if dimension == 1 {
+        let rest = common_unit(system, dimension, has_unit, rest)?;
         return Some(rest);
     }
-    let rest = further_axis(system, 1, has_order, rest)?;
+    let rest = further_axis(system, 1, has_order, has_unit, rest)?;
     if dimension == 2 {
+        let rest = common_unit(system, dimension, has_unit, rest)?;
         return Some(rest);
     }
     if dimension != 3 {
         return None;
     }
-    let rest = further_axis(system, 2, has_order, rest)?;
+    let rest = further_axis(system, 2, has_order, has_unit, rest)?;
+    let rest = common_unit(system, dimension, has_unit, rest)?;
     Some(rest)
 }

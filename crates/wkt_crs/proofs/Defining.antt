@@ -22,7 +22,7 @@ use Rattle.wkt_crs.specs.Definition.{HasNone, HasKey, HasName, IsDefinedBy, IsDe
 use Rattle.wkt_crs.proofs.Texts.{one_value}
 use Rattle.wkt_crs.proofs.Written.{canonical_spells}
 
-canonical_text : (crs : Crs) (bytes : List ℕ) → bytes ≡ canon crs → length bytes ≤ 65536 → Spells bytes crs
+pub canonical_text : (crs : Crs) (bytes : List ℕ) → bytes ≡ canon crs → length bytes ≤ 65536 → Spells bytes crs
 canonical_text crs bytes e short =
     let n = ap length e in
     subst (λ b. Spells b crs) (sym e) (canonical_spells crs (omega (arith, n, short)))
@@ -70,10 +70,6 @@ defines crs key name bytes h k n =
       keyed = λ v t. subst (λ w. HasKey w key) (one_value bytes crs v s t) k;
       named = λ v t. subst (λ w. HasName w name) (one_value bytes crs v s t) n;
     }
-
--- what is told of a definition that may be there is told of the one that is
-pub told_of : (bytes : List ℕ) (found : Option (List ℕ)) (d : List ℕ) → found ≡ Some d → IfSome found (λ d. (d ≡ bytes) × IsDefinition bytes) → (d ≡ bytes) × IsDefinition bytes
-told_of bytes found d e h = subst (λ o. IfSome o (λ d. (d ≡ bytes) × IsDefinition bytes)) e h
 
 -- ---- bytes that are compared
 

@@ -1,8 +1,9 @@
+pub mod Defining
 pub mod GoodTrees
 pub mod Passes
+pub mod Recognized
+pub mod Sources
 pub mod Systems
 pub mod Texts
-pub mod Sources
 pub mod Verdicts
 pub mod Written
-pub mod Defining

@@ -1,10 +1,12 @@
 //! Definitions: what a register holds.
 
-ghost use Rattle.std.specs.Prelude.{◌≡◌, ◌≤◌, ◌⊎◌, true, false, length, Ok, Err, IfSome, IfOk, IfErr};
+ghost use Rattle.std.specs.Prelude.{◌≡◌, ◌≤◌, ◌⊎◌, true, false, length, Some, Ok, Err, IfOk, IfErr};
+ghost use Rattle.std.specs.Str.{is_utf8};
 ghost use Rattle.crs_part.specs.Slots.{ids_of};
 ghost use Rattle.wkt_tree.specs.declared.fault.TextFault.{TextFault};
 ghost use Rattle.wkt_tree.specs.Faults as tree;
 ghost use Rattle.wkt_tier.specs.declared.fault.SlotFault.{SlotFault};
+ghost use Rattle.wkt_canonical.specs.Reads.{IsCanonicalOf};
 ghost use Rattle.wkt_crs.specs.declared.fault.ReadFault.TheVariants as read;
 ghost use Rattle.wkt_crs.specs.Spells.{canon};
 ghost use Rattle.wkt_crs.specs.Faults.{FirstSlot};
@@ -12,14 +14,14 @@ ghost use Rattle.wkt_crs.specs.Definition.{HasNone, IsCanonicalFault, IsDefinedB
 ghost use Rattle.wkt_crs.specs.declared.definition.DefinitionFault.TheVariants as fault;
 
 use crate::fault::ReadFault;
-use crate::guessed::{Written, written_back};
-use crate::reading::{build_crs, fault_without_memory, read_crs};
+use crate::reading::{build_crs, read_crs};
 use crate::writing::write_crs;
-use crs_part::{Text, TryClone};
+use crs_part::{Many, Text, TryClone};
 use crs_value::{Crs, Key};
 use std::alloc::{AllocError, Global};
 use std::marker::Model;
 use std::rc::Rc;
+use wkt_canonical::{Identifier, Seen, recognize};
 
 /// The most bytes of a definition's canonical text.
 const MOST: usize = 65_536;
@@ -106,10 +108,15 @@ impl Definition {
         if bytes.len() > MOST {
             return Err(DefinitionFault::CanonicalTooLong);
         }
-        match guessed_definition(alloc, bytes) {
-            Ok(Some(definition)) => Ok(definition),
-            Ok(None) => read_canonical(alloc, bytes),
-            Err(_) => Err(of_read(fault_without_memory(bytes))),
+        let Some(seen) = recognize(bytes) else {
+            return read_canonical(alloc, bytes);
+        };
+        let Some(identifier) = seen.identifier else {
+            return Err(DefinitionFault::NoIdentifier);
+        };
+        match recognized(alloc, bytes, seen, identifier) {
+            Ok(definition) => Ok(definition),
+            Err(_) => Err(DefinitionFault::Memory),
         }
     }
 
@@ -164,20 +171,28 @@ fn has_identifier(crs: &Crs) -> bool
     !crs.parts().ids().is_empty()
 }
 
-// The definition with these bytes, if it is guessed.
-fn guessed_definition(alloc: Global, bytes: &[u8]) -> Result<Option<Definition>, AllocError>
-    requires { length bytes.now ≤ 65536 }
-    ensures { IfOk result (λ found. IfSome found (λ d. (d ≡ bytes.now) × IsDefinition bytes.now)) }
+// The definition with these bytes, of which this is seen: no value is made of them.
+fn recognized(alloc: Global, bytes: &[u8], seen: Seen<'_>, identifier: Identifier<'_>) -> Result<Definition, AllocError>
+    requires { (length bytes.now ≤ 65536) × IsCanonicalOf seen bytes.now × (seen.identifier ≡ Some identifier) }
+    ensures { IfOk result (λ d. (d ≡ bytes.now) × IsDefinition bytes.now) }
 {
-    let Some(Written { crs, text }) = written_back(alloc, bytes)? else {
-        return Ok(None);
+    let key = Key {
+        authority: text_of(alloc, identifier.authority)?,
+        code: text_of(alloc, identifier.code)?,
     };
-    if !has_identifier(&crs) {
-        return Ok(None);
-    }
-    match defined(alloc, &crs, text) {
-        Ok(definition) => Ok(Some(definition)),
-        Err(_) => Err(AllocError),
+    let name = text_of(alloc, seen.name)?;
+    let text = Vec::from_slice(alloc, bytes)?;
+    let body = Rc::new(alloc, Body { key, name, text })?;
+    Ok(Definition { body })
+}
+
+fn text_of(alloc: Global, bytes: &[u8]) -> Result<Text, AllocError>
+    requires { is_utf8 bytes.now ≡ true }
+    ensures { IfOk result (λ text. text.bytes ≡ bytes.now) }
+{
+    match Text::from_utf8(Many::copied(alloc, bytes)?) {
+        Some(text) => Ok(text),
+        None => unreachable!(),
     }
 }
 

@@ -6,7 +6,8 @@ ghost use Rattle.wkt_crs.specs.Spells.{Spells, canon};
 use crate::writing::write_crs_with_room;
 use crs_value::Crs;
 use std::alloc::{AllocError, Global};
-use wkt_guess::{Guess, Outcome, guess_parts, looks_canonical};
+use wkt_canonical::is_canonical;
+use wkt_guess::{Guess, Outcome, guess_parts};
 
 /// The most bytes of a text.
 const MOST: usize = 1_048_576;
@@ -41,12 +42,11 @@ pub(crate) fn written_back(alloc: Global, bytes: &[u8]) -> Result<Option<Written
     Ok(Some(Written { crs, text }))
 }
 
-/// The value of a canonical text. A text that has a fault of its tokens or slots doesn't look like one, so that nothing
-/// grows for it.
+/// The value of a canonical text, which is recognized before anything grows.
 pub(crate) fn guessed(alloc: Global, text: &[u8]) -> Result<Option<Crs>, AllocError>
     ensures { IfOk result (λ found. IfSome found (Spells text.now)) }
 {
-    if text.len() > MOST || !looks_canonical(alloc, text) {
+    if text.len() > MOST || !is_canonical(text) {
         return Ok(None);
     }
     match written_back(alloc, text)? {

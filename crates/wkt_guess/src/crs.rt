@@ -9,7 +9,6 @@ use crs_part::{
     BaseCrs, Boxed, Compound, CrsParts, Geodetic, GeodeticKind, Projected, Single, Vertical,
 };
 use std::alloc::Global;
-use std::mem::forget;
 
 /// What was guessed. It is one struct and no `Option`: the parts are large, and each wrapper copies them once more.
 #[derive(Drop)]
@@ -25,21 +24,6 @@ pub fn guess_parts(alloc: Global, text: &[u8]) -> Guess {
     let parts = parts(alloc, &mut rest);
     let outcome = rest.outcome();
     Guess { parts, outcome }
-}
-
-/// Whether the text is UTF-8 and goes on as a canonical one does. Then it has no fault of its tokens or slots. Nothing grows.
-pub fn looks_canonical(alloc: Global, text: &[u8]) -> bool {
-    if !text.is_ascii() && std::str::from_utf8(text).is_err() {
-        return false;
-    }
-    let mut rest = Rest::without_keeping(text);
-    // What is filled with nothing has no memory to give back.
-    if rest.eat(b"COMPOUNDCRS[") {
-        forget(compound(alloc, &mut rest));
-    } else {
-        forget(single(alloc, &mut rest));
-    }
-    rest.outcome() == Outcome::Read
 }
 
 fn parts(alloc: Global, rest: &mut Rest<'_>) -> CrsParts {

@@ -3,7 +3,6 @@
 use crate::rest::Rest;
 use crs_part::{Many, NonEmpty};
 use std::alloc::{AllocError, Global};
-use std::mem::forget;
 
 /// A node that is known by how it opens.
 pub(crate) trait Node {
@@ -37,9 +36,7 @@ pub(crate) fn each<T: Node + Drop>(alloc: Global, rest: &mut Rest<'_>) -> Many<T
             break;
         }
         let item = T::guess(alloc, rest);
-        if !rest.keeps() {
-            forget(item);
-        } else if push(alloc, &mut items, item).is_err() {
+        if push(alloc, &mut items, item).is_err() {
             rest.refuse();
         }
     }

@@ -14,9 +14,6 @@ pub(crate) fn text(alloc: Global, rest: &mut Rest<'_>) -> Text {
         rest.stray();
         return empty(alloc);
     }
-    if !rest.keeps() {
-        return empty(alloc);
-    }
     let Ok(bytes) = Many::copied(alloc, content) else {
         rest.refuse();
         return empty(alloc);
@@ -57,11 +54,6 @@ pub(crate) fn maybe_value(opening: &[u8], alloc: Global, rest: &mut Rest<'_>) ->
 pub(crate) fn number(rest: &mut Rest<'_>) -> Decimal {
     if let Some(number) = rest.plain_number() {
         return number;
-    }
-    // One of another form is mostly not canonical.
-    if !rest.keeps() {
-        rest.stray();
-        return Decimal::ZERO;
     }
     match Decimal::from_numeral(rest.before_delimiter()) {
         Ok(number) => number,

@@ -13,5 +13,5 @@ mod units;
 mod usages;
 mod words;
 
-pub use crs::{Guess, guess_parts, looks_canonical};
+pub use crs::{Guess, guess_parts};
 pub use rest::Outcome;

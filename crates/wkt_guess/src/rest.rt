@@ -27,7 +27,6 @@ pub enum Outcome {
 #[derive(Drop)]
 pub(crate) struct Rest<'a> {
     bytes: &'a [u8],
-    keeps: bool,
     strayed: bool,
     refused: bool,
 }
@@ -36,23 +35,9 @@ impl<'a> Rest<'a> {
     pub(crate) fn new(bytes: &'a [u8]) -> Rest<'a> {
         Rest {
             bytes,
-            keeps: true,
             strayed: false,
             refused: false,
         }
-    }
-
-    /// A text that is walked alone: texts and lists stay empty.
-    pub(crate) fn without_keeping(bytes: &'a [u8]) -> Rest<'a> {
-        Rest {
-            keeps: false,
-            ..Rest::new(bytes)
-        }
-    }
-
-    /// Whether texts and lists are filled.
-    pub(crate) fn keeps(&self) -> bool {
-        self.keeps
     }
 
     pub(crate) fn len(&self) -> usize {
@@ -122,11 +107,7 @@ impl<'a> Rest<'a> {
             None => (false, self.bytes),
         };
         let numeral = plain_numeral(unsigned)?;
-        let number = if self.keeps {
-            Decimal::from_digits(negative, numeral.digits, numeral.places)?
-        } else {
-            Decimal::ZERO
-        };
+        let number = Decimal::from_digits(negative, numeral.digits, numeral.places)?;
         self.bytes = unsigned.split_at_checked(numeral.len)?.1;
         Some(number)
     }

@@ -2,7 +2,7 @@
 
 use super::{COMPOUND, HEIGHT, LISTED, POLAR, SPELLED, refusal};
 use std::test::Fail;
-use wkt_canonical::is_canonical;
+use wkt_canonical::{is_canonical, recognize};
 use wkt_crs::canonical_text;
 
 /// A geocentric system.
@@ -16,16 +16,29 @@ const GEOCENTRIC_AND_HEIGHT: &[u8] =
     b"COMPOUNDCRS[\"C\",GEODCRS[\"G\",DATUM[\"D\",ELLIPSOID[\"S\",6371000,0]],CS[Cartesian,3],AXIS[\"(X)\",geocentricX,LENGTHUNIT[\"metre\",1]],AXIS[\"(Y)\",geocentricY,LENGTHUNIT[\"metre\",1]],AXIS[\"(Z)\",geocentricZ,LENGTHUNIT[\"metre\",1]]],VERTCRS[\"H\",VDATUM[\"D\"],CS[vertical,1],AXIS[\"height (H)\",up,LENGTHUNIT[\"metre\",1]]],ID[\"X\",9]]";
 
 #[test]
-fn canonical_texts_with_units_of_each_axis_are_seen(rt: HostRuntime) {
-    for text in [LISTED, GEOCENTRIC, PLANE_AND_HEIGHT] {
+fn canonical_texts_are_seen(rt: HostRuntime) {
+    for text in [
+        HEIGHT,
+        COMPOUND,
+        POLAR,
+        LISTED,
+        GEOCENTRIC,
+        PLANE_AND_HEIGHT,
+    ] {
         assert!(rt; is_canonical(text));
-    }
-    // A common unit is not seen.
-    for text in [HEIGHT, COMPOUND, POLAR] {
-        assert!(rt; !is_canonical(text));
     }
     assert!(rt; !is_canonical(SPELLED));
     assert!(rt; !is_canonical(GEOCENTRIC_AND_HEIGHT));
+}
+
+#[test]
+fn a_name_and_an_identifier_are_seen(rt: HostRuntime) -> Result<(), Fail> {
+    let seen = recognize(COMPOUND).ok_or("not seen")?;
+    assert!(rt; seen.name == b"C".as_slice());
+    let identifier = seen.identifier.ok_or("no identifier")?;
+    assert!(rt; identifier.authority == b"X".as_slice());
+    assert!(rt; identifier.code == b"9".as_slice());
+    Ok(())
 }
 
 #[test]

@@ -1,5 +1,6 @@
+use Rattle.std.proofs.Common.{refl}
 use Rattle.wkt_canonical.proofs.Wholes as wholes
 use Rattle.wkt_canonical.proofs.crs.compound.Goals as goal
 
 pub returns : goal.returns
-returns c = wholes.compound c.in_ok-rest.ensures c.in_ok-rest-2.ensures c.in_ok-may_be_first.ensures c.in_ok-rest-3.ensures c.in_ok-may_be_second.ensures c.if-not-may_be_first.false c.if-not-may_be_second.false c.in_ok-rest-4.ensures
+returns c = wholes.compound _ refl c.in_ok-name.ensures c.in_ok-rest.ensures c.in_ok-first.ensures c.in_ok-rest-2.ensures c.in_ok-second.ensures c.if-not-first.false c.if-not-second.false c.in_ok-identifier.ensures

@@ -1,6 +1,5 @@
-use Rattle.std.proofs.Common.{sym, ◌∙◌}
-use Rattle.wkt_canonical.proofs.Texts.{text_read}
+use Rattle.wkt_canonical.proofs.Texts.{text_of_content}
 use Rattle.wkt_canonical.proofs.leaves.text.Goals as goal
 
 pub returns : goal.returns
-returns c = text_read c.in_ok-mark.mark c.in_ok-inside.ensures (sym c.first_mark.ensures.first ∙ c.in_ok-mark.was) c.split_at.ensures.front c.split_at.ensures.by_index.0 (sym c.if-not-is_utf8.false ∙ c.is_utf8.ensures) c.in_ok-rest.ensures
+returns c = text_of_content c.in_ok-rest.ensures

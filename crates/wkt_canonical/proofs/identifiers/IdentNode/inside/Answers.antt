@@ -1,5 +1,5 @@
-use Rattle.wkt_canonical.proofs.Nodes as nodes
+use Rattle.wkt_canonical.proofs.Codes as codes_of
 use Rattle.wkt_canonical.proofs.identifiers.IdentNode.inside.Goals as goal
 
 pub returns : goal.returns
-returns c = nodes.ident c.in_ok-rest.ensures c.in_ok-rest-2.ensures c.version-rest.ensures c.in_ok-rest-3.ensures c.in_ok-rest-4.ensures c.in_ok-rest-5.ensures
+returns c = codes_of.any_identifier _ c.in_ok-rest.ensures
