@@ -181,7 +181,13 @@ fn axis(system: SystemKind, k: u32, bytes: &[u8]) -> Option<(bool, bool, &[u8])>
 }
 
 /// What stands behind an axis that has its order and a unit, or has none, as an axis before it.
-fn further_axis(system: SystemKind, k: u32, has_order: bool, has_unit: bool, bytes: &[u8]) -> Option<&[u8]>
+fn further_axis(
+    system: SystemKind,
+    k: u32,
+    has_order: bool,
+    has_unit: bool,
+    bytes: &[u8],
+) -> Option<&[u8]>
     requires { k < 3 }
     ensures { IfSome result (λ rest. ReadsAxis system k has_order has_unit bytes.now rest.now) }
 {

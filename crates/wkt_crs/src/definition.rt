@@ -172,7 +172,12 @@ fn has_identifier(crs: &Crs) -> bool
 }
 
 // The definition with these bytes, of which this is seen: no value is made of them.
-fn recognized(alloc: Global, bytes: &[u8], seen: Seen<'_>, identifier: Identifier<'_>) -> Result<Definition, AllocError>
+fn recognized(
+    alloc: Global,
+    bytes: &[u8],
+    seen: Seen<'_>,
+    identifier: Identifier<'_>,
+) -> Result<Definition, AllocError>
     requires { (length bytes.now ≤ 65536) × IsCanonicalOf seen bytes.now × (seen.identifier ≡ Some identifier) }
     ensures { IfOk result (λ d. (d ≡ bytes.now) × IsDefinition bytes.now) }
 {
