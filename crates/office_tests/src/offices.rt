@@ -4,9 +4,10 @@ mod reports;
 mod worlds;
 
 use reg_office::{Office, OfficeFault};
-use reg_op::{Op, OpBody, OpId};
+use reg_op::{Op, OpBody, OpId, Status};
 use reg_state::{Join, Register};
 use std::alloc::Global;
+use std::process::Abort;
 use uuid::Uuid;
 use wkt_crs::Definition;
 
@@ -36,15 +37,15 @@ pub const SAME_KEY: &[u8] =
 #[derive(Debug, Drop)]
 pub struct Refused;
 
-pub fn id_of(replica: u128, count: u32) -> Result<OpId, Refused> {
-    OpId::new(Uuid::from_u128(replica), count).ok_or(Refused)
+// What a test needs before it can look at anything is expected, and not handed on by `?`: a refusal would let go of all
+// that the test holds, and the proof would walk that for each refusal.
+
+pub fn id_of(rt: &impl Abort, replica: u128, count: u32) -> OpId {
+    OpId::new(Uuid::from_u128(replica), count).expect(rt, "a count above 0")
 }
 
-pub fn definition(alloc: Global, text: &[u8]) -> Result<Definition, Refused> {
-    match Definition::from_canonical(alloc, text) {
-        Ok(definition) => Ok(definition),
-        Err(_) => Err(Refused),
-    }
+pub fn definition(rt: &impl Abort, alloc: Global, text: &[u8]) -> Definition {
+    Definition::from_canonical(alloc, text).expect(rt, "a canonical text")
 }
 
 /// A text that is entered.
@@ -148,29 +149,37 @@ pub fn taken(alloc: Global, steps: &[Step]) -> Result<Register, Refused> {
     Ok(register)
 }
 
+/// The register that has taken some steps.
+pub fn register_of(rt: &impl Abort, alloc: Global, steps: &[Step]) -> Register {
+    taken(alloc, steps).expect(rt, "a register")
+}
+
 /// Two entries, of which the first is retired by one replica and superseded by another.
-pub fn worked(alloc: Global) -> Result<Register, Refused> {
-    let (one, two) = (id_of(A, 1)?, id_of(A, 2)?);
-    taken(
+pub fn worked(rt: &impl Abort, alloc: Global) -> Register {
+    let (one, two) = (id_of(rt, A, 1), id_of(rt, A, 2));
+    register_of(
+        rt,
         alloc,
         &[
             enter(one, Sample::Height),
             enter(two, Sample::OtherHeight),
-            retire(id_of(A, 3)?, one),
-            supersede(id_of(B, 1)?, one, two),
+            retire(id_of(rt, A, 3), one),
+            supersede(id_of(rt, B, 1), one, two),
         ],
     )
 }
 
 /// Two entries of one key, whose texts differ.
-pub fn contested(alloc: Global) -> Result<Register, Refused> {
-    taken(
-        alloc,
-        &[
-            enter(id_of(A, 1)?, Sample::Height),
-            enter(id_of(B, 1)?, Sample::SameKey),
-        ],
-    )
+pub fn contest(rt: &impl Abort) -> [Step; 2] {
+    [
+        enter(id_of(rt, A, 1), Sample::Height),
+        enter(id_of(rt, B, 1), Sample::SameKey),
+    ]
+}
+
+/// The register that has taken them.
+pub fn contested(rt: &impl Abort, alloc: Global) -> Register {
+    register_of(rt, alloc, &contest(rt))
 }
 
 /// Whether two registers have the same operations and the same runs.
@@ -186,12 +195,18 @@ pub fn office(replica: u128, register: Register) -> Office {
     Office::new(Uuid::from_u128(replica), register)
 }
 
+/// Whether an entry of the office has this status.
+pub fn has_status(office: &Office, entry: OpId, status: Status) -> bool {
+    office.register().status(entry) == Some(status)
+}
+
 /// A register in which ids of a replica up to a count were seen, but no operation is kept.
 pub fn seen_up_to(
+    rt: &impl Abort,
     alloc: Global,
     replica: u128,
     ranges: &[(u32, u32)],
-) -> Result<Register, Refused> {
+) -> Register {
     let mut seen = reg_state::Seen::new(alloc);
     for (low, high) in ranges {
         let run = reg_state::Run {
@@ -199,24 +214,31 @@ pub fn seen_up_to(
             low: *low,
             high: *high,
         };
-        if !seen.is_next(&run) || seen.add_run(run).is_err() {
-            return Err(Refused);
-        }
+        assert!(rt; seen.is_next(&run));
+        seen.add_run(run).expect(rt, "room for a run");
     }
-    match Register::from_content(alloc, Vec::new(alloc), seen) {
-        Ok(register) => Ok(register),
-        Err(_) => Err(Refused),
-    }
+    Register::from_content(alloc, Vec::new(alloc), seen).expect(rt, "a register")
 }
 
-pub fn joined(alloc: Global, left: &Register, right: &Register) -> Result<Register, Refused> {
-    match left.join(alloc, right) {
-        Ok(register) => Ok(register),
-        Err(_) => Err(Refused),
-    }
+/// The join of two registers, which end here.
+pub fn joined(rt: &impl Abort, alloc: Global, left: Register, right: Register) -> Register {
+    left.join(alloc, &right).expect(rt, "a join")
 }
 
-/// The refusal of a command.
-pub fn fault_of(outcome: Result<Vec<OpId>, OfficeFault>) -> Option<OfficeFault> {
-    outcome.err()
+/// Whether the register of an office is what it was before. Both end here.
+pub fn is_unchanged(office: Office, before: Register) -> bool {
+    has_same(office.register(), &before)
+}
+
+/// Whether a command is refused for this reason.
+pub fn is_refused(outcome: Result<Vec<OpId>, OfficeFault>, fault: OfficeFault) -> bool {
+    outcome.err() == Some(fault)
+}
+
+/// Whether a command gives its operations these ids.
+pub fn gives(outcome: Result<Vec<OpId>, OfficeFault>, ids: &[OpId]) -> bool {
+    match outcome {
+        Ok(given) => given.as_slice() == ids,
+        Err(_) => false,
+    }
 }

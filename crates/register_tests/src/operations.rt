@@ -1,5 +1,6 @@
 use reg_op::{Op, OpBody, OpId, SameEntry};
-use std::test::Fail;
+use std::alloc::Global;
+use std::process::Abort;
 use uuid::Uuid;
 use wkt_crs::Definition;
 
@@ -13,12 +14,12 @@ const A: u128 = 0x0000_0000_0000_4000_8000_0000_0000_000a;
 
 const B: u128 = 0x0000_0000_0000_4000_8000_0000_0000_000b;
 
-fn id_of(replica: u128, count: u32) -> Result<OpId, Fail> {
-    Ok(OpId::new(Uuid::from_u128(replica), count).ok_or("a count of 0")?)
+fn id_of(rt: &impl Abort, replica: u128, count: u32) -> OpId {
+    OpId::new(Uuid::from_u128(replica), count).expect(rt, "a count above 0")
 }
 
 #[test]
-fn ids_are_read_in_either_case(rt: HostRuntime) -> Result<(), Fail> {
+fn ids_are_read_in_either_case(rt: HostRuntime) {
     let table: [(&[u8], u32); 4] = [
         (b"00000000-0000-4000-8000-00000000000a:1", 1),
         (b"00000000-0000-4000-8000-00000000000A:1", 1),
@@ -26,10 +27,9 @@ fn ids_are_read_in_either_case(rt: HostRuntime) -> Result<(), Fail> {
         (b"00000000-0000-4000-8000-00000000000a:4294967295", u32::MAX),
     ];
     for (text, count) in table {
-        assert!(rt; OpId::parse(text) == Some(id_of(A, count)?));
+        assert!(rt; OpId::parse(text) == Some(id_of(&rt, A, count)));
         assert!(rt; OpId::is_id(text));
     }
-    Ok(())
 }
 
 #[test]
@@ -55,19 +55,24 @@ fn other_texts_are_no_ids(rt: HostRuntime) {
 }
 
 #[test]
-fn ids_are_printed_in_small_letters(rt: HostRuntime) -> Result<(), Fail> {
-    let id = OpId::parse(b"00000000-0000-4000-8000-00000000000A:1").ok_or("no id")?;
-    let mut out = Vec::from_slice(rt.alloc(), b"entry ")?;
-    id.write_to(&mut out)?;
+fn ids_are_printed_in_small_letters(rt: HostRuntime) {
+    let read = OpId::parse(b"00000000-0000-4000-8000-00000000000A:1");
+    let id = read.expect(&rt, "an id");
+    let mut out = Vec::from_slice(rt.alloc(), b"entry ").expect(&rt, "room for a word");
+    id.write_to(&mut out).expect(&rt, "room for an id");
     assert!(rt; out.as_slice() == b"entry 00000000-0000-4000-8000-00000000000a:1".as_slice());
     assert_eq!(rt; id.count(), 1);
     assert!(rt; id.replica() == Uuid::from_u128(A));
-    Ok(())
 }
 
 #[test]
-fn ids_are_ordered_by_the_uuid_and_then_the_count(rt: HostRuntime) -> Result<(), Fail> {
-    let ascending = [id_of(A, 1)?, id_of(A, 2)?, id_of(A, 256)?, id_of(B, 1)?];
+fn ids_are_ordered_by_the_uuid_and_then_the_count(rt: HostRuntime) {
+    let ascending = [
+        id_of(&rt, A, 1),
+        id_of(&rt, A, 2),
+        id_of(&rt, A, 256),
+        id_of(&rt, B, 1),
+    ];
     for (k, id) in ascending.iter().enumerate() {
         for (j, other) in ascending.iter().enumerate() {
             assert!(rt; id.is_before(other) == (k < j));
@@ -75,51 +80,82 @@ fn ids_are_ordered_by_the_uuid_and_then_the_count(rt: HostRuntime) -> Result<(),
         }
     }
     assert!(rt; OpId::new(Uuid::from_u128(A), 0) == None);
-    Ok(())
+}
+
+fn op_of(rt: &impl Abort, id: OpId, body: OpBody) -> Op {
+    Op::new(id, body).expect(rt, "an operation that is not of itself")
+}
+
+fn is_supersession(op: Op, wanted: OpId) -> bool {
+    let (id, body) = op.into_parts();
+    id == wanted && matches!(body, OpBody::Supersede { old: _, newer: _ })
 }
 
 #[test]
-fn no_entry_supersedes_itself(rt: HostRuntime) -> Result<(), Fail> {
-    let (one, two) = (id_of(A, 1)?, id_of(A, 2)?);
+fn no_entry_supersedes_itself(rt: HostRuntime) {
+    let one = id_of(&rt, A, 1);
     let same = OpBody::Supersede {
         old: one,
         newer: one,
     };
     assert!(rt; same.is_of_itself());
-    assert!(rt; matches!(Op::new(two, same), Err(SameEntry)));
+    assert!(rt; Op::new(id_of(&rt, A, 2), same).err() == Some(SameEntry));
+}
+
+#[test]
+fn an_entry_is_superseded_by_another(rt: HostRuntime) {
+    let (one, two) = (id_of(&rt, A, 1), id_of(&rt, A, 2));
     let other = OpBody::Supersede {
         old: one,
         newer: two,
     };
-    let Ok(op) = Op::new(two, other) else {
-        return Err(Fail::new("refused"));
-    };
+    let op = op_of(&rt, two, other);
     assert!(rt; op.id() == two);
-    let (id, body) = op.into_parts();
-    assert!(rt; id == two);
-    assert!(rt; matches!(body, OpBody::Supersede { old: _, newer: _ }));
-    Ok(())
+    assert!(rt; is_supersession(op, two));
+}
+
+fn entering(rt: &impl Abort, alloc: Global, id: OpId, text: &[u8]) -> Op {
+    let definition = Definition::from_canonical(alloc, text).expect(rt, "a canonical text");
+    op_of(rt, id, OpBody::Enter(definition))
 }
 
 #[test]
-fn operations_are_compared_and_copied(rt: HostRuntime) -> Result<(), Fail> {
+fn an_operation_is_that_which_it_was_copied_from(rt: HostRuntime) {
     let alloc = rt.alloc();
-    let text = Definition::from_canonical(alloc, G).ok().ok_or("refused")?;
-    let other = Definition::from_canonical(alloc, H).ok().ok_or("refused")?;
-    let (one, two) = (id_of(A, 1)?, id_of(A, 2)?);
-    let enter = Op::new(one, OpBody::Enter(text)).ok().ok_or("refused")?;
-    let clash = Op::new(one, OpBody::Enter(other)).ok().ok_or("refused")?;
-    let retire = Op::new(two, OpBody::Retire { entry: one })
-        .ok()
-        .ok_or("refused")?;
-    let later = Op::new(id_of(B, 1)?, OpBody::Retire { entry: one })
-        .ok()
-        .ok_or("refused")?;
-    assert!(rt; enter.is_same(&enter.try_clone(alloc)?));
-    assert!(rt; enter.clashes(&clash) && !enter.clashes(&retire));
+    let op = entering(&rt, alloc, id_of(&rt, A, 1), G);
+    let copy = op.try_clone(alloc).expect(&rt, "a copy");
+    assert!(rt; op.is_same(&copy));
+}
+
+#[test]
+fn two_texts_under_one_id_clash(rt: HostRuntime) {
+    let alloc = rt.alloc();
+    let one = id_of(&rt, A, 1);
+    let (enter, clash) = (entering(&rt, alloc, one, G), entering(&rt, alloc, one, H));
+    assert!(rt; enter.clashes(&clash));
+}
+
+// Whether an entry and a retirement, under two ids, are told apart.
+fn are_apart(enter: &Op, retire: &Op) -> bool {
+    !enter.clashes(retire)
+        && enter.body().is_same(enter.body())
+        && !enter.body().is_same(retire.body())
+}
+
+#[test]
+fn an_entry_is_no_retirement(rt: HostRuntime) {
+    let (one, two) = (id_of(&rt, A, 1), id_of(&rt, A, 2));
+    let enter = entering(&rt, rt.alloc(), one, G);
+    let retire = op_of(&rt, two, OpBody::Retire { entry: one });
+    assert!(rt; are_apart(&enter, &retire));
+}
+
+#[test]
+fn the_first_retirement_replaces_the_later(rt: HostRuntime) {
+    let one = id_of(&rt, A, 1);
+    let retire = op_of(&rt, id_of(&rt, A, 2), OpBody::Retire { entry: one });
+    let later = op_of(&rt, id_of(&rt, B, 1), OpBody::Retire { entry: one });
     assert!(rt; retire.replaces(&later) && !later.replaces(&retire));
-    assert!(rt; enter.body().is_same(enter.body()) && !enter.body().is_same(retire.body()));
-    Ok(())
 }
 
 #[test]

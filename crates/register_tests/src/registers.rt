@@ -4,9 +4,10 @@ mod orders;
 mod plain;
 mod rows;
 
-use reg_op::{Op, OpBody, OpId};
-use reg_state::Register;
+use reg_op::{Op, OpBody, OpId, Status};
+use reg_state::{Join, JoinFault, Register};
 use std::alloc::Global;
+use std::process::Abort;
 use uuid::Uuid;
 use wkt_crs::Definition;
 
@@ -32,8 +33,11 @@ pub const SAME_KEY: &[u8] =
 #[derive(Debug, Drop)]
 pub struct Refused;
 
-pub fn id_of(replica: u128, count: u32) -> Result<OpId, Refused> {
-    OpId::new(Uuid::from_u128(replica), count).ok_or(Refused)
+// What a test needs before it can look at anything is expected, and not handed on by `?`: a refusal would let go of all
+// that the test holds, and the proof would walk that for each refusal.
+
+pub fn id_of(rt: &impl Abort, replica: u128, count: u32) -> OpId {
+    OpId::new(Uuid::from_u128(replica), count).expect(rt, "a count above 0")
 }
 
 /// A text that is entered.
@@ -121,13 +125,14 @@ pub fn made(alloc: Global, step: Step) -> Result<Op, Refused> {
 }
 
 /// Two entries, of which the first is retired by one replica and superseded by another.
-pub fn worked(k: usize) -> Result<Step, Refused> {
-    Ok(match k {
-        0 => enter(id_of(A, 1)?, Sample::Height),
-        1 => enter(id_of(A, 2)?, Sample::OtherHeight),
-        2 => retire(id_of(A, 3)?, id_of(A, 1)?),
-        _ => supersede(id_of(B, 1)?, id_of(A, 1)?, id_of(A, 2)?),
-    })
+pub fn worked(rt: &impl Abort, k: usize) -> Step {
+    let (one, two) = (id_of(rt, A, 1), id_of(rt, A, 2));
+    match k {
+        0 => enter(one, Sample::Height),
+        1 => enter(two, Sample::OtherHeight),
+        2 => retire(id_of(rt, A, 3), one),
+        _ => supersede(id_of(rt, B, 1), one, two),
+    }
 }
 
 pub fn take(alloc: Global, register: &mut Register, step: Step) -> Result<(), Refused> {
@@ -145,6 +150,11 @@ pub fn taken(alloc: Global, steps: &[Step]) -> Result<Register, Refused> {
     Ok(register)
 }
 
+/// The register that has taken some steps.
+pub fn register_of(rt: &impl Abort, alloc: Global, steps: &[Step]) -> Register {
+    taken(alloc, steps).expect(rt, "a register")
+}
+
 /// Whether two registers have the same operations and the same runs.
 pub fn has_same(left: &Register, right: &Register) -> bool {
     let (ops, others) = (left.ops().as_slice(), right.ops().as_slice());
@@ -152,6 +162,21 @@ pub fn has_same(left: &Register, right: &Register) -> bool {
         return false;
     }
     (0..8).all(|k| left.seen().run(k) == right.seen().run(k))
+}
+
+/// The same of two registers, which end here.
+pub fn are_same(left: Register, right: Register) -> bool {
+    has_same(&left, &right)
+}
+
+/// What becomes of two registers, which end here, when they are joined.
+pub fn joined(alloc: Global, left: Register, right: Register) -> Result<Register, JoinFault<OpId>> {
+    left.join(alloc, &right)
+}
+
+/// Whether an entry has this status.
+pub fn has_status(register: &Register, entry: OpId, status: Status) -> bool {
+    register.status(entry) == Some(status)
 }
 
 /// Whether the register keeps operations of these ids, and no others.

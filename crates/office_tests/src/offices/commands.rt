@@ -1,103 +1,112 @@
 use super::{
-    A, B, C, HEIGHT, contested, definition, fault_of, has_same, id_of, joined, office, seen_up_to,
-    worked,
+    A, B, C, HEIGHT, contested, definition, gives, has_status, id_of, is_refused, is_unchanged,
+    joined, office, seen_up_to, worked,
 };
-use reg_office::OfficeFault;
+use reg_office::{Office, OfficeFault};
 use reg_op::Status;
 use reg_state::Register;
-use std::test::Fail;
 
 #[test]
-fn commands_are_refused_for_the_first_reason(rt: HostRuntime) -> Result<(), Fail> {
+fn commands_are_refused_for_the_first_reason(rt: HostRuntime) {
     let alloc = rt.alloc();
-    let mut office = office(C, worked(alloc)?);
-    let before = office.register().try_clone(alloc)?;
-    let (one, two, other) = (id_of(A, 1)?, id_of(A, 2)?, id_of(B, 9)?);
-    assert!(rt; fault_of(office.retire(alloc, &[one])) == Some(OfficeFault::AlreadyRetired(one)));
+    let mut office = office(C, worked(&rt, alloc));
+    let before = office.register().try_clone(alloc).expect(&rt, "a copy");
+    let (one, two, other) = (id_of(&rt, A, 1), id_of(&rt, A, 2), id_of(&rt, B, 9));
     assert!(rt;
-        fault_of(office.retire(alloc, &[two, two])) == Some(OfficeFault::AlreadyRetired(two))
-    );
-    assert!(rt; fault_of(office.supersede(alloc, two, &[two])) == Some(OfficeFault::SameEntry));
-    assert!(rt;
-        fault_of(office.supersede(alloc, other, &[other])) == Some(OfficeFault::UnknownEntry(other))
+        is_refused(
+            office.retire(alloc, &[one]),
+            OfficeFault::AlreadyRetired(one)
+        )
     );
     assert!(rt;
-        fault_of(office.supersede(alloc, two, &[one])) == Some(OfficeFault::AlreadyRetired(one))
+        is_refused(
+            office.retire(alloc, &[two, two]),
+            OfficeFault::AlreadyRetired(two)
+        )
     );
-    assert!(rt; has_same(office.register(), &before));
-    Ok(())
-}
-
-#[test]
-fn a_pair_is_superseded_once(rt: HostRuntime) -> Result<(), Fail> {
-    let alloc = rt.alloc();
-    let mut office = office(C, contested(alloc)?);
-    let (one, other) = (id_of(A, 1)?, id_of(B, 1)?);
+    assert!(rt; is_refused(office.supersede(alloc, two, &[two]), OfficeFault::SameEntry));
     assert!(rt;
-        fault_of(office.supersede(alloc, one, &[other, other]))
-            == Some(OfficeFault::AlreadySuperseded(other))
+        is_refused(
+            office.supersede(alloc, other, &[other]),
+            OfficeFault::UnknownEntry(other)
+        )
     );
-    assert!(rt; office.register().status(one) == Some(Status::Valid));
-    let Ok(ids) = office.retire(alloc, &[one, other]) else {
-        return Err(Fail::new("refused"));
-    };
-    assert!(rt; ids.as_slice() == [id_of(C, 1)?, id_of(C, 2)?].as_slice());
-    assert!(rt; office.register().status(other) == Some(Status::Retired));
-    let register = office.into_register();
-    assert_eq!(rt; register.ops().count(), 4);
-    Ok(())
+    assert!(rt;
+        is_refused(
+            office.supersede(alloc, two, &[one]),
+            OfficeFault::AlreadyRetired(one)
+        )
+    );
+    assert!(rt; is_unchanged(office, before));
+}
+
+// How many operations an office ends with.
+fn operations_of(office: Office) -> usize {
+    office.into_register().ops().count()
 }
 
 #[test]
-fn the_newer_entries_are_numbered_in_their_order(rt: HostRuntime) -> Result<(), Fail> {
+fn a_pair_is_superseded_once(rt: HostRuntime) {
     let alloc = rt.alloc();
-    let mut office = office(B, contested(alloc)?);
-    let Ok(third) = office.enter(definition(alloc, HEIGHT)?) else {
-        return Err(Fail::new("refused"));
-    };
-    assert!(rt; third == id_of(B, 2)?);
-    let (one, other) = (id_of(A, 1)?, id_of(B, 1)?);
-    let Ok(ids) = office.supersede(alloc, one, &[third, other]) else {
-        return Err(Fail::new("refused"));
-    };
-    assert!(rt; ids.as_slice() == [id_of(B, 3)?, id_of(B, 4)?].as_slice());
-    assert!(rt; office.register().status(one) == Some(Status::Superseded));
-    Ok(())
+    let mut office = office(C, contested(&rt, alloc));
+    let (one, other) = (id_of(&rt, A, 1), id_of(&rt, B, 1));
+    assert!(rt;
+        is_refused(
+            office.supersede(alloc, one, &[other, other]),
+            OfficeFault::AlreadySuperseded(other)
+        )
+    );
+    assert!(rt; has_status(&office, one, Status::Valid));
+    let ids = [id_of(&rt, C, 1), id_of(&rt, C, 2)];
+    assert!(rt; gives(office.retire(alloc, &[one, other]), &ids));
+    assert!(rt; has_status(&office, other, Status::Retired));
+    assert_eq!(rt; operations_of(office), 4);
 }
 
 #[test]
-fn numbers_go_on_after_a_gap(rt: HostRuntime) -> Result<(), Fail> {
+fn the_newer_entries_are_numbered_in_their_order(rt: HostRuntime) {
     let alloc = rt.alloc();
-    let mut office = office(A, seen_up_to(alloc, A, &[(1, 2), (5, 5)])?);
-    assert!(rt; office.enter(definition(alloc, HEIGHT)?) == Ok(id_of(A, 6)?));
-    Ok(())
+    let mut office = office(B, contested(&rt, alloc));
+    let third = id_of(&rt, B, 2);
+    assert!(rt; office.enter(definition(&rt, alloc, HEIGHT)) == Ok(third));
+    let (one, other) = (id_of(&rt, A, 1), id_of(&rt, B, 1));
+    let ids = [id_of(&rt, B, 3), id_of(&rt, B, 4)];
+    assert!(rt; gives(office.supersede(alloc, one, &[third, other]), &ids));
+    assert!(rt; has_status(&office, one, Status::Superseded));
 }
 
 #[test]
-fn the_last_number_is_given_once(rt: HostRuntime) -> Result<(), Fail> {
+fn numbers_go_on_after_a_gap(rt: HostRuntime) {
     let alloc = rt.alloc();
-    let full = seen_up_to(alloc, A, &[(u32::MAX, u32::MAX)])?;
-    let mut office_a = office(A, full);
-    assert!(rt; office_a.enter(definition(alloc, HEIGHT)?) == Err(OfficeFault::CountSpent));
-    assert!(rt; fault_of(office_a.retire(alloc, &[])) == None);
-    let near = seen_up_to(alloc, C, &[(u32::MAX - 1, u32::MAX - 1)])?;
-    let mut office_c = office(C, joined(alloc, &near, &contested(alloc)?)?);
-    let (one, other) = (id_of(A, 1)?, id_of(B, 1)?);
-    assert!(rt; fault_of(office_c.retire(alloc, &[one, other])) == Some(OfficeFault::CountSpent));
-    assert!(rt; office_c.register().status(one) == Some(Status::Valid));
-    let Ok(ids) = office_c.retire(alloc, &[other]) else {
-        return Err(Fail::new("refused"));
-    };
-    assert!(rt; ids.as_slice() == [id_of(C, u32::MAX)?].as_slice());
-    Ok(())
+    let mut office = office(A, seen_up_to(&rt, alloc, A, &[(1, 2), (5, 5)]));
+    assert!(rt; office.enter(definition(&rt, alloc, HEIGHT)) == Ok(id_of(&rt, A, 6)));
 }
 
 #[test]
-fn the_first_entry_is_number_one(rt: HostRuntime) -> Result<(), Fail> {
+fn no_number_follows_the_last(rt: HostRuntime) {
+    let alloc = rt.alloc();
+    let full = seen_up_to(&rt, alloc, A, &[(u32::MAX, u32::MAX)]);
+    let mut office = office(A, full);
+    assert!(rt; office.enter(definition(&rt, alloc, HEIGHT)) == Err(OfficeFault::CountSpent));
+    assert!(rt; office.retire(alloc, &[]).is_ok());
+}
+
+#[test]
+fn the_last_number_is_given_once(rt: HostRuntime) {
+    let alloc = rt.alloc();
+    let near = seen_up_to(&rt, alloc, C, &[(u32::MAX - 1, u32::MAX - 1)]);
+    let mut office = office(C, joined(&rt, alloc, near, contested(&rt, alloc)));
+    let (one, other) = (id_of(&rt, A, 1), id_of(&rt, B, 1));
+    assert!(rt; is_refused(office.retire(alloc, &[one, other]), OfficeFault::CountSpent));
+    assert!(rt; has_status(&office, one, Status::Valid));
+    assert!(rt; gives(office.retire(alloc, &[other]), &[id_of(&rt, C, u32::MAX)]));
+}
+
+#[test]
+fn the_first_entry_is_number_one(rt: HostRuntime) {
     let alloc = rt.alloc();
     let mut office = office(A, Register::new(alloc));
-    assert!(rt; office.enter(definition(alloc, HEIGHT)?) == Ok(id_of(A, 1)?));
-    Ok(())
+    assert!(rt; office.enter(definition(&rt, alloc, HEIGHT)) == Ok(id_of(&rt, A, 1)));
 }
 
 #[test]

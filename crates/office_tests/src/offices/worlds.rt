@@ -1,63 +1,67 @@
 //! Offices that send their files to one another, and restart from them.
 
 use super::{
-    A, B, C, HEIGHT, OTHER_HEIGHT, Refused, Sample, definition, enter, id_of, joined, office,
-    retire, seen_up_to, supersede, take, taken, worked,
+    A, B, C, HEIGHT, OTHER_HEIGHT, Sample, definition, enter, has_status, id_of, joined, office,
+    register_of, retire, seen_up_to, supersede, take, worked,
 };
 use reg_file::{read_bytes, write_bytes};
 use reg_office::Office;
 use reg_op::{Op, OpId, Status};
 use reg_state::Register;
 use std::alloc::Global;
-use std::test::Fail;
+use std::process::Abort;
 
 const UUID_A: &[u8] = &[0, 0, 0, 0, 0, 0, 0x40, 0, 0x80, 0, 0, 0, 0, 0, 0, 0x0a];
 
 const UUID_B: &[u8] = &[0, 0, 0, 0, 0, 0, 0x40, 0, 0x80, 0, 0, 0, 0, 0, 0, 0x0b];
 
-fn read(alloc: Global, file: &[u8]) -> Result<Register, Refused> {
-    match read_bytes(alloc, file) {
-        Ok(register) => Ok(register),
-        Err(_) => Err(Refused),
-    }
+fn read(rt: &impl Abort, alloc: Global, file: &[u8]) -> Register {
+    read_bytes(alloc, file).expect(rt, "a register's file")
 }
 
 // The file that the office sends.
-fn sent(alloc: Global, office: &Office) -> Result<Vec<u8>, Refused> {
-    match write_bytes(alloc, office.register()) {
-        Ok(file) => Ok(file),
-        Err(_) => Err(Refused),
-    }
+fn sent(rt: &impl Abort, alloc: Global, office: &Office) -> Vec<u8> {
+    write_bytes(alloc, office.register()).expect(rt, "a file")
+}
+
+// The last file of an office that ends.
+fn last_file(rt: &impl Abort, alloc: Global, office: Office) -> Vec<u8> {
+    sent(rt, alloc, &office)
+}
+
+// Whether an office ends with this file.
+fn ends_with(rt: &impl Abort, alloc: Global, office: Office, file: &[u8]) -> bool {
+    last_file(rt, alloc, office).as_slice() == file
 }
 
 // The office when it begins again from its last file.
-fn restarted(alloc: Global, replica: u128, last: &[u8]) -> Result<Office, Refused> {
-    Ok(office(replica, read(alloc, last)?))
+fn restarted(rt: &impl Abort, alloc: Global, replica: u128, last: &[u8]) -> Office {
+    office(replica, read(rt, alloc, last))
 }
 
 // The office when it has taken files.
 fn having_taken(
+    rt: &impl Abort,
     alloc: Global,
     replica: u128,
     before: Office,
     files: &[&[u8]],
-) -> Result<Office, Refused> {
+) -> Office {
     let mut register = before.into_register();
     for file in files {
-        register = joined(alloc, &register, &read(alloc, file)?)?;
+        register = joined(rt, alloc, register, read(rt, alloc, file));
     }
-    Ok(office(replica, register))
+    office(replica, register)
 }
 
-fn entered(alloc: Global, office: &mut Office, text: &[u8]) -> Result<OpId, Refused> {
-    match office.enter(definition(alloc, text)?) {
-        Ok(id) => Ok(id),
-        Err(_) => Err(Refused),
-    }
+// The id of the text when the office has entered it.
+fn entered(rt: &impl Abort, alloc: Global, office: &mut Office, text: &[u8]) -> OpId {
+    let text = definition(rt, alloc, text);
+    office.enter(text).expect(rt, "an entry")
 }
 
 // Two entries of two replicas, of which the first is retired. A supersession of it was seen.
-fn whole_file(alloc: Global) -> Result<Vec<u8>, Fail> {
+fn whole_file(rt: &impl Abort, alloc: Global) -> Vec<u8> {
     let parts: &[&[u8]] = &[
         b"CRSR\x01\x01",
         &[0, 0, 0, 2],
@@ -79,127 +83,114 @@ fn whole_file(alloc: Global) -> Result<Vec<u8>, Fail> {
     ];
     let mut bytes = Vec::new(alloc);
     for part in parts {
-        bytes.extend_from_slice(part)?;
+        bytes.extend_from_slice(part).expect(rt, "room for a file");
     }
-    Ok(bytes)
+    bytes
 }
 
-// The first office enters, and sends.
-fn first_sent(alloc: Global) -> Result<(Office, Vec<u8>), Refused> {
+// The first office, which has entered a text.
+fn first_office(rt: &impl Abort, alloc: Global) -> Office {
     let mut a = office(A, Register::new(alloc));
-    let _one = entered(alloc, &mut a, HEIGHT)?;
-    let file = sent(alloc, &a)?;
-    Ok((a, file))
+    let _one = entered(rt, alloc, &mut a, HEIGHT);
+    a
 }
 
-// The second takes that, enters, supersedes the first entry by its own, and sends.
-fn second_sent(alloc: Global, first: &[u8]) -> Result<(Office, Vec<u8>), Refused> {
-    let mut b = having_taken(alloc, B, office(B, Register::new(alloc)), &[first])?;
-    let other = entered(alloc, &mut b, OTHER_HEIGHT)?;
-    match b.supersede(alloc, id_of(A, 1)?, &[other]) {
-        Ok(_ids) => {}
-        Err(_) => return Err(Refused),
-    }
-    let file = sent(alloc, &b)?;
-    Ok((b, file))
+// The second, which has taken its file, entered a text, and superseded the first entry by its own.
+fn second_office(rt: &impl Abort, alloc: Global, file: &[u8]) -> Office {
+    let mut b = having_taken(rt, alloc, B, office(B, Register::new(alloc)), &[file]);
+    let other = entered(rt, alloc, &mut b, OTHER_HEIGHT);
+    let _ids = b
+        .supersede(alloc, id_of(rt, A, 1), &[other])
+        .expect(rt, "a supersession");
+    b
 }
 
-// The first retires its entry, and sends.
-fn third_sent(alloc: Global, before: Office) -> Result<(Office, Vec<u8>), Refused> {
+// The first when it has retired its entry.
+fn having_retired(rt: &impl Abort, alloc: Global, before: Office) -> Office {
     let mut a = before;
-    match a.retire(alloc, &[id_of(A, 1)?]) {
-        Ok(_ids) => {}
-        Err(_) => return Err(Refused),
-    }
-    let file = sent(alloc, &a)?;
-    Ok((a, file))
+    let _ids = a
+        .retire(alloc, &[id_of(rt, A, 1)])
+        .expect(rt, "a retirement");
+    a
 }
 
 #[test]
-fn three_offices_come_to_one_file(rt: HostRuntime) -> Result<(), Fail> {
+fn three_offices_come_to_one_file(rt: HostRuntime) {
     let alloc = rt.alloc();
-    let (a, first) = first_sent(alloc)?;
-    let (b, second) = second_sent(alloc, &first)?;
-    let (a, third) = third_sent(alloc, a)?;
+    let a = first_office(&rt, alloc);
+    let first = sent(&rt, alloc, &a);
+    let b = second_office(&rt, alloc, &first);
+    let second = sent(&rt, alloc, &b);
+    let a = having_retired(&rt, alloc, a);
+    let third = sent(&rt, alloc, &a);
     let c = office(C, Register::new(alloc));
-    let c = having_taken(alloc, C, c, &[&third, &second, &first, &second])?;
-    let a = having_taken(alloc, A, a, &[&second])?;
-    let b = having_taken(alloc, B, b, &[&third, &third])?;
-    let want = whole_file(alloc)?;
+    let c = having_taken(&rt, alloc, C, c, &[&third, &second, &first, &second]);
+    let a = having_taken(&rt, alloc, A, a, &[&second]);
+    let b = having_taken(&rt, alloc, B, b, &[&third, &third]);
+    let want = whole_file(&rt, alloc);
     assert_eq!(rt; want.len(), 347);
-    for office in [a, b, c] {
-        assert!(rt; sent(alloc, &office)?.as_slice() == want.as_slice());
-    }
-    Ok(())
+    assert!(rt; ends_with(&rt, alloc, a, &want));
+    assert!(rt; ends_with(&rt, alloc, b, &want));
+    assert!(rt; ends_with(&rt, alloc, c, &want));
 }
 
 #[test]
-fn an_office_goes_on_after_a_restart(rt: HostRuntime) -> Result<(), Fail> {
+fn an_office_goes_on_after_a_restart(rt: HostRuntime) {
     let alloc = rt.alloc();
-    let last = whole_file(alloc)?;
-    let c = restarted(alloc, C, &last)?;
-    assert!(rt; sent(alloc, &c)?.as_slice() == last.as_slice());
-    assert!(rt; c.register().status(id_of(A, 1)?) == Some(Status::Retired));
-    let mut b = restarted(alloc, B, &last)?;
-    assert!(rt; entered(alloc, &mut b, HEIGHT)? == id_of(B, 3)?);
-    Ok(())
+    let last = whole_file(&rt, alloc);
+    let c = restarted(&rt, alloc, C, &last);
+    assert!(rt; has_status(&c, id_of(&rt, A, 1), Status::Retired));
+    assert!(rt; ends_with(&rt, alloc, c, &last));
+    let mut b = restarted(&rt, alloc, B, &last);
+    assert!(rt; entered(&rt, alloc, &mut b, HEIGHT) == id_of(&rt, B, 3));
 }
 
 #[test]
-fn two_orders_make_one_file(rt: HostRuntime) -> Result<(), Fail> {
+fn two_orders_make_one_file(rt: HostRuntime) {
     let alloc = rt.alloc();
-    let (one, two) = (id_of(A, 1)?, id_of(A, 2)?);
+    let (one, two) = (id_of(&rt, A, 1), id_of(&rt, A, 2));
     let steps = [
-        supersede(id_of(B, 1)?, one, two),
-        retire(id_of(A, 3)?, one),
+        supersede(id_of(&rt, B, 1), one, two),
+        retire(id_of(&rt, A, 3), one),
         enter(two, Sample::OtherHeight),
         enter(one, Sample::Height),
     ];
-    let first = sent(alloc, &office(B, worked(alloc)?))?;
-    let second = sent(alloc, &office(C, taken(alloc, &steps)?))?;
-    assert_eq!(rt; first.len(), 347);
-    assert!(rt; first.as_slice() == second.as_slice());
-    Ok(())
+    let file = last_file(&rt, alloc, office(B, worked(&rt, alloc)));
+    assert_eq!(rt; file.len(), 347);
+    let other = office(C, register_of(&rt, alloc, &steps));
+    assert!(rt; ends_with(&rt, alloc, other, &file));
 }
 
 // The operation of an id in a file.
-fn one_of(alloc: Global, file: &[u8], id: OpId) -> Result<Op, Refused> {
-    let register = read(alloc, file)?;
-    for op in register.ops().as_slice() {
-        if op.id() == id {
-            return match op.try_clone(alloc) {
-                Ok(op) => Ok(op),
-                Err(_) => Err(Refused),
-            };
-        }
-    }
-    Err(Refused)
+fn one_of(rt: &impl Abort, alloc: Global, file: &[u8], id: OpId) -> Op {
+    let register = read(rt, alloc, file);
+    let found = register.ops().as_slice().iter().find(|op| op.id() == id);
+    let op = found.expect(rt, "an operation of this id");
+    op.try_clone(alloc).expect(rt, "a copy")
 }
 
 #[test]
-fn one_operation_of_a_file_is_taken(rt: HostRuntime) -> Result<(), Fail> {
+fn one_operation_of_a_file_is_taken(rt: HostRuntime) {
     let alloc = rt.alloc();
-    let file = whole_file(alloc)?;
-    let (one, other) = (id_of(A, 1)?, id_of(B, 1)?);
+    let file = whole_file(&rt, alloc);
+    let (one, other) = (id_of(&rt, A, 1), id_of(&rt, B, 1));
     let mut part = Register::new(alloc);
-    take(&mut part, one_of(alloc, &file, other)?)?;
+    take(&mut part, one_of(&rt, alloc, &file, other)).expect(&rt, "room for an operation");
     let c = office(C, part);
-    assert!(rt; c.register().status(other) == Some(Status::Valid));
+    assert!(rt; has_status(&c, other, Status::Valid));
     assert!(rt; c.register().status(one) == None);
     // The rest comes later.
-    let c = having_taken(alloc, C, c, &[&file])?;
-    assert!(rt; sent(alloc, &c)?.as_slice() == file.as_slice());
-    Ok(())
+    let c = having_taken(&rt, alloc, C, c, &[&file]);
+    assert!(rt; ends_with(&rt, alloc, c, &file));
 }
 
 #[test]
-fn a_restart_keeps_the_gap(rt: HostRuntime) -> Result<(), Fail> {
+fn a_restart_keeps_the_gap(rt: HostRuntime) {
     let alloc = rt.alloc();
-    let before = office(A, seen_up_to(alloc, A, &[(1, 2), (5, 5)])?);
-    let mut after = restarted(alloc, A, &sent(alloc, &before)?)?;
-    assert!(rt; !after.register().seen().contains(id_of(A, 4)?));
-    assert!(rt; entered(alloc, &mut after, HEIGHT)? == id_of(A, 6)?);
-    Ok(())
+    let before = office(A, seen_up_to(&rt, alloc, A, &[(1, 2), (5, 5)]));
+    let mut after = restarted(&rt, alloc, A, &last_file(&rt, alloc, before));
+    assert!(rt; !after.register().seen().contains(id_of(&rt, A, 4)));
+    assert!(rt; entered(&rt, alloc, &mut after, HEIGHT) == id_of(&rt, A, 6));
 }
 
 #[test]

@@ -1,10 +1,12 @@
 //! Registers made of their content.
 
-use super::{A, B, C, Refused, Sample, Step, enter, id_of, keeps, made, retire, supersede, taken};
+use super::{
+    A, B, C, Sample, Step, enter, has_status, id_of, keeps, made, register_of, retire, supersede,
+};
 use reg_op::{Op, OpId, Status};
 use reg_state::{ContentFault, Register, Seen};
 use std::alloc::Global;
-use std::test::Fail;
+use std::process::Abort;
 
 // What is made of two operations by id, both of which are seen.
 fn made_of(alloc: Global, steps: &[Step; 2], seen: Seen) -> Result<Register, ContentFault> {
@@ -39,9 +41,9 @@ fn content_of(alloc: Global, first: Op, second: Op, seen: Seen) -> Result<Regist
 }
 
 // What has seen both.
-fn seen_of(alloc: Global, steps: &[Step; 2]) -> Result<Seen, Refused> {
-    let register = taken(alloc, steps)?;
-    register.seen().try_clone(alloc).ok().ok_or(Refused)
+fn seen_of(rt: &impl Abort, alloc: Global, steps: &[Step; 2]) -> Seen {
+    let register = register_of(rt, alloc, steps);
+    register.seen().try_clone(alloc).expect(rt, "a copy")
 }
 
 fn is_not_kept(refused: Result<Register, ContentFault>, id: OpId) -> bool {
@@ -52,28 +54,25 @@ fn is_not_kept(refused: Result<Register, ContentFault>, id: OpId) -> bool {
 }
 
 #[test]
-fn an_entry_and_its_retirement_are_a_content(rt: HostRuntime) -> Result<(), Fail> {
+fn an_entry_and_its_retirement_are_a_content(rt: HostRuntime) {
     let alloc = rt.alloc();
-    let (entry, mark) = (id_of(A, 1)?, id_of(B, 1)?);
+    let (entry, mark) = (id_of(&rt, A, 1), id_of(&rt, B, 1));
     let steps = [enter(entry, Sample::Height), retire(mark, entry)];
-    let seen = seen_of(alloc, &steps)?;
-    let Ok(register) = made_of(alloc, &steps, seen) else {
-        return Err(Fail::new("refused"));
-    };
+    let seen = seen_of(&rt, alloc, &steps);
+    let register = made_of(alloc, &steps, seen).expect(&rt, "a register");
     assert!(rt; keeps(&register, &[entry, mark]));
-    assert!(rt; register.status(entry) == Some(Status::Retired));
-    Ok(())
+    assert!(rt; has_status(&register, entry, Status::Retired));
 }
 
 #[test]
-fn what_would_be_dropped_is_named(rt: HostRuntime) -> Result<(), Fail> {
+fn what_would_be_dropped_is_named(rt: HostRuntime) {
     let alloc = rt.alloc();
-    let (entry, newer, b, c) = (id_of(A, 1)?, id_of(A, 2)?, id_of(B, 1)?, id_of(C, 1)?);
+    let (entry, newer) = (id_of(&rt, A, 1), id_of(&rt, A, 2));
+    let (b, c) = (id_of(&rt, B, 1), id_of(&rt, C, 1));
     let retirements = [retire(b, entry), retire(c, entry)];
-    let seen = seen_of(alloc, &retirements)?;
-    let copy = seen.try_clone(alloc)?;
+    let seen = seen_of(&rt, alloc, &retirements);
+    let copy = seen.try_clone(alloc).expect(&rt, "a copy");
     assert!(rt; is_not_kept(made_of(alloc, &retirements, copy), c));
     let both = [supersede(b, entry, newer), retire(c, entry)];
     assert!(rt; is_not_kept(made_of(alloc, &both, seen), b));
-    Ok(())
 }

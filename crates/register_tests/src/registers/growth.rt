@@ -1,52 +1,72 @@
 //! What a refused growth leaves. The growths are refused one by one by `rt try --test --fail-alloc N`; where none is,
 //! these tests see that each call succeeds.
 
-use super::{A, Sample, enter, has_same, id_of, made, taken, worked};
+use super::{A, Sample, are_same, enter, id_of, joined, made, taken, worked};
 use reg_op::OpId;
 use reg_state::{Join, JoinFault, Register, TakeFault};
 use std::alloc::Global;
+use std::process::Abort;
 
 // The register of two operations of the worked example, unless memory is refused.
-fn two_of(alloc: Global, one: usize, other: usize) -> Option<Register> {
-    taken(alloc, &[worked(one).ok()?, worked(other).ok()?]).ok()
+fn two_of(rt: &impl Abort, alloc: Global, one: usize, other: usize) -> Option<Register> {
+    taken(alloc, &[worked(rt, one), worked(rt, other)]).ok()
+}
+
+// Such a register, and a copy of it.
+fn two_and_copy(rt: &impl Abort, alloc: Global) -> Option<(Register, Register)> {
+    let register = two_of(rt, alloc, 0, 3)?;
+    let copy = register.try_clone(alloc).ok()?;
+    Some((register, copy))
+}
+
+// Whether a register has taken an id, or is what it was before for want of memory.
+fn has_taken_or_is_left(
+    outcome: Result<(), TakeFault>,
+    id: OpId,
+    register: Register,
+    before: Register,
+) -> bool {
+    let has_taken = register.seen().contains(id);
+    let is_left = are_same(register, before);
+    match outcome {
+        Ok(()) => has_taken && !is_left,
+        Err(fault) => fault == TakeFault::Memory && is_left,
+    }
 }
 
 #[test]
 fn a_refused_take_leaves_the_register(rt: HostRuntime) {
     let alloc = rt.alloc();
-    let Some(mut left) = two_of(alloc, 0, 3) else {
+    let Ok(op) = made(alloc, worked(&rt, 2)) else {
         return;
     };
-    let Ok(before) = left.try_clone(alloc) else {
+    let Some((mut register, before)) = two_and_copy(&rt, alloc) else {
         return;
     };
-    let (Ok(step), Ok(id)) = (worked(2), id_of(A, 3)) else {
-        return;
-    };
-    let Ok(op) = made(alloc, step) else {
-        return;
-    };
-    match left.take(op) {
-        Ok(()) => assert!(rt; left.seen().contains(id) && !has_same(&left, &before)),
-        Err(TakeFault::Memory) => assert!(rt; has_same(&left, &before)),
-        Err(TakeFault::Clash(_)) => assert!(rt; false),
+    let outcome = register.take(op);
+    assert!(rt; has_taken_or_is_left(outcome, id_of(&rt, A, 3), register, before));
+}
+
+// Whether a join has three operations, or is refused for want of memory and leaves the two of the left.
+fn is_joined_or_left(outcome: Result<Register, JoinFault<OpId>>, left: &Register) -> bool {
+    match outcome {
+        Ok(both) => both.ops().as_slice().len() == 3,
+        Err(fault) => fault == JoinFault::Memory && left.ops().as_slice().len() == 2,
     }
 }
 
 #[test]
 fn a_refused_join_leaves_both(rt: HostRuntime) {
     let alloc = rt.alloc();
-    let Some(left) = two_of(alloc, 0, 3) else {
+    let Some(left) = two_of(&rt, alloc, 0, 3) else {
         return;
     };
-    let Some(right) = two_of(alloc, 1, 2) else {
+    let Some(right) = two_of(&rt, alloc, 1, 2) else {
         return;
     };
-    match left.join(alloc, &right) {
-        Ok(both) => assert!(rt; both.ops().as_slice().len() == 3),
-        Err(JoinFault::Memory) => assert!(rt; left.ops().as_slice().len() == 2),
-        Err(JoinFault::Clash(_)) => assert!(rt; false),
-    }
+    let outcome = left.join(alloc, &right);
+    drop(right);
+    assert!(rt; is_joined_or_left(outcome, &left));
 }
 
 fn clash_at(refused: Result<Register, JoinFault<OpId>>) -> Option<OpId> {
@@ -67,20 +87,27 @@ fn clash_taken(refused: Result<(), TakeFault>) -> Option<OpId> {
 }
 
 #[test]
-fn a_clash_is_told_without_memory(rt: HostRuntime) {
+fn a_clash_of_a_join_is_told_without_memory(rt: HostRuntime) {
     let alloc = rt.alloc();
-    let Ok(id) = id_of(A, 1) else {
-        return;
-    };
-    let Ok(mut left) = taken(alloc, &[enter(id, Sample::Height)]) else {
+    let id = id_of(&rt, A, 1);
+    let Ok(left) = taken(alloc, &[enter(id, Sample::Height)]) else {
         return;
     };
     let Ok(right) = taken(alloc, &[enter(id, Sample::OtherHeight)]) else {
         return;
     };
+    assert!(rt; clash_at(joined(alloc, left, right)) == Some(id));
+}
+
+#[test]
+fn a_clash_of_a_take_is_told_without_memory(rt: HostRuntime) {
+    let alloc = rt.alloc();
+    let id = id_of(&rt, A, 1);
     let Ok(third) = made(alloc, enter(id, Sample::SameKey)) else {
         return;
     };
-    assert!(rt; clash_at(left.join(alloc, &right)) == Some(id));
+    let Ok(mut left) = taken(alloc, &[enter(id, Sample::Height)]) else {
+        return;
+    };
     assert!(rt; clash_taken(left.take(third)) == Some(id));
 }

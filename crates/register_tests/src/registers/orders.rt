@@ -1,31 +1,35 @@
-use super::{A, Refused, Step, has_same, id_of, retire, take, worked};
+use super::{A, Step, has_same, id_of, retire, take, worked};
 use reg_state::{Register, Run};
 use std::alloc::Global;
-use std::test::Fail;
+use std::process::Abort;
 use uuid::Uuid;
 
-fn taken_in(alloc: Global, order: &[usize]) -> Result<Register, Refused> {
+fn taken_in(rt: &impl Abort, alloc: Global, order: &[usize]) -> Register {
     let mut register = Register::new(alloc);
     for k in order {
-        take(alloc, &mut register, worked(*k)?)?;
+        take(alloc, &mut register, worked(rt, *k)).expect(rt, "an operation");
     }
-    Ok(register)
+    register
+}
+
+// Whether an order gives this register.
+fn gives(rt: &impl Abort, alloc: Global, order: &[usize], register: &Register) -> bool {
+    has_same(register, &taken_in(rt, alloc, order))
 }
 
 #[test]
-fn each_order_gives_one_content(rt: HostRuntime) -> Result<(), Fail> {
+fn each_order_gives_one_content(rt: HostRuntime) {
     let alloc = rt.alloc();
-    let first = taken_in(alloc, &[0, 1, 2, 3])?;
+    let first = taken_in(&rt, alloc, &[0, 1, 2, 3]);
     let mut orders = 0u32;
     for code in 0..256usize {
         let order = [code / 64 % 4, code / 16 % 4, code / 4 % 4, code % 4];
         if (0..4).all(|k| order.contains(&k)) {
             orders = orders.saturating_add(1);
-            assert!(rt; has_same(&first, &taken_in(alloc, &order)?));
+            assert!(rt; gives(&rt, alloc, &order, &first));
         }
     }
     assert_eq!(rt; orders, 24);
-    Ok(())
 }
 
 // Whether the runs of what was seen are these, from the first on, and no more.
@@ -43,12 +47,12 @@ fn has_runs(register: &Register, replica: Uuid, runs: &[(u32, u32)]) -> bool {
     register.seen().run(runs.len()) == None
 }
 
-fn seen_once(count: u32) -> Result<Step, Refused> {
-    Ok(retire(id_of(A, count)?, id_of(A, 9)?))
+fn seen_once(rt: &impl Abort, count: u32) -> Step {
+    retire(id_of(rt, A, count), id_of(rt, A, 9))
 }
 
 #[test]
-fn ids_taken_out_of_order_make_the_runs(rt: HostRuntime) -> Result<(), Fail> {
+fn ids_taken_out_of_order_make_the_runs(rt: HostRuntime) {
     let alloc = rt.alloc();
     let steps: [(u32, &[(u32, u32)]); 5] = [
         (1, &[(1, 1)]),
@@ -60,9 +64,8 @@ fn ids_taken_out_of_order_make_the_runs(rt: HostRuntime) -> Result<(), Fail> {
     let replica = Uuid::from_u128(A);
     let mut register = Register::new(alloc);
     for (count, runs) in steps {
-        take(alloc, &mut register, seen_once(count)?)?;
+        take(alloc, &mut register, seen_once(&rt, count)).expect(&rt, "an operation");
         assert!(rt; has_runs(&register, replica, runs));
     }
     assert_eq!(rt; register.ops().count(), 1);
-    Ok(())
 }

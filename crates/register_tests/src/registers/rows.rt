@@ -1,9 +1,11 @@
 use super::{
-    A, B, C, SAME_KEY, Sample, enter, id_of, keeps, retire, supersede, take, taken, worked,
+    A, B, C, SAME_KEY, Sample, Step, are_same, enter, has_status, id_of, joined, keeps,
+    register_of, retire, supersede, worked,
 };
 use reg_op::{OpId, Status};
 use reg_state::{BodyView, Join, JoinFault, Register, Run};
-use std::test::Fail;
+use std::alloc::Global;
+use std::process::Abort;
 use uuid::Uuid;
 
 // Whether it is what comes of a retirement before its entry: the entry has no status yet.
@@ -12,22 +14,26 @@ fn is_early(register: &Register, entry: OpId, mark: OpId) -> bool {
 }
 
 fn is_retired(register: &Register, entry: OpId, mark: OpId) -> bool {
-    register.status(entry) == Some(Status::Retired) && keeps(register, &[entry, mark])
+    has_status(register, entry, Status::Retired) && keeps(register, &[entry, mark])
 }
 
 #[test]
-fn a_retirement_may_come_before_its_entry(rt: HostRuntime) -> Result<(), Fail> {
+fn a_retirement_may_come_before_its_entry(rt: HostRuntime) {
     let alloc = rt.alloc();
-    let (entry, mark) = (id_of(A, 1)?, id_of(B, 1)?);
-    let (entered, retired) = (enter(entry, Sample::Height), retire(mark, entry));
-    let early = taken(alloc, &[retired])?;
+    let (entry, mark) = (id_of(&rt, A, 1), id_of(&rt, B, 1));
+    let early = register_of(&rt, alloc, &[retire(mark, entry)]);
     assert!(rt; is_early(&early, entry, mark));
     drop(early);
-    let both = taken(alloc, &[retired, entered])?;
+    let steps = [retire(mark, entry), enter(entry, Sample::Height)];
+    let both = register_of(&rt, alloc, &steps);
     assert!(rt; is_retired(&both, entry, mark));
-    let twice = taken(alloc, &[entered, entered, retired, retired])?;
-    assert!(rt; super::has_same(&both, &twice));
-    Ok(())
+    let steps = [
+        enter(entry, Sample::Height),
+        enter(entry, Sample::Height),
+        retire(mark, entry),
+        retire(mark, entry),
+    ];
+    assert!(rt; are_same(both, register_of(&rt, alloc, &steps)));
 }
 
 // Whether these are the first runs of what was seen, and there is no other.
@@ -42,8 +48,8 @@ fn has_runs(register: &Register, runs: &[Run]) -> bool {
 
 fn is_worked(register: &Register, one: OpId, two: OpId, three: OpId) -> bool {
     keeps(register, &[one, two, three])
-        && register.status(one) == Some(Status::Retired)
-        && register.status(two) == Some(Status::Valid)
+        && has_status(register, one, Status::Retired)
+        && has_status(register, two, Status::Valid)
         && register.status(three) == None
 }
 
@@ -53,27 +59,37 @@ fn run_of(replica: u128, low: u32, high: u32) -> Run {
 }
 
 #[test]
-fn a_supersession_of_a_retired_entry_is_only_seen(rt: HostRuntime) -> Result<(), Fail> {
+fn a_supersession_of_a_retired_entry_is_only_seen(rt: HostRuntime) {
     let alloc = rt.alloc();
-    let (one, two, three) = (id_of(A, 1)?, id_of(A, 2)?, id_of(A, 3)?);
-    let steps = [worked(0)?, worked(1)?, worked(2)?, worked(3)?];
-    let register = taken(alloc, &steps)?;
+    let (one, two, three) = (id_of(&rt, A, 1), id_of(&rt, A, 2), id_of(&rt, A, 3));
+    let steps = [
+        worked(&rt, 0),
+        worked(&rt, 1),
+        worked(&rt, 2),
+        worked(&rt, 3),
+    ];
+    let register = register_of(&rt, alloc, &steps);
     assert!(rt; is_worked(&register, one, two, three));
     assert!(rt; has_runs(&register, &[run_of(A, 1, 3), run_of(B, 1, 1)]));
     assert_eq!(rt; register.seen().greatest(Uuid::from_u128(B)), 1);
-    let copy = register.try_clone(alloc)?;
-    assert!(rt; super::has_same(&register, &copy));
-    Ok(())
+    let copy = register.try_clone(alloc).expect(&rt, "a copy");
+    assert!(rt; are_same(register, copy));
 }
 
 fn has_seen(register: &Register, ids: &[OpId]) -> bool {
     ids.iter().all(|id| register.seen().contains(*id))
 }
 
+// Whether the register that has taken some steps keeps the first two of the ids, and has seen all.
+fn keeps_first_two(rt: &impl Abort, alloc: Global, steps: &[Step], ids: &[OpId; 3]) -> bool {
+    let register = register_of(rt, alloc, steps);
+    keeps(&register, &ids[..2]) && has_seen(&register, ids)
+}
+
 #[test]
-fn the_least_of_two_retirements_is_kept(rt: HostRuntime) -> Result<(), Fail> {
+fn the_least_of_two_retirements_is_kept(rt: HostRuntime) {
     let alloc = rt.alloc();
-    let ids = [id_of(A, 1)?, id_of(B, 1)?, id_of(C, 1)?];
+    let ids = [id_of(&rt, A, 1), id_of(&rt, B, 1), id_of(&rt, C, 1)];
     let steps = [
         enter(ids[0], Sample::Height),
         retire(ids[2], ids[0]),
@@ -87,10 +103,9 @@ fn the_least_of_two_retirements_is_kept(rt: HostRuntime) -> Result<(), Fail> {
         [2, 0, 1],
         [2, 1, 0usize],
     ] {
-        let register = taken(alloc, &[steps[order[0]], steps[order[1]], steps[order[2]]])?;
-        assert!(rt; keeps(&register, &ids[..2]) && has_seen(&register, &ids));
+        let steps = [steps[order[0]], steps[order[1]], steps[order[2]]];
+        assert!(rt; keeps_first_two(&rt, alloc, &steps, &ids));
     }
-    Ok(())
 }
 
 // How many bytes the texts of all entries have, if all are valid.
@@ -115,44 +130,53 @@ fn has_text(register: &Register, entry: OpId, text: &[u8]) -> bool {
 }
 
 #[test]
-fn entries_of_one_key_are_all_kept(rt: HostRuntime) -> Result<(), Fail> {
+fn entries_of_one_key_are_all_kept(rt: HostRuntime) {
     let alloc = rt.alloc();
-    let (one, other, third) = (id_of(A, 1)?, id_of(B, 1)?, id_of(C, 1)?);
+    let (one, other, third) = (id_of(&rt, A, 1), id_of(&rt, B, 1), id_of(&rt, C, 1));
     let steps = [enter(other, Sample::SameKey), enter(one, Sample::Height)];
-    let register = taken(alloc, &steps)?;
+    let register = register_of(&rt, alloc, &steps);
     assert!(rt; keeps(&register, &[one, other]) && bytes_of_valid(&register) == 188);
     assert!(rt; has_text(&register, other, SAME_KEY) && register.definition(third).is_none());
-    Ok(())
 }
 
 #[test]
-fn entries_may_supersede_each_other(rt: HostRuntime) -> Result<(), Fail> {
+fn entries_may_supersede_each_other(rt: HostRuntime) {
     let alloc = rt.alloc();
-    let (one, two) = (id_of(A, 1)?, id_of(A, 2)?);
+    let (one, two) = (id_of(&rt, A, 1), id_of(&rt, A, 2));
     let steps = [
         enter(one, Sample::Height),
         enter(two, Sample::OtherHeight),
-        supersede(id_of(A, 3)?, one, two),
-        supersede(id_of(B, 1)?, two, one),
+        supersede(id_of(&rt, A, 3), one, two),
+        supersede(id_of(&rt, B, 1), two, one),
     ];
-    let register = taken(alloc, &steps)?;
-    assert!(rt;
-        register.status(one) == Some(Status::Superseded)
-            && register.status(two) == Some(Status::Superseded)
-    );
+    let register = register_of(&rt, alloc, &steps);
+    assert!(rt; has_status(&register, one, Status::Superseded));
+    assert!(rt; has_status(&register, two, Status::Superseded));
     assert_eq!(rt; register.ops().count(), 4);
-    Ok(())
+}
+
+fn clashes_at(outcome: Result<Register, JoinFault<OpId>>, id: OpId) -> bool {
+    match outcome {
+        Err(JoinFault::Clash(at)) => at == id,
+        _ => false,
+    }
 }
 
 #[test]
-fn two_bodies_of_one_id_clash(rt: HostRuntime) -> Result<(), Fail> {
+fn two_bodies_of_one_id_clash(rt: HostRuntime) {
     let alloc = rt.alloc();
-    let id = id_of(A, 1)?;
-    let left = taken(alloc, &[enter(id, Sample::Height)])?;
-    let right = taken(alloc, &[enter(id, Sample::OtherHeight)])?;
-    assert!(rt; matches!(left.join(alloc, &right), Err(JoinFault::Clash(at)) if at == id));
-    assert!(rt; matches!(left.join(alloc, &left), Ok(_)));
-    Ok(())
+    let id = id_of(&rt, A, 1);
+    let left = register_of(&rt, alloc, &[enter(id, Sample::Height)]);
+    let right = register_of(&rt, alloc, &[enter(id, Sample::OtherHeight)]);
+    assert!(rt; clashes_at(joined(alloc, left, right), id));
+}
+
+#[test]
+fn a_register_joins_itself(rt: HostRuntime) {
+    let alloc = rt.alloc();
+    let steps = [enter(id_of(&rt, A, 1), Sample::Height)];
+    let register = register_of(&rt, alloc, &steps);
+    assert!(rt; register.join(alloc, &register).is_ok());
 }
 
 #[test]
