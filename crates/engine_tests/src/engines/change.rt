@@ -5,7 +5,7 @@ use super::{A, B, EMPTY, HEIGHT, OTHER_HEIGHT, Replica, enter, entry_file, file_
 use reg_engine::{CliFault, FileFault, OutFault, Refusal, run_enter, run_retire, run_supersede};
 use reg_op::OpId;
 use std::alloc::{AllocError, Global};
-use std::test::Fail;
+use std::process::Abort;
 use uuid::Uuid;
 use wkt_crs::{Full, MemoryTarget, Pieces, Room, SlotFault, SlotName, Target, Then, Writing};
 
@@ -26,36 +26,36 @@ struct Done {
     ids: Vec<u8>,
 }
 
-fn id(replica: u128, count: u32) -> Result<OpId, AllocError> {
-    OpId::new(Uuid::from_u128(replica), count).ok_or(AllocError)
+fn id(rt: &impl Abort, replica: u128, count: u32) -> OpId {
+    OpId::new(Uuid::from_u128(replica), count).expect(rt, "a count above 0")
 }
 
 // What was written and printed, or the fault, where neither was.
 fn outcome(
+    rt: &impl Abort,
     alloc: Global,
     outcome: Result<(), CliFault>,
     target: &MemoryTarget,
     sink: Writing<Vec<u8>>,
-) -> Result<Result<Done, CliFault>, AllocError> {
-    let file = Vec::from_slice(alloc, target.taken())?;
+) -> Result<Done, CliFault> {
+    let file = Vec::from_slice(alloc, target.taken()).expect(rt, "room for a file");
     let ids = sink.into_inner();
     match outcome {
-        Ok(()) => Ok(Ok(Done { file, ids })),
+        Ok(()) => Ok(Done { file, ids }),
         Err(fault) => {
-            if !file.is_empty() || !ids.is_empty() {
-                return Err(AllocError);
-            }
-            Ok(Err(fault))
+            assert!(rt; file.is_empty() && ids.is_empty());
+            Err(fault)
         }
     }
 }
 
 fn entered(
+    rt: &impl Abort,
     alloc: Global,
     register: &[u8],
     replica: u128,
     text: &[u8],
-) -> Result<Result<Done, CliFault>, AllocError> {
+) -> Result<Done, CliFault> {
     let mut source = Pieces::new(register, 7, Then::Ends);
     let mut text = Pieces::new(text, 7, Then::Ends);
     let mut target = MemoryTarget::new(alloc, true);
@@ -69,30 +69,32 @@ fn entered(
         &mut target,
         &mut sink,
     );
-    outcome(alloc, done, &target, sink)
+    outcome(rt, alloc, done, &target, sink)
 }
 
 fn retired(
+    rt: &impl Abort,
     alloc: Global,
     register: &[u8],
     replica: u128,
     entries: &[OpId],
-) -> Result<Result<Done, CliFault>, AllocError> {
+) -> Result<Done, CliFault> {
     let mut source = Pieces::new(register, 7, Then::Ends);
     let mut target = MemoryTarget::new(alloc, true);
     let mut sink = Writing::new(Vec::new(alloc));
     let replica = Uuid::from_u128(replica);
     let done = run_retire(alloc, &mut source, replica, entries, &mut target, &mut sink);
-    outcome(alloc, done, &target, sink)
+    outcome(rt, alloc, done, &target, sink)
 }
 
 fn superseded(
+    rt: &impl Abort,
     alloc: Global,
     register: &[u8],
     replica: u128,
     old: OpId,
     newer: &[OpId],
-) -> Result<Result<Done, CliFault>, AllocError> {
+) -> Result<Done, CliFault> {
     let mut source = Pieces::new(register, 7, Then::Ends);
     let mut target = MemoryTarget::new(alloc, true);
     let mut sink = Writing::new(Vec::new(alloc));
@@ -106,15 +108,7 @@ fn superseded(
         &mut target,
         &mut sink,
     );
-    outcome(alloc, done, &target, sink)
-}
-
-// A command that was not refused.
-fn accepted(outcome: Result<Done, CliFault>) -> Result<Done, Fail> {
-    match outcome {
-        Ok(done) => Ok(done),
-        Err(_) => Err(Fail::new("refused")),
-    }
+    outcome(rt, alloc, done, &target, sink)
 }
 
 fn refused(refusal: Refusal) -> Option<CliFault> {
@@ -139,28 +133,27 @@ fn one_each(alloc: Global) -> Result<Vec<u8>, AllocError> {
 }
 
 #[test]
-fn the_first_entry_has_160_bytes(rt: HostRuntime) -> Result<(), Fail> {
+fn the_first_entry_has_160_bytes(rt: HostRuntime) {
     let alloc = rt.alloc();
-    let want = entry_file(alloc, HEIGHT)?;
+    let want = entry_file(alloc, HEIGHT).expect(&rt, "a file");
     for text in [HEIGHT, HEIGHT_AS_ENTERED] {
-        let done = accepted(entered(alloc, EMPTY, OFFICE_A, text)?)?;
+        let done = entered(&rt, alloc, EMPTY, OFFICE_A, text).expect(&rt, "an entry");
         assert!(rt; done.file.as_slice() == want.as_slice());
         let line = b"00000000-0000-4000-8000-00000000000a:1\n".as_slice();
         assert_eq!(rt; done.ids.as_slice(), line);
     }
-    Ok(())
 }
 
 #[test]
-fn what_is_no_definition_is_not_entered(rt: HostRuntime) -> Result<(), Fail> {
+fn what_is_no_definition_is_not_entered(rt: HostRuntime) {
     let alloc = rt.alloc();
     let unnamed =
         b"VERTCRS[\"H\",VDATUM[\"D\"],CS[vertical,1],AXIS[\"h\",up],LENGTHUNIT[\"metre\",1]]";
     let missing = b"VERTCRS[\"H\",VDATUM[\"D\"],CS[vertical,1]]";
     let fault = Refusal::Slot(SlotFault::Missing(SlotName::Axis, 38));
-    let text = entered(alloc, EMPTY, OFFICE_A, missing)?.err();
+    let text = entered(&rt, alloc, EMPTY, OFFICE_A, missing).err();
     assert_eq!(rt; text, refused(fault));
-    let text = entered(alloc, EMPTY, OFFICE_A, unnamed)?.err();
+    let text = entered(&rt, alloc, EMPTY, OFFICE_A, unnamed).err();
     assert_eq!(rt; text, refused(Refusal::NoIdentifier));
     // The register is read first.
     let version = FileFault::NoRegister {
@@ -172,41 +165,40 @@ fn what_is_no_definition_is_not_entered(rt: HostRuntime) -> Result<(), Fail> {
         fault: version,
     };
     assert_eq!(rt;
-        entered(alloc, b"CRSR\x07", OFFICE_A, missing)?.err(),
+        entered(&rt, alloc, b"CRSR\x07", OFFICE_A, missing).err(),
         Some(fault)
     );
-    Ok(())
 }
 
 #[test]
-fn a_canonical_text_has_at_most_65536_bytes(rt: HostRuntime) -> Result<(), Fail> {
+fn a_canonical_text_has_at_most_65536_bytes(rt: HostRuntime) {
     let alloc = rt.alloc();
     for (letters, fault) in [(65_444, None), (65_445, refused(Refusal::CanonicalTooLong))] {
-        let mut text = joined(alloc, &[b"VERTCRS[\""])?;
+        let mut text = joined(alloc, &[b"VERTCRS[\""]).expect(&rt, "a file");
         for _ in 0..letters {
-            text.push(b'H')?;
+            text.push(b'H').expect(&rt, "room for a letter");
         }
-        text.extend_from_slice(&HEIGHT[10..])?;
+        text.extend_from_slice(&HEIGHT[10..])
+            .expect(&rt, "room for the rest");
         assert_eq!(rt; text.len(), 92 + letters);
-        assert_eq!(rt; entered(alloc, EMPTY, OFFICE_A, &text)?.err(), fault);
+        assert_eq!(rt; entered(&rt, alloc, EMPTY, OFFICE_A, &text).err(), fault);
     }
-    Ok(())
 }
 
 #[test]
-fn commands_are_refused_for_the_first_reason(rt: HostRuntime) -> Result<(), Fail> {
+fn commands_are_refused_for_the_first_reason(rt: HostRuntime) {
     let alloc = rt.alloc();
-    let file = one_retired(alloc)?;
-    let first = id(OFFICE_A, 1)?;
-    let second = id(OFFICE_A, 2)?;
-    let none = id(OFFICE_B, 9)?;
+    let file = one_retired(alloc).expect(&rt, "a file");
+    let first = id(&rt, OFFICE_A, 1);
+    let second = id(&rt, OFFICE_A, 2);
+    let none = id(&rt, OFFICE_B, 9);
     let retirements = [
         ([first, first], Refusal::AlreadyRetired(first)),
         ([second, second], Refusal::AlreadyRetired(second)),
         ([second, none], Refusal::UnknownEntry(none)),
     ];
     for (entries, refusal) in retirements {
-        let fault = retired(alloc, &file, OFFICE_C, &entries)?.err();
+        let fault = retired(&rt, alloc, &file, OFFICE_C, &entries).err();
         assert_eq!(rt; fault, refused(refusal));
     }
     let supersessions = [
@@ -215,30 +207,28 @@ fn commands_are_refused_for_the_first_reason(rt: HostRuntime) -> Result<(), Fail
         (second, first, Refusal::AlreadyRetired(first)),
     ];
     for (old, newer, refusal) in supersessions {
-        let fault = superseded(alloc, &file, OFFICE_C, old, &[newer])?.err();
+        let fault = superseded(&rt, alloc, &file, OFFICE_C, old, &[newer]).err();
         assert_eq!(rt; fault, refused(refusal));
     }
-    Ok(())
 }
 
 #[test]
-fn new_ids_are_printed_in_their_order(rt: HostRuntime) -> Result<(), Fail> {
+fn new_ids_are_printed_in_their_order(rt: HostRuntime) {
     let alloc = rt.alloc();
-    let file = one_each(alloc)?;
-    let first = id(OFFICE_A, 1)?;
-    let second = id(OFFICE_B, 1)?;
-    let twice = superseded(alloc, &file, OFFICE_C, first, &[second, second])?;
-    assert_eq!(rt; twice.err(), refused(Refusal::AlreadySuperseded(second)));
-    let done = accepted(retired(alloc, &file, OFFICE_C, &[first, second])?)?;
+    let file = one_each(alloc).expect(&rt, "a file");
+    let first = id(&rt, OFFICE_A, 1);
+    let second = id(&rt, OFFICE_B, 1);
+    let twice = superseded(&rt, alloc, &file, OFFICE_C, first, &[second, second]).err();
+    assert_eq!(rt; twice, refused(Refusal::AlreadySuperseded(second)));
+    let done = retired(&rt, alloc, &file, OFFICE_C, &[first, second]).expect(&rt, "retirements");
     let lines = b"00000000-0000-4000-8000-00000000000c:1\n00000000-0000-4000-8000-00000000000c:2\n";
     assert_eq!(rt; done.ids.as_slice(), lines.as_slice());
-    Ok(())
 }
 
 #[test]
-fn the_output_stands_where_the_ids_cannot_be_printed(rt: HostRuntime) -> Result<(), Fail> {
+fn the_output_stands_where_the_ids_cannot_be_printed(rt: HostRuntime) {
     let alloc = rt.alloc();
-    let want = entry_file(alloc, HEIGHT)?;
+    let want = entry_file(alloc, HEIGHT).expect(&rt, "a file");
     for n in [0, 1, 38] {
         for full in [Full::Fails, Full::TakesNone] {
             let mut source = Pieces::new(EMPTY, 7, Then::Ends);
@@ -260,18 +250,17 @@ fn the_output_stands_where_the_ids_cannot_be_printed(rt: HostRuntime) -> Result<
             assert_eq!(rt; sink.taken().len(), n);
         }
     }
-    Ok(())
 }
 
 #[test]
-fn an_output_that_does_not_open_prints_no_id(rt: HostRuntime) -> Result<(), Fail> {
+fn an_output_that_does_not_open_prints_no_id(rt: HostRuntime) {
     let alloc = rt.alloc();
-    let file = one_each(alloc)?;
+    let file = one_each(alloc).expect(&rt, "a file");
     let mut source = Pieces::new(&file, 7, Then::Ends);
     let mut target = MemoryTarget::new(alloc, false);
     let mut sink = Room::new(alloc, 7, 1000, Full::Fails);
     let replica = Uuid::from_u128(OFFICE_A);
-    let entries = [id(OFFICE_A, 1)?];
+    let entries = [id(&rt, OFFICE_A, 1)];
     let fault = run_retire(
         alloc,
         &mut source,
@@ -283,46 +272,64 @@ fn an_output_that_does_not_open_prints_no_id(rt: HostRuntime) -> Result<(), Fail
     .err();
     assert_eq!(rt; fault, Some(CliFault::Out(OutFault::NotOpened)));
     assert_eq!(rt; sink.taken().len(), 0);
-    Ok(())
 }
 
-#[test]
-fn three_offices_end_with_equal_files(rt: HostRuntime) -> Result<(), Fail> {
-    let alloc = rt.alloc();
-    let first = id(OFFICE_A, 1)?;
-    let second = id(OFFICE_B, 1)?;
-    let a_sent = accepted(entered(alloc, EMPTY, OFFICE_A, HEIGHT)?)?.file;
-    let b_took = merge(alloc, &[EMPTY, &a_sent])?;
-    let b_entered = accepted(entered(alloc, &b_took, OFFICE_B, OTHER_HEIGHT)?)?.file;
-    let b_sent = accepted(superseded(alloc, &b_entered, OFFICE_B, first, &[second])?)?.file;
-    let a_retired = accepted(retired(alloc, &a_sent, OFFICE_A, &[first])?)?.file;
+fn merge(rt: &impl Abort, alloc: Global, files: &[&[u8]]) -> Vec<u8> {
+    merged(rt, alloc, files).expect(rt, "a merge")
+}
 
-    let c = merge(alloc, &[EMPTY, &a_retired])?;
-    let c = merge(alloc, &[&c, &b_sent])?;
-    let c = merge(alloc, &[&c, &a_sent])?;
-    let c = merge(alloc, &[&c, &b_sent])?;
-    let a = merge(alloc, &[&a_retired, &b_sent])?;
-    let b = merge(alloc, &[&b_sent, &a_retired])?;
-    let b = merge(alloc, &[&b, &a_retired])?;
+// What comes of a file when others are merged with it, one after another.
+fn merged_in_turn(rt: &impl Abort, alloc: Global, first: &[u8], others: &[&[u8]]) -> Vec<u8> {
+    let mut all = Vec::from_slice(alloc, first).expect(rt, "room for a file");
+    for file in others {
+        all = merge(rt, alloc, &[&all, file]);
+    }
+    all
+}
 
+// The file of the second office, which took that of the first, entered a system, and superseded the first entry by it.
+fn second_file(rt: &impl Abort, alloc: Global, first: &[u8]) -> Vec<u8> {
+    let (old, newer) = (id(rt, OFFICE_A, 1), id(rt, OFFICE_B, 1));
+    let took = merge(rt, alloc, &[EMPTY, first]);
+    let entered = entered(rt, alloc, &took, OFFICE_B, OTHER_HEIGHT).expect(rt, "an entry");
+    superseded(rt, alloc, &entered.file, OFFICE_B, old, &[newer])
+        .expect(rt, "a supersession")
+        .file
+}
+
+// An entry of each of two replicas, of which the first is retired. A supersession of it was seen.
+fn last_file(alloc: Global) -> Result<Vec<u8>, AllocError> {
     let one = enter(alloc, A, 1, HEIGHT)?;
     let retire = joined(alloc, &[A, &[0, 0, 0, 2, 3], A, &[0, 0, 0, 1]])?;
     let two = enter(alloc, B, 1, OTHER_HEIGHT)?;
     let replicas = [Replica { uuid: A, last: 2 }, Replica { uuid: B, last: 2 }];
-    let want = file_of(alloc, &replicas, 3, &[&one, &retire, &two])?;
-    assert_eq!(rt; want.len(), 347);
-    assert!(rt; a.as_slice() == want.as_slice());
-    assert!(rt; b.as_slice() == want.as_slice());
-    assert!(rt; c.as_slice() == want.as_slice());
-    let next = accepted(retired(alloc, &b, OFFICE_B, &[second])?)?;
-    let line = b"00000000-0000-4000-8000-00000000000b:3\n".as_slice();
-    assert_eq!(rt; next.ids.as_slice(), line);
-    Ok(())
+    file_of(alloc, &replicas, 3, &[&one, &retire, &two])
 }
 
-fn merge(alloc: Global, files: &[&[u8]]) -> Result<Vec<u8>, Fail> {
-    match merged(alloc, files)? {
-        Ok(bytes) => Ok(bytes),
-        Err(_) => Err(Fail::new("not merged")),
-    }
+#[test]
+fn three_offices_end_with_equal_files(rt: HostRuntime) {
+    let alloc = rt.alloc();
+    let sent = entered(&rt, alloc, EMPTY, OFFICE_A, HEIGHT).expect(&rt, "an entry");
+    let second = second_file(&rt, alloc, &sent.file);
+    let entries = [id(&rt, OFFICE_A, 1)];
+    let first = retired(&rt, alloc, &sent.file, OFFICE_A, &entries).expect(&rt, "a retirement");
+    let want = last_file(alloc).expect(&rt, "a file");
+    assert_eq!(rt; want.len(), 347);
+    let others = [first.file.as_slice(), &second, &sent.file, &second];
+    let c = merged_in_turn(&rt, alloc, EMPTY, &others);
+    assert!(rt; c.as_slice() == want.as_slice());
+    let a = merge(&rt, alloc, &[&first.file, &second]);
+    assert!(rt; a.as_slice() == want.as_slice());
+    let b = merged_in_turn(&rt, alloc, &second, &[&first.file, &first.file]);
+    assert!(rt; b.as_slice() == want.as_slice());
+}
+
+#[test]
+fn an_office_goes_on_after_its_merges(rt: HostRuntime) {
+    let alloc = rt.alloc();
+    let file = last_file(alloc).expect(&rt, "a file");
+    let entries = [id(&rt, OFFICE_B, 1)];
+    let next = retired(&rt, alloc, &file, OFFICE_B, &entries).expect(&rt, "a retirement");
+    let line = b"00000000-0000-4000-8000-00000000000b:3\n".as_slice();
+    assert_eq!(rt; next.ids.as_slice(), line);
 }

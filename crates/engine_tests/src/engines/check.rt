@@ -1,6 +1,5 @@
 use reg_engine::{CliFault, FileFault, OutFault, Refusal, run_check};
 use std::alloc::Global;
-use std::test::Fail;
 use wkt_crs::{
     Condition, Endless, Full, Pieces, Reading, Room, SlotFault, SlotName, TextFault, Then, Writing,
 };
@@ -14,7 +13,7 @@ static HEIGHT_LINE: [u8; 94] =
     *b"VERTCRS[\"H\",VDATUM[\"D\"],CS[vertical,1],AXIS[\"height (H)\",up],LENGTHUNIT[\"metre\",1],ID[\"X\",7]]\n";
 
 #[test]
-fn prints_the_canonical_text_however_reads_and_writes_are_cut(rt: HostRuntime) -> Result<(), Fail> {
+fn prints_the_canonical_text_however_reads_and_writes_are_cut(rt: HostRuntime) {
     for cut in CUTS {
         for text in [
             HEIGHT.as_slice(),
@@ -32,7 +31,6 @@ fn prints_the_canonical_text_however_reads_and_writes_are_cut(rt: HostRuntime) -
     let done = run_check(rt.alloc(), &mut Reading::new(HEIGHT.as_slice()), &mut sink).is_ok();
     assert!(rt; done);
     assert_eq!(rt; sink.into_inner().as_slice(), HEIGHT_LINE.as_slice());
-    Ok(())
 }
 
 // Whether the text is refused for this reason, and nothing is printed.
@@ -67,8 +65,8 @@ fn refuses_a_text_at_its_first_fault_and_prints_nothing(rt: HostRuntime) {
 }
 
 #[test]
-fn reads_no_more_than_one_byte_too_many(rt: HostRuntime) -> Result<(), Fail> {
-    let blanks = vec![in rt.alloc(); b' '; 1_048_576]?;
+fn reads_no_more_than_one_byte_too_many(rt: HostRuntime) {
+    let blanks = vec![in rt.alloc(); b' '; 1_048_576].expect(&rt, "room for blanks");
     let mut sink = Room::new(rt.alloc(), 100, 100, Full::Fails);
     let mut source = Pieces::new(&blanks, 4096, Then::Ends);
     let fault = run_check(rt.alloc(), &mut source, &mut sink).err();
@@ -81,11 +79,10 @@ fn reads_no_more_than_one_byte_too_many(rt: HostRuntime) -> Result<(), Fail> {
     assert_eq!(rt; fault, Some(CliFault::Refused(too_long)));
     assert_eq!(rt; endless.count(), 1_048_577);
     assert_eq!(rt; sink.taken().len(), 0);
-    Ok(())
 }
 
 #[test]
-fn tells_where_a_reader_failed(rt: HostRuntime) -> Result<(), Fail> {
+fn tells_where_a_reader_failed(rt: HostRuntime) {
     for n in 0..=HEIGHT.len() {
         for cut in CUTS {
             let mut source = Pieces::new(&HEIGHT[..n], cut, Then::Fails);
@@ -99,11 +96,10 @@ fn tells_where_a_reader_failed(rt: HostRuntime) -> Result<(), Fail> {
             assert_eq!(rt; sink.taken().len(), 0);
         }
     }
-    Ok(())
 }
 
 #[test]
-fn tells_how_much_went_out(rt: HostRuntime) -> Result<(), Fail> {
+fn tells_how_much_went_out(rt: HostRuntime) {
     for n in 0..HEIGHT_LINE.len() {
         for full in [Full::Fails, Full::TakesNone] {
             for cut in CUTS {
@@ -115,5 +111,4 @@ fn tells_how_much_went_out(rt: HostRuntime) -> Result<(), Fail> {
             }
         }
     }
-    Ok(())
 }

@@ -2,7 +2,6 @@ use super::{A, B, EMPTY, HEIGHT, OTHER_HEIGHT, Replica, enter, entry_file, file_
 use reg_engine::{CliFault, FileFault, Form, OutFault, Refusal, run_export, run_wkt};
 use reg_op::OpId;
 use std::alloc::{AllocError, Global};
-use std::test::Fail;
 use wkt_crs::{Full, Pieces, Room, Then};
 
 const INDENTED: &[u8] = b"VERTCRS[\"H\",
@@ -43,12 +42,12 @@ fn retired(alloc: Global) -> Result<Vec<u8>, AllocError> {
 }
 
 #[test]
-fn exports_what_is_not_retired_by_id(rt: HostRuntime) -> Result<(), Fail> {
+fn exports_what_is_not_retired_by_id(rt: HostRuntime) {
     let alloc = rt.alloc();
-    let both = joined(alloc, &[HEIGHT, b"\n", OTHER_HEIGHT, b"\n"])?;
-    let second = joined(alloc, &[OTHER_HEIGHT, b"\n"])?;
-    let superseded = superseded(alloc)?;
-    let retired = retired(alloc)?;
+    let both = joined(alloc, &[HEIGHT, b"\n", OTHER_HEIGHT, b"\n"]).expect(&rt, "a file");
+    let second = joined(alloc, &[OTHER_HEIGHT, b"\n"]).expect(&rt, "a file");
+    let superseded = superseded(alloc).expect(&rt, "a file");
+    let retired = retired(alloc).expect(&rt, "a file");
     let exports = [
         (superseded.as_slice(), both.as_slice()),
         (&retired, &second),
@@ -63,13 +62,12 @@ fn exports_what_is_not_retired_by_id(rt: HostRuntime) -> Result<(), Fail> {
             assert_eq!(rt; sink.taken(), lines);
         }
     }
-    Ok(())
 }
 
 #[test]
-fn tells_how_much_of_an_export_went_out(rt: HostRuntime) -> Result<(), Fail> {
+fn tells_how_much_of_an_export_went_out(rt: HostRuntime) {
     let alloc = rt.alloc();
-    let file = superseded(alloc)?;
+    let file = superseded(alloc).expect(&rt, "a file");
     for n in [0, 1, 93, 94, 95, 187] {
         for full in [Full::Fails, Full::TakesNone] {
             let mut sink = Room::new(alloc, 4096, n, full);
@@ -90,16 +88,15 @@ fn tells_how_much_of_an_export_went_out(rt: HostRuntime) -> Result<(), Fail> {
         },
     };
     assert_eq!(rt; fault, Some(version));
-    Ok(())
 }
 
 #[test]
-fn prints_one_entry_in_each_form(rt: HostRuntime) -> Result<(), Fail> {
+fn prints_one_entry_in_each_form(rt: HostRuntime) {
     let alloc = rt.alloc();
-    let line = joined(alloc, &[HEIGHT, b"\n"])?;
-    let id = OpId::parse(b"00000000-0000-4000-8000-00000000000A:1").ok_or("no id")?;
-    let entry = entry_file(alloc, HEIGHT)?;
-    let retired = retired(alloc)?;
+    let line = joined(alloc, &[HEIGHT, b"\n"]).expect(&rt, "a file");
+    let id = OpId::parse(b"00000000-0000-4000-8000-00000000000A:1").expect(&rt, "an id");
+    let entry = entry_file(alloc, HEIGHT).expect(&rt, "a file");
+    let retired = retired(alloc).expect(&rt, "a file");
     for file in [entry.as_slice(), &retired] {
         for (form, text) in [
             (Form::Canonical, line.as_slice()),
@@ -112,26 +109,27 @@ fn prints_one_entry_in_each_form(rt: HostRuntime) -> Result<(), Fail> {
             assert_eq!(rt; sink.taken(), text);
         }
     }
-    Ok(())
 }
 
 #[test]
-fn knows_no_entry_that_was_not_entered(rt: HostRuntime) -> Result<(), Fail> {
+fn knows_no_entry_that_was_not_entered(rt: HostRuntime) {
     let alloc = rt.alloc();
-    let retired = retired(alloc)?;
+    let retired = retired(alloc).expect(&rt, "a file");
     for text in [
         b"00000000-0000-4000-8000-00000000000b:9".as_slice(),
         b"00000000-0000-4000-8000-00000000000a:3",
     ] {
-        let id = OpId::parse(text).ok_or("no id")?;
+        let id = OpId::parse(text).expect(&rt, "an id");
         let mut sink = Room::new(alloc, 7, 1000, Full::Fails);
         let mut source = Pieces::new(&retired, 4096, Then::Ends);
         let fault = run_wkt(alloc, &mut source, id, Form::Canonical, &mut sink).err();
         let unknown = CliFault::Refused(Refusal::UnknownEntry(id));
         assert_eq!(rt; fault, Some(unknown));
         assert_eq!(rt; sink.taken().len(), 0);
-        let line = joined(alloc, &[b"refused: UnknownEntry ", text])?;
-        assert_eq!(rt; unknown.to_string(alloc)?.as_bytes(), line.as_slice());
+        let line = joined(alloc, &[b"refused: UnknownEntry ", text]).expect(&rt, "a file");
+        assert_eq!(rt;
+            unknown.to_string(alloc).expect(&rt, "a line").as_bytes(),
+            line.as_slice()
+        );
     }
-    Ok(())
 }

@@ -1,10 +1,9 @@
 use reg_engine::{CliFault, FileFault, OutFault, Refusal};
 use reg_op::OpId;
-use std::test::Fail;
 use wkt_crs::{Condition, DefinitionFault, ReadFault, SlotFault, SlotName, TextFault};
 
 #[test]
-fn names_each_fault_and_its_status(rt: HostRuntime) -> Result<(), Fail> {
+fn names_each_fault_and_its_status(rt: HostRuntime) {
     let text = |fault| CliFault::Refused(Refusal::Text(fault));
     let slot = |fault| CliFault::Refused(Refusal::Slot(fault));
     let broken = |condition| CliFault::Refused(Refusal::Broken {
@@ -62,15 +61,17 @@ fn names_each_fault_and_its_status(rt: HostRuntime) -> Result<(), Fail> {
         (CliFault::Memory, b"out of memory", 4),
     ];
     for (fault, line, status) in faults {
-        assert_eq!(rt; fault.to_string(rt.alloc())?.as_bytes(), line);
+        assert_eq!(rt;
+            fault.to_string(rt.alloc()).expect(&rt, "a line").as_bytes(),
+            line
+        );
         assert_eq!(rt; fault.status(), status, "{fault}");
     }
-    Ok(())
 }
 
 #[test]
-fn names_the_ids_of_refusals(rt: HostRuntime) -> Result<(), Fail> {
-    let id = OpId::parse(b"936DA01F-9ABD-4D9D-80C7-02AF85C822A8:4294967295").ok_or("no id")?;
+fn names_the_ids_of_refusals(rt: HostRuntime) {
+    let id = OpId::parse(b"936DA01F-9ABD-4D9D-80C7-02AF85C822A8:4294967295").expect(&rt, "an id");
     let refusals = [
         (
             Refusal::Clash(id),
@@ -97,14 +98,16 @@ fn names_the_ids_of_refusals(rt: HostRuntime) -> Result<(), Fail> {
     ];
     for (refusal, line) in refusals {
         let fault = CliFault::Refused(refusal);
-        assert_eq!(rt; fault.to_string(rt.alloc())?.as_bytes(), line);
+        assert_eq!(rt;
+            fault.to_string(rt.alloc()).expect(&rt, "a line").as_bytes(),
+            line
+        );
         assert_eq!(rt; fault.status(), 1);
     }
-    Ok(())
 }
 
 #[test]
-fn names_each_fault_of_a_file(rt: HostRuntime) -> Result<(), Fail> {
+fn names_each_fault_of_a_file(rt: HostRuntime) {
     let text = |fault| reg_file::FileFault::Definition(DefinitionFault::Read(ReadFault::Text(
         fault,
     )));
@@ -186,8 +189,10 @@ fn names_each_fault_of_a_file(rt: HostRuntime) -> Result<(), Fail> {
             number: 2,
             fault: FileFault::NoRegister { fault, place },
         };
-        assert_eq!(rt; fault.to_string(rt.alloc())?.as_bytes(), line);
+        assert_eq!(rt;
+            fault.to_string(rt.alloc()).expect(&rt, "a line").as_bytes(),
+            line
+        );
         assert_eq!(rt; fault.status(), 3);
     }
-    Ok(())
 }

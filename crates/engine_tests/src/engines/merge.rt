@@ -5,38 +5,35 @@ use super::{
 use reg_engine::{CliFault, FileFault, OutFault, Refusal, run_merge, run_new};
 use reg_op::OpId;
 use std::alloc::{AllocError, Global};
-use std::test::Fail;
+use std::process::Abort;
 use uuid::Uuid;
 use wkt_crs::{MemoryTarget, Pieces, Then};
 
 /// What a merge of the files writes, or why it does not.
-pub fn merged(alloc: Global, files: &[&[u8]]) -> Result<Result<Vec<u8>, CliFault>, AllocError> {
+pub fn merged(rt: &impl Abort, alloc: Global, files: &[&[u8]]) -> Result<Vec<u8>, CliFault> {
     let mut target = MemoryTarget::new(alloc, true);
-    let mut sources = sources(alloc, files, 7)?;
+    let mut sources = sources(alloc, files, 7).expect(rt, "sources");
     match run_merge(alloc, &mut sources, &mut target) {
-        Ok(()) => Ok(Ok(Vec::from_slice(alloc, target.taken())?)),
+        Ok(()) => Ok(Vec::from_slice(alloc, target.taken()).expect(rt, "room for a file")),
         Err(fault) => {
             // Nothing goes out where a merge refuses.
-            if !target.taken().is_empty() {
-                return Err(AllocError);
-            }
-            Ok(Err(fault))
+            assert!(rt; target.taken().is_empty());
+            Err(fault)
         }
     }
 }
 
 // Whether a merge of the files writes just this.
-fn merges_to(alloc: Global, files: &[&[u8]], want: &[u8]) -> Result<bool, AllocError> {
-    match merged(alloc, files)? {
-        Ok(bytes) => Ok(bytes.as_slice() == want),
-        Err(_) => Ok(false),
+fn merges_to(rt: &impl Abort, alloc: Global, files: &[&[u8]], want: &[u8]) -> bool {
+    match merged(rt, alloc, files) {
+        Ok(bytes) => bytes.as_slice() == want,
+        Err(_) => false,
     }
 }
 
 // Whether a merge of the files is refused with this fault.
-fn refuses(alloc: Global, files: &[&[u8]], fault: CliFault) -> Result<bool, AllocError> {
-    let found = merged(alloc, files)?.err();
-    Ok(found == Some(fault))
+fn refuses(rt: &impl Abort, alloc: Global, files: &[&[u8]], fault: &CliFault) -> bool {
+    merged(rt, alloc, files).err() == Some(*fault)
 }
 
 // The file of an entry of the first replica and its retirement by the second.
@@ -48,28 +45,24 @@ fn retired_file(alloc: Global) -> Result<Vec<u8>, AllocError> {
 }
 
 #[test]
-fn a_new_register_has_14_bytes(rt: HostRuntime) -> Result<(), Fail> {
+fn a_new_register_has_14_bytes(rt: HostRuntime) {
     let mut target = MemoryTarget::new(rt.alloc(), true);
     assert_eq!(rt; run_new(rt.alloc(), &mut target).err(), None);
     assert_eq!(rt; target.taken(), EMPTY);
-    let Ok(bytes) = merged(rt.alloc(), &[EMPTY, EMPTY])? else {
-        return Err(Fail::new("not merged"));
-    };
-    assert_eq!(rt; bytes.as_slice(), EMPTY);
+    assert!(rt; merges_to(&rt, rt.alloc(), &[EMPTY, EMPTY], EMPTY));
 
     let mut closed = MemoryTarget::new(rt.alloc(), false);
     let fault = run_new(rt.alloc(), &mut closed).err();
     assert_eq!(rt; fault, Some(CliFault::Out(OutFault::NotOpened)));
-    Ok(())
 }
 
 #[test]
-fn an_entry_and_its_retirement_in_any_order_have_229_bytes(rt: HostRuntime) -> Result<(), Fail> {
+fn an_entry_and_its_retirement_in_any_order_have_229_bytes(rt: HostRuntime) {
     let alloc = rt.alloc();
-    let entry = entry_file(alloc, HEIGHT)?;
-    let retired = retirement_file(alloc)?;
+    let entry = entry_file(alloc, HEIGHT).expect(&rt, "a file");
+    let retired = retirement_file(alloc).expect(&rt, "a file");
     assert_eq!(rt; (entry.len(), retired.len()), (160, 83));
-    let want = retired_file(alloc)?;
+    let want = retired_file(alloc).expect(&rt, "a file");
     assert_eq!(rt; want.len(), 229);
     let lists = [
         [entry.as_slice(), retired.as_slice(), EMPTY],
@@ -80,9 +73,8 @@ fn an_entry_and_its_retirement_in_any_order_have_229_bytes(rt: HostRuntime) -> R
         [&entry, &want, &entry],
     ];
     for list in lists {
-        assert!(rt; merges_to(alloc, &list, &want)?);
+        assert!(rt; merges_to(&rt, alloc, &list, &want));
     }
-    Ok(())
 }
 
 // The file of two entries and one more operation, of replicas that each saw these.
@@ -94,31 +86,30 @@ fn file_with(alloc: Global, replicas: &[Replica], more: &[&[u8]]) -> Result<Vec<
 }
 
 #[test]
-fn a_retirement_drops_the_supersession_that_another_file_has(rt: HostRuntime) -> Result<(), Fail> {
+fn a_retirement_drops_the_supersession_that_another_file_has(rt: HostRuntime) {
     let alloc = rt.alloc();
     let retire: &[&[u8]] = &[A, &[0, 0, 0, 3, 3], A, &[0, 0, 0, 1]];
     let supersede: &[&[u8]] = &[B, &[0, 0, 0, 1, 2], A, &[0, 0, 0, 1], A, &[0, 0, 0, 2]];
-    let first = file_with(alloc, &[Replica { uuid: A, last: 3 }], retire)?;
+    let first = file_with(alloc, &[Replica { uuid: A, last: 3 }], retire).expect(&rt, "a file");
     let seen = [Replica { uuid: A, last: 2 }, Replica { uuid: B, last: 1 }];
-    let second = file_with(alloc, &seen, supersede)?;
+    let second = file_with(alloc, &seen, supersede).expect(&rt, "a file");
     let all = [Replica { uuid: A, last: 3 }, Replica { uuid: B, last: 1 }];
-    let want = file_with(alloc, &all, retire)?;
+    let want = file_with(alloc, &all, retire).expect(&rt, "a file");
     assert_eq!(rt; want.len(), 347);
     for list in [[first.as_slice(), second.as_slice()], [&second, &first]] {
-        assert!(rt; merges_to(alloc, &list, &want)?);
+        assert!(rt; merges_to(&rt, alloc, &list, &want));
     }
-    Ok(())
 }
 
 #[test]
-fn two_operations_of_one_id_clash(rt: HostRuntime) -> Result<(), Fail> {
+fn two_operations_of_one_id_clash(rt: HostRuntime) {
     let alloc = rt.alloc();
-    let one = entry_file(alloc, HEIGHT)?;
-    let other = entry_file(alloc, OTHER_HEIGHT)?;
-    let id = OpId::parse(b"00000000-0000-4000-8000-00000000000a:1").ok_or("no id")?;
+    let one = entry_file(alloc, HEIGHT).expect(&rt, "a file");
+    let other = entry_file(alloc, OTHER_HEIGHT).expect(&rt, "a file");
+    let id = OpId::parse(b"00000000-0000-4000-8000-00000000000a:1").expect(&rt, "an id");
     let clash = CliFault::Refused(Refusal::Clash(id));
-    assert!(rt; refuses(alloc, &[&one, &other], clash)?);
-    assert!(rt; refuses(alloc, &[&one, EMPTY, &one, &other], clash)?);
+    assert!(rt; refuses(&rt, alloc, &[&one, &other], &clash));
+    assert!(rt; refuses(&rt, alloc, &[&one, EMPTY, &one, &other], &clash));
     // A file's fault is told before a clash.
     let truncated = CliFault::File {
         number: 3,
@@ -127,24 +118,23 @@ fn two_operations_of_one_id_clash(rt: HostRuntime) -> Result<(), Fail> {
             place: 0,
         },
     };
-    assert!(rt; refuses(alloc, &[&one, &other, b""], truncated)?);
-    assert!(rt; refuses(alloc, &[&one, &other, b"", b"CRSX"], truncated)?);
-    let line = truncated.to_string(alloc)?;
+    assert!(rt; refuses(&rt, alloc, &[&one, &other, b""], &truncated));
+    assert!(rt; refuses(&rt, alloc, &[&one, &other, b"", b"CRSX"], &truncated));
+    let line = truncated.to_string(alloc).expect(&rt, "a line");
     assert_eq!(rt; line.as_bytes(), b"file 3: Truncated at 0".as_slice());
-    Ok(())
 }
 
 #[test]
-fn tells_which_file_failed_and_where(rt: HostRuntime) -> Result<(), Fail> {
+fn tells_which_file_failed_and_where(rt: HostRuntime) {
     let alloc = rt.alloc();
-    let entry = entry_file(alloc, HEIGHT)?;
+    let entry = entry_file(alloc, HEIGHT).expect(&rt, "a file");
     for n in [0, 1, 7, 159, 160] {
-        if n > entry.len() {
-            return Err(Fail::new("too short"));
-        }
-        let mut sources = sources(alloc, &[EMPTY, &entry], 4096)?;
-        sources.push(Pieces::new(&entry[..n], 3, Then::Fails))?;
-        sources.push(Pieces::new(b"", 1, Then::Fails))?;
+        assert!(rt; n <= entry.len());
+        let mut sources = sources(alloc, &[EMPTY, &entry], 4096).expect(&rt, "sources");
+        let cut = Pieces::new(&entry[..n], 3, Then::Fails);
+        sources.push(cut).expect(&rt, "room for a source");
+        let none = Pieces::new(b"", 1, Then::Fails);
+        sources.push(none).expect(&rt, "room for a source");
         let mut target = MemoryTarget::new(alloc, true);
         let fault = run_merge(alloc, &mut sources, &mut target).err();
         let want = CliFault::File {
@@ -154,23 +144,21 @@ fn tells_which_file_failed_and_where(rt: HostRuntime) -> Result<(), Fail> {
         assert_eq!(rt; fault, Some(want));
         assert_eq!(rt; target.taken().len(), 0);
     }
-    Ok(())
 }
 
 #[test]
-fn tells_an_output_that_does_not_open_last(rt: HostRuntime) -> Result<(), Fail> {
+fn tells_an_output_that_does_not_open_last(rt: HostRuntime) {
     let alloc = rt.alloc();
-    let entry = entry_file(alloc, HEIGHT)?;
-    let other = entry_file(alloc, OTHER_HEIGHT)?;
+    let entry = entry_file(alloc, HEIGHT).expect(&rt, "a file");
+    let other = entry_file(alloc, OTHER_HEIGHT).expect(&rt, "a file");
     let mut closed = MemoryTarget::new(alloc, false);
-    let mut good = sources(alloc, &[&entry, EMPTY], 4096)?;
+    let mut good = sources(alloc, &[&entry, EMPTY], 4096).expect(&rt, "sources");
     let fault = run_merge(alloc, &mut good, &mut closed).err();
     assert_eq!(rt; fault, Some(CliFault::Out(OutFault::NotOpened)));
-    let mut clashing = sources(alloc, &[&entry, &other], 4096)?;
+    let mut clashing = sources(alloc, &[&entry, &other], 4096).expect(&rt, "sources");
     let fault = run_merge(alloc, &mut clashing, &mut closed).err();
-    let id = OpId::new(Uuid::from_u128(0x4000_8000_0000_0000_000a), 1).ok_or("no id")?;
+    let id = OpId::new(Uuid::from_u128(0x4000_8000_0000_0000_000a), 1).expect(&rt, "an id");
     assert_eq!(rt; fault, Some(CliFault::Refused(Refusal::Clash(id))));
-    Ok(())
 }
 
 #[test]

@@ -7,7 +7,6 @@ use reg_engine::{CliFault, FileFault, OutFault, Refusal, run_ops, run_report, ru
 use reg_office::ReportKind;
 use reg_op::OpId;
 use std::alloc::{AllocError, Global};
-use std::test::Fail;
 use wkt_crs::{Full, Pieces, Room, Then};
 
 /// The first system with its code as a text, which is the same key.
@@ -54,11 +53,11 @@ const LAST_OPERATION: &[u8] =
 ";
 
 #[test]
-fn each_report_is_that_of_the_file(rt: HostRuntime) -> Result<(), Fail> {
+fn each_report_is_that_of_the_file(rt: HostRuntime) {
     let alloc = rt.alloc();
-    let one_retired = one_retired(alloc)?;
-    let in_conflict = in_conflict(alloc)?;
-    let retirement = retirement_file(alloc)?;
+    let one_retired = one_retired(alloc).expect(&rt, "a file");
+    let in_conflict = in_conflict(alloc).expect(&rt, "a file");
+    let retirement = retirement_file(alloc).expect(&rt, "a file");
     let reports = [
         (one_retired.as_slice(), ReportKind::Entries, ONE_RETIRED),
         (
@@ -80,13 +79,12 @@ fn each_report_is_that_of_the_file(rt: HostRuntime) -> Result<(), Fail> {
             assert_eq!(rt; sink.taken(), text);
         }
     }
-    Ok(())
 }
 
 #[test]
-fn operations_are_told_by_id(rt: HostRuntime) -> Result<(), Fail> {
+fn operations_are_told_by_id(rt: HostRuntime) {
     let alloc = rt.alloc();
-    let file = one_retired(alloc)?;
+    let file = one_retired(alloc).expect(&rt, "a file");
     let mut source = Pieces::new(&file, 4096, Then::Ends);
     let mut sink = Room::new(alloc, 4096, 4096, Full::Fails);
     let done = run_ops(alloc, &mut source, &mut sink).is_ok();
@@ -94,32 +92,30 @@ fn operations_are_told_by_id(rt: HostRuntime) -> Result<(), Fail> {
     let header = b"operation,effect,entry,replaced_by,definition\n".as_slice();
     assert!(rt; sink.taken().starts_with(header));
     assert!(rt; sink.taken().ends_with(LAST_OPERATION));
-    Ok(())
 }
 
 #[test]
-fn one_entry_is_shown(rt: HostRuntime) -> Result<(), Fail> {
+fn one_entry_is_shown(rt: HostRuntime) {
     let alloc = rt.alloc();
-    let file = one_retired(alloc)?;
-    let id = OpId::parse(b"00000000-0000-4000-8000-00000000000a:2").ok_or("no id")?;
+    let file = one_retired(alloc).expect(&rt, "a file");
+    let id = OpId::parse(b"00000000-0000-4000-8000-00000000000a:2").expect(&rt, "an id");
     let mut source = Pieces::new(&file, 4096, Then::Ends);
     let mut sink = Room::new(alloc, 4096, 4096, Full::Fails);
     assert_eq!(rt; run_show(alloc, &mut source, id, &mut sink).err(), None);
     assert_eq!(rt; sink.taken(), SECOND);
 
-    let none = OpId::parse(b"00000000-0000-4000-8000-00000000000a:3").ok_or("no id")?;
+    let none = OpId::parse(b"00000000-0000-4000-8000-00000000000a:3").expect(&rt, "an id");
     let mut source = Pieces::new(&file, 4096, Then::Ends);
     let mut sink = Room::new(alloc, 4096, 4096, Full::Fails);
     let fault = run_show(alloc, &mut source, none, &mut sink).err();
     assert_eq!(rt; fault, Some(CliFault::Refused(Refusal::UnknownEntry(none))));
     assert_eq!(rt; sink.taken().len(), 0);
-    Ok(())
 }
 
 #[test]
-fn a_report_tells_how_much_of_it_went_out(rt: HostRuntime) -> Result<(), Fail> {
+fn a_report_tells_how_much_of_it_went_out(rt: HostRuntime) {
     let alloc = rt.alloc();
-    let entry = entry_file(alloc, HEIGHT)?;
+    let entry = entry_file(alloc, HEIGHT).expect(&rt, "a file");
     for n in [0, 1, 44, 60] {
         let mut source = Pieces::new(&entry, 4096, Then::Ends);
         let mut sink = Room::new(alloc, 4096, n, Full::Fails);
@@ -142,5 +138,4 @@ fn a_report_tells_how_much_of_it_went_out(rt: HostRuntime) -> Result<(), Fail> {
         fault: truncated,
     };
     assert_eq!(rt; fault, Some(want));
-    Ok(())
 }
