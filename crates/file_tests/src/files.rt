@@ -7,6 +7,7 @@ use reg_file::{FileFault, ReadFileFault, read_bytes, write_bytes};
 use reg_op::{Op, OpBody, OpId};
 use reg_state::Register;
 use std::alloc::{AllocError, Global};
+use std::process::Abort;
 use uuid::Uuid;
 use wkt_crs::Definition;
 
@@ -78,12 +79,16 @@ pub fn entry_file(alloc: Global) -> Result<Vec<u8>, AllocError> {
     file_of(alloc, &[(1, 1)], 1, &enter)
 }
 
-/// The fault that the bytes have, and its place.
-pub fn fault_of(alloc: Global, bytes: &[u8]) -> Option<(FileFault, usize)> {
+fn fault_of(alloc: Global, bytes: &[u8]) -> Option<(FileFault, usize)> {
     match read_bytes(alloc, bytes) {
         Err(ReadFileFault::File { fault, place }) => Some((fault, place)),
         _ => None,
     }
+}
+
+/// Whether the bytes have this fault, at this place.
+pub fn has_fault(alloc: Global, bytes: &[u8], fault: FileFault, place: usize) -> bool {
+    fault_of(alloc, bytes) == Some((fault, place))
 }
 
 /// Whether the register's file has these bytes.
@@ -102,17 +107,27 @@ pub fn goes_round(alloc: Global, bytes: &[u8]) -> bool {
     }
 }
 
-pub fn id_of(replica: u128, count: u32) -> Option<OpId> {
-    OpId::new(Uuid::from_u128(replica), count)
+// What a test needs before it can look at anything is expected, and not handed on by `?`: a refusal would let go of all
+// that the test holds, and the proof would walk that for each refusal.
+
+pub fn id_of(rt: &impl Abort, replica: u128, count: u32) -> OpId {
+    OpId::new(Uuid::from_u128(replica), count).expect(rt, "a count above 0")
 }
 
 /// Takes an operation that enters a text.
-pub fn enter(alloc: Global, register: &mut Register, id: OpId, text: &[u8]) -> Option<()> {
-    let definition = Definition::from_canonical(alloc, text).ok()?;
-    take(register, id, OpBody::Enter(definition))
+pub fn enter(rt: &impl Abort, alloc: Global, register: &mut Register, id: OpId, text: &[u8]) {
+    let definition = Definition::from_canonical(alloc, text).expect(rt, "a canonical text");
+    take(rt, register, id, OpBody::Enter(definition));
 }
 
-pub fn take(register: &mut Register, id: OpId, body: OpBody) -> Option<()> {
-    let op = Op::new(id, body).ok()?;
-    register.take(op).ok()
+pub fn take(rt: &impl Abort, register: &mut Register, id: OpId, body: OpBody) {
+    let op = Op::new(id, body).expect(rt, "an operation");
+    register.take(op).expect(rt, "room for an operation");
+}
+
+/// The register of the file of one entry.
+pub fn one_entry(rt: &impl Abort, alloc: Global) -> Register {
+    let mut register = Register::new(alloc);
+    enter(rt, alloc, &mut register, id_of(rt, A, 1), HEIGHT);
+    register
 }

@@ -1,43 +1,43 @@
 //! Damaged files: the fault, and the place where it is told.
 
 use super::{
-    HEAD, HEIGHT, OTHER_HEIGHT, SPELLED, UUID_A, enter_bytes, entry_file, fault_of, file_of, four,
-    goes_round, joined,
+    HEAD, HEIGHT, OTHER_HEIGHT, SPELLED, UUID_A, enter_bytes, entry_file, file_of, four,
+    goes_round, has_fault, joined,
 };
 use reg_file::FileFault;
-use std::alloc::{AllocError, Global};
-use std::test::Fail;
+use std::alloc::Global;
+use std::process::Abort;
 use wkt_crs::{DefinitionFault, ReadFault, TextFault};
 
 // The file of one entry, with some bytes changed.
-fn changed(alloc: Global, at: usize, bytes: &[u8]) -> Result<Vec<u8>, Fail> {
-    let file = entry_file(alloc)?;
+fn changed(rt: &impl Abort, alloc: Global, at: usize, bytes: &[u8]) -> Vec<u8> {
+    let file = entry_file(alloc).expect(rt, "a file");
     let mut out = Vec::new(alloc);
     for (k, byte) in file.iter().enumerate() {
         let other = if k < at { None } else { bytes.get(k - at) };
-        out.push(*other.unwrap_or(byte))?;
+        out.push(*other.unwrap_or(byte))
+            .expect(rt, "room for a byte");
     }
-    Ok(out)
+    out
 }
 
 #[test]
-fn a_cut_file_is_told_at_its_end(rt: HostRuntime) -> Result<(), Fail> {
+fn a_cut_file_is_told_at_its_end(rt: HostRuntime) {
     let alloc = rt.alloc();
-    let file = entry_file(alloc)?;
+    let file = entry_file(alloc).expect(&rt, "a file");
     assert!(rt; goes_round(alloc, &file));
     for n in 0..file.len() {
         assert!(rt;
-            fault_of(alloc, &file[..n]) == Some((FileFault::Truncated, n)),
+            has_fault(alloc, &file[..n], FileFault::Truncated, n),
             "{n}"
         );
     }
-    let more = joined(alloc, &[&file, &[0]])?;
-    assert!(rt; fault_of(alloc, &more) == Some((FileFault::Trailing, 160)));
-    Ok(())
+    let more = joined(alloc, &[&file, &[0]]).expect(&rt, "a file");
+    assert!(rt; has_fault(alloc, &more, FileFault::Trailing, 160));
 }
 
 #[test]
-fn each_changed_field_is_told_at_its_place(rt: HostRuntime) -> Result<(), Fail> {
+fn each_changed_field_is_told_at_its_place(rt: HostRuntime) {
     let alloc = rt.alloc();
     let too_long = FileFault::Definition(DefinitionFault::CanonicalTooLong);
     let early = FileFault::Definition(DefinitionFault::Read(ReadFault::Text(TextFault::EndEarly(
@@ -63,24 +63,20 @@ fn each_changed_field_is_told_at_its_place(rt: HostRuntime) -> Result<(), Fail> 
         (63, &[0, 0, 0, 92], early, 63),
     ];
     for (at, bytes, fault, place) in table {
-        let file = changed(alloc, at, bytes)?;
-        assert!(rt;
-            fault_of(alloc, &file) == Some((fault, place)),
-            "{at} {place}"
-        );
+        let file = changed(&rt, alloc, at, bytes);
+        assert!(rt; has_fault(alloc, &file, fault, place), "{at} {place}");
     }
-    Ok(())
 }
 
 #[test]
-fn ranges_are_as_long_as_possible(rt: HostRuntime) -> Result<(), Fail> {
+fn ranges_are_as_long_as_possible(rt: HostRuntime) {
     let alloc = rt.alloc();
-    let enter = enter_bytes(alloc, 1, HEIGHT)?;
-    let touching = file_of(alloc, &[(1, 2), (3, 3)], 1, &enter)?;
-    assert!(rt; fault_of(alloc, &touching) == Some((FileFault::Ranges, 38)));
-    let apart = file_of(alloc, &[(1, 1), (3, 3)], 1, &enter)?;
+    let enter = enter_bytes(alloc, 1, HEIGHT).expect(&rt, "an operation");
+    let touching = file_of(alloc, &[(1, 2), (3, 3)], 1, &enter).expect(&rt, "a file");
+    assert!(rt; has_fault(alloc, &touching, FileFault::Ranges, 38));
+    let apart = file_of(alloc, &[(1, 1), (3, 3)], 1, &enter).expect(&rt, "a file");
     assert!(rt; goes_round(alloc, &apart));
-    let all = file_of(alloc, &[(1, u32::MAX)], 1, &enter)?;
+    let all = file_of(alloc, &[(1, u32::MAX)], 1, &enter).expect(&rt, "a file");
     assert!(rt; goes_round(alloc, &all));
     let twice = joined(
         alloc,
@@ -97,47 +93,37 @@ fn ranges_are_as_long_as_possible(rt: HostRuntime) -> Result<(), Fail> {
             &four(3),
             &four(0),
         ],
-    )?;
-    assert!(rt; fault_of(alloc, &twice) == Some((FileFault::ReplicaOrder, 38)));
-    Ok(())
+    )
+    .expect(&rt, "a file");
+    assert!(rt; has_fault(alloc, &twice, FileFault::ReplicaOrder, 38));
 }
 
 #[test]
-fn a_text_is_the_canonical_one(rt: HostRuntime) -> Result<(), Fail> {
+fn a_text_is_the_canonical_one(rt: HostRuntime) {
     let alloc = rt.alloc();
-    let enter = enter_bytes(alloc, 1, SPELLED)?;
-    let file = file_of(alloc, &[(1, 1)], 1, &enter)?;
-    assert!(rt; fault_of(alloc, &file) == Some((FileFault::NotCanonical, 63)));
-    let none = enter_bytes(alloc, 1, b"")?;
-    let file = file_of(alloc, &[(1, 1)], 1, &none)?;
+    let enter = enter_bytes(alloc, 1, SPELLED).expect(&rt, "an operation");
+    let file = file_of(alloc, &[(1, 1)], 1, &enter).expect(&rt, "a file");
+    assert!(rt; has_fault(alloc, &file, FileFault::NotCanonical, 63));
+    let none = enter_bytes(alloc, 1, b"").expect(&rt, "an operation");
+    let file = file_of(alloc, &[(1, 1)], 1, &none).expect(&rt, "a file");
     let empty = FileFault::Definition(DefinitionFault::Read(ReadFault::Text(TextFault::EndEarly(
         0,
     ))));
-    assert!(rt; fault_of(alloc, &file) == Some((empty, 63)));
-    Ok(())
+    assert!(rt; has_fault(alloc, &file, empty, 63));
 }
 
 // The file of one replica's counts up to the last, and of so many operations in these parts.
-fn file_with(alloc: Global, last: u32, count: u32, parts: &[&[u8]]) -> Result<Vec<u8>, AllocError> {
-    let operations = joined(alloc, parts)?;
-    file_of(alloc, &[(1, last)], count, &operations)
-}
-
-fn fault_with(
-    alloc: Global,
-    last: u32,
-    count: u32,
-    parts: &[&[u8]],
-) -> Result<Option<(FileFault, usize)>, AllocError> {
-    let file = file_with(alloc, last, count, parts)?;
-    Ok(fault_of(alloc, &file))
+fn file_with(rt: &impl Abort, alloc: Global, last: u32, count: u32, parts: &[&[u8]]) -> Vec<u8> {
+    let operations = joined(alloc, parts).expect(rt, "operations");
+    file_of(alloc, &[(1, last)], count, &operations).expect(rt, "a file")
 }
 
 #[test]
-fn operations_are_by_id(rt: HostRuntime) -> Result<(), Fail> {
+fn operations_are_by_id(rt: HostRuntime) {
     let alloc = rt.alloc();
     let (one, two, len) = (four(1), four(2), four(93));
-    let swapped = fault_with(
+    let swapped = file_with(
+        &rt,
         alloc,
         2,
         2,
@@ -153,9 +139,10 @@ fn operations_are_by_id(rt: HostRuntime) -> Result<(), Fail> {
             &len,
             HEIGHT,
         ],
-    )?;
-    assert!(rt; swapped == Some((FileFault::OpOrder, 83)));
-    let same_id = fault_with(
+    );
+    assert!(rt; has_fault(alloc, &swapped, FileFault::OpOrder, 83));
+    let same_id = file_with(
+        &rt,
         alloc,
         2,
         2,
@@ -171,9 +158,10 @@ fn operations_are_by_id(rt: HostRuntime) -> Result<(), Fail> {
             &len,
             OTHER_HEIGHT,
         ],
-    )?;
-    assert!(rt; same_id == Some((FileFault::OpOrder, 160)));
-    let of_itself = fault_with(
+    );
+    assert!(rt; has_fault(alloc, &same_id, FileFault::OpOrder, 160));
+    let of_itself = file_with(
+        &rt,
         alloc,
         2,
         2,
@@ -191,16 +179,16 @@ fn operations_are_by_id(rt: HostRuntime) -> Result<(), Fail> {
             UUID_A,
             &one,
         ],
-    )?;
-    assert!(rt; of_itself == Some((FileFault::SameEntry, 181)));
-    Ok(())
+    );
+    assert!(rt; has_fault(alloc, &of_itself, FileFault::SameEntry, 181));
 }
 
 #[test]
-fn an_operation_that_is_not_kept_has_its_place(rt: HostRuntime) -> Result<(), Fail> {
+fn an_operation_that_is_not_kept_has_its_place(rt: HostRuntime) {
     let alloc = rt.alloc();
     let (one, two, three, len) = (four(1), four(2), four(3), four(93));
-    let twice = fault_with(
+    let twice = file_with(
+        &rt,
         alloc,
         3,
         3,
@@ -221,9 +209,10 @@ fn an_operation_that_is_not_kept_has_its_place(rt: HostRuntime) -> Result<(), Fa
             UUID_A,
             &one,
         ],
-    )?;
-    assert!(rt; twice == Some((FileFault::NotKept, 201)));
-    let also_more = fault_with(
+    );
+    assert!(rt; has_fault(alloc, &twice, FileFault::NotKept, 201));
+    let also_more = file_with(
+        &rt,
         alloc,
         3,
         3,
@@ -245,9 +234,10 @@ fn an_operation_that_is_not_kept_has_its_place(rt: HostRuntime) -> Result<(), Fa
             &one,
             &[0],
         ],
-    )?;
-    assert!(rt; also_more == Some((FileFault::NotKept, 201)));
+    );
+    assert!(rt; has_fault(alloc, &also_more, FileFault::NotKept, 201));
     let file = file_with(
+        &rt,
         alloc,
         2,
         2,
@@ -263,7 +253,6 @@ fn an_operation_that_is_not_kept_has_its_place(rt: HostRuntime) -> Result<(), Fa
             UUID_A,
             &one,
         ],
-    )?;
+    );
     assert!(rt; file.len() == 201 && goes_round(alloc, &file));
-    Ok(())
 }

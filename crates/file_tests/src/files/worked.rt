@@ -2,24 +2,24 @@
 
 use super::{
     A, B, HEAD, HEIGHT, OTHER_HEIGHT, UUID_A, UUID_B, enter, entry_file, four, goes_round, id_of,
-    is_written, joined, take,
+    is_written, joined, one_entry, take,
 };
 use reg_file::write_bytes;
-use reg_op::OpBody;
+use reg_op::{OpBody, OpId};
 use reg_state::Register;
-use std::test::Fail;
+use std::alloc::{AllocError, Global};
+use std::process::Abort;
 
 #[test]
-fn the_empty_register_has_14_bytes(rt: HostRuntime) -> Result<(), Fail> {
+fn the_empty_register_has_14_bytes(rt: HostRuntime) {
     let alloc = rt.alloc();
     let bytes = [0x43, 0x52, 0x53, 0x52, 1, 1, 0, 0, 0, 0, 0, 0, 0, 0];
     assert!(rt; is_written(alloc, &Register::new(alloc), &bytes));
     assert!(rt; goes_round(alloc, &bytes));
-    Ok(())
 }
 
 #[test]
-fn one_entry_has_160_bytes(rt: HostRuntime) -> Result<(), Fail> {
+fn one_entry_has_160_bytes(rt: HostRuntime) {
     let alloc = rt.alloc();
     let bytes = joined(
         alloc,
@@ -33,21 +33,17 @@ fn one_entry_has_160_bytes(rt: HostRuntime) -> Result<(), Fail> {
             &[0, 0, 0, 1, 1, 0, 0, 0, 0x5d],
             HEIGHT,
         ],
-    )?;
+    )
+    .expect(&rt, "a file");
     assert_eq!(rt; bytes.len(), 160);
-    assert!(rt; entry_file(alloc)?.as_slice() == bytes.as_slice());
-    let mut register = Register::new(alloc);
-    let id = id_of(A, 1).ok_or("no id")?;
-    enter(alloc, &mut register, id, HEIGHT).ok_or("not taken")?;
-    assert!(rt; is_written(alloc, &register, &bytes));
+    assert!(rt; entry_file(alloc).expect(&rt, "a file").as_slice() == bytes.as_slice());
+    assert!(rt; is_written(alloc, &one_entry(&rt, alloc), &bytes));
     assert!(rt; goes_round(alloc, &bytes));
-    Ok(())
 }
 
-#[test]
-fn two_replicas_have_347_bytes(rt: HostRuntime) -> Result<(), Fail> {
-    let alloc = rt.alloc();
-    let bytes = joined(
+// Two entries of one replica, of which the first is retired. A supersession of it by another replica was seen.
+fn worked_file(alloc: Global) -> Result<Vec<u8>, AllocError> {
+    joined(
         alloc,
         &[
             HEAD,
@@ -77,43 +73,49 @@ fn two_replicas_have_347_bytes(rt: HostRuntime) -> Result<(), Fail> {
             UUID_A,
             &four(1),
         ],
-    )?;
-    assert_eq!(rt; bytes.len(), 347);
-    let (one, two) = (id_of(A, 1).ok_or("no id")?, id_of(A, 2).ok_or("no id")?);
+    )
+}
+
+// The register of two entries of one replica.
+fn two_entries(rt: &impl Abort, alloc: Global, one: OpId, two: OpId) -> Register {
     let mut register = Register::new(alloc);
-    enter(alloc, &mut register, one, HEIGHT).ok_or("not taken")?;
-    enter(alloc, &mut register, two, OTHER_HEIGHT).ok_or("not taken")?;
+    enter(rt, alloc, &mut register, one, HEIGHT);
+    enter(rt, alloc, &mut register, two, OTHER_HEIGHT);
+    register
+}
+
+#[test]
+fn two_replicas_have_347_bytes(rt: HostRuntime) {
+    let alloc = rt.alloc();
+    let bytes = worked_file(alloc).expect(&rt, "a file");
+    assert_eq!(rt; bytes.len(), 347);
+    let (one, two) = (id_of(&rt, A, 1), id_of(&rt, A, 2));
+    let mut register = two_entries(&rt, alloc, one, two);
     let other = OpBody::Supersede {
         old: one,
         newer: two,
     };
-    take(&mut register, id_of(B, 1).ok_or("no id")?, other).ok_or("not taken")?;
+    take(&rt, &mut register, id_of(&rt, B, 1), other);
     let retired = OpBody::Retire { entry: one };
-    take(&mut register, id_of(A, 3).ok_or("no id")?, retired).ok_or("not taken")?;
+    take(&rt, &mut register, id_of(&rt, A, 3), retired);
     assert!(rt; is_written(alloc, &register, &bytes));
     assert!(rt; goes_round(alloc, &bytes));
-    Ok(())
 }
 
 #[test]
-fn each_kind_of_operation_goes_round(rt: HostRuntime) -> Result<(), Fail> {
+fn each_kind_of_operation_goes_round(rt: HostRuntime) {
     let alloc = rt.alloc();
-    let (one, two) = (id_of(A, 1).ok_or("no id")?, id_of(A, 2).ok_or("no id")?);
-    let mut register = Register::new(alloc);
-    enter(alloc, &mut register, one, HEIGHT).ok_or("not taken")?;
-    enter(alloc, &mut register, two, OTHER_HEIGHT).ok_or("not taken")?;
+    let (one, two) = (id_of(&rt, A, 1), id_of(&rt, A, 2));
+    let mut register = two_entries(&rt, alloc, one, two);
     let first = OpBody::Supersede {
         old: one,
         newer: two,
     };
-    take(&mut register, id_of(A, 5).ok_or("no id")?, first).ok_or("not taken")?;
+    take(&rt, &mut register, id_of(&rt, A, 5), first);
     let retired = OpBody::Retire { entry: two };
-    take(&mut register, id_of(B, 9).ok_or("no id")?, retired).ok_or("not taken")?;
-    let Ok(bytes) = write_bytes(alloc, &register) else {
-        return Err(Fail::new("not written"));
-    };
+    take(&rt, &mut register, id_of(&rt, B, 9), retired);
+    let bytes = write_bytes(alloc, &register).expect(&rt, "a file");
     assert!(rt; goes_round(alloc, &bytes));
-    Ok(())
 }
 
 #[test]
