@@ -1,17 +1,23 @@
 use crs_number::{Decimal, NumberFault, check_numeral};
 use std::alloc::Global;
 use std::cmp::Ordering;
-use std::test::Fail;
+use std::process::Abort;
+
+fn decimal(rt: &impl Abort, numeral: &[u8]) -> Decimal {
+    Decimal::from_numeral(numeral).expect(rt, "a numeral")
+}
 
 /// The canonical text of what a numeral spells.
-fn rewritten(alloc: Global, numeral: &[u8]) -> Result<Vec<u8>, Fail> {
+fn rewritten(rt: &impl Abort, alloc: Global, numeral: &[u8]) -> Vec<u8> {
     let mut out = Vec::new(alloc);
-    Decimal::from_numeral(numeral)?.write_to(&mut out)?;
-    Ok(out)
+    decimal(rt, numeral)
+        .write_to(&mut out)
+        .expect(rt, "room for a text");
+    out
 }
 
 #[test]
-fn numerals_have_canonical_texts(rt: HostRuntime) -> Result<(), Fail> {
+fn numerals_have_canonical_texts(rt: HostRuntime) {
     let thirty_four_nines = [b'9'; 34];
     let cases: [(&[u8], &[u8]); 13] = [
         (b".5", b"0.5"),
@@ -32,10 +38,9 @@ fn numerals_have_canonical_texts(rt: HostRuntime) -> Result<(), Fail> {
         (b"-0.0e-7", b"0"),
     ];
     for (numeral, text) in cases {
-        assert_eq!(rt; rewritten(rt.alloc(), numeral)?.as_slice(), text);
+        assert_eq!(rt; rewritten(&rt, rt.alloc(), numeral).as_slice(), text);
         assert_eq!(rt; check_numeral(numeral), Ok(()));
     }
-    Ok(())
 }
 
 #[test]
@@ -71,22 +76,23 @@ fn other_forms_are_refused(rt: HostRuntime) {
 }
 
 #[test]
-fn counts_are_whole_and_small(rt: HostRuntime) -> Result<(), Fail> {
-    assert_eq!(rt;
-        Decimal::from_numeral(b"4294967295")?.as_count(),
-        Some(4_294_967_295)
-    );
-    assert_eq!(rt; Decimal::from_numeral(b"7.0")?.as_count(), Some(7));
-    assert_eq!(rt; Decimal::from_numeral(b"12e3")?.as_count(), Some(12_000));
-    assert_eq!(rt; Decimal::from_numeral(b"4294967296")?.as_count(), None);
-    assert_eq!(rt; Decimal::from_numeral(b"1.5")?.as_count(), None);
-    assert_eq!(rt; Decimal::from_numeral(b"-1")?.as_count(), None);
-    assert_eq!(rt; Decimal::from_numeral(b"1e40")?.as_count(), None);
-    Ok(())
+fn counts_are_whole_and_small(rt: HostRuntime) {
+    let counts: [(&[u8], Option<u32>); 7] = [
+        (b"4294967295", Some(4_294_967_295)),
+        (b"7.0", Some(7)),
+        (b"12e3", Some(12_000)),
+        (b"4294967296", None),
+        (b"1.5", None),
+        (b"-1", None),
+        (b"1e40", None),
+    ];
+    for (numeral, count) in counts {
+        assert!(rt; decimal(&rt, numeral).as_count() == count);
+    }
 }
 
 #[test]
-fn decimals_are_ordered_by_value(rt: HostRuntime) -> Result<(), Fail> {
+fn decimals_are_ordered_by_value(rt: HostRuntime) {
     let ascending: [&[u8]; 9] = [
         b"-1e40",
         b"-2.5",
@@ -100,17 +106,10 @@ fn decimals_are_ordered_by_value(rt: HostRuntime) -> Result<(), Fail> {
     ];
     for (i, low) in ascending.iter().enumerate() {
         for (j, high) in ascending.iter().enumerate() {
-            let answer = Decimal::from_numeral(low)?.cmp(&Decimal::from_numeral(high)?);
+            let answer = decimal(&rt, low).cmp(&decimal(&rt, high));
             assert_eq!(rt; answer, i.cmp(&j));
         }
     }
-    assert_eq!(rt;
-        Decimal::from_numeral(b"0.10")?,
-        Decimal::from_numeral(b"1e-1")?
-    );
-    assert_eq!(rt;
-        Decimal::from_numeral(b"2")?.cmp(&Decimal::ZERO),
-        Ordering::Greater
-    );
-    Ok(())
+    assert_eq!(rt; decimal(&rt, b"0.10"), decimal(&rt, b"1e-1"));
+    assert_eq!(rt; decimal(&rt, b"2").cmp(&Decimal::ZERO), Ordering::Greater);
 }

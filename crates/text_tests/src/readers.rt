@@ -4,9 +4,9 @@ mod growth;
 mod refused;
 
 use std::alloc::Global;
-use std::test::Fail;
-use wkt_crs::{Condition, ReadFault, read_crs, write_crs, write_pretty};
-use wkt_guess::{Outcome, guess_parts};
+use std::process::Abort;
+use wkt_crs::{Condition, Crs, ReadFault, read_crs, write_crs, write_pretty};
+use wkt_guess::{Guess, Outcome, guess_parts};
 
 /// A vertical system, canonical.
 const HEIGHT: &[u8] =
@@ -28,56 +28,74 @@ const LISTED: &[u8] =
 const SPELLED: &[u8] =
     b"verticalcrs( \"H\" , VRF[\"D\"],cs(Vertical,1),\n AXIS[\"height (H)\",UP],LENGTHUNIT[\"metre\",1.0],ID[\"X\",7.0e0])";
 
-fn is_canonical(alloc: Global, text: &[u8]) -> Result<bool, Fail> {
-    let crs = read_crs(alloc, text).ok().ok_or("refused")?;
-    Ok(write_crs(alloc, &crs)?.as_slice() == text)
+// What a test needs before it can look at anything is expected, and not handed on by `?`: a refusal would let go of all
+// that the test holds, and the proof would walk that for each refusal.
+
+fn read(rt: &impl Abort, alloc: Global, text: &[u8]) -> Crs {
+    read_crs(alloc, text).expect(rt, "a text of a system")
+}
+
+fn has_text(rt: &impl Abort, alloc: Global, crs: &Crs, text: &[u8]) -> bool {
+    let written = write_crs(alloc, crs).expect(rt, "room for a text");
+    written.as_slice() == text
 }
 
 fn refusal(alloc: Global, text: &[u8]) -> Option<ReadFault> {
     read_crs(alloc, text).err()
 }
 
-#[test]
-fn canonical_texts_give_themselves(rt: HostRuntime) -> Result<(), Fail> {
-    for text in [HEIGHT, COMPOUND, POLAR] {
-        assert!(rt; is_canonical(rt.alloc(), text)?);
-    }
-    Ok(())
+fn is_refused(alloc: Global, text: &[u8], fault: ReadFault) -> bool {
+    refusal(alloc, text) == Some(fault)
 }
 
 #[test]
-fn every_spelling_gives_the_canonical_text(rt: HostRuntime) -> Result<(), Fail> {
+fn canonical_texts_give_themselves(rt: HostRuntime) {
     let alloc = rt.alloc();
-    let crs = read_crs(alloc, SPELLED).ok().ok_or("refused")?;
-    assert!(rt; write_crs(alloc, &crs)?.as_slice() == HEIGHT);
-    let pretty = write_pretty(alloc, &crs)?;
-    let again = read_crs(alloc, &pretty).ok().ok_or("refused")?;
-    assert!(rt; write_crs(alloc, &again)?.as_slice() == HEIGHT);
-    Ok(())
+    for text in [HEIGHT, COMPOUND, POLAR] {
+        assert!(rt; has_text(&rt, alloc, &read(&rt, alloc, text), text));
+    }
 }
 
 #[test]
-fn canonical_texts_alone_are_guessed(rt: HostRuntime) -> Result<(), Fail> {
+fn every_spelling_gives_the_canonical_text(rt: HostRuntime) {
+    let alloc = rt.alloc();
+    let crs = read(&rt, alloc, SPELLED);
+    assert!(rt; has_text(&rt, alloc, &crs, HEIGHT));
+    let pretty = write_pretty(alloc, &crs).expect(&rt, "room for a text");
+    drop(crs);
+    let again = read(&rt, alloc, &pretty);
+    assert!(rt; has_text(&rt, alloc, &again, HEIGHT));
+}
+
+// Whether the value of a text is guessed, and is written as that text.
+fn is_guessed(rt: &impl Abort, alloc: Global, text: &[u8]) -> bool {
+    let guess = guess_parts(alloc, text);
+    let written = wkt_write::write_crs(alloc, &guess.parts).expect(rt, "room for a text");
+    outcome_of(guess) == Outcome::Read && written.as_slice() == text
+}
+
+fn outcome_of(guess: Guess) -> Outcome {
+    let outcome = guess.outcome;
+    drop(guess);
+    outcome
+}
+
+#[test]
+fn canonical_texts_alone_are_guessed(rt: HostRuntime) {
     let alloc = rt.alloc();
     for text in [HEIGHT, COMPOUND, POLAR, LISTED] {
-        let guess = guess_parts(alloc, text);
-        assert!(rt; guess.outcome == Outcome::Read);
-        assert!(rt; wkt_write::write_crs(alloc, &guess.parts)?.as_slice() == text);
+        assert!(rt; is_guessed(&rt, alloc, text));
     }
-    assert!(rt; guess_parts(alloc, SPELLED).outcome == Outcome::Strayed);
-    Ok(())
+    assert!(rt; outcome_of(guess_parts(alloc, SPELLED)) == Outcome::Strayed);
 }
 
 #[test]
 fn conditions_are_told_of_the_component(rt: HostRuntime) {
     let text =
         b"COMPOUNDCRS[\"C\",GEOGCRS[\"G\",DATUM[\"D\",ELLIPSOID[\"S\",6371000,0]],CS[ellipsoidal,2],AXIS[\"(Lat)\",north],AXIS[\"(Lon)\",east],ANGLEUNIT[\"degree\",0.0174532925199433]],VERTCRS[\"H\",VDATUM[\"D\"],CS[vertical,1],AXIS[\"height (H)\",up]],ID[\"X\",9]]";
-    let refused = refusal(rt.alloc(), text);
-    assert!(rt;
-        refused
-            == Some(ReadFault::Broken {
-                condition: Condition::C3,
-                place: 161
-            })
-    );
+    let broken = ReadFault::Broken {
+        condition: Condition::C3,
+        place: 161,
+    };
+    assert!(rt; is_refused(rt.alloc(), text, broken));
 }

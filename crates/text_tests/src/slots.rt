@@ -1,13 +1,14 @@
 //! Known texts, with their first slot faults.
 
-use std::test::Fail;
+use std::process::Abort;
 use wkt_slots::{Edition, SlotName};
 use wkt_tier::{SlotFault, check_slots};
 use wkt_tree::scan;
 
-fn first_fault(edition: Edition, text: &str) -> Result<Option<SlotFault>, Fail> {
-    let outline = scan(text.as_bytes()).ok().ok_or("no tree")?;
-    Ok(check_slots(edition, &outline).err())
+// Whether this is the first fault of a text, or it has none.
+fn is_first(rt: &impl Abort, edition: Edition, text: &str, fault: Option<SlotFault>) -> bool {
+    let outline = scan(text.as_bytes()).expect(rt, "a tree");
+    check_slots(edition, &outline).err() == fault
 }
 
 /// Texts of both editions. The last five break conditions that no slot can tell.
@@ -48,12 +49,11 @@ const CLEAN: [&str; 13] = [
 ];
 
 #[test]
-fn texts_whose_arguments_fit_have_no_fault(rt: HostRuntime) -> Result<(), Fail> {
+fn texts_whose_arguments_fit_have_no_fault(rt: HostRuntime) {
     for text in CLEAN {
-        assert!(rt; first_fault(Edition::First, text)?.is_none());
-        assert!(rt; first_fault(Edition::Second, text)?.is_none());
+        assert!(rt; is_first(&rt, Edition::First, text, None));
+        assert!(rt; is_first(&rt, Edition::Second, text, None));
     }
-    Ok(())
 }
 
 /// Texts with the same fault in both editions.
@@ -149,12 +149,11 @@ const REFUSED: [(&str, SlotFault); 22] = [
 ];
 
 #[test]
-fn a_fault_is_told_at_its_place(rt: HostRuntime) -> Result<(), Fail> {
+fn a_fault_is_told_at_its_place(rt: HostRuntime) {
     for (text, fault) in REFUSED {
-        assert!(rt; first_fault(Edition::First, text)? == Some(fault));
-        assert!(rt; first_fault(Edition::Second, text)? == Some(fault));
+        assert!(rt; is_first(&rt, Edition::First, text, Some(fault)));
+        assert!(rt; is_first(&rt, Edition::Second, text, Some(fault)));
     }
-    Ok(())
 }
 
 /// Texts with what the second edition adds: their faults in the first, and in the second.
@@ -187,10 +186,9 @@ const ADDED: [(&str, SlotFault, Option<SlotFault>); 5] = [
 ];
 
 #[test]
-fn the_second_edition_takes_geoid_models_and_vertical_extents(rt: HostRuntime) -> Result<(), Fail> {
+fn the_second_edition_takes_geoid_models_and_vertical_extents(rt: HostRuntime) {
     for (text, first, second) in ADDED {
-        assert!(rt; first_fault(Edition::First, text)? == Some(first));
-        assert!(rt; first_fault(Edition::Second, text)? == second);
+        assert!(rt; is_first(&rt, Edition::First, text, Some(first)));
+        assert!(rt; is_first(&rt, Edition::Second, text, second));
     }
-    Ok(())
 }

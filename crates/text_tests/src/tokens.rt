@@ -1,6 +1,6 @@
 use std::alloc::Global;
-use std::test::Fail;
-use wkt_tree::{Delimiter, TokenKind, scan};
+use std::process::Abort;
+use wkt_tree::{Delimiter, Token, TokenKind, scan};
 
 const VERTICAL_CRS: &[u8] =
     b"VERTCRS[\"H\",VDATUM[\"D\"],CS[vertical,1],AXIS[\"height (H)\",up],LENGTHUNIT[\"metre\",1],ID[\"X\",7]]";
@@ -14,16 +14,16 @@ fn fault_of(text: &[u8]) -> Option<(&'static str, Option<usize>)> {
 }
 
 /// The pieces, one after another.
-fn joined(alloc: Global, pieces: &[&[u8]]) -> Result<Vec<u8>, Fail> {
+fn joined(rt: &impl Abort, alloc: Global, pieces: &[&[u8]]) -> Vec<u8> {
     let mut text = Vec::new(alloc);
     for piece in pieces {
-        text.extend_from_slice(*piece)?;
+        text.extend_from_slice(*piece).expect(rt, "room for a text");
     }
-    Ok(text)
+    text
 }
 
 #[test]
-fn texts_of_trees_pass(rt: HostRuntime) -> Result<(), Fail> {
+fn texts_of_trees_pass(rt: HostRuntime) {
     let texts: [&[u8]; 9] = [
         VERTICAL_CRS,
         b"VERTCRS[\"H\",VDATUM[\"D\"],CS[vertical,1]]",
@@ -38,11 +38,10 @@ fn texts_of_trees_pass(rt: HostRuntime) -> Result<(), Fail> {
     for text in texts {
         assert_eq!(rt; fault_of(text), None);
     }
-    Ok(())
 }
 
 #[test]
-fn first_faults(rt: HostRuntime) -> Result<(), Fail> {
+fn first_faults(rt: HostRuntime) {
     let cases: [(&[u8], &'static str, usize); 32] = [
         (b"V\xff", "NotUtf8", 1),
         (b"A]\xff", "NotUtf8", 2),
@@ -84,39 +83,43 @@ fn first_faults(rt: HostRuntime) -> Result<(), Fail> {
     for (text, name, place) in cases {
         assert_eq!(rt; fault_of(text), Some((name, Some(place))));
     }
-    Ok(())
 }
 
 #[test]
-fn a_token_behind_the_tree(rt: HostRuntime) -> Result<(), Fail> {
-    let text = joined(rt.alloc(), &[VERTICAL_CRS, b" x"])?;
+fn a_token_behind_the_tree(rt: HostRuntime) {
+    let text = joined(&rt, rt.alloc(), &[VERTICAL_CRS, b" x"]);
     assert_eq!(rt; fault_of(&text), Some(("After", Some(94))));
-    Ok(())
 }
 
 #[test]
-fn the_longest_text(rt: HostRuntime) -> Result<(), Fail> {
-    let mut text = vec![in rt.alloc(); b' '; 1_048_576]?;
+fn the_longest_text(rt: HostRuntime) {
+    let mut text = vec![in rt.alloc(); b' '; 1_048_576].expect(&rt, "room for a text");
     assert_eq!(rt; fault_of(&text), Some(("EndEarly", Some(1_048_576))));
-    text.push(b' ')?;
+    text.push(b' ').expect(&rt, "room for a byte");
     assert_eq!(rt; fault_of(&text), Some(("TooLong", None)));
-    Ok(())
 }
 
 #[test]
-fn long_numbers(rt: HostRuntime) -> Result<(), Fail> {
+fn long_numbers(rt: HostRuntime) {
     let zeros = [b'0'; 100];
-    let longest = joined(rt.alloc(), &[b"A[", &zeros, b"]"])?;
+    let longest = joined(&rt, rt.alloc(), &[b"A[", &zeros, b"]"]);
     assert_eq!(rt; fault_of(&longest), None);
-    let longer = joined(rt.alloc(), &[b"A[0", &zeros, b"]"])?;
+    let longer = joined(&rt, rt.alloc(), &[b"A[0", &zeros, b"]"]);
     assert_eq!(rt; fault_of(&longer), Some(("NumberRange", Some(2))));
-    let formless = joined(rt.alloc(), &[b"A[-.", &zeros, &zeros, b".]"])?;
+    let formless = joined(&rt, rt.alloc(), &[b"A[-.", &zeros, &zeros, b".]"]);
     assert_eq!(rt; fault_of(&formless), Some(("BadNumber", Some(2))));
-    Ok(())
+}
+
+// Whether there is a token, of this kind, at this place and with these bytes.
+fn is_token(token: Option<Token<'_>>, kind: TokenKind, place: usize, bytes: &[u8]) -> bool {
+    match token {
+        Some(token) => token.kind == kind && token.place == place && token.bytes == bytes,
+        None => false,
+    }
 }
 
 #[test]
-fn tokens_come_in_order(rt: HostRuntime) -> Result<(), Fail> {
+fn tokens_come_in_order(rt: HostRuntime) {
     let tokens: [(TokenKind, usize, &[u8]); 8] = [
         (TokenKind::Word, 1, b"Ab_1"),
         (TokenKind::Open(Delimiter::Round), 6, b"("),
@@ -127,20 +130,14 @@ fn tokens_come_in_order(rt: HostRuntime) -> Result<(), Fail> {
         (TokenKind::Word, 24, b"up"),
         (TokenKind::Close(Delimiter::Round), 27, b")"),
     ];
-    let Ok(outline) = scan(b" Ab_1 ( \"x\"\"\xc2\xb0\",-1.E5 , up ) ") else {
-        assert!(rt; false);
-        return Ok(());
-    };
+    let text = b" Ab_1 ( \"x\"\"\xc2\xb0\",-1.E5 , up ) ";
+    let outline = scan(text).expect(&rt, "a tree");
     let mut cursor = outline.cursor();
     for (kind, place, bytes) in tokens {
-        let token = cursor.peek();
-        assert_eq!(rt; token.map(|t| t.kind), Some(kind));
-        assert_eq!(rt; token.map(|t| t.place), Some(place));
-        assert_eq!(rt; token.map(|t| t.bytes), Some(bytes));
+        assert!(rt; is_token(cursor.peek(), kind, place, bytes));
         cursor.advance();
     }
     assert!(rt; cursor.peek().is_none());
     cursor.advance();
     assert!(rt; cursor.peek().is_none());
-    Ok(())
 }

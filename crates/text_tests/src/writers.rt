@@ -2,11 +2,20 @@
 
 mod values;
 
-use std::test::Fail;
+use crs_part::CrsParts;
+use std::alloc::Global;
+use std::process::Abort;
 use wkt_write::{write_crs, write_pretty};
 
+// Expects a value, which ends here, to be written as this text.
+fn expect_text(rt: &impl Abort, alloc: Global, parts: CrsParts, text: &str) {
+    let written = write_crs(alloc, &parts).expect(rt, "room for a text");
+    drop(parts);
+    assert_eq!(rt; written.as_slice(), text.as_bytes());
+}
+
 #[test]
-fn inner_marks_are_doubled(rt: HostRuntime) -> Result<(), Fail> {
+fn inner_marks_are_doubled(rt: HostRuntime) {
     let alloc = rt.alloc();
     let cases = [
         (
@@ -27,38 +36,31 @@ fn inner_marks_are_doubled(rt: HostRuntime) -> Result<(), Fail> {
         ),
     ];
     for (name, text) in cases {
-        let written = write_crs(alloc, &values::height(alloc, name)?)?;
-        assert_eq!(rt; written.as_slice(), text.as_bytes());
+        expect_text(&rt, alloc, values::height(&rt, alloc, name), text);
     }
-    Ok(())
 }
 
 #[test]
-fn a_geographic_system_is_written(rt: HostRuntime) -> Result<(), Fail> {
-    let written = write_crs(rt.alloc(), &values::world(rt.alloc())?)?;
-    assert_eq!(rt; written.as_slice(), WORLD.as_bytes());
-    Ok(())
+fn a_geographic_system_is_written(rt: HostRuntime) {
+    expect_text(&rt, rt.alloc(), values::world(&rt, rt.alloc()), WORLD);
 }
 
 #[test]
-fn a_projected_system_is_written(rt: HostRuntime) -> Result<(), Fail> {
-    let written = write_crs(rt.alloc(), &values::polar(rt.alloc())?)?;
-    assert_eq!(rt; written.as_slice(), POLAR.as_bytes());
-    Ok(())
+fn a_projected_system_is_written(rt: HostRuntime) {
+    expect_text(&rt, rt.alloc(), values::polar(&rt, rt.alloc()), POLAR);
 }
 
 #[test]
-fn a_compound_system_is_written(rt: HostRuntime) -> Result<(), Fail> {
-    let written = write_crs(rt.alloc(), &values::compound(rt.alloc())?)?;
-    assert_eq!(rt; written.as_slice(), COMPOUND.as_bytes());
-    Ok(())
+fn a_compound_system_is_written(rt: HostRuntime) {
+    expect_text(&rt, rt.alloc(), values::compound(&rt, rt.alloc()), COMPOUND);
 }
 
 #[test]
-fn nodes_stand_on_lines_of_their_own(rt: HostRuntime) -> Result<(), Fail> {
-    let written = write_pretty(rt.alloc(), &values::height(rt.alloc(), "H")?)?;
+fn nodes_stand_on_lines_of_their_own(rt: HostRuntime) {
+    let height = values::height(&rt, rt.alloc(), "H");
+    let written = write_pretty(rt.alloc(), &height).expect(&rt, "room for a text");
+    drop(height);
     assert_eq!(rt; written.as_slice(), INDENTED.as_bytes());
-    Ok(())
 }
 
 const INDENTED: &str =

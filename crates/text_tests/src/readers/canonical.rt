@@ -1,7 +1,7 @@
 //! Canonical texts that are seen to be so.
 
 use super::{COMPOUND, HEIGHT, LISTED, POLAR, SPELLED, refusal};
-use std::test::Fail;
+use std::alloc::Global;
 use wkt_canonical::{is_canonical, recognize};
 use wkt_crs::canonical_text;
 
@@ -32,34 +32,36 @@ fn canonical_texts_are_seen(rt: HostRuntime) {
 }
 
 #[test]
-fn a_name_and_an_identifier_are_seen(rt: HostRuntime) -> Result<(), Fail> {
-    let seen = recognize(COMPOUND).ok_or("not seen")?;
+fn a_name_and_an_identifier_are_seen(rt: HostRuntime) {
+    let seen = recognize(COMPOUND).expect(&rt, "a canonical text");
     assert!(rt; seen.name == b"C".as_slice());
-    let identifier = seen.identifier.ok_or("no identifier")?;
+    let identifier = seen.identifier.expect(&rt, "an identifier");
     assert!(rt; identifier.authority == b"X".as_slice());
     assert!(rt; identifier.code == b"9".as_slice());
-    Ok(())
 }
 
 #[test]
-fn each_text_has_one_canonical_text(rt: HostRuntime) -> Result<(), Fail> {
+fn each_text_has_one_canonical_text(rt: HostRuntime) {
     for (text, canonical) in [
         (LISTED, LISTED),
         (PLANE_AND_HEIGHT, PLANE_AND_HEIGHT),
         (COMPOUND, COMPOUND),
         (SPELLED, HEIGHT),
     ] {
-        let found = canonical_text(rt.alloc(), text).ok().ok_or("refused")?;
+        let found = canonical_text(rt.alloc(), text).expect(&rt, "a text of a system");
         assert!(rt; found.as_slice() == canonical);
     }
-    Ok(())
+}
+
+// Whether a text has no canonical text, for the reason that it is not read.
+fn is_refused_alike(alloc: Global, text: &[u8]) -> bool {
+    let fault = canonical_text(alloc, text).err();
+    fault.is_some() && fault == refusal(alloc, text)
 }
 
 #[test]
 fn a_text_with_a_fault_has_no_canonical_text(rt: HostRuntime) {
     for text in [b"VERTCRS[".as_slice(), b"VERTCRS[1]", GEOCENTRIC_AND_HEIGHT] {
-        let fault = canonical_text(rt.alloc(), text).err();
-        assert!(rt; fault.is_some());
-        assert!(rt; fault == refusal(rt.alloc(), text));
+        assert!(rt; is_refused_alike(rt.alloc(), text));
     }
 }

@@ -1,6 +1,7 @@
 //! Texts that are refused, with their first faults.
 
-use wkt_crs::{Condition, ReadFault, SlotFault, SlotName, TextFault, read_crs};
+use super::is_refused;
+use wkt_crs::{Condition, ReadFault, SlotFault, SlotName, TextFault};
 
 fn text_of(fault: TextFault) -> ReadFault {
     ReadFault::Text(fault)
@@ -41,7 +42,7 @@ fn tokens_are_refused_at_their_places(rt: HostRuntime) {
         ),
     ];
     for (text, fault) in rows {
-        assert!(rt; read_crs(rt.alloc(), text).err() == Some(fault));
+        assert!(rt; is_refused(rt.alloc(), text, fault));
     }
 }
 
@@ -74,7 +75,7 @@ fn arguments_are_refused_at_their_places(rt: HostRuntime) {
         ),
     ];
     for (text, fault) in rows {
-        assert!(rt; read_crs(rt.alloc(), text).err() == Some(fault));
+        assert!(rt; is_refused(rt.alloc(), text, fault));
     }
 }
 
@@ -119,6 +120,6 @@ fn conditions_are_told_in_order(rt: HostRuntime) {
         ),
     ];
     for (text, fault) in rows {
-        assert!(rt; read_crs(rt.alloc(), text).err() == Some(fault));
+        assert!(rt; is_refused(rt.alloc(), text, fault));
     }
 }

@@ -7,7 +7,8 @@ use crs_part::{
     LengthUnit, Many, Meridian, Named, NonEmpty, NumberOrText, Order, PrimeMeridian, Projected,
     Single, SystemKind, Text, Unit, UnitDefinition, Usage, Vertical, VerticalDatum, VerticalFrame,
 };
-use std::alloc::{AllocError, Global};
+use std::alloc::Global;
+use std::process::Abort;
 
 fn decimal(text: &str) -> Decimal {
     match Decimal::from_numeral(text.as_bytes()) {
@@ -16,67 +17,72 @@ fn decimal(text: &str) -> Decimal {
     }
 }
 
-fn one<T: Drop>(alloc: Global, item: T) -> Result<Many<T>, AllocError> {
-    let mut items = Many::new(alloc);
-    items.push(item)?;
-    Ok(items)
+fn text(rt: &impl Abort, alloc: Global, text: &str) -> Text {
+    Text::copied(alloc, text).expect(rt, "a text")
 }
 
-fn two<T: Drop>(alloc: Global, first: T, second: T) -> Result<NonEmpty<T>, AllocError> {
-    Ok(NonEmpty {
+fn one<T: Drop>(rt: &impl Abort, alloc: Global, item: T) -> Many<T> {
+    let mut items = Many::new(alloc);
+    items.push(item).expect(rt, "room for an item");
+    items
+}
+
+fn two<T: Drop>(rt: &impl Abort, alloc: Global, first: T, second: T) -> NonEmpty<T> {
+    NonEmpty {
         first,
-        others: one(alloc, second)?,
-    })
+        others: one(rt, alloc, second),
+    }
 }
 
 // ---- units
 
-fn unit(alloc: Global, name: &str, factor: &str) -> Result<UnitDefinition, AllocError> {
-    Ok(UnitDefinition {
-        name: Text::copied(alloc, name)?,
+fn unit(rt: &impl Abort, alloc: Global, name: &str, factor: &str) -> UnitDefinition {
+    UnitDefinition {
+        name: text(rt, alloc, name),
         factor: decimal(factor),
         ids: Many::new(alloc),
-    })
+    }
 }
 
-fn metre(alloc: Global) -> Result<UnitDefinition, AllocError> {
-    unit(alloc, "metre", "1")
+fn metre(rt: &impl Abort, alloc: Global) -> UnitDefinition {
+    unit(rt, alloc, "metre", "1")
 }
 
-fn degree(alloc: Global) -> Result<UnitDefinition, AllocError> {
-    unit(alloc, "degree", "0.0174532925199433")
+fn degree(rt: &impl Abort, alloc: Global) -> UnitDefinition {
+    unit(rt, alloc, "degree", "0.0174532925199433")
 }
 
 // ---- parts
 
-fn ident(alloc: Global, authority: &str, code: &str) -> Result<Ident, AllocError> {
-    Ok(Ident {
-        authority: Text::copied(alloc, authority)?,
+fn ident(rt: &impl Abort, alloc: Global, authority: &str, code: &str) -> Ident {
+    Ident {
+        authority: text(rt, alloc, authority),
         code: NumberOrText::Number(decimal(code)),
         version: None,
         citation: None,
         uri: None,
-    })
+    }
 }
 
-fn named(alloc: Global, name: &str) -> Result<Named, AllocError> {
-    Ok(Named {
-        name: Text::copied(alloc, name)?,
+fn named(rt: &impl Abort, alloc: Global, name: &str) -> Named {
+    Named {
+        name: text(rt, alloc, name),
         ids: Many::new(alloc),
-    })
+    }
 }
 
 fn usage(
+    rt: &impl Abort,
     alloc: Global,
     scope: &str,
     area: &str,
     bounding_box: BoundingBox,
-) -> Result<Usage, AllocError> {
-    Ok(Usage {
-        scope: Text::copied(alloc, scope)?,
-        area: Some(Text::copied(alloc, area)?),
+) -> Usage {
+    Usage {
+        scope: text(rt, alloc, scope),
+        area: Some(text(rt, alloc, area)),
         bounding_box: Some(bounding_box),
-    })
+    }
 }
 
 fn bounding_box(south: &str, west: &str, north: &str, east: &str) -> BoundingBox {
@@ -89,37 +95,38 @@ fn bounding_box(south: &str, west: &str, north: &str, east: &str) -> BoundingBox
 }
 
 fn ellipsoid(
+    rt: &impl Abort,
     alloc: Global,
     name: &str,
     radius: &str,
     flattening: &str,
     unit: Option<LengthUnit>,
-) -> Result<Ellipsoid, AllocError> {
-    Ok(Ellipsoid {
-        name: Text::copied(alloc, name)?,
+) -> Ellipsoid {
+    Ellipsoid {
+        name: text(rt, alloc, name),
         radius: decimal(radius),
         flattening: decimal(flattening),
         unit,
         ids: Many::new(alloc),
-    })
+    }
 }
 
-fn datum(alloc: Global, name: &str, ellipsoid: Ellipsoid) -> Result<GeodeticFrame, AllocError> {
-    Ok(GeodeticFrame::Datum(Datum {
-        name: Text::copied(alloc, name)?,
+fn datum(rt: &impl Abort, alloc: Global, name: &str, ellipsoid: Ellipsoid) -> GeodeticFrame {
+    GeodeticFrame::Datum(Datum {
+        name: text(rt, alloc, name),
         ellipsoid,
         anchor: None,
         ids: Many::new(alloc),
-    }))
+    })
 }
 
-fn greenwich(alloc: Global) -> Result<PrimeMeridian, AllocError> {
-    Ok(PrimeMeridian {
-        name: Text::copied(alloc, "Greenwich")?,
+fn greenwich(rt: &impl Abort, alloc: Global) -> PrimeMeridian {
+    PrimeMeridian {
+        name: text(rt, alloc, "Greenwich"),
         longitude: Decimal::ZERO,
-        unit: Some(AngleUnit::Angle(degree(alloc)?)),
+        unit: Some(AngleUnit::Angle(degree(rt, alloc))),
         ids: Many::new(alloc),
-    })
+    }
 }
 
 fn system(alloc: Global, kind: SystemKind, dimension: u32) -> CoordSystem {
@@ -130,199 +137,209 @@ fn system(alloc: Global, kind: SystemKind, dimension: u32) -> CoordSystem {
     }
 }
 
-fn axis(alloc: Global, name: &str, direction: Direction) -> Result<Axis, AllocError> {
-    Ok(Axis {
-        name: Text::copied(alloc, name)?,
+fn axis(rt: &impl Abort, alloc: Global, name: &str, direction: Direction) -> Axis {
+    Axis {
+        name: text(rt, alloc, name),
         direction,
         meridian: None,
         order: None,
         unit: None,
         ids: Many::new(alloc),
-    })
+    }
 }
 
 fn axis_with_unit(
+    rt: &impl Abort,
     alloc: Global,
     name: &str,
     direction: Direction,
     position: u32,
     unit: Unit,
-) -> Result<Axis, AllocError> {
-    Ok(Axis {
-        name: Text::copied(alloc, name)?,
+) -> Axis {
+    Axis {
+        name: text(rt, alloc, name),
         direction,
         meridian: None,
         order: Some(Order { position }),
         unit: Some(unit),
         ids: Many::new(alloc),
-    })
+    }
 }
 
-fn axis_along(
-    alloc: Global,
-    name: &str,
-    longitude: &str,
-    position: u32,
-) -> Result<Axis, AllocError> {
-    Ok(Axis {
-        name: Text::copied(alloc, name)?,
+fn axis_along(rt: &impl Abort, alloc: Global, name: &str, longitude: &str, position: u32) -> Axis {
+    Axis {
+        name: text(rt, alloc, name),
         direction: Direction::South,
         meridian: Some(Meridian {
             longitude: decimal(longitude),
-            unit: AngleUnit::Angle(degree(alloc)?),
+            unit: AngleUnit::Angle(degree(rt, alloc)),
         }),
         order: Some(Order { position }),
         unit: None,
         ids: Many::new(alloc),
-    })
+    }
 }
 
 // ---- systems
 
-fn vertical(alloc: Global, name: &str, ids: Many<Ident>) -> Result<Vertical, AllocError> {
-    Ok(Vertical {
-        name: Text::copied(alloc, name)?,
+fn vertical(rt: &impl Abort, alloc: Global, name: &str, ids: Many<Ident>) -> Vertical {
+    Vertical {
+        name: text(rt, alloc, name),
         datum: VerticalFrame::Datum(VerticalDatum {
-            name: Text::copied(alloc, "D")?,
+            name: text(rt, alloc, "D"),
             anchor: None,
             ids: Many::new(alloc),
         }),
         system: system(alloc, SystemKind::Vertical, 1),
         axes: NonEmpty {
-            first: axis(alloc, "height (H)", Direction::Up)?,
+            first: axis(rt, alloc, "height (H)", Direction::Up),
             others: Many::new(alloc),
         },
-        unit: Some(Unit::Length(metre(alloc)?)),
+        unit: Some(Unit::Length(metre(rt, alloc))),
         usages: Many::new(alloc),
         ids,
         remark: None,
-    })
+    }
 }
 
-pub(crate) fn height(alloc: Global, name: &str) -> Result<CrsParts, AllocError> {
-    let ids = one(alloc, ident(alloc, "X", "7")?)?;
-    Ok(CrsParts::Single(Single::Vertical(vertical(alloc, name, ids)?)))
+pub(crate) fn height(rt: &impl Abort, alloc: Global, name: &str) -> CrsParts {
+    let ids = one(rt, alloc, ident(rt, alloc, "X", "7"));
+    CrsParts::Single(Single::Vertical(vertical(rt, alloc, name, ids)))
 }
 
-fn world_ensemble(alloc: Global) -> Result<GeodeticEnsemble, AllocError> {
-    let unit = Some(LengthUnit::Length(metre(alloc)?));
-    Ok(GeodeticEnsemble {
-        name: Text::copied(alloc, "World Geodetic System 1984 ensemble")?,
+fn world_ensemble(rt: &impl Abort, alloc: Global) -> GeodeticEnsemble {
+    let unit = Some(LengthUnit::Length(metre(rt, alloc)));
+    GeodeticEnsemble {
+        name: text(rt, alloc, "World Geodetic System 1984 ensemble"),
         members: two(
+            rt,
             alloc,
-            named(alloc, "World Geodetic System 1984 (Transit)")?,
-            named(alloc, "World Geodetic System 1984 (G730)")?,
-        )?,
-        ellipsoid: ellipsoid(alloc, "WGS 84", "6378137", "298.257223563", unit)?,
+            named(rt, alloc, "World Geodetic System 1984 (Transit)"),
+            named(rt, alloc, "World Geodetic System 1984 (G730)"),
+        ),
+        ellipsoid: ellipsoid(rt, alloc, "WGS 84", "6378137", "298.257223563", unit),
         accuracy: decimal("2.0"),
         ids: Many::new(alloc),
-    })
+    }
 }
 
-pub(crate) fn world(alloc: Global) -> Result<CrsParts, AllocError> {
-    let latitude = Unit::Angle(degree(alloc)?);
-    let longitude = Unit::Angle(degree(alloc)?);
+pub(crate) fn world(rt: &impl Abort, alloc: Global) -> CrsParts {
+    let latitude = Unit::Angle(degree(rt, alloc));
+    let longitude = Unit::Angle(degree(rt, alloc));
     let box_ = bounding_box("-90", "-180", "90", "180");
-    Ok(CrsParts::Single(Single::Geodetic(Geodetic {
+    CrsParts::Single(Single::Geodetic(Geodetic {
         kind: GeodeticKind::Geographic,
-        name: Text::copied(alloc, "WGS 84")?,
-        datum: GeodeticFrame::Ensemble(world_ensemble(alloc)?),
-        prime_meridian: Some(greenwich(alloc)?),
+        name: text(rt, alloc, "WGS 84"),
+        datum: GeodeticFrame::Ensemble(world_ensemble(rt, alloc)),
+        prime_meridian: Some(greenwich(rt, alloc)),
         system: system(alloc, SystemKind::Ellipsoidal, 2),
         axes: two(
+            rt,
             alloc,
             axis_with_unit(
+                rt,
                 alloc,
                 "geodetic latitude (Lat)",
                 Direction::North,
                 1,
                 latitude,
-            )?,
+            ),
             axis_with_unit(
+                rt,
                 alloc,
                 "geodetic longitude (Lon)",
                 Direction::East,
                 2,
                 longitude,
-            )?,
-        )?,
+            ),
+        ),
         unit: None,
         usages: one(
+            rt,
             alloc,
-            usage(alloc, "Horizontal component of 3D system.", "World.", box_)?,
-        )?,
-        ids: one(alloc, ident(alloc, "EPSG", "4326")?)?,
+            usage(
+                rt,
+                alloc,
+                "Horizontal component of 3D system.",
+                "World.",
+                box_,
+            ),
+        ),
+        ids: one(rt, alloc, ident(rt, alloc, "EPSG", "4326")),
         remark: None,
-    })))
+    }))
 }
 
-fn base(alloc: Global) -> Result<BaseCrs, AllocError> {
-    let ellipsoid = ellipsoid(alloc, "GRS 1980", "6378137", "298.257222101", None)?;
-    Ok(BaseCrs {
+fn base(rt: &impl Abort, alloc: Global) -> BaseCrs {
+    let ellipsoid = ellipsoid(rt, alloc, "GRS 1980", "6378137", "298.257222101", None);
+    BaseCrs {
         kind: GeodeticKind::Geographic,
-        name: Text::copied(alloc, "Example")?,
-        datum: datum(alloc, "Example frame", ellipsoid)?,
+        name: text(rt, alloc, "Example"),
+        datum: datum(rt, alloc, "Example frame", ellipsoid),
         prime_meridian: None,
         unit: None,
         ids: Many::new(alloc),
-    })
+    }
 }
 
-pub(crate) fn polar(alloc: Global) -> Result<CrsParts, AllocError> {
+pub(crate) fn polar(rt: &impl Abort, alloc: Global) -> CrsParts {
     let id = Ident {
-        authority: Text::copied(alloc, "X")?,
-        code: NumberOrText::Text(Text::copied(alloc, "polar")?),
+        authority: text(rt, alloc, "X"),
+        code: NumberOrText::Text(text(rt, alloc, "polar")),
         version: Some(NumberOrText::Number(decimal("1"))),
         citation: None,
-        uri: Some(Text::copied(alloc, "urn:example:polar")?),
+        uri: Some(text(rt, alloc, "urn:example:polar")),
     };
-    Ok(CrsParts::Single(Single::Projected(Projected {
-        name: Text::copied(alloc, "Polar example")?,
-        base: base(alloc)?,
+    CrsParts::Single(Single::Projected(Projected {
+        name: text(rt, alloc, "Polar example"),
+        base: base(rt, alloc),
         conversion: Conversion {
-            name: Text::copied(alloc, "Polar example")?,
-            method: named(alloc, "Polar Stereographic (variant A)")?,
+            name: text(rt, alloc, "Polar example"),
+            method: named(rt, alloc, "Polar Stereographic (variant A)"),
             parameters: Many::new(alloc),
             ids: Many::new(alloc),
         },
         system: system(alloc, SystemKind::Cartesian, 2),
         axes: two(
+            rt,
             alloc,
-            axis_along(alloc, "(E)", "90", 1)?,
-            axis_along(alloc, "(N)", "180", 2)?,
-        )?,
-        unit: Some(Unit::Length(metre(alloc)?)),
+            axis_along(rt, alloc, "(E)", "90", 1),
+            axis_along(rt, alloc, "(N)", "180", 2),
+        ),
+        unit: Some(Unit::Length(metre(rt, alloc))),
         usages: Many::new(alloc),
-        ids: one(alloc, id)?,
+        ids: one(rt, alloc, id),
         remark: None,
-    })))
+    }))
 }
 
-pub(crate) fn compound(alloc: Global) -> Result<CrsParts, AllocError> {
-    let sphere = ellipsoid(alloc, "S", "6371000", "0", None)?;
+pub(crate) fn compound(rt: &impl Abort, alloc: Global) -> CrsParts {
+    let sphere = ellipsoid(rt, alloc, "S", "6371000", "0", None);
     let first = Geodetic {
         kind: GeodeticKind::Geographic,
-        name: Text::copied(alloc, "G")?,
-        datum: datum(alloc, "D", sphere)?,
+        name: text(rt, alloc, "G"),
+        datum: datum(rt, alloc, "D", sphere),
         prime_meridian: None,
         system: system(alloc, SystemKind::Ellipsoidal, 2),
         axes: two(
+            rt,
             alloc,
-            axis(alloc, "(Lat)", Direction::North)?,
-            axis(alloc, "(Lon)", Direction::East)?,
-        )?,
-        unit: Some(Unit::Angle(degree(alloc)?)),
+            axis(rt, alloc, "(Lat)", Direction::North),
+            axis(rt, alloc, "(Lon)", Direction::East),
+        ),
+        unit: Some(Unit::Angle(degree(rt, alloc))),
         usages: Many::new(alloc),
         ids: Many::new(alloc),
         remark: None,
     };
     let whole = Compound {
-        name: Text::copied(alloc, "C")?,
+        name: text(rt, alloc, "C"),
         first: Single::Geodetic(first),
-        second: Single::Vertical(vertical(alloc, "H", Many::new(alloc))?),
+        second: Single::Vertical(vertical(rt, alloc, "H", Many::new(alloc))),
         usages: Many::new(alloc),
-        ids: one(alloc, ident(alloc, "X", "9")?)?,
+        ids: one(rt, alloc, ident(rt, alloc, "X", "9")),
         remark: None,
     };
-    Ok(CrsParts::Compound(Boxed::new(alloc, whole)?))
+    let whole = Boxed::new(alloc, whole).expect(rt, "room for a compound");
+    CrsParts::Compound(whole)
 }
