@@ -4,7 +4,7 @@ use Rattle.std.proofs.Math.Logic.{∥∥₁_elim}
 use Rattle.std.proofs.Math.Bridge.{le_prop}
 use Rattle.std.proofs.Props.{props}
 use mathlib.Core.HLevel.{is_prop→PathP}
-use Rattle.std.specs.Prelude.{◌⊎◌, ◌&&◌, not, Option, Some, Result, Ok, Err, IfSome, IfOk, IfErr}
+use Rattle.std.specs.Prelude.{◌⊎◌, ◌&&◌, not, Some, Result, Ok, Err, IfOk, IfErr}
 use Rattle.std.specs.Cmp.Lexicographic.{pointwise}
 use Rattle.std.proofs.lemmas.Bool.{eqb-true, eq-eqb}
 use Rattle.crs_part.specs.declared.text.Text.{Text}

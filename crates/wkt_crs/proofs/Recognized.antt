@@ -1,6 +1,6 @@
 -- Texts that are recognized as canonical ones.
-use Rattle.std.proofs.Common.{◌≡◌, ℕ, ◌≤◌, true, List, [], ◌∷◌, length, refl, sym, ap, ◌∙◌, subst, arith}
-use Rattle.std.specs.Prelude.{Option, Some, None, IsSomeAnd}
+use Rattle.std.proofs.Common.{◌≡◌, ℕ, ◌≤◌, true, List, [], ◌∷◌, length, refl, sym, ap, ◌∙◌, subst}
+use Rattle.std.specs.Prelude.{Option, Some, None}
 use Rattle.std.specs.Str.{is_utf8}
 use Rattle.crs_number.proofs.Spelled.{canonical_spells as numeral_spells}
 use Rattle.crs_part.proofs.Spelled.{spelled_is_utf8}
@@ -20,9 +20,9 @@ use Rattle.wkt_canonical.specs.declared.identifiers.Identifier.{Identifier}
 use Rattle.wkt_canonical.specs.declared.crs.Seen.{Seen}
 use Rattle.wkt_canonical.specs.Seen.{Identifies, IsFirst}
 use Rattle.wkt_canonical.specs.Reads.{IsCanonicalOf}
-use Rattle.wkt_crs.specs.Spells.{Spells, canon}
+use Rattle.wkt_crs.specs.Spells.{Spells}
 use Rattle.wkt_crs.specs.Faults.{FirstSlot}
-use Rattle.wkt_crs.specs.Definition.{HasNone, HasKey, HasName, IsDefinedBy, IsDefinition}
+use Rattle.wkt_crs.specs.Definition.{HasNone, IsDefinedBy, IsDefinition}
 use Rattle.wkt_crs.proofs.Texts.{no_slot}
 use Rattle.wkt_crs.proofs.Defining.{canonical_text, defines, of_definition}
 
