@@ -5,15 +5,20 @@ use crate::fault::InFault;
 use crate::source::Source;
 use std::alloc::Global;
 
-const CHUNK: usize = 4096;
+/// How many bytes are asked for at once.
+const CHUNK: usize = 16_384;
 
-/// Reads once, at most `room` bytes, behind those that are there. It gives none only at the end.
-fn read_chunk<S: Source>(source: &mut S, bytes: &mut Vec<u8>, room: usize) -> Result<usize, InFault>
+/// Reads once, at most `room` bytes, behind those that are there, by way of the chunk. It gives none only at the end.
+fn read_chunk<S: Source>(
+    source: &mut S,
+    chunk: &mut [u8; CHUNK],
+    bytes: &mut Vec<u8>,
+    room: usize,
+) -> Result<usize, InFault>
     requires { 0 < room }
     ensures { IsChunk room bytes.old.items bytes.new.items
         (S.state source.old) (S.state source.new) result }
 {
-    let mut chunk = [0u8; CHUNK];
     let want = room.min(CHUNK);
     match source.read_some(&mut chunk[..want]) {
         Ok(n) => {
@@ -29,10 +34,11 @@ pub fn read_up_to<S: Source>(alloc: Global, source: &mut S, most: usize) -> Resu
     ensures ok { IfOk result (λ v. ReadsUpTo most (S.state source.old) (S.state source.new) v.items) }
     ensures fault { IfErr result (IsInFault most (S.state source.old) (S.state source.new)) }
 {
+    let mut chunk = [0; CHUNK];
     let mut bytes = Vec::new(alloc);
     while bytes.len() < most {
         let room = most - bytes.len();
-        match read_chunk(source, &mut bytes, room) {
+        match read_chunk(source, &mut chunk, &mut bytes, room) {
             Ok(0) => return Ok(bytes),
             Ok(_) => {}
             Err(fault) => return Err(fault),

@@ -1,13 +1,13 @@
 //! Texts, and numbers or texts.
 
-ghost use Rattle.std.specs.Prelude.{◌≡◌, ◌<◌, length, IfSome, position};
+ghost use Rattle.std.specs.Prelude.{◌≡◌, IfSome};
 ghost use Rattle.std.specs.Str.{is_utf8};
-ghost use Rattle.wkt_tree.specs.Tokens.{is_mark};
 ghost use Rattle.wkt_meaning.specs.Trees.{text_tree, code_tree};
 ghost use Rattle.wkt_canonical.specs.Reads.{ReadsFirst, ReadsOne, ReadsText, ReadsCode, any};
 
 use crate::front::behind;
 use crate::numerals::number;
+use wkt_tree::first_mark;
 
 /// A text between marks, and what stands behind it.
 pub(crate) fn content(bytes: &[u8]) -> Option<(&[u8], &[u8])>
@@ -29,13 +29,6 @@ pub(crate) fn text(bytes: &[u8]) -> Option<&[u8]>
 {
     let (_, rest) = content(bytes)?;
     Some(rest)
-}
-
-fn first_mark(bytes: &[u8]) -> Option<usize>
-    ensures first { result ≡ position is_mark bytes.now }
-    ensures within { IfSome result (λ mark. mark < length bytes.now) }
-{
-    bytes.iter().position(|byte| *byte == b'"')
 }
 
 fn is_utf8(bytes: &[u8]) -> bool

@@ -3,13 +3,7 @@
 ghost use Rattle.std.specs.Prelude.{◌≤◌, length};
 
 use crs_number::Decimal;
-
-/// Eight marks.
-const MARKS: u64 = 0x2222_2222_2222_2222;
-/// The lowest and the highest bit of each of eight bytes.
-const ONES: u64 = 0x0101_0101_0101_0101;
-
-const HIGHS: u64 = 0x8080_8080_8080_8080;
+use wkt_tree::first_mark;
 
 /// How a guess ended.
 #[derive(Clone, Copy, Debug, PartialEq, Eq)]
@@ -75,6 +69,10 @@ impl<'a> Rest<'a> {
     /// Goes behind the word, if it comes.
     #[inline(always)]
     pub(crate) fn eat(&mut self, word: &[u8]) -> bool {
+        // A node that doesn't come differs from what comes in its second byte, mostly, as each begins with a comma.
+        if word.len() > 1 && self.bytes.get(1) != word.get(1) {
+            return false;
+        }
         match self.bytes.strip_prefix(word) {
             Some(bytes) => {
                 self.bytes = bytes;
@@ -161,27 +159,14 @@ fn plain_numeral(bytes: &[u8]) -> Option<PlainNumeral> {
     None
 }
 
-// The place of the first mark, found eight bytes at once.
+// The place of the first mark.
 fn mark_place(bytes: &[u8]) -> usize
     ensures { result ≤ length bytes.now }
 {
-    let mut before = 0usize;
-    for eight in bytes.as_chunks::<8>().0 {
-        // A byte is zero where there is a mark.
-        let others = u64::from_le_bytes(*eight) ^ MARKS;
-        let found = others.wrapping_sub(ONES) & !others & HIGHS;
-        if found != 0 {
-            let place = before.wrapping_add(found.trailing_zeros() as usize / 8);
-            return place.min(bytes.len());
-        }
-        before = before.wrapping_add(8);
+    match first_mark(bytes) {
+        Some(place) => place,
+        None => bytes.len(),
     }
-    for i in before..bytes.len() {
-        if bytes[i] == b'"' {
-            return i;
-        }
-    }
-    bytes.len()
 }
 
 fn delimiter_place(bytes: &[u8]) -> usize

@@ -1,4 +1,6 @@
 pub mod Lexemes
+pub mod PlainRuns
+pub mod ClosingMark
 pub mod Cuts
 pub mod Scans
 pub mod Stacks

@@ -2,6 +2,7 @@ pub mod Bytes
 pub mod Tree
 pub mod Machine
 pub mod Tokens
+pub mod Marks
 pub mod Faults
 pub mod Cut
 pub mod Cursor

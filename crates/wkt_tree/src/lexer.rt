@@ -11,6 +11,7 @@ ghost use Rattle.wkt_tree.specs.Faults.{Lexes, Reads, Misread};
 
 use crate::bytes::{BEGINNINGS, BLANKS, NUMBER_BYTES, WORD_BYTES};
 use crate::fault::TextFault;
+use crate::marks::first_mark;
 use crate::token::{Token, TokenKind};
 use crs_number::{NumberFault, check_numeral};
 
@@ -84,12 +85,15 @@ fn quoted_len(bytes: &[u8]) -> Option<usize>
 {
     let mut i = 0;
     while i < bytes.len() {
-        if bytes[i] != b'"' {
-            i += 1;
-        } else if i + 1 < bytes.len() && bytes[i + 1] == b'"' {
-            i += 2;
+        let (_, rest) = bytes.split_at(i);
+        let Some(plain) = first_mark(rest) else {
+            return None;
+        };
+        let mark = i + plain;
+        if mark + 1 < bytes.len() && bytes[mark + 1] == b'"' {
+            i = mark + 2;
         } else {
-            return Some(i + 1);
+            return Some(mark + 1);
         }
     }
     None

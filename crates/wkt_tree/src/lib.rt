@@ -7,10 +7,12 @@ mod fault;
 pub mod laws;
 mod lexer;
 mod machine;
+mod marks;
 mod scanner;
 mod stack;
 mod token;
 
 pub use cursor::{Cursor, Outline, scan};
 pub use fault::TextFault;
+pub use marks::first_mark;
 pub use token::{Delimiter, Token, TokenKind};

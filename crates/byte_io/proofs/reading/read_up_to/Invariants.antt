@@ -2,8 +2,8 @@ use Rattle.std.proofs.Common.{◌++◌, ◌≡◌, ◌≤◌, ◌-◌, vec_len}
 use Rattle.std.specs.Io.KnownBytes.{Consumes}
 use Rattle.byte_io.proofs.reading.read_up_to.Given as goal
 
-abbrev pub invariant-loop-bytes : goal.invariant-loop-bytes
-invariant-loop-bytes g l = record {
+abbrev pub invariant-loop-chunk : goal.invariant-loop-chunk
+invariant-loop-chunk g l = record {
   given : (g.S.Source.state l.source).given ≡ (g.S.Source.state l.initial.source).given ++ l.bytes.items;
   front : Consumes (g.S.Source.state l.initial.source).left (g.S.Source.state l.source).left l.bytes.items;
   within : vec_len l.bytes ≤ l.most;
@@ -11,5 +11,5 @@ invariant-loop-bytes g l = record {
   going : (g.S.Source.state l.source).ends ≡ (g.S.Source.state l.initial.source).ends;
 }
 
-abbrev pub decreases-loop-bytes : goal.decreases-loop-bytes
-decreases-loop-bytes g l = l.most - vec_len l.bytes
+abbrev pub decreases-loop-chunk : goal.decreases-loop-chunk
+decreases-loop-chunk g l = l.most - vec_len l.bytes
