@@ -5,4 +5,5 @@ pub mod Nodes
 pub mod Numbers
 pub mod Runs
 pub mod Texts
+pub mod Ascii
 pub mod Wholes

@@ -1,13 +1,18 @@
 //! Texts, and numbers or texts.
 
-ghost use Rattle.std.specs.Prelude.{◌≡◌, IfSome};
+ghost use Rattle.std.specs.Prelude.{◌≡◌, ◌≤◌, true, length, take, IfSome, IsAscii};
+ghost use Rattle.std.specs.Bool.{OnTrue};
 ghost use Rattle.std.specs.Str.{is_utf8};
 ghost use Rattle.wkt_meaning.specs.Trees.{text_tree, code_tree};
 ghost use Rattle.wkt_canonical.specs.Reads.{ReadsFirst, ReadsOne, ReadsText, ReadsCode, any};
 
 use crate::front::behind;
 use crate::numerals::number;
+use std::simd::prelude::*;
 use wkt_tree::first_mark;
+
+/// How many bytes are looked at together.
+const LANES: usize = 16;
 
 /// A text between marks, and what stands behind it.
 pub(crate) fn content(bytes: &[u8]) -> Option<(&[u8], &[u8])>
@@ -15,10 +20,10 @@ pub(crate) fn content(bytes: &[u8]) -> Option<(&[u8], &[u8])>
 {
     let inside = behind(bytes, b"\"")?;
     let mark = first_mark(inside)?;
-    let (content, rest) = inside.split_at(mark);
-    if !is_utf8(content) {
+    if !begins_in_utf8(inside, mark) {
         return None;
     }
+    let (content, rest) = inside.split_at(mark);
     let rest = behind(rest, b"\"")?;
     Some((content, rest))
 }
@@ -31,10 +36,33 @@ pub(crate) fn text(bytes: &[u8]) -> Option<&[u8]>
     Some(rest)
 }
 
+/// Whether the first bytes are UTF-8. Most texts are short and of ASCII, which is seen at once.
+#[inline(always)]
+fn begins_in_utf8(bytes: &[u8], len: usize) -> bool
+    requires { len ≤ length bytes.now }
+    ensures { OnTrue result (is_utf8 (take len bytes.now) ≡ true) }
+{
+    if len <= LANES && begins_in_ascii(bytes) {
+        return true;
+    }
+    is_utf8(&bytes[..len])
+}
+
+/// Whether the first sixteen bytes are there, and of ASCII.
+#[inline(always)]
+fn begins_in_ascii(bytes: &[u8]) -> bool
+    ensures { OnTrue result (IsAscii (take LANES bytes.now)) }
+{
+    if bytes.len() < LANES {
+        return false;
+    }
+    let lanes = u8x16::from_slice(bytes);
+    lanes.simd_ge(u8x16::splat(0x80)).to_bitmask() == 0
+}
+
 fn is_utf8(bytes: &[u8]) -> bool
     ensures { result ≡ is_utf8 bytes.now }
 {
-    // Most texts are of ASCII, which is seen sooner.
     if bytes.is_ascii() {
         return true;
     }
