@@ -19,23 +19,29 @@ pub fn command_line<'a>(alloc: Global) -> Result<Command<'a>, AllocError> {
 
 // Those that check a text, and that make or change a register.
 fn with_makers<'a>(alloc: Global, whole: Command<'a>) -> Result<Command<'a>, AllocError> {
-    whole
-        .subcommand(check(alloc)?)?
-        .subcommand(new(alloc)?)?
-        .subcommand(enter(alloc)?)?
-        .subcommand(supersede(alloc)?)?
-        .subcommand(retire(alloc)?)
+    let whole = and(whole, check(alloc))?;
+    let whole = and(whole, new(alloc))?;
+    let whole = and(whole, enter(alloc))?;
+    let whole = and(whole, supersede(alloc))?;
+    and(whole, retire(alloc))
 }
 
 // Those that show what registers have, and that join them.
 fn with_readers<'a>(alloc: Global, whole: Command<'a>) -> Result<Command<'a>, AllocError> {
-    whole
-        .subcommand(show(alloc)?)?
-        .subcommand(wkt(alloc)?)?
-        .subcommand(export(alloc)?)?
-        .subcommand(ops(alloc)?)?
-        .subcommand(report(alloc)?)?
-        .subcommand(merge(alloc)?)
+    let whole = and(whole, show(alloc))?;
+    let whole = and(whole, wkt(alloc))?;
+    let whole = and(whole, export(alloc))?;
+    let whole = and(whole, ops(alloc))?;
+    let whole = and(whole, report(alloc))?;
+    and(whole, merge(alloc))
+}
+
+// The commands so far and one more, if both could be made.
+fn and<'a>(
+    whole: Command<'a>,
+    command: Result<Command<'a>, AllocError>,
+) -> Result<Command<'a>, AllocError> {
+    whole.subcommand(command?)
 }
 
 fn check<'a>(alloc: Global) -> Result<Command<'a>, AllocError> {
@@ -56,29 +62,21 @@ fn new<'a>(alloc: Global) -> Result<Command<'a>, AllocError> {
 }
 
 fn enter<'a>(alloc: Global) -> Result<Command<'a>, AllocError> {
-    let text = Arg::new(alloc, "text")
-        .long("text")
-        .value_name("TEXT")
-        .help("The file with the text of a coordinate reference system")
-        .required(true);
     Command::new(alloc, "enter")
         .about("Enters a coordinate reference system into a register")
         .after_help(ENTER_HELP)
         .arg(register(alloc))?
         .arg(replica(alloc))?
-        .arg(text)?
+        .arg(text(alloc))?
         .arg(changed(alloc))
 }
 
 fn supersede<'a>(alloc: Global) -> Result<Command<'a>, AllocError> {
-    let old = Arg::new(alloc, "OLD")
-        .help("The id of the entry that is superseded, as UUID:NUMBER")
-        .required(true);
     Command::new(alloc, "supersede")
         .about("Supersedes an entry of a register by others")
         .after_help(SUPERSEDE_HELP)
         .arg(register(alloc))?
-        .arg(old)?
+        .arg(old(alloc))?
         .arg(entries(alloc, "BY", "The ids of the entries that supersede it"))?
         .arg(replica(alloc))?
         .arg(changed(alloc))
@@ -110,41 +108,28 @@ fn ops<'a>(alloc: Global) -> Result<Command<'a>, AllocError> {
 }
 
 fn report<'a>(alloc: Global) -> Result<Command<'a>, AllocError> {
-    let kind = Arg::new(alloc, "KIND")
-        .help("What is listed")
-        .value_parser(KINDS.as_slice())
-        .required(true);
     Command::new(alloc, "report")
         .about("Prints a report on a register")
         .after_help(REPORT_HELP)
         .arg(register(alloc))?
-        .arg(kind)
+        .arg(kind(alloc))
 }
 
 fn merge<'a>(alloc: Global) -> Result<Command<'a>, AllocError> {
-    let files = Arg::new(alloc, "FILE")
-        .help("The register files to join")
-        .required(true)
-        .action(ArgAction::Append)
-        .num_args(1..);
     Command::new(alloc, "merge")
         .about("Joins registers and writes the file of all their operations")
         .after_help(MERGE_HELP)
         .arg(out(alloc))?
-        .arg(files)
+        .arg(files(alloc))
 }
 
 fn wkt<'a>(alloc: Global) -> Result<Command<'a>, AllocError> {
-    let pretty = Arg::new(alloc, "pretty")
-        .long("pretty")
-        .help("Indents the text, with a line for each node")
-        .action(ArgAction::SetTrue);
     Command::new(alloc, "wkt")
         .about("Prints the text of one entry")
         .after_help(WKT_HELP)
         .arg(register(alloc))?
         .arg(entry(alloc))?
-        .arg(pretty)
+        .arg(pretty(alloc))
 }
 
 fn export<'a>(alloc: Global) -> Result<Command<'a>, AllocError> {
@@ -152,6 +137,42 @@ fn export<'a>(alloc: Global) -> Result<Command<'a>, AllocError> {
         .about("Prints the texts of all entries that are not retired")
         .after_help(EXPORT_HELP)
         .arg(register(alloc))
+}
+
+fn text<'a>(alloc: Global) -> Arg<'a> {
+    Arg::new(alloc, "text")
+        .long("text")
+        .value_name("TEXT")
+        .help("The file with the text of a coordinate reference system")
+        .required(true)
+}
+
+fn old<'a>(alloc: Global) -> Arg<'a> {
+    Arg::new(alloc, "OLD")
+        .help("The id of the entry that is superseded, as UUID:NUMBER")
+        .required(true)
+}
+
+fn kind<'a>(alloc: Global) -> Arg<'a> {
+    Arg::new(alloc, "KIND")
+        .help("What is listed")
+        .value_parser(KINDS.as_slice())
+        .required(true)
+}
+
+fn files<'a>(alloc: Global) -> Arg<'a> {
+    Arg::new(alloc, "FILE")
+        .help("The register files to join")
+        .required(true)
+        .action(ArgAction::Append)
+        .num_args(1..)
+}
+
+fn pretty<'a>(alloc: Global) -> Arg<'a> {
+    Arg::new(alloc, "pretty")
+        .long("pretty")
+        .help("Indents the text, with a line for each node")
+        .action(ArgAction::SetTrue)
 }
 
 fn out<'a>(alloc: Global) -> Arg<'a> {

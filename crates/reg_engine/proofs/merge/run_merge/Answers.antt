@@ -15,8 +15,8 @@ returns-in-Ok-publish_register-clause-merged g c = (
   (c.in-Ok-join_all.joined, subst (λ xs. JoinTo xs c.in-Ok-join_all.joined) c.deref.ensures.value c.in-Ok-join_all.ensures.ok, c.in-Ok-publish_register.ensures.published),
 )
 
-pub returns-clause-fault : goal.returns-clause-fault
-returns-clause-fault g c =
+pub returns-in-Err-publish_register-clause-fault : goal.returns-in-Err-publish_register-clause-fault
+returns-in-Err-publish_register-clause-fault g c =
     unmerged (ends (map g.S.Source.state c.args.sources.now) (g.T.Sink.state c.args.target.now)) (ends (map g.S.Source.state c.read_files.new.sources) (g.T.Sink.state c.publish_register.new.target))
     c.in-Ok.registers.items c.in-Ok-join_all.joined c.in-Ok.ensures.found (subst (λ xs. JoinTo xs c.in-Ok-join_all.joined) c.deref.ensures.value c.in-Ok-join_all.ensures.ok)
     c.in-Err-publish_register.fault c.in-Err-publish_register.ensures.fault
