@@ -9,7 +9,7 @@ use std::simd::prelude::*;
 /// How many bytes are looked at together.
 const LANES: usize = 16;
 
-/// How many of these bytes come before the first mark, or all of them.
+/// How many of the bytes that are looked at together, from a place on, come before the first mark.
 #[inline(always)]
 fn plain_run(bytes: &[u8], at: usize) -> usize
     requires { at + LANES ≤ length bytes.now }
@@ -24,7 +24,7 @@ fn plain_run(bytes: &[u8], at: usize) -> usize
     }
 }
 
-/// Where the first mark stands.
+/// The place of the first quotation mark, the byte 0x22.
 #[inline(always)]
 pub fn first_mark(bytes: &[u8]) -> Option<usize>
     ensures first { result ≡ position is_mark bytes.now }
