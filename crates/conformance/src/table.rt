@@ -1,11 +1,11 @@
 //! Tables: CSV files whose records are a name, a text, and the line that `check` prints for it. What differs is shown,
 //! and then the counts.
 
+use byte_io::{Reading, Writing};
 use csv::{ByteRecord, Error, ReaderBuilder};
 use reg_cli::run_check;
 use std::alloc::{AllocError, Global};
 use std::io;
-use wkt_crs::{Reading, Writing};
 
 /// Runs `check` on each text of the table, and compares what it prints.
 pub fn compare(rt: &HostRuntime, table: &[u8]) -> io::Result<()> {

@@ -6,8 +6,8 @@ mod growth;
 mod merge;
 mod reports;
 
+use byte_io::{Pieces, Then};
 use std::alloc::{AllocError, Global};
-use wkt_crs::{Pieces, Then};
 
 /// A vertical system, of 93 bytes.
 pub const HEIGHT: &[u8] =
@@ -70,6 +70,15 @@ pub fn enter(alloc: Global, uuid: &[u8], count: u8, text: &[u8]) -> Result<Vec<u
 pub fn entry_file(alloc: Global, text: &[u8]) -> Result<Vec<u8>, AllocError> {
     let enter = enter(alloc, A, 1, text)?;
     file_of(alloc, &[Replica { uuid: A, last: 1 }], 1, &[&enter])
+}
+
+/// The file of two entries of the first replica, which retired the first; the second replica is only seen.
+pub fn one_retired(alloc: Global) -> Result<Vec<u8>, AllocError> {
+    let one = enter(alloc, A, 1, HEIGHT)?;
+    let two = enter(alloc, A, 2, OTHER_HEIGHT)?;
+    let retire = joined(alloc, &[A, &[0, 0, 0, 3, 3], A, &[0, 0, 0, 1]])?;
+    let replicas = [Replica { uuid: A, last: 3 }, Replica { uuid: B, last: 1 }];
+    file_of(alloc, &replicas, 3, &[&one, &two, &retire])
 }
 
 /// The file of the second replica, which retired the first entry of the first and has not seen it: 83 bytes.

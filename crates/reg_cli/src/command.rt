@@ -1,9 +1,10 @@
 //! From the words of the command line to an engine, and from its answer to the exit status.
 use crate::words::command_line;
+use byte_io::{FileTarget, Reading, Writing, write_all};
 use clap::ArgMatches;
 use clap::error::ErrorKind;
 use reg_engine::{
-    CliFault, FileFault, Form, OutFault, Refusal, run_check, run_enter, run_export, run_merge,
+    CliFault, Form, InputFault, OutFault, Refusal, run_check, run_enter, run_export, run_merge,
     run_new, run_ops, run_report, run_retire, run_show, run_supersede, run_wkt,
 };
 use reg_office::ReportKind;
@@ -12,11 +13,12 @@ use std::alloc::Global;
 use std::rt::Files;
 use std::{env, fmt, fs, io};
 use uuid::Uuid;
-use wkt_crs::{FileTarget, Reading, Writing, write_all};
 
 const MISUSE: u8 = 2;
 
 const NO_TEXT: &str = "error: a word of the command line is not UTF-8";
+
+const NO_COMMAND: &str = "error: there is no such command";
 
 /// Runs the command that the process was started with. The answer is the exit status.
 pub fn run(rt: &HostRuntime) -> u8 {
@@ -39,7 +41,10 @@ pub fn answer(rt: &HostRuntime, words: &[String]) -> u8 {
         return failed(rt, &CliFault::Memory);
     };
     match command.try_get_matches_from(words) {
-        Ok(matches) => status(rt, perform(rt, &matches)),
+        Ok(matches) => match perform(rt, &matches) {
+            Some(outcome) => status(rt, outcome),
+            None => complain(rt, &NO_COMMAND, MISUSE),
+        },
         Err(error) if error.kind() == ErrorKind::OutOfMemory => failed(rt, &CliFault::Memory),
         Err(error) if error.use_stderr() => {
             let _ = error.print(rt);
@@ -49,11 +54,10 @@ pub fn answer(rt: &HostRuntime, words: &[String]) -> u8 {
     }
 }
 
-fn perform(rt: &HostRuntime, matches: &ArgMatches<'_>) -> Result<(), CliFault> {
-    let Some((name, inner)) = matches.subcommand() else {
-        return Ok(());
-    };
-    match name {
+// What the command did. clap lets no word through that is no command.
+fn perform(rt: &HostRuntime, matches: &ArgMatches<'_>) -> Option<Result<(), CliFault>> {
+    let (name, inner) = matches.subcommand()?;
+    let outcome = match name {
         "check" => check(rt, inner.get_str("TEXT")),
         "new" => run_new(rt.alloc(), &mut FileTarget::new(rt, word(inner, "OUT"))),
         "enter" => enter(rt, inner),
@@ -64,8 +68,9 @@ fn perform(rt: &HostRuntime, matches: &ArgMatches<'_>) -> Result<(), CliFault> {
             word(inner, "OUT"),
             inner.get_strs("FILE").unwrap_or(&[]),
         ),
-        _ => show_any(rt, name, word(inner, "REG"), inner),
-    }
+        _ => return show_any(rt, name, word(inner, "REG"), inner),
+    };
+    Some(outcome)
 }
 
 // What shows something of a register, and changes none.
@@ -74,15 +79,16 @@ fn show_any(
     name: &str,
     register: &str,
     matches: &ArgMatches<'_>,
-) -> Result<(), CliFault> {
-    match name {
+) -> Option<Result<(), CliFault>> {
+    let outcome = match name {
         "show" => show(rt, register, word(matches, "ENTRY")),
         "wkt" => wkt(rt, register, word(matches, "ENTRY"), form(matches)),
         "export" => export(rt, register),
         "ops" => ops(rt, register),
-        "report" => report(rt, register, kind(word(matches, "KIND"))),
-        _ => Ok(()),
-    }
+        "report" => report(rt, register, kind(word(matches, "KIND"))?),
+        _ => return None,
+    };
+    Some(outcome)
 }
 
 fn form(matches: &ArgMatches<'_>) -> Form {
@@ -98,13 +104,13 @@ fn word<'a>(matches: &ArgMatches<'a>, name: &str) -> &'a str {
     matches.get_str(name).unwrap_or("")
 }
 
-// clap lets no other word through.
-fn kind(word: &str) -> ReportKind {
+fn kind(word: &str) -> Option<ReportKind> {
     match word {
-        "conflicts" => ReportKind::Conflicts,
-        "awaited" => ReportKind::Awaited,
-        "gaps" => ReportKind::Gaps,
-        _ => ReportKind::Entries,
+        "entries" => Some(ReportKind::Entries),
+        "conflicts" => Some(ReportKind::Conflicts),
+        "awaited" => Some(ReportKind::Awaited),
+        "gaps" => Some(ReportKind::Gaps),
+        _ => None,
     }
 }
 
@@ -243,7 +249,7 @@ fn open<R: Files>(rt: &R, number: usize, path: &str) -> Result<Reading<R::File>,
         Ok(file) => Ok(Reading::new(file)),
         Err(_) => Err(CliFault::File {
             number,
-            fault: FileFault::NotOpened,
+            fault: InputFault::NotOpened,
         }),
     }
 }

@@ -1,60 +1,67 @@
-//! What help says of each command.
+//! What help says of each command, in lines of at most 80 columns.
 
 pub const CHECK_HELP: &str = "\
-Where the text spells a coordinate reference system of the profile, its canonical text goes to standard
-output, on one line. Else its first fault is named on standard error, with its place: an offset in bytes,
-from 0.
+Where the text spells a coordinate reference system of the profile, its
+canonical text goes to standard output, on one line. Else its first fault is
+named on standard error, with its place: an offset in bytes, from 0.
 
 Example:
   crsreg check height.wkt";
 
 pub const NEW_HELP: &str = "\
-The file is that of a register that has seen no operation: what each office starts from.
+The file is that of a register that has seen no operation: what each office
+starts from.
 
 Example:
   crsreg new office.crs";
 
 pub const MERGE_HELP: &str = "\
-All files are read, in the order given, before OUT is opened; so OUT may be one of them. What is written is
-the register of all their operations. The order of the files does not matter to it, nor how often one is
-given.
+All files are read, in the order given, before OUT is opened; so OUT may be one
+of them. What is written is the register of all their operations. The order of
+the files does not matter to it, nor how often one is given.
 
-It is refused as Clash ID where two files have different operations of one id: then one replica's number was
-given twice. Nothing is written then.
+It is refused as Clash ID where two files have different operations of one id:
+then one replica's number was given twice. Nothing is written then.
 
 Example:
   crsreg merge office.crs office.crs north.crs south.crs";
 
 pub const ENTER_HELP: &str = "\
-The text must spell a coordinate reference system with an identifier of its own, such as ID[\"EPSG\",7837]. It is
-kept in its canonical form. The new operation has the office's next number: one more than the greatest of its
-own that the register has seen. Its id names the entry from then on, and is printed once OUT was written.
+The text must spell a coordinate reference system with an identifier of its
+own, such as ID[\"EPSG\",7837]. It is kept in its canonical form. The new
+operation has the office's next number: one more than the greatest of its own
+that the register has seen. Its id names the entry from then on, and is printed
+once OUT was written.
 
 OUT may be REG. Nothing is written where the text is refused.
 
 Example:
-  crsreg enter office.crs --as 00000000-0000-4000-8000-00000000000a --text height.wkt --out office.crs";
+  crsreg enter office.crs --as 00000000-0000-4000-8000-00000000000a \\
+      --text height.wkt --out office.crs";
 
 pub const SUPERSEDE_HELP: &str = "\
-Says of the entry OLD that each BY is to be used in its place. OLD stays in the register, and is exported. The
-new ids are printed, one for each BY, once OUT was written. OUT may be REG.
+Says of the entry OLD that each BY is to be used in its place. OLD stays in the
+register, and is exported. The new ids are printed, one for each BY, once OUT
+was written. OUT may be REG.
 
-It is refused, and nothing is written, as UnknownEntry ID, SameEntry, AlreadyRetired ID or AlreadySuperseded ID,
-for the first BY for which it is.
+It is refused, and nothing is written, as UnknownEntry ID, SameEntry,
+AlreadyRetired ID or AlreadySuperseded ID, for the first BY for which it is.
 
 Example:
-  crsreg supersede office.crs 00000000-0000-4000-8000-00000000000a:1 00000000-0000-4000-8000-00000000000a:2 \
+  crsreg supersede office.crs 00000000-0000-4000-8000-00000000000a:1 \\
+      00000000-0000-4000-8000-00000000000a:2 \\
       --as 00000000-0000-4000-8000-00000000000a --out office.crs";
 
 pub const RETIRE_HELP: &str = "\
-A retired entry is no longer exported, and stays retired for good, at every office that hears of it. The new ids
-are printed, one for each ENTRY, once OUT was written. OUT may be REG.
+A retired entry is no longer exported, and stays retired for good, at every
+office that hears of it. The new ids are printed, one for each ENTRY, once OUT
+was written. OUT may be REG.
 
-It is refused, and nothing is written, as UnknownEntry ID or AlreadyRetired ID, for the first ENTRY for which it
-is.
+It is refused, and nothing is written, as UnknownEntry ID or AlreadyRetired ID,
+for the first ENTRY for which it is.
 
 Example:
-  crsreg retire office.crs 00000000-0000-4000-8000-00000000000a:1 \
+  crsreg retire office.crs 00000000-0000-4000-8000-00000000000a:1 \\
       --as 00000000-0000-4000-8000-00000000000a --out office.crs";
 
 pub const SHOW_HELP: &str = "\
@@ -64,33 +71,35 @@ Example:
   crsreg show office.crs 00000000-0000-4000-8000-00000000000a:1";
 
 pub const OPS_HELP: &str = "\
-Prints, as comma-separated values, each operation that the register keeps, by id: what it did, to which entry,
-by which that is superseded, and the definition that it entered. An operation that another one makes needless
-is not kept, though the register remembers that it has seen it.
+Prints, as comma-separated values, each operation that the register keeps, by
+id: what it did, to which entry, by which that is superseded, and the
+definition that it entered. An operation that another one makes needless is not
+kept, though the register remembers that it has seen it.
 
 Example:
   crsreg ops office.crs";
 
 pub const REPORT_HELP: &str = "\
 Prints comma-separated values under a header:
-  entries    each entry: its key, its name, its status, and what supersedes it
+  entries    each entry: its key, name, status, and what supersedes it
   conflicts  entries of one key, not retired, where their texts differ
   awaited    ids that operations name, and that no operation has entered yet
-  gaps       operations that were not seen although a later one of the same office was
+  gaps       operations not seen although a later one of the same office was
 
 Example:
   crsreg report office.crs conflicts";
 
 pub const WKT_HELP: &str = "\
-An entry is named by the id of the operation that entered it: a replica's UUID, a colon and a number. It is
-printed whatever its status, on one line, or indented with --pretty.
+An entry is named by the id of the operation that entered it: a replica's UUID,
+a colon and a number. It is printed whatever its status, on one line, or
+indented with --pretty.
 
 Example:
   crsreg wkt office.crs 00000000-0000-4000-8000-00000000000a:1";
 
 pub const EXPORT_HELP: &str = "\
-Each entry that is not retired is printed on a line, in its canonical text, by id; also one that is
-superseded. A line break inside quotation marks is kept.
+Each entry that is not retired is printed on a line, in its canonical text, by
+id; also one that is superseded. A line break inside quotation marks is kept.
 
 Example:
   crsreg export office.crs > all.wkt";
@@ -100,10 +109,11 @@ Exit status:
   0  done
   1  refused: the fault is named on standard error
   2  the command line is wrong
-  3  a file could not be opened, read or written
+  3  a file could not be opened, read or written, or is no register's file
   4  out of memory
 
-A file is named by its number among those that the command reads, from 1: `file 2: Truncated at 0`.
+A file is named by its number among those that the command reads, from 1:
+`file 2: Truncated at 0`. What begins with `out:` is about the output.
 
 Example:
   crsreg check < height.wkt";

@@ -7,6 +7,6 @@ mod words;
 
 pub use command::{answer, run};
 pub use reg_engine::{
-    CliFault, FileFault, Form, OutFault, Refusal, run_check, run_enter, run_export, run_merge,
+    CliFault, Form, InputFault, OutFault, Refusal, run_check, run_enter, run_export, run_merge,
     run_new, run_ops, run_report, run_retire, run_show, run_supersede, run_wkt,
 };

@@ -6,11 +6,15 @@ use crate::help::{
 use clap::{Arg, ArgAction, Command};
 use std::alloc::{AllocError, Global};
 
+/// The newest heading of CHANGES.md.
+const VERSION: &str = "0.2";
+
 const KINDS: [&str; 4] = ["entries", "conflicts", "awaited", "gaps"];
 
 /// The commands and their words.
 pub fn command_line<'a>(alloc: Global) -> Result<Command<'a>, AllocError> {
     let whole = Command::new(alloc, "crsreg")
+        .version(VERSION)
         .about("A register of coordinate reference systems in WKT 2, and checks of their texts")
         .after_help(STATUS_HELP)
         .subcommand_required(true);

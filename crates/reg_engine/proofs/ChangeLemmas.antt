@@ -24,7 +24,7 @@ use Rattle.reg_engine.specs.declared.fault.CliFault.TheVariants as cli
 use Rattle.reg_engine.specs.Fault.{office_fault, text_fault}
 use Rattle.reg_engine.specs.Inputs.{NeverFails}
 use Rattle.reg_engine.specs.Outputs.{Outputs, GivesOut, IsUngiven}
-use Rattle.reg_engine.specs.Change.{Desk, IsRefused, IsChanged, IsChangeFault, EntryDesk, ReadsBoth, IsEntered, IsUndefined, IsEnterFault}
+use Rattle.reg_engine.specs.Change.{Desk, IsRefused, IsChanged, IsChangeFault, EntryDesk, ReadsBoth, ReadsDefinition, IsEntered, IsUndefined, IsEnterFault}
 use Rattle.reg_engine.proofs.InputLemmas.{found_gives}
 
 -- the same of equal contents and equal replicas
@@ -91,12 +91,12 @@ enter_undefined replica old new x v (cli.File k f) both h same = absurd h
 enter_undefined replica old new x v (cli.Out f) both h same = absurd h
 enter_undefined replica old new x v cli.Memory both h same = ((found_gives old.register new.register x both.0, part_of_found old.text new.text v both.1), same)
 
-pub enter_ungiven : (replica : List ℕ) (old new : EntryDesk) (x y : Content) (v : Crs) (ids : List Id) → ReadsBoth x v old new
+pub enter_ungiven : (replica : List ℕ) (old new : EntryDesk) (x y : Content) (v : Crs) (ids : List Id) → ReadsDefinition x v old new
     → Does x replica (Enter (canon v) ∷ []) y ids → (f : CliFault) → IsUngiven y ids old.outputs new.outputs f → IsEnterFault replica old new f
 enter_ungiven replica old new x y v ids both does (cli.Refused r) h = absurd h
 enter_ungiven replica old new x y v ids both does (cli.File k f) h = absurd h
 enter_ungiven replica old new x y v ids both does (cli.Out f) h = (x, v, both, (y, ids, does, h))
-enter_ungiven replica old new x y v ids both does cli.Memory h = ((found_gives old.register new.register x both.0, part_of_found old.text new.text v both.1), h)
+enter_ungiven replica old new x y v ids both does cli.Memory h = ((found_gives old.register new.register x both.0.0, part_of_found old.text new.text v both.0.1), h)
 
 -- an entry is refused for its number alone
 enter_spends : (spent : Bool) (os : List Op) (f : OfficeFault) → made_unless None spent os ≡ Err f → f ≡ office.CountSpent
@@ -119,11 +119,11 @@ no_other : (f : OfficeFault) → IsOther f → (f ≡ office.CountSpent) ⊎ (f 
 no_other f is (inl e) = subst IsOther e is
 no_other f is (inr e) = subst IsOther e is
 
-pub enter_refused : (replica : List ℕ) (old new : EntryDesk) (x : Content) (v : Crs) (f : OfficeFault) → ReadsBoth x v old new
+pub enter_refused : (replica : List ℕ) (old new : EntryDesk) (x : Content) (v : Crs) (f : OfficeFault) → ReadsDefinition x v old new
     → (made x replica (Enter (canon v) ∷ []) ≡ Err f) ⊎ (f ≡ office.Memory) → new.outputs ≡ old.outputs → IsEnterFault replica old new (office_fault f)
 enter_refused replica old new x v (office.UnknownEntry id) both h same = absurd (no_other (office.UnknownEntry id) tt (enter_only x replica (canon v) (office.UnknownEntry id) h))
 enter_refused replica old new x v office.SameEntry both h same = absurd (no_other office.SameEntry tt (enter_only x replica (canon v) office.SameEntry h))
 enter_refused replica old new x v (office.AlreadyRetired id) both h same = absurd (no_other (office.AlreadyRetired id) tt (enter_only x replica (canon v) (office.AlreadyRetired id) h))
 enter_refused replica old new x v (office.AlreadySuperseded id) both h same = absurd (no_other (office.AlreadySuperseded id) tt (enter_only x replica (canon v) (office.AlreadySuperseded id) h))
 enter_refused replica old new x v office.CountSpent both h same = ((x, v, both, refused_for x replica (Enter (canon v) ∷ []) office.CountSpent refusal.CountSpent refl h), same)
-enter_refused replica old new x v office.Memory both h same = ((found_gives old.register new.register x both.0, part_of_found old.text new.text v both.1), same)
+enter_refused replica old new x v office.Memory both h same = ((found_gives old.register new.register x both.0.0, part_of_found old.text new.text v both.0.1), same)

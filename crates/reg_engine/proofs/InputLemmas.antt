@@ -5,7 +5,7 @@ use Rattle.std.specs.Io.KnownBytes.{Consumes}
 use Rattle.byte_io.specs.Device.{SourceState}
 use Rattle.reg_op.specs.Contents.{Content}
 use Rattle.reg_file.specs.Files.{Finds}
-use Rattle.reg_engine.specs.declared.fault.FileFault.{FileFault}
+use Rattle.reg_engine.specs.declared.fault.InputFault.{InputFault}
 use Rattle.reg_engine.specs.declared.fault.CliFault.{CliFault}
 use Rattle.reg_engine.specs.declared.fault.CliFault.TheVariants as cli
 use Rattle.reg_engine.specs.Inputs.{IsFileFault, NeverFails, IsUnread, HoldAll, StopsAt, NoneFails, AreUnread}
@@ -68,7 +68,7 @@ module _ {S : Type 0} (st : S → SourceState) where
   held_suc (w ∷ ws) (n ∷ ns) (suc i) o s [] x within size front back found = absurd front
   held_suc (w ∷ ws) (n ∷ ns) (suc i) o s (y ∷ ys) x within size front back found = (front.0, held_suc ws ns i o s ys x (omega arith) (omega arith) front.1 back found)
 
-  stops_suc : (was now : List S) (i : ℕ) (o s : S) (xs : List Content) (f : FileFault) → i < length was → length now ≡ length was
+  stops_suc : (was now : List S) (i : ℕ) (o s : S) (xs : List Content) (f : InputFault) → i < length was → length now ≡ length was
       → HoldAll (take i (map st was)) (take i (map st now)) xs → drop i (map st now) ≡ drop i (map st was) → IsFileFault f (st (get_or now i o)) (st s)
       → StopsAt (suc i) f (map st was) (map st (slice_set now i s))
   stops_suc was [] i o s xs f within size front back fault = absurd (omega arith)
@@ -97,7 +97,7 @@ module _ {S : Type 0} (st : S → SourceState) where
   held_next was now i o s xs x within size front back found =
       subst (λ j. HoldAll (take j (map st was)) (take j (map st (slice_set now i s))) (xs ++ x ∷ [])) (next i) (held_suc was now i o s xs x within size front back found)
 
-  pub stops_next : (was now : List S) (i : ℕ) (o s : S) (xs : List Content) (f : FileFault) → i < length was → length now ≡ length was
+  pub stops_next : (was now : List S) (i : ℕ) (o s : S) (xs : List Content) (f : InputFault) → i < length was → length now ≡ length was
       → HoldAll (take i (map st was)) (take i (map st now)) xs → drop i (map st now) ≡ drop i (map st was) → IsFileFault f (st (get_or now i o)) (st s)
       → StopsAt (i + 1) f (map st was) (map st (slice_set now i s))
   stops_next was now i o s xs f within size front back fault =

@@ -5,7 +5,7 @@ use Rattle.crs_value.specs.declared.crs.Crs.{Crs}
 use Rattle.wkt_crs.specs.declared.fault.ReadFault.{ReadFault}
 use Rattle.wkt_crs.specs.declared.fault.ReadFault.TheVariants as read
 use Rattle.wkt_crs.specs.Spells.{canon}
-use Rattle.wkt_crs.specs.Definition.{HasNone}
+use Rattle.wkt_crs.specs.Definition.{HasNone, IsDefinition}
 use Rattle.wkt_crs.specs.Source.{Finds as FindsText, Refuses, FailsAt, ReadsPart}
 use Rattle.reg_op.specs.Ids.{Id}
 use Rattle.reg_op.specs.Contents.{Content}
@@ -16,8 +16,8 @@ use Rattle.reg_office.specs.declared.fault.OfficeFault.{OfficeFault}
 use Rattle.reg_office.specs.declared.fault.OfficeFault.TheVariants as office
 use Rattle.reg_office.specs.Making.{made}
 use Rattle.reg_office.specs.Commands.{Does}
-use Rattle.reg_engine.specs.declared.fault.FileFault.{FileFault}
-use Rattle.reg_engine.specs.declared.fault.FileFault.TheVariants as file
+use Rattle.reg_engine.specs.declared.fault.InputFault.{InputFault}
+use Rattle.reg_engine.specs.declared.fault.InputFault.TheVariants as file
 use Rattle.reg_engine.specs.declared.fault.Refusal.{Refusal}
 use Rattle.reg_engine.specs.declared.fault.Refusal.TheVariants as refusal
 use Rattle.reg_engine.specs.declared.fault.OutFault.{OutFault}
@@ -75,9 +75,13 @@ entry_desk register text outputs = record { register = register; text = text; ou
 abbrev pub ReadsBoth : Content → Crs → EntryDesk → EntryDesk → Type 0
 ReadsBoth x v old new = Finds old.register new.register x × FindsText old.text new.text v
 
+-- and a definition can be made of the value: it has an identifier, and its canonical text is not too long
+abbrev pub ReadsDefinition : Content → Crs → EntryDesk → EntryDesk → Type 0
+ReadsDefinition x v old new = ReadsBoth x v old new × IsDefinition (canon v)
+
 -- and what came of entering the canonical text of the value went out
 abbrev pub IsEntered : List ℕ → EntryDesk → EntryDesk → Type 0
-IsEntered replica old new = (x : Content) × (v : Crs) × ReadsBoth x v old new × GivesMade x replica (Enter (canon v) ∷ []) old.outputs new.outputs
+IsEntered replica old new = (x : Content) × (v : Crs) × ReadsDefinition x v old new × GivesMade x replica (Enter (canon v) ∷ []) old.outputs new.outputs
 
 -- the register came in, and then a text with this first fault
 abbrev pub RefusesText : ReadFault → EntryDesk → EntryDesk → Type 0
@@ -97,7 +101,7 @@ abbrev pub IsUnentered : List ℕ → EntryDesk → EntryDesk → CliFault → T
 IsUnentered replica old new (cli.Refused (refusal.Text f)) = RefusesText (read.Text f) old new
 IsUnentered replica old new (cli.Refused (refusal.Slot f)) = RefusesText (read.Slot f) old new
 IsUnentered replica old new (cli.Refused (refusal.Broken c place)) = RefusesText (read.Broken c place) old new
-IsUnentered replica old new (cli.Refused refusal.CountSpent) = (x : Content) × (v : Crs) × ReadsBoth x v old new × IsRefused x replica (Enter (canon v) ∷ []) refusal.CountSpent
+IsUnentered replica old new (cli.Refused refusal.CountSpent) = (x : Content) × (v : Crs) × ReadsDefinition x v old new × IsRefused x replica (Enter (canon v) ∷ []) refusal.CountSpent
 IsUnentered replica old new (cli.Refused r) = (x : Content) × (v : Crs) × ReadsBoth x v old new × IsUndefined v (cli.Refused r)
 IsUnentered replica old new (cli.File k (file.ReadFailed n)) = ((k ≡ 1) × IsFileFault (file.ReadFailed n) old.register new.register × (new.text ≡ old.text))
     ⊎ ((k ≡ 2) × ((x : Content) × Finds old.register new.register x) × FailsAt n old.text new.text)
@@ -107,7 +111,7 @@ IsUnentered replica old new cli.Memory = NeverFails old.register new.register ×
 
 -- what was done instead, by the fault
 abbrev pub IsEnterFault : List ℕ → EntryDesk → EntryDesk → CliFault → Type 0
-IsEnterFault replica old new (cli.Out f) = (x : Content) × (v : Crs) × ReadsBoth x v old new × IsUnmade x replica (Enter (canon v) ∷ []) old.outputs new.outputs f
+IsEnterFault replica old new (cli.Out f) = (x : Content) × (v : Crs) × ReadsDefinition x v old new × IsUnmade x replica (Enter (canon v) ∷ []) old.outputs new.outputs f
 IsEnterFault replica old new (cli.Refused r) = IsUnentered replica old new (cli.Refused r) × (new.outputs ≡ old.outputs)
 IsEnterFault replica old new (cli.File k f) = IsUnentered replica old new (cli.File k f) × (new.outputs ≡ old.outputs)
 IsEnterFault replica old new cli.Memory = IsUnentered replica old new cli.Memory × (new.outputs ≡ old.outputs)

@@ -6,7 +6,7 @@ use Rattle.wkt_crs.specs.declared.fault.ReadFault.TheVariants as read
 use Rattle.wkt_crs.specs.Spells.{canon}
 use Rattle.wkt_crs.specs.Source.{Finds, Refuses, FailsAt, ReadsPart}
 use Rattle.reg_engine.specs.declared.fault.Refusal.TheVariants as refusal
-use Rattle.reg_engine.specs.declared.fault.FileFault.TheVariants as file
+use Rattle.reg_engine.specs.declared.fault.InputFault.TheVariants as file
 use Rattle.reg_engine.specs.declared.fault.OutFault.TheVariants as out
 use Rattle.reg_engine.specs.declared.fault.CliFault.{CliFault}
 use Rattle.reg_engine.specs.declared.fault.CliFault.TheVariants as cli

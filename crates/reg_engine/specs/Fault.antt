@@ -8,7 +8,7 @@ use Rattle.reg_file.specs.declared.fault.ReadFileFault.TheVariants as reading
 use Rattle.reg_office.specs.declared.fault.OfficeFault.{OfficeFault}
 use Rattle.reg_office.specs.declared.fault.OfficeFault.TheVariants as office
 use Rattle.reg_engine.specs.declared.fault.Refusal.TheVariants as refusal
-use Rattle.reg_engine.specs.declared.fault.FileFault.TheVariants as file
+use Rattle.reg_engine.specs.declared.fault.InputFault.TheVariants as file
 use Rattle.reg_engine.specs.declared.fault.CliFault.{CliFault}
 use Rattle.reg_engine.specs.declared.fault.CliFault.TheVariants as cli
 

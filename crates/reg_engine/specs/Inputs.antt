@@ -5,13 +5,13 @@ use Rattle.byte_io.specs.Whole.{GivesAtMost}
 use Rattle.reg_op.specs.Contents.{Content}
 use Rattle.reg_file.specs.Files.{most, Finds, IsReadFromFault}
 use Rattle.reg_file.specs.declared.fault.ReadFileFault.TheVariants as reading
-use Rattle.reg_engine.specs.declared.fault.FileFault.{FileFault}
-use Rattle.reg_engine.specs.declared.fault.FileFault.TheVariants as file
+use Rattle.reg_engine.specs.declared.fault.InputFault.{InputFault}
+use Rattle.reg_engine.specs.declared.fault.InputFault.TheVariants as file
 use Rattle.reg_engine.specs.declared.fault.CliFault.{CliFault}
 use Rattle.reg_engine.specs.declared.fault.CliFault.TheVariants as cli
 
 -- the source gave no register's file, for this reason
-abbrev pub IsFileFault : FileFault → SourceState → SourceState → Type 0
+abbrev pub IsFileFault : InputFault → SourceState → SourceState → Type 0
 IsFileFault file.NotOpened old new = ⊥
 IsFileFault (file.ReadFailed n) old new = IsReadFromFault old new (reading.ReadFailed n)
 IsFileFault file.TooLarge old new = IsReadFromFault old new reading.TooLarge
@@ -40,7 +40,7 @@ HoldAll (o ∷ os) (n ∷ ns) [] = ⊥
 HoldAll (o ∷ os) (n ∷ ns) (x ∷ xs) = Finds o n x × HoldAll os ns xs
 
 -- the one of this number, from 1, has the fault; each before it gave the file of a content, and those behind it gave nothing
-abbrev pub StopsAt : ℕ → FileFault → List SourceState → List SourceState → Type 0
+abbrev pub StopsAt : ℕ → InputFault → List SourceState → List SourceState → Type 0
 StopsAt zero f old new = ⊥
 StopsAt (suc k) f [] new = ⊥
 StopsAt (suc k) f (o ∷ os) [] = ⊥

@@ -1,7 +1,9 @@
 -- Reports on a register's file: what came in, and what went out.
-use Rattle.std.specs.Prelude.{◌≡◌, false, ℕ, List}
+use Rattle.std.specs.Prelude.{◌≡◌, true, false, ℕ, List}
 use Rattle.byte_io.specs.Whole.{WritesAll, IsCutAt}
+use Rattle.reg_op.specs.Set as set
 use Rattle.reg_op.specs.Ids.{Id}
+use Rattle.reg_op.specs.Kept.{entering}
 use Rattle.reg_op.specs.Contents.{Content}
 use Rattle.reg_op.specs.Status.{enters}
 use Rattle.reg_file.specs.Files.{Finds}
@@ -19,24 +21,31 @@ abbrev pub IsReported : (Content → List ℕ → Type 0) → Devices → Device
 IsReported IsText old new = (x : Content) × Finds old.source new.source x × Reports (IsText x) old.sink new.sink
 
 -- what was done instead, by the fault
-abbrev pub IsReportedNot : (Content → List ℕ → Type 0) → Devices → Devices → CliFault → Type 0
-IsReportedNot IsText old new (cli.Refused r) = ⊥
-IsReportedNot IsText old new (cli.File k f) = (k ≡ 1) × IsFileFault f old.source new.source × (new.sink ≡ old.sink)
-IsReportedNot IsText old new (cli.Out (out.WriteFailed n)) = (x : Content) × Finds old.source new.source x × IsReportFaultOf (IsText x) old.sink new.sink (report.WriteFailed n)
-IsReportedNot IsText old new (cli.Out f) = ⊥
-IsReportedNot IsText old new cli.Memory = NeverFails old.source new.source × (new.sink ≡ old.sink)
+abbrev pub IsUnreported : (Content → List ℕ → Type 0) → Devices → Devices → CliFault → Type 0
+IsUnreported IsText old new (cli.Refused r) = ⊥
+IsUnreported IsText old new (cli.File k f) = (k ≡ 1) × IsFileFault f old.source new.source × (new.sink ≡ old.sink)
+IsUnreported IsText old new (cli.Out (out.WriteFailed n)) = (x : Content) × Finds old.source new.source x × IsReportFaultOf (IsText x) old.sink new.sink (report.WriteFailed n)
+IsUnreported IsText old new (cli.Out f) = ⊥
+IsUnreported IsText old new cli.Memory = NeverFails old.source new.source × (new.sink ≡ old.sink)
 
 -- ---- one entry
 
--- the header and the entry's one line
+-- some operation of the content enters it
+abbrev pub HasEntry : Content → Id → Type 0
+HasEntry x entry = (definition : List ℕ) × (set.contains x.ops (entering entry definition) ≡ true)
+
+-- the content has the entry, and the text is the header and the entry's one line
+abbrev pub IsRowOf : Id → Content → List ℕ → Type 0
+IsRowOf entry x text = HasEntry x entry × IsEntryReport entry x text
+
 abbrev pub IsRowReported : Id → Devices → Devices → Type 0
-IsRowReported entry old new = IsReported (IsEntryReport entry) old new
+IsRowReported entry old new = IsReported (IsRowOf entry) old new
 
 -- what was done instead: the register has no such entry, or another fault
-abbrev pub IsRowReportedNot : Id → Devices → Devices → CliFault → Type 0
-IsRowReportedNot entry old new (cli.Refused (refusal.UnknownEntry id)) = (id ≡ entry)
+abbrev pub IsRowUnreported : Id → Devices → Devices → CliFault → Type 0
+IsRowUnreported entry old new (cli.Refused (refusal.UnknownEntry id)) = (id ≡ entry)
     × ((x : Content) × Finds old.source new.source x × (enters x.ops entry ≡ false)) × (new.sink ≡ old.sink)
-IsRowReportedNot entry old new (cli.Refused r) = ⊥
-IsRowReportedNot entry old new (cli.File k f) = IsReportedNot (IsEntryReport entry) old new (cli.File k f)
-IsRowReportedNot entry old new (cli.Out f) = IsReportedNot (IsEntryReport entry) old new (cli.Out f)
-IsRowReportedNot entry old new cli.Memory = IsReportedNot (IsEntryReport entry) old new cli.Memory
+IsRowUnreported entry old new (cli.Refused r) = ⊥
+IsRowUnreported entry old new (cli.File k f) = IsUnreported (IsRowOf entry) old new (cli.File k f)
+IsRowUnreported entry old new (cli.Out f) = IsUnreported (IsRowOf entry) old new (cli.Out f)
+IsRowUnreported entry old new cli.Memory = IsUnreported (IsRowOf entry) old new cli.Memory

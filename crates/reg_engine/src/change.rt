@@ -2,6 +2,7 @@
 
 ghost use Rattle.std.specs.Prelude.{◌≡◌, IfOk, OnOk, IfErr};
 ghost use Rattle.wkt_crs.specs.Spells.{canon};
+ghost use Rattle.wkt_crs.specs.Definition.{IsDefinition};
 ghost use Rattle.reg_office.specs.Commands.{retirements, supersessions};
 ghost use Rattle.reg_engine.specs.Outputs.{outputs};
 ghost use Rattle.reg_engine.specs.Change.{desk, IsChanged, IsChangeFault, entry_desk, IsEntered, IsUndefined, IsEnterFault};
@@ -9,11 +10,12 @@ ghost use Rattle.reg_engine.specs.Change.{desk, IsChanged, IsChangeFault, entry_
 use crate::fault::{CliFault, Refusal};
 use crate::inputs::read_file;
 use crate::outputs::give_out;
+use byte_io::{Sink, Source, Target};
 use reg_office::Office;
 use reg_op::OpId;
 use std::alloc::Global;
 use uuid::Uuid;
-use wkt_crs::{Crs, Definition, DefinitionFault, Sink, Source, Target, read_crs_from};
+use wkt_crs::{Crs, Definition, DefinitionFault, read_crs_from};
 
 /// Reads the register of the source, which is file 1, retires entries of it as the replica, and writes the register's
 /// file to the target and the new ids to the sink, each with a newline.
@@ -83,10 +85,15 @@ pub fn run_supersede<S: Source, T: Target, K: Sink>(
 // The definition of the value, or why it has none.
 fn defined(alloc: Global, crs: Crs) -> Result<Definition, CliFault>
     ensures ok { IfOk result (λ d. d ≡ canon crs) }
+    ensures is { IfOk result IsDefinition }
     ensures fault { IfErr result (IsUndefined crs) }
 {
     match Definition::new(alloc, crs) {
-        Ok(definition) => Ok(definition),
+        Ok(definition) => {
+            // Its text tells that it is one.
+            let _text = definition.as_bytes();
+            Ok(definition)
+        }
         Err(DefinitionFault::NoIdentifier) => Err(CliFault::Refused(Refusal::NoIdentifier)),
         Err(DefinitionFault::CanonicalTooLong) => {
             Err(CliFault::Refused(Refusal::CanonicalTooLong))

@@ -3,8 +3,9 @@ ghost use Rattle.reg_engine.specs.Check.{IsPrinted, IsCheckFault, line_of};
 ghost use Rattle.reg_engine.specs.Devices.{devices};
 
 use crate::fault::{CliFault, OutFault};
+use byte_io::{Sink, Source, write_all};
 use std::alloc::{AllocError, Global};
-use wkt_crs::{Crs, Sink, Source, read_crs_from, write_all, write_crs};
+use wkt_crs::{Crs, read_crs_from, write_crs};
 
 /// Reads the text of the source, which is file 1, and writes its canonical text and a newline.
 pub fn run_check<S: Source, K: Sink>(

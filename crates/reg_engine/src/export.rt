@@ -5,10 +5,10 @@ ghost use Rattle.reg_op.specs.Status.{status};
 
 use crate::fault::{CliFault, OutFault};
 use crate::inputs::read_file;
+use byte_io::{Sink, Source, write_all};
 use reg_op::{Op, OpBody, Status};
 use reg_state::Register;
 use std::alloc::{AllocError, Global};
-use wkt_crs::{Sink, Source, write_all};
 
 /// Reads the register of the source, which is file 1, and writes the canonical text of each entry that is not retired,
 /// by id, each with a newline.

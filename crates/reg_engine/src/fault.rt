@@ -1,7 +1,7 @@
 ghost use Rattle.std.specs.Prelude.{◌≡◌};
 ghost use Rattle.reg_engine.specs.Fault.{status_of, text_fault, register_fault, office_fault};
 
-use reg_file::ReadFileFault;
+use reg_file::{FileFault, ReadFileFault};
 use reg_office::OfficeFault;
 use reg_op::OpId;
 use std::fmt;
@@ -82,33 +82,30 @@ fn of_id<W: fmt::Write>(f: &mut fmt::Formatter<W>, name: &str, id: OpId) -> fmt:
 
 /// What went wrong with an input file. It prints as the fault's name and its place.
 #[derive(Clone, Copy, Debug, PartialEq, Eq)]
-pub enum FileFault {
+pub enum InputFault {
     NotOpened,
     /// Reading failed after this many bytes.
     ReadFailed(usize),
     /// There are more bytes than a register's file may have.
     TooLarge,
     /// The bytes are no register's file, and this is their first fault.
-    NoRegister {
-        fault: reg_file::FileFault,
-        place: usize,
-    },
+    NoRegister { fault: FileFault, place: usize },
 }
 
-impl fmt::Display for FileFault {
+impl fmt::Display for InputFault {
     fn fmt<W: fmt::Write>(&self, f: &mut fmt::Formatter<W>) -> fmt::Result {
         match self {
-            FileFault::NotOpened => f.write_str("NotOpened"),
-            FileFault::ReadFailed(place) => write!(f, "ReadFailed at {place}"),
-            FileFault::TooLarge => f.write_str("TooLarge"),
-            FileFault::NoRegister {
-                fault: reg_file::FileFault::Definition(fault),
+            InputFault::NotOpened => f.write_str("NotOpened"),
+            InputFault::ReadFailed(place) => write!(f, "ReadFailed at {place}"),
+            InputFault::TooLarge => f.write_str("TooLarge"),
+            InputFault::NoRegister {
+                fault: FileFault::Definition(fault),
                 place,
             } => {
                 let name = definition_fault_name(*fault);
                 write!(f, "Definition {name} at {place}")
             }
-            FileFault::NoRegister { fault, place } => {
+            InputFault::NoRegister { fault, place } => {
                 let name = file_fault_name(*fault);
                 write!(f, "{name} at {place}")
             }
@@ -116,23 +113,23 @@ impl fmt::Display for FileFault {
     }
 }
 
-fn file_fault_name(fault: reg_file::FileFault) -> &'static str {
+fn file_fault_name(fault: FileFault) -> &'static str {
     match fault {
-        reg_file::FileFault::Magic => "Magic",
-        reg_file::FileFault::Version => "Version",
-        reg_file::FileFault::Kind => "Kind",
-        reg_file::FileFault::Truncated => "Truncated",
-        reg_file::FileFault::Ranges => "Ranges",
-        reg_file::FileFault::ReplicaOrder => "ReplicaOrder",
-        reg_file::FileFault::OpOrder => "OpOrder",
-        reg_file::FileFault::OpIdBad => "OpIdBad",
-        reg_file::FileFault::OpKind => "OpKind",
-        reg_file::FileFault::NotSeen => "NotSeen",
-        reg_file::FileFault::SameEntry => "SameEntry",
-        reg_file::FileFault::Definition(_) => "Definition",
-        reg_file::FileFault::NotCanonical => "NotCanonical",
-        reg_file::FileFault::NotKept => "NotKept",
-        reg_file::FileFault::Trailing => "Trailing",
+        FileFault::Magic => "Magic",
+        FileFault::Version => "Version",
+        FileFault::Kind => "Kind",
+        FileFault::Truncated => "Truncated",
+        FileFault::Ranges => "Ranges",
+        FileFault::ReplicaOrder => "ReplicaOrder",
+        FileFault::OpOrder => "OpOrder",
+        FileFault::OpIdBad => "OpIdBad",
+        FileFault::OpKind => "OpKind",
+        FileFault::NotSeen => "NotSeen",
+        FileFault::SameEntry => "SameEntry",
+        FileFault::Definition(_) => "Definition",
+        FileFault::NotCanonical => "NotCanonical",
+        FileFault::NotKept => "NotKept",
+        FileFault::Trailing => "Trailing",
     }
 }
 
@@ -169,7 +166,7 @@ pub enum CliFault {
     Refused(Refusal),
     /// The number is that of the file among those that the command reads, from 1.
     #[error("file {number}: {fault}")]
-    File { number: usize, fault: FileFault },
+    File { number: usize, fault: InputFault },
     #[error("out: {0}")]
     Out(OutFault),
     #[error("out of memory")]
@@ -184,7 +181,7 @@ impl CliFault {
         match fault {
             ReadFromFault::ReadFailed(n) => CliFault::File {
                 number,
-                fault: FileFault::ReadFailed(n),
+                fault: InputFault::ReadFailed(n),
             },
             ReadFromFault::Refused(ReadFault::Text(fault)) => {
                 CliFault::Refused(Refusal::Text(fault))
@@ -204,9 +201,9 @@ impl CliFault {
         ensures { result ≡ register_fault number fault }
     {
         let fault = match fault {
-            ReadFileFault::File { fault, place } => FileFault::NoRegister { fault, place },
-            ReadFileFault::TooLarge => FileFault::TooLarge,
-            ReadFileFault::ReadFailed(n) => FileFault::ReadFailed(n),
+            ReadFileFault::File { fault, place } => InputFault::NoRegister { fault, place },
+            ReadFileFault::TooLarge => InputFault::TooLarge,
+            ReadFileFault::ReadFailed(n) => InputFault::ReadFailed(n),
             ReadFileFault::Memory => return CliFault::Memory,
         };
         CliFault::File { number, fault }
@@ -227,7 +224,7 @@ impl CliFault {
         CliFault::Refused(refusal)
     }
 
-    /// The exit status of the program: 1 for what is refused, 3 for a file, 4 for memory.
+    /// The exit status of the program: 1 for what is refused, 3 for a file or the output, 4 for memory.
     pub fn status(&self) -> u8
         ensures { result ≡ status_of self.now }
     {

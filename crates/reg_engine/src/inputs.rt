@@ -5,13 +5,13 @@ ghost use Rattle.reg_file.specs.Files.{Finds};
 ghost use Rattle.reg_engine.specs.Inputs.{IsUnread, HoldAll, AreUnread};
 
 use crate::fault::CliFault;
+use byte_io::Source;
 use reg_file::read_register_beside;
 use reg_state::Register;
 use std::alloc::Global;
-use wkt_crs::Source;
 
 /// Reads the register in the file of this number.
-pub fn read_file<S: Source>(
+pub(crate) fn read_file<S: Source>(
     alloc: Global,
     number: usize,
     source: &mut S,
@@ -39,7 +39,10 @@ fn read_file_beside<S: Source>(
 }
 
 /// Reads a register from each source, in their order, and stops at the first that has none.
-pub fn read_files<S: Source>(alloc: Global, sources: &mut [S]) -> Result<Vec<Register>, CliFault>
+pub(crate) fn read_files<S: Source>(
+    alloc: Global,
+    sources: &mut [S],
+) -> Result<Vec<Register>, CliFault>
     ensures found { IfOk result (λ v. HoldAll (map S.state sources.old) (map S.state sources.new) v.items) }
     ensures fault { IfErr result (AreUnread (map S.state sources.old) (map S.state sources.new)) }
 {

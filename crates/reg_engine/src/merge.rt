@@ -6,10 +6,10 @@ ghost use Rattle.reg_engine.specs.Merge.{ends, IsMerged, IsMergeFault};
 use crate::fault::{CliFault, OutFault, Refusal};
 use crate::inputs::read_files;
 use crate::outputs::publish_register;
+use byte_io::{Source, Target};
 use reg_state::{JoinFault, Register, join_all};
 use std::alloc::Global;
 use std::mem::forget;
-use wkt_crs::{Source, Target};
 
 /// Writes the file of the register that has seen nothing.
 pub fn run_new<T: Target>(alloc: Global, target: &mut T) -> Result<(), CliFault>

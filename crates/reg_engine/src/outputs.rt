@@ -5,14 +5,14 @@ ghost use Rattle.reg_op.specs.Text.{printed};
 ghost use Rattle.reg_engine.specs.Outputs.{PublishesFile, IsUnpublished, id_lines, outputs, GivesOut, IsUngiven};
 
 use crate::fault::{CliFault, OutFault};
+use byte_io::{PublishFault, Sink, Target, publish, write_all};
 use reg_file::{WriteFileFault, write_bytes};
 use reg_op::OpId;
 use reg_state::Register;
 use std::alloc::{AllocError, Global};
-use wkt_crs::{PublishFault, Sink, Target, publish, write_all};
 
 /// Writes the register's file to the target, which is opened once the file is made.
-pub fn publish_register<T: Target>(
+pub(crate) fn publish_register<T: Target>(
     alloc: Global,
     register: &Register,
     target: &mut T,
@@ -52,7 +52,7 @@ fn push_line(lines: &mut Vec<u8>, id: &OpId) -> Result<(), AllocError>
 
 /// Writes the register's file to the target, and then a line for each id to the sink. The lines are made before the
 /// target is opened.
-pub fn give_out<T: Target, K: Sink>(
+pub(crate) fn give_out<T: Target, K: Sink>(
     alloc: Global,
     register: &Register,
     ids: &[OpId],

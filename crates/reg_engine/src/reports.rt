@@ -3,14 +3,14 @@
 ghost use Rattle.std.specs.Prelude.{◌≡◌, OnOk, IfErr};
 ghost use Rattle.reg_office.specs.Reports.{IsReport, IsOpsReport};
 ghost use Rattle.reg_engine.specs.Devices.{devices};
-ghost use Rattle.reg_engine.specs.Report.{IsReported, IsReportedNot, IsRowReported, IsRowReportedNot};
+ghost use Rattle.reg_engine.specs.Report.{IsReported, IsUnreported, IsRowReported, IsRowUnreported};
 
 use crate::fault::{CliFault, OutFault, Refusal};
 use crate::inputs::read_file;
+use byte_io::{Sink, Source};
 use reg_office::{ReportFault, ReportKind, report, report_entry, report_ops};
 use reg_op::OpId;
 use std::alloc::Global;
-use wkt_crs::{Sink, Source};
 
 /// Reads the register of the source, which is file 1, and writes a report of it.
 pub fn run_report<S: Source, K: Sink>(
@@ -22,7 +22,7 @@ pub fn run_report<S: Source, K: Sink>(
     ensures reported { OnOk result (IsReported (IsReport kind)
         (devices (S.state source.old) (K.state sink.old))
         (devices (S.state source.new) (K.state sink.new))) }
-    ensures fault { IfErr result (IsReportedNot (IsReport kind)
+    ensures fault { IfErr result (IsUnreported (IsReport kind)
         (devices (S.state source.old) (K.state sink.old))
         (devices (S.state source.new) (K.state sink.new))) }
 {
@@ -46,7 +46,7 @@ pub fn run_ops<S: Source, K: Sink>(
     ensures reported { OnOk result (IsReported IsOpsReport
         (devices (S.state source.old) (K.state sink.old))
         (devices (S.state source.new) (K.state sink.new))) }
-    ensures fault { IfErr result (IsReportedNot IsOpsReport
+    ensures fault { IfErr result (IsUnreported IsOpsReport
         (devices (S.state source.old) (K.state sink.old))
         (devices (S.state source.new) (K.state sink.new))) }
 {
@@ -71,7 +71,7 @@ pub fn run_show<S: Source, K: Sink>(
     ensures reported { OnOk result (IsRowReported entry
         (devices (S.state source.old) (K.state sink.old))
         (devices (S.state source.new) (K.state sink.new))) }
-    ensures fault { IfErr result (IsRowReportedNot entry
+    ensures fault { IfErr result (IsRowUnreported entry
         (devices (S.state source.old) (K.state sink.old))
         (devices (S.state source.new) (K.state sink.new))) }
 {

@@ -4,9 +4,10 @@ ghost use Rattle.reg_engine.specs.Export.{text_in, IsShown, IsShowFault};
 
 use crate::fault::{CliFault, OutFault, Refusal};
 use crate::inputs::read_file;
+use byte_io::{Sink, Source, write_all};
 use reg_op::OpId;
 use std::alloc::{AllocError, Global};
-use wkt_crs::{Crs, Sink, Source, write_all, write_crs, write_pretty};
+use wkt_crs::{Crs, write_crs, write_pretty};
 
 /// How a text is laid out.
 #[derive(Clone, Copy, Debug, PartialEq, Eq)]

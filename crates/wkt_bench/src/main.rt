@@ -32,15 +32,16 @@ enum Work {
 }
 
 impl Work {
-    fn of_word(word: &str) -> Work {
+    fn of_word(word: &str) -> Option<Work> {
         match word {
-            "scan" => Work::Scan,
-            "slots" => Work::Slots,
-            "read" => Work::Read,
-            "write" => Work::Write,
-            "pretty" => Work::Pretty,
-            "define" => Work::Define,
-            _ => Work::Canonical,
+            "scan" => Some(Work::Scan),
+            "slots" => Some(Work::Slots),
+            "read" => Some(Work::Read),
+            "write" => Some(Work::Write),
+            "canonical" => Some(Work::Canonical),
+            "pretty" => Some(Work::Pretty),
+            "define" => Some(Work::Define),
+            _ => None,
         }
     }
 }
@@ -58,20 +59,30 @@ const NONE: Counts = Counts {
     bytes: 0,
 };
 
-fn main(rt: HostRuntime) -> io::Result<()> {
-    let words: Vec<String> = env::args(&rt)?.collect(rt.alloc())?;
-    let Some(file) = words.get(1) else {
-        return println!(rt; "wkt_bench FILE TIMES [scan|slots|read|write|canonical|pretty|define]");
-    };
-    let times = match words.get(2) {
-        Some(word) => word.as_str().parse::<u32>().unwrap_or(1),
-        None => 1,
-    };
+// What the words ask for.
+#[derive(Clone, Copy)]
+struct Asked<'a> {
+    file: &'a str,
+    times: u32,
+    work: Work,
+}
+
+fn asked(words: &[String]) -> Option<Asked<'_>> {
+    let file = words.get(1)?.as_str();
+    let times = words.get(2)?.as_str().parse::<u32>().ok()?;
     let work = match words.get(3) {
-        Some(word) => Work::of_word(word),
+        Some(word) => Work::of_word(word.as_str())?,
         None => Work::Canonical,
     };
-    let file = fs::read(&rt, file.as_str())?;
+    Some(Asked { file, times, work })
+}
+
+fn main(rt: HostRuntime) -> io::Result<()> {
+    let words: Vec<String> = env::args(&rt)?.collect(rt.alloc())?;
+    let Some(Asked { file, times, work }) = asked(&words) else {
+        return println!(rt; "wkt_bench FILE TIMES [scan|slots|read|write|canonical|pretty|define]");
+    };
+    let file = fs::read(&rt, file)?;
     let texts = lines_of(rt.alloc(), &file)?;
     let mut counts = NONE;
     for _ in 0..times {

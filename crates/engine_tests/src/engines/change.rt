@@ -1,13 +1,17 @@
 //! What the commands of offices write and print.
 
 use super::merge::merged;
-use super::{A, B, EMPTY, HEIGHT, OTHER_HEIGHT, Replica, enter, entry_file, file_of, joined};
-use reg_engine::{CliFault, FileFault, OutFault, Refusal, run_enter, run_retire, run_supersede};
+use super::{
+    A, B, EMPTY, HEIGHT, OTHER_HEIGHT, Replica, enter, entry_file, file_of, joined, one_retired,
+};
+use byte_io::{Full, MemoryTarget, Pieces, Room, Target, Then, Writing};
+use reg_engine::{CliFault, InputFault, OutFault, Refusal, run_enter, run_retire, run_supersede};
+use reg_file::FileFault;
 use reg_op::OpId;
 use std::alloc::{AllocError, Global};
 use std::process::Abort;
 use uuid::Uuid;
-use wkt_crs::{Full, MemoryTarget, Pieces, Room, SlotFault, SlotName, Target, Then, Writing};
+use wkt_crs::{SlotFault, SlotName};
 
 const OFFICE_A: u128 = 0x4000_8000_0000_0000_000a;
 
@@ -115,15 +119,6 @@ fn refused(refusal: Refusal) -> Option<CliFault> {
     Some(CliFault::Refused(refusal))
 }
 
-// Two entries of the first replica, which retired the first; the second replica is only seen.
-fn one_retired(alloc: Global) -> Result<Vec<u8>, AllocError> {
-    let one = enter(alloc, A, 1, HEIGHT)?;
-    let two = enter(alloc, A, 2, OTHER_HEIGHT)?;
-    let retire = joined(alloc, &[A, &[0, 0, 0, 3, 3], A, &[0, 0, 0, 1]])?;
-    let replicas = [Replica { uuid: A, last: 3 }, Replica { uuid: B, last: 1 }];
-    file_of(alloc, &replicas, 3, &[&one, &two, &retire])
-}
-
 // An entry of each of two replicas.
 fn one_each(alloc: Global) -> Result<Vec<u8>, AllocError> {
     let one = enter(alloc, A, 1, HEIGHT)?;
@@ -156,8 +151,8 @@ fn what_is_no_definition_is_not_entered(rt: HostRuntime) {
     let text = entered(&rt, alloc, EMPTY, OFFICE_A, unnamed).err();
     assert_eq!(rt; text, refused(Refusal::NoIdentifier));
     // The register is read first.
-    let version = FileFault::NoRegister {
-        fault: reg_file::FileFault::Version,
+    let version = InputFault::NoRegister {
+        fault: FileFault::Version,
         place: 4,
     };
     let fault = CliFault::File {

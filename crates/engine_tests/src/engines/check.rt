@@ -1,8 +1,7 @@
-use reg_engine::{CliFault, FileFault, OutFault, Refusal, run_check};
+use byte_io::{Endless, Full, Pieces, Reading, Room, Then, Writing};
+use reg_engine::{CliFault, InputFault, OutFault, Refusal, run_check};
 use std::alloc::Global;
-use wkt_crs::{
-    Condition, Endless, Full, Pieces, Reading, Room, SlotFault, SlotName, TextFault, Then, Writing,
-};
+use wkt_crs::{Condition, SlotFault, SlotName, TextFault};
 
 const CUTS: [usize; 5] = [1, 2, 3, 7, 4096];
 
@@ -90,7 +89,7 @@ fn tells_where_a_reader_failed(rt: HostRuntime) {
             let fault = run_check(rt.alloc(), &mut source, &mut sink).err();
             let want = CliFault::File {
                 number: 1,
-                fault: FileFault::ReadFailed(n),
+                fault: InputFault::ReadFailed(n),
             };
             assert_eq!(rt; fault, Some(want));
             assert_eq!(rt; sink.taken().len(), 0);

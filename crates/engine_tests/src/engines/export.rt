@@ -1,8 +1,9 @@
 use super::{A, B, EMPTY, HEIGHT, OTHER_HEIGHT, Replica, enter, entry_file, file_of, joined};
-use reg_engine::{CliFault, FileFault, Form, OutFault, Refusal, run_export, run_wkt};
+use byte_io::{Full, Pieces, Room, Then};
+use reg_engine::{CliFault, Form, InputFault, OutFault, Refusal, run_export, run_wkt};
+use reg_file::FileFault;
 use reg_op::OpId;
 use std::alloc::{AllocError, Global};
-use wkt_crs::{Full, Pieces, Room, Then};
 
 const INDENTED: &[u8] = b"VERTCRS[\"H\",
     VDATUM[\"D\"],
@@ -82,8 +83,8 @@ fn tells_how_much_of_an_export_went_out(rt: HostRuntime) {
     let fault = run_export(alloc, &mut source, &mut sink).err();
     let version = CliFault::File {
         number: 1,
-        fault: FileFault::NoRegister {
-            fault: reg_file::FileFault::Version,
+        fault: InputFault::NoRegister {
+            fault: FileFault::Version,
             place: 4,
         },
     };

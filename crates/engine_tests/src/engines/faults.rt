@@ -1,4 +1,5 @@
-use reg_engine::{CliFault, FileFault, OutFault, Refusal};
+use reg_engine::{CliFault, InputFault, OutFault, Refusal};
+use reg_file::FileFault;
 use reg_op::OpId;
 use wkt_crs::{Condition, DefinitionFault, ReadFault, SlotFault, SlotName, TextFault};
 
@@ -44,9 +45,9 @@ fn names_each_fault_and_its_status(rt: HostRuntime) {
         ),
         (broken(Condition::C1), b"refused: Broken C1 at 0", 1),
         (broken(Condition::C8), b"refused: Broken C8 at 0", 1),
-        (file(1, FileFault::NotOpened), b"file 1: NotOpened", 3),
+        (file(1, InputFault::NotOpened), b"file 1: NotOpened", 3),
         (
-            file(2, FileFault::ReadFailed(0)),
+            file(2, InputFault::ReadFailed(0)),
             b"file 2: ReadFailed at 0",
             3,
         ),
@@ -57,7 +58,7 @@ fn names_each_fault_and_its_status(rt: HostRuntime) {
         ),
         (CliFault::Out(OutFault::NotOpened), b"out: NotOpened", 3),
         (CliFault::Out(OutFault::TooLarge), b"out: TooLarge", 3),
-        (file(1, FileFault::TooLarge), b"file 1: TooLarge", 3),
+        (file(1, InputFault::TooLarge), b"file 1: TooLarge", 3),
         (CliFault::Memory, b"out of memory", 4),
     ];
     for (fault, line, status) in faults {
@@ -108,55 +109,27 @@ fn names_the_ids_of_refusals(rt: HostRuntime) {
 
 #[test]
 fn names_each_fault_of_a_file(rt: HostRuntime) {
-    let text = |fault| reg_file::FileFault::Definition(DefinitionFault::Read(ReadFault::Text(
-        fault,
-    )));
-    let slot = |fault| reg_file::FileFault::Definition(DefinitionFault::Read(ReadFault::Slot(
-        fault,
-    )));
-    let broken = reg_file::FileFault::Definition(DefinitionFault::Read(ReadFault::Broken {
+    let text = |fault| FileFault::Definition(DefinitionFault::Read(ReadFault::Text(fault)));
+    let slot = |fault| FileFault::Definition(DefinitionFault::Read(ReadFault::Slot(fault)));
+    let broken = FileFault::Definition(DefinitionFault::Read(ReadFault::Broken {
         condition: Condition::C3,
         place: 0,
     }));
     let faults = [
-        (
-            reg_file::FileFault::Magic,
-            0,
-            b"file 2: Magic at 0".as_slice(),
-        ),
-        (reg_file::FileFault::Version, 4, b"file 2: Version at 4"),
-        (reg_file::FileFault::Kind, 5, b"file 2: Kind at 5"),
-        (
-            reg_file::FileFault::Truncated,
-            160,
-            b"file 2: Truncated at 160",
-        ),
-        (reg_file::FileFault::Ranges, 38, b"file 2: Ranges at 38"),
-        (
-            reg_file::FileFault::ReplicaOrder,
-            38,
-            b"file 2: ReplicaOrder at 38",
-        ),
-        (reg_file::FileFault::OpOrder, 83, b"file 2: OpOrder at 83"),
-        (reg_file::FileFault::OpIdBad, 42, b"file 2: OpIdBad at 42"),
-        (reg_file::FileFault::OpKind, 62, b"file 2: OpKind at 62"),
-        (reg_file::FileFault::NotSeen, 42, b"file 2: NotSeen at 42"),
-        (
-            reg_file::FileFault::SameEntry,
-            181,
-            b"file 2: SameEntry at 181",
-        ),
-        (
-            reg_file::FileFault::NotCanonical,
-            63,
-            b"file 2: NotCanonical at 63",
-        ),
-        (reg_file::FileFault::NotKept, 201, b"file 2: NotKept at 201"),
-        (
-            reg_file::FileFault::Trailing,
-            160,
-            b"file 2: Trailing at 160",
-        ),
+        (FileFault::Magic, 0, b"file 2: Magic at 0".as_slice()),
+        (FileFault::Version, 4, b"file 2: Version at 4"),
+        (FileFault::Kind, 5, b"file 2: Kind at 5"),
+        (FileFault::Truncated, 160, b"file 2: Truncated at 160"),
+        (FileFault::Ranges, 38, b"file 2: Ranges at 38"),
+        (FileFault::ReplicaOrder, 38, b"file 2: ReplicaOrder at 38"),
+        (FileFault::OpOrder, 83, b"file 2: OpOrder at 83"),
+        (FileFault::OpIdBad, 42, b"file 2: OpIdBad at 42"),
+        (FileFault::OpKind, 62, b"file 2: OpKind at 62"),
+        (FileFault::NotSeen, 42, b"file 2: NotSeen at 42"),
+        (FileFault::SameEntry, 181, b"file 2: SameEntry at 181"),
+        (FileFault::NotCanonical, 63, b"file 2: NotCanonical at 63"),
+        (FileFault::NotKept, 201, b"file 2: NotKept at 201"),
+        (FileFault::Trailing, 160, b"file 2: Trailing at 160"),
         (
             text(TextFault::EndEarly(92)),
             63,
@@ -174,12 +147,12 @@ fn names_each_fault_of_a_file(rt: HostRuntime) {
         ),
         (broken, 63, b"file 2: Definition Broken at 63"),
         (
-            reg_file::FileFault::Definition(DefinitionFault::NoIdentifier),
+            FileFault::Definition(DefinitionFault::NoIdentifier),
             63,
             b"file 2: Definition NoIdentifier at 63",
         ),
         (
-            reg_file::FileFault::Definition(DefinitionFault::CanonicalTooLong),
+            FileFault::Definition(DefinitionFault::CanonicalTooLong),
             63,
             b"file 2: Definition CanonicalTooLong at 63",
         ),
@@ -187,7 +160,7 @@ fn names_each_fault_of_a_file(rt: HostRuntime) {
     for (fault, place, line) in faults {
         let fault = CliFault::File {
             number: 2,
-            fault: FileFault::NoRegister { fault, place },
+            fault: InputFault::NoRegister { fault, place },
         };
         assert_eq!(rt;
             fault.to_string(rt.alloc()).expect(&rt, "a line").as_bytes(),

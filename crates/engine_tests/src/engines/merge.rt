@@ -2,12 +2,13 @@ use super::{
     A, B, EMPTY, HEIGHT, OTHER_HEIGHT, Replica, enter, entry_file, file_of, joined,
     retirement_file, sources,
 };
-use reg_engine::{CliFault, FileFault, OutFault, Refusal, run_merge, run_new};
+use byte_io::{MemoryTarget, Pieces, Then};
+use reg_engine::{CliFault, InputFault, OutFault, Refusal, run_merge, run_new};
+use reg_file::FileFault;
 use reg_op::OpId;
 use std::alloc::{AllocError, Global};
 use std::process::Abort;
 use uuid::Uuid;
-use wkt_crs::{MemoryTarget, Pieces, Then};
 
 /// What a merge of the files writes, or why it does not.
 pub fn merged(rt: &impl Abort, alloc: Global, files: &[&[u8]]) -> Result<Vec<u8>, CliFault> {
@@ -113,8 +114,8 @@ fn two_operations_of_one_id_clash(rt: HostRuntime) {
     // A file's fault is told before a clash.
     let truncated = CliFault::File {
         number: 3,
-        fault: FileFault::NoRegister {
-            fault: reg_file::FileFault::Truncated,
+        fault: InputFault::NoRegister {
+            fault: FileFault::Truncated,
             place: 0,
         },
     };
@@ -139,7 +140,7 @@ fn tells_which_file_failed_and_where(rt: HostRuntime) {
         let fault = run_merge(alloc, &mut sources, &mut target).err();
         let want = CliFault::File {
             number: 3,
-            fault: FileFault::ReadFailed(n),
+            fault: InputFault::ReadFailed(n),
         };
         assert_eq!(rt; fault, Some(want));
         assert_eq!(rt; target.taken().len(), 0);

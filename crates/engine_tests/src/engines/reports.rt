@@ -1,26 +1,18 @@
 //! What reports print.
 
 use super::{
-    A, B, EMPTY, HEIGHT, OTHER_HEIGHT, Replica, enter, entry_file, file_of, joined, retirement_file,
+    A, B, EMPTY, HEIGHT, Replica, enter, entry_file, file_of, joined, one_retired, retirement_file,
 };
-use reg_engine::{CliFault, FileFault, OutFault, Refusal, run_ops, run_report, run_show};
+use byte_io::{Full, Pieces, Room, Then};
+use reg_engine::{CliFault, InputFault, OutFault, Refusal, run_ops, run_report, run_show};
+use reg_file::FileFault;
 use reg_office::ReportKind;
 use reg_op::OpId;
 use std::alloc::{AllocError, Global};
-use wkt_crs::{Full, Pieces, Room, Then};
 
 /// The first system with its code as a text, which is the same key.
 const HEIGHT_OF_TEXT: &[u8] =
     b"VERTCRS[\"H\",VDATUM[\"D\"],CS[vertical,1],AXIS[\"height (H)\",up],LENGTHUNIT[\"metre\",1],ID[\"X\",\"7\"]]";
-
-// Two entries of the first replica, which retired the first; the second replica is only seen.
-fn one_retired(alloc: Global) -> Result<Vec<u8>, AllocError> {
-    let one = enter(alloc, A, 1, HEIGHT)?;
-    let two = enter(alloc, A, 2, OTHER_HEIGHT)?;
-    let retire = joined(alloc, &[A, &[0, 0, 0, 3, 3], A, &[0, 0, 0, 1]])?;
-    let replicas = [Replica { uuid: A, last: 3 }, Replica { uuid: B, last: 1 }];
-    file_of(alloc, &replicas, 3, &[&one, &two, &retire])
-}
 
 // Two entries of one key whose texts differ.
 fn in_conflict(alloc: Global) -> Result<Vec<u8>, AllocError> {
@@ -129,8 +121,8 @@ fn a_report_tells_how_much_of_it_went_out(rt: HostRuntime) {
     let mut source = Pieces::new(b"CRSR\x01\x01\x00", 4096, Then::Ends);
     let mut sink = Room::new(alloc, 4096, 1000, Full::Fails);
     let fault = run_report(alloc, &mut source, ReportKind::Gaps, &mut sink).err();
-    let truncated = FileFault::NoRegister {
-        fault: reg_file::FileFault::Truncated,
+    let truncated = InputFault::NoRegister {
+        fault: FileFault::Truncated,
         place: 7,
     };
     let want = CliFault::File {

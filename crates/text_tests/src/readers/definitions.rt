@@ -1,13 +1,26 @@
 //! Definitions: their texts, keys and copies, and why a text is none.
 
-use super::{COMPOUND, HEIGHT, SPELLED, has_text, read};
+use super::{COMPOUND, HEIGHT, LISTED, POLAR, SPELLED, has_text, read};
 use std::alloc::Global;
 use std::process::Abort;
+use wkt_canonical::is_canonical;
 use wkt_crs::{Definition, DefinitionFault};
 
 /// The system of `HEIGHT` with a text for the code of its identifier.
 const NAMED_HEIGHT: &[u8] =
     b"VERTCRS[\"H\",VDATUM[\"D\"],CS[vertical,1],AXIS[\"height (H)\",up],LENGTHUNIT[\"metre\",1],ID[\"X\",\"7\"]]";
+
+/// A canonical text with a mark within a text, which no short way reads.
+const MARKED: &[u8] =
+    b"VERTCRS[\"\"\"\",VDATUM[\"D\"],CS[vertical,1],AXIS[\"height (H)\",up],LENGTHUNIT[\"metre\",1],ID[\"X\",7]]";
+
+/// A canonical text with a unit on one of its axes alone.
+const PARTED: &[u8] =
+    b"GEOGCRS[\"G\",DATUM[\"D\",ELLIPSOID[\"S\",6371000,0]],CS[ellipsoidal,2],AXIS[\"(Lat)\",north,ANGLEUNIT[\"degree\",0.0174532925199433]],AXIS[\"(Lon)\",east],ANGLEUNIT[\"radian\",1],ID[\"X\",8]]";
+
+/// A canonical text with a numeral of 17 digits before its end.
+const LARGE: &[u8] =
+    b"GEOGCRS[\"G\",DATUM[\"D\",ELLIPSOID[\"S\",12345678901234567,0]],CS[ellipsoidal,2],AXIS[\"(Lat)\",north],AXIS[\"(Lon)\",east],ANGLEUNIT[\"radian\",1],ID[\"X\",8]]";
 
 fn definition(rt: &impl Abort, alloc: Global, text: &[u8]) -> Definition {
     Definition::from_canonical(alloc, text).expect(rt, "a canonical text")
@@ -76,6 +89,33 @@ fn values_and_copies_of_definitions_have_their_texts(rt: HostRuntime) {
     let value = compound.crs(alloc).expect(&rt, "a value");
     drop(compound);
     assert!(rt; has_text(&rt, alloc, &value, COMPOUND));
+}
+
+#[test]
+fn canonical_texts_that_are_read_in_the_long_way_are_definitions(rt: HostRuntime) {
+    let alloc = rt.alloc();
+    for text in [MARKED, PARTED, LARGE] {
+        assert!(rt; !is_canonical(text));
+        assert!(rt; definition(&rt, alloc, text).as_bytes() == text);
+    }
+}
+
+// Whether a copy of the value of a text is the value, and has its text.
+fn is_copied(rt: &impl Abort, alloc: Global, text: &[u8]) -> bool {
+    let value = read(rt, alloc, text);
+    let copy = value.try_clone(alloc).expect(rt, "a copy");
+    let is_same = copy == value;
+    drop(value);
+    let has_its_text = has_text(rt, alloc, &copy, text);
+    drop(copy);
+    is_same && has_its_text
+}
+
+#[test]
+fn copies_of_values_are_equal(rt: HostRuntime) {
+    for text in [HEIGHT, COMPOUND, POLAR, LISTED] {
+        assert!(rt; is_copied(&rt, rt.alloc(), text));
+    }
 }
 
 #[test]

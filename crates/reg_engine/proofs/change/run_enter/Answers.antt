@@ -1,4 +1,5 @@
 use Rattle.std.proofs.Common.{◌≡◌, ◌⊎◌, Err, refl, sym, subst, ◌∷◌, []}
+use Rattle.wkt_crs.specs.Definition.{IsDefinition}
 use Rattle.reg_op.specs.declared.operation.OpBody.TheVariants.{Enter}
 use Rattle.reg_office.specs.Commands.{Does}
 use Rattle.reg_office.specs.Making.{made}
@@ -26,7 +27,7 @@ returns-in-Err-enter-clause-fault g c =
     let old = entry_desk (g.S.Source.state c.args.source.now) (g.X.Source.state c.args.text.now) (outputs (g.T.Sink.state c.args.target.now) (g.K.Sink.state c.args.sink.now)) in
     let new = entry_desk (g.S.Source.state c.read_file.new.source) (g.X.Source.state c.read_crs_from.new.source) (outputs (g.T.Sink.state c.args.target.now) (g.K.Sink.state c.args.sink.now)) in
     subst (IsEnterFault c.args.replica old new) (sym c.of_office.ensures)
-    (enter_refused c.args.replica old new c.in-Ok.register c.in-Ok-read_crs_from.crs c.in-Err-enter.fault (c.in-Ok.ensures.found, c.in-Ok-read_crs_from.ensures.found)
+    (enter_refused c.args.replica old new c.in-Ok.register c.in-Ok-read_crs_from.crs c.in-Err-enter.fault ((c.in-Ok.ensures.found, c.in-Ok-read_crs_from.ensures.found), subst IsDefinition c.in-Ok-defined.ensures.ok c.in-Ok-defined.ensures.is)
     (subst (λ d. (made c.in-Ok.register c.args.replica (Enter d ∷ []) ≡ Err c.in-Err-enter.fault) ⊎ (c.in-Err-enter.fault ≡ office.Memory)) c.in-Ok-defined.ensures.ok
     (made_of c.new-office.result.register c.in-Ok.register c.new-office.result.replica c.args.replica (Enter c.in-Ok-defined.definition ∷ []) c.in-Err-enter.fault
     c.new-office.ensures.register c.new-office.ensures.replica c.in-Err-enter.ensures.fault)) refl)
@@ -38,7 +39,7 @@ returns-in-Ok-give_out-clause-entered g c =
     c.new-office.ensures.register c.new-office.ensures.replica c.in-Ok-enter.ensures.ok) in (
       c.in-Ok.register,
       c.in-Ok-read_crs_from.crs,
-      (c.in-Ok.ensures.found, c.in-Ok-read_crs_from.ensures.found),
+      ((c.in-Ok.ensures.found, c.in-Ok-read_crs_from.ensures.found), subst IsDefinition c.in-Ok-defined.ensures.ok c.in-Ok-defined.ensures.is),
       (c.enter.new.self.register, c.in-Ok-enter.id ∷ [], does, gives_of _ _ (c.in-Ok-enter.id ∷ []) (c.in-Ok-enter.id ∷ []) _ _ c.register-2.ensures refl c.in-Ok-give_out.ensures.given),
     )
 
@@ -49,5 +50,5 @@ returns-clause-fault g c =
     let does = subst (λ d. Does c.in-Ok.register c.args.replica (Enter d ∷ []) c.enter.new.self.register (c.in-Ok-enter.id ∷ [])) c.in-Ok-defined.ensures.ok
     (does_of c.new-office.result.register c.in-Ok.register c.enter.new.self.register c.new-office.result.replica c.args.replica (Enter c.in-Ok-defined.definition ∷ []) (c.in-Ok-enter.id ∷ [])
     c.new-office.ensures.register c.new-office.ensures.replica c.in-Ok-enter.ensures.ok) in
-    enter_ungiven c.args.replica old new c.in-Ok.register c.enter.new.self.register c.in-Ok-read_crs_from.crs (c.in-Ok-enter.id ∷ []) (c.in-Ok.ensures.found, c.in-Ok-read_crs_from.ensures.found) does
+    enter_ungiven c.args.replica old new c.in-Ok.register c.enter.new.self.register c.in-Ok-read_crs_from.crs (c.in-Ok-enter.id ∷ []) ((c.in-Ok.ensures.found, c.in-Ok-read_crs_from.ensures.found), subst IsDefinition c.in-Ok-defined.ensures.ok c.in-Ok-defined.ensures.is) does
     c.in-Err-give_out.fault (ungiven_of _ _ (c.in-Ok-enter.id ∷ []) (c.in-Ok-enter.id ∷ []) _ _ _ c.register-2.ensures refl c.in-Err-give_out.ensures.fault)
