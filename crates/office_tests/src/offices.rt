@@ -200,8 +200,8 @@ pub fn has_status(office: &Office, entry: OpId, status: Status) -> bool {
     office.register().status(entry) == Some(status)
 }
 
-/// A register in which ids of a replica up to a count were seen, but no operation is kept.
-pub fn seen_up_to(
+/// A register that has seen these ranges of a replica's counts, and keeps no operation.
+pub fn having_seen(
     rt: &impl Abort,
     alloc: Global,
     replica: u128,

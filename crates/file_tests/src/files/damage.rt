@@ -118,67 +118,38 @@ fn file_with(rt: &impl Abort, alloc: Global, last: u32, count: u32, parts: &[&[u
     file_of(alloc, &[(1, last)], count, &operations).expect(rt, "a file")
 }
 
+fn enters(rt: &impl Abort, alloc: Global, count: u32, text: &[u8]) -> Vec<u8> {
+    enter_bytes(alloc, count, text).expect(rt, "an entry")
+}
+
+// The operation of this count that retires the first.
+fn retires(rt: &impl Abort, alloc: Global, count: u32) -> Vec<u8> {
+    joined(alloc, &[UUID_A, &four(count), &[3], UUID_A, &four(1)]).expect(rt, "a retirement")
+}
+
 #[test]
 fn operations_are_by_id(rt: HostRuntime) {
     let alloc = rt.alloc();
-    let (one, two, len) = (four(1), four(2), four(93));
-    let swapped = file_with(
-        &rt,
-        alloc,
-        2,
-        2,
-        &[
-            UUID_A,
-            &two,
-            &[3],
-            UUID_A,
-            &one,
-            UUID_A,
-            &one,
-            &[1],
-            &len,
-            HEIGHT,
-        ],
-    );
+    let (one, two) = (enters(&rt, alloc, 1, HEIGHT), retires(&rt, alloc, 2));
+    let swapped = file_with(&rt, alloc, 2, 2, &[&two, &one]);
     assert!(rt; has_fault(alloc, &swapped, FileFault::OpOrder, 83));
-    let same_id = file_with(
-        &rt,
-        alloc,
-        2,
-        2,
-        &[
-            UUID_A,
-            &one,
-            &[1],
-            &len,
-            HEIGHT,
-            UUID_A,
-            &one,
-            &[1],
-            &len,
-            OTHER_HEIGHT,
-        ],
-    );
+    let other = enters(&rt, alloc, 1, OTHER_HEIGHT);
+    let same_id = file_with(&rt, alloc, 2, 2, &[&one, &other]);
     assert!(rt; has_fault(alloc, &same_id, FileFault::OpOrder, 160));
+}
+
+#[test]
+fn an_entry_does_not_supersede_itself(rt: HostRuntime) {
+    let alloc = rt.alloc();
+    let one = enters(&rt, alloc, 1, HEIGHT);
+    let (first, second) = (four(1), four(2));
+    let from = joined(alloc, &[UUID_A, &second, &[2]]).expect(&rt, "a front");
     let of_itself = file_with(
         &rt,
         alloc,
         2,
         2,
-        &[
-            UUID_A,
-            &one,
-            &[1],
-            &len,
-            HEIGHT,
-            UUID_A,
-            &two,
-            &[2],
-            UUID_A,
-            &one,
-            UUID_A,
-            &one,
-        ],
+        &[&one, &from, UUID_A, &first, UUID_A, &first],
     );
     assert!(rt; has_fault(alloc, &of_itself, FileFault::SameEntry, 181));
 }
@@ -186,73 +157,12 @@ fn operations_are_by_id(rt: HostRuntime) {
 #[test]
 fn an_operation_that_is_not_kept_has_its_place(rt: HostRuntime) {
     let alloc = rt.alloc();
-    let (one, two, three, len) = (four(1), four(2), four(3), four(93));
-    let twice = file_with(
-        &rt,
-        alloc,
-        3,
-        3,
-        &[
-            UUID_A,
-            &one,
-            &[1],
-            &len,
-            HEIGHT,
-            UUID_A,
-            &two,
-            &[3],
-            UUID_A,
-            &one,
-            UUID_A,
-            &three,
-            &[3],
-            UUID_A,
-            &one,
-        ],
-    );
+    let one = enters(&rt, alloc, 1, HEIGHT);
+    let (two, three) = (retires(&rt, alloc, 2), retires(&rt, alloc, 3));
+    let twice = file_with(&rt, alloc, 3, 3, &[&one, &two, &three]);
     assert!(rt; has_fault(alloc, &twice, FileFault::NotKept, 201));
-    let also_more = file_with(
-        &rt,
-        alloc,
-        3,
-        3,
-        &[
-            UUID_A,
-            &one,
-            &[1],
-            &len,
-            HEIGHT,
-            UUID_A,
-            &two,
-            &[3],
-            UUID_A,
-            &one,
-            UUID_A,
-            &three,
-            &[3],
-            UUID_A,
-            &one,
-            &[0],
-        ],
-    );
+    let also_more = file_with(&rt, alloc, 3, 3, &[&one, &two, &three, &[0]]);
     assert!(rt; has_fault(alloc, &also_more, FileFault::NotKept, 201));
-    let file = file_with(
-        &rt,
-        alloc,
-        2,
-        2,
-        &[
-            UUID_A,
-            &one,
-            &[1],
-            &len,
-            HEIGHT,
-            UUID_A,
-            &two,
-            &[3],
-            UUID_A,
-            &one,
-        ],
-    );
+    let file = file_with(&rt, alloc, 2, 2, &[&one, &two]);
     assert!(rt; file.len() == 201 && goes_round(alloc, &file));
 }

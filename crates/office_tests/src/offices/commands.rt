@@ -1,6 +1,6 @@
 use super::{
-    A, B, C, HEIGHT, contested, definition, gives, has_status, id_of, is_refused, is_unchanged,
-    joined, office, seen_up_to, worked,
+    A, B, C, HEIGHT, contested, definition, gives, has_status, having_seen, id_of, is_refused,
+    is_unchanged, joined, office, worked,
 };
 use reg_office::{Office, OfficeFault};
 use reg_op::Status;
@@ -78,14 +78,14 @@ fn the_newer_entries_are_numbered_in_their_order(rt: HostRuntime) {
 #[test]
 fn numbers_go_on_after_a_gap(rt: HostRuntime) {
     let alloc = rt.alloc();
-    let mut office = office(A, seen_up_to(&rt, alloc, A, &[(1, 2), (5, 5)]));
+    let mut office = office(A, having_seen(&rt, alloc, A, &[(1, 2), (5, 5)]));
     assert!(rt; office.enter(definition(&rt, alloc, HEIGHT)) == Ok(id_of(&rt, A, 6)));
 }
 
 #[test]
 fn no_number_follows_the_last(rt: HostRuntime) {
     let alloc = rt.alloc();
-    let full = seen_up_to(&rt, alloc, A, &[(u32::MAX, u32::MAX)]);
+    let full = having_seen(&rt, alloc, A, &[(u32::MAX, u32::MAX)]);
     let mut office = office(A, full);
     assert!(rt; office.enter(definition(&rt, alloc, HEIGHT)) == Err(OfficeFault::CountSpent));
     assert!(rt; office.retire(alloc, &[]).is_ok());
@@ -94,7 +94,7 @@ fn no_number_follows_the_last(rt: HostRuntime) {
 #[test]
 fn the_last_number_is_given_once(rt: HostRuntime) {
     let alloc = rt.alloc();
-    let near = seen_up_to(&rt, alloc, C, &[(u32::MAX - 1, u32::MAX - 1)]);
+    let near = having_seen(&rt, alloc, C, &[(u32::MAX - 1, u32::MAX - 1)]);
     let mut office = office(C, joined(&rt, alloc, near, contested(&rt, alloc)));
     let (one, other) = (id_of(&rt, A, 1), id_of(&rt, B, 1));
     assert!(rt; is_refused(office.retire(alloc, &[one, other]), OfficeFault::CountSpent));

@@ -1,5 +1,5 @@
 use super::{
-    A, B, Sample, Step, contested, enter, id_of, joined, register_of, retire, seen_up_to,
+    A, B, Sample, Step, contested, enter, having_seen, id_of, joined, register_of, retire,
     supersede, worked,
 };
 use byte_io::{Full, Room, Writing};
@@ -218,7 +218,7 @@ fn a_retired_entry_is_awaited_until_it_comes(rt: HostRuntime) {
 #[test]
 fn a_gap_lies_below_what_was_seen(rt: HostRuntime) {
     let alloc = rt.alloc();
-    let register = seen_up_to(&rt, alloc, A, &[(1, 2), (5, 5)]);
+    let register = having_seen(&rt, alloc, A, &[(1, 2), (5, 5)]);
     assert!(rt;
         reports(
             alloc,
@@ -227,7 +227,7 @@ fn a_gap_lies_below_what_was_seen(rt: HostRuntime) {
             b"replica,low,high\n00000000-0000-4000-8000-00000000000a,3,4\n"
         )
     );
-    let late = seen_up_to(&rt, alloc, B, &[(3, 3)]);
+    let late = having_seen(&rt, alloc, B, &[(3, 3)]);
     let both = joined(&rt, alloc, register, late);
     let found = gaps(alloc, &both).expect(&rt, "gaps");
     assert_eq!(rt; found.len(), 2);
@@ -242,7 +242,7 @@ fn a_gap_lies_below_what_was_seen(rt: HostRuntime) {
 #[test]
 fn where_all_was_seen_there_is_no_gap(rt: HostRuntime) {
     let alloc = rt.alloc();
-    let whole = seen_up_to(&rt, alloc, A, &[(1, u32::MAX)]);
+    let whole = having_seen(&rt, alloc, A, &[(1, u32::MAX)]);
     let found = gaps(alloc, &whole).expect(&rt, "gaps");
     assert!(rt; found.is_empty());
 }

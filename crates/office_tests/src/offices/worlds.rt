@@ -1,8 +1,8 @@
 //! Offices that send their files to one another, and restart from them.
 
 use super::{
-    A, B, C, HEIGHT, OTHER_HEIGHT, Sample, definition, enter, has_status, id_of, joined, office,
-    register_of, retire, seen_up_to, supersede, take, worked,
+    A, B, C, HEIGHT, OTHER_HEIGHT, Sample, definition, enter, has_status, having_seen, id_of,
+    joined, office, register_of, retire, supersede, take, worked,
 };
 use reg_file::{read_bytes, write_bytes};
 use reg_office::Office;
@@ -187,7 +187,7 @@ fn one_operation_of_a_file_is_taken(rt: HostRuntime) {
 #[test]
 fn a_restart_keeps_the_gap(rt: HostRuntime) {
     let alloc = rt.alloc();
-    let before = office(A, seen_up_to(&rt, alloc, A, &[(1, 2), (5, 5)]));
+    let before = office(A, having_seen(&rt, alloc, A, &[(1, 2), (5, 5)]));
     let mut after = restarted(&rt, alloc, A, &last_file(&rt, alloc, before));
     assert!(rt; !after.register().seen().contains(id_of(&rt, A, 4)));
     assert!(rt; entered(&rt, alloc, &mut after, HEIGHT) == id_of(&rt, A, 6));
