@@ -24,6 +24,7 @@ pub struct FileTarget<'a, R: Files> {
 }
 
 impl<'a, R: Files> FileTarget<'a, R> {
+    /// The target of a path. Nothing is opened yet.
     pub fn new(rt: &'a R, path: &'a str) -> FileTarget<'a, R>
         ensures path { result.path ≡ path.entry }
         ensures closed { ⟦<FileTarget<'a, R> as Sink>⟧.state result ≡ target_of None }

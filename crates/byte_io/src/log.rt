@@ -15,12 +15,14 @@ impl Model for Log {
 }
 
 impl Log {
+    /// No bytes.
     pub fn empty() -> Log
         ensures { result.bytes ≡ [] }
     {
         Log {}
     }
 
+    /// These bytes go by.
     pub fn note(&mut self, _bytes: &[u8])
         ensures { self.new.bytes ≡ self.old.bytes ++ _bytes.now }
     {}

@@ -13,7 +13,9 @@ use std::alloc::Global;
 /// What a source in memory does once its bytes are given.
 #[derive(Clone, Copy, Debug, PartialEq, Eq)]
 pub enum Then {
+    /// It is at its end: each further call gives nothing.
     Ends,
+    /// Each further call fails.
     Fails,
 }
 
@@ -29,6 +31,7 @@ pub struct Pieces<'a> {
 }
 
 impl<'a> Pieces<'a> {
+    /// A source of these bytes. A piece of 0 bytes counts as one of 1.
     pub fn new(rest: &'a [u8], piece: usize, then: Then) -> Pieces<'a>
         ensures left { ⟦<Pieces<'a> as Source>⟧.state result ≡ source_of (Some rest.entry.now) }
         ensures cut { (result.piece ≡ piece) × (result.then ≡ then) }
@@ -80,6 +83,7 @@ pub struct Endless {
 }
 
 impl Endless {
+    /// A source of this byte.
     pub fn new(byte: u8) -> Endless
         ensures left { ⟦<Endless as Source>⟧.state result ≡ source_of None }
         ensures byte { (result.byte ≡ byte) × (result.count ≡ 0) }
@@ -130,7 +134,9 @@ impl Source for Endless {
 /// What a sink in memory does once it is full.
 #[derive(Clone, Copy, Debug, PartialEq, Eq)]
 pub enum Full {
+    /// Each further call takes nothing.
     TakesNone,
+    /// Each further call fails.
     Fails,
 }
 
@@ -147,6 +153,7 @@ pub struct Room {
 }
 
 impl Room {
+    /// An empty sink, of `room` bytes in all.
     pub fn new(alloc: Global, piece: usize, room: usize, full: Full) -> Room
         ensures empty { ⟦<Room as Sink>⟧.state result ≡ sink_of (Some []) }
         ensures cut { (result.piece ≡ piece) × (result.room ≡ room) × (result.full ≡ full) }
@@ -162,6 +169,7 @@ impl Room {
         }
     }
 
+    /// What went out so far.
     pub fn taken(&self) -> &[u8]
         ensures { Some result.now ≡ (⟦<Room as Sink>⟧.state self.now).written }
     {

@@ -22,6 +22,7 @@ pub struct MemoryTarget {
 }
 
 impl MemoryTarget {
+    /// An empty target, which opens if it is told so.
     pub fn new(alloc: Global, opens: bool) -> MemoryTarget
         ensures empty { ⟦<MemoryTarget as Sink>⟧.state result ≡ target_of (Some []) }
         ensures opens { result.opens ≡ opens }
@@ -37,6 +38,7 @@ impl MemoryTarget {
         }
     }
 
+    /// What went out so far.
     pub fn taken(&self) -> &[u8]
         ensures { Some result.now ≡ (⟦<MemoryTarget as Sink>⟧.state self.now).written }
     {

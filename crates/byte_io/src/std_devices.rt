@@ -18,6 +18,7 @@ pub struct Reading<R> {
 }
 
 impl<R: Read> Reading<R> {
+    /// The reader as a source, which has not failed.
     pub fn new(reader: R) -> Reading<R>
         ensures { ⟦<Reading<R> as Source>⟧.state result ≡ source_of (R.remaining reader) }
     {
@@ -29,6 +30,7 @@ impl<R: Read> Reading<R> {
         }
     }
 
+    /// The reader, behind what was read of it.
     pub fn into_inner(self) -> R
         ensures { R.remaining result ≡ (⟦<Reading<R> as Source>⟧.state self).left }
     {
@@ -77,6 +79,7 @@ pub struct Writing<W> {
 }
 
 impl<W: Write> Writing<W> {
+    /// The writer as a sink, which has not failed.
     pub fn new(writer: W) -> Writing<W>
         ensures { ⟦<Writing<W> as Sink>⟧.state result ≡ sink_of (W.contents writer) }
     {
@@ -88,6 +91,7 @@ impl<W: Write> Writing<W> {
         }
     }
 
+    /// The writer, with what was written to it.
     pub fn into_inner(self) -> W
         ensures { W.contents result ≡ (⟦<Writing<W> as Sink>⟧.state self).written }
     {

@@ -15,12 +15,14 @@ impl Model for Tally {
 }
 
 impl Tally {
+    /// It has not happened.
     pub fn none() -> Tally
         ensures { result.count ≡ 0 }
     {
         Tally {}
     }
 
+    /// It has happened once more.
     pub fn after(_before: &Tally) -> Tally
         ensures { result.count ≡ _before.now.count + 1 }
     {

@@ -34,17 +34,20 @@ pub struct Decimal {
 impl Decimal {
     ghost use Rattle.crs_number.specs.declared.decimals.Decimal.{Decimal};
 
+    /// 0 times ten to the 0.
     pub const ZERO: Decimal = Decimal {
         coefficient: 0,
         exponent: 0,
     };
 
+    /// The coefficient, of at most 34 digits.
     pub fn coefficient(&self) -> i128
         ensures { result ≡ self.now.coefficient }
     {
         self.coefficient
     }
 
+    /// The exponent of ten, from -40 to 40.
     pub fn exponent(&self) -> i32
         ensures { result ≡ self.now.exponent }
     {

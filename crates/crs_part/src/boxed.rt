@@ -26,6 +26,7 @@ impl<T: Drop> Drop for Boxed<T> {
 }
 
 impl<T> Boxed<T> {
+    /// The value inside.
     pub fn get(&self) -> &T
         ensures { result.now ≡ self.now }
     {
@@ -34,6 +35,7 @@ impl<T> Boxed<T> {
 }
 
 impl<T: Drop> Boxed<T> {
+    /// Puts a value into memory of its own. Where that is refused, the value is let go of.
     pub fn new(alloc: Global, value: T) -> Result<Boxed<T>, AllocError>
         ensures { IfOk result (λ boxed. boxed ≡ value) }
     {

@@ -15,6 +15,7 @@ use crate::units::{AngleUnit, Unit};
 use crate::usages::Usage;
 use std::alloc::{AllocError, Global};
 
+/// Whether a geodetic reference system is written as `GEODCRS` or as `GEOGCRS`.
 #[derive(Clone, Copy, Debug, PartialEq, Eq)]
 pub enum GeodeticKind {
     Geodetic,

@@ -20,6 +20,7 @@ impl<T> Model for Many<T> {
 }
 
 impl<T> Many<T> {
+    /// No items, and no memory.
     pub fn new(alloc: Global) -> Many<T>
         ensures { result ≡ [] }
     {
@@ -28,12 +29,14 @@ impl<T> Many<T> {
         }
     }
 
+    /// The items of a vector, which are not copied.
     pub fn from_vec(items: Vec<T>) -> Many<T>
         ensures { result ≡ items.items }
     {
         Many { items }
     }
 
+    /// The items, in order.
     pub fn as_slice(&self) -> &[T]
         ensures { result.now ≡ self.now }
     {
@@ -47,6 +50,7 @@ impl<T> Many<T> {
         self.items.reserve(additional)
     }
 
+    /// Adds an item behind the others. Where a growth is refused, the item is given back.
     pub fn push(&mut self, item: T) -> Result<(), AllocFailed<T>>
         ensures ok { OnOk result (self.new ≡ self.old ++ item ∷ []) }
         ensures err { OnErr result (self.new ≡ self.old) }
@@ -57,6 +61,7 @@ impl<T> Many<T> {
 }
 
 impl Many<u8> {
+    /// A copy of some bytes.
     pub fn copied(alloc: Global, bytes: &[u8]) -> Result<Many<u8>, AllocError>
         ensures { IfOk result (λ copy. copy ≡ bytes.now) }
     {

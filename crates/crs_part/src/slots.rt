@@ -12,6 +12,7 @@ use crate::text::Text;
 use crate::units::Unit;
 
 impl GeodeticFrame {
+    /// The ellipsoid of the datum, or of the ensemble.
     pub fn ellipsoid(&self) -> &Ellipsoid
         ensures { result.now ≡ ellipsoid_of self.now }
     {
@@ -23,6 +24,7 @@ impl GeodeticFrame {
 }
 
 impl Single {
+    /// The coordinate system: its kind and its dimension.
     pub fn system(&self) -> &CoordSystem
         ensures { result.now ≡ system_of self.now }
     {
@@ -33,6 +35,7 @@ impl Single {
         }
     }
 
+    /// The axes of the coordinate system, in order.
     pub fn axes(&self) -> &NonEmpty<Axis>
         ensures { items_of result.now ≡ axes_of self.now }
     {
@@ -56,6 +59,7 @@ impl Single {
 }
 
 impl CrsParts {
+    /// The name of the whole.
     pub fn name(&self) -> &Text
         ensures { result.now ≡ name_of self.now }
     {

@@ -11,6 +11,7 @@ use crate::units::{AngleUnit, Unit};
 use crs_number::Decimal;
 use std::alloc::{AllocError, Global};
 
+/// The kinds of coordinate systems.
 #[derive(Clone, Copy, Debug, PartialEq, Eq)]
 pub enum SystemKind {
     Ellipsoidal,

@@ -20,6 +20,7 @@ pub struct Text {
 impl Text {
     ghost use Rattle.crs_part.specs.declared.text.Text.{Text};
 
+    /// The bytes, which are UTF-8.
     pub fn as_bytes(&self) -> &[u8]
         ensures { result.now ≡ self.now.bytes }
     {
@@ -37,6 +38,7 @@ impl Text {
         Some(Text { bytes })
     }
 
+    /// A copy of some characters.
     pub fn copied(alloc: Global, text: &str) -> Result<Text, AllocError>
         ensures { IfOk result (λ copy. copy.bytes ≡ text.now) }
     {

@@ -8,6 +8,7 @@ pub enum Whose {
     Whole,
 }
 
+/// A condition that the parts of a reference system meet. `docs/FORMATS.md` tells them in full.
 #[derive(Clone, Copy, Debug, PartialEq, Eq)]
 pub enum Condition {
     /// As many axes as the dimension.
@@ -31,6 +32,7 @@ pub enum Condition {
 impl Condition {
     ghost use Rattle.crs_value.specs.Checking.{name_of};
 
+    /// How a fault prints it.
     pub fn name(self) -> &'static str
         ensures { result.now ≡ name_of self }
     {

@@ -42,18 +42,21 @@ impl Crs {
         }
     }
 
+    /// The parts, of which all conditions hold.
     pub fn parts(&self) -> &CrsParts
         ensures { result.now ≡ self.now.parts }
     {
         &self.parts
     }
 
+    /// The name of the reference system, of a compound that of the whole.
     pub fn name(&self) -> &Text
         ensures { result.now ≡ name_of self.now.parts }
     {
         self.parts.name()
     }
 
+    /// A copy in memory of its own.
     pub fn try_clone(&self, alloc: Global) -> Result<Crs, AllocError>
         ensures { IfOk result (λ copy. copy ≡ self.now) }
     {

@@ -22,9 +22,8 @@ use Rattle.reg_engine.specs.declared.fault.Refusal.TheVariants as refusal
 use Rattle.reg_engine.specs.declared.fault.CliFault.{CliFault}
 use Rattle.reg_engine.specs.declared.fault.CliFault.TheVariants as cli
 use Rattle.reg_engine.specs.Fault.{office_fault, text_fault}
-use Rattle.reg_engine.specs.Inputs.{NeverFails}
 use Rattle.reg_engine.specs.Outputs.{Outputs, GivesOut, IsUngiven}
-use Rattle.reg_engine.specs.Change.{Desk, IsRefused, IsChanged, IsChangeFault, EntryDesk, ReadsBoth, ReadsDefinition, IsEntered, IsUndefined, IsEnterFault}
+use Rattle.reg_engine.specs.Change.{Desk, IsRefused, IsChangeFault, EntryDesk, ReadsBoth, ReadsDefinition, IsUndefined, IsEnterFault}
 use Rattle.reg_engine.proofs.InputLemmas.{found_gives}
 
 -- the same of equal contents and equal replicas

@@ -1,6 +1,6 @@
 -- Commands that an office is given on a register's file: what came in, and what went out.
 use Rattle.std.specs.Prelude.{◌≡◌, ◌<◌, ◌⊎◌, [], ◌∷◌, ℕ, List, length, Err}
-use Rattle.byte_io.specs.Device.{SourceState, SinkState}
+use Rattle.byte_io.specs.Device.{SourceState}
 use Rattle.crs_value.specs.declared.crs.Crs.{Crs}
 use Rattle.wkt_crs.specs.declared.fault.ReadFault.{ReadFault}
 use Rattle.wkt_crs.specs.declared.fault.ReadFault.TheVariants as read
@@ -13,10 +13,8 @@ use Rattle.reg_op.specs.declared.operation.OpBody.{OpBody as Body}
 use Rattle.reg_op.specs.declared.operation.OpBody.TheVariants.{Enter}
 use Rattle.reg_file.specs.Files.{Finds}
 use Rattle.reg_office.specs.declared.fault.OfficeFault.{OfficeFault}
-use Rattle.reg_office.specs.declared.fault.OfficeFault.TheVariants as office
 use Rattle.reg_office.specs.Making.{made}
 use Rattle.reg_office.specs.Commands.{Does}
-use Rattle.reg_engine.specs.declared.fault.InputFault.{InputFault}
 use Rattle.reg_engine.specs.declared.fault.InputFault.TheVariants as file
 use Rattle.reg_engine.specs.declared.fault.Refusal.{Refusal}
 use Rattle.reg_engine.specs.declared.fault.Refusal.TheVariants as refusal

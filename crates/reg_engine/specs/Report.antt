@@ -1,6 +1,5 @@
 -- Reports on a register's file: what came in, and what went out.
 use Rattle.std.specs.Prelude.{◌≡◌, true, false, ℕ, List}
-use Rattle.byte_io.specs.Whole.{WritesAll, IsCutAt}
 use Rattle.reg_op.specs.Set as set
 use Rattle.reg_op.specs.Ids.{Id}
 use Rattle.reg_op.specs.Kept.{entering}

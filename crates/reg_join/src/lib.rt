@@ -9,10 +9,13 @@ use std::alloc::{AllocError, Global};
 /// Why a join is refused.
 #[derive(Clone, Copy, Debug, PartialEq, Eq, Drop)]
 pub enum JoinFault<C> {
+    /// Two values that do not agree, and what they do not agree on.
     Clash(C),
+    /// A growth was refused.
     Memory,
 }
 
+/// A type whose values can be joined, if they agree.
 pub trait Join: Sized + Drop {
     /// What a refusal names.
     type Clash: Drop;

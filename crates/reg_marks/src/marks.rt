@@ -35,6 +35,7 @@ impl Model for Marks {
 }
 
 impl Marks {
+    /// No marks, and no memory.
     pub fn new(alloc: Global) -> Marks
         ensures { result ≡ set.empty }
     {
@@ -76,6 +77,7 @@ impl Marks {
         }
     }
 
+    /// A copy in memory of its own.
     pub fn try_clone(&self, alloc: Global) -> Result<Marks, AllocError>
         ensures { IfOk result (λ copy. copy ≡ self.now) }
     {

@@ -28,6 +28,7 @@ pub struct Office {
 }
 
 impl Office {
+    /// The replica of this UUID at work on a register.
     pub fn new(replica: Uuid, register: Register) -> Office
         ensures replica { result.replica ≡ replica }
         ensures register { result.register ≡ register }
@@ -35,12 +36,14 @@ impl Office {
         Office { replica, register }
     }
 
+    /// The register as it is now.
     pub fn register(&self) -> &Register
         ensures { result.now ≡ self.now.register }
     {
         &self.register
     }
 
+    /// Gives the register back.
     pub fn into_register(self) -> Register
         ensures { result ≡ self.register }
     {

@@ -43,6 +43,7 @@ impl OpId {
         Some(OpId { replica, count })
     }
 
+    /// The UUID of the replica that made the operation (RFC 9562).
     pub fn replica(&self) -> Uuid
         ensures value { result ≡ self.now.replica }
         ensures id { IsId self.now }
@@ -50,6 +51,7 @@ impl OpId {
         self.replica
     }
 
+    /// Which of its operations it is, from 1.
     pub fn count(&self) -> u32
         ensures value { result ≡ self.now.count }
         ensures id { IsId self.now }
@@ -106,6 +108,7 @@ impl OpId {
         self.cmp(other).is_lt()
     }
 
+    /// Whether they are one id.
     pub fn is_same(&self, other: &OpId) -> bool
         ensures { result ≡ is_eq (id_cmp self.now other.now) }
     {

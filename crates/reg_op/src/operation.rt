@@ -40,6 +40,7 @@ impl Model for Op {
 }
 
 impl Op {
+    /// An operation of this id, unless it would supersede an entry by itself.
     pub fn new(id: OpId, body: OpBody) -> Result<Op, SameEntry>
         ensures ok { IfOk result (λ op. op ≡ record { id = id; body = body }) }
         ensures same { IsErr result ↔ IsOfItself body }
@@ -51,6 +52,7 @@ impl Op {
         Ok(Op { id, body })
     }
 
+    /// The id, which no other operation has.
     pub fn id(&self) -> OpId
         ensures value { result ≡ self.now.id }
         ensures operation { IsOperation self.now }
@@ -58,6 +60,7 @@ impl Op {
         self.id
     }
 
+    /// What the operation does.
     pub fn body(&self) -> &OpBody
         ensures { result.now ≡ self.now.body }
     {
@@ -73,7 +76,7 @@ impl Op {
         (id, body)
     }
 
-    /// The same. A definition's text is shared.
+    /// A copy, which shares its definition.
     pub fn try_clone(&self, alloc: Global) -> Result<Op, AllocError>
         ensures { IfOk result (λ copy. copy ≡ self.now) }
     {
@@ -145,7 +148,7 @@ impl OpBody {
         }
     }
 
-    /// The same. A definition's text is shared.
+    /// A copy, which shares its definition.
     pub fn try_clone(&self, alloc: Global) -> Result<OpBody, AllocError>
         ensures { IfOk result (λ copy. copy ≡ self.now) }
     {

@@ -35,6 +35,7 @@ impl Model for Seen {
 }
 
 impl Seen {
+    /// Nothing is seen.
     pub fn new(alloc: Global) -> Seen
         ensures { result ≡ set.empty }
     {
@@ -43,6 +44,7 @@ impl Seen {
         }
     }
 
+    /// Whether the id was seen.
     pub fn contains(&self, id: OpId) -> bool
         ensures value { result ≡ set.contains self.now id }
         ensures ids { AllIds self.now }
@@ -103,6 +105,7 @@ impl Seen {
         Ok(())
     }
 
+    /// A copy in memory of its own.
     pub fn try_clone(&self, alloc: Global) -> Result<Seen, AllocError>
         ensures { IfOk result (λ copy. copy ≡ self.now) }
     {

@@ -63,6 +63,7 @@ impl Model for Register {
 }
 
 impl Register {
+    /// The register that has taken nothing.
     pub fn new(alloc: Global) -> Register
         ensures { result ≡ nothing }
     {
@@ -160,7 +161,7 @@ impl Register {
         }
     }
 
-    /// The same. Definitions are shared.
+    /// A copy, which shares its definitions.
     pub fn try_clone(&self, alloc: Global) -> Result<Register, AllocError>
         ensures { IfOk result (λ copy. copy ≡ self.now) }
     {

@@ -33,6 +33,7 @@ impl SlotFault {
         }
     }
 
+    /// How it is printed.
     pub fn name(self) -> &'static str
         ensures { result.now ≡ fault_name self }
     {

@@ -1,5 +1,4 @@
-use Rattle.std.proofs.Common.{◌≡◌, ◌++◌, ◌∷◌, [], drop}
-use Rattle.reg_op.specs.Text.{printed}
+use Rattle.std.proofs.Common.{◌≡◌, ◌++◌, drop}
 use Rattle.reg_engine.specs.Outputs.{id_lines}
 use Rattle.reg_engine.proofs.outputs.id_lines.Given as goal
 
