@@ -61,25 +61,25 @@ const NONE: Counts = Counts {
 
 // What the words ask for.
 #[derive(Clone, Copy)]
-struct Asked<'a> {
+struct Task<'a> {
     file: &'a str,
     times: u32,
     work: Work,
 }
 
-fn asked(words: &[String]) -> Option<Asked<'_>> {
+fn asked(words: &[String]) -> Option<Task<'_>> {
     let file = words.get(1)?.as_str();
     let times = words.get(2)?.as_str().parse::<u32>().ok()?;
     let work = match words.get(3) {
         Some(word) => Work::of_word(word.as_str())?,
         None => Work::Canonical,
     };
-    Some(Asked { file, times, work })
+    Some(Task { file, times, work })
 }
 
 fn main(rt: HostRuntime) -> io::Result<()> {
     let words: Vec<String> = env::args(&rt)?.collect(rt.alloc())?;
-    let Some(Asked { file, times, work }) = asked(&words) else {
+    let Some(Task { file, times, work }) = asked(&words) else {
         return println!(rt; "wkt_bench FILE TIMES [scan|slots|read|write|canonical|pretty|define]");
     };
     let file = fs::read(&rt, file)?;
