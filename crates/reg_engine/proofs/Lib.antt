@@ -2,3 +2,4 @@ mod ChangeLemmas
 mod ExportLemmas
 mod InputLemmas
 mod MergeLemmas
+mod ReportLemmas

@@ -1,8 +1,6 @@
 -- Reports on a register's file: what came in, and what went out.
 use Rattle.std.specs.Prelude.{◌≡◌, true, false, ℕ, List}
-use Rattle.reg_op.specs.Set as set
 use Rattle.reg_op.specs.Ids.{Id}
-use Rattle.reg_op.specs.Kept.{entering}
 use Rattle.reg_op.specs.Contents.{Content}
 use Rattle.reg_op.specs.Status.{enters}
 use Rattle.reg_file.specs.Files.{Finds}
@@ -29,13 +27,9 @@ IsUnreported IsText old new cli.Memory = NeverFails old.source new.source × (ne
 
 -- ---- one entry
 
--- some operation of the content enters it
-abbrev pub HasEntry : Content → Id → Type 0
-HasEntry x entry = (definition : List ℕ) × (set.contains x.ops (entering entry definition) ≡ true)
-
--- the content has the entry, and the text is the header and the entry's one line
+-- some operation of the content enters it, and the text is the header and the entry's one line
 abbrev pub IsRowOf : Id → Content → List ℕ → Type 0
-IsRowOf entry x text = HasEntry x entry × IsEntryReport entry x text
+IsRowOf entry x text = (enters x.ops entry ≡ true) × IsEntryReport entry x text
 
 abbrev pub IsRowReported : Id → Devices → Devices → Type 0
 IsRowReported entry old new = IsReported (IsRowOf entry) old new
