@@ -27,7 +27,7 @@ IsUnreported IsText old new cli.Memory = NeverFails old.source new.source × (ne
 
 -- ---- one entry
 
--- some operation of the content enters it, and the text is the header and the entry's one line
+-- some operation of the content enters the entry, and the text is the header and the entry's one line
 abbrev pub IsRowOf : Id → Content → List ℕ → Type 0
 IsRowOf entry x text = (enters x.ops entry ≡ true) × IsEntryReport entry x text
 
