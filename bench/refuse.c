@@ -1,4 +1,4 @@
-/* Refuses one growth of a program: the one whose number the variable REFUSE gives, counted from 1. It then makes the
+/* Makes one allocation of a program fail: the one whose number the variable REFUSE gives, counted from 1. It then makes the
    file that REFUSED names. Built as a library that is loaded before the program's own: see refused_growths. */
 #define _GNU_SOURCE
 #include <dlfcn.h>

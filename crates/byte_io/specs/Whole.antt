@@ -6,7 +6,7 @@ use Rattle.byte_io.specs.Device.{SourceState, SinkState}
 use Rattle.byte_io.specs.declared.fault.InFault.{InFault}
 use Rattle.byte_io.specs.declared.fault.InFault.TheVariants as fault
 
--- the source gave just these bytes, the front of what it tells: `most` of them, or fewer at its end
+-- the source gave just these bytes, the front of what is known of it: `most` of them, or fewer at its end
 pub record ReadsUpTo (most : ℕ) (old new : SourceState) (bytes : List ℕ) : Type 0 where
   pub given : new.given ≡ old.given ++ bytes
   pub front : Consumes old.left new.left bytes
@@ -51,7 +51,7 @@ pub record IsCutAt (n : ℕ) (bytes : List ℕ) (old new : SinkState) : Type 0 w
   pub cause : FailedOrTookNone old new
   pub openings : new.openings ≡ old.openings
 
--- what one read behind the bytes that are there gives
+-- what one read after the bytes that are there gives
 abbrev pub IsChunk : ℕ → List ℕ → List ℕ → SourceState → SourceState → Result ℕ InFault → Type 0
 IsChunk room before after old new (Ok n) = (bytes : List ℕ) × (after ≡ before ++ bytes) × (length bytes ≡ n) × (n ≤ room)
     × (new.given ≡ old.given ++ bytes) × Consumes old.left new.left bytes × (new.failures ≡ old.failures)

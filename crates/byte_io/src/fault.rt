@@ -1,3 +1,5 @@
+//! Why a device, a read or a write failed.
+
 ghost use Rattle.std.specs.Prelude.{◌≡◌};
 ghost use Rattle.byte_io.specs.declared.fault.InFault.TheVariants.{Memory};
 

@@ -1,3 +1,5 @@
+//! A target that is the file of a path.
+
 ghost use Rattle.std.specs.Prelude.{◌≡◌, ◌<◌, None, IsSome};
 ghost use Rattle.byte_io.specs.Device.{target_of};
 
@@ -10,7 +12,7 @@ use std::fs;
 use std::io::Write;
 use std::rt::Files;
 
-/// The file of a path, which opening makes anew. What it takes goes to the system, which tells nothing.
+/// The file of a path, which opening makes anew. What it takes goes to the system, of which no contract speaks.
 #[derive(Drop)]
 pub struct FileTarget<'a, R: Files> {
     rt: &'a R,

@@ -1,4 +1,4 @@
-//! Devices in memory, for tests: they cut what goes through them into pieces, and fail where they are told to.
+//! Devices in memory, for tests: they cut what goes through them into pieces, and fail where they are set to.
 ghost use Rattle.std.specs.Prelude.{◌≡◌, ◌<◌, ◌≤◌, [], Some, None, Ok, IfOk, length};
 ghost use Rattle.std.specs.Io.KnownBytes.{ReadConsumes};
 ghost use Rattle.byte_io.specs.Device.{CountsFailure, CountsNone, Moves, source_of, sink_of};

@@ -1,3 +1,5 @@
+//! A target in memory, for tests.
+
 ghost use Rattle.std.specs.Prelude.{◌≡◌, ◌<◌, [], Some, IsTrue};
 ghost use Rattle.byte_io.specs.Device.{target_of};
 
@@ -8,7 +10,7 @@ use crate::tally::Tally;
 use crate::target::Target;
 use std::alloc::Global;
 
-/// A target in memory, which can be told that it will not open.
+/// A target in memory, which can be set not to open.
 #[derive(Drop)]
 pub struct MemoryTarget {
     held: Vec<u8>,
@@ -22,7 +24,7 @@ pub struct MemoryTarget {
 }
 
 impl MemoryTarget {
-    /// An empty target, which opens if it is told so.
+    /// An empty target, which opens if `opens`.
     pub fn new(alloc: Global, opens: bool) -> MemoryTarget
         ensures empty { ⟦<MemoryTarget as Sink>⟧.state result ≡ target_of (Some []) }
         ensures opens { result.opens ≡ opens }

@@ -1,3 +1,5 @@
+//! Reads of a whole source, or of its first bytes.
+
 ghost use Rattle.std.specs.Prelude.{◌<◌, IfOk, IfErr};
 ghost use Rattle.byte_io.specs.Whole.{ReadsUpTo, IsInFault, IsChunk};
 
@@ -5,10 +7,10 @@ use crate::fault::InFault;
 use crate::source::Source;
 use std::alloc::Global;
 
-/// How many bytes are asked for at once.
+/// How many bytes are read at once.
 const CHUNK: usize = 16_384;
 
-/// Reads once, at most `room` bytes, behind those that are there, by way of the chunk. It gives none only at the end.
+/// Reads once, at most `room` bytes, by way of the chunk, and appends them. It gives none only at the end.
 fn read_chunk<S: Source>(
     source: &mut S,
     chunk: &mut [u8; CHUNK],

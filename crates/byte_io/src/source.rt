@@ -1,3 +1,5 @@
+//! What bytes come from.
+
 ghost use Rattle.std.specs.Prelude.{◌≤◌, IfOk, length};
 ghost use Rattle.std.specs.Io.KnownBytes.{ReadConsumes};
 ghost use Rattle.byte_io.specs.Device.{SourceState, CountsFailure, CountsNone, Moves};
@@ -6,7 +8,7 @@ use crate::fault::DeviceFault;
 
 /// Gives bytes, some at a time. At `Ok(0)`, with room for a byte, it is at its end.
 pub trait Source {
-    /// The bytes that it will give, where it tells them, those that it gave, and its counts.
+    /// The bytes that it will give, where they are known, those that it gave, and its counts.
     ghost state: { Self → SourceState };
 
     fn read_some(&mut self, buf: &mut [u8]) -> Result<usize, DeviceFault>

@@ -1,3 +1,5 @@
+//! std's readers and writers, as sources and sinks.
+
 ghost use Rattle.std.specs.Prelude.{◌≡◌};
 ghost use Rattle.byte_io.specs.Device.{source_of, sink_of};
 
@@ -30,7 +32,7 @@ impl<R: Read> Reading<R> {
         }
     }
 
-    /// The reader, behind what was read of it.
+    /// The reader, after what was read of it.
     pub fn into_inner(self) -> R
         ensures { R.remaining result ≡ (⟦<Reading<R> as Source>⟧.state self).left }
     {

@@ -1,3 +1,5 @@
+//! Sinks that are opened first, and what is published to them.
+
 ghost use Rattle.std.specs.Prelude.{OnOk, IfErr};
 ghost use Rattle.byte_io.specs.Device.{Opens};
 ghost use Rattle.byte_io.specs.Publish.{Publishes, IsPublishFault};

@@ -1,3 +1,5 @@
+//! Writes of all bytes to a sink.
+
 ghost use Rattle.std.specs.Prelude.{OnOk, IfErr};
 ghost use Rattle.byte_io.specs.Whole.{WritesAll, IsCutAt};
 

@@ -1,3 +1,5 @@
+//! Tests of command lines, by their exit statuses.
+
 use reg_cli::answer;
 use std::test::Fail;
 

@@ -92,7 +92,7 @@ count_at_to (negsuc m) (negsuc k) n h small = absurd (omega (arith, ints, h))
 
 -- ---- the normal form of a count
 
--- n is a number that is no multiple of ten with fewer than m zeros behind it
+-- n is a number that is no multiple of ten with fewer than m zeros after it
 pub record Tenless (m n : ℕ) : Type 0 where
   pub front : ℕ
   pub zeros : ℕ
@@ -127,7 +127,7 @@ none_from (pos (suc m)) (pos k) h = let s = mul-pos {m = suc m} {n = 10 ^ k} (om
 none_from (negsuc m) (pos k) h = absurd (not_negative m k 0 h)
 none_from z (negsuc k) h = h ∙ ap pos (zero-mul (10 ^ suc k))
 
--- a number with this many zeros behind it is a multiple of a lower power of ten
+-- a number with this many zeros after it is a multiple of a lower power of ten
 pub record Split (m front many power : ℕ) : Type 0 where
   pub others : ℕ
   pub sum : many ≡ power + others

@@ -1,7 +1,7 @@
 -- A push that found no room for a part leaves none for the whole.
 use Rattle.std.proofs.Common.{◌≡◌, ℕ, ◌+◌, ◌<◌, ◌≤◌, List, ◌++◌, length, Vec, vec_len, ap, arith, length-append}
 
--- how long a vector is behind more bytes
+-- how long a vector is after more bytes
 pub longer : {Z : Type 0} (old new : Vec ℕ Z) (text : List ℕ) → new.items ≡ old.items ++ text → vec_len new ≡ vec_len old + length text
 longer old new text e = omega (arith, old.ok.0, new.ok.0, ap length e, length-append old.items text)
 
@@ -9,6 +9,6 @@ longer old new text e = omega (arith, old.ok.0, new.ok.0, ap length e, length-ap
 pub no_room : (cap len part rest whole : ℕ) → whole ≡ part + rest → cap < len + part → cap < len + whole
 no_room cap len part rest whole e h = omega arith
 
--- no room for the second part behind the first
+-- no room for the second part after the first
 pub no_room_behind : (cap cap' len len' first second whole : ℕ) → whole ≡ first + second → cap ≤ cap' → len' ≡ len + first → cap' < len' + second → cap < len + whole
 no_room_behind cap cap' len len' first second whole e grows moved h = omega arith

@@ -10,7 +10,7 @@ use Rattle.crs_number.specs.Value.{IsWhole, places, units}
 use Rattle.crs_number.specs.Numeral.{signed}
 use Rattle.crs_number.specs.Laws.{power_pos, sign_size, signed_times, ends_in_zero, not_zero, reduced_once}
 
--- no count is below zero, or has digits behind the period
+-- no count is below zero, or has digits after the period
 pub no_count : (c e : ℤ) (n : ℕ) → (unsigned_abs c % 10 ≡ 0 → (c ≡ pos 0) × (e ≡ pos 0)) → (c <ℤ pos 0) ⊎ (e <ℤ pos 0) → IsWhole c e (pos n) → ⊥
 no_count (pos a) (pos k) n tenless bad h = ⊎_elim (λ l. omega (arith, ints, l)) (λ l. omega (arith, ints, l)) bad
 no_count (negsuc a) (pos k) n tenless bad h = let m = mul-pos {m = suc a} {n = 10 ^ k} (omega arith) (power_pos k) in omega (arith, ints, h, m)

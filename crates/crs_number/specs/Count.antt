@@ -35,7 +35,7 @@ digits_in text = take (prefix_len is_ascii_digit text) text
 abbrev pub behind_digits : List ℕ → List ℕ
 behind_digits text = drop (prefix_len is_ascii_digit text) text
 
--- the digits behind a period
+-- the digits after a period
 abbrev pub fraction_in : List ℕ → List ℕ
 fraction_in [] = []
 fraction_in (c ∷ text) = if is_period c then digits_in text else []
@@ -52,7 +52,7 @@ is_power (c ∷ text) =
     && (nat_lt 0 (length (digits_in (behind_sign text)))
     && length (behind_digits (behind_sign text)) == 0)
 
--- what stands behind the period and its digits
+-- what follows the period and its digits
 abbrev pub power_in : List ℕ → List ℕ
 power_in text = behind_fraction (behind_digits (behind_sign text))
 

@@ -2,7 +2,7 @@
 use Rattle.std.specs.Prelude.{◌≡◌, ℕ, ◌+◌, ◌^◌, ◌<◌, ◌≤◌, ◌%◌, Bool, true, false, ◌⊎◌, List, [], ◌∷◌, ◌++◌, length, ℤ, pos, negsuc, neg_ℤ, ◌*ℤ◌, ◌+ℤ◌, ◌-ℤ◌, ◌≤ℤ◌, unsigned_abs}
 use Rattle.std.specs.Str.Parse.{AllDigits, IsNumeral, digits_value}
 
--- a sign, the digits before and behind the period, the sign and the digits of the exponent
+-- a sign, the digits before and after the period, the sign and the digits of the exponent
 pub record Parts : Type 0 where
   pub negative : Bool
   pub whole : List ℕ

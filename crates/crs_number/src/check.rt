@@ -1,3 +1,5 @@
+//! Whether a text spells a decimal, without the decimal.
+
 ghost use Rattle.std.specs.Prelude.{◌≡◌, ◌+◌, ◌≤◌, ◌↔◌, length, IsOk, IsTrue, IsErrOf, []};
 ghost use Rattle.crs_number.specs.declared.decimals.Decimal.{Decimal};
 ghost use Rattle.crs_number.specs.Numeral.{HasForm, Spells};

@@ -1,3 +1,5 @@
+//! Counts: whole numbers of 32 bits, as texts spell them.
+
 ghost use Rattle.std.specs.Prelude.{◌≡◌, ℕ, ◌^◌, ◌<◌, ◌≤◌, List, length, true, decimal, IsTrue};
 ghost use Rattle.std.specs.Str.Parse.{AllDigits};
 ghost use Rattle.crs_number.specs.Count.{SpellsWhole, IsCount, is_count};

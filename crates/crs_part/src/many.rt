@@ -50,7 +50,7 @@ impl<T> Many<T> {
         self.items.reserve(additional)
     }
 
-    /// Adds an item behind the others. Where a growth is refused, the item is given back.
+    /// Appends an item. Where the allocation fails, the item is given back.
     pub fn push(&mut self, item: T) -> Result<(), AllocFailed<T>>
         ensures ok { OnOk result (self.new ≡ self.old ++ item ∷ []) }
         ensures err { OnErr result (self.new ≡ self.old) }

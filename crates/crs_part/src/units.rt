@@ -25,14 +25,14 @@ pub enum Unit {
     Generic(UnitDefinition),
 }
 
-/// A unit of length. `Generic` is the unit that does not tell its kind.
+/// A unit of length. `Generic` is the unit of no kind, `UNIT`.
 #[derive(Drop)]
 pub enum LengthUnit {
     Length(UnitDefinition),
     Generic(UnitDefinition),
 }
 
-/// A unit of angle. `Generic` is the unit that does not tell its kind.
+/// A unit of angle. `Generic` is the unit of no kind, `UNIT`.
 #[derive(Drop)]
 pub enum AngleUnit {
     Angle(UnitDefinition),

@@ -13,7 +13,7 @@ use Rattle.crs_value.specs.declared.broken.Whose.{Whose}
 use Rattle.crs_value.specs.declared.broken.Whose.TheVariants.{First, Second, Whole}
 use Rattle.crs_value.specs.declared.broken.Broken.{Broken}
 
--- the name of a condition, as texts tell it
+-- the name of a condition, as it is printed
 abbrev pub name_of : Condition → List ℕ
 name_of C1 = codes "C1"
 name_of C2 = codes "C2"

@@ -51,7 +51,7 @@ fn is_in_order(axes: &NonEmpty<Axis>) -> bool
     is_order(0, &axes.first.order) && are_in_order(axes.others.as_slice())
 }
 
-/// Whether the axes behind the first have orders, from 2.
+/// Whether the axes after the first have orders, from 2.
 fn are_in_order(others: &[Axis]) -> bool
     ensures { result ≡ list_all (λ p. is_order p.0 p.1.order) (enumerate_from 1 others.now) }
 {
@@ -79,7 +79,7 @@ pub(crate) fn units_fit(system: SystemKind, axes: &NonEmpty<Axis>, common: &Opti
     axis_fits(system, common, 0, &axes.first) && others_fit(system, axes.others.as_slice(), common)
 }
 
-/// Whether units fit the axes behind the first.
+/// Whether units fit the axes after the first.
 fn others_fit(system: SystemKind, others: &[Axis], common: &Option<Unit>) -> bool
     ensures { result ≡ list_all (λ p. axis_fits system common.now p.0 p.1) (enumerate_from 1 others.now) }
 {

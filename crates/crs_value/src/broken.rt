@@ -1,3 +1,5 @@
+//! The conditions, and of which system one fails.
+
 ghost use Rattle.std.specs.Prelude.{◌≡◌};
 
 /// Which reference system a condition is about: a component of a compound, or the whole.
@@ -8,7 +10,7 @@ pub enum Whose {
     Whole,
 }
 
-/// A condition that the parts of a reference system meet. `docs/FORMATS.md` tells them in full.
+/// A condition that the parts of a reference system meet. `docs/FORMATS.md` has them in full.
 #[derive(Clone, Copy, Debug, PartialEq, Eq)]
 pub enum Condition {
     /// As many axes as the dimension.

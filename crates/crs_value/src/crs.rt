@@ -1,3 +1,5 @@
+//! Coordinate reference systems: parts that meet all conditions.
+
 ghost use Rattle.std.specs.Prelude.{◌≡◌, ◌↔◌, Some, IfOk, IsOk, IsTrue};
 ghost use Rattle.crs_part.specs.Slots.{name_of};
 ghost use Rattle.crs_value.specs.Checking.{HasConditions, first_broken};
@@ -13,7 +15,7 @@ pub struct Crs {
     pub ghost conditions: { HasConditions parts },
 }
 
-// By hand, as the prover else goes through all forms of the parts wherever a reference system is let go.
+// By hand, as the prover else goes through all forms of the parts wherever a reference system is dropped.
 impl Drop for Crs {
     fn drop(self) {
         let Crs { parts } = self;

@@ -1,3 +1,5 @@
+//! Keys: an authority and a code.
+
 ghost use Rattle.std.specs.Prelude.{◌≡◌, ◌↔◌, IfOk, IsTrue};
 ghost use Rattle.crs_part.specs.Slots.{ids_of};
 ghost use Rattle.crs_value.specs.Keys.{text_of, IsKeyOf, IsFirstKey};
@@ -6,7 +8,7 @@ use crate::crs::Crs;
 use crs_part::{Ident, NumberOrText, Same, Text, TryClone};
 use std::alloc::{AllocError, Global};
 
-/// What reference systems are told apart by: an authority, and a code in its list.
+/// What identifies a reference system: an authority, and a code in its list.
 #[derive(Drop)]
 pub struct Key {
     pub authority: Text,

@@ -40,7 +40,7 @@ gives_of x y is js old new e f h = subst (λ k. GivesOut k js old new) e (subst 
 pub ungiven_of : (x y : Content) (is js : List Id) (old new : Outputs) (f : CliFault) → x ≡ y → is ≡ js → IsUngiven x is old new f → IsUngiven y js old new f
 ungiven_of x y is js old new f e g h = subst (λ k. IsUngiven k js old new f) e (subst (λ k. IsUngiven x k old new f) g h)
 
--- a fault of the office but want of memory is a refusal for what the command would make
+-- a fault of the office but `Memory` is a refusal for what the command would make
 refused_for : (x : Content) (replica : List ℕ) (bodies : List Body) (f : OfficeFault) (r : Refusal) → office_fault f ≡ cli.Refused r
     → (made x replica bodies ≡ Err f) ⊎ (f ≡ office.Memory) → IsRefused x replica bodies r
 refused_for x replica bodies f r is (inl e) = (f, e, is)

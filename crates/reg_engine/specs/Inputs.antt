@@ -39,7 +39,7 @@ HoldAll (o ∷ os) [] xs = ⊥
 HoldAll (o ∷ os) (n ∷ ns) [] = ⊥
 HoldAll (o ∷ os) (n ∷ ns) (x ∷ xs) = Finds o n x × HoldAll os ns xs
 
--- the one of this number, from 1, has the fault; each before it gave the file of a content, and those behind it gave nothing
+-- the one of this number, from 1, has the fault; each before it gave the file of a content, and those after it gave nothing
 abbrev pub StopsAt : ℕ → InputFault → List SourceState → List SourceState → Type 0
 StopsAt zero f old new = ⊥
 StopsAt (suc k) f [] new = ⊥

@@ -24,7 +24,7 @@ IsOutFault x old new out.TooLarge = IsTooLarge x × (new ≡ old)
 IsOutFault x old new out.NotOpened = (bytes : List ℕ) × Holds bytes x × IsPublishFault bytes old new publish.NotOpened
 IsOutFault x old new (out.WriteFailed n) = (bytes : List ℕ) × Holds bytes x × IsPublishFault bytes old new (publish.WriteFailed n)
 
--- what a command did to its target, by its fault; for want of memory nothing was opened
+-- what a command did to its target, by its fault; out of memory, nothing was opened
 abbrev pub IsUnpublished : Content → SinkState → SinkState → CliFault → Type 0
 IsUnpublished x old new (cli.Refused r) = ⊥
 IsUnpublished x old new (cli.File k f) = ⊥

@@ -90,7 +90,7 @@ fn defined(alloc: Global, crs: Crs) -> Result<Definition, CliFault>
 {
     match Definition::new(alloc, crs) {
         Ok(definition) => {
-            // Its text tells that it is one.
+            // By its text it is one.
             let _text = definition.as_bytes();
             Ok(definition)
         }

@@ -1,3 +1,5 @@
+//! The command `check`.
+
 ghost use Rattle.std.specs.Prelude.{◌≡◌, IfOk, OnOk, IfErr};
 ghost use Rattle.reg_engine.specs.Check.{IsPrinted, IsCheckFault, line_of};
 ghost use Rattle.reg_engine.specs.Devices.{devices};

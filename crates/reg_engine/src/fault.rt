@@ -1,3 +1,5 @@
+//! What an engine reports: the fault, how it prints, and its exit status.
+
 ghost use Rattle.std.specs.Prelude.{◌≡◌};
 ghost use Rattle.reg_engine.specs.Fault.{status_of, text_fault, register_fault, office_fault};
 

@@ -1,3 +1,5 @@
+//! The commands `new` and `merge`.
+
 ghost use Rattle.std.specs.Prelude.{◌≢◌, map, Err, OnOk, IfErr};
 ghost use Rattle.reg_op.specs.Contents.{nothing};
 ghost use Rattle.reg_engine.specs.Outputs.{PublishesFile, IsUnpublished};

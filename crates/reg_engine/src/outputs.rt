@@ -1,4 +1,4 @@
-//! Registers, written to targets, and ids, printed behind them.
+//! Registers, written to targets, and the ids that are printed then.
 
 ghost use Rattle.std.specs.Prelude.{◌≡◌, ◌++◌, ◌∷◌, [], IfOk, OnOk, IfErr};
 ghost use Rattle.reg_op.specs.Text.{printed};

@@ -61,7 +61,7 @@ pub fn run_ops<S: Source, K: Sink>(
     }
 }
 
-/// Reads the register of the source, which is file 1, and writes the line of one entry behind the header.
+/// Reads the register of the source, which is file 1, and writes the line of one entry after the header.
 pub fn run_show<S: Source, K: Sink>(
     alloc: Global,
     source: &mut S,

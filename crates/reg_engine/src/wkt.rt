@@ -1,3 +1,5 @@
+//! The command `wkt`.
+
 ghost use Rattle.std.specs.Prelude.{◌≡◌, ◌++◌, ◌∷◌, [], IfOk, OnOk, IfErr};
 ghost use Rattle.reg_engine.specs.Devices.{devices};
 ghost use Rattle.reg_engine.specs.Export.{text_in, IsShown, IsShowFault};

@@ -145,7 +145,7 @@ pub stops_first : {A X : Type 0} (of : X → Body) (left : ℕ) (r : Result A Re
 stops_first of left r f stop.Memory h = tt
 stops_first {X = X} of left r f (stop.Refused e) h = subst (λ (y : Result (X × List ℕ) Refused). FailsAs of left y e) (ap (λ x. x >>= f) (sym h)) refl
 
--- behind the first part
+-- after the first part
 pub stops_then : {A X : Type 0} (of : X → Body) (left : ℕ) (r : Result A Refused) (f : A → Result (X × List ℕ) Refused) (s : Stop) (x : A) → r ≡ Ok x → StopsAs of left (f x) s → StopsAs of left (r >>= f) s
 stops_then {X = X} of left r f s x h k = subst (λ (y : Result (X × List ℕ) Refused). StopsAs of left y s) (ap (λ z. z >>= f) (sym h)) k
 

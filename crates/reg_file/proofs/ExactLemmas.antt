@@ -72,7 +72,7 @@ module _ {A B : Type 0} (p : Part A) (q : A → Part B) (first : IsExact p) (sec
   behind_exact = record { one_value = both_one; no_fault = both_none; one_fault = both_fault }
 
 module _ {A S : Type 0} (item : S → Part A) (next : S → A → S) (each : (s : S) → IsExact (item s)) where
-  -- behind one item
+  -- after one item
   moved : (s : S) (bytes : List ℕ) (x y : A) (mid mid' : List ℕ) (ys : List A) (left : List ℕ) → x ≡ y → mid ≡ mid' → ReadsEach item next (next s y) mid' ys left → ReadsEach item next (next s x) mid ys left
   moved s bytes x y mid mid' ys left e f h = subst (λ (z : A × List ℕ). ReadsEach item next (next s z.0) z.1 ys left) (λ j. (sym e j, sym f j)) h
 

@@ -197,7 +197,7 @@ span_again floor s rest is =
     let ordered : s.low ≤ s.high = is.ordered in
     ap (span_at floor) regrouped ∙ rw (number_again s.low (four s.high ++ rest) (omega arith), number_again s.high rest fits, above, below) refl
 
--- a replica that may stand behind the last one, and how many ranges it has
+-- a replica that may stand after the last one, and how many ranges it has
 pub record IsHeading (last : Option (List ℕ)) (replica : List ℕ) (count : ℕ) : Type 0 where
   pub long : length replica ≡ 16
   pub bytes : All (λ b. b < 256) replica
@@ -257,7 +257,7 @@ id_again i rest is =
     let some : eqb i.count 0 ≡ false = not_zero i.count (let p : 1 ≤ i.count = is.positive in omega arith) in
     ap id_at (append_assoc i.replica (four i.count) rest) ∙ rw (cut_again 16 i.replica (four i.count ++ rest) is.long, number_again i.count rest is.fits, some) refl
 
--- an id that may stand behind the last one
+-- an id that may stand after the last one
 pub record IsOwn (last : Option Id) (seen : Ids) (i : Id) : Type 0 where
   pub id : IsId i
   pub after : is_after last i ≡ true

@@ -17,7 +17,7 @@ use Rattle.reg_file.specs.Reading.{operation, id_after}
 use Rattle.reg_file.proofs.FieldLemmas.{IsBytes, Takes, Takes-then, IsOwn}
 use Rattle.reg_file.proofs.BodyLemmas.{op_takes, op_again, read_body}
 
--- each may stand behind those before it
+-- each may stand after those before it
 abbrev pub AreOwn : Option Id → Ids → List Op → Type 0
 AreOwn last seen [] = Unit {0}
 AreOwn last seen (o ∷ os) = IsOwn last seen o.id × IsBody o.body × AreOwn (Some o.id) seen os
@@ -72,7 +72,7 @@ seen_of_own last seen (x ∷ os) own o h = elim (or_cases (eq_by_cmp op_cmp o x)
   | inr e ↦ seen_of_own (Some x.id) seen os own.2 o e
 ]
 
--- operations by id, each an operation and seen, may stand behind each other
+-- operations by id, each an operation and seen, may stand after each other
 pub own_of_by_id : (last : Option Id) (seen : Ids) (os : List Op) → ById os → ((o : Op) → has os o ≡ true → IsOperation o × (set.contains seen o.id ≡ true) × (is_after last o.id ≡ true)) → AreOwn last seen os
 own_of_by_id last seen [] up each = tt
 own_of_by_id last seen (x ∷ os) up each =

@@ -14,7 +14,7 @@ module _ {A S : Type 0} (item : S → Part A) (next : S → A → S) where
   each-push s bytes [] mid x rest h k = (rest, subst (λ b. (item s).Reads b x rest) (sym h) k, refl)
   each-push s bytes (y ∷ xs) mid x rest h k = (h.0, h.1, each-push (next s y) h.0 xs mid x rest h.2 k)
 
-  -- one item, and those behind it
+  -- one item, and those after it
   pub fails_later : (s : S) (count : ℕ) (bytes : List ℕ) (x : A) (mid : List ℕ) (r : Refused) → (item s).Reads bytes x mid → FailsAtOne item next (next s x) count mid r → FailsAtOne item next s (suc count) bytes r
   fails_later s count bytes x mid r h f = record { before = x ∷ f.before; rest = f.rest; reads = (mid, h, f.reads); fewer = (let k : length f.before < count = f.fewer in omega arith); fails = f.fails }
 

@@ -72,7 +72,7 @@ module _ (bytes r1 : List ℕ) (head : head_at 1 1 bytes ≡ Ok (tt, r1)) (seen 
         content = w.content;
       }
 
--- what was read before the operations are bytes, and so the operations may stand behind each other
+-- what was read before the operations are bytes, and so the operations may stand after each other
 pub ops_own : (bytes r1 : List ℕ) → head_at 1 1 bytes ≡ Ok (tt, r1) → (seen : Ids) (r2 : List ℕ) → ReadsSeen r1 seen r2 → (n : ℕ) (r3 : List ℕ) → number_at w32 r2 ≡ Ok (n, r3) → (os : List Op) (r4 : List ℕ)
     → (operations seen n).Reads r3 os r4 → IsBytes bytes → AreOwn None seen os
 ops_own bytes r1 head seen r2 a n r3 count os r4 reads fits =

@@ -64,7 +64,7 @@ IsTooLarge x = (bytes : List ℕ) × IsFileOf x bytes × (most < length bytes)
 abbrev pub Writes : Content → SinkState → SinkState → Type 0
 Writes x old new = (bytes : List ℕ) × Holds bytes x × WritesAll bytes old new
 
--- nothing went out; or the sink failed, or took none, behind the first n bytes of the content's file
+-- nothing went out; or the sink failed, or took none, after the first n bytes of the content's file
 abbrev pub IsWriteFault : Content → SinkState → SinkState → WriteFileFault → Type 0
 IsWriteFault x old new writing.TooLarge = new ≡ old
 IsWriteFault x old new writing.Memory = new ≡ old

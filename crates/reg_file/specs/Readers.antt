@@ -16,7 +16,7 @@ field read = record {
   Fails = λ bytes r. read bytes ≡ Err r;
 }
 
--- a part, and one behind it
+-- a part, and one after it
 abbrev pub ReadsBoth : {A B : Type 0} → Part A → (A → Part B) → List ℕ → A × B → List ℕ → Type 0
 ReadsBoth p q bytes x rest = (mid : List ℕ) × p.Reads bytes x.0 mid × (q x.0).Reads mid x.1 rest
 

@@ -69,7 +69,7 @@ IsTextFault text (fault.Definition f) = IsOfText f × IsCanonicalFault text f
 IsTextFault text fault.NotCanonical = IsCanonicalFault text definition.NotCanonical
 IsTextFault text _ = ⊥
 
--- told at the body's first byte
+-- reported at the body's first byte
 abbrev pub IsUnfit : Body → ℕ → Refused → Type 0
 IsUnfit (Enter text) left r = (r.left ≡ left) × IsTextFault text r.fault
 IsUnfit (Supersede old newer) left r = ⊥
@@ -80,7 +80,7 @@ abbrev pub FailsAs : {X : Type 0} → (X → Body) → ℕ → Result (X × List
 FailsAs of left (Err e) r = e ≡ r
 FailsAs of left (Ok x) r = IsUnfit (of x.0) left r
 
--- an operation after the last one, of an id that was seen. Its body begins behind the id and the kind, 21 bytes on
+-- an operation after the last one, of an id that was seen. Its body begins after the id and the kind, 21 bytes on
 abbrev pub operation : Ids → Option Id → Part Op
 operation seen last = record {
   Reads = λ bytes o rest. (op_at last seen bytes ≡ Ok (o, rest)) × IsBody o.body;
@@ -98,7 +98,7 @@ counted_operations seen = field (number_at w32) behind operations seen
 
 -- ---- the end
 
--- the places of operations with these bytes behind them
+-- the places of operations with these bytes after them
 abbrev pub places_of : List Op → List ℕ → List Place
 places_of [] rest = []
 places_of (o ∷ os) rest = record { id = o.id; left = length (flat_map op_bytes (o ∷ os) ++ rest) } ∷ places_of os rest
@@ -108,7 +108,7 @@ abbrev pub left_in : List Place → Id → ℕ
 left_in [] id = 0
 left_in (p ∷ ps) id = if is_same p.id id then p.left else left_in ps id
 
--- the least id that kept drops, told where its operation was read
+-- the least id that kept drops, reported where its operation was read
 abbrev pub IsDropped : List Op → List Place → Refused → Type 0
 IsDropped os places r = (id : Id) × (first_dropped (set.from_list {R = op_cmp} os) ≡ Some id) × (r ≡ record { fault = fault.NotKept; left = left_in places id })
 

@@ -21,7 +21,7 @@ use Rattle.reg_file.specs.Layout.{Group, run_at, runs_of}
 use Rattle.reg_file.specs.Readers.{ReadsEach, state_after}
 use Rattle.reg_file.specs.Reading.{IsUnfit, FailsAs, span, floor_after, spans, group, groups, replica_after, ranges, left_in, IsDropped, IsTrailing, ending, register}
 
--- a text that is no definition, behind a body that begins with so many bytes left
+-- a text that is no definition, after a body that begins with so many bytes left
 abbrev pub StopsInText : List ℕ → ℕ → Stop → Type 0
 StopsInText text left stop.Memory = Unit {0}
 StopsInText text left (stop.Refused r) = IsUnfit (Enter text) left r
@@ -105,7 +105,7 @@ abbrev pub StopsAtEnd : List Op → List Place → List ℕ → Stop → Type 0
 StopsAtEnd os places rest stop.Memory = Unit {0}
 StopsAtEnd os places rest (stop.Refused r) = IsDropped os places r ⊎ IsTrailing os rest r
 
--- what is told where a content is refused
+-- what is reported where a content is refused
 abbrev pub IsStopOf : ContentFault → List Place → Stop → Type 0
 IsStopOf (content.NotKept id) places s = s ≡ stop.Refused (record { fault = fault.NotKept; left = left_in places id })
 IsStopOf content.Memory places s = s ≡ stop.Memory

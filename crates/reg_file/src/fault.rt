@@ -1,3 +1,5 @@
+//! Why a file is not read or not written.
+
 ghost use Rattle.std.specs.Prelude.{◌≡◌};
 ghost use Rattle.reg_file.specs.declared.fault.Stop.TheVariants.{Memory};
 

@@ -163,7 +163,7 @@ pub fn op_kind_of(bytes: &[u8]) -> Result<(u8, &[u8]), Stop>
     Ok((kind, rest))
 }
 
-/// A definition's text, whose length is told before it.
+/// A definition's text, whose length stands before it.
 #[tactic(auto, unfolding(crate::specs::Fields::text_at))]
 pub fn text_of(bytes: &[u8]) -> Result<(&[u8], &[u8]), Stop>
     ensures { Gives (λ x. (x.0.now, x.1.now)) result (text_at bytes.now) }

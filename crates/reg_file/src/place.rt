@@ -1,3 +1,5 @@
+//! Where an operation was read.
+
 use reg_op::OpId;
 
 /// Where an operation was read: how many bytes there were from its id on.

@@ -13,7 +13,7 @@ use reg_op::Op;
 use reg_state::{Register, Run};
 use std::alloc::{AllocError, Global};
 
-// The file of operations and runs, in one growth of its size.
+// The file of operations and runs, in one allocation of its size.
 fn spell(alloc: Global, ops: &[Op], runs: &[Run], size: usize) -> Result<Vec<u8>, AllocError>
     requires ops { length ops.now < 2 ^ 32 }
     requires runs { length runs.now < 2 ^ 32 }
@@ -26,7 +26,7 @@ fn spell(alloc: Global, ops: &[Op], runs: &[Run], size: usize) -> Result<Vec<u8>
     Ok(out)
 }
 
-/// The bytes of the register's file. A file that would be too large is told before memory is asked for.
+/// The bytes of the register's file. A file that would be too large is reported before anything is allocated.
 pub fn write_bytes(alloc: Global, register: &Register) -> Result<Vec<u8>, WriteFileFault>
     ensures held { IfOk result (λ v. Holds v.items register.now) }
     ensures large { (result ≡ Err WriteFileFault.TooLarge) ↔ IsTooLarge register.now }

@@ -11,7 +11,7 @@ use std::alloc::{AllocError, Global};
 pub enum JoinFault<C> {
     /// Two values that do not agree, and what they do not agree on.
     Clash(C),
-    /// A growth was refused.
+    /// An allocation failed.
     Memory,
 }
 
@@ -36,7 +36,7 @@ pub trait Join: Sized + Drop {
     fn empty(alloc: Global) -> Self
         ensures { result ≡ nothing };
 
-    /// A clash is looked for before memory is asked for.
+    /// A clash is looked for before anything is allocated.
     fn join(&self, alloc: Global, other: &Self) -> Result<Self, JoinFault<Self::Clash>>
         ensures ok { IfOk result (λ r. joined self.now other.now ≡ Ok r) }
         ensures clash { (c : Self.Clash) → (result ≡ Err (JoinFault.Clash c)) ↔ (joined self.now other.now ≡ Err c) };

@@ -1,3 +1,5 @@
+//! Marks, and what they are about.
+
 ghost use Rattle.std.specs.Prelude.{◌≡◌};
 ghost use Rattle.std.specs.Ordering.{is_lt};
 ghost use Rattle.reg_marks.specs.Marks.{is_at, target_cmp};

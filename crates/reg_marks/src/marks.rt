@@ -1,3 +1,5 @@
+//! The least mark of each target, and their join.
+
 ghost use Rattle.std.specs.Prelude.{◌≡◌, ◌++◌, true, false, Bool, None, IfOk, IfSome, IfNone};
 ghost use Rattle.std.specs.List.{list_any};
 ghost use Rattle.std.specs.List.Sorted.{IsSorted};
@@ -86,7 +88,7 @@ impl Marks {
     }
 }
 
-// The first mark at a target or after it, which tells of all.
+// The first mark at a target or after it, which decides for all.
 fn first_from(marks: &[Mark], target: &Target) -> Option<Mark>
     requires { IsSorted mark_cmp marks.now }
     ensures told { (t : Mark → Bool) → BeginsAt target.now t → list_any t marks.now ≡ passes t result }

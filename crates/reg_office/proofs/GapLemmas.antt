@@ -157,7 +157,7 @@ at_is b before r rs g k h = let is = first_run r rs (good_next before r rs g) in
   ];
 }
 
--- a gap behind the next run is one
+-- a gap after the next run is one
 behind : (before : Option Run) (r : Run) (rs : List Run) (q : List ℕ) (low high : ℕ) → Good before (r ∷ rs) → AfterAt (Some r) q low → GapIn (Some r) rs q low high → GapIn before (r ∷ rs) q low high
 behind before r rs q low high g a i = record {
   some = i.some;
@@ -171,7 +171,7 @@ behind before r rs q low high g a i = record {
   ];
 }
 
--- a gap that ends at the next run begins behind the one before
+-- a gap that ends at the next run begins after the one before
 ends_at : (b : ℕ) (before : Option Run) (r : Run) (rs : List Run) (q : List ℕ) (low high : ℕ) → Good before (r ∷ rs) → Known b before r → AfterAt before q low → GapIn before (r ∷ rs) q low high → IsWithin (id_at q (high + 1)) r
     → (low ≡ b + 1) × (high ≡ r.low - 1) × (b + 1 < r.low)
 ends_at b before r rs q low high g k a i w =
@@ -205,7 +205,7 @@ ends_at b before r rs q low high g k a i w =
     ] in
     (begin, omega arith, omega arith)
 
--- a gap that ends behind the next run is behind it
+-- a gap that ends after the next run is after it
 ends_behind : (before : Option Run) (r : Run) (rs : List Run) (q : List ℕ) (low high : ℕ) → Good before (r ∷ rs) → GapIn before (r ∷ rs) q low high → In (id_at q (high + 1)) rs → AfterAt (Some r) q low
 ends_behind before r rs q low high g i m =
     let is = first_run r rs (good_next before r rs g) in

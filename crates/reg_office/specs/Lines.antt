@@ -82,7 +82,7 @@ pub record WritesRows (old new : Sheet) (lines : List (List (List ℕ))) : Type 
   pub text : sheet_text new ≡ sheet_text old ++ rows_text lines
   pub ready : IsReady new
 
--- a line for each item, whose fields a relation tells
+-- a line for each item, whose fields a relation gives
 abbrev pub AreLines : {T : Type 0} → (T → List (List ℕ) → Type 0) → List T → List ℕ → Type 0
 AreLines R [] text = text ≡ []
 AreLines R (x ∷ xs) text = (fields : List (List ℕ)) × (rest : List ℕ) × R x fields × AreLines R xs rest × (text ≡ row_text default_writer fields ++ rest)

@@ -21,7 +21,7 @@ IsReport Conflicts x text = (cs : List Contested) × AreConflicts (rows x.ops) c
 IsReport Awaited x text = text ≡ sheet_of awaited_header awaited_fields (set.items (awaited x.ops))
 IsReport Gaps x text = (gaps : List Gap) × AreGaps x.seen gaps × (text ≡ sheet_of gaps_header gap_fields gaps)
 
--- the line of one entry alone, behind the header
+-- the line of one entry alone, after the header
 abbrev pub IsEntryReport : Id → Content → List ℕ → Type 0
 IsEntryReport entry x text = IsSheet entries_header IsEntryLine (filter (λ (r : Row). is_same entry r.entry) (rows x.ops)) text
 

@@ -1,3 +1,5 @@
+//! What a command does, and why an office refuses it.
+
 ghost use Rattle.std.specs.Prelude.{◌≡◌, ℕ, ◌+◌, ◌<◌, ◌≤◌, true, List, map, length, All, IfOk};
 ghost use Rattle.reg_op.specs.Operations.{IsOfItself};
 ghost use Rattle.reg_office.specs.Making.{objections, numbered};

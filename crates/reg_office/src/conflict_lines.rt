@@ -1,3 +1,5 @@
+//! The report of conflicts, line by line.
+
 ghost use Rattle.std.specs.Prelude.{◌≡◌, map, IfOk, OnOk};
 ghost use Rattle.reg_office.specs.Contenders.{conflict_seen};
 ghost use Rattle.reg_office.specs.Lines.{conflicts_header, contender_fields, conflict_lines, conflicts_sheet, IsReady, WritesRow, WritesRows};

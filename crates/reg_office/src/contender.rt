@@ -1,3 +1,5 @@
+//! Entries that are not retired, by key: those that may be in conflict.
+
 ghost use Rattle.std.specs.Prelude.{◌≡◌, ◌++◌, [], ◌∷◌, map, IfOk, OnOk};
 ghost use Rattle.std.specs.List.Sorted.{IsSorted};
 ghost use Rattle.reg_office.specs.Contenders.{contender_cmp, has_same_key, has_other_text, AreContenders, Adds};

@@ -1,3 +1,5 @@
+//! Ids in their order, each once.
+
 ghost use Rattle.std.specs.Prelude.{◌≡◌};
 ghost use Rattle.reg_op.specs.Set as set;
 ghost use Rattle.reg_op.specs.Ids.{id_cmp};

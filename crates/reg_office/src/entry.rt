@@ -1,3 +1,5 @@
+//! Whether an id is an entry, and whether that is retired.
+
 ghost use Rattle.std.specs.Prelude.{◌≡◌, true};
 ghost use Rattle.reg_op.specs.Status.{enters, retires};
 

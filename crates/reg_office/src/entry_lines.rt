@@ -1,3 +1,5 @@
+//! The report of entries, line by line.
+
 ghost use Rattle.std.specs.Prelude.{◌≡◌, ℕ, ◌++◌, List, [], ◌∷◌, map, Some, IfOk, OnOk};
 ghost use Rattle.reg_op.specs.Text.{printed};
 ghost use Rattle.reg_office.specs.Lines.{entries_header, status_word, spaced, spaced_after, IsEntryLine, IsSheet, IsReady, WritesRow};

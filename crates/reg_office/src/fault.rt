@@ -1,3 +1,5 @@
+//! Why an office refuses a command.
+
 use reg_op::OpId;
 
 /// Why an office refuses a command.

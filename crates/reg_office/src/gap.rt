@@ -1,3 +1,5 @@
+//! Gaps: counts that were not seen, below one that was.
+
 ghost use Rattle.std.specs.Prelude.{◌≡◌, ◌++◌, IfOk, OnOk};
 ghost use Rattle.reg_office.specs.Between.{last_count, gaps_at};
 ghost use Rattle.reg_office.specs.Gaps.{AreGaps};

@@ -1,3 +1,5 @@
+//! The reports of awaited ids, of gaps and of operations, line by line.
+
 ghost use Rattle.std.specs.Prelude.{◌≡◌, [], ◌∷◌, IfOk, OnOk};
 ghost use Rattle.reg_op.specs.Text.{printed};
 ghost use Rattle.reg_office.specs.Lines.{sheet_of, awaited_header, awaited_fields, gaps_header, gap_fields, ops_header, op_fields, IsReady, WritesRow};

@@ -1,3 +1,5 @@
+//! Ids that operations name, and that no operation has entered.
+
 ghost use Rattle.std.specs.Prelude.{◌≡◌, ◌++◌, [], ◌∷◌, not, filter, IfOk, OnOk};
 ghost use Rattle.reg_op.specs.Set as set;
 ghost use Rattle.reg_op.specs.Operations.{named_in};

@@ -1,3 +1,5 @@
+//! An office: a register, and the UUID under which it makes operations.
+
 ghost use Rattle.std.specs.Prelude.{◌≡◌, ◌+◌, ◌<◌, ◌≤◌, ◌⊎◌, List, [], ◌∷◌, map, length, All, None, Ok, Err, OnErr, IfOk, IfErr, IfSome, IfNone};
 ghost use Rattle.reg_op.specs.Set as set;
 ghost use Rattle.reg_op.specs.Ids.{Id};

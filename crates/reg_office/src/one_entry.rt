@@ -43,7 +43,7 @@ fn entry_report(alloc: Global, register: &Register, entry: OpId) -> Result<Vec<u
     Ok(text)
 }
 
-/// Writes the line of one entry as the report of entries has it, behind that report's header. Where the register has
+/// Writes the line of one entry as the report of entries has it, after that report's header. Where the register has
 /// no such entry, the header stands alone.
 pub fn report_entry<K: Sink>(
     alloc: Global,

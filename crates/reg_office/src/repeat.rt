@@ -1,3 +1,5 @@
+//! The first entry that a command names twice.
+
 ghost use Rattle.std.specs.Prelude.{◌≡◌, IfOk};
 ghost use Rattle.std.specs.List.{list_any};
 ghost use Rattle.reg_op.specs.Ids.{is_same};

@@ -1,3 +1,5 @@
+//! The rows of a register: its entries, with their statuses.
+
 ghost use Rattle.std.specs.Prelude.{◌≡◌, ◌++◌, Bool, true, map, Some, IfOk, OnOk};
 ghost use Rattle.std.specs.List.{list_any, flat_map};
 ghost use Rattle.std.specs.List.Sorted.{IsSorted};

@@ -1,3 +1,5 @@
+//! Which entries are superseded, by which others.
+
 ghost use Rattle.std.specs.Prelude.{◌≡◌, ◌++◌, ◌&&◌, Bool, not, map, IfOk, OnOk};
 ghost use Rattle.std.specs.List.{list_any, flat_map};
 ghost use Rattle.std.specs.List.Sorted.{IsSorted};

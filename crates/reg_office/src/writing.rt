@@ -1,3 +1,5 @@
+//! Reports, written to a sink.
+
 ghost use Rattle.std.specs.Prelude.{◌≡◌, IfOk, IfErr, OnOk};
 ghost use Rattle.reg_office.specs.Reports.{IsReport, IsOpsReport, Reports, IsReportFault};
 
@@ -26,7 +28,7 @@ pub enum ReportKind {
 pub enum ReportFault {
     /// The first bytes went, as many as these.
     WriteFailed(usize),
-    /// A growth was refused, and nothing went.
+    /// An allocation failed, and nothing went out.
     Memory,
 }
 

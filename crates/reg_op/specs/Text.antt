@@ -13,7 +13,7 @@ pub record IsNumeral (text : List ℕ) (count : ℕ) : Type 0 where
   pub positive : 0 < count
   pub fits : count < 2 ^ 32
 
--- the same behind a colon
+-- the same after a colon
 pub record IsCount (text : List ℕ) (count : ℕ) : Type 0 where
   pub rest : List ℕ
   pub whole : text ≡ 58 ∷ rest

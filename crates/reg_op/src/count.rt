@@ -1,9 +1,11 @@
+//! The count in the text of an id.
+
 ghost use Rattle.std.specs.Prelude.{◌≡◌, ◌<◌, ◌^◌, ℕ, IfSome, IfNone, IsTrue, ◌↔◌, decimal};
 ghost use Rattle.reg_op.specs.Text.{IsCount, IsNumeral};
 
 use itoa::Buffer;
 
-/// The count behind a colon. What was read is printed again, so that each count has one spelling.
+/// The count after a colon. What was read is printed again, so that each count has one spelling.
 pub fn count_of(text: &[u8]) -> Option<u32>
     ensures found { IfSome result (λ n. IsCount text.now n) }
     ensures none { IfNone result ((n : ℕ) → ¬ (IsCount text.now n)) }

@@ -1,3 +1,5 @@
+//! Operations, and their effects.
+
 ghost use Rattle.std.specs.Prelude.{◌≡◌, ◌↔◌, false, IsTrue, IfOk, IsErr};
 ghost use Rattle.std.specs.Ordering.{is_eq};
 ghost use Rattle.reg_op.specs.Operations.{Op as Operation, IsBody, IsOperation, IsOfItself, op_cmp, clashes, replaces};

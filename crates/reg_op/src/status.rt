@@ -1,3 +1,5 @@
+//! The status of an entry.
+
 /// The status of an entry.
 #[derive(Clone, Copy, Debug, PartialEq, Eq)]
 pub enum Status {

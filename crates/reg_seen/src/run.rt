@@ -1,3 +1,5 @@
+//! Runs: ids of one replica without a gap.
+
 ghost use Rattle.std.specs.Prelude.{◌≡◌, ◌&&◌};
 ghost use Rattle.std.specs.Ordering.{is_lt};
 ghost use Rattle.std.specs.Bool.{OnTrue, OnFalse};

@@ -1,3 +1,5 @@
+//! Lists of runs.
+
 ghost use Rattle.std.specs.Prelude.{◌≡◌, ◌||◌, IfOk, OnOk, OnErr};
 ghost use Rattle.reg_op.specs.Ids.{Id, IsId};
 ghost use Rattle.reg_seen.specs.Runs.{is_in_run, is_in_runs, last_of, AreRuns, EndInIds, IsRun, AllBegin, BeginsBy, NextBegins};

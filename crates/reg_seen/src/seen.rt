@@ -1,3 +1,5 @@
+//! The ids that were seen, and their join.
+
 ghost use Rattle.std.specs.Prelude.{◌≡◌, List, IfOk, OnOk, OnErr};
 ghost use Rattle.std.specs.Bool.{OnTrue, OnFalse};
 ghost use Rattle.reg_op.specs.Set as set;

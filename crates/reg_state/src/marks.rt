@@ -1,3 +1,5 @@
+//! The marks that operations set, and what these make redundant.
+
 ghost use Rattle.std.specs.Prelude.{◌≡◌, ◌&&◌, ◌++◌, OnOk, IfOk};
 ghost use Rattle.reg_op.specs.Ids.{is_before};
 ghost use Rattle.reg_op.specs.Finite.{any};

@@ -1,3 +1,5 @@
+//! The join of two lists of operations.
+
 ghost use Rattle.std.specs.Prelude.{◌≡◌, true, false, ◌++◌, [], ◌∷◌, ◌&&◌, ◌||◌, IfOk, OnOk, filter};
 ghost use Rattle.reg_op.specs.Operations.{Op as Operation};
 ghost use Rattle.reg_op.specs.Lists.{ById, has};

@@ -1,3 +1,5 @@
+//! The register: one operation taken, two registers joined.
+
 ghost use Rattle.std.specs.Prelude.{◌≡◌, ◌↔◌, true, false, List, Ok, Err, OnOk, OnErr, IfOk, IfSome, IfNone, Some, None};
 ghost use Rattle.reg_op.specs.Set as set;
 ghost use Rattle.reg_op.specs.Ids.{Id, is_same};
@@ -142,7 +144,7 @@ impl Register {
         definition_in(&self.ops, entry)
     }
 
-    /// Joins one operation. A clash is looked for before memory is asked for.
+    /// Joins one operation. A clash is looked for before anything is allocated.
     pub fn take(&mut self, op: Op) -> Result<(), TakeFault>
         ensures ok { OnOk result (joined self.old (state (one op)) ≡ Ok self.new) }
         ensures clash { (id : Id) → (result ≡ Err (TakeFault.Clash id)) ↔ (joined self.old (state (one op)) ≡ Err id) }

@@ -1,3 +1,5 @@
+//! Lists of operations by id, and searches in them.
+
 ghost use Rattle.std.specs.Prelude.{◌≡◌, ◌&&◌, true, IfSome, IfNone, is_some};
 ghost use Rattle.std.specs.List.{list_any};
 ghost use Rattle.reg_op.specs.Ids.{is_same, is_before};

@@ -1,3 +1,5 @@
+//! Operations as a caller sees them, with their definitions lent.
+
 ghost use Rattle.std.specs.Prelude.{◌≡◌};
 ghost use Rattle.std.specs.Iterator.{YieldsFirstBy, item_count};
 ghost use Rattle.reg_state.specs.Views.{op_seen};

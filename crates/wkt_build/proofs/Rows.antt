@@ -92,7 +92,7 @@ behind_follows (x ∷ xs) toks end rest b e = ap (next_is is_open) b.3
 
 -- ---- the slots of a row, from the last one back
 
--- the same with the first argument behind the opening delimiter
+-- the same with the first argument after the opening delimiter
 pub record ReadsAll (row : List Slot) (fields : Fields) (old new : List Tok) : Type 0 where
   pub of : (xs : List Bare) (end rest : List Tok) → Cuts row xs → Come xs old end → Ends end rest → Runs row fields xs × (new ≡ end)
 

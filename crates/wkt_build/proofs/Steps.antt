@@ -86,7 +86,7 @@ pub shorter_by_one : (t : Takes) (toks : List Tok) → comes t toks ≡ true →
 shorter_by_one t [] e = absurd cc
 shorter_by_one t (x ∷ toks) e = omega arith
 
--- what is built behind a token
+-- what is built after a token
 pub made_behind : {A : Type 0} (t : Takes) (D : Bare → A → Type 0) (old one new : List Tok) (v : A) → one ≡ drop 1 old → ((x : Bare) (rest : List Tok) → Fitting t x → Next x one rest → D x v × (new ≡ rest))
     → (x : Bare) (first : Tok) (behind rest : List Tok) → Fitting t x → old ≡ first ∷ behind → Next x behind rest → D x v × (new ≡ rest)
 made_behind t D old one new v o b x first behind rest f e n = b x rest f (subst (λ l. Next x l rest) (sym (o ∙ ap (drop 1) e)) n)

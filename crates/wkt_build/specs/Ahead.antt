@@ -1,4 +1,4 @@
--- What a reader knows of the argument behind a comma.
+-- What a reader knows of the argument after a comma.
 use Rattle.std.specs.Prelude.{◌≡◌, ⊤, true, false, List, drop}
 use Rattle.wkt_tree.specs.Tree.{Tok}
 use Rattle.wkt_slots.specs.declared.table.Argument.TheVariants as arguments
@@ -12,7 +12,7 @@ IsTold NoComma toks = ⊥
 IsTold (Node keyword) toks = coming toks ≡ arguments.Node keyword
 IsTold Anything toks = ⊤
 
--- what is said of the argument behind a comma is so
+-- what is said of the argument after a comma is so
 abbrev pub IsAhead : Ahead → List Tok → List Tok → Type 0
 IsAhead NoComma behind toks = next_is is_comma toks ≡ false
 IsAhead (Node keyword) behind toks = (next_is is_comma toks ≡ true) × (behind ≡ drop 1 toks) × IsTold (Node keyword) behind

@@ -19,7 +19,7 @@ pub record Next (x : Bare) (toks rest : List Tok) : Type 0 where
   pub tokens_are : toks ≡ tokens item ++ rest
   pub follows : Follows rest
 
--- the tokens are those of these arguments, each behind a comma, and then the rest
+-- the tokens are those of these arguments, each after a comma, and then the rest
 abbrev pub Behind : List Bare → List Tok → List Tok → Type 0
 Behind [] toks rest = toks ≡ rest
 Behind (x ∷ xs) toks rest = (comma : Piece) × (behind : List Tok) × (mid : List Tok) × (toks ≡ tok Comma comma ∷ behind) × Next x behind mid × Behind xs mid rest
@@ -42,7 +42,7 @@ abbrev pub BuildsNode : {A E : Type 0} → Node → (A → Fields) → List Tok 
 BuildsNode row F old new result = (x : Bare) (keyword : List ℕ) (items : Bares) (means : Keyword) (rest : List Tok)
     → x ≡ node keyword items → keyword_of keyword ≡ Some means → Fitted row items → Next x old rest → IfOk result (λ v. IsNode means row (F v) x × (new ≡ rest))
 
--- the same behind a token
+-- the same after a token
 abbrev pub BuildsOne : {A E : Type 0} → Takes → (Bare → A → Type 0) → List Tok → List Tok → Result A E → Type 0
 BuildsOne kind D old new result = (x : Bare) (first : Tok) (behind rest : List Tok) → Fitting kind x → old ≡ first ∷ behind → Next x behind rest → IfOk result (λ v. D x v × (new ≡ rest))
 
@@ -50,6 +50,6 @@ BuildsOne kind D old new result = (x : Bare) (first : Tok) (behind rest : List T
 abbrev pub BuildsSome : {A E : Type 0} → Takes → (Bare → A → Type 0) → List Tok → List Tok → Result (Option A) E → Type 0
 BuildsSome kind D old new result = (x : Bare) (first : Tok) (behind rest : List Tok) → Fitting kind x → old ≡ first ∷ behind → Next x behind rest → IfOk result (λ o. (v : _) × (o ≡ Some v) × D x v × (new ≡ rest))
 
--- arguments of this kind come, and behind them none
+-- arguments of this kind come, and after them none
 abbrev pub BuildsEach : {A E : Type 0} → Takes → (Bare → A → Type 0) → List Tok → List Tok → Result (List A) E → Type 0
 BuildsEach kind D old new result = (run : List Bare) (end : List Tok) → AllFitting kind run → Behind run old end → Follows end → comes kind end ≡ false → IfOk result (λ vs. Each D vs run × (new ≡ end))

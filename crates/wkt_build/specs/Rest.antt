@@ -27,7 +27,7 @@ pub record Ends (end rest : List Tok) : Type 0 where
 pub record Reads (row : List Slot) (fields : Fields) (old new : List Tok) : Type 0 where
   pub of : (xs : List Bare) (end rest : List Tok) → Cuts row xs → Behind xs old end → Ends end rest → Runs row fields xs × (new ≡ end)
 
--- the slots behind the unit of the axes
+-- the slots after the unit of the axes
 abbrev pub tail_row : List Slot
 tail_row =
     (record { name = slots.Usage; takes = kinds.Usage; often = Any })
@@ -56,7 +56,7 @@ ending_fields v =
     & Maybe (DenotesValue keywords.Remark) v.remark
     & nothing
 
--- the slots of a base system behind its datum
+-- the slots of a base system after its datum
 abbrev pub base_ending_row : List Slot
 base_ending_row =
     (record { name = slots.PrimeMeridian; takes = kinds.PrimeMeridian; often = AtMostOnce })

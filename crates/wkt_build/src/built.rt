@@ -25,7 +25,7 @@ pub(crate) trait Built<V> {
         ensures shorter { length cursor.new ≤ length cursor.old };
 }
 
-/// Goes behind the token that comes.
+/// Goes past the token that comes.
 pub(crate) fn pass(cursor: &mut Reader<'_>)
     ensures left { cursor.new ≡ drop 1 cursor.old }
     ensures shorter { length cursor.new ≤ length cursor.old }
@@ -44,7 +44,7 @@ pub(crate) fn with<V: Drop, W>(held: V, next: Result<W, AllocError>) -> Result<(
     }
 }
 
-/// The argument behind the token that comes.
+/// The argument after the token that comes.
 pub(crate) fn take_one<N: Built<V>, V>(
     alloc: Global,
     cursor: &mut Reader<'_>,

@@ -24,7 +24,7 @@ pub(crate) struct Ending {
     pub(crate) remark: Option<Text>,
 }
 
-/// The slots behind the unit of the axes.
+/// The slots after the unit of the axes.
 #[derive(Drop)]
 pub(crate) struct Tail {
     pub(crate) usages: Many<Usage>,
@@ -32,7 +32,7 @@ pub(crate) struct Tail {
     pub(crate) remark: Option<Text>,
 }
 
-/// The slots of a base system behind its datum.
+/// The slots of a base system after its datum.
 #[derive(Drop)]
 pub(crate) struct BaseEnding {
     pub(crate) prime_meridian: Option<PrimeMeridian>,

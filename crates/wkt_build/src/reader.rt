@@ -1,4 +1,4 @@
-//! The tokens that come, and which argument comes behind a comma.
+//! The tokens that come, and which argument follows a comma.
 
 ghost use Rattle.std.specs.Prelude.{◌≡◌, drop, slice_get, IfSome};
 ghost use Rattle.std.specs.Option.{option_map};
@@ -15,7 +15,7 @@ use wkt_slots::{Argument, Keyword, Takes, enters, takes};
 use wkt_tier::{coming, next_is_comma};
 use wkt_tree::{Cursor, Token, TokenKind};
 
-/// What comes behind a comma, as far as it is looked up before it is asked for.
+/// What follows a comma, where it was looked up ahead.
 #[derive(Clone, Copy)]
 pub(crate) enum Ahead {
     /// No comma comes.
@@ -26,7 +26,7 @@ pub(crate) enum Ahead {
     Anything,
 }
 
-/// A cursor that looks up what comes behind a comma once, and not for each slot that asks.
+/// A cursor that looks up what follows a comma once, and not for each slot.
 #[derive(Drop)]
 pub(crate) struct Reader<'a> {
     cursor: Cursor<'a>,
@@ -112,7 +112,7 @@ impl<'a> Reader<'a> {
         self.cursor.peek()
     }
 
-    /// Goes behind the token that comes, where one does.
+    /// Goes past the token that comes, where one does.
     #[inline(always)]
     pub(crate) fn advance(&mut self)
         ensures { self.new ≡ drop 1 self.old }

@@ -13,7 +13,7 @@ use wkt_tree::Outline;
 ///
 /// # Errors
 ///
-/// A growth was refused.
+/// An allocation failed.
 pub fn build_parts(alloc: Global, outline: &Outline<'_>) -> Result<CrsParts, AllocError>
     ensures { BuildsParts (cut 0 outline.now) result }
 {

@@ -41,7 +41,7 @@ first_of_last (suc k) n =
     ap (λ ds. ds ++ ((48 + n % 10) ∷ [])) (first_of_last k (n / 10))
     ∙ ap (λ m. (48 + m % 10) ∷ last_digits (suc k) n) (fewer k n)
 
--- these digits stand behind the number w
+-- these digits stand after the number w
 record Behind (w s : ℕ) (digits : List ℕ) : Type 0 where
   whole : s / 10 ^ length digits ≡ w
   last : last_digits (length digits) s ≡ digits

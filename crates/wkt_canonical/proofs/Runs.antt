@@ -45,7 +45,7 @@ root {text} {mid} {rest} k x runs e g =
     let regroup : (k ++ 91 ∷ []) ++ (render x ++ (b ++ 93 ∷ rest)) ≡ (k ++ (91 ∷ ((render x ++ b) ++ 93 ∷ []))) ++ rest = simp append_assoc in
     ap (λ l. (k ++ 91 ∷ []) ++ l) (e ∙ ap (λ l. render x ++ l) g.is) ∙ regroup
 
--- ---- arguments behind their commas
+-- ---- arguments after their commas
 
 pub behind_comma_is : {text inside : List ℕ} (x : Bare) (rest : List ℕ) → text ≡ 44 ∷ inside → inside ≡ render x ++ rest → text ≡ behind (one x) ++ rest
 unfolding behind

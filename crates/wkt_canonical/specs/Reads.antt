@@ -1,4 +1,4 @@
--- What stands at the front of a text: the canonical text of a value that passes a test, and the rest behind it.
+-- What stands at the front of a text: the canonical text of a value that passes a test, and the rest after it.
 use Rattle.std.specs.Prelude.{◌≡◌, ℕ, ◌+◌, ◌<◌, Bool, true, false, not, ◌||◌, None, is_some, is_none, codes, List, [], ◌∷◌, ◌++◌, map, Option}
 use Rattle.std.specs.Int.{is_positive, is_negative}
 use Rattle.std.specs.List.{list_all}
@@ -36,7 +36,7 @@ use Rattle.wkt_meaning.specs.Render.{render, render_behind}
 use Rattle.wkt_meaning.specs.Runs.{listed}
 use Rattle.wkt_meaning.specs.Trees.{one, maybe, joined, unit_tree, system_tree, meridian_tree, order_tree, axis_tree, usage_tree, ident_tree, text_tree, code_tree, value_tree, single_tree}
 
--- the text of arguments behind the first
+-- the text of arguments after the first
 unfoldable pub behind : List Bare → List ℕ
 behind xs = render_behind (bares xs)
 
@@ -46,7 +46,7 @@ pub record ReadsFirst {A : Type 0} (test : A → Bool) (tree : A → Bare) (text
   pub passes : test value ≡ true
   pub is : text ≡ render (tree value) ++ rest
 
--- a further argument, behind its comma
+-- a further argument, after its comma
 pub record ReadsOne {A : Type 0} (test : A → Bool) (tree : A → Bare) (text rest : List ℕ) : Type 0 where
   pub value : A
   pub passes : test value ≡ true
@@ -58,7 +58,7 @@ pub record ReadsText (content text rest : List ℕ) : Type 0 where
   pub content_is : value.bytes ≡ content
   pub is : text ≡ render (text_tree value) ++ rest
 
--- a code behind its comma, which counts as these characters
+-- a code after its comma, which counts as these characters
 pub record ReadsCode (content text rest : List ℕ) : Type 0 where
   pub value : NumberOrText
   pub content_is : text_of value ≡ content

@@ -6,7 +6,7 @@ ghost use Rattle.wkt_canonical.specs.Reads.{IsCanonical, IsCanonicalOf};
 use crate::crs::{Seen, whole};
 
 /// The name and the first identifier of a reference system of which all conditions hold, if the text is seen to be its
-/// canonical one. Nothing grows. Some canonical texts are not seen: those with marks in their texts, with units of some of
+/// canonical one. Nothing is allocated. Some canonical texts are not seen: those with marks in their texts, with units of some of
 /// their axes and none of others, or with long numbers.
 pub fn recognize(bytes: &[u8]) -> Option<Seen<'_>>
     ensures { IfSome result (λ seen. IsCanonicalOf seen bytes.now) }

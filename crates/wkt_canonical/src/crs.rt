@@ -31,7 +31,7 @@ struct Component<'a> {
     may_be_second: bool,
 }
 
-/// What is seen of a reference system of which all conditions hold, and what stands behind its canonical text.
+/// What is seen of a reference system of which all conditions hold, and the rest after its canonical text.
 pub(crate) fn whole(bytes: &[u8]) -> Option<(Seen<'_>, &[u8])>
     ensures { IfSome result (λ found. ReadsWhole found.0 bytes.now found.1.now) }
 {
@@ -43,7 +43,7 @@ pub(crate) fn whole(bytes: &[u8]) -> Option<(Seen<'_>, &[u8])>
     Some((component.seen, rest))
 }
 
-/// What is seen of a compound reference system, and what stands behind it, from behind its opening delimiter on.
+/// What is seen of a compound reference system, and the rest after it, read from after its opening delimiter.
 fn compound(bytes: &[u8]) -> Option<(Seen<'_>, &[u8])>
     ensures { IfSome result (λ found. ReadsWhole found.0 (codes "COMPOUNDCRS[" ++ bytes.now) found.1.now) }
 {
@@ -62,7 +62,7 @@ fn compound(bytes: &[u8]) -> Option<(Seen<'_>, &[u8])>
     Some((Seen { name, identifier }, rest))
 }
 
-/// What is seen of a reference system of one part, and what stands behind it.
+/// What is seen of a reference system of one part, and the rest after it.
 fn single(bytes: &[u8]) -> Option<(Component<'_>, &[u8])>
     ensures { IfSome result (λ found. ReadsSingle found.0 bytes.now found.1.now) }
 {
@@ -83,7 +83,7 @@ fn single(bytes: &[u8]) -> Option<(Component<'_>, &[u8])>
     Some((component, rest))
 }
 
-/// The first identifier of a reference system, and what stands behind its usages, identifiers, remark and closing delimiter.
+/// The first identifier of a reference system, and the rest after its usages, identifiers, remark and closing delimiter.
 fn end(bytes: &[u8]) -> Option<(Option<Identifier<'_>>, &[u8])>
     ensures { IfSome result (λ found. ReadsEnd found.0 bytes.now found.1.now) }
 {
@@ -94,7 +94,7 @@ fn end(bytes: &[u8]) -> Option<(Option<Identifier<'_>>, &[u8])>
     Some((identifier, rest))
 }
 
-/// What is seen of a geodetic reference system, and what stands behind it, from behind its opening delimiter on.
+/// What is seen of a geodetic reference system, and the rest after it, read from after its opening delimiter.
 fn geodetic(kind: GeodeticKind, bytes: &[u8]) -> Option<(Component<'_>, &[u8])>
     ensures { IfSome result (λ found. ReadsSingle found.0 ((geodetic_name kind ++ 91 ∷ []) ++ bytes.now) found.1.now) }
 {
@@ -115,7 +115,7 @@ fn geodetic(kind: GeodeticKind, bytes: &[u8]) -> Option<(Component<'_>, &[u8])>
     Some((component, rest))
 }
 
-/// What stands behind the base of a projected reference system, from behind its opening delimiter on.
+/// The rest after the base of a projected reference system, read from after its opening delimiter.
 fn base_of(kind: GeodeticKind, bytes: &[u8]) -> Option<&[u8]>
     ensures { IfSome result (λ rest. ReadsInside base_passes base_tree (44 ∷ (base_name kind ++ 91 ∷ [])) bytes.now rest.now) }
 {
@@ -128,7 +128,7 @@ fn base_of(kind: GeodeticKind, bytes: &[u8]) -> Option<&[u8]>
     Some(rest)
 }
 
-/// What stands behind the base of a projected reference system.
+/// The rest after the base of a projected reference system.
 fn base(bytes: &[u8]) -> Option<&[u8]>
     ensures { IfSome result (λ rest. ReadsOne base_passes base_tree bytes.now rest.now) }
 {
@@ -141,7 +141,7 @@ fn base(bytes: &[u8]) -> Option<&[u8]>
     Some(rest)
 }
 
-/// What is seen of a projected reference system, and what stands behind it, from behind its opening delimiter on.
+/// What is seen of a projected reference system, and the rest after it, read from after its opening delimiter.
 fn projected(bytes: &[u8]) -> Option<(Component<'_>, &[u8])>
     ensures { IfSome result (λ found. ReadsSingle found.0 (codes "PROJCRS[" ++ bytes.now) found.1.now) }
 {
@@ -162,7 +162,7 @@ fn projected(bytes: &[u8]) -> Option<(Component<'_>, &[u8])>
     Some((component, rest))
 }
 
-/// What is seen of a vertical reference system, and what stands behind it, from behind its opening delimiter on.
+/// What is seen of a vertical reference system, and the rest after it, read from after its opening delimiter.
 fn vertical(bytes: &[u8]) -> Option<(Component<'_>, &[u8])>
     ensures { IfSome result (λ found. ReadsSingle found.0 (codes "VERTCRS[" ++ bytes.now) found.1.now) }
 {

@@ -58,7 +58,7 @@ impl Node for PrimeMeridian {
     }
 }
 
-/// What stands behind the accuracy of an ensemble.
+/// The rest after the accuracy of an ensemble.
 fn accuracy(bytes: &[u8]) -> Option<&[u8]>
     ensures { IfSome result (λ rest. ReadsOne any accuracy_tree bytes.now rest.now) }
 {
@@ -68,7 +68,7 @@ fn accuracy(bytes: &[u8]) -> Option<&[u8]>
     Some(rest)
 }
 
-/// What stands behind a geodetic datum, from behind its opening delimiter on.
+/// The rest after a geodetic datum, read from after its opening delimiter.
 fn datum(bytes: &[u8]) -> Option<&[u8]>
     ensures { IfSome result (λ rest. ReadsInside datum_passes datum_tree (codes ",DATUM[") bytes.now rest.now) }
 {
@@ -80,7 +80,7 @@ fn datum(bytes: &[u8]) -> Option<&[u8]>
     Some(rest)
 }
 
-/// What stands behind an ensemble of geodetic datums, from behind its opening delimiter on.
+/// The rest after an ensemble of geodetic datums, read from after its opening delimiter.
 fn geodetic_ensemble(bytes: &[u8]) -> Option<&[u8]>
     ensures { IfSome result (λ rest. ReadsInside ensemble_passes geodetic_ensemble_tree (codes ",ENSEMBLE[") bytes.now rest.now) }
 {
@@ -93,7 +93,7 @@ fn geodetic_ensemble(bytes: &[u8]) -> Option<&[u8]>
     Some(rest)
 }
 
-/// What stands behind a geodetic datum, or an ensemble of them.
+/// The rest after a geodetic datum, or an ensemble of them.
 pub(crate) fn geodetic_frame(bytes: &[u8]) -> Option<&[u8]>
     ensures { IfSome result (λ rest. ReadsOne frame_passes geodetic_frame_tree bytes.now rest.now) }
 {
@@ -106,7 +106,7 @@ pub(crate) fn geodetic_frame(bytes: &[u8]) -> Option<&[u8]>
     Some(rest)
 }
 
-/// What stands behind a vertical datum, from behind its opening delimiter on.
+/// The rest after a vertical datum, read from after its opening delimiter.
 fn vertical_datum(bytes: &[u8]) -> Option<&[u8]>
     ensures { IfSome result (λ rest. ReadsInside any vertical_datum_tree (codes ",VDATUM[") bytes.now rest.now) }
 {
@@ -117,7 +117,7 @@ fn vertical_datum(bytes: &[u8]) -> Option<&[u8]>
     Some(rest)
 }
 
-/// What stands behind an ensemble of vertical datums, from behind its opening delimiter on.
+/// The rest after an ensemble of vertical datums, read from after its opening delimiter.
 fn vertical_ensemble(bytes: &[u8]) -> Option<&[u8]>
     ensures { IfSome result (λ rest. ReadsInside any vertical_ensemble_tree (codes ",ENSEMBLE[") bytes.now rest.now) }
 {
@@ -129,7 +129,7 @@ fn vertical_ensemble(bytes: &[u8]) -> Option<&[u8]>
     Some(rest)
 }
 
-/// What stands behind a vertical datum, or an ensemble of them.
+/// The rest after a vertical datum, or an ensemble of them.
 pub(crate) fn vertical_frame(bytes: &[u8]) -> Option<&[u8]>
     ensures { IfSome result (λ rest. ReadsOne any vertical_frame_tree bytes.now rest.now) }
 {

@@ -17,7 +17,7 @@ pub struct Identifier<'a> {
     pub code: &'a [u8],
 }
 
-/// An identifier, and what stands behind it, from behind its opening delimiter on.
+/// An identifier, and the rest after it, read from after its opening delimiter.
 fn one_identifier(bytes: &[u8]) -> Option<(Identifier<'_>, &[u8])>
     ensures { IfSome result (λ found. ReadsIdentifier found.0 bytes.now found.1.now) }
 {
@@ -30,7 +30,7 @@ fn one_identifier(bytes: &[u8]) -> Option<(Identifier<'_>, &[u8])>
     Some((Identifier { authority, code }, rest))
 }
 
-/// The first of the identifiers that come, and what stands behind them all.
+/// The first of the identifiers that come, and the rest after them all.
 pub(crate) fn identifiers(bytes: &[u8]) -> Option<(Option<Identifier<'_>>, &[u8])>
     ensures { IfSome result (λ found. ReadsIdentifiers found.0 bytes.now found.1.now) }
 {
@@ -59,7 +59,7 @@ impl Node for Ident {
     }
 }
 
-/// What stands behind a version, if it comes.
+/// The rest after a version, if it comes.
 fn version(bytes: &[u8]) -> &[u8]
     ensures { ReadsMaybe any code_tree bytes.now result.now }
 {
@@ -69,7 +69,7 @@ fn version(bytes: &[u8]) -> &[u8]
     }
 }
 
-/// What stands behind what has a name and identifiers, from behind its opening delimiter on.
+/// The rest after what has a name and identifiers, read from after its opening delimiter.
 fn named(bytes: &[u8]) -> Option<&[u8]>
     ensures { IfSome result (λ rest. ReadsWithin any named_tree bytes.now rest.now) }
 {
@@ -97,7 +97,7 @@ impl Node for Named {
     }
 }
 
-/// What stands behind the method of a conversion.
+/// The rest after the method of a conversion.
 pub(crate) fn method(bytes: &[u8]) -> Option<&[u8]>
     ensures { IfSome result (λ rest. ReadsOne any (named_tree (codes "METHOD")) bytes.now rest.now) }
 {

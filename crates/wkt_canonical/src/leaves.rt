@@ -14,7 +14,7 @@ use wkt_tree::first_mark;
 /// How many bytes are looked at together.
 const LANES: usize = 16;
 
-/// A text between marks, and what stands behind it.
+/// A text between marks, and the rest after it.
 pub(crate) fn content(bytes: &[u8]) -> Option<(&[u8], &[u8])>
     ensures { IfSome result (λ found. ReadsText found.0.now bytes.now found.1.now) }
 {
@@ -28,7 +28,7 @@ pub(crate) fn content(bytes: &[u8]) -> Option<(&[u8], &[u8])>
     Some((content, rest))
 }
 
-/// What stands behind a text between marks.
+/// The rest after a text between marks.
 pub(crate) fn text(bytes: &[u8]) -> Option<&[u8]>
     ensures { IfSome result (λ rest. ReadsFirst any text_tree bytes.now rest.now) }
 {
@@ -69,7 +69,7 @@ fn is_utf8(bytes: &[u8]) -> bool
     std::str::from_utf8(bytes).is_ok()
 }
 
-/// A code behind its comma, which is a number or a text, and what stands behind it. A number counts as it is written.
+/// A code after its comma, which is a number or a text, and the rest after it. A number counts as it is written.
 pub(crate) fn code(bytes: &[u8]) -> Option<(&[u8], &[u8])>
     ensures { IfSome result (λ found. ReadsCode found.0.now bytes.now found.1.now) }
 {
@@ -83,7 +83,7 @@ pub(crate) fn code(bytes: &[u8]) -> Option<(&[u8], &[u8])>
     Some((digits, rest))
 }
 
-/// What stands behind a code behind its comma.
+/// The rest after a code after its comma.
 pub(crate) fn code_behind_comma(bytes: &[u8]) -> Option<&[u8]>
     ensures { IfSome result (λ rest. ReadsOne any code_tree bytes.now rest.now) }
 {

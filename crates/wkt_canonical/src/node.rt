@@ -1,4 +1,4 @@
-//! Nodes, behind their opening delimiters.
+//! Nodes, after their opening delimiters.
 
 ghost use Rattle.std.specs.Prelude.{◌≡◌, ◌++◌, Bool, List, ℕ, IfSome};
 ghost use Rattle.wkt_tier.specs.Bare.{Bare};
@@ -18,12 +18,12 @@ pub(crate) trait Node {
     fn opening() -> &'static [u8]
         ensures { result.now ≡ opening };
 
-    /// What stands behind the node, from behind its opening delimiter on.
+    /// The rest after the node, read from after its opening delimiter.
     fn inside(text: &[u8]) -> Option<&[u8]>
         ensures { IfSome result (λ rest. ReadsInside test tree opening text.now rest.now) };
 }
 
-/// What stands behind the node, which has to come.
+/// The rest after the node, which has to come.
 pub(crate) fn one<T: Node>(text: &[u8]) -> Option<&[u8]>
     ensures { IfSome result (λ rest. ReadsOne T.test T.tree text.now rest.now) }
 {
@@ -32,7 +32,7 @@ pub(crate) fn one<T: Node>(text: &[u8]) -> Option<&[u8]>
     Some(rest)
 }
 
-/// What stands behind the node, if it comes.
+/// The rest after the node, if it comes.
 pub(crate) fn maybe<T: Node>(text: &[u8]) -> Option<&[u8]>
     ensures { IfSome result (λ rest. ReadsMaybe T.test T.tree text.now rest.now) }
 {
@@ -43,7 +43,7 @@ pub(crate) fn maybe<T: Node>(text: &[u8]) -> Option<&[u8]>
     Some(rest)
 }
 
-/// What stands behind the nodes that come.
+/// The rest after the nodes that come.
 pub(crate) fn each<T: Node>(text: &[u8]) -> Option<&[u8]>
     ensures { IfSome result (λ rest. ReadsEach T.test T.tree text.now rest.now) }
 {
@@ -57,7 +57,7 @@ pub(crate) fn each<T: Node>(text: &[u8]) -> Option<&[u8]>
     None
 }
 
-/// What stands behind the nodes that come, of which there has to be one.
+/// The rest after the nodes that come, of which there has to be one.
 pub(crate) fn some<T: Node>(text: &[u8]) -> Option<&[u8]>
     ensures { IfSome result (λ rest. ReadsSome T.test T.tree text.now rest.now) }
 {

@@ -13,7 +13,7 @@ use crate::front::behind;
 /// A longer whole part is not read.
 const MAX_WHOLE: usize = 16;
 
-/// So many digits behind a period are read.
+/// So many digits after a period are read.
 const MAX_PLACES: usize = 18;
 
 /// How many digits the bytes begin with.
@@ -30,7 +30,7 @@ fn split_digits(bytes: &[u8]) -> (&[u8], &[u8])
     bytes.split_at(leading_digits(bytes))
 }
 
-/// What stands behind the digits that follow a period.
+/// The rest after the digits that follow a period.
 fn fraction(text: &[u8]) -> Option<&[u8]>
     ensures { IfSome result (λ rest. ReadsFraction text.now rest.now) }
 {
@@ -44,7 +44,7 @@ fn fraction(text: &[u8]) -> Option<&[u8]>
     Some(rest)
 }
 
-/// What stands behind a number below one, but zero, of which the `0` was read.
+/// The rest after a number below one, but zero, of which the `0` was read.
 fn below_one(text: &[u8]) -> Option<&[u8]>
     ensures { IfSome result (λ rest. ReadsFirst is_above_zero number_tree (48 ∷ text.now) rest.now) }
 {
@@ -60,7 +60,7 @@ fn below_one(text: &[u8]) -> Option<&[u8]>
     Some(rest)
 }
 
-/// What stands behind a number from one on, which does not begin with `0`.
+/// The rest after a number from one on, which does not begin with `0`.
 fn from_one(text: &[u8]) -> Option<&[u8]>
     requires { get_or text.now 0 0 ≢ 48 }
     ensures { IfSome result (λ rest. ReadsFirst is_above_zero number_tree text.now rest.now) }
@@ -81,7 +81,7 @@ fn from_one(text: &[u8]) -> Option<&[u8]>
     Some(rest)
 }
 
-/// What stands behind a number above zero.
+/// The rest after a number above zero.
 pub(crate) fn positive_number(text: &[u8]) -> Option<&[u8]>
     ensures { IfSome result (λ rest. ReadsFirst is_above_zero number_tree text.now rest.now) }
 {
@@ -94,7 +94,7 @@ pub(crate) fn positive_number(text: &[u8]) -> Option<&[u8]>
     from_one(text)
 }
 
-/// What stands behind zero or a number below one, of which the `0` was read.
+/// The rest after zero or a number below one, of which the `0` was read.
 fn from_zero(text: &[u8]) -> Option<&[u8]>
     ensures { IfSome result (λ rest. ReadsFirst is_not_below_zero number_tree (48 ∷ text.now) rest.now) }
 {
@@ -113,7 +113,7 @@ fn from_zero(text: &[u8]) -> Option<&[u8]>
     Some(text)
 }
 
-/// What stands behind a number that is not below zero.
+/// The rest after a number that is not below zero.
 pub(crate) fn unsigned_number(text: &[u8]) -> Option<&[u8]>
     ensures { IfSome result (λ rest. ReadsFirst is_not_below_zero number_tree text.now rest.now) }
 {
@@ -129,7 +129,7 @@ pub(crate) fn unsigned_number(text: &[u8]) -> Option<&[u8]>
     Some(rest)
 }
 
-/// What stands behind a number.
+/// The rest after a number.
 pub(crate) fn number(text: &[u8]) -> Option<&[u8]>
     ensures { IfSome result (λ rest. ReadsFirst any number_tree text.now rest.now) }
 {
@@ -148,7 +148,7 @@ pub(crate) fn number(text: &[u8]) -> Option<&[u8]>
     Some(rest)
 }
 
-/// What stands behind a comma and a number.
+/// The rest after a comma and a number.
 pub(crate) fn number_behind_comma(text: &[u8]) -> Option<&[u8]>
     ensures { IfSome result (λ rest. ReadsOne any number_tree text.now rest.now) }
 {
@@ -161,7 +161,7 @@ pub(crate) fn number_behind_comma(text: &[u8]) -> Option<&[u8]>
     Some(rest)
 }
 
-/// What stands behind a comma and a number above zero.
+/// The rest after a comma and a number above zero.
 pub(crate) fn positive_number_behind_comma(text: &[u8]) -> Option<&[u8]>
     ensures { IfSome result (λ rest. ReadsOne is_above_zero number_tree text.now rest.now) }
 {
@@ -174,7 +174,7 @@ pub(crate) fn positive_number_behind_comma(text: &[u8]) -> Option<&[u8]>
     Some(rest)
 }
 
-/// What stands behind a comma and a number that is not below zero.
+/// The rest after a comma and a number that is not below zero.
 pub(crate) fn unsigned_number_behind_comma(text: &[u8]) -> Option<&[u8]>
     ensures { IfSome result (λ rest. ReadsOne is_not_below_zero number_tree text.now rest.now) }
 {

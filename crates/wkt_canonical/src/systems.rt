@@ -15,7 +15,7 @@ use crate::units::{Group, angle_unit, unit};
 use crate::words::{digit, direction, kind};
 use crs_part::{Direction, Ident, Meridian, SystemKind};
 
-/// The kind and the dimension of a coordinate system, and what stands behind it.
+/// The kind and the dimension of a coordinate system, and the rest after it.
 pub(crate) fn system(bytes: &[u8]) -> Option<(SystemKind, u32, &[u8])>
     ensures { IfSome result (λ found. ReadsSystem found.0 found.1 bytes.now found.2.now) }
 {
@@ -47,7 +47,7 @@ impl Node for Meridian {
     }
 }
 
-/// What stands behind a meridian, if it comes, and the axis points to the north or the south.
+/// The rest after a meridian, if it comes, and the axis points to the north or the south.
 fn meridian(direction: Direction, bytes: &[u8]) -> Option<&[u8]>
     ensures { IfSome result (λ rest. ReadsMeridian direction bytes.now rest.now) }
 {
@@ -69,7 +69,7 @@ fn is_north_or_south(direction: Direction) -> bool
     }
 }
 
-/// Whether the axis has its order, and what stands behind that.
+/// Whether the axis has its order, and the rest after that.
 fn order(k: u32, bytes: &[u8]) -> Option<(bool, &[u8])>
     requires { k < 3 }
     ensures { IfSome result (λ found. ReadsOrder k found.0 bytes.now found.1.now) }
@@ -85,7 +85,7 @@ fn order(k: u32, bytes: &[u8]) -> Option<(bool, &[u8])>
     Some((true, rest))
 }
 
-/// Whether the axis has a unit, which fits it, and what stands behind that.
+/// Whether the axis has a unit, which fits it, and the rest after that.
 fn axis_unit(kind: SystemKind, k: u32, bytes: &[u8]) -> Option<(bool, &[u8])>
     ensures { IfSome result (λ found. ReadsAxisUnit kind k found.0 bytes.now found.1.now) }
 {
@@ -98,7 +98,7 @@ fn axis_unit(kind: SystemKind, k: u32, bytes: &[u8]) -> Option<(bool, &[u8])>
     Some((true, rest))
 }
 
-/// What stands behind the unit that the axes have in common, if it comes. It has to where they have none, and fits each of them.
+/// The rest after the unit that the axes have in common, if it comes. It has to where they have none, and fits each of them.
 fn common_unit(kind: SystemKind, dimension: u32, has_unit: bool, bytes: &[u8]) -> Option<&[u8]>
     ensures { IfSome result (λ rest. ReadsCommonUnit kind dimension has_unit bytes.now rest.now) }
 {
@@ -163,7 +163,7 @@ fn takes_angle(kind: SystemKind, k: u32) -> bool
     }
 }
 
-/// Whether the axis at this place has its order, whether it has a unit, and what stands behind the axis.
+/// Whether the axis at this place has its order, whether it has a unit, and the rest after the axis.
 fn axis(system: SystemKind, k: u32, bytes: &[u8]) -> Option<(bool, bool, &[u8])>
     requires { k < 3 }
     ensures { IfSome result (λ found. ReadsAxis system k found.0 found.1 bytes.now found.2.now) }
@@ -180,7 +180,7 @@ fn axis(system: SystemKind, k: u32, bytes: &[u8]) -> Option<(bool, bool, &[u8])>
     Some((has_order, has_unit, rest))
 }
 
-/// What stands behind an axis that has its order and a unit, or has none, as an axis before it.
+/// The rest after an axis that has its order and a unit, or has none, as an axis before it.
 fn further_axis(
     system: SystemKind,
     k: u32,
@@ -201,7 +201,7 @@ fn further_axis(
     Some(rest)
 }
 
-/// What stands behind the axes of a system and their common unit.
+/// The rest after the axes of a system and their common unit.
 pub(crate) fn axes(system: SystemKind, dimension: u32, bytes: &[u8]) -> Option<&[u8]>
     ensures { IfSome result (λ rest. ReadsAxes system dimension bytes.now rest.now) }
 {

@@ -12,7 +12,7 @@ use crate::node::each;
 use crate::numerals::positive_number_behind_comma;
 use crs_part::Ident;
 
-/// What a unit measures, if it tells that.
+/// What a unit measures, where its keyword says so.
 #[derive(Clone, Copy, PartialEq, Eq)]
 pub(crate) enum Group {
     Length,
@@ -21,7 +21,7 @@ pub(crate) enum Group {
     Generic,
 }
 
-/// What stands behind a unit, from behind its opening delimiter on.
+/// The rest after a unit, read from after its opening delimiter.
 fn definition(bytes: &[u8]) -> Option<&[u8]>
     ensures { IfSome result (λ rest. ReadsWithin has_positive_factor unit_of_tree bytes.now rest.now) }
 {
@@ -32,7 +32,7 @@ fn definition(bytes: &[u8]) -> Option<&[u8]>
     Some(rest)
 }
 
-/// The group of a unit that comes, and what stands behind it.
+/// The group of a unit that comes, and the rest after it.
 pub(crate) fn unit(bytes: &[u8]) -> Option<(Group, &[u8])>
     ensures { IfSome result (λ found. ReadsUnit found.0 bytes.now found.1.now) }
 {
@@ -53,7 +53,7 @@ pub(crate) fn unit(bytes: &[u8]) -> Option<(Group, &[u8])>
     Some((Group::Generic, rest))
 }
 
-/// What stands behind a unit, if it comes.
+/// The rest after a unit, if it comes.
 pub(crate) fn maybe_unit(bytes: &[u8]) -> &[u8]
     ensures { ReadsMaybe unit_passes unit_tree bytes.now result.now }
 {
@@ -75,7 +75,7 @@ fn length_unit(bytes: &[u8]) -> Option<&[u8]>
     Some(rest)
 }
 
-/// What stands behind a unit of length, if it comes.
+/// The rest after a unit of length, if it comes.
 pub(crate) fn maybe_length_unit(bytes: &[u8]) -> &[u8]
     ensures { ReadsMaybe length_unit_passes length_unit_tree bytes.now result.now }
 {
@@ -85,7 +85,7 @@ pub(crate) fn maybe_length_unit(bytes: &[u8]) -> &[u8]
     }
 }
 
-/// What stands behind a unit of angle.
+/// The rest after a unit of angle.
 pub(crate) fn angle_unit(bytes: &[u8]) -> Option<&[u8]>
     ensures { IfSome result (λ rest. ReadsOne angle_unit_passes angle_unit_tree bytes.now rest.now) }
 {
@@ -98,7 +98,7 @@ pub(crate) fn angle_unit(bytes: &[u8]) -> Option<&[u8]>
     Some(rest)
 }
 
-/// What stands behind a unit of angle, if it comes.
+/// The rest after a unit of angle, if it comes.
 pub(crate) fn maybe_angle_unit(bytes: &[u8]) -> &[u8]
     ensures { ReadsMaybe angle_unit_passes angle_unit_tree bytes.now result.now }
 {

@@ -7,7 +7,7 @@ ghost use Rattle.wkt_canonical.specs.Reads.{ReadsMaybe, ReadsWithin, any};
 use crate::front::behind;
 use crate::leaves::text;
 
-/// What stands behind such a node, from behind its opening delimiter on.
+/// The rest after such a node, read from after its opening delimiter.
 pub(crate) fn value(bytes: &[u8]) -> Option<&[u8]>
     ensures { IfSome result (λ rest. ReadsWithin any value_tree bytes.now rest.now) }
 {
@@ -16,7 +16,7 @@ pub(crate) fn value(bytes: &[u8]) -> Option<&[u8]>
     Some(rest)
 }
 
-/// What stands behind a description of how a datum is anchored, if it comes.
+/// The rest after a description of how a datum is anchored, if it comes.
 pub(crate) fn anchor(bytes: &[u8]) -> Option<&[u8]>
     ensures { IfSome result (λ rest. ReadsMaybe any (value_tree (codes "ANCHOR")) bytes.now rest.now) }
 {
@@ -27,7 +27,7 @@ pub(crate) fn anchor(bytes: &[u8]) -> Option<&[u8]>
     Some(rest)
 }
 
-/// What stands behind a description of an area, if it comes.
+/// The rest after a description of an area, if it comes.
 pub(crate) fn area(bytes: &[u8]) -> Option<&[u8]>
     ensures { IfSome result (λ rest. ReadsMaybe any (value_tree (codes "AREA")) bytes.now rest.now) }
 {
@@ -38,7 +38,7 @@ pub(crate) fn area(bytes: &[u8]) -> Option<&[u8]>
     Some(rest)
 }
 
-/// What stands behind a citation, if it comes.
+/// The rest after a citation, if it comes.
 pub(crate) fn citation(bytes: &[u8]) -> Option<&[u8]>
     ensures { IfSome result (λ rest. ReadsMaybe any (value_tree (codes "CITATION")) bytes.now rest.now) }
 {
@@ -49,7 +49,7 @@ pub(crate) fn citation(bytes: &[u8]) -> Option<&[u8]>
     Some(rest)
 }
 
-/// What stands behind the place of an identifier, if it comes.
+/// The rest after the place of an identifier, if it comes.
 pub(crate) fn uri(bytes: &[u8]) -> Option<&[u8]>
     ensures { IfSome result (λ rest. ReadsMaybe any (value_tree (codes "URI")) bytes.now rest.now) }
 {
@@ -60,7 +60,7 @@ pub(crate) fn uri(bytes: &[u8]) -> Option<&[u8]>
     Some(rest)
 }
 
-/// What stands behind a remark, if it comes.
+/// The rest after a remark, if it comes.
 pub(crate) fn remark(bytes: &[u8]) -> Option<&[u8]>
     ensures { IfSome result (λ rest. ReadsMaybe any (value_tree (codes "REMARK")) bytes.now rest.now) }
 {

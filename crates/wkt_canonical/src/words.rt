@@ -7,7 +7,7 @@ ghost use Rattle.wkt_canonical.specs.Reads.{ReadsDigit};
 use crate::front::behind;
 use crs_part::{Direction, SystemKind};
 
-/// A kind of coordinate system, and what stands behind it.
+/// A kind of coordinate system, and the rest after it.
 pub(crate) fn kind(bytes: &[u8]) -> Option<(SystemKind, &[u8])>
     ensures { IfSome result (λ found. bytes.now ≡ system_word found.0 ++ found.1.now) }
 {
@@ -24,7 +24,7 @@ pub(crate) fn kind(bytes: &[u8]) -> Option<(SystemKind, &[u8])>
     Some((SystemKind::Spherical, rest))
 }
 
-/// A digit from 1 to 3, and what stands behind it.
+/// A digit from 1 to 3, and the rest after it.
 pub(crate) fn digit(bytes: &[u8]) -> Option<(u32, &[u8])>
     ensures { IfSome result (λ found. ReadsDigit found.0 bytes.now found.1.now) }
 {
@@ -38,7 +38,7 @@ pub(crate) fn digit(bytes: &[u8]) -> Option<(u32, &[u8])>
     Some((3, rest))
 }
 
-/// One that another begins with comes behind that.
+/// One that another begins with comes after that.
 static DIRECTIONS: [Direction; 21] = [
     Direction::EastNorthEast,
     Direction::EastSouthEast,
@@ -63,7 +63,7 @@ static DIRECTIONS: [Direction; 21] = [
     Direction::GeocentricZ,
 ];
 
-/// A direction, and what stands behind it.
+/// A direction, and the rest after it.
 pub(crate) fn direction(bytes: &[u8]) -> Option<(Direction, &[u8])>
     ensures { IfSome result (λ found. bytes.now ≡ direction_word found.0 ++ found.1.now) }
 {

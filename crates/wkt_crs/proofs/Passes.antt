@@ -28,11 +28,11 @@ node_goes old new w o h (node k d b items c) rest e f = h items d c rest (ap (λ
 
 -- ---- the items of a node
 
--- behind an item: the end of the node, or a comma and more items
+-- after an item: the end of the node, or a comma and more items
 abbrev pub Behind : List Tok → Delimiter → Piece → List Tok → Type 0
 Behind cur d c rest = (cur ≡ tok (Close d) c ∷ rest) ⊎ ((k : Piece) × (left : Items) × (cur ≡ tok Comma k ∷ (all_tokens left ++ tok (Close d) c ∷ rest)))
 
--- where the node's items are those from old on, cur is behind one of them
+-- where the node's items are those from old on, cur is after one of them
 abbrev pub GoesOn : List Tok → List Tok → Type 0
 GoesOn old cur = (items : Items) (d : Delimiter) (c : Piece) (rest : List Tok) → old ≡ all_tokens items ++ tok (Close d) c ∷ rest → Behind cur d c rest
 

@@ -67,7 +67,7 @@ IsCanonicalFault bytes fault.NoIdentifier = (length bytes ≤ 65536) × ((crs : 
 IsCanonicalFault bytes fault.NotCanonical = (length bytes ≤ 65536) × ((crs : Crs) × Spells bytes crs × ¬ (HasNone crs) × ¬ (bytes ≡ canon crs))
 IsCanonicalFault bytes fault.Memory = Unit {0}
 
--- want of memory is one fault
+-- `Memory` is one fault
 abbrev pub of_read : ReadFault → DefinitionFault
 of_read (read.Text f) = fault.Read (read.Text f)
 of_read (read.Slot f) = fault.Read (read.Slot f)

@@ -27,7 +27,7 @@ abbrev pub first_begin : Items → ℕ
 first_begin (last i) = begin i
 first_begin (more i c rest) = begin i
 
--- where the items behind the first begin
+-- where the items after the first begin
 abbrev pub second_begin : Items → ℕ
 second_begin (last i) = 0
 second_begin (more i c rest) = first_begin rest
@@ -58,7 +58,7 @@ pub record FirstBroken (text : List ℕ) (condition : Condition) (at : ℕ) : Ty
   pub broken : first_broken value ≡ Some (record { whose = whose; condition = condition })
   pub place : at ≡ keyword_place item whose
 
--- want of memory says nothing of the text
+-- `Memory` says nothing of the text
 abbrev pub FirstFault : List ℕ → ReadFault → Type 0
 FirstFault bytes (fault.Text f) = tree.FirstFault bytes f
 FirstFault bytes (fault.Slot f) = FirstSlot bytes f

@@ -17,11 +17,11 @@ is_word Comma = false
 is_word (Open d) = false
 is_word (Close d) = false
 
--- from an item on: behind it stands what followed it
+-- from an item on: after it stands what followed it
 abbrev pub PassesItem : List Tok → List Tok → Type 0
 PassesItem old new = (i : Item) (rest : List Tok) → old ≡ tokens i ++ rest → Follows rest → new ≡ rest
 
--- from the items of a node on: behind its closing delimiter
+-- from the items of a node on: after its closing delimiter
 abbrev pub PassesItems : List Tok → List Tok → Type 0
 PassesItems old new = (items : Items) (d : Delimiter) (c : Piece) (rest : List Tok) → old ≡ all_tokens items ++ tok (Close d) c ∷ rest → new ≡ rest
 

@@ -37,7 +37,7 @@ pub enum DefinitionFault {
     CanonicalTooLong,
     /// The text is not the canonical one of its value.
     NotCanonical,
-    /// A growth was refused.
+    /// An allocation failed.
     Memory,
 }
 
@@ -100,7 +100,7 @@ impl Definition {
         ensures ok { IfOk result (λ d. d ≡ bytes.now) }
         ensures fault { IfErr result (IsCanonicalFault bytes.now) }
         ensures only { IsDefinition bytes.now → (result ≡ Ok bytes.now) ⊎ (result ≡ Err fault.Memory) }
-        // These always come: want of memory never stands in their place.
+        // These always come: `Memory` never stands in their place.
         ensures long { 65536 < length bytes.now → result ≡ Err fault.CanonicalTooLong }
         ensures text { (f : TextFault) → length bytes.now ≤ 65536 → tree.FirstFault bytes.now f → result ≡ Err (fault.Read (read.Text f)) }
         ensures slot { (f : SlotFault) → length bytes.now ≤ 65536 → FirstSlot bytes.now f → result ≡ Err (fault.Read (read.Slot f)) }

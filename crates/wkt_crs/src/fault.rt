@@ -13,6 +13,6 @@ pub enum ReadFault {
     Slot(SlotFault),
     /// A condition fails, of the system whose keyword begins at the place.
     Broken { condition: Condition, place: usize },
-    /// A growth was refused.
+    /// An allocation failed.
     Memory,
 }

@@ -42,7 +42,7 @@ pub(crate) fn written_back(alloc: Global, bytes: &[u8]) -> Result<Option<Written
     Ok(Some(Written { crs, text }))
 }
 
-/// The value of a canonical text, which is recognized before anything grows.
+/// The value of a canonical text, which is recognized before anything is allocated.
 pub(crate) fn guessed(alloc: Global, text: &[u8]) -> Result<Option<Crs>, AllocError>
     ensures { IfOk result (λ found. IfSome found (Spells text.now)) }
 {

@@ -12,12 +12,12 @@ pub fn one_value()
     ensures { (text : List ℕ) (v w : Crs) → Spells text v → Spells text w → v ≡ w }
 {}
 
-/// A text that spells a value has no fault but want of memory.
+/// A text that spells a value has no fault but `Memory`.
 pub fn value_or_fault()
     ensures { (text : List ℕ) (v : Crs) (f : ReadFault) → Spells text v → FirstFault text f → f ≡ fault.Memory }
 {}
 
-/// A text has one first fault, apart from want of memory.
+/// A text has one first fault, apart from `Memory`.
 pub fn one_first_fault()
     ensures { (text : List ℕ) (f g : ReadFault) → ¬ (f ≡ fault.Memory) → ¬ (g ≡ fault.Memory) → FirstFault text f → FirstFault text g → f ≡ g }
 {}

@@ -70,7 +70,7 @@ fn pass_items(cursor: &mut Cursor<'_>)
     cursor.advance();
 }
 
-/// Goes into a node, over its first argument and the comma behind it.
+/// Goes into a node, over its first argument and the comma after it.
 fn pass_first(cursor: &mut Cursor<'_>)
     ensures { PassesFirst cursor.old cursor.new }
 {

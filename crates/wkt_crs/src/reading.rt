@@ -20,7 +20,7 @@ use wkt_tier::check_slots;
 use wkt_tree::scan;
 
 /// The value that the text spells, or its first fault. Faults of the text and of its slots are answered before
-/// anything grows.
+/// anything is allocated.
 pub fn read_crs(alloc: Global, text: &[u8]) -> Result<Crs, ReadFault>
     ensures found { IfOk result (Spells text.now) }
     ensures only { (v : Crs) → Spells text.now v → (result ≡ Ok v) ⊎ (result ≡ Err fault.Memory) }
@@ -64,7 +64,7 @@ pub(crate) fn build_crs(alloc: Global, text: &[u8]) -> Result<Crs, ReadFault>
     }
 }
 
-/// The fault of a text that is refused for want of memory: that of the text or of its slots, if it has one.
+/// The fault of a text that is refused with `Memory`: that of the text or of its slots, if it has one.
 pub(crate) fn fault_without_memory(text: &[u8]) -> ReadFault
     ensures fault { FirstFault text.now result }
     ensures only { (v : Crs) → Spells text.now v → result ≡ fault.Memory }

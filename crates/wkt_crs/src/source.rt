@@ -1,3 +1,5 @@
+//! Reads texts from sources.
+
 ghost use Rattle.std.specs.Prelude.{IfOk, IfErr};
 ghost use Rattle.wkt_crs.specs.Source.{Finds, IsReadFromFault};
 

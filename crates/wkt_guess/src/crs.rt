@@ -17,7 +17,7 @@ pub struct Guess {
     pub outcome: Outcome,
 }
 
-/// What a canonical text spells, and any parts of another text. Nothing is claimed of them: who asks writes the parts, and
+/// What a canonical text spells, and any parts of another text. Nothing is claimed of them: the caller writes the parts, and
 /// compares.
 pub fn guess_parts(alloc: Global, text: &[u8]) -> Guess {
     let mut rest = Rest::new(text);

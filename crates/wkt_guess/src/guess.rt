@@ -1,4 +1,4 @@
-//! Nodes, behind their opening delimiters.
+//! Nodes, after their opening delimiters.
 
 use crate::rest::Rest;
 use crs_part::{Many, NonEmpty};
@@ -9,7 +9,7 @@ pub(crate) trait Node {
     /// The comma before it, its keyword and its opening delimiter.
     fn opening() -> &'static [u8];
 
-    /// What it holds, and goes behind its closing delimiter.
+    /// What it holds, and goes past its closing delimiter.
     fn guess(alloc: Global, rest: &mut Rest<'_>) -> Self;
 }
 
@@ -43,7 +43,7 @@ pub(crate) fn each<T: Node + Drop>(alloc: Global, rest: &mut Rest<'_>) -> Many<T
     Many::from_vec(items)
 }
 
-/// Appends an item. Most lists have one alone, so the first growth is one of that size.
+/// Appends an item. Most lists have one alone, so the first allocation has that size.
 fn push<T: Drop>(alloc: Global, items: &mut Vec<T>, item: T) -> Result<(), AllocError> {
     if items.is_empty() {
         *items = Vec::with_capacity(alloc, 1)?;

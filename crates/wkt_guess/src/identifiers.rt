@@ -47,7 +47,7 @@ fn version(alloc: Global, rest: &mut Rest<'_>) -> Option<NumberOrText> {
     Some(number_or_text(alloc, rest))
 }
 
-/// A name and identifiers, behind the opening delimiter.
+/// A name and identifiers, after the opening delimiter.
 pub(crate) fn named(alloc: Global, rest: &mut Rest<'_>) -> Named {
     let name = text(alloc, rest);
     let ids = each(alloc, rest);

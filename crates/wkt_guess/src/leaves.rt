@@ -35,7 +35,7 @@ fn empty(alloc: Global) -> Text {
     }
 }
 
-/// The text of a node that holds one alone, behind its opening delimiter.
+/// The text of a node that holds one alone, after its opening delimiter.
 pub(crate) fn value(alloc: Global, rest: &mut Rest<'_>) -> Text {
     let text = text(alloc, rest);
     rest.want(b"]");

@@ -12,12 +12,12 @@ pub enum Outcome {
     Read,
     /// It is no canonical text, or it has marks in a text.
     Strayed,
-    /// A growth was refused.
+    /// An allocation failed.
     Refused,
 }
 
-/// What is left of a text that is taken for a canonical one. Once it goes on as no canonical text does, or a growth is
-/// refused, nothing of it is left, and what is still to be filled is filled with nothing.
+/// What is left of a text that is taken for a canonical one. Once it goes on as no canonical text does, or an
+/// allocation failed, nothing of it is left, and what is still to be filled is filled with nothing.
 #[derive(Drop)]
 pub(crate) struct Rest<'a> {
     bytes: &'a [u8],
@@ -55,7 +55,7 @@ impl<'a> Rest<'a> {
         self.strayed = true;
     }
 
-    /// Gives up: a growth was refused.
+    /// Gives up: an allocation failed.
     pub(crate) fn refuse(&mut self) {
         self.bytes = &[];
         self.refused = true;
@@ -66,7 +66,7 @@ impl<'a> Rest<'a> {
         self.bytes.starts_with(word)
     }
 
-    /// Goes behind the word, if it comes.
+    /// Goes past the word, if it comes.
     #[inline(always)]
     pub(crate) fn eat(&mut self, word: &[u8]) -> bool {
         // A node that doesn't come differs from what comes in its second byte, mostly, as each begins with a comma.
@@ -82,7 +82,7 @@ impl<'a> Rest<'a> {
         }
     }
 
-    /// Goes behind the word, which has to come.
+    /// Goes past the word, which has to come.
     #[inline(always)]
     pub(crate) fn want(&mut self, word: &[u8]) {
         if !self.eat(word) {
@@ -118,7 +118,7 @@ impl<'a> Rest<'a> {
     }
 }
 
-/// Digits, how many of them stand behind a period, and the length of both.
+/// Digits, how many of them stand after a period, and the length of both.
 #[derive(Clone, Copy)]
 struct PlainNumeral {
     digits: u64,
@@ -131,7 +131,7 @@ struct PlainNumeral {
 fn plain_numeral(bytes: &[u8]) -> Option<PlainNumeral> {
     let mut digits = 0u64;
     let mut places = 0u32;
-    // One behind the period, and nothing before it.
+    // One after the period, and nothing before it.
     let mut step = 0u32;
     let mut last = b'.';
     for (len, byte) in bytes.iter().enumerate() {

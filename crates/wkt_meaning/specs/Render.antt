@@ -14,7 +14,7 @@ abbrev mutual
   render_all none = []
   render_all (and i r) = render i ++ render_behind r
 
-  -- behind an item, each further one after a comma
+  -- after an item, each further one after a comma
   pub render_behind : Bares → List ℕ
   render_behind none = []
   render_behind (and i r) = 44 ∷ (render i ++ render_behind r)

@@ -549,7 +549,7 @@ front_step (s ∷ before) tail filled a args c (b ∷ run, rest, e, all, n, f) =
     let passed = both_true (takes s.takes a) (not filled || is_many s.often) t (may_take s.often filled (length run) n) in
     (s, before, ap (λ x. Taken s row filled a x (is_required s.often && not filled)) passed, (run, rest, others, All-tail (Passes s.takes) b run all, one_less s.often filled (length run) n, f))
 
--- the front is full, and the slot behind it is required
+-- the front is full, and the slot after it is required
 front_missing : (before : List Slot) (s : Slot) (after : List Slot) (filled : Bool) → Left before filled [] → is_required s.often ≡ true → (before ≡ [] → filled ≡ false) → missing (before ++ s ∷ after) filled ≡ Some s.name
 front_missing [] s after filled h r z = ap (λ b. cond b (Some s.name) (missing after false)) (both_true (is_required s.often) (not filled) r (ap not (z refl)))
 front_missing (x ∷ before) s after filled ([], rest, e, all, n, f) r z =

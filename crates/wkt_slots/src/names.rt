@@ -6,7 +6,7 @@ ghost use Rattle.wkt_slots.specs.Names.{slot_name};
 use crate::table::SlotName;
 
 impl SlotName {
-    /// The name that a fault tells.
+    /// The name that a fault prints.
     pub fn name(self) -> &'static str
         ensures { result.now ≡ slot_name self }
     {

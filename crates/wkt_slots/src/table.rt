@@ -5,7 +5,7 @@
 pub enum Edition {
     /// Vertical systems without geoid models, and usages without vertical extents.
     First,
-    /// The first with both: any number of geoid models behind the unit of a vertical system, and a vertical extent at
+    /// The first with both: any number of geoid models after the unit of a vertical system, and a vertical extent at
     /// the end of a usage.
     Second,
 }
@@ -51,7 +51,7 @@ pub enum Keyword {
     Identifier,
 }
 
-/// What an argument is, as far as a row tells arguments apart.
+/// What an argument is, as far as a row distinguishes arguments.
 #[derive(Clone, Copy, Debug)]
 pub enum Argument {
     Text,

@@ -26,7 +26,7 @@ use Rattle.crs_number.specs.Count.{is_count}
 use Rattle.wkt_tier.specs.Next.{Follows, next_is, is_open, is_comma, place_next}
 use Rattle.wkt_tier.specs.First.{row_by, first, items_fault, item_fault, missing_fault, rest_at, refusal, taken, argument_fault, AnswersItem, AnswersNode}
 
--- behind an argument: the end of the node, or a comma and more arguments; and what is still to be answered
+-- after an argument: the end of the node, or a comma and more arguments; and what is still to be answered
 abbrev pub Behind : Edition → Node → Items → Delimiter → Piece → List Tok → List Tok → Place → Type 0
 Behind ed n items d c rest cur p =
     (p.filled ≡ true)
@@ -187,7 +187,7 @@ goes_first ed n p old cur a items d c rest e = behind_item ed n start p items it
 pub err_first : (ed : Edition) (n : Node) (f : SlotFault) (old cur new : List Tok) → AnswersItem ed n start old cur (Err f) → AnswersNode ed n old new (Err f)
 err_first ed n f old cur new a items d c rest e = item_err ed n start items old cur f d c rest a e
 
--- the arguments behind a comma
+-- the arguments after a comma
 on_comma : (ed : Edition) (n : Node) (p : Place) (old cur : List Tok) (items : Items) (d : Delimiter) (c : Piece) (rest : List Tok) → GoesOn ed n old cur p → next_is is_comma cur ≡ true → old ≡ all_tokens items ++ tok (Close d) c ∷ rest
     → (left : Items) × (drop 1 cur ≡ all_tokens left ++ tok (Close d) c ∷ rest) × (items_fault ed n (row_of ed n) false items c.place ≡ items_fault ed n (rest_at ed n p) p.filled left c.place)
 on_comma ed n p old cur items d c rest g m e =

@@ -1,4 +1,4 @@
-//! What an argument is, as far as the rows tell arguments apart.
+//! What an argument is, as far as the rows distinguish arguments.
 
 ghost use Rattle.std.specs.Prelude.{◌≡◌, ◌≤◌, drop, length};
 ghost use Rattle.wkt_slots.specs.Rows.{row_in, row_of};

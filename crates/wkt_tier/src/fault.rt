@@ -21,7 +21,7 @@ impl SlotFault {
     ghost use Rattle.wkt_tier.specs.Slots.{place};
     ghost use Rattle.wkt_tier.specs.Names.{fault_name};
 
-    /// The byte that it is told at, from 0.
+    /// The offset that it is reported at, from 0.
     pub fn place(self) -> usize
         ensures { result ≡ place self }
     {

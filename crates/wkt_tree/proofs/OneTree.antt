@@ -4,7 +4,7 @@ use Rattle.wkt_tree.specs.declared.token.Delimiter.{Delimiter}
 use Rattle.wkt_tree.specs.declared.token.TokenKind.TheVariants.{Word, Quoted, Number, Comma, Open, Close}
 use Rattle.wkt_tree.specs.Tree.{Piece, Tok, tok, Item, Items, text, number, word, node, last, more, tokens, all_tokens}
 
--- what stands behind an item opens nothing
+-- what follows an item opens nothing
 abbrev Shut : List Tok → Type 0
 Shut [] = Unit {0}
 Shut (t ∷ ts) = (d : Delimiter) → t.kind ≡ Open d → ⊥

@@ -53,7 +53,7 @@ close_begins Round b h = grind (arith, nat_tests)
 
 -- ---- one token
 
--- a token of UTF-8 is sound, and what stands behind it is UTF-8
+-- a token of UTF-8 is sound, and what follows it is UTF-8
 abbrev Passes : TokenKind → List ℕ → List ℕ → Type 0
 Passes k token rest = IsSound k token × IsUtf8 rest
 

@@ -27,7 +27,7 @@ sound_outline text o = record {
   sound = cut_sound 0 text (cut 0 text) o.cut o.utf8;
 }
 
--- what stands behind a token
+-- what follows a token
 record Behind (place : ℕ) (text : List ℕ) (t : Token) : Type 0 where
   is : tokens_from (Some t) (end_of (view t)) text ≡ tokens_at place text
   stand : IsStand (Some t) (end_of (view t)) text

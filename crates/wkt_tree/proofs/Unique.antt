@@ -20,7 +20,7 @@ at_is : (place at : ℕ) (bytes from : List ℕ) → Blanks place bytes at from 
 at_is place at bytes from b u =
     ap (λ k. place + k) (ap (prefix_len is_blank) b.whole ∙ prefix_is is_blank b.blanks from b.all (unblank_stops from u)) ∙ sym b.moved
 
--- what stands behind the blanks, and where
+-- what follows the blanks, and where
 record Meeting (Is Js : List ℕ → Type 0) (at by : ℕ) : Type 0 where
   same : at ≡ by
   from : List ℕ
@@ -247,7 +247,7 @@ same_first p b t u r s f g =
     let same : t ≡ u = cc in
     (same, sym x.1 ∙ (ap (λ (z : Tok). drop (length z.piece.bytes) (drop (prefix_len is_blank b) b)) same ∙ y.1))
 
--- one front goes on behind the other
+-- one front goes on after the other
 record Ahead (us : List Tok) (p : ℕ) (b : List ℕ) (vs : List Tok) : Type 0 where
   t : Tok
   rest : List ℕ

@@ -23,11 +23,11 @@ utf8_before xs b ys small u =
       subst IsUtf8 (drop_at xs (b ∷ ys) (length xs) refl) (IsUtf8-drop (xs ++ b ∷ ys) (length xs) u seam),
     )
 
--- and behind one
+-- and after one
 pub utf8_behind : (b : ℕ) (ys : List ℕ) → b < 128 → IsUtf8 (b ∷ ys) → IsUtf8 ys
 utf8_behind b ys small u = subst IsUtf8 (drop_at (b ∷ []) ys 1 refl) (IsUtf8-drop (b ∷ ys) 1 u (IsCharBoundary-after_ascii (b ∷ ys) 0 u (omega arith) small))
 
--- behind bytes that pass a test of ASCII
+-- after bytes that pass a test of ASCII
 pub utf8_past : (p : ℕ → Bool) → ((b : ℕ) → p b ≡ true → b < 128) → (xs ys : List ℕ) → AllPass p xs → IsUtf8 (xs ++ ys) → IsUtf8 ys
 utf8_past p small [] ys a u = u
 utf8_past p small (x ∷ xs) ys a u =

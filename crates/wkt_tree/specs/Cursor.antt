@@ -10,7 +10,7 @@ use Rattle.wkt_tree.specs.Faults.{view}
 abbrev pub IsSoundToken : Tok → Type 0
 IsSoundToken t = IsSound t.kind t.piece.bytes
 
--- the token that comes, and those of the text from the place behind it on
+-- the token that comes, and those of the text from the place after it on
 abbrev pub tokens_from : Option Token → ℕ → List ℕ → List Tok
 tokens_from None behind text = []
 tokens_from (Some t) behind text = view t ∷ cut behind (drop behind text)
@@ -26,7 +26,7 @@ pub record IsSoundCut (place : ℕ) (text : List ℕ) : Type 0 where
   pub cut : Cut place (drop place text) (tokens_at place text)
   pub sound : All IsSoundToken (tokens_at place text)
 
--- where a cursor stands: the token that comes is sound, and so is the cut behind it
+-- where a cursor stands: the token that comes is sound, and so is the cut after it
 pub record IsStand (token : Option Token) (behind : ℕ) (text : List ℕ) : Type 0 where
   pub coming : IfSome token (λ t. IsSound t.kind t.bytes.now)
   pub rest : IsSoundCut behind text

@@ -33,15 +33,15 @@ lexeme_at (b ∷ bs) = option_and_then (λ k. option_map (λ n. (k, suc n)) (fol
 abbrev pub token_behind : ℕ → List ℕ → Option Tok
 token_behind place bytes = option_map (λ (l : TokenKind × ℕ). tok l.0 (record { place = place; bytes = take l.1 bytes })) (lexeme_at bytes)
 
--- the first token, behind blanks
+-- the first token, after blanks
 abbrev pub first_token : ℕ → List ℕ → Option Tok
 first_token place bytes = token_behind (place + prefix_len is_blank bytes) (drop (prefix_len is_blank bytes) bytes)
 
--- the bytes behind the first token
+-- the bytes after the first token
 abbrev pub behind : List ℕ → Tok → List ℕ
 behind bytes t = drop (length t.piece.bytes) (drop (prefix_len is_blank bytes) bytes)
 
--- the first token, where there is one, and those behind it
+-- the first token, where there is one, and those after it
 abbrev pub cut_from : List ℕ → (ℕ → List ℕ → List Tok) → Option Tok → List Tok
 cut_from bytes go None = []
 cut_from bytes go (Some t) = t ∷ go (end_of t) (behind bytes t)

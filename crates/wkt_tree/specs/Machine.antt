@@ -37,7 +37,7 @@ closed Round (Round ∷ s) = Some (state Past s)
 closed Square (Round ∷ s) = None
 closed Round (Square ∷ s) = None
 
--- the state behind a token of this kind, with at most n delimiters open
+-- the state after a token of this kind, with at most n delimiters open
 abbrev pub step_at : ℕ → Phase → List Delimiter → TokenKind → Option State
 step_at n Begin s Word = Some (state Named s)
 step_at n Begin s Quoted = whole s
@@ -58,11 +58,11 @@ step_at n Past s Comma = comma s
 step_at n Past s (Open d) = None
 step_at n Past s (Close d) = closed d s
 
--- the state behind the next token
+-- the state after the next token
 abbrev pub step : ℕ → State → TokenKind → Option State
 step n st k = step_at n st.phase st.stack k
 
--- the state behind some tokens
+-- the state after some tokens
 abbrev pub run : ℕ → State → List Tok → Option State
 run n st [] = Some st
 run n st (t ∷ ts) = option_and_then (λ next. run n next ts) (step n st t.kind)

@@ -19,7 +19,7 @@ doubled b = if b == 34 then 34 ∷ 34 ∷ [] else b ∷ []
 abbrev pub quoted : List ℕ → List ℕ
 quoted content = 34 ∷ (flat_map doubled content ++ 34 ∷ [])
 
--- the bytes of a token behind its first
+-- the bytes of a token after its first
 abbrev pub Follow : TokenKind → List ℕ → Type 0
 Follow Word bs = AllPass is_word_byte bs
 Follow Number bs = AllPass is_number_byte bs
@@ -37,7 +37,7 @@ Stops p (b ∷ bs) = p b ≡ false
 abbrev pub is_mark : ℕ → Bool
 is_mark b = b == 34
 
--- what stands behind a token doesn't lengthen it
+-- what follows a token doesn't lengthen it
 abbrev pub Ends : TokenKind → List ℕ → Type 0
 Ends Word bs = Stops is_word_byte bs
 Ends Number bs = Stops is_number_byte bs
@@ -46,11 +46,11 @@ Ends Comma bs = Unit {0}
 Ends (Open d) bs = Unit {0}
 Ends (Close d) bs = Unit {0}
 
--- behind an opening mark: no mark closes the text
+-- after an opening mark: no mark closes the text
 abbrev pub IsUnclosed : List ℕ → Type 0
 IsUnclosed bs = (content rest : List ℕ) → bs ≡ flat_map doubled content ++ (34 ∷ rest) → Stops is_mark rest → ⊥
 
--- the longest token of this kind at the front of the bytes, and what stands behind it
+-- the longest token of this kind at the front of the bytes, and what follows it
 pub record Lexeme (kind : TokenKind) (bytes token rest : List ℕ) : Type 0 where
   pub first : ℕ
   pub others : List ℕ
@@ -121,7 +121,7 @@ pub record First (place : ℕ) (bytes : List ℕ) (t : Tok) (rest : List ℕ) : 
   pub lexeme : Lexeme t.kind from t.piece.bytes rest
   pub readable : IsReadable t.kind t.piece.bytes
 
--- the place behind a token
+-- the place after a token
 abbrev pub end_of : Tok → ℕ
 end_of t = t.piece.place + length t.piece.bytes
 

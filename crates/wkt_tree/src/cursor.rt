@@ -74,7 +74,7 @@ impl<'a> Cursor<'a> {
         }
     }
 
-    /// Goes behind the token that comes, where one does.
+    /// Goes past the token that comes, where one does.
     #[inline(always)]
     pub fn advance(&mut self)
         ensures { self.new ≡ drop 1 self.old }

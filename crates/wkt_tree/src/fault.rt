@@ -24,7 +24,7 @@ pub enum TextFault {
     Depth(usize),
     /// The text ends before its tree does.
     EndEarly(usize),
-    /// A token behind the end of the tree.
+    /// A token after the end of the tree.
     After(usize),
 }
 

@@ -75,7 +75,7 @@ fn number_len(bytes: &[u8]) -> usize
     bytes.iter().take_while(|b| is_number_byte(**b)).count()
 }
 
-/// How many bytes behind the opening mark belong to the text, with the mark that closes it.
+/// How many bytes after the opening mark belong to the text, with the mark that closes it.
 #[inline(always)]
 fn quoted_len(bytes: &[u8]) -> Option<usize>
     ensures within { IfSome result (λ n. n ≤ length bytes.now) }
@@ -99,7 +99,7 @@ fn quoted_len(bytes: &[u8]) -> Option<usize>
     None
 }
 
-/// How many bytes behind its first one a token of this kind has.
+/// How many bytes after its first one a token of this kind has.
 #[inline(always)]
 fn follow_len(kind: TokenKind, bytes: &[u8]) -> Option<usize>
     ensures within { IfSome result (λ n. n ≤ length bytes.now) }

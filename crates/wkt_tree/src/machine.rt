@@ -18,7 +18,7 @@ pub(crate) enum Phase {
     Past,
 }
 
-/// What comes behind the next token, where that can come.
+/// What follows the next token, where that can come.
 #[inline(always)]
 fn take(phase: Phase, stack: &mut Stack, kind: TokenKind) -> Option<Phase>
     ensures taken { IfSome result (λ next. step_at 16 phase stack.old kind ≡ Some (state next stack.new)) }

@@ -18,7 +18,7 @@ use Rattle.wkt_write.specs.Layout.{before, inner, laid, laid_all, laid_behind}
 abbrev pub piece : ℕ → List ℕ → Piece
 piece place bytes = record { place = place; bytes = bytes }
 
--- what stands behind lengthens no token
+-- what follows lengthens no token
 pub record StopsAll (rest : List ℕ) : Type 0 where
   pub of_word : Stops is_word_byte rest
   pub of_number : Stops is_number_byte rest
@@ -26,7 +26,7 @@ pub record StopsAll (rest : List ℕ) : Type 0 where
 
 -- ---- one token
 
--- a token that stands behind blanks
+-- a token that stands after blanks
 first_behind : (k : TokenKind) (place : ℕ) (blanks bytes rest : List ℕ) → AllPass is_blank blanks → IsToken k bytes → Ends k rest → First place (blanks ++ (bytes ++ rest)) (tok k (piece (place + length blanks) bytes)) rest
 first_behind k place blanks bytes rest b t e = record {
   from = bytes ++ rest;
@@ -131,7 +131,7 @@ one_behind layout n place i r rest head tail =
       front = subst (λ b. Front place b added tail.end rest) (sym regroup) (text, comma, front_join (place + 1) _ (tokens head.item) head.end _ tail.added tail.end rest head.front tail.front);
     }
 
--- a node, from its first item and those behind it
+-- a node, from its first item and those after it
 place_node : (layout : layouts.Layout) (n place : ℕ) (k : List ℕ) (i : Bare) (r : Bares) (rest : List ℕ) → IsToken Word k → (head : Placed (inner layout) n (place + length (before layout) + length k + 1) i (laid_behind (inner layout) r ++ 93 ∷ rest)) → Behind (inner layout) n head.end r (93 ∷ rest) → Placed layout (suc n) place (node k (and i r)) rest
 unfolding laid laid_all
 place_node layout n place k i r rest name_is head tail =

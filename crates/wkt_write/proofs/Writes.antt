@@ -59,7 +59,7 @@ whole {opened} {mid} {new} {inside} layout old k x xs e i f r =
     let regroup : ((old ++ (before layout ++ (k ++ 91 ∷ []))) ++ t) ++ (b ++ 93 ∷ []) ≡ old ++ (before layout ++ (k ++ (91 ∷ ((t ++ b) ++ 93 ∷ [])))) = simp append_assoc in
     r.is ∙ (ap (λ l. l ++ (b ++ 93 ∷ [])) (f ∙ ap (λ l. l ++ t) e) ∙ (regroup ∙ ap (λ n. old ++ (before layout ++ (k ++ (91 ∷ ((laid n x ++ laid_behind n xs) ++ 93 ∷ []))))) i))
 
--- one argument behind the first
+-- one argument after the first
 pub argument : {mid new : List ℕ} (layout : layouts.Layout) (old : List ℕ) (x : Bare) → mid ≡ old ++ 44 ∷ [] → new ≡ mid ++ laid layout x → new ≡ old ++ behind layout (one x)
 unfolding behind laid_behind
 argument {mid} {new} layout old x e f =
@@ -77,7 +77,7 @@ none_given f layout old o e = nothing_more layout old ∙ ap (λ o. old ++ behin
 pub one_given : {A : Type 0} (f : A → Bare) (layout : layouts.Layout) (old new : List ℕ) (o : Option A) (v : A) → o ≡ Some v → new ≡ old ++ behind layout (one (f v)) → new ≡ old ++ behind layout (maybe f o)
 one_given f layout old new o v e h = h ∙ ap (λ o. old ++ behind layout (maybe f o)) (sym e)
 
--- one run behind another
+-- one run after another
 pub runs : {mid new : List ℕ} (layout : layouts.Layout) (old : List ℕ) (xs ys : List Bare) → mid ≡ old ++ behind layout xs → new ≡ mid ++ behind layout ys → new ≡ old ++ behind layout (xs ++ ys)
 unfolding behind
 runs {mid} {new} layout old xs ys e f =

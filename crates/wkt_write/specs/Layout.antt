@@ -28,11 +28,11 @@ unfoldable mutual
   laid_all layout none = []
   laid_all layout (and i r) = laid layout i ++ laid_behind layout r
 
-  -- behind an item, each further one after a comma
+  -- after an item, each further one after a comma
   pub laid_behind : layouts.Layout → Bares → List ℕ
   laid_behind layout none = []
   laid_behind layout (and i r) = 44 ∷ (laid layout i ++ laid_behind layout r)
 
--- the text of arguments behind the first
+-- the text of arguments after the first
 unfoldable pub behind : layouts.Layout → List Bare → List ℕ
 behind layout xs = laid_behind layout (bares xs)

@@ -1,4 +1,4 @@
-//! A node's brackets, and its arguments behind the first.
+//! A node's brackets, and its arguments after the first.
 
 ghost use Rattle.std.specs.Prelude.{◌≡◌, ◌++◌, ◌∷◌, [], List, ℕ, map, OnOk, IfOk};
 ghost use Rattle.wkt_meaning.specs.Runs.{listed};

@@ -18,7 +18,7 @@ pub fn write_crs(alloc: Global, parts: &CrsParts) -> Result<Vec<u8>, AllocError>
     write_crs_with_room(alloc, parts, COMMON_LENGTH)
 }
 
-/// The canonical text, with room for so many bytes found at once: a text that is longer grows.
+/// The canonical text, with so many bytes reserved at once; a longer text reallocates.
 pub fn write_crs_with_room(
     alloc: Global,
     parts: &CrsParts,

@@ -1,4 +1,0 @@
-use Rattle.reg_bench.proofs.making.+part_of.Given as goal
-
-abbrev pub decreases-part_of : goal.decreases-part_of
-decreases-part_of l = l.count

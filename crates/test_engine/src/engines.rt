@@ -1,0 +1,103 @@
+//! Tests of the engines: texts, files and helpers that they share.
+
+mod change;
+mod check;
+mod export;
+mod faults;
+mod growth;
+mod merge;
+mod reports;
+
+use byte_io::{Pieces, Then};
+use std::alloc::{AllocError, Global};
+
+/// A vertical system, of 93 bytes.
+pub const HEIGHT: &[u8] =
+    b"VERTCRS[\"H\",VDATUM[\"D\"],CS[vertical,1],AXIS[\"height (H)\",up],LENGTHUNIT[\"metre\",1],ID[\"X\",7]]";
+
+/// Another name and another code.
+pub const OTHER_HEIGHT: &[u8] =
+    b"VERTCRS[\"G\",VDATUM[\"D\"],CS[vertical,1],AXIS[\"height (H)\",up],LENGTHUNIT[\"metre\",1],ID[\"X\",8]]";
+
+/// The bytes of a replica.
+pub const A: &[u8] = &[0, 0, 0, 0, 0, 0, 0x40, 0, 0x80, 0, 0, 0, 0, 0, 0, 0x0a];
+
+pub const B: &[u8] = &[0, 0, 0, 0, 0, 0, 0x40, 0, 0x80, 0, 0, 0, 0, 0, 0, 0x0b];
+
+/// The file of the empty register.
+pub const EMPTY: &[u8] = &[0x43, 0x52, 0x53, 0x52, 1, 1, 0, 0, 0, 0, 0, 0, 0, 0];
+
+/// A replica of which all counts from 1 to this one are seen.
+#[derive(Drop)]
+pub struct Replica {
+    pub uuid: &'static [u8],
+    pub last: u8,
+}
+
+/// The bytes of some parts.
+pub fn joined(alloc: Global, parts: &[&[u8]]) -> Result<Vec<u8>, AllocError> {
+    let mut bytes = Vec::new(alloc);
+    for part in parts {
+        bytes.extend_from_slice(part)?;
+    }
+    Ok(bytes)
+}
+
+/// The file of replicas that each saw the counts from 1 to their last, and of so many operations in these parts.
+pub fn file_of(
+    alloc: Global,
+    replicas: &[Replica],
+    count: u8,
+    operations: &[&[u8]],
+) -> Result<Vec<u8>, AllocError> {
+    let mut bytes = joined(alloc, &[b"CRSR\x01\x01", &[0, 0, 0]])?;
+    bytes.push(replicas.len().min(100) as u8)?;
+    for replica in replicas {
+        bytes.extend_from_slice(replica.uuid)?;
+        bytes.extend_from_slice(&[0, 0, 0, 1, 0, 0, 0, 1, 0, 0, 0, replica.last])?;
+    }
+    bytes.extend_from_slice(&[0, 0, 0, count])?;
+    for part in operations {
+        bytes.extend_from_slice(part)?;
+    }
+    Ok(bytes)
+}
+
+/// The operation of this id that enters a text of 93 bytes.
+pub fn enter(alloc: Global, uuid: &[u8], count: u8, text: &[u8]) -> Result<Vec<u8>, AllocError> {
+    joined(alloc, &[uuid, &[0, 0, 0, count, 1, 0, 0, 0, 93], text])
+}
+
+/// The file of one entry of the first replica, of 160 bytes.
+pub fn entry_file(alloc: Global, text: &[u8]) -> Result<Vec<u8>, AllocError> {
+    let enter = enter(alloc, A, 1, text)?;
+    file_of(alloc, &[Replica { uuid: A, last: 1 }], 1, &[&enter])
+}
+
+/// The file of two entries of the first replica, which retired the first; the second replica is only seen.
+pub fn one_retired(alloc: Global) -> Result<Vec<u8>, AllocError> {
+    let one = enter(alloc, A, 1, HEIGHT)?;
+    let two = enter(alloc, A, 2, OTHER_HEIGHT)?;
+    let retire = joined(alloc, &[A, &[0, 0, 0, 3, 3], A, &[0, 0, 0, 1]])?;
+    let replicas = [Replica { uuid: A, last: 3 }, Replica { uuid: B, last: 1 }];
+    file_of(alloc, &replicas, 3, &[&one, &two, &retire])
+}
+
+/// The file of the second replica, which retired the first entry of the first and has not seen it: 83 bytes.
+pub fn retirement_file(alloc: Global) -> Result<Vec<u8>, AllocError> {
+    let retire = joined(alloc, &[B, &[0, 0, 0, 1, 3], A, &[0, 0, 0, 1]])?;
+    file_of(alloc, &[Replica { uuid: B, last: 1 }], 1, &[&retire])
+}
+
+/// A source of each file, which gives at most so many bytes a call.
+pub fn sources<'a>(
+    alloc: Global,
+    files: &[&'a [u8]],
+    piece: usize,
+) -> Result<Vec<Pieces<'a>>, AllocError> {
+    let mut sources = Vec::new(alloc);
+    for file in files {
+        sources.push(Pieces::new(file, piece, Then::Ends))?;
+    }
+    Ok(sources)
+}

@@ -1,0 +1,135 @@
+//! Tests of the files of registers: texts, operations and helpers that they share.
+
+mod damage;
+mod devices;
+mod growth;
+mod worked;
+
+use reg_file::{FileFault, ReadFileFault, read_bytes, write_bytes};
+use reg_op::{Op, OpBody, OpId};
+use reg_state::Register;
+use std::alloc::{AllocError, Global};
+use std::process::Abort;
+use uuid::Uuid;
+use wkt_crs::Definition;
+
+pub const A: u128 = 0x0000_0000_0000_4000_8000_0000_0000_000a;
+
+pub const B: u128 = 0x0000_0000_0000_4000_8000_0000_0000_000b;
+
+/// A vertical system, of 93 bytes.
+pub const HEIGHT: &[u8] =
+    b"VERTCRS[\"H\",VDATUM[\"D\"],CS[vertical,1],AXIS[\"height (H)\",up],LENGTHUNIT[\"metre\",1],ID[\"X\",7]]";
+
+/// Another name and another code.
+pub const OTHER_HEIGHT: &[u8] =
+    b"VERTCRS[\"G\",VDATUM[\"D\"],CS[vertical,1],AXIS[\"height (H)\",up],LENGTHUNIT[\"metre\",1],ID[\"X\",8]]";
+
+/// The same as the first, in a spelling that is not canonical.
+pub const SPELLED: &[u8] =
+    b"VERTCRS[\"H\",VDATUM[\"D\"],CS[vertical,1],AXIS[\"height (H)\",up],LENGTHUNIT[\"metre\",1.0],ID[\"X\",7]]";
+
+/// The header of a register's file of version 1.
+pub const HEAD: &[u8] = &[0x43, 0x52, 0x53, 0x52, 0x01, 0x01];
+
+/// The bytes of a replica.
+pub const UUID_A: &[u8] = &[0, 0, 0, 0, 0, 0, 0x40, 0, 0x80, 0, 0, 0, 0, 0, 0, 0x0a];
+
+pub const UUID_B: &[u8] = &[0, 0, 0, 0, 0, 0, 0x40, 0, 0x80, 0, 0, 0, 0, 0, 0, 0x0b];
+
+/// A number in four bytes.
+pub fn four(number: u32) -> [u8; 4] {
+    number.to_be_bytes()
+}
+
+/// The bytes of some parts.
+pub fn joined(alloc: Global, parts: &[&[u8]]) -> Result<Vec<u8>, AllocError> {
+    let mut bytes = Vec::new(alloc);
+    for part in parts {
+        bytes.extend_from_slice(part)?;
+    }
+    Ok(bytes)
+}
+
+/// The file of the seen ids of one replica, in these ranges, and of so many operations in these bytes.
+pub fn file_of(
+    alloc: Global,
+    ranges: &[(u32, u32)],
+    count: u32,
+    operations: &[u8],
+) -> Result<Vec<u8>, AllocError> {
+    let mut bytes = joined(alloc, &[HEAD, &four(1), UUID_A])?;
+    bytes.extend_from_slice(&four(ranges.len().min(1000) as u32))?;
+    for (low, high) in ranges {
+        bytes.extend_from_slice(&four(*low))?;
+        bytes.extend_from_slice(&four(*high))?;
+    }
+    bytes.extend_from_slice(&four(count))?;
+    bytes.extend_from_slice(operations)?;
+    Ok(bytes)
+}
+
+/// An operation that enters a text of 93 bytes or so.
+pub fn enter_bytes(alloc: Global, count: u32, text: &[u8]) -> Result<Vec<u8>, AllocError> {
+    let len = text.len().min(100_000) as u32;
+    joined(alloc, &[UUID_A, &four(count), &[1], &four(len), text])
+}
+
+/// The file of one entry, of 160 bytes.
+pub fn entry_file(alloc: Global) -> Result<Vec<u8>, AllocError> {
+    let enter = enter_bytes(alloc, 1, HEIGHT)?;
+    file_of(alloc, &[(1, 1)], 1, &enter)
+}
+
+fn fault_of(alloc: Global, bytes: &[u8]) -> Option<(FileFault, usize)> {
+    match read_bytes(alloc, bytes) {
+        Err(ReadFileFault::File { fault, place }) => Some((fault, place)),
+        _ => None,
+    }
+}
+
+/// Whether the bytes have this fault, at this place.
+pub fn has_fault(alloc: Global, bytes: &[u8], fault: FileFault, place: usize) -> bool {
+    fault_of(alloc, bytes) == Some((fault, place))
+}
+
+/// Whether the register's file has these bytes.
+pub fn is_written(alloc: Global, register: &Register, bytes: &[u8]) -> bool {
+    match write_bytes(alloc, register) {
+        Ok(written) => written.as_slice() == bytes,
+        Err(_) => false,
+    }
+}
+
+/// Whether the bytes are read, and written again byte for byte.
+pub fn goes_round(alloc: Global, bytes: &[u8]) -> bool {
+    match read_bytes(alloc, bytes) {
+        Ok(register) => is_written(alloc, &register, bytes),
+        Err(_) => false,
+    }
+}
+
+// What a test needs before it can look at anything is expected, and not handed on by `?`: a refusal would drop all
+// that the test holds, and the proof would walk that for each refusal.
+
+pub fn id_of(rt: &impl Abort, replica: u128, count: u32) -> OpId {
+    OpId::new(Uuid::from_u128(replica), count).expect(rt, "a count above 0")
+}
+
+/// Takes an operation that enters a text.
+pub fn enter(rt: &impl Abort, alloc: Global, register: &mut Register, id: OpId, text: &[u8]) {
+    let definition = Definition::from_canonical(alloc, text).expect(rt, "a canonical text");
+    take(rt, register, id, OpBody::Enter(definition));
+}
+
+pub fn take(rt: &impl Abort, register: &mut Register, id: OpId, body: OpBody) {
+    let op = Op::new(id, body).expect(rt, "an operation");
+    register.take(op).expect(rt, "room for an operation");
+}
+
+/// The register of the file of one entry.
+pub fn one_entry(rt: &impl Abort, alloc: Global) -> Register {
+    let mut register = Register::new(alloc);
+    enter(rt, alloc, &mut register, id_of(rt, A, 1), HEIGHT);
+    register
+}

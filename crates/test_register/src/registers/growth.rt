@@ -1,0 +1,113 @@
+//! What a failed allocation leaves. The allocations fail one by one under `rt try --test --fail-alloc N`; where none is,
+//! these tests see that each call succeeds.
+
+use super::{A, Sample, are_same, enter, id_of, joined, made, taken, worked};
+use reg_op::OpId;
+use reg_state::{Join, JoinFault, Register, TakeFault};
+use std::alloc::Global;
+use std::process::Abort;
+
+// The register of two operations of the worked example, unless memory is refused.
+fn two_of(rt: &impl Abort, alloc: Global, one: usize, other: usize) -> Option<Register> {
+    taken(alloc, &[worked(rt, one), worked(rt, other)]).ok()
+}
+
+// Such a register, and a copy of it.
+fn two_and_copy(rt: &impl Abort, alloc: Global) -> Option<(Register, Register)> {
+    let register = two_of(rt, alloc, 0, 3)?;
+    let copy = register.try_clone(alloc).ok()?;
+    Some((register, copy))
+}
+
+// Whether a register has taken an id, or is what it was before, out of memory.
+fn has_taken_or_is_left(
+    outcome: Result<(), TakeFault>,
+    id: OpId,
+    register: Register,
+    before: Register,
+) -> bool {
+    let has_taken = register.seen().contains(id);
+    let is_left = are_same(register, before);
+    match outcome {
+        Ok(()) => has_taken && !is_left,
+        Err(fault) => fault == TakeFault::Memory && is_left,
+    }
+}
+
+#[test]
+fn a_refused_take_leaves_the_register(rt: HostRuntime) {
+    let alloc = rt.alloc();
+    let Ok(op) = made(alloc, worked(&rt, 2)) else {
+        return;
+    };
+    let Some((mut register, before)) = two_and_copy(&rt, alloc) else {
+        return;
+    };
+    let outcome = register.take(op);
+    assert!(rt; has_taken_or_is_left(outcome, id_of(&rt, A, 3), register, before));
+}
+
+// Whether a join has three operations, or is refused, out of memory, and leaves the two of the left.
+fn is_joined_or_left(outcome: Result<Register, JoinFault<OpId>>, left: &Register) -> bool {
+    match outcome {
+        Ok(both) => both.ops().as_slice().len() == 3,
+        Err(fault) => fault == JoinFault::Memory && left.ops().as_slice().len() == 2,
+    }
+}
+
+#[test]
+fn a_refused_join_leaves_both(rt: HostRuntime) {
+    let alloc = rt.alloc();
+    let Some(left) = two_of(&rt, alloc, 0, 3) else {
+        return;
+    };
+    let Some(right) = two_of(&rt, alloc, 1, 2) else {
+        return;
+    };
+    let outcome = left.join(alloc, &right);
+    drop(right);
+    assert!(rt; is_joined_or_left(outcome, &left));
+}
+
+fn clash_at(refused: Result<Register, JoinFault<OpId>>) -> Option<OpId> {
+    match refused {
+        Err(JoinFault::Clash(id)) => Some(id),
+        _ => None,
+    }
+}
+
+fn clash_taken(refused: Result<(), TakeFault>) -> Option<OpId> {
+    match refused {
+        Ok(()) => None,
+        Err(fault) => match fault {
+            TakeFault::Clash(id) => Some(id),
+            TakeFault::Memory => None,
+        },
+    }
+}
+
+#[test]
+fn a_clash_of_a_join_is_told_without_memory(rt: HostRuntime) {
+    let alloc = rt.alloc();
+    let id = id_of(&rt, A, 1);
+    let Ok(left) = taken(alloc, &[enter(id, Sample::Height)]) else {
+        return;
+    };
+    let Ok(right) = taken(alloc, &[enter(id, Sample::OtherHeight)]) else {
+        return;
+    };
+    assert!(rt; clash_at(joined(alloc, left, right)) == Some(id));
+}
+
+#[test]
+fn a_clash_of_a_take_is_told_without_memory(rt: HostRuntime) {
+    let alloc = rt.alloc();
+    let id = id_of(&rt, A, 1);
+    let Ok(third) = made(alloc, enter(id, Sample::SameKey)) else {
+        return;
+    };
+    let Ok(mut left) = taken(alloc, &[enter(id, Sample::Height)]) else {
+        return;
+    };
+    assert!(rt; clash_taken(left.take(third)) == Some(id));
+}

@@ -1,0 +1,58 @@
+//! What a failed allocation leaves. The allocations fail one by one under `rt try --test --fail-alloc N`; where none is,
+//! these tests see that each call succeeds.
+
+use super::{COMPOUND, HEIGHT, POLAR};
+use std::alloc::Global;
+use wkt_crs::{
+    Crs, Definition, DefinitionFault, ReadFault, SlotFault, TextFault, read_crs, write_crs,
+    write_pretty,
+};
+
+// What was read where memory was found.
+fn read(alloc: Global, text: &[u8]) -> Option<Crs> {
+    read_crs(alloc, text).ok()
+}
+
+#[test]
+fn a_text_is_read_or_memory_is_wanting(rt: HostRuntime) {
+    for text in [HEIGHT, POLAR, COMPOUND] {
+        if let Err(fault) = read_crs(rt.alloc(), text) {
+            assert!(rt; fault == ReadFault::Memory);
+        }
+    }
+}
+
+#[test]
+fn a_value_is_written_or_memory_is_wanting(rt: HostRuntime) {
+    for text in [HEIGHT, POLAR, COMPOUND] {
+        let Some(crs) = read(rt.alloc(), text) else {
+            return;
+        };
+        if let Ok(written) = write_crs(rt.alloc(), &crs) {
+            assert!(rt; written.as_slice() == text);
+        }
+        if let Ok(pretty) = write_pretty(rt.alloc(), &crs) {
+            assert!(rt; pretty.len() > text.len());
+        }
+    }
+}
+
+#[test]
+fn a_text_is_a_definition_or_memory_is_wanting(rt: HostRuntime) {
+    for text in [HEIGHT, COMPOUND] {
+        match Definition::from_canonical(rt.alloc(), text) {
+            Ok(definition) => assert!(rt; definition.as_bytes() == text),
+            Err(fault) => assert!(rt; fault == DefinitionFault::Memory),
+        }
+    }
+}
+
+#[test]
+fn faults_of_texts_and_slots_need_no_memory(rt: HostRuntime) {
+    let crossed = b"VERTCRS[\"H\",ID[\"X\",7],VDATUM[\"D\"),CS[vertical,1]]";
+    let early = b"VERTCRS[\"H\",ID[\"X\",7],VDATUM[\"D\"],CS[vertical,1]]";
+    let refused = read_crs(rt.alloc(), crossed).err();
+    assert!(rt; refused == Some(ReadFault::Text(TextFault::Unexpected(32))));
+    let refused = read_crs(rt.alloc(), early).err();
+    assert!(rt; refused == Some(ReadFault::Slot(SlotFault::NotHere(12))));
+}
