@@ -80,7 +80,9 @@ fn asked(words: &[String]) -> Option<Task<'_>> {
 fn main(rt: HostRuntime) -> io::Result<()> {
     let words: Vec<String> = env::args(&rt)?.collect(rt.alloc())?;
     let Some(Task { file, times, work }) = asked(&words) else {
-        return println!(rt; "bench_texts FILE TIMES [scan|slots|read|write|canonical|pretty|define]");
+        return println!(rt;
+            "bench_texts FILE TIMES [scan|slots|read|write|canonical|pretty|define]"
+        );
     };
     let file = fs::read(&rt, file)?;
     let texts = lines_of(rt.alloc(), &file)?;
