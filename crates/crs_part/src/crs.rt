@@ -6,7 +6,7 @@ use crate::boxed::Boxed;
 use crate::conversions::Conversion;
 use crate::copies::{TryClone, five, four, two};
 use crate::datums::{GeodeticFrame, PrimeMeridian, VerticalFrame};
-use crate::identifiers::Ident;
+use crate::identifiers::{Ident, Named};
 use crate::many::{Many, NonEmpty};
 use crate::same::Same;
 use crate::systems::{Axis, CoordSystem};
@@ -70,6 +70,7 @@ pub struct Vertical {
     pub system: CoordSystem,
     pub axes: NonEmpty<Axis>,
     pub unit: Option<Unit>,
+    pub geoid_models: Many<Named>,
     pub usages: Many<Usage>,
     pub ids: Many<Ident>,
     pub remark: Option<Text>,
@@ -234,12 +235,13 @@ impl TryClone for Vertical {
             &self.ids,
             &self.remark,
         )?;
-        let (datum, system, axes, unit) = four(
+        let (datum, system, axes, unit, geoid_models) = five(
             alloc,
             &self.datum,
             &self.system,
             &self.axes,
             &self.unit,
+            &self.geoid_models,
         )?;
         Ok(Vertical {
             name,
@@ -247,6 +249,7 @@ impl TryClone for Vertical {
             system,
             axes,
             unit,
+            geoid_models,
             usages,
             ids,
             remark,
@@ -261,6 +264,7 @@ impl Same for Vertical {
             && self.system.same(&other.system)
             && self.axes.same(&other.axes)
             && self.unit.same(&other.unit)
+            && self.geoid_models.same(&other.geoid_models)
             && self.usages.same(&other.usages)
             && self.ids.same(&other.ids)
             && self.remark.same(&other.remark)

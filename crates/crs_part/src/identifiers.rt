@@ -24,7 +24,7 @@ pub struct Ident {
     pub uri: Option<Text>,
 }
 
-/// A member of an ensemble, or a method of a conversion.
+/// A member of an ensemble, a method of a conversion, or a geoid model.
 #[derive(Drop)]
 pub struct Named {
     pub name: Text,

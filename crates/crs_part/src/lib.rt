@@ -29,4 +29,4 @@ pub use same::Same;
 pub use systems::{Axis, CoordSystem, Direction, Meridian, Order, SystemKind};
 pub use text::Text;
 pub use units::{AngleUnit, LengthUnit, Unit, UnitDefinition};
-pub use usages::{BoundingBox, Usage};
+pub use usages::{BoundingBox, Usage, VerticalExtent};

@@ -6,7 +6,7 @@ use Rattle.crs_part.specs.declared.crs.Single.{Single}
 use Rattle.crs_part.specs.declared.crs.Compound.{Compound}
 use Rattle.crs_part.specs.declared.crs.CrsParts.{CrsParts}
 use Rattle.crs_part.specs.declared.crs.CrsParts.TheVariants as parts
-use Rattle.crs_value.specs.Conditions.{has_axis_a_dimension, may_have_system, has_units, has_orders, units_fit, may_be_first, may_be_second, has_sizes, has_meridians}
+use Rattle.crs_value.specs.Conditions.{has_axis_a_dimension, may_have_system, has_units, has_orders, units_fit, may_be_first, may_be_second, has_sizes, has_own_sizes, has_meridians}
 use Rattle.crs_value.specs.declared.broken.Condition.{Condition}
 use Rattle.crs_value.specs.declared.broken.Condition.TheVariants.{C1, C2, C3, C4, C5, C6, C7, C8}
 use Rattle.crs_value.specs.declared.broken.Whose.{Whose}
@@ -35,9 +35,10 @@ holds crs C6 = true
 holds crs C7 = has_sizes crs
 holds crs C8 = has_meridians (axes_of crs)
 
--- whether it holds of what is a compound's own: its components, and no unit
+-- whether it holds of what is a compound's own: its components, and the units of its usages
 abbrev pub holds_of_compound : Compound → Condition → Bool
 holds_of_compound crs C6 = may_be_first crs.first && may_be_second crs.second
+holds_of_compound crs C7 = has_own_sizes crs
 holds_of_compound crs _ = true
 
 -- the condition holds of what it is about; where there are no components, every condition holds of them

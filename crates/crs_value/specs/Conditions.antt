@@ -19,7 +19,8 @@ use Rattle.crs_part.specs.declared.crs.GeodeticKind.{GeodeticKind}
 use Rattle.crs_part.specs.declared.crs.GeodeticKind.TheVariants as geodetic
 use Rattle.crs_part.specs.declared.crs.Single.{Single}
 use Rattle.crs_part.specs.declared.crs.Single.TheVariants.{Geodetic, Projected, Vertical}
-use Rattle.crs_value.specs.Units.{units_of}
+use Rattle.crs_part.specs.declared.crs.Compound.{Compound}
+use Rattle.crs_value.specs.Units.{units_of, own_units}
 
 -- C1: as many axes as the dimension
 abbrev pub has_axis_a_dimension : CoordSystem → List Axis → Bool
@@ -137,6 +138,10 @@ has_positive_factor unit = is_positive unit.factor.coefficient
 -- C7: the ellipsoid has a size, and every conversion factor is above 0
 abbrev pub has_sizes : Single → Bool
 has_sizes single = ellipsoid_has_size single && list_all has_positive_factor (units_of single)
+
+-- C7, of what is a compound's own: every conversion factor is above 0
+abbrev pub has_own_sizes : Compound → Bool
+has_own_sizes compound = list_all has_positive_factor (own_units compound)
 
 abbrev pub is_north_or_south : Direction → Bool
 is_north_or_south North = true

@@ -1,4 +1,4 @@
--- The units that stand anywhere in a coordinate reference system. Usages and identifiers have none.
+-- The units that stand anywhere in a coordinate reference system. Identifiers have none, nor have geoid models.
 use Rattle.std.specs.Prelude.{List, [], ◌∷◌, ◌++◌}
 use Rattle.std.specs.Option.{option_map_or}
 use Rattle.std.specs.List.{flat_map}
@@ -10,6 +10,8 @@ use Rattle.crs_part.specs.declared.units.LengthUnit.{LengthUnit}
 use Rattle.crs_part.specs.declared.units.LengthUnit.TheVariants as length_unit
 use Rattle.crs_part.specs.declared.units.AngleUnit.{AngleUnit}
 use Rattle.crs_part.specs.declared.units.AngleUnit.TheVariants as angle
+use Rattle.crs_part.specs.declared.usages.VerticalExtent.{VerticalExtent}
+use Rattle.crs_part.specs.declared.usages.Usage.{Usage}
 use Rattle.crs_part.specs.declared.datums.Ellipsoid.{Ellipsoid}
 use Rattle.crs_part.specs.declared.datums.PrimeMeridian.{PrimeMeridian}
 use Rattle.crs_part.specs.declared.datums.GeodeticFrame.{GeodeticFrame}
@@ -20,6 +22,7 @@ use Rattle.crs_part.specs.declared.conversions.Conversion.{Conversion}
 use Rattle.crs_part.specs.declared.crs.BaseCrs.{BaseCrs}
 use Rattle.crs_part.specs.declared.crs.Single.{Single}
 use Rattle.crs_part.specs.declared.crs.Single.TheVariants.{Geodetic, Projected, Vertical}
+use Rattle.crs_part.specs.declared.crs.Compound.{Compound}
 
 abbrev pub any_units : Unit → List UnitDefinition
 any_units (any.Length unit) = unit ∷ []
@@ -34,6 +37,12 @@ length_units (length_unit.Generic unit) = unit ∷ []
 abbrev pub angle_units : AngleUnit → List UnitDefinition
 angle_units (angle.Angle unit) = unit ∷ []
 angle_units (angle.Generic unit) = unit ∷ []
+
+abbrev pub extent_units : VerticalExtent → List UnitDefinition
+extent_units extent = option_map_or length_units extent.unit []
+
+abbrev pub usage_units : Usage → List UnitDefinition
+usage_units usage = option_map_or extent_units usage.vertical_extent []
 
 abbrev pub ellipsoid_units : Ellipsoid → List UnitDefinition
 ellipsoid_units ellipsoid = option_map_or length_units ellipsoid.unit []
@@ -68,9 +77,18 @@ units_of (Geodetic crs) =
     ++ option_map_or prime_meridian_units crs.prime_meridian []
     ++ flat_map axis_units (items_of crs.axes)
     ++ option_map_or any_units crs.unit []
+    ++ flat_map usage_units crs.usages
 units_of (Projected crs) =
     base_units crs.base
     ++ conversion_units crs.conversion
     ++ flat_map axis_units (items_of crs.axes)
     ++ option_map_or any_units crs.unit []
-units_of (Vertical crs) = flat_map axis_units (items_of crs.axes) ++ option_map_or any_units crs.unit []
+    ++ flat_map usage_units crs.usages
+units_of (Vertical crs) =
+    flat_map axis_units (items_of crs.axes)
+    ++ option_map_or any_units crs.unit []
+    ++ flat_map usage_units crs.usages
+
+-- the units of what is a compound's own, and not of a component
+abbrev pub own_units : Compound → List UnitDefinition
+own_units compound = flat_map usage_units compound.usages

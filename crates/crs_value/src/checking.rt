@@ -8,7 +8,7 @@ ghost use Rattle.crs_value.specs.Checking.{holds, holds_of_compound, conditions,
 
 use crate::axes::{has_axis_a_dimension, has_meridians, has_orders, has_units, units_fit};
 use crate::broken::{Broken, Condition, Whose};
-use crate::sizes::has_sizes;
+use crate::sizes::{has_own_sizes, has_sizes};
 use crate::systems::{may_be_first, may_be_second, may_have_system};
 use crs_part::{Compound, CrsParts, Single};
 
@@ -71,8 +71,11 @@ fn broken_of(crs: &Single) -> Option<Condition>
 fn broken_of_compound(crs: &Compound) -> Option<Condition>
     ensures { result ≡ find (λ condition. not (holds_of_compound crs.now condition)) conditions }
 {
-    if may_be_first(&crs.first) && may_be_second(&crs.second) {
-        return None;
+    if !(may_be_first(&crs.first) && may_be_second(&crs.second)) {
+        return Some(Condition::C6);
     }
-    Some(Condition::C6)
+    if !has_own_sizes(crs) {
+        return Some(Condition::C7);
+    }
+    None
 }

@@ -6,19 +6,26 @@ ghost use Rattle.std.specs.List.{list_all, flat_map};
 ghost use Rattle.std.specs.Option.{option_map_or};
 ghost use Rattle.crs_part.specs.Slots.{items_of};
 ghost use Rattle.crs_part.specs.declared.units.UnitDefinition.{UnitDefinition};
-ghost use Rattle.crs_value.specs.Conditions.{has_size, ellipsoid_has_size, has_positive_factor, has_sizes};
-ghost use Rattle.crs_value.specs.Units.{any_units, length_units, angle_units, frame_units, prime_meridian_units, meridian_units, axis_units, parameter_units, conversion_units, base_units, units_of};
+ghost use Rattle.crs_value.specs.Conditions.{has_size, ellipsoid_has_size, has_positive_factor, has_sizes, has_own_sizes};
+ghost use Rattle.crs_value.specs.Units.{any_units, length_units, angle_units, extent_units, usage_units, frame_units, prime_meridian_units, meridian_units, axis_units, parameter_units, conversion_units, base_units, units_of};
 
 use crs_number::Decimal;
 use crs_part::{
-    AngleUnit, Axis, BaseCrs, Conversion, Ellipsoid, GeodeticFrame, LengthUnit, Many, Meridian,
-    NonEmpty, Parameter, PrimeMeridian, Single, Unit, UnitDefinition,
+    AngleUnit, Axis, BaseCrs, Compound, Conversion, Ellipsoid, GeodeticFrame, LengthUnit, Many,
+    Meridian, NonEmpty, Parameter, PrimeMeridian, Single, Unit, UnitDefinition, Usage,
+    VerticalExtent,
 };
 
 pub(crate) fn has_sizes(single: &Single) -> bool
     ensures { result ≡ has_sizes single.now }
 {
     ellipsoid_has_size(single) && single.has_positive_factors()
+}
+
+pub(crate) fn has_own_sizes(compound: &Compound) -> bool
+    ensures { result ≡ has_own_sizes compound.now }
+{
+    compound.usages.has_positive_factors()
 }
 
 fn ellipsoid_has_size(single: &Single) -> bool
@@ -132,6 +139,22 @@ impl HasUnits for AngleUnit {
     }
 }
 
+impl HasUnits for VerticalExtent {
+    ghost units = { extent_units };
+
+    fn has_positive_factors(&self) -> bool {
+        self.unit.has_positive_factors()
+    }
+}
+
+impl HasUnits for Usage {
+    ghost units = { usage_units };
+
+    fn has_positive_factors(&self) -> bool {
+        self.vertical_extent.has_positive_factors()
+    }
+}
+
 impl HasUnits for GeodeticFrame {
     ghost units = { frame_units };
 
@@ -200,15 +223,19 @@ impl HasUnits for Single {
                     && crs.prime_meridian.has_positive_factors()
                     && crs.axes.has_positive_factors()
                     && crs.unit.has_positive_factors()
+                    && crs.usages.has_positive_factors()
             }
             Single::Projected(crs) => {
                 crs.base.has_positive_factors()
                     && crs.conversion.has_positive_factors()
                     && crs.axes.has_positive_factors()
                     && crs.unit.has_positive_factors()
+                    && crs.usages.has_positive_factors()
             }
             Single::Vertical(crs) => {
-                crs.axes.has_positive_factors() && crs.unit.has_positive_factors()
+                crs.axes.has_positive_factors()
+                    && crs.unit.has_positive_factors()
+                    && crs.usages.has_positive_factors()
             }
         }
     }

@@ -5,7 +5,8 @@ use clap::ArgMatches;
 use clap::error::ErrorKind;
 use reg_engine::{
     CliFault, Form, InputFault, OutFault, Refusal, run_check, run_enter, run_export, run_merge,
-    run_new, run_ops, run_report, run_retire, run_show, run_supersede, run_wkt,
+    run_new, run_ops, run_piece, run_report, run_retire, run_seen, run_show, run_supersede,
+    run_wkt,
 };
 use reg_office::ReportKind;
 use reg_op::OpId;
@@ -68,6 +69,8 @@ fn perform(rt: &HostRuntime, matches: &ArgMatches<'_>) -> Option<Result<(), CliF
             word(inner, "OUT"),
             inner.get_strs("FILE").unwrap_or(&[]),
         ),
+        "seen" => seen(rt, word(inner, "REG"), word(inner, "OUT")),
+        "piece" => piece(rt, inner),
         _ => return show_any(rt, name, word(inner, "REG"), inner),
     };
     Some(outcome)
@@ -153,6 +156,18 @@ fn merge(rt: &HostRuntime, out: &str, paths: &[&str]) -> Result<(), CliFault> {
         }
     }
     run_merge(rt.alloc(), &mut sources, &mut FileTarget::new(rt, out))
+}
+
+fn seen(rt: &HostRuntime, path: &str, out: &str) -> Result<(), CliFault> {
+    let mut source = open(rt, 1, path)?;
+    run_seen(rt.alloc(), &mut source, &mut FileTarget::new(rt, out))
+}
+
+fn piece(rt: &HostRuntime, matches: &ArgMatches<'_>) -> Result<(), CliFault> {
+    let mut source = open(rt, 1, word(matches, "REG"))?;
+    let mut summary = open(rt, 2, word(matches, "SEEN"))?;
+    let mut target = FileTarget::new(rt, word(matches, "OUT"));
+    run_piece(rt.alloc(), &mut source, &mut summary, &mut target)
 }
 
 // The replica and the entries are read from the words, and then the files are opened.

@@ -18,13 +18,30 @@ Example:
 pub const MERGE_HELP: &str = "\
 All files are read, in the order given, before OUT is opened; so OUT may be one
 of them. What is written is the register of all their operations. The order of
-the files does not matter to it, nor how often one is given.
+the registers does not matter to it, nor how often one is given. Pieces are
+joined after all registers, in the order given.
 
 It is refused as Clash ID where two files have different operations of one id:
-then one replica's number was given twice. Nothing is written then.
+then one replica's number was given twice; and as Basis ID where a piece was
+made for an office that had seen ID, and what was joined before it has not.
+Nothing is written then.
 
 Example:
   crsreg merge office.crs office.crs north.crs south.crs";
+
+pub const SEEN_HELP: &str = "\
+The summary says which operations the register has seen, and no more. Sent to
+another office, it says what this one lacks: crsreg piece makes a file of that.
+
+Example:
+  crsreg seen south.crs south.seen";
+
+pub const PIECE_HELP: &str = "\
+The piece has what REG has and the office with the summary SEEN lacks. That
+office merges it like a register; so can any other that has seen as much.
+
+Example:
+  crsreg piece north.crs south.seen south.piece";
 
 pub const ENTER_HELP: &str = "\
 The text must spell a coordinate reference system with an identifier of its

@@ -1,13 +1,13 @@
 //! The words of the command line.
 use crate::help::{
-    CHECK_HELP, ENTER_HELP, EXPORT_HELP, MERGE_HELP, NEW_HELP, OPS_HELP, REPORT_HELP, RETIRE_HELP,
-    SHOW_HELP, STATUS_HELP, SUPERSEDE_HELP, WKT_HELP,
+    CHECK_HELP, ENTER_HELP, EXPORT_HELP, MERGE_HELP, NEW_HELP, OPS_HELP, PIECE_HELP, REPORT_HELP,
+    RETIRE_HELP, SEEN_HELP, SHOW_HELP, STATUS_HELP, SUPERSEDE_HELP, WKT_HELP,
 };
 use clap::{Arg, ArgAction, Command};
 use std::alloc::{AllocError, Global};
 
 /// The newest heading of CHANGES.md.
-const VERSION: &str = "0.2";
+const VERSION: &str = "0.3";
 
 const KINDS: [&str; 4] = ["entries", "conflicts", "awaited", "gaps"];
 
@@ -18,7 +18,8 @@ pub fn command_line<'a>(alloc: Global) -> Result<Command<'a>, AllocError> {
         .about("A register of coordinate reference systems in WKT 2, and checks of their texts")
         .after_help(STATUS_HELP)
         .subcommand_required(true);
-    with_readers(alloc, with_makers(alloc, whole)?)
+    let whole = with_makers(alloc, whole)?;
+    with_exchange(alloc, with_readers(alloc, whole)?)
 }
 
 // Those that check a text, and that make or change a register.
@@ -30,14 +31,20 @@ fn with_makers<'a>(alloc: Global, whole: Command<'a>) -> Result<Command<'a>, All
     and(whole, retire(alloc))
 }
 
-// Those that show what registers have, and that join them.
+// Those that show what registers have.
 fn with_readers<'a>(alloc: Global, whole: Command<'a>) -> Result<Command<'a>, AllocError> {
     let whole = and(whole, show(alloc))?;
     let whole = and(whole, wkt(alloc))?;
     let whole = and(whole, export(alloc))?;
     let whole = and(whole, ops(alloc))?;
-    let whole = and(whole, report(alloc))?;
-    and(whole, merge(alloc))
+    and(whole, report(alloc))
+}
+
+// Those by which offices exchange what they have.
+fn with_exchange<'a>(alloc: Global, whole: Command<'a>) -> Result<Command<'a>, AllocError> {
+    let whole = and(whole, merge(alloc))?;
+    let whole = and(whole, seen(alloc))?;
+    and(whole, piece(alloc))
 }
 
 // The commands so far and one more, if both could be made.
@@ -62,7 +69,7 @@ fn new<'a>(alloc: Global) -> Result<Command<'a>, AllocError> {
     Command::new(alloc, "new")
         .about("Writes the file of an empty register")
         .after_help(NEW_HELP)
-        .arg(out(alloc))
+        .arg(out(alloc, "The register file to write; it is made anew"))
 }
 
 fn enter<'a>(alloc: Global) -> Result<Command<'a>, AllocError> {
@@ -121,10 +128,27 @@ fn report<'a>(alloc: Global) -> Result<Command<'a>, AllocError> {
 
 fn merge<'a>(alloc: Global) -> Result<Command<'a>, AllocError> {
     Command::new(alloc, "merge")
-        .about("Joins registers and writes the file of all their operations")
+        .about("Joins registers and pieces and writes the file of all their operations")
         .after_help(MERGE_HELP)
-        .arg(out(alloc))?
+        .arg(out(alloc, "The register file to write; it is made anew"))?
         .arg(files(alloc))
+}
+
+fn seen<'a>(alloc: Global) -> Result<Command<'a>, AllocError> {
+    Command::new(alloc, "seen")
+        .about("Writes a summary of the operations that a register has seen")
+        .after_help(SEEN_HELP)
+        .arg(register(alloc))?
+        .arg(out(alloc, "The summary file to write; it is made anew"))
+}
+
+fn piece<'a>(alloc: Global) -> Result<Command<'a>, AllocError> {
+    Command::new(alloc, "piece")
+        .about("Writes the piece of a register that another office lacks")
+        .after_help(PIECE_HELP)
+        .arg(register(alloc))?
+        .arg(summary(alloc))?
+        .arg(out(alloc, "The piece file to write; it is made anew"))
 }
 
 fn wkt<'a>(alloc: Global) -> Result<Command<'a>, AllocError> {
@@ -166,7 +190,7 @@ fn kind<'a>(alloc: Global) -> Arg<'a> {
 
 fn files<'a>(alloc: Global) -> Arg<'a> {
     Arg::new(alloc, "FILE")
-        .help("The register files to join")
+        .help("The files of registers and pieces to join")
         .required(true)
         .action(ArgAction::Append)
         .num_args(1..)
@@ -179,10 +203,14 @@ fn pretty<'a>(alloc: Global) -> Arg<'a> {
         .action(ArgAction::SetTrue)
 }
 
-fn out<'a>(alloc: Global) -> Arg<'a> {
-    Arg::new(alloc, "OUT")
-        .help("The register file to write; it is made anew")
+fn summary<'a>(alloc: Global) -> Arg<'a> {
+    Arg::new(alloc, "SEEN")
+        .help("The summary file of the office that the piece is for")
         .required(true)
+}
+
+fn out<'a>(alloc: Global, help: &'a str) -> Arg<'a> {
+    Arg::new(alloc, "OUT").help(help).required(true)
 }
 
 fn register<'a>(alloc: Global) -> Arg<'a> {

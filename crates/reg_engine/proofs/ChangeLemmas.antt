@@ -2,11 +2,13 @@
 use Rattle.std.proofs.Common.{◌≡◌, ◌⊎◌, ◌∷◌, [], ℕ, List, Bool, true, false, None, Err, refl, subst, inl, inr}
 use Rattle.byte_io.specs.Device.{SourceState}
 use Rattle.crs_value.specs.declared.crs.Crs.{Crs}
-use Rattle.wkt_crs.specs.declared.source.ReadFromFault.{ReadFromFault}
-use Rattle.wkt_crs.specs.declared.source.ReadFromFault.TheVariants as from
+use Rattle.wkt_crs.specs.declared.definition.DefinitionFault.TheVariants as undefined
+use Rattle.wkt_crs.specs.declared.source.DefineFromFault.{DefineFromFault}
+use Rattle.wkt_crs.specs.declared.source.DefineFromFault.TheVariants as define
 use Rattle.wkt_crs.specs.declared.fault.ReadFault.TheVariants as read
 use Rattle.wkt_crs.specs.Spells.{canon}
-use Rattle.wkt_crs.specs.Source.{Finds as FindsText, IsReadFromFault, ReadsPart}
+use Rattle.wkt_crs.specs.Definition.{IsDefinition}
+use Rattle.wkt_crs.specs.Source.{Finds as FindsText, FindsDefinition, IsDefineFromFault, ReadsPart}
 use Rattle.reg_op.specs.Ids.{Id}
 use Rattle.reg_op.specs.Contents.{Content}
 use Rattle.reg_op.specs.Operations.{Op}
@@ -21,9 +23,9 @@ use Rattle.reg_engine.specs.declared.fault.Refusal.{Refusal}
 use Rattle.reg_engine.specs.declared.fault.Refusal.TheVariants as refusal
 use Rattle.reg_engine.specs.declared.fault.CliFault.{CliFault}
 use Rattle.reg_engine.specs.declared.fault.CliFault.TheVariants as cli
-use Rattle.reg_engine.specs.Fault.{office_fault, text_fault}
+use Rattle.reg_engine.specs.Fault.{office_fault, definition_fault}
 use Rattle.reg_engine.specs.Outputs.{Outputs, GivesOut, IsUngiven}
-use Rattle.reg_engine.specs.Change.{Desk, IsRefused, IsChangeFault, EntryDesk, ReadsBoth, ReadsDefinition, IsUndefined, IsEnterFault}
+use Rattle.reg_engine.specs.Change.{Desk, IsRefused, IsChangeFault, EntryDesk, ReadsDefinition, IsEnterFault}
 use Rattle.reg_engine.proofs.InputLemmas.{found_gives}
 
 -- the same of equal contents and equal replicas
@@ -73,22 +75,28 @@ change_ungiven replica bodies old new x y ids found does cli.Memory h = (found_g
 part_of_found : (o n : SourceState) (v : Crs) → FindsText o n v → ReadsPart o n
 part_of_found o n v (text, read, spells) = (text, read.given, read.front, read.bounded, read.quiet)
 
-pub enter_unread : (replica : List ℕ) (old new : EntryDesk) (x : Content) (f : ReadFromFault) → Finds old.register new.register x
-    → IsReadFromFault old.text new.text f → new.outputs ≡ old.outputs → IsEnterFault replica old new (text_fault 2 f)
-enter_unread replica old new x (from.ReadFailed n) found h same = (inr (refl, (x, found), h), same)
-enter_unread replica old new x (from.Refused (read.Text f)) found h same = ((x, found, h), same)
-enter_unread replica old new x (from.Refused (read.Slot f)) found h same = ((x, found, h), same)
-enter_unread replica old new x (from.Refused (read.Broken condition place)) found h same = ((x, found, h), same)
-enter_unread replica old new x (from.Refused read.Memory) found h same = ((found_gives old.register new.register x found, h), same)
+-- the value that a definition is made of
+abbrev pub value_of : {o n : SourceState} {d : List ℕ} → FindsDefinition o n d → Crs
+value_of h = h.0.2.value
 
-pub enter_undefined : (replica : List ℕ) (old new : EntryDesk) (x : Content) (v : Crs) (f : CliFault) → ReadsBoth x v old new
-    → IsUndefined v f → new.outputs ≡ old.outputs → IsEnterFault replica old new f
-enter_undefined replica old new x v (cli.Refused refusal.NoIdentifier) both h same = ((x, v, both, h), same)
-enter_undefined replica old new x v (cli.Refused refusal.CanonicalTooLong) both h same = ((x, v, both, h), same)
-enter_undefined replica old new x v (cli.Refused r) both h same = absurd h
-enter_undefined replica old new x v (cli.File k f) both h same = absurd h
-enter_undefined replica old new x v (cli.Out f) both h same = absurd h
-enter_undefined replica old new x v cli.Memory both h same = ((found_gives old.register new.register x both.0, part_of_found old.text new.text v both.1), same)
+pub defined_is : {o n : SourceState} {d : List ℕ} (h : FindsDefinition o n d) → d ≡ canon (value_of h)
+defined_is h = h.0.2.is
+
+pub reads_definition : (old new : EntryDesk) (x : Content) (d : List ℕ) → Finds old.register new.register x → (h : FindsDefinition old.text new.text d)
+    → ReadsDefinition x (value_of h) old new
+reads_definition old new x d found h = ((found, (h.0.0, h.0.1, h.0.2.spells)), subst (λ b. IsDefinition b) (defined_is h) h.1)
+
+pub enter_undefined : (replica : List ℕ) (old new : EntryDesk) (x : Content) (f : DefineFromFault) → Finds old.register new.register x
+    → IsDefineFromFault old.text new.text f → new.outputs ≡ old.outputs → IsEnterFault replica old new (definition_fault 2 f)
+enter_undefined replica old new x (define.ReadFailed n) found h same = (inr (refl, (x, found), h), same)
+enter_undefined replica old new x (define.Refused (undefined.Read (read.Text f))) found h same = ((x, found, h), same)
+enter_undefined replica old new x (define.Refused (undefined.Read (read.Slot f))) found h same = ((x, found, h), same)
+enter_undefined replica old new x (define.Refused (undefined.Read (read.Broken condition place))) found h same = ((x, found, h), same)
+enter_undefined replica old new x (define.Refused (undefined.Read read.Memory)) found h same = absurd h
+enter_undefined replica old new x (define.Refused undefined.NoIdentifier) found (v, finds, none) same = ((x, v, (found, finds), none), same)
+enter_undefined replica old new x (define.Refused undefined.CanonicalTooLong) found (v, finds, some, long) same = ((x, v, (found, finds), (some, long)), same)
+enter_undefined replica old new x (define.Refused undefined.NotCanonical) found h same = absurd h
+enter_undefined replica old new x (define.Refused undefined.Memory) found h same = ((found_gives old.register new.register x found, h), same)
 
 pub enter_ungiven : (replica : List ℕ) (old new : EntryDesk) (x y : Content) (v : Crs) (ids : List Id) → ReadsDefinition x v old new
     → Does x replica (Enter (canon v) ∷ []) y ids → (f : CliFault) → IsUngiven y ids old.outputs new.outputs f → IsEnterFault replica old new f

@@ -1,14 +1,18 @@
 -- One more of the sources, when those before it are read.
-use Rattle.std.proofs.Common.{◌≡◌, ◌∷◌, ◌++◌, [], List, ℕ, ◌+◌, ◌<◌, zero, suc, length, map, take, drop, get_or, slice_set, refl, ap, sym, subst, append-nil, arith, Some, None}
+use Rattle.std.proofs.Common.{◌≡◌, ◌∷◌, ◌++◌, [], List, ℕ, ◌+◌, ◌<◌, zero, suc, length, map, take, drop, get_or, slice_set, refl, ap, sym, subst, append-nil, arith, Some, None, ◌∙◌}
 use Rattle.std.specs.declared.option.Option.{Option}
 use Rattle.std.specs.Io.KnownBytes.{Consumes}
 use Rattle.byte_io.specs.Device.{SourceState}
-use Rattle.reg_op.specs.Contents.{Content}
 use Rattle.reg_file.specs.Files.{Finds}
+use Rattle.reg_file.specs.Parts.{FindsPart}
+use Rattle.reg_file.specs.declared.parts.Part.{Part}
+use Rattle.reg_file.specs.declared.parts.Part.TheVariants as part
+use Rattle.reg_op.specs.Contents.{Content}
+use Rattle.reg_op.specs.Pieces.{Piece}
 use Rattle.reg_engine.specs.declared.fault.InputFault.{InputFault}
 use Rattle.reg_engine.specs.declared.fault.CliFault.{CliFault}
 use Rattle.reg_engine.specs.declared.fault.CliFault.TheVariants as cli
-use Rattle.reg_engine.specs.Inputs.{IsFileFault, NeverFails, IsUnread, HoldAll, StopsAt, NoneFails, AreUnread}
+use Rattle.reg_engine.specs.Inputs.{IsPartFault, NeverFails, IsPartUnread, HoldAll, StopsAt, NoneFails, AreUnread, registers, pieces, GiveParts}
 
 abbrev head_of : {A : Type 0} → A → List A → A
 head_of d [] = d
@@ -18,8 +22,11 @@ abbrev tail_of : {A : Type 0} → List A → List A
 tail_of [] = []
 tail_of (x ∷ xs) = xs
 
+pub part_gives : (o n : SourceState) (p : Part) → FindsPart o n p → NeverFails o n
+part_gives o n p (bytes, read, held) = (bytes, read.given, read.front, read.bounded, read.quiet)
+
 pub found_gives : (o n : SourceState) (x : Content) → Finds o n x → NeverFails o n
-found_gives o n x (bytes, read, held) = (bytes, read.given, read.front, read.bounded, read.quiet)
+found_gives o n x found = part_gives o n (part.Register x) found
 
 Consumes-none : (left : Option (List ℕ)) → Consumes left left []
 Consumes-none None = tt
@@ -32,13 +39,23 @@ none_given : (os : List SourceState) → NoneFails os os
 none_given [] = tt
 none_given (o ∷ os) = (gives_nothing o, none_given os)
 
-pub none_failed : (os ns : List SourceState) (xs : List Content) → HoldAll os ns xs → NoneFails os ns
+pub none_failed : (os ns : List SourceState) (xs : List Part) → HoldAll os ns xs → NoneFails os ns
 none_failed [] [] [] h = tt
 none_failed [] [] (x ∷ xs) h = absurd h
 none_failed [] (n ∷ ns) xs h = absurd h
 none_failed (o ∷ os) [] xs h = absurd h
 none_failed (o ∷ os) (n ∷ ns) [] h = absurd h
-none_failed (o ∷ os) (n ∷ ns) (x ∷ xs) h = (found_gives o n x h.0, none_failed os ns xs h.1)
+none_failed (o ∷ os) (n ∷ ns) (x ∷ xs) h = (part_gives o n x h.0, none_failed os ns xs h.1)
+
+registers_next : (ps : List Part) (p : Part) → registers (ps ++ p ∷ []) ≡ registers ps ++ registers (p ∷ [])
+registers_next [] p = refl
+registers_next (part.Register x ∷ ps) p = ap (λ xs. x ∷ xs) (registers_next ps p)
+registers_next (part.Piece q ∷ ps) p = registers_next ps p
+
+pieces_next : (ps : List Part) (p : Part) → pieces (ps ++ p ∷ []) ≡ pieces ps ++ pieces (p ∷ [])
+pieces_next [] p = refl
+pieces_next (part.Register x ∷ ps) p = pieces_next ps p
+pieces_next (part.Piece q ∷ ps) p = ap (λ qs. q ∷ qs) (pieces_next ps p)
 
 next : (i : ℕ) → suc i ≡ i + 1
 next i = omega arith
@@ -58,26 +75,26 @@ module _ {S : Type 0} (st : S → SourceState) where
   behind_suc (w ∷ ws) (n ∷ ns) zero s size back = others w n ws ns back
   behind_suc (w ∷ ws) (n ∷ ns) (suc i) s size back = behind_suc ws ns i s (omega arith) back
 
-  held_suc : (was now : List S) (i : ℕ) (o s : S) (xs : List Content) (x : Content) → i < length was → length now ≡ length was
-      → HoldAll (take i (map st was)) (take i (map st now)) xs → drop i (map st now) ≡ drop i (map st was) → Finds (st (get_or now i o)) (st s) x
+  held_suc : (was now : List S) (i : ℕ) (o s : S) (xs : List Part) (x : Part) → i < length was → length now ≡ length was
+      → HoldAll (take i (map st was)) (take i (map st now)) xs → drop i (map st now) ≡ drop i (map st was) → FindsPart (st (get_or now i o)) (st s) x
       → HoldAll (take (suc i) (map st was)) (take (suc i) (map st (slice_set now i s))) (xs ++ x ∷ [])
   held_suc was [] i o s xs x within size front back found = absurd (omega arith)
   held_suc [] (n ∷ ns) i o s xs x within size front back found = absurd (omega arith)
-  held_suc (w ∷ ws) (n ∷ ns) zero o s [] x within size front back found = (subst (λ k. Finds k (st s) x) (first w n ws ns back) found, tt)
+  held_suc (w ∷ ws) (n ∷ ns) zero o s [] x within size front back found = (subst (λ k. FindsPart k (st s) x) (first w n ws ns back) found, tt)
   held_suc (w ∷ ws) (n ∷ ns) zero o s (y ∷ ys) x within size front back found = absurd front
   held_suc (w ∷ ws) (n ∷ ns) (suc i) o s [] x within size front back found = absurd front
   held_suc (w ∷ ws) (n ∷ ns) (suc i) o s (y ∷ ys) x within size front back found = (front.0, held_suc ws ns i o s ys x (omega arith) (omega arith) front.1 back found)
 
-  stops_suc : (was now : List S) (i : ℕ) (o s : S) (xs : List Content) (f : InputFault) → i < length was → length now ≡ length was
-      → HoldAll (take i (map st was)) (take i (map st now)) xs → drop i (map st now) ≡ drop i (map st was) → IsFileFault f (st (get_or now i o)) (st s)
+  stops_suc : (was now : List S) (i : ℕ) (o s : S) (xs : List Part) (f : InputFault) → i < length was → length now ≡ length was
+      → HoldAll (take i (map st was)) (take i (map st now)) xs → drop i (map st now) ≡ drop i (map st was) → IsPartFault f (st (get_or now i o)) (st s)
       → StopsAt (suc i) f (map st was) (map st (slice_set now i s))
   stops_suc was [] i o s xs f within size front back fault = absurd (omega arith)
   stops_suc [] (n ∷ ns) i o s xs f within size front back fault = absurd (omega arith)
-  stops_suc (w ∷ ws) (n ∷ ns) zero o s xs f within size front back fault = (subst (λ k. IsFileFault f k (st s)) (first w n ws ns back) fault, others w n ws ns back)
+  stops_suc (w ∷ ws) (n ∷ ns) zero o s xs f within size front back fault = (subst (λ k. IsPartFault f k (st s)) (first w n ws ns back) fault, others w n ws ns back)
   stops_suc (w ∷ ws) (n ∷ ns) (suc i) o s [] f within size front back fault = absurd front
   stops_suc (w ∷ ws) (n ∷ ns) (suc i) o s (y ∷ ys) f within size front back fault = ((y, front.0), stops_suc ws ns i o s ys f (omega arith) (omega arith) front.1 back fault)
 
-  pub none_fails_next : (was now : List S) (i : ℕ) (o s : S) (xs : List Content) → i < length was → length now ≡ length was
+  pub none_fails_next : (was now : List S) (i : ℕ) (o s : S) (xs : List Part) → i < length was → length now ≡ length was
       → HoldAll (take i (map st was)) (take i (map st now)) xs → drop i (map st now) ≡ drop i (map st was) → NeverFails (st (get_or now i o)) (st s)
       → NoneFails (map st was) (map st (slice_set now i s))
   none_fails_next was [] i o s xs within size front back gives = absurd (omega arith)
@@ -85,30 +102,40 @@ module _ {S : Type 0} (st : S → SourceState) where
   none_fails_next (w ∷ ws) (n ∷ ns) zero o s xs within size front back gives =
       (subst (λ k. NeverFails k (st s)) (first w n ws ns back) gives, subst (λ k. NoneFails (map st ws) k) (sym (others w n ws ns back)) (none_given (map st ws)))
   none_fails_next (w ∷ ws) (n ∷ ns) (suc i) o s [] within size front back gives = absurd front
-  none_fails_next (w ∷ ws) (n ∷ ns) (suc i) o s (y ∷ ys) within size front back gives = (found_gives _ _ y front.0, none_fails_next ws ns i o s ys (omega arith) (omega arith) front.1 back gives)
+  none_fails_next (w ∷ ws) (n ∷ ns) (suc i) o s (y ∷ ys) within size front back gives = (part_gives _ _ y front.0, none_fails_next ws ns i o s ys (omega arith) (omega arith) front.1 back gives)
 
   pub behind : (was now : List S) (i : ℕ) (s : S) → length now ≡ length was → drop i (map st now) ≡ drop i (map st was)
       → drop (i + 1) (map st (slice_set now i s)) ≡ drop (i + 1) (map st was)
   behind was now i s size back = subst (λ j. drop j (map st (slice_set now i s)) ≡ drop j (map st was)) (next i) (behind_suc was now i s size back)
 
-  pub held_next : (was now : List S) (i : ℕ) (o s : S) (xs : List Content) (x : Content) → i < length was → length now ≡ length was
-      → HoldAll (take i (map st was)) (take i (map st now)) xs → drop i (map st now) ≡ drop i (map st was) → Finds (st (get_or now i o)) (st s) x
+  pub held_next : (was now : List S) (i : ℕ) (o s : S) (xs : List Part) (x : Part) → i < length was → length now ≡ length was
+      → HoldAll (take i (map st was)) (take i (map st now)) xs → drop i (map st now) ≡ drop i (map st was) → FindsPart (st (get_or now i o)) (st s) x
       → HoldAll (take (i + 1) (map st was)) (take (i + 1) (map st (slice_set now i s))) (xs ++ x ∷ [])
   held_next was now i o s xs x within size front back found =
       subst (λ j. HoldAll (take j (map st was)) (take j (map st (slice_set now i s))) (xs ++ x ∷ [])) (next i) (held_suc was now i o s xs x within size front back found)
 
-  pub stops_next : (was now : List S) (i : ℕ) (o s : S) (xs : List Content) (f : InputFault) → i < length was → length now ≡ length was
-      → HoldAll (take i (map st was)) (take i (map st now)) xs → drop i (map st now) ≡ drop i (map st was) → IsFileFault f (st (get_or now i o)) (st s)
+  pub stops_next : (was now : List S) (i : ℕ) (o s : S) (xs : List Part) (f : InputFault) → i < length was → length now ≡ length was
+      → HoldAll (take i (map st was)) (take i (map st now)) xs → drop i (map st now) ≡ drop i (map st was) → IsPartFault f (st (get_or now i o)) (st s)
       → StopsAt (i + 1) f (map st was) (map st (slice_set now i s))
   stops_next was now i o s xs f within size front back fault =
       subst (λ j. StopsAt j f (map st was) (map st (slice_set now i s))) (next i) (stops_suc was now i o s xs f within size front back fault)
 
   -- what stops the reading of one stops that of all
-  pub unread_next : (was now : List S) (i : ℕ) (o s : S) (xs : List Content) → i < length was → length now ≡ length was
+  pub unread_next : (was now : List S) (i : ℕ) (o s : S) (xs : List Part) → i < length was → length now ≡ length was
       → HoldAll (take i (map st was)) (take i (map st now)) xs → drop i (map st now) ≡ drop i (map st was)
-      → (f : CliFault) → IsUnread (i + 1) (st (get_or now i o)) (st s) f → AreUnread (map st was) (map st (slice_set now i s)) f
+      → (f : CliFault) → IsPartUnread (i + 1) (st (get_or now i o)) (st s) f → AreUnread (map st was) (map st (slice_set now i s)) f
   unread_next was now i o s xs within size front back (cli.Refused r) h = absurd h
   unread_next was now i o s xs within size front back (cli.File k f) (number, fault) =
       subst (λ j. StopsAt j f (map st was) (map st (slice_set now i s))) (sym number) (stops_next was now i o s xs f within size front back fault)
   unread_next was now i o s xs within size front back (cli.Out f) h = absurd h
   unread_next was now i o s xs within size front back cli.Memory h = none_fails_next was now i o s xs within size front back h
+
+  pub gives_next : (was now : List S) (i : ℕ) (o s : S) (xs xs' : List Content) (qs qs' : List Piece) (p : Part) → i < length was → length now ≡ length was
+      → GiveParts (take i (map st was)) (take i (map st now)) xs qs → drop i (map st now) ≡ drop i (map st was) → FindsPart (st (get_or now i o)) (st s) p
+      → xs' ≡ xs ++ registers (p ∷ []) → qs' ≡ qs ++ pieces (p ∷ []) → GiveParts (take (i + 1) (map st was)) (take (i + 1) (map st (slice_set now i s))) xs' qs'
+  gives_next was now i o s xs xs' qs qs' p within size (ps, front, xs-are, qs-are) back found pushed pushed' = (
+    ps ++ p ∷ [],
+    held_next was now i o s ps p within size front back found,
+    pushed ∙ ap (λ ys. ys ++ registers (p ∷ [])) xs-are ∙ sym (registers_next ps p),
+    pushed' ∙ ap (λ ys. ys ++ pieces (p ∷ [])) qs-are ∙ sym (pieces_next ps p),
+  )

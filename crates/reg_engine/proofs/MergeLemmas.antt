@@ -1,8 +1,13 @@
 -- Merges of lists that have the same operations.
-use Rattle.std.proofs.Common.{◌≡◌, length, arith, [], List, ℕ, Ok, Err, Result, map, refl, sym, ap, subst, ◌∙◌}
+use Rattle.std.proofs.Common.{◌≡◌, ◌++◌, ◌∷◌, length, arith, [], List, ℕ, Ok, Err, Result, Some, None, map, refl, sym, ap, subst, ◌∙◌}
+use Rattle.std.specs.declared.option.Option.{Option}
 use Rattle.reg_op.specs.Ids.{Id}
 use Rattle.reg_op.specs.Operations.{Ops, OneBody, kept}
-use Rattle.reg_op.specs.Contents.{Content, state, nothing}
+use Rattle.reg_op.specs.Contents.{Content, state, nothing, joined}
+use Rattle.reg_op.specs.Pieces.{Piece, PieceRefusal, Basis, Clash, part_of, first_missing, joined_where, joined_piece}
+use Rattle.reg_join.specs.Joining.{all_joined, joined_with}
+use Rattle.reg_file.specs.declared.parts.Part.{Part}
+use Rattle.reg_file.specs.declared.parts.Part.TheVariants as part
 use Rattle.reg_state.specs.ManyLaws.{all_ops, all_seen, all_of, merged_all}
 use Rattle.reg_state.proofs.ManyLemmas.{joined_all, states_all}
 use Rattle.reg_op.specs.Set as set
@@ -13,40 +18,171 @@ use Rattle.reg_file.proofs.HoldLemmas.{one_file}
 use Rattle.reg_engine.specs.declared.fault.CliFault.{CliFault}
 use Rattle.reg_engine.specs.declared.fault.CliFault.TheVariants as cli
 use Rattle.reg_engine.specs.declared.fault.OutFault.TheVariants as out
+use Rattle.reg_engine.specs.declared.fault.Refusal.TheVariants as refusal
 use Rattle.byte_io.specs.Device.{SinkState}
-use Rattle.reg_engine.specs.Inputs.{HoldAll}
+use Rattle.std.specs.Prelude.{◌↔◌}
+use Rattle.reg_state.specs.declared.piece.PieceFault.{PieceFault}
+use Rattle.reg_state.specs.declared.piece.PieceFault.TheVariants as piece
+use Rattle.reg_engine.specs.Fault.{piece_fault}
+use Rattle.reg_engine.specs.Inputs.{HoldAll, registers, pieces, GiveParts}
 use Rattle.reg_engine.specs.Outputs.{IsUnpublished}
-use Rattle.reg_engine.specs.Merge.{IsMergeOf, JoinTo, Ends, IsMergeFault}
+use Rattle.reg_engine.specs.Merge.{begun, with_pieces, join_of, IsUnjoined, brought, IsMergeOf, JoinTo, Ends, IsMergeFault}
 use Rattle.reg_engine.proofs.InputLemmas.{none_failed}
 
-abbrev content_or : Content → Result Content Id → Content
+abbrev content_or : {E : Type 0} → Content → Result Content E → Content
 content_or d (Ok x) = x
-content_or d (Err id) = d
+content_or d (Err e) = d
 
-same_join : (xs : List Content) (x y : Content) → JoinTo xs x → JoinTo xs y → x ≡ y
-same_join xs x y h k = ap (content_or x) (sym h ∙ k)
+same_join : (ps : List Part) (x y : Content) → JoinTo ps x → JoinTo ps y → x ≡ y
+same_join ps x y h k = ap (content_or x) (sym h ∙ k)
+
+-- ---- pieces, joined as what they bring
+
+piece_as_part : (x : Content) (p : Piece) (y : Content) → joined_piece x p ≡ Ok y → joined x (part_of p) ≡ Ok y
+piece_as_part x p y e = from (first_missing p.basis x.seen) (joined x (part_of p)) e
+  where
+    from : (m : Option Id) (r : Result Content Id) → joined_where m r ≡ Ok y → r ≡ Ok y
+    from (Some id) r h = absurd (cc)
+    from None (Ok z) h = ap Ok (ap (content_or z) h)
+    from None (Err id) h = absurd (cc)
+
+refused_stays : (r : PieceRefusal) (ps : List Piece) (x : Content) → with_pieces (Err r) ps ≡ Ok x → ⊥
+refused_stays r [] x e = absurd (cc)
+refused_stays r (p ∷ ps) x e = refused_stays r ps x e
+
+-- one step, where the later ones are as those of what they bring
+piece_step : (q : Result Content PieceRefusal) (y : Content) (p : Piece) (ps : List Piece) (x : Content) → joined_piece y p ≡ q
+    → ((z : Content) → with_pieces (Ok z) ps ≡ Ok x → all_joined joined (Ok z) (map part_of ps) ≡ Ok x) → with_pieces q ps ≡ Ok x
+    → all_joined joined (joined y (part_of p)) (map part_of ps) ≡ Ok x
+piece_step (Ok z) y p ps x is later e = ap (λ q. all_joined joined q (map part_of ps)) (piece_as_part y p z is) ∙ later z e
+piece_step (Err q) y p ps x is later e = absurd (refused_stays q ps x e)
+
+pieces_as_parts : (r : Result Content Id) (ps : List Piece) (x : Content) → with_pieces (begun r) ps ≡ Ok x → all_joined joined r (map part_of ps) ≡ Ok x
+pieces_as_parts (Err id) ps x e = absurd (refused_stays (Clash id) ps x e)
+pieces_as_parts (Ok y) [] x e = ap Ok (ap (content_or y) e)
+pieces_as_parts (Ok y) (p ∷ ps) x e = piece_step (joined_piece y p) y p ps x refl (λ z h. pieces_as_parts (Ok z) ps x h) e
+
+all_joined-append : (r : Result Content Id) (xs ys : List Content) → all_joined joined r (xs ++ ys) ≡ all_joined joined (all_joined joined r xs) ys
+all_joined-append r [] ys = refl
+all_joined-append r (x ∷ xs) ys = all_joined-append (joined_with joined r x) xs ys
+
+joins_brought : (ps : List Part) (x : Content) → JoinTo ps x → all_joined joined (Ok nothing) (brought ps) ≡ Ok x
+joins_brought ps x e = all_joined-append (Ok nothing) (registers ps) (map part_of (pieces ps)) ∙ pieces_as_parts (all_joined joined (Ok nothing) (registers ps)) (pieces ps) x e
+
+is_merged_all : (ps : List Part) (x : Content) → OneBody (all_ops (brought ps)) → JoinTo ps x → x ≡ merged_all (brought ps)
+is_merged_all ps x one e = ap (content_or x) (sym (joins_brought ps x e) ∙ joined_all (brought ps) one)
+
+-- ---- the order
 
 same_all : (xs ys : List Content) → all_ops xs ≡ all_ops ys → all_seen xs ≡ all_seen ys → merged_all xs ≡ merged_all ys
 same_all xs ys ops seen = ap (λ k. record { ops = kept k; seen = all_seen xs }) ops ∙ ap (λ v. record { ops = kept (all_ops ys); seen = v }) seen
 
-pub order : (xs ys : List Content) (bytes others : List ℕ) → OneBody (all_ops xs) → all_ops xs ≡ all_ops ys → all_seen xs ≡ all_seen ys
-    → IsMergeOf xs bytes → IsMergeOf ys others → bytes ≡ others
-order xs ys bytes others one ops seen (x, to_x, hold_x) (y, to_y, hold_y) =
-    let of_x : x ≡ merged_all xs = same_join xs x (merged_all xs) to_x (joined_all xs one) in
-    let of_y : y ≡ merged_all ys = same_join ys y (merged_all ys) to_y (joined_all ys (subst OneBody ops one)) in
-    let same : y ≡ x = of_y ∙ sym (same_all xs ys ops seen) ∙ sym of_x in
+pub order : (ps qs : List Part) (bytes others : List ℕ) → OneBody (all_ops (brought ps)) → all_ops (brought ps) ≡ all_ops (brought qs) → all_seen (brought ps) ≡ all_seen (brought qs)
+    → IsMergeOf ps bytes → IsMergeOf qs others → bytes ≡ others
+order ps qs bytes others one ops seen (x, to_x, hold_x) (y, to_y, hold_y) =
+    let of_x : x ≡ merged_all (brought ps) = is_merged_all ps x one to_x in
+    let of_y : y ≡ merged_all (brought qs) = is_merged_all qs y (subst OneBody ops one) to_y in
+    let same : y ≡ x = of_y ∙ sym (same_all (brought ps) (brought qs) ops seen) ∙ sym of_x in
     one_file x bytes others hold_x.bytes_are (subst (λ z. Holds others z) same hold_y).bytes_are
 
-pub states : (ss : List Ops) (bytes : List ℕ) → OneBody (all_of ss) → IsMergeOf (map state ss) bytes → Holds bytes (state (all_of ss))
-states ss bytes one (x, to_x, hold_x) = subst (λ z. Holds bytes z) (same_join (map state ss) x (state (all_of ss)) to_x (states_all ss one)) hold_x
+-- registers alone
+registers_alone : (xs : List Content) → registers (map part.Register xs) ≡ xs
+registers_alone [] = refl
+registers_alone (x ∷ xs) = ap (λ ys. x ∷ ys) (registers_alone xs)
+
+no_pieces : (xs : List Content) → pieces (map part.Register xs) ≡ []
+no_pieces [] = refl
+no_pieces (x ∷ xs) = no_pieces xs
+
+states_joined : (ss : List Ops) → OneBody (all_of ss) → JoinTo (map part.Register (map state ss)) (state (all_of ss))
+states_joined ss one =
+    ap (λ xs. with_pieces (begun (all_joined joined (Ok nothing) xs)) (pieces (map part.Register (map state ss)))) (registers_alone (map state ss))
+    ∙ ap (λ qs. with_pieces (begun (all_joined joined (Ok nothing) (map state ss))) qs) (no_pieces (map state ss))
+    ∙ ap begun (states_all ss one)
+
+pub states : (ss : List Ops) (bytes : List ℕ) → OneBody (all_of ss) → IsMergeOf (map part.Register (map state ss)) bytes → Holds bytes (state (all_of ss))
+states ss bytes one (x, to_x, hold_x) = subst (λ z. Holds bytes z) (same_join (map part.Register (map state ss)) x (state (all_of ss)) to_x (states_joined ss one)) hold_x
+
+-- ---- what the command does
+
+refused_all : (r : PieceRefusal) (qs : List Piece) → with_pieces (Err r) qs ≡ Err r
+refused_all r [] = refl
+refused_all r (q ∷ qs) = refused_all r qs
+
+-- the join of what was read is that of the parts
+of_parts : (ps : List Part) (xs : List Content) (qs : List Piece) → xs ≡ registers ps → qs ≡ pieces ps → join_of ps ≡ with_pieces (begun (all_joined joined (Ok nothing) xs)) qs
+of_parts ps xs qs e f =
+    ap (λ ys. with_pieces (begun (all_joined joined (Ok nothing) ys)) (pieces ps)) (sym e) ∙ ap (λ ys. with_pieces (begun (all_joined joined (Ok nothing) xs)) ys) (sym f)
+
+refused_as : (old new : Ends) (ps : List Part) (r : Result Content PieceRefusal) → HoldAll old.sources new.sources ps → join_of ps ≡ r → new.target ≡ old.target
+    → (f : CliFault) → IsUnjoined r f → IsMergeFault old new f
+refused_as old new ps r held is same (cli.Refused (refusal.Clash id)) h = (ps, held, is ∙ h, same)
+refused_as old new ps r held is same (cli.Refused (refusal.Basis id)) h = (ps, held, is ∙ h, same)
+refused_as old new ps r held is same (cli.Refused (refusal.Text f)) h = absurd h
+refused_as old new ps r held is same (cli.Refused (refusal.Slot f)) h = absurd h
+refused_as old new ps r held is same (cli.Refused (refusal.Broken k n)) h = absurd h
+refused_as old new ps r held is same (cli.Refused refusal.NoIdentifier) h = absurd h
+refused_as old new ps r held is same (cli.Refused refusal.CanonicalTooLong) h = absurd h
+refused_as old new ps r held is same (cli.Refused (refusal.UnknownEntry id)) h = absurd h
+refused_as old new ps r held is same (cli.Refused refusal.SameEntry) h = absurd h
+refused_as old new ps r held is same (cli.Refused (refusal.AlreadyRetired id)) h = absurd h
+refused_as old new ps r held is same (cli.Refused (refusal.AlreadySuperseded id)) h = absurd h
+refused_as old new ps r held is same (cli.Refused refusal.CountSpent) h = absurd h
+refused_as old new ps r held is same (cli.Refused refusal.BadId) h = absurd h
+refused_as old new ps r held is same (cli.Refused refusal.BadReplica) h = absurd h
+refused_as old new ps r held is same (cli.File k f) h = absurd h
+refused_as old new ps r held is same (cli.Out f) h = absurd h
+refused_as old new ps r held is same cli.Memory h = (none_failed old.sources new.sources ps held, same)
+
+-- pieces do not mend a refusal of the registers
+pub refusal_stays : (r : Result Content PieceRefusal) (qs : List Piece) (f : CliFault) → IsUnjoined r f → IsUnjoined (with_pieces r qs) f
+refusal_stays r qs (cli.Refused (refusal.Clash id)) h = ap (λ z. with_pieces z qs) h ∙ refused_all (Clash id) qs
+refusal_stays r qs (cli.Refused (refusal.Basis id)) h = ap (λ z. with_pieces z qs) h ∙ refused_all (Basis id) qs
+refusal_stays r qs (cli.Refused (refusal.Text f)) h = absurd h
+refusal_stays r qs (cli.Refused (refusal.Slot f)) h = absurd h
+refusal_stays r qs (cli.Refused (refusal.Broken k n)) h = absurd h
+refusal_stays r qs (cli.Refused refusal.NoIdentifier) h = absurd h
+refusal_stays r qs (cli.Refused refusal.CanonicalTooLong) h = absurd h
+refusal_stays r qs (cli.Refused (refusal.UnknownEntry id)) h = absurd h
+refusal_stays r qs (cli.Refused refusal.SameEntry) h = absurd h
+refusal_stays r qs (cli.Refused (refusal.AlreadyRetired id)) h = absurd h
+refusal_stays r qs (cli.Refused (refusal.AlreadySuperseded id)) h = absurd h
+refusal_stays r qs (cli.Refused refusal.CountSpent) h = absurd h
+refusal_stays r qs (cli.Refused refusal.BadId) h = absurd h
+refusal_stays r qs (cli.Refused refusal.BadReplica) h = absurd h
+refusal_stays r qs (cli.File k f) h = absurd h
+refusal_stays r qs (cli.Out f) h = absurd h
+refusal_stays r qs cli.Memory h = tt
+
+-- why a piece is not joined is why its content and it are not
+pub unjoined_by : (r : Result Content PieceFault) (q : Result Content PieceRefusal) → ((id : Id) → (r ≡ Err (piece.Basis id)) ↔ (q ≡ Err (Basis id)))
+    → ((id : Id) → (r ≡ Err (piece.Clash id)) ↔ (q ≡ Err (Clash id))) → (f : PieceFault) → r ≡ Err f → IsUnjoined q (piece_fault f)
+unjoined_by r q basis clash (piece.Basis id) is = (basis id).0 is
+unjoined_by r q basis clash (piece.Clash id) is = (clash id).0 is
+unjoined_by r q basis clash piece.Memory is = tt
+
+pub unjoined_first : (old new : Ends) (xs : List Content) (qs : List Piece) → GiveParts old.sources new.sources xs qs → new.target ≡ old.target
+    → (f : CliFault) → IsUnjoined (begun (all_joined joined (Ok nothing) xs)) f → IsMergeFault old new f
+unjoined_first old new xs qs (ps, held, e, g) same f h =
+    refused_as old new ps (with_pieces (begun (all_joined joined (Ok nothing) xs)) qs) held (of_parts ps xs qs e g) same f (refusal_stays (begun (all_joined joined (Ok nothing) xs)) qs f h)
+
+pub unjoined_then : (old new : Ends) (xs : List Content) (qs : List Piece) (y : Content) → GiveParts old.sources new.sources xs qs → new.target ≡ old.target
+    → begun (all_joined joined (Ok nothing) xs) ≡ Ok y → (f : CliFault) → IsUnjoined (with_pieces (Ok y) qs) f → IsMergeFault old new f
+unjoined_then old new xs qs y (ps, held, e, g) same first f h =
+    refused_as old new ps (with_pieces (Ok y) qs) held (of_parts ps xs qs e g ∙ ap (λ r. with_pieces r qs) first) same f h
+
+-- what was read joins to this
+pub joins_to : (ps : List Part) (xs : List Content) (qs : List Piece) (y x : Content) → xs ≡ registers ps → qs ≡ pieces ps
+    → begun (all_joined joined (Ok nothing) xs) ≡ Ok y → with_pieces (Ok y) qs ≡ Ok x → JoinTo ps x
+joins_to ps xs qs y x e g first then-all = of_parts ps xs qs e g ∙ ap (λ r. with_pieces r qs) first ∙ then-all
 
 -- what the target met is what the merge met
-pub unmerged : (old new : Ends) (xs : List Content) (x : Content) → HoldAll old.sources new.sources xs → JoinTo xs x
+pub unmerged : (old new : Ends) (ps : List Part) (x : Content) → HoldAll old.sources new.sources ps → JoinTo ps x
     → (f : CliFault) → IsUnpublished x old.target new.target f → IsMergeFault old new f
-unmerged old new xs x held join (cli.Refused r) h = absurd h
-unmerged old new xs x held join (cli.File k f) h = absurd h
-unmerged old new xs x held join (cli.Out f) h = (xs, held, (x, join, h))
-unmerged old new xs x held join cli.Memory h = (none_failed old.sources new.sources xs held, h)
+unmerged old new ps x held join (cli.Refused r) h = absurd h
+unmerged old new ps x held join (cli.File k f) h = absurd h
+unmerged old new ps x held join (cli.Out f) h = (ps, held, (x, join, h))
+unmerged old new ps x held join cli.Memory h = (none_failed old.sources new.sources ps held, h)
 
 -- the file of the empty content has 14 bytes
 empty_file : IsFileOf nothing (file (set.items nothing.ops) [])

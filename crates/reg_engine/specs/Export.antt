@@ -1,5 +1,5 @@
 -- The texts that a register gives out: all that stand, and that of one entry.
-use Rattle.std.specs.Prelude.{◌≡◌, ◌++◌, ◌∷◌, [], true, false, Bool, List, ℕ, Option, Some, None, if◌then◌else◌}
+use Rattle.std.specs.Prelude.{◌≡◌, ◌++◌, ◌∷◌, [], true, false, List, ℕ}
 use Rattle.std.specs.List.{flat_map}
 use Rattle.byte_io.specs.Whole.{WritesAll, IsCutAt}
 use Rattle.crs_value.specs.declared.crs.Crs.{Crs}
@@ -9,12 +9,11 @@ use Rattle.reg_op.specs.Set as set
 use Rattle.reg_op.specs.Ids.{Id}
 use Rattle.reg_op.specs.Operations.{Op, Ops}
 use Rattle.reg_op.specs.Kept.{entering}
-use Rattle.reg_op.specs.declared.status.Status.{Status}
-use Rattle.reg_op.specs.declared.status.Status.TheVariants.{Valid, Superseded, Retired}
 use Rattle.reg_op.specs.Status.{enters}
-use Rattle.reg_op.specs.Rows.{Row, rows, rows_at}
+use Rattle.reg_op.specs.Rows.{rows_at}
 use Rattle.reg_op.specs.Contents.{Content}
 use Rattle.reg_file.specs.Files.{Finds}
+use Rattle.reg_office.specs.Exports.{row_line, export}
 use Rattle.reg_engine.specs.declared.wkt.Form.{Form}
 use Rattle.reg_engine.specs.declared.wkt.Form.TheVariants.{Canonical, Indented}
 use Rattle.reg_engine.specs.declared.fault.Refusal.TheVariants as refusal
@@ -26,23 +25,9 @@ use Rattle.reg_engine.specs.Inputs.{IsFileFault, NeverFails}
 
 -- ---- all entries that are not retired
 
-abbrev pub is_retired : Option Status → Bool
-is_retired None = false
-is_retired (Some Retired) = true
-is_retired (Some Superseded) = false
-is_retired (Some Valid) = false
-
--- an entry's canonical text and a newline, where it is not retired
-abbrev pub row_line : Row → List ℕ
-row_line r = if is_retired r.status then [] else r.definition ++ 10 ∷ []
-
 -- the line of the entry that an operation makes, if it does
 abbrev pub op_line : Ops → Op → List ℕ
 op_line s o = flat_map row_line (rows_at s o.id o.body)
-
--- the lines of all entries, by id
-abbrev pub export : Ops → List ℕ
-export s = flat_map row_line (rows s)
 
 -- the source gave the file of a content, and exactly its lines went out
 abbrev pub IsExported : Devices → Devices → Type 0
@@ -61,6 +46,13 @@ IsExportFault old new cli.Memory = NeverFails old.source new.source × (new.sink
 abbrev pub text_in : Form → Crs → List ℕ
 text_in Canonical crs = canon crs
 text_in Indented crs = pretty crs
+
+-- this is the text, or the line, of the value that the definition spells
+abbrev pub IsDefinitionText : Form → List ℕ → List ℕ → Type 0
+IsDefinitionText form definition text = (crs : Crs) × IsCrsOf crs definition × (text ≡ text_in form crs)
+
+abbrev pub IsDefinitionLine : Form → List ℕ → List ℕ → Type 0
+IsDefinitionLine form definition line = (crs : Crs) × IsCrsOf crs definition × (line ≡ text_in form crs ++ 10 ∷ [])
 
 -- the content has the entry, and this is the line of the value that its definition spells
 pub record IsLineOf (form : Form) (x : Content) (entry : Id) (line : List ℕ) : Type 0 where

@@ -3,10 +3,15 @@ use Rattle.std.specs.Prelude.{ℕ}
 use Rattle.wkt_crs.specs.declared.fault.ReadFault.TheVariants as read
 use Rattle.wkt_crs.specs.declared.source.ReadFromFault.{ReadFromFault}
 use Rattle.wkt_crs.specs.declared.source.ReadFromFault.TheVariants as from
+use Rattle.wkt_crs.specs.declared.definition.DefinitionFault.TheVariants as undefined
+use Rattle.wkt_crs.specs.declared.source.DefineFromFault.{DefineFromFault}
+use Rattle.wkt_crs.specs.declared.source.DefineFromFault.TheVariants as define
 use Rattle.reg_file.specs.declared.fault.ReadFileFault.{ReadFileFault}
 use Rattle.reg_file.specs.declared.fault.ReadFileFault.TheVariants as reading
 use Rattle.reg_office.specs.declared.fault.OfficeFault.{OfficeFault}
 use Rattle.reg_office.specs.declared.fault.OfficeFault.TheVariants as office
+use Rattle.reg_state.specs.declared.piece.PieceFault.{PieceFault}
+use Rattle.reg_state.specs.declared.piece.PieceFault.TheVariants as piece
 use Rattle.reg_engine.specs.declared.fault.Refusal.TheVariants as refusal
 use Rattle.reg_engine.specs.declared.fault.InputFault.TheVariants as file
 use Rattle.reg_engine.specs.declared.fault.CliFault.{CliFault}
@@ -27,12 +32,21 @@ text_fault number (from.Refused (read.Slot f)) = cli.Refused (refusal.Slot f)
 text_fault number (from.Refused (read.Broken c place)) = cli.Refused (refusal.Broken c place)
 text_fault number (from.Refused read.Memory) = cli.Memory
 
--- the fault of a command that read a register from the file of this number
-abbrev pub register_fault : ℕ → ReadFileFault → CliFault
-register_fault number (reading.File f place) = cli.File number (file.NoRegister f place)
-register_fault number reading.TooLarge = cli.File number file.TooLarge
-register_fault number (reading.ReadFailed n) = cli.File number (file.ReadFailed n)
-register_fault number reading.Memory = cli.Memory
+-- the fault of a command that made a definition of its text in the file of this number, which need not be canonical
+abbrev pub definition_fault : ℕ → DefineFromFault → CliFault
+definition_fault number (define.ReadFailed n) = text_fault number (from.ReadFailed n)
+definition_fault number (define.Refused (undefined.Read f)) = text_fault number (from.Refused f)
+definition_fault number (define.Refused undefined.NoIdentifier) = cli.Refused refusal.NoIdentifier
+definition_fault number (define.Refused undefined.CanonicalTooLong) = cli.Refused refusal.CanonicalTooLong
+definition_fault number (define.Refused undefined.NotCanonical) = cli.Memory
+definition_fault number (define.Refused undefined.Memory) = cli.Memory
+
+-- the fault of a command that read the file of this number
+abbrev pub file_fault : ℕ → ReadFileFault → CliFault
+file_fault number (reading.File f place) = cli.File number (file.BadFile f place)
+file_fault number reading.TooLarge = cli.File number file.TooLarge
+file_fault number (reading.ReadFailed n) = cli.File number (file.ReadFailed n)
+file_fault number reading.Memory = cli.Memory
 
 -- the fault of a command that an office was given
 abbrev pub office_fault : OfficeFault → CliFault
@@ -42,3 +56,9 @@ office_fault (office.AlreadyRetired id) = cli.Refused (refusal.AlreadyRetired id
 office_fault (office.AlreadySuperseded id) = cli.Refused (refusal.AlreadySuperseded id)
 office_fault office.CountSpent = cli.Refused refusal.CountSpent
 office_fault office.Memory = cli.Memory
+
+-- the fault of a command that joined a piece
+abbrev pub piece_fault : PieceFault → CliFault
+piece_fault (piece.Basis id) = cli.Refused (refusal.Basis id)
+piece_fault (piece.Clash id) = cli.Refused (refusal.Clash id)
+piece_fault piece.Memory = cli.Memory

@@ -1,21 +1,40 @@
--- Registers from files: what one gave, and what a list of them gave.
-use Rattle.std.specs.Prelude.{◌≡◌, ◌∷◌, [], List, ℕ, ◌+◌, zero, suc}
+-- Registers, summaries and pieces from files: what one gave, and what a list of them gave.
+use Rattle.std.specs.Prelude.{◌≡◌, ◌∷◌, [], List, ℕ, ◌+◌, zero, suc, Option, Some, None}
 use Rattle.byte_io.specs.Device.{SourceState}
 use Rattle.byte_io.specs.Whole.{GivesAtMost}
 use Rattle.reg_op.specs.Contents.{Content}
-use Rattle.reg_file.specs.Files.{most, Finds, IsReadFromFault}
+use Rattle.reg_op.specs.Pieces.{Piece}
+use Rattle.reg_file.specs.Files.{most, IsReadFromFault, IsSeenReadFromFault}
+use Rattle.reg_file.specs.Parts.{FindsPart, IsPartReadFromFault}
+use Rattle.reg_file.specs.declared.parts.Part.{Part}
+use Rattle.reg_file.specs.declared.parts.Part.TheVariants as part
+use Rattle.reg_file.specs.declared.fault.ReadFileFault.{ReadFileFault}
 use Rattle.reg_file.specs.declared.fault.ReadFileFault.TheVariants as reading
 use Rattle.reg_engine.specs.declared.fault.InputFault.{InputFault}
 use Rattle.reg_engine.specs.declared.fault.InputFault.TheVariants as file
 use Rattle.reg_engine.specs.declared.fault.CliFault.{CliFault}
 use Rattle.reg_engine.specs.declared.fault.CliFault.TheVariants as cli
 
--- the source gave no register's file, for this reason
+-- the fault of reading a file, as it is reported
+abbrev pub reading_fault : InputFault → Option ReadFileFault
+reading_fault file.NotOpened = None
+reading_fault (file.ReadFailed n) = Some (reading.ReadFailed n)
+reading_fault file.TooLarge = Some reading.TooLarge
+reading_fault (file.BadFile f place) = Some (reading.File f place)
+
+abbrev pub IsFaultBy : (ReadFileFault → Type 0) → Option ReadFileFault → Type 0
+IsFaultBy Is None = ⊥
+IsFaultBy Is (Some f) = Is f
+
+-- the source gave no register's file, for this reason; no summary's; neither a register's nor a piece's
 abbrev pub IsFileFault : InputFault → SourceState → SourceState → Type 0
-IsFileFault file.NotOpened old new = ⊥
-IsFileFault (file.ReadFailed n) old new = IsReadFromFault old new (reading.ReadFailed n)
-IsFileFault file.TooLarge old new = IsReadFromFault old new reading.TooLarge
-IsFileFault (file.NoRegister f place) old new = IsReadFromFault old new (reading.File f place)
+IsFileFault f old new = IsFaultBy (IsReadFromFault old new) (reading_fault f)
+
+abbrev pub IsSummaryFault : InputFault → SourceState → SourceState → Type 0
+IsSummaryFault f old new = IsFaultBy (IsSeenReadFromFault old new) (reading_fault f)
+
+abbrev pub IsPartFault : InputFault → SourceState → SourceState → Type 0
+IsPartFault f old new = IsFaultBy (IsPartReadFromFault old new) (reading_fault f)
 
 -- the source gave some bytes, or none, and did not fail
 abbrev pub NeverFails : SourceState → SourceState → Type 0
@@ -28,24 +47,38 @@ IsUnread number old new (cli.File k f) = (k ≡ number) × IsFileFault f old new
 IsUnread number old new (cli.Out f) = ⊥
 IsUnread number old new cli.Memory = NeverFails old new
 
--- ---- a list of sources
+-- what a command did to the summary in the file of this number before it gave up
+abbrev pub IsSummaryUnread : ℕ → SourceState → SourceState → CliFault → Type 0
+IsSummaryUnread number old new (cli.Refused r) = ⊥
+IsSummaryUnread number old new (cli.File k f) = (k ≡ number) × IsSummaryFault f old new
+IsSummaryUnread number old new (cli.Out f) = ⊥
+IsSummaryUnread number old new cli.Memory = NeverFails old new
 
--- each gave the file of its content
-abbrev pub HoldAll : List SourceState → List SourceState → List Content → Type 0
+-- what it did to the register or the piece there
+abbrev pub IsPartUnread : ℕ → SourceState → SourceState → CliFault → Type 0
+IsPartUnread number old new (cli.Refused r) = ⊥
+IsPartUnread number old new (cli.File k f) = (k ≡ number) × IsPartFault f old new
+IsPartUnread number old new (cli.Out f) = ⊥
+IsPartUnread number old new cli.Memory = NeverFails old new
+
+-- ---- a list of sources, of registers and of pieces
+
+-- each gave the file of its part
+abbrev pub HoldAll : List SourceState → List SourceState → List Part → Type 0
 HoldAll [] [] [] = Unit {0}
-HoldAll [] [] (x ∷ xs) = ⊥
-HoldAll [] (n ∷ ns) xs = ⊥
-HoldAll (o ∷ os) [] xs = ⊥
+HoldAll [] [] (p ∷ ps) = ⊥
+HoldAll [] (n ∷ ns) ps = ⊥
+HoldAll (o ∷ os) [] ps = ⊥
 HoldAll (o ∷ os) (n ∷ ns) [] = ⊥
-HoldAll (o ∷ os) (n ∷ ns) (x ∷ xs) = Finds o n x × HoldAll os ns xs
+HoldAll (o ∷ os) (n ∷ ns) (p ∷ ps) = FindsPart o n p × HoldAll os ns ps
 
--- the one of this number, from 1, has the fault; each before it gave the file of a content, and those after it gave nothing
+-- the one of this number, from 1, has the fault; each before it gave the file of a part, and those after it gave nothing
 abbrev pub StopsAt : ℕ → InputFault → List SourceState → List SourceState → Type 0
 StopsAt zero f old new = ⊥
 StopsAt (suc k) f [] new = ⊥
 StopsAt (suc k) f (o ∷ os) [] = ⊥
-StopsAt (suc zero) f (o ∷ os) (n ∷ ns) = IsFileFault f o n × (ns ≡ os)
-StopsAt (suc (suc k)) f (o ∷ os) (n ∷ ns) = ((x : Content) × Finds o n x) × StopsAt (suc k) f os ns
+StopsAt (suc zero) f (o ∷ os) (n ∷ ns) = IsPartFault f o n × (ns ≡ os)
+StopsAt (suc (suc k)) f (o ∷ os) (n ∷ ns) = ((p : Part) × FindsPart o n p) × StopsAt (suc k) f os ns
 
 -- none failed
 abbrev pub NoneFails : List SourceState → List SourceState → Type 0
@@ -60,3 +93,20 @@ AreUnread old new (cli.Refused r) = ⊥
 AreUnread old new (cli.File k f) = StopsAt k f old new
 AreUnread old new (cli.Out f) = ⊥
 AreUnread old new cli.Memory = NoneFails old new
+
+-- ---- what is joined
+
+-- the registers among parts, and the pieces, each in their order
+abbrev pub registers : List Part → List Content
+registers [] = []
+registers (part.Register x ∷ ps) = x ∷ registers ps
+registers (part.Piece p ∷ ps) = registers ps
+
+abbrev pub pieces : List Part → List Piece
+pieces [] = []
+pieces (part.Register x ∷ ps) = pieces ps
+pieces (part.Piece p ∷ ps) = p ∷ pieces ps
+
+-- the sources gave the files of these registers and these pieces
+abbrev pub GiveParts : List SourceState → List SourceState → List Content → List Piece → Type 0
+GiveParts old new xs qs = (ps : List Part) × HoldAll old new ps × (xs ≡ registers ps) × (qs ≡ pieces ps)

@@ -4,6 +4,7 @@ pub mod Check
 pub mod Inputs
 pub mod Outputs
 pub mod Merge
+pub mod Exchange
 pub mod Export
 pub mod Change
 pub mod Report

@@ -1,26 +1,67 @@
--- A merge of registers: what came in, and what went out.
-use Rattle.std.specs.Prelude.{◌≡◌, List, ℕ, Ok, Err}
+-- A merge of registers and pieces: what came in, and what went out.
+use Rattle.std.specs.Prelude.{◌≡◌, ◌++◌, ◌∷◌, [], List, ℕ, Result, Ok, Err, map}
 use Rattle.byte_io.specs.Device.{SourceState, SinkState}
 use Rattle.reg_op.specs.Contents.{Content, nothing, joined}
 use Rattle.reg_op.specs.Ids.{Id}
+use Rattle.reg_op.specs.Pieces.{Piece, PieceRefusal, Basis, Clash, part_of, joined_piece}
 use Rattle.reg_join.specs.Joining.{all_joined}
 use Rattle.reg_file.specs.Files.{Holds}
+use Rattle.reg_file.specs.declared.parts.Part.{Part}
 use Rattle.reg_engine.specs.declared.fault.Refusal.TheVariants as refusal
 use Rattle.reg_engine.specs.declared.fault.CliFault.{CliFault}
 use Rattle.reg_engine.specs.declared.fault.CliFault.TheVariants as cli
-use Rattle.reg_engine.specs.Inputs.{HoldAll, StopsAt, NoneFails}
+use Rattle.reg_engine.specs.Inputs.{HoldAll, StopsAt, NoneFails, registers, pieces}
 use Rattle.reg_engine.specs.Outputs.{PublishesFile, IsOutFault}
 
--- the contents join to this one, from the left; or the first step that has one meets this clash
-abbrev pub JoinTo : List Content → Content → Type 0
-JoinTo xs x = all_joined joined (Ok nothing) xs ≡ Ok x
+-- ---- what files join to
 
-abbrev pub ClashAt : List Content → Id → Type 0
-ClashAt xs id = all_joined joined (Ok nothing) xs ≡ Err id
+-- a join of registers, as what pieces are joined to
+abbrev pub begun : Result Content Id → Result Content PieceRefusal
+begun (Ok x) = Ok x
+begun (Err id) = Err (Clash id)
 
--- the bytes are the file of what the contents join to
-abbrev pub IsMergeOf : List Content → List ℕ → Type 0
-IsMergeOf xs bytes = (x : Content) × JoinTo xs x × Holds bytes x
+abbrev pub with_piece : Result Content PieceRefusal → Piece → Result Content PieceRefusal
+with_piece (Ok x) p = joined_piece x p
+with_piece (Err r) p = Err r
+
+-- pieces in their order, from the left: the refusal of the first step that has one
+abbrev pub with_pieces : Result Content PieceRefusal → List Piece → Result Content PieceRefusal
+with_pieces r [] = r
+with_pieces r (p ∷ ps) = with_pieces (with_piece r p) ps
+
+-- all registers joined, and then all pieces
+abbrev pub join_of : List Part → Result Content PieceRefusal
+join_of ps = with_pieces (begun (all_joined joined (Ok nothing) (registers ps))) (pieces ps)
+
+-- what a join that is refused is reported as
+abbrev pub IsUnjoined : Result Content PieceRefusal → CliFault → Type 0
+IsUnjoined r (cli.Refused (refusal.Clash id)) = r ≡ Err (Clash id)
+IsUnjoined r (cli.Refused (refusal.Basis id)) = r ≡ Err (Basis id)
+IsUnjoined r (cli.Refused f) = ⊥
+IsUnjoined r (cli.File k f) = ⊥
+IsUnjoined r (cli.Out f) = ⊥
+IsUnjoined r cli.Memory = Unit {0}
+
+-- the parts join to this content; or the first step that has one meets this clash; or the first piece whose basis is not
+-- held by what was joined before it misses this id
+abbrev pub JoinTo : List Part → Content → Type 0
+JoinTo ps x = join_of ps ≡ Ok x
+
+abbrev pub ClashAt : List Part → Id → Type 0
+ClashAt ps id = join_of ps ≡ Err (Clash id)
+
+abbrev pub BasisAt : List Part → Id → Type 0
+BasisAt ps id = join_of ps ≡ Err (Basis id)
+
+-- the bytes are the file of what the parts join to
+abbrev pub IsMergeOf : List Part → List ℕ → Type 0
+IsMergeOf ps bytes = (x : Content) × JoinTo ps x × Holds bytes x
+
+-- what the parts bring: a register its content; a piece its operations, and its seen ids without the basis
+abbrev pub brought : List Part → List Content
+brought ps = registers ps ++ map part_of (pieces ps)
+
+-- ---- what the command does
 
 -- what a merge sees of its sources and its target
 pub record Ends : Type 0 where
@@ -30,16 +71,17 @@ pub record Ends : Type 0 where
 abbrev pub ends : List SourceState → SinkState → Ends
 ends sources target = record { sources = sources; target = target }
 
--- each source gave the file of a content, and the file of what they join to went out
+-- each source gave the file of a part, and the file of what they join to went out
 abbrev pub IsMerged : Ends → Ends → Type 0
-IsMerged old new = (xs : List Content) × HoldAll old.sources new.sources xs
-    × ((x : Content) × JoinTo xs x × PublishesFile x old.target new.target)
+IsMerged old new = (ps : List Part) × HoldAll old.sources new.sources ps
+    × ((x : Content) × JoinTo ps x × PublishesFile x old.target new.target)
 
 -- what a merge did, by its fault; where it refuses, nothing was opened
 abbrev pub IsMergeFault : Ends → Ends → CliFault → Type 0
-IsMergeFault old new (cli.Refused (refusal.Clash id)) = (xs : List Content) × HoldAll old.sources new.sources xs × ClashAt xs id × (new.target ≡ old.target)
+IsMergeFault old new (cli.Refused (refusal.Clash id)) = (ps : List Part) × HoldAll old.sources new.sources ps × ClashAt ps id × (new.target ≡ old.target)
+IsMergeFault old new (cli.Refused (refusal.Basis id)) = (ps : List Part) × HoldAll old.sources new.sources ps × BasisAt ps id × (new.target ≡ old.target)
 IsMergeFault old new (cli.Refused r) = ⊥
 IsMergeFault old new (cli.File k f) = StopsAt k f old.sources new.sources × (new.target ≡ old.target)
-IsMergeFault old new (cli.Out f) = (xs : List Content) × HoldAll old.sources new.sources xs
-    × ((x : Content) × JoinTo xs x × IsOutFault x old.target new.target f)
+IsMergeFault old new (cli.Out f) = (ps : List Part) × HoldAll old.sources new.sources ps
+    × ((x : Content) × JoinTo ps x × IsOutFault x old.target new.target f)
 IsMergeFault old new cli.Memory = NoneFails old.sources new.sources × (new.target ≡ old.target)

@@ -1,4 +1,4 @@
--- A register's file, to a target that is opened once the file is made; and ids, to a sink.
+-- A file, to a target that is opened once the file is made; and ids, to a sink.
 use Rattle.std.specs.Prelude.{◌≡◌, ◌++◌, ◌∷◌, ◌⊎◌, [], List, ℕ}
 use Rattle.std.specs.List.{flat_map}
 use Rattle.byte_io.specs.Device.{SinkState}
@@ -6,30 +6,62 @@ use Rattle.byte_io.specs.Whole.{WritesAll, IsCutAt}
 use Rattle.byte_io.specs.Publish.{Publishes, IsPublishFault}
 use Rattle.byte_io.specs.declared.fault.PublishFault.TheVariants as publish
 use Rattle.reg_op.specs.Contents.{Content}
-use Rattle.reg_op.specs.Ids.{Id}
+use Rattle.reg_op.specs.Ids.{Id, Ids}
+use Rattle.reg_op.specs.Pieces.{Piece}
 use Rattle.reg_op.specs.Text.{printed}
-use Rattle.reg_file.specs.Files.{Holds, IsTooLarge}
+use Rattle.reg_file.specs.Files.{Holds, IsTooLarge, HoldsSeen, IsSeenTooLarge, HoldsPiece, IsPieceTooLarge}
 use Rattle.reg_engine.specs.declared.fault.OutFault.{OutFault}
 use Rattle.reg_engine.specs.declared.fault.OutFault.TheVariants as out
 use Rattle.reg_engine.specs.declared.fault.CliFault.{CliFault}
 use Rattle.reg_engine.specs.declared.fault.CliFault.TheVariants as cli
 
--- it was opened once, and the content's file went out whole
-abbrev pub PublishesFile : Content → SinkState → SinkState → Type 0
-PublishesFile x old new = (bytes : List ℕ) × Holds bytes x × Publishes bytes old new
+-- it was opened once, and such a file went out whole
+abbrev pub PublishesBy : (List ℕ → Type 0) → SinkState → SinkState → Type 0
+PublishesBy Are old new = (bytes : List ℕ) × Are bytes × Publishes bytes old new
 
 -- the file would be too large, and nothing was opened; or it was not opened; or exactly the first n bytes went out
-abbrev pub IsOutFault : Content → SinkState → SinkState → OutFault → Type 0
-IsOutFault x old new out.TooLarge = IsTooLarge x × (new ≡ old)
-IsOutFault x old new out.NotOpened = (bytes : List ℕ) × Holds bytes x × IsPublishFault bytes old new publish.NotOpened
-IsOutFault x old new (out.WriteFailed n) = (bytes : List ℕ) × Holds bytes x × IsPublishFault bytes old new (publish.WriteFailed n)
+abbrev pub IsOutFaultBy : (List ℕ → Type 0) → Type 0 → SinkState → SinkState → OutFault → Type 0
+IsOutFaultBy Are Large old new out.TooLarge = Large × (new ≡ old)
+IsOutFaultBy Are Large old new out.NotOpened = (bytes : List ℕ) × Are bytes × IsPublishFault bytes old new publish.NotOpened
+IsOutFaultBy Are Large old new (out.WriteFailed n) = (bytes : List ℕ) × Are bytes × IsPublishFault bytes old new (publish.WriteFailed n)
 
 -- what a command did to its target, by its fault; out of memory, nothing was opened
+abbrev pub IsUnpublishedBy : (List ℕ → Type 0) → Type 0 → SinkState → SinkState → CliFault → Type 0
+IsUnpublishedBy Are Large old new (cli.Refused r) = ⊥
+IsUnpublishedBy Are Large old new (cli.File k f) = ⊥
+IsUnpublishedBy Are Large old new (cli.Out f) = IsOutFaultBy Are Large old new f
+IsUnpublishedBy Are Large old new cli.Memory = new ≡ old
+
+-- the same, where just these bytes are the file
+abbrev pub IsUnpublishedOf : List ℕ → SinkState → SinkState → CliFault → Type 0
+IsUnpublishedOf bytes old new (cli.Refused r) = ⊥
+IsUnpublishedOf bytes old new (cli.File k f) = ⊥
+IsUnpublishedOf bytes old new (cli.Out out.TooLarge) = ⊥
+IsUnpublishedOf bytes old new (cli.Out out.NotOpened) = IsPublishFault bytes old new publish.NotOpened
+IsUnpublishedOf bytes old new (cli.Out (out.WriteFailed n)) = IsPublishFault bytes old new (publish.WriteFailed n)
+IsUnpublishedOf bytes old new cli.Memory = ⊥
+
+-- the same of the file of a content; of the ids that were seen; of a piece
+abbrev pub PublishesFile : Content → SinkState → SinkState → Type 0
+PublishesFile x old new = PublishesBy (λ bytes. Holds bytes x) old new
+
+abbrev pub IsOutFault : Content → SinkState → SinkState → OutFault → Type 0
+IsOutFault x old new f = IsOutFaultBy (λ bytes. Holds bytes x) (IsTooLarge x) old new f
+
 abbrev pub IsUnpublished : Content → SinkState → SinkState → CliFault → Type 0
-IsUnpublished x old new (cli.Refused r) = ⊥
-IsUnpublished x old new (cli.File k f) = ⊥
-IsUnpublished x old new (cli.Out f) = IsOutFault x old new f
-IsUnpublished x old new cli.Memory = new ≡ old
+IsUnpublished x old new f = IsUnpublishedBy (λ bytes. Holds bytes x) (IsTooLarge x) old new f
+
+abbrev pub PublishesSeen : Ids → SinkState → SinkState → Type 0
+PublishesSeen ids old new = PublishesBy (λ bytes. HoldsSeen bytes ids) old new
+
+abbrev pub IsUnpublishedSeen : Ids → SinkState → SinkState → CliFault → Type 0
+IsUnpublishedSeen ids old new f = IsUnpublishedBy (λ bytes. HoldsSeen bytes ids) (IsSeenTooLarge ids) old new f
+
+abbrev pub PublishesPiece : Piece → SinkState → SinkState → Type 0
+PublishesPiece p old new = PublishesBy (λ bytes. HoldsPiece bytes p) old new
+
+abbrev pub IsUnpublishedPiece : Piece → SinkState → SinkState → CliFault → Type 0
+IsUnpublishedPiece p old new f = IsUnpublishedBy (λ bytes. HoldsPiece bytes p) (IsPieceTooLarge p) old new f
 
 -- ---- and ids
 

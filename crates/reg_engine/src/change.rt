@@ -1,13 +1,11 @@
 //! Commands that an office is given on a register's file.
 
-ghost use Rattle.std.specs.Prelude.{◌≡◌, IfOk, OnOk, IfErr};
-ghost use Rattle.wkt_crs.specs.Spells.{canon};
-ghost use Rattle.wkt_crs.specs.Definition.{IsDefinition};
+ghost use Rattle.std.specs.Prelude.{OnOk, IfErr};
 ghost use Rattle.reg_office.specs.Commands.{retirements, supersessions};
 ghost use Rattle.reg_engine.specs.Outputs.{outputs};
-ghost use Rattle.reg_engine.specs.Change.{desk, IsChanged, IsChangeFault, entry_desk, IsEntered, IsUndefined, IsEnterFault};
+ghost use Rattle.reg_engine.specs.Change.{desk, IsChanged, IsChangeFault, entry_desk, IsEntered, IsEnterFault};
 
-use crate::fault::{CliFault, Refusal};
+use crate::fault::CliFault;
 use crate::inputs::read_file;
 use crate::outputs::give_out;
 use byte_io::{Sink, Source, Target};
@@ -15,7 +13,7 @@ use reg_office::Office;
 use reg_op::OpId;
 use std::alloc::Global;
 use uuid::Uuid;
-use wkt_crs::{Crs, Definition, DefinitionFault, read_crs_from};
+use wkt_crs::define_from;
 
 /// Reads the register of the source, which is file 1, retires entries of it as the replica, and writes the register's
 /// file to the target and the new ids to the sink, each with a newline.
@@ -82,26 +80,6 @@ pub fn run_supersede<S: Source, T: Target, K: Sink>(
     }
 }
 
-// The definition of the value, or why it has none.
-fn defined(alloc: Global, crs: Crs) -> Result<Definition, CliFault>
-    ensures ok { IfOk result (λ d. d ≡ canon crs) }
-    ensures is { IfOk result IsDefinition }
-    ensures fault { IfErr result (IsUndefined crs) }
-{
-    match Definition::new(alloc, crs) {
-        Ok(definition) => {
-            // By its text it is one.
-            let _text = definition.as_bytes();
-            Ok(definition)
-        }
-        Err(DefinitionFault::NoIdentifier) => Err(CliFault::Refused(Refusal::NoIdentifier)),
-        Err(DefinitionFault::CanonicalTooLong) => {
-            Err(CliFault::Refused(Refusal::CanonicalTooLong))
-        }
-        Err(_) => Err(CliFault::Memory),
-    }
-}
-
 /// Reads the register of the source, which is file 1, and then the text of another, which is file 2; enters the text's
 /// value as the replica; and writes the register's file to the target and the new id to the sink, with a newline.
 pub fn run_enter<S: Source, X: Source, T: Target, K: Sink>(
@@ -123,13 +101,9 @@ pub fn run_enter<S: Source, X: Source, T: Target, K: Sink>(
         Ok(register) => register,
         Err(fault) => return Err(fault),
     };
-    let crs = match read_crs_from(alloc, text) {
-        Ok(crs) => crs,
-        Err(fault) => return Err(CliFault::of_text(2, fault)),
-    };
-    let definition = match defined(alloc, crs) {
+    let definition = match define_from(alloc, text) {
         Ok(definition) => definition,
-        Err(fault) => return Err(fault),
+        Err(fault) => return Err(CliFault::of_definition(2, fault)),
     };
     let mut office = Office::new(replica, register);
     let id = match office.enter(definition) {

@@ -1,15 +1,16 @@
 //! The command `check`.
 
-ghost use Rattle.std.specs.Prelude.{◌≡◌, IfOk, OnOk, IfErr};
-ghost use Rattle.reg_engine.specs.Check.{IsPrinted, IsCheckFault, line_of};
+ghost use Rattle.std.specs.Prelude.{OnOk, IfErr};
+ghost use Rattle.reg_engine.specs.Check.{IsPrinted, IsCheckFault};
 ghost use Rattle.reg_engine.specs.Devices.{devices};
 
 use crate::fault::{CliFault, OutFault};
 use byte_io::{Sink, Source, write_all};
-use std::alloc::{AllocError, Global};
-use wkt_crs::{Crs, read_crs_from, write_crs};
+use std::alloc::Global;
+use wkt_crs::canonical_text_from;
 
-/// Reads the text of the source, which is file 1, and writes its canonical text and a newline.
+/// Reads the text of the source, which is file 1, and writes its canonical text and a newline. A text that is seen to be
+/// canonical goes out as it stands.
 pub fn run_check<S: Source, K: Sink>(
     alloc: Global,
     source: &mut S,
@@ -22,23 +23,15 @@ pub fn run_check<S: Source, K: Sink>(
         (devices (S.state source.old) (K.state sink.old))
         (devices (S.state source.new) (K.state sink.new))) }
 {
-    let crs = match read_crs_from(alloc, source) {
-        Ok(crs) => crs,
+    let mut line = match canonical_text_from(alloc, source) {
+        Ok(canonical) => canonical,
         Err(fault) => return Err(CliFault::of_text(1, fault)),
     };
-    let Ok(line) = canonical_line(alloc, &crs) else {
+    if let Err(_) = line.push(b'\n') {
         return Err(CliFault::Memory);
-    };
+    }
     match write_all(sink, &line) {
         Ok(()) => Ok(()),
         Err(fault) => Err(CliFault::Out(OutFault::WriteFailed(fault.written))),
     }
-}
-
-fn canonical_line(alloc: Global, crs: &Crs) -> Result<Vec<u8>, AllocError>
-    ensures { IfOk result (λ line. line.items ≡ line_of crs.now) }
-{
-    let mut line = write_crs(alloc, crs)?;
-    line.push(b'\n')?;
-    Ok(line)
 }

@@ -2,7 +2,8 @@
 
 ghost use Rattle.std.specs.Prelude.{◌≡◌, ◌++◌, IfOk, OnOk, IfErr};
 ghost use Rattle.reg_engine.specs.Devices.{devices};
-ghost use Rattle.reg_engine.specs.Export.{export, is_retired, op_line, IsExported, IsExportFault};
+ghost use Rattle.reg_engine.specs.Export.{op_line, IsExported, IsExportFault};
+ghost use Rattle.reg_office.specs.Exports.{export, is_retired};
 ghost use Rattle.reg_op.specs.Status.{status};
 
 use crate::fault::{CliFault, OutFault};

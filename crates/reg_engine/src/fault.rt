@@ -1,14 +1,17 @@
 //! What an engine reports: the fault, how it prints, and its exit status.
 
 ghost use Rattle.std.specs.Prelude.{◌≡◌};
-ghost use Rattle.reg_engine.specs.Fault.{status_of, text_fault, register_fault, office_fault};
+ghost use Rattle.reg_engine.specs.Fault.{status_of, text_fault, definition_fault, file_fault, office_fault, piece_fault};
 
 use reg_file::{FileFault, ReadFileFault};
 use reg_office::OfficeFault;
 use reg_op::OpId;
+use reg_state::PieceFault;
 use std::fmt;
 use thiserror::Error;
-use wkt_crs::{Condition, DefinitionFault, ReadFault, ReadFromFault, SlotFault, TextFault};
+use wkt_crs::{
+    Condition, DefineFromFault, DefinitionFault, ReadFault, ReadFromFault, SlotFault, TextFault,
+};
 
 /// Why a command's input is refused. It prints as the fault's name, what it names, and its place.
 #[derive(Clone, Copy, Debug, PartialEq, Eq)]
@@ -21,8 +24,10 @@ pub enum Refusal {
     NoIdentifier,
     /// The canonical text of a CRS that was to be entered has more than 65,536 bytes.
     CanonicalTooLong,
-    /// The id has two bodies in the registers that were to be joined.
+    /// The id has two bodies in what was to be joined.
     Clash(OpId),
+    /// A piece that was to be joined is for one who has seen this id, and it was not seen.
+    Basis(OpId),
     /// No operation of the register entered the id.
     UnknownEntry(OpId),
     /// An entry was to supersede itself.
@@ -54,6 +59,7 @@ impl fmt::Display for Refusal {
             Refusal::NoIdentifier => f.write_str("NoIdentifier"),
             Refusal::CanonicalTooLong => f.write_str("CanonicalTooLong"),
             Refusal::Clash(id) => of_id(f, "Clash", *id),
+            Refusal::Basis(id) => of_id(f, "Basis", *id),
             Refusal::UnknownEntry(id) => of_id(f, "UnknownEntry", *id),
             Refusal::SameEntry => f.write_str("SameEntry"),
             Refusal::AlreadyRetired(id) => of_id(f, "AlreadyRetired", *id),
@@ -88,10 +94,10 @@ pub enum InputFault {
     NotOpened,
     /// Reading failed after this many bytes.
     ReadFailed(usize),
-    /// There are more bytes than a register's file may have.
+    /// There are more bytes than a file may have.
     TooLarge,
-    /// The bytes are no register's file, and this is their first fault.
-    NoRegister { fault: FileFault, place: usize },
+    /// The bytes are no file of the kind that is read, and this is their first fault.
+    BadFile { fault: FileFault, place: usize },
 }
 
 impl fmt::Display for InputFault {
@@ -100,14 +106,14 @@ impl fmt::Display for InputFault {
             InputFault::NotOpened => f.write_str("NotOpened"),
             InputFault::ReadFailed(place) => write!(f, "ReadFailed at {place}"),
             InputFault::TooLarge => f.write_str("TooLarge"),
-            InputFault::NoRegister {
+            InputFault::BadFile {
                 fault: FileFault::Definition(fault),
                 place,
             } => {
                 let name = definition_fault_name(*fault);
                 write!(f, "Definition {name} at {place}")
             }
-            InputFault::NoRegister { fault, place } => {
+            InputFault::BadFile { fault, place } => {
                 let name = file_fault_name(*fault);
                 write!(f, "{name} at {place}")
             }
@@ -153,7 +159,7 @@ fn definition_fault_name(fault: DefinitionFault) -> &'static str {
 pub enum OutFault {
     #[error("NotOpened")]
     NotOpened,
-    /// The register's file would have too many bytes. The output was not opened.
+    /// The file would have too many bytes. The output was not opened.
     #[error("TooLarge")]
     TooLarge,
     /// Exactly this many bytes went out.
@@ -198,12 +204,36 @@ impl CliFault {
         }
     }
 
-    /// The fault of reading the register in the file of this number.
-    pub(crate) fn of_register(number: usize, fault: ReadFileFault) -> CliFault
-        ensures { result ≡ register_fault number fault }
+    /// The fault of making a definition of the text in the file of this number.
+    pub(crate) fn of_definition(number: usize, fault: DefineFromFault) -> CliFault
+        ensures { result ≡ definition_fault number fault }
+    {
+        match fault {
+            DefineFromFault::ReadFailed(n) => {
+                CliFault::of_text(number, ReadFromFault::ReadFailed(n))
+            }
+            DefineFromFault::Refused(DefinitionFault::Read(fault)) => {
+                CliFault::of_text(number, ReadFromFault::Refused(fault))
+            }
+            DefineFromFault::Refused(DefinitionFault::NoIdentifier) => {
+                CliFault::Refused(Refusal::NoIdentifier)
+            }
+            DefineFromFault::Refused(DefinitionFault::CanonicalTooLong) => {
+                CliFault::Refused(Refusal::CanonicalTooLong)
+            }
+            // A text need not be canonical.
+            DefineFromFault::Refused(DefinitionFault::NotCanonical | DefinitionFault::Memory) => {
+                CliFault::Memory
+            }
+        }
+    }
+
+    /// The fault of reading the file of this number.
+    pub(crate) fn of_file(number: usize, fault: ReadFileFault) -> CliFault
+        ensures { result ≡ file_fault number fault }
     {
         let fault = match fault {
-            ReadFileFault::File { fault, place } => InputFault::NoRegister { fault, place },
+            ReadFileFault::File { fault, place } => InputFault::BadFile { fault, place },
             ReadFileFault::TooLarge => InputFault::TooLarge,
             ReadFileFault::ReadFailed(n) => InputFault::ReadFailed(n),
             ReadFileFault::Memory => return CliFault::Memory,
@@ -224,6 +254,17 @@ impl CliFault {
             OfficeFault::Memory => return CliFault::Memory,
         };
         CliFault::Refused(refusal)
+    }
+
+    /// The fault of joining a piece.
+    pub(crate) fn of_piece(fault: PieceFault) -> CliFault
+        ensures { result ≡ piece_fault fault }
+    {
+        match fault {
+            PieceFault::Basis(id) => CliFault::Refused(Refusal::Basis(id)),
+            PieceFault::Clash(id) => CliFault::Refused(Refusal::Clash(id)),
+            PieceFault::Memory => CliFault::Memory,
+        }
     }
 
     /// The exit status of the program: 1 for what is refused, 3 for a file or the output, 4 for memory.

@@ -1,14 +1,15 @@
-//! Registers, read from files.
+//! Registers, summaries and pieces, read from files.
 
-ghost use Rattle.std.specs.Prelude.{map, IfOk, IfErr};
-ghost use Rattle.reg_file.specs.Files.{Finds};
-ghost use Rattle.reg_engine.specs.Inputs.{IsUnread, HoldAll, AreUnread};
+ghost use Rattle.std.specs.Prelude.{◌≡◌, ◌++◌, ◌∷◌, [], map, IfOk, OnOk, IfErr};
+ghost use Rattle.reg_file.specs.Files.{Finds, FindsSeen};
+ghost use Rattle.reg_file.specs.Parts.{FindsPart};
+ghost use Rattle.reg_engine.specs.Inputs.{IsUnread, IsSummaryUnread, IsPartUnread, AreUnread, GiveParts, registers, pieces};
 
 use crate::fault::CliFault;
 use byte_io::Source;
-use reg_file::read_register_beside;
-use reg_state::Register;
-use std::alloc::Global;
+use reg_file::{Part, read_part_beside, read_register, read_seen};
+use reg_state::{Piece, Register, Seen};
+use std::alloc::{AllocError, Global};
 
 /// Reads the register in the file of this number.
 pub(crate) fn read_file<S: Source>(
@@ -19,42 +20,81 @@ pub(crate) fn read_file<S: Source>(
     ensures found { IfOk result (Finds (S.state source.old) (S.state source.new)) }
     ensures fault { IfErr result (IsUnread number (S.state source.old) (S.state source.new)) }
 {
-    read_file_beside(alloc, &[], number, source)
+    match read_register(alloc, source) {
+        Ok(register) => Ok(register),
+        Err(fault) => Err(CliFault::of_file(number, fault)),
+    }
 }
 
-/// The same, where some registers are read already: what they have of it is not read again.
-fn read_file_beside<S: Source>(
+/// Reads the summary in the file of this number.
+pub(crate) fn read_summary<S: Source>(
+    alloc: Global,
+    number: usize,
+    source: &mut S,
+) -> Result<Seen, CliFault>
+    ensures found { IfOk result (FindsSeen (S.state source.old) (S.state source.new)) }
+    ensures fault { IfErr result (IsSummaryUnread number (S.state source.old) (S.state source.new)) }
+{
+    match read_seen(alloc, source) {
+        Ok(seen) => Ok(seen),
+        Err(fault) => Err(CliFault::of_file(number, fault)),
+    }
+}
+
+// Reads the register or the piece in the file of this number, where some registers are read already: what they have of it
+// is not read again.
+fn read_next<S: Source>(
     alloc: Global,
     known: &[Register],
     number: usize,
     source: &mut S,
-) -> Result<Register, CliFault>
-    ensures found { IfOk result (Finds (S.state source.old) (S.state source.new)) }
-    ensures fault { IfErr result (IsUnread number (S.state source.old) (S.state source.new)) }
+) -> Result<Part, CliFault>
+    ensures found { IfOk result (FindsPart (S.state source.old) (S.state source.new)) }
+    ensures fault { IfErr result (IsPartUnread number (S.state source.old) (S.state source.new)) }
 {
-    match read_register_beside(alloc, known, source) {
-        Ok(register) => Ok(register),
-        Err(fault) => Err(CliFault::of_register(number, fault)),
+    match read_part_beside(alloc, known, source) {
+        Ok(part) => Ok(part),
+        Err(fault) => Err(CliFault::of_file(number, fault)),
     }
 }
 
-/// Reads a register from each source, in their order, and stops at the first that has none.
-pub(crate) fn read_files<S: Source>(
-    alloc: Global,
-    sources: &mut [S],
-) -> Result<Vec<Register>, CliFault>
-    ensures found { IfOk result (λ v. HoldAll (map S.state sources.old) (map S.state sources.new) v.items) }
+/// The registers of some files, and the pieces of others, each in the order of the files.
+#[derive(Drop)]
+pub(crate) struct Parts {
+    pub(crate) registers: Vec<Register>,
+    pub(crate) pieces: Vec<Piece>,
+}
+
+impl Parts {
+    fn push(&mut self, part: Part) -> Result<(), AllocError>
+        ensures registers { OnOk result (self.new.registers.items ≡ self.old.registers.items ++ registers (part ∷ [])) }
+        ensures pieces { OnOk result (self.new.pieces.items ≡ self.old.pieces.items ++ pieces (part ∷ [])) }
+    {
+        match part {
+            Part::Register(register) => self.registers.push(register)?,
+            Part::Piece(piece) => self.pieces.push(piece)?,
+        }
+        Ok(())
+    }
+}
+
+/// Reads a register or a piece from each source, in their order, and stops at the first that has none.
+pub(crate) fn read_parts<S: Source>(alloc: Global, sources: &mut [S]) -> Result<Parts, CliFault>
+    ensures found { IfOk result (λ parts. GiveParts (map S.state sources.old) (map S.state sources.new) parts.registers.items parts.pieces.items) }
     ensures fault { IfErr result (AreUnread (map S.state sources.old) (map S.state sources.new)) }
 {
-    let mut registers = Vec::new(alloc);
+    let mut parts = Parts {
+        registers: Vec::new(alloc),
+        pieces: Vec::new(alloc),
+    };
     for i in 0..sources.len() {
-        let register = match read_file_beside(alloc, &registers, i + 1, &mut sources[i]) {
-            Ok(register) => register,
+        let part = match read_next(alloc, &parts.registers, i + 1, &mut sources[i]) {
+            Ok(part) => part,
             Err(fault) => return Err(fault),
         };
-        if let Err(_) = registers.push(register) {
+        if let Err(_) = parts.push(part) {
             return Err(CliFault::Memory);
         }
     }
-    Ok(registers)
+    Ok(parts)
 }

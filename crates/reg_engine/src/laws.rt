@@ -2,18 +2,20 @@
 
 ghost use Rattle.std.specs.Prelude.{◌≡◌, ℕ, List, map};
 ghost use Rattle.reg_op.specs.Operations.{Ops, OneBody};
-ghost use Rattle.reg_op.specs.Contents.{Content, state, nothing};
+ghost use Rattle.reg_op.specs.Contents.{state, nothing};
 ghost use Rattle.reg_file.specs.Files.{Holds, IsTooLarge};
 ghost use Rattle.reg_state.specs.ManyLaws.{all_ops, all_seen, all_of};
-ghost use Rattle.reg_engine.specs.Merge.{IsMergeOf};
+ghost use Rattle.reg_file.specs.declared.parts.Part.{Part};
+ghost use Rattle.reg_file.specs.declared.parts.Part.TheVariants as part;
+ghost use Rattle.reg_engine.specs.Merge.{IsMergeOf, brought};
 
-/// Where contents together have one body an id, lists with the same operations and the same ids merge to the same
-/// bytes, in any order and with any repeats. Where they are those of offices that took sets of operations, it is the
-/// file of one that took all.
+/// Where registers and pieces together have one body an id, lists that bring the same operations and the same ids merge
+/// to the same bytes, in any order and with any repeats, if each is merged: no basis is missed. Where all are registers of
+/// offices that took sets of operations, it is the file of one that took all.
 pub fn merge_of_many()
-    ensures order { (xs ys : List Content) (bytes others : List ℕ) → OneBody (all_ops xs) → all_ops xs ≡ all_ops ys → all_seen xs ≡ all_seen ys
-        → IsMergeOf xs bytes → IsMergeOf ys others → bytes ≡ others }
-    ensures states { (ss : List Ops) (bytes : List ℕ) → OneBody (all_of ss) → IsMergeOf (map state ss) bytes → Holds bytes (state (all_of ss)) }
+    ensures order { (ps qs : List Part) (bytes others : List ℕ) → OneBody (all_ops (brought ps)) → all_ops (brought ps) ≡ all_ops (brought qs)
+        → all_seen (brought ps) ≡ all_seen (brought qs) → IsMergeOf ps bytes → IsMergeOf qs others → bytes ≡ others }
+    ensures states { (ss : List Ops) (bytes : List ℕ) → OneBody (all_of ss) → IsMergeOf (map part.Register (map state ss)) bytes → Holds bytes (state (all_of ss)) }
 {}
 
 /// The empty register's file is short enough.

@@ -3,6 +3,7 @@
 
 mod change;
 mod check;
+mod exchange;
 mod export;
 mod fault;
 mod inputs;
@@ -14,6 +15,7 @@ mod wkt;
 
 pub use change::{run_enter, run_retire, run_supersede};
 pub use check::run_check;
+pub use exchange::{run_piece, run_seen};
 pub use export::run_export;
 pub use fault::{CliFault, InputFault, OutFault, Refusal};
 pub use merge::{run_merge, run_new};

@@ -1,15 +1,17 @@
 //! The commands `new` and `merge`.
 
-ghost use Rattle.std.specs.Prelude.{◌≢◌, map, Err, OnOk, IfErr};
-ghost use Rattle.reg_op.specs.Contents.{nothing};
+ghost use Rattle.std.specs.Prelude.{◌≡◌, ◌≢◌, map, Ok, Err, IfOk, OnOk, IfErr};
+ghost use Rattle.reg_join.specs.Joining.{all_joined};
+ghost use Rattle.reg_op.specs.Contents.{nothing, joined};
+ghost use Rattle.reg_op.specs.Pieces.{joined_piece};
 ghost use Rattle.reg_engine.specs.Outputs.{PublishesFile, IsUnpublished};
-ghost use Rattle.reg_engine.specs.Merge.{ends, IsMerged, IsMergeFault};
+ghost use Rattle.reg_engine.specs.Merge.{ends, begun, with_pieces, IsUnjoined, IsMerged, IsMergeFault};
 
 use crate::fault::{CliFault, OutFault, Refusal};
-use crate::inputs::read_files;
+use crate::inputs::{Parts, read_parts};
 use crate::outputs::publish_register;
 use byte_io::{Source, Target};
-use reg_state::{JoinFault, Register, join_all};
+use reg_state::{JoinFault, Piece, Register, join_all};
 use std::alloc::Global;
 use std::mem::forget;
 
@@ -25,8 +27,47 @@ pub fn run_new<T: Target>(alloc: Global, target: &mut T) -> Result<(), CliFault>
     }
 }
 
-/// Reads a register from each source, and writes the file of their join. A source's number is its place in the list,
-/// from 1. Once the file is written, the memory of what was read is not given back.
+// All registers joined, as what pieces are joined to.
+fn join_registers(alloc: Global, registers: &[Register]) -> Result<Register, CliFault>
+    ensures ok { IfOk result (λ r. begun (all_joined joined (Ok nothing) registers.now) ≡ Ok r) }
+    ensures err { IfErr result (IsUnjoined (begun (all_joined joined (Ok nothing) registers.now))) }
+{
+    match join_all(alloc, registers) {
+        Ok(joined) => Ok(joined),
+        Err(JoinFault::Clash(id)) => Err(CliFault::Refused(Refusal::Clash(id))),
+        Err(JoinFault::Memory) => Err(CliFault::Memory),
+    }
+}
+
+// The piece joined to the register.
+fn join_one(alloc: Global, register: &Register, piece: &Piece) -> Result<Register, CliFault>
+    ensures ok { IfOk result (λ r. joined_piece register.now piece.now ≡ Ok r) }
+    ensures err { IfErr result (IsUnjoined (joined_piece register.now piece.now)) }
+{
+    match register.join_piece(alloc, piece) {
+        Ok(joined) => Ok(joined),
+        Err(fault) => Err(CliFault::of_piece(fault)),
+    }
+}
+
+// The pieces joined to the register, one after another.
+fn join_pieces(alloc: Global, register: Register, pieces: &[Piece]) -> Result<Register, CliFault>
+    ensures ok { IfOk result (λ r. with_pieces (Ok register) pieces.now ≡ Ok r) }
+    ensures err { IfErr result (IsUnjoined (with_pieces (Ok register) pieces.now)) }
+{
+    let mut joined = register;
+    for piece in pieces {
+        joined = match join_one(alloc, &joined, piece) {
+            Ok(joined) => joined,
+            Err(fault) => return Err(fault),
+        };
+    }
+    Ok(joined)
+}
+
+/// Reads a register or a piece from each source, and writes the file of their join: all registers, and then the pieces in
+/// their order. A source's number is its place in the list, from 1. Once the file is written, the memory of what was read
+/// is not given back.
 pub fn run_merge<S: Source, T: Target>(
     alloc: Global,
     sources: &mut [S],
@@ -39,20 +80,24 @@ pub fn run_merge<S: Source, T: Target>(
         (ends (map S.state sources.old) (T.state target.old))
         (ends (map S.state sources.new) (T.state target.new))) }
 {
-    let registers = match read_files(alloc, sources) {
-        Ok(registers) => registers,
+    let Parts { registers, pieces } = match read_parts(alloc, sources) {
+        Ok(parts) => parts,
         Err(fault) => return Err(fault),
     };
-    let joined = match join_all(alloc, &registers) {
+    let begun = match join_registers(alloc, &registers) {
+        Ok(begun) => begun,
+        Err(fault) => return Err(fault),
+    };
+    let joined = match join_pieces(alloc, begun, &pieces) {
         Ok(joined) => joined,
-        Err(JoinFault::Clash(id)) => return Err(CliFault::Refused(Refusal::Clash(id))),
-        Err(JoinFault::Memory) => return Err(CliFault::Memory),
+        Err(fault) => return Err(fault),
     };
     match publish_register(alloc, &joined, target) {
         Ok(()) => {
             // A program ends with its merge. Giving back each definition by itself would take a twelfth of its time.
             forget(joined);
             forget(registers);
+            forget(pieces);
             Ok(())
         }
         Err(fault) => Err(fault),

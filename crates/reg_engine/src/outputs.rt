@@ -1,15 +1,29 @@
-//! Registers, written to targets, and the ids that are printed then.
+//! Files, written to targets, and the ids that are printed then.
 
 ghost use Rattle.std.specs.Prelude.{◌≡◌, ◌++◌, ◌∷◌, [], IfOk, OnOk, IfErr};
 ghost use Rattle.reg_op.specs.Text.{printed};
-ghost use Rattle.reg_engine.specs.Outputs.{PublishesFile, IsUnpublished, id_lines, outputs, GivesOut, IsUngiven};
+ghost use Rattle.byte_io.specs.Publish.{Publishes};
+ghost use Rattle.reg_engine.specs.Outputs.{IsUnpublishedOf, PublishesFile, IsUnpublished, PublishesSeen, IsUnpublishedSeen, PublishesPiece, IsUnpublishedPiece};
+ghost use Rattle.reg_engine.specs.Outputs.{id_lines, outputs, GivesOut, IsUngiven};
 
 use crate::fault::{CliFault, OutFault};
 use byte_io::{PublishFault, Sink, Target, publish, write_all};
-use reg_file::{WriteFileFault, write_bytes};
+use reg_file::{WriteFileFault, write_bytes, write_piece_bytes, write_seen_bytes};
 use reg_op::OpId;
-use reg_state::Register;
+use reg_state::{Piece, Register, Seen};
 use std::alloc::{AllocError, Global};
+
+// Opens the target and writes the file that was made.
+fn publish_bytes<T: Target>(bytes: &[u8], target: &mut T) -> Result<(), CliFault>
+    ensures published { OnOk result (Publishes bytes.now (T.state target.old) (T.state target.new)) }
+    ensures fault { IfErr result (IsUnpublishedOf bytes.now (T.state target.old) (T.state target.new)) }
+{
+    match publish(target, bytes) {
+        Ok(()) => Ok(()),
+        Err(PublishFault::NotOpened) => Err(CliFault::Out(OutFault::NotOpened)),
+        Err(PublishFault::WriteFailed(n)) => Err(CliFault::Out(OutFault::WriteFailed(n))),
+    }
+}
 
 /// Writes the register's file to the target, which is opened once the file is made.
 pub(crate) fn publish_register<T: Target>(
@@ -20,15 +34,42 @@ pub(crate) fn publish_register<T: Target>(
     ensures published { OnOk result (PublishesFile register.now (T.state target.old) (T.state target.new)) }
     ensures fault { IfErr result (IsUnpublished register.now (T.state target.old) (T.state target.new)) }
 {
-    let bytes = match write_bytes(alloc, register) {
-        Ok(bytes) => bytes,
-        Err(WriteFileFault::TooLarge) => return Err(CliFault::Out(OutFault::TooLarge)),
-        Err(_) => return Err(CliFault::Memory),
-    };
-    match publish(target, &bytes) {
-        Ok(()) => Ok(()),
-        Err(PublishFault::NotOpened) => Err(CliFault::Out(OutFault::NotOpened)),
-        Err(PublishFault::WriteFailed(n)) => Err(CliFault::Out(OutFault::WriteFailed(n))),
+    match write_bytes(alloc, register) {
+        Ok(bytes) => publish_bytes(&bytes, target),
+        Err(WriteFileFault::TooLarge) => Err(CliFault::Out(OutFault::TooLarge)),
+        Err(_) => Err(CliFault::Memory),
+    }
+}
+
+/// Writes the file of the ids that were seen, likewise.
+pub(crate) fn publish_seen<T: Target>(
+    alloc: Global,
+    seen: &Seen,
+    target: &mut T,
+) -> Result<(), CliFault>
+    ensures published { OnOk result (PublishesSeen seen.now (T.state target.old) (T.state target.new)) }
+    ensures fault { IfErr result (IsUnpublishedSeen seen.now (T.state target.old) (T.state target.new)) }
+{
+    match write_seen_bytes(alloc, seen) {
+        Ok(bytes) => publish_bytes(&bytes, target),
+        Err(WriteFileFault::TooLarge) => Err(CliFault::Out(OutFault::TooLarge)),
+        Err(_) => Err(CliFault::Memory),
+    }
+}
+
+/// Writes the piece's file, likewise.
+pub(crate) fn publish_piece<T: Target>(
+    alloc: Global,
+    piece: &Piece,
+    target: &mut T,
+) -> Result<(), CliFault>
+    ensures published { OnOk result (PublishesPiece piece.now (T.state target.old) (T.state target.new)) }
+    ensures fault { IfErr result (IsUnpublishedPiece piece.now (T.state target.old) (T.state target.new)) }
+{
+    match write_piece_bytes(alloc, piece) {
+        Ok(bytes) => publish_bytes(&bytes, target),
+        Err(WriteFileFault::TooLarge) => Err(CliFault::Out(OutFault::TooLarge)),
+        Err(_) => Err(CliFault::Memory),
     }
 }
 

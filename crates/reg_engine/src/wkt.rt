@@ -1,15 +1,15 @@
 //! The command `wkt`.
 
-ghost use Rattle.std.specs.Prelude.{◌≡◌, ◌++◌, ◌∷◌, [], IfOk, OnOk, IfErr};
+ghost use Rattle.std.specs.Prelude.{IfOk, OnOk, IfErr};
 ghost use Rattle.reg_engine.specs.Devices.{devices};
-ghost use Rattle.reg_engine.specs.Export.{text_in, IsShown, IsShowFault};
+ghost use Rattle.reg_engine.specs.Export.{IsDefinitionText, IsDefinitionLine, IsShown, IsShowFault};
 
 use crate::fault::{CliFault, OutFault, Refusal};
 use crate::inputs::read_file;
 use byte_io::{Sink, Source, write_all};
 use reg_op::OpId;
 use std::alloc::{AllocError, Global};
-use wkt_crs::{Crs, write_crs, write_pretty};
+use wkt_crs::{Definition, write_pretty};
 
 /// How a text is laid out.
 #[derive(Clone, Copy, Debug, PartialEq, Eq)]
@@ -40,10 +40,7 @@ pub fn run_wkt<S: Source, K: Sink>(
     let Some(definition) = register.definition(entry) else {
         return Err(CliFault::Refused(Refusal::UnknownEntry(entry)));
     };
-    let Ok(crs) = definition.crs(alloc) else {
-        return Err(CliFault::Memory);
-    };
-    let Ok(line) = line_in(alloc, form, &crs) else {
+    let Ok(line) = line_in(alloc, form, definition) else {
         return Err(CliFault::Memory);
     };
     match write_all(sink, &line) {
@@ -52,13 +49,27 @@ pub fn run_wkt<S: Source, K: Sink>(
     }
 }
 
-fn line_in(alloc: Global, form: Form, crs: &Crs) -> Result<Vec<u8>, AllocError>
-    ensures { IfOk result (λ line. line.items ≡ text_in form crs.now ++ 10 ∷ []) }
+fn line_in(alloc: Global, form: Form, definition: &Definition) -> Result<Vec<u8>, AllocError>
+    ensures { IfOk result (λ line. IsDefinitionLine form definition.now line.items) }
 {
-    let mut line = match form {
-        Form::Canonical => write_crs(alloc, crs)?,
-        Form::Indented => write_pretty(alloc, crs)?,
-    };
+    let mut line = text_in(alloc, form, definition)?;
     line.push(b'\n')?;
     Ok(line)
+}
+
+// The text of the definition in this form. A value is read for the indented one alone.
+fn text_in(alloc: Global, form: Form, definition: &Definition) -> Result<Vec<u8>, AllocError>
+    ensures { IfOk result (λ text. IsDefinitionText form definition.now text.items) }
+{
+    match form {
+        Form::Canonical => {
+            let text = Vec::from_slice(alloc, definition.as_bytes())?;
+            Ok(text)
+        }
+        Form::Indented => {
+            let crs = definition.crs(alloc)?;
+            let text = write_pretty(alloc, &crs)?;
+            Ok(text)
+        }
+    }
 }

@@ -1,8 +1,7 @@
 -- Operations that are read are those that were written, and where reading them stops.
-use Rattle.std.proofs.Common.{◌≡◌, ℕ, ◌-◌, ◌≤◌, ◌||◌, Bool, true, false, cond, eqb, ltb, List, [], ◌∷◌, ◌++◌, length, Option, Result, Ok, Err, refl, sym, ap, subst, ◌∙◌, append_assoc, arith}
+use Rattle.std.proofs.Common.{◌≡◌, ℕ, ◌≤◌, ◌||◌, Bool, true, false, cond, eqb, ltb, List, [], ◌∷◌, ◌++◌, length, Option, Result, Ok, Err, refl, sym, ap, subst, ◌∙◌, append_assoc, arith}
 use Rattle.std.proofs.lemmas.Bool.{ltb-false, eqb-true, true≢false}
 use Rattle.std.proofs.lemmas.Bool.Decides.{nat_tests}
-use Rattle.std.proofs.lemmas.List.{length-append}
 use Rattle.std.specs.Ordering.{is_eq}
 use Rattle.std.specs.Cmp.{tied_itself}
 use Rattle.reg_op.specs.Ids.{Id, Ids, IsId, is_same}
@@ -15,11 +14,12 @@ use Rattle.reg_file.specs.declared.fault.Stop.{Stop}
 use Rattle.reg_file.specs.declared.fault.Stop.TheVariants as stop
 use Rattle.reg_file.specs.declared.fault.FileFault.TheVariants.{OpKind}
 use Rattle.reg_file.specs.Layout.{four, id_bytes, kind_byte, body_bytes, op_bytes}
-use Rattle.reg_file.specs.Fields.{◌>>=◌, Fails, id_at, own_at, text_at, pair_at, body_at, op_kind_at, op_at}
-use Rattle.reg_file.specs.Readers.{StopsIn}
-use Rattle.reg_file.specs.Reading.{IsUnfit, FailsAs, operation}
+use Rattle.reg_file.specs.Fields.{◌>>=◌, Fails, id_at, own_at, text_at, pair_at, body_at, op_kind_at, heading_at}
+use Rattle.reg_file.specs.Readers.{field, StopsIn}
+use Rattle.reg_file.specs.Reading.{FailsAs, body, headed_body, operation}
 use Rattle.reg_file.specs.Steps.{StopsInText, StopsAs}
 use Rattle.reg_file.proofs.FieldLemmas.{IsBytes, IsBytes-rest, bind_ok, guard_ok, ok_is, none_of, Takes, Takes-then, IsOwn, id_takes, id_again, own_takes, own_again, text_takes, text_again, pair_takes, pair_again}
+use Rattle.reg_file.proofs.Sequences.{stops_field, stops_front, stops_back}
 
 -- what the fields of a body tell
 abbrev pub IsReadBody : Body → Type 0
@@ -98,26 +98,38 @@ op_kind_again (Retire entry) rest = refl
 
 -- ---- a whole operation
 
+pub record TakesHeading (last : Option Id) (seen : Ids) (bytes : List ℕ) (i : Id) (kind : ℕ) (rest : List ℕ) : Type 0 where
+  pub takes : Takes bytes (id_bytes i ++ kind ∷ []) rest
+  pub own : IsOwn last seen i
+  pub low : 1 ≤ kind
+  pub high : kind ≤ 3
+
+pub heading_takes : (last : Option Id) (seen : Ids) (bytes : List ℕ) (i : Id) (kind : ℕ) (rest : List ℕ) → IsBytes bytes → heading_at last seen bytes ≡ Ok ((i, kind), rest) → TakesHeading last seen bytes i kind rest
+unfolding heading_at
+heading_takes last seen bytes i kind rest fits e =
+    let a = bind_ok (own_at last seen bytes) (λ id. op_kind_at id.1 >>= λ k. Ok ((id.0, k.0), k.1)) ((i, kind), rest) e in
+    let b = bind_ok (op_kind_at a.0.1) (λ k. Ok ((a.0.0, k.0), k.1)) ((i, kind), rest) a.2 in
+    let own = own_takes last seen bytes a.0.0 a.0.1 fits a.1 in
+    let named = op_kind_takes a.0.1 b.0.0 b.0.1 b.1 in
+    let second : Takes a.0.1 (b.0.0 ∷ []) b.0.1 = record { parts = named.0; rest_fits = IsBytes-rest b.0.0 b.0.1 (subst IsBytes named.0 own.0.rest_fits) } in
+    subst (λ (y : (Id × ℕ) × List ℕ). TakesHeading last seen bytes y.0.0 y.0.1 y.1) (ok_is ((a.0.0, b.0.0), b.0.1) ((i, kind), rest) b.2)
+    (record { takes = Takes-then bytes (id_bytes a.0.0) a.0.1 (b.0.0 ∷ []) b.0.1 own.0 second; own = own.1; low = named.1; high = named.2 })
+
+heading_again : (last : Option Id) (seen : Ids) (i : Id) (b : Body) (rest : List ℕ) → IsOwn last seen i → heading_at last seen (id_bytes i ++ (kind_byte b ∷ rest)) ≡ Ok ((i, kind_byte b), rest)
+unfolding heading_at
+heading_again last seen i b rest own = rw (own_again last seen i (kind_byte b ∷ rest) own, op_kind_again b rest) refl
+
 pub record TakesOp (last : Option Id) (seen : Ids) (bytes : List ℕ) (o : Op) (rest : List ℕ) : Type 0 where
   pub takes : Takes bytes (op_bytes o) rest
   pub own : IsOwn last seen o.id
-  pub body : IsReadBody o.body
+  pub body : IsBody o.body
 
-pub op_takes : (last : Option Id) (seen : Ids) (bytes : List ℕ) (o : Op) (rest : List ℕ) → IsBytes bytes → op_at last seen bytes ≡ Ok (o, rest) → TakesOp last seen bytes o rest
-unfolding op_at
+pub op_takes : (last : Option Id) (seen : Ids) (bytes : List ℕ) (o : Op) (rest : List ℕ) → IsBytes bytes → (operation seen last).Reads bytes o rest → TakesOp last seen bytes o rest
 op_takes last seen bytes o rest fits e =
-    let a = bind_ok (own_at last seen bytes) (λ id. op_kind_at id.1 >>= λ kind. body_at kind.0 kind.1 >>= λ body. Ok (record { id = id.0; body = body.0 }, body.1)) (o, rest) e in
-    let b = bind_ok (op_kind_at a.0.1) (λ kind. body_at kind.0 kind.1 >>= λ body. Ok (record { id = a.0.0; body = body.0 }, body.1)) (o, rest) a.2 in
-    let c = bind_ok (body_at b.0.0 b.0.1) (λ body. Ok (record { id = a.0.0; body = body.0 }, body.1)) (o, rest) b.2 in
-    let first = own_takes last seen bytes a.0.0 a.0.1 fits a.1 in
-    let second = op_kind_takes a.0.1 b.0.0 b.0.1 b.1 in
-    let fits' : IsBytes b.0.1 = IsBytes-rest b.0.0 b.0.1 (subst IsBytes second.0 first.0.rest_fits) in
-    let third = body_takes b.0.0 b.0.1 c.0 second.1 second.2 fits' c.1 in
-    let kind : Takes a.0.1 (kind_byte c.0.0 ∷ []) b.0.1 = record { parts = second.0 ∙ (λ j. third.kind_is j ∷ b.0.1); rest_fits = fits' } in
-    let both = Takes-then a.0.1 (kind_byte c.0.0 ∷ []) b.0.1 (body_bytes c.0.0) c.0.1 kind third.takes in
-    let all = Takes-then bytes (id_bytes a.0.0) a.0.1 (kind_byte c.0.0 ∷ body_bytes c.0.0) c.0.1 first.0 both in
-    let made : Op × List ℕ = (record { id = a.0.0; body = c.0.0 }, c.0.1) in
-    subst (λ (y : Op × List ℕ). TakesOp last seen bytes y.0 y.1) (ok_is made (o, rest) c.2) (record { takes = all; own = first.1; body = third.is })
+    let first = heading_takes last seen bytes o.id (kind_byte o.body) e.0 fits e.1 in
+    let second = body_takes (kind_byte o.body) e.0 (o.body, rest) first.low first.high first.takes.rest_fits e.2.0 in
+    let both = Takes-then bytes (id_bytes o.id ++ kind_byte o.body ∷ []) e.0 (body_bytes o.body) rest first.takes second.takes in
+    record { takes = subst (λ (t : List ℕ). Takes bytes t rest) (append_assoc (id_bytes o.id) (kind_byte o.body ∷ []) (body_bytes o.body)) both; own = first.own; body = e.2.1 }
 
 pub same_itself : (i : Id) → is_same i i ≡ true
 same_itself i = ap is_eq (tied_itself id_total i)
@@ -131,89 +143,56 @@ read_body (Supersede old newer) is = (is.0, is.1, differ (is_same old newer) ref
     differ false e = refl
 read_body (Retire entry) is = is
 
-pub op_again : (last : Option Id) (seen : Ids) (o : Op) (rest : List ℕ) → IsOwn last seen o.id → IsReadBody o.body → op_at last seen (op_bytes o ++ rest) ≡ Ok (o, rest)
-unfolding op_at
-op_again last seen o rest own body =
-    let regrouped : op_bytes o ++ rest ≡ id_bytes o.id ++ (kind_byte o.body ∷ (body_bytes o.body ++ rest)) = append_assoc (id_bytes o.id) (kind_byte o.body ∷ body_bytes o.body) rest in
-    ap (op_at last seen) regrouped
-    ∙ rw (own_again last seen o.id (kind_byte o.body ∷ (body_bytes o.body ++ rest)) own, op_kind_again o.body (body_bytes o.body ++ rest), body_again o.body rest body) refl
+pub op_again : (last : Option Id) (seen : Ids) (o : Op) (rest : List ℕ) → IsOwn last seen o.id → IsBody o.body → (operation seen last).Reads (op_bytes o ++ rest) o rest
+op_again last seen o rest own is = (
+  body_bytes o.body ++ rest,
+  ap (heading_at last seen) (append_assoc (id_bytes o.id) (kind_byte o.body ∷ body_bytes o.body) rest) ∙ heading_again last seen o.id o.body (body_bytes o.body ++ rest) own,
+  (body_again o.body rest (read_body o.body is), is),
+)
 
 -- ---- where reading stops
 
 -- at the first part of a step
-pub stops_first : {A X : Type 0} (of : X → Body) (left : ℕ) (r : Result A Refused) (f : A → Result (X × List ℕ) Refused) (s : Stop) → Fails s r → StopsAs of left (r >>= f) s
-stops_first of left r f stop.Memory h = tt
-stops_first {X = X} of left r f (stop.Refused e) h = subst (λ (y : Result (X × List ℕ) Refused). FailsAs of left y e) (ap (λ x. x >>= f) (sym h)) refl
+pub stops_first : {A : Type 0} (left : ℕ) (r : Result A Refused) (f : A → Result (Body × List ℕ) Refused) (s : Stop) → Fails s r → StopsAs left (r >>= f) s
+stops_first left r f stop.Memory h = tt
+stops_first left r f (stop.Refused e) h = subst (λ (y : Result (Body × List ℕ) Refused). FailsAs left y e) (ap (λ x. x >>= f) (sym h)) refl
 
 -- after the first part
-pub stops_then : {A X : Type 0} (of : X → Body) (left : ℕ) (r : Result A Refused) (f : A → Result (X × List ℕ) Refused) (s : Stop) (x : A) → r ≡ Ok x → StopsAs of left (f x) s → StopsAs of left (r >>= f) s
-stops_then {X = X} of left r f s x h k = subst (λ (y : Result (X × List ℕ) Refused). StopsAs of left y s) (ap (λ z. z >>= f) (sym h)) k
-
--- in what a body makes
-pub stops_made : {X : Type 0} (of : X → Body) (left : ℕ) (r : Result (Body × List ℕ) Refused) (make : Body × List ℕ → X × List ℕ) → ((x : Body × List ℕ) → of (make x).0 ≡ x.0) → (s : Stop)
-    → StopsAs (λ b. b) left r s → StopsAs of left (r >>= λ x. Ok (make x)) s
-stops_made of left r make same stop.Memory h = tt
-stops_made of left (Ok x) make same (stop.Refused e) h = subst (λ b. IsUnfit b left e) (sym (same x)) h
-stops_made of left (Err d) make same (stop.Refused e) h = h
-
-pub in_operation : (last : Option Id) (seen : Ids) (bytes : List ℕ) (s : Stop) → StopsAs (λ (o : Op). o.body) (length bytes - 21) (op_at last seen bytes) s → StopsIn (operation seen last) bytes s
-in_operation last seen bytes stop.Memory h = tt
-in_operation last seen bytes (stop.Refused r) h = h
+pub stops_then : {A : Type 0} (left : ℕ) (r : Result A Refused) (f : A → Result (Body × List ℕ) Refused) (s : Stop) (x : A) → r ≡ Ok x → StopsAs left (f x) s → StopsAs left (r >>= f) s
+stops_then left r f s x h k = subst (λ (y : Result (Body × List ℕ) Refused). StopsAs left y s) (ap (λ z. z >>= f) (sym h)) k
 
 -- in a text
-pub stops_text : (text : List ℕ) (left : ℕ) (rest : List ℕ) (s : Stop) → StopsInText text left s → StopsAs (λ (b : Body). b) left (Ok (Enter text, rest)) s
+pub stops_text : (text : List ℕ) (left : ℕ) (rest : List ℕ) (s : Stop) → StopsInText text left s → StopsAs left (Ok (Enter text, rest)) s
 stops_text text left rest stop.Memory h = tt
 stops_text text left rest (stop.Refused r) h = h
 
 -- ---- an operation's steps
 
-abbrev body_then : Id → Body × List ℕ → Op × List ℕ
-body_then i x = (record { id = i; body = x.0 }, x.1)
+in_body : (kind : ℕ) (bytes : List ℕ) (s : Stop) → StopsAs (length bytes) (body_at kind bytes) s → StopsIn (body kind) bytes s
+in_body kind bytes stop.Memory h = tt
+in_body kind bytes (stop.Refused r) h = h
 
-abbrev kind_then : Id → ℕ × List ℕ → Result (Op × List ℕ) Refused
-kind_then i kind = body_at kind.0 kind.1 >>= λ body. Ok (body_then i body)
-
-abbrev own_then : Id × List ℕ → Result (Op × List ℕ) Refused
-own_then id = op_kind_at id.1 >>= λ kind. kind_then id.0 kind
+in_operation : (last : Option Id) (seen : Ids) (bytes : List ℕ) (s : Stop) → StopsIn (headed_body seen last) bytes s → StopsIn (operation seen last) bytes s
+in_operation last seen bytes stop.Memory h = tt
+in_operation last seen bytes (stop.Refused r) h = h
 
 module _ (last : Option Id) (seen : Ids) (bytes : List ℕ) where
-  pub op_stops_own : (s : Stop) → Fails s (own_at last seen bytes) → StopsIn (operation seen last) bytes s
-  unfolding op_at
-  op_stops_own s h = in_operation last seen bytes s (stops_first (λ (o : Op). o.body) (length bytes - 21) (own_at last seen bytes) own_then s h)
+  pub op_stops_heading : (s : Stop) → Fails s (heading_at last seen bytes) → StopsIn (operation seen last) bytes s
+  op_stops_heading s h = in_operation last seen bytes s (stops_front (field (heading_at last seen)) (λ x. body x.1) bytes s (stops_field (heading_at last seen) bytes s h))
 
-  module _ (i : Id) (r : List ℕ) (own : own_at last seen bytes ≡ Ok (i, r)) where
-    pub op_stops_kind : (s : Stop) → Fails s (op_kind_at r) → StopsIn (operation seen last) bytes s
-    unfolding op_at
-    op_stops_kind s h =
-        in_operation last seen bytes s
-        (stops_then (λ (o : Op). o.body) (length bytes - 21) (own_at last seen bytes) own_then s (i, r) own
-        (stops_first (λ (o : Op). o.body) (length bytes - 21) (op_kind_at r) (kind_then i) s h))
+  module _ (i : Id) (kind : ℕ) (r : List ℕ) (heading : heading_at last seen bytes ≡ Ok ((i, kind), r)) where
+    pub op_stops_body : (s : Stop) → StopsAs (length r) (body_at kind r) s → StopsIn (operation seen last) bytes s
+    op_stops_body s h = in_operation last seen bytes s (stops_back (field (heading_at last seen)) (λ x. body x.1) bytes (i, kind) r s heading (in_body kind r s h))
 
-    module _ (k : ℕ) (r' : List ℕ) (kind : op_kind_at r ≡ Ok (k, r')) where
-      pub op_stops_body : (s : Stop) → length r' ≡ length bytes - 21 → StopsAs (λ (b : Body). b) (length r') (body_at k r') s → StopsIn (operation seen last) bytes s
-      unfolding op_at
-      op_stops_body s len h =
-          in_operation last seen bytes s
-          (stops_then (λ (o : Op). o.body) (length bytes - 21) (own_at last seen bytes) own_then s (i, r) own
-          (stops_then (λ (o : Op). o.body) (length bytes - 21) (op_kind_at r) (kind_then i) s (k, r') kind
-          (stops_made (λ (o : Op). o.body) (length bytes - 21) (body_at k r') (body_then i) (λ x. refl) s (subst (λ n. StopsAs (λ (b : Body). b) n (body_at k r') s) len h))))
-
-      pub op_done : (b : Body) (r'' : List ℕ) → body_at k r' ≡ Ok (b, r'') → op_at last seen bytes ≡ Ok (record { id = i; body = b }, r'')
-      unfolding op_at
-      op_done b r'' body = ap (λ x. x >>= own_then) own ∙ ap (λ x. x >>= kind_then i) kind ∙ ap (λ x. x >>= λ y. Ok (body_then i y)) body
-
--- how much stands before a body
-pub body_left : (last : Option Id) (seen : Ids) (bytes : List ℕ) (i : Id) (r : List ℕ) (k : ℕ) (r' : List ℕ) → IsBytes bytes → own_at last seen bytes ≡ Ok (i, r) → op_kind_at r ≡ Ok (k, r')
-    → length r' ≡ length bytes - 21
-body_left last seen bytes i r k r' fits own kind =
-    let t = own_takes last seen bytes i r fits own in
-    let whole = ap length t.0.parts in
-    let rest = ap length (op_kind_takes r k r' kind).0 in
-    let long : length i.replica ≡ 16 = t.1.id.long in
-    let parts = length-append (id_bytes i) r in
-    let front = length-append i.replica (four i.count) in
-    let four_is : length (four i.count) ≡ 4 = refl in
-    omega arith
+    pub op_done : (b : Body) (rest : List ℕ) (o : Op) → IsBytes bytes → body_at kind r ≡ Ok (b, rest) → o ≡ record { id = i; body = b } → IsBody o.body → (operation seen last).Reads bytes o rest
+    op_done b rest o fits read e is =
+        let first = heading_takes last seen bytes i kind r fits heading in
+        let second = body_takes kind r (b, rest) first.low first.high first.takes.rest_fits read in
+        let kind_is : kind ≡ kind_byte o.body = second.kind_is ∙ ap (λ (p : Op). kind_byte p.body) (sym e) in (
+          r,
+          heading ∙ (λ j. Ok (((sym e j).id, kind_is j), r)),
+          (sym (ap (λ n. body_at n r) kind_is) ∙ read ∙ ap (λ (p : Op). Ok (p.body, rest)) (sym e), is),
+        )
 
 -- no body that is read is of itself
 pub not_of_itself : (kind : ℕ) (bytes : List ℕ) (b : Body) (rest : List ℕ) → 1 ≤ kind → kind ≤ 3 → IsBytes bytes → body_at kind bytes ≡ Ok (b, rest) → IsOfItself b → ⊥

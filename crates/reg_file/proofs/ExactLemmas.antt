@@ -4,19 +4,19 @@ use Rattle.reg_op.specs.Ids.{Id, Ids}
 use Rattle.reg_op.specs.Operations.{Op, op_cmp, IsBody}
 use Rattle.reg_op.specs.Set as set
 use Rattle.reg_seen.specs.Runs.{seen_of}
-use Rattle.reg_state.specs.Tables.{first_dropped}
+use Rattle.reg_op.specs.Kept.{first_dropped}
 use Rattle.std.specs.Int.{w32}
 use Rattle.reg_op.specs.declared.operation.OpBody.{OpBody as Body}
 use Rattle.reg_op.specs.declared.operation.OpBody.TheVariants.{Enter, Supersede, Retire}
 use Rattle.reg_file.specs.declared.fault.Refused.{Refused}
 use Rattle.reg_file.specs.declared.fault.FileFault.TheVariants as fault
-use Rattle.reg_file.specs.Layout.{runs_of}
-use Rattle.reg_file.specs.Fields.{op_at, head_at, number_at, group_at, span_at}
-use Rattle.reg_file.specs.Readers.{Part, field, ◌behind◌, ReadsBoth, FailsInOne, ReadsEach, state_after, repeated}
-use Rattle.reg_file.specs.Reading.{span, floor_after, spans, group, named_spans, replica_after, groups, ranges, IsUnfit, FailsAs, operation, id_after, operations, counted_operations, places_of, left_in, IsDropped, IsTrailing, ending, kept_operations, seen_and_kept, register}
+use Rattle.reg_file.specs.Layout.{kind_byte, runs_of}
+use Rattle.reg_file.specs.Fields.{heading_at, body_at, head_at, number_at, group_at, span_at}
+use Rattle.reg_file.specs.Readers.{Portion, field, ◌behind◌, ReadsBoth, FailsInOne, ReadsEach, state_after, repeated}
+use Rattle.reg_file.specs.Reading.{span, floor_after, spans, group, replica_after, groups, ranges, IsUnfit, FailsAs, body, operation, id_after, operations, counted_operations, places_of, left_in, IsDropped, IsTrailing, ending, ended, seen_and_ops, seen_and_kept, register, summary, based, piece}
 use Rattle.reg_file.proofs.DefinitionLemmas.{no_text_fault, one_text_fault}
 
-pub record IsExact {A : Type 0} (p : Part A) : Type 0 where
+pub record IsExact {A : Type 0} (p : Portion A) : Type 0 where
   pub one_value : (bytes : List ℕ) (x y : A) (rest left : List ℕ) → p.Reads bytes x rest → p.Reads bytes y left → (x ≡ y) × (rest ≡ left)
   pub no_fault : (bytes : List ℕ) (x : A) (rest : List ℕ) (r : Refused) → p.Reads bytes x rest → p.Fails bytes r → ⊥
   pub one_fault : (bytes : List ℕ) (q r : Refused) → p.Fails bytes q → p.Fails bytes r → q ≡ r
@@ -46,7 +46,7 @@ field_exact read = record {
   one_fault = λ bytes q r h k. same_failed q r (sym h ∙ k);
 }
 
-module _ {A B : Type 0} (p : Part A) (q : A → Part B) (first : IsExact p) (second : (x : A) → IsExact (q x)) where
+module _ {A B : Type 0} (p : Portion A) (q : A → Portion B) (first : IsExact p) (second : (x : A) → IsExact (q x)) where
   both_one : (bytes : List ℕ) (x y : A × B) (rest left : List ℕ) → ReadsBoth p q bytes x rest → ReadsBoth p q bytes y left → (x ≡ y) × (rest ≡ left)
   both_one bytes x y rest left h k =
       let a = first.one_value bytes x.0 y.0 h.0 k.0 h.1 k.1 in
@@ -71,7 +71,7 @@ module _ {A B : Type 0} (p : Part A) (q : A → Part B) (first : IsExact p) (sec
   pub behind_exact : IsExact (p behind q)
   behind_exact = record { one_value = both_one; no_fault = both_none; one_fault = both_fault }
 
-module _ {A S : Type 0} (item : S → Part A) (next : S → A → S) (each : (s : S) → IsExact (item s)) where
+module _ {A S : Type 0} (item : S → Portion A) (next : S → A → S) (each : (s : S) → IsExact (item s)) where
   -- after one item
   moved : (s : S) (bytes : List ℕ) (x y : A) (mid mid' : List ℕ) (ys : List A) (left : List ℕ) → x ≡ y → mid ≡ mid' → ReadsEach item next (next s y) mid' ys left → ReadsEach item next (next s x) mid ys left
   moved s bytes x y mid mid' ys left e f h = subst (λ (z : A × List ℕ). ReadsEach item next (next s z.0) z.1 ys left) (λ j. (sym e j, sym f j)) h
@@ -111,14 +111,19 @@ module _ {A S : Type 0} (item : S → Part A) (next : S → A → S) (each : (s 
 
 -- ---- the parts of a file
 
-pub group_exact : (last : Option (List ℕ)) → IsExact (named_spans last) → IsExact (group last)
-group_exact last is = record {
-  one_value = λ bytes g h rest left p q.
-      let e = is.one_value bytes ((g.replica, length g.spans), g.spans) ((h.replica, length h.spans), h.spans) rest left p q in
-      ((λ j. record { replica = (e.0 j).0.0; spans = (e.0 j).1 }), e.1);
-  no_fault = λ bytes g rest r p q. is.no_fault bytes ((g.replica, length g.spans), g.spans) rest r p q;
-  one_fault = is.one_fault;
-}
+group_exact : (basis : Ids) (last : Option (List ℕ)) → IsExact (group basis last)
+group_exact basis last =
+    let is = behind_exact (field (group_at last)) (λ x. spans basis x.0 x.1) (field_exact (group_at last)) (λ x. repeated_exact (span basis x.0) floor_after (λ floor. field_exact (span_at basis x.0 floor)) 1 x.1) in
+    record {
+      one_value = λ bytes g h rest left p q.
+          let e = is.one_value bytes ((g.replica, length g.spans), g.spans) ((h.replica, length h.spans), h.spans) rest left p q in
+          ((λ j. record { replica = (e.0 j).0.0; spans = (e.0 j).1 }), e.1);
+      no_fault = λ bytes g rest r p q. is.no_fault bytes ((g.replica, length g.spans), g.spans) rest r p q;
+      one_fault = is.one_fault;
+    }
+
+pub ranges_exact : (basis : Ids) → IsExact (ranges basis)
+ranges_exact basis = behind_exact (field (number_at w32)) (groups basis) (field_exact (number_at w32)) (λ n. repeated_exact (group basis) replica_after (group_exact basis) None n)
 
 no_unfit : (b : Body) (left : ℕ) (r : Refused) → IsBody b → IsUnfit b left r → ⊥
 no_unfit (Enter text) left r is e = no_text_fault text r.fault is e.1
@@ -130,22 +135,33 @@ one_unfit (Enter text) left q r e h = λ j. record { fault = one_text_fault text
 one_unfit (Supersede old newer) left q r e h = absurd e
 one_unfit (Retire entry) left q r e h = absurd e
 
-fails_none : (left : ℕ) (read : Result (Op × List ℕ) Refused) (o : Op) (rest : List ℕ) (r : Refused) → read ≡ Ok (o, rest) → IsBody o.body → FailsAs (λ (o : Op). o.body) left read r → ⊥
-fails_none left (Err e) o rest r h is f = not_both (o, rest) e (sym h)
-fails_none left (Ok x) o rest r h is f =
-    let e = same_done x.0 o x.1 rest h in
-    no_unfit o.body left r is (subst (λ (y : Op). IsUnfit y.body left r) e.0 f)
+fails_none : (left : ℕ) (read : Result (Body × List ℕ) Refused) (b : Body) (rest : List ℕ) (r : Refused) → read ≡ Ok (b, rest) → IsBody b → FailsAs left read r → ⊥
+fails_none left (Err e) b rest r h is f = not_both (b, rest) e (sym h)
+fails_none left (Ok x) b rest r h is f =
+    let e = same_done x.0 b x.1 rest h in
+    no_unfit b left r is (subst (λ (y : Body). IsUnfit y left r) e.0 f)
 
-fails_one : (left : ℕ) (read : Result (Op × List ℕ) Refused) (q r : Refused) → FailsAs (λ (o : Op). o.body) left read q → FailsAs (λ (o : Op). o.body) left read r → q ≡ r
+fails_one : (left : ℕ) (read : Result (Body × List ℕ) Refused) (q r : Refused) → FailsAs left read q → FailsAs left read r → q ≡ r
 fails_one left (Err e) q r f g = sym f ∙ g
-fails_one left (Ok x) q r f g = one_unfit x.0.body left q r f g
+fails_one left (Ok x) q r f g = one_unfit x.0 left q r f g
 
-pub operation_exact : (seen : Ids) (last : Option Id) → IsExact (operation seen last)
-operation_exact seen last = record {
-  one_value = λ bytes o p rest left h k. same_done o p rest left (sym h.0 ∙ k.0);
-  no_fault = λ bytes o rest r h k. fails_none (length bytes - 21) (op_at last seen bytes) o rest r h.0 h.1 k;
-  one_fault = λ bytes q r h k. fails_one (length bytes - 21) (op_at last seen bytes) q r h k;
+body_exact : (kind : ℕ) → IsExact (body kind)
+body_exact kind = record {
+  one_value = λ bytes b d rest left h k. same_done b d rest left (sym h.0 ∙ k.0);
+  no_fault = λ bytes b rest r h k. fails_none (length bytes) (body_at kind bytes) b rest r h.0 h.1 k;
+  one_fault = λ bytes q r h k. fails_one (length bytes) (body_at kind bytes) q r h k;
 }
+
+operation_exact : (seen : Ids) (last : Option Id) → IsExact (operation seen last)
+operation_exact seen last =
+    let is = behind_exact (field (heading_at last seen)) (λ x. body x.1) (field_exact (heading_at last seen)) (λ x. body_exact x.1) in
+    record {
+      one_value = λ bytes o p rest left h k.
+          let e = is.one_value bytes ((o.id, kind_byte o.body), o.body) ((p.id, kind_byte p.body), p.body) rest left h k in
+          ((λ j. record { id = (e.0 j).0.0; body = (e.0 j).1 }), e.1);
+      no_fault = λ bytes o rest r h k. is.no_fault bytes ((o.id, kind_byte o.body), o.body) rest r h k;
+      one_fault = is.one_fault;
+    }
 
 some_none : {X : Type 0} (x : X) → ◌≡◌ {A = Option X} (Some x) None → ⊥
 some_none x e = cc
@@ -170,12 +186,33 @@ ending_exact os = record {
   one_fault = ending_fault os;
 }
 
-pub register_exact : IsExact register
-register_exact =
-    behind_exact (field (head_at 1 1)) (λ x. seen_and_kept) (field_exact (head_at 1 1))
-    (λ x. behind_exact ranges (λ gs. kept_operations gs.1)
-    (behind_exact (field (number_at w32)) groups (field_exact (number_at w32))
-    (λ n. repeated_exact group replica_after (λ last. group_exact last (behind_exact (field (group_at last)) (λ x. spans x.1) (field_exact (group_at last)) (λ x. repeated_exact span floor_after (λ floor. field_exact (span_at floor)) 1 x.1))) None n))
-    (λ gs. behind_exact (counted_operations (seen_of (runs_of gs.1))) (λ os. ending os.1)
-    (behind_exact (field (number_at w32)) (operations (seen_of (runs_of gs.1))) (field_exact (number_at w32)) (λ n. repeated_exact (operation (seen_of (runs_of gs.1))) id_after (operation_exact (seen_of (runs_of gs.1))) None n))
-    (λ os. ending_exact os.1)))
+ended_exact : IsExact ended
+ended_exact = record {
+  one_value = λ bytes x y rest left h k. (refl, h.1 ∙ sym k.1);
+  no_fault = λ bytes x rest r h k. let l = ap length h.0 in omega (arith, k.0, l);
+  one_fault = λ bytes q r h k. h.1 ∙ sym k.1;
+}
+
+-- ---- whole files
+
+seen_and_ops_exact : (basis : Ids) → IsExact (seen_and_ops basis)
+seen_and_ops_exact basis =
+    behind_exact (ranges basis) (λ gs. counted_operations (seen_of (runs_of gs.1))) (ranges_exact basis)
+    (λ gs. behind_exact (field (number_at w32)) (operations (seen_of (runs_of gs.1))) (field_exact (number_at w32))
+    (λ n. repeated_exact (operation (seen_of (runs_of gs.1))) id_after (operation_exact (seen_of (runs_of gs.1))) None n))
+
+pub seen_and_kept_exact : (basis : Ids) → IsExact (seen_and_kept basis)
+seen_and_kept_exact basis = behind_exact (seen_and_ops basis) (λ x. ending x.1.1) (seen_and_ops_exact basis) (λ x. ending_exact x.1.1)
+
+pub register_exact : (version : ℕ) → IsExact (register version)
+register_exact version = behind_exact (field (head_at version 1)) (λ x. seen_and_kept set.empty) (field_exact (head_at version 1)) (λ x. seen_and_kept_exact set.empty)
+
+pub summary_exact : (version : ℕ) → IsExact (summary version)
+summary_exact version =
+    behind_exact (field (head_at version 2)) (λ x. ranges set.empty behind (λ gs. ended)) (field_exact (head_at version 2))
+    (λ x. behind_exact (ranges set.empty) (λ gs. ended) (ranges_exact set.empty) (λ gs. ended_exact))
+
+pub piece_exact : (version : ℕ) → IsExact (piece version)
+piece_exact version =
+    behind_exact (field (head_at version 3)) (λ x. based) (field_exact (head_at version 3))
+    (λ x. behind_exact (ranges set.empty) (λ gs. seen_and_kept (seen_of (runs_of gs.1))) (ranges_exact set.empty) (λ gs. seen_and_kept_exact (seen_of (runs_of gs.1))))

@@ -8,13 +8,14 @@ use Rattle.std.proofs.lemmas.Grind.{get_or_default_zero}
 use Rattle.std.proofs.lemmas.Nat.{be_bytes_4, from_be_bytes-to_be_bytes_4}
 use Rattle.reg_op.specs.Set as set
 use Rattle.reg_op.specs.Ids.{Id, Ids, IsId, is_same}
+use Rattle.reg_seen.specs.Runs.{meets}
 use Rattle.wkt_crs.specs.declared.definition.DefinitionFault.TheVariants as definition
 use Rattle.reg_file.specs.declared.span.Span.{Span}
 use Rattle.reg_file.specs.declared.fault.Refused.{Refused}
 use Rattle.reg_file.specs.declared.fault.FileFault.{FileFault}
 use Rattle.reg_file.specs.declared.fault.FileFault.TheVariants.{Magic, Version, Kind, Truncated, Ranges, ReplicaOrder, OpOrder, OpIdBad, NotSeen, SameEntry, Definition}
-use Rattle.reg_file.specs.Layout.{four, id_bytes, span_bytes, head}
-use Rattle.reg_file.specs.Fields.{◌>>=◌, refused, cut_at, number_at, kind_at, version_at, head_at, span_at, is_above, replica_at, count_at, group_at, id_at, is_after, own_at, text_at, pair_at}
+use Rattle.reg_file.specs.Layout.{four, id_bytes, span_bytes, run_at, head}
+use Rattle.reg_file.specs.Fields.{◌>>=◌, refused, cut_at, number_at, kind_at, version_at, head_at, is_unfit, span_at, is_above, replica_at, count_at, group_at, id_at, is_after, own_at, text_at, pair_at}
 
 abbrev pub IsBytes : List ℕ → Type 0
 IsBytes bytes = (i : ℕ) → get_or bytes i 0 < 256
@@ -167,35 +168,54 @@ head_again version kind rest = rw (number_again 0x43525352 (version ∷ kind ∷
 
 -- ---- ranges
 
--- a range that may stand at a floor
-pub record IsSpan (floor : ℕ) (s : Span) : Type 0 where
+-- a range of a replica that may stand at a floor, beside a basis
+pub record IsSpan (basis : Ids) (replica : List ℕ) (floor : ℕ) (s : Span) : Type 0 where
   pub above : floor ≤ s.low
   pub ordered : s.low ≤ s.high
   pub fits : s.high < 2 ^ 32
+  pub apart : meets basis (run_at replica s) ≡ false
 
-pub span_takes : (floor : ℕ) (bytes : List ℕ) (s : Span) (rest : List ℕ) → IsBytes bytes → span_at floor bytes ≡ Ok (s, rest) → Takes bytes (span_bytes s) rest × IsSpan floor s
-unfolding span_at
-span_takes floor bytes s rest fits e =
-    let a = bind_ok (number_at w32 bytes) (λ low. number_at w32 low.1 >>= λ high. cond (ltb low.0 floor || ltb high.0 low.0) (refused Ranges (length bytes)) (Ok (record { low = low.0; high = high.0 }, high.1))) (s, rest) e in
-    let b = bind_ok (number_at w32 a.0.1) (λ high. cond (ltb a.0.0 floor || ltb high.0 a.0.0) (refused Ranges (length bytes)) (Ok (record { low = a.0.0; high = high.0 }, high.1))) (s, rest) a.2 in
-    let made : Span × List ℕ = (record { low = a.0.0; high = b.0.0 }, b.0.1) in
-    let g = guard_ok (ltb a.0.0 floor || ltb b.0.0 a.0.0) (at Ranges (length bytes)) (Ok made) (s, rest) b.2 in
-    let t = none_of (ltb a.0.0 floor) (ltb b.0.0 a.0.0) g.0 in
-    let first = number_takes bytes a.0.0 a.0.1 fits a.1 in
-    let second = number_takes a.0.1 b.0.0 b.0.1 first.0.rest_fits b.1 in
-    let both = Takes-then bytes (four a.0.0) a.0.1 (four b.0.0) b.0.1 first.0 second.0 in
-    subst (λ (y : Span × List ℕ). Takes bytes (span_bytes y.0) y.1 × IsSpan floor y.0) (ok_is made (s, rest) g.1)
-    (both, record { above = ltb-false _ _ t.0; ordered = ltb-false _ _ t.1; fits = second.1 })
+abbrev pub span_from : ℕ → ℕ → Span
+span_from low high = record { low = low; high = high }
 
-pub span_again : (floor : ℕ) (s : Span) (rest : List ℕ) → IsSpan floor s → span_at floor (span_bytes s ++ rest) ≡ Ok (s, rest)
+-- what was tested of a range that was read
+pub record IsTested (basis : Ids) (replica : List ℕ) (floor : ℕ) (bytes : List ℕ) (s : Span) (rest : List ℕ) : Type 0 where
+  pub mid : List ℕ
+  pub low : number_at w32 bytes ≡ Ok (s.low, mid)
+  pub high : number_at w32 mid ≡ Ok (s.high, rest)
+  pub above : floor ≤ s.low
+  pub ordered : s.low ≤ s.high
+  pub apart : meets basis (run_at replica s) ≡ false
+
+pub span_tested : (basis : Ids) (replica : List ℕ) (floor : ℕ) (bytes : List ℕ) (s : Span) (rest : List ℕ) → span_at basis replica floor bytes ≡ Ok (s, rest) → IsTested basis replica floor bytes s rest
 unfolding span_at
-span_again floor s rest is =
+span_tested basis replica floor bytes s rest e =
+    let a = bind_ok (number_at w32 bytes) (λ low. number_at w32 low.1 >>= λ high. cond (is_unfit basis replica floor (span_from low.0 high.0)) (refused Ranges (length bytes)) (Ok (span_from low.0 high.0, high.1))) (s, rest) e in
+    let b = bind_ok (number_at w32 a.0.1) (λ high. cond (is_unfit basis replica floor (span_from a.0.0 high.0)) (refused Ranges (length bytes)) (Ok (span_from a.0.0 high.0, high.1))) (s, rest) a.2 in
+    let made : Span × List ℕ = (span_from a.0.0 b.0.0, b.0.1) in
+    let g = guard_ok (is_unfit basis replica floor made.0) (at Ranges (length bytes)) (Ok made) (s, rest) b.2 in
+    let t = none_of (ltb a.0.0 floor) (ltb b.0.0 a.0.0 || meets basis (run_at replica made.0)) g.0 in
+    let u = none_of (ltb b.0.0 a.0.0) (meets basis (run_at replica made.0)) t.1 in
+    subst (λ (y : Span × List ℕ). IsTested basis replica floor bytes y.0 y.1) (ok_is made (s, rest) g.1)
+    (record { mid = a.0.1; low = a.1; high = b.1; above = ltb-false _ _ t.0; ordered = ltb-false _ _ u.0; apart = u.1 })
+
+pub span_takes : (basis : Ids) (replica : List ℕ) (floor : ℕ) (bytes : List ℕ) (s : Span) (rest : List ℕ) → IsBytes bytes → span_at basis replica floor bytes ≡ Ok (s, rest)
+    → Takes bytes (span_bytes s) rest × IsSpan basis replica floor s
+span_takes basis replica floor bytes s rest fits e =
+    let t = span_tested basis replica floor bytes s rest e in
+    let first = number_takes bytes s.low t.mid fits t.low in
+    let second = number_takes t.mid s.high rest first.0.rest_fits t.high in
+    (Takes-then bytes (four s.low) t.mid (four s.high) rest first.0 second.0, record { above = t.above; ordered = t.ordered; fits = second.1; apart = t.apart })
+
+pub span_again : (basis : Ids) (replica : List ℕ) (floor : ℕ) (s : Span) (rest : List ℕ) → IsSpan basis replica floor s → span_at basis replica floor (span_bytes s ++ rest) ≡ Ok (s, rest)
+unfolding span_at
+span_again basis replica floor s rest is =
     let regrouped : span_bytes s ++ rest ≡ four s.low ++ (four s.high ++ rest) = append_assoc (four s.low) (four s.high) rest in
     let above : ltb s.low floor ≡ false = le-ltb _ _ is.above in
     let below : ltb s.high s.low ≡ false = le-ltb _ _ is.ordered in
     let fits : s.high < 2 ^ 32 = is.fits in
     let ordered : s.low ≤ s.high = is.ordered in
-    ap (span_at floor) regrouped ∙ rw (number_again s.low (four s.high ++ rest) (omega arith), number_again s.high rest fits, above, below) refl
+    ap (span_at basis replica floor) regrouped ∙ rw (number_again s.low (four s.high ++ rest) (omega arith), number_again s.high rest fits, above, below, is.apart) refl
 
 -- a replica that may stand after the last one, and how many ranges it has
 pub record IsHeading (last : Option (List ℕ)) (replica : List ℕ) (count : ℕ) : Type 0 where

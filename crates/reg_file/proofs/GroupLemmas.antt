@@ -5,10 +5,10 @@ use Rattle.std.specs.Int.{w32}
 use Rattle.std.proofs.lemmas.List.{length-append, length-map}
 use Rattle.std.proofs.lemmas.List.Concat.{flat_map-cons}
 use Rattle.std.specs.Ordering.{is_eq, is_lt}
-use Rattle.reg_op.specs.Ids.{IsId}
+use Rattle.reg_op.specs.Ids.{Ids, IsId}
 use Rattle.reg_op.proofs.SetLemmas.{less}
 use Rattle.reg_seen.specs.declared.run.Run.{Run}
-use Rattle.reg_seen.specs.Runs.{replica_cmp, IsBelow, last_of, IsRun, IsApart, AreRuns, EndInIds}
+use Rattle.reg_seen.specs.Runs.{replica_cmp, IsBelow, last_of, IsRun, IsApart, AreRuns, EndInIds, meets}
 use Rattle.reg_seen.proofs.RunLemmas.{same_replica, replica_itself}
 use Rattle.reg_file.specs.declared.span.Span.{Span}
 use Rattle.reg_file.specs.Layout.{four, span_bytes, Group, group_bytes, ranges_bytes, span_of, run_at, runs_of, put, grouped}
@@ -19,51 +19,54 @@ use Rattle.reg_file.proofs.FieldLemmas.{IsBytes, Takes, Takes-then, number_takes
 
 -- ---- as they were written
 
-abbrev pub AreSpans : ℕ → List Span → Type 0
-AreSpans floor [] = Unit {0}
-AreSpans floor (s ∷ ss) = IsSpan floor s × AreSpans (s.high + 2) ss
+abbrev pub AreSpans : Ids → List ℕ → ℕ → List Span → Type 0
+AreSpans basis replica floor [] = Unit {0}
+AreSpans basis replica floor (s ∷ ss) = IsSpan basis replica floor s × AreSpans basis replica (s.high + 2) ss
 
-abbrev pub AreGroups : Option (List ℕ) → List Group → Type 0
-AreGroups last [] = Unit {0}
-AreGroups last (g ∷ gs) = IsHeading last g.replica (length g.spans) × AreSpans 1 g.spans × AreGroups (Some g.replica) gs
+abbrev pub AreGroups : Ids → Option (List ℕ) → List Group → Type 0
+AreGroups basis last [] = Unit {0}
+AreGroups basis last (g ∷ gs) = IsHeading last g.replica (length g.spans) × AreSpans basis g.replica 1 g.spans × AreGroups basis (Some g.replica) gs
 
-spans_take : (floor : ℕ) (bytes : List ℕ) (ss : List Span) (rest : List ℕ) → IsBytes bytes → ReadsEach span floor_after floor bytes ss rest → Takes bytes (flat_map span_bytes ss) rest × AreSpans floor ss
-spans_take floor bytes [] rest fits e = (record { parts = e; rest_fits = subst IsBytes e fits }, tt)
-spans_take floor bytes (s ∷ ss) rest fits e =
-    let first = span_takes floor bytes s e.0 fits e.1 in
-    let others = spans_take (s.high + 2) e.0 ss rest first.0.rest_fits e.2 in
+spans_take : (basis : Ids) (replica : List ℕ) (floor : ℕ) (bytes : List ℕ) (ss : List Span) (rest : List ℕ) → IsBytes bytes → ReadsEach (span basis replica) floor_after floor bytes ss rest
+    → Takes bytes (flat_map span_bytes ss) rest × AreSpans basis replica floor ss
+spans_take basis replica floor bytes [] rest fits e = (record { parts = e; rest_fits = subst IsBytes e fits }, tt)
+spans_take basis replica floor bytes (s ∷ ss) rest fits e =
+    let first = span_takes basis replica floor bytes s e.0 fits e.1 in
+    let others = spans_take basis replica (s.high + 2) e.0 ss rest first.0.rest_fits e.2 in
     (subst (λ (t : List ℕ). Takes bytes t rest) (sym (flat_map-cons span_bytes s ss)) (Takes-then bytes (span_bytes s) e.0 (flat_map span_bytes ss) rest first.0 others.0), (first.1, others.1))
 
-spans_again : (floor : ℕ) (ss : List Span) (rest : List ℕ) → AreSpans floor ss → ReadsEach span floor_after floor (flat_map span_bytes ss ++ rest) ss rest
-spans_again floor [] rest is = refl
-spans_again floor (s ∷ ss) rest is = (
+spans_again : (basis : Ids) (replica : List ℕ) (floor : ℕ) (ss : List Span) (rest : List ℕ) → AreSpans basis replica floor ss → ReadsEach (span basis replica) floor_after floor (flat_map span_bytes ss ++ rest) ss rest
+spans_again basis replica floor [] rest is = refl
+spans_again basis replica floor (s ∷ ss) rest is = (
   flat_map span_bytes ss ++ rest,
-  ap (span_at floor) (ap (λ (t : List ℕ). t ++ rest) (flat_map-cons span_bytes s ss) ∙ append_assoc (span_bytes s) (flat_map span_bytes ss) rest) ∙ span_again floor s (flat_map span_bytes ss ++ rest) is.0,
-  spans_again (s.high + 2) ss rest is.1,
+  ap (span_at basis replica floor) (ap (λ (t : List ℕ). t ++ rest) (flat_map-cons span_bytes s ss) ∙ append_assoc (span_bytes s) (flat_map span_bytes ss) rest)
+      ∙ span_again basis replica floor s (flat_map span_bytes ss ++ rest) is.0,
+  spans_again basis replica (s.high + 2) ss rest is.1,
 )
 
-pub groups_take : (last : Option (List ℕ)) (bytes : List ℕ) (gs : List Group) (rest : List ℕ) → IsBytes bytes → ReadsEach group replica_after last bytes gs rest → Takes bytes (flat_map group_bytes gs) rest × AreGroups last gs
-groups_take last bytes [] rest fits e = (record { parts = e; rest_fits = subst IsBytes e fits }, tt)
-groups_take last bytes (g ∷ gs) rest fits e =
+pub groups_take : (basis : Ids) (last : Option (List ℕ)) (bytes : List ℕ) (gs : List Group) (rest : List ℕ) → IsBytes bytes → ReadsEach (group basis) replica_after last bytes gs rest
+    → Takes bytes (flat_map group_bytes gs) rest × AreGroups basis last gs
+groups_take basis last bytes [] rest fits e = (record { parts = e; rest_fits = subst IsBytes e fits }, tt)
+groups_take basis last bytes (g ∷ gs) rest fits e =
     let named = e.1 in
     let heading = group_takes last bytes g.replica (length g.spans) named.0 fits named.1 in
-    let spans = spans_take 1 named.0 g.spans e.0 heading.0.rest_fits named.2.0 in
-    let others = groups_take (Some g.replica) e.0 gs rest spans.0.rest_fits e.2 in
+    let spans = spans_take basis g.replica 1 named.0 g.spans e.0 heading.0.rest_fits named.2.0 in
+    let others = groups_take basis (Some g.replica) e.0 gs rest spans.0.rest_fits e.2 in
     let one = Takes-then bytes (g.replica ++ four (length g.spans)) named.0 (flat_map span_bytes g.spans) e.0 heading.0 spans.0 in
     let one' : Takes bytes (group_bytes g) e.0 = subst (λ (t : List ℕ). Takes bytes t e.0) (append_assoc g.replica (four (length g.spans)) (flat_map span_bytes g.spans)) one in
     (subst (λ (t : List ℕ). Takes bytes t rest) (sym (flat_map-cons group_bytes g gs)) (Takes-then bytes (group_bytes g) e.0 (flat_map group_bytes gs) rest one' others.0), (heading.1, spans.1, others.1))
 
-pub groups_again : (last : Option (List ℕ)) (gs : List Group) (rest : List ℕ) → AreGroups last gs → ReadsEach group replica_after last (flat_map group_bytes gs ++ rest) gs rest
-groups_again last [] rest is = refl
-groups_again last (g ∷ gs) rest is = (
+pub groups_again : (basis : Ids) (last : Option (List ℕ)) (gs : List Group) (rest : List ℕ) → AreGroups basis last gs → ReadsEach (group basis) replica_after last (flat_map group_bytes gs ++ rest) gs rest
+groups_again basis last [] rest is = refl
+groups_again basis last (g ∷ gs) rest is = (
   behind,
   (
     flat_map span_bytes g.spans ++ behind,
     ap (group_at last) (ap (λ (t : List ℕ). t ++ rest) (flat_map-cons group_bytes g gs) ∙ regroup g.replica (four (length g.spans)) (flat_map span_bytes g.spans) (flat_map group_bytes gs) rest)
         ∙ group_again last g.replica (length g.spans) (flat_map span_bytes g.spans ++ behind) is.0,
-    (spans_again 1 g.spans behind is.1, refl),
+    (spans_again basis g.replica 1 g.spans behind is.1, refl),
   ),
-  groups_again (Some g.replica) gs rest is.2,
+  groups_again basis (Some g.replica) gs rest is.2,
 )
   where
     behind : List ℕ
@@ -100,9 +103,9 @@ grouped_one replica s [] rs gs e h = ap (put (run_at replica s)) e ∙ put_first
 grouped_one replica s (t ∷ ss) rs gs e h =
     ap (put (run_at replica s)) (grouped_one replica t ss rs gs e h) ∙ put_same (run_at replica s) (group_of replica (t ∷ ss)) gs (replica_itself replica)
 
-next_of : (replica : List ℕ) (gs : List Group) → AreGroups (Some replica) gs → IsNext replica gs
-next_of replica [] is = tt
-next_of replica (g ∷ gs) is = less _ is.0.above
+next_of : (basis : Ids) (replica : List ℕ) (gs : List Group) → AreGroups basis (Some replica) gs → IsNext replica gs
+next_of basis replica [] is = tt
+next_of basis replica (g ∷ gs) is = less _ is.0.above
 
 grouped_group : (g : Group) (gs hs : List Group) → grouped (runs_of gs) ≡ hs → hs ≡ gs → 0 < length g.spans → IsNext g.replica gs → grouped (map (run_at g.replica) g.spans ++ runs_of gs) ≡ g ∷ gs
 grouped_group g gs hs is same some next = from g.spans refl
@@ -112,9 +115,9 @@ grouped_group g gs hs is same some next = from g.spans refl
     from (s ∷ ss) e =
         ap (λ xs. grouped (map (run_at g.replica) xs ++ runs_of gs)) e ∙ grouped_one g.replica s ss (runs_of gs) gs (is ∙ same) next ∙ ap (λ xs. group_of g.replica xs ∷ gs) (sym e)
 
-pub grouped_runs : (last : Option (List ℕ)) (gs : List Group) → AreGroups last gs → grouped (runs_of gs) ≡ gs
-grouped_runs last [] is = refl
-grouped_runs last (g ∷ gs) is = grouped_group g gs (grouped (runs_of gs)) refl (grouped_runs (Some g.replica) gs is.2) is.0.positive (next_of g.replica gs is.2)
+pub grouped_runs : (basis : Ids) (last : Option (List ℕ)) (gs : List Group) → AreGroups basis last gs → grouped (runs_of gs) ≡ gs
+grouped_runs basis last [] is = refl
+grouped_runs basis last (g ∷ gs) is = grouped_group g gs (grouped (runs_of gs)) refl (grouped_runs basis (Some g.replica) gs is.2) is.0.positive (next_of basis g.replica gs is.2)
 
 -- the first run begins apart from one before
 abbrev BeginsApart : Run → List Run → Type 0
@@ -125,27 +128,28 @@ cons_runs : (r : Run) (rs : List Run) → IsRun r → BeginsApart r rs → AreRu
 cons_runs r [] is apart are = is
 cons_runs r (s ∷ rs) is apart are = (is, apart, are)
 
-first_apart : (r : Run) (gs : List Group) (last : Option (List ℕ)) → AreGroups last gs → IsNext r.replica gs → BeginsApart r (runs_of gs)
-first_apart r [] last is h = tt
-first_apart r (g ∷ gs) last is h = from g.spans refl
+first_apart : (basis : Ids) (r : Run) (gs : List Group) (last : Option (List ℕ)) → AreGroups basis last gs → IsNext r.replica gs → BeginsApart r (runs_of gs)
+first_apart basis r [] last is h = tt
+first_apart basis r (g ∷ gs) last is h = from g.spans refl
   where
     from : (ss : List Span) → g.spans ≡ ss → BeginsApart r (map (run_at g.replica) g.spans ++ runs_of gs)
     from [] e = let k : 0 < length g.spans = is.0.positive in let l = ap length e in absurd (omega arith)
     from (s ∷ ss) e = subst (λ xs. BeginsApart r (map (run_at g.replica) xs ++ runs_of gs)) (sym e) (inl h)
 
-spans_runs : (replica : List ℕ) (floor : ℕ) (ss : List Span) (gs : List Group) → 1 ≤ floor → AreSpans floor ss → AreGroups (Some replica) gs → AreRuns (runs_of gs) → AreRuns (map (run_at replica) ss ++ runs_of gs)
-spans_runs replica floor [] gs low is more are = are
-spans_runs replica floor (s ∷ ss) gs low is more are =
+spans_runs : (basis : Ids) (replica : List ℕ) (floor : ℕ) (ss : List Span) (gs : List Group) → 1 ≤ floor → AreSpans basis replica floor ss → AreGroups basis (Some replica) gs → AreRuns (runs_of gs)
+    → AreRuns (map (run_at replica) ss ++ runs_of gs)
+spans_runs basis replica floor [] gs low is more are = are
+spans_runs basis replica floor (s ∷ ss) gs low is more are =
     let above : floor ≤ s.low = is.0.above in
-    cons_runs (run_at replica s) (map (run_at replica) ss ++ runs_of gs) (omega arith, is.0.ordered) (apart ss is.1) (spans_runs replica (s.high + 2) ss gs (omega arith) is.1 more are)
+    cons_runs (run_at replica s) (map (run_at replica) ss ++ runs_of gs) (omega arith, is.0.ordered) (apart ss is.1) (spans_runs basis replica (s.high + 2) ss gs (omega arith) is.1 more are)
   where
-    apart : (ss : List Span) → AreSpans (s.high + 2) ss → BeginsApart (run_at replica s) (map (run_at replica) ss ++ runs_of gs)
-    apart [] k = first_apart (run_at replica s) gs (Some replica) more (next_of replica gs more)
+    apart : (ss : List Span) → AreSpans basis replica (s.high + 2) ss → BeginsApart (run_at replica s) (map (run_at replica) ss ++ runs_of gs)
+    apart [] k = first_apart basis (run_at replica s) gs (Some replica) more (next_of basis replica gs more)
     apart (t ∷ ss) k = let above : s.high + 2 ≤ t.low = k.0.above in inr (refl, omega arith)
 
-pub groups_runs : (last : Option (List ℕ)) (gs : List Group) → AreGroups last gs → AreRuns (runs_of gs)
-groups_runs last [] is = tt
-groups_runs last (g ∷ gs) is = spans_runs g.replica 1 g.spans gs (omega arith) is.1 is.2 (groups_runs (Some g.replica) gs is.2)
+pub groups_runs : (basis : Ids) (last : Option (List ℕ)) (gs : List Group) → AreGroups basis last gs → AreRuns (runs_of gs)
+groups_runs basis last [] is = tt
+groups_runs basis last (g ∷ gs) is = spans_runs basis g.replica 1 g.spans gs (omega arith) is.1 is.2 (groups_runs basis (Some g.replica) gs is.2)
 
 -- ---- groups of runs
 
@@ -176,27 +180,27 @@ put_begins s (g ∷ gs) = from (is_eq (replica_cmp s.replica g.replica)) refl
     from false e = record { spans = []; others = g ∷ gs; whole = put_other s g gs e }
 
 -- a run, as the first of its replica
-first_span : (r : Run) → IsRun r → IsId (last_of r) → IsSpan 1 (span_of r)
-first_span r is id = record { above = is.0; ordered = is.1; fits = id.fits }
+first_span : (basis : Ids) (r : Run) → IsRun r → IsId (last_of r) → meets basis r ≡ false → IsSpan basis r.replica 1 (span_of r)
+first_span basis r is id apart = record { above = is.0; ordered = is.1; fits = id.fits; apart = apart }
 
 heading : (last : Option (List ℕ)) (r : Run) (n : ℕ) → IsId (last_of r) → is_above last r.replica ≡ true → 0 < n → n < 2 ^ 32 → IsHeading last r.replica n
 heading last r n id above some fits = record { long = id.long; bytes = id.bytes; above = above; positive = some; fits = fits }
 
-lower : (last : Option (List ℕ)) (g : Group) (gs : List Group) → AreGroups None (g ∷ gs) → is_above last g.replica ≡ true → AreGroups last (g ∷ gs)
-lower last g gs is above = (record { long = is.0.long; bytes = is.0.bytes; above = above; positive = is.0.positive; fits = is.0.fits }, is.1, is.2)
+lower : (basis : Ids) (last : Option (List ℕ)) (g : Group) (gs : List Group) → AreGroups basis None (g ∷ gs) → is_above last g.replica ≡ true → AreGroups basis last (g ∷ gs)
+lower basis last g gs is above = (record { long = is.0.long; bytes = is.0.bytes; above = above; positive = is.0.positive; fits = is.0.fits }, is.1, is.2)
 
 -- one more run before groups that begin with another
-put_good : (r s : Run) (spans : List Span) (others : List Group) → IsRun r → IsId (last_of r) → IsApart r s → length spans + 2 < 2 ^ 32 → AreGroups None (group_of s.replica (span_of s ∷ spans) ∷ others)
-    → AreGroups None (put r (group_of s.replica (span_of s ∷ spans) ∷ others))
-put_good r s spans others is id (inl below) few good =
-    subst (AreGroups None) (sym (put_other r (group_of s.replica (span_of s ∷ spans)) others (differ_below r.replica s.replica below)))
-    (heading None r 1 id refl (omega arith) (omega arith), (first_span r is id, tt), lower (Some r.replica) (group_of s.replica (span_of s ∷ spans)) others good (ap is_lt below))
-put_good r s spans others is id (inr near) few good =
+put_good : (basis : Ids) (r s : Run) (spans : List Span) (others : List Group) → IsRun r → IsId (last_of r) → meets basis r ≡ false → IsApart r s → length spans + 2 < 2 ^ 32
+    → AreGroups basis None (group_of s.replica (span_of s ∷ spans) ∷ others) → AreGroups basis None (put r (group_of s.replica (span_of s ∷ spans) ∷ others))
+put_good basis r s spans others is id out (inl below) few good =
+    subst (AreGroups basis None) (sym (put_other r (group_of s.replica (span_of s ∷ spans)) others (differ_below r.replica s.replica below)))
+    (heading None r 1 id refl (omega arith) (omega arith), (first_span basis r is id out, tt), lower basis (Some r.replica) (group_of s.replica (span_of s ∷ spans)) others good (ap is_lt below))
+put_good basis r s spans others is id out (inr near) few good =
     let tied : is_eq (replica_cmp r.replica s.replica) ≡ true = subst (λ q. is_eq (replica_cmp r.replica q) ≡ true) near.0 (replica_itself r.replica) in
-    subst (AreGroups None) (sym (put_same r (group_of s.replica (span_of s ∷ spans)) others tied)) (
+    subst (AreGroups basis None) (sym (put_same r (group_of s.replica (span_of s ∷ spans)) others tied)) (
       heading None r (length (span_of r ∷ span_of s ∷ spans)) id refl (omega arith) (omega arith),
-      (first_span r is id, (record { above = (let k : r.high + 1 < s.low = near.1 in omega arith); ordered = good.1.0.ordered; fits = good.1.0.fits }, good.1.1)),
-      subst (λ q. AreGroups (Some q) others) (sym near.0) good.2,
+      (first_span basis r is id out, subst (λ q. AreSpans basis q (r.high + 2) (span_of s ∷ spans)) (sym near.0) (record { above = (let k : r.high + 1 < s.low = near.1 in omega arith); ordered = good.1.0.ordered; fits = good.1.0.fits; apart = good.1.0.apart }, good.1.1)),
+      subst (λ q. AreGroups basis (Some q) others) (sym near.0) good.2,
     )
 
 spans_few : (s : Run) (spans : List Span) (others : List Group) (rs : List Run) → runs_of (group_of s.replica (span_of s ∷ spans) ∷ others) ≡ rs → length spans + 1 ≤ length rs
@@ -206,27 +210,32 @@ spans_few s spans others rs e =
     let m = length-map (span_of s ∷ spans) (run_at s.replica) in
     omega arith
 
-pub good_groups : (rs : List Run) → AreRuns rs → EndInIds rs → length rs < 2 ^ 32 → AreGroups None (grouped rs)
-good_groups [] are ids few = tt
-good_groups (r ∷ []) are ids few = (heading None r 1 ids.0 refl (omega arith) (omega arith), (first_span r are ids.0, tt), tt)
-good_groups (r ∷ s ∷ rs) are ids few =
+-- no run meets the basis
+abbrev pub AllApart : Ids → List Run → Type 0
+AllApart basis [] = Unit {0}
+AllApart basis (r ∷ rs) = (meets basis r ≡ false) × AllApart basis rs
+
+pub good_groups : (basis : Ids) (rs : List Run) → AreRuns rs → EndInIds rs → AllApart basis rs → length rs < 2 ^ 32 → AreGroups basis None (grouped rs)
+good_groups basis [] are ids out few = tt
+good_groups basis (r ∷ []) are ids out few = (heading None r 1 ids.0 refl (omega arith) (omega arith), (first_span basis r are ids.0 out.0, tt), tt)
+good_groups basis (r ∷ s ∷ rs) are ids out few =
     let b = put_begins s (grouped rs) in
-    let good : AreGroups None (group_of s.replica (span_of s ∷ b.spans) ∷ b.others) = subst (AreGroups None) b.whole (good_groups (s ∷ rs) are.2 ids.1 (omega arith)) in
+    let good : AreGroups basis None (group_of s.replica (span_of s ∷ b.spans) ∷ b.others) = subst (AreGroups basis None) b.whole (good_groups basis (s ∷ rs) are.2 ids.1 out.1 (omega arith)) in
     let short = spans_few s b.spans b.others (s ∷ rs) (ap runs_of (sym b.whole) ∙ runs_grouped (s ∷ rs)) in
-    subst (λ gs. AreGroups None (put r gs)) (sym b.whole) (put_good r s b.spans b.others are.0 ids.0 are.1 (omega arith) good)
+    subst (λ gs. AreGroups basis None (put r gs)) (sym b.whole) (put_good basis r s b.spans b.others are.0 ids.0 out.0 are.1 (omega arith) good)
 
 -- ---- all ranges
 
-pub ranges_take : (bytes : List ℕ) (n : ℕ) (gs : List Group) (rest : List ℕ) → IsBytes bytes → ranges.Reads bytes (n, gs) rest → Takes bytes (ranges_bytes gs) rest × AreGroups None gs
-ranges_take bytes n gs rest fits e =
+pub ranges_take : (basis : Ids) (bytes : List ℕ) (n : ℕ) (gs : List Group) (rest : List ℕ) → IsBytes bytes → (ranges basis).Reads bytes (n, gs) rest → Takes bytes (ranges_bytes gs) rest × AreGroups basis None gs
+ranges_take basis bytes n gs rest fits e =
     let first = number_takes bytes n e.0 fits e.1 in
-    let others = groups_take None e.0 gs rest first.0.rest_fits e.2.0 in
+    let others = groups_take basis None e.0 gs rest first.0.rest_fits e.2.0 in
     let both = Takes-then bytes (four n) e.0 (flat_map group_bytes gs) rest first.0 others.0 in
     (subst (λ k. Takes bytes (four k ++ flat_map group_bytes gs) rest) (sym e.2.1) both, others.1)
 
-pub ranges_again : (gs : List Group) (rest : List ℕ) → length gs < 2 ^ 32 → AreGroups None gs → ranges.Reads (ranges_bytes gs ++ rest) (length gs, gs) rest
-ranges_again gs rest few is = (
+pub ranges_again : (basis : Ids) (gs : List Group) (rest : List ℕ) → length gs < 2 ^ 32 → AreGroups basis None gs → (ranges basis).Reads (ranges_bytes gs ++ rest) (length gs, gs) rest
+ranges_again basis gs rest few is = (
   flat_map group_bytes gs ++ rest,
   ap (number_at w32) (append_assoc (four (length gs)) (flat_map group_bytes gs) rest) ∙ number_again (length gs) (flat_map group_bytes gs ++ rest) few,
-  (groups_again None gs rest is, refl),
+  (groups_again basis None gs rest is, refl),
 )

@@ -11,11 +11,11 @@ use Rattle.reg_op.specs.Operations.{Op, op_cmp, IsOperation, IsBody}
 use Rattle.reg_op.specs.Lists.{has, AllAfter, ById}
 use Rattle.reg_op.proofs.OpLemmas.{op_total, op_exact, is_before_chain}
 use Rattle.reg_file.specs.Layout.{op_bytes}
-use Rattle.reg_file.specs.Fields.{is_after, op_at}
+use Rattle.reg_file.specs.Fields.{is_after}
 use Rattle.reg_file.specs.Readers.{ReadsEach}
 use Rattle.reg_file.specs.Reading.{operation, id_after}
 use Rattle.reg_file.proofs.FieldLemmas.{IsBytes, Takes, Takes-then, IsOwn}
-use Rattle.reg_file.proofs.BodyLemmas.{op_takes, op_again, read_body}
+use Rattle.reg_file.proofs.BodyLemmas.{op_takes, op_again}
 
 -- each may stand after those before it
 abbrev pub AreOwn : Option Id → Ids → List Op → Type 0
@@ -29,21 +29,19 @@ pub record TakesOps (last : Option Id) (seen : Ids) (bytes : List ℕ) (os : Lis
 pub ops_take : (seen : Ids) (last : Option Id) (bytes : List ℕ) (os : List Op) (rest : List ℕ) → IsBytes bytes → ReadsEach (operation seen) id_after last bytes os rest → TakesOps last seen bytes os rest
 ops_take seen last bytes [] rest fits e = record { takes = record { parts = e; rest_fits = subst IsBytes e fits }; own = tt }
 ops_take seen last bytes (o ∷ os) rest fits e =
-    let first = op_takes last seen bytes o e.0 fits e.1.0 in
+    let first = op_takes last seen bytes o e.0 fits e.1 in
     let others = ops_take seen (Some o.id) e.0 os rest first.takes.rest_fits e.2 in
     record {
       takes = subst (λ (t : List ℕ). Takes bytes t rest) (sym (flat_map-cons op_bytes o os)) (Takes-then bytes (op_bytes o) e.0 (flat_map op_bytes os) rest first.takes others.takes);
-      own = (first.own, e.1.1, others.own);
+      own = (first.own, first.body, others.own);
     }
 
 pub ops_again : (seen : Ids) (last : Option Id) (os : List Op) (rest : List ℕ) → AreOwn last seen os → ReadsEach (operation seen) id_after last (flat_map op_bytes os ++ rest) os rest
 ops_again seen last [] rest own = refl
 ops_again seen last (o ∷ os) rest own = (
   flat_map op_bytes os ++ rest,
-  (
-    ap (op_at last seen) (ap (λ (t : List ℕ). t ++ rest) (flat_map-cons op_bytes o os) ∙ append_assoc (op_bytes o) (flat_map op_bytes os) rest) ∙ op_again last seen o (flat_map op_bytes os ++ rest) own.0 (read_body o.body own.1),
-    own.1,
-  ),
+  subst (λ (t : List ℕ). (operation seen last).Reads t o (flat_map op_bytes os ++ rest)) (sym (ap (λ (t : List ℕ). t ++ rest) (flat_map-cons op_bytes o os) ∙ append_assoc (op_bytes o) (flat_map op_bytes os) rest))
+      (op_again last seen o (flat_map op_bytes os ++ rest) own.0 own.1),
   ops_again seen (Some o.id) os rest own.2,
 )
 

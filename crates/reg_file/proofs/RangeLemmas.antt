@@ -1,7 +1,6 @@
 -- Ranges that are read one after the other, and the ids that they add.
-use Rattle.std.proofs.Common.{◌≡◌, ℕ, ◌+◌, ◌<◌, ◌≤◌, Bool, true, false, cond, ltb, ◌||◌, List, [], ◌∷◌, ◌++◌, length, map, Option, Some, None, Ok, refl, sym, ap, subst, ◌∙◌, append_assoc, arith, inl, inr}
-use Rattle.std.specs.Int.{w32}
-use Rattle.std.proofs.lemmas.Bool.{ltb-false, or_cases, true≢false}
+use Rattle.std.proofs.Common.{◌≡◌, ℕ, ◌+◌, ◌<◌, ◌≤◌, Bool, true, false, ◌||◌, List, [], ◌∷◌, ◌++◌, length, map, Option, Some, None, Ok, refl, sym, ap, subst, ◌∙◌, append_assoc, arith, inl, inr}
+use Rattle.std.proofs.lemmas.Bool.{or_cases, true≢false}
 use Rattle.std.proofs.lemmas.List.{append-nil, length_push}
 use Rattle.reg_op.specs.Set as set
 use Rattle.reg_op.specs.Ids.{Id, Ids, id_cmp}
@@ -12,12 +11,11 @@ use Rattle.reg_seen.specs.Runs.{IsBelow, ids_of_run, is_in_run, seen_of, IsAbove
 use Rattle.reg_seen.proofs.RunLemmas.{below_chain, contains-seen_of, seen_of-push}
 use Rattle.reg_seen.proofs.SearchLemmas.{within}
 use Rattle.reg_file.specs.declared.span.Span.{Span}
-use Rattle.reg_file.specs.declared.fault.FileFault.TheVariants.{Ranges}
 use Rattle.reg_file.specs.Layout.{Group, run_at, runs_of}
-use Rattle.reg_file.specs.Fields.{◌>>=◌, refused, number_at, span_at, is_above, group_at}
+use Rattle.reg_file.specs.Fields.{span_at, is_above, group_at}
 use Rattle.reg_file.specs.Reading.{span, floor_after, group, replica_after}
 use Rattle.reg_file.specs.Steps.{with_runs, IsUnder, IsUpTo, AddsSpans, AddsGroup, ReadsGroups, IsAddingSpans, IsAddingGroups}
-use Rattle.reg_file.proofs.FieldLemmas.{bind_ok, guard_ok, ok_is, none_of}
+use Rattle.reg_file.proofs.FieldLemmas.{span_tested}
 use Rattle.reg_file.proofs.Sequences.{each-push, state-push}
 
 -- ---- sets with runs
@@ -45,26 +43,16 @@ or-false : (b : Bool) → (b || false) ≡ b
 or-false true = refl
 or-false false = refl
 
-contains_run : (r : Run) (i : Id) → set.contains (set.from_list {R = id_cmp} (ids_of_run r)) i ≡ is_in_run i r
+pub contains_run : (r : Run) (i : Id) → set.contains (set.from_list {R = id_cmp} (ids_of_run r)) i ≡ is_in_run i r
 contains_run r i = ap (λ l. set.contains (set.from_list {R = id_cmp} l) i) (sym (append-nil (ids_of_run r))) ∙ contains-seen_of (r ∷ []) i ∙ or-false (is_in_run i r)
 
 -- ---- ranges of a replica
 
-pub span_order : (floor : ℕ) (bytes : List ℕ) (s : Span) (rest : List ℕ) → span_at floor bytes ≡ Ok (s, rest) → (floor ≤ s.low) × (s.low ≤ s.high)
-unfolding span_at
-span_order floor bytes s rest e =
-    let a = bind_ok (number_at w32 bytes) (λ low. number_at w32 low.1 >>= λ high. cond (ltb low.0 floor || ltb high.0 low.0) (refused Ranges (length bytes)) (Ok (record { low = low.0; high = high.0 }, high.1))) (s, rest) e in
-    let b = bind_ok (number_at w32 a.0.1) (λ high. cond (ltb a.0.0 floor || ltb high.0 a.0.0) (refused Ranges (length bytes)) (Ok (record { low = a.0.0; high = high.0 }, high.1))) (s, rest) a.2 in
-    let made : Span × List ℕ = (record { low = a.0.0; high = b.0.0 }, b.0.1) in
-    let g = guard_ok (ltb a.0.0 floor || ltb b.0.0 a.0.0) (record { fault = Ranges; left = length bytes }) (Ok made) (s, rest) b.2 in
-    let t = none_of (ltb a.0.0 floor) (ltb b.0.0 a.0.0) g.0 in
-    subst (λ (y : Span × List ℕ). (floor ≤ y.0.low) × (y.0.low ≤ y.0.high)) (ok_is made (s, rest) g.1) (ltb-false _ _ t.0, ltb-false _ _ t.1)
-
 pub above_run : (s : Ids) (r : Run) (floor : ℕ) → IsUnder s r.replica floor → floor ≤ r.low → IsAbove s r
 above_run s r floor under low i h = elim (under i h) [ inl a ↦ inl a | inr b ↦ inr (b.0, (let k : i.count + 1 < floor = b.1 in omega arith)) ]
 
-pub start_spans : (old : Ids) (replica bytes : List ℕ) → IsUnder old replica 1 → IsAddingSpans old old replica bytes bytes 1 0
-start_spans old replica bytes under = record { all = []; reads = refl; floor_is = refl; adds = refl; counted = refl; under = under; positive = omega arith }
+pub start_spans : (basis old : Ids) (replica bytes : List ℕ) → IsUnder old replica 1 → IsAddingSpans basis old old replica bytes bytes 1 0
+start_spans basis old replica bytes under = record { all = []; reads = refl; floor_is = refl; adds = refl; counted = refl; under = under; positive = omega arith }
 
 under_more : (now : Ids) (r : Run) (floor : ℕ) → IsUnder now r.replica floor → floor ≤ r.low → r.low ≤ r.high → IsUnder (set.union now (set.from_list (ids_of_run r))) r.replica (r.high + 2)
 under_more now r floor under low high i h =
@@ -73,23 +61,23 @@ under_more now r floor under low high i h =
       | inr a ↦ let w = within i r (sym (contains_run r i) ∙ a) in inr (w.replica, (let k : i.count ≤ r.high = w.high in omega arith))
     ]
 
-pub step_spans : (old now new : Ids) (replica bytes rest : List ℕ) (floor n : ℕ) (s : Span) (after : List ℕ) → IsAddingSpans old now replica bytes rest floor n → span_at floor rest ≡ Ok (s, after)
-    → new ≡ set.union now (set.from_list (ids_of_run (run_at replica s))) → IsAddingSpans old new replica bytes after (s.high + 2) (n + 1)
-step_spans old now new replica bytes rest floor n s after i e added =
-    let o = span_order floor rest s after e in
+pub step_spans : (basis old now new : Ids) (replica bytes rest : List ℕ) (floor n : ℕ) (s : Span) (after : List ℕ) → IsAddingSpans basis old now replica bytes rest floor n
+    → span_at basis replica floor rest ≡ Ok (s, after) → new ≡ set.union now (set.from_list (ids_of_run (run_at replica s))) → IsAddingSpans basis old new replica bytes after (s.high + 2) (n + 1)
+step_spans basis old now new replica bytes rest floor n s after i e added =
+    let o = span_tested basis replica floor rest s after e in
     let run : Run = run_at replica s in
     record {
       all = i.all ++ s ∷ [];
-      reads = each-push span floor_after 1 bytes i.all rest s after i.reads (subst (λ f. span_at f rest ≡ Ok (s, after)) i.floor_is e);
-      floor_is = sym (state-push span floor_after 1 i.all s);
+      reads = each-push (span basis replica) floor_after 1 bytes i.all rest s after i.reads (subst (λ f. span_at basis replica f rest ≡ Ok (s, after)) i.floor_is e);
+      floor_is = sym (state-push (span basis replica) floor_after 1 i.all s);
       adds = added ∙ ap (λ t. set.union t (set.from_list (ids_of_run run))) i.adds ∙ sym (ap (with_runs old) (map-push replica i.all s) ∙ with_runs-append old (map (run_at replica) i.all) (run ∷ []));
       counted = length_push i.all s ∙ ap (λ k. k + 1) i.counted;
-      under = subst (λ t. IsUnder t replica (s.high + 2)) (sym added) (under_more now run floor i.under o.0 o.1);
+      under = subst (λ t. IsUnder t replica (s.high + 2)) (sym added) (under_more now run floor i.under o.above o.ordered);
       positive = omega arith;
     }
 
-pub end_spans : (old now : Ids) (replica bytes rest : List ℕ) (floor n : ℕ) → IsAddingSpans old now replica bytes rest floor n → AddsSpans old now replica n bytes rest
-end_spans old now replica bytes rest floor n i = record {
+pub end_spans : (basis old now : Ids) (replica bytes rest : List ℕ) (floor n : ℕ) → IsAddingSpans basis old now replica bytes rest floor n → AddsSpans basis old now replica n bytes rest
+end_spans basis old now replica bytes rest floor n i = record {
   all = i.all;
   reads = (i.reads, i.counted);
   adds = i.adds;
@@ -104,27 +92,27 @@ under_first s (Some last) replica up above i h =
     let below : IsBelow last replica = less _ above in
     inl (elim (up i h) [ inl a ↦ below_chain i.replica last replica a below | inr b ↦ subst (λ q. IsBelow q replica) (sym b) below ])
 
-pub start_groups : (bytes : List ℕ) → IsAddingGroups set.empty bytes bytes None 0
-start_groups bytes = record { all = []; reads = refl; last_is = refl; adds = refl; counted = refl; up_to = λ i h. true≢false (sym h ∙ set.contains-empty _ i) }
+pub start_groups : (basis : Ids) (bytes : List ℕ) → IsAddingGroups basis set.empty bytes bytes None 0
+start_groups basis bytes = record { all = []; reads = refl; last_is = refl; adds = refl; counted = refl; up_to = λ i h. true≢false (sym h ∙ set.contains-empty _ i) }
 
-pub step_groups : (now new : Ids) (bytes rest : List ℕ) (last : Option (List ℕ)) (n : ℕ) (replica after : List ℕ) → IsAddingGroups now bytes rest last n → AddsGroup now new last rest replica after
-    → IsAddingGroups new bytes after (Some replica) (n + 1)
-step_groups now new bytes rest last n replica after i a = record {
+pub step_groups : (basis now new : Ids) (bytes rest : List ℕ) (last : Option (List ℕ)) (n : ℕ) (replica after : List ℕ) → IsAddingGroups basis now bytes rest last n
+    → AddsGroup basis now new last rest replica after → IsAddingGroups basis new bytes after (Some replica) (n + 1)
+step_groups basis now new bytes rest last n replica after i a = record {
   all = i.all ++ a.one ∷ [];
-  reads = each-push group replica_after None bytes i.all rest a.one after i.reads (subst (λ l. (group l).Reads rest a.one after) i.last_is a.reads);
-  last_is = ap Some a.of ∙ sym (state-push group replica_after None i.all a.one);
+  reads = each-push (group basis) replica_after None bytes i.all rest a.one after i.reads (subst (λ l. (group basis l).Reads rest a.one after) i.last_is a.reads);
+  last_is = ap Some a.of ∙ sym (state-push (group basis) replica_after None i.all a.one);
   adds = a.adds ∙ ap (λ t. with_runs t (map (run_at a.one.replica) a.one.spans)) i.adds
       ∙ sym (ap (with_runs set.empty) (runs_of-push i.all a.one) ∙ with_runs-append set.empty (runs_of i.all) (map (run_at a.one.replica) a.one.spans));
   counted = length_push i.all a.one ∙ ap (λ k. k + 1) i.counted;
   up_to = a.up_to;
 }
 
-pub end_groups : (now : Ids) (bytes rest : List ℕ) (last : Option (List ℕ)) (n : ℕ) → IsAddingGroups now bytes rest last n → ReadsGroups n bytes now rest
-end_groups now bytes rest last n i = record { all = i.all; reads = (i.reads, i.counted); ids = i.adds ∙ with_runs-empty (runs_of i.all) }
+pub end_groups : (basis now : Ids) (bytes rest : List ℕ) (last : Option (List ℕ)) (n : ℕ) → IsAddingGroups basis now bytes rest last n → ReadsGroups basis n bytes now rest
+end_groups basis now bytes rest last n i = record { all = i.all; reads = (i.reads, i.counted); ids = i.adds ∙ with_runs-empty (runs_of i.all) }
 
-pub group_added : (old new : Ids) (last : Option (List ℕ)) (bytes replica : List ℕ) (count : ℕ) (mid rest : List ℕ) → group_at last bytes ≡ Ok ((replica, count), mid) → AddsSpans old new replica count mid rest
-    → AddsGroup old new last bytes replica rest
-group_added old new last bytes replica count mid rest e a = record {
+pub group_added : (basis old new : Ids) (last : Option (List ℕ)) (bytes replica : List ℕ) (count : ℕ) (mid rest : List ℕ) → group_at last bytes ≡ Ok ((replica, count), mid)
+    → AddsSpans basis old new replica count mid rest → AddsGroup basis old new last bytes replica rest
+group_added basis old new last bytes replica count mid rest e a = record {
   one = record { replica = replica; spans = a.all };
   reads = (mid, e ∙ ap (λ n. Ok ((replica, n), mid)) (sym a.reads.1), (a.reads.0, refl));
   of = refl;

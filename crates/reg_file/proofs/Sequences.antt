@@ -1,11 +1,26 @@
--- Items that are read one after the other.
-use Rattle.std.proofs.Common.{◌≡◌, ℕ, suc, ◌<◌, List, [], ◌∷◌, ◌++◌, length, refl, sym, subst, arith}
+-- What is read one after the other.
+use Rattle.std.proofs.Common.{◌≡◌, ℕ, suc, ◌<◌, List, [], ◌∷◌, ◌++◌, length, Result, refl, sym, subst, arith, inl, inr}
 use Rattle.reg_file.specs.declared.fault.Refused.{Refused}
 use Rattle.reg_file.specs.declared.fault.Stop.{Stop}
 use Rattle.reg_file.specs.declared.fault.Stop.TheVariants as stop
-use Rattle.reg_file.specs.Readers.{Part, ReadsEach, state_after, FailsAtOne, StopsIn, repeated}
+use Rattle.reg_file.specs.Fields.{Fails}
+use Rattle.reg_file.specs.Readers.{Portion, field, ◌behind◌, ReadsEach, state_after, FailsAtOne, StopsIn, repeated}
 
-module _ {A S : Type 0} (item : S → Part A) (next : S → A → S) where
+pub stops_field : {A : Type 0} (read : List ℕ → Result (A × List ℕ) Refused) (bytes : List ℕ) (s : Stop) → Fails s (read bytes) → StopsIn (field read) bytes s
+stops_field read bytes stop.Memory h = tt
+stops_field read bytes (stop.Refused r) h = h
+
+-- in the first of two, or in the second
+module _ {A B : Type 0} (p : Portion A) (q : A → Portion B) (bytes : List ℕ) where
+  pub stops_front : (s : Stop) → StopsIn p bytes s → StopsIn (p behind q) bytes s
+  stops_front stop.Memory h = tt
+  stops_front (stop.Refused r) h = inl h
+
+  pub stops_back : (x : A) (mid : List ℕ) (s : Stop) → p.Reads bytes x mid → StopsIn (q x) mid s → StopsIn (p behind q) bytes s
+  stops_back x mid stop.Memory k h = tt
+  stops_back x mid (stop.Refused r) k h = inr (x, mid, k, h)
+
+module _ {A S : Type 0} (item : S → Portion A) (next : S → A → S) where
   pub state-push : (s : S) (xs : List A) (x : A) → state_after next s (xs ++ x ∷ []) ≡ next (state_after next s xs) x
   state-push s [] x = refl
   state-push s (y ∷ xs) x = state-push (next s y) xs x
@@ -18,7 +33,7 @@ module _ {A S : Type 0} (item : S → Part A) (next : S → A → S) where
   pub fails_later : (s : S) (count : ℕ) (bytes : List ℕ) (x : A) (mid : List ℕ) (r : Refused) → (item s).Reads bytes x mid → FailsAtOne item next (next s x) count mid r → FailsAtOne item next s (suc count) bytes r
   fails_later s count bytes x mid r h f = record { before = x ∷ f.before; rest = f.rest; reads = (mid, h, f.reads); fewer = (let k : length f.before < count = f.fewer in omega arith); fails = f.fails }
 
-module _ {A S : Type 0} (item : S → Part A) (next : S → A → S) where
+module _ {A S : Type 0} (item : S → Portion A) (next : S → A → S) where
   pub stops_at_one : (s : S) (count : ℕ) (bytes : List ℕ) (xs : List A) (rest : List ℕ) (e : Stop) → ReadsEach item next s bytes xs rest → length xs < count → StopsIn (item (state_after next s xs)) rest e
       → StopsIn (repeated item next s count) bytes e
   stops_at_one s count bytes xs rest stop.Memory h k f = tt

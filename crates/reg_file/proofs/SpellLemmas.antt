@@ -1,18 +1,16 @@
 -- Runs one by one are spelled as by replica.
-use Rattle.std.proofs.Common.{◌≡◌, ℕ, suc, ◌+◌, ◌*◌, ◌^◌, ◌<◌, ◌≤◌, Bool, true, false, cond, List, [], ◌∷◌, ◌++◌, length, map, drop, Option, Some, None, refl, sym, ap, ◌∙◌, append_assoc, arith}
+use Rattle.std.proofs.Common.{◌≡◌, ℕ, suc, ◌+◌, ◌≤◌, Bool, true, false, cond, List, [], ◌∷◌, ◌++◌, length, drop, Option, Some, None, refl, sym, ap, ◌∙◌, append_assoc, arith}
 use Rattle.std.specs.List.{flat_map}
 use Rattle.std.proofs.Math.ListN.{drop_of_length-le}
-use Rattle.std.proofs.lemmas.List.{length-append, length-map}
 use Rattle.std.proofs.lemmas.List.Concat.{flat_map-cons}
 use Rattle.std.specs.Ordering.{is_eq}
 use Rattle.reg_seen.specs.declared.run.Run.{Run}
-use Rattle.reg_seen.specs.Runs.{replica_cmp, AreRuns, EndInIds}
-use Rattle.reg_op.specs.Operations.{Op}
+use Rattle.reg_seen.specs.Runs.{replica_cmp}
 use Rattle.reg_seen.proofs.RunLemmas.{same_replica, replica_itself}
 use Rattle.reg_file.specs.declared.span.Span.{Span}
-use Rattle.reg_file.specs.Layout.{four, op_bytes, ops_bytes, span_bytes, span_of, Group, group_bytes, ranges_bytes, run_at, runs_of, put, grouped, head, file}
+use Rattle.reg_file.specs.Layout.{four, span_bytes, span_of, Group, group_bytes, put, grouped}
 use Rattle.reg_file.specs.Spelling.{leading, heading_of, spelled, begun}
-use Rattle.reg_file.proofs.GroupLemmas.{AreGroups, put_same, put_other, runs_grouped, good_groups}
+use Rattle.reg_file.proofs.GroupLemmas.{put_same, put_other}
 
 abbrev group_of : List ℕ → List Span → Group
 group_of replica ss = record { replica = replica; spans = ss }
@@ -99,44 +97,4 @@ pub counted_groups : (n k : ℕ) (last : Option (List ℕ)) (rs : List Run) → 
 counted_groups n k last rs h past =
     let none : begun last (drop k rs) ≡ 0 = ap (begun last) (drop_of_length-le rs past) in
     let all = begun_groups rs in
-    omega arith
-
--- ---- how long a file is
-
-spans_length : (ss : List Span) → length (flat_map span_bytes ss) ≡ 8 * length ss
-spans_length [] = refl
-spans_length (s ∷ ss) =
-    let rest = spans_length ss in
-    let whole = ap length (flat_map-cons span_bytes s ss) in
-    let parts = length-append (span_bytes s) (flat_map span_bytes ss) in
-    let one : length (span_bytes s) ≡ 8 = refl in
-    omega arith
-
-groups_length : (last : Option (List ℕ)) (gs : List Group) → AreGroups last gs → length (flat_map group_bytes gs) ≡ 20 * length gs + 8 * length (runs_of gs)
-groups_length last [] is = refl
-groups_length last (g ∷ gs) is =
-    let rest = groups_length (Some g.replica) gs is.2 in
-    let whole = ap length (flat_map-cons group_bytes g gs) in
-    let parts = length-append (group_bytes g) (flat_map group_bytes gs) in
-    let a = length-append g.replica (four (length g.spans) ++ flat_map span_bytes g.spans) in
-    let b = length-append (four (length g.spans)) (flat_map span_bytes g.spans) in
-    let c : length (four (length g.spans)) ≡ 4 = refl in
-    let long : length g.replica ≡ 16 = is.0.long in
-    let d = spans_length g.spans in
-    let m = length-map g.spans (run_at g.replica) in
-    let r = length-append (map (run_at g.replica) g.spans) (runs_of gs) in
-    omega arith
-
-pub file_length : (os : List Op) (rs : List Run) → AreRuns rs → EndInIds rs → length rs < 2 ^ 32 → length (file os rs) ≡ 14 + 20 * length (grouped rs) + 8 * length rs + length (flat_map op_bytes os)
-file_length os rs are ids few =
-    let gs = grouped rs in
-    let a = length-append (head 1 1) (ranges_bytes gs ++ ops_bytes os) in
-    let b = length-append (ranges_bytes gs) (ops_bytes os) in
-    let c = length-append (four (length gs)) (flat_map group_bytes gs) in
-    let d = length-append (four (length os)) (flat_map op_bytes os) in
-    let e = groups_length None gs (good_groups rs are ids few) in
-    let f = ap length (runs_grouped rs) in
-    let four_is : length (four (length gs)) ≡ 4 = refl in
-    let four_are : length (four (length os)) ≡ 4 = refl in
-    let six : length (head 1 1) ≡ 6 = refl in
     omega arith

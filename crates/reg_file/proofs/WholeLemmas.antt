@@ -1,82 +1,142 @@
--- The steps of reading a whole file.
-use Rattle.std.proofs.Common.{◌≡◌, ℕ, List, None, Result, Ok, ap, subst, ◌∙◌, inl, inr}
+-- The steps of reading whole files.
+use Rattle.std.proofs.Common.{◌≡◌, ℕ, List, [], None, Ok, ap, subst, ◌∙◌, sym}
 use Rattle.std.specs.Int.{w32}
+use Rattle.reg_op.specs.Set as set
 use Rattle.reg_op.specs.Ids.{Ids}
 use Rattle.reg_op.specs.Operations.{Op}
 use Rattle.reg_op.specs.Contents.{Content}
 use Rattle.reg_op.specs.Lists.{content_at}
-use Rattle.reg_seen.specs.Runs.{seen_of}
+use Rattle.reg_op.specs.Pieces.{Piece, part_of}
+use Rattle.reg_seen.specs.Runs.{AllIds, seen_of}
 use Rattle.reg_file.specs.declared.fault.Refused.{Refused}
 use Rattle.reg_file.specs.declared.fault.Stop.{Stop}
 use Rattle.reg_file.specs.declared.fault.Stop.TheVariants as stop
 use Rattle.reg_file.specs.declared.place.Place.{Place}
 use Rattle.reg_file.specs.Layout.{runs_of}
 use Rattle.reg_file.specs.Fields.{Fails, head_at, number_at}
-use Rattle.reg_file.specs.Readers.{Part, field, ◌behind◌, StopsIn}
-use Rattle.reg_file.specs.Reading.{ranges, operations, counted_operations, places_of, ending, kept_operations, seen_and_kept, register}
-use Rattle.reg_file.specs.Steps.{ReadsSeen, EndsWell, StopsAtEnd, ReadsContent}
-use Rattle.reg_file.proofs.FieldLemmas.{IsBytes, head_takes, number_takes}
+use Rattle.reg_file.specs.Readers.{field, ◌behind◌, StopsIn}
+use Rattle.reg_file.specs.Reading.{ranges, operations, counted_operations, places_of, ending, seen_and_ops, seen_and_kept, register, ended, summary, based, piece}
+use Rattle.reg_file.specs.Steps.{ReadsSeen, ReadsOps, EndsWell, StopsAtEnd, ReadsKept, ReadsContent, ReadsSummary, EndsPiece, ReadsBased, ReadsPiece}
+use Rattle.reg_file.proofs.FieldLemmas.{IsBytes, number_takes}
 use Rattle.reg_file.proofs.GroupLemmas.{ranges_take}
-use Rattle.reg_file.proofs.ListLemmas.{AreOwn, ops_take}
+use Rattle.reg_file.proofs.ApartLemmas.{seen_apart}
+use Rattle.reg_file.proofs.ListLemmas.{ops_take, by_id_of, seen_of_own}
+use Rattle.reg_file.proofs.Sequences.{stops_field, stops_front, stops_back}
 
-stops_field : {A : Type 0} (read : List ℕ → Result (A × List ℕ) Refused) (bytes : List ℕ) (s : Stop) → Fails s (read bytes) → StopsIn (field read) bytes s
-stops_field read bytes stop.Memory h = tt
-stops_field read bytes (stop.Refused r) h = h
+-- ---- seen ids and operations
 
-module _ {A B : Type 0} (p : Part A) (q : A → Part B) (bytes : List ℕ) where
-  stops_front : (s : Stop) → StopsIn p bytes s → StopsIn (p behind q) bytes s
-  stops_front stop.Memory h = tt
-  stops_front (stop.Refused r) h = inl h
+module _ (basis : Ids) (bytes : List ℕ) where
+  pub stops_in_seen : (s : Stop) → StopsIn (ranges basis) bytes s → StopsIn (seen_and_ops basis) bytes s
+  stops_in_seen s h = stops_front (ranges basis) (λ gs. counted_operations (seen_of (runs_of gs.1))) bytes s h
 
-  stops_back : (x : A) (mid : List ℕ) (s : Stop) → p.Reads bytes x mid → StopsIn (q x) mid s → StopsIn (p behind q) bytes s
-  stops_back x mid stop.Memory k h = tt
-  stops_back x mid (stop.Refused r) k h = inr (x, mid, k, h)
+  module _ (seen : Ids) (r2 : List ℕ) (a : ReadsSeen basis bytes seen r2) where
+    in_operations : (s : Stop) → StopsIn (counted_operations (seen_of (runs_of a.all))) r2 s → StopsIn (seen_and_ops basis) bytes s
+    in_operations s h = stops_back (ranges basis) (λ gs. counted_operations (seen_of (runs_of gs.1))) bytes (a.count, a.all) r2 s a.reads h
 
-module _ (bytes r1 : List ℕ) (head : head_at 1 1 bytes ≡ Ok (tt, r1)) (seen : Ids) (r2 : List ℕ) (a : ReadsSeen r1 seen r2) where
-  behind_ranges : (s : Stop) → StopsIn (kept_operations a.all) r2 s → StopsIn register bytes s
-  behind_ranges s h =
-      stops_back (field (head_at 1 1)) (λ x. seen_and_kept) bytes tt r1 s head
-      (stops_back ranges (λ gs. kept_operations gs.1) r1 (a.count, a.all) r2 s a.reads h)
+    pub stops_in_count : (s : Stop) → Fails s (number_at w32 r2) → StopsIn (seen_and_ops basis) bytes s
+    stops_in_count s h = in_operations s (stops_front (field (number_at w32)) (operations (seen_of (runs_of a.all))) r2 s (stops_field (number_at w32) r2 s h))
 
-  in_operations : (s : Stop) → StopsIn (counted_operations (seen_of (runs_of a.all))) r2 s → StopsIn register bytes s
-  in_operations s h = behind_ranges s (stops_front (counted_operations (seen_of (runs_of a.all))) (λ os. ending os.1) r2 s h)
+    module _ (n : ℕ) (r3 : List ℕ) (count : number_at w32 r2 ≡ Ok (n, r3)) where
+      pub stops_in_ops : (s : Stop) → StopsIn (operations seen n) r3 s → StopsIn (seen_and_ops basis) bytes s
+      stops_in_ops s h =
+          in_operations s (stops_back (field (number_at w32)) (operations (seen_of (runs_of a.all))) r2 n r3 s count (subst (λ v. StopsIn (operations v n) r3 s) a.ids h))
 
-  pub stops_in_count : (s : Stop) → Fails s (number_at w32 r2) → StopsIn register bytes s
-  stops_in_count s h = in_operations s (stops_front (field (number_at w32)) (operations (seen_of (runs_of a.all))) r2 s (stops_field (number_at w32) r2 s h))
+      pub ops_read : (os : List Op) (places : List Place) (rest : List ℕ) → (operations seen n).Reads r3 os rest → places ≡ places_of os rest → IsBytes bytes → ReadsOps basis bytes os places seen rest
+      ops_read os places rest reads placed fits =
+          let second = ranges_take basis bytes a.count a.all r2 fits a.reads in
+          let third = number_takes r2 n r3 second.0.rest_fits count in
+          let own = (ops_take seen None r3 os rest third.0.rest_fits reads.0).own in
+          record {
+            replicas = a.count;
+            groups = a.all;
+            count = n;
+            reads = (r2, a.reads, (r3, count, subst (λ v. (operations v n).Reads r3 os rest) a.ids reads));
+            ids = a.ids;
+            places_are = placed;
+            by_id = by_id_of None seen os own;
+            are_seen = seen_of_own None seen os own;
+            apart = seen_apart basis bytes seen r2 fits a;
+          }
 
-  module _ (n : ℕ) (r3 : List ℕ) (count : number_at w32 r2 ≡ Ok (n, r3)) where
-    pub stops_in_ops : (s : Stop) → StopsIn (operations seen n) r3 s → StopsIn register bytes s
-    stops_in_ops s h =
-        in_operations s (stops_back (field (number_at w32)) (operations (seen_of (runs_of a.all))) r2 n r3 s count (subst (λ v. StopsIn (operations v n) r3 s) a.ids h))
+-- ---- to the end
 
-    module _ (os : List Op) (r4 : List ℕ) (reads : (operations seen n).Reads r3 os r4) where
-      reads' : (operations (seen_of (runs_of a.all)) n).Reads r3 os r4
-      reads' = subst (λ v. (operations v n).Reads r3 os r4) a.ids reads
+pub stops_before : (basis : Ids) (bytes : List ℕ) (s : Stop) → StopsIn (seen_and_ops basis) bytes s → StopsIn (seen_and_kept basis) bytes s
+stops_before basis bytes s h = stops_front (seen_and_ops basis) (λ x. ending x.1.1) bytes s h
 
-      ending_stops : (places : List Place) (s : Stop) → places ≡ places_of os r4 → StopsAtEnd os places r4 s → StopsIn (ending os) r4 s
-      ending_stops places stop.Memory e h = tt
-      ending_stops places (stop.Refused r) e h = subst (λ ps. StopsAtEnd os ps r4 (stop.Refused r)) e h
+module _ (basis : Ids) (bytes : List ℕ) (os : List Op) (places : List Place) (seen : Ids) (rest : List ℕ) where
+  module _ (a : ReadsOps basis bytes os places seen rest) where
+    ending_stops : (s : Stop) → StopsAtEnd os places rest s → StopsIn (ending os) rest s
+    ending_stops stop.Memory h = tt
+    ending_stops (stop.Refused r) h = subst (λ ps. StopsAtEnd os ps rest (stop.Refused r)) a.places_are h
 
-      pub stops_at_end : (places : List Place) (s : Stop) → places ≡ places_of os r4 → StopsAtEnd os places r4 s → StopsIn register bytes s
-      stops_at_end places s e h =
-          behind_ranges s (stops_back (counted_operations (seen_of (runs_of a.all))) (λ os. ending os.1) r2 (n, os) r4 s (r3, count, reads') (ending_stops places s e h))
+    pub stops_at_end : (s : Stop) → StopsAtEnd os places rest s → StopsIn (seen_and_kept basis) bytes s
+    stops_at_end s h = stops_back (seen_and_ops basis) (λ x. ending x.1.1) bytes ((a.replicas, a.groups), (a.count, os)) rest s a.reads (ending_stops s h)
 
-      pub reads_content : (x : Content) → EndsWell os seen r4 x → ReadsContent bytes x
-      reads_content x w = record {
-        replicas = a.count;
-        seen = a.all;
-        count = n;
-        ops = os;
-        reads = (r1, head, (r2, a.reads, (r4, (r3, count, reads'), w.reads)));
-        is = w.is ∙ ap (content_at os) a.ids;
-        content = w.content;
-      }
+    pub reads_kept : (x : Content) → EndsWell os seen rest x → ReadsKept basis bytes x
+    reads_kept x w = record {
+      replicas = a.replicas;
+      groups = a.groups;
+      count = a.count;
+      ops = os;
+      reads = (rest, a.reads, w.reads);
+      is = w.is ∙ ap (content_at os) a.ids;
+      content = w.content;
+    }
 
--- what was read before the operations are bytes, and so the operations may stand after each other
-pub ops_own : (bytes r1 : List ℕ) → head_at 1 1 bytes ≡ Ok (tt, r1) → (seen : Ids) (r2 : List ℕ) → ReadsSeen r1 seen r2 → (n : ℕ) (r3 : List ℕ) → number_at w32 r2 ≡ Ok (n, r3) → (os : List Op) (r4 : List ℕ)
-    → (operations seen n).Reads r3 os r4 → IsBytes bytes → AreOwn None seen os
-ops_own bytes r1 head seen r2 a n r3 count os r4 reads fits =
-    let first = head_takes 1 1 bytes (tt, r1) fits head in
-    let second = ranges_take r1 a.count a.all r2 first.rest_fits a.reads in
-    let third = number_takes r2 n r3 second.0.rest_fits count in
-    (ops_take seen None r3 os r4 third.0.rest_fits reads.0).own
+-- ---- registers
+
+module _ (bytes rest : List ℕ) (head : head_at 1 1 bytes ≡ Ok (tt, rest)) (basis : Ids) (none : basis ≡ set.empty) where
+  pub stops_in_register : (s : Stop) → StopsIn (seen_and_kept basis) rest s → StopsIn (register 1) bytes s
+  stops_in_register s h =
+      stops_back (field (head_at 1 1)) (λ x. seen_and_kept set.empty) bytes tt rest s head (subst (λ b. StopsIn (seen_and_kept b) rest s) none h)
+
+  pub reads_register : (x : Content) → ReadsKept basis rest x → ReadsContent bytes x
+  reads_register x k = record { rest = rest; head = head; kept = subst (λ b. ReadsKept b rest x) none k }
+
+-- ---- summaries
+
+module _ (bytes rest : List ℕ) (head : head_at 1 2 bytes ≡ Ok (tt, rest)) (none : Ids) (is_none : none ≡ set.empty) where
+  behind_head : (s : Stop) → StopsIn (ranges set.empty behind (λ gs. ended)) rest s → StopsIn (summary 1) bytes s
+  behind_head s h = stops_back (field (head_at 1 2)) (λ x. ranges set.empty behind (λ gs. ended)) bytes tt rest s head h
+
+  pub stops_in_summary : (s : Stop) → StopsIn (ranges none) rest s → StopsIn (summary 1) bytes s
+  stops_in_summary s h = behind_head s (stops_front (ranges set.empty) (λ gs. ended) rest s (subst (λ b. StopsIn (ranges b) rest s) is_none h))
+
+  module _ (ids : Ids) (left : List ℕ) (a : ReadsSeen none rest ids left) where
+    pub stops_behind_summary : (s : Stop) → StopsIn ended left s → StopsIn (summary 1) bytes s
+    stops_behind_summary s h =
+        behind_head s (stops_back (ranges set.empty) (λ gs. ended) rest (a.count, a.all) left s (subst (λ b. (ranges b).Reads rest (a.count, a.all) left) is_none a.reads) h)
+
+    pub reads_summary : left ≡ [] → AllIds ids → ReadsSummary bytes ids
+    reads_summary over are = record {
+      rest = rest;
+      head = head;
+      seen = subst (λ (z : Ids × List ℕ). ReadsSeen z.0 rest ids z.1) (λ j. (is_none j, over j)) a;
+      are_ids = are;
+    }
+
+-- ---- pieces
+
+module _ (bytes : List ℕ) (none : Ids) (is_none : none ≡ set.empty) where
+  pub stops_in_basis : (s : Stop) → StopsIn (ranges none) bytes s → StopsIn based bytes s
+  stops_in_basis s h = stops_front (ranges set.empty) (λ gs. seen_and_kept (seen_of (runs_of gs.1))) bytes s (subst (λ b. StopsIn (ranges b) bytes s) is_none h)
+
+  module _ (basis : Ids) (rest : List ℕ) (a : ReadsSeen none bytes basis rest) where
+    a' : ReadsSeen set.empty bytes basis rest
+    a' = subst (λ b. ReadsSeen b bytes basis rest) is_none a
+
+    pub stops_behind_basis : (s : Stop) → StopsIn (seen_and_kept basis) rest s → StopsIn based bytes s
+    stops_behind_basis s h =
+        stops_back (ranges set.empty) (λ gs. seen_and_kept (seen_of (runs_of gs.1))) bytes (a'.count, a'.all) rest s a'.reads (subst (λ v. StopsIn (seen_and_kept v) rest s) a'.ids h)
+
+    pub reads_based : (p : Piece) (os : List Op) (places : List Place) (seen : Ids) (r4 : List ℕ) → ReadsOps basis rest os places seen r4 → EndsPiece os basis seen r4 p → ReadsBased bytes p
+    reads_based p os places seen r4 o w = record {
+      rest = rest;
+      basis = subst (λ b. ReadsSeen set.empty bytes b rest) (sym w.basis_is) a';
+      kept = subst (λ b. ReadsKept b rest (part_of p)) (sym w.basis_is) (reads_kept basis rest os places seen r4 o (part_of p) w.ends);
+      piece = w.piece;
+    }
+
+module _ (bytes rest : List ℕ) (head : head_at 1 3 bytes ≡ Ok (tt, rest)) where
+  pub stops_in_piece : (s : Stop) → StopsIn based rest s → StopsIn (piece 1) bytes s
+  stops_in_piece s h = stops_back (field (head_at 1 3)) (λ x. based) bytes tt rest s head h

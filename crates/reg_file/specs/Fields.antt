@@ -4,10 +4,9 @@ use Rattle.std.specs.Int.{Width, w32, byte_len, from_be_bytes}
 use Rattle.std.specs.Ordering.{is_lt}
 use Rattle.reg_op.specs.Set as set
 use Rattle.reg_op.specs.Ids.{Id, Ids, is_before, is_same}
-use Rattle.reg_op.specs.Operations.{Op}
 use Rattle.reg_op.specs.declared.operation.OpBody.{OpBody as Body}
 use Rattle.reg_op.specs.declared.operation.OpBody.TheVariants.{Enter, Supersede, Retire}
-use Rattle.reg_seen.specs.Runs.{replica_cmp}
+use Rattle.reg_seen.specs.Runs.{replica_cmp, meets}
 use Rattle.wkt_crs.specs.declared.definition.DefinitionFault.TheVariants as definition
 use Rattle.reg_file.specs.declared.span.Span.{Span}
 use Rattle.reg_file.specs.declared.fault.Refused.{Refused}
@@ -15,6 +14,7 @@ use Rattle.reg_file.specs.declared.fault.FileFault.{FileFault}
 use Rattle.reg_file.specs.declared.fault.FileFault.TheVariants.{Magic, Version, Kind, Truncated, Ranges, ReplicaOrder, OpOrder, OpIdBad, OpKind, NotSeen, SameEntry, Definition}
 use Rattle.reg_file.specs.declared.fault.Stop.{Stop}
 use Rattle.reg_file.specs.declared.fault.Stop.TheVariants as stop
+use Rattle.reg_file.specs.Layout.{run_at}
 
 infixl 10 ◌>>=◌
 abbrev pub ◌>>=◌ : {A B : Type 0} → Result A Refused → (A → Result B Refused) → Result B Refused
@@ -63,12 +63,15 @@ head_at version kind bytes = do
 
 -- ---- ranges
 
--- a range that begins at floor at least
-unfoldable pub span_at : ℕ → List ℕ → Result (Span × List ℕ) Refused
-span_at floor bytes = do
+-- a range of a replica that begins at floor at least, and meets no id of the basis
+abbrev pub is_unfit : Ids → List ℕ → ℕ → Span → Bool
+is_unfit basis replica floor s = nat_lt s.low floor || (nat_lt s.high s.low || meets basis (run_at replica s))
+
+unfoldable pub span_at : Ids → List ℕ → ℕ → List ℕ → Result (Span × List ℕ) Refused
+span_at basis replica floor bytes = do
   low ← number_at w32 bytes
   high ← number_at w32 low.1
-  if nat_lt low.0 floor || nat_lt high.0 low.0 then refused Ranges (length bytes) else Ok (record { low = low.0; high = high.0 }, high.1)
+  if is_unfit basis replica floor (record { low = low.0; high = high.0 }) then refused Ranges (length bytes) else Ok (record { low = low.0; high = high.0 }, high.1)
 
 abbrev pub is_above : Option (List ℕ) → List ℕ → Bool
 is_above None replica = true
@@ -132,10 +135,9 @@ op_kind_at bytes = do
   kind ← byte_at bytes
   if kind.0 == 0 || nat_lt 3 kind.0 then refused OpKind (length bytes) else Ok kind
 
--- an operation, but for what its text is
-unfoldable pub op_at : Option Id → Ids → List ℕ → Result (Op × List ℕ) Refused
-op_at last seen bytes = do
+-- an operation's own id and its kind
+unfoldable pub heading_at : Option Id → Ids → List ℕ → Result ((Id × ℕ) × List ℕ) Refused
+heading_at last seen bytes = do
   id ← own_at last seen bytes
   kind ← op_kind_at id.1
-  body ← body_at kind.0 kind.1
-  Ok (record { id = id.0; body = body.0 }, body.1)
+  Ok ((id.0, kind.0), kind.1)

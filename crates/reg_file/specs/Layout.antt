@@ -77,5 +77,17 @@ abbrev pub head : ℕ → ℕ → List ℕ
 head version kind = 0x43 ∷ 0x52 ∷ 0x53 ∷ 0x52 ∷ version ∷ kind ∷ []
 
 -- the file of operations by id and of the runs that were seen
+abbrev pub register_file : ℕ → List Op → List Run → List ℕ
+register_file version ops runs = head version 1 ++ (ranges_bytes (grouped runs) ++ ops_bytes ops)
+
+-- the file of the runs that were seen
+abbrev pub seen_file : ℕ → List Run → List ℕ
+seen_file version runs = head version 2 ++ ranges_bytes (grouped runs)
+
+-- the file of the basis's runs, and of operations by id and of the runs that were seen, without it
+abbrev pub piece_file : ℕ → List Run → List Op → List Run → List ℕ
+piece_file version basis ops runs = head version 3 ++ (ranges_bytes (grouped basis) ++ (ranges_bytes (grouped runs) ++ ops_bytes ops))
+
+-- a register's file, of the version that is written
 abbrev pub file : List Op → List Run → List ℕ
-file ops runs = head 1 1 ++ (ranges_bytes (grouped runs) ++ ops_bytes ops)
+file ops runs = register_file 1 ops runs

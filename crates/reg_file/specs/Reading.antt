@@ -1,14 +1,15 @@
--- The parts of a register's file, and the first fault of bytes that are none.
-use Rattle.std.specs.Prelude.{◌≡◌, ℕ, ◌+◌, ◌-◌, ◌<◌, ◌⊎◌, List, [], ◌∷◌, ◌++◌, length, Option, Some, None, Result, Ok, Err, if◌then◌else◌}
+-- What is read of files of each kind, and the first fault of bytes that are none.
+use Rattle.std.specs.Prelude.{◌≡◌, ℕ, ◌+◌, ◌-◌, ◌<◌, ◌⊎◌, ◌==◌, Bool, true, false, List, [], ◌∷◌, ◌++◌, length, slice_get, Option, Some, None, Result, Ok, Err, if◌then◌else◌}
 use Rattle.std.specs.List.{flat_map}
 use Rattle.std.specs.Int.{w32}
 use Rattle.reg_op.specs.Set as set
 use Rattle.reg_op.specs.Ids.{Id, Ids, is_same}
 use Rattle.reg_op.specs.Operations.{Op, op_cmp, IsBody}
+use Rattle.reg_op.specs.Lists.{passes}
 use Rattle.reg_op.specs.declared.operation.OpBody.{OpBody as Body}
 use Rattle.reg_op.specs.declared.operation.OpBody.TheVariants.{Enter, Supersede, Retire}
 use Rattle.reg_seen.specs.Runs.{seen_of}
-use Rattle.reg_state.specs.Tables.{first_dropped}
+use Rattle.reg_op.specs.Kept.{first_dropped}
 use Rattle.wkt_crs.specs.Definition.{IsCanonicalFault}
 use Rattle.wkt_crs.specs.declared.fault.ReadFault.TheVariants as read
 use Rattle.wkt_crs.specs.declared.definition.DefinitionFault.{DefinitionFault}
@@ -18,40 +19,40 @@ use Rattle.reg_file.specs.declared.fault.Refused.{Refused}
 use Rattle.reg_file.specs.declared.fault.FileFault.{FileFault}
 use Rattle.reg_file.specs.declared.fault.FileFault.TheVariants as fault
 use Rattle.reg_file.specs.declared.place.Place.{Place}
-use Rattle.reg_file.specs.Layout.{Group, runs_of, op_bytes}
-use Rattle.reg_file.specs.Fields.{number_at, head_at, span_at, group_at, op_at}
-use Rattle.reg_file.specs.Readers.{Part, field, ◌behind◌, repeated}
+use Rattle.reg_file.specs.Layout.{Group, runs_of, kind_byte, op_bytes}
+use Rattle.reg_file.specs.Fields.{number_at, head_at, span_at, group_at, heading_at, body_at}
+use Rattle.reg_file.specs.Readers.{Portion, field, ◌behind◌, repeated}
 
 -- ---- ranges
 
--- a range begins beyond the one before it, and does not touch it
-abbrev pub span : ℕ → Part Span
-span floor = field (span_at floor)
+-- a range begins beyond the one before it, and does not touch it. It meets no id of the basis
+abbrev pub span : Ids → List ℕ → ℕ → Portion Span
+span basis replica floor = field (span_at basis replica floor)
 
 abbrev pub floor_after : ℕ → Span → ℕ
 floor_after floor s = s.high + 2
 
-abbrev pub spans : ℕ → Part (List Span)
-spans count = repeated span floor_after 1 count
+abbrev pub spans : Ids → List ℕ → ℕ → Portion (List Span)
+spans basis replica count = repeated (span basis replica) floor_after 1 count
 
-abbrev pub named_spans : Option (List ℕ) → Part ((List ℕ × ℕ) × List Span)
-named_spans last = field (group_at last) behind (λ x. spans x.1)
+abbrev pub named_spans : Ids → Option (List ℕ) → Portion ((List ℕ × ℕ) × List Span)
+named_spans basis last = field (group_at last) behind (λ x. spans basis x.0 x.1)
 
 -- a replica above the last one, and its ranges
-abbrev pub group : Option (List ℕ) → Part Group
-group last = record {
-  Reads = λ bytes g rest. (named_spans last).Reads bytes ((g.replica, length g.spans), g.spans) rest;
-  Fails = (named_spans last).Fails;
+abbrev pub group : Ids → Option (List ℕ) → Portion Group
+group basis last = record {
+  Reads = λ bytes g rest. (named_spans basis last).Reads bytes ((g.replica, length g.spans), g.spans) rest;
+  Fails = (named_spans basis last).Fails;
 }
 
 abbrev pub replica_after : Option (List ℕ) → Group → Option (List ℕ)
 replica_after last g = Some g.replica
 
-abbrev pub groups : ℕ → Part (List Group)
-groups count = repeated group replica_after None count
+abbrev pub groups : Ids → ℕ → Portion (List Group)
+groups basis count = repeated (group basis) replica_after None count
 
-abbrev pub ranges : Part (ℕ × List Group)
-ranges = field (number_at w32) behind groups
+abbrev pub ranges : Ids → Portion (ℕ × List Group)
+ranges basis = field (number_at w32) behind groups basis
 
 -- ---- operations
 
@@ -76,24 +77,34 @@ IsUnfit (Supersede old newer) left r = ⊥
 IsUnfit (Retire entry) left r = ⊥
 
 -- a field is refused; or all are read, and the definition's text is none
-abbrev pub FailsAs : {X : Type 0} → (X → Body) → ℕ → Result (X × List ℕ) Refused → Refused → Type 0
-FailsAs of left (Err e) r = e ≡ r
-FailsAs of left (Ok x) r = IsUnfit (of x.0) left r
+abbrev pub FailsAs : ℕ → Result (Body × List ℕ) Refused → Refused → Type 0
+FailsAs left (Err e) r = e ≡ r
+FailsAs left (Ok x) r = IsUnfit x.0 left r
 
--- an operation after the last one, of an id that was seen. Its body begins after the id and the kind, 21 bytes on
-abbrev pub operation : Ids → Option Id → Part Op
+-- what an operation of a kind does
+abbrev pub body : ℕ → Portion Body
+body kind = record {
+  Reads = λ bytes b rest. (body_at kind bytes ≡ Ok (b, rest)) × IsBody b;
+  Fails = λ bytes r. FailsAs (length bytes) (body_at kind bytes) r;
+}
+
+abbrev pub headed_body : Ids → Option Id → Portion ((Id × ℕ) × Body)
+headed_body seen last = field (heading_at last seen) behind (λ x. body x.1)
+
+-- an operation after the last one, of an id that was seen
+abbrev pub operation : Ids → Option Id → Portion Op
 operation seen last = record {
-  Reads = λ bytes o rest. (op_at last seen bytes ≡ Ok (o, rest)) × IsBody o.body;
-  Fails = λ bytes r. FailsAs (λ (o : Op). o.body) (length bytes - 21) (op_at last seen bytes) r;
+  Reads = λ bytes o rest. (headed_body seen last).Reads bytes ((o.id, kind_byte o.body), o.body) rest;
+  Fails = (headed_body seen last).Fails;
 }
 
 abbrev pub id_after : Option Id → Op → Option Id
 id_after last o = Some o.id
 
-abbrev pub operations : Ids → ℕ → Part (List Op)
+abbrev pub operations : Ids → ℕ → Portion (List Op)
 operations seen count = repeated (operation seen) id_after None count
 
-abbrev pub counted_operations : Ids → Part (ℕ × List Op)
+abbrev pub counted_operations : Ids → Portion (ℕ × List Op)
 counted_operations seen = field (number_at w32) behind operations seen
 
 -- ---- the end
@@ -116,23 +127,63 @@ abbrev pub IsTrailing : List Op → List ℕ → Refused → Type 0
 IsTrailing os rest r = (first_dropped (set.from_list {R = op_cmp} os) ≡ None) × (0 < length rest) × (r ≡ record { fault = fault.Trailing; left = length rest })
 
 -- each operation is kept, and nothing follows
-abbrev pub ending : List Op → Part (Unit {0})
+abbrev pub ending : List Op → Portion (Unit {0})
 ending os = record {
   Reads = λ bytes x rest. (first_dropped (set.from_list {R = op_cmp} os) ≡ None) × (bytes ≡ []) × (rest ≡ []);
   Fails = λ bytes r. IsDropped os (places_of os bytes) r ⊎ IsTrailing os bytes r;
 }
 
--- ---- the file
+-- nothing follows
+abbrev pub ended : Portion (Unit {0})
+ended = record {
+  Reads = λ bytes x rest. (bytes ≡ []) × (rest ≡ []);
+  Fails = λ bytes r. (0 < length bytes) × (r ≡ record { fault = fault.Trailing; left = length bytes });
+}
 
-abbrev pub kept_operations : List Group → Part ((ℕ × List Op) × Unit {0})
-kept_operations gs = counted_operations (seen_of (runs_of gs)) behind (λ os. ending os.1)
+-- ---- the files
 
-abbrev pub seen_and_kept : Part ((ℕ × List Group) × ((ℕ × List Op) × Unit {0}))
-seen_and_kept = ranges behind (λ gs. kept_operations gs.1)
+-- what was seen, without the basis, and the operations
+abbrev pub seen_and_ops : Ids → Portion ((ℕ × List Group) × (ℕ × List Op))
+seen_and_ops basis = ranges basis behind (λ gs. counted_operations (seen_of (runs_of gs.1)))
 
-abbrev pub register : Part (Unit {0} × ((ℕ × List Group) × ((ℕ × List Op) × Unit {0})))
-register = field (head_at 1 1) behind (λ x. seen_and_kept)
+abbrev pub seen_and_kept : Ids → Portion (((ℕ × List Group) × (ℕ × List Op)) × Unit {0})
+seen_and_kept basis = seen_and_ops basis behind (λ x. ending x.1.1)
 
--- the first fault of bytes that are no file of a register, and its place
+abbrev pub register : ℕ → Portion (Unit {0} × (((ℕ × List Group) × (ℕ × List Op)) × Unit {0}))
+register version = field (head_at version 1) behind (λ x. seen_and_kept set.empty)
+
+abbrev pub summary : ℕ → Portion (Unit {0} × ((ℕ × List Group) × Unit {0}))
+summary version = field (head_at version 2) behind (λ x. ranges set.empty behind (λ gs. ended))
+
+-- the basis, and what is without it
+abbrev pub based : Portion ((ℕ × List Group) × (((ℕ × List Group) × (ℕ × List Op)) × Unit {0}))
+based = ranges set.empty behind (λ gs. seen_and_kept (seen_of (runs_of gs.1)))
+
+abbrev pub piece : ℕ → Portion (Unit {0} × ((ℕ × List Group) × (((ℕ × List Group) × (ℕ × List Op)) × Unit {0})))
+piece version = field (head_at version 3) behind (λ x. based)
+
+-- the first fault of bytes that are not read, and its place
+abbrev pub FailsAt : {A : Type 0} → Portion A → List ℕ → FileFault → ℕ → Type 0
+FailsAt p bytes f place = (r : Refused) × p.Fails bytes r × (f ≡ r.fault) × (place ≡ length bytes - r.left)
+
+-- the first fault of bytes that are no file of a register; of a summary; of a piece
 abbrev pub HasFault : List ℕ → FileFault → ℕ → Type 0
-HasFault bytes f place = (r : Refused) × register.Fails bytes r × (f ≡ r.fault) × (place ≡ length bytes - r.left)
+HasFault bytes f place = FailsAt (register 1) bytes f place
+
+abbrev pub HasSeenFault : List ℕ → FileFault → ℕ → Type 0
+HasSeenFault bytes f place = FailsAt (summary 1) bytes f place
+
+abbrev pub HasPieceFault : List ℕ → FileFault → ℕ → Type 0
+HasPieceFault bytes f place = FailsAt (piece 1) bytes f place
+
+-- the byte of the kind says that it is a piece
+abbrev pub says_piece : List ℕ → Bool
+says_piece bytes = passes (λ kind. kind == 3) (slice_get bytes 5)
+
+abbrev pub FaultBy : Bool → List ℕ → FileFault → ℕ → Type 0
+FaultBy true bytes f place = HasPieceFault bytes f place
+FaultBy false bytes f place = HasFault bytes f place
+
+-- the first fault of bytes that are neither a register's file nor a piece's: it is a piece's where they say so
+abbrev pub HasPartFault : List ℕ → FileFault → ℕ → Type 0
+HasPartFault bytes f place = FaultBy (says_piece bytes) bytes f place

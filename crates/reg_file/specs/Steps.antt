@@ -1,10 +1,11 @@
 -- What the steps of reading do.
-use Rattle.std.specs.Prelude.{◌≡◌, ◌⊎◌, ◌+◌, ◌<◌, ◌≤◌, ℕ, true, map, Option, Some, None, List, [], ◌∷◌, length, Result}
+use Rattle.std.specs.Prelude.{◌≡◌, ◌⊎◌, ◌+◌, ◌<◌, ◌≤◌, ℕ, true, false, map, Option, Some, None, List, [], ◌∷◌, length, Result, Ok}
 use Rattle.reg_op.specs.Set as set
 use Rattle.reg_op.specs.Ids.{Id, Ids}
 use Rattle.reg_op.specs.Operations.{Op}
 use Rattle.reg_op.specs.Contents.{Content, IsContent}
-use Rattle.reg_op.specs.Lists.{content_at}
+use Rattle.reg_op.specs.Pieces.{Piece, part_of, IsPiece}
+use Rattle.reg_op.specs.Lists.{has, ById, content_at}
 use Rattle.reg_state.specs.declared.register.ContentFault.{ContentFault}
 use Rattle.reg_state.specs.declared.register.ContentFault.TheVariants as content
 use Rattle.reg_op.specs.declared.operation.OpBody.{OpBody as Body}
@@ -15,20 +16,21 @@ use Rattle.reg_file.specs.declared.fault.Stop.TheVariants as stop
 use Rattle.reg_file.specs.declared.fault.FileFault.TheVariants as fault
 use Rattle.reg_file.specs.declared.place.Place.{Place}
 use Rattle.reg_seen.specs.declared.run.Run.{Run}
-use Rattle.reg_seen.specs.Runs.{IsBelow, ids_of_run, seen_of}
+use Rattle.reg_seen.specs.Runs.{IsBelow, AllIds, ids_of_run, seen_of}
 use Rattle.reg_file.specs.declared.span.Span.{Span}
 use Rattle.reg_file.specs.Layout.{Group, run_at, runs_of}
+use Rattle.reg_file.specs.Fields.{head_at}
 use Rattle.reg_file.specs.Readers.{ReadsEach, state_after}
-use Rattle.reg_file.specs.Reading.{IsUnfit, FailsAs, span, floor_after, spans, group, groups, replica_after, ranges, left_in, IsDropped, IsTrailing, ending, register}
+use Rattle.reg_file.specs.Reading.{IsUnfit, FailsAs, span, floor_after, spans, group, groups, replica_after, ranges, places_of, left_in, IsDropped, IsTrailing, ending, seen_and_ops, seen_and_kept}
 
 -- a text that is no definition, after a body that begins with so many bytes left
 abbrev pub StopsInText : List ℕ → ℕ → Stop → Type 0
 StopsInText text left stop.Memory = Unit {0}
 StopsInText text left (stop.Refused r) = IsUnfit (Enter text) left r
 
-abbrev pub StopsAs : {X : Type 0} → (X → Body) → ℕ → Result (X × List ℕ) Refused → Stop → Type 0
-StopsAs of left read stop.Memory = Unit {0}
-StopsAs of left read (stop.Refused r) = FailsAs of left read r
+abbrev pub StopsAs : ℕ → Result (Body × List ℕ) Refused → Stop → Type 0
+StopsAs left read stop.Memory = Unit {0}
+StopsAs left read (stop.Refused r) = FailsAs left read r
 
 -- ---- ranges
 
@@ -47,36 +49,36 @@ IsUpTo s None = (i : Id) → set.contains s i ≡ true → ⊥
 IsUpTo s (Some last) = (i : Id) → set.contains s i ≡ true → IsBelow i.replica last ⊎ (i.replica ≡ last)
 
 -- ranges of a replica were read, and a set has them besides
-pub record AddsSpans (old new : Ids) (replica : List ℕ) (count : ℕ) (bytes rest : List ℕ) : Type 0 where
+pub record AddsSpans (basis old new : Ids) (replica : List ℕ) (count : ℕ) (bytes rest : List ℕ) : Type 0 where
   pub all : List Span
-  pub reads : (spans count).Reads bytes all rest
+  pub reads : (spans basis replica count).Reads bytes all rest
   pub adds : new ≡ with_runs old (map (run_at replica) all)
   pub up_to : IsUpTo new (Some replica)
 
-pub record AddsGroup (old new : Ids) (last : Option (List ℕ)) (bytes replica rest : List ℕ) : Type 0 where
+pub record AddsGroup (basis old new : Ids) (last : Option (List ℕ)) (bytes replica rest : List ℕ) : Type 0 where
   pub one : Group
-  pub reads : (group last).Reads bytes one rest
+  pub reads : (group basis last).Reads bytes one rest
   pub of : replica ≡ one.replica
   pub adds : new ≡ with_runs old (map (run_at one.replica) one.spans)
   pub up_to : IsUpTo new (Some replica)
 
 -- so many replicas were read, and these are their ids
-pub record ReadsGroups (count : ℕ) (bytes : List ℕ) (seen : Ids) (rest : List ℕ) : Type 0 where
+pub record ReadsGroups (basis : Ids) (count : ℕ) (bytes : List ℕ) (seen : Ids) (rest : List ℕ) : Type 0 where
   pub all : List Group
-  pub reads : (groups count).Reads bytes all rest
+  pub reads : (groups basis count).Reads bytes all rest
   pub ids : seen ≡ seen_of (runs_of all)
 
 -- all ranges were read, and these are their ids
-pub record ReadsSeen (bytes : List ℕ) (seen : Ids) (rest : List ℕ) : Type 0 where
+pub record ReadsSeen (basis : Ids) (bytes : List ℕ) (seen : Ids) (rest : List ℕ) : Type 0 where
   pub count : ℕ
   pub all : List Group
-  pub reads : ranges.Reads bytes (count, all) rest
+  pub reads : (ranges basis).Reads bytes (count, all) rest
   pub ids : seen ≡ seen_of (runs_of all)
 
 -- in the midst of a replica's ranges
-pub record IsAddingSpans (old now : Ids) (replica bytes rest : List ℕ) (floor n : ℕ) : Type 0 where
+pub record IsAddingSpans (basis old now : Ids) (replica bytes rest : List ℕ) (floor n : ℕ) : Type 0 where
   pub all : List Span
-  pub reads : ReadsEach span floor_after 1 bytes all rest
+  pub reads : ReadsEach (span basis replica) floor_after 1 bytes all rest
   pub floor_is : floor ≡ state_after floor_after 1 all
   pub adds : now ≡ with_runs old (map (run_at replica) all)
   pub counted : length all ≡ n
@@ -84,9 +86,9 @@ pub record IsAddingSpans (old now : Ids) (replica bytes rest : List ℕ) (floor 
   pub positive : 1 ≤ floor
 
 -- in the midst of the replicas
-pub record IsAddingGroups (now : Ids) (bytes rest : List ℕ) (last : Option (List ℕ)) (n : ℕ) : Type 0 where
+pub record IsAddingGroups (basis now : Ids) (bytes rest : List ℕ) (last : Option (List ℕ)) (n : ℕ) : Type 0 where
   pub all : List Group
-  pub reads : ReadsEach group replica_after None bytes all rest
+  pub reads : ReadsEach (group basis) replica_after None bytes all rest
   pub last_is : last ≡ state_after replica_after None all
   pub adds : now ≡ with_runs set.empty (runs_of all)
   pub counted : length all ≡ n
@@ -110,13 +112,58 @@ abbrev pub IsStopOf : ContentFault → List Place → Stop → Type 0
 IsStopOf (content.NotKept id) places s = s ≡ stop.Refused (record { fault = fault.NotKept; left = left_in places id })
 IsStopOf content.Memory places s = s ≡ stop.Memory
 
--- ---- the whole
+-- ---- behind the head
 
-pub record ReadsContent (bytes : List ℕ) (x : Content) : Type 0 where
+-- what was seen, without the basis, and operations that may stand after each other: by id, and each of them seen
+pub record ReadsOps (basis : Ids) (bytes : List ℕ) (os : List Op) (places : List Place) (seen : Ids) (rest : List ℕ) : Type 0 where
   pub replicas : ℕ
-  pub seen : List Group
+  pub groups : List Group
+  pub count : ℕ
+  pub reads : (seen_and_ops basis).Reads bytes ((replicas, groups), (count, os)) rest
+  pub ids : seen ≡ seen_of (runs_of groups)
+  pub places_are : places ≡ places_of os rest
+  pub by_id : ById os
+  pub are_seen : (o : Op) → has os o ≡ true → set.contains seen o.id ≡ true
+  pub apart : (i : Id) → set.contains seen i ≡ true → set.contains basis i ≡ false
+
+-- a content was read, and nothing follows
+pub record ReadsKept (basis : Ids) (bytes : List ℕ) (x : Content) : Type 0 where
+  pub replicas : ℕ
+  pub groups : List Group
   pub count : ℕ
   pub ops : List Op
-  pub reads : register.Reads bytes (tt, ((replicas, seen), ((count, ops), tt))) []
-  pub is : x ≡ content_at ops (seen_of (runs_of seen))
+  pub reads : (seen_and_kept basis).Reads bytes (((replicas, groups), (count, ops)), tt) []
+  pub is : x ≡ content_at ops (seen_of (runs_of groups))
   pub content : IsContent x
+
+-- ---- whole files
+
+pub record ReadsContent (bytes : List ℕ) (x : Content) : Type 0 where
+  pub rest : List ℕ
+  pub head : head_at 1 1 bytes ≡ Ok (tt, rest)
+  pub kept : ReadsKept set.empty rest x
+
+-- the ids that were seen were read, and nothing follows
+pub record ReadsSummary (bytes : List ℕ) (ids : Ids) : Type 0 where
+  pub rest : List ℕ
+  pub head : head_at 1 2 bytes ≡ Ok (tt, rest)
+  pub seen : ReadsSeen set.empty rest ids []
+  pub are_ids : AllIds ids
+
+-- a basis was read, and then a content without it
+pub record ReadsBased (bytes : List ℕ) (p : Piece) : Type 0 where
+  pub rest : List ℕ
+  pub basis : ReadsSeen set.empty bytes p.basis rest
+  pub kept : ReadsKept p.basis rest (part_of p)
+  pub piece : IsPiece p
+
+pub record ReadsPiece (bytes : List ℕ) (p : Piece) : Type 0 where
+  pub rest : List ℕ
+  pub head : head_at 1 3 bytes ≡ Ok (tt, rest)
+  pub based : ReadsBased rest p
+
+-- a piece has the basis, and the operations are its content's, and nothing follows
+pub record EndsPiece (os : List Op) (basis seen : Ids) (rest : List ℕ) (p : Piece) : Type 0 where
+  pub ends : EndsWell os seen rest (part_of p)
+  pub basis_is : p.basis ≡ basis
+  pub piece : IsPiece p

@@ -14,7 +14,7 @@ pub enum FileFault {
     Kind,
     /// The input ends where a field is to begin, or inside one.
     Truncated,
-    /// A replica has no range, or a range is empty, begins at 0, or is not apart from the one before it.
+    /// A replica has no range, or a range is empty, begins at 0, is not apart from the one before it, or meets the basis.
     Ranges,
     ReplicaOrder,
     OpOrder,
@@ -30,7 +30,7 @@ pub enum FileFault {
     Trailing,
 }
 
-/// Why no register could be read.
+/// Why nothing could be read.
 #[derive(Clone, Copy, Debug, PartialEq, Eq)]
 pub enum ReadFileFault {
     /// The first fault, and the place where it stands.
@@ -42,7 +42,7 @@ pub enum ReadFileFault {
     Memory,
 }
 
-/// Why a register was not written.
+/// Why nothing was written, or not all.
 #[derive(Clone, Copy, Debug, PartialEq, Eq)]
 pub enum WriteFileFault {
     /// The file would have more than 67,108,864 bytes.

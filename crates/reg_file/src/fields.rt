@@ -3,12 +3,12 @@
 ghost use Rattle.std.specs.Prelude.{◌≡◌, ◌≤◌, ℕ, List, length};
 ghost use Rattle.std.specs.Int.{w32};
 ghost use Rattle.reg_op.specs.Ids.{Id};
-ghost use Rattle.reg_file.specs.Fields.{Gives, byte_at, cut_at, count_at, group_at, head_at, id_at, is_above, is_after, kind_at, number_at, op_kind_at, own_at, pair_at, replica_at, span_at, text_at, version_at};
+ghost use Rattle.reg_file.specs.Fields.{Gives, byte_at, cut_at, count_at, group_at, head_at, heading_at, id_at, is_above, is_after, is_unfit, kind_at, number_at, op_kind_at, own_at, pair_at, replica_at, span_at, text_at, version_at};
 
 use crate::fault::{FileFault, Refused, Stop};
 use crate::span::Span;
 use reg_op::OpId;
-use reg_state::Seen;
+use reg_state::{Run, Seen};
 use uuid::Uuid;
 use wkt_crs::DefinitionFault;
 
@@ -82,17 +82,30 @@ pub fn head_of(version: u8, kind: u8, bytes: &[u8]) -> Result<((), &[u8]), Stop>
     version_of(version, kind, rest)
 }
 
-/// A range that begins at the floor at least.
+fn is_unfit(basis: &Seen, replica: Uuid, floor: u64, span: Span) -> bool
+    ensures { result ≡ is_unfit basis.now replica floor span }
+{
+    let Span { low, high } = span;
+    u64::from(low) < floor || high < low || basis.meets(Run { replica, low, high })
+}
+
+/// A range of a replica that begins at the floor at least, and meets no id of the basis.
 #[tactic(auto, unfolding(crate::specs::Fields::span_at))]
-pub fn span_of(floor: u64, bytes: &[u8]) -> Result<(Span, &[u8]), Stop>
-    ensures { Gives (λ x. (x.0, x.1.now)) result (span_at floor bytes.now) }
+pub fn span_of<'a>(
+    basis: &Seen,
+    replica: Uuid,
+    floor: u64,
+    bytes: &'a [u8],
+) -> Result<(Span, &'a [u8]), Stop>
+    ensures { Gives (λ x. (x.0, x.1.now)) result (span_at basis.now replica floor bytes.now) }
 {
     let (low, rest) = number_of(bytes)?;
     let (high, rest) = number_of(rest)?;
-    if u64::from(low) < floor || high < low {
+    let span = Span { low, high };
+    if is_unfit(basis, replica, floor, span) {
         return Err(refused(FileFault::Ranges, bytes.len()));
     }
-    Ok((Span { low, high }, rest))
+    Ok((span, rest))
 }
 
 fn uuid_of(bytes: &[u8]) -> Result<(Uuid, &[u8]), Stop>
@@ -122,11 +135,7 @@ pub fn id_of(bytes: &[u8]) -> Result<(OpId, &[u8]), Stop>
 }
 
 #[tactic(auto, unfolding(crate::specs::Fields::own_at))]
-pub fn own_of<'a>(
-    last: Option<OpId>,
-    seen: &Seen,
-    bytes: &'a [u8],
-) -> Result<(OpId, &'a [u8]), Stop>
+fn own_of<'a>(last: Option<OpId>, seen: &Seen, bytes: &'a [u8]) -> Result<(OpId, &'a [u8]), Stop>
     ensures { Gives (λ x. (x.0, x.1.now)) result (own_at last seen.now bytes.now) }
 {
     let (id, rest) = match id_of(bytes) {
@@ -151,9 +160,9 @@ fn is_after(last: Option<OpId>, id: OpId) -> bool
     }
 }
 
-/// What an operation does: a byte from 1 to 3.
+// What an operation does: a byte from 1 to 3.
 #[tactic(auto, unfolding(crate::specs::Fields::op_kind_at))]
-pub fn op_kind_of(bytes: &[u8]) -> Result<(u8, &[u8]), Stop>
+fn op_kind_of(bytes: &[u8]) -> Result<(u8, &[u8]), Stop>
     ensures { Gives (λ x. (x.0, x.1.now)) result (op_kind_at bytes.now) }
 {
     let (kind, rest) = byte_of(bytes)?;
@@ -161,6 +170,23 @@ pub fn op_kind_of(bytes: &[u8]) -> Result<(u8, &[u8]), Stop>
         return Err(refused(FileFault::OpKind, bytes.len()));
     }
     Ok((kind, rest))
+}
+
+/// An operation's own id, after the last one and seen, and its kind, from 1 to 3.
+#[tactic(auto, unfolding(crate::specs::Fields::heading_at))]
+pub fn heading_of<'a>(
+    last: Option<OpId>,
+    seen: &Seen,
+    bytes: &'a [u8],
+) -> Result<((OpId, u8), &'a [u8]), Stop>
+    ensures { Gives (λ x. (x.0, x.1.now)) result (heading_at last seen.now bytes.now) }
+{
+    let (id, rest) = match own_of(last, seen, bytes) {
+        Ok(read) => read,
+        Err(stop) => return Err(stop),
+    };
+    let (kind, rest) = op_kind_of(rest)?;
+    Ok(((id, kind), rest))
 }
 
 /// A definition's text, whose length stands before it.

@@ -1,32 +1,53 @@
-//! What holds of all files and all contents. A call does nothing: its contract is the law.
+//! What holds of all files and of all that they hold. A call does nothing: its contract is the law.
 
 ghost use Rattle.std.specs.Prelude.{◌≡◌, ℕ, List};
+ghost use Rattle.reg_op.specs.Ids.{Ids};
 ghost use Rattle.reg_op.specs.Contents.{Content, IsContent};
+ghost use Rattle.reg_op.specs.Pieces.{Piece, IsPiece};
+ghost use Rattle.reg_seen.specs.Runs.{AllIds};
 ghost use Rattle.reg_file.specs.declared.fault.FileFault.{FileFault};
-ghost use Rattle.reg_file.specs.Reading.{HasFault};
-ghost use Rattle.reg_file.specs.Files.{Holds, IsFileOf};
+ghost use Rattle.reg_file.specs.Reading.{HasFault, HasPartFault, HasPieceFault, HasSeenFault};
+ghost use Rattle.reg_file.specs.Files.{Holds, HoldsPiece, HoldsSeen, IsFileOf, IsPieceFileOf, IsSeenFileOf};
 
-/// A file has one content.
+/// A file has one content, a summary one set of ids, and a piece's file one piece.
 pub fn one_content()
-    ensures { (bytes : List ℕ) (x y : Content) → Holds bytes x → Holds bytes y → x ≡ y }
+    ensures register { (bytes : List ℕ) (x y : Content) → Holds bytes x → Holds bytes y → x ≡ y }
+    ensures seen { (bytes : List ℕ) (x y : Ids) → HoldsSeen bytes x → HoldsSeen bytes y → x ≡ y }
+    ensures piece { (bytes : List ℕ) (p q : Piece) → HoldsPiece bytes p → HoldsPiece bytes q → p ≡ q }
 {}
 
-/// A content has one file.
+/// A content has one file, and so have the ids that were seen, and a piece.
 pub fn one_file()
-    ensures { (x : Content) (bytes others : List ℕ) → IsFileOf x bytes → IsFileOf x others → bytes ≡ others }
+    ensures register { (x : Content) (bytes others : List ℕ) → IsFileOf x bytes → IsFileOf x others → bytes ≡ others }
+    ensures seen { (ids : Ids) (bytes others : List ℕ) → IsSeenFileOf ids bytes → IsSeenFileOf ids others → bytes ≡ others }
+    ensures piece { (p : Piece) (bytes others : List ℕ) → IsPieceFileOf p bytes → IsPieceFileOf p others → bytes ≡ others }
 {}
 
-/// Each content has a file.
+/// Each content has a file, and so have all ids, and each piece.
 pub fn each_has_a_file()
-    ensures { (x : Content) → IsContent x → (bytes : List ℕ) × IsFileOf x bytes }
+    ensures register { (x : Content) → IsContent x → (bytes : List ℕ) × IsFileOf x bytes }
+    ensures seen { (ids : Ids) → AllIds ids → (bytes : List ℕ) × IsSeenFileOf ids bytes }
+    ensures piece { (p : Piece) → IsPiece p → (bytes : List ℕ) × IsPieceFileOf p bytes }
 {}
 
-/// Bytes that hold a content have no fault.
+/// Bytes that hold something of a kind have no fault of that kind.
 pub fn held_or_fault()
-    ensures { (bytes : List ℕ) (x : Content) (f : FileFault) (place : ℕ) → Holds bytes x → HasFault bytes f place → ⊥ }
+    ensures register { (bytes : List ℕ) (x : Content) (f : FileFault) (place : ℕ) → Holds bytes x → HasFault bytes f place → ⊥ }
+    ensures seen { (bytes : List ℕ) (ids : Ids) (f : FileFault) (place : ℕ) → HoldsSeen bytes ids → HasSeenFault bytes f place → ⊥ }
+    ensures piece { (bytes : List ℕ) (p : Piece) (f : FileFault) (place : ℕ) → HoldsPiece bytes p → HasPieceFault bytes f place → ⊥ }
 {}
 
-/// Bytes have one first fault, at one place.
+/// Bytes have one first fault of a kind, at one place.
 pub fn one_first_fault()
-    ensures { (bytes : List ℕ) (f g : FileFault) (m n : ℕ) → HasFault bytes f m → HasFault bytes g n → (f ≡ g) × (m ≡ n) }
+    ensures register { (bytes : List ℕ) (f g : FileFault) (m n : ℕ) → HasFault bytes f m → HasFault bytes g n → (f ≡ g) × (m ≡ n) }
+    ensures seen { (bytes : List ℕ) (f g : FileFault) (m n : ℕ) → HasSeenFault bytes f m → HasSeenFault bytes g n → (f ≡ g) × (m ≡ n) }
+    ensures piece { (bytes : List ℕ) (f g : FileFault) (m n : ℕ) → HasPieceFault bytes f m → HasPieceFault bytes g n → (f ≡ g) × (m ≡ n) }
+    ensures part { (bytes : List ℕ) (f g : FileFault) (m n : ℕ) → HasPartFault bytes f m → HasPartFault bytes g n → (f ≡ g) × (m ≡ n) }
+{}
+
+/// No bytes are files of two kinds.
+pub fn one_kind()
+    ensures register_or_seen { (bytes : List ℕ) (x : Content) (ids : Ids) → Holds bytes x → HoldsSeen bytes ids → ⊥ }
+    ensures register_or_piece { (bytes : List ℕ) (x : Content) (p : Piece) → Holds bytes x → HoldsPiece bytes p → ⊥ }
+    ensures seen_or_piece { (bytes : List ℕ) (ids : Ids) (p : Piece) → HoldsSeen bytes ids → HoldsPiece bytes p → ⊥ }
 {}

@@ -1,18 +1,27 @@
-//! Replica files, read exactly: the bytes of a register, and the first fault of other bytes, at its place.
+//! Replica files, read exactly: the bytes of a register, of a seen summary or of a piece, and the first fault of other
+//! bytes, at its place.
 #![tactic(auto)]
 
+mod contents;
 mod fault;
 mod fields;
+mod heads;
 pub mod laws;
 mod length;
 mod operations;
+mod parts;
+mod pieces;
 mod place;
 mod ranges;
 mod reading;
 mod span;
 mod spelling;
+mod summaries;
 mod writing;
 
 pub use fault::{FileFault, ReadFileFault, WriteFileFault};
+pub use parts::{Part, read_part, read_part_beside, read_part_bytes};
+pub use pieces::{read_piece, read_piece_beside, read_piece_bytes, write_piece, write_piece_bytes};
 pub use reading::{read_bytes, read_register, read_register_beside};
+pub use summaries::{read_seen, read_seen_bytes, write_seen, write_seen_bytes};
 pub use writing::{write_bytes, write_register};

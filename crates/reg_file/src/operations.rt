@@ -7,7 +7,7 @@ ghost use Rattle.reg_file.specs.Reading.{operation, operations, left_in, places_
 ghost use Rattle.reg_file.specs.Steps.{StopsInText, StopsAs};
 
 use crate::fault::{FileFault, Stop};
-use crate::fields::{id_of, op_kind_of, own_of, pair_of, refused, text_of};
+use crate::fields::{heading_of, id_of, pair_of, refused, text_of};
 use crate::place::Place;
 use reg_op::{Op, OpBody, OpId, SameEntry};
 use reg_state::{Register, Seen};
@@ -57,7 +57,7 @@ fn enter_of<'a>(
     bytes: &'a [u8],
 ) -> Result<(OpBody, &'a [u8]), Stop>
     ensures ok { IfOk result (λ x. body_at 1 bytes.now ≡ Ok (x.0, x.1.now)) }
-    ensures err { IfErr result (StopsAs (λ b. b) (length bytes.now) (body_at 1 bytes.now)) }
+    ensures err { IfErr result (StopsAs (length bytes.now) (body_at 1 bytes.now)) }
 {
     let (text, rest) = match text_of(bytes) {
         Ok(read) => read,
@@ -71,7 +71,7 @@ fn enter_of<'a>(
 
 fn supersede_of(bytes: &[u8]) -> Result<(OpBody, &[u8]), Stop>
     ensures ok { IfOk result (λ x. body_at 2 bytes.now ≡ Ok (x.0, x.1.now)) }
-    ensures err { IfErr result (StopsAs (λ b. b) (length bytes.now) (body_at 2 bytes.now)) }
+    ensures err { IfErr result (StopsAs (length bytes.now) (body_at 2 bytes.now)) }
 {
     let (pair, rest) = match pair_of(bytes) {
         Ok(read) => read,
@@ -83,7 +83,7 @@ fn supersede_of(bytes: &[u8]) -> Result<(OpBody, &[u8]), Stop>
 
 fn retire_of(bytes: &[u8]) -> Result<(OpBody, &[u8]), Stop>
     ensures ok { IfOk result (λ x. body_at 3 bytes.now ≡ Ok (x.0, x.1.now)) }
-    ensures err { IfErr result (StopsAs (λ b. b) (length bytes.now) (body_at 3 bytes.now)) }
+    ensures err { IfErr result (StopsAs (length bytes.now) (body_at 3 bytes.now)) }
 {
     let (entry, rest) = match id_of(bytes) {
         Ok(read) => read,
@@ -100,7 +100,7 @@ fn body_of<'a>(
 ) -> Result<(OpBody, &'a [u8]), Stop>
     requires { (1 ≤ kind) × (kind ≤ 3) }
     ensures ok { IfOk result (λ x. body_at kind bytes.now ≡ Ok (x.0, x.1.now)) }
-    ensures err { IfErr result (StopsAs (λ b. b) (length bytes.now) (body_at kind bytes.now)) }
+    ensures err { IfErr result (StopsAs (length bytes.now) (body_at kind bytes.now)) }
 {
     if kind == 1 {
         return enter_of(alloc, known, bytes);
@@ -126,14 +126,11 @@ fn op_of<'a>(
     ensures ok { IfOk result (λ x. (operation seen.now last).Reads bytes.now x.0 x.1.now) }
     ensures err { IfErr result (StopsIn (operation seen.now last) bytes.now) }
 {
-    let (id, rest) = match own_of(last, seen, bytes) {
+    let (heading, rest) = match heading_of(last, seen, bytes) {
         Ok(read) => read,
         Err(stop) => return Err(stop),
     };
-    let (kind, rest) = match op_kind_of(rest) {
-        Ok(read) => read,
-        Err(stop) => return Err(stop),
-    };
+    let (id, kind) = heading;
     let (body, rest) = match body_of(alloc, entered_in(known, id), kind, rest) {
         Ok(read) => read,
         Err(stop) => return Err(stop),

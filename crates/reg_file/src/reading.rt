@@ -1,88 +1,29 @@
-//! Whole files, read from slices and sources.
+//! Files of registers, read from slices and sources.
 
-ghost use Rattle.std.specs.Prelude.{◌≡◌, ◌⊎◌, true, Ok, Err, IfOk, IfErr};
-ghost use Rattle.reg_op.specs.Set as set;
-ghost use Rattle.reg_op.specs.Operations.{Op as Operation};
-ghost use Rattle.reg_op.specs.Lists.{has, ById};
+ghost use Rattle.std.specs.Prelude.{◌≡◌, ◌⊎◌, Ok, Err, IfOk, IfErr};
 ghost use Rattle.reg_op.specs.Contents.{Content};
 ghost use Rattle.reg_file.specs.Readers.{StopsIn};
 ghost use Rattle.reg_file.specs.Reading.{register};
-ghost use Rattle.reg_file.specs.Steps.{ReadsContent, EndsWell, IsStopOf, StopsAtEnd};
+ghost use Rattle.reg_file.specs.Steps.{ReadsContent};
 ghost use Rattle.reg_file.specs.Files.{Finds, Holds, IsReadFault, IsReadFromFault};
 
-use crate::fault::{FileFault, ReadFileFault, Stop};
-use crate::fields::{head_of, number_of, refused};
-use crate::operations::{left_of, ops_of};
-use crate::place::Place;
-use crate::ranges::seen_of;
+use crate::contents::kept_of;
+use crate::fault::{ReadFileFault, Stop};
+use crate::fields::head_of;
+use crate::heads::{MOST, REGISTER, VERSION};
 use byte_io::{InFault, Source, read_up_to};
-use reg_op::Op;
-use reg_state::{ContentFault, Register, Seen};
+use reg_state::{Register, Seen};
 use std::alloc::Global;
-
-/// The most bytes of a file.
-pub const MOST: usize = 67_108_864;
-
-/// The version that is read and written.
-pub const VERSION: u8 = 1;
-
-/// The kind of a register's file.
-pub const REGISTER: u8 = 1;
-
-fn stop_of(fault: ContentFault, places: &[Place]) -> Stop
-    ensures { IsStopOf fault places.now result }
-{
-    match fault {
-        ContentFault::NotKept(id) => refused(FileFault::NotKept, left_of(places, id)),
-        ContentFault::Memory => Stop::Memory,
-    }
-}
-
-// What is left when all operations are read: each is kept, and nothing follows.
-fn register_of(
-    alloc: Global,
-    ops: Vec<Op>,
-    seen: Seen,
-    places: &[Place],
-    rest: &[u8],
-) -> Result<Register, Stop>
-    requires by_id { ById ops.items }
-    requires are_seen { (o : Operation) → has ops.items o ≡ true → set.contains seen o.id ≡ true }
-    ensures ok { IfOk result (λ r. EndsWell ops.items seen rest.now r) }
-    ensures err { IfErr result (StopsAtEnd ops.items places.now rest.now) }
-{
-    let register = match Register::from_content(alloc, ops, seen) {
-        Ok(register) => register,
-        Err(fault) => return Err(stop_of(fault, places)),
-    };
-    if !rest.is_empty() {
-        return Err(refused(FileFault::Trailing, rest.len()));
-    }
-    let _kept = register.ops();
-    Ok(register)
-}
 
 fn read_all(alloc: Global, known: &[Register], bytes: &[u8]) -> Result<Register, Stop>
     ensures ok { IfOk result (λ r. ReadsContent bytes.now r) }
-    ensures err { IfErr result (StopsIn register bytes.now) }
+    ensures err { IfErr result (StopsIn (register 1) bytes.now) }
 {
     let (_, rest) = match head_of(VERSION, REGISTER, bytes) {
         Ok(read) => read,
         Err(stop) => return Err(stop),
     };
-    let (seen, rest) = match seen_of(alloc, rest) {
-        Ok(read) => read,
-        Err(stop) => return Err(stop),
-    };
-    let (count, rest) = match number_of(rest) {
-        Ok(read) => read,
-        Err(stop) => return Err(stop),
-    };
-    let (ops, places, rest) = match ops_of(alloc, known, &seen, count, rest) {
-        Ok(read) => read,
-        Err(stop) => return Err(stop),
-    };
-    match register_of(alloc, ops, seen, &places, rest) {
+    match kept_of(alloc, known, &Seen::new(alloc), rest) {
         Ok(register) => Ok(register),
         Err(stop) => Err(stop),
     }
@@ -102,7 +43,7 @@ pub fn read_bytes(alloc: Global, bytes: &[u8]) -> Result<Register, ReadFileFault
 
 /// The same, where some registers are known: a definition that an operation of the same id entered there is taken over
 /// where its text is the same, and not read again.
-fn read_bytes_beside(
+pub fn read_bytes_beside(
     alloc: Global,
     known: &[Register],
     bytes: &[u8],

@@ -1,12 +1,12 @@
-//! Whole files, written to vectors and sinks.
+//! Files of registers, written to vectors and sinks.
 
 ghost use Rattle.std.specs.Prelude.{◌≡◌, ◌≤◌, ◌<◌, ◌^◌, ◌↔◌, ◌⊎◌, length, Err, OnOk, IfOk, IfErr};
 ghost use Rattle.reg_file.specs.Layout.{file};
 ghost use Rattle.reg_file.specs.Files.{Holds, IsTooLarge, IsWriteFault, Writes};
 
 use crate::fault::WriteFileFault;
-use crate::length::length_of;
-use crate::reading::{REGISTER, VERSION};
+use crate::heads::{REGISTER, VERSION};
+use crate::length::length_of_register;
 use crate::spelling::{put_head, put_ops, put_ranges};
 use byte_io::{Sink, write_all};
 use reg_op::Op;
@@ -34,7 +34,7 @@ pub fn write_bytes(alloc: Global, register: &Register) -> Result<Vec<u8>, WriteF
 {
     let ops = register.ops().as_slice();
     let runs = register.seen().runs();
-    let Some(size) = length_of(ops, runs) else {
+    let Some(size) = length_of_register(ops, runs) else {
         return Err(WriteFileFault::TooLarge);
     };
     match spell(alloc, ops, runs, size) {

@@ -1,7 +1,7 @@
 -- What the laws give of the join of a list.
 use Rattle.std.proofs.Common.{ℕ, get_or, drop, length, ◌<◌, ◌≡◌, zero, suc, List, [], ◌∷◌, Result, Ok, Err, refl, sym, ap, ◌∙◌, inl, inr, ◌⊎◌, arith}
 use Rattle.std.specs.Prelude.{Contains}
-use Rattle.reg_join.specs.Joining.{JoinLaws, all_joined, AllAgree, SameMembers}
+use Rattle.reg_join.specs.Joining.{JoinLaws, joined_with, joined_both, all_joined, AllAgree, SameMembers}
 
 -- an element of a list is its head or in its tail
 contains_cases : {T : Type 0} (x : T) (xs : List T) (y : T) → Contains (x ∷ xs) y → (x ≡ y) ⊎ Contains xs y
@@ -82,8 +82,30 @@ module _ {T C : Type 0} {nothing : T} {joined : T → T → Result T C} {merged 
   pub one : (x : T) → is_value x → all_joined joined (Ok nothing) (x ∷ []) ≡ Ok x
   one x is = laws.neutral x is
 
+  pub joined_three : (x y z : T) → agree x y → agree x z → agree y z → joined_both joined (joined x y) (Ok z) ≡ Ok (merged (merged x y) z)
+  joined_three x y z a b c = ap (λ r. joined_both joined r (Ok z)) (laws.agreed x y a) ∙ laws.agreed (merged x y) z (laws.agree_merged x y z a b c)
+
+  pub associative : (x y z : T) → agree x y → agree x z → agree y z → joined_both joined (joined x y) (Ok z) ≡ joined_both joined (Ok x) (joined y z)
+  associative x y z a b c =
+      let last : agree x (merged y z) = laws.agree_comm _ _ (laws.agree_merged y z x c (laws.agree_comm x y a) (laws.agree_comm x z b)) in
+      joined_three x y z a b c
+      ∙ ap Ok (laws.merged_assoc x y z)
+      ∙ sym (ap (joined_both joined (Ok x)) (laws.agreed y z c) ∙ laws.agreed x (merged y z) last)
+
 -- refused at a place of the list
 pub refused_at : {T C : Type 0} (joined : T → T → Result T C) (a x : T) (c : C) (xs : List T) (i : ℕ) → x ≡ get_or xs i x → i < length xs → joined a x ≡ Err c → all_joined joined (Ok a) (drop i xs) ≡ Err c
 refused_at joined a x c [] i e h r = absurd (omega arith)
 refused_at joined a x c (y ∷ ys) zero e h r = ap (λ w. all_joined joined (joined a w) ys) (sym e) ∙ ap (λ w. all_joined joined w ys) r ∙ all_refused joined c ys
 refused_at joined a x c (y ∷ ys) (suc i) e h r = refused_at joined a x c ys i e (omega arith) r
+
+-- refused at the first, or at the second
+pub refused_first : {T C : Type 0} (joined : T → T → Result T C) (a x : T) (c : C) (xs rest : List T) → xs ≡ x ∷ rest → length rest ≡ 0 → joined a x ≡ Err c → all_joined joined (Ok a) xs ≡ Err c
+refused_first joined a x c xs [] e n r = ap (all_joined joined (Ok a)) e ∙ r
+refused_first joined a x c xs (y ∷ ys) e n r = absurd (omega arith)
+
+pub refused_second : {T C : Type 0} (joined : T → T → Result T C) (a x y : T) (c : C) (xs rest others : List T) → xs ≡ x ∷ rest → rest ≡ y ∷ others → joined a x ≡ Ok x → joined x y ≡ Err c → all_joined joined (Ok a) xs ≡ Err c
+refused_second joined a x y c xs rest others e f first r =
+    ap (all_joined joined (Ok a)) (e ∙ ap (λ l. x ∷ l) f)
+    ∙ ap (λ w. all_joined joined (joined_with joined w y) others) first
+    ∙ ap (λ w. all_joined joined w others) r
+    ∙ all_refused joined c others

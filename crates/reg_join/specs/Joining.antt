@@ -23,6 +23,12 @@ abbrev pub joined_with : {T C : Type 0} → (T → T → Result T C) → Result 
 joined_with joined (Ok x) y = joined x y
 joined_with joined (Err c) y = Err c
 
+-- two joined, of which one may be a refusal already
+abbrev pub joined_both : {T C : Type 0} → (T → T → Result T C) → Result T C → Result T C → Result T C
+joined_both joined (Ok x) (Ok y) = joined x y
+joined_both joined (Ok x) (Err c) = Err c
+joined_both joined (Err c) r = Err c
+
 -- all joined, from the left: the refusal of the first step that has one
 abbrev pub all_joined : {T C : Type 0} → (T → T → Result T C) → Result T C → List T → Result T C
 all_joined joined r [] = r

@@ -2,7 +2,7 @@
 #![tactic(auto)]
 
 ghost use Rattle.std.specs.Prelude.{◌≡◌, ◌↔◌, List, [], ◌∷◌, Ok, Err, Result, IfOk};
-ghost use Rattle.reg_join.specs.Joining.{JoinLaws, all_joined, AllAgree, SameMembers};
+ghost use Rattle.reg_join.specs.Joining.{JoinLaws, joined_both, all_joined, AllAgree, SameMembers};
 
 use std::alloc::{AllocError, Global};
 
@@ -39,18 +39,34 @@ pub trait Join: Sized + Drop {
     /// A clash is looked for before anything is allocated.
     fn join(&self, alloc: Global, other: &Self) -> Result<Self, JoinFault<Self::Clash>>
         ensures ok { IfOk result (λ r. joined self.now other.now ≡ Ok r) }
-        ensures clash { (c : Self.Clash) → (result ≡ Err (JoinFault.Clash c)) ↔ (joined self.now other.now ≡ Err c) };
+        ensures clash { (c : Self.Clash) → (result ≡ Err (JoinFault.Clash c)) ↔ (joined self.now other.now ≡ Err c) }
+        ensures values { is_value self.now × is_value other.now };
 
     /// What each `impl` proves.
     ghost laws: { JoinLaws nothing joined merged agree is_value };
 }
 
-/// Joins all, from the left, starting with nothing.
+/// Joins all, from the left, starting with nothing. Two or more are joined without a copy of the first.
 pub fn join_all<T: Join>(alloc: Global, xs: &[T]) -> Result<T, JoinFault<T::Clash>>
     ensures ok { IfOk result (λ r. all_joined T.joined (Ok T.nothing) xs.now ≡ Ok r) }
     ensures clash { (c : T.Clash) → result ≡ Err (JoinFault.Clash c) → all_joined T.joined (Ok T.nothing) xs.now ≡ Err c }
 {
-    let mut all = T::empty(alloc);
+    let Some((first, rest)) = xs.split_first() else {
+        return Ok(T::empty(alloc));
+    };
+    let Some((second, others)) = rest.split_first() else {
+        return T::empty(alloc).join(alloc, first);
+    };
+    let both = first.join(alloc, second)?;
+    join_more(alloc, both, others)
+}
+
+// Joins more, from the left.
+fn join_more<T: Join>(alloc: Global, first: T, xs: &[T]) -> Result<T, JoinFault<T::Clash>>
+    ensures ok { IfOk result (λ r. all_joined T.joined (Ok first) xs.now ≡ Ok r) }
+    ensures clash { (c : T.Clash) → result ≡ Err (JoinFault.Clash c) → all_joined T.joined (Ok first) xs.now ≡ Err c }
+{
+    let mut all = first;
     for x in xs {
         all = all.join(alloc, x)?;
     }
@@ -63,4 +79,10 @@ pub fn order_is_free<T: Join>()
     ensures agreement { (xs : List T) → AllAgree T.agree xs → (r : T) × (all_joined T.joined (Ok T.nothing) xs ≡ Ok r) }
     ensures order { (xs ys : List T) → AllAgree T.agree xs → SameMembers xs ys → all_joined T.joined (Ok T.nothing) xs ≡ all_joined T.joined (Ok T.nothing) ys }
     ensures one { (x : T) → T.is_value x → all_joined T.joined (Ok T.nothing) (x ∷ []) ≡ Ok x }
+{}
+
+/// The join of three that agree, each with each, is one, whichever two are joined first.
+pub fn join_is_associative<T: Join>()
+    ensures associative { (x y z : T) → T.agree x y → T.agree x z → T.agree y z → joined_both T.joined (T.joined x y) (Ok z) ≡ joined_both T.joined (Ok x) (T.joined y z) }
+    ensures joined { (x y z : T) → T.agree x y → T.agree x z → T.agree y z → joined_both T.joined (T.joined x y) (Ok z) ≡ Ok (T.merged (T.merged x y) z) }
 {}

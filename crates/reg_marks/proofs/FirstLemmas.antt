@@ -18,11 +18,11 @@ use Rattle.reg_marks.specs.Marks.{target_cmp, mark_cmp, is_at, has, MarkSet, les
 use Rattle.reg_marks.specs.MarkLaws.{target_total, mark_total, mark_exact, at_exact, lessens_irreflexive, lessens_chain}
 use Rattle.reg_marks.proofs.OrderLemmas.{IsBy, by_target, same_mark, lesser_target}
 
-abbrev AllBy : Mark → List Mark → Type 0
+abbrev pub AllBy : Mark → List Mark → Type 0
 AllBy x [] = Unit {0}
 AllBy x (y ∷ ys) = IsBy x y × AllBy x ys
 
-abbrev Up : List Mark → Type 0
+abbrev pub Up : List Mark → Type 0
 Up [] = Unit {0}
 Up (x ∷ xs) = AllBy x xs × Up xs
 
@@ -34,7 +34,7 @@ up_of (x ∷ xs) far = (all xs (λ j d h. far 0 (suc j) d (omega arith) (omega a
     all [] h = tt
     all (y ∷ ys) h = (h 0 y (omega arith), all ys (λ j d k. h (suc j) d (omega arith)))
 
-sorted_up : (xs : List Mark) → IsSorted mark_cmp xs → Up xs
+pub sorted_up : (xs : List Mark) → IsSorted mark_cmp xs → Up xs
 sorted_up xs h = up_of xs (sorted_far (λ m n. is_lt (mark_cmp m n)) (ranks_by mark_total (λ m. m)) xs h)
 
 all_by : (x : Mark) (xs : List Mark) (q : Mark) → AllBy x xs → has xs q ≡ true → IsBy x q
@@ -173,6 +173,10 @@ same_members xs ys h = same_set mark_total mark_exact _ _ (λ q.
     ∙ sym (list_any-IsPermutation (eq_by_cmp mark_cmp q) xs ys h)
     ∙ sym (contains-from_list mark_total xs q))
 
+-- lists that have the same marks have the same set
+pub same_has : (xs ys : List Mark) → ((q : Mark) → has xs q ≡ has ys q) → set.from_list {R = mark_cmp} xs ≡ set.from_list {R = mark_cmp} ys
+same_has xs ys h = same_set mark_total mark_exact _ _ (λ q. contains-from_list mark_total xs q ∙ h q ∙ sym (contains-from_list mark_total ys q))
+
 -- two lists together have the union
 pub set-append : (xs ys : List Mark) → set.from_list {R = mark_cmp} (xs ++ ys) ≡ set.union (set.from_list xs) (set.from_list ys)
 set-append xs ys = same_set mark_total mark_exact _ _ (λ q.
@@ -206,7 +210,7 @@ up_far (x ∷ xs) up i zero d a b = absurd (omega arith)
 up_far (x ∷ xs) up zero (suc j) d a b = all_at x xs up.0 j d (omega arith)
 up_far (x ∷ xs) up (suc i) (suc j) d a b = up_far xs up.1 i j d (omega arith) (omega arith)
 
-up_sorted : (xs : List Mark) → Up xs → IsSorted mark_cmp xs
+pub up_sorted : (xs : List Mark) → Up xs → IsSorted mark_cmp xs
 up_sorted xs up k d a b = up_far xs up k (k + 1) d (omega arith) b
 
 pub firsts_sorted : (xs : List Mark) → IsSorted mark_cmp xs → IsSorted mark_cmp (firsts None xs)

@@ -2,7 +2,7 @@
 
 ghost use Rattle.std.specs.Prelude.{◌≡◌};
 ghost use Rattle.std.specs.Ordering.{is_lt};
-ghost use Rattle.reg_marks.specs.Marks.{is_at, target_cmp};
+ghost use Rattle.reg_marks.specs.Marks.{is_at, mark_cmp, target_cmp};
 
 use reg_op::OpId;
 
@@ -30,4 +30,10 @@ pub(crate) fn is_below(mark: &Mark, target: &Target) -> bool
     ensures { result ≡ is_lt (target_cmp mark.now.target target.now) }
 {
     mark.target.cmp(target).is_lt()
+}
+
+pub(crate) fn comes_first(first: &Mark, second: &Mark) -> bool
+    ensures { result ≡ is_lt (mark_cmp first.now second.now) }
+{
+    first.cmp(second).is_lt()
 }

@@ -10,7 +10,7 @@ ghost use Rattle.reg_op.specs.Lists.{passes};
 ghost use Rattle.reg_marks.specs.Marks.{mark_cmp, firsts, has, is_at, least, was_at, AreLeast, BeginsAt};
 ghost use Rattle.reg_marks.specs.MarkLaws.{joined_marks, merged_marks, AlwaysAgree, marks_laws};
 
-use crate::mark::{Mark, Target, is_at, is_below};
+use crate::mark::{Mark, Target, comes_first, is_at, is_below};
 use reg_join::{Join, JoinFault};
 use reg_op::OpId;
 use std::alloc::{AllocError, Global};
@@ -164,12 +164,40 @@ impl Join for Marks {
     ghost laws = { marks_laws };
 }
 
-// The least marks of two lists.
+// The least marks of two sorted lists.
 fn both_of(alloc: Global, left: &[Mark], right: &[Mark]) -> Result<Vec<Mark>, AllocError>
+    requires left { IsSorted mark_cmp left.now }
+    requires right { IsSorted mark_cmp right.now }
     ensures sorted { IfOk result (λ made. IsSorted mark_cmp made.items) }
     ensures least { IfOk result (λ made. set.from_list {R = mark_cmp} made.items ≡ least (set.from_list (left.now ++ right.now))) }
 {
-    let mut all = Vec::from_slice(alloc, left)?;
-    all.extend_from_slice(right)?;
-    least_of(alloc, all)
+    let merged = merged_of(alloc, left, right)?;
+    firsts_of(alloc, &merged)
+}
+
+// Two sorted lists as one, by a walk along both.
+fn merged_of(alloc: Global, left: &[Mark], right: &[Mark]) -> Result<Vec<Mark>, AllocError>
+    requires left { IsSorted mark_cmp left.now }
+    requires right { IsSorted mark_cmp right.now }
+    ensures sorted { IfOk result (λ made. IsSorted mark_cmp made.items) }
+    ensures covered { IfOk result (λ made. (m : Mark) → has made.items m ≡ has (left.now ++ right.now) m) }
+{
+    let mut made = Vec::new(alloc);
+    let mut lefts = left;
+    let mut rights = right;
+    while let (Some((a, left_rest)), Some((b, right_rest))) = (
+        lefts.split_first(),
+        rights.split_first(),
+    ) {
+        if comes_first(b, a) {
+            made.push(*b)?;
+            rights = right_rest;
+        } else {
+            made.push(*a)?;
+            lefts = left_rest;
+        }
+    }
+    made.extend_from_slice(lefts)?;
+    made.extend_from_slice(rights)?;
+    Ok(made)
 }

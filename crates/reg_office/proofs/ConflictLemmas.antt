@@ -62,7 +62,7 @@ before_of a b h n =
 pub none_in : {X : Type 0} (x : X) → Contains [] x → ⊥
 none_in x h = absurd (omega (arith, h.1))
 
-in_cons : {X : Type 0} (x y : X) (ys : List X) → Contains (y ∷ ys) x → (x ≡ y) ⊎ Contains ys x
+pub in_cons : {X : Type 0} (x y : X) (ys : List X) → Contains (y ∷ ys) x → (x ≡ y) ⊎ Contains ys x
 in_cons x y ys (zero, lt, e) = inl (sym e)
 in_cons x y ys (suc k, lt, e) = inr (k, omega arith, e)
 

@@ -13,7 +13,14 @@ pub mod RepeatLemmas
 pub mod NewLemmas
 pub mod OneLemmas
 pub mod WorldCommands
+pub mod WorldInvariant
+pub mod WorldComes
 pub mod WorldLemmas
 pub mod WorldFollows
 pub mod WorldGaps
 pub mod WorldReports
+pub mod WorldSteps
+pub mod WorldMade
+pub mod EntryLemmas
+pub mod WorldSame
+pub mod PooledLemmas

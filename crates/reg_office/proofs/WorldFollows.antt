@@ -1,7 +1,7 @@
 -- What follows in every world.
 use Rattle.std.proofs.Common.{◌≡◌, ℕ, Bool, true, false, cond, List, [], ◌∷◌, map, length, Option, Some, None, Ok, refl, sym, ap, ◌∙◌, subst, inl, inr, ◌⊎◌}
-use Rattle.std.proofs.lemmas.Bool.{cases_lt, true≢false}
-use Rattle.std.specs.List.{find, slice_get}
+use Rattle.std.proofs.lemmas.Bool.{true≢false}
+use Rattle.std.specs.List.{slice_get}
 use Rattle.reg_op.specs.Set as set
 use Rattle.reg_op.specs.Set.{contains, union, contains-empty}
 use Rattle.reg_op.specs.Ids.{Id, is_same}
@@ -18,13 +18,15 @@ use Rattle.reg_op.proofs.ContentLemmas.{joined_comm, state_is_content, OneBody-w
 use Rattle.reg_op.proofs.StatusLemmas.{status-kept}
 use Rattle.reg_op.proofs.JoinLemmas.{joined_ok}
 use Rattle.reg_state.specs.ManyLaws.{all_of}
-use Rattle.reg_file.specs.Layout.{file}
-use Rattle.reg_file.specs.Files.{most, Holds, IsFileOf}
+use Rattle.reg_file.specs.Files.{IsFileOf}
 use Rattle.reg_file.proofs.HoldLemmas.{one_content, one_file}
-use Rattle.reg_file.proofs.MadeRuns.{runs_of_ids}
 use Rattle.reg_office.specs.Making.{made}
-use Rattle.reg_office.specs.World.{Sent, World, Event, Make, Send, Take, TakeOne, Restart, IsEvent, Outcome, Unchanged, Clashes, Sends, Gains, joins, takes_one, Reads, ComesOf, put, After, IsTooMuch, Happens, Leads}
-use Rattle.reg_office.proofs.WorldLemmas.{IsWithin, sent_at, Invariant, IsGood, new_id, comes_good, leads_keeps}
+use Rattle.reg_office.specs.Pooled.{Pooled, OfRegister, HoldsAny, ops_in, TellsOf}
+use Rattle.reg_office.specs.World.{Sent, World, Event, Make, Send, SendSeen, SendPiece, Take, TakeOne, Restart, IsEvent, Outcome, Unchanged, Clashes, Sends, Writes, Gains, takes, takes_one, sends_piece, picked, Reads, ComesOf, put, pooled, After, IsTooMuch, Happens, Leads}
+use Rattle.reg_office.proofs.PooledLemmas.{one_pooled, one_pooled_file, has_file}
+use Rattle.reg_office.proofs.WorldInvariant.{IsWithin, sent_at, Invariant, IsGood}
+use Rattle.reg_office.proofs.WorldComes.{new_id, comes_good}
+use Rattle.reg_office.proofs.WorldLemmas.{leads_keeps}
 
 pub same_files : (w : World) → Invariant w → (i j : List ℕ) → (w.offices i).reached ≡ (w.offices j).reached → ((w.offices i).content ≡ (w.offices j).content) × ((w.offices i).last ≡ (w.offices j).last)
 same_files w inv i j e = (
@@ -32,8 +34,8 @@ same_files w inv i j e = (
   one_file (state (w.offices j).reached) (w.offices i).last (w.offices j).last (subst (λ s. IsFileOf (state s) (w.offices i).last) e (inv.last i).bytes_are) (inv.last j).bytes_are,
 )
 
-pub reads : (w : World) (inv : Invariant w) (place : ℕ) (sent : Sent) → slice_get w.pool place ≡ Some sent → Holds sent.bytes (state sent.reached)
-reads w inv place sent at = (sent_at inv.all w.pool place sent inv.pool at).holds
+pub reads : (w : World) (inv : Invariant w) (place : ℕ) (sent : Sent) → slice_get w.pool place ≡ Some sent → (what : Pooled) × HoldsAny sent.bytes what × TellsOf sent.reached what
+reads w inv place sent at = let is = sent_at inv.all w.pool place sent inv.pool at in (is.what, is.holds, is.tells)
 
 all_within : (w : World) (inv : Invariant w) (is : List (List ℕ)) → IsWithin (all_of (map (λ i. (w.offices i).reached) is)) inv.all
 all_within w inv [] o h = absurd (true≢false (sym h ∙ contains-empty op_cmp o))
@@ -50,49 +52,56 @@ never_clashes w inv e id is h = comes_good w inv e is (Clashes id) h
 
 -- ---- each event has an outcome, and one world after it
 
-reads_some : (next : Content → Ops → Outcome) (o : Option Sent) → ((s : Sent) → o ≡ Some s → Holds s.bytes (state s.reached)) → (out : Outcome) × Reads next o out
+reads_some : (next : Pooled → Ops → Outcome) (o : Option Sent) → ((s : Sent) → o ≡ Some s → (what : Pooled) × HoldsAny s.bytes what × TellsOf s.reached what) → (out : Outcome) × Reads next o out
 reads_some next None at = (Unchanged, refl)
-reads_some next (Some s) at = (next (state s.reached) s.reached, (state s.reached, at s refl, refl))
+reads_some next (Some s) at = let r = at s refl in (next r.0 s.reached, (r.0, r.1, refl))
 
 outcome : (w : World) → Invariant w → (e : Event) → (out : Outcome) × ComesOf w e out
 outcome w inv (Make i effects) = (_, refl)
 outcome w inv (Send i) = (_, refl)
-outcome w inv (Take i place) = reads_some (joins w i) (slice_get w.pool place) (reads w inv place)
-outcome w inv (TakeOne i place id) = reads_some (λ x reached. takes_one w i (find (λ (o : Op). is_same o.id id) (set.items x.ops))) (slice_get w.pool place) (reads w inv place)
+outcome w inv (SendSeen i) = (_, refl)
+outcome w inv (SendPiece i place) = reads_some (λ what reached. sends_piece w i what) (slice_get w.pool place) (reads w inv place)
+outcome w inv (Take i place) = reads_some (takes w i) (slice_get w.pool place) (reads w inv place)
+outcome w inv (TakeOne i place id) = reads_some (λ what reached. takes_one w i (picked id (ops_in what))) (slice_get w.pool place) (reads w inv place)
 outcome w inv (Restart i) = (_, (state (w.offices i).reached, inv.last i, refl))
 
+-- what can stand in a file comes into a world, or its file is too large
 follows : (w : World) (inv : Invariant w) (out : Outcome) → IsGood w inv out → ((v : World) × After w out v) ⊎ IsTooMuch out
 follows w inv Unchanged good = inl (w, refl)
 follows w inv (Clashes id) good = absurd good
 follows w inv (Sends sent) good = inl (_, refl)
+follows w inv (Writes what reached) good = elim (has_file what good.sound) [
+  | inl f ↦ inl (_, (f.0, f.1, refl))
+  | inr large ↦ inr large
+]
 follows w inv (Gains i x reached) good =
     let content : IsContent x = subst IsContent (sym good.is_state) (state_is_content reached (λ o h. good.operations o (good.within o h)) (OneBody-within _ _ good.within good.one_body)) in
-    let r = runs_of_ids x.seen content.are_ids in
-    let bytes : List ℕ = file (set.items x.ops) r.0 in
-    let is : IsFileOf x bytes = record { runs = r.0; are_runs = r.1; all = r.2; whole = refl } in
-    elim (cases_lt most (length bytes)) [
-      | inl h ↦ inr (bytes, is, h)
-      | inr h ↦ inl (_, (bytes, record { content = content; bytes_are = is; short = h }, refl))
+    elim (has_file (OfRegister x) content) [
+      | inl f ↦ inl (_, (f.0, f.1, refl))
+      | inr large ↦ inr large
     ]
 
 pub goes_on : (w : World) → Invariant w → (e : Event) → IsEvent e → (out : Outcome) × ComesOf w e out × (((v : World) × After w out v) ⊎ IsTooMuch out)
 goes_on w inv e is = let r = outcome w inv e in (r.0, r.1, follows w inv r.0 (comes_good w inv e is r.0 r.1))
 
-reads_one : (next : Content → Ops → Outcome) (o : Option Sent) (out other : Outcome) → Reads next o out → Reads next o other → out ≡ other
+reads_one : (next : Pooled → Ops → Outcome) (o : Option Sent) (out other : Outcome) → Reads next o out → Reads next o other → out ≡ other
 reads_one next None out other h k = h ∙ sym k
-reads_one next (Some s) out other h k = h.2 ∙ ap (λ x. next x s.reached) (one_content s.bytes h.0 k.0 h.1 k.1) ∙ sym k.2
+reads_one next (Some s) out other h k = h.2 ∙ ap (λ what. next what s.reached) (one_pooled s.bytes h.0 k.0 h.1 k.1) ∙ sym k.2
 
 one_outcome : (w : World) (e : Event) (out other : Outcome) → ComesOf w e out → ComesOf w e other → out ≡ other
 one_outcome w (Make i effects) out other h k = h ∙ sym k
 one_outcome w (Send i) out other h k = h ∙ sym k
-one_outcome w (Take i place) out other h k = reads_one (joins w i) (slice_get w.pool place) out other h k
-one_outcome w (TakeOne i place id) out other h k = reads_one (λ x reached. takes_one w i (find (λ (o : Op). is_same o.id id) (set.items x.ops))) (slice_get w.pool place) out other h k
+one_outcome w (SendSeen i) out other h k = h ∙ sym k
+one_outcome w (SendPiece i place) out other h k = reads_one (λ what reached. sends_piece w i what) (slice_get w.pool place) out other h k
+one_outcome w (Take i place) out other h k = reads_one (takes w i) (slice_get w.pool place) out other h k
+one_outcome w (TakeOne i place id) out other h k = reads_one (λ what reached. takes_one w i (picked id (ops_in what))) (slice_get w.pool place) out other h k
 one_outcome w (Restart i) out other h k = h.2 ∙ ap (λ x. Gains i x (w.offices i).reached) (one_content (w.offices i).last h.0 k.0 h.1 k.1) ∙ sym k.2
 
 one_after : (w : World) (out : Outcome) (u v : World) → After w out u → After w out v → u ≡ v
 one_after w Unchanged u v h k = h ∙ sym k
 one_after w (Clashes id) u v h k = h ∙ sym k
 one_after w (Sends sent) u v h k = h ∙ sym k
+one_after w (Writes what reached) u v h k = h.2 ∙ ap (λ bytes. pooled w (record { bytes = bytes; reached = reached })) (one_pooled_file what h.0 k.0 h.1 k.1) ∙ sym k.2
 one_after w (Gains i x reached) u v h k = h.2 ∙ ap (λ last. put w i (record { content = x; last = last; reached = reached })) (one_file x h.0 k.0 h.1.bytes_are k.1.bytes_are) ∙ sym k.2
 
 pub one_world : (w u v : World) (e : Event) → Happens w e u → Happens w e v → u ≡ v

@@ -37,7 +37,7 @@ one_key text key other h k =
 
 -- ---- lines
 
-one_line : (r : Row) (fields others : List (List ℕ)) → IsEntryLine r fields → IsEntryLine r others → fields ≡ others
+pub one_line : (r : Row) (fields others : List (List ℕ)) → IsEntryLine r fields → IsEntryLine r others → fields ≡ others
 one_line r fields others h k =
     let key = one_key r.definition h.key k.key h.keyed k.keyed in
     let crs : h.crs ≡ k.crs = one_value r.definition h.crs k.crs h.spelled.1 k.spelled.1 in
@@ -45,7 +45,7 @@ one_line r fields others h k =
     ∙ (λ j. printed r.entry ∷ key.authority j ∷ key.code j ∷ (name_of (crs j).parts).bytes ∷ status_word r.status ∷ spaced r.newer ∷ [])
     ∙ sym k.are
 
-same_lines : {T : Type 0} (R : T → List (List ℕ) → Type 0) → ((x : T) (fields others : List (List ℕ)) → R x fields → R x others → fields ≡ others)
+pub same_lines : {T : Type 0} (R : T → List (List ℕ) → Type 0) → ((x : T) (fields others : List (List ℕ)) → R x fields → R x others → fields ≡ others)
     → (xs : List T) (text other : List ℕ) → AreLines R xs text → AreLines R xs other → text ≡ other
 same_lines R one [] text other h k = h ∙ sym k
 same_lines R one (x ∷ xs) text other h k =

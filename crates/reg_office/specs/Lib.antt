@@ -10,4 +10,7 @@ pub mod Gaps
 pub mod Lines
 pub mod Reports
 pub mod Between
+pub mod Pooled
 pub mod World
+pub mod Reached
+pub mod Exports

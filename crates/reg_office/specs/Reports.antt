@@ -21,9 +21,13 @@ IsReport Conflicts x text = (cs : List Contested) × AreConflicts (rows x.ops) c
 IsReport Awaited x text = text ≡ sheet_of awaited_header awaited_fields (set.items (awaited x.ops))
 IsReport Gaps x text = (gaps : List Gap) × AreGaps x.seen gaps × (text ≡ sheet_of gaps_header gap_fields gaps)
 
--- the line of one entry alone, after the header
+-- the rows of one entry
+abbrev pub rows_of : Id → Content → List Row
+rows_of entry x = filter (λ (r : Row). is_same entry r.entry) (rows x.ops)
+
+-- the lines of one entry alone, after the header
 abbrev pub IsEntryReport : Id → Content → List ℕ → Type 0
-IsEntryReport entry x text = IsSheet entries_header IsEntryLine (filter (λ (r : Row). is_same entry r.entry) (rows x.ops)) text
+IsEntryReport entry x text = IsSheet entries_header IsEntryLine (rows_of entry x) text
 
 abbrev pub IsOpsReport : Content → List ℕ → Type 0
 IsOpsReport x text = text ≡ sheet_of ops_header op_fields (set.items x.ops)

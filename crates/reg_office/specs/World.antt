@@ -9,10 +9,12 @@ use Rattle.reg_op.specs.declared.operation.OpBody.{OpBody as Body}
 use Rattle.reg_op.specs.declared.operation.OpBody.TheVariants.{Enter, Supersede, Retire}
 use Rattle.reg_op.specs.Contents.{Content, state, nothing, joined}
 use Rattle.reg_seen.specs.Runs.{replica_cmp}
+use Rattle.reg_op.specs.Pieces.{Piece, piece_for, PieceRefusal, Basis, Clash, joined_piece}
 use Rattle.reg_file.specs.Layout.{file}
 use Rattle.reg_file.specs.Files.{Holds, IsTooLarge}
 use Rattle.reg_office.specs.declared.fault.OfficeFault.{OfficeFault}
 use Rattle.reg_office.specs.Making.{made}
+use Rattle.reg_office.specs.Pooled.{Pooled, OfRegister, OfSeen, OfPiece, HoldsAny, IsAnyTooLarge, ops_in}
 
 -- an office: its register's content, its last file, and the operations that it made and was sent, which no code keeps
 pub record Office : Type 0 where
@@ -34,11 +36,14 @@ pub record World : Type 0 where
 abbrev pub start : World
 start = record { offices = λ i. record { content = nothing; last = file [] []; reached = set.empty }; pool = [] }
 
--- an office makes the operations of one command; sends its last file; takes a file from a place of the pool; takes the
--- operation of one id in such a file; begins again from its last file
+-- an office makes the operations of one command; sends its last file; sends a summary of what it has seen; sends the piece
+-- of its register for a summary at a place of the pool; takes a file from a place of the pool; takes the operation of one id
+-- in such a file; begins again from its last file
 pub data Event : Type 0 where
   Make : (office : List ℕ) (effects : List Body) → Event
   Send : (office : List ℕ) → Event
+  SendSeen : (office : List ℕ) → Event
+  SendPiece : (office : List ℕ) (place : ℕ) → Event
   Take : (office : List ℕ) (place : ℕ) → Event
   TakeOne : (office : List ℕ) (place : ℕ) (id : Id) → Event
   Restart : (office : List ℕ) → Event
@@ -55,11 +60,13 @@ IsEvent e = Unit {0}
 
 -- ---- what comes of an event
 
--- nothing, as of what is refused; a clash; a file that is sent; or an office's content, and what it has reached
+-- nothing, as of what is refused; a clash; a file that is sent; a file that is made and sent, by one who has reached this;
+-- or an office's content, and what it has reached
 pub data Outcome : Type 0 where
   Unchanged : Outcome
   Clashes : (id : Id) → Outcome
   Sends : (sent : Sent) → Outcome
+  Writes : (what : Pooled) (reached : Ops) → Outcome
   Gains : (office : List ℕ) (content : Content) (reached : Ops) → Outcome
 
 abbrev pub gained : List ℕ → Ops → Result Content Id → Outcome
@@ -78,16 +85,40 @@ abbrev pub takes_one : World → List ℕ → Option Op → Outcome
 takes_one w i (Some o) = joins w i (state (one o)) (one o)
 takes_one w i None = Unchanged
 
--- the file is read as a content, and this comes of it
-abbrev pub Reads : (Content → Ops → Outcome) → Option Sent → Outcome → Type 0
+-- an office joins a piece, or has not seen the basis
+abbrev pub gained_by_piece : List ℕ → Ops → Result Content PieceRefusal → Outcome
+gained_by_piece i reached (Ok x) = Gains i x reached
+gained_by_piece i reached (Err (Basis id)) = Unchanged
+gained_by_piece i reached (Err (Clash id)) = Clashes id
+
+-- a summary is nothing to join
+abbrev pub takes : World → List ℕ → Pooled → Ops → Outcome
+takes w i (OfRegister x) more = joins w i x more
+takes w i (OfSeen seen) more = Unchanged
+takes w i (OfPiece piece) more = gained_by_piece i (set.union (w.offices i).reached more) (joined_piece (w.offices i).content piece)
+
+-- a piece is made for a summary alone
+abbrev pub sends_piece : World → List ℕ → Pooled → Outcome
+sends_piece w i (OfRegister x) = Unchanged
+sends_piece w i (OfSeen seen) = Writes (OfPiece (piece_for (w.offices i).content seen)) (w.offices i).reached
+sends_piece w i (OfPiece piece) = Unchanged
+
+-- the file is read, and this comes of it
+abbrev pub Reads : (Pooled → Ops → Outcome) → Option Sent → Outcome → Type 0
 Reads next None out = out ≡ Unchanged
-Reads next (Some sent) out = (x : Content) × Holds sent.bytes x × (out ≡ next x sent.reached)
+Reads next (Some sent) out = (what : Pooled) × HoldsAny sent.bytes what × (out ≡ next what sent.reached)
+
+-- the operation of the id
+abbrev pub picked : Id → Ops → Option Op
+picked id s = find (λ o. is_same o.id id) (set.items s)
 
 abbrev pub ComesOf : World → Event → Outcome → Type 0
 ComesOf w (Make i effects) out = out ≡ makes w i (made (w.offices i).content i effects)
 ComesOf w (Send i) out = out ≡ Sends (record { bytes = (w.offices i).last; reached = (w.offices i).reached })
-ComesOf w (Take i place) out = Reads (joins w i) (slice_get w.pool place) out
-ComesOf w (TakeOne i place id) out = Reads (λ x reached. takes_one w i (find (λ o. is_same o.id id) (set.items x.ops))) (slice_get w.pool place) out
+ComesOf w (SendSeen i) out = out ≡ Writes (OfSeen (w.offices i).content.seen) (w.offices i).reached
+ComesOf w (SendPiece i place) out = Reads (λ what reached. sends_piece w i what) (slice_get w.pool place) out
+ComesOf w (Take i place) out = Reads (takes w i) (slice_get w.pool place) out
+ComesOf w (TakeOne i place id) out = Reads (λ what reached. takes_one w i (picked id (ops_in what))) (slice_get w.pool place) out
 ComesOf w (Restart i) out = (x : Content) × Holds (w.offices i).last x × (out ≡ Gains i x (w.offices i).reached)
 
 -- ---- the world after it
@@ -96,16 +127,22 @@ ComesOf w (Restart i) out = (x : Content) × Holds (w.offices i).last x × (out 
 abbrev pub put : World → List ℕ → Office → World
 put w i office = record { offices = λ j. if is_eq (replica_cmp j i) then office else w.offices j; pool = w.pool }
 
+-- a file has come into the pool, and nothing else has changed
+abbrev pub pooled : World → Sent → World
+pooled w sent = record { offices = w.offices; pool = sent ∷ w.pool }
+
 -- the last file of an office holds its content: no world comes after a content whose file is too large
 abbrev pub After : World → Outcome → World → Type 0
 After w Unchanged v = v ≡ w
 After w (Clashes id) v = v ≡ w
-After w (Sends sent) v = v ≡ record { offices = w.offices; pool = sent ∷ w.pool }
+After w (Sends sent) v = v ≡ pooled w sent
+After w (Writes what reached) v = (bytes : List ℕ) × HoldsAny bytes what × (v ≡ pooled w (record { bytes = bytes; reached = reached }))
 After w (Gains i x reached) v = (last : List ℕ) × Holds last x × (v ≡ put w i (record { content = x; last = last; reached = reached }))
 
--- an office would have a content whose file is too large
+-- an office would have a content whose file is too large, or send such a file
 abbrev pub IsTooMuch : Outcome → Type 0
 IsTooMuch (Gains i x reached) = IsTooLarge x
+IsTooMuch (Writes what reached) = IsAnyTooLarge what
 IsTooMuch out = ⊥
 
 abbrev pub Happens : World → Event → World → Type 0

@@ -1,26 +1,37 @@
 //! The laws of what commands make, of reports, and of every world. A call does nothing: its contract is the law.
 
-ghost use Rattle.std.specs.Prelude.{◌≡◌, ◌≢◌, ◌↔◌, ◌⊎◌, ◌+◌, ◌<◌, ℕ, List, [], ◌∷◌, map, length, slice_get, true, false, None, Some, Ok, Err};
+ghost use Rattle.std.specs.Prelude.{◌≡◌, ◌≢◌, ◌↔◌, ◌⊎◌, ◌+◌, ◌++◌, ◌<◌, ℕ, List, [], ◌∷◌, Contains, map, length, slice_get, true, false, None, Some, Ok, Err};
+ghost use Rattle.csv.specs.Writing.{row_text, default_writer};
+ghost use Rattle.crs_value.specs.declared.crs.Crs.{Crs};
+ghost use Rattle.wkt_crs.specs.Definition.{IsCrsOf};
 ghost use Rattle.reg_op.specs.Set as set;
 ghost use Rattle.reg_op.specs.Ids.{Id, Ids};
 ghost use Rattle.reg_op.specs.Lists.{has, ById};
-ghost use Rattle.reg_op.specs.Operations.{Op, Ops, op_cmp, OneBody, kept};
-ghost use Rattle.reg_op.specs.Rows.{rows};
+ghost use Rattle.reg_op.specs.Operations.{Op, Ops, op_cmp, one, ids, OneBody, kept};
+ghost use Rattle.reg_op.specs.Kept.{entering};
+ghost use Rattle.reg_op.specs.Rows.{Row, rows};
 ghost use Rattle.reg_op.specs.declared.operation.OpBody.{OpBody as Body};
 ghost use Rattle.reg_op.specs.declared.operation.OpBody.TheVariants.{Enter};
 ghost use Rattle.reg_op.specs.Contents.{Content, state, merged, joined, IsContent};
 ghost use Rattle.reg_op.specs.declared.status.Status.TheVariants.{Retired};
-ghost use Rattle.reg_op.specs.Status.{status};
+ghost use Rattle.reg_op.specs.Status.{enters, status};
 ghost use Rattle.reg_seen.specs.Runs.{ids_from, IsGreatest};
 ghost use Rattle.reg_state.specs.ManyLaws.{all_of};
-ghost use Rattle.reg_file.specs.Files.{Holds};
+ghost use Rattle.reg_file.specs.Files.{Holds, HoldsSeen, HoldsPiece};
+ghost use Rattle.reg_office.specs.declared.fault.OfficeFault.{OfficeFault};
 ghost use Rattle.reg_office.specs.declared.fault.OfficeFault.TheVariants as fault;
 ghost use Rattle.reg_office.specs.Commands.{retirements, supersessions};
 ghost use Rattle.reg_office.specs.Conflicts.{Contested, AreConflicts};
+ghost use Rattle.reg_office.specs.Exports.{export};
+ghost use Rattle.reg_office.specs.Lines.{entries_header, IsEntryLine};
 ghost use Rattle.reg_office.specs.Making.{greatest, numbered, objections, made};
+ghost use Rattle.reg_office.specs.declared.writing.ReportKind.{ReportKind};
 ghost use Rattle.reg_office.specs.declared.writing.ReportKind.TheVariants.{Entries, Conflicts, Awaited, Gaps};
-ghost use Rattle.reg_office.specs.Reports.{IsReport, IsOpsReport};
-ghost use Rattle.reg_office.specs.World.{World, Event, Sent, Outcome, Clashes, IsEvent, IsTooMuch, IsWorld, ComesOf, After, Happens, Leads};
+ghost use Rattle.reg_office.specs.Reports.{IsReport, IsOpsReport, rows_of, IsEntryReport};
+ghost use Rattle.reg_op.specs.Pieces.{Piece, piece_for, IsHeld};
+ghost use Rattle.reg_office.specs.Pooled.{Pooled, HoldsAny, ops_in, TellsOf};
+ghost use Rattle.reg_office.specs.Reached.{Reaches, WasMade};
+ghost use Rattle.reg_office.specs.World.{World, start, Event, Make, Send, SendSeen, SendPiece, Take, TakeOne, Restart, Sent, Outcome, Clashes, IsEvent, IsTooMuch, IsWorld, ComesOf, After, pooled, Happens, Leads};
 
 /// New operations have the effects of the command in their order, numbered on without a hole from the greatest own
 /// count seen. None of their ids was seen before, and so they join the content without a clash.
@@ -66,6 +77,22 @@ pub fn one_report()
     ensures operations { (x : Content) (text other : List ℕ) → IsOpsReport x text → IsOpsReport x other → text ≡ other }
 {}
 
+/// An entry has one row and so one line, any other id has none, and the report of one entry is one text.
+pub fn one_line()
+    ensures row { (x : Content) (entry : Id) → IsContent x → enters x.ops entry ≡ true → (r : Row) × (rows_of entry x ≡ r ∷ []) × (r.entry ≡ entry) }
+    ensures no_row { (x : Content) (entry : Id) → enters x.ops entry ≡ false → rows_of entry x ≡ [] }
+    ensures line { (x : Content) (entry : Id) (r : Row) (text : List ℕ) → rows_of entry x ≡ r ∷ [] → IsEntryReport entry x text
+        → (fields : List (List ℕ)) × IsEntryLine r fields × (text ≡ row_text default_writer entries_header ++ row_text default_writer fields) }
+    ensures report { (x : Content) (entry : Id) (text other : List ℕ) → IsEntryReport entry x text → IsEntryReport entry x other → text ≡ other }
+{}
+
+/// The text of each row, which an export gives out where the entry is not retired, is the one that was entered. It is
+/// the canonical text of a value, and spells that value.
+pub fn texts_are_read()
+    ensures entered { (x : Content) (r : Row) → Contains (rows x.ops) r → set.contains x.ops (entering r.entry r.definition) ≡ true }
+    ensures spelled { (x : Content) (r : Row) → IsContent x → Contains (rows x.ops) r → (crs : Crs) × IsCrsOf crs r.definition }
+{}
+
 /// What holds in every world: any number of offices, each with a UUID of its own, after any list of events. Files are
 /// lost, late, repeated and out of order; offices restart from their last files.
 pub fn every_world()
@@ -73,11 +100,59 @@ pub fn every_world()
     ensures content { (w : World) → IsWorld w → (i : List ℕ) → (w.offices i).content ≡ state (w.offices i).reached }
     // Its last file is the file of that.
     ensures last { (w : World) → IsWorld w → (i : List ℕ) → Holds (w.offices i).last (state (w.offices i).reached) }
-    // Each file that was sent reads as what its sender had reached.
-    ensures pool { (w : World) → IsWorld w → (place : ℕ) (sent : Sent) → slice_get w.pool place ≡ Some sent → Holds sent.bytes (state sent.reached) }
+    // Each file that was sent holds what its sender had reached, or the ids of that, or a piece of it.
+    ensures pool { (w : World) → IsWorld w → (place : ℕ) (sent : Sent) → slice_get w.pool place ≡ Some sent
+        → (what : Pooled) × HoldsAny sent.bytes what × TellsOf sent.reached what }
     // Offices that reached the same have the same content, and the same file, byte for byte.
     ensures same { (w : World) → IsWorld w → (i j : List ℕ) → (w.offices i).reached ≡ (w.offices j).reached
         → ((w.offices i).content ≡ (w.offices j).content) × ((w.offices i).last ≡ (w.offices j).last) }
+    // Reports and exports of theirs are the same too.
+    ensures same_reports { (w : World) → IsWorld w → (i j : List ℕ) → (w.offices i).reached ≡ (w.offices j).reached → (kind : ReportKind) (text other : List ℕ)
+        → IsReport kind (w.offices i).content text → IsReport kind (w.offices j).content other → text ≡ other }
+    ensures same_ops_reports { (w : World) → IsWorld w → (i j : List ℕ) → (w.offices i).reached ≡ (w.offices j).reached → (text other : List ℕ)
+        → IsOpsReport (w.offices i).content text → IsOpsReport (w.offices j).content other → text ≡ other }
+    ensures same_exports { (w : World) → IsWorld w → (i j : List ℕ) → (w.offices i).reached ≡ (w.offices j).reached
+        → export (w.offices i).content.ops ≡ export (w.offices j).content.ops }
+    // What an office makes, it has reached; a command that is refused changes nothing.
+    ensures made_is_reached { (w v : World) → IsWorld w → (i : List ℕ) (effects : List Body) (os : List Op) → made (w.offices i).content i effects ≡ Ok os
+        → Happens w (Make i effects) v → Reaches w i (set.from_list os) v }
+    ensures refused_makes_nothing { (w v : World) (i : List ℕ) (effects : List Body) (f : OfficeFault) → made (w.offices i).content i effects ≡ Err f
+        → Happens w (Make i effects) v → v ≡ w }
+    // Its last file comes into the pool, and stays there.
+    ensures sent_is_pooled { (w v : World) (i : List ℕ) → Happens w (Send i) v
+        → v ≡ pooled w (record { bytes = (w.offices i).last; reached = (w.offices i).reached }) }
+    ensures pool_stays { (w v : World) (later : List Event) → Leads w later v → (newer : List Sent) × (v.pool ≡ newer ++ w.pool) }
+    // So does a summary of what it has seen, and the piece that it makes for a summary; it makes none for another file.
+    ensures seen_is_pooled { (w v : World) → IsWorld w → (i : List ℕ) → Happens w (SendSeen i) v
+        → (bytes : List ℕ) × HoldsSeen bytes (ids (w.offices i).reached) × (v ≡ pooled w (record { bytes = bytes; reached = (w.offices i).reached })) }
+    ensures piece_is_pooled { (w v : World) → IsWorld w → (i : List ℕ) (place : ℕ) (sent : Sent) (seen : Ids) → slice_get w.pool place ≡ Some sent
+        → HoldsSeen sent.bytes seen → Happens w (SendPiece i place) v
+        → (bytes : List ℕ) × HoldsPiece bytes (piece_for (state (w.offices i).reached) seen) × (v ≡ pooled w (record { bytes = bytes; reached = (w.offices i).reached })) }
+    ensures no_piece_is_pooled { (w v : World) → IsWorld w → (i : List ℕ) (place : ℕ) (sent : Sent) → slice_get w.pool place ≡ Some sent
+        → ((seen : Ids) → ¬ (HoldsSeen sent.bytes seen)) → Happens w (SendPiece i place) v → v ≡ w }
+    // Of a register's file that it takes, it has reached all that the sender had.
+    ensures taken_is_reached { (w v : World) → IsWorld w → (i : List ℕ) (place : ℕ) (sent : Sent) (x : Content) → slice_get w.pool place ≡ Some sent
+        → Holds sent.bytes x → Happens w (Take i place) v → Reaches w i sent.reached v }
+    // So it has of a piece whose basis it has reached; another piece, and a summary, change nothing.
+    ensures piece_is_reached { (w v : World) → IsWorld w → (i : List ℕ) (place : ℕ) (sent : Sent) (piece : Piece) → slice_get w.pool place ≡ Some sent
+        → HoldsPiece sent.bytes piece → IsHeld piece.basis (ids (w.offices i).reached) → Happens w (Take i place) v → Reaches w i sent.reached v }
+    ensures piece_is_refused { (w v : World) → IsWorld w → (i : List ℕ) (place : ℕ) (sent : Sent) (piece : Piece) → slice_get w.pool place ≡ Some sent
+        → HoldsPiece sent.bytes piece → ¬ (IsHeld piece.basis (ids (w.offices i).reached)) → Happens w (Take i place) v → v ≡ w }
+    ensures summary_is_refused { (w v : World) → IsWorld w → (i : List ℕ) (place : ℕ) (sent : Sent) (seen : Ids) → slice_get w.pool place ≡ Some sent
+        → HoldsSeen sent.bytes seen → Happens w (Take i place) v → v ≡ w }
+    // Or the one operation that it takes, where it is in the file, and else nothing.
+    ensures one_is_reached { (w v : World) → IsWorld w → (i : List ℕ) (place : ℕ) (id : Id) (sent : Sent) (what : Pooled) (o : Op) → slice_get w.pool place ≡ Some sent
+        → HoldsAny sent.bytes what → set.contains (ops_in what) o ≡ true → o.id ≡ id → Happens w (TakeOne i place id) v → Reaches w i (one o) v }
+    ensures none_is_reached { (w v : World) → IsWorld w → (i : List ℕ) (place : ℕ) (id : Id) (sent : Sent) (what : Pooled) → slice_get w.pool place ≡ Some sent
+        → HoldsAny sent.bytes what → ((o : Op) → set.contains (ops_in what) o ≡ true → o.id ≢ id) → Happens w (TakeOne i place id) v → v ≡ w }
+    // Where no file was sent, there is nothing to take, and nothing to answer.
+    ensures nothing_to_take { (w v : World) (i : List ℕ) (place : ℕ) → slice_get w.pool place ≡ None → Happens w (Take i place) v → v ≡ w }
+    ensures nothing_to_find { (w v : World) (i : List ℕ) (place : ℕ) (id : Id) → slice_get w.pool place ≡ None → Happens w (TakeOne i place id) v → v ≡ w }
+    ensures nothing_to_answer { (w v : World) (i : List ℕ) (place : ℕ) → slice_get w.pool place ≡ None → Happens w (SendPiece i place) v → v ≡ w }
+    // An office that begins again has what it had.
+    ensures restart_keeps { (w v : World) → IsWorld w → (i : List ℕ) → Happens w (Restart i) v → v ≡ w }
+    // All that any office reached was made on the way.
+    ensures was_made { (w : World) (events : List Event) → Leads start events w → (i : List ℕ) (o : Op) → set.contains (w.offices i).reached o ≡ true → WasMade start events o }
     // All that any offices reached has one body an id.
     ensures one_body { (w : World) → IsWorld w → (offices : List (List ℕ)) → OneBody (all_of (map (λ i. (w.offices i).reached) offices)) }
     // What an office makes has ids that nobody has reached, and that differ from one another.

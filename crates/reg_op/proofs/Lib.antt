@@ -10,3 +10,6 @@ pub mod KeptLemmas
 pub mod ClashLemmas
 pub mod JoinLemmas
 pub mod PointLemmas
+pub mod PieceLemmas
+pub mod RefusalLemmas
+pub mod DroppedLemmas

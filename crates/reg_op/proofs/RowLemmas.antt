@@ -1,5 +1,5 @@
 -- Rows and what is awaited, over what is kept.
-use Rattle.std.proofs.Common.{◌≡◌, Bool, true, false, not, ◌&&◌, ◌||◌, cond, List, [], ◌∷◌, ◌++◌, refl, sym, ap, ◌∙◌}
+use Rattle.std.proofs.Common.{◌≡◌, ℕ, Bool, true, false, not, ◌&&◌, ◌||◌, cond, List, [], ◌∷◌, ◌++◌, refl, sym, ap, ◌∙◌, subst, ◌↔◌}
 use Rattle.std.proofs.lemmas.Bool.{true≢false}
 use Rattle.std.proofs.lemmas.List.Folds.{list_any-append}
 use Rattle.std.specs.List.{list_any, flat_map, filter}
@@ -9,7 +9,7 @@ use Rattle.reg_op.specs.Ids.{Id, id_cmp, is_same}
 use Rattle.reg_op.specs.Operations.{Body, Enter, Supersede, Retire, named_in, Op, Ops, replaces_body, replaces, kept}
 use Rattle.reg_op.specs.Finite.{any}
 use Rattle.reg_op.specs.Status.{retires, is_supersession, is_replaced_by}
-use Rattle.reg_op.specs.Rows.{newer_in, newer_of, rows_at, rows, awaited}
+use Rattle.reg_op.specs.Rows.{Row, newer_in, newer_of, rows_at, rows, IsInConflict, awaited}
 use Rattle.reg_op.proofs.FiniteLemmas.{member_from_any}
 use Rattle.reg_op.proofs.OpLemmas.{id_total, id_exact, op_total, op_exact}
 use Rattle.reg_op.proofs.ContentLemmas.{kept-kept}
@@ -76,6 +76,12 @@ rows-kept s =
     not_false : (b : Bool) → not b ≡ false → b ≡ true
     not_false true h = refl
     not_false false h = absurd (true≢false h)
+
+pub conflicts-kept : {Key : Type 0} (HasKey : List ℕ → Key → Type 0) (s : Ops) (key : Key) → IsInConflict HasKey (rows (kept s)) key ↔ IsInConflict HasKey (rows s) key
+conflicts-kept HasKey s key = (
+  subst (λ (rs : List Row). IsInConflict HasKey rs key) (rows-kept s),
+  subst (λ (rs : List Row). IsInConflict HasKey rs key) (sym (rows-kept s)),
+)
 
 pub awaited-kept : (s : Ops) → awaited (kept s) ≡ awaited s
 awaited-kept s = λ k. set.retain (set.from_list (flat_map (λ (o : Op). named_in o.body) (items (kept-kept s k)))) (λ i. not (enters-kept s i k))

@@ -1,10 +1,11 @@
--- Operations and contents as data: what a model's value needs.
+-- Operations, contents and pieces as data: what a model's value needs.
 use Rattle.std.specs.Prelude.{◌≡◌, ℕ, List, [], ◌∷◌, refl, zero, suc}
 use Rattle.reg_op.specs.Set as set
 use Rattle.std.specs.Coded.{Coded, code_by, coded×, coded_ℕ, coded_list}
 use Rattle.reg_op.specs.Ids.{Id, Ids, id_code}
 use Rattle.reg_op.specs.Operations.{Body, Enter, Supersede, Retire, kind_of, text_of, named_in, Op, Ops}
 use Rattle.reg_op.specs.Contents.{Content}
+use Rattle.reg_op.specs.Pieces.{Piece}
 
 abbrev pub first_of : List Id → Id
 first_of [] = record { replica = []; count = 0 }
@@ -37,3 +38,8 @@ op_code =
 abbrev pub content_code : Coded Content
 content_code =
     code_by (Ops × Ids) (coded× (set.code op_code) (set.code id_code)) (λ x. (x.ops, x.seen)) (λ p. record { ops = p.0; seen = p.1 }) (λ _. refl)
+
+abbrev pub piece_code : Coded Piece
+piece_code =
+    code_by (Ops × (Ids × Ids)) (coded× (set.code op_code) (coded× (set.code id_code) (set.code id_code)))
+    (λ p. (p.ops, (p.basis, p.seen))) (λ t. record { ops = t.0; basis = t.1.0; seen = t.1.1 }) (λ _. refl)

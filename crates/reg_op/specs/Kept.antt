@@ -1,8 +1,9 @@
--- Which operations are kept, and which id clashes: the least.
-use Rattle.std.specs.Prelude.{◌≡◌, ℕ, true, false, List}
+-- Which operations are kept, which are dropped, and which id clashes: the least.
+use Rattle.std.specs.Prelude.{◌≡◌, ℕ, true, false, List, Option, find, option_map}
 use Rattle.reg_op.specs.Set as set
+use Rattle.reg_op.specs.Finite.{any}
 use Rattle.reg_op.specs.Ids.{Id, is_before}
-use Rattle.reg_op.specs.Operations.{Op, Enter, Supersede, Retire, Ops, clashes}
+use Rattle.reg_op.specs.Operations.{Op, Enter, Supersede, Retire, Ops, replaces, kept, clashes}
 use Rattle.reg_op.specs.Status.{retires}
 
 abbrev pub entering : Id → List ℕ → Op
@@ -34,3 +35,15 @@ pub record IsLeastClash (s : Ops) (i : Id) : Type 0 where
   pub at : one.id ≡ i
   pub differ : clashes other one ≡ true
   pub least : (p o : Op) → set.contains s p ≡ true → set.contains s o ≡ true → clashes p o ≡ true → is_before o.id i ≡ false
+
+-- the least id that kept drops. A set's items ascend by id
+abbrev pub first_dropped : Ops → Option Id
+first_dropped s = option_map (λ o. o.id) (find (λ o. any (λ p. replaces p o) s) (set.items s))
+
+-- the least id of an operation that is not kept
+pub record IsLeastDropped (s : Ops) (i : Id) : Type 0 where
+  pub one : Op
+  pub there : set.contains s one ≡ true
+  pub dropped : set.contains (kept s) one ≡ false
+  pub at : one.id ≡ i
+  pub least : (o : Op) → set.contains s o ≡ true → set.contains (kept s) o ≡ false → is_before o.id i ≡ false

@@ -5,6 +5,7 @@ pub mod Ids
 pub mod Kept
 pub mod Lists
 pub mod Operations
+pub mod Pieces
 pub mod Rows
 pub mod Set
 pub mod Status

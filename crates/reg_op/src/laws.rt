@@ -1,13 +1,14 @@
 //! The laws on sets of operations. A call does nothing: its contract is the law.
 
-ghost use Rattle.std.specs.Prelude.{◌≡◌, ◌↔◌, ℕ, List, true, Some, None, Ok};
+ghost use Rattle.std.specs.Prelude.{◌≡◌, ◌↔◌, ℕ, Bool, true, List, Some, None, Ok, Err};
 ghost use Rattle.reg_op.specs.Set as set;
-ghost use Rattle.reg_op.specs.Ids.{Id};
-ghost use Rattle.reg_op.specs.Operations.{Ops, OneBody, kept, first_clash};
+ghost use Rattle.reg_op.specs.Ids.{Id, IsId, Ids};
+ghost use Rattle.reg_op.specs.Operations.{Ops, OneBody, ids, kept, first_clash};
 ghost use Rattle.reg_op.specs.Contents.{Content, state, nothing, joined, joined_both, AreOperations, IsContent};
 ghost use Rattle.reg_op.specs.Status.{status, retires, is_replaced_by};
-ghost use Rattle.reg_op.specs.Rows.{rows, awaited};
-ghost use Rattle.reg_op.specs.Kept.{entering, superseding, retiring, IsLeastRetirement, IsLeastSupersession, IsLeastClash};
+ghost use Rattle.reg_op.specs.Rows.{rows, awaited, IsInConflict};
+ghost use Rattle.reg_op.specs.Kept.{entering, superseding, retiring, first_dropped, IsLeastRetirement, IsLeastSupersession, IsLeastClash, IsLeastDropped};
+ghost use Rattle.reg_op.specs.Pieces.{Piece, Basis, Clash, part_of, piece_for, IsPiece, IsHeld, first_missing, IsLeastMissing, joined_piece};
 
 /// What is kept of a union is what is kept of the parts, kept again.
 pub fn kept_of_union()
@@ -25,11 +26,14 @@ pub fn least_are_kept()
         (set.contains (kept s) (superseding i old newer) ≡ true) ↔ IsLeastSupersession s i old newer }
 {}
 
-/// Status, rows and what is awaited are over what is kept what they are over the whole set.
+/// Status, rows, keys in conflict and what is awaited are over what is kept what they are over the whole set. Any test may
+/// tell which keys a text has.
 pub fn status_of_kept()
     ensures status { (s : Ops) (e : Id) → status (kept s) e ≡ status s e }
     ensures replaced_by { (s : Ops) (e n : Id) → is_replaced_by (kept s) e n ≡ is_replaced_by s e n }
     ensures rows { (s : Ops) → rows (kept s) ≡ rows s }
+    ensures conflicts { (has : List ℕ → List ℕ → Bool) (s : Ops) (key : List ℕ) →
+        IsInConflict (λ text k. has text k ≡ true) (rows (kept s)) key ↔ IsInConflict (λ text k. has text k ≡ true) (rows s) key }
     ensures awaited { (s : Ops) → awaited (kept s) ≡ awaited s }
 {}
 
@@ -37,6 +41,12 @@ pub fn status_of_kept()
 pub fn clash_is_least()
     ensures least { (s : Ops) (i : Id) → (first_clash s ≡ Some i) ↔ IsLeastClash s i }
     ensures none { (s : Ops) → (first_clash s ≡ None) ↔ OneBody s }
+{}
+
+/// What kept drops first is the least that it drops. Where there is none, kept changes nothing.
+pub fn dropped_is_least()
+    ensures least { (s : Ops) (i : Id) → (first_dropped s ≡ Some i) ↔ IsLeastDropped s i }
+    ensures none { (s : Ops) → (first_dropped s ≡ None) ↔ (kept s ≡ s) }
 {}
 
 /// The join of contents commutes, clashes included. It is idempotent, the empty content is neutral, and it is
@@ -55,4 +65,32 @@ pub fn join_of_contents()
 pub fn join_of_states()
     ensures of_union { (s t : Ops) → OneBody (set.union s t) → joined (state s) (state t) ≡ Ok (state (set.union s t)) }
     ensures content { (s : Ops) → AreOperations s → OneBody s → IsContent (state s) }
+{}
+
+/// The piece of a content is a piece. The id of a basis that is missing first is the least; where there is none, the
+/// basis is held.
+pub fn pieces_are()
+    ensures piece { (x : Content) (basis : Ids) → IsContent x → ((i : Id) → set.contains basis i ≡ true → IsId i) →
+        IsPiece (piece_for x basis) }
+    ensures missing { (basis seen : Ids) (i : Id) → (first_missing basis seen ≡ Some i) ↔ IsLeastMissing basis seen i }
+    ensures held { (basis seen : Ids) → (first_missing basis seen ≡ None) ↔ IsHeld basis seen }
+{}
+
+/// A content is joined to a piece whose basis it holds as to a content. Another piece is refused with the least id of
+/// its basis that the content has not seen. What comes of a content is one.
+pub fn join_of_piece()
+    ensures ok { (x z : Content) (p : Piece) →
+        (joined_piece x p ≡ Ok z) ↔ (IsHeld p.basis x.seen × (joined x (part_of p) ≡ Ok z)) }
+    ensures basis { (x : Content) (p : Piece) (i : Id) →
+        (joined_piece x p ≡ Err (Basis i)) ↔ IsLeastMissing p.basis x.seen i }
+    ensures clash { (x : Content) (p : Piece) (i : Id) →
+        (joined_piece x p ≡ Err (Clash i)) ↔ (IsHeld p.basis x.seen × (joined x (part_of p) ≡ Err i)) }
+    ensures content { (x z : Content) (p : Piece) → IsContent x → IsPiece p → joined_piece x p ≡ Ok z → IsContent z }
+{}
+
+/// The piece of one who took a set of operations, joined to one who took another set and holds its basis, gives the
+/// content of the union.
+pub fn pieces_join()
+    ensures { (s t : Ops) (basis : Ids) → OneBody (set.union s t) → IsHeld basis (ids t) →
+        joined_piece (state t) (piece_for (state s) basis) ≡ Ok (state (set.union s t)) }
 {}

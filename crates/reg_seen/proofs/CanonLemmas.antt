@@ -4,11 +4,11 @@ use Rattle.std.proofs.lemmas.Bool.{true≢false, or_cases, or_left, false_from_n
 use Rattle.reg_op.specs.Set as set
 use Rattle.reg_op.specs.Ids.{Id}
 use Rattle.reg_seen.specs.declared.run.Run.{Run}
-use Rattle.reg_seen.specs.Runs.{IsBelow, id_at, is_in_run, is_in_runs, IsRun, IsApart, AreRuns, seen_of}
+use Rattle.reg_seen.specs.Runs.{IsBelow, id_at, is_in_run, is_in_runs, IsBeyond, IsRun, IsApart, AreRuns, seen_of}
 use Rattle.reg_seen.proofs.RunLemmas.{below_chain, not_below_itself, not_below_same, contains-seen_of}
 use Rattle.reg_seen.proofs.SearchLemmas.{IsWithin, within, in_run}
 
-run_has : (r : Run) (c : ℕ) → r.low ≤ c → c ≤ r.high → is_in_run (id_at r.replica c) r ≡ true
+pub run_has : (r : Run) (c : ℕ) → r.low ≤ c → c ≤ r.high → is_in_run (id_at r.replica c) r ≡ true
 run_has r c h k = in_run (id_at r.replica c) r (record { replica = refl; low = h; high = k })
 
 AreRuns-head : (r : Run) (rs : List Run) → AreRuns (r ∷ rs) → IsRun r
@@ -18,10 +18,6 @@ AreRuns-head r (s ∷ rs) h = h.0
 AreRuns-rest : (r : Run) (rs : List Run) → AreRuns (r ∷ rs) → AreRuns rs
 AreRuns-rest r [] h = tt
 AreRuns-rest r (s ∷ rs) h = h.2
-
--- an id is beyond a run
-abbrev IsBeyond : Run → Id → Type 0
-IsBeyond r i = IsBelow r.replica i.replica ⊎ ((r.replica ≡ i.replica) × (r.high + 1 < i.count))
 
 beyond_in : (r s : Run) (i : Id) → IsApart r s → IsWithin i s → IsBeyond r i
 beyond_in r s i (inl a) w = inl (subst (λ q. IsBelow r.replica q) (sym w.replica) a)
@@ -33,7 +29,7 @@ beyond_on r s i (inl a) is (inr b) = inl (subst (λ q. IsBelow r.replica q) b.0 
 beyond_on r s i (inr a) is (inl b) = inl (subst (λ q. IsBelow q i.replica) (sym a.0) b)
 beyond_on r s i (inr a) is (inr b) = inr (a.0 ∙ b.0, omega (arith, a.1, b.1, is.1))
 
-far_from : (r : Run) (rs : List Run) (i : Id) → AreRuns (r ∷ rs) → is_in_runs i rs ≡ true → IsBeyond r i
+pub far_from : (r : Run) (rs : List Run) (i : Id) → AreRuns (r ∷ rs) → is_in_runs i rs ≡ true → IsBeyond r i
 far_from r [] i h k = absurd (true≢false (sym k))
 far_from r (s ∷ ss) i h k = elim (or_cases (is_in_run i s) (is_in_runs i ss) k) [
   | inl e ↦ beyond_in r s i h.1 (within i s e)
@@ -41,10 +37,10 @@ far_from r (s ∷ ss) i h k = elim (or_cases (is_in_run i s) (is_in_runs i ss) k
 ]
 
 -- an id of some runs is no sooner than the first
-abbrev IsFrom : Run → Id → Type 0
+abbrev pub IsFrom : Run → Id → Type 0
 IsFrom s i = IsBelow s.replica i.replica ⊎ ((s.replica ≡ i.replica) × (s.low ≤ i.count))
 
-from_first : (s : Run) (ss : List Run) (i : Id) → AreRuns (s ∷ ss) → is_in_runs i (s ∷ ss) ≡ true → IsFrom s i
+pub from_first : (s : Run) (ss : List Run) (i : Id) → AreRuns (s ∷ ss) → is_in_runs i (s ∷ ss) ≡ true → IsFrom s i
 from_first s ss i h k = elim (or_cases (is_in_run i s) (is_in_runs i ss) k) [
   | inl e ↦ let w = within i s e in inr (sym w.replica, w.low)
   | inr e ↦ elim (far_from s ss i h e) [ inl a ↦ inl a | inr b ↦ let is = AreRuns-head s ss h in inr (b.0, omega (arith, b.1, is.1)) ]
@@ -82,7 +78,7 @@ ends r s rs ss h k e a b =
     lt_or_ge : (a b : ℕ) → (a < b) ⊎ (b ≤ a)
     lt_or_ge a b = grind arith
 
-apart_from : (r : Run) (rs : List Run) (i : Id) → AreRuns (r ∷ rs) → is_in_run i r ≡ true → is_in_runs i rs ≡ false
+pub apart_from : (r : Run) (rs : List Run) (i : Id) → AreRuns (r ∷ rs) → is_in_run i r ≡ true → is_in_runs i rs ≡ false
 apart_from r rs i h k = false_from_ne_true _ (λ e.
     let w = within i r k in
     elim (far_from r rs i h e) [ inl x ↦ not_below_same r.replica i.replica (sym w.replica) x | inr x ↦ omega (arith, x.1, w.high) ])

@@ -82,13 +82,13 @@ less_of Equal Equal h = absurd (true≢false (sym h))
 less_of Equal Greater h = absurd (true≢false (sym h))
 less_of Greater b h = absurd (true≢false (sym h))
 
-past_of : (i : Id) (r : Run) → ends i r ≡ true → IsPast r i
+pub past_of : (i : Id) (r : Run) → ends i r ≡ true → IsPast r i
 past_of i r h = elim (less_of (replica_cmp r.replica i.replica) (nat_cmp r.high i.count) h) [
   | inl a ↦ inl a
   | inr b ↦ inr (bytes_exact r.replica i.replica b.0, ranked r.high i.count Less (sym b.1))
 ]
 
-past_ends : (i : Id) (r : Run) → IsPast r i → ends i r ≡ true
+pub past_ends : (i : Id) (r : Run) → IsPast r i → ends i r ≡ true
 past_ends i r (inl a) = λ k. is_lt (ordering_then (a k) (nat_cmp r.high i.count))
 past_ends i r (inr b) =
     (λ k. is_lt (ordering_then (replica_cmp r.replica (sym b.0 k)) (nat_cmp r.high i.count)))

@@ -1,5 +1,5 @@
 -- Runs of ids, and the ids that they have.
-use Rattle.std.specs.Prelude.{◌≡◌, ℕ, ◌+◌, ◌-◌, ◌<◌, ◌≤◌, nat_le, Bool, true, not, ◌&&◌, ◌||◌, ◌⊎◌, List, [], ◌∷◌, ◌++◌, zero, suc, Option, slice_get}
+use Rattle.std.specs.Prelude.{◌≡◌, ℕ, ◌+◌, ◌-◌, ◌<◌, ◌≤◌, nat_le, Bool, true, not, ◌&&◌, ◌||◌, ◌⊎◌, List, [], ◌∷◌, ◌++◌, zero, suc, max, min, Option, slice_get}
 use Rattle.std.specs.List.{list_any}
 use Rattle.std.specs.declared.cmp.Ordering.{Ordering}
 use Rattle.std.specs.declared.cmp.Ordering.TheVariants.{Less}
@@ -21,6 +21,9 @@ is_replica_by a b = not (is_gt (replica_cmp a b))
 
 abbrev pub id_at : List ℕ → ℕ → Id
 id_at replica count = record { replica = replica; count = count }
+
+abbrev pub first_of : Run → Id
+first_of r = id_at r.replica r.low
 
 abbrev pub last_of : Run → Id
 last_of r = id_at r.replica r.high
@@ -48,9 +51,21 @@ is_in_run i r = is_eq (replica_cmp i.replica r.replica) && (nat_le r.low i.count
 abbrev pub is_in_runs : Id → List Run → Bool
 is_in_runs i rs = list_any (is_in_run i) rs
 
+-- runs have an id in common
+abbrev pub overlap : Run → Run → Bool
+overlap r s = is_eq (replica_cmp r.replica s.replica) && nat_le (max r.low s.low) (min r.high s.high)
+
+-- some id of the run is in the set
+abbrev pub meets : Ids → Run → Bool
+meets s r = list_any (set.contains s) (ids_of_run r)
+
 -- s begins after r, and does not touch it
 abbrev pub IsApart : Run → Run → Type 0
 IsApart r s = IsBelow r.replica s.replica ⊎ ((r.replica ≡ s.replica) × (r.high + 1 < s.low))
+
+-- an id comes after a run, and does not touch it
+abbrev pub IsBeyond : Run → Id → Type 0
+IsBeyond r i = IsBelow r.replica i.replica ⊎ ((r.replica ≡ i.replica) × (r.high + 1 < i.count))
 
 abbrev pub IsRun : Run → Type 0
 IsRun r = (1 ≤ r.low) × (r.low ≤ r.high)

@@ -1,6 +1,7 @@
 //! The ids that were seen, as runs of counts.
 #![tactic(auto)]
 
+mod outside;
 mod run;
 mod runs;
 mod seen;

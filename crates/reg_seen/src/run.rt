@@ -3,8 +3,9 @@
 ghost use Rattle.std.specs.Prelude.{◌≡◌, ◌&&◌};
 ghost use Rattle.std.specs.Ordering.{is_lt};
 ghost use Rattle.std.specs.Bool.{OnTrue, OnFalse};
-ghost use Rattle.reg_op.specs.Ids.{id_cmp};
-ghost use Rattle.reg_seen.specs.Runs.{is_in_run, last_of, BeginsBy, IsApart, is_replica_by};
+ghost use Rattle.reg_op.specs.Ids.{id_cmp, is_before};
+ghost use Rattle.reg_seen.specs.Runs.{is_in_run, first_of, last_of, overlap, BeginsBy, IsApart, is_replica_by};
+ghost use Rattle.reg_seen.specs.Walks.{from_count};
 
 use reg_op::OpId;
 use std::cmp::Ordering;
@@ -64,4 +65,33 @@ pub(crate) fn is_apart(first: &Run, second: &Run) -> bool
         Ordering::Equal => first.high < second.low && second.low - first.high > 1,
         Ordering::Greater => false,
     }
+}
+
+// Whether the first ends before the second begins.
+pub(crate) fn comes_before(first: &Run, second: &Run) -> bool
+    ensures { result ≡ is_before (last_of first.now) (first_of second.now) }
+{
+    match first.replica.cmp(&second.replica) {
+        Ordering::Less => true,
+        Ordering::Equal => first.high < second.low,
+        Ordering::Greater => false,
+    }
+}
+
+// The ids of a run from a count on.
+pub(crate) fn from_count(run: Run, count: u32) -> Run
+    ensures { result ≡ from_count count run }
+{
+    Run {
+        low: run.low.max(count),
+        ..run
+    }
+}
+
+// Whether the runs have an id in common.
+pub(crate) fn overlap(first: &Run, second: &Run) -> bool
+    ensures { result ≡ overlap first.now second.now }
+{
+    first.replica.cmp(&second.replica).is_eq()
+        && first.low.max(second.low) <= first.high.min(second.high)
 }

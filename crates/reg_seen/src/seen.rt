@@ -2,12 +2,15 @@
 
 ghost use Rattle.std.specs.Prelude.{◌≡◌, List, IfOk, OnOk, OnErr};
 ghost use Rattle.std.specs.Bool.{OnTrue, OnFalse};
+ghost use Rattle.std.specs.List.{list_any};
 ghost use Rattle.reg_op.specs.Set as set;
 ghost use Rattle.reg_op.specs.Ids.{Id, IsId};
-ghost use Rattle.reg_seen.specs.Runs.{is_in_runs, ids_of_run, last_of, seen_of, AreRuns, EndInIds, AllIds, AllUnder, IsAbove, IsGreatest, IsLastCount, IsRun, IsRunAt};
+ghost use Rattle.reg_op.specs.Pieces.{first_missing};
+ghost use Rattle.reg_seen.specs.Runs.{is_in_runs, ids_of_run, last_of, meets, overlap, seen_of, AreRuns, EndInIds, AllIds, AllUnder, IsAbove, IsGreatest, IsLastCount, IsRun, IsRunAt};
 ghost use Rattle.reg_seen.specs.SeenLaws.{united, Always, AlwaysAgree, seen_laws};
 
-use crate::run::{Run, ends_before, has_id, is_apart, is_of_or_before};
+use crate::outside::{first_id_outside, runs_outside};
+use crate::run::{Run, comes_before, ends_before, has_id, is_apart, is_of_or_before, overlap};
 use crate::runs::join_runs;
 use reg_join::{Join, JoinFault};
 use reg_op::OpId;
@@ -59,6 +62,28 @@ impl Seen {
         ensures { IsGreatest self.now replica result }
     {
         last_count(&self.runs, &replica)
+    }
+
+    /// Whether some id of the run was seen.
+    pub fn meets(&self, run: Run) -> bool
+        ensures { result ≡ meets self.now run }
+    {
+        is_met(&self.runs, &run)
+    }
+
+    /// The least of the ids that were seen and that the other has not seen.
+    pub fn first_outside(&self, other: &Seen) -> Option<OpId>
+        ensures { result ≡ first_missing self.now other.now }
+    {
+        first_id_outside(&self.runs, &other.runs)
+    }
+
+    /// The ids that were seen, and that the other has not seen.
+    pub fn outside(&self, alloc: Global, other: &Seen) -> Result<Seen, AllocError>
+        ensures { IfOk result (λ made. made ≡ set.difference self.now other.now) }
+    {
+        let runs = runs_outside(alloc, &self.runs, &other.runs)?;
+        Ok(Seen { runs })
     }
 
     /// The run at a place, from 0, of the runs made as long as possible, by replica and then by count.
@@ -136,6 +161,18 @@ fn is_covered(runs: &[Run], id: &OpId) -> bool
     let at = runs.partition_point(|run| ends_before(run, id));
     if at < runs.len() {
         return has_id(&runs[at], id);
+    }
+    false
+}
+
+// Of the runs that do not end before the run begins, the first alone can meet it, or none does.
+fn is_met(runs: &[Run], run: &Run) -> bool
+    requires { AreRuns runs.now }
+    ensures { result ≡ list_any (overlap run.now) runs.now }
+{
+    let at = runs.partition_point(|one| comes_before(one, run));
+    if at < runs.len() {
+        return overlap(run, &runs[at]);
     }
     false
 }

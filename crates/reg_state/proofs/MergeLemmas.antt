@@ -225,7 +225,7 @@ AllAfter-filter f i [] h = tt
 AllAfter-filter f i (x ∷ xs) h =
     elim (f x) as (λ b. AllAfter i (cond b (x ∷ filter f xs) (filter f xs))) [ true ↦ (h.0, AllAfter-filter f i xs h.1) | false ↦ AllAfter-filter f i xs h.1 ]
 
-ById-filter : (f : Op → Bool) (xs : List Op) → ById xs → ById (filter f xs)
+pub ById-filter : (f : Op → Bool) (xs : List Op) → ById xs → ById (filter f xs)
 ById-filter f [] h = tt
 ById-filter f (x ∷ xs) h =
     elim (f x) as (λ b. ById (cond b (x ∷ filter f xs) (filter f xs))) [ true ↦ (AllAfter-filter f x.id xs h.0, ById-filter f xs h.1) | false ↦ ById-filter f xs h.1 ]
@@ -244,7 +244,7 @@ and_or true false m = refl
 and_or false true m = refl
 and_or false false m = refl
 
-has-filter : (f : Op → Bool) (xs : List Op) (q : Op) → has (filter f xs) q ≡ (f q && has xs q)
+pub has-filter : (f : Op → Bool) (xs : List Op) (q : Op) → has (filter f xs) q ≡ (f q && has xs q)
 has-filter f [] q = sym (and_false (f q))
   where
     and_false : (b : Bool) → (b && false) ≡ false

@@ -30,7 +30,8 @@ use Rattle.reg_state.specs.Marks.{marks_of, marks_of_body, least_marks, op_of}
 use Rattle.reg_op.specs.Lists.{has, AllAfter, ById}
 use Rattle.reg_state.specs.Merge.{Agree, clash_in, is_marked_off, stays, first_off}
 use Rattle.reg_op.specs.Lists.{content_at}
-use Rattle.reg_state.specs.Tables.{AreTables, first_dropped}
+use Rattle.reg_op.specs.Kept.{first_dropped}
+use Rattle.reg_state.specs.Tables.{AreTables}
 use Rattle.reg_op.specs.declared.status.Status.{Status}
 use Rattle.reg_op.specs.declared.status.Status.TheVariants.{Retired, Superseded, Valid}
 use Rattle.reg_op.specs.Status.{enters, retires, supersedes, status, is_enter, is_retirement, is_supersession}
@@ -82,7 +83,7 @@ module _ (xs ys : List Op) (up : ById xs) (vp : ById ys) (one : OneBody (set.fro
 
 -- ---- what marks replace is what the operations do
 
-enter_replaces : (e : List ℕ) (q : Op) (i : Id) → replaces (record { id = i; body = Enter e }) q ≡ false
+pub enter_replaces : (e : List ℕ) (q : Op) (i : Id) → replaces (record { id = i; body = Enter e }) q ≡ false
 enter_replaces e q i = from (is_before i q.id) q.body
   where
     from : (b : Bool) (x : Body) → replaces_body b (Enter e) x ≡ false

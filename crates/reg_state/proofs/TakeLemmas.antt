@@ -26,14 +26,13 @@ run_of_one : (i : Id) → ids_of_run (record { replica = i.replica; low = i.coun
 run_of_one i = let e : i.count + 1 - i.count ≡ 1 = omega arith in ap (ids_from i.replica i.count) e
 
 -- what has seen one run of one id has seen that id
-pub seen_one : (o : Op) (v w : Ids) (r : List ℕ) (m n : ℕ) → v ≡ set.empty → w ≡ union v (set.from_list (ids_of_run (record { replica = r; low = m; high = n }))) → r ≡ o.id.replica → m ≡ o.id.count → n ≡ o.id.count
-    → w ≡ ids (one o)
-seen_one o v w r m n e f a b d =
+pub seen_one : (i : Id) (v w : Ids) (r : List ℕ) (m n : ℕ) → v ≡ set.empty → w ≡ union v (set.from_list (ids_of_run (record { replica = r; low = m; high = n }))) → r ≡ i.replica → m ≡ i.count → n ≡ i.count
+    → w ≡ set.from_list (i ∷ [])
+seen_one i v w r m n e f a b d =
     f
     ∙ (λ k. union (e k) (set.from_list (ids_of_run (record { replica = a k; low = b k; high = d k }))))
     ∙ union-empty id_total id_exact _
-    ∙ ap set.from_list (run_of_one o.id)
-    ∙ sym (ids_one o)
+    ∙ ap set.from_list (run_of_one i)
 
 pub content_of_one : (o : Op) (os : List Op) (w : Ids) → os ≡ o ∷ [] → w ≡ ids (one o) → content_at os w ≡ state (one o)
 content_of_one o os w e f = same_content _ _ (ap (λ (l : List Op). set.from_list {R = op_cmp} l) e ∙ sym (kept_one o)) f

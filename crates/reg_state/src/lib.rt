@@ -4,10 +4,13 @@
 pub mod laws;
 mod marks;
 mod merge;
+mod outside;
+mod piece;
 mod register;
 mod table;
 mod view;
 
+pub use piece::{Piece, PieceFault};
 pub use reg_join::{Join, JoinFault, join_all};
 pub use reg_marks::{Mark, Marks, Target};
 pub use reg_seen::{Run, Seen};

@@ -1,20 +1,21 @@
 //! The register: one operation taken, two registers joined.
 
-ghost use Rattle.std.specs.Prelude.{◌≡◌, ◌↔◌, true, false, List, Ok, Err, OnOk, OnErr, IfOk, IfSome, IfNone, Some, None};
+ghost use Rattle.std.specs.Prelude.{◌≡◌, ◌↔◌, true, false, List, [], ◌∷◌, Ok, Err, OnOk, OnErr, IfOk, IfSome, IfNone, Some, None};
 ghost use Rattle.reg_op.specs.Set as set;
 ghost use Rattle.reg_op.specs.Ids.{Id, is_same};
 ghost use Rattle.reg_op.specs.Operations.{Op as Operation, one, op_cmp, OneBody};
 ghost use Rattle.reg_op.specs.Contents.{Content, Agreed, IsContent, state, nothing, merged, joined};
+ghost use Rattle.reg_op.specs.Pieces.{outside};
 ghost use Rattle.reg_op.specs.Finite.{any};
-ghost use Rattle.reg_op.specs.Status.{enters, status, is_supersession};
-ghost use Rattle.reg_op.specs.Kept.{entering};
+ghost use Rattle.reg_op.specs.Status.{enters, status, is_enter, is_supersession};
+ghost use Rattle.reg_op.specs.Kept.{entering, first_dropped};
 ghost use Rattle.reg_op.specs.Lists.{ById, has, content_at};
-ghost use Rattle.reg_state.specs.Tables.{first_dropped};
 ghost use Rattle.reg_state.specs.RegisterLaws.{register_laws};
 
 use crate::marks::{is_marked, marks_of};
 use crate::merge::join_ops;
-use crate::table::{definition_in, first_clash, first_replaced};
+use crate::outside::ops_outside;
+use crate::table::{definition_in, first_clash, first_replaced, is_entry, put_op};
 use crate::view::Ops;
 use reg_join::{Join, JoinFault};
 use reg_marks::{Marks, Target};
@@ -154,11 +155,8 @@ impl Register {
             return Err(TakeFault::Clash(id));
         }
         let alloc = *self.ops.allocator();
-        match self.merge_op(alloc, op) {
-            Ok(register) => {
-                *self = register;
-                Ok(())
-            }
+        match self.put(alloc, op) {
+            Ok(()) => Ok(()),
             Err(_) => Err(TakeFault::Memory),
         }
     }
@@ -173,17 +171,54 @@ impl Register {
         Ok(Register { ops, marks, seen })
     }
 
+    /// The register of what has ids outside a basis.
+    pub(crate) fn outside(&self, alloc: Global, basis: &Seen) -> Result<Register, AllocError>
+        ensures { IfOk result (λ part. part ≡ outside basis.now self.now) }
+    {
+        let ops = ops_outside(alloc, &self.ops, basis)?;
+        let marks = marks_of(alloc, &ops)?;
+        let seen = self.seen.outside(alloc, basis)?;
+        Ok(Register { ops, marks, seen })
+    }
+
+    // Joins one operation whose id has no other body. A new entry is put in its place. A mark may make others redundant,
+    // and is joined as a register of its own.
+    fn put(&mut self, alloc: Global, op: Op) -> Result<(), AllocError>
+        requires { OneBody (set.union self.old.ops (one op)) }
+        ensures ok { OnOk result (self.new ≡ merged self.old (state (one op))) }
+        ensures err { OnErr result (self.new ≡ self.old) }
+    {
+        if is_entry(&op) && self.definition(op.id()).is_none() {
+            return self.put_entry(alloc, op);
+        }
+        let register = self.merge_op(alloc, op)?;
+        *self = register;
+        Ok(())
+    }
+
+    // Puts in an entry, whose id enters nothing yet.
+    fn put_entry(&mut self, alloc: Global, op: Op) -> Result<(), AllocError>
+        requires entry { is_enter op.body ≡ true }
+        requires entered { enters self.old.ops op.id ≡ false }
+        requires one_body { OneBody (set.union self.old.ops (one op)) }
+        ensures ok { OnOk result (self.new ≡ merged self.old (state (one op))) }
+        ensures err { OnErr result (self.new ≡ self.old) }
+    {
+        let once = seen_once(alloc, op.id())?;
+        let seen = match self.seen.join(alloc, &once) {
+            Ok(seen) => seen,
+            Err(_) => return Err(AllocError),
+        };
+        put_op(&mut self.ops, op)?;
+        self.seen = seen;
+        Ok(())
+    }
+
     // The register of one operation.
     fn of_op(alloc: Global, op: Op) -> Result<Register, AllocError>
         ensures { IfOk result (λ register. register ≡ state (one op)) }
     {
-        let id = op.id();
-        let mut seen = Seen::new(alloc);
-        seen.add_run(Run {
-            replica: id.replica(),
-            low: id.count(),
-            high: id.count(),
-        })?;
+        let seen = seen_once(alloc, op.id())?;
         let mut ops = Vec::new(alloc);
         ops.push(op)?;
         let marks = marks_of(alloc, &ops)?;
@@ -211,6 +246,19 @@ impl Register {
             Err(_) => Err(AllocError),
         }
     }
+}
+
+// An id that was seen.
+fn seen_once(alloc: Global, id: OpId) -> Result<Seen, AllocError>
+    ensures { IfOk result (λ seen. seen ≡ set.from_list (id ∷ [])) }
+{
+    let mut seen = Seen::new(alloc);
+    seen.add_run(Run {
+        replica: id.replica(),
+        low: id.count(),
+        high: id.count(),
+    })?;
+    Ok(seen)
 }
 
 // Copies of operations, in their order.

@@ -1,7 +1,7 @@
 //! Lists of operations by id, and searches in them.
 
-ghost use Rattle.std.specs.Prelude.{◌≡◌, ◌&&◌, true, IfSome, IfNone, is_some};
-ghost use Rattle.std.specs.List.{list_any};
+ghost use Rattle.std.specs.Prelude.{◌≡◌, ◌&&◌, ℕ, true, false, IfSome, IfNone, OnOk, OnErr, is_some};
+ghost use Rattle.std.specs.List.{insert, list_any};
 ghost use Rattle.reg_op.specs.Ids.{is_same, is_before};
 ghost use Rattle.reg_op.specs.Operations.{Op as Operation, IsOperation};
 ghost use Rattle.reg_op.specs.Status.{is_enter};
@@ -12,6 +12,7 @@ ghost use Rattle.reg_state.specs.Merge.{clash_in, first_off};
 use crate::marks::is_replaced;
 use reg_marks::Marks;
 use reg_op::{Op, OpBody, OpId};
+use std::alloc::AllocError;
 use wkt_crs::Definition;
 
 fn is_earlier(op: &Op, id: OpId) -> bool
@@ -40,6 +41,33 @@ fn definition_of(op: &Op, id: OpId) -> Option<&Definition>
         OpBody::Supersede { old: _, newer: _ } => None,
         OpBody::Retire { entry: _ } => None,
     }
+}
+
+/// Whether it enters a definition.
+pub fn is_entry(op: &Op) -> bool
+    ensures { result ≡ is_enter op.now.body }
+{
+    match op.body() {
+        OpBody::Enter(_) => true,
+        OpBody::Supersede { old: _, newer: _ } => false,
+        OpBody::Retire { entry: _ } => false,
+    }
+}
+
+/// Puts an operation in its place, whose id no other has.
+pub fn put_op(ops: &mut Vec<Op>, op: Op) -> Result<(), AllocError>
+    requires by_id { ById ops.old.items }
+    requires absent { (q : Operation) → has ops.old.items q ≡ true → is_same op.id q.id ≡ false }
+    ensures put { OnOk result ((i : ℕ) × (ops.new.items ≡ insert ops.old.items i op)) }
+    ensures by_id { OnOk result (ById ops.new.items) }
+    ensures err { OnErr result (ops.new.items ≡ ops.old.items) }
+{
+    let id = op.id();
+    let at = ops.partition_point(|other| is_earlier(other, id));
+    if let Err(_) = ops.insert(at, op) {
+        return Err(AllocError);
+    }
+    Ok(())
 }
 
 /// What the operation of the id enters, among operations by id.

@@ -3,6 +3,7 @@
 mod damage;
 mod devices;
 mod growth;
+mod pieces;
 mod worked;
 
 use reg_file::{FileFault, ReadFileFault, read_bytes, write_bytes};

@@ -3,6 +3,7 @@
 mod contents;
 mod growth;
 mod orders;
+mod pieces;
 mod plain;
 mod rows;
 

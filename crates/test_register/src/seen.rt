@@ -122,3 +122,37 @@ fn only_runs_above_all_are_next(rt: HostRuntime) {
         assert!(rt; seen.is_next(&run_of(replica, low, high)) == next);
     }
 }
+
+#[test]
+fn what_another_has_not_seen_is_cut_out(rt: HostRuntime) {
+    let alloc = rt.alloc();
+    let all = seen_of(&rt, alloc, A, 1, 9);
+    let some = gaps(&rt, alloc);
+    let rest = all.outside(alloc, &some).expect(&rt, "a difference");
+    assert!(rt; has_runs(&rest, &[(3, 4), (6, 9)]));
+    assert!(rt; all.first_outside(&some) == OpId::new(Uuid::from_u128(A), 3));
+    let other = some.outside(alloc, &all).expect(&rt, "a difference");
+    assert!(rt; has_run(&other, 0, run_of(B, 2, 2)));
+    assert!(rt; other.run(1) == None);
+    assert!(rt; some.first_outside(&all) == OpId::new(Uuid::from_u128(B), 2));
+    assert!(rt; all.first_outside(&all) == None);
+}
+
+#[test]
+fn a_run_meets_what_was_seen(rt: HostRuntime) {
+    let seen = gaps(&rt, rt.alloc());
+    let table = [
+        (A, 2, 3, true),
+        (A, 3, 4, false),
+        (A, 3, 5, true),
+        (A, 5, 4, false),
+        (A, 6, u32::MAX, false),
+        (A, 0, 0, false),
+        (B, 1, 1, false),
+        (B, 1, 2, true),
+        (1, 1, 9, false),
+    ];
+    for (replica, low, high, met) in table {
+        assert!(rt; seen.meets(run_of(replica, low, high)) == met);
+    }
+}

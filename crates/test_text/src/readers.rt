@@ -2,13 +2,13 @@
 
 mod canonical;
 mod definitions;
+mod extents;
 mod growth;
 mod refused;
 
 use std::alloc::Global;
 use std::process::Abort;
 use wkt_crs::{Condition, Crs, ReadFault, read_crs, write_crs, write_pretty};
-use wkt_guess::{Guess, Outcome, guess_parts};
 
 /// A vertical system, canonical.
 const HEIGHT: &[u8] =
@@ -67,28 +67,6 @@ fn every_spelling_gives_the_canonical_text(rt: HostRuntime) {
     drop(crs);
     let again = read(&rt, alloc, &pretty);
     assert!(rt; has_text(&rt, alloc, &again, HEIGHT));
-}
-
-// Whether the value of a text is guessed, and is written as that text.
-fn is_guessed(rt: &impl Abort, alloc: Global, text: &[u8]) -> bool {
-    let guess = guess_parts(alloc, text);
-    let written = wkt_write::write_crs(alloc, &guess.parts).expect(rt, "room for a text");
-    outcome_of(guess) == Outcome::Read && written.as_slice() == text
-}
-
-fn outcome_of(guess: Guess) -> Outcome {
-    let outcome = guess.outcome;
-    drop(guess);
-    outcome
-}
-
-#[test]
-fn canonical_texts_alone_are_guessed(rt: HostRuntime) {
-    let alloc = rt.alloc();
-    for text in [HEIGHT, COMPOUND, POLAR, LISTED] {
-        assert!(rt; is_guessed(&rt, alloc, text));
-    }
-    assert!(rt; outcome_of(guess_parts(alloc, SPELLED)) == Outcome::Strayed);
 }
 
 #[test]

@@ -56,6 +56,41 @@ fn a_compound_system_is_written(rt: HostRuntime) {
 }
 
 #[test]
+fn geoid_models_are_written_in_order(rt: HostRuntime) {
+    let alloc = rt.alloc();
+    expect_text(
+        &rt,
+        alloc,
+        values::on_models(&rt, alloc, &["M"]),
+        "VERTCRS[\"H\",VDATUM[\"D\"],CS[vertical,1],AXIS[\"height (H)\",up],LENGTHUNIT[\"metre\",1],GEOIDMODEL[\"M\"],ID[\"X\",7]]",
+    );
+    expect_text(
+        &rt,
+        alloc,
+        values::on_models(&rt, alloc, &["M", "N"]),
+        "VERTCRS[\"H\",VDATUM[\"D\"],CS[vertical,1],AXIS[\"height (H)\",up],LENGTHUNIT[\"metre\",1],GEOIDMODEL[\"M\"],GEOIDMODEL[\"N\"],ID[\"X\",7]]",
+    );
+}
+
+#[test]
+fn a_vertical_extent_is_written_low_first(rt: HostRuntime) {
+    let alloc = rt.alloc();
+    let metres = values::in_metres(&rt, alloc);
+    expect_text(
+        &rt,
+        alloc,
+        values::within(&rt, alloc, metres),
+        "VERTCRS[\"H\",VDATUM[\"D\"],CS[vertical,1],AXIS[\"height (H)\",up],LENGTHUNIT[\"metre\",1],USAGE[SCOPE[\"s\"],VERTICALEXTENT[-10,20,LENGTHUNIT[\"metre\",1]]],ID[\"X\",7]]",
+    );
+    expect_text(
+        &rt,
+        alloc,
+        values::within(&rt, alloc, None),
+        "VERTCRS[\"H\",VDATUM[\"D\"],CS[vertical,1],AXIS[\"height (H)\",up],LENGTHUNIT[\"metre\",1],USAGE[SCOPE[\"s\"],VERTICALEXTENT[-10,20]],ID[\"X\",7]]",
+    );
+}
+
+#[test]
 fn nodes_stand_on_lines_of_their_own(rt: HostRuntime) {
     let height = values::height(&rt, rt.alloc(), "H");
     let written = write_pretty(rt.alloc(), &height).expect(&rt, "room for a text");

@@ -27,7 +27,7 @@ use Rattle.wkt_slots.specs.declared.table.Takes.TheVariants as kinds
 use Rattle.wkt_slots.specs.Rows.{enters}
 use Rattle.wkt_slots.specs.Words.{keyword_of}
 use Rattle.wkt_tier.specs.Bare.{Bare, Bares, text, number, word, node, bare}
-use Rattle.wkt_meaning.specs.FirstEdition.{Fitted, Fitting}
+use Rattle.wkt_meaning.specs.SecondEdition.{Fitted, Fitting}
 use Rattle.wkt_meaning.specs.Runs.{Fields, IsNode}
 use Rattle.wkt_meaning.specs.Denotes.{unit_fields, DenotesUnit, DenotesLengthUnit, DenotesAngleUnit, datum_fields, geodetic_ensemble_fields, DenotesGeodeticFrame, vertical_datum_fields, vertical_ensemble_fields, DenotesVerticalFrame, base_fields, DenotesBase, geodetic_fields, projected_fields, vertical_fields, DenotesSingle, compound_fields, DenotesParts, base_keyword, geodetic_keyword}
 use Rattle.wkt_build.specs.Reads.{Next, BuildsNode}

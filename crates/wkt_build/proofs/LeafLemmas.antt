@@ -26,7 +26,7 @@ use Rattle.wkt_slots.specs.Rows.{takes}
 use Rattle.wkt_slots.specs.Words.{keyword_of, is_cs_kind, is_direction}
 use Rattle.wkt_tier.specs.Slots.{argument_by}
 use Rattle.wkt_tier.specs.Bare.{Bare, text, bare, shape}
-use Rattle.wkt_meaning.specs.FirstEdition.{Fitting}
+use Rattle.wkt_meaning.specs.SecondEdition.{Fitting}
 use Rattle.wkt_meaning.specs.Leaves.{undoubled, DenotesText, DenotesNumber, DenotesCount, DenotesWord}
 use Rattle.wkt_meaning.specs.Words.{system_word, direction_word, first_word, kinds_listed, directions_listed}
 use Rattle.wkt_meaning.specs.Denotes.{DenotesCode}

@@ -6,3 +6,4 @@ pub mod LeafLemmas
 pub mod Chosen
 pub mod Roots
 pub mod Plain
+pub mod Coordinated

@@ -44,6 +44,10 @@ pub only_method : Only kinds.Method keywords.Method nodes.Named
 only_method keywords.Method m e = (refl, same_row nodes.Named m e)
 only_method k m e = no_row _ m e
 
+pub only_geoid_model : Only kinds.GeoidModel keywords.GeoidModel nodes.Named
+only_geoid_model keywords.GeoidModel m e = (refl, same_row nodes.Named m e)
+only_geoid_model k m e = no_row _ m e
+
 pub only_accuracy : Only kinds.EnsembleAccuracy keywords.EnsembleAccuracy nodes.EnsembleAccuracy
 only_accuracy keywords.EnsembleAccuracy m e = (refl, same_row nodes.EnsembleAccuracy m e)
 only_accuracy k m e = no_row _ m e
@@ -55,6 +59,10 @@ only_ident k m e = no_row _ m e
 pub only_bounding_box : Only kinds.BoundingBox keywords.BoundingBox nodes.BoundingBox
 only_bounding_box keywords.BoundingBox m e = (refl, same_row nodes.BoundingBox m e)
 only_bounding_box k m e = no_row _ m e
+
+pub only_vertical_extent : Only kinds.VerticalExtent keywords.VerticalExtent nodes.VerticalExtent
+only_vertical_extent keywords.VerticalExtent m e = (refl, same_row nodes.VerticalExtent m e)
+only_vertical_extent k m e = no_row _ m e
 
 pub only_usage : Only kinds.Usage keywords.Usage nodes.Usage
 only_usage keywords.Usage m e = (refl, same_row nodes.Usage m e)

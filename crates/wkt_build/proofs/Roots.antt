@@ -7,7 +7,7 @@ use Rattle.wkt_slots.specs.declared.table.Edition.TheVariants as editions
 use Rattle.wkt_slots.specs.declared.table.Takes.TheVariants as kinds
 use Rattle.wkt_slots.specs.declared.table.Node.TheVariants as nodes
 use Rattle.wkt_tier.specs.Bare.{Bare, bare, and, none}
-use Rattle.wkt_meaning.specs.FirstEdition.{Fitting, AllFitting}
+use Rattle.wkt_meaning.specs.SecondEdition.{Fitting, AllFitting}
 use Rattle.wkt_tier.proofs.Fitting.{clean_fitted, fitted_cuts}
 use Rattle.wkt_meaning.specs.Denotes.{DenotesParts}
 use Rattle.wkt_build.specs.Reads.{Builds}
@@ -23,7 +23,7 @@ one_of x (y ∷ ys) rest e l P p = let same : y ≡ x = cc in subst P same (p y 
 
 pub whole_built : {E : Type 0} (old : List Tok) (result : Result CrsParts E) (new : List Tok) → Builds kinds.AnyCrs DenotesParts old new result → BuildsParts old result
 whole_built old result new builds k d o items c e clean =
-    let f = fitted_cuts editions.First nodes.Root (and (bare (node k d o items c)) none) (clean_fitted editions.First old clean k d o items c e) in
+    let f = fitted_cuts editions.Second nodes.Root (and (bare (node k d o items c)) none) (clean_fitted editions.Second old clean k d o items c e) in
     let fits : Fitting kinds.AnyCrs (bare (node k d o items c)) = one_of (bare (node k d o items c)) f.0 f.1 f.2 f.4 (Fitting kinds.AnyCrs) (λ y ys h. (subst (AllFitting kinds.AnyCrs) h f.3).0) in
     done result (builds (bare (node k d o items c)) [] fits (record { item = node k d o items c; is = refl; tokens_are = e ∙ no_more (tokens (node k d o items c)); follows = refl }))
   where

@@ -26,7 +26,7 @@ use Rattle.wkt_tier.specs.Next.{next_is, is_open, Follows}
 use Rattle.wkt_tier.specs.Bare.{Bare, Bares, text, number, word, node, args, bare, all_bare, shape}
 use Rattle.wkt_tier.specs.Fitted.{entered}
 use Rattle.wkt_tier.proofs.Fitting.{fitted_cuts, cuts_fits, passes_of}
-use Rattle.wkt_meaning.specs.FirstEdition.{row_of, Fitted, Fitting, AllFitting, Cuts}
+use Rattle.wkt_meaning.specs.SecondEdition.{row_of, Fitted, Fitting, AllFitting, Cuts}
 use Rattle.wkt_meaning.specs.Runs.{Fields, nothing, ◌&◌, Runs, IsNode, One, Maybe, Each, AtLeastOne}
 use Rattle.wkt_meaning.specs.Leaves.{DenotesCount}
 use Rattle.wkt_meaning.proofs.Leaves.{DenotesSmall}
@@ -116,7 +116,7 @@ module _ {A : Type 0} (t : Takes) (D : Bare → A → Type 0) (row : List Slot) 
   one_run (x ∷ []) rest' f l c end rest b e =
       let made = m x b.0 b.1 b.2 f.0 b.3 b.4 in
       let others = r.of rest' end rest c (subst (λ toks. Behind rest' toks end) (sym made.1) b.5) e in
-      (made.0, (passes_of editions.First t (x ∷ []) f, others.0, others.1))
+      (made.0, (passes_of editions.Second t (x ∷ []) f, others.0, others.1))
   one_run (x ∷ y ∷ run) rest' f l c end rest b e = absurd (omega (arith, l))
 
   one_read : (xs : List Bare) (end rest : List Tok) → Cuts (slot n t Once ∷ row) xs → Come xs old end → Ends end rest → Runs (slot n t Once ∷ row) (One D v & fields) xs × (new ≡ end)
@@ -154,7 +154,7 @@ not_taken : (s : Slot) (row : List Slot) (y : Bare) (ys : List Bare) → is_clea
 not_taken s row y ys c o k =
     let parts = and_parts (list_all (λ x. not (not (is_required s.often && not (is_many s.often)) && (takes s.takes x && may_begin row x))) all_arguments) (is_clear row) c in
     let test = each_argument (λ x. not (not (is_required s.often && not (is_many s.often)) && (takes s.takes x && may_begin row x))) (shape y) parts.0 in
-    not_both (is_required s.often && not (is_many s.often)) (takes s.takes (shape y)) (may_begin row (shape y)) test o (begins row (shape y) (map shape ys) (cuts_fits editions.First row (y ∷ ys) k))
+    not_both (is_required s.often && not (is_many s.often)) (takes s.takes (shape y)) (may_begin row (shape y)) test o (begins row (shape y) (map shape ys) (cuts_fits editions.Second row (y ∷ ys) k))
 
 comes_no : (s : Slot) (row : List Slot) (xs : List Bare) (toks end rest : List Tok) → is_clear (s ∷ row) ≡ true → (is_required s.often && not (is_many s.often)) ≡ false → Cuts row xs → Behind xs toks end → Ends end rest → comes s.takes toks ≡ false
 comes_no s row [] toks end rest c o k b e = ap (comes s.takes) b ∙ end_no_comma s.takes end rest e
@@ -168,12 +168,12 @@ module _ {A : Type 0} (t : Takes) (D : Bare → A → Type 0) (row : List Slot) 
   maybe_run [] rest' f l c end rest b e =
       let no = comes_no (slot n t AtMostOnce) row rest' old end rest clear refl c b e in
       let others = r.of rest' end rest c (subst (λ toks. Behind rest' toks end) (sym (left no)) b) e in
-      (subst (λ o. Maybe D o []) (sym (absent no)) tt, (passes_of editions.First t [] f, others.0, others.1))
+      (subst (λ o. Maybe D o []) (sym (absent no)) tt, (passes_of editions.Second t [] f, others.0, others.1))
   maybe_run (x ∷ []) rest' f l c end rest b e =
       let yes = ap (comes t) b.3 ∙ (comes_next t b.0 x b.1 b.2 b.4 ∙ f.0.taken) in
       let made = some yes x (tok Comma b.0) b.1 b.2 f.0 b.3 b.4 in
       let others = r.of rest' end rest c (subst (λ toks. Behind rest' toks end) (sym made.3) b.5) e in
-      (subst (λ o. Maybe D o (x ∷ [])) (sym made.1) made.2, (passes_of editions.First t (x ∷ []) f, others.0, others.1))
+      (subst (λ o. Maybe D o (x ∷ [])) (sym made.1) made.2, (passes_of editions.Second t (x ∷ []) f, others.0, others.1))
   maybe_run (x ∷ y ∷ run) rest' f l c end rest b e = absurd (omega (arith, l))
 
   maybe_read : (xs : List Bare) (end rest : List Tok) → Cuts (slot n t AtMostOnce ∷ row) xs → Behind xs old end → Ends end rest → Runs (slot n t AtMostOnce ∷ row) (Maybe D v & fields) xs × (new ≡ end)
@@ -208,7 +208,7 @@ module _ {A : Type 0} (t : Takes) (D : Bare → A → Type 0) (row : List Slot) 
       let no = comes_no (slot n t Any) row c.1 s.mid end rest clear refl c.5 s.back e in
       let made = m c.0 s.mid c.3 s.front (behind_follows c.1 s.mid end rest s.back e) no in
       let others = r.of c.1 end rest c.5 (subst (λ toks. Behind c.1 toks end) (sym made.1) s.back) e in
-      ((c.0, c.1, c.2, (passes_of editions.First t c.0 c.3, c.4), made.0, others.0), others.1)
+      ((c.0, c.1, c.2, (passes_of editions.Second t c.0 c.3, c.4), made.0, others.0), others.1)
 
 pub then_each : {A : Type 0} {t : Takes} {h : ℕ} {D : Bare → A → Type 0} {tree : A → Bare} {row : List Slot} {fields : Fields} {mid new : List Tok} (n : SlotName) → Law t h D tree → is_clear (slot n t Any ∷ row) ≡ true → (old : List Tok) (vs : List A)
     → MadeEach t D old mid vs → Reads row fields mid new → Reads (slot n t Any ∷ row) (Each D vs & fields) old new
@@ -228,7 +228,7 @@ module _ {A : Type 0} (t : Takes) (D : Bare → A → Type 0) (row : List Slot) 
   some_read : (xs : List Bare) (end rest : List Tok) → Cuts (slot n t AtLeastOnce ∷ row) xs → Behind xs old end → Ends end rest → Runs (slot n t AtLeastOnce ∷ row) (AtLeastOne D v & fields) xs × (new ≡ end)
   some_read xs end rest c b e =
       let o = some_run c.0 c.1 c.3 c.4 c.5 end rest (subst (λ l. Behind l old end) c.2 b) e in
-      ((c.0, c.1, c.2, (passes_of editions.First t c.0 c.3, c.4), o.0, o.1.0), o.1.1)
+      ((c.0, c.1, c.2, (passes_of editions.Second t c.0 c.3, c.4), o.0, o.1.0), o.1.1)
 
 pub then_some : {A : Type 0} {t : Takes} {h : ℕ} {D : Bare → A → Type 0} {tree : A → Bare} {row : List Slot} {fields : Fields} {mid new : List Tok} (n : SlotName) → Law t h D tree → is_clear (slot n t AtLeastOnce ∷ row) ≡ true → (old one : List Tok) (v : NonEmpty A)
     → Made t D old one v.first → MadeEach t D one mid v.others → Reads row fields mid new → Reads (slot n t AtLeastOnce ∷ row) (AtLeastOne D v & fields) old new
@@ -243,7 +243,7 @@ MadeNode n F old new v = (x : Bare) (k : List ℕ) (items : Bares) (K : Keyword)
 pub made_node : {A : Type 0} {one last : List Tok} (n : Node) (F : A → Fields) (old new : List Tok) (v : A) → one ≡ drop 1 old → ReadsAll (row_of n) (F v) one last → new ≡ drop 1 last → MadeNode n F old new v
 made_node {A} {one} {last} n F old new v o r w x k items K rest e m f next =
     let all = opened x k items old rest e next in
-    let reads = r.of (args items) all.end rest (fitted_cuts editions.First n items f) (subst (λ l. Come (args items) l all.end) (sym o) all.come) all.ends in
+    let reads = r.of (args items) all.end rest (fitted_cuts editions.Second n items f) (subst (λ l. Come (args items) l all.end) (sym o) all.come) all.ends in
     (record { keyword = k; items = items; is = e; meaning = m; runs = reads.0 }, w ∙ (ap (drop 1) reads.1 ∙ ap (drop 1) all.ends.is))
 
 -- a slot that takes nodes alone

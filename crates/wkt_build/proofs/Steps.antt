@@ -8,7 +8,7 @@ use Rattle.wkt_slots.specs.Rows.{takes}
 use Rattle.wkt_tier.specs.Slots.{argument}
 use Rattle.wkt_tier.specs.Next.{coming, Follows}
 use Rattle.wkt_tier.specs.Bare.{Bare, shape}
-use Rattle.wkt_meaning.specs.FirstEdition.{Fitting, AllFitting}
+use Rattle.wkt_meaning.specs.SecondEdition.{Fitting, AllFitting}
 use Rattle.wkt_tier.proofs.Fitting.{shape-bare}
 use Rattle.wkt_meaning.specs.Runs.{Each}
 use Rattle.wkt_build.specs.Reads.{Next, Behind, comes}

@@ -9,7 +9,7 @@ use Rattle.wkt_slots.specs.Rows.{takes}
 use Rattle.wkt_slots.specs.Words.{keyword_of}
 use Rattle.wkt_tier.specs.Next.{next_is, is_comma, coming, Follows}
 use Rattle.wkt_tier.specs.Bare.{Bare, Bares, node, bare}
-use Rattle.wkt_meaning.specs.FirstEdition.{Fitted, Fitting, AllFitting}
+use Rattle.wkt_meaning.specs.SecondEdition.{Fitted, Fitting, AllFitting}
 use Rattle.wkt_meaning.specs.Runs.{Fields, IsNode, Each}
 
 -- the tokens are those of an item that is x, and then the rest

@@ -9,12 +9,15 @@ use Rattle.wkt_slots.specs.declared.table.SlotName.TheVariants as slots
 use Rattle.wkt_slots.specs.declared.table.Takes.TheVariants as kinds
 use Rattle.wkt_slots.specs.declared.table.Keyword.TheVariants as keywords
 use Rattle.wkt_tier.specs.Bare.{Bare}
-use Rattle.wkt_meaning.specs.FirstEdition.{Cuts}
+use Rattle.wkt_meaning.specs.SecondEdition.{Cuts}
 use Rattle.wkt_meaning.specs.Runs.{Fields, nothing, ◌&◌, Runs, One, Maybe, Each, AtLeastOne}
-use Rattle.wkt_meaning.specs.Denotes.{DenotesSystem, DenotesAxis, DenotesUnit, DenotesAngleUnit, DenotesPrimeMeridian, DenotesUsage, DenotesIdent, DenotesValue}
+use Rattle.wkt_meaning.specs.Denotes.{DenotesSystem, DenotesAxis, DenotesUnit, DenotesAngleUnit, DenotesPrimeMeridian, DenotesUsage, DenotesIdent, DenotesNamed, DenotesValue}
 use Rattle.wkt_build.specs.Reads.{Behind}
+use Rattle.wkt_build.specs.declared.ending.Coordinates.{Coordinates}
 use Rattle.wkt_build.specs.declared.ending.Ending.{Ending}
 use Rattle.wkt_build.specs.declared.ending.Tail.{Tail}
+use Rattle.wkt_build.specs.declared.ending.VerticalEnding.{VerticalEnding}
+use Rattle.wkt_build.specs.declared.ending.VerticalTail.{VerticalTail}
 use Rattle.wkt_build.specs.declared.ending.BaseEnding.{BaseEnding}
 
 -- a closing delimiter, and then the rest
@@ -38,19 +41,53 @@ tail_row =
 abbrev pub tail_fields : Tail → Fields
 tail_fields v = Each DenotesUsage v.usages & Each DenotesIdent v.ids & Maybe (DenotesValue keywords.Remark) v.remark & nothing
 
--- the slots that the rows of all reference systems of one part end with
-abbrev pub ending_row : List Slot
-ending_row =
+-- those of a vertical system
+abbrev pub vertical_tail_row : List Slot
+vertical_tail_row = (record { name = slots.GeoidModel; takes = kinds.GeoidModel; often = Any }) ∷ tail_row
+
+abbrev pub vertical_tail_fields : VerticalTail → Fields
+vertical_tail_fields v =
+    Each (DenotesNamed keywords.GeoidModel) v.geoid_models
+    & Each DenotesUsage v.usages
+    & Each DenotesIdent v.ids
+    & Maybe (DenotesValue keywords.Remark) v.remark
+    & nothing
+
+-- the slots of the coordinates, and then those of a row
+abbrev pub from_coordinates : List Slot → List Slot
+from_coordinates row =
     (record { name = slots.Cs; takes = kinds.CoordinateSystem; often = Once })
     ∷ (record { name = slots.Axis; takes = kinds.Axis; often = AtLeastOnce })
     ∷ (record { name = slots.Unit; takes = kinds.AnyUnit; often = AtMostOnce })
-    ∷ tail_row
+    ∷ row
+
+abbrev pub coordinates_fields : Coordinates → Fields → Fields
+coordinates_fields v fields = One DenotesSystem v.system & AtLeastOne DenotesAxis v.axes & Maybe DenotesUnit v.unit & fields
+
+-- the slots that the rows of geodetic and projected systems end with
+abbrev pub ending_row : List Slot
+ending_row = from_coordinates tail_row
 
 abbrev pub ending_fields : Ending → Fields
 ending_fields v =
     One DenotesSystem v.system
     & AtLeastOne DenotesAxis v.axes
     & Maybe DenotesUnit v.unit
+    & Each DenotesUsage v.usages
+    & Each DenotesIdent v.ids
+    & Maybe (DenotesValue keywords.Remark) v.remark
+    & nothing
+
+-- the slots that the row of a vertical system ends with
+abbrev pub vertical_ending_row : List Slot
+vertical_ending_row = from_coordinates vertical_tail_row
+
+abbrev pub vertical_ending_fields : VerticalEnding → Fields
+vertical_ending_fields v =
+    One DenotesSystem v.system
+    & AtLeastOne DenotesAxis v.axes
+    & Maybe DenotesUnit v.unit
+    & Each (DenotesNamed keywords.GeoidModel) v.geoid_models
     & Each DenotesUsage v.usages
     & Each DenotesIdent v.ids
     & Maybe (DenotesValue keywords.Remark) v.remark
@@ -70,3 +107,11 @@ base_ending_fields v = Maybe DenotesPrimeMeridian v.prime_meridian & Maybe Denot
 -- where what fits the rest of the row comes, this is built of it
 abbrev pub BuildsRest : {A E : Type 0} → List Slot → (A → Fields) → List Tok → List Tok → Result A E → Type 0
 BuildsRest row F old new result = IfOk result (λ v. Reads row (F v) old new)
+
+-- where the rest of a row is read as some value, it is read with these coordinates before it
+abbrev pub ReadsBefore : {A : Type 0} → List Slot → (A → Fields) → List Tok → List Tok → Coordinates → Type 0
+ReadsBefore row F old mid v = (w : _) (new : List Tok) → Reads row (F w) mid new → Reads (from_coordinates row) (coordinates_fields v (F w)) old new
+
+-- such coordinates are built
+abbrev pub BuildsBefore : {A E : Type 0} → List Slot → (A → Fields) → List Tok → List Tok → Result Coordinates E → Type 0
+BuildsBefore row F old mid result = IfOk result (ReadsBefore row F old mid)

@@ -9,7 +9,7 @@ use Rattle.wkt_slots.specs.Rows.{enters}
 use Rattle.wkt_slots.specs.Words.{keyword_of}
 use Rattle.std.specs.Prelude.{ℕ, Some}
 use Rattle.wkt_tier.specs.Bare.{Bare, Bares, node}
-use Rattle.wkt_meaning.specs.FirstEdition.{Fitted}
+use Rattle.wkt_meaning.specs.SecondEdition.{Fitted}
 use Rattle.wkt_meaning.specs.Denotes.{DenotesSingle}
 use Rattle.wkt_build.specs.Reads.{Next}
 use Rattle.wkt_build.specs.Choices.{next_keyword}

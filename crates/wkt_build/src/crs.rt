@@ -9,7 +9,7 @@ ghost use Rattle.wkt_build.specs.Reads.{BuildsNode};
 
 use crate::built::{Built, pass, take_each, take_maybe, take_one, with};
 use crate::choices::{geodetic_kind_of, is_compound, is_projected, is_vertical, next_keyword};
-use crate::ending::{take_base_ending, take_ending};
+use crate::ending::{take_base_ending, take_ending, take_vertical_ending};
 use crate::reader::Reader;
 use crate::values::Remark;
 use crs_part::{
@@ -130,7 +130,7 @@ pub(crate) fn build_vertical(alloc: Global, cursor: &mut Reader<'_>) -> Result<V
     pass(cursor);
     let name = take_one::<Text, Text>(alloc, cursor)?;
     let datum = take_one::<VerticalFrame, VerticalFrame>(alloc, cursor)?;
-    let ending = take_ending(alloc, cursor)?;
+    let ending = take_vertical_ending(alloc, cursor)?;
     pass(cursor);
     Ok(Vertical {
         name,
@@ -138,6 +138,7 @@ pub(crate) fn build_vertical(alloc: Global, cursor: &mut Reader<'_>) -> Result<V
         system: ending.system,
         axes: ending.axes,
         unit: ending.unit,
+        geoid_models: ending.geoid_models,
         usages: ending.usages,
         ids: ending.ids,
         remark: ending.remark,

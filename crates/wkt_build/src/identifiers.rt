@@ -85,3 +85,20 @@ impl Built<Named> for Method {
         build_named(alloc, cursor)
     }
 }
+
+/// A node `GEOIDMODEL`.
+pub(crate) struct GeoidModel;
+
+impl Built<Named> for GeoidModel {
+    ghost slot_kind = { kinds.GeoidModel };
+
+    ghost Denotes = { DenotesNamed keywords.GeoidModel };
+
+    fn kind() -> Takes {
+        Takes::GeoidModel
+    }
+
+    fn build(alloc: Global, cursor: &mut Reader<'_>) -> Result<Named, AllocError> {
+        build_named(alloc, cursor)
+    }
+}

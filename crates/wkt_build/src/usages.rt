@@ -1,13 +1,13 @@
 //! Usages.
 
 ghost use Rattle.wkt_slots.specs.declared.table.Takes.TheVariants as kinds;
-ghost use Rattle.wkt_meaning.specs.Denotes.{DenotesBoundingBox, DenotesUsage};
+ghost use Rattle.wkt_meaning.specs.Denotes.{DenotesBoundingBox, DenotesUsage, DenotesVerticalExtent};
 
 use crate::built::{Built, pass, take_maybe, take_one};
 use crate::reader::Reader;
 use crate::values::{Area, Scope};
 use crs_number::Decimal;
-use crs_part::{BoundingBox, Text, Usage};
+use crs_part::{BoundingBox, LengthUnit, Text, Usage, VerticalExtent};
 use std::alloc::{AllocError, Global};
 use wkt_slots::Takes;
 
@@ -36,6 +36,25 @@ impl Built<BoundingBox> for BoundingBox {
     }
 }
 
+impl Built<VerticalExtent> for VerticalExtent {
+    ghost slot_kind = { kinds.VerticalExtent };
+
+    ghost Denotes = { DenotesVerticalExtent };
+
+    fn kind() -> Takes {
+        Takes::VerticalExtent
+    }
+
+    fn build(alloc: Global, cursor: &mut Reader<'_>) -> Result<VerticalExtent, AllocError> {
+        pass(cursor);
+        let low = take_one::<Decimal, Decimal>(alloc, cursor)?;
+        let high = take_one::<Decimal, Decimal>(alloc, cursor)?;
+        let unit = take_maybe::<LengthUnit, LengthUnit>(alloc, cursor)?;
+        pass(cursor);
+        Ok(VerticalExtent { low, high, unit })
+    }
+}
+
 impl Built<Usage> for Usage {
     ghost slot_kind = { kinds.Usage };
 
@@ -50,11 +69,13 @@ impl Built<Usage> for Usage {
         let scope = take_one::<Scope, Text>(alloc, cursor)?;
         let area = take_maybe::<Area, Text>(alloc, cursor)?;
         let bounding_box = take_maybe::<BoundingBox, BoundingBox>(alloc, cursor)?;
+        let vertical_extent = take_maybe::<VerticalExtent, VerticalExtent>(alloc, cursor)?;
         pass(cursor);
         Ok(Usage {
             scope,
             area,
             bounding_box,
+            vertical_extent,
         })
     }
 }

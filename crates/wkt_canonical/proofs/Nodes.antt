@@ -7,13 +7,14 @@ use Rattle.crs_part.specs.declared.units.UnitDefinition.{UnitDefinition}
 use Rattle.crs_part.specs.declared.units.Unit.{Unit}
 use Rattle.crs_part.specs.declared.units.LengthUnit.{LengthUnit}
 use Rattle.crs_part.specs.declared.units.AngleUnit.{AngleUnit}
+use Rattle.crs_part.specs.declared.usages.VerticalExtent.{VerticalExtent}
 use Rattle.crs_part.specs.declared.datums.GeodeticFrame.TheVariants as geodetic_frame
 use Rattle.crs_part.specs.declared.datums.VerticalFrame.TheVariants as vertical_frame
 use Rattle.crs_value.specs.Conditions.{has_positive_factor}
-use Rattle.crs_value.specs.Units.{any_units, length_units, angle_units, parameter_units}
-use Rattle.wkt_meaning.specs.Trees.{text_tree, number_tree, ident_tree, value_tree, named_tree, unit_of_tree, unit_tree, length_unit_tree, angle_unit_tree, bounding_box_tree, usage_tree, ellipsoid_tree, prime_meridian_tree, accuracy_tree, datum_tree, geodetic_ensemble_tree, vertical_datum_tree, vertical_ensemble_tree, geodetic_frame_tree, vertical_frame_tree, parameter_tree, conversion_tree}
+use Rattle.crs_value.specs.Units.{any_units, length_units, angle_units, extent_units, parameter_units}
+use Rattle.wkt_meaning.specs.Trees.{text_tree, number_tree, ident_tree, value_tree, named_tree, unit_of_tree, unit_tree, length_unit_tree, angle_unit_tree, bounding_box_tree, vertical_extent_tree, usage_tree, ellipsoid_tree, prime_meridian_tree, accuracy_tree, datum_tree, geodetic_ensemble_tree, vertical_datum_tree, vertical_ensemble_tree, geodetic_frame_tree, vertical_frame_tree, parameter_tree, conversion_tree}
 use Rattle.wkt_canonical.specs.Reads.{ReadsFirst, ReadsOne, ReadsMaybe, ReadsEach, ReadsSome, ReadsInside, ReadsWithin, any, is_above_zero, is_not_below_zero}
-use Rattle.wkt_canonical.specs.Tests.{all_positive, unit_passes, length_unit_passes, angle_unit_passes, ellipsoid_passes, datum_passes, ensemble_passes, frame_passes, prime_meridian_passes, parameter_passes, conversion_passes}
+use Rattle.wkt_canonical.specs.Tests.{all_positive, unit_passes, length_unit_passes, angle_unit_passes, extent_passes, usage_passes, ellipsoid_passes, datum_passes, ensemble_passes, frame_passes, prime_meridian_passes, parameter_passes, conversion_passes}
 use Rattle.wkt_canonical.proofs.Runs.{closed, also, whole, first_within, and_both}
 
 pub value : {text a rest : List ℕ} → ReadsFirst any text_tree text a → a ≡ 93 ∷ rest → ReadsWithin any value_tree text rest
@@ -43,15 +44,6 @@ bounding_box south west north east close = record {
   is = whole (codes "BBOX") _ _ south.is (also _ _ west.is (also _ _ north.is (also _ _ east.is (closed close))));
 }
 
-pub usage : {text scope a b c rest : List ℕ} → text ≡ codes "SCOPE[" ++ scope → ReadsWithin any value_tree scope a → ReadsMaybe any (value_tree (codes "AREA")) a b → ReadsMaybe any bounding_box_tree b c → c ≡ 93 ∷ rest → ReadsInside any usage_tree (codes ",USAGE[") text rest
-usage e scope area box close =
-    let first = first_within any value_tree (codes "SCOPE") e scope in
-    record {
-      value = record { scope = first.value; area = area.value; bounding_box = box.value };
-      passes = refl;
-      is = whole (codes "USAGE") _ _ first.is (also _ _ area.is (also _ _ box.is (closed close)));
-    }
-
 -- ---- what is asked of units
 
 pub and_true : (a b : Bool) → a ≡ true → b ≡ true → a && b ≡ true
@@ -76,6 +68,28 @@ both_pass (x ∷ xs) ys p q = let b = and_both (has_positive_factor x) (all_posi
 pub all_pass : {A : Type 0} (test : A → Bool) (units : A → List UnitDefinition) → ((a : A) → test a ≡ true → all_positive (units a) ≡ true) → (vs : List A) → list_all test vs ≡ true → all_positive (flat_map units vs) ≡ true
 all_pass test units h [] p = refl
 all_pass test units h (v ∷ vs) p = let b = and_both (test v) (list_all test vs) p in both_pass (units v) (flat_map units vs) (h v b.0) (all_pass test units h vs b.1)
+
+-- ---- usages
+
+pub vertical_extent : {text a b c rest : List ℕ} → ReadsFirst any number_tree text a → ReadsOne any number_tree a b → ReadsMaybe length_unit_passes length_unit_tree b c → c ≡ 93 ∷ rest → ReadsInside extent_passes vertical_extent_tree (codes ",VERTICALEXTENT[") text rest
+vertical_extent low high unit close = record {
+  value = record { low = low.value; high = high.value; unit = unit.value };
+  passes = length_units_pass unit.value unit.passes;
+  is = whole (codes "VERTICALEXTENT") _ _ low.is (also _ _ high.is (also _ _ unit.is (closed close)));
+}
+
+extent_pass : (o : Option VerticalExtent) → option_map_or extent_passes o true ≡ true → all_positive (option_map_or extent_units o []) ≡ true
+extent_pass None h = refl
+extent_pass (Some extent) h = h
+
+pub usage : {text scope a b c d rest : List ℕ} → text ≡ codes "SCOPE[" ++ scope → ReadsWithin any value_tree scope a → ReadsMaybe any (value_tree (codes "AREA")) a b → ReadsMaybe any bounding_box_tree b c → ReadsMaybe extent_passes vertical_extent_tree c d → d ≡ 93 ∷ rest → ReadsInside usage_passes usage_tree (codes ",USAGE[") text rest
+usage e scope area box extent close =
+    let first = first_within any value_tree (codes "SCOPE") e scope in
+    record {
+      value = record { scope = first.value; area = area.value; bounding_box = box.value; vertical_extent = extent.value };
+      passes = extent_pass extent.value extent.passes;
+      is = whole (codes "USAGE") _ _ first.is (also _ _ area.is (also _ _ box.is (also _ _ extent.is (closed close))));
+    }
 
 -- ---- datums
 

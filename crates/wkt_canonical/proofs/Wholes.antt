@@ -18,26 +18,33 @@ use Rattle.crs_part.specs.declared.crs.Compound.{Compound}
 use Rattle.crs_part.specs.declared.crs.Single.{Single}
 use Rattle.crs_part.specs.declared.crs.Single.TheVariants as single
 use Rattle.crs_part.specs.declared.crs.CrsParts.TheVariants as parts
-use Rattle.crs_value.specs.Units.{any_units, angle_units, frame_units, prime_meridian_units, axis_units, conversion_units, base_units}
-use Rattle.crs_value.specs.Conditions.{has_size, may_be_of, may_be_projected, may_be_vertical, may_have_system, may_be_first, may_be_second, is_ellipsoidal, is_cartesian, has_sizes}
+use Rattle.crs_value.specs.Units.{any_units, angle_units, usage_units, frame_units, prime_meridian_units, axis_units, conversion_units, base_units}
+use Rattle.crs_value.specs.Conditions.{has_size, may_be_of, may_be_projected, may_be_vertical, may_have_system, may_be_first, may_be_second, is_ellipsoidal, is_cartesian, has_sizes, has_own_sizes}
 use Rattle.crs_value.specs.declared.broken.Condition.TheVariants.{C1, C2, C3, C4, C5, C6, C7, C8}
 use Rattle.crs_value.specs.declared.broken.Whose.TheVariants.{First, Second, Whole}
 use Rattle.crs_value.specs.Checking.{HasConditions}
 use Rattle.wkt_meaning.specs.Canon.{canon}
 use Rattle.wkt_meaning.specs.Runs.{listed}
-use Rattle.wkt_meaning.specs.Trees.{maybe, text_tree, ident_tree, value_tree, usage_tree, angle_unit_tree, geodetic_frame_tree, vertical_frame_tree, prime_meridian_tree, conversion_tree, base_tree, base_name, geodetic_name, single_tree}
+use Rattle.wkt_meaning.specs.Trees.{maybe, named_tree, text_tree, ident_tree, value_tree, usage_tree, angle_unit_tree, geodetic_frame_tree, vertical_frame_tree, prime_meridian_tree, conversion_tree, base_tree, base_name, geodetic_name, single_tree}
 use Rattle.wkt_canonical.specs.declared.identifiers.Identifier.{Identifier}
 use Rattle.wkt_canonical.specs.declared.crs.Seen.{Seen}
 use Rattle.wkt_canonical.specs.declared.crs.Component.{Component}
 use Rattle.wkt_canonical.specs.Reads.{ReadsFirst, ReadsOne, ReadsMaybe, ReadsEach, ReadsInside, ReadsText, ReadsIdentifiers, ReadsSystem, ReadsAxes, ReadsSingle, ReadsEnd, ReadsWhole, IsCanonicalOf, IsCanonical, any}
-use Rattle.wkt_canonical.specs.Tests.{all_positive, angle_unit_passes, frame_passes, prime_meridian_passes, conversion_passes, base_passes, AxesHold, Holds}
+use Rattle.wkt_canonical.specs.Tests.{all_positive, angle_unit_passes, usage_passes, frame_passes, prime_meridian_passes, conversion_passes, base_passes, AxesHold, Holds}
 use Rattle.wkt_canonical.proofs.Runs.{Goes, closed, also, whole, root, behind_comma_is, and_both}
-use Rattle.wkt_canonical.proofs.Nodes.{both_pass, and_true, angle_units_pass, any_units_pass}
+use Rattle.wkt_canonical.proofs.Nodes.{both_pass, all_pass, and_true, angle_units_pass, any_units_pass}
 
-pub end : {text a b c rest : List ℕ} (first : Option Identifier) → ReadsEach any usage_tree text a → ReadsIdentifiers first a b → ReadsMaybe any (value_tree (codes "REMARK")) b c → c ≡ 93 ∷ rest → ReadsEnd first text rest
+pub end : {text a b c rest : List ℕ} (first : Option Identifier) → ReadsEach usage_passes usage_tree text a → ReadsIdentifiers first a b → ReadsMaybe any (value_tree (codes "REMARK")) b c → c ≡ 93 ∷ rest → ReadsEnd first text rest
 end first usages ids remark close =
     let g = also _ _ usages.is (also _ _ ids.is (also _ _ remark.is (closed close))) in
-    record { usages = usages.values; ids = ids.values; first_is = ids.first_is; remark = remark.value; is = g.is }
+    record {
+      usages = usages.values;
+      units_pass = all_pass usage_passes usage_units (λ a h. h) usages.values usages.passes;
+      ids = ids.values;
+      first_is = ids.first_is;
+      remark = remark.value;
+      is = g.is;
+    }
 
 ends : {first : Option Identifier} {text rest : List ℕ} (e : ReadsEnd first text rest) → Goes (map usage_tree e.usages ∷ map ident_tree e.ids ∷ maybe (value_tree (codes "REMARK")) e.remark ∷ []) text rest
 ends e = record { is = e.is }
@@ -77,7 +84,9 @@ geodetic kind system dimension component same name datum meridian s may axes end
     let xs = flat_map axis_units (listed axes.value) in
     let us = option_map_or any_units axes.common [] in
     let fs = frame_units datum.value in
-    let positive = both_pass ((fs ++ ms) ++ xs) us (both_pass (fs ++ ms) xs (both_pass fs ms f.1 (prime_meridian_pass meridian.value meridian.passes)) axes.hold.units) (any_units_pass axes.common axes.passes) in
+    let ws = flat_map usage_units end.usages in
+    let units = both_pass ((fs ++ ms) ++ xs) us (both_pass (fs ++ ms) xs (both_pass fs ms f.1 (prime_meridian_pass meridian.value meridian.passes)) axes.hold.units) (any_units_pass axes.common axes.passes) in
+    let positive = both_pass (((fs ++ ms) ++ xs) ++ us) ws units end.units_pass in
     record {
       value = single.Geodetic v;
       holds = single_holds (single.Geodetic v) (axes_of_system s.value (listed axes.value) axes.common s.kind_is s.dimension_is axes.hold) (rw s.kind_is (rw s.dimension_is may)) (and_true _ _ f.0 positive);
@@ -110,7 +119,9 @@ projected system dimension component same name base conversion s may axes end is
     let cs = conversion_units conversion.value in
     let xs = flat_map axis_units (listed axes.value) in
     let us = option_map_or any_units axes.common [] in
-    let positive = both_pass ((bs ++ cs) ++ xs) us (both_pass (bs ++ cs) xs (both_pass bs cs b.1 conversion.passes) axes.hold.units) (any_units_pass axes.common axes.passes) in
+    let ws = flat_map usage_units end.usages in
+    let units = both_pass ((bs ++ cs) ++ xs) us (both_pass (bs ++ cs) xs (both_pass bs cs b.1 conversion.passes) axes.hold.units) (any_units_pass axes.common axes.passes) in
+    let positive = both_pass (((bs ++ cs) ++ xs) ++ us) ws units end.units_pass in
     record {
       value = single.Projected v;
       holds = single_holds (single.Projected v) (axes_of_system s.value (listed axes.value) axes.common s.kind_is s.dimension_is axes.hold) (rw s.kind_is (rw s.dimension_is may)) (and_true _ _ b.0 positive);
@@ -120,19 +131,20 @@ projected system dimension component same name base conversion s may axes end is
       is = root (codes "PROJCRS") (text_tree name.value) _ name.is (also _ _ base.is (also _ _ conversion.is (also _ _ s.is (also _ _ axes.is (also _ _ axes.common_is (ends end))))));
     }
 
-pub vertical : {content text a b c d rest : List ℕ} (system : SystemKind) (dimension : ℕ) (component : Component) → component.seen.name.now ≡ content → ReadsText content text a → ReadsOne any vertical_frame_tree a b → ReadsSystem system dimension b c → may_be_vertical system dimension ≡ true → ReadsAxes system dimension c d → ReadsEnd component.seen.identifier d rest → component.may_be_first ≡ false → component.may_be_second ≡ true → ReadsSingle component (codes "VERTCRS[" ++ text) rest
-vertical system dimension component same name datum s may axes end first second =
-    let v : verticals.Vertical = record { name = name.value; datum = datum.value; system = s.value; axes = axes.value; unit = axes.common; usages = end.usages; ids = end.ids; remark = end.remark } in
+pub vertical : {content text a b c d e rest : List ℕ} (system : SystemKind) (dimension : ℕ) (component : Component) → component.seen.name.now ≡ content → ReadsText content text a → ReadsOne any vertical_frame_tree a b → ReadsSystem system dimension b c → may_be_vertical system dimension ≡ true → ReadsAxes system dimension c d → ReadsEach any (named_tree (codes "GEOIDMODEL")) d e → ReadsEnd component.seen.identifier e rest → component.may_be_first ≡ false → component.may_be_second ≡ true → ReadsSingle component (codes "VERTCRS[" ++ text) rest
+vertical system dimension component same name datum s may axes models end first second =
+    let v : verticals.Vertical = record { name = name.value; datum = datum.value; system = s.value; axes = axes.value; unit = axes.common; geoid_models = models.values; usages = end.usages; ids = end.ids; remark = end.remark } in
     let xs = flat_map axis_units (listed axes.value) in
     let us = option_map_or any_units axes.common [] in
-    let positive = both_pass xs us axes.hold.units (any_units_pass axes.common axes.passes) in
+    let ws = flat_map usage_units end.usages in
+    let positive = both_pass (xs ++ us) ws (both_pass xs us axes.hold.units (any_units_pass axes.common axes.passes)) end.units_pass in
     record {
       value = single.Vertical v;
       holds = single_holds (single.Vertical v) (axes_of_system s.value (listed axes.value) axes.common s.kind_is s.dimension_is axes.hold) (rw s.kind_is (rw s.dimension_is may)) positive;
       first = sym first;
       second = sym second;
       seen = record { name = name.content_is ∙ sym same; identifier = end.first_is };
-      is = root (codes "VERTCRS") (text_tree name.value) _ name.is (also _ _ datum.is (also _ _ s.is (also _ _ axes.is (also _ _ axes.common_is (ends end)))));
+      is = root (codes "VERTCRS") (text_tree name.value) _ name.is (also _ _ datum.is (also _ _ s.is (also _ _ axes.is (also _ _ axes.common_is (also _ _ models.is (ends end))))));
     }
 
 pub at_front : {component : Component} {text rest : List ℕ} (front inside : List ℕ) → text ≡ front ++ inside → ReadsSingle component (front ++ inside) rest → ReadsSingle component text rest
@@ -145,24 +157,24 @@ single_conditions s h First condition = refl
 single_conditions s h Second condition = refl
 single_conditions s h Whole condition = h condition
 
-compound_conditions : (v : Compound) → Holds v.first → Holds v.second → may_be_first v.first ≡ true → may_be_second v.second ≡ true → HasConditions (parts.Compound v)
-compound_conditions v a b f s First condition = a condition
-compound_conditions v a b f s Second condition = b condition
-compound_conditions v a b f s Whole C1 = refl
-compound_conditions v a b f s Whole C2 = refl
-compound_conditions v a b f s Whole C3 = refl
-compound_conditions v a b f s Whole C4 = refl
-compound_conditions v a b f s Whole C5 = refl
-compound_conditions v a b f s Whole C6 = rw f s
-compound_conditions v a b f s Whole C7 = refl
-compound_conditions v a b f s Whole C8 = refl
+compound_conditions : (v : Compound) → Holds v.first → Holds v.second → may_be_first v.first ≡ true → may_be_second v.second ≡ true → has_own_sizes v ≡ true → HasConditions (parts.Compound v)
+compound_conditions v a b f s u First condition = a condition
+compound_conditions v a b f s u Second condition = b condition
+compound_conditions v a b f s u Whole C1 = refl
+compound_conditions v a b f s u Whole C2 = refl
+compound_conditions v a b f s u Whole C3 = refl
+compound_conditions v a b f s u Whole C4 = refl
+compound_conditions v a b f s u Whole C5 = refl
+compound_conditions v a b f s u Whole C6 = rw f s
+compound_conditions v a b f s u Whole C7 = u
+compound_conditions v a b f s u Whole C8 = refl
 
 pub compound : {content text a b c d e rest : List ℕ} {first second : Component} (seen : Seen) → seen.name.now ≡ content → ReadsText content text a → a ≡ 44 ∷ b → ReadsSingle first b c → c ≡ 44 ∷ d → ReadsSingle second d e → first.may_be_first ≡ true → second.may_be_second ≡ true → ReadsEnd seen.identifier e rest → ReadsWhole seen (codes "COMPOUNDCRS[" ++ text) rest
 compound seen same name comma first comma' second f s end =
     let v : Compound = record { name = name.value; first = first.value; second = second.value; usages = end.usages; ids = end.ids; remark = end.remark } in
     record {
       value = parts.Compound v;
-      conditions = compound_conditions v first.holds second.holds (first.first ∙ f) (second.second ∙ s);
+      conditions = compound_conditions v first.holds second.holds (first.first ∙ f) (second.second ∙ s) end.units_pass;
       seen_of = record { name = name.content_is ∙ sym same; identifier = end.first_is };
       is = root (codes "COMPOUNDCRS") (text_tree name.value) _ name.is (also _ _ (behind_comma_is (single_tree first.value) _ comma first.is) (also _ _ (behind_comma_is (single_tree second.value) _ comma' second.is) (ends end)));
     }

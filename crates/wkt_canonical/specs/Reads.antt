@@ -1,7 +1,7 @@
 -- What stands at the front of a text: the canonical text of a value that passes a test, and the rest after it.
 use Rattle.std.specs.Prelude.{◌≡◌, ℕ, ◌+◌, ◌<◌, Bool, true, false, not, ◌||◌, None, is_some, is_none, codes, List, [], ◌∷◌, ◌++◌, map, Option}
 use Rattle.std.specs.Int.{is_positive, is_negative}
-use Rattle.std.specs.List.{list_all}
+use Rattle.std.specs.List.{list_all, flat_map}
 use Rattle.std.specs.Option.{option_map_or}
 use Rattle.crs_number.specs.declared.decimals.Decimal.{Decimal}
 use Rattle.crs_part.specs.declared.many.NonEmpty.{NonEmpty}
@@ -21,6 +21,7 @@ use Rattle.crs_part.specs.declared.crs.CrsParts.TheVariants as parts
 use Rattle.crs_value.specs.Keys.{text_of}
 use Rattle.crs_value.specs.Conditions.{is_order, is_north_or_south, unit_fits, may_be_first, may_be_second}
 use Rattle.crs_value.specs.Checking.{HasConditions}
+use Rattle.crs_value.specs.Units.{usage_units}
 use Rattle.wkt_meaning.specs.Canon.{canon}
 use Rattle.crs_part.specs.declared.units.Unit.{Unit}
 use Rattle.crs_part.specs.declared.units.Unit.TheVariants as unit
@@ -30,7 +31,7 @@ use Rattle.wkt_canonical.specs.declared.identifiers.Identifier.{Identifier}
 use Rattle.wkt_canonical.specs.declared.crs.Seen.{Seen}
 use Rattle.wkt_canonical.specs.declared.crs.Component.{Component}
 use Rattle.wkt_canonical.specs.Seen.{Identifies, IsFirst, IsSeen}
-use Rattle.wkt_canonical.specs.Tests.{unit_passes, meridian_passes, IsAxis, AxesHold, Holds}
+use Rattle.wkt_canonical.specs.Tests.{all_positive, unit_passes, meridian_passes, IsAxis, AxesHold, Holds}
 use Rattle.wkt_tier.specs.Bare.{Bare, bares}
 use Rattle.wkt_meaning.specs.Render.{render, render_behind}
 use Rattle.wkt_meaning.specs.Runs.{listed}
@@ -200,9 +201,10 @@ pub record ReadsSingle (component : Component) (text rest : List ℕ) : Type 0 w
   pub seen : IsSeen component.seen (parts.Single value)
   pub is : text ≡ render (single_tree value) ++ rest
 
--- the usages, identifiers and remark at the end of a reference system, and its closing delimiter
+-- the usages, of which the units pass, the identifiers and the remark at the end of a reference system, and its closing delimiter
 pub record ReadsEnd (first : Option Identifier) (text rest : List ℕ) : Type 0 where
   pub usages : List Usage
+  pub units_pass : all_positive (flat_map usage_units usages) ≡ true
   pub ids : List Ident
   pub first_is : IsFirst ids first
   pub remark : Option Text

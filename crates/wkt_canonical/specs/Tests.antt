@@ -7,6 +7,8 @@ use Rattle.crs_part.specs.declared.units.UnitDefinition.{UnitDefinition}
 use Rattle.crs_part.specs.declared.units.Unit.{Unit}
 use Rattle.crs_part.specs.declared.units.LengthUnit.{LengthUnit}
 use Rattle.crs_part.specs.declared.units.AngleUnit.{AngleUnit}
+use Rattle.crs_part.specs.declared.usages.VerticalExtent.{VerticalExtent}
+use Rattle.crs_part.specs.declared.usages.Usage.{Usage}
 use Rattle.crs_part.specs.declared.datums.Ellipsoid.{Ellipsoid}
 use Rattle.crs_part.specs.declared.datums.Datum.{Datum}
 use Rattle.crs_part.specs.declared.datums.GeodeticEnsemble.{GeodeticEnsemble}
@@ -21,7 +23,7 @@ use Rattle.crs_part.specs.declared.crs.BaseCrs.{BaseCrs}
 use Rattle.crs_part.specs.declared.crs.Single.{Single}
 use Rattle.crs_value.specs.declared.broken.Condition.{Condition}
 use Rattle.crs_value.specs.Checking.{holds}
-use Rattle.crs_value.specs.Units.{any_units, length_units, angle_units, ellipsoid_units, prime_meridian_units, meridian_units, axis_units, parameter_units, conversion_units, base_units}
+use Rattle.crs_value.specs.Units.{any_units, length_units, angle_units, extent_units, usage_units, ellipsoid_units, prime_meridian_units, meridian_units, axis_units, parameter_units, conversion_units, base_units}
 use Rattle.crs_value.specs.Conditions.{has_positive_factor, has_size, has_units, has_orders, units_fit, has_meridians, unit_fits, is_order, is_north_or_south}
 
 -- every conversion factor is above 0
@@ -36,6 +38,12 @@ length_unit_passes unit = all_positive (length_units unit)
 
 abbrev pub angle_unit_passes : AngleUnit → Bool
 angle_unit_passes unit = all_positive (angle_units unit)
+
+abbrev pub extent_passes : VerticalExtent → Bool
+extent_passes extent = all_positive (extent_units extent)
+
+abbrev pub usage_passes : Usage → Bool
+usage_passes usage = all_positive (usage_units usage)
 
 abbrev pub ellipsoid_passes : Ellipsoid → Bool
 ellipsoid_passes ellipsoid = has_size ellipsoid && all_positive (ellipsoid_units ellipsoid)

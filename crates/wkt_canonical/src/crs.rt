@@ -8,7 +8,7 @@ ghost use Rattle.wkt_canonical.specs.Tests.{base_passes};
 
 use crate::datums::{geodetic_frame, vertical_frame};
 use crate::front::behind;
-use crate::identifiers::{Identifier, identifiers};
+use crate::identifiers::{Identifier, geoid_models, identifiers};
 use crate::leaves::{content, text};
 use crate::node::{each, maybe, one};
 use crate::systems::{axes, system};
@@ -173,6 +173,7 @@ fn vertical(bytes: &[u8]) -> Option<(Component<'_>, &[u8])>
         return None;
     }
     let rest = axes(system, dimension, rest)?;
+    let rest = geoid_models(rest)?;
     let (identifier, rest) = end(rest)?;
     let component = Component {
         seen: Seen { name, identifier },

@@ -2,7 +2,7 @@
 
 ghost use Rattle.std.specs.Prelude.{codes, IfSome};
 ghost use Rattle.wkt_meaning.specs.Trees.{ident_tree, named_tree, code_tree};
-ghost use Rattle.wkt_canonical.specs.Reads.{ReadsMaybe, ReadsOne, ReadsWithin, ReadsIdentifier, ReadsIdentifiers, any};
+ghost use Rattle.wkt_canonical.specs.Reads.{ReadsEach, ReadsMaybe, ReadsOne, ReadsWithin, ReadsIdentifier, ReadsIdentifiers, any};
 
 use crate::front::behind;
 use crate::leaves::{code, code_behind_comma, content, text};
@@ -104,4 +104,18 @@ pub(crate) fn method(bytes: &[u8]) -> Option<&[u8]>
     let inside = behind(bytes, b",METHOD[")?;
     let rest = named(inside)?;
     Some(rest)
+}
+
+/// The rest after the geoid models that come.
+pub(crate) fn geoid_models(bytes: &[u8]) -> Option<&[u8]>
+    ensures { IfSome result (λ rest. ReadsEach any (named_tree (codes "GEOIDMODEL")) bytes.now rest.now) }
+{
+    let mut rest = bytes;
+    for _ in 0..bytes.len() {
+        let Some(inside) = behind(rest, b",GEOIDMODEL[") else {
+            return Some(rest);
+        };
+        rest = named(inside)?;
+    }
+    None
 }

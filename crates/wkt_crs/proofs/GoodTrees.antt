@@ -149,6 +149,10 @@ method_good : Goods 3 (trees.named_tree (codes "METHOD"))
 method_good = branch_good 0 2 (λ v. codes "METHOD") trees.text_tree (λ v. v.name) (λ v. (v.ids, tt)) (λ v. refl) text_good
     (then 2 0 (each 2 trees.ident_tree ident_good) none)
 
+geoid_model_good : Goods 3 (trees.named_tree (codes "GEOIDMODEL"))
+geoid_model_good = branch_good 0 2 (λ v. codes "GEOIDMODEL") trees.text_tree (λ v. v.name) (λ v. (v.ids, tt)) (λ v. refl) text_good
+    (then 2 0 (each 2 trees.ident_tree ident_good) none)
+
 length_of_good : Goods 3 (trees.unit_of_tree (codes "LENGTHUNIT"))
 length_of_good = branch_good 0 2 (λ v. codes "LENGTHUNIT") trees.text_tree (λ v. v.name) (λ v. (v.factor, (v.ids, tt))) (λ v. refl) text_good
     (then 0 2 (one 0 trees.number_tree number_good) (then 2 0 (each 2 trees.ident_tree ident_good) none))
@@ -183,9 +187,13 @@ bounding_box_good : Goods 1 trees.bounding_box_tree
 bounding_box_good = branch_good 0 0 (λ v. codes "BBOX") trees.number_tree (λ v. v.south) (λ v. (v.west, (v.north, (v.east, tt)))) (λ v. refl) number_good
     (then 0 0 (one 0 trees.number_tree number_good) (then 0 0 (one 0 trees.number_tree number_good) (then 0 0 (one 0 trees.number_tree number_good) none)))
 
-usage_good : Goods 2 trees.usage_tree
-usage_good = branch_good 1 1 (λ v. codes "USAGE") (trees.value_tree (codes "SCOPE")) (λ v. v.scope) (λ v. (v.area, (v.bounding_box, tt))) (λ v. refl) scope_good
-    (then 1 1 (maybe 1 (trees.value_tree (codes "AREA")) area_good) (then 1 0 (maybe 1 trees.bounding_box_tree bounding_box_good) none))
+vertical_extent_good : Goods 4 trees.vertical_extent_tree
+vertical_extent_good = branch_good 0 3 (λ v. codes "VERTICALEXTENT") trees.number_tree (λ v. v.low) (λ v. (v.high, (v.unit, tt))) (λ v. refl) number_good
+    (then 0 3 (one 0 trees.number_tree number_good) (then 3 0 (maybe 3 trees.length_unit_tree length_unit_good) none))
+
+usage_good : Goods 5 trees.usage_tree
+usage_good = branch_good 1 4 (λ v. codes "USAGE") (trees.value_tree (codes "SCOPE")) (λ v. v.scope) (λ v. (v.area, (v.bounding_box, (v.vertical_extent, tt)))) (λ v. refl) scope_good
+    (then 1 4 (maybe 1 (trees.value_tree (codes "AREA")) area_good) (then 1 4 (maybe 1 trees.bounding_box_tree bounding_box_good) (then 4 0 (maybe 4 trees.vertical_extent_tree vertical_extent_good) none)))
 
 ellipsoid_good : Goods 4 trees.ellipsoid_tree
 ellipsoid_good = branch_good 0 3 (λ v. codes "ELLIPSOID") trees.text_tree (λ v. v.name) (λ v. (v.radius, (v.flattening, (v.unit, (v.ids, tt))))) (λ v. refl) text_good
@@ -261,15 +269,15 @@ base_good = branch_good 0 5 (λ v. trees.base_name v.kind) trees.text_tree (λ v
 
 geodetic_good : Goods 6 trees.geodetic_tree
 geodetic_good = branch_good 0 5 (λ v. trees.geodetic_name v.kind) trees.text_tree (λ v. v.name) (λ v. (v.datum, (v.prime_meridian, (v.system, (v.axes, (v.unit, (v.usages, (v.ids, (v.remark, tt))))))))) (λ v. geodetic_name_good v.kind) text_good
-    (then 5 5 (one 5 trees.geodetic_frame_tree geodetic_frame_good) (then 4 5 (maybe 4 trees.prime_meridian_tree prime_meridian_good) (then 3 5 (one 3 trees.system_tree system_good) (then 5 3 (some 5 trees.axis_tree axis_good) (then 3 2 (maybe 3 trees.unit_tree unit_good) (then 2 2 (each 2 trees.usage_tree usage_good) (then 2 1 (each 2 trees.ident_tree ident_good) (then 1 0 (maybe 1 (trees.value_tree (codes "REMARK")) remark_good) none))))))))
+    (then 5 5 (one 5 trees.geodetic_frame_tree geodetic_frame_good) (then 4 5 (maybe 4 trees.prime_meridian_tree prime_meridian_good) (then 3 5 (one 3 trees.system_tree system_good) (then 5 5 (some 5 trees.axis_tree axis_good) (then 3 5 (maybe 3 trees.unit_tree unit_good) (then 5 2 (each 5 trees.usage_tree usage_good) (then 2 1 (each 2 trees.ident_tree ident_good) (then 1 0 (maybe 1 (trees.value_tree (codes "REMARK")) remark_good) none))))))))
 
 projected_good : Goods 7 trees.projected_tree
 projected_good = branch_good 0 6 (λ v. codes "PROJCRS") trees.text_tree (λ v. v.name) (λ v. (v.base, (v.conversion, (v.system, (v.axes, (v.unit, (v.usages, (v.ids, (v.remark, tt))))))))) (λ v. refl) text_good
-    (then 6 5 (one 6 trees.base_tree base_good) (then 5 5 (one 5 trees.conversion_tree conversion_good) (then 3 5 (one 3 trees.system_tree system_good) (then 5 3 (some 5 trees.axis_tree axis_good) (then 3 2 (maybe 3 trees.unit_tree unit_good) (then 2 2 (each 2 trees.usage_tree usage_good) (then 2 1 (each 2 trees.ident_tree ident_good) (then 1 0 (maybe 1 (trees.value_tree (codes "REMARK")) remark_good) none))))))))
+    (then 6 5 (one 6 trees.base_tree base_good) (then 5 5 (one 5 trees.conversion_tree conversion_good) (then 3 5 (one 3 trees.system_tree system_good) (then 5 5 (some 5 trees.axis_tree axis_good) (then 3 5 (maybe 3 trees.unit_tree unit_good) (then 5 2 (each 5 trees.usage_tree usage_good) (then 2 1 (each 2 trees.ident_tree ident_good) (then 1 0 (maybe 1 (trees.value_tree (codes "REMARK")) remark_good) none))))))))
 
 vertical_good : Goods 6 trees.vertical_tree
-vertical_good = branch_good 0 5 (λ v. codes "VERTCRS") trees.text_tree (λ v. v.name) (λ v. (v.datum, (v.system, (v.axes, (v.unit, (v.usages, (v.ids, (v.remark, tt)))))))) (λ v. refl) text_good
-    (then 4 5 (one 4 trees.vertical_frame_tree vertical_frame_good) (then 3 5 (one 3 trees.system_tree system_good) (then 5 3 (some 5 trees.axis_tree axis_good) (then 3 2 (maybe 3 trees.unit_tree unit_good) (then 2 2 (each 2 trees.usage_tree usage_good) (then 2 1 (each 2 trees.ident_tree ident_good) (then 1 0 (maybe 1 (trees.value_tree (codes "REMARK")) remark_good) none)))))))
+vertical_good = branch_good 0 5 (λ v. codes "VERTCRS") trees.text_tree (λ v. v.name) (λ v. (v.datum, (v.system, (v.axes, (v.unit, (v.geoid_models, (v.usages, (v.ids, (v.remark, tt))))))))) (λ v. refl) text_good
+    (then 4 5 (one 4 trees.vertical_frame_tree vertical_frame_good) (then 3 5 (one 3 trees.system_tree system_good) (then 5 5 (some 5 trees.axis_tree axis_good) (then 3 5 (maybe 3 trees.unit_tree unit_good) (then 3 5 (each 3 (trees.named_tree (codes "GEOIDMODEL")) geoid_model_good) (then 5 2 (each 5 trees.usage_tree usage_good) (then 2 1 (each 2 trees.ident_tree ident_good) (then 1 0 (maybe 1 (trees.value_tree (codes "REMARK")) remark_good) none))))))))
 
 component_good : Goods 7 trees.single_tree
 component_good n l (single.Geodetic v) = geodetic_good n (omega (arith, l)) v
@@ -278,7 +286,7 @@ component_good n l (single.Vertical v) = vertical_good n (omega (arith, l)) v
 
 compound_good : Goods 8 trees.compound_tree
 compound_good = branch_good 0 7 (λ v. codes "COMPOUNDCRS") trees.text_tree (λ v. v.name) (λ v. (v.first, (v.second, (v.usages, (v.ids, (v.remark, tt)))))) (λ v. refl) text_good
-    (then 7 7 (one 7 trees.single_tree component_good) (then 7 2 (one 7 trees.single_tree component_good) (then 2 2 (each 2 trees.usage_tree usage_good) (then 2 1 (each 2 trees.ident_tree ident_good) (then 1 0 (maybe 1 (trees.value_tree (codes "REMARK")) remark_good) none)))))
+    (then 7 7 (one 7 trees.single_tree component_good) (then 7 5 (one 7 trees.single_tree component_good) (then 5 2 (each 5 trees.usage_tree usage_good) (then 2 1 (each 2 trees.ident_tree ident_good) (then 1 0 (maybe 1 (trees.value_tree (codes "REMARK")) remark_good) none)))))
 
 parts_good : Goods 8 trees.parts_tree
 parts_good n l (parts.Single v) = component_good n (omega (arith, l)) v

@@ -1,4 +1,6 @@
 pub mod Defining
+pub mod Editions
+pub mod FromText
 pub mod GoodTrees
 pub mod Passes
 pub mod Recognized

@@ -1,18 +1,36 @@
 -- What a fault of a source's text says.
-use Rattle.std.proofs.Common.{◌≡◌, List, ℕ, inl, inr}
-use Rattle.std.specs.Prelude.{◌⊎◌, Result, Ok, Err}
+use Rattle.std.proofs.Common.{◌≡◌, List, ℕ}
 use Rattle.byte_io.specs.Device.{SourceState}
-use Rattle.crs_value.specs.declared.crs.Crs.{Crs}
 use Rattle.wkt_crs.specs.declared.fault.ReadFault.{ReadFault}
 use Rattle.wkt_crs.specs.declared.fault.ReadFault.TheVariants as fault
+use Rattle.wkt_crs.specs.declared.definition.DefinitionFault.{DefinitionFault}
+use Rattle.wkt_crs.specs.declared.definition.DefinitionFault.TheVariants as undefined
 use Rattle.wkt_crs.specs.declared.source.ReadFromFault.TheVariants as from
-use Rattle.wkt_crs.specs.Spells.{Spells}
+use Rattle.wkt_crs.specs.declared.source.DefineFromFault.TheVariants as define
 use Rattle.wkt_crs.specs.Faults.{FirstFault}
-use Rattle.wkt_crs.specs.Source.{ReadsText, IsReadFromFault}
+use Rattle.wkt_crs.specs.Definition.{IsTextFault}
+use Rattle.wkt_crs.specs.Source.{ReadsText, ReadsPart, Refuses, IsReadFromFault, IsDefineFromFault}
+use Rattle.wkt_crs.proofs.Verdicts.{value_or_fault}
 
-pub read_told : (old new : SourceState) (text : List ℕ) (f : ReadFault) → ReadsText old new text → FirstFault text f
-    → ((v : Crs) → Spells text v → ◌≡◌ {A = Result Crs ReadFault} (Err f) (Ok v) ⊎ ◌≡◌ {A = Result Crs ReadFault} (Err f) (Err fault.Memory)) → IsReadFromFault old new (from.Refused f)
-read_told old new text (fault.Text f) r h only = (text, r, h, λ v s. elim (only v s) [ inl e ↦ absurd cc | inr e ↦ absurd cc ])
-read_told old new text (fault.Slot f) r h only = (text, r, h, λ v s. elim (only v s) [ inl e ↦ absurd cc | inr e ↦ absurd cc ])
-read_told old new text (fault.Broken condition at) r h only = (text, r, h, λ v s. elim (only v s) [ inl e ↦ absurd cc | inr e ↦ absurd cc ])
-read_told old new text fault.Memory r h only = (text, r.given, r.front, r.bounded, r.quiet)
+part_of : (old new : SourceState) (text : List ℕ) → ReadsText old new text → ReadsPart old new
+part_of old new text r = (text, r.given, r.front, r.bounded, r.quiet)
+
+-- a text with a first fault but `Memory` spells nothing
+refuses : (old new : SourceState) (text : List ℕ) (f : ReadFault) → ¬ (f ≡ fault.Memory) → ReadsText old new text → FirstFault text f → Refuses old new f
+refuses old new text f other r h = (text, r, h, λ v s. other (value_or_fault text v f s h))
+
+pub read_told : (old new : SourceState) (text : List ℕ) (f : ReadFault) → ReadsText old new text → FirstFault text f → IsReadFromFault old new (from.Refused f)
+read_told old new text (fault.Text f) r h = refuses old new text (fault.Text f) (λ e. absurd cc) r h
+read_told old new text (fault.Slot f) r h = refuses old new text (fault.Slot f) (λ e. absurd cc) r h
+read_told old new text (fault.Broken condition at) r h = refuses old new text (fault.Broken condition at) (λ e. absurd cc) r h
+read_told old new text fault.Memory r h = part_of old new text r
+
+pub define_told : (old new : SourceState) (text : List ℕ) (f : DefinitionFault) → ReadsText old new text → IsTextFault text f → IsDefineFromFault old new (define.Refused f)
+define_told old new text (undefined.Read (fault.Text f)) r h = refuses old new text (fault.Text f) (λ e. absurd cc) r h
+define_told old new text (undefined.Read (fault.Slot f)) r h = refuses old new text (fault.Slot f) (λ e. absurd cc) r h
+define_told old new text (undefined.Read (fault.Broken condition at)) r h = refuses old new text (fault.Broken condition at) (λ e. absurd cc) r h
+define_told old new text (undefined.Read fault.Memory) r h = absurd h
+define_told old new text undefined.NoIdentifier r (v, spells, none) = (v, (text, r, spells), none)
+define_told old new text undefined.CanonicalTooLong r (v, spells, some, long) = (v, (text, r, spells), some, long)
+define_told old new text undefined.NotCanonical r h = absurd h
+define_told old new text undefined.Memory r h = part_of old new text r

@@ -42,9 +42,9 @@ pub record Denoted (text : List ℕ) (parts : CrsParts) : Type 0 where
   pub denotes : DenotesParts (bare item) parts
 
 -- a tree that denotes a value has no slot fault
-denoted_clean : (text : List ℕ) (parts : CrsParts) (k : Piece) (d : Delimiter) (o : Piece) (items : Items) (c : Piece) → Denoted text parts → Cut 0 text (tokens (node k d o items c)) → (f : SlotFault) → HasFault editions.First (whole (node k d o items c) (suc c.place)) f → ⊥
+denoted_clean : (text : List ℕ) (parts : CrsParts) (k : Piece) (d : Delimiter) (o : Piece) (items : Items) (c : Piece) → Denoted text parts → Cut 0 text (tokens (node k d o items c)) → (f : SlotFault) → HasFault editions.Second (whole (node k d o items c) (suc c.place)) f → ⊥
 denoted_clean text parts k d o items c s cut =
-    fits_clean editions.First text k d o items c cut (parts_law.fits (bare (node k d o items c)) parts (subst (λ j. DenotesParts (bare j) parts) (one_item text s.item (node k d o items c) s.outline.cut cut) s.denotes))
+    fits_clean editions.Second text k d o items c cut (parts_law.fits (bare (node k d o items c)) parts (subst (λ j. DenotesParts (bare j) parts) (one_item text s.item (node k d o items c) s.outline.cut cut) s.denotes))
 
 pub no_slot_fault : (text : List ℕ) (parts : CrsParts) (f : SlotFault) → Denoted text parts → FirstSlot text f → ⊥
 no_slot_fault text parts f s h =
@@ -57,7 +57,7 @@ of_spells text v s = record { item = s.item; outline = s.outline; denotes = s.de
 pub no_slot : (text : List ℕ) (v : Crs) (f : SlotFault) → Spells text v → FirstSlot text f → ⊥
 no_slot text v f s h = no_slot_fault text v.parts f (of_spells text v s) h
 
-pub not_clean : (text : List ℕ) (ts : List Tok) (f : SlotFault) → Cut 0 text ts → IsClean editions.First ts → FirstSlot text f → ⊥
+pub not_clean : (text : List ℕ) (ts : List Tok) (f : SlotFault) → Cut 0 text ts → IsClean editions.Second ts → FirstSlot text f → ⊥
 not_clean text ts f cut clean h =
     let t = h.outline.tree in
     clean t.keyword t.delimiter t.opening t.items t.closing (one_cut text ts h.toks cut h.outline.cut ∙ t.spelled) f (h.first t.keyword t.delimiter t.opening t.items t.closing t.spelled).0
@@ -78,14 +78,14 @@ one_slot text f g a b =
 
 -- ---- what the steps of reading tell
 
-pub slot_told : (text outline : List ℕ) (f : SlotFault) → outline ≡ text → IsOutline text (cut 0 text) → IsFirst editions.First (cut 0 outline) f → FirstSlot text f
-slot_told text outline f e o h = record { toks = cut 0 text; outline = o; first = subst (λ b. IsFirst editions.First (cut 0 b) f) e h }
+pub slot_told : (text outline : List ℕ) (f : SlotFault) → outline ≡ text → IsOutline text (cut 0 text) → IsFirst editions.Second (cut 0 outline) f → FirstSlot text f
+slot_told text outline f e o h = record { toks = cut 0 text; outline = o; first = subst (λ b. IsFirst editions.Second (cut 0 b) f) e h }
 
-pub clean_told : (text outline : List ℕ) (f : SlotFault) → outline ≡ text → IsOutline text (cut 0 text) → IsClean editions.First (cut 0 outline) → FirstSlot text f → ⊥
-clean_told text outline f e o h s = not_clean text (cut 0 text) f o.cut (subst (λ b. IsClean editions.First (cut 0 b)) e h) s
+pub clean_told : (text outline : List ℕ) (f : SlotFault) → outline ≡ text → IsOutline text (cut 0 text) → IsClean editions.Second (cut 0 outline) → FirstSlot text f → ⊥
+clean_told text outline f e o h s = not_clean text (cut 0 text) f o.cut (subst (λ b. IsClean editions.Second (cut 0 b)) e h) s
 
-pub denoted : (text outline : List ℕ) (parts : CrsParts) → outline ≡ text → IsOutline text (cut 0 text) → IsClean editions.First (cut 0 outline)
-    → ((k : Piece) (d : Delimiter) (o : Piece) (items : Items) (c : Piece) → cut 0 outline ≡ tokens (node k d o items c) → IsClean editions.First (cut 0 outline) → DenotesParts (bare (node k d o items c)) parts)
+pub denoted : (text outline : List ℕ) (parts : CrsParts) → outline ≡ text → IsOutline text (cut 0 text) → IsClean editions.Second (cut 0 outline)
+    → ((k : Piece) (d : Delimiter) (o : Piece) (items : Items) (c : Piece) → cut 0 outline ≡ tokens (node k d o items c) → IsClean editions.Second (cut 0 outline) → DenotesParts (bare (node k d o items c)) parts)
     → Denoted text parts
 denoted text outline parts e o clean builds =
     let t = o.tree in

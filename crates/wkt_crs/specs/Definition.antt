@@ -67,6 +67,25 @@ IsCanonicalFault bytes fault.NoIdentifier = (length bytes ≤ 65536) × ((crs : 
 IsCanonicalFault bytes fault.NotCanonical = (length bytes ≤ 65536) × ((crs : Crs) × Spells bytes crs × ¬ (HasNone crs) × ¬ (bytes ≡ canon crs))
 IsCanonicalFault bytes fault.Memory = Unit {0}
 
+-- why a text gives no definition: what it spells has none, or it spells nothing
+abbrev pub IsTextFault : List ℕ → DefinitionFault → Type 0
+IsTextFault text (fault.Read (read.Text f)) = FirstFault text (read.Text f)
+IsTextFault text (fault.Read (read.Slot f)) = FirstFault text (read.Slot f)
+IsTextFault text (fault.Read (read.Broken condition at)) = FirstFault text (read.Broken condition at)
+IsTextFault text (fault.Read read.Memory) = ⊥
+IsTextFault text fault.NoIdentifier = (crs : Crs) × Spells text crs × HasNone crs
+IsTextFault text fault.CanonicalTooLong = (crs : Crs) × Spells text crs × (¬ (HasNone crs)) × (65536 < length (canon crs))
+IsTextFault text fault.NotCanonical = ⊥
+IsTextFault text fault.Memory = Unit {0}
+
+-- why a canonical text, which is not too long, is no definition
+abbrev pub IsSeenFault : List ℕ → DefinitionFault → Type 0
+IsSeenFault bytes (fault.Read f) = ⊥
+IsSeenFault bytes fault.NoIdentifier = (crs : Crs) × Spells bytes crs × HasNone crs
+IsSeenFault bytes fault.CanonicalTooLong = ⊥
+IsSeenFault bytes fault.NotCanonical = ⊥
+IsSeenFault bytes fault.Memory = Unit {0}
+
 -- `Memory` is one fault
 abbrev pub of_read : ReadFault → DefinitionFault
 of_read (read.Text f) = fault.Read (read.Text f)

@@ -16,11 +16,11 @@ use Rattle.wkt_meaning.specs.Denotes.{DenotesParts}
 use Rattle.wkt_crs.specs.declared.fault.ReadFault.{ReadFault}
 use Rattle.wkt_crs.specs.declared.fault.ReadFault.TheVariants as fault
 
--- the text is written with the tokens of a tree, whose first slot fault in the first edition this is
+-- the text is written with the tokens of a tree, whose first slot fault this is, by the second edition of the grammar
 pub record FirstSlot (text : List ℕ) (f : SlotFault) : Type 0 where
   pub toks : List Tok
   pub outline : IsOutline text toks
-  pub first : IsFirst editions.First toks f
+  pub first : IsFirst editions.Second toks f
 
 -- where the first of these items begins
 abbrev pub first_begin : Items → ℕ

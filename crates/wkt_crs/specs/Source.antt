@@ -1,14 +1,18 @@
--- What reading a CRS from a source does to the source, and what it answers.
-use Rattle.std.specs.Prelude.{ℕ, List}
+-- What reading a CRS, its canonical text or its definition from a source does to the source, and what it answers.
+use Rattle.std.specs.Prelude.{◌<◌, ℕ, List, length}
 use Rattle.byte_io.specs.Device.{SourceState}
 use Rattle.byte_io.specs.Whole.{ReadsUpTo, FailsAfter, GivesAtMost}
 use Rattle.crs_value.specs.declared.crs.Crs.{Crs}
 use Rattle.wkt_crs.specs.declared.fault.ReadFault.{ReadFault}
 use Rattle.wkt_crs.specs.declared.fault.ReadFault.TheVariants as fault
+use Rattle.wkt_crs.specs.declared.definition.DefinitionFault.TheVariants as undefined
 use Rattle.wkt_crs.specs.declared.source.ReadFromFault.{ReadFromFault}
 use Rattle.wkt_crs.specs.declared.source.ReadFromFault.TheVariants as from
-use Rattle.wkt_crs.specs.Spells.{Spells}
+use Rattle.wkt_crs.specs.declared.source.DefineFromFault.{DefineFromFault}
+use Rattle.wkt_crs.specs.declared.source.DefineFromFault.TheVariants as define
+use Rattle.wkt_crs.specs.Spells.{Spells, SpellsCanon, canon}
 use Rattle.wkt_crs.specs.Faults.{FirstFault}
+use Rattle.wkt_crs.specs.Definition.{HasNone, IsDefinition}
 
 -- the text of a source: all that it has left, or the first bytes of it, one more than a text may have
 abbrev pub ReadsText : SourceState → SourceState → List ℕ → Type 0
@@ -17,6 +21,14 @@ ReadsText old new text = ReadsUpTo 1048577 old new text
 -- the source has a text that spells the value
 abbrev pub Finds : SourceState → SourceState → Crs → Type 0
 Finds old new v = (text : List ℕ) × ReadsText old new text × Spells text v
+
+-- the source has a text that spells a value of which this is the canonical text
+abbrev pub FindsCanon : SourceState → SourceState → List ℕ → Type 0
+FindsCanon old new canonical = (text : List ℕ) × ReadsText old new text × SpellsCanon text canonical
+
+-- and that is a definition
+abbrev pub FindsDefinition : SourceState → SourceState → List ℕ → Type 0
+FindsDefinition old new bytes = FindsCanon old new bytes × IsDefinition bytes
 
 -- the source has a text that spells no value, and this is its first fault
 abbrev pub Refuses : SourceState → SourceState → ReadFault → Type 0
@@ -37,3 +49,15 @@ IsReadFromFault old new (from.Refused (fault.Text f)) = Refuses old new (fault.T
 IsReadFromFault old new (from.Refused (fault.Slot f)) = Refuses old new (fault.Slot f)
 IsReadFromFault old new (from.Refused (fault.Broken c place)) = Refuses old new (fault.Broken c place)
 IsReadFromFault old new (from.Refused fault.Memory) = ReadsPart old new
+
+-- the source failed, or its text is refused, or what it spells has no identifier or too long a canonical text, or memory ran out
+abbrev pub IsDefineFromFault : SourceState → SourceState → DefineFromFault → Type 0
+IsDefineFromFault old new (define.ReadFailed n) = FailsAt n old new
+IsDefineFromFault old new (define.Refused (undefined.Read (fault.Text f))) = Refuses old new (fault.Text f)
+IsDefineFromFault old new (define.Refused (undefined.Read (fault.Slot f))) = Refuses old new (fault.Slot f)
+IsDefineFromFault old new (define.Refused (undefined.Read (fault.Broken c place))) = Refuses old new (fault.Broken c place)
+IsDefineFromFault old new (define.Refused (undefined.Read fault.Memory)) = ⊥
+IsDefineFromFault old new (define.Refused undefined.NoIdentifier) = (v : Crs) × Finds old new v × HasNone v
+IsDefineFromFault old new (define.Refused undefined.CanonicalTooLong) = (v : Crs) × Finds old new v × (¬ (HasNone v)) × (65536 < length (canon v))
+IsDefineFromFault old new (define.Refused undefined.NotCanonical) = ⊥
+IsDefineFromFault old new (define.Refused undefined.Memory) = ReadsPart old new

@@ -5,6 +5,7 @@ use Rattle.wkt_tree.specs.Tree.{Item, tokens}
 use Rattle.wkt_tree.specs.Faults.{IsOutline}
 use Rattle.wkt_tier.specs.Bare.{bare}
 use Rattle.wkt_meaning.specs.Denotes.{DenotesParts}
+use Rattle.wkt_meaning.specs.FirstEdition.{FirstDenotesParts}
 use Rattle.wkt_meaning.specs.Canon as meaning
 
 -- the text is written with the tokens of a tree that denotes the value, of which all conditions hold
@@ -12,6 +13,12 @@ pub record Spells (text : List ℕ) (v : Crs) : Type 0 where
   pub item : Item
   pub outline : IsOutline text (tokens item)
   pub denotes : DenotesParts (bare item) v.parts
+
+-- the text spelled the value by the first edition of the grammar
+pub record FirstSpells (text : List ℕ) (v : Crs) : Type 0 where
+  pub item : Item
+  pub outline : IsOutline text (tokens item)
+  pub denotes : FirstDenotesParts (bare item) v.parts
 
 -- the canonical text of the value, and the indented one
 abbrev pub canon : Crs → List ℕ

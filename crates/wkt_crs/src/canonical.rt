@@ -1,4 +1,4 @@
-//! Canonical texts of texts.
+//! The canonical text of what a text spells.
 
 ghost use Rattle.std.specs.Prelude.{◌≡◌, ◌≤◌, true, length, IfOk, IfErr};
 ghost use Rattle.crs_value.specs.declared.crs.Crs.{Crs};
@@ -10,7 +10,7 @@ ghost use Rattle.wkt_crs.specs.Spells.{Spells, SpellsCanon};
 ghost use Rattle.wkt_crs.specs.Faults.{FirstFault, FirstSlot};
 
 use crate::fault::ReadFault;
-use crate::reading::{fault_without_memory, read_crs};
+use crate::reading::read_crs;
 use crate::writing::write_crs;
 use std::alloc::Global;
 use wkt_canonical::is_canonical;
@@ -30,22 +30,33 @@ pub fn canonical_text(alloc: Global, text: &[u8]) -> Result<Vec<u8>, ReadFault>
 {
     if is_seen(text) {
         let Ok(copy) = Vec::from_slice(alloc, text) else {
-            return Err(fault_without_memory(text));
+            return Err(ReadFault::Memory);
         };
         return Ok(copy);
     }
+    rewritten(alloc, text)
+}
+
+/// The same, for a text that is not seen to be canonical: its value is read and written.
+pub(crate) fn rewritten(alloc: Global, text: &[u8]) -> Result<Vec<u8>, ReadFault>
+    ensures found { IfOk result (λ canonical. SpellsCanon text.now canonical.items) }
+    ensures only { (v : Crs) → Spells text.now v → IfErr result (λ f. f ≡ fault.Memory) }
+    ensures fault { IfErr result (FirstFault text.now) }
+    ensures text { (f : TextFault) → tree.FirstFault text.now f → IfErr result (λ g. g ≡ fault.Text f) }
+    ensures slot { (f : SlotFault) → FirstSlot text.now f → IfErr result (λ g. g ≡ fault.Slot f) }
+{
     let crs = match read_crs(alloc, text) {
         Ok(crs) => crs,
         Err(fault) => return Err(fault),
     };
     match write_crs(alloc, &crs) {
         Ok(canonical) => Ok(canonical),
-        Err(_) => Err(fault_without_memory(text)),
+        Err(_) => Err(ReadFault::Memory),
     }
 }
 
-// Whether the text is seen to be its own canonical text.
-fn is_seen(text: &[u8]) -> bool
+/// Whether the text is seen to be its own canonical text.
+pub(crate) fn is_seen(text: &[u8]) -> bool
     ensures { result ≡ true → SpellsCanon text.now text.now }
 {
     if text.len() > MOST {

@@ -1,6 +1,6 @@
 //! Definitions: what a register holds.
 
-ghost use Rattle.std.specs.Prelude.{◌≡◌, ◌≤◌, ◌⊎◌, true, false, length, Some, Ok, Err, IfOk, IfErr};
+ghost use Rattle.std.specs.Prelude.{◌≡◌, ◌≤◌, ◌⊎◌, true, false, length, Some, Ok, Err, IfOk, IfErr, IfSome};
 ghost use Rattle.std.specs.Str.{is_utf8};
 ghost use Rattle.crs_part.specs.Slots.{ids_of};
 ghost use Rattle.wkt_tree.specs.declared.fault.TextFault.{TextFault};
@@ -10,11 +10,11 @@ ghost use Rattle.wkt_canonical.specs.Reads.{IsCanonicalOf};
 ghost use Rattle.wkt_crs.specs.declared.fault.ReadFault.TheVariants as read;
 ghost use Rattle.wkt_crs.specs.Spells.{canon};
 ghost use Rattle.wkt_crs.specs.Faults.{FirstSlot};
-ghost use Rattle.wkt_crs.specs.Definition.{HasNone, IsCanonicalFault, IsDefinedBy, IsDefinition, of_read};
+ghost use Rattle.wkt_crs.specs.Definition.{HasNone, IsCanonicalFault, IsSeenFault, IsDefinedBy, IsDefinition, of_read};
 ghost use Rattle.wkt_crs.specs.declared.definition.DefinitionFault.TheVariants as fault;
 
 use crate::fault::ReadFault;
-use crate::reading::{build_crs, read_crs};
+use crate::reading::read_crs;
 use crate::writing::write_crs;
 use crs_part::{Many, Text, TryClone};
 use crs_value::{Crs, Key};
@@ -72,12 +72,13 @@ impl Definition {
     ghost use Rattle.wkt_crs.specs.declared.fault.ReadFault.TheVariants as read;
     ghost use Rattle.wkt_crs.specs.Faults.{FirstSlot};
     ghost use Rattle.wkt_crs.specs.declared.definition.DefinitionFault.TheVariants as fault;
-    ghost use Rattle.wkt_crs.specs.Spells.{canon};
-    ghost use Rattle.wkt_crs.specs.Definition.{HasNone, IsDefinition, IsNewFault, IsCanonicalFault, IsDefinedBy, IsCrsOf, IsNameIn, IsKeyIn};
+    ghost use Rattle.wkt_crs.specs.Spells.{Spells, SpellsCanon, canon};
+    ghost use Rattle.wkt_crs.specs.Definition.{HasNone, IsDefinition, IsNewFault, IsCanonicalFault, IsTextFault, IsDefinedBy, IsCrsOf, IsNameIn, IsKeyIn};
 
     /// The definition of a reference system.
     pub fn new(alloc: Global, crs: Crs) -> Result<Definition, DefinitionFault>
         ensures ok { IfOk result (λ d. d ≡ canon crs) }
+        ensures is { IfOk result IsDefinition }
         ensures fault { IfErr result (IsNewFault crs) }
         ensures only { IsDefinition (canon crs) → (result ≡ Ok (canon crs)) ⊎ (result ≡ Err fault.Memory) }
         // This comes without memory.
@@ -111,12 +112,25 @@ impl Definition {
         let Some(seen) = recognize(bytes) else {
             return read_canonical(alloc, bytes);
         };
-        let Some(identifier) = seen.identifier else {
-            return Err(DefinitionFault::NoIdentifier);
-        };
-        match recognized(alloc, bytes, seen, identifier) {
-            Ok(definition) => Ok(definition),
-            Err(_) => Err(DefinitionFault::Memory),
+        of_seen(alloc, bytes, seen)
+    }
+
+    /// The definition of what the text spells. Most canonical texts are seen to be so, and no value is made of them.
+    pub fn from_text(alloc: Global, text: &[u8]) -> Result<Definition, DefinitionFault>
+        ensures ok { IfOk result (SpellsCanon text.now) }
+        ensures is { IfOk result IsDefinition }
+        ensures fault { IfErr result (IsTextFault text.now) }
+        ensures only { (v : Crs) → Spells text.now v → IsDefinition (canon v) → (result ≡ Ok (canon v)) ⊎ (result ≡ Err fault.Memory) }
+        // These come without memory.
+        ensures text { (f : TextFault) → tree.FirstFault text.now f → result ≡ Err (fault.Read (read.Text f)) }
+        ensures slot { (f : SlotFault) → FirstSlot text.now f → result ≡ Err (fault.Read (read.Slot f)) }
+    {
+        if let Some(seen) = seen_in(text) {
+            return of_seen(alloc, text, seen);
+        }
+        match read_crs(alloc, text) {
+            Ok(crs) => Definition::new(alloc, crs),
+            Err(fault) => Err(of_read(fault)),
         }
     }
 
@@ -171,7 +185,33 @@ fn has_identifier(crs: &Crs) -> bool
     !crs.parts().ids().is_empty()
 }
 
-// The definition with these bytes, of which this is seen: no value is made of them.
+// What is seen of a text that is recognized, and no longer than a definition.
+fn seen_in(text: &[u8]) -> Option<Seen<'_>>
+    ensures { IfSome result (λ seen. (length text.now ≤ 65536) × IsCanonicalOf seen text.now) }
+{
+    if text.len() > MOST {
+        return None;
+    }
+    recognize(text)
+}
+
+// The definition with these bytes, of which this is seen, if an identifier is.
+fn of_seen(alloc: Global, bytes: &[u8], seen: Seen<'_>) -> Result<Definition, DefinitionFault>
+    requires { (length bytes.now ≤ 65536) × IsCanonicalOf seen bytes.now }
+    ensures ok { IfOk result (λ d. d ≡ bytes.now) }
+    ensures is { IfOk result IsDefinition }
+    ensures fault { IfErr result (IsSeenFault bytes.now) }
+{
+    let Some(identifier) = seen.identifier else {
+        return Err(DefinitionFault::NoIdentifier);
+    };
+    match recognized(alloc, bytes, seen, identifier) {
+        Ok(definition) => Ok(definition),
+        Err(_) => Err(DefinitionFault::Memory),
+    }
+}
+
+// The same, where this is the identifier: no value is made of the bytes.
 fn recognized(
     alloc: Global,
     bytes: &[u8],
@@ -210,7 +250,7 @@ fn read_canonical(alloc: Global, bytes: &[u8]) -> Result<Definition, DefinitionF
     ensures text { (f : TextFault) → tree.FirstFault bytes.now f → result ≡ Err (fault.Read (read.Text f)) }
     ensures slot { (f : SlotFault) → FirstSlot bytes.now f → result ≡ Err (fault.Read (read.Slot f)) }
 {
-    let crs = match build_crs(alloc, bytes) {
+    let crs = match read_crs(alloc, bytes) {
         Ok(crs) => crs,
         Err(fault) => return Err(of_read(fault)),
     };
@@ -230,6 +270,7 @@ fn read_canonical(alloc: Global, bytes: &[u8]) -> Result<Definition, DefinitionF
 fn defined(alloc: Global, crs: &Crs, text: Vec<u8>) -> Result<Definition, DefinitionFault>
     requires { (text.items ≡ canon crs.now) × (length text.items ≤ 65536) × ¬ (HasNone crs.now) }
     ensures ok { IfOk result (λ d. d ≡ text.items) }
+    ensures is { IfOk result IsDefinition }
     ensures fault { IfErr result (λ f. f ≡ fault.Memory) }
 {
     let key = match crs.key(alloc) {

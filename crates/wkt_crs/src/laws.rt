@@ -4,7 +4,8 @@ ghost use Rattle.std.specs.Prelude.{◌≡◌, ◌≤◌, length, List, ℕ};
 ghost use Rattle.crs_value.specs.declared.crs.Crs.{Crs};
 ghost use Rattle.wkt_crs.specs.declared.fault.ReadFault.{ReadFault};
 ghost use Rattle.wkt_crs.specs.declared.fault.ReadFault.TheVariants as fault;
-ghost use Rattle.wkt_crs.specs.Spells.{Spells, canon, pretty};
+ghost use Rattle.wkt_meaning.specs.FirstEdition.{NothingAdded};
+ghost use Rattle.wkt_crs.specs.Spells.{FirstSpells, Spells, canon, pretty};
 ghost use Rattle.wkt_crs.specs.Faults.{FirstFault};
 
 /// A text spells one value at most.
@@ -26,4 +27,11 @@ pub fn one_first_fault()
 pub fn written_is_read()
     ensures canonical { (v : Crs) → length (canon v) ≤ 1048576 → Spells (canon v) v }
     ensures indented { (v : Crs) → length (pretty v) ≤ 1048576 → Spells (pretty v) v }
+{}
+
+/// What a text spelled by the first edition of the grammar it spells still, and geoid models and vertical extents are
+/// empty in that value. A value with both empty was spelled by the first edition by each text that spells it.
+pub fn editions()
+    ensures still { (text : List ℕ) (v : Crs) → FirstSpells text v → Spells text v × NothingAdded v.parts }
+    ensures before { (text : List ℕ) (v : Crs) → Spells text v → NothingAdded v.parts → FirstSpells text v }
 {}

@@ -4,7 +4,6 @@
 mod canonical;
 mod definition;
 mod fault;
-mod guessed;
 pub mod laws;
 mod places;
 mod reading;
@@ -20,7 +19,7 @@ pub use crs_value::{Condition, Crs, Key};
 pub use definition::{Definition, DefinitionFault};
 pub use fault::ReadFault;
 pub use reading::read_crs;
-pub use source::{ReadFromFault, read_crs_from};
+pub use source::{DefineFromFault, ReadFromFault, canonical_text_from, define_from, read_crs_from};
 pub use wkt_slots::SlotName;
 pub use wkt_tier::SlotFault;
 pub use wkt_tree::TextFault;

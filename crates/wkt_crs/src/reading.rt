@@ -10,7 +10,6 @@ ghost use Rattle.wkt_crs.specs.Spells.{Spells};
 ghost use Rattle.wkt_crs.specs.Faults.{FirstFault, FirstSlot};
 
 use crate::fault::ReadFault;
-use crate::guessed::guessed;
 use crate::places::keyword_place;
 use crs_value::Crs;
 use std::alloc::Global;
@@ -19,7 +18,7 @@ use wkt_slots::Edition;
 use wkt_tier::check_slots;
 use wkt_tree::scan;
 
-/// The value that the text spells, or its first fault. Faults of the text and of its slots are answered before
+/// The value that the text spells, or its first fault. Faults of the text and of its slots are reported before
 /// anything is allocated.
 pub fn read_crs(alloc: Global, text: &[u8]) -> Result<Crs, ReadFault>
     ensures found { IfOk result (Spells text.now) }
@@ -29,26 +28,11 @@ pub fn read_crs(alloc: Global, text: &[u8]) -> Result<Crs, ReadFault>
     ensures text { (f : TextFault) → tree.FirstFault text.now f → result ≡ Err (fault.Text f) }
     ensures slot { (f : SlotFault) → FirstSlot text.now f → result ≡ Err (fault.Slot f) }
 {
-    match guessed(alloc, text) {
-        Ok(Some(crs)) => Ok(crs),
-        Ok(None) => build_crs(alloc, text),
-        Err(_) => Err(fault_without_memory(text)),
-    }
-}
-
-/// The same, for a text that is not guessed.
-pub(crate) fn build_crs(alloc: Global, text: &[u8]) -> Result<Crs, ReadFault>
-    ensures found { IfOk result (Spells text.now) }
-    ensures only { (v : Crs) → Spells text.now v → (result ≡ Ok v) ⊎ (result ≡ Err fault.Memory) }
-    ensures fault { IfErr result (FirstFault text.now) }
-    ensures text { (f : TextFault) → tree.FirstFault text.now f → result ≡ Err (fault.Text f) }
-    ensures slot { (f : SlotFault) → FirstSlot text.now f → result ≡ Err (fault.Slot f) }
-{
     let outline = match scan(text) {
         Ok(outline) => outline,
         Err(fault) => return Err(ReadFault::Text(fault)),
     };
-    if let Err(fault) = check_slots(Edition::First, &outline) {
+    if let Err(fault) = check_slots(Edition::Second, &outline) {
         return Err(ReadFault::Slot(fault));
     }
     let parts = match build_parts(alloc, &outline) {
@@ -61,22 +45,5 @@ pub(crate) fn build_crs(alloc: Global, text: &[u8]) -> Result<Crs, ReadFault>
             condition: broken.condition,
             place: keyword_place(&outline, broken.whose),
         }),
-    }
-}
-
-/// The fault of a text that is refused with `Memory`: that of the text or of its slots, if it has one.
-pub(crate) fn fault_without_memory(text: &[u8]) -> ReadFault
-    ensures fault { FirstFault text.now result }
-    ensures only { (v : Crs) → Spells text.now v → result ≡ fault.Memory }
-    ensures text { (f : TextFault) → tree.FirstFault text.now f → result ≡ fault.Text f }
-    ensures slot { (f : SlotFault) → FirstSlot text.now f → result ≡ fault.Slot f }
-{
-    let outline = match scan(text) {
-        Ok(outline) => outline,
-        Err(fault) => return ReadFault::Text(fault),
-    };
-    match check_slots(Edition::First, &outline) {
-        Ok(()) => ReadFault::Memory,
-        Err(fault) => ReadFault::Slot(fault),
     }
 }

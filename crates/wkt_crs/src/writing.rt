@@ -13,17 +13,6 @@ pub fn write_crs(alloc: Global, crs: &Crs) -> Result<Vec<u8>, AllocError>
     wkt_write::write_crs(alloc, crs.parts())
 }
 
-/// The canonical text, with room for so many bytes found at once.
-pub(crate) fn write_crs_with_room(
-    alloc: Global,
-    crs: &Crs,
-    room: usize,
-) -> Result<Vec<u8>, AllocError>
-    ensures { IfOk result (λ text. text.items ≡ canon crs.now) }
-{
-    wkt_write::write_crs_with_room(alloc, crs.parts(), room)
-}
-
 /// The indented text: the canonical one with a new line before the keyword of each node but the root.
 pub fn write_pretty(alloc: Global, crs: &Crs) -> Result<Vec<u8>, AllocError>
     ensures { IfOk result (λ text. text.items ≡ pretty crs.now) }

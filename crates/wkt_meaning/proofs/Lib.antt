@@ -1,3 +1,4 @@
 pub mod Rows
 pub mod Leaves
 pub mod Nodes
+pub mod FirstEdition

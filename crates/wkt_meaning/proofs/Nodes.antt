@@ -31,10 +31,10 @@ use Rattle.wkt_slots.specs.Rows.{enters}
 use Rattle.wkt_slots.specs.Words.{keyword_of}
 use Rattle.wkt_slots.specs.declared.table.Node.{Node}
 use Rattle.wkt_tier.specs.Bare.{Bare}
-use Rattle.wkt_meaning.specs.FirstEdition.{Fitting}
+use Rattle.wkt_meaning.specs.SecondEdition.{Fitting}
 use Rattle.wkt_meaning.specs.Runs.{Fields, IsNode}
-use Rattle.wkt_meaning.specs.Denotes.{DenotesValue, DenotesIdent, DenotesNamed, DenotesUnitOf, DenotesUnit, DenotesLengthUnit, DenotesAngleUnit, DenotesBoundingBox, DenotesUsage, DenotesEllipsoid, DenotesPrimeMeridian, DenotesDatum, DenotesVerticalDatum, DenotesAccuracy, DenotesGeodeticEnsemble, DenotesVerticalEnsemble, DenotesGeodeticFrame, DenotesVerticalFrame, DenotesSystem, DenotesMeridian, DenotesOrder, DenotesAxis, DenotesParameter, DenotesConversion, geodetic_keyword, base_keyword, DenotesBase, DenotesGeodetic, DenotesProjected, DenotesVertical, DenotesSingle, DenotesCompound, DenotesParts}
-use Rattle.wkt_meaning.specs.Trees.{value_tree, ident_tree, named_tree, unit_of_tree, unit_tree, length_unit_tree, angle_unit_tree, bounding_box_tree, usage_tree, ellipsoid_tree, prime_meridian_tree, datum_tree, vertical_datum_tree, accuracy_tree, geodetic_ensemble_tree, vertical_ensemble_tree, geodetic_frame_tree, vertical_frame_tree, system_tree, meridian_tree, order_tree, axis_tree, parameter_tree, conversion_tree, geodetic_name, base_name, base_tree, geodetic_tree, projected_tree, vertical_tree, single_tree, compound_tree, parts_tree}
+use Rattle.wkt_meaning.specs.Denotes.{DenotesValue, DenotesIdent, DenotesNamed, DenotesUnitOf, DenotesUnit, DenotesLengthUnit, DenotesAngleUnit, DenotesBoundingBox, DenotesVerticalExtent, DenotesUsage, DenotesEllipsoid, DenotesPrimeMeridian, DenotesDatum, DenotesVerticalDatum, DenotesAccuracy, DenotesGeodeticEnsemble, DenotesVerticalEnsemble, DenotesGeodeticFrame, DenotesVerticalFrame, DenotesSystem, DenotesMeridian, DenotesOrder, DenotesAxis, DenotesParameter, DenotesConversion, geodetic_keyword, base_keyword, DenotesBase, DenotesGeodetic, DenotesProjected, DenotesVertical, DenotesSingle, DenotesCompound, DenotesParts}
+use Rattle.wkt_meaning.specs.Trees.{value_tree, ident_tree, named_tree, unit_of_tree, unit_tree, length_unit_tree, angle_unit_tree, bounding_box_tree, vertical_extent_tree, usage_tree, ellipsoid_tree, prime_meridian_tree, datum_tree, vertical_datum_tree, accuracy_tree, geodetic_ensemble_tree, vertical_ensemble_tree, geodetic_frame_tree, vertical_frame_tree, system_tree, meridian_tree, order_tree, axis_tree, parameter_tree, conversion_tree, geodetic_name, base_name, base_tree, geodetic_tree, projected_tree, vertical_tree, single_tree, compound_tree, parts_tree}
 use Rattle.wkt_meaning.proofs.Rows.{Law, done, one, maybe, each, some, ◌>>◌, node_law, same_keyword}
 use Rattle.wkt_meaning.proofs.Leaves.{text_law, number_law, code_law, kind_law, direction_law, count_law, Small}
 
@@ -88,6 +88,10 @@ member_law = named_law kinds.Member keywords.Member (codes "MEMBER") refl refl
 pub method_law : Law kinds.Method 3 (DenotesNamed keywords.Method) (named_tree (codes "METHOD"))
 unfolding keyword_of
 method_law = named_law kinds.Method keywords.Method (codes "METHOD") refl refl
+
+pub geoid_model_law : Law kinds.GeoidModel 3 (DenotesNamed keywords.GeoidModel) (named_tree (codes "GEOIDMODEL"))
+unfolding keyword_of
+geoid_model_law = named_law kinds.GeoidModel keywords.GeoidModel (codes "GEOIDMODEL") refl refl
 
 -- ---- units
 
@@ -210,11 +214,17 @@ bounding_box_law =
     node_law kinds.BoundingBox (λ v. keywords.BoundingBox) nodes.BoundingBox (λ v. codes "BBOX") (λ v. (v.south, (v.west, (v.north, (v.east, tt))))) (λ v. refl) (λ v. refl) (λ v w k h. λ i. record { south = (h i).0; west = (h i).1.0; north = (h i).1.1.0; east = (h i).1.1.1.0 })
     (one slots.South number_law >> one slots.West number_law >> one slots.North number_law >> one slots.East number_law >> done)
 
-pub usage_law : Law kinds.Usage 2 DenotesUsage usage_tree
+pub vertical_extent_law : Law kinds.VerticalExtent 4 DenotesVerticalExtent vertical_extent_tree
+unfolding keyword_of
+vertical_extent_law =
+    node_law kinds.VerticalExtent (λ v. keywords.VerticalExtent) nodes.VerticalExtent (λ v. codes "VERTICALEXTENT") (λ v. (v.low, (v.high, (v.unit, tt)))) (λ v. refl) (λ v. refl) (λ v w k h. λ i. record { low = (h i).0; high = (h i).1.0; unit = (h i).1.1.0 })
+    (one slots.Low number_law >> one slots.High number_law >> maybe slots.Unit length_unit_law >> done)
+
+pub usage_law : Law kinds.Usage 5 DenotesUsage usage_tree
 unfolding keyword_of
 usage_law =
-    node_law kinds.Usage (λ v. keywords.Usage) nodes.Usage (λ v. codes "USAGE") (λ v. (v.scope, (v.area, (v.bounding_box, tt)))) (λ v. refl) (λ v. refl) (λ v w k h. λ i. record { scope = (h i).0; area = (h i).1.0; bounding_box = (h i).1.1.0 })
-    (one slots.Scope scope_law >> maybe slots.Area area_law >> maybe slots.BoundingBox bounding_box_law >> done)
+    node_law kinds.Usage (λ v. keywords.Usage) nodes.Usage (λ v. codes "USAGE") (λ v. (v.scope, (v.area, (v.bounding_box, (v.vertical_extent, tt))))) (λ v. refl) (λ v. refl) (λ v w k h. λ i. record { scope = (h i).0; area = (h i).1.0; bounding_box = (h i).1.1.0; vertical_extent = (h i).1.1.1.0 })
+    (one slots.Scope scope_law >> maybe slots.Area area_law >> maybe slots.BoundingBox bounding_box_law >> maybe slots.VerticalExtent vertical_extent_law >> done)
 
 -- ---- datums
 
@@ -412,9 +422,9 @@ projected_law t s =
 vertical_law : (t : Takes) → Singles t → Law t 6 DenotesVertical vertical_tree
 unfolding keyword_of
 vertical_law t s =
-    node_law t (λ v. keywords.VerticalCrs) nodes.VerticalCrs (λ v. codes "VERTCRS") (λ v. (v.name, (v.datum, (v.system, (v.axes, (v.unit, (v.usages, (v.ids, (v.remark, tt))))))))) (λ v. s.2) (λ v. refl)
-    (λ v w k h. λ i. record { name = (h i).0; datum = (h i).1.0; system = (h i).1.1.0; axes = (h i).1.1.1.0; unit = (h i).1.1.1.1.0; usages = (h i).1.1.1.1.1.0; ids = (h i).1.1.1.1.1.1.0; remark = (h i).1.1.1.1.1.1.1.0 })
-    (one slots.Name text_law >> one slots.Datum vertical_frame_law >> one slots.Cs system_law >> some slots.Axis axis_law >> maybe slots.Unit unit_law >> each slots.Usage usage_law >> each slots.Id ident_law >> maybe slots.Remark remark_law >> done)
+    node_law t (λ v. keywords.VerticalCrs) nodes.VerticalCrs (λ v. codes "VERTCRS") (λ v. (v.name, (v.datum, (v.system, (v.axes, (v.unit, (v.geoid_models, (v.usages, (v.ids, (v.remark, tt)))))))))) (λ v. s.2) (λ v. refl)
+    (λ v w k h. λ i. record { name = (h i).0; datum = (h i).1.0; system = (h i).1.1.0; axes = (h i).1.1.1.0; unit = (h i).1.1.1.1.0; geoid_models = (h i).1.1.1.1.1.0; usages = (h i).1.1.1.1.1.1.0; ids = (h i).1.1.1.1.1.1.1.0; remark = (h i).1.1.1.1.1.1.1.1.0 })
+    (one slots.Name text_law >> one slots.Datum vertical_frame_law >> one slots.Cs system_law >> some slots.Axis axis_law >> maybe slots.Unit unit_law >> each slots.GeoidModel geoid_model_law >> each slots.Usage usage_law >> each slots.Id ident_law >> maybe slots.Remark remark_law >> done)
 
 -- the keyword of a component
 abbrev single_keyword : Single → Keyword

@@ -21,7 +21,7 @@ use Rattle.wkt_tier.specs.Slots.{argument_by}
 use Rattle.wkt_tier.specs.Bare.{Bare, Bares, node, args, bares, shape}
 use Rattle.wkt_tier.specs.Fitted.{entered}
 use Rattle.wkt_tier.proofs.Fitting.{cuts_fitted}
-use Rattle.wkt_meaning.specs.FirstEdition.{row_of, Fitted, Fitting, AllFitting, Cuts}
+use Rattle.wkt_meaning.specs.SecondEdition.{row_of, Fitted, Fitting, AllFitting, Cuts}
 use Rattle.wkt_meaning.specs.Runs.{Fields, nothing, ◌&◌, Runs, IsNode, One, Maybe, Each, listed, AtLeastOne}
 use Rattle.crs_part.specs.declared.many.NonEmpty.{NonEmpty}
 use Rattle.wkt_meaning.specs.Trees as trees
@@ -257,11 +257,11 @@ pub node_law : {A B : Type 0} {h : ℕ} {F : B → Fields} {run : B → List Bar
     → ((v : A) → enters t (K v) ≡ Some n) → ((v : A) → keyword_of (word v) ≡ Some (K v)) → ((v w : A) → K v ≡ K w → to v ≡ to w → v ≡ w) → RowLaw (row_of n) h F run
     → Law t (suc h) (λ x v. IsNode (K v) n (F (to v)) x) (λ v. node (word v) (bares (run (to v))))
 node_law {A} {B} {h} {F} {run} t K n word to enter means same row = record {
-  fits = λ x v d. subst (Fitting t) (sym d.is) (node_fitting t (K v) n d.keyword d.items d.meaning (enter v) (cuts_fitted editions.First n d.items (row.fits (to v) (args d.items) d.runs)));
+  fits = λ x v d. subst (Fitting t) (sym d.is) (node_fitting t (K v) n d.keyword d.items d.meaning (enter v) (cuts_fitted editions.Second n d.items (row.fits (to v) (args d.items) d.runs)));
   once = λ x v w d e.
       let items = same_items d.keyword e.keyword d.items e.items (sym d.is ∙ e.is) in
       let key = some_keyword (K v) (K w) (sym d.meaning ∙ (ap keyword_of items.0 ∙ e.meaning)) in
-      same v w key (row.once (rows_clear editions.First n) (args d.items) (to v) (to w) d.runs (subst (λ l. Runs (row_of n) (F (to w)) (args l)) (sym items.1) e.runs));
+      same v w key (row.once (rows_clear editions.Second n) (args d.items) (to v) (to w) d.runs (subst (λ l. Runs (row_of n) (F (to w)) (args l)) (sym items.1) e.runs));
   spelled = λ v. record {
     keyword = word v;
     items = bares (run (to v));

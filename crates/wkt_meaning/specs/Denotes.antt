@@ -13,6 +13,7 @@ use Rattle.crs_part.specs.declared.units.LengthUnit.TheVariants as length_unit
 use Rattle.crs_part.specs.declared.units.AngleUnit.{AngleUnit}
 use Rattle.crs_part.specs.declared.units.AngleUnit.TheVariants as angle_unit
 use Rattle.crs_part.specs.declared.usages.BoundingBox.{BoundingBox}
+use Rattle.crs_part.specs.declared.usages.VerticalExtent.{VerticalExtent}
 use Rattle.crs_part.specs.declared.usages.Usage.{Usage}
 use Rattle.crs_part.specs.declared.datums.Ellipsoid.{Ellipsoid}
 use Rattle.crs_part.specs.declared.datums.PrimeMeridian.{PrimeMeridian}
@@ -74,7 +75,7 @@ ident_fields v =
 abbrev pub DenotesIdent : Bare → Ident → Type 0
 DenotesIdent x v = IsNode keywords.Identifier nodes.Identifier (ident_fields v) x
 
--- MEMBER, METHOD: a name
+-- MEMBER, METHOD, GEOIDMODEL: a name
 abbrev pub named_fields : Named → Fields
 named_fields v = One DenotesText v.name & Each DenotesIdent v.ids & nothing
 
@@ -116,11 +117,22 @@ bounding_box_fields v =
 abbrev pub DenotesBoundingBox : Bare → BoundingBox → Type 0
 DenotesBoundingBox x v = IsNode keywords.BoundingBox nodes.BoundingBox (bounding_box_fields v) x
 
+abbrev pub vertical_extent_fields : VerticalExtent → Fields
+vertical_extent_fields v =
+    One DenotesNumber v.low
+    & One DenotesNumber v.high
+    & Maybe DenotesLengthUnit v.unit
+    & nothing
+
+abbrev pub DenotesVerticalExtent : Bare → VerticalExtent → Type 0
+DenotesVerticalExtent x v = IsNode keywords.VerticalExtent nodes.VerticalExtent (vertical_extent_fields v) x
+
 abbrev pub usage_fields : Usage → Fields
 usage_fields v =
     One (DenotesValue keywords.Scope) v.scope
     & Maybe (DenotesValue keywords.Area) v.area
     & Maybe DenotesBoundingBox v.bounding_box
+    & Maybe DenotesVerticalExtent v.vertical_extent
     & nothing
 
 abbrev pub DenotesUsage : Bare → Usage → Type 0
@@ -332,6 +344,7 @@ vertical_fields v =
     & One DenotesSystem v.system
     & AtLeastOne DenotesAxis v.axes
     & Maybe DenotesUnit v.unit
+    & Each (DenotesNamed keywords.GeoidModel) v.geoid_models
     & Each DenotesUsage v.usages
     & Each DenotesIdent v.ids
     & Maybe (DenotesValue keywords.Remark) v.remark

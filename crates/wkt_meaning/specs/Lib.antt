@@ -1,8 +1,9 @@
-pub mod FirstEdition
+pub mod SecondEdition
 pub mod Runs
 pub mod Leaves
 pub mod Words
 pub mod Denotes
+pub mod FirstEdition
 pub mod Render
 pub mod Trees
 pub mod Canon

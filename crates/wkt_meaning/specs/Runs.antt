@@ -2,11 +2,12 @@
 use Rattle.std.specs.Prelude.{◌≡◌, ℕ, List, [], ◌∷◌, ◌++◌, length, map, Option, Some, None}
 use Rattle.std.specs.List.{AllPass}
 use Rattle.crs_part.specs.declared.many.NonEmpty.{NonEmpty}
+use Rattle.wkt_slots.specs.declared.table.Edition.{Edition}
+use Rattle.wkt_slots.specs.declared.table.Edition.TheVariants as editions
 use Rattle.wkt_slots.specs.declared.table.Slot.{Slot}
 use Rattle.wkt_slots.specs.declared.table.Node.{Node}
 use Rattle.wkt_slots.specs.declared.table.Keyword.{Keyword}
-use Rattle.wkt_slots.specs.Rows.{takes, Times}
-use Rattle.wkt_meaning.specs.FirstEdition.{row_of}
+use Rattle.wkt_slots.specs.Rows.{takes, Times, row_of}
 use Rattle.wkt_slots.specs.Words.{keyword_of}
 use Rattle.wkt_tier.specs.Bare.{Bare, Bares, node, args, shape}
 
@@ -27,13 +28,17 @@ Runs [] (P & fields) xs = ⊥
 Runs (s ∷ row) nothing xs = ⊥
 Runs (s ∷ row) (P & fields) xs = (run : List Bare) × (rest : List Bare) × (xs ≡ run ++ rest) × Meets s run × P run × Runs row fields rest
 
--- a node whose keyword has this meaning, and whose arguments are a row of these fields
-pub record IsNode (means : Keyword) (row : Node) (fields : Fields) (x : Bare) : Type 0 where
+-- a node whose keyword has this meaning, and whose arguments are a row of an edition with these fields
+pub record IsNodeIn (edition : Edition) (means : Keyword) (row : Node) (fields : Fields) (x : Bare) : Type 0 where
   pub keyword : List ℕ
   pub items : Bares
   pub is : x ≡ node keyword items
   pub meaning : keyword_of keyword ≡ Some means
-  pub runs : Runs (row_of row) fields (args items)
+  pub runs : Runs (row_of edition row) fields (args items)
+
+-- the same in the edition in which values are read and written
+abbrev pub IsNode : Keyword → Node → Fields → Bare → Type 0
+IsNode = IsNodeIn editions.Second
 
 -- ---- a run is exactly one argument, at most one, any number, or at least one
 

@@ -15,6 +15,7 @@ use Rattle.crs_part.specs.declared.units.LengthUnit.TheVariants as length_unit
 use Rattle.crs_part.specs.declared.units.AngleUnit.{AngleUnit}
 use Rattle.crs_part.specs.declared.units.AngleUnit.TheVariants as angle_unit
 use Rattle.crs_part.specs.declared.usages.BoundingBox.{BoundingBox}
+use Rattle.crs_part.specs.declared.usages.VerticalExtent.{VerticalExtent}
 use Rattle.crs_part.specs.declared.usages.Usage.{Usage}
 use Rattle.crs_part.specs.declared.datums.Ellipsoid.{Ellipsoid}
 use Rattle.crs_part.specs.declared.datums.PrimeMeridian.{PrimeMeridian}
@@ -137,11 +138,20 @@ bounding_box_tree v = branch (codes "BBOX") (
     ∷ []
     )
 
+abbrev pub vertical_extent_tree : VerticalExtent → Bare
+vertical_extent_tree v = branch (codes "VERTICALEXTENT") (
+    one (number_tree v.low)
+    ∷ one (number_tree v.high)
+    ∷ maybe length_unit_tree v.unit
+    ∷ []
+    )
+
 abbrev pub usage_tree : Usage → Bare
 usage_tree v = branch (codes "USAGE") (
     one (value_tree (codes "SCOPE") v.scope)
     ∷ maybe (value_tree (codes "AREA")) v.area
     ∷ maybe bounding_box_tree v.bounding_box
+    ∷ maybe vertical_extent_tree v.vertical_extent
     ∷ []
     )
 
@@ -310,6 +320,7 @@ vertical_tree v = branch (codes "VERTCRS") (
     ∷ one (system_tree v.system)
     ∷ map axis_tree (listed v.axes)
     ∷ maybe unit_tree v.unit
+    ∷ map (named_tree (codes "GEOIDMODEL")) v.geoid_models
     ∷ map usage_tree v.usages
     ∷ map ident_tree v.ids
     ∷ maybe (value_tree (codes "REMARK")) v.remark

@@ -4,8 +4,9 @@ ghost use Rattle.std.specs.Prelude.{◌≡◌};
 ghost use Rattle.crs_part.specs.declared.crs.CrsParts.{CrsParts};
 ghost use Rattle.wkt_slots.specs.declared.table.Takes.TheVariants as kinds;
 ghost use Rattle.wkt_tier.specs.Bare.{Bare};
-ghost use Rattle.wkt_meaning.specs.FirstEdition.{Fitting};
+ghost use Rattle.wkt_meaning.specs.SecondEdition.{Fitting};
 ghost use Rattle.wkt_meaning.specs.Denotes.{DenotesParts};
+ghost use Rattle.wkt_meaning.specs.FirstEdition.{FirstDenotesParts, NothingAdded};
 ghost use Rattle.wkt_meaning.specs.Trees.{parts_tree};
 
 /// A tree denotes one value at most.
@@ -13,7 +14,7 @@ pub fn one_value()
     ensures { (x : Bare) (v w : CrsParts) → DenotesParts x v → DenotesParts x w → v ≡ w }
 {}
 
-/// A tree that denotes a value has arguments that fit the rows of the first edition, everywhere.
+/// A tree that denotes a value has arguments that fit the rows of the second edition, everywhere.
 pub fn denoted_fits()
     ensures { (x : Bare) (v : CrsParts) → DenotesParts x v → Fitting kinds.AnyCrs x }
 {}
@@ -21,4 +22,11 @@ pub fn denoted_fits()
 /// The canonical tree of a value denotes it.
 pub fn tree_denotes()
     ensures { (v : CrsParts) → DenotesParts (parts_tree v) v }
+{}
+
+/// What a tree denoted by the first edition it denotes by the second, and nothing that the second adds is in the value; such a
+/// value was denoted before.
+pub fn first_edition()
+    ensures still { (x : Bare) (v : CrsParts) → FirstDenotesParts x v → DenotesParts x v × NothingAdded v }
+    ensures before { (x : Bare) (v : CrsParts) → DenotesParts x v → NothingAdded v → FirstDenotesParts x v }
 {}

@@ -4,6 +4,7 @@ ghost use Rattle.std.specs.Prelude.{◌≡◌};
 ghost use Rattle.wkt_meaning.specs.Trees.{geodetic_name, base_name, base_tree, geodetic_tree, projected_tree, vertical_tree, single_tree, compound_tree, parts_tree};
 
 use crate::arguments::{push_close, push_each, push_maybe, push_one, push_open, push_some};
+use crate::identifiers::push_geoid_models;
 use crate::layout::Layout;
 use crate::values::push_remark;
 use crate::written::Written;
@@ -88,6 +89,7 @@ impl Written for Vertical {
         push_one(out, inside, &self.system)?;
         push_some(out, inside, &self.axes)?;
         push_maybe(out, inside, &self.unit)?;
+        push_geoid_models(out, inside, &self.geoid_models)?;
         push_each(out, inside, &self.usages)?;
         push_each(out, inside, &self.ids)?;
         push_remark(out, inside, &self.remark)?;

@@ -40,6 +40,34 @@ fn push_named(
     push_close(out)
 }
 
+/// Appends, after a comma, a node of this keyword.
+fn push_one_named(
+    out: &mut Vec<u8>,
+    layout: Layout,
+    keyword: &[u8],
+    named: &Named,
+) -> Result<(), AllocError>
+    ensures { OnOk result (out.new.items ≡ out.old.items ++ behind layout (one (named_tree keyword.now named.now))) }
+{
+    push_comma(out)?;
+    push_named(out, layout, keyword, named)
+}
+
+/// Appends a node of this keyword for each.
+fn push_each_named(
+    out: &mut Vec<u8>,
+    layout: Layout,
+    keyword: &[u8],
+    items: &Many<Named>,
+) -> Result<(), AllocError>
+    ensures { OnOk result (out.new.items ≡ out.old.items ++ behind layout (map (named_tree keyword.now) items.now)) }
+{
+    for item in items.as_slice() {
+        push_one_named(out, layout, keyword, item)?;
+    }
+    Ok(())
+}
+
 pub(crate) fn push_method(
     out: &mut Vec<u8>,
     layout: Layout,
@@ -47,15 +75,7 @@ pub(crate) fn push_method(
 ) -> Result<(), AllocError>
     ensures { OnOk result (out.new.items ≡ out.old.items ++ behind layout (one (named_tree (codes "METHOD") method.now))) }
 {
-    push_comma(out)?;
-    push_named(out, layout, b"METHOD", method)
-}
-
-fn push_member(out: &mut Vec<u8>, layout: Layout, member: &Named) -> Result<(), AllocError>
-    ensures { OnOk result (out.new.items ≡ out.old.items ++ behind layout (one (named_tree (codes "MEMBER") member.now))) }
-{
-    push_comma(out)?;
-    push_named(out, layout, b"MEMBER", member)
+    push_one_named(out, layout, b"METHOD", method)
 }
 
 pub(crate) fn push_members(
@@ -65,19 +85,16 @@ pub(crate) fn push_members(
 ) -> Result<(), AllocError>
     ensures { OnOk result (out.new.items ≡ out.old.items ++ behind layout (map (named_tree (codes "MEMBER")) (listed members.now))) }
 {
-    push_member(out, layout, &members.first)?;
-    push_other_members(out, layout, &members.others)
+    push_one_named(out, layout, b"MEMBER", &members.first)?;
+    push_each_named(out, layout, b"MEMBER", &members.others)
 }
 
-fn push_other_members(
+pub(crate) fn push_geoid_models(
     out: &mut Vec<u8>,
     layout: Layout,
-    members: &Many<Named>,
+    models: &Many<Named>,
 ) -> Result<(), AllocError>
-    ensures { OnOk result (out.new.items ≡ out.old.items ++ behind layout (map (named_tree (codes "MEMBER")) members.now)) }
+    ensures { OnOk result (out.new.items ≡ out.old.items ++ behind layout (map (named_tree (codes "GEOIDMODEL")) models.now)) }
 {
-    for member in members.as_slice() {
-        push_member(out, layout, member)?;
-    }
-    Ok(())
+    push_each_named(out, layout, b"GEOIDMODEL", models)
 }

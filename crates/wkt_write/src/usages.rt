@@ -1,12 +1,12 @@
 //! What a reference system is used for, and where.
 
-ghost use Rattle.wkt_meaning.specs.Trees.{bounding_box_tree, usage_tree};
+ghost use Rattle.wkt_meaning.specs.Trees.{bounding_box_tree, vertical_extent_tree, usage_tree};
 
 use crate::arguments::{push_close, push_maybe, push_one, push_open};
 use crate::layout::Layout;
 use crate::values::{push_maybe_value, push_value};
 use crate::written::Written;
-use crs_part::{BoundingBox, Usage};
+use crs_part::{BoundingBox, Usage, VerticalExtent};
 use std::alloc::AllocError;
 
 impl Written for BoundingBox {
@@ -22,6 +22,18 @@ impl Written for BoundingBox {
     }
 }
 
+impl Written for VerticalExtent {
+    ghost tree = { vertical_extent_tree };
+
+    fn push_to(&self, out: &mut Vec<u8>, layout: Layout) -> Result<(), AllocError> {
+        let inside = push_open(out, layout, b"VERTICALEXTENT")?;
+        self.low.push_to(out, inside)?;
+        push_one(out, inside, &self.high)?;
+        push_maybe(out, inside, &self.unit)?;
+        push_close(out)
+    }
+}
+
 impl Written for Usage {
     ghost tree = { usage_tree };
 
@@ -30,6 +42,7 @@ impl Written for Usage {
         push_value(out, inside, b"SCOPE", &self.scope)?;
         push_maybe_value(out, inside, b"AREA", &self.area)?;
         push_maybe(out, inside, &self.bounding_box)?;
+        push_maybe(out, inside, &self.vertical_extent)?;
         push_close(out)
     }
 }

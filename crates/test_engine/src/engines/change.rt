@@ -151,7 +151,7 @@ fn what_is_no_definition_is_not_entered(rt: HostRuntime) {
     let text = entered(&rt, alloc, EMPTY, OFFICE_A, unnamed).err();
     assert_eq!(rt; text, refused(Refusal::NoIdentifier));
     // The register is read first.
-    let version = InputFault::NoRegister {
+    let version = InputFault::BadFile {
         fault: FileFault::Version,
         place: 4,
     };

@@ -85,7 +85,7 @@ fn tells_how_much_of_an_export_went_out(rt: HostRuntime) {
     let fault = run_export(alloc, &mut source, &mut sink).err();
     let version = CliFault::File {
         number: 1,
-        fault: InputFault::NoRegister {
+        fault: InputFault::BadFile {
             fault: FileFault::Version,
             place: 4,
         },

@@ -81,6 +81,10 @@ fn names_the_ids_of_refusals(rt: HostRuntime) {
             b"refused: Clash 936da01f-9abd-4d9d-80c7-02af85c822a8:4294967295".as_slice(),
         ),
         (
+            Refusal::Basis(id),
+            b"refused: Basis 936da01f-9abd-4d9d-80c7-02af85c822a8:4294967295",
+        ),
+        (
             Refusal::UnknownEntry(id),
             b"refused: UnknownEntry 936da01f-9abd-4d9d-80c7-02af85c822a8:4294967295",
         ),
@@ -162,7 +166,7 @@ fn names_each_fault_of_a_file(rt: HostRuntime) {
     for (fault, place, line) in faults {
         let fault = CliFault::File {
             number: 2,
-            fault: InputFault::NoRegister { fault, place },
+            fault: InputFault::BadFile { fault, place },
         };
         assert_eq!(rt;
             fault.to_string(rt.alloc()).expect(&rt, "a line").as_bytes(),

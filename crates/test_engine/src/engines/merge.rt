@@ -116,7 +116,7 @@ fn two_operations_of_one_id_clash(rt: HostRuntime) {
     // A file's fault is reported before a clash.
     let truncated = CliFault::File {
         number: 3,
-        fault: InputFault::NoRegister {
+        fault: InputFault::BadFile {
             fault: FileFault::Truncated,
             place: 0,
         },

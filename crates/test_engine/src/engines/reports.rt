@@ -121,7 +121,7 @@ fn a_report_tells_how_much_of_it_went_out(rt: HostRuntime) {
     let mut source = Pieces::new(b"CRSR\x01\x01\x00", 4096, Then::Ends);
     let mut sink = Room::new(alloc, 4096, 1000, Full::Fails);
     let fault = run_report(alloc, &mut source, ReportKind::Gaps, &mut sink).err();
-    let truncated = InputFault::NoRegister {
+    let truncated = InputFault::BadFile {
         fault: FileFault::Truncated,
         place: 7,
     };

@@ -125,4 +125,5 @@ fn laws_can_be_called() {
     reg_file::laws::each_has_a_file();
     reg_file::laws::held_or_fault();
     reg_file::laws::one_first_fault();
+    reg_file::laws::one_kind();
 }

@@ -7,7 +7,7 @@ use super::{
 use reg_file::{read_bytes, write_bytes};
 use reg_office::Office;
 use reg_op::{Op, OpId, Status};
-use reg_state::Register;
+use reg_state::{Piece, PieceFault, Register};
 use std::alloc::Global;
 use std::process::Abort;
 
@@ -184,6 +184,65 @@ fn one_operation_of_a_file_is_taken(rt: HostRuntime) {
     assert!(rt; ends_with(&rt, alloc, c, &file));
 }
 
+// The piece of a register for what another has seen.
+fn piece_for(rt: &impl Abort, alloc: Global, register: &Register, other: &Register) -> Piece {
+    register
+        .piece_for(alloc, other.seen())
+        .expect(rt, "room for a piece")
+}
+
+// The office when it has joined a piece.
+fn having_joined(
+    rt: &impl Abort,
+    alloc: Global,
+    replica: u128,
+    before: &Office,
+    piece: &Piece,
+) -> Office {
+    let register = before
+        .register()
+        .join_piece(alloc, piece)
+        .expect(rt, "a piece whose basis is held");
+    office(replica, register)
+}
+
+#[test]
+fn pieces_serve_in_place_of_files(rt: HostRuntime) {
+    let alloc = rt.alloc();
+    let a = first_office(&rt, alloc);
+    let first = sent(&rt, alloc, &a);
+    let b = second_office(&rt, alloc, &first);
+    let a = having_retired(&rt, alloc, a);
+    // The second has not seen the retirement, the first neither of the operations of the second, of which one is pruned.
+    let retirement = piece_for(&rt, alloc, a.register(), b.register());
+    assert_eq!(rt; retirement.ops().len(), 1);
+    let others = piece_for(&rt, alloc, b.register(), a.register());
+    assert_eq!(rt; others.ops().len(), 2);
+    let a = having_joined(&rt, alloc, A, &a, &others);
+    let b = having_joined(&rt, alloc, B, &b, &retirement);
+    let want = whole_file(&rt, alloc);
+    assert!(rt; ends_with(&rt, alloc, a, &want));
+    assert!(rt; ends_with(&rt, alloc, b, &want));
+}
+
+#[test]
+fn a_piece_waits_for_its_basis(rt: HostRuntime) {
+    let alloc = rt.alloc();
+    let a = first_office(&rt, alloc);
+    let c = office(C, register_of(&rt, alloc, &[]));
+    let before = sent(&rt, alloc, &a);
+    let a = having_retired(&rt, alloc, a);
+    let piece = piece_for(&rt, alloc, a.register(), &read(&rt, alloc, &before));
+    match c.register().join_piece(alloc, &piece) {
+        Err(PieceFault::Basis(id)) => assert!(rt; id == id_of(&rt, A, 1)),
+        _ => assert!(rt; false),
+    }
+    // When it has taken the file, it joins the piece.
+    let c = having_taken(&rt, alloc, C, c, &[&before]);
+    let c = having_joined(&rt, alloc, C, &c, &piece);
+    assert!(rt; ends_with(&rt, alloc, c, &last_file(&rt, alloc, a)));
+}
+
 #[test]
 fn a_restart_keeps_the_gap(rt: HostRuntime) {
     let alloc = rt.alloc();
@@ -197,4 +256,6 @@ fn a_restart_keeps_the_gap(rt: HostRuntime) {
 fn laws_of_worlds_can_be_called() {
     reg_office::laws::every_world();
     reg_office::laws::one_report();
+    reg_office::laws::one_line();
+    reg_office::laws::texts_are_read();
 }

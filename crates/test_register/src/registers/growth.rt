@@ -3,7 +3,7 @@
 
 use super::{A, Sample, are_same, enter, id_of, joined, made, taken, worked};
 use reg_op::OpId;
-use reg_state::{Join, JoinFault, Register, TakeFault};
+use reg_state::{Join, JoinFault, Piece, PieceFault, Register, TakeFault};
 use std::alloc::Global;
 use std::process::Abort;
 
@@ -45,6 +45,19 @@ fn a_refused_take_leaves_the_register(rt: HostRuntime) {
     };
     let outcome = register.take(op);
     assert!(rt; has_taken_or_is_left(outcome, id_of(&rt, A, 3), register, before));
+}
+
+#[test]
+fn a_refused_entry_leaves_the_register(rt: HostRuntime) {
+    let alloc = rt.alloc();
+    let Ok(op) = made(alloc, worked(&rt, 1)) else {
+        return;
+    };
+    let Some((mut register, before)) = two_and_copy(&rt, alloc) else {
+        return;
+    };
+    let outcome = register.take(op);
+    assert!(rt; has_taken_or_is_left(outcome, id_of(&rt, A, 2), register, before));
 }
 
 // Whether a join has three operations, or is refused, out of memory, and leaves the two of the left.
@@ -110,4 +123,52 @@ fn a_clash_of_a_take_is_told_without_memory(rt: HostRuntime) {
         return;
     };
     assert!(rt; clash_taken(left.take(third)) == Some(id));
+}
+
+// The second entry of the worked example, for those who have seen the first.
+fn piece_of(rt: &impl Abort, alloc: Global) -> Option<Piece> {
+    let register = two_of(rt, alloc, 0, 1)?;
+    let other = taken(alloc, &[worked(rt, 0)]).ok()?;
+    register.piece_for(alloc, other.seen()).ok()
+}
+
+// Whether a join has three operations, or is refused, out of memory, and leaves the two of the left.
+fn is_piece_joined_or_left(outcome: Result<Register, PieceFault>, left: &Register) -> bool {
+    match outcome {
+        Ok(both) => both.ops().as_slice().len() == 3,
+        Err(fault) => fault == PieceFault::Memory && left.ops().as_slice().len() == 2,
+    }
+}
+
+#[test]
+fn a_refused_piece_leaves_the_register(rt: HostRuntime) {
+    let alloc = rt.alloc();
+    let Some(left) = two_of(&rt, alloc, 0, 3) else {
+        return;
+    };
+    let Some(piece) = piece_of(&rt, alloc) else {
+        return;
+    };
+    let outcome = left.join_piece(alloc, &piece);
+    drop(piece);
+    assert!(rt; is_piece_joined_or_left(outcome, &left));
+}
+
+fn is_missing(refused: Result<Register, PieceFault>, id: OpId) -> bool {
+    match refused.err() {
+        None => false,
+        Some(fault) => fault == PieceFault::Basis(id),
+    }
+}
+
+#[test]
+fn a_missing_id_is_told_without_memory(rt: HostRuntime) {
+    let alloc = rt.alloc();
+    let Some(piece) = piece_of(&rt, alloc) else {
+        return;
+    };
+    let left = Register::new(alloc);
+    let outcome = left.join_piece(alloc, &piece);
+    drop(piece);
+    assert!(rt; is_missing(outcome, id_of(&rt, A, 1)));
 }

@@ -1,9 +1,10 @@
 //! Canonical texts that are seen to be so.
 
 use super::{COMPOUND, HEIGHT, LISTED, POLAR, SPELLED, refusal};
+use byte_io::{Pieces, Reading, Then};
 use std::alloc::Global;
 use wkt_canonical::{is_canonical, recognize};
-use wkt_crs::canonical_text;
+use wkt_crs::{ReadFromFault, canonical_text, canonical_text_from};
 
 /// A geocentric system.
 const GEOCENTRIC: &[u8] =
@@ -15,6 +16,18 @@ const PLANE_AND_HEIGHT: &[u8] =
 const GEOCENTRIC_AND_HEIGHT: &[u8] =
     b"COMPOUNDCRS[\"C\",GEODCRS[\"G\",DATUM[\"D\",ELLIPSOID[\"S\",6371000,0]],CS[Cartesian,3],AXIS[\"(X)\",geocentricX,LENGTHUNIT[\"metre\",1]],AXIS[\"(Y)\",geocentricY,LENGTHUNIT[\"metre\",1]],AXIS[\"(Z)\",geocentricZ,LENGTHUNIT[\"metre\",1]]],VERTCRS[\"H\",VDATUM[\"D\"],CS[vertical,1],AXIS[\"height (H)\",up,LENGTHUNIT[\"metre\",1]]],ID[\"X\",9]]";
 
+/// A vertical system with geoid models, and with vertical extents in its usages.
+const MODELLED: &[u8] =
+    b"VERTCRS[\"H\",VDATUM[\"D\"],CS[vertical,1],AXIS[\"height (H)\",up],LENGTHUNIT[\"metre\",1],GEOIDMODEL[\"M\",ID[\"X\",8]],GEOIDMODEL[\"N\"],USAGE[SCOPE[\"s\"],AREA[\"A\"],BBOX[-1.92,2.66,6.38,8.49],VERTICALEXTENT[-10,20,LENGTHUNIT[\"metre\",1]]],USAGE[SCOPE[\"t\"],VERTICALEXTENT[-0.5,2]],ID[\"X\",7]]";
+
+/// A compound whose own usage has a vertical extent.
+const EXTENDED: &[u8] =
+    b"COMPOUNDCRS[\"C\",GEOGCRS[\"G\",DATUM[\"D\",ELLIPSOID[\"S\",6371000,0]],CS[ellipsoidal,2],AXIS[\"(Lat)\",north],AXIS[\"(Lon)\",east],ANGLEUNIT[\"degree\",0.0174532925199433]],VERTCRS[\"H\",VDATUM[\"D\"],CS[vertical,1],AXIS[\"height (H)\",up],LENGTHUNIT[\"metre\",1]],USAGE[SCOPE[\"s\"],VERTICALEXTENT[0,9,UNIT[\"metre\",1]]],ID[\"X\",9]]";
+
+/// The same with a factor of 0.
+const FLAT: &[u8] =
+    b"COMPOUNDCRS[\"C\",GEOGCRS[\"G\",DATUM[\"D\",ELLIPSOID[\"S\",6371000,0]],CS[ellipsoidal,2],AXIS[\"(Lat)\",north],AXIS[\"(Lon)\",east],ANGLEUNIT[\"degree\",0.0174532925199433]],VERTCRS[\"H\",VDATUM[\"D\"],CS[vertical,1],AXIS[\"height (H)\",up],LENGTHUNIT[\"metre\",1]],USAGE[SCOPE[\"s\"],VERTICALEXTENT[0,9,UNIT[\"metre\",0]]],ID[\"X\",9]]";
+
 #[test]
 fn canonical_texts_are_seen(rt: HostRuntime) {
     for text in [
@@ -24,11 +37,14 @@ fn canonical_texts_are_seen(rt: HostRuntime) {
         LISTED,
         GEOCENTRIC,
         PLANE_AND_HEIGHT,
+        MODELLED,
+        EXTENDED,
     ] {
         assert!(rt; is_canonical(text));
     }
     assert!(rt; !is_canonical(SPELLED));
     assert!(rt; !is_canonical(GEOCENTRIC_AND_HEIGHT));
+    assert!(rt; !is_canonical(FLAT));
 }
 
 #[test]
@@ -46,11 +62,27 @@ fn each_text_has_one_canonical_text(rt: HostRuntime) {
         (LISTED, LISTED),
         (PLANE_AND_HEIGHT, PLANE_AND_HEIGHT),
         (COMPOUND, COMPOUND),
+        (MODELLED, MODELLED),
+        (EXTENDED, EXTENDED),
         (SPELLED, HEIGHT),
     ] {
         let found = canonical_text(rt.alloc(), text).expect(&rt, "a text of a system");
         assert!(rt; found.as_slice() == canonical);
     }
+}
+
+#[test]
+fn a_source_has_the_canonical_text_of_its_text(rt: HostRuntime) {
+    for (text, canonical) in [(LISTED, LISTED), (SPELLED, HEIGHT)] {
+        let found = canonical_text_from(rt.alloc(), &mut Reading::new(text)).expect(
+            &rt,
+            "a text of a system",
+        );
+        assert!(rt; found.as_slice() == canonical);
+    }
+    let mut failing = Pieces::new(HEIGHT, 10, Then::Fails);
+    let fault = canonical_text_from(rt.alloc(), &mut failing).err();
+    assert!(rt; fault == Some(ReadFromFault::ReadFailed(93)));
 }
 
 // Whether a text has no canonical text, for the reason that it is not read.

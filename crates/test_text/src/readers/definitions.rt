@@ -1,10 +1,11 @@
 //! Definitions: their texts, keys and copies, and why a text is none.
 
 use super::{COMPOUND, HEIGHT, LISTED, POLAR, SPELLED, has_text, read};
+use byte_io::Reading;
 use std::alloc::Global;
 use std::process::Abort;
 use wkt_canonical::is_canonical;
-use wkt_crs::{Definition, DefinitionFault};
+use wkt_crs::{DefineFromFault, Definition, DefinitionFault, define_from};
 
 /// The system of `HEIGHT` with a text for the code of its identifier.
 const NAMED_HEIGHT: &[u8] =
@@ -127,10 +128,36 @@ fn definitions_are_canonical(rt: HostRuntime) {
     assert!(rt; made.as_bytes() == HEIGHT);
 }
 
+/// A vertical system without an identifier, canonical.
+const UNNAMED: &[u8] =
+    b"VERTCRS[\"H\",VDATUM[\"D\"],CS[vertical,1],AXIS[\"height (H)\",up],LENGTHUNIT[\"metre\",1]]";
+
 #[test]
 fn a_system_without_an_identifier_is_no_definition(rt: HostRuntime) {
-    let text =
-        b"VERTCRS[\"H\",VDATUM[\"D\"],CS[vertical,1],AXIS[\"height (H)\",up],LENGTHUNIT[\"metre\",1]]";
-    let outcome = Definition::from_canonical(rt.alloc(), text);
+    let outcome = Definition::from_canonical(rt.alloc(), UNNAMED);
     assert!(rt; is_refused(outcome, DefinitionFault::NoIdentifier));
+}
+
+#[test]
+fn each_spelling_has_the_definition_of_its_value(rt: HostRuntime) {
+    let alloc = rt.alloc();
+    for (text, canonical) in [(HEIGHT, HEIGHT), (SPELLED, HEIGHT), (MARKED, MARKED)] {
+        let made = Definition::from_text(alloc, text).expect(&rt, "a definition");
+        assert!(rt; made.as_bytes() == canonical);
+    }
+    let outcome = Definition::from_text(alloc, UNNAMED);
+    assert!(rt; is_refused(outcome, DefinitionFault::NoIdentifier));
+    let longer = remarked(&rt, alloc, 65_433);
+    let outcome = Definition::from_text(alloc, &longer);
+    assert!(rt; is_refused(outcome, DefinitionFault::CanonicalTooLong));
+}
+
+#[test]
+fn a_source_has_the_definition_of_its_text(rt: HostRuntime) {
+    let made = define_from(rt.alloc(), &mut Reading::new(SPELLED)).expect(&rt, "a definition");
+    assert!(rt; made.as_bytes() == HEIGHT);
+    drop(made);
+    let fault = define_from(rt.alloc(), &mut Reading::new(UNNAMED)).err();
+    let unnamed = DefineFromFault::Refused(DefinitionFault::NoIdentifier);
+    assert!(rt; fault == Some(unnamed));
 }

@@ -5,7 +5,8 @@ use crs_part::{
     AngleUnit, Axis, BaseCrs, BoundingBox, Boxed, Compound, Conversion, CoordSystem, CrsParts,
     Datum, Direction, Ellipsoid, Geodetic, GeodeticEnsemble, GeodeticFrame, GeodeticKind, Ident,
     LengthUnit, Many, Meridian, Named, NonEmpty, NumberOrText, Order, PrimeMeridian, Projected,
-    Single, SystemKind, Text, Unit, UnitDefinition, Usage, Vertical, VerticalDatum, VerticalFrame,
+    Single, SystemKind, Text, Unit, UnitDefinition, Usage, Vertical, VerticalDatum, VerticalExtent,
+    VerticalFrame,
 };
 use std::alloc::Global;
 use std::process::Abort;
@@ -82,6 +83,7 @@ fn usage(
         scope: text(rt, alloc, scope),
         area: Some(text(rt, alloc, area)),
         bounding_box: Some(bounding_box),
+        vertical_extent: None,
     }
 }
 
@@ -196,10 +198,50 @@ fn vertical(rt: &impl Abort, alloc: Global, name: &str, ids: Many<Ident>) -> Ver
             others: Many::new(alloc),
         },
         unit: Some(Unit::Length(metre(rt, alloc))),
+        geoid_models: Many::new(alloc),
         usages: Many::new(alloc),
         ids,
         remark: None,
     }
+}
+
+/// A vertical system with geoid models of these names.
+pub(crate) fn on_models(rt: &impl Abort, alloc: Global, names: &[&str]) -> CrsParts {
+    let ids = one(rt, alloc, ident(rt, alloc, "X", "7"));
+    let mut geoid_models = Many::new(alloc);
+    for name in names {
+        geoid_models
+            .push(named(rt, alloc, name))
+            .expect(rt, "room for a model");
+    }
+    CrsParts::Single(Single::Vertical(Vertical {
+        geoid_models,
+        ..vertical(rt, alloc, "H", ids)
+    }))
+}
+
+/// A vertical system for heights from -10 to 20.
+pub(crate) fn within(rt: &impl Abort, alloc: Global, unit: Option<LengthUnit>) -> CrsParts {
+    let ids = one(rt, alloc, ident(rt, alloc, "X", "7"));
+    let usage = Usage {
+        scope: text(rt, alloc, "s"),
+        area: None,
+        bounding_box: None,
+        vertical_extent: Some(VerticalExtent {
+            low: decimal("-10"),
+            high: decimal("20"),
+            unit,
+        }),
+    };
+    CrsParts::Single(Single::Vertical(Vertical {
+        usages: one(rt, alloc, usage),
+        ..vertical(rt, alloc, "H", ids)
+    }))
+}
+
+/// A unit of length.
+pub(crate) fn in_metres(rt: &impl Abort, alloc: Global) -> Option<LengthUnit> {
+    Some(LengthUnit::Length(metre(rt, alloc)))
 }
 
 pub(crate) fn height(rt: &impl Abort, alloc: Global, name: &str) -> CrsParts {

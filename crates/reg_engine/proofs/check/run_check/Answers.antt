@@ -1,11 +1,21 @@
-use Rattle.std.proofs.Common.{subst, ◌∙◌}
+use Rattle.std.proofs.Common.{◌++◌, ◌∷◌, [], ap, subst, ◌∙◌}
 use Rattle.byte_io.specs.Whole.{WritesAll, IsCutAt}
 use Rattle.reg_engine.proofs.check.run_check.Goals as goal
 
 pub returns-in-Ok-write_all-clause-printed : goal.returns-in-Ok-write_all-clause-printed
 returns-in-Ok-write_all-clause-printed g c =
-    (c.in-Ok.crs, c.in-Ok.ensures.found, subst (λ l. WritesAll l (g.K.Sink.state c.args.sink.now) (g.K.Sink.state c.write_all.new.sink)) (c.deref.ensures.value ∙ c.in-Ok-canonical_line.ensures) c.in-Ok-write_all.ensures.ok)
+    let found = c.in-Ok.ensures.found in (
+      found.2.value,
+      (found.0, found.1, found.2.spells),
+      subst (λ l. WritesAll l (g.K.Sink.state c.args.sink.now) (g.K.Sink.state c.write_all.new.sink))
+          (c.deref.ensures.value ∙ (c.in_default.ensures.items ∙ ap (λ t. t ++ 10 ∷ []) found.2.is)) c.in-Ok-write_all.ensures.ok,
+    )
 
 pub returns-clause-fault : goal.returns-clause-fault
 returns-clause-fault g c =
-    (c.in-Ok.crs, c.in-Ok.ensures.found, subst (λ l. IsCutAt c.in-Err-write_all.fault.written l (g.K.Sink.state c.args.sink.now) (g.K.Sink.state c.write_all.new.sink)) (c.deref.ensures.value ∙ c.in-Ok-canonical_line.ensures) c.in-Err-write_all.ensures.fault)
+    let found = c.in-Ok.ensures.found in (
+      found.2.value,
+      (found.0, found.1, found.2.spells),
+      subst (λ l. IsCutAt c.in-Err-write_all.fault.written l (g.K.Sink.state c.args.sink.now) (g.K.Sink.state c.write_all.new.sink))
+          (c.deref.ensures.value ∙ (c.in_default.ensures.items ∙ ap (λ t. t ++ 10 ∷ []) found.2.is)) c.in-Err-write_all.ensures.fault,
+    )

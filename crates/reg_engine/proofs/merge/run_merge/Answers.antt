@@ -1,22 +1,45 @@
-use Rattle.std.proofs.Common.{refl, map, subst}
-use Rattle.reg_engine.specs.Merge.{ends, JoinTo}
+use Rattle.std.proofs.Common.{◌≡◌, refl, map, subst, Ok, List}
+use Rattle.reg_op.specs.Contents.{Content, nothing, joined}
+use Rattle.reg_op.specs.Pieces.{Piece}
+use Rattle.reg_join.specs.Joining.{all_joined}
+use Rattle.reg_engine.specs.Merge.{ends, begun, with_pieces, IsUnjoined}
 use Rattle.reg_engine.proofs.InputLemmas.{none_failed}
-use Rattle.reg_engine.proofs.MergeLemmas.{unmerged}
+use Rattle.reg_engine.proofs.MergeLemmas.{unmerged, unjoined_first, unjoined_then, joins_to}
 use Rattle.reg_engine.proofs.merge.run_merge.Goals as goal
 
-pub returns-in-Err-Memory-clause-fault : goal.returns-in-Err-Memory-clause-fault
-returns-in-Err-Memory-clause-fault g c =
-    (none_failed (map g.S.Source.state c.args.sources.now) (map g.S.Source.state c.read_files.new.sources) c.in-Ok.registers.items c.in-Ok.ensures.found, refl)
+pub returns-in-Err-join_registers-clause-fault : goal.returns-in-Err-join_registers-clause-fault
+returns-in-Err-join_registers-clause-fault g c =
+    unjoined_first (ends (map g.S.Source.state c.args.sources.now) (g.T.Sink.state c.args.target.now)) (ends (map g.S.Source.state c.read_parts.new.sources) (g.T.Sink.state c.args.target.now))
+    _ _ c.in-Ok.ensures.found refl c.in-Err-join_registers.fault
+    (subst (λ xs. IsUnjoined (begun (all_joined joined (Ok nothing) xs)) c.in-Err-join_registers.fault) c.deref.ensures.value c.in-Err-join_registers.ensures.err)
+
+pub returns-in-Err-join_pieces-clause-fault : goal.returns-in-Err-join_pieces-clause-fault
+returns-in-Err-join_pieces-clause-fault g c =
+    unjoined_then (ends (map g.S.Source.state c.args.sources.now) (g.T.Sink.state c.args.target.now)) (ends (map g.S.Source.state c.read_parts.new.sources) (g.T.Sink.state c.args.target.now))
+    _ _ c.in-Ok-join_registers.begun c.in-Ok.ensures.found refl
+    (subst (λ xs. begun (all_joined joined (Ok nothing) xs) ≡ Ok c.in-Ok-join_registers.begun) c.deref.ensures.value c.in-Ok-join_registers.ensures.ok) c.in-Err-join_pieces.fault
+    (subst (λ qs. IsUnjoined (with_pieces (Ok c.in-Ok-join_registers.begun) qs) c.in-Err-join_pieces.fault) c.deref-2.ensures.value c.in-Err-join_pieces.ensures.err)
 
 pub returns-in-Ok-publish_register-clause-merged : goal.returns-in-Ok-publish_register-clause-merged
-returns-in-Ok-publish_register-clause-merged g c = (
-  c.in-Ok.registers.items,
-  c.in-Ok.ensures.found,
-  (c.in-Ok-join_all.joined, subst (λ xs. JoinTo xs c.in-Ok-join_all.joined) c.deref.ensures.value c.in-Ok-join_all.ensures.ok, c.in-Ok-publish_register.ensures.published),
-)
+returns-in-Ok-publish_register-clause-merged g c =
+    let found = c.in-Ok.ensures.found in (
+      found.0,
+      found.1,
+      (
+        c.in-Ok-join_pieces.joined,
+        joins_to found.0 _ _ c.in-Ok-join_registers.begun c.in-Ok-join_pieces.joined found.2 found.3
+            (subst (λ xs. begun (all_joined joined (Ok nothing) xs) ≡ Ok c.in-Ok-join_registers.begun) c.deref.ensures.value c.in-Ok-join_registers.ensures.ok)
+            (subst (λ qs. with_pieces (Ok c.in-Ok-join_registers.begun) qs ≡ Ok c.in-Ok-join_pieces.joined) c.deref-2.ensures.value c.in-Ok-join_pieces.ensures.ok),
+        c.in-Ok-publish_register.ensures.published,
+      ),
+    )
 
 pub returns-in-Err-publish_register-clause-fault : goal.returns-in-Err-publish_register-clause-fault
 returns-in-Err-publish_register-clause-fault g c =
-    unmerged (ends (map g.S.Source.state c.args.sources.now) (g.T.Sink.state c.args.target.now)) (ends (map g.S.Source.state c.read_files.new.sources) (g.T.Sink.state c.publish_register.new.target))
-    c.in-Ok.registers.items c.in-Ok-join_all.joined c.in-Ok.ensures.found (subst (λ xs. JoinTo xs c.in-Ok-join_all.joined) c.deref.ensures.value c.in-Ok-join_all.ensures.ok)
+    let found = c.in-Ok.ensures.found in
+    unmerged (ends (map g.S.Source.state c.args.sources.now) (g.T.Sink.state c.args.target.now)) (ends (map g.S.Source.state c.read_parts.new.sources) (g.T.Sink.state c.publish_register.new.target))
+    found.0 c.in-Ok-join_pieces.joined found.1
+    (joins_to found.0 _ _ c.in-Ok-join_registers.begun c.in-Ok-join_pieces.joined found.2 found.3
+    (subst (λ xs. begun (all_joined joined (Ok nothing) xs) ≡ Ok c.in-Ok-join_registers.begun) c.deref.ensures.value c.in-Ok-join_registers.ensures.ok)
+    (subst (λ qs. with_pieces (Ok c.in-Ok-join_registers.begun) qs ≡ Ok c.in-Ok-join_pieces.joined) c.deref-2.ensures.value c.in-Ok-join_pieces.ensures.ok))
     c.in-Err-publish_register.fault c.in-Err-publish_register.ensures.fault

@@ -11,9 +11,9 @@ returns-in-Ok-write_all-clause-shown g c = (
     record {
       definition = c.in-Some.definition.now;
       entered = c.in-Some.ensures.found;
-      crs = c.in-Ok-crs.crs;
-      spelled = c.in-Ok-crs.ensures;
-      is = c.in-Ok-line_in.ensures;
+      crs = c.in-Ok-line_in.ensures.0;
+      spelled = c.in-Ok-line_in.ensures.1;
+      is = c.in-Ok-line_in.ensures.2;
     },
     subst (λ l. WritesAll l (g.K.Sink.state c.args.sink.now) (g.K.Sink.state c.write_all.new.sink)) c.deref.ensures.value c.in-Ok-write_all.ensures.ok,
   ),
@@ -28,9 +28,9 @@ returns-clause-fault g c = (
     record {
       definition = c.in-Some.definition.now;
       entered = c.in-Some.ensures.found;
-      crs = c.in-Ok-crs.crs;
-      spelled = c.in-Ok-crs.ensures;
-      is = c.in-Ok-line_in.ensures;
+      crs = c.in-Ok-line_in.ensures.0;
+      spelled = c.in-Ok-line_in.ensures.1;
+      is = c.in-Ok-line_in.ensures.2;
     },
     subst (λ l. IsCutAt c.in-Err-write_all.fault.written l (g.K.Sink.state c.args.sink.now) (g.K.Sink.state c.write_all.new.sink)) c.deref.ensures.value c.in-Err-write_all.ensures.fault,
   ),

@@ -1,5 +1,13 @@
-use Rattle.reg_file.proofs.HoldLemmas
+use Rattle.reg_file.proofs.HoldLemmas as registers
+use Rattle.reg_file.proofs.SummaryLemmas as summaries
+use Rattle.reg_file.proofs.PieceLemmas as pieces
 use Rattle.reg_file.proofs.laws.held_or_fault.Goals as goal
 
-pub returns : goal.returns
-returns c = λ bytes x f place h k. HoldLemmas.held_or_fault bytes x k.0 h k.1
+pub returns-clause-register : goal.returns-clause-register
+returns-clause-register c = λ bytes x f place h k. registers.held_or_fault bytes x k.0 h k.1
+
+pub returns-clause-seen : goal.returns-clause-seen
+returns-clause-seen c = λ bytes ids f place h k. summaries.held_or_fault bytes ids k.0 h k.1
+
+pub returns-clause-piece : goal.returns-clause-piece
+returns-clause-piece c = λ bytes p f place h k. pieces.held_or_fault bytes p k.0 h k.1

@@ -28,7 +28,7 @@ loop-preserved c =
     let os = c.loop.ops.items in
     let fits : IsBytes c.args.bytes.now = λ k. omega (arith, c.type_inv.bytes k) in
     let before = ops_take c.args.seen.now None c.args.bytes.now os c.loop.rest.now fits i.reads in
-    let taken = op_takes c.loop.last c.args.seen.now c.loop.rest.now o rest before.takes.rest_fits c.in-Ok.ensures.ok.0 in
+    let taken = op_takes c.loop.last c.args.seen.now c.loop.rest.now o rest before.takes.rest_fits c.in-Ok.ensures.ok in
     let pushed = c.in_ok-push-2.ensures.items in
     record {
       reads = subst (λ xs. ReadsEach (operation c.args.seen.now) id_after None c.args.bytes.now xs rest) (sym pushed)

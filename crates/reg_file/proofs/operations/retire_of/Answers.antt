@@ -10,4 +10,4 @@ returns-clause-ok c = ap (λ r. r >>= λ x. Ok (Retire x.0, x.1)) c.in-Ok.ensure
 
 pub returns-in-Err-clause-err : goal.returns-in-Err-clause-err
 unfolding body_at
-returns-in-Err-clause-err c = stops_first _ _ (id_at c.args.bytes.now) (λ x. Ok (Retire x.0, x.1)) c.in-Err.stop c.in-Err.ensures
+returns-in-Err-clause-err c = stops_first _ (id_at c.args.bytes.now) (λ x. Ok (Retire x.0, x.1)) c.in-Err.stop c.in-Err.ensures

@@ -10,4 +10,4 @@ returns-clause-ok c = ap (λ r. r >>= λ x. Ok (Supersede x.0.0 x.0.1, x.1)) c.i
 
 pub returns-in-Err-clause-err : goal.returns-in-Err-clause-err
 unfolding body_at
-returns-in-Err-clause-err c = stops_first _ _ (pair_at c.args.bytes.now) (λ x. Ok (Supersede x.0.0 x.0.1, x.1)) c.in-Err.stop c.in-Err.ensures
+returns-in-Err-clause-err c = stops_first _ (pair_at c.args.bytes.now) (λ x. Ok (Supersede x.0.0 x.0.1, x.1)) c.in-Err.stop c.in-Err.ensures

@@ -10,4 +10,4 @@ add_spans-requires c =
 
 pub returns-in-Ok-add_spans-clause-ok : goal.returns-in-Ok-add_spans-clause-ok
 returns-in-Ok-add_spans-clause-ok c =
-    group_added c.args.seen.now c.add_spans.new.seen c.args.last c.args.bytes.now c.in-Ok.read.0.0 c.in-Ok.read.0.1 c.in-Ok.read.1.now c.in-Ok-add_spans.after.now c.in-Ok.ensures c.in-Ok-add_spans.ensures.ok
+    group_added c.args.basis.now c.args.seen.now c.add_spans.new.seen c.args.last c.args.bytes.now c.in-Ok.read.0.0 c.in-Ok.read.0.1 c.in-Ok.read.1.now c.in-Ok-add_spans.after.now c.in-Ok.ensures c.in-Ok-add_spans.ensures.ok

@@ -1,4 +1,4 @@
-use Rattle.std.proofs.Common.{ap, ◌∙◌, Ok, None, OnOk, IfOk, ◌≡◌, refl, subst}
+use Rattle.std.proofs.Common.{ap, ◌∙◌, None, OnOk, IfOk, ◌≡◌, refl, subst}
 use Rattle.wkt_slots.specs.declared.table.Node.TheVariants as nodes
 use Rattle.wkt_slots.specs.declared.table.SlotName.TheVariants as slots
 use Rattle.wkt_slots.specs.declared.table.Takes.TheVariants as kinds

@@ -1,4 +1,4 @@
-use Rattle.std.proofs.Common.{ap, ◌∙◌, Ok, refl}
+use Rattle.std.proofs.Common.{ap, ◌∙◌, refl}
 use Rattle.wkt_slots.specs.declared.table.Node.TheVariants as nodes
 use Rattle.wkt_slots.specs.declared.table.SlotName.TheVariants as slots
 use Rattle.wkt_slots.specs.declared.table.Takes.TheVariants as kinds

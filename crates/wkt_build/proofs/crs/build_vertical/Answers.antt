@@ -9,7 +9,7 @@ use Rattle.wkt_build.proofs.crs.build_vertical.Goals as goal
 
 pub returns-clause-builds : goal.returns-clause-builds
 returns-clause-builds c =
-    let v : Vertical = record { name = c.in_ok-name.name; datum = c.in_ok-datum.datum; system = c.in_ok-ending.ending.system; axes = c.in_ok-ending.ending.axes; unit = c.in_ok-ending.ending.unit; usages = c.in_ok-ending.ending.usages; ids = c.in_ok-ending.ending.ids; remark = c.in_ok-ending.ending.remark } in
+    let v : Vertical = record { name = c.in_ok-name.name; datum = c.in_ok-datum.datum; system = c.in_ok-ending.ending.system; axes = c.in_ok-ending.ending.axes; unit = c.in_ok-ending.ending.unit; geoid_models = c.in_ok-ending.ending.geoid_models; usages = c.in_ok-ending.ending.usages; ids = c.in_ok-ending.ending.ids; remark = c.in_ok-ending.ending.remark } in
     made_node nodes.VerticalCrs vertical_fields c.args.cursor.now c.pass-2.new.cursor v c.pass.ensures.left
     (first_one slots.Name text_law c.pass.new.cursor c.in_ok-name.name c.in_ok-name.ensures.builds
     (then_one slots.Datum vertical_frame_law c.take_one.new.cursor c.in_ok-datum.datum c.in_ok-datum.ensures.builds

@@ -1,6 +1,8 @@
-use Rattle.std.proofs.Common.{ap, ◌∙◌, subst}
+use Rattle.std.proofs.Common.{sym, ap, ◌∙◌, subst}
 use Rattle.crs_part.specs.Slots.{ids_of}
 use Rattle.crs_value.specs.Keys.{IsFirstKey}
+use Rattle.wkt_crs.specs.declared.definition.Body.{Body}
+use Rattle.wkt_crs.specs.Definition.{IsDefinition}
 use Rattle.wkt_crs.proofs.Defining.{defines, key_of_first}
 use Rattle.wkt_crs.proofs.definition.defined.Goals as goal
 
@@ -11,3 +13,7 @@ invariant_of-new c = record {
       (key_of_first (ids_of c.args.crs.now.parts) c.in-Ok-Some.key (subst (IsFirstKey (ids_of c.args.crs.now.parts)) c.in-Ok-Some.field-0-is c.in-Ok-Some.ensures))
       (ap (λ t. t.bytes) (c.in-Ok.ensures ∙ c.name.ensures));
 }
+
+pub returns-in-Ok-new-clause-is : goal.returns-in-Ok-new-clause-is
+returns-in-Ok-new-clause-is c =
+    subst (λ bytes. IsDefinition bytes) (sym (ap (λ (b : Body). b.text.items) c.in-Ok-new.ensures.ok)) (record { crs = c.args.crs.now; canonical = c.requires.0; short = c.requires.1; identified = c.requires.2 })

@@ -5,5 +5,6 @@ use Rattle.wkt_crs.proofs.source.read_crs_from.Goals as goal
 
 pub returns-clause-fault : goal.returns-clause-fault
 returns-clause-fault g c =
-    read_told (g.S.Source.state c.args.source.now) (g.S.Source.state c.read_up_to.new.source) c.deref.result.now c.in-Err.fault
-    (subst (λ t. ReadsText (g.S.Source.state c.args.source.now) (g.S.Source.state c.read_up_to.new.source) t) (sym c.deref.ensures.value) c.in-Ok.ensures.ok) c.in-Err.ensures.fault c.in-Err.ensures.only
+    let old = g.S.Source.state c.args.source.now in
+    let new = g.S.Source.state c.text_from.new.source in
+    read_told old new c.deref.result.now c.in-Err-read_crs.fault (subst (λ t. ReadsText old new t) (sym c.deref.ensures.value) c.in-Ok.ensures.found) c.in-Err-read_crs.ensures.fault

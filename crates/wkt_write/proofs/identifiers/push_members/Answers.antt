@@ -8,4 +8,4 @@ pub returns : goal.returns
 returns c =
     let v = c.args.members.now in
     let tree = named_tree (codes "MEMBER") in
-    on_ok_weaker c.push_other_members.result (runs c.args.layout _ (one (tree v.first)) (map tree v.others) c.in_ok-push_member.ensures) c.push_other_members.ensures
+    on_ok_weaker c.push_each_named.result (runs c.args.layout _ (one (tree v.first)) (map tree v.others) c.in_ok-push_one_named.ensures) c.push_each_named.ensures

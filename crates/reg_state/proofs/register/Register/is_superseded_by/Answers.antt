@@ -1,4 +1,4 @@
-use Rattle.std.proofs.Common.{Some, sym, ap, ◌∙◌}
+use Rattle.std.proofs.Common.{ap, ◌∙◌}
 use Rattle.reg_op.specs.Finite.{any}
 use Rattle.reg_op.specs.Ids.{is_same}
 use Rattle.reg_op.specs.Status.{is_supersession}

@@ -16,8 +16,8 @@ returns-in-Some-clause-clash c = λ id.
     taken_is c.self.inside.ops.items _ c.self.inside.seen x o c.self.invariant c.self.view_is ∙ ap (λ r. joined_unless r (merged x (state (one o)))) at in
     (λ e. let same : c.in-Some.id ≡ id = cc in is ∙ ap Err same, λ e. ap (λ i. Err (TakeFault.Clash i)) (err_same c.in-Some.id id (sym is ∙ e)))
 
-pub merge_op-requires : goal.merge_op-requires
-merge_op-requires c =
+pub put-requires : goal.put-requires
+put-requires c =
     let o = c.args.op in
     let at : clash_in c.self.inside.ops.items (o ∷ []) ≡ None = (λ k. clash_in (sym c.deref.ensures.value k) (sym c.from_ref.ensures.value k)) ∙ sym c.first_clash.ensures ∙ c.in_default.is in
     none_clash c.self.inside.ops.items _ c.self.inside.seen c.args.self.now o c.self.invariant c.self.view_is at
@@ -27,7 +27,7 @@ returns-in-Ok-clause-ok c =
     let o = c.args.op in
     let at : clash_in c.self.inside.ops.items (o ∷ []) ≡ None = (λ k. clash_in (sym c.deref.ensures.value k) (sym c.from_ref.ensures.value k)) ∙ sym c.first_clash.ensures ∙ c.in_default.is in
     taken_ok c.args.self.now o (none_clash c.self.inside.ops.items _ c.self.inside.seen c.args.self.now o c.self.invariant c.self.view_is at)
-    ∙ ap Ok (sym (c.drop-in-Ok.view_is ∙ c.in-Ok.ensures))
+    ∙ ap Ok (sym c.in-Ok.ensures.ok)
 
 pub returns-in-Ok-clause-clash : goal.returns-in-Ok-clause-clash
 returns-in-Ok-clause-clash c = λ id.

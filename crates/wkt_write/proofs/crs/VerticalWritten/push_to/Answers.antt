@@ -9,6 +9,7 @@ returns c =
     (also_one c.in_ok-push_one-2.ensures
     (also_some _ _ c.in_ok-push_some.ensures
     (also _ _ c.in_ok-push_maybe.ensures
+    (also _ _ c.in_ok-push_geoid_models.ensures
     (also _ _ c.in_ok-push_each.ensures
     (also _ _ c.in_ok-push_each-2.ensures
-    (also_last _ c.in_ok-push_remark.ensures e)))))))) c.push_close.ensures
+    (also_last _ c.in_ok-push_remark.ensures e))))))))) c.push_close.ensures

@@ -6,4 +6,5 @@ pub returns : goal.returns
 returns c =
     on_ok_weaker c.push_close.result (λ e. whole _ _ _ _ _ c.in_ok-inside.ensures.text c.in_ok-inside.ensures.inside c.in_ok-push_value.ensures
     (also _ _ c.in_ok-push_maybe_value.ensures
-    (also_last _ c.in_ok-push_maybe.ensures e))) c.push_close.ensures
+    (also _ _ c.in_ok-push_maybe.ensures
+    (also_last _ c.in_ok-push_maybe-2.ensures e)))) c.push_close.ensures

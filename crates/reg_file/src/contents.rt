@@ -1,0 +1,97 @@
+//! What stands behind the head of a register's file, and behind the basis of a piece's: seen ids and operations.
+
+ghost use Rattle.std.specs.Prelude.{◌≡◌, true, IfOk, IfErr};
+ghost use Rattle.reg_op.specs.Set as set;
+ghost use Rattle.reg_op.specs.Operations.{Op as Operation};
+ghost use Rattle.reg_op.specs.Lists.{has, ById};
+ghost use Rattle.reg_file.specs.Readers.{StopsIn};
+ghost use Rattle.reg_file.specs.Reading.{seen_and_kept, seen_and_ops};
+ghost use Rattle.reg_file.specs.Steps.{EndsWell, IsStopOf, ReadsKept, ReadsOps, StopsAtEnd};
+
+use crate::fault::{FileFault, Stop};
+use crate::fields::{number_of, refused};
+use crate::operations::{left_of, ops_of};
+use crate::place::Place;
+use crate::ranges::seen_of;
+use reg_op::Op;
+use reg_state::{ContentFault, Register, Seen};
+use std::alloc::Global;
+
+/// The ids that were seen, none of them in the basis, and the operations, with the place of each.
+pub fn seen_and_ops_of<'a>(
+    alloc: Global,
+    known: &[Register],
+    basis: &Seen,
+    bytes: &'a [u8],
+) -> Result<(Vec<Op>, Vec<Place>, Seen, &'a [u8]), Stop>
+    ensures ok { IfOk result (λ x. ReadsOps basis.now bytes.now x.0.items x.1.items x.2 x.3.now) }
+    ensures err { IfErr result (StopsIn (seen_and_ops basis.now) bytes.now) }
+{
+    let (seen, rest) = match seen_of(alloc, basis, bytes) {
+        Ok(read) => read,
+        Err(stop) => return Err(stop),
+    };
+    let (count, rest) = match number_of(rest) {
+        Ok(read) => read,
+        Err(stop) => return Err(stop),
+    };
+    let (ops, places, rest) = match ops_of(alloc, known, &seen, count, rest) {
+        Ok(read) => read,
+        Err(stop) => return Err(stop),
+    };
+    Ok((ops, places, seen, rest))
+}
+
+/// The fault of operations that are no content's, at the place of the one that it names.
+pub fn stop_of(fault: ContentFault, places: &[Place]) -> Stop
+    ensures { IsStopOf fault places.now result }
+{
+    match fault {
+        ContentFault::NotKept(id) => refused(FileFault::NotKept, left_of(places, id)),
+        ContentFault::Memory => Stop::Memory,
+    }
+}
+
+// What is left when all operations are read: each is kept, and nothing follows.
+fn register_of(
+    alloc: Global,
+    ops: Vec<Op>,
+    seen: Seen,
+    places: &[Place],
+    rest: &[u8],
+) -> Result<Register, Stop>
+    requires by_id { ById ops.items }
+    requires are_seen { (o : Operation) → has ops.items o ≡ true → set.contains seen o.id ≡ true }
+    ensures ok { IfOk result (λ r. EndsWell ops.items seen rest.now r) }
+    ensures err { IfErr result (StopsAtEnd ops.items places.now rest.now) }
+{
+    let register = match Register::from_content(alloc, ops, seen) {
+        Ok(register) => register,
+        Err(fault) => return Err(stop_of(fault, places)),
+    };
+    if !rest.is_empty() {
+        return Err(refused(FileFault::Trailing, rest.len()));
+    }
+    let _kept = register.ops();
+    Ok(register)
+}
+
+/// The register of the ids that were seen, none of them in the basis, and of the operations. Nothing follows.
+pub fn kept_of(
+    alloc: Global,
+    known: &[Register],
+    basis: &Seen,
+    bytes: &[u8],
+) -> Result<Register, Stop>
+    ensures ok { IfOk result (λ r. ReadsKept basis.now bytes.now r) }
+    ensures err { IfErr result (StopsIn (seen_and_kept basis.now) bytes.now) }
+{
+    let (ops, places, seen, rest) = match seen_and_ops_of(alloc, known, basis, bytes) {
+        Ok(read) => read,
+        Err(stop) => return Err(stop),
+    };
+    match register_of(alloc, ops, seen, &places, rest) {
+        Ok(register) => Ok(register),
+        Err(stop) => Err(stop),
+    }
+}

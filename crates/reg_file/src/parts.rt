@@ -1,0 +1,95 @@
+//! Files of registers and of pieces, read from slices and sources.
+
+ghost use Rattle.std.specs.Prelude.{◌≡◌, ◌⊎◌, Ok, Err, IfOk, IfErr};
+ghost use Rattle.reg_file.specs.declared.parts.Part.{Part as PartValue};
+ghost use Rattle.reg_file.specs.Reading.{says_piece};
+ghost use Rattle.reg_file.specs.Parts.{FindsPart, HoldsPart, IsPartReadFault, IsPartReadFromFault};
+
+use crate::fault::ReadFileFault;
+use crate::heads::{MOST, PIECE};
+use crate::pieces::read_piece_bytes_beside;
+use crate::reading::read_bytes_beside;
+use byte_io::{InFault, Source, read_up_to};
+use reg_state::{Piece, Register};
+use std::alloc::Global;
+
+/// What can be joined to a register: a register, or a piece of one.
+#[derive(Drop)]
+pub enum Part {
+    Register(Register),
+    Piece(Piece),
+}
+
+fn says_piece(bytes: &[u8]) -> bool
+    ensures { result ≡ says_piece bytes.now }
+{
+    match bytes.get(5) {
+        Some(kind) => *kind == PIECE,
+        None => false,
+    }
+}
+
+/// Reads a register or a piece from all of a file's bytes: a piece where the byte of the kind says so.
+pub fn read_part_bytes(alloc: Global, bytes: &[u8]) -> Result<Part, ReadFileFault>
+    // What is read is what the bytes hold.
+    ensures found { IfOk result (λ part. HoldsPart bytes.now part) }
+    // Bytes that hold a register or a piece are read, unless memory runs out.
+    ensures only { (part : PartValue) → HoldsPart bytes.now part → (result ≡ Ok part) ⊎ (result ≡ Err ReadFileFault.Memory) }
+    // Which fault it is: a piece's where the bytes say that they are one, and else a register's.
+    ensures fault { IfErr result (IsPartReadFault bytes.now) }
+{
+    read_part_bytes_beside(alloc, &[], bytes)
+}
+
+/// The same, where some registers are known: a definition that an operation of the same id entered there is taken over
+/// where its text is the same, and not read again.
+fn read_part_bytes_beside(
+    alloc: Global,
+    known: &[Register],
+    bytes: &[u8],
+) -> Result<Part, ReadFileFault>
+    ensures found { IfOk result (λ part. HoldsPart bytes.now part) }
+    ensures only { (part : PartValue) → HoldsPart bytes.now part → (result ≡ Ok part) ⊎ (result ≡ Err ReadFileFault.Memory) }
+    ensures fault { IfErr result (IsPartReadFault bytes.now) }
+{
+    if says_piece(bytes) {
+        return match read_piece_bytes_beside(alloc, known, bytes) {
+            Ok(piece) => Ok(Part::Piece(piece)),
+            Err(fault) => Err(fault),
+        };
+    }
+    match read_bytes_beside(alloc, known, bytes) {
+        Ok(register) => Ok(Part::Register(register)),
+        Err(fault) => Err(fault),
+    }
+}
+
+/// Reads a register or a piece from all that a source gives, however the reads are cut. No more is read once the file is
+/// too large.
+pub fn read_part<S: Source>(alloc: Global, source: &mut S) -> Result<Part, ReadFileFault>
+    ensures found { IfOk result (FindsPart (S.state source.old) (S.state source.new)) }
+    ensures fault { IfErr result (IsPartReadFromFault (S.state source.old) (S.state source.new)) }
+{
+    read_part_beside(alloc, &[], source)
+}
+
+/// The same, where some registers are known: a definition that an operation of the same id entered there is taken over
+/// where its text is the same, and not read again.
+pub fn read_part_beside<S: Source>(
+    alloc: Global,
+    known: &[Register],
+    source: &mut S,
+) -> Result<Part, ReadFileFault>
+    ensures found { IfOk result (FindsPart (S.state source.old) (S.state source.new)) }
+    ensures fault { IfErr result (IsPartReadFromFault (S.state source.old) (S.state source.new)) }
+{
+    let bytes = match read_up_to(alloc, source, MOST + 1) {
+        Ok(bytes) => bytes,
+        Err(InFault::ReadFailed(n)) => return Err(ReadFileFault::ReadFailed(n)),
+        Err(InFault::Memory) => return Err(ReadFileFault::Memory),
+    };
+    match read_part_bytes_beside(alloc, known, &bytes) {
+        Ok(part) => Ok(part),
+        Err(fault) => Err(fault),
+    }
+}

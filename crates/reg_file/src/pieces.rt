@@ -1,0 +1,209 @@
+//! Files of pieces, read from slices and sources, and written to vectors and sinks.
+
+ghost use Rattle.std.specs.Prelude.{◌≡◌, ◌<◌, ◌^◌, ◌↔◌, ◌⊎◌, true, false, length, Ok, Err, OnOk, IfOk, IfErr};
+ghost use Rattle.reg_op.specs.Set as set;
+ghost use Rattle.reg_op.specs.Ids.{Id};
+ghost use Rattle.reg_op.specs.Operations.{Op as Operation};
+ghost use Rattle.reg_op.specs.Lists.{has, ById};
+ghost use Rattle.reg_op.specs.Pieces.{Piece as PieceValue};
+ghost use Rattle.reg_file.specs.Layout.{piece_file};
+ghost use Rattle.reg_file.specs.Readers.{StopsIn};
+ghost use Rattle.reg_file.specs.Reading.{based, piece};
+ghost use Rattle.reg_file.specs.Steps.{EndsPiece, ReadsBased, ReadsPiece, StopsAtEnd};
+ghost use Rattle.reg_file.specs.Files.{FindsPiece, HoldsPiece, IsPieceReadFault, IsPieceReadFromFault, IsPieceTooLarge, IsPieceWriteFault, WritesPiece};
+
+use crate::contents::{seen_and_ops_of, stop_of};
+use crate::fault::{FileFault, ReadFileFault, Stop, WriteFileFault};
+use crate::fields::{head_of, refused};
+use crate::heads::{MOST, PIECE, VERSION};
+use crate::length::length_of_piece;
+use crate::place::Place;
+use crate::ranges::seen_of;
+use crate::spelling::{put_head, put_ops, put_ranges};
+use byte_io::{InFault, Sink, Source, read_up_to, write_all};
+use reg_op::Op;
+use reg_state::{Piece, Register, Run, Seen};
+use std::alloc::{AllocError, Global};
+
+// What is left when all operations are read: each is kept, and nothing follows.
+fn piece_of(
+    alloc: Global,
+    ops: Vec<Op>,
+    basis: Seen,
+    seen: Seen,
+    places: &[Place],
+    rest: &[u8],
+) -> Result<Piece, Stop>
+    requires by_id { ById ops.items }
+    requires are_seen { (o : Operation) → has ops.items o ≡ true → set.contains seen o.id ≡ true }
+    requires apart { (i : Id) → set.contains seen i ≡ true → set.contains basis i ≡ false }
+    ensures ok { IfOk result (λ p. EndsPiece ops.items basis seen rest.now p) }
+    ensures err { IfErr result (StopsAtEnd ops.items places.now rest.now) }
+{
+    let piece = match Piece::from_parts(alloc, ops, basis, seen) {
+        Ok(piece) => piece,
+        Err(fault) => return Err(stop_of(fault, places)),
+    };
+    if !rest.is_empty() {
+        return Err(refused(FileFault::Trailing, rest.len()));
+    }
+    let _kept = piece.ops();
+    Ok(piece)
+}
+
+// The basis, and what is without it. Nothing follows.
+fn based_of(alloc: Global, known: &[Register], bytes: &[u8]) -> Result<Piece, Stop>
+    ensures ok { IfOk result (λ p. ReadsBased bytes.now p) }
+    ensures err { IfErr result (StopsIn based bytes.now) }
+{
+    let (basis, rest) = match seen_of(alloc, &Seen::new(alloc), bytes) {
+        Ok(read) => read,
+        Err(stop) => return Err(stop),
+    };
+    let (ops, places, seen, rest) = match seen_and_ops_of(alloc, known, &basis, rest) {
+        Ok(read) => read,
+        Err(stop) => return Err(stop),
+    };
+    match piece_of(alloc, ops, basis, seen, &places, rest) {
+        Ok(piece) => Ok(piece),
+        Err(stop) => Err(stop),
+    }
+}
+
+fn read_all(alloc: Global, known: &[Register], bytes: &[u8]) -> Result<Piece, Stop>
+    ensures ok { IfOk result (λ p. ReadsPiece bytes.now p) }
+    ensures err { IfErr result (StopsIn (piece 1) bytes.now) }
+{
+    let (_, rest) = match head_of(VERSION, PIECE, bytes) {
+        Ok(read) => read,
+        Err(stop) => return Err(stop),
+    };
+    match based_of(alloc, known, rest) {
+        Ok(piece) => Ok(piece),
+        Err(stop) => Err(stop),
+    }
+}
+
+/// Reads a piece from all of a file's bytes.
+pub fn read_piece_bytes(alloc: Global, bytes: &[u8]) -> Result<Piece, ReadFileFault>
+    // What is read is what the bytes hold.
+    ensures found { IfOk result (λ p. HoldsPiece bytes.now p) }
+    // Bytes that hold a piece are read, unless memory runs out.
+    ensures only { (p : PieceValue) → HoldsPiece bytes.now p → (result ≡ Ok p) ⊎ (result ≡ Err ReadFileFault.Memory) }
+    // Which fault it is.
+    ensures fault { IfErr result (IsPieceReadFault bytes.now) }
+{
+    read_piece_bytes_beside(alloc, &[], bytes)
+}
+
+/// The same, where some registers are known: a definition that an operation of the same id entered there is taken over
+/// where its text is the same, and not read again.
+pub fn read_piece_bytes_beside(
+    alloc: Global,
+    known: &[Register],
+    bytes: &[u8],
+) -> Result<Piece, ReadFileFault>
+    ensures found { IfOk result (λ p. HoldsPiece bytes.now p) }
+    ensures only { (p : PieceValue) → HoldsPiece bytes.now p → (result ≡ Ok p) ⊎ (result ≡ Err ReadFileFault.Memory) }
+    ensures fault { IfErr result (IsPieceReadFault bytes.now) }
+{
+    if bytes.len() > MOST {
+        return Err(ReadFileFault::TooLarge);
+    }
+    match read_all(alloc, known, bytes) {
+        Ok(piece) => Ok(piece),
+        Err(Stop::Memory) => Err(ReadFileFault::Memory),
+        Err(Stop::Refused(first)) => Err(ReadFileFault::File {
+            fault: first.fault,
+            place: bytes.len().saturating_sub(first.left),
+        }),
+    }
+}
+
+/// Reads a piece from all that a source gives, however the reads are cut. No more is read once the file is too large.
+pub fn read_piece<S: Source>(alloc: Global, source: &mut S) -> Result<Piece, ReadFileFault>
+    ensures found { IfOk result (FindsPiece (S.state source.old) (S.state source.new)) }
+    ensures fault { IfErr result (IsPieceReadFromFault (S.state source.old) (S.state source.new)) }
+{
+    read_piece_beside(alloc, &[], source)
+}
+
+/// The same, where some registers are known: a definition that an operation of the same id entered there is taken over
+/// where its text is the same, and not read again.
+pub fn read_piece_beside<S: Source>(
+    alloc: Global,
+    known: &[Register],
+    source: &mut S,
+) -> Result<Piece, ReadFileFault>
+    ensures found { IfOk result (FindsPiece (S.state source.old) (S.state source.new)) }
+    ensures fault { IfErr result (IsPieceReadFromFault (S.state source.old) (S.state source.new)) }
+{
+    let bytes = match read_up_to(alloc, source, MOST + 1) {
+        Ok(bytes) => bytes,
+        Err(InFault::ReadFailed(n)) => return Err(ReadFileFault::ReadFailed(n)),
+        Err(InFault::Memory) => return Err(ReadFileFault::Memory),
+    };
+    match read_piece_bytes_beside(alloc, known, &bytes) {
+        Ok(piece) => Ok(piece),
+        Err(fault) => Err(fault),
+    }
+}
+
+// The file of a basis, and of operations and runs without it, in one allocation of its size.
+fn spell_piece(
+    alloc: Global,
+    basis: &[Run],
+    ops: &[Op],
+    runs: &[Run],
+    size: usize,
+) -> Result<Vec<u8>, AllocError>
+    requires basis { length basis.now < 2 ^ 32 }
+    requires ops { length ops.now < 2 ^ 32 }
+    requires runs { length runs.now < 2 ^ 32 }
+    ensures { IfOk result (λ out. out.items ≡ piece_file 1 basis.now ops.now runs.now) }
+{
+    let mut out = Vec::with_capacity(alloc, size)?;
+    put_head(&mut out, VERSION, PIECE)?;
+    put_ranges(&mut out, basis)?;
+    put_ranges(&mut out, runs)?;
+    put_ops(&mut out, ops)?;
+    Ok(out)
+}
+
+/// The bytes of the piece's file. A file that would be too large is reported before anything is allocated.
+pub fn write_piece_bytes(alloc: Global, piece: &Piece) -> Result<Vec<u8>, WriteFileFault>
+    ensures held { IfOk result (λ v. HoldsPiece v.items piece.now) }
+    ensures large { (result ≡ Err WriteFileFault.TooLarge) ↔ IsPieceTooLarge piece.now }
+    ensures memory { IfErr result (λ f. (f ≡ WriteFileFault.TooLarge) ⊎ (f ≡ WriteFileFault.Memory)) }
+{
+    let basis = piece.basis().runs();
+    let ops = piece.ops();
+    let runs = piece.seen().runs();
+    let Some(size) = length_of_piece(basis, ops, runs) else {
+        return Err(WriteFileFault::TooLarge);
+    };
+    match spell_piece(alloc, basis, ops, runs, size) {
+        Ok(out) => Ok(out),
+        Err(_) => Err(WriteFileFault::Memory),
+    }
+}
+
+/// Writes the piece's file, and nothing else.
+pub fn write_piece<K: Sink>(
+    alloc: Global,
+    piece: &Piece,
+    sink: &mut K,
+) -> Result<(), WriteFileFault>
+    ensures ok { OnOk result (WritesPiece piece.now (K.state sink.old) (K.state sink.new)) }
+    ensures large { (result ≡ Err WriteFileFault.TooLarge) ↔ IsPieceTooLarge piece.now }
+    ensures fault { IfErr result (IsPieceWriteFault piece.now (K.state sink.old) (K.state sink.new)) }
+{
+    let bytes = match write_piece_bytes(alloc, piece) {
+        Ok(bytes) => bytes,
+        Err(fault) => return Err(fault),
+    };
+    match write_all(sink, &bytes) {
+        Ok(()) => Ok(()),
+        Err(fault) => Err(WriteFileFault::WriteFailed(fault.written)),
+    }
+}

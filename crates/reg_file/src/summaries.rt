@@ -1,0 +1,135 @@
+//! Files of seen summaries, read from slices and sources, and written to vectors and sinks.
+
+ghost use Rattle.std.specs.Prelude.{◌≡◌, ◌<◌, ◌^◌, ◌↔◌, ◌⊎◌, [], length, Ok, Err, OnOk, IfOk, IfErr};
+ghost use Rattle.reg_op.specs.Ids.{Ids};
+ghost use Rattle.reg_file.specs.Layout.{seen_file};
+ghost use Rattle.reg_file.specs.Readers.{StopsIn};
+ghost use Rattle.reg_file.specs.Reading.{ended, summary};
+ghost use Rattle.reg_file.specs.Steps.{ReadsSummary};
+ghost use Rattle.reg_file.specs.Files.{FindsSeen, HoldsSeen, IsSeenReadFault, IsSeenReadFromFault, IsSeenTooLarge, IsSeenWriteFault, WritesSeen};
+
+use crate::fault::{FileFault, ReadFileFault, Stop, WriteFileFault};
+use crate::fields::{head_of, refused};
+use crate::heads::{MOST, SEEN, VERSION};
+use crate::length::length_of_seen;
+use crate::ranges::seen_of;
+use crate::spelling::{put_head, put_ranges};
+use byte_io::{InFault, Sink, Source, read_up_to, write_all};
+use reg_state::{Run, Seen};
+use std::alloc::{AllocError, Global};
+
+// Nothing follows.
+fn end_of(rest: &[u8]) -> Result<(), Stop>
+    ensures ok { OnOk result (rest.now ≡ []) }
+    ensures err { IfErr result (StopsIn ended rest.now) }
+{
+    if !rest.is_empty() {
+        return Err(refused(FileFault::Trailing, rest.len()));
+    }
+    Ok(())
+}
+
+fn read_all(alloc: Global, bytes: &[u8]) -> Result<Seen, Stop>
+    ensures ok { IfOk result (λ seen. ReadsSummary bytes.now seen) }
+    ensures err { IfErr result (StopsIn (summary 1) bytes.now) }
+{
+    let (_, rest) = match head_of(VERSION, SEEN, bytes) {
+        Ok(read) => read,
+        Err(stop) => return Err(stop),
+    };
+    let (seen, rest) = match seen_of(alloc, &Seen::new(alloc), rest) {
+        Ok(read) => read,
+        Err(stop) => return Err(stop),
+    };
+    match end_of(rest) {
+        Ok(()) => {
+            let _first = seen.run(0);
+            Ok(seen)
+        }
+        Err(stop) => Err(stop),
+    }
+}
+
+/// Reads the ids that were seen from all of a seen summary's bytes.
+pub fn read_seen_bytes(alloc: Global, bytes: &[u8]) -> Result<Seen, ReadFileFault>
+    // What is read is what the bytes hold.
+    ensures found { IfOk result (λ seen. HoldsSeen bytes.now seen) }
+    // Bytes that hold a summary are read, unless memory runs out.
+    ensures only { (ids : Ids) → HoldsSeen bytes.now ids → (result ≡ Ok ids) ⊎ (result ≡ Err ReadFileFault.Memory) }
+    // Which fault it is.
+    ensures fault { IfErr result (IsSeenReadFault bytes.now) }
+{
+    if bytes.len() > MOST {
+        return Err(ReadFileFault::TooLarge);
+    }
+    match read_all(alloc, bytes) {
+        Ok(seen) => Ok(seen),
+        Err(Stop::Memory) => Err(ReadFileFault::Memory),
+        Err(Stop::Refused(first)) => Err(ReadFileFault::File {
+            fault: first.fault,
+            place: bytes.len().saturating_sub(first.left),
+        }),
+    }
+}
+
+/// Reads the ids that were seen from all that a source gives, however the reads are cut. No more is read once the file
+/// is too large.
+pub fn read_seen<S: Source>(alloc: Global, source: &mut S) -> Result<Seen, ReadFileFault>
+    ensures found { IfOk result (FindsSeen (S.state source.old) (S.state source.new)) }
+    ensures fault { IfErr result (IsSeenReadFromFault (S.state source.old) (S.state source.new)) }
+{
+    let bytes = match read_up_to(alloc, source, MOST + 1) {
+        Ok(bytes) => bytes,
+        Err(InFault::ReadFailed(n)) => return Err(ReadFileFault::ReadFailed(n)),
+        Err(InFault::Memory) => return Err(ReadFileFault::Memory),
+    };
+    match read_seen_bytes(alloc, &bytes) {
+        Ok(seen) => Ok(seen),
+        Err(fault) => Err(fault),
+    }
+}
+
+// The file of the runs that were seen, in one allocation of its size.
+fn spell_seen(alloc: Global, runs: &[Run], size: usize) -> Result<Vec<u8>, AllocError>
+    requires { length runs.now < 2 ^ 32 }
+    ensures { IfOk result (λ out. out.items ≡ seen_file 1 runs.now) }
+{
+    let mut out = Vec::with_capacity(alloc, size)?;
+    put_head(&mut out, VERSION, SEEN)?;
+    put_ranges(&mut out, runs)?;
+    Ok(out)
+}
+
+/// The bytes of the file of the ids that were seen: a seen summary. One that would be too large is reported before
+/// anything is allocated.
+pub fn write_seen_bytes(alloc: Global, seen: &Seen) -> Result<Vec<u8>, WriteFileFault>
+    ensures held { IfOk result (λ v. HoldsSeen v.items seen.now) }
+    ensures large { (result ≡ Err WriteFileFault.TooLarge) ↔ IsSeenTooLarge seen.now }
+    ensures memory { IfErr result (λ f. (f ≡ WriteFileFault.TooLarge) ⊎ (f ≡ WriteFileFault.Memory)) }
+{
+    let _first = seen.run(0);
+    let runs = seen.runs();
+    let Some(size) = length_of_seen(runs) else {
+        return Err(WriteFileFault::TooLarge);
+    };
+    match spell_seen(alloc, runs, size) {
+        Ok(out) => Ok(out),
+        Err(_) => Err(WriteFileFault::Memory),
+    }
+}
+
+/// Writes the file of the ids that were seen, and nothing else.
+pub fn write_seen<K: Sink>(alloc: Global, seen: &Seen, sink: &mut K) -> Result<(), WriteFileFault>
+    ensures ok { OnOk result (WritesSeen seen.now (K.state sink.old) (K.state sink.new)) }
+    ensures large { (result ≡ Err WriteFileFault.TooLarge) ↔ IsSeenTooLarge seen.now }
+    ensures fault { IfErr result (IsSeenWriteFault seen.now (K.state sink.old) (K.state sink.new)) }
+{
+    let bytes = match write_seen_bytes(alloc, seen) {
+        Ok(bytes) => bytes,
+        Err(fault) => return Err(fault),
+    };
+    match write_all(sink, &bytes) {
+        Ok(()) => Ok(()),
+        Err(fault) => Err(WriteFileFault::WriteFailed(fault.written)),
+    }
+}

@@ -1,0 +1,100 @@
+-- An invariant of worlds, and what comes of an event that keeps it.
+use Rattle.std.proofs.Common.{◌≡◌, ℕ, Bool, true, false, ◌||◌, cond, List, [], ◌∷◌, length, Option, Some, None, Ok, Err, refl, sym, ap, ◌∙◌, subst, inl, inr, ◌⊎◌, zero, suc, arith}
+use Rattle.std.proofs.lemmas.Bool.{or_cases, or_left, or_right, true≢false}
+use Rattle.std.specs.Cmp.{tied_itself}
+use Rattle.std.specs.Ordering.{is_eq, eq_by_cmp}
+use Rattle.std.specs.List.{find, slice_get}
+use Rattle.reg_op.specs.Set as set
+use Rattle.reg_op.specs.Set.{contains, union, contains-items, contains-from_list, contains-empty}
+use Rattle.reg_op.specs.Ids.{Id, Ids, is_same}
+use Rattle.reg_op.specs.Lists.{has}
+use Rattle.reg_op.specs.Operations.{Op, Ops, one, op_cmp, ids, OneBody}
+use Rattle.reg_op.specs.declared.operation.OpBody.{OpBody as Body}
+use Rattle.reg_op.specs.Contents.{Content, state, nothing, joined, AreOperations, IsContent}
+use Rattle.reg_op.proofs.OpLemmas.{op_total, op_exact}
+use Rattle.reg_op.proofs.FiniteLemmas.{union_comm}
+use Rattle.reg_op.proofs.OneLemmas.{one_is}
+use Rattle.reg_op.proofs.ContentLemmas.{joined-state, state_is_content, OneBody-within, union_within, union_left, union_right, ids_has, contains_op-union, state-empty, nothing_is_content}
+use Rattle.reg_op.specs.Pieces.{Piece, part_of, piece_for, IsHeld, first_missing, Basis, joined_where, joined_piece}
+use Rattle.reg_op.proofs.PieceLemmas.{piece_is}
+use Rattle.reg_op.proofs.RefusalLemmas.{missing_none, pieces_joined}
+use Rattle.reg_seen.specs.Runs.{replica_cmp, AllIds}
+use Rattle.reg_seen.proofs.RunLemmas.{same_replica, replica_itself}
+use Rattle.reg_file.specs.Layout.{file}
+use Rattle.reg_file.specs.Files.{Holds, HoldsSeen}
+use Rattle.reg_file.proofs.HoldLemmas.{one_content}
+use Rattle.reg_office.specs.Making.{made}
+use Rattle.reg_office.specs.Pooled.{Pooled, OfRegister, OfSeen, OfPiece, HoldsAny, ops_in, TellsOf}
+use Rattle.reg_office.specs.World.{Office, Sent, World, start, Event, Make, Send, SendSeen, SendPiece, Take, TakeOne, Restart, IsEvent, Outcome, Unchanged, Clashes, Sends, Writes, Gains, gained, gained_by_piece, joins, makes, takes, takes_one, sends_piece, picked, Reads, ComesOf, put, pooled, After, Leads, IsWorld}
+use Rattle.reg_office.proofs.PooledLemmas.{IsSound, one_pooled, ops_within}
+use Rattle.reg_office.proofs.LawLemmas.{are_unseen, are_once}
+use Rattle.reg_office.proofs.WorldCommands.{made_operations, made_on}
+
+abbrev pub IsWithin : Ops → Ops → Type 0
+IsWithin s t = (o : Op) → contains s o ≡ true → contains t o ≡ true
+
+-- a file of what its sender had reached, among all that was made
+pub record IsSent (all : Ops) (s : Sent) : Type 0 where
+  pub what : Pooled
+  pub holds : HoldsAny s.bytes what
+  pub tells : TellsOf s.reached what
+  pub within : IsWithin s.reached all
+
+abbrev pub AreSent : Ops → List Sent → Type 0
+AreSent all [] = Unit {0}
+AreSent all (s ∷ ss) = IsSent all s × AreSent all ss
+
+-- all: every operation that was made
+pub record Invariant (w : World) : Type 0 where
+  pub all : Ops
+  pub operations : AreOperations all
+  pub one_body : OneBody all
+  pub content : (i : List ℕ) → (w.offices i).content ≡ state (w.offices i).reached
+  pub last : (i : List ℕ) → Holds (w.offices i).last (state (w.offices i).reached)
+  pub within : (i : List ℕ) → IsWithin (w.offices i).reached all
+  pub own : (o : Op) → contains all o ≡ true → contains (w.offices o.id.replica).reached o ≡ true
+  pub pool : AreSent all w.pool
+
+-- each office has at least what it had
+abbrev pub Grows : World → World → Type 0
+Grows w v = (i : List ℕ) → IsWithin (w.offices i).reached (v.offices i).reached
+
+pub sent_at : (all : Ops) (ss : List Sent) (k : ℕ) (s : Sent) → AreSent all ss → slice_get ss k ≡ Some s → IsSent all s
+sent_at all [] k s are h = cc
+sent_at all (t ∷ ss) zero s are h = let is : t ≡ s = cc in subst (IsSent all) is are.0
+sent_at all (t ∷ ss) (suc k) s are h = sent_at all ss k s are.1 h
+
+pub sent_within : (all more : Ops) (ss : List Sent) → IsWithin all more → AreSent all ss → AreSent more ss
+sent_within all more [] within are = tt
+sent_within all more (s ∷ ss) within are = (record { what = are.0.what; holds = are.0.holds; tells = are.0.tells; within = λ o h. within o (are.0.within o h) }, sent_within all more ss within are.1)
+
+-- the content of an office is one
+pub office_content : (w : World) (inv : Invariant w) (i : List ℕ) → IsContent (w.offices i).content
+office_content w inv i =
+    subst IsContent (sym (inv.content i)) (state_is_content (w.offices i).reached (λ o h. inv.operations o (inv.within i o h)) (OneBody-within _ _ (inv.within i) inv.one_body))
+
+-- ---- what comes of an event, in a world with the invariant
+
+-- the content is the state of what is reached: what the office had, what others made, and new operations of its own
+pub record IsGain (w : World) (inv : Invariant w) (i : List ℕ) (x : Content) (reached : Ops) : Type 0 where
+  pub all : Ops
+  pub operations : AreOperations all
+  pub one_body : OneBody all
+  pub is_state : x ≡ state reached
+  pub grows : IsWithin inv.all all
+  pub more : IsWithin (w.offices i).reached reached
+  pub within : IsWithin reached all
+  pub news : (o : Op) → contains all o ≡ true → (contains inv.all o ≡ true) ⊎ ((o.id.replica ≡ i) × (contains reached o ≡ true))
+
+-- it tells of what was made, and can stand in a file
+pub record IsWritten (all : Ops) (what : Pooled) (reached : Ops) : Type 0 where
+  pub tells : TellsOf reached what
+  pub within : IsWithin reached all
+  pub sound : IsSound what
+
+abbrev pub IsGood : (w : World) → Invariant w → Outcome → Type 0
+IsGood w inv Unchanged = Unit {0}
+IsGood w inv (Clashes id) = ⊥
+IsGood w inv (Sends sent) = IsSent inv.all sent
+IsGood w inv (Writes what reached) = IsWritten inv.all what reached
+IsGood w inv (Gains i x reached) = IsGain w inv i x reached

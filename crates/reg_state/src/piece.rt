@@ -1,0 +1,127 @@
+//! Pieces: what a register has outside the ids that another has seen.
+
+ghost use Rattle.std.specs.Prelude.{◌≡◌, ◌↔◌, true, false, Ok, Err, Some, None, OnOk, IfOk};
+ghost use Rattle.reg_op.specs.Set as set;
+ghost use Rattle.reg_op.specs.Ids.{Id};
+ghost use Rattle.reg_op.specs.Operations.{Op as Operation, op_cmp};
+ghost use Rattle.reg_op.specs.Kept.{first_dropped};
+ghost use Rattle.reg_op.specs.Lists.{ById, has, content_at};
+ghost use Rattle.reg_op.specs.Pieces.{IsPiece, piece_for, joined_piece, Basis, Clash};
+ghost use Rattle.reg_state.specs.Pieces.{piece_of};
+
+use crate::register::{ContentFault, Register};
+use reg_join::{Join, JoinFault};
+use reg_op::{Op, OpId};
+use reg_seen::Seen;
+use std::alloc::{AllocError, Global};
+use std::marker::Model;
+
+/// Why a piece is not joined.
+#[derive(Clone, Copy, Debug, PartialEq, Eq)]
+pub enum PieceFault {
+    /// The least id of the basis that the register has not seen.
+    Basis(OpId),
+    /// The least id that has another body.
+    Clash(OpId),
+    Memory,
+}
+
+/// A piece: the operations and the seen ids that one lacks who has seen its basis.
+#[derive(Drop)]
+pub struct Piece {
+    basis: Seen,
+    part: Register,
+}
+
+impl Model for Piece {
+    ghost use Rattle.reg_op.specs.Pieces.{Piece as PieceValue};
+    ghost use Rattle.reg_op.specs.Codes.{piece_code};
+    ghost use Rattle.reg_state.specs.Pieces.{piece_of, IsBasisOf};
+
+    ghost Value = { PieceValue };
+
+    ghost coded = { piece_code };
+
+    ghost view = { λ p. piece_of p.basis p.part };
+
+    ghost invariant = { λ p. IsBasisOf p.basis p.part };
+}
+
+impl Piece {
+    /// A piece of operations by id, all of which are seen, and of which none replaces another. No id that is seen is in the
+    /// basis.
+    pub fn from_parts(
+        alloc: Global,
+        ops: Vec<Op>,
+        basis: Seen,
+        seen: Seen,
+    ) -> Result<Piece, ContentFault>
+        requires by_id { ById ops.items }
+        requires are_seen { (o : Operation) → has ops.items o ≡ true → set.contains seen o.id ≡ true }
+        requires apart { (i : Id) → set.contains seen i ≡ true → set.contains basis i ≡ false }
+        ensures ok { IfOk result (λ p. p ≡ piece_of basis (content_at ops.items seen)) }
+        ensures kept { OnOk result (first_dropped (set.from_list {R = op_cmp} ops.items) ≡ None) }
+        ensures not_kept { (id : Id) → result ≡ Err (ContentFault.NotKept id) → first_dropped (set.from_list {R = op_cmp} ops.items) ≡ Some id }
+    {
+        let _first = basis.run(0);
+        let part = Register::from_content(alloc, ops, seen)?;
+        Ok(Piece { basis, part })
+    }
+
+    /// The ids that one who joins it has seen.
+    pub fn basis(&self) -> &Seen
+        ensures value { result.now ≡ self.now.basis }
+        ensures piece { IsPiece self.now }
+    {
+        let _ops = self.part.ops();
+        &self.basis
+    }
+
+    /// The ids that were seen outside the basis.
+    pub fn seen(&self) -> &Seen
+        ensures value { result.now ≡ self.now.seen }
+        ensures piece { IsPiece self.now }
+    {
+        self.part.seen()
+    }
+
+    /// The operations, by id.
+    pub fn ops(&self) -> &[Op]
+        ensures items { result.now ≡ set.items self.now.ops }
+        ensures by_id { ById result.now }
+        ensures piece { IsPiece self.now }
+    {
+        self.part.ops().as_slice()
+    }
+}
+
+impl Register {
+    /// What the register has outside a basis: the operations that it keeps, and the ids that it has seen.
+    pub fn piece_for(&self, alloc: Global, basis: &Seen) -> Result<Piece, AllocError>
+        ensures { IfOk result (λ piece. piece ≡ piece_for self.now basis.now) }
+    {
+        let part = self.outside(alloc, basis)?;
+        let _first = basis.run(0);
+        let basis = basis.try_clone(alloc)?;
+        Ok(Piece { basis, part })
+    }
+
+    /// Joins a piece, where its basis was seen. What is missing of the basis, and then a clash, is looked for before
+    /// anything is allocated.
+    pub fn join_piece(&self, alloc: Global, piece: &Piece) -> Result<Register, PieceFault>
+        ensures ok { IfOk result (λ r. joined_piece self.now piece.now ≡ Ok r) }
+        ensures basis { (id : Id) → (result ≡ Err (PieceFault.Basis id)) ↔ (joined_piece self.now piece.now ≡ Err (Basis id)) }
+        ensures clash { (id : Id) → (result ≡ Err (PieceFault.Clash id)) ↔ (joined_piece self.now piece.now ≡ Err (Clash id)) }
+    {
+        if let Some(id) = piece.basis.first_outside(self.seen()) {
+            return Err(PieceFault::Basis(id));
+        }
+        match self.join(alloc, &piece.part) {
+            Ok(register) => Ok(register),
+            Err(fault) => match fault {
+                JoinFault::Clash(id) => Err(PieceFault::Clash(id)),
+                JoinFault::Memory => Err(PieceFault::Memory),
+            },
+        }
+    }
+}

@@ -1,0 +1,10 @@
+use Rattle.std.proofs.Common.{subst, sym}
+use Rattle.wkt_crs.specs.Source.{ReadsText}
+use Rattle.wkt_crs.proofs.Sources.{define_told}
+use Rattle.wkt_crs.proofs.source.define_from.Goals as goal
+
+pub returns-clause-fault : goal.returns-clause-fault
+returns-clause-fault g c =
+    let old = g.S.Source.state c.args.source.now in
+    let new = g.S.Source.state c.read_up_to.new.source in
+    define_told old new c.deref.result.now c.in-Err.fault (subst (λ t. ReadsText old new t) (sym c.deref.ensures.value) c.in-Ok.ensures.ok) c.in-Err.ensures.fault
