@@ -206,6 +206,14 @@ fn having_joined(
     office(replica, register)
 }
 
+// Whether a piece was refused because this id of its basis was not seen.
+fn is_missing(outcome: Result<Register, PieceFault>, id: OpId) -> bool {
+    match outcome {
+        Ok(_) => false,
+        Err(fault) => fault == PieceFault::Basis(id),
+    }
+}
+
 #[test]
 fn pieces_serve_in_place_of_files(rt: HostRuntime) {
     let alloc = rt.alloc();
@@ -233,10 +241,8 @@ fn a_piece_waits_for_its_basis(rt: HostRuntime) {
     let before = sent(&rt, alloc, &a);
     let a = having_retired(&rt, alloc, a);
     let piece = piece_for(&rt, alloc, a.register(), &read(&rt, alloc, &before));
-    match c.register().join_piece(alloc, &piece) {
-        Err(PieceFault::Basis(id)) => assert!(rt; id == id_of(&rt, A, 1)),
-        _ => assert!(rt; false),
-    }
+    let refused = c.register().join_piece(alloc, &piece);
+    assert!(rt; is_missing(refused, id_of(&rt, A, 1)));
     // When it has taken the file, it joins the piece.
     let c = having_taken(&rt, alloc, C, c, &[&before]);
     let c = having_joined(&rt, alloc, C, &c, &piece);
