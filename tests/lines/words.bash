@@ -17,3 +17,9 @@ size() { stat -c %s "$1"; }
 
 # repeat N TEXT: prints the text so many times.
 repeat() { printf "%0$1d" 0 | sed "s/0/$2/g"; }
+
+# single LETTER COUNT: prints the file of a register that has one operation, of the office of this letter, up to its kind.
+single() { bytes 43525352 01 01 00000001 "0000000000004000800000000000000$1" 00000001 "$2" "$2" 00000001 "0000000000004000800000000000000$1" "$2"; }
+
+# orders WORD..: prints the words in each order, one a line.
+orders() { python3 -c 'import itertools, sys; [print(*each) for each in itertools.permutations(sys.argv[1:])]' "$@"; }
