@@ -208,10 +208,7 @@ fn having_joined(
 
 // Whether a piece was refused because this id of its basis was not seen.
 fn is_missing(outcome: Result<Register, PieceFault>, id: OpId) -> bool {
-    match outcome {
-        Ok(_) => false,
-        Err(fault) => fault == PieceFault::Basis(id),
-    }
+    outcome.err() == Some(PieceFault::Basis(id))
 }
 
 #[test]
