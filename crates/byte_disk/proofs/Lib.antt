@@ -1,0 +1,4 @@
+pub mod Moments
+mod RecordLemmas
+mod SpanLemmas
+mod PendingLemmas

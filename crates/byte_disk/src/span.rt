@@ -1,0 +1,25 @@
+//! What a disk in memory keeps of its calls.
+
+use byte_io::Tally;
+
+/// A call that wrote, or failed to write, these bytes at this offset.
+#[derive(Drop)]
+pub(crate) struct Write {
+    pub(crate) at: u64,
+    pub(crate) bytes: Vec<u8>,
+    pub(crate) done: bool,
+}
+
+/// What the last sync left, and the writes since, the oldest first.
+#[derive(Drop)]
+pub(crate) struct Span {
+    pub(crate) base: Vec<u8>,
+    pub(crate) writes: Vec<Write>,
+}
+
+/// A span that a sync ended, and its last moment.
+#[derive(Drop)]
+pub(crate) struct Past {
+    pub(crate) span: Span,
+    pub(crate) last: Tally,
+}

@@ -1,0 +1,62 @@
+//! Keeps bytes in the slot that is not in use, and then turns the gate.
+
+ghost use Rattle.std.specs.Prelude.{◌≡◌, ◌⊎◌, ◌<◌, ◌^◌, List, ℕ, IsTrue, OnOk, IfOk, IsErrOf, IsErr, length};
+ghost use Rattle.byte_disk.specs.Disk.{Only, LeavesOnly};
+ghost use Rattle.byte_shelf.specs.Shelf.{IsShelf, HasNoHead, framed};
+ghost use Rattle.byte_shelf.specs.Keep.{AddsNothing, CountsFault, IsTooLarge};
+
+use crate::fault::ShelfFault;
+use crate::head::{MOST, open_shelf, spare_place};
+use byte_disk::{Disk, replace_in_two};
+use std::alloc::{AllocError, Global};
+
+// The length, and the bytes.
+pub(crate) fn frame_of(alloc: Global, bytes: &[u8]) -> Result<Vec<u8>, AllocError>
+    requires { length bytes.now < 2 ^ 32 }
+    ensures { IfOk result (λ v. v.items ≡ framed bytes.now) }
+{
+    let mut frame = Vec::with_capacity(alloc, bytes.len() + 4)?;
+    frame.extend_from_slice(&(bytes.len() as u32).to_be_bytes())?;
+    frame.extend_from_slice(bytes)?;
+    Ok(frame)
+}
+
+/// Keeps the bytes on the shelf, in the place of those that it has.
+pub fn keep<D: Disk>(alloc: Global, disk: &mut D, bytes: &[u8]) -> Result<(), ShelfFault>
+    // A stop at any moment leaves a shelf of the bytes from before, or of these.
+    ensures any_moment { IsTrue (D.tells disk.old) → (was : List ℕ)
+        → ((c : List ℕ) → D.images disk.old c → IsShelf c was)
+        → LeavesOnly D.moment D.images_since disk.old disk.new
+        (λ c. IsShelf c was ⊎ IsShelf c bytes.now) }
+    ensures kept { IsTrue (D.tells disk.old) → (was : List ℕ)
+        → ((c : List ℕ) → D.images disk.old c → IsShelf c was)
+        → OnOk result (Only (D.seen disk.new) (D.images disk.new)
+        × IsShelf (D.seen disk.new) bytes.now) }
+    ensures not_shelf { IsTrue (D.tells disk.old)
+        → IsErrOf result ShelfFault.NotShelf → HasNoHead (D.seen disk.old) }
+    ensures too_large { IsTrue (D.tells disk.old)
+        → IsErrOf result ShelfFault.TooLarge → IsTooLarge (D.seen disk.old) bytes.now }
+    ensures bad_size { IsErrOf result ShelfFault.BadSize → ⊥ }
+    ensures refused { IsTrue (D.tells disk.old) → D.failures disk.new ≡ D.failures disk.old
+        → IsErr result → AddsNothing D.seen D.images D.moment D.images_since disk.old disk.new }
+    ensures counts { CountsFault result (D.failures disk.old) (D.failures disk.new) }
+    ensures tells { D.tells disk.new ≡ D.tells disk.old }
+{
+    if bytes.len() > MOST as usize {
+        return Err(ShelfFault::TooLarge);
+    }
+    let Ok(frame) = frame_of(alloc, bytes) else {
+        return Err(ShelfFault::Memory);
+    };
+    let head = match open_shelf(disk) {
+        Ok(head) => head,
+        Err(fault) => return Err(fault),
+    };
+    if bytes.len() > head.size as usize {
+        return Err(ShelfFault::TooLarge);
+    }
+    if replace_in_two(disk, spare_place(&head), &frame, 0, &[1 - head.gate % 2]).is_err() {
+        return Err(ShelfFault::DiskFailed);
+    }
+    Ok(())
+}

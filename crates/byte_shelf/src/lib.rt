@@ -1,0 +1,16 @@
+//! Bytes in two slots of a disk behind a gate, kept over stops.
+#![tactic(auto)]
+
+mod fault;
+mod formatting;
+mod head;
+mod keeping;
+pub mod laws;
+mod reading;
+mod restoring;
+
+pub use fault::ShelfFault;
+pub use formatting::format;
+pub use head::{LEAST, MOST};
+pub use keeping::keep;
+pub use restoring::restore;

@@ -1,0 +1,9 @@
+//! Tests of disks, and of bytes that are kept on them.
+#![tactic(auto)]
+
+#[cfg(test)]
+mod files;
+#[cfg(test)]
+mod shelves;
+#[cfg(test)]
+mod stops;
