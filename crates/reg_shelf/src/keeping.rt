@@ -1,0 +1,46 @@
+//! Keeps a register on a shelf.
+
+ghost use Rattle.std.specs.Prelude.{◌≡◌, ◌⊎◌, List, ℕ, IsTrue, OnOk, IsErr, IsErrOf};
+ghost use Rattle.byte_disk.specs.Disk.{Only, LeavesOnly};
+ghost use Rattle.byte_shelf.specs.Shelf.{HasNoHead};
+ghost use Rattle.byte_shelf.specs.Keep.{AddsNothing, CountsFault};
+ghost use Rattle.reg_op.specs.Contents.{Content};
+ghost use Rattle.reg_shelf.specs.Shelf.{HasFile, IsShelf};
+ghost use Rattle.reg_shelf.specs.Keep.{IsTooLarge};
+
+use crate::file::file_of;
+use byte_disk::Disk;
+use byte_shelf::ShelfFault;
+use reg_state::Register;
+use std::alloc::Global;
+
+/// Keeps the register on the shelf, in the place of the one that it has. After `DiskFailed`, as after a stop, the disk
+/// is restored before it is kept on again.
+pub fn keep<D: Disk>(alloc: Global, disk: &mut D, register: &Register) -> Result<(), ShelfFault>
+    // A stop at any moment leaves a shelf of the content from before, or of this one.
+    ensures any_moment { IsTrue (D.tells disk.old) → (was : Content)
+        → ((c : List ℕ) → D.images disk.old c → IsShelf c was)
+        → LeavesOnly D.moment D.images_since disk.old disk.new
+        (λ c. IsShelf c was ⊎ IsShelf c register.now) }
+    ensures kept { IsTrue (D.tells disk.old) → (was : Content)
+        → ((c : List ℕ) → D.images disk.old c → IsShelf c was)
+        → OnOk result (Only (D.seen disk.new) (D.images disk.new)
+        × IsShelf (D.seen disk.new) register.now) }
+    // Whatever the disk tells, what is kept has a file.
+    ensures file { OnOk result (HasFile register.now) }
+    ensures not_shelf { IsTrue (D.tells disk.old)
+        → IsErrOf result ShelfFault.NotShelf → HasNoHead (D.seen disk.old) }
+    ensures too_large { IsTrue (D.tells disk.old)
+        → IsErrOf result ShelfFault.TooLarge → IsTooLarge (D.seen disk.old) register.now }
+    ensures bad_size { IsErrOf result ShelfFault.BadSize → ⊥ }
+    ensures refused { IsTrue (D.tells disk.old) → D.failures disk.new ≡ D.failures disk.old
+        → IsErr result → AddsNothing D.seen D.images D.moment D.images_since disk.old disk.new }
+    ensures counts { CountsFault result (D.failures disk.old) (D.failures disk.new) }
+    ensures tells { D.tells disk.new ≡ D.tells disk.old }
+{
+    let file = match file_of(alloc, register) {
+        Ok(file) => file,
+        Err(fault) => return Err(fault),
+    };
+    byte_shelf::keep(alloc, disk, &file)
+}

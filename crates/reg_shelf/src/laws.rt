@@ -1,0 +1,11 @@
+//! What holds of all shelves. A call does nothing: its contract is the law.
+
+ghost use Rattle.std.specs.Prelude.{◌≡◌, List, ℕ};
+ghost use Rattle.reg_op.specs.Contents.{Content};
+ghost use Rattle.reg_shelf.specs.Shelf.{IsShelf, IsShelfOf};
+
+/// A shelf has one content, and one size.
+pub fn one_shelf()
+    ensures content { (image : List ℕ) (x y : Content) → IsShelf image x → IsShelf image y → x ≡ y }
+    ensures size { (image : List ℕ) (m n : ℕ) (x y : Content) → IsShelfOf image m x → IsShelfOf image n y → m ≡ n }
+{}

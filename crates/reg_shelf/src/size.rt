@@ -1,0 +1,13 @@
+//! The sizes that a shelf may have.
+
+ghost use Rattle.std.specs.Prelude.{◌≡◌, true, ◌↔◌};
+ghost use Rattle.byte_shelf.specs.Shelf.{IsSize};
+
+use byte_shelf::{LEAST, MOST};
+
+/// Whether a shelf may have slots for files of up to so many bytes.
+pub fn is_size(size: u32) -> bool
+    ensures { (result ≡ true) ↔ IsSize size }
+{
+    LEAST <= size && size <= MOST
+}
