@@ -31,15 +31,16 @@ def operations(replica, count):
 
 
 def encoded(name, kind, entry, text):
+    """The operation's bytes, with an empty note."""
     if kind == 1:
-        return name + b"\x01" + struct.pack(">I", len(text)) + text.encode()
-    return name + b"\x03" + entry
+        return name + b"\x01\x00" + struct.pack(">I", len(text)) + text.encode()
+    return name + b"\x03\x00" + entry
 
 
 def make(folder, name, replicas):
     rows = [row for replica, count in replicas for row in operations(replica, count)]
     with open(folder / f"{name}.crs", "wb") as file:
-        file.write(b"CRSR\x01\x01" + struct.pack(">I", len(replicas)))
+        file.write(b"CRSR\x02\x01" + struct.pack(">I", len(replicas)))
         for replica, count in replicas:
             file.write(replica + struct.pack(">III", 1, 1, count))
         file.write(struct.pack(">I", len(rows)))

@@ -1,5 +1,5 @@
-/* Makes one allocation of a program fail: the one whose number the variable REFUSE gives, counted from 1. It then makes the
-   file that REFUSED names. Built as a library that is loaded before the program's own: see refused_growths. */
+/* Makes one allocation of a program fail: the one whose number the variable REFUSE gives, counted from 1; with REFUSE_LATER,
+   also each later one. It then makes the file that REFUSED names. Built as a library that is loaded before the program's own: see refused_growths. */
 #define _GNU_SOURCE
 #include <dlfcn.h>
 #include <errno.h>
@@ -17,7 +17,7 @@ static int is_refused(void)
         wanted = number ? atol(number) : 0;
     }
     count += 1;
-    if (count == wanted) {
+    if (count == wanted || (wanted > 0 && count > wanted && getenv("REFUSE_LATER"))) {
         const char *mark = getenv("REFUSED");
         if (mark)
             close(open(mark, O_CREAT | O_WRONLY, 0600));

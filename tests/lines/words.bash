@@ -18,8 +18,24 @@ size() { stat -c %s "$1"; }
 # repeat N TEXT: prints the text so many times.
 repeat() { printf "%0$1d" 0 | sed "s/0/$2/g"; }
 
-# single LETTER COUNT: prints the file of a register that has one operation, of the office of this letter, up to its kind.
-single() { bytes 43525352 01 01 00000001 "0000000000004000800000000000000$1" 00000001 "$2" "$2" 00000001 "0000000000004000800000000000000$1" "$2"; }
+# single VERSION LETTER COUNT: prints the file of a register that has one operation, of the office of this letter, up to its kind.
+single() { bytes 43525352 "$1" 01 00000001 "0000000000004000800000000000000$2" 00000001 "$3" "$3" 00000001 "0000000000004000800000000000000$2" "$3"; }
 
 # orders WORD..: prints the words in each order, one a line.
 orders() { python3 -c 'import itertools, sys; [print(*each) for each in itertools.permutations(sys.argv[1:])]' "$@"; }
+
+# many LETTER COUNT: prints the file of a register with so many entries of the office of this letter, of 65,536 bytes each.
+many() {
+    python3 - "$1" "$2" <<'END'
+import sys
+letter, count = sys.argv[1], int(sys.argv[2])
+four = lambda n: n.to_bytes(4, "big")
+uuid = bytes.fromhex("0000000000004000800000000000000" + letter)
+out = [b"CRSR\2\1", four(1), uuid, four(1), four(1), four(count), four(count)]
+for k in range(1, count + 1):
+    text = b'VERTCRS["H",VDATUM["D"],CS[vertical,1],AXIS["height (H)",up],LENGTHUNIT["metre",1],ID["X",%d],REMARK["' % k
+    text += b"r" * (65536 - len(text) - 3) + b'"]]'
+    out += [uuid, four(k), b"\1\0", four(len(text)), text]
+sys.stdout.buffer.write(b"".join(out))
+END
+}

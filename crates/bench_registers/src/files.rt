@@ -4,7 +4,7 @@ ghost use Rattle.std.specs.Prelude.{◌<◌, ◌+◌, ◌^◌};
 
 use crate::{count_of, number};
 use reg_file::{read_bytes, write_bytes};
-use reg_op::{Op, OpBody, OpId};
+use reg_op::{Note, Op, OpBody, OpId};
 use reg_state::{Join, Register};
 use std::alloc::Global;
 use std::io;
@@ -71,5 +71,5 @@ fn entered(alloc: Global, id: OpId, code: u32) -> Option<Op> {
     text.extend_from_slice(buffer.format(code).as_bytes()).ok()?;
     text.extend_from_slice(BEHIND).ok()?;
     let definition = Definition::from_canonical(alloc, &text).ok()?;
-    Op::new(id, OpBody::Enter(definition)).ok()
+    Op::new(id, OpBody::Enter(definition), Note::empty()).ok()
 }

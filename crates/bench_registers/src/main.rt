@@ -2,14 +2,16 @@
 //!
 //! - `bench_registers registers SIZE JOINS CONTENTS COPIES` makes two registers of SIZE operations each, half of them in both.
 //!   Then it joins them, makes the left one anew of its content, and copies it.
+//! - `bench_registers takes ENTRIES SUPERSESSIONS RETIREMENTS` takes so many operations one at a time.
 //! - `bench_registers files ENTRIES WRITES READS` makes a register of so many entries, writes its file, and reads it.
 //!
-//! Without words it does both, a little.
+//! Without words it does all, a little.
 #![tactic(auto)]
 
 mod files;
 mod making;
 mod registers;
+mod takes;
 mod work;
 
 use reg_state::Register;
@@ -25,13 +27,20 @@ fn main(rt: HostRuntime) -> io::Result<()> {
         Some(word) => word.as_str(),
         None => "",
     };
-    if what != "files" {
+    if is_asked(what, "registers") {
         registers::run(&rt, &words)?;
     }
-    if what != "registers" {
+    if is_asked(what, "takes") {
+        takes::run(&rt, &words)?;
+    }
+    if is_asked(what, "files") {
         files::run(&rt, &words)?;
     }
     Ok(())
+}
+
+fn is_asked(what: &str, part: &str) -> bool {
+    what == part || what.is_empty()
 }
 
 /// The number that a word is, or another one.

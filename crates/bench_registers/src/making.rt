@@ -1,7 +1,7 @@
 //! Registers of many operations, some of which replace others.
 
 use crate::Refused;
-use reg_op::{Op, OpBody, OpId};
+use reg_op::{Note, Op, OpBody, OpId};
 use reg_state::{Join, Register};
 use std::alloc::Global;
 use uuid::Uuid;
@@ -12,11 +12,17 @@ const TEXT: &[u8] =
 
 const REPLICAS: u32 = 21;
 
+/// What all entries of these registers enter.
+pub fn shared_definition(alloc: Global) -> Result<Definition, Refused> {
+    match Definition::from_canonical(alloc, TEXT) {
+        Ok(definition) => Ok(definition),
+        Err(_) => Err(Refused),
+    }
+}
+
 /// The operations of two thirds of the replicas: of those whose number, divided by three, doesn't leave this one.
 pub fn side(alloc: Global, size: u32, left_out: u32) -> Result<Register, Refused> {
-    let Ok(definition) = Definition::from_canonical(alloc, TEXT) else {
-        return Err(Refused);
-    };
+    let definition = shared_definition(alloc)?;
     let own = size / 14;
     let mut all = Register::new(alloc);
     for number in 0..REPLICAS {
@@ -94,7 +100,11 @@ fn op_of(alloc: Global, definition: &Definition, replica: Uuid, count: u32) -> R
             Err(_) => return Err(Refused),
         },
     };
-    match Op::new(OpId::new(replica, count).ok_or(Refused)?, body) {
+    match Op::new(
+        OpId::new(replica, count).ok_or(Refused)?,
+        body,
+        Note::empty(),
+    ) {
         Ok(op) => Ok(op),
         Err(_) => Err(Refused),
     }

@@ -23,13 +23,11 @@ pub(crate) fn frame_of(alloc: Global, bytes: &[u8]) -> Result<Vec<u8>, AllocErro
 
 /// Keeps the bytes on the shelf, in the place of those that it has.
 pub fn keep<D: Disk>(alloc: Global, disk: &mut D, bytes: &[u8]) -> Result<(), ShelfFault>
-    // A stop at any moment leaves a shelf of the bytes from before, or of these.
-    ensures any_moment { IsTrue (D.tells disk.old) → (was : List ℕ)
-        → ((c : List ℕ) → D.images disk.old c → IsShelf c was)
+    // A stop at any moment leaves what it might have left before, or a shelf of the bytes from before, or of these.
+    ensures any_moment { IsTrue (D.tells disk.old) → (was : List ℕ) → IsShelf (D.seen disk.old) was
         → LeavesOnly D.moment D.images_since disk.old disk.new
-        (λ c. IsShelf c was ⊎ IsShelf c bytes.now) }
-    ensures kept { IsTrue (D.tells disk.old) → (was : List ℕ)
-        → ((c : List ℕ) → D.images disk.old c → IsShelf c was)
+        (λ c. D.images disk.old c ⊎ (IsShelf c was ⊎ IsShelf c bytes.now)) }
+    ensures kept { IsTrue (D.tells disk.old) → (was : List ℕ) → IsShelf (D.seen disk.old) was
         → OnOk result (Only (D.seen disk.new) (D.images disk.new)
         × IsShelf (D.seen disk.new) bytes.now) }
     ensures not_shelf { IsTrue (D.tells disk.old)

@@ -4,7 +4,7 @@ use reg_cli::answer;
 use std::test::Fail;
 
 /// Command lines with their exit statuses.
-const LINES: [(&str, u8); 65] = [
+const LINES: [(&str, u8); 87] = [
     ("crsreg", 2),
     ("crsreg help", 0),
     ("crsreg --help", 0),
@@ -99,6 +99,31 @@ const LINES: [(&str, u8); 65] = [
         "crsreg retire no/such/file 00000000-0000-4000-8000-00000000000a:1 00000000-0000-4000-8000-00000000000a:2 --as 00000000-0000-4000-8000-00000000000a --out no/such/folder/out",
         3,
     ),
+    (
+        "crsreg enter no/such/file --as 00000000-0000-4000-8000-00000000000a --text no/such/text --note why --out no/such/folder/out",
+        3,
+    ),
+    (
+        "crsreg retire no/such/file 00000000-0000-4000-8000-00000000000a:1 --as 00000000-0000-4000-8000-00000000000a --note why --out no/such/folder/out",
+        3,
+    ),
+    (
+        "crsreg retire no/such/file 00000000-0000-4000-8000-00000000000a:1 --as 00000000-0000-4000-8000-00000000000a --out no/such/folder/out --note",
+        2,
+    ),
+    (
+        "crsreg retire no/such/file 00000000-0000-4000-8000-00000000000a:1 --as 00000000-0000-4000-8000-00000000000a --out no/such/folder/out --note why --note how",
+        2,
+    ),
+    ("crsreg merge out.crs no/such/file --note why", 2),
+    ("crsreg downgrade --help", 0),
+    ("crsreg downgrade", 2),
+    ("crsreg downgrade no/such/file", 2),
+    ("crsreg downgrade no/such/file no/such/folder/out", 3),
+    (
+        "crsreg downgrade no/such/shelf no/such/folder/out --shelf",
+        3,
+    ),
     ("crsreg show no/such/file", 2),
     ("crsreg show no/such/file 7", 1),
     (
@@ -109,6 +134,18 @@ const LINES: [(&str, u8); 65] = [
     ("crsreg report no/such/file", 2),
     ("crsreg report no/such/file statuses", 2),
     ("crsreg report no/such/file gaps", 3),
+    ("crsreg shelf", 2),
+    ("crsreg shelf a.shelf", 2),
+    ("crsreg shelf --help", 0),
+    ("crsreg unshelf --help", 0),
+    ("crsreg unshelf a.shelf", 2),
+    ("crsreg shelf no/such/folder/a.shelf 13", 1),
+    ("crsreg shelf no/such/folder/a.shelf many", 1),
+    ("crsreg shelf no/such/folder/a.shelf 512", 3),
+    ("crsreg unshelf no/such/file out.crs", 3),
+    ("crsreg export no/such/file --shelf", 3),
+    ("crsreg merge --shelf no/such/file no/such/other", 3),
+    ("crsreg new --shelf out.crs", 2),
 ];
 
 #[test]

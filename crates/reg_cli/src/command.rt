@@ -1,12 +1,14 @@
 //! From the words of the command line to an engine, and from its answer to the exit status.
+use crate::read_shelf::unshelf;
+use crate::shelf::{perform_on, shelf};
 use crate::words::command_line;
 use byte_io::{FileTarget, Reading, Writing, write_all};
 use clap::ArgMatches;
 use clap::error::ErrorKind;
 use reg_engine::{
-    CliFault, Form, InputFault, OutFault, Refusal, run_check, run_enter, run_export, run_merge,
-    run_new, run_ops, run_piece, run_report, run_retire, run_seen, run_show, run_supersede,
-    run_wkt,
+    CliFault, Form, InputFault, OutFault, Refusal, run_check, run_downgrade, run_enter, run_export,
+    run_merge, run_new, run_ops, run_piece, run_report, run_retire, run_seen, run_show,
+    run_supersede, run_wkt,
 };
 use reg_office::ReportKind;
 use reg_op::OpId;
@@ -58,6 +60,9 @@ pub fn answer(rt: &HostRuntime, words: &[String]) -> u8 {
 // What the command did. clap lets no word through that is no command.
 fn perform(rt: &HostRuntime, matches: &ArgMatches<'_>) -> Option<Result<(), CliFault>> {
     let (name, inner) = matches.subcommand()?;
+    if inner.get_flag("shelf") {
+        return perform_on(rt, name, inner);
+    }
     let outcome = match name {
         "check" => check(rt, inner.get_str("TEXT")),
         "new" => run_new(rt.alloc(), &mut FileTarget::new(rt, word(inner, "OUT"))),
@@ -71,6 +76,9 @@ fn perform(rt: &HostRuntime, matches: &ArgMatches<'_>) -> Option<Result<(), CliF
         ),
         "seen" => seen(rt, word(inner, "REG"), word(inner, "OUT")),
         "piece" => piece(rt, inner),
+        "downgrade" => downgrade(rt, word(inner, "REG"), word(inner, "OUT")),
+        "shelf" => shelf(rt, word(inner, "NEW"), word(inner, "SIZE")),
+        "unshelf" => unshelf(rt, word(inner, "SHELF"), word(inner, "OUT")),
         _ => return show_any(rt, name, word(inner, "REG"), inner),
     };
     Some(outcome)
@@ -94,7 +102,8 @@ fn show_any(
     Some(outcome)
 }
 
-fn form(matches: &ArgMatches<'_>) -> Form {
+/// How a text is laid out that the words ask for.
+pub fn form(matches: &ArgMatches<'_>) -> Form {
     if matches.get_flag("pretty") {
         Form::Indented
     } else {
@@ -102,12 +111,13 @@ fn form(matches: &ArgMatches<'_>) -> Form {
     }
 }
 
-// A word that its command requires, so clap has seen it.
-fn word<'a>(matches: &ArgMatches<'a>, name: &str) -> &'a str {
+/// A word, or nothing where it is left out, as a note may be.
+pub fn word<'a>(matches: &ArgMatches<'a>, name: &str) -> &'a str {
     matches.get_str(name).unwrap_or("")
 }
 
-fn kind(word: &str) -> Option<ReportKind> {
+/// The report that a word names.
+pub fn kind(word: &str) -> Option<ReportKind> {
     match word {
         "entries" => Some(ReportKind::Entries),
         "conflicts" => Some(ReportKind::Conflicts),
@@ -117,15 +127,18 @@ fn kind(word: &str) -> Option<ReportKind> {
     }
 }
 
-fn replica(word: &str) -> Result<Uuid, CliFault> {
+/// The replica that a word names.
+pub fn replica(word: &str) -> Result<Uuid, CliFault> {
     Uuid::parse_str(word).map_err(|_| CliFault::Refused(Refusal::BadReplica))
 }
 
-fn entry(word: &str) -> Result<OpId, CliFault> {
+/// The entry that a word names.
+pub fn entry(word: &str) -> Result<OpId, CliFault> {
     OpId::parse(word.as_bytes()).ok_or(CliFault::Refused(Refusal::BadId))
 }
 
-fn entries(alloc: Global, matches: &ArgMatches<'_>, name: &str) -> Result<Vec<OpId>, CliFault> {
+/// The entries that words name.
+pub fn entries(alloc: Global, matches: &ArgMatches<'_>, name: &str) -> Result<Vec<OpId>, CliFault> {
     let mut entries = Vec::new(alloc);
     let Some(words) = matches.get_strs(name) else {
         return Ok(entries);
@@ -146,16 +159,25 @@ fn check(rt: &HostRuntime, path: Option<&str>) -> Result<(), CliFault> {
     run_check(rt.alloc(), &mut open(rt, 1, path)?, &mut sink)
 }
 
-// All files are opened, in their order, before the first is read.
 fn merge(rt: &HostRuntime, out: &str, paths: &[&str]) -> Result<(), CliFault> {
-    let mut sources = Vec::new(rt.alloc());
+    let mut sources = open_all(rt, rt.alloc(), paths)?;
+    run_merge(rt.alloc(), &mut sources, &mut FileTarget::new(rt, out))
+}
+
+/// Opens all files, in their order, before the first is read.
+pub fn open_all<R: Files>(
+    rt: &R,
+    alloc: Global,
+    paths: &[&str],
+) -> Result<Vec<Reading<R::File>>, CliFault> {
+    let mut sources = Vec::new(alloc);
     for (i, path) in paths.iter().enumerate() {
         let source = open(rt, i.saturating_add(1), path)?;
         if sources.push(source).is_err() {
             return Err(CliFault::Memory);
         }
     }
-    run_merge(rt.alloc(), &mut sources, &mut FileTarget::new(rt, out))
+    Ok(sources)
 }
 
 fn seen(rt: &HostRuntime, path: &str, out: &str) -> Result<(), CliFault> {
@@ -170,6 +192,11 @@ fn piece(rt: &HostRuntime, matches: &ArgMatches<'_>) -> Result<(), CliFault> {
     run_piece(rt.alloc(), &mut source, &mut summary, &mut target)
 }
 
+fn downgrade(rt: &HostRuntime, path: &str, out: &str) -> Result<(), CliFault> {
+    let mut source = open(rt, 1, path)?;
+    run_downgrade(rt.alloc(), &mut source, &mut FileTarget::new(rt, out))
+}
+
 // The replica and the entries are read from the words, and then the files are opened.
 fn enter(rt: &HostRuntime, matches: &ArgMatches<'_>) -> Result<(), CliFault> {
     let replica = replica(word(matches, "as"))?;
@@ -182,6 +209,7 @@ fn enter(rt: &HostRuntime, matches: &ArgMatches<'_>) -> Result<(), CliFault> {
         &mut source,
         replica,
         &mut text,
+        word(matches, "note"),
         &mut target,
         &mut sink,
     )
@@ -200,6 +228,7 @@ fn supersede(rt: &HostRuntime, matches: &ArgMatches<'_>) -> Result<(), CliFault>
         replica,
         old,
         &newer,
+        word(matches, "note"),
         &mut target,
         &mut sink,
     )
@@ -216,6 +245,7 @@ fn retire(rt: &HostRuntime, matches: &ArgMatches<'_>) -> Result<(), CliFault> {
         &mut source,
         replica,
         &entries,
+        word(matches, "note"),
         &mut target,
         &mut sink,
     )
@@ -259,7 +289,8 @@ fn export(rt: &HostRuntime, path: &str) -> Result<(), CliFault> {
     run_export(rt.alloc(), &mut source, &mut Writing::new(io::writer(rt)))
 }
 
-fn open<R: Files>(rt: &R, number: usize, path: &str) -> Result<Reading<R::File>, CliFault> {
+/// Opens the file of this number.
+pub fn open<R: Files>(rt: &R, number: usize, path: &str) -> Result<Reading<R::File>, CliFault> {
     match fs::open(rt, path) {
         Ok(file) => Ok(Reading::new(file)),
         Err(_) => Err(CliFault::File {

@@ -1,13 +1,18 @@
 //! The words of the command line.
 use crate::help::{
-    CHECK_HELP, ENTER_HELP, EXPORT_HELP, MERGE_HELP, NEW_HELP, OPS_HELP, PIECE_HELP, REPORT_HELP,
-    RETIRE_HELP, SEEN_HELP, SHOW_HELP, STATUS_HELP, SUPERSEDE_HELP, WKT_HELP,
+    CHECK_HELP, DOWNGRADE_HELP, ENTER_HELP, EXPORT_HELP, MERGE_HELP, NEW_HELP, OPS_HELP,
+    PIECE_HELP, REPORT_HELP, RETIRE_HELP, SEEN_HELP, SHELF_HELP, SHOW_HELP, STATUS_HELP,
+    SUPERSEDE_HELP, UNSHELF_HELP, WKT_HELP,
 };
 use clap::{Arg, ArgAction, Command};
 use std::alloc::{AllocError, Global};
 
 /// The newest heading of CHANGES.md.
-const VERSION: &str = "0.3";
+const VERSION: &str = "0.4";
+
+const ON_SHELF: &str = "REG is a shelf, on which the register is kept";
+
+const READ_SHELF: &str = "REG is a shelf";
 
 const KINDS: [&str; 4] = ["entries", "conflicts", "awaited", "gaps"];
 
@@ -19,7 +24,8 @@ pub fn command_line<'a>(alloc: Global) -> Result<Command<'a>, AllocError> {
         .after_help(STATUS_HELP)
         .subcommand_required(true);
     let whole = with_makers(alloc, whole)?;
-    with_exchange(alloc, with_readers(alloc, whole)?)
+    let whole = with_exchange(alloc, with_readers(alloc, whole)?)?;
+    with_shelves(alloc, whole)
 }
 
 // Those that check a text, and that make or change a register.
@@ -44,7 +50,14 @@ fn with_readers<'a>(alloc: Global, whole: Command<'a>) -> Result<Command<'a>, Al
 fn with_exchange<'a>(alloc: Global, whole: Command<'a>) -> Result<Command<'a>, AllocError> {
     let whole = and(whole, merge(alloc))?;
     let whole = and(whole, seen(alloc))?;
-    and(whole, piece(alloc))
+    let whole = and(whole, piece(alloc))?;
+    and(whole, downgrade(alloc))
+}
+
+// Those that make a shelf, and write out what one has.
+fn with_shelves<'a>(alloc: Global, whole: Command<'a>) -> Result<Command<'a>, AllocError> {
+    let whole = and(whole, shelf(alloc))?;
+    and(whole, unshelf(alloc))
 }
 
 // The commands so far and one more, if both could be made.
@@ -78,8 +91,10 @@ fn enter<'a>(alloc: Global) -> Result<Command<'a>, AllocError> {
         .after_help(ENTER_HELP)
         .arg(register(alloc))?
         .arg(replica(alloc))?
+        .arg(note(alloc))?
         .arg(text(alloc))?
-        .arg(changed(alloc))
+        .arg(on_shelf(alloc, ON_SHELF))?
+        .arg(changed(alloc)?)
 }
 
 fn supersede<'a>(alloc: Global) -> Result<Command<'a>, AllocError> {
@@ -90,7 +105,9 @@ fn supersede<'a>(alloc: Global) -> Result<Command<'a>, AllocError> {
         .arg(old(alloc))?
         .arg(entries(alloc, "BY", "The ids of the entries that supersede it"))?
         .arg(replica(alloc))?
-        .arg(changed(alloc))
+        .arg(note(alloc))?
+        .arg(on_shelf(alloc, ON_SHELF))?
+        .arg(changed(alloc)?)
 }
 
 fn retire<'a>(alloc: Global) -> Result<Command<'a>, AllocError> {
@@ -100,7 +117,9 @@ fn retire<'a>(alloc: Global) -> Result<Command<'a>, AllocError> {
         .arg(register(alloc))?
         .arg(entries(alloc, "ENTRY", "The ids of the entries, as UUID:NUMBER"))?
         .arg(replica(alloc))?
-        .arg(changed(alloc))
+        .arg(note(alloc))?
+        .arg(on_shelf(alloc, ON_SHELF))?
+        .arg(changed(alloc)?)
 }
 
 fn show<'a>(alloc: Global) -> Result<Command<'a>, AllocError> {
@@ -108,6 +127,7 @@ fn show<'a>(alloc: Global) -> Result<Command<'a>, AllocError> {
         .about("Prints the key, the name and the status of one entry")
         .after_help(SHOW_HELP)
         .arg(register(alloc))?
+        .arg(on_shelf(alloc, READ_SHELF))?
         .arg(entry(alloc))
 }
 
@@ -115,7 +135,8 @@ fn ops<'a>(alloc: Global) -> Result<Command<'a>, AllocError> {
     Command::new(alloc, "ops")
         .about("Prints the operations that a register keeps")
         .after_help(OPS_HELP)
-        .arg(register(alloc))
+        .arg(register(alloc))?
+        .arg(on_shelf(alloc, READ_SHELF))
 }
 
 fn report<'a>(alloc: Global) -> Result<Command<'a>, AllocError> {
@@ -123,6 +144,7 @@ fn report<'a>(alloc: Global) -> Result<Command<'a>, AllocError> {
         .about("Prints a report on a register")
         .after_help(REPORT_HELP)
         .arg(register(alloc))?
+        .arg(on_shelf(alloc, READ_SHELF))?
         .arg(kind(alloc))
 }
 
@@ -130,6 +152,7 @@ fn merge<'a>(alloc: Global) -> Result<Command<'a>, AllocError> {
     Command::new(alloc, "merge")
         .about("Joins registers and pieces and writes the file of all their operations")
         .after_help(MERGE_HELP)
+        .arg(on_shelf(alloc, "OUT is a shelf, whose register is joined first"))?
         .arg(out(alloc, "The register file to write; it is made anew"))?
         .arg(files(alloc))
 }
@@ -139,6 +162,7 @@ fn seen<'a>(alloc: Global) -> Result<Command<'a>, AllocError> {
         .about("Writes a summary of the operations that a register has seen")
         .after_help(SEEN_HELP)
         .arg(register(alloc))?
+        .arg(on_shelf(alloc, READ_SHELF))?
         .arg(out(alloc, "The summary file to write; it is made anew"))
 }
 
@@ -147,8 +171,59 @@ fn piece<'a>(alloc: Global) -> Result<Command<'a>, AllocError> {
         .about("Writes the piece of a register that another office lacks")
         .after_help(PIECE_HELP)
         .arg(register(alloc))?
+        .arg(on_shelf(alloc, READ_SHELF))?
         .arg(summary(alloc))?
         .arg(out(alloc, "The piece file to write; it is made anew"))
+}
+
+fn downgrade<'a>(alloc: Global) -> Result<Command<'a>, AllocError> {
+    Command::new(alloc, "downgrade")
+        .about("Writes the file of a register for programs up to 0.3")
+        .after_help(DOWNGRADE_HELP)
+        .arg(register(alloc))?
+        .arg(on_shelf(alloc, READ_SHELF))?
+        .arg(out(alloc, "The register file to write; it is made anew"))
+}
+
+fn shelf<'a>(alloc: Global) -> Result<Command<'a>, AllocError> {
+    Command::new(alloc, "shelf")
+        .about("Makes a shelf of an empty register, which stops do not harm")
+        .after_help(SHELF_HELP)
+        .arg(new_shelf(alloc))?
+        .arg(size(alloc))
+}
+
+fn unshelf<'a>(alloc: Global) -> Result<Command<'a>, AllocError> {
+    Command::new(alloc, "unshelf")
+        .about("Writes the file of the register that a shelf has")
+        .after_help(UNSHELF_HELP)
+        .arg(old_shelf(alloc))?
+        .arg(out(alloc, "The register file to write; it is made anew"))
+}
+
+fn new_shelf<'a>(alloc: Global) -> Arg<'a> {
+    Arg::new(alloc, "NEW")
+        .help("The shelf to make; what was there is gone")
+        .required(true)
+}
+
+fn size<'a>(alloc: Global) -> Arg<'a> {
+    Arg::new(alloc, "SIZE")
+        .help("The most bytes that the register's file may have, from 14 to 67108864")
+        .required(true)
+}
+
+fn old_shelf<'a>(alloc: Global) -> Arg<'a> {
+    Arg::new(alloc, "SHELF")
+        .help("The shelf to read")
+        .required(true)
+}
+
+fn on_shelf<'a>(alloc: Global, help: &'a str) -> Arg<'a> {
+    Arg::new(alloc, "shelf")
+        .long("shelf")
+        .help(help)
+        .action(ArgAction::SetTrue)
 }
 
 fn wkt<'a>(alloc: Global) -> Result<Command<'a>, AllocError> {
@@ -156,6 +231,7 @@ fn wkt<'a>(alloc: Global) -> Result<Command<'a>, AllocError> {
         .about("Prints the text of one entry")
         .after_help(WKT_HELP)
         .arg(register(alloc))?
+        .arg(on_shelf(alloc, READ_SHELF))?
         .arg(entry(alloc))?
         .arg(pretty(alloc))
 }
@@ -164,7 +240,8 @@ fn export<'a>(alloc: Global) -> Result<Command<'a>, AllocError> {
     Command::new(alloc, "export")
         .about("Prints the texts of all entries that are not retired")
         .after_help(EXPORT_HELP)
-        .arg(register(alloc))
+        .arg(register(alloc))?
+        .arg(on_shelf(alloc, READ_SHELF))
 }
 
 fn text<'a>(alloc: Global) -> Arg<'a> {
@@ -242,10 +319,18 @@ fn replica<'a>(alloc: Global) -> Arg<'a> {
         .required(true)
 }
 
-fn changed<'a>(alloc: Global) -> Arg<'a> {
+fn note<'a>(alloc: Global) -> Arg<'a> {
+    Arg::new(alloc, "note").long("note").value_name("TEXT").help(
+        "Why, in at most 200 bytes; it is kept with each operation that is made",
+    )
+}
+
+// Where the register goes that is not kept on its shelf.
+fn changed<'a>(alloc: Global) -> Result<Arg<'a>, AllocError> {
     Arg::new(alloc, "out")
         .long("out")
         .value_name("OUT")
         .help("The register file to write; it may be REG")
-        .required(true)
+        .required_unless_present("shelf")?
+        .conflicts_with("shelf")
 }

@@ -1,5 +1,6 @@
 -- One more of the sources, when those before it are read.
-use Rattle.std.proofs.Common.{◌≡◌, ◌∷◌, ◌++◌, [], List, ℕ, ◌+◌, ◌<◌, zero, suc, length, map, take, drop, get_or, slice_set, refl, ap, sym, subst, append-nil, arith, Some, None, ◌∙◌}
+use Rattle.std.proofs.Common.{◌≡◌, ◌∷◌, ◌++◌, [], List, ℕ, ◌+◌, ◌<◌, ◌≤◌, zero, suc, length, map, take, drop, get_or, slice_set, refl, ap, sym, subst, append-nil, append_assoc, arith, Some, None, ◌∙◌}
+use Rattle.std.proofs.lemmas.List.{take_all, length-map}
 use Rattle.std.specs.declared.option.Option.{Option}
 use Rattle.std.specs.Io.KnownBytes.{Consumes}
 use Rattle.byte_io.specs.Device.{SourceState}
@@ -12,7 +13,7 @@ use Rattle.reg_op.specs.Pieces.{Piece}
 use Rattle.reg_engine.specs.declared.fault.InputFault.{InputFault}
 use Rattle.reg_engine.specs.declared.fault.CliFault.{CliFault}
 use Rattle.reg_engine.specs.declared.fault.CliFault.TheVariants as cli
-use Rattle.reg_engine.specs.Inputs.{IsPartFault, NeverFails, IsPartUnread, HoldAll, StopsAt, NoneFails, AreUnread, registers, pieces, GiveParts}
+use Rattle.reg_engine.specs.Inputs.{IsPartFault, NeverFails, IsPartUnread, HoldAll, StopsAt, NoneFails, AreUnread, registers, pieces, GivePartsAfter}
 
 abbrev head_of : {A : Type 0} → A → List A → A
 head_of d [] = d
@@ -28,14 +29,14 @@ part_gives o n p (bytes, read, held) = (bytes, read.given, read.front, read.boun
 pub found_gives : (o n : SourceState) (x : Content) → Finds o n x → NeverFails o n
 found_gives o n x found = part_gives o n (part.Register x) found
 
-Consumes-none : (left : Option (List ℕ)) → Consumes left left []
+pub Consumes-none : (left : Option (List ℕ)) → Consumes left left []
 Consumes-none None = tt
 Consumes-none (Some xs) = refl
 
 gives_nothing : (o : SourceState) → NeverFails o o
 gives_nothing o = ([], sym (append-nil o.given), Consumes-none o.left, omega (arith), refl)
 
-none_given : (os : List SourceState) → NoneFails os os
+pub none_given : (os : List SourceState) → NoneFails os os
 none_given [] = tt
 none_given (o ∷ os) = (gives_nothing o, none_given os)
 
@@ -129,13 +130,25 @@ module _ {S : Type 0} (st : S → SourceState) where
       subst (λ j. StopsAt j f (map st was) (map st (slice_set now i s))) (sym number) (stops_next was now i o s xs f within size front back fault)
   unread_next was now i o s xs within size front back (cli.Out f) h = absurd h
   unread_next was now i o s xs within size front back cli.Memory h = none_fails_next was now i o s xs within size front back h
+  unread_next was now i o s xs within size front back (cli.Shelf p) h = absurd h
 
-  pub gives_next : (was now : List S) (i : ℕ) (o s : S) (xs xs' : List Content) (qs qs' : List Piece) (p : Part) → i < length was → length now ≡ length was
-      → GiveParts (take i (map st was)) (take i (map st now)) xs qs → drop i (map st now) ≡ drop i (map st was) → FindsPart (st (get_or now i o)) (st s) p
-      → xs' ≡ xs ++ registers (p ∷ []) → qs' ≡ qs ++ pieces (p ∷ []) → GiveParts (take (i + 1) (map st was)) (take (i + 1) (map st (slice_set now i s))) xs' qs'
-  gives_next was now i o s xs xs' qs qs' p within size (ps, front, xs-are, qs-are) back found pushed pushed' = (
+  pub gives_next : (some : List Content) (few : List Piece) (was now : List S) (i : ℕ) (o s : S) (xs xs' : List Content) (qs qs' : List Piece) (p : Part) → i < length was → length now ≡ length was
+      → GivePartsAfter some few (take i (map st was)) (take i (map st now)) xs qs → drop i (map st now) ≡ drop i (map st was) → FindsPart (st (get_or now i o)) (st s) p
+      → xs' ≡ xs ++ registers (p ∷ []) → qs' ≡ qs ++ pieces (p ∷ []) → GivePartsAfter some few (take (i + 1) (map st was)) (take (i + 1) (map st (slice_set now i s))) xs' qs'
+  gives_next some few was now i o s xs xs' qs qs' p within size (ps, front, xs-are, qs-are) back found pushed pushed' = (
     ps ++ p ∷ [],
     held_next was now i o s ps p within size front back found,
-    pushed ∙ ap (λ ys. ys ++ registers (p ∷ [])) xs-are ∙ sym (registers_next ps p),
-    pushed' ∙ ap (λ ys. ys ++ pieces (p ∷ [])) qs-are ∙ sym (pieces_next ps p),
+    pushed ∙ ap (λ ys. ys ++ registers (p ∷ [])) xs-are ∙ append_assoc some (registers ps) (registers (p ∷ [])) ∙ ap (λ ys. some ++ ys) (sym (registers_next ps p)),
+    pushed' ∙ ap (λ ys. ys ++ pieces (p ∷ [])) qs-are ∙ append_assoc few (pieces ps) (pieces (p ∷ [])) ∙ ap (λ ys. few ++ ys) (sym (pieces_next ps p)),
   )
+
+  -- after the last
+  pub gives_all : (some : List Content) (few : List Piece) (was now : List S) (i : ℕ) (xs : List Content) (qs : List Piece) → length was ≤ i → length now ≡ length was
+      → GivePartsAfter some few (take i (map st was)) (take i (map st now)) xs qs → GivePartsAfter some few (map st was) (map st now) xs qs
+  gives_all some few was now i xs qs past size h =
+      subst (λ os. GivePartsAfter some few os (map st now) xs qs) (take_all i (map st was) (omega (arith, length-map was st, past)))
+      (subst (λ ns. GivePartsAfter some few (take i (map st was)) ns xs qs) (take_all i (map st now) (omega (arith, length-map now st, size, past))) h)
+
+-- before the first
+pub none_given_yet : (some : List Content) (few : List Piece) → GivePartsAfter some few [] [] some few
+none_given_yet some few = ([], tt, sym (append-nil some), sym (append-nil few))

@@ -1,7 +1,12 @@
 mod ChangeLemmas
+mod ChangeOnLemmas
+mod DowngradeLemmas
 mod ExchangeLemmas
 mod ExportLemmas
 mod InputLemmas
 mod MergeLemmas
+mod MergeOnLemmas
 mod OutputLemmas
+mod ReadOnLemmas
 mod ReportLemmas
+mod ShelfLemmas

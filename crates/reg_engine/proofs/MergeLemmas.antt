@@ -1,5 +1,5 @@
 -- Merges of lists that have the same operations.
-use Rattle.std.proofs.Common.{◌≡◌, ◌++◌, ◌∷◌, length, arith, [], List, ℕ, Ok, Err, Result, Some, None, map, refl, sym, ap, subst, ◌∙◌}
+use Rattle.std.proofs.Common.{◌≡◌, ◌⊎◌, inl, inr, ◌++◌, ◌∷◌, length, arith, [], List, ℕ, Ok, Err, Result, Some, None, map, refl, sym, ap, subst, ◌∙◌}
 use Rattle.std.specs.declared.option.Option.{Option}
 use Rattle.reg_op.specs.Ids.{Id}
 use Rattle.reg_op.specs.Operations.{Ops, OneBody, kept}
@@ -110,49 +110,56 @@ refused_all r [] = refl
 refused_all r (q ∷ qs) = refused_all r qs
 
 -- the join of what was read is that of the parts
-of_parts : (ps : List Part) (xs : List Content) (qs : List Piece) → xs ≡ registers ps → qs ≡ pieces ps → join_of ps ≡ with_pieces (begun (all_joined joined (Ok nothing) xs)) qs
+pub of_parts : (ps : List Part) (xs : List Content) (qs : List Piece) → xs ≡ registers ps → qs ≡ pieces ps → join_of ps ≡ with_pieces (begun (all_joined joined (Ok nothing) xs)) qs
 of_parts ps xs qs e f =
     ap (λ ys. with_pieces (begun (all_joined joined (Ok nothing) ys)) (pieces ps)) (sym e) ∙ ap (λ ys. with_pieces (begun (all_joined joined (Ok nothing) xs)) ys) (sym f)
 
+-- a join is refused for a clash or for a basis, or memory ran out
+abbrev pub Ways : Result Content PieceRefusal → CliFault → Type 0
+Ways r f = ((id : Id) × (f ≡ cli.Refused (refusal.Clash id)) × (r ≡ Err (Clash id)))
+    ⊎ (((id : Id) × (f ≡ cli.Refused (refusal.Basis id)) × (r ≡ Err (Basis id))) ⊎ (f ≡ cli.Memory))
+
+pub ways : (r : Result Content PieceRefusal) (f : CliFault) → IsUnjoined r f → Ways r f
+ways r (cli.Refused (refusal.Clash id)) h = inl (id, refl, h)
+ways r (cli.Refused (refusal.Basis id)) h = inr (inl (id, refl, h))
+ways r (cli.Refused (refusal.Text f)) h = absurd h
+ways r (cli.Refused (refusal.Slot f)) h = absurd h
+ways r (cli.Refused (refusal.Broken k n)) h = absurd h
+ways r (cli.Refused refusal.NoIdentifier) h = absurd h
+ways r (cli.Refused refusal.CanonicalTooLong) h = absurd h
+ways r (cli.Refused refusal.NoteTooLong) h = absurd h
+ways r (cli.Refused (refusal.HasNote id)) h = absurd h
+ways r (cli.Refused (refusal.UnknownEntry id)) h = absurd h
+ways r (cli.Refused refusal.SameEntry) h = absurd h
+ways r (cli.Refused (refusal.AlreadyRetired id)) h = absurd h
+ways r (cli.Refused (refusal.AlreadySuperseded id)) h = absurd h
+ways r (cli.Refused refusal.CountSpent) h = absurd h
+ways r (cli.Refused refusal.BadId) h = absurd h
+ways r (cli.Refused refusal.BadReplica) h = absurd h
+ways r (cli.Refused refusal.BadSize) h = absurd h
+ways r (cli.File k f) h = absurd h
+ways r (cli.Out f) h = absurd h
+ways r cli.Memory h = inr (inr refl)
+ways r (cli.Shelf p) h = absurd h
+
+refused_by : (old new : Ends) (ps : List Part) (r : Result Content PieceRefusal) → HoldAll old.sources new.sources ps → join_of ps ≡ r → new.target ≡ old.target
+    → (f : CliFault) → Ways r f → IsMergeFault old new f
+refused_by old new ps r held is same f (inl (id, e, h)) = subst (λ k. IsMergeFault old new k) (sym e) (ps, held, is ∙ h, same)
+refused_by old new ps r held is same f (inr (inl (id, e, h))) = subst (λ k. IsMergeFault old new k) (sym e) (ps, held, is ∙ h, same)
+refused_by old new ps r held is same f (inr (inr e)) = subst (λ k. IsMergeFault old new k) (sym e) (none_failed old.sources new.sources ps held, same)
+
 refused_as : (old new : Ends) (ps : List Part) (r : Result Content PieceRefusal) → HoldAll old.sources new.sources ps → join_of ps ≡ r → new.target ≡ old.target
     → (f : CliFault) → IsUnjoined r f → IsMergeFault old new f
-refused_as old new ps r held is same (cli.Refused (refusal.Clash id)) h = (ps, held, is ∙ h, same)
-refused_as old new ps r held is same (cli.Refused (refusal.Basis id)) h = (ps, held, is ∙ h, same)
-refused_as old new ps r held is same (cli.Refused (refusal.Text f)) h = absurd h
-refused_as old new ps r held is same (cli.Refused (refusal.Slot f)) h = absurd h
-refused_as old new ps r held is same (cli.Refused (refusal.Broken k n)) h = absurd h
-refused_as old new ps r held is same (cli.Refused refusal.NoIdentifier) h = absurd h
-refused_as old new ps r held is same (cli.Refused refusal.CanonicalTooLong) h = absurd h
-refused_as old new ps r held is same (cli.Refused (refusal.UnknownEntry id)) h = absurd h
-refused_as old new ps r held is same (cli.Refused refusal.SameEntry) h = absurd h
-refused_as old new ps r held is same (cli.Refused (refusal.AlreadyRetired id)) h = absurd h
-refused_as old new ps r held is same (cli.Refused (refusal.AlreadySuperseded id)) h = absurd h
-refused_as old new ps r held is same (cli.Refused refusal.CountSpent) h = absurd h
-refused_as old new ps r held is same (cli.Refused refusal.BadId) h = absurd h
-refused_as old new ps r held is same (cli.Refused refusal.BadReplica) h = absurd h
-refused_as old new ps r held is same (cli.File k f) h = absurd h
-refused_as old new ps r held is same (cli.Out f) h = absurd h
-refused_as old new ps r held is same cli.Memory h = (none_failed old.sources new.sources ps held, same)
+refused_as old new ps r held is same f h = refused_by old new ps r held is same f (ways r f h)
 
 -- pieces do not mend a refusal of the registers
+stays_by : (r : Result Content PieceRefusal) (qs : List Piece) (f : CliFault) → Ways r f → IsUnjoined (with_pieces r qs) f
+stays_by r qs f (inl (id, e, h)) = subst (λ k. IsUnjoined (with_pieces r qs) k) (sym e) (ap (λ z. with_pieces z qs) h ∙ refused_all (Clash id) qs)
+stays_by r qs f (inr (inl (id, e, h))) = subst (λ k. IsUnjoined (with_pieces r qs) k) (sym e) (ap (λ z. with_pieces z qs) h ∙ refused_all (Basis id) qs)
+stays_by r qs f (inr (inr e)) = subst (λ k. IsUnjoined (with_pieces r qs) k) (sym e) tt
+
 pub refusal_stays : (r : Result Content PieceRefusal) (qs : List Piece) (f : CliFault) → IsUnjoined r f → IsUnjoined (with_pieces r qs) f
-refusal_stays r qs (cli.Refused (refusal.Clash id)) h = ap (λ z. with_pieces z qs) h ∙ refused_all (Clash id) qs
-refusal_stays r qs (cli.Refused (refusal.Basis id)) h = ap (λ z. with_pieces z qs) h ∙ refused_all (Basis id) qs
-refusal_stays r qs (cli.Refused (refusal.Text f)) h = absurd h
-refusal_stays r qs (cli.Refused (refusal.Slot f)) h = absurd h
-refusal_stays r qs (cli.Refused (refusal.Broken k n)) h = absurd h
-refusal_stays r qs (cli.Refused refusal.NoIdentifier) h = absurd h
-refusal_stays r qs (cli.Refused refusal.CanonicalTooLong) h = absurd h
-refusal_stays r qs (cli.Refused (refusal.UnknownEntry id)) h = absurd h
-refusal_stays r qs (cli.Refused refusal.SameEntry) h = absurd h
-refusal_stays r qs (cli.Refused (refusal.AlreadyRetired id)) h = absurd h
-refusal_stays r qs (cli.Refused (refusal.AlreadySuperseded id)) h = absurd h
-refusal_stays r qs (cli.Refused refusal.CountSpent) h = absurd h
-refusal_stays r qs (cli.Refused refusal.BadId) h = absurd h
-refusal_stays r qs (cli.Refused refusal.BadReplica) h = absurd h
-refusal_stays r qs (cli.File k f) h = absurd h
-refusal_stays r qs (cli.Out f) h = absurd h
-refusal_stays r qs cli.Memory h = tt
+refusal_stays r qs f h = stays_by r qs f (ways r f h)
 
 -- why a piece is not joined is why its content and it are not
 pub unjoined_by : (r : Result Content PieceFault) (q : Result Content PieceRefusal) → ((id : Id) → (r ≡ Err (piece.Basis id)) ↔ (q ≡ Err (Basis id)))
@@ -183,6 +190,7 @@ unmerged old new ps x held join (cli.Refused r) h = absurd h
 unmerged old new ps x held join (cli.File k f) h = absurd h
 unmerged old new ps x held join (cli.Out f) h = (ps, held, (x, join, h))
 unmerged old new ps x held join cli.Memory h = (none_failed old.sources new.sources ps held, h)
+unmerged old new ps x held join (cli.Shelf p) h = absurd h
 
 -- the file of the empty content has 14 bytes
 empty_file : IsFileOf nothing (file (set.items nothing.ops) [])

@@ -21,6 +21,7 @@ unpublished_of (cli.Out out.TooLarge) Are Large bytes old new is h = absurd h
 unpublished_of (cli.Out out.NotOpened) Are Large bytes old new is h = (bytes, is, h)
 unpublished_of (cli.Out (out.WriteFailed n)) Are Large bytes old new is h = (bytes, is, h)
 unpublished_of cli.Memory Are Large bytes old new is h = absurd h
+unpublished_of (cli.Shelf p) Are Large bytes old new is h = absurd h
 
 pub unpublished_by : (r : Result (Unit {0}) CliFault) (Are : List ℕ → Type 0) (Large : Type 0) (bytes : List ℕ) (old new : SinkState) → Are bytes
     → IfErr r (IsUnpublishedOf bytes old new) → IfErr r (IsUnpublishedBy Are Large old new)

@@ -10,7 +10,7 @@ use Rattle.reg_op.specs.Status.{enters, is_enter}
 use Rattle.reg_op.proofs.FiniteLemmas.{any_from_member}
 use Rattle.reg_op.proofs.OpLemmas.{id_total, op_total, op_exact}
 
-pub entered : (x : Content) (entry : Id) (definition : List ℕ) → set.contains x.ops (entering entry definition) ≡ true → enters x.ops entry ≡ true
-entered x entry definition h =
-    any_from_member op_total op_exact (λ o. is_same entry o.id && is_enter o.body) x.ops (entering entry definition) h
+pub entered : (x : Content) (entry : Id) (definition note : List ℕ) → set.contains x.ops (entering entry definition note) ≡ true → enters x.ops entry ≡ true
+entered x entry definition note h =
+    any_from_member op_total op_exact (λ o. is_same entry o.id && is_enter o.body) x.ops (entering entry definition note) h
     (ap (λ r. is_eq r && true) (tied_itself id_total entry))

@@ -26,16 +26,16 @@ use Rattle.reg_engine.specs.Inputs.{IsFileFault, NeverFails}
 use Rattle.reg_engine.specs.Outputs.{Outputs, GivesOut, IsUngiven}
 
 -- what the command makes of the content, its file and its new ids went out
-abbrev pub GivesMade : Content → List ℕ → List Body → Outputs → Outputs → Type 0
-GivesMade x replica bodies old new = (y : Content) × (ids : List Id) × Does x replica bodies y ids × GivesOut y ids old new
+abbrev pub GivesMade : Content → List ℕ → List ℕ → List Body → Outputs → Outputs → Type 0
+GivesMade x replica note bodies old new = (y : Content) × (ids : List Id) × Does x replica note bodies y ids × GivesOut y ids old new
 
 -- or not all of it, for this reason
-abbrev pub IsUnmade : Content → List ℕ → List Body → Outputs → Outputs → OutFault → Type 0
-IsUnmade x replica bodies old new f = (y : Content) × (ids : List Id) × Does x replica bodies y ids × IsUngiven y ids old new (cli.Out f)
+abbrev pub IsUnmade : Content → List ℕ → List ℕ → List Body → Outputs → Outputs → OutFault → Type 0
+IsUnmade x replica note bodies old new f = (y : Content) × (ids : List Id) × Does x replica note bodies y ids × IsUngiven y ids old new (cli.Out f)
 
 -- the office makes nothing of it, for this reason
-abbrev pub IsRefused : Content → List ℕ → List Body → Refusal → Type 0
-IsRefused x replica bodies r = (f : OfficeFault) × (made x replica bodies ≡ Err f) × (office_fault f ≡ cli.Refused r)
+abbrev pub IsRefused : Content → List ℕ → List ℕ → List Body → Refusal → Type 0
+IsRefused x replica note bodies r = (f : OfficeFault) × (made x replica note bodies ≡ Err f) × (office_fault f ≡ cli.Refused r)
 
 -- ---- entries that are retired, and superseded
 
@@ -48,15 +48,16 @@ abbrev pub desk : SourceState → Outputs → Desk
 desk register outputs = record { register = register; outputs = outputs }
 
 -- the file of a content came in, and what the command makes of it went out
-abbrev pub IsChanged : List ℕ → List Body → Desk → Desk → Type 0
-IsChanged replica bodies old new = (x : Content) × Finds old.register new.register x × GivesMade x replica bodies old.outputs new.outputs
+abbrev pub IsChanged : List ℕ → List ℕ → List Body → Desk → Desk → Type 0
+IsChanged replica note bodies old new = (x : Content) × Finds old.register new.register x × GivesMade x replica note bodies old.outputs new.outputs
 
 -- what was done instead, by the fault
-abbrev pub IsChangeFault : List ℕ → List Body → Desk → Desk → CliFault → Type 0
-IsChangeFault replica bodies old new (cli.Refused r) = (x : Content) × Finds old.register new.register x × IsRefused x replica bodies r × (new.outputs ≡ old.outputs)
-IsChangeFault replica bodies old new (cli.File k f) = (k ≡ 1) × IsFileFault f old.register new.register × (new.outputs ≡ old.outputs)
-IsChangeFault replica bodies old new (cli.Out f) = (x : Content) × Finds old.register new.register x × IsUnmade x replica bodies old.outputs new.outputs f
-IsChangeFault replica bodies old new cli.Memory = NeverFails old.register new.register × (new.outputs ≡ old.outputs)
+abbrev pub IsChangeFault : List ℕ → List ℕ → List Body → Desk → Desk → CliFault → Type 0
+IsChangeFault replica note bodies old new (cli.Refused r) = (x : Content) × Finds old.register new.register x × IsRefused x replica note bodies r × (new.outputs ≡ old.outputs)
+IsChangeFault replica note bodies old new (cli.File k f) = (k ≡ 1) × IsFileFault f old.register new.register × (new.outputs ≡ old.outputs)
+IsChangeFault replica note bodies old new (cli.Out f) = (x : Content) × Finds old.register new.register x × IsUnmade x replica note bodies old.outputs new.outputs f
+IsChangeFault replica note bodies old new cli.Memory = NeverFails old.register new.register × (new.outputs ≡ old.outputs)
+IsChangeFault replica note bodies old new (cli.Shelf p) = ⊥
 
 -- ---- an entry
 
@@ -78,8 +79,8 @@ abbrev pub ReadsDefinition : Content → Crs → EntryDesk → EntryDesk → Typ
 ReadsDefinition x v old new = ReadsBoth x v old new × IsDefinition (canon v)
 
 -- and what came of entering the canonical text of the value went out
-abbrev pub IsEntered : List ℕ → EntryDesk → EntryDesk → Type 0
-IsEntered replica old new = (x : Content) × (v : Crs) × ReadsDefinition x v old new × GivesMade x replica (Enter (canon v) ∷ []) old.outputs new.outputs
+abbrev pub IsEntered : List ℕ → List ℕ → EntryDesk → EntryDesk → Type 0
+IsEntered replica note old new = (x : Content) × (v : Crs) × ReadsDefinition x v old new × GivesMade x replica note (Enter (canon v) ∷ []) old.outputs new.outputs
 
 -- the register came in, and then a text with this first fault
 abbrev pub RefusesText : ReadFault → EntryDesk → EntryDesk → Type 0
@@ -93,23 +94,27 @@ IsUndefined v (cli.Refused r) = ⊥
 IsUndefined v (cli.File k f) = ⊥
 IsUndefined v (cli.Out f) = ⊥
 IsUndefined v cli.Memory = Unit {0}
+IsUndefined v (cli.Shelf p) = ⊥
 
 -- why nothing was entered, where nothing went out
-abbrev pub IsUnentered : List ℕ → EntryDesk → EntryDesk → CliFault → Type 0
-IsUnentered replica old new (cli.Refused (refusal.Text f)) = RefusesText (read.Text f) old new
-IsUnentered replica old new (cli.Refused (refusal.Slot f)) = RefusesText (read.Slot f) old new
-IsUnentered replica old new (cli.Refused (refusal.Broken c place)) = RefusesText (read.Broken c place) old new
-IsUnentered replica old new (cli.Refused refusal.CountSpent) = (x : Content) × (v : Crs) × ReadsDefinition x v old new × IsRefused x replica (Enter (canon v) ∷ []) refusal.CountSpent
-IsUnentered replica old new (cli.Refused r) = (x : Content) × (v : Crs) × ReadsBoth x v old new × IsUndefined v (cli.Refused r)
-IsUnentered replica old new (cli.File k (file.ReadFailed n)) = ((k ≡ 1) × IsFileFault (file.ReadFailed n) old.register new.register × (new.text ≡ old.text))
+abbrev pub IsUnentered : List ℕ → List ℕ → EntryDesk → EntryDesk → CliFault → Type 0
+IsUnentered replica note old new (cli.Refused (refusal.Text f)) = RefusesText (read.Text f) old new
+IsUnentered replica note old new (cli.Refused (refusal.Slot f)) = RefusesText (read.Slot f) old new
+IsUnentered replica note old new (cli.Refused (refusal.Broken c place)) = RefusesText (read.Broken c place) old new
+IsUnentered replica note old new (cli.Refused refusal.NoteTooLong) = (x : Content) × (v : Crs) × ReadsDefinition x v old new × IsRefused x replica note (Enter (canon v) ∷ []) refusal.NoteTooLong
+IsUnentered replica note old new (cli.Refused refusal.CountSpent) = (x : Content) × (v : Crs) × ReadsDefinition x v old new × IsRefused x replica note (Enter (canon v) ∷ []) refusal.CountSpent
+IsUnentered replica note old new (cli.Refused r) = (x : Content) × (v : Crs) × ReadsBoth x v old new × IsUndefined v (cli.Refused r)
+IsUnentered replica note old new (cli.File k (file.ReadFailed n)) = ((k ≡ 1) × IsFileFault (file.ReadFailed n) old.register new.register × (new.text ≡ old.text))
     ⊎ ((k ≡ 2) × ((x : Content) × Finds old.register new.register x) × FailsAt n old.text new.text)
-IsUnentered replica old new (cli.File k f) = (k ≡ 1) × IsFileFault f old.register new.register × (new.text ≡ old.text)
-IsUnentered replica old new (cli.Out f) = ⊥
-IsUnentered replica old new cli.Memory = NeverFails old.register new.register × ReadsPart old.text new.text
+IsUnentered replica note old new (cli.File k f) = (k ≡ 1) × IsFileFault f old.register new.register × (new.text ≡ old.text)
+IsUnentered replica note old new (cli.Out f) = ⊥
+IsUnentered replica note old new cli.Memory = NeverFails old.register new.register × ReadsPart old.text new.text
+IsUnentered replica note old new (cli.Shelf p) = ⊥
 
 -- what was done instead, by the fault
-abbrev pub IsEnterFault : List ℕ → EntryDesk → EntryDesk → CliFault → Type 0
-IsEnterFault replica old new (cli.Out f) = (x : Content) × (v : Crs) × ReadsDefinition x v old new × IsUnmade x replica (Enter (canon v) ∷ []) old.outputs new.outputs f
-IsEnterFault replica old new (cli.Refused r) = IsUnentered replica old new (cli.Refused r) × (new.outputs ≡ old.outputs)
-IsEnterFault replica old new (cli.File k f) = IsUnentered replica old new (cli.File k f) × (new.outputs ≡ old.outputs)
-IsEnterFault replica old new cli.Memory = IsUnentered replica old new cli.Memory × (new.outputs ≡ old.outputs)
+abbrev pub IsEnterFault : List ℕ → List ℕ → EntryDesk → EntryDesk → CliFault → Type 0
+IsEnterFault replica note old new (cli.Out f) = (x : Content) × (v : Crs) × ReadsDefinition x v old new × IsUnmade x replica note (Enter (canon v) ∷ []) old.outputs new.outputs f
+IsEnterFault replica note old new (cli.Refused r) = IsUnentered replica note old new (cli.Refused r) × (new.outputs ≡ old.outputs)
+IsEnterFault replica note old new (cli.File k f) = IsUnentered replica note old new (cli.File k f) × (new.outputs ≡ old.outputs)
+IsEnterFault replica note old new cli.Memory = IsUnentered replica note old new cli.Memory × (new.outputs ≡ old.outputs)
+IsEnterFault replica note old new (cli.Shelf p) = ⊥

@@ -35,3 +35,4 @@ IsCheckFault old new (cli.File number f) = ⊥
 IsCheckFault old new (cli.Out (out.WriteFailed n)) = IsCutShort n old new
 IsCheckFault old new (cli.Out f) = ⊥
 IsCheckFault old new cli.Memory = ReadsPart old.source new.source × (new.sink ≡ old.sink)
+IsCheckFault old new (cli.Shelf p) = ⊥

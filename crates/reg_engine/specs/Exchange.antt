@@ -25,6 +25,7 @@ IsSumFault old new (cli.File k f) = (k ≡ 1) × IsFileFault f old.source new.so
 IsSumFault old new (cli.Out f) = (x : Content) × Finds old.source new.source x
     × IsUnpublishedSeen x.seen old.sink new.sink (cli.Out f)
 IsSumFault old new cli.Memory = NeverFails old.source new.source × (new.sink ≡ old.sink)
+IsSumFault old new (cli.Shelf p) = ⊥
 
 -- ---- a piece
 
@@ -57,3 +58,4 @@ IsPieceFault old new (cli.File k f) = HasNoPiece k f old new × (new.target ≡ 
 IsPieceFault old new (cli.Out f) = (x : Content) × (basis : Ids) × ReadsFor x basis old new
     × IsUnpublishedPiece (piece_for x basis) old.target new.target (cli.Out f)
 IsPieceFault old new cli.Memory = NeverFails old.register new.register × NeverFails old.summary new.summary × (new.target ≡ old.target)
+IsPieceFault old new (cli.Shelf p) = ⊥

@@ -40,6 +40,7 @@ IsExportFault old new (cli.File k f) = (k ≡ 1) × IsFileFault f old.source new
 IsExportFault old new (cli.Out (out.WriteFailed n)) = (x : Content) × Finds old.source new.source x × IsCutAt n (export x.ops) old.sink new.sink
 IsExportFault old new (cli.Out f) = ⊥
 IsExportFault old new cli.Memory = NeverFails old.source new.source × (new.sink ≡ old.sink)
+IsExportFault old new (cli.Shelf p) = ⊥
 
 -- ---- one entry
 
@@ -54,10 +55,11 @@ IsDefinitionText form definition text = (crs : Crs) × IsCrsOf crs definition ×
 abbrev pub IsDefinitionLine : Form → List ℕ → List ℕ → Type 0
 IsDefinitionLine form definition line = (crs : Crs) × IsCrsOf crs definition × (line ≡ text_in form crs ++ 10 ∷ [])
 
--- the content has the entry, and this is the line of the value that its definition spells
+-- the content has the entry, with some note, and this is the line of the value that its definition spells
 pub record IsLineOf (form : Form) (x : Content) (entry : Id) (line : List ℕ) : Type 0 where
   pub definition : List ℕ
-  pub entered : set.contains x.ops (entering entry definition) ≡ true
+  pub note : List ℕ
+  pub entered : set.contains x.ops (entering entry definition note) ≡ true
   pub crs : Crs
   pub spelled : IsCrsOf crs definition
   pub is : line ≡ text_in form crs ++ 10 ∷ []
@@ -77,3 +79,4 @@ IsShowFault form entry old new (cli.Out (out.WriteFailed n)) = (x : Content) × 
     × ((line : List ℕ) × IsLineOf form x entry line × IsCutAt n line old.sink new.sink)
 IsShowFault form entry old new (cli.Out f) = ⊥
 IsShowFault form entry old new cli.Memory = NeverFails old.source new.source × (new.sink ≡ old.sink)
+IsShowFault form entry old new (cli.Shelf p) = ⊥

@@ -1,5 +1,5 @@
 -- Registers, summaries and pieces from files: what one gave, and what a list of them gave.
-use Rattle.std.specs.Prelude.{◌≡◌, ◌∷◌, [], List, ℕ, ◌+◌, zero, suc, Option, Some, None}
+use Rattle.std.specs.Prelude.{◌≡◌, ◌++◌, ◌∷◌, [], List, ℕ, ◌+◌, zero, suc, Option, Some, None}
 use Rattle.byte_io.specs.Device.{SourceState}
 use Rattle.byte_io.specs.Whole.{GivesAtMost}
 use Rattle.reg_op.specs.Contents.{Content}
@@ -46,6 +46,7 @@ IsUnread number old new (cli.Refused r) = ⊥
 IsUnread number old new (cli.File k f) = (k ≡ number) × IsFileFault f old new
 IsUnread number old new (cli.Out f) = ⊥
 IsUnread number old new cli.Memory = NeverFails old new
+IsUnread number old new (cli.Shelf p) = ⊥
 
 -- what a command did to the summary in the file of this number before it gave up
 abbrev pub IsSummaryUnread : ℕ → SourceState → SourceState → CliFault → Type 0
@@ -53,6 +54,7 @@ IsSummaryUnread number old new (cli.Refused r) = ⊥
 IsSummaryUnread number old new (cli.File k f) = (k ≡ number) × IsSummaryFault f old new
 IsSummaryUnread number old new (cli.Out f) = ⊥
 IsSummaryUnread number old new cli.Memory = NeverFails old new
+IsSummaryUnread number old new (cli.Shelf p) = ⊥
 
 -- what it did to the register or the piece there
 abbrev pub IsPartUnread : ℕ → SourceState → SourceState → CliFault → Type 0
@@ -60,6 +62,7 @@ IsPartUnread number old new (cli.Refused r) = ⊥
 IsPartUnread number old new (cli.File k f) = (k ≡ number) × IsPartFault f old new
 IsPartUnread number old new (cli.Out f) = ⊥
 IsPartUnread number old new cli.Memory = NeverFails old new
+IsPartUnread number old new (cli.Shelf p) = ⊥
 
 -- ---- a list of sources, of registers and of pieces
 
@@ -93,6 +96,7 @@ AreUnread old new (cli.Refused r) = ⊥
 AreUnread old new (cli.File k f) = StopsAt k f old new
 AreUnread old new (cli.Out f) = ⊥
 AreUnread old new cli.Memory = NoneFails old new
+AreUnread old new (cli.Shelf p) = ⊥
 
 -- ---- what is joined
 
@@ -107,6 +111,10 @@ pieces [] = []
 pieces (part.Register x ∷ ps) = pieces ps
 pieces (part.Piece p ∷ ps) = p ∷ pieces ps
 
+-- the sources gave the files of parts; after some registers and some pieces, those of the parts are all of these
+abbrev pub GivePartsAfter : List Content → List Piece → List SourceState → List SourceState → List Content → List Piece → Type 0
+GivePartsAfter some few old new xs qs = (ps : List Part) × HoldAll old new ps × (xs ≡ some ++ registers ps) × (qs ≡ few ++ pieces ps)
+
 -- the sources gave the files of these registers and these pieces
 abbrev pub GiveParts : List SourceState → List SourceState → List Content → List Piece → Type 0
-GiveParts old new xs qs = (ps : List Part) × HoldAll old new ps × (xs ≡ registers ps) × (qs ≡ pieces ps)
+GiveParts old new xs qs = GivePartsAfter [] [] old new xs qs

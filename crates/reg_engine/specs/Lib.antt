@@ -5,6 +5,11 @@ pub mod Inputs
 pub mod Outputs
 pub mod Merge
 pub mod Exchange
+pub mod Downgrade
 pub mod Export
 pub mod Change
 pub mod Report
+pub mod Shelf
+pub mod ChangeOn
+pub mod MergeOn
+pub mod ReadOn

@@ -41,6 +41,7 @@ IsUnjoined r (cli.Refused f) = ⊥
 IsUnjoined r (cli.File k f) = ⊥
 IsUnjoined r (cli.Out f) = ⊥
 IsUnjoined r cli.Memory = Unit {0}
+IsUnjoined r (cli.Shelf p) = ⊥
 
 -- the parts join to this content; or the first step that has one meets this clash; or the first piece whose basis is not
 -- held by what was joined before it misses this id
@@ -85,3 +86,4 @@ IsMergeFault old new (cli.File k f) = StopsAt k f old.sources new.sources × (ne
 IsMergeFault old new (cli.Out f) = (ps : List Part) × HoldAll old.sources new.sources ps
     × ((x : Content) × JoinTo ps x × IsOutFault x old.target new.target f)
 IsMergeFault old new cli.Memory = NoneFails old.sources new.sources × (new.target ≡ old.target)
+IsMergeFault old new (cli.Shelf p) = ⊥

@@ -31,6 +31,7 @@ IsUnpublishedBy Are Large old new (cli.Refused r) = ⊥
 IsUnpublishedBy Are Large old new (cli.File k f) = ⊥
 IsUnpublishedBy Are Large old new (cli.Out f) = IsOutFaultBy Are Large old new f
 IsUnpublishedBy Are Large old new cli.Memory = new ≡ old
+IsUnpublishedBy Are Large old new (cli.Shelf p) = ⊥
 
 -- the same, where just these bytes are the file
 abbrev pub IsUnpublishedOf : List ℕ → SinkState → SinkState → CliFault → Type 0
@@ -40,6 +41,7 @@ IsUnpublishedOf bytes old new (cli.Out out.TooLarge) = ⊥
 IsUnpublishedOf bytes old new (cli.Out out.NotOpened) = IsPublishFault bytes old new publish.NotOpened
 IsUnpublishedOf bytes old new (cli.Out (out.WriteFailed n)) = IsPublishFault bytes old new (publish.WriteFailed n)
 IsUnpublishedOf bytes old new cli.Memory = ⊥
+IsUnpublishedOf bytes old new (cli.Shelf p) = ⊥
 
 -- the same of the file of a content; of the ids that were seen; of a piece
 abbrev pub PublishesFile : Content → SinkState → SinkState → Type 0
@@ -90,3 +92,4 @@ IsUngiven x ids old new (cli.Out out.NotOpened) = IsOutFault x old.target new.ta
 IsUngiven x ids old new (cli.Out (out.WriteFailed n)) = (IsOutFault x old.target new.target (out.WriteFailed n) × (new.ids ≡ old.ids))
     ⊎ (PublishesFile x old.target new.target × IsCutAt n (id_lines ids) old.ids new.ids)
 IsUngiven x ids old new cli.Memory = new ≡ old
+IsUngiven x ids old new (cli.Shelf p) = ⊥

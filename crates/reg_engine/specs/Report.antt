@@ -24,6 +24,7 @@ IsUnreported IsText old new (cli.File k f) = (k ≡ 1) × IsFileFault f old.sour
 IsUnreported IsText old new (cli.Out (out.WriteFailed n)) = (x : Content) × Finds old.source new.source x × IsReportFaultOf (IsText x) old.sink new.sink (report.WriteFailed n)
 IsUnreported IsText old new (cli.Out f) = ⊥
 IsUnreported IsText old new cli.Memory = NeverFails old.source new.source × (new.sink ≡ old.sink)
+IsUnreported IsText old new (cli.Shelf p) = ⊥
 
 -- ---- one entry
 
@@ -42,3 +43,4 @@ IsRowUnreported entry old new (cli.Refused r) = ⊥
 IsRowUnreported entry old new (cli.File k f) = IsUnreported (IsRowOf entry) old new (cli.File k f)
 IsRowUnreported entry old new (cli.Out f) = IsUnreported (IsRowOf entry) old new (cli.Out f)
 IsRowUnreported entry old new cli.Memory = IsUnreported (IsRowOf entry) old new cli.Memory
+IsRowUnreported entry old new (cli.Shelf p) = ⊥

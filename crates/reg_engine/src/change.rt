@@ -15,20 +15,21 @@ use std::alloc::Global;
 use uuid::Uuid;
 use wkt_crs::define_from;
 
-/// Reads the register of the source, which is file 1, retires entries of it as the replica, and writes the register's
-/// file to the target and the new ids to the sink, each with a newline.
+/// Reads the register of the source, which is file 1, retires entries of it as the replica, with the note, and writes the
+/// register's file to the target and the new ids to the sink, each with a newline.
 pub fn run_retire<S: Source, T: Target, K: Sink>(
     alloc: Global,
     source: &mut S,
     replica: Uuid,
     entries: &[OpId],
+    note: &str,
     target: &mut T,
     sink: &mut K,
 ) -> Result<(), CliFault>
-    ensures changed { OnOk result (IsChanged replica (retirements entries.now)
+    ensures changed { OnOk result (IsChanged replica note.now (retirements entries.now)
         (desk (S.state source.old) (outputs (T.state target.old) (K.state sink.old)))
         (desk (S.state source.new) (outputs (T.state target.new) (K.state sink.new)))) }
-    ensures fault { IfErr result (IsChangeFault replica (retirements entries.now)
+    ensures fault { IfErr result (IsChangeFault replica note.now (retirements entries.now)
         (desk (S.state source.old) (outputs (T.state target.old) (K.state sink.old)))
         (desk (S.state source.new) (outputs (T.state target.new) (K.state sink.new)))) }
 {
@@ -37,7 +38,7 @@ pub fn run_retire<S: Source, T: Target, K: Sink>(
         Err(fault) => return Err(fault),
     };
     let mut office = Office::new(replica, register);
-    let ids = match office.retire(alloc, entries) {
+    let ids = match office.retire(alloc, entries, note) {
         Ok(ids) => ids,
         Err(fault) => return Err(CliFault::of_office(fault)),
     };
@@ -47,21 +48,22 @@ pub fn run_retire<S: Source, T: Target, K: Sink>(
     }
 }
 
-/// Reads the register of the source, which is file 1, supersedes an old entry of it by newer ones as the replica, and
-/// writes the register's file to the target and the new ids to the sink, each with a newline.
+/// Reads the register of the source, which is file 1, supersedes an old entry of it by newer ones as the replica, with the
+/// note, and writes the register's file to the target and the new ids to the sink, each with a newline.
 pub fn run_supersede<S: Source, T: Target, K: Sink>(
     alloc: Global,
     source: &mut S,
     replica: Uuid,
     old: OpId,
     newer: &[OpId],
+    note: &str,
     target: &mut T,
     sink: &mut K,
 ) -> Result<(), CliFault>
-    ensures changed { OnOk result (IsChanged replica (supersessions old newer.now)
+    ensures changed { OnOk result (IsChanged replica note.now (supersessions old newer.now)
         (desk (S.state source.old) (outputs (T.state target.old) (K.state sink.old)))
         (desk (S.state source.new) (outputs (T.state target.new) (K.state sink.new)))) }
-    ensures fault { IfErr result (IsChangeFault replica (supersessions old newer.now)
+    ensures fault { IfErr result (IsChangeFault replica note.now (supersessions old newer.now)
         (desk (S.state source.old) (outputs (T.state target.old) (K.state sink.old)))
         (desk (S.state source.new) (outputs (T.state target.new) (K.state sink.new)))) }
 {
@@ -70,7 +72,7 @@ pub fn run_supersede<S: Source, T: Target, K: Sink>(
         Err(fault) => return Err(fault),
     };
     let mut office = Office::new(replica, register);
-    let ids = match office.supersede(alloc, old, newer) {
+    let ids = match office.supersede(alloc, old, newer, note) {
         Ok(ids) => ids,
         Err(fault) => return Err(CliFault::of_office(fault)),
     };
@@ -81,19 +83,21 @@ pub fn run_supersede<S: Source, T: Target, K: Sink>(
 }
 
 /// Reads the register of the source, which is file 1, and then the text of another, which is file 2; enters the text's
-/// value as the replica; and writes the register's file to the target and the new id to the sink, with a newline.
+/// value as the replica, with the note; and writes the register's file to the target and the new id to the sink, with a
+/// newline.
 pub fn run_enter<S: Source, X: Source, T: Target, K: Sink>(
     alloc: Global,
     source: &mut S,
     replica: Uuid,
     text: &mut X,
+    note: &str,
     target: &mut T,
     sink: &mut K,
 ) -> Result<(), CliFault>
-    ensures entered { OnOk result (IsEntered replica
+    ensures entered { OnOk result (IsEntered replica note.now
         (entry_desk (S.state source.old) (X.state text.old) (outputs (T.state target.old) (K.state sink.old)))
         (entry_desk (S.state source.new) (X.state text.new) (outputs (T.state target.new) (K.state sink.new)))) }
-    ensures fault { IfErr result (IsEnterFault replica
+    ensures fault { IfErr result (IsEnterFault replica note.now
         (entry_desk (S.state source.old) (X.state text.old) (outputs (T.state target.old) (K.state sink.old)))
         (entry_desk (S.state source.new) (X.state text.new) (outputs (T.state target.new) (K.state sink.new)))) }
 {
@@ -106,7 +110,7 @@ pub fn run_enter<S: Source, X: Source, T: Target, K: Sink>(
         Err(fault) => return Err(CliFault::of_definition(2, fault)),
     };
     let mut office = Office::new(replica, register);
-    let id = match office.enter(definition) {
+    let id = match office.enter(definition, note) {
         Ok(id) => id,
         Err(fault) => return Err(CliFault::of_office(fault)),
     };

@@ -40,7 +40,8 @@ pub fn run_export<S: Source, K: Sink>(
     }
 }
 
-fn lines_of(alloc: Global, register: &Register) -> Result<Vec<u8>, AllocError>
+/// The lines of all entries that are not retired.
+pub(crate) fn lines_of(alloc: Global, register: &Register) -> Result<Vec<u8>, AllocError>
     ensures { IfOk result (λ lines. lines.items ≡ export register.now.ops) }
 {
     let ops = register.ops().as_slice();

@@ -1,16 +1,18 @@
 //! What an engine reports: the fault, how it prints, and its exit status.
 
 ghost use Rattle.std.specs.Prelude.{◌≡◌};
-ghost use Rattle.reg_engine.specs.Fault.{status_of, text_fault, definition_fault, file_fault, office_fault, piece_fault};
+ghost use Rattle.reg_engine.specs.Fault.{status_of, text_fault, definition_fault, file_fault, first_fault, write_fault, office_fault, piece_fault, shelf_fault};
 
-use reg_file::{FileFault, ReadFileFault};
+use reg_file::{FileFault, FirstFileFault, ReadFileFault, WriteFileFault};
 use reg_office::OfficeFault;
 use reg_op::OpId;
+use reg_shelf::ShelfFault;
 use reg_state::PieceFault;
 use std::fmt;
 use thiserror::Error;
 use wkt_crs::{
     Condition, DefineFromFault, DefinitionFault, ReadFault, ReadFromFault, SlotFault, TextFault,
+    Unspelled,
 };
 
 /// Why a command's input is refused. It prints as the fault's name, what it names, and its place.
@@ -28,6 +30,10 @@ pub enum Refusal {
     Clash(OpId),
     /// A piece that was to be joined is for one who has seen this id, and it was not seen.
     Basis(OpId),
+    /// The note of a command has more than 200 bytes.
+    NoteTooLong,
+    /// The operation of this id has a note, for which a file of version 1 has no room.
+    HasNote(OpId),
     /// No operation of the register entered the id.
     UnknownEntry(OpId),
     /// An entry was to supersede itself.
@@ -41,6 +47,8 @@ pub enum Refusal {
     BadId,
     /// A word that is to be a replica is no UUID.
     BadReplica,
+    /// A shelf was to be made for files of up to so many bytes, and no shelf is; or the word is no number.
+    BadSize,
 }
 
 impl fmt::Display for Refusal {
@@ -60,6 +68,8 @@ impl fmt::Display for Refusal {
             Refusal::CanonicalTooLong => f.write_str("CanonicalTooLong"),
             Refusal::Clash(id) => of_id(f, "Clash", *id),
             Refusal::Basis(id) => of_id(f, "Basis", *id),
+            Refusal::NoteTooLong => f.write_str("NoteTooLong"),
+            Refusal::HasNote(id) => of_id(f, "HasNote", *id),
             Refusal::UnknownEntry(id) => of_id(f, "UnknownEntry", *id),
             Refusal::SameEntry => f.write_str("SameEntry"),
             Refusal::AlreadyRetired(id) => of_id(f, "AlreadyRetired", *id),
@@ -67,6 +77,7 @@ impl fmt::Display for Refusal {
             Refusal::CountSpent => f.write_str("CountSpent"),
             Refusal::BadId => f.write_str("BadId"),
             Refusal::BadReplica => f.write_str("BadReplica"),
+            Refusal::BadSize => f.write_str("BadSize"),
         }
     }
 }
@@ -110,7 +121,8 @@ impl fmt::Display for InputFault {
                 fault: FileFault::Definition(fault),
                 place,
             } => {
-                let name = definition_fault_name(*fault);
+                // The name alone: what `Missing` and `Broken` name is left out.
+                let name = fault.name();
                 write!(f, "Definition {name} at {place}")
             }
             InputFault::BadFile { fault, place } => {
@@ -133,24 +145,13 @@ fn file_fault_name(fault: FileFault) -> &'static str {
         FileFault::OpIdBad => "OpIdBad",
         FileFault::OpKind => "OpKind",
         FileFault::NotSeen => "NotSeen",
+        FileFault::NoteTooLong => "NoteTooLong",
+        FileFault::NoteNotUtf8 => "NoteNotUtf8",
         FileFault::SameEntry => "SameEntry",
         FileFault::Definition(_) => "Definition",
         FileFault::NotCanonical => "NotCanonical",
         FileFault::NotKept => "NotKept",
         FileFault::Trailing => "Trailing",
-    }
-}
-
-// The name alone: what `Missing` and `Broken` name is left out.
-fn definition_fault_name(fault: DefinitionFault) -> &'static str {
-    match fault {
-        DefinitionFault::Read(ReadFault::Text(fault)) => fault.name(),
-        DefinitionFault::Read(ReadFault::Slot(fault)) => fault.name(),
-        DefinitionFault::Read(ReadFault::Broken { .. }) => "Broken",
-        DefinitionFault::NoIdentifier => "NoIdentifier",
-        DefinitionFault::CanonicalTooLong => "CanonicalTooLong",
-        DefinitionFault::NotCanonical => "NotCanonical",
-        DefinitionFault::Read(ReadFault::Memory) | DefinitionFault::Memory => "Memory",
     }
 }
 
@@ -167,6 +168,22 @@ pub enum OutFault {
     WriteFailed(usize),
 }
 
+/// What went wrong with a shelf.
+#[derive(Clone, Copy, Debug, PartialEq, Eq, Error)]
+pub enum ShelfProblem {
+    #[error("NotOpened")]
+    NotOpened,
+    /// It reads as a shelf of no register.
+    #[error("NotShelf")]
+    NotShelf,
+    /// The register's file would have more bytes than the shelf takes. Nothing was kept.
+    #[error("TooLarge")]
+    TooLarge,
+    /// What it has is the register from before, or the new one. Nothing was printed.
+    #[error("DiskFailed")]
+    DiskFailed,
+}
+
 /// Why a command did not do its work. It prints as one line.
 #[derive(Clone, Copy, Debug, PartialEq, Eq, Error)]
 pub enum CliFault {
@@ -179,6 +196,8 @@ pub enum CliFault {
     Out(OutFault),
     #[error("out of memory")]
     Memory,
+    #[error("shelf: {0}")]
+    Shelf(ShelfProblem),
 }
 
 impl CliFault {
@@ -212,9 +231,15 @@ impl CliFault {
             DefineFromFault::ReadFailed(n) => {
                 CliFault::of_text(number, ReadFromFault::ReadFailed(n))
             }
-            DefineFromFault::Refused(DefinitionFault::Read(fault)) => {
-                CliFault::of_text(number, ReadFromFault::Refused(fault))
+            DefineFromFault::Refused(DefinitionFault::Read(Unspelled::Text(text))) => {
+                CliFault::Refused(Refusal::Text(text))
             }
+            DefineFromFault::Refused(DefinitionFault::Read(Unspelled::Slot(slot))) => {
+                CliFault::Refused(Refusal::Slot(slot))
+            }
+            DefineFromFault::Refused(
+                DefinitionFault::Read(Unspelled::Broken { condition, place }),
+            ) => CliFault::Refused(Refusal::Broken { condition, place }),
             DefineFromFault::Refused(DefinitionFault::NoIdentifier) => {
                 CliFault::Refused(Refusal::NoIdentifier)
             }
@@ -246,6 +271,7 @@ impl CliFault {
         ensures { result ≡ office_fault fault }
     {
         let refusal = match fault {
+            OfficeFault::NoteTooLong => Refusal::NoteTooLong,
             OfficeFault::UnknownEntry(id) => Refusal::UnknownEntry(id),
             OfficeFault::SameEntry => Refusal::SameEntry,
             OfficeFault::AlreadyRetired(id) => Refusal::AlreadyRetired(id),
@@ -254,6 +280,26 @@ impl CliFault {
             OfficeFault::Memory => return CliFault::Memory,
         };
         CliFault::Refused(refusal)
+    }
+
+    /// The fault of writing a file of version 1.
+    pub(crate) fn of_first(fault: FirstFileFault) -> CliFault
+        ensures { result ≡ first_fault fault }
+    {
+        match fault {
+            FirstFileFault::HasNote(id) => CliFault::Refused(Refusal::HasNote(id)),
+            FirstFileFault::Write(fault) => CliFault::of_write(fault),
+        }
+    }
+
+    fn of_write(fault: WriteFileFault) -> CliFault
+        ensures { result ≡ write_fault fault }
+    {
+        match fault {
+            WriteFileFault::TooLarge => CliFault::Out(OutFault::TooLarge),
+            WriteFileFault::WriteFailed(n) => CliFault::Out(OutFault::WriteFailed(n)),
+            WriteFileFault::Memory => CliFault::Memory,
+        }
     }
 
     /// The fault of joining a piece.
@@ -267,13 +313,26 @@ impl CliFault {
         }
     }
 
-    /// The exit status of the program: 1 for what is refused, 3 for a file or the output, 4 for memory.
+    /// The fault of a shelf.
+    pub(crate) fn of_shelf(fault: ShelfFault) -> CliFault
+        ensures { result ≡ shelf_fault fault }
+    {
+        match fault {
+            ShelfFault::BadSize => CliFault::Refused(Refusal::BadSize),
+            ShelfFault::TooLarge => CliFault::Shelf(ShelfProblem::TooLarge),
+            ShelfFault::NotShelf => CliFault::Shelf(ShelfProblem::NotShelf),
+            ShelfFault::Memory => CliFault::Memory,
+            ShelfFault::DiskFailed => CliFault::Shelf(ShelfProblem::DiskFailed),
+        }
+    }
+
+    /// The exit status of the program: 1 for what is refused, 3 for a file, the output or a shelf, 4 for memory.
     pub fn status(&self) -> u8
         ensures { result ≡ status_of self.now }
     {
         match self {
             CliFault::Refused(_) => 1,
-            CliFault::File { .. } | CliFault::Out(_) => 3,
+            CliFault::File { .. } | CliFault::Out(_) | CliFault::Shelf(_) => 3,
             CliFault::Memory => 4,
         }
     }

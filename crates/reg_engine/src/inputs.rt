@@ -3,7 +3,7 @@
 ghost use Rattle.std.specs.Prelude.{◌≡◌, ◌++◌, ◌∷◌, [], map, IfOk, OnOk, IfErr};
 ghost use Rattle.reg_file.specs.Files.{Finds, FindsSeen};
 ghost use Rattle.reg_file.specs.Parts.{FindsPart};
-ghost use Rattle.reg_engine.specs.Inputs.{IsUnread, IsSummaryUnread, IsPartUnread, AreUnread, GiveParts, registers, pieces};
+ghost use Rattle.reg_engine.specs.Inputs.{IsUnread, IsSummaryUnread, IsPartUnread, AreUnread, GiveParts, GivePartsAfter, registers, pieces};
 
 use crate::fault::CliFault;
 use byte_io::Source;
@@ -12,7 +12,7 @@ use reg_state::{Piece, Register, Seen};
 use std::alloc::{AllocError, Global};
 
 /// Reads the register in the file of this number.
-pub(crate) fn read_file<S: Source>(
+pub fn read_file<S: Source>(
     alloc: Global,
     number: usize,
     source: &mut S,
@@ -60,9 +60,9 @@ fn read_next<S: Source>(
 
 /// The registers of some files, and the pieces of others, each in the order of the files.
 #[derive(Drop)]
-pub(crate) struct Parts {
-    pub(crate) registers: Vec<Register>,
-    pub(crate) pieces: Vec<Piece>,
+pub struct Parts {
+    pub registers: Vec<Register>,
+    pub pieces: Vec<Piece>,
 }
 
 impl Parts {
@@ -78,15 +78,42 @@ impl Parts {
     }
 }
 
+/// A register alone.
+pub(crate) fn parts_of(alloc: Global, register: Register) -> Result<Parts, AllocError>
+    ensures registers { IfOk result (λ parts. parts.registers.items ≡ register ∷ []) }
+    ensures pieces { IfOk result (λ parts. parts.pieces.items ≡ []) }
+{
+    let mut registers = Vec::new(alloc);
+    registers.push(register)?;
+    Ok(Parts {
+        registers,
+        pieces: Vec::new(alloc),
+    })
+}
+
 /// Reads a register or a piece from each source, in their order, and stops at the first that has none.
-pub(crate) fn read_parts<S: Source>(alloc: Global, sources: &mut [S]) -> Result<Parts, CliFault>
+pub fn read_parts<S: Source>(alloc: Global, sources: &mut [S]) -> Result<Parts, CliFault>
     ensures found { IfOk result (λ parts. GiveParts (map S.state sources.old) (map S.state sources.new) parts.registers.items parts.pieces.items) }
     ensures fault { IfErr result (AreUnread (map S.state sources.old) (map S.state sources.new)) }
 {
-    let mut parts = Parts {
+    let none = Parts {
         registers: Vec::new(alloc),
         pieces: Vec::new(alloc),
     };
+    read_parts_after(alloc, none, sources)
+}
+
+/// Reads them likewise, after those that are known. What a known register has is not read again.
+pub(crate) fn read_parts_after<S: Source>(
+    alloc: Global,
+    known: Parts,
+    sources: &mut [S],
+) -> Result<Parts, CliFault>
+    ensures found { IfOk result (λ parts. GivePartsAfter known.registers.items known.pieces.items
+        (map S.state sources.old) (map S.state sources.new) parts.registers.items parts.pieces.items) }
+    ensures fault { IfErr result (AreUnread (map S.state sources.old) (map S.state sources.new)) }
+{
+    let mut parts = known;
     for i in 0..sources.len() {
         let part = match read_next(alloc, &parts.registers, i + 1, &mut sources[i]) {
             Ok(part) => part,

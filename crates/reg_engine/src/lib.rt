@@ -2,22 +2,39 @@
 #![tactic(auto)]
 
 mod change;
+mod change_on;
 mod check;
+mod downgrade;
 mod exchange;
+mod exchange_on;
 mod export;
 mod fault;
 mod inputs;
 pub mod laws;
 mod merge;
+mod merge_on;
 mod outputs;
 mod reports;
+mod reports_on;
+mod shelf_steps;
+mod shelves;
+mod texts_on;
 mod wkt;
 
 pub use change::{run_enter, run_retire, run_supersede};
+pub use change_on::{run_enter_on, run_retire_on, run_supersede_on};
 pub use check::run_check;
+pub use downgrade::{run_downgrade, run_downgrade_on};
 pub use exchange::{run_piece, run_seen};
+pub use exchange_on::{run_piece_on, run_seen_on};
 pub use export::run_export;
-pub use fault::{CliFault, InputFault, OutFault, Refusal};
-pub use merge::{run_merge, run_new};
+pub use fault::{CliFault, InputFault, OutFault, Refusal, ShelfProblem};
+pub use inputs::{Parts, read_file, read_parts};
+pub use merge::{join_pieces, join_registers, run_merge, run_new};
+pub use merge_on::run_merge_on;
+pub use outputs::id_lines;
 pub use reports::{run_ops, run_report, run_show};
+pub use reports_on::{run_ops_on, run_report_on, run_show_on};
+pub use shelves::{run_shelf, run_unshelf};
+pub use texts_on::{run_export_on, run_wkt_on};
 pub use wkt::{Form, run_wkt};

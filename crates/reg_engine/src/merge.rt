@@ -27,8 +27,8 @@ pub fn run_new<T: Target>(alloc: Global, target: &mut T) -> Result<(), CliFault>
     }
 }
 
-// All registers joined, as what pieces are joined to.
-fn join_registers(alloc: Global, registers: &[Register]) -> Result<Register, CliFault>
+/// All registers joined, as what pieces are joined to.
+pub fn join_registers(alloc: Global, registers: &[Register]) -> Result<Register, CliFault>
     ensures ok { IfOk result (λ r. begun (all_joined joined (Ok nothing) registers.now) ≡ Ok r) }
     ensures err { IfErr result (IsUnjoined (begun (all_joined joined (Ok nothing) registers.now))) }
 {
@@ -50,8 +50,12 @@ fn join_one(alloc: Global, register: &Register, piece: &Piece) -> Result<Registe
     }
 }
 
-// The pieces joined to the register, one after another.
-fn join_pieces(alloc: Global, register: Register, pieces: &[Piece]) -> Result<Register, CliFault>
+/// The pieces joined to the register, one after another.
+pub fn join_pieces(
+    alloc: Global,
+    register: Register,
+    pieces: &[Piece],
+) -> Result<Register, CliFault>
     ensures ok { IfOk result (λ r. with_pieces (Ok register) pieces.now ≡ Ok r) }
     ensures err { IfErr result (IsUnjoined (with_pieces (Ok register) pieces.now)) }
 {

@@ -5,10 +5,13 @@ ghost use Rattle.reg_op.specs.Text.{printed};
 ghost use Rattle.byte_io.specs.Publish.{Publishes};
 ghost use Rattle.reg_engine.specs.Outputs.{IsUnpublishedOf, PublishesFile, IsUnpublished, PublishesSeen, IsUnpublishedSeen, PublishesPiece, IsUnpublishedPiece};
 ghost use Rattle.reg_engine.specs.Outputs.{id_lines, outputs, GivesOut, IsUngiven};
+ghost use Rattle.reg_engine.specs.Downgrade.{PublishesFirst, IsUnpublishedFirst};
 
 use crate::fault::{CliFault, OutFault};
 use byte_io::{PublishFault, Sink, Target, publish, write_all};
-use reg_file::{WriteFileFault, write_bytes, write_piece_bytes, write_seen_bytes};
+use reg_file::{
+    WriteFileFault, write_bytes, write_first_bytes, write_piece_bytes, write_seen_bytes,
+};
 use reg_op::OpId;
 use reg_state::{Piece, Register, Seen};
 use std::alloc::{AllocError, Global};
@@ -38,6 +41,21 @@ pub(crate) fn publish_register<T: Target>(
         Ok(bytes) => publish_bytes(&bytes, target),
         Err(WriteFileFault::TooLarge) => Err(CliFault::Out(OutFault::TooLarge)),
         Err(_) => Err(CliFault::Memory),
+    }
+}
+
+/// Writes the register's file of version 1, likewise.
+pub(crate) fn publish_first<T: Target>(
+    alloc: Global,
+    register: &Register,
+    target: &mut T,
+) -> Result<(), CliFault>
+    ensures published { OnOk result (PublishesFirst register.now (T.state target.old) (T.state target.new)) }
+    ensures fault { IfErr result (IsUnpublishedFirst register.now (T.state target.old) (T.state target.new)) }
+{
+    match write_first_bytes(alloc, register) {
+        Ok(bytes) => publish_bytes(&bytes, target),
+        Err(fault) => Err(CliFault::of_first(fault)),
     }
 }
 
@@ -73,7 +91,8 @@ pub(crate) fn publish_piece<T: Target>(
     }
 }
 
-fn id_lines(alloc: Global, ids: &[OpId]) -> Result<Vec<u8>, AllocError>
+/// A line for each id.
+pub fn id_lines(alloc: Global, ids: &[OpId]) -> Result<Vec<u8>, AllocError>
     ensures { IfOk result (λ lines. lines.items ≡ id_lines ids.now) }
 {
     let mut lines = Vec::new(alloc);

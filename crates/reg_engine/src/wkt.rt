@@ -49,7 +49,12 @@ pub fn run_wkt<S: Source, K: Sink>(
     }
 }
 
-fn line_in(alloc: Global, form: Form, definition: &Definition) -> Result<Vec<u8>, AllocError>
+/// The text of the definition in this form, and a newline.
+pub(crate) fn line_in(
+    alloc: Global,
+    form: Form,
+    definition: &Definition,
+) -> Result<Vec<u8>, AllocError>
     ensures { IfOk result (λ line. IsDefinitionLine form definition.now line.items) }
 {
     let mut line = text_in(alloc, form, definition)?;

@@ -1,10 +1,11 @@
 -- Operations that are read are those that were written, and where reading them stops.
-use Rattle.std.proofs.Common.{◌≡◌, ℕ, ◌≤◌, ◌||◌, Bool, true, false, cond, eqb, ltb, List, [], ◌∷◌, ◌++◌, length, Option, Result, Ok, Err, refl, sym, ap, subst, ◌∙◌, append_assoc, arith}
+use Rattle.std.proofs.Common.{◌≡◌, ℕ, ◌≤◌, ◌||◌, Bool, true, false, cond, eqb, ltb, List, [], ◌∷◌, ◌++◌, length, Option, Result, Ok, refl, sym, ap, subst, ◌∙◌, append_assoc, arith}
 use Rattle.std.proofs.lemmas.Bool.{ltb-false, eqb-true, true≢false}
 use Rattle.std.proofs.lemmas.Bool.Decides.{nat_tests}
 use Rattle.std.specs.Ordering.{is_eq}
 use Rattle.std.specs.Cmp.{tied_itself}
 use Rattle.reg_op.specs.Ids.{Id, Ids, IsId, is_same}
+use Rattle.reg_op.specs.Notes.{IsNote}
 use Rattle.reg_op.specs.Operations.{Op, IsBody, IsOfItself}
 use Rattle.reg_op.specs.declared.operation.OpBody.{OpBody as Body}
 use Rattle.reg_op.specs.declared.operation.OpBody.TheVariants.{Enter, Supersede, Retire}
@@ -13,12 +14,13 @@ use Rattle.reg_file.specs.declared.fault.Refused.{Refused}
 use Rattle.reg_file.specs.declared.fault.Stop.{Stop}
 use Rattle.reg_file.specs.declared.fault.Stop.TheVariants as stop
 use Rattle.reg_file.specs.declared.fault.FileFault.TheVariants.{OpKind}
-use Rattle.reg_file.specs.Layout.{four, id_bytes, kind_byte, body_bytes, op_bytes}
-use Rattle.reg_file.specs.Fields.{◌>>=◌, Fails, id_at, own_at, text_at, pair_at, body_at, op_kind_at, heading_at}
+use Rattle.reg_file.specs.Layout.{id_bytes, kind_byte, body_bytes, note_bytes, op_bytes}
+use Rattle.reg_file.specs.Fields.{◌>>=◌, Fails, id_at, own_at, text_at, pair_at, body_at, op_kind_at, note_at, heading_at}
 use Rattle.reg_file.specs.Readers.{field, StopsIn}
 use Rattle.reg_file.specs.Reading.{FailsAs, body, headed_body, operation}
 use Rattle.reg_file.specs.Steps.{StopsInText, StopsAs}
 use Rattle.reg_file.proofs.FieldLemmas.{IsBytes, IsBytes-rest, bind_ok, guard_ok, ok_is, none_of, Takes, Takes-then, IsOwn, id_takes, id_again, own_takes, own_again, text_takes, text_again, pair_takes, pair_again}
+use Rattle.reg_file.proofs.NoteLemmas.{IsTold, IsFit, note_takes, note_again}
 use Rattle.reg_file.proofs.Sequences.{stops_field, stops_front, stops_back}
 
 -- what the fields of a body tell
@@ -98,38 +100,58 @@ op_kind_again (Retire entry) rest = refl
 
 -- ---- a whole operation
 
-pub record TakesHeading (last : Option Id) (seen : Ids) (bytes : List ℕ) (i : Id) (kind : ℕ) (rest : List ℕ) : Type 0 where
-  pub takes : Takes bytes (id_bytes i ++ kind ∷ []) rest
+pub record TakesHeading (version : ℕ) (last : Option Id) (seen : Ids) (bytes : List ℕ) (i : Id) (kind : ℕ) (note rest : List ℕ) : Type 0 where
+  pub takes : Takes bytes (id_bytes i ++ kind ∷ note_bytes version note) rest
   pub own : IsOwn last seen i
   pub low : 1 ≤ kind
   pub high : kind ≤ 3
+  pub noted : IsNote note
+  pub told : IsTold version note
 
-pub heading_takes : (last : Option Id) (seen : Ids) (bytes : List ℕ) (i : Id) (kind : ℕ) (rest : List ℕ) → IsBytes bytes → heading_at last seen bytes ≡ Ok ((i, kind), rest) → TakesHeading last seen bytes i kind rest
+pub heading_takes : (version : ℕ) (last : Option Id) (seen : Ids) (bytes : List ℕ) (i : Id) (kind : ℕ) (note rest : List ℕ) → IsBytes bytes → heading_at version last seen bytes ≡ Ok (((i, kind), note), rest)
+    → TakesHeading version last seen bytes i kind note rest
 unfolding heading_at
-heading_takes last seen bytes i kind rest fits e =
-    let a = bind_ok (own_at last seen bytes) (λ id. op_kind_at id.1 >>= λ k. Ok ((id.0, k.0), k.1)) ((i, kind), rest) e in
-    let b = bind_ok (op_kind_at a.0.1) (λ k. Ok ((a.0.0, k.0), k.1)) ((i, kind), rest) a.2 in
+heading_takes version last seen bytes i kind note rest fits e =
+    let a = bind_ok (own_at last seen bytes) (λ id. op_kind_at id.1 >>= λ k. note_at version k.1 >>= λ n. Ok (((id.0, k.0), n.0), n.1)) (((i, kind), note), rest) e in
+    let b = bind_ok (op_kind_at a.0.1) (λ k. note_at version k.1 >>= λ n. Ok (((a.0.0, k.0), n.0), n.1)) (((i, kind), note), rest) a.2 in
+    let d = bind_ok (note_at version b.0.1) (λ n. Ok (((a.0.0, b.0.0), n.0), n.1)) (((i, kind), note), rest) b.2 in
     let own = own_takes last seen bytes a.0.0 a.0.1 fits a.1 in
     let named = op_kind_takes a.0.1 b.0.0 b.0.1 b.1 in
     let second : Takes a.0.1 (b.0.0 ∷ []) b.0.1 = record { parts = named.0; rest_fits = IsBytes-rest b.0.0 b.0.1 (subst IsBytes named.0 own.0.rest_fits) } in
-    subst (λ (y : (Id × ℕ) × List ℕ). TakesHeading last seen bytes y.0.0 y.0.1 y.1) (ok_is ((a.0.0, b.0.0), b.0.1) ((i, kind), rest) b.2)
-    (record { takes = Takes-then bytes (id_bytes a.0.0) a.0.1 (b.0.0 ∷ []) b.0.1 own.0 second; own = own.1; low = named.1; high = named.2 })
+    let third = note_takes version b.0.1 d.0.0 d.0.1 second.rest_fits d.1 in
+    let both : Takes a.0.1 (b.0.0 ∷ note_bytes version d.0.0) d.0.1 = Takes-then a.0.1 (b.0.0 ∷ []) b.0.1 (note_bytes version d.0.0) d.0.1 second third.takes in
+    subst (λ (y : ((Id × ℕ) × List ℕ) × List ℕ). TakesHeading version last seen bytes y.0.0.0 y.0.0.1 y.0.1 y.1) (ok_is (((a.0.0, b.0.0), d.0.0), d.0.1) (((i, kind), note), rest) d.2)
+    (record {
+      takes = Takes-then bytes (id_bytes a.0.0) a.0.1 (b.0.0 ∷ note_bytes version d.0.0) d.0.1 own.0 both;
+      own = own.1;
+      low = named.1;
+      high = named.2;
+      noted = third.noted;
+      told = third.told;
+    })
 
-heading_again : (last : Option Id) (seen : Ids) (i : Id) (b : Body) (rest : List ℕ) → IsOwn last seen i → heading_at last seen (id_bytes i ++ (kind_byte b ∷ rest)) ≡ Ok ((i, kind_byte b), rest)
+heading_again : (version : ℕ) (last : Option Id) (seen : Ids) (i : Id) (b : Body) (note rest : List ℕ) → IsOwn last seen i → IsNote note → IsTold version note
+    → heading_at version last seen (id_bytes i ++ (kind_byte b ∷ (note_bytes version note ++ rest))) ≡ Ok (((i, kind_byte b), note), rest)
 unfolding heading_at
-heading_again last seen i b rest own = rw (own_again last seen i (kind_byte b ∷ rest) own, op_kind_again b rest) refl
+heading_again version last seen i b note rest own noted told =
+    rw (own_again last seen i (kind_byte b ∷ (note_bytes version note ++ rest)) own, op_kind_again b (note_bytes version note ++ rest), note_again version note rest noted told) refl
 
-pub record TakesOp (last : Option Id) (seen : Ids) (bytes : List ℕ) (o : Op) (rest : List ℕ) : Type 0 where
-  pub takes : Takes bytes (op_bytes o) rest
+pub record TakesOp (version : ℕ) (last : Option Id) (seen : Ids) (bytes : List ℕ) (o : Op) (rest : List ℕ) : Type 0 where
+  pub takes : Takes bytes (op_bytes version o) rest
   pub own : IsOwn last seen o.id
-  pub body : IsBody o.body
+  pub fit : IsFit version o
 
-pub op_takes : (last : Option Id) (seen : Ids) (bytes : List ℕ) (o : Op) (rest : List ℕ) → IsBytes bytes → (operation seen last).Reads bytes o rest → TakesOp last seen bytes o rest
-op_takes last seen bytes o rest fits e =
-    let first = heading_takes last seen bytes o.id (kind_byte o.body) e.0 fits e.1 in
+pub op_takes : (version : ℕ) (last : Option Id) (seen : Ids) (bytes : List ℕ) (o : Op) (rest : List ℕ) → IsBytes bytes → (operation version seen last).Reads bytes o rest → TakesOp version last seen bytes o rest
+op_takes version last seen bytes o rest fits e =
+    let first = heading_takes version last seen bytes o.id (kind_byte o.body) o.note e.0 fits e.1 in
     let second = body_takes (kind_byte o.body) e.0 (o.body, rest) first.low first.high first.takes.rest_fits e.2.0 in
-    let both = Takes-then bytes (id_bytes o.id ++ kind_byte o.body ∷ []) e.0 (body_bytes o.body) rest first.takes second.takes in
-    record { takes = subst (λ (t : List ℕ). Takes bytes t rest) (append_assoc (id_bytes o.id) (kind_byte o.body ∷ []) (body_bytes o.body)) both; own = first.own; body = e.2.1 }
+    let front : List ℕ = kind_byte o.body ∷ note_bytes version o.note in
+    let both = Takes-then bytes (id_bytes o.id ++ front) e.0 (body_bytes o.body) rest first.takes second.takes in
+    record {
+      takes = subst (λ (t : List ℕ). Takes bytes t rest) (append_assoc (id_bytes o.id) front (body_bytes o.body)) both;
+      own = first.own;
+      fit = record { body = e.2.1; note = first.noted; told = first.told };
+    }
 
 pub same_itself : (i : Id) → is_same i i ≡ true
 same_itself i = ap is_eq (tied_itself id_total i)
@@ -143,11 +165,16 @@ read_body (Supersede old newer) is = (is.0, is.1, differ (is_same old newer) ref
     differ false e = refl
 read_body (Retire entry) is = is
 
-pub op_again : (last : Option Id) (seen : Ids) (o : Op) (rest : List ℕ) → IsOwn last seen o.id → IsBody o.body → (operation seen last).Reads (op_bytes o ++ rest) o rest
-op_again last seen o rest own is = (
+apart : (version : ℕ) (o : Op) (rest : List ℕ) → op_bytes version o ++ rest ≡ id_bytes o.id ++ (kind_byte o.body ∷ (note_bytes version o.note ++ (body_bytes o.body ++ rest)))
+apart version o rest =
+    append_assoc (id_bytes o.id) (kind_byte o.body ∷ (note_bytes version o.note ++ body_bytes o.body)) rest
+    ∙ ap (λ (t : List ℕ). id_bytes o.id ++ (kind_byte o.body ∷ t)) (append_assoc (note_bytes version o.note) (body_bytes o.body) rest)
+
+pub op_again : (version : ℕ) (last : Option Id) (seen : Ids) (o : Op) (rest : List ℕ) → IsOwn last seen o.id → IsFit version o → (operation version seen last).Reads (op_bytes version o ++ rest) o rest
+op_again version last seen o rest own is = (
   body_bytes o.body ++ rest,
-  ap (heading_at last seen) (append_assoc (id_bytes o.id) (kind_byte o.body ∷ body_bytes o.body) rest) ∙ heading_again last seen o.id o.body (body_bytes o.body ++ rest) own,
-  (body_again o.body rest (read_body o.body is), is),
+  ap (heading_at version last seen) (apart version o rest) ∙ heading_again version last seen o.id o.body o.note (body_bytes o.body ++ rest) own is.note is.told,
+  (body_again o.body rest (read_body o.body is.body), is.body),
 )
 
 -- ---- where reading stops
@@ -172,25 +199,27 @@ in_body : (kind : ℕ) (bytes : List ℕ) (s : Stop) → StopsAs (length bytes) 
 in_body kind bytes stop.Memory h = tt
 in_body kind bytes (stop.Refused r) h = h
 
-in_operation : (last : Option Id) (seen : Ids) (bytes : List ℕ) (s : Stop) → StopsIn (headed_body seen last) bytes s → StopsIn (operation seen last) bytes s
-in_operation last seen bytes stop.Memory h = tt
-in_operation last seen bytes (stop.Refused r) h = h
+in_operation : (version : ℕ) (last : Option Id) (seen : Ids) (bytes : List ℕ) (s : Stop) → StopsIn (headed_body version seen last) bytes s → StopsIn (operation version seen last) bytes s
+in_operation version last seen bytes stop.Memory h = tt
+in_operation version last seen bytes (stop.Refused r) h = h
 
-module _ (last : Option Id) (seen : Ids) (bytes : List ℕ) where
-  pub op_stops_heading : (s : Stop) → Fails s (heading_at last seen bytes) → StopsIn (operation seen last) bytes s
-  op_stops_heading s h = in_operation last seen bytes s (stops_front (field (heading_at last seen)) (λ x. body x.1) bytes s (stops_field (heading_at last seen) bytes s h))
+module _ (version : ℕ) (last : Option Id) (seen : Ids) (bytes : List ℕ) where
+  pub op_stops_heading : (s : Stop) → Fails s (heading_at version last seen bytes) → StopsIn (operation version seen last) bytes s
+  op_stops_heading s h =
+      in_operation version last seen bytes s (stops_front (field (heading_at version last seen)) (λ x. body x.0.1) bytes s (stops_field (heading_at version last seen) bytes s h))
 
-  module _ (i : Id) (kind : ℕ) (r : List ℕ) (heading : heading_at last seen bytes ≡ Ok ((i, kind), r)) where
-    pub op_stops_body : (s : Stop) → StopsAs (length r) (body_at kind r) s → StopsIn (operation seen last) bytes s
-    op_stops_body s h = in_operation last seen bytes s (stops_back (field (heading_at last seen)) (λ x. body x.1) bytes (i, kind) r s heading (in_body kind r s h))
+  module _ (i : Id) (kind : ℕ) (note r : List ℕ) (heading : heading_at version last seen bytes ≡ Ok (((i, kind), note), r)) where
+    pub op_stops_body : (s : Stop) → StopsAs (length r) (body_at kind r) s → StopsIn (operation version seen last) bytes s
+    op_stops_body s h =
+        in_operation version last seen bytes s (stops_back (field (heading_at version last seen)) (λ x. body x.0.1) bytes ((i, kind), note) r s heading (in_body kind r s h))
 
-    pub op_done : (b : Body) (rest : List ℕ) (o : Op) → IsBytes bytes → body_at kind r ≡ Ok (b, rest) → o ≡ record { id = i; body = b } → IsBody o.body → (operation seen last).Reads bytes o rest
+    pub op_done : (b : Body) (rest : List ℕ) (o : Op) → IsBytes bytes → body_at kind r ≡ Ok (b, rest) → o ≡ record { id = i; body = b; note = note } → IsBody o.body → (operation version seen last).Reads bytes o rest
     op_done b rest o fits read e is =
-        let first = heading_takes last seen bytes i kind r fits heading in
+        let first = heading_takes version last seen bytes i kind note r fits heading in
         let second = body_takes kind r (b, rest) first.low first.high first.takes.rest_fits read in
         let kind_is : kind ≡ kind_byte o.body = second.kind_is ∙ ap (λ (p : Op). kind_byte p.body) (sym e) in (
           r,
-          heading ∙ (λ j. Ok (((sym e j).id, kind_is j), r)),
+          heading ∙ (λ j. Ok ((((sym e j).id, kind_is j), (sym e j).note), r)),
           (sym (ap (λ n. body_at n r) kind_is) ∙ read ∙ ap (λ (p : Op). Ok (p.body, rest)) (sym e), is),
         )
 

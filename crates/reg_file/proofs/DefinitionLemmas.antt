@@ -1,22 +1,18 @@
 -- A definition's text has no fault, and another text has one.
 use Rattle.std.proofs.Common.{◌≡◌, ℕ, ◌≤◌, List, length, refl, ap, subst, arith}
-use Rattle.wkt_crs.specs.declared.fault.ReadFault.{ReadFault}
-use Rattle.wkt_crs.specs.declared.fault.ReadFault.TheVariants as read
 use Rattle.wkt_crs.specs.declared.definition.DefinitionFault.{DefinitionFault}
 use Rattle.wkt_crs.specs.declared.definition.DefinitionFault.TheVariants as definition
 use Rattle.wkt_crs.specs.Definition.{IsDefinition, IsCanonicalFault, HasNone}
 use Rattle.wkt_crs.proofs.Texts.{one_value}
 use Rattle.wkt_crs.proofs.Verdicts.{one_first_fault, value_or_fault}
-use Rattle.wkt_crs.proofs.Defining.{of_definition, spelled_by_definition, read_fault}
+use Rattle.wkt_crs.specs.Unspelled.{as_read}
+use Rattle.wkt_crs.proofs.Defining.{of_definition, spelled_by_definition, not_memory, one_refusal}
 use Rattle.reg_file.specs.declared.fault.FileFault.{FileFault}
 use Rattle.reg_file.specs.declared.fault.FileFault.TheVariants as fault
 use Rattle.reg_file.specs.Reading.{IsOfText, IsTextFault}
 
-not_memory : (f : ReadFault) → IsOfText (definition.Read f) → f ≡ read.Memory → ⊥
-not_memory f is e = subst (λ r. IsOfText (definition.Read r)) e is
-
 no_plain_fault : (text : List ℕ) (f : DefinitionFault) → IsDefinition text → IsOfText f → IsCanonicalFault text f → ⊥
-no_plain_fault text (definition.Read f) d is e = not_memory f is (value_or_fault text d.crs f (spelled_by_definition text d) (read_fault text f e).1)
+no_plain_fault text (definition.Read f) d is e = not_memory f (value_or_fault text d.crs (as_read f) (spelled_by_definition text d) e.1)
 no_plain_fault text definition.NoIdentifier d is e = (of_definition text e.1.0 d e.1.1).1 e.1.2
 no_plain_fault text definition.CanonicalTooLong d is e = let k : length text ≤ 65536 = d.short in omega (arith, e)
 no_plain_fault text definition.NotCanonical d is e = is
@@ -28,12 +24,12 @@ no_text_fault text fault.NotCanonical d e = e.1.3 (of_definition text e.1.0 d e.
 no_text_fault text f d e = absurd e
 
 one_plain_fault : (text : List ℕ) (f g : DefinitionFault) → IsOfText f → IsOfText g → IsCanonicalFault text f → IsCanonicalFault text g → f ≡ g
-one_plain_fault text (definition.Read f) (definition.Read g) p q e h = ap definition.Read (one_first_fault text f g (not_memory f p) (not_memory g q) (read_fault text f e).1 (read_fault text g h).1)
-one_plain_fault text (definition.Read f) definition.NoIdentifier p q e h = absurd (not_memory f p (value_or_fault text h.1.0 f h.1.1 (read_fault text f e).1))
-one_plain_fault text definition.NoIdentifier (definition.Read g) p q e h = absurd (not_memory g q (value_or_fault text e.1.0 g e.1.1 (read_fault text g h).1))
-one_plain_fault text (definition.Read f) definition.CanonicalTooLong p q e h = let short = (read_fault text f e).0 in absurd (omega (arith, short, h))
+one_plain_fault text (definition.Read f) (definition.Read g) p q e h = ap definition.Read (one_refusal f g (one_first_fault text (as_read f) (as_read g) (not_memory f) (not_memory g) e.1 h.1))
+one_plain_fault text (definition.Read f) definition.NoIdentifier p q e h = absurd (not_memory f (value_or_fault text h.1.0 (as_read f) h.1.1 e.1))
+one_plain_fault text definition.NoIdentifier (definition.Read g) p q e h = absurd (not_memory g (value_or_fault text e.1.0 (as_read g) e.1.1 h.1))
+one_plain_fault text (definition.Read f) definition.CanonicalTooLong p q e h = absurd (omega (arith, e.0, h))
 one_plain_fault text definition.NoIdentifier definition.CanonicalTooLong p q e h = absurd (omega (arith, e.0, h))
-one_plain_fault text definition.CanonicalTooLong (definition.Read g) p q e h = let short = (read_fault text g h).0 in absurd (omega (arith, e, short))
+one_plain_fault text definition.CanonicalTooLong (definition.Read g) p q e h = absurd (omega (arith, e, h.0))
 one_plain_fault text definition.CanonicalTooLong definition.NoIdentifier p q e h = absurd (omega (arith, e, h.0))
 one_plain_fault text definition.NoIdentifier definition.NoIdentifier p q e h = refl
 one_plain_fault text definition.CanonicalTooLong definition.CanonicalTooLong p q e h = refl
@@ -44,7 +40,7 @@ one_plain_fault text f definition.Memory p q e h = absurd q
 
 -- a text that is another spelling has no other fault
 not_other : (text : List ℕ) (f : DefinitionFault) → IsOfText f → IsCanonicalFault text f → IsCanonicalFault text definition.NotCanonical → ⊥
-not_other text (definition.Read f) p e h = not_memory f p (value_or_fault text h.1.0 f h.1.1 (read_fault text f e).1)
+not_other text (definition.Read f) p e h = not_memory f (value_or_fault text h.1.0 (as_read f) h.1.1 e.1)
 not_other text definition.NoIdentifier p e h = h.1.2 (subst HasNone (one_value text e.1.0 h.1.0 e.1.1 h.1.1) e.1.2)
 not_other text definition.CanonicalTooLong p e h = omega (arith, e, h.0)
 not_other text definition.NotCanonical p e h = p

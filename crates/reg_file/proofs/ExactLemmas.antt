@@ -1,5 +1,5 @@
 -- What is read is one thing; what is read has no fault; and a fault is one.
-use Rattle.std.proofs.Common.{◌≡◌, ℕ, ◌-◌, ◌<◌, List, [], ◌∷◌, length, Option, Some, None, Result, Ok, Err, refl, sym, ap, subst, ◌∙◌, arith, ◌⊎◌, inl, inr}
+use Rattle.std.proofs.Common.{◌≡◌, ℕ, ◌<◌, List, [], ◌∷◌, length, Option, Some, None, Result, Ok, Err, refl, sym, ap, subst, ◌∙◌, arith, ◌⊎◌, inl, inr}
 use Rattle.reg_op.specs.Ids.{Id, Ids}
 use Rattle.reg_op.specs.Operations.{Op, op_cmp, IsBody}
 use Rattle.reg_op.specs.Set as set
@@ -152,14 +152,14 @@ body_exact kind = record {
   one_fault = λ bytes q r h k. fails_one (length bytes) (body_at kind bytes) q r h k;
 }
 
-operation_exact : (seen : Ids) (last : Option Id) → IsExact (operation seen last)
-operation_exact seen last =
-    let is = behind_exact (field (heading_at last seen)) (λ x. body x.1) (field_exact (heading_at last seen)) (λ x. body_exact x.1) in
+operation_exact : (version : ℕ) (seen : Ids) (last : Option Id) → IsExact (operation version seen last)
+operation_exact version seen last =
+    let is = behind_exact (field (heading_at version last seen)) (λ x. body x.0.1) (field_exact (heading_at version last seen)) (λ x. body_exact x.0.1) in
     record {
       one_value = λ bytes o p rest left h k.
-          let e = is.one_value bytes ((o.id, kind_byte o.body), o.body) ((p.id, kind_byte p.body), p.body) rest left h k in
-          ((λ j. record { id = (e.0 j).0.0; body = (e.0 j).1 }), e.1);
-      no_fault = λ bytes o rest r h k. is.no_fault bytes ((o.id, kind_byte o.body), o.body) rest r h k;
+          let e = is.one_value bytes (((o.id, kind_byte o.body), o.note), o.body) (((p.id, kind_byte p.body), p.note), p.body) rest left h k in
+          ((λ j. record { id = (e.0 j).0.0.0; body = (e.0 j).1; note = (e.0 j).0.1 }), e.1);
+      no_fault = λ bytes o rest r h k. is.no_fault bytes (((o.id, kind_byte o.body), o.note), o.body) rest r h k;
       one_fault = is.one_fault;
     }
 
@@ -169,21 +169,21 @@ some_none x e = cc
 some_is : {X : Type 0} (x y : X) → ◌≡◌ {A = Option X} (Some x) (Some y) → x ≡ y
 some_is x y e = cc
 
-ending_fault : (os : List Op) (bytes : List ℕ) (q r : Refused) → IsDropped os (places_of os bytes) q ⊎ IsTrailing os bytes q → IsDropped os (places_of os bytes) r ⊎ IsTrailing os bytes r → q ≡ r
-ending_fault os bytes q r (inl f) (inl g) = f.2 ∙ ap (λ i. record { fault = fault.NotKept; left = left_in (places_of os bytes) i }) (some_is f.0 g.0 (sym f.1 ∙ g.1)) ∙ sym g.2
-ending_fault os bytes q r (inl f) (inr g) = absurd (some_none f.0 (sym f.1 ∙ g.0))
-ending_fault os bytes q r (inr f) (inl g) = absurd (some_none g.0 (sym g.1 ∙ f.0))
-ending_fault os bytes q r (inr f) (inr g) = f.2 ∙ sym g.2
+ending_fault : (version : ℕ) (os : List Op) (bytes : List ℕ) (q r : Refused) → IsDropped os (places_of version os bytes) q ⊎ IsTrailing os bytes q → IsDropped os (places_of version os bytes) r ⊎ IsTrailing os bytes r → q ≡ r
+ending_fault version os bytes q r (inl f) (inl g) = f.2 ∙ ap (λ i. record { fault = fault.NotKept; left = left_in (places_of version os bytes) i }) (some_is f.0 g.0 (sym f.1 ∙ g.1)) ∙ sym g.2
+ending_fault version os bytes q r (inl f) (inr g) = absurd (some_none f.0 (sym f.1 ∙ g.0))
+ending_fault version os bytes q r (inr f) (inl g) = absurd (some_none g.0 (sym g.1 ∙ f.0))
+ending_fault version os bytes q r (inr f) (inr g) = f.2 ∙ sym g.2
 
-ending_none : (os : List Op) (bytes : List ℕ) (r : Refused) → first_dropped (set.from_list {R = op_cmp} os) ≡ None → bytes ≡ [] → IsDropped os (places_of os bytes) r ⊎ IsTrailing os bytes r → ⊥
-ending_none os bytes r h e (inl f) = some_none f.0 (sym f.1 ∙ h)
-ending_none os bytes r h e (inr f) = let l = ap length e in omega (arith, f.1, l)
+ending_none : (version : ℕ) (os : List Op) (bytes : List ℕ) (r : Refused) → first_dropped (set.from_list {R = op_cmp} os) ≡ None → bytes ≡ [] → IsDropped os (places_of version os bytes) r ⊎ IsTrailing os bytes r → ⊥
+ending_none version os bytes r h e (inl f) = some_none f.0 (sym f.1 ∙ h)
+ending_none version os bytes r h e (inr f) = let l = ap length e in omega (arith, f.1, l)
 
-pub ending_exact : (os : List Op) → IsExact (ending os)
-ending_exact os = record {
+pub ending_exact : (version : ℕ) (os : List Op) → IsExact (ending version os)
+ending_exact version os = record {
   one_value = λ bytes x y rest left h k. (refl, h.2 ∙ sym k.2);
-  no_fault = λ bytes x rest r h k. ending_none os bytes r h.0 h.1 k;
-  one_fault = ending_fault os;
+  no_fault = λ bytes x rest r h k. ending_none version os bytes r h.0 h.1 k;
+  one_fault = ending_fault version os;
 }
 
 ended_exact : IsExact ended
@@ -195,17 +195,17 @@ ended_exact = record {
 
 -- ---- whole files
 
-seen_and_ops_exact : (basis : Ids) → IsExact (seen_and_ops basis)
-seen_and_ops_exact basis =
-    behind_exact (ranges basis) (λ gs. counted_operations (seen_of (runs_of gs.1))) (ranges_exact basis)
-    (λ gs. behind_exact (field (number_at w32)) (operations (seen_of (runs_of gs.1))) (field_exact (number_at w32))
-    (λ n. repeated_exact (operation (seen_of (runs_of gs.1))) id_after (operation_exact (seen_of (runs_of gs.1))) None n))
+seen_and_ops_exact : (version : ℕ) (basis : Ids) → IsExact (seen_and_ops version basis)
+seen_and_ops_exact version basis =
+    behind_exact (ranges basis) (λ gs. counted_operations version (seen_of (runs_of gs.1))) (ranges_exact basis)
+    (λ gs. behind_exact (field (number_at w32)) (operations version (seen_of (runs_of gs.1))) (field_exact (number_at w32))
+    (λ n. repeated_exact (operation version (seen_of (runs_of gs.1))) id_after (operation_exact version (seen_of (runs_of gs.1))) None n))
 
-pub seen_and_kept_exact : (basis : Ids) → IsExact (seen_and_kept basis)
-seen_and_kept_exact basis = behind_exact (seen_and_ops basis) (λ x. ending x.1.1) (seen_and_ops_exact basis) (λ x. ending_exact x.1.1)
+pub seen_and_kept_exact : (version : ℕ) (basis : Ids) → IsExact (seen_and_kept version basis)
+seen_and_kept_exact version basis = behind_exact (seen_and_ops version basis) (λ x. ending version x.1.1) (seen_and_ops_exact version basis) (λ x. ending_exact version x.1.1)
 
 pub register_exact : (version : ℕ) → IsExact (register version)
-register_exact version = behind_exact (field (head_at version 1)) (λ x. seen_and_kept set.empty) (field_exact (head_at version 1)) (λ x. seen_and_kept_exact set.empty)
+register_exact version = behind_exact (field (head_at version 1)) (λ x. seen_and_kept version set.empty) (field_exact (head_at version 1)) (λ x. seen_and_kept_exact version set.empty)
 
 pub summary_exact : (version : ℕ) → IsExact (summary version)
 summary_exact version =
@@ -214,5 +214,5 @@ summary_exact version =
 
 pub piece_exact : (version : ℕ) → IsExact (piece version)
 piece_exact version =
-    behind_exact (field (head_at version 3)) (λ x. based) (field_exact (head_at version 3))
-    (λ x. behind_exact (ranges set.empty) (λ gs. seen_and_kept (seen_of (runs_of gs.1))) (ranges_exact set.empty) (λ gs. seen_and_kept_exact (seen_of (runs_of gs.1))))
+    behind_exact (field (head_at version 3)) (λ x. based version) (field_exact (head_at version 3))
+    (λ x. behind_exact (ranges set.empty) (λ gs. seen_and_kept version (seen_of (runs_of gs.1))) (ranges_exact set.empty) (λ gs. seen_and_kept_exact version (seen_of (runs_of gs.1))))

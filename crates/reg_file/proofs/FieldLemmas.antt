@@ -73,7 +73,7 @@ Takes-then a x b y c p q = record { parts = p.parts ∙ ap (λ (t : List ℕ). x
 abbrev cut_short : Refused
 cut_short = record { fault = Truncated; left = 0 }
 
-abbrev at : FileFault → ℕ → Refused
+abbrev pub at : FileFault → ℕ → Refused
 at fault left = record { fault = fault; left = left }
 
 pub record IsWide (w : Width) (limit : ℕ) : Type 0 where

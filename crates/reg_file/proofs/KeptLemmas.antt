@@ -1,5 +1,5 @@
 -- What stands behind the head of a register's file, or behind the basis of a piece's, is a content's exactly where it is read as it.
-use Rattle.std.proofs.Common.{◌≡◌, ℕ, ◌+◌, ◌^◌, ◌<◌, ◌≤◌, Bool, true, false, not, ◌&&◌, List, [], ◌∷◌, ◌++◌, length, None, refl, sym, ap, subst, ◌∙◌, arith}
+use Rattle.std.proofs.Common.{◌≡◌, ℕ, ◌^◌, ◌<◌, Bool, true, false, not, ◌&&◌, List, [], ◌∷◌, ◌++◌, length, None, refl, sym, ap, subst, ◌∙◌, arith}
 use Rattle.std.proofs.lemmas.Bool.{true≢false, or_left, or_right, false_from_ne_true}
 use Rattle.std.proofs.lemmas.List.{append-nil}
 use Rattle.std.specs.List.{flat_map}
@@ -29,7 +29,8 @@ use Rattle.reg_file.specs.Readers.{ReadsEach}
 use Rattle.reg_file.specs.Steps.{ReadsSeen, ReadsKept}
 use Rattle.reg_file.proofs.FieldLemmas.{IsBytes, Takes, Takes-then, number_takes, number_again}
 use Rattle.reg_file.proofs.GroupLemmas.{AllApart, grouped_runs, groups_runs, runs_grouped, good_groups, ranges_take, ranges_again}
-use Rattle.reg_file.proofs.ListLemmas.{ops_take, ops_again, by_id_of, own_of_by_id}
+use Rattle.reg_file.proofs.NoteLemmas.{AreTold}
+use Rattle.reg_file.proofs.ListLemmas.{ops_take, ops_again, by_id_of, told_of_own, own_of_by_id}
 use Rattle.reg_file.proofs.LongLemmas.{grouped_long}
 use Rattle.reg_file.proofs.ExactLemmas.{ranges_exact, seen_and_kept_exact}
 
@@ -104,14 +105,15 @@ seen_one basis bytes x y rest left r s =
 
 -- ---- contents
 
-pub record TakesKept (basis : Ids) (bytes : List ℕ) (x : Content) : Type 0 where
+pub record TakesKept (version : ℕ) (basis : Ids) (bytes : List ℕ) (x : Content) : Type 0 where
   pub runs : List Run
   pub are_runs : AreRuns runs
   pub all : seen_of runs ≡ x.seen
-  pub whole : bytes ≡ ranges_bytes (grouped runs) ++ ops_bytes (set.items x.ops)
+  pub whole : bytes ≡ ranges_bytes (grouped runs) ++ ops_bytes version (set.items x.ops)
+  pub told : AreTold version x.ops
 
-pub kept_take : (basis : Ids) (bytes : List ℕ) (x : Content) → IsBytes bytes → ReadsKept basis bytes x → TakesKept basis bytes x
-kept_take basis bytes x fits r =
+pub kept_take : (version : ℕ) (basis : Ids) (bytes : List ℕ) (x : Content) → IsBytes bytes → ReadsKept version basis bytes x → TakesKept version basis bytes x
+kept_take version basis bytes x fits r =
     let e3 = r.reads in
     let e4 = e3.1 in
     let e5 = e4.2 in
@@ -119,30 +121,31 @@ kept_take basis bytes x fits r =
     let gs = r.groups in
     let second = ranges_take basis bytes r.replicas gs e4.0 fits e4.1 in
     let third = number_takes e4.0 r.count e5.0 second.0.rest_fits e5.1 in
-    let fourth = ops_take (seen_of (runs_of gs)) None e5.0 os e3.0 third.0.rest_fits e5.2.0 in
-    let up : ById os = by_id_of None (seen_of (runs_of gs)) os fourth.own in
-    let counted : e4.0 ≡ (four (length os) ++ flat_map op_bytes os) ++ e3.0 =
-    subst (λ n. e4.0 ≡ (four n ++ flat_map op_bytes os) ++ e3.0) (sym e5.2.1) (Takes-then e4.0 (four r.count) e5.0 (flat_map op_bytes os) e3.0 third.0 fourth.takes).parts in
-    let all_ops : e4.0 ≡ ops_bytes os = counted ∙ ap (λ (t : List ℕ). ops_bytes os ++ t) e3.2.1 ∙ append-nil (ops_bytes os) in
+    let fourth = ops_take version (seen_of (runs_of gs)) None e5.0 os e3.0 third.0.rest_fits e5.2.0 in
+    let up : ById os = by_id_of version None (seen_of (runs_of gs)) os fourth.own in
+    let counted : e4.0 ≡ (four (length os) ++ flat_map (op_bytes version) os) ++ e3.0 =
+    subst (λ n. e4.0 ≡ (four n ++ flat_map (op_bytes version) os) ++ e3.0) (sym e5.2.1) (Takes-then e4.0 (four r.count) e5.0 (flat_map (op_bytes version) os) e3.0 third.0 fourth.takes).parts in
+    let all_ops : e4.0 ≡ ops_bytes version os = counted ∙ ap (λ (t : List ℕ). ops_bytes version os ++ t) e3.2.1 ∙ append-nil (ops_bytes version os) in
     let items : set.items x.ops ≡ os = ap (λ (y : Content). set.items y.ops) r.is ∙ items_are os up in
     record {
       runs = runs_of gs;
       are_runs = groups_runs basis None gs second.1;
       all = sym (ap (λ (y : Content). y.seen) r.is);
-      whole = second.0.parts ∙ (λ k. ranges_bytes (sym (grouped_runs basis None gs second.1) k) ++ all_ops k) ∙ ap (λ xs. ranges_bytes (grouped (runs_of gs)) ++ ops_bytes xs) (sym items);
+      whole = second.0.parts ∙ (λ k. ranges_bytes (sym (grouped_runs basis None gs second.1) k) ++ all_ops k) ∙ ap (λ xs. ranges_bytes (grouped (runs_of gs)) ++ ops_bytes version xs) (sym items);
+      told = λ o h. told_of_own version None (seen_of (runs_of gs)) os fourth.own o (sym (ap (λ xs. has xs o) items) ∙ sym (contains-items x.ops o) ∙ h);
     }
 
-pub kept_again : (basis : Ids) (x : Content) (rs : List Run) → IsContent x → AreRuns rs → seen_of rs ≡ x.seen → AllApart basis rs → length rs < 2 ^ 32 → length (set.items x.ops) < 2 ^ 32
-    → ReadsKept basis (ranges_bytes (grouped rs) ++ ops_bytes (set.items x.ops)) x
+pub kept_again : (version : ℕ) (basis : Ids) (x : Content) (rs : List Run) → IsContent x → AreTold version x.ops → AreRuns rs → seen_of rs ≡ x.seen → AllApart basis rs → length rs < 2 ^ 32 → length (set.items x.ops) < 2 ^ 32
+    → ReadsKept version basis (ranges_bytes (grouped rs) ++ ops_bytes version (set.items x.ops)) x
 unfolding seen_again
-kept_again basis x rs is are all out few_runs few_ops =
+kept_again version basis x rs is told are all out few_runs few_ops =
     let os = set.items x.ops in
     let gs = grouped rs in
-    let ranges = seen_again basis x.seen rs (ops_bytes os) is.are_ids are all out few_runs in
+    let ranges = seen_again basis x.seen rs (ops_bytes version os) is.are_ids are all out few_runs in
     let seen_is : seen_of (runs_of gs) ≡ x.seen = ap seen_of (runs_grouped rs) ∙ all in
-    let own = own_of_by_id None (seen_of (runs_of gs)) os (items_by_id x.ops is.one_body) (λ o k.
+    let own = own_of_by_id version None (seen_of (runs_of gs)) os (items_by_id x.ops is.one_body) (λ o k.
     let there : set.contains x.ops o ≡ true = contains-items x.ops o ∙ k in
-    (is.are_operations o there, ap (λ s. set.contains s o.id) seen_is ∙ is.are_seen o there, refl)) in
+    (is.are_operations o there, told o there, ap (λ s. set.contains s o.id) seen_is ∙ is.are_seen o there, refl)) in
     record {
       replicas = length gs;
       groups = gs;
@@ -151,12 +154,16 @@ kept_again basis x rs is are all out few_runs few_ops =
       reads = (
         [],
         (
-          ops_bytes os,
+          ops_bytes version os,
           ranges.reads,
           (
-            flat_map op_bytes os,
-            number_again (length os) (flat_map op_bytes os) few_ops,
-            (subst (λ (t : List ℕ). ReadsEach (operation (seen_of (runs_of gs))) id_after None t os []) (append-nil (flat_map op_bytes os)) (ops_again (seen_of (runs_of gs)) None os [] own), refl),
+            flat_map (op_bytes version) os,
+            number_again (length os) (flat_map (op_bytes version) os) few_ops,
+            (
+              subst (λ (t : List ℕ). ReadsEach (operation version (seen_of (runs_of gs))) id_after None t os []) (append-nil (flat_map (op_bytes version) os))
+                  (ops_again version (seen_of (runs_of gs)) None os [] own),
+              refl,
+            ),
           ),
         ),
         (ap first_dropped (of_items x.ops) ∙ none_dropped x.ops is.is_kept, refl, refl),
@@ -165,7 +172,7 @@ kept_again basis x rs is are all out few_runs few_ops =
       content = is;
     }
 
-pub kept_one : (basis : Ids) (bytes : List ℕ) (x y : Content) → ReadsKept basis bytes x → ReadsKept basis bytes y → x ≡ y
-kept_one basis bytes x y r s =
-    let e = ((seen_and_kept_exact basis).one_value bytes (((r.replicas, r.groups), (r.count, r.ops)), tt) (((s.replicas, s.groups), (s.count, s.ops)), tt) [] [] r.reads s.reads).0 in
+pub kept_one : (version : ℕ) (basis : Ids) (bytes : List ℕ) (x y : Content) → ReadsKept version basis bytes x → ReadsKept version basis bytes y → x ≡ y
+kept_one version basis bytes x y r s =
+    let e = ((seen_and_kept_exact version basis).one_value bytes (((r.replicas, r.groups), (r.count, r.ops)), tt) (((s.replicas, s.groups), (s.count, s.ops)), tt) [] [] r.reads s.reads).0 in
     r.is ∙ (λ k. content_at (e k).0.1.1 (seen_of (runs_of (e k).0.0.1))) ∙ sym s.is

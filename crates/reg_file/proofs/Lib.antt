@@ -3,6 +3,7 @@ pub mod BodyLemmas
 pub mod DefinitionLemmas
 pub mod ExactLemmas
 pub mod FieldLemmas
+pub mod FirstLemmas
 pub mod GroupLemmas
 pub mod HoldLemmas
 pub mod KeptLemmas
@@ -10,11 +11,14 @@ pub mod KindLemmas
 pub mod ListLemmas
 pub mod LongLemmas
 pub mod MadeRuns
+pub mod NoteLemmas
 pub mod PieceLemmas
 pub mod PlaceLemmas
 pub mod RangeLemmas
 pub mod Sequences
 pub mod SizeLemmas
+pub mod SourceLemmas
 pub mod SpellLemmas
 pub mod SummaryLemmas
+pub mod VersionLemmas
 pub mod WholeLemmas

@@ -1,5 +1,5 @@
 -- What files are made of is no longer than they are.
-use Rattle.std.proofs.Common.{◌≡◌, ℕ, ◌+◌, ◌≤◌, Bool, true, false, List, [], ◌∷◌, ◌++◌, length, map, refl, ap, subst, sym, arith}
+use Rattle.std.proofs.Common.{◌≡◌, ℕ, ◌+◌, ◌≤◌, Bool, true, false, List, [], ◌∷◌, ◌++◌, length, map, refl, ap, arith}
 use Rattle.std.proofs.lemmas.List.{length-append, length-map}
 use Rattle.std.proofs.lemmas.List.Concat.{flat_map-cons}
 use Rattle.std.specs.List.{flat_map}
@@ -19,8 +19,8 @@ flat_long f each (x ∷ xs) =
     let parts = length-append (f x) (flat_map f xs) in
     omega arith
 
-op_long : (o : Op) → 1 ≤ length (op_bytes o)
-op_long o = op_bytes_long o.id.replica (four o.id.count) _ _
+op_long : (version : ℕ) (o : Op) → 1 ≤ length (op_bytes version o)
+op_long version o = op_bytes_long o.id.replica (four o.id.count) _ _
   where
     op_bytes_long : (a b : List ℕ) (k : ℕ) (c : List ℕ) → 1 ≤ length ((a ++ b) ++ (k ∷ c))
     op_bytes_long a b k c = let e = length-append (a ++ b) (k ∷ c) in omega arith
@@ -44,10 +44,10 @@ runs_long (g ∷ gs) =
     let parts = length-append (group_bytes g) (flat_map group_bytes gs) in
     omega arith
 
-pub ops_long : (os : List Op) → length os ≤ length (ops_bytes os)
-ops_long os =
-    let a = length-append (four (length os)) (flat_map op_bytes os) in
-    let b = flat_long op_bytes op_long os in
+pub ops_long : (version : ℕ) (os : List Op) → length os ≤ length (ops_bytes version os)
+ops_long version os =
+    let a = length-append (four (length os)) (flat_map (op_bytes version) os) in
+    let b = flat_long (op_bytes version) (op_long version) os in
     omega arith
 
 pub ranges_long : (rs : List Run) → length rs ≤ length (ranges_bytes (grouped rs))

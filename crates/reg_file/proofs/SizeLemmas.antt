@@ -10,12 +10,12 @@ use Rattle.reg_op.specs.Contents.{Content}
 use Rattle.reg_seen.specs.declared.run.Run.{Run}
 use Rattle.reg_seen.specs.Runs.{AreRuns, EndInIds, seen_of}
 use Rattle.reg_file.specs.declared.span.Span.{Span}
-use Rattle.reg_file.specs.Layout.{four, op_bytes, ops_bytes, span_bytes, Group, group_bytes, ranges_bytes, run_at, runs_of, grouped, head, register_file, seen_file, piece_file, file}
-use Rattle.reg_file.specs.Files.{most, IsFileOf, IsTooLarge}
+use Rattle.reg_file.specs.Layout.{four, op_bytes, ops_bytes, span_bytes, Group, group_bytes, ranges_bytes, run_at, runs_of, grouped, head, register_file, seen_file, piece_file}
+use Rattle.reg_file.specs.Files.{most, IsFileIn, IsTooLargeIn}
 use Rattle.reg_file.proofs.GroupLemmas.{AreGroups, runs_grouped, good_groups}
 use Rattle.reg_file.proofs.ApartLemmas.{apart_from_none}
 use Rattle.reg_file.proofs.LongLemmas.{ranges_long}
-use Rattle.reg_file.proofs.HoldLemmas.{one_file}
+use Rattle.reg_file.proofs.HoldLemmas.{one_file_in}
 
 -- ---- how long ranges are
 
@@ -65,11 +65,11 @@ many_runs size rs h = let l = ranges_long rs in omega arith
 
 -- ---- how long files are
 
-pub register_length : (version : ℕ) (os : List Op) (rs : List Run) → length (register_file version os rs) ≡ 10 + length (ranges_bytes (grouped rs)) + length (flat_map op_bytes os)
+pub register_length : (version : ℕ) (os : List Op) (rs : List Run) → length (register_file version os rs) ≡ 10 + length (ranges_bytes (grouped rs)) + length (flat_map (op_bytes version) os)
 register_length version os rs =
-    let a = length-append (head version 1) (ranges_bytes (grouped rs) ++ ops_bytes os) in
-    let b = length-append (ranges_bytes (grouped rs)) (ops_bytes os) in
-    let c = length-append (four (length os)) (flat_map op_bytes os) in
+    let a = length-append (head version 1) (ranges_bytes (grouped rs) ++ ops_bytes version os) in
+    let b = length-append (ranges_bytes (grouped rs)) (ops_bytes version os) in
+    let c = length-append (four (length os)) (flat_map (op_bytes version) os) in
     let four_are : length (four (length os)) ≡ 4 = refl in
     let six : length (head version 1) ≡ 6 = refl in
     omega arith
@@ -81,23 +81,23 @@ seen_length version rs =
     omega arith
 
 pub piece_length : (version : ℕ) (bs : List Run) (os : List Op) (rs : List Run)
-    → length (piece_file version bs os rs) ≡ 10 + length (ranges_bytes (grouped bs)) + length (ranges_bytes (grouped rs)) + length (flat_map op_bytes os)
+    → length (piece_file version bs os rs) ≡ 10 + length (ranges_bytes (grouped bs)) + length (ranges_bytes (grouped rs)) + length (flat_map (op_bytes version) os)
 piece_length version bs os rs =
-    let a = length-append (head version 3) (ranges_bytes (grouped bs) ++ (ranges_bytes (grouped rs) ++ ops_bytes os)) in
-    let b = length-append (ranges_bytes (grouped bs)) (ranges_bytes (grouped rs) ++ ops_bytes os) in
-    let c = length-append (ranges_bytes (grouped rs)) (ops_bytes os) in
-    let d = length-append (four (length os)) (flat_map op_bytes os) in
+    let a = length-append (head version 3) (ranges_bytes (grouped bs) ++ (ranges_bytes (grouped rs) ++ ops_bytes version os)) in
+    let b = length-append (ranges_bytes (grouped bs)) (ranges_bytes (grouped rs) ++ ops_bytes version os) in
+    let c = length-append (ranges_bytes (grouped rs)) (ops_bytes version os) in
+    let d = length-append (four (length os)) (flat_map (op_bytes version) os) in
     let four_are : length (four (length os)) ≡ 4 = refl in
     let six : length (head version 3) ≡ 6 = refl in
     omega arith
 
 -- ---- files that are too large
 
-pub file_of : (x : Content) (os : List Op) (rs : List Run) → os ≡ set.items x.ops → AreRuns rs → seen_of rs ≡ x.seen → IsFileOf x (file os rs)
-file_of x os rs e are all = record { runs = rs; are_runs = are; all = all; whole = ap (λ xs. file xs rs) e }
+pub file_of : (version : ℕ) (x : Content) (os : List Op) (rs : List Run) → os ≡ set.items x.ops → AreRuns rs → seen_of rs ≡ x.seen → IsFileIn version x (register_file version os rs)
+file_of version x os rs e are all = record { runs = rs; are_runs = are; all = all; whole = ap (λ xs. register_file version xs rs) e }
 
-pub not_large : (x : Content) (bytes : List ℕ) → IsFileOf x bytes → length bytes ≤ most → IsTooLarge x → ⊥
-not_large x bytes f short t =
-    let same = ap length (one_file x bytes t.0 f t.1) in
+pub not_large : (version : ℕ) (x : Content) (bytes : List ℕ) → IsFileIn version x bytes → length bytes ≤ most → IsTooLargeIn version x → ⊥
+not_large version x bytes f short t =
+    let same = ap length (one_file_in version x bytes t.0 f t.1) in
     let over : most < length t.0 = t.2 in
     omega arith

@@ -2,6 +2,7 @@
 use Rattle.std.specs.Prelude.{◌≡◌, ℕ, Bool, true, List, [], ◌∷◌, length, take, drop, Option, Some, None, Result, Ok, Err, nat_lt, ◌==◌, ◌||◌, if◌then◌else◌}
 use Rattle.std.specs.Int.{Width, w32, byte_len, from_be_bytes}
 use Rattle.std.specs.Ordering.{is_lt}
+use Rattle.std.specs.Str.{is_utf8}
 use Rattle.reg_op.specs.Set as set
 use Rattle.reg_op.specs.Ids.{Id, Ids, is_before, is_same}
 use Rattle.reg_op.specs.declared.operation.OpBody.{OpBody as Body}
@@ -11,7 +12,7 @@ use Rattle.wkt_crs.specs.declared.definition.DefinitionFault.TheVariants as defi
 use Rattle.reg_file.specs.declared.span.Span.{Span}
 use Rattle.reg_file.specs.declared.fault.Refused.{Refused}
 use Rattle.reg_file.specs.declared.fault.FileFault.{FileFault}
-use Rattle.reg_file.specs.declared.fault.FileFault.TheVariants.{Magic, Version, Kind, Truncated, Ranges, ReplicaOrder, OpOrder, OpIdBad, OpKind, NotSeen, SameEntry, Definition}
+use Rattle.reg_file.specs.declared.fault.FileFault.TheVariants.{Magic, Version, Kind, Truncated, Ranges, ReplicaOrder, OpOrder, OpIdBad, OpKind, NoteTooLong, NoteNotUtf8, NotSeen, SameEntry, Definition}
 use Rattle.reg_file.specs.declared.fault.Stop.{Stop}
 use Rattle.reg_file.specs.declared.fault.Stop.TheVariants as stop
 use Rattle.reg_file.specs.Layout.{run_at}
@@ -135,9 +136,22 @@ op_kind_at bytes = do
   kind ← byte_at bytes
   if kind.0 == 0 || nat_lt 3 kind.0 then refused OpKind (length bytes) else Ok kind
 
--- an operation's own id and its kind
-unfoldable pub heading_at : Option Id → Ids → List ℕ → Result ((Id × ℕ) × List ℕ) Refused
-heading_at last seen bytes = do
+-- the bytes of a note, with their number before them
+unfoldable pub noted_at : List ℕ → Result (List ℕ × List ℕ) Refused
+noted_at bytes = do
+  len ← byte_at bytes
+  if nat_lt 200 len.0 then refused NoteTooLong (length bytes) else cut_at len.0 len.1
+
+-- an operation's note. Version 1 has none
+unfoldable pub note_at : ℕ → List ℕ → Result (List ℕ × List ℕ) Refused
+note_at version bytes =
+    if version == 1 then Ok ([], bytes)
+    else (noted_at bytes >>= λ note. if is_utf8 note.0 then Ok note else refused NoteNotUtf8 (length bytes))
+
+-- an operation's own id, its kind and its note
+unfoldable pub heading_at : ℕ → Option Id → Ids → List ℕ → Result (((Id × ℕ) × List ℕ) × List ℕ) Refused
+heading_at version last seen bytes = do
   id ← own_at last seen bytes
   kind ← op_kind_at id.1
-  Ok ((id.0, kind.0), kind.1)
+  note ← note_at version kind.1
+  Ok (((id.0, kind.0), note.0), note.1)

@@ -1,5 +1,5 @@
 -- The bytes of a replica file, field by field. Numbers have four bytes, the high one first.
-use Rattle.std.specs.Prelude.{ℕ, List, [], ◌∷◌, ◌++◌, length, map, if◌then◌else◌}
+use Rattle.std.specs.Prelude.{ℕ, List, [], ◌∷◌, ◌++◌, ◌==◌, length, map, if◌then◌else◌}
 use Rattle.std.specs.List.{flat_map}
 use Rattle.std.specs.Int.{w32, to_be_bytes}
 use Rattle.std.specs.Ordering.{is_eq}
@@ -28,12 +28,16 @@ body_bytes (Enter text) = four (length text) ++ text
 body_bytes (Supersede old newer) = id_bytes old ++ id_bytes newer
 body_bytes (Retire entry) = id_bytes entry
 
-abbrev pub op_bytes : Op → List ℕ
-op_bytes o = id_bytes o.id ++ kind_byte o.body ∷ body_bytes o.body
+-- a note, with its length in one byte before it. Version 1 has none
+abbrev pub note_bytes : ℕ → List ℕ → List ℕ
+note_bytes version note = if version == 1 then [] else length note ∷ note
+
+abbrev pub op_bytes : ℕ → Op → List ℕ
+op_bytes version o = id_bytes o.id ++ kind_byte o.body ∷ (note_bytes version o.note ++ body_bytes o.body)
 
 -- a count, and the operations
-abbrev pub ops_bytes : List Op → List ℕ
-ops_bytes os = four (length os) ++ flat_map op_bytes os
+abbrev pub ops_bytes : ℕ → List Op → List ℕ
+ops_bytes version os = four (length os) ++ flat_map (op_bytes version) os
 
 -- the runs of one replica
 pub record Group : Type 0 where
@@ -78,7 +82,7 @@ head version kind = 0x43 ∷ 0x52 ∷ 0x53 ∷ 0x52 ∷ version ∷ kind ∷ []
 
 -- the file of operations by id and of the runs that were seen
 abbrev pub register_file : ℕ → List Op → List Run → List ℕ
-register_file version ops runs = head version 1 ++ (ranges_bytes (grouped runs) ++ ops_bytes ops)
+register_file version ops runs = head version 1 ++ (ranges_bytes (grouped runs) ++ ops_bytes version ops)
 
 -- the file of the runs that were seen
 abbrev pub seen_file : ℕ → List Run → List ℕ
@@ -86,8 +90,8 @@ seen_file version runs = head version 2 ++ ranges_bytes (grouped runs)
 
 -- the file of the basis's runs, and of operations by id and of the runs that were seen, without it
 abbrev pub piece_file : ℕ → List Run → List Op → List Run → List ℕ
-piece_file version basis ops runs = head version 3 ++ (ranges_bytes (grouped basis) ++ (ranges_bytes (grouped runs) ++ ops_bytes ops))
+piece_file version basis ops runs = head version 3 ++ (ranges_bytes (grouped basis) ++ (ranges_bytes (grouped runs) ++ ops_bytes version ops))
 
 -- a register's file, of the version that is written
 abbrev pub file : List Op → List Run → List ℕ
-file ops runs = register_file 1 ops runs
+file ops runs = register_file 2 ops runs

@@ -11,7 +11,6 @@ use Rattle.reg_op.specs.declared.operation.OpBody.TheVariants.{Enter, Supersede,
 use Rattle.reg_seen.specs.Runs.{seen_of}
 use Rattle.reg_op.specs.Kept.{first_dropped}
 use Rattle.wkt_crs.specs.Definition.{IsCanonicalFault}
-use Rattle.wkt_crs.specs.declared.fault.ReadFault.TheVariants as read
 use Rattle.wkt_crs.specs.declared.definition.DefinitionFault.{DefinitionFault}
 use Rattle.wkt_crs.specs.declared.definition.DefinitionFault.TheVariants as definition
 use Rattle.reg_file.specs.declared.span.Span.{Span}
@@ -58,7 +57,6 @@ ranges basis = field (number_at w32) behind groups basis
 
 -- a fault that says something of the text, other than that it is another spelling
 abbrev pub IsOfText : DefinitionFault → Type 0
-IsOfText (definition.Read read.Memory) = ⊥
 IsOfText (definition.Read f) = Unit {0}
 IsOfText definition.NotCanonical = ⊥
 IsOfText definition.Memory = ⊥
@@ -88,31 +86,31 @@ body kind = record {
   Fails = λ bytes r. FailsAs (length bytes) (body_at kind bytes) r;
 }
 
-abbrev pub headed_body : Ids → Option Id → Portion ((Id × ℕ) × Body)
-headed_body seen last = field (heading_at last seen) behind (λ x. body x.1)
+abbrev pub headed_body : ℕ → Ids → Option Id → Portion (((Id × ℕ) × List ℕ) × Body)
+headed_body version seen last = field (heading_at version last seen) behind (λ x. body x.0.1)
 
 -- an operation after the last one, of an id that was seen
-abbrev pub operation : Ids → Option Id → Portion Op
-operation seen last = record {
-  Reads = λ bytes o rest. (headed_body seen last).Reads bytes ((o.id, kind_byte o.body), o.body) rest;
-  Fails = (headed_body seen last).Fails;
+abbrev pub operation : ℕ → Ids → Option Id → Portion Op
+operation version seen last = record {
+  Reads = λ bytes o rest. (headed_body version seen last).Reads bytes (((o.id, kind_byte o.body), o.note), o.body) rest;
+  Fails = (headed_body version seen last).Fails;
 }
 
 abbrev pub id_after : Option Id → Op → Option Id
 id_after last o = Some o.id
 
-abbrev pub operations : Ids → ℕ → Portion (List Op)
-operations seen count = repeated (operation seen) id_after None count
+abbrev pub operations : ℕ → Ids → ℕ → Portion (List Op)
+operations version seen count = repeated (operation version seen) id_after None count
 
-abbrev pub counted_operations : Ids → Portion (ℕ × List Op)
-counted_operations seen = field (number_at w32) behind operations seen
+abbrev pub counted_operations : ℕ → Ids → Portion (ℕ × List Op)
+counted_operations version seen = field (number_at w32) behind operations version seen
 
 -- ---- the end
 
 -- the places of operations with these bytes after them
-abbrev pub places_of : List Op → List ℕ → List Place
-places_of [] rest = []
-places_of (o ∷ os) rest = record { id = o.id; left = length (flat_map op_bytes (o ∷ os) ++ rest) } ∷ places_of os rest
+abbrev pub places_of : ℕ → List Op → List ℕ → List Place
+places_of version [] rest = []
+places_of version (o ∷ os) rest = record { id = o.id; left = length (flat_map (op_bytes version) (o ∷ os) ++ rest) } ∷ places_of version os rest
 
 -- the place of the first one of an id
 abbrev pub left_in : List Place → Id → ℕ
@@ -127,10 +125,10 @@ abbrev pub IsTrailing : List Op → List ℕ → Refused → Type 0
 IsTrailing os rest r = (first_dropped (set.from_list {R = op_cmp} os) ≡ None) × (0 < length rest) × (r ≡ record { fault = fault.Trailing; left = length rest })
 
 -- each operation is kept, and nothing follows
-abbrev pub ending : List Op → Portion (Unit {0})
-ending os = record {
+abbrev pub ending : ℕ → List Op → Portion (Unit {0})
+ending version os = record {
   Reads = λ bytes x rest. (first_dropped (set.from_list {R = op_cmp} os) ≡ None) × (bytes ≡ []) × (rest ≡ []);
-  Fails = λ bytes r. IsDropped os (places_of os bytes) r ⊎ IsTrailing os bytes r;
+  Fails = λ bytes r. IsDropped os (places_of version os bytes) r ⊎ IsTrailing os bytes r;
 }
 
 -- nothing follows
@@ -143,38 +141,46 @@ ended = record {
 -- ---- the files
 
 -- what was seen, without the basis, and the operations
-abbrev pub seen_and_ops : Ids → Portion ((ℕ × List Group) × (ℕ × List Op))
-seen_and_ops basis = ranges basis behind (λ gs. counted_operations (seen_of (runs_of gs.1)))
+abbrev pub seen_and_ops : ℕ → Ids → Portion ((ℕ × List Group) × (ℕ × List Op))
+seen_and_ops version basis = ranges basis behind (λ gs. counted_operations version (seen_of (runs_of gs.1)))
 
-abbrev pub seen_and_kept : Ids → Portion (((ℕ × List Group) × (ℕ × List Op)) × Unit {0})
-seen_and_kept basis = seen_and_ops basis behind (λ x. ending x.1.1)
+abbrev pub seen_and_kept : ℕ → Ids → Portion (((ℕ × List Group) × (ℕ × List Op)) × Unit {0})
+seen_and_kept version basis = seen_and_ops version basis behind (λ x. ending version x.1.1)
 
 abbrev pub register : ℕ → Portion (Unit {0} × (((ℕ × List Group) × (ℕ × List Op)) × Unit {0}))
-register version = field (head_at version 1) behind (λ x. seen_and_kept set.empty)
+register version = field (head_at version 1) behind (λ x. seen_and_kept version set.empty)
 
 abbrev pub summary : ℕ → Portion (Unit {0} × ((ℕ × List Group) × Unit {0}))
 summary version = field (head_at version 2) behind (λ x. ranges set.empty behind (λ gs. ended))
 
 -- the basis, and what is without it
-abbrev pub based : Portion ((ℕ × List Group) × (((ℕ × List Group) × (ℕ × List Op)) × Unit {0}))
-based = ranges set.empty behind (λ gs. seen_and_kept (seen_of (runs_of gs.1)))
+abbrev pub based : ℕ → Portion ((ℕ × List Group) × (((ℕ × List Group) × (ℕ × List Op)) × Unit {0}))
+based version = ranges set.empty behind (λ gs. seen_and_kept version (seen_of (runs_of gs.1)))
 
 abbrev pub piece : ℕ → Portion (Unit {0} × ((ℕ × List Group) × (((ℕ × List Group) × (ℕ × List Op)) × Unit {0})))
-piece version = field (head_at version 3) behind (λ x. based)
+piece version = field (head_at version 3) behind (λ x. based version)
 
 -- the first fault of bytes that are not read, and its place
 abbrev pub FailsAt : {A : Type 0} → Portion A → List ℕ → FileFault → ℕ → Type 0
 FailsAt p bytes f place = (r : Refused) × p.Fails bytes r × (f ≡ r.fault) × (place ≡ length bytes - r.left)
 
+-- the byte of the version says that it is the first
+abbrev pub says_first : List ℕ → Bool
+says_first bytes = passes (λ version. version == 1) (slice_get bytes 4)
+
+-- the version that bytes are read as: the first one where they say so, and else that which is written
+abbrev pub version_in : List ℕ → ℕ
+version_in bytes = if says_first bytes then 1 else 2
+
 -- the first fault of bytes that are no file of a register; of a summary; of a piece
 abbrev pub HasFault : List ℕ → FileFault → ℕ → Type 0
-HasFault bytes f place = FailsAt (register 1) bytes f place
+HasFault bytes f place = FailsAt (register (version_in bytes)) bytes f place
 
 abbrev pub HasSeenFault : List ℕ → FileFault → ℕ → Type 0
-HasSeenFault bytes f place = FailsAt (summary 1) bytes f place
+HasSeenFault bytes f place = FailsAt (summary (version_in bytes)) bytes f place
 
 abbrev pub HasPieceFault : List ℕ → FileFault → ℕ → Type 0
-HasPieceFault bytes f place = FailsAt (piece 1) bytes f place
+HasPieceFault bytes f place = FailsAt (piece (version_in bytes)) bytes f place
 
 -- the byte of the kind says that it is a piece
 abbrev pub says_piece : List ℕ → Bool

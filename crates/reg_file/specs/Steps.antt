@@ -2,7 +2,8 @@
 use Rattle.std.specs.Prelude.{◌≡◌, ◌⊎◌, ◌+◌, ◌<◌, ◌≤◌, ℕ, true, false, map, Option, Some, None, List, [], ◌∷◌, length, Result, Ok}
 use Rattle.reg_op.specs.Set as set
 use Rattle.reg_op.specs.Ids.{Id, Ids}
-use Rattle.reg_op.specs.Operations.{Op}
+use Rattle.reg_op.specs.Operations.{Op, op_cmp}
+use Rattle.reg_op.specs.Kept.{first_dropped}
 use Rattle.reg_op.specs.Contents.{Content, IsContent}
 use Rattle.reg_op.specs.Pieces.{Piece, part_of, IsPiece}
 use Rattle.reg_op.specs.Lists.{has, ById, content_at}
@@ -21,7 +22,7 @@ use Rattle.reg_file.specs.declared.span.Span.{Span}
 use Rattle.reg_file.specs.Layout.{Group, run_at, runs_of}
 use Rattle.reg_file.specs.Fields.{head_at}
 use Rattle.reg_file.specs.Readers.{ReadsEach, state_after}
-use Rattle.reg_file.specs.Reading.{IsUnfit, FailsAs, span, floor_after, spans, group, groups, replica_after, ranges, places_of, left_in, IsDropped, IsTrailing, ending, seen_and_ops, seen_and_kept}
+use Rattle.reg_file.specs.Reading.{IsUnfit, FailsAs, span, floor_after, spans, group, groups, replica_after, ranges, places_of, left_in, IsDropped, IsTrailing, seen_and_ops, seen_and_kept}
 
 -- a text that is no definition, after a body that begins with so many bytes left
 abbrev pub StopsInText : List ℕ → ℕ → Stop → Type 0
@@ -98,7 +99,8 @@ pub record IsAddingGroups (basis now : Ids) (bytes rest : List ℕ) (last : Opti
 
 -- the operations are a content's, and nothing follows
 pub record EndsWell (os : List Op) (seen : Ids) (rest : List ℕ) (x : Content) : Type 0 where
-  pub reads : (ending os).Reads rest tt []
+  pub none_dropped : first_dropped (set.from_list {R = op_cmp} os) ≡ None
+  pub over : rest ≡ []
   pub is : x ≡ content_at os seen
   pub content : IsContent x
 
@@ -115,52 +117,52 @@ IsStopOf content.Memory places s = s ≡ stop.Memory
 -- ---- behind the head
 
 -- what was seen, without the basis, and operations that may stand after each other: by id, and each of them seen
-pub record ReadsOps (basis : Ids) (bytes : List ℕ) (os : List Op) (places : List Place) (seen : Ids) (rest : List ℕ) : Type 0 where
+pub record ReadsOps (version : ℕ) (basis : Ids) (bytes : List ℕ) (os : List Op) (places : List Place) (seen : Ids) (rest : List ℕ) : Type 0 where
   pub replicas : ℕ
   pub groups : List Group
   pub count : ℕ
-  pub reads : (seen_and_ops basis).Reads bytes ((replicas, groups), (count, os)) rest
+  pub reads : (seen_and_ops version basis).Reads bytes ((replicas, groups), (count, os)) rest
   pub ids : seen ≡ seen_of (runs_of groups)
-  pub places_are : places ≡ places_of os rest
+  pub places_are : places ≡ places_of version os rest
   pub by_id : ById os
   pub are_seen : (o : Op) → has os o ≡ true → set.contains seen o.id ≡ true
   pub apart : (i : Id) → set.contains seen i ≡ true → set.contains basis i ≡ false
 
 -- a content was read, and nothing follows
-pub record ReadsKept (basis : Ids) (bytes : List ℕ) (x : Content) : Type 0 where
+pub record ReadsKept (version : ℕ) (basis : Ids) (bytes : List ℕ) (x : Content) : Type 0 where
   pub replicas : ℕ
   pub groups : List Group
   pub count : ℕ
   pub ops : List Op
-  pub reads : (seen_and_kept basis).Reads bytes (((replicas, groups), (count, ops)), tt) []
+  pub reads : (seen_and_kept version basis).Reads bytes (((replicas, groups), (count, ops)), tt) []
   pub is : x ≡ content_at ops (seen_of (runs_of groups))
   pub content : IsContent x
 
 -- ---- whole files
 
-pub record ReadsContent (bytes : List ℕ) (x : Content) : Type 0 where
+pub record ReadsContent (version : ℕ) (bytes : List ℕ) (x : Content) : Type 0 where
   pub rest : List ℕ
-  pub head : head_at 1 1 bytes ≡ Ok (tt, rest)
-  pub kept : ReadsKept set.empty rest x
+  pub head : head_at version 1 bytes ≡ Ok (tt, rest)
+  pub kept : ReadsKept version set.empty rest x
 
 -- the ids that were seen were read, and nothing follows
-pub record ReadsSummary (bytes : List ℕ) (ids : Ids) : Type 0 where
+pub record ReadsSummary (version : ℕ) (bytes : List ℕ) (ids : Ids) : Type 0 where
   pub rest : List ℕ
-  pub head : head_at 1 2 bytes ≡ Ok (tt, rest)
+  pub head : head_at version 2 bytes ≡ Ok (tt, rest)
   pub seen : ReadsSeen set.empty rest ids []
   pub are_ids : AllIds ids
 
 -- a basis was read, and then a content without it
-pub record ReadsBased (bytes : List ℕ) (p : Piece) : Type 0 where
+pub record ReadsBased (version : ℕ) (bytes : List ℕ) (p : Piece) : Type 0 where
   pub rest : List ℕ
   pub basis : ReadsSeen set.empty bytes p.basis rest
-  pub kept : ReadsKept p.basis rest (part_of p)
+  pub kept : ReadsKept version p.basis rest (part_of p)
   pub piece : IsPiece p
 
-pub record ReadsPiece (bytes : List ℕ) (p : Piece) : Type 0 where
+pub record ReadsPiece (version : ℕ) (bytes : List ℕ) (p : Piece) : Type 0 where
   pub rest : List ℕ
-  pub head : head_at 1 3 bytes ≡ Ok (tt, rest)
-  pub based : ReadsBased rest p
+  pub head : head_at version 3 bytes ≡ Ok (tt, rest)
+  pub based : ReadsBased version rest p
 
 -- a piece has the basis, and the operations are its content's, and nothing follows
 pub record EndsPiece (os : List Op) (basis seen : Ids) (rest : List ℕ) (p : Piece) : Type 0 where

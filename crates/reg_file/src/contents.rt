@@ -21,11 +21,12 @@ use std::alloc::Global;
 pub fn seen_and_ops_of<'a>(
     alloc: Global,
     known: &[Register],
+    version: u8,
     basis: &Seen,
     bytes: &'a [u8],
 ) -> Result<(Vec<Op>, Vec<Place>, Seen, &'a [u8]), Stop>
-    ensures ok { IfOk result (λ x. ReadsOps basis.now bytes.now x.0.items x.1.items x.2 x.3.now) }
-    ensures err { IfErr result (StopsIn (seen_and_ops basis.now) bytes.now) }
+    ensures ok { IfOk result (λ x. ReadsOps version basis.now bytes.now x.0.items x.1.items x.2 x.3.now) }
+    ensures err { IfErr result (StopsIn (seen_and_ops version basis.now) bytes.now) }
 {
     let (seen, rest) = match seen_of(alloc, basis, bytes) {
         Ok(read) => read,
@@ -35,7 +36,7 @@ pub fn seen_and_ops_of<'a>(
         Ok(read) => read,
         Err(stop) => return Err(stop),
     };
-    let (ops, places, rest) = match ops_of(alloc, known, &seen, count, rest) {
+    let (ops, places, rest) = match ops_of(alloc, known, version, &seen, count, rest) {
         Ok(read) => read,
         Err(stop) => return Err(stop),
     };
@@ -80,13 +81,14 @@ fn register_of(
 pub fn kept_of(
     alloc: Global,
     known: &[Register],
+    version: u8,
     basis: &Seen,
     bytes: &[u8],
 ) -> Result<Register, Stop>
-    ensures ok { IfOk result (λ r. ReadsKept basis.now bytes.now r) }
-    ensures err { IfErr result (StopsIn (seen_and_kept basis.now) bytes.now) }
+    ensures ok { IfOk result (λ r. ReadsKept version basis.now bytes.now r) }
+    ensures err { IfErr result (StopsIn (seen_and_kept version basis.now) bytes.now) }
 {
-    let (ops, places, seen, rest) = match seen_and_ops_of(alloc, known, basis, bytes) {
+    let (ops, places, seen, rest) = match seen_and_ops_of(alloc, known, version, basis, bytes) {
         Ok(read) => read,
         Err(stop) => return Err(stop),
     };

@@ -3,6 +3,7 @@
 ghost use Rattle.std.specs.Prelude.{◌≡◌};
 ghost use Rattle.reg_file.specs.declared.fault.Stop.TheVariants.{Memory};
 
+use reg_op::OpId;
 use std::alloc::{AllocError, AllocFailed};
 use wkt_crs::DefinitionFault;
 
@@ -21,6 +22,9 @@ pub enum FileFault {
     /// An id, its own or a named one, has the count 0.
     OpIdBad,
     OpKind,
+    /// A note has more than 200 bytes.
+    NoteTooLong,
+    NoteNotUtf8,
     NotSeen,
     SameEntry,
     Definition(DefinitionFault),
@@ -50,6 +54,14 @@ pub enum WriteFileFault {
     /// The sink failed, or took nothing, after this many bytes.
     WriteFailed(usize),
     Memory,
+}
+
+/// Why a file of version 1 was not written.
+#[derive(Clone, Copy, Debug, PartialEq, Eq)]
+pub enum FirstFileFault {
+    /// The least id of an operation with a note, for which that version has no room.
+    HasNote(OpId),
+    Write(WriteFileFault),
 }
 
 /// A fault, and how many bytes there are from its place on.

@@ -3,17 +3,22 @@
 ghost use Rattle.std.specs.Prelude.{◌≡◌, ◌≤◌, ℕ, List, length};
 ghost use Rattle.std.specs.Int.{w32};
 ghost use Rattle.reg_op.specs.Ids.{Id};
-ghost use Rattle.reg_file.specs.Fields.{Gives, byte_at, cut_at, count_at, group_at, head_at, heading_at, id_at, is_above, is_after, is_unfit, kind_at, number_at, op_kind_at, own_at, pair_at, replica_at, span_at, text_at, version_at};
+ghost use Rattle.reg_file.specs.Fields.{Gives, byte_at, cut_at, count_at, group_at, head_at, heading_at, id_at, is_above, is_after, is_unfit, kind_at, note_at, noted_at, number_at, op_kind_at, own_at, pair_at, replica_at, span_at, text_at, version_at};
 
 use crate::fault::{FileFault, Refused, Stop};
+use crate::heads::FIRST_VERSION;
 use crate::span::Span;
-use reg_op::OpId;
+use reg_op::{Note, NoteFault, OpId};
 use reg_state::{Run, Seen};
+use std::alloc::Global;
 use uuid::Uuid;
 use wkt_crs::DefinitionFault;
 
 /// The most bytes of a definition's text.
 const MOST_TEXT: u32 = 65_536;
+
+/// The most bytes of a note.
+const MOST_NOTE: u8 = 200;
 
 pub fn refused(fault: FileFault, left: usize) -> Stop
     ensures { result ≡ Stop.Refused (record { fault = fault; left = left }) }
@@ -172,21 +177,59 @@ fn op_kind_of(bytes: &[u8]) -> Result<(u8, &[u8]), Stop>
     Ok((kind, rest))
 }
 
-/// An operation's own id, after the last one and seen, and its kind, from 1 to 3.
+// The bytes of a note, whose number stands before them.
+#[tactic(auto, unfolding(crate::specs::Fields::noted_at))]
+fn noted_of(bytes: &[u8]) -> Result<(&[u8], &[u8]), Stop>
+    ensures { Gives (λ x. (x.0.now, x.1.now)) result (noted_at bytes.now) }
+{
+    let (len, rest) = byte_of(bytes)?;
+    if len > MOST_NOTE {
+        return Err(refused(FileFault::NoteTooLong, bytes.len()));
+    }
+    cut_of(usize::from(len), rest)
+}
+
+// An operation's note, for which the first version has no room.
+#[tactic(auto, unfolding(crate::specs::Fields::note_at))]
+fn note_of(alloc: Global, version: u8, bytes: &[u8]) -> Result<(Note, &[u8]), Stop>
+    ensures { Gives (λ x. (x.0, x.1.now)) result (note_at version bytes.now) }
+{
+    if version == FIRST_VERSION {
+        return Ok((Note::empty(), bytes));
+    }
+    let (noted, rest) = match noted_of(bytes) {
+        Ok(read) => read,
+        Err(stop) => return Err(stop),
+    };
+    match Note::new(alloc, noted) {
+        Ok(note) => Ok((note, rest)),
+        Err(NoteFault::Memory) => Err(Stop::Memory),
+        Err(NoteFault::NoteNotUtf8) => Err(refused(FileFault::NoteNotUtf8, bytes.len())),
+        Err(NoteFault::NoteTooLong) => unreachable!(),
+    }
+}
+
+/// An operation's own id, after the last one and seen, its kind, from 1 to 3, and its note.
 #[tactic(auto, unfolding(crate::specs::Fields::heading_at))]
 pub fn heading_of<'a>(
+    alloc: Global,
+    version: u8,
     last: Option<OpId>,
     seen: &Seen,
     bytes: &'a [u8],
-) -> Result<((OpId, u8), &'a [u8]), Stop>
-    ensures { Gives (λ x. (x.0, x.1.now)) result (heading_at last seen.now bytes.now) }
+) -> Result<(((OpId, u8), Note), &'a [u8]), Stop>
+    ensures { Gives (λ x. (x.0, x.1.now)) result (heading_at version last seen.now bytes.now) }
 {
     let (id, rest) = match own_of(last, seen, bytes) {
         Ok(read) => read,
         Err(stop) => return Err(stop),
     };
     let (kind, rest) = op_kind_of(rest)?;
-    Ok(((id, kind), rest))
+    let (note, rest) = match note_of(alloc, version, rest) {
+        Ok(read) => read,
+        Err(stop) => return Err(stop),
+    };
+    Ok((((id, kind), note), rest))
 }
 
 /// A definition's text, whose length stands before it.

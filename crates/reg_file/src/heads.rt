@@ -1,10 +1,16 @@
 //! What all files have at their head, and how long one may be.
 
+ghost use Rattle.std.specs.Prelude.{◌≡◌};
+ghost use Rattle.reg_file.specs.Reading.{says_first, version_in};
+
 /// The most bytes of a file.
 pub const MOST: usize = 67_108_864;
 
-/// The version that is read and written.
-pub const VERSION: u8 = 1;
+/// The version that is written.
+pub const VERSION: u8 = 2;
+
+/// The version before it, which has no notes. It is read, and written where it is asked for.
+pub const FIRST_VERSION: u8 = 1;
 
 /// The kind of a register's file.
 pub const REGISTER: u8 = 1;
@@ -14,3 +20,22 @@ pub const SEEN: u8 = 2;
 
 /// The kind of a piece's file.
 pub const PIECE: u8 = 3;
+
+fn says_first(bytes: &[u8]) -> bool
+    ensures { result ≡ says_first bytes.now }
+{
+    match bytes.get(4) {
+        Some(version) => *version == FIRST_VERSION,
+        None => false,
+    }
+}
+
+/// The version that bytes are read as: the first one where they say so, and else that which is written.
+pub fn version_in(bytes: &[u8]) -> u8
+    ensures { result ≡ version_in bytes.now }
+{
+    if says_first(bytes) {
+        return FIRST_VERSION;
+    }
+    VERSION
+}

@@ -7,34 +7,41 @@ ghost use Rattle.reg_op.specs.Pieces.{Piece, IsPiece};
 ghost use Rattle.reg_seen.specs.Runs.{AllIds};
 ghost use Rattle.reg_file.specs.declared.fault.FileFault.{FileFault};
 ghost use Rattle.reg_file.specs.Reading.{HasFault, HasPartFault, HasPieceFault, HasSeenFault};
-ghost use Rattle.reg_file.specs.Files.{Holds, HoldsPiece, HoldsSeen, IsFileOf, IsPieceFileOf, IsSeenFileOf};
+ghost use Rattle.reg_file.specs.Files.{Holds, HoldsFirst, HoldsFirstPiece, HoldsFirstSeen, HoldsPiece, HoldsSeen, IsFileIn, IsPieceFileIn, IsSeenFileIn, ReadsAs, ReadsAsPiece, ReadsAsSeen};
 
-/// A file has one content, a summary one set of ids, and a piece's file one piece.
+/// A file of either version has one content, a summary one set of ids, and a piece's file one piece.
 pub fn one_content()
-    ensures register { (bytes : List ℕ) (x y : Content) → Holds bytes x → Holds bytes y → x ≡ y }
-    ensures seen { (bytes : List ℕ) (x y : Ids) → HoldsSeen bytes x → HoldsSeen bytes y → x ≡ y }
-    ensures piece { (bytes : List ℕ) (p q : Piece) → HoldsPiece bytes p → HoldsPiece bytes q → p ≡ q }
+    ensures register { (bytes : List ℕ) (x y : Content) → ReadsAs bytes x → ReadsAs bytes y → x ≡ y }
+    ensures seen { (bytes : List ℕ) (x y : Ids) → ReadsAsSeen bytes x → ReadsAsSeen bytes y → x ≡ y }
+    ensures piece { (bytes : List ℕ) (p q : Piece) → ReadsAsPiece bytes p → ReadsAsPiece bytes q → p ≡ q }
 {}
 
-/// A content has one file, and so have the ids that were seen, and a piece.
+/// No bytes are files of both versions.
+pub fn one_version()
+    ensures register { (bytes : List ℕ) (x y : Content) → Holds bytes x → HoldsFirst bytes y → ⊥ }
+    ensures seen { (bytes : List ℕ) (x y : Ids) → HoldsSeen bytes x → HoldsFirstSeen bytes y → ⊥ }
+    ensures piece { (bytes : List ℕ) (p q : Piece) → HoldsPiece bytes p → HoldsFirstPiece bytes q → ⊥ }
+{}
+
+/// A content has one file in a version, and so have the ids that were seen, and a piece.
 pub fn one_file()
-    ensures register { (x : Content) (bytes others : List ℕ) → IsFileOf x bytes → IsFileOf x others → bytes ≡ others }
-    ensures seen { (ids : Ids) (bytes others : List ℕ) → IsSeenFileOf ids bytes → IsSeenFileOf ids others → bytes ≡ others }
-    ensures piece { (p : Piece) (bytes others : List ℕ) → IsPieceFileOf p bytes → IsPieceFileOf p others → bytes ≡ others }
+    ensures register { (version : ℕ) (x : Content) (bytes others : List ℕ) → IsFileIn version x bytes → IsFileIn version x others → bytes ≡ others }
+    ensures seen { (version : ℕ) (ids : Ids) (bytes others : List ℕ) → IsSeenFileIn version ids bytes → IsSeenFileIn version ids others → bytes ≡ others }
+    ensures piece { (version : ℕ) (p : Piece) (bytes others : List ℕ) → IsPieceFileIn version p bytes → IsPieceFileIn version p others → bytes ≡ others }
 {}
 
-/// Each content has a file, and so have all ids, and each piece.
+/// Each content has a file in a version, and so have all ids, and each piece.
 pub fn each_has_a_file()
-    ensures register { (x : Content) → IsContent x → (bytes : List ℕ) × IsFileOf x bytes }
-    ensures seen { (ids : Ids) → AllIds ids → (bytes : List ℕ) × IsSeenFileOf ids bytes }
-    ensures piece { (p : Piece) → IsPiece p → (bytes : List ℕ) × IsPieceFileOf p bytes }
+    ensures register { (version : ℕ) (x : Content) → IsContent x → (bytes : List ℕ) × IsFileIn version x bytes }
+    ensures seen { (version : ℕ) (ids : Ids) → AllIds ids → (bytes : List ℕ) × IsSeenFileIn version ids bytes }
+    ensures piece { (version : ℕ) (p : Piece) → IsPiece p → (bytes : List ℕ) × IsPieceFileIn version p bytes }
 {}
 
-/// Bytes that hold something of a kind have no fault of that kind.
+/// Bytes that are read as something of a kind have no fault of that kind.
 pub fn held_or_fault()
-    ensures register { (bytes : List ℕ) (x : Content) (f : FileFault) (place : ℕ) → Holds bytes x → HasFault bytes f place → ⊥ }
-    ensures seen { (bytes : List ℕ) (ids : Ids) (f : FileFault) (place : ℕ) → HoldsSeen bytes ids → HasSeenFault bytes f place → ⊥ }
-    ensures piece { (bytes : List ℕ) (p : Piece) (f : FileFault) (place : ℕ) → HoldsPiece bytes p → HasPieceFault bytes f place → ⊥ }
+    ensures register { (bytes : List ℕ) (x : Content) (f : FileFault) (place : ℕ) → ReadsAs bytes x → HasFault bytes f place → ⊥ }
+    ensures seen { (bytes : List ℕ) (ids : Ids) (f : FileFault) (place : ℕ) → ReadsAsSeen bytes ids → HasSeenFault bytes f place → ⊥ }
+    ensures piece { (bytes : List ℕ) (p : Piece) (f : FileFault) (place : ℕ) → ReadsAsPiece bytes p → HasPieceFault bytes f place → ⊥ }
 {}
 
 /// Bytes have one first fault of a kind, at one place.
@@ -47,7 +54,7 @@ pub fn one_first_fault()
 
 /// No bytes are files of two kinds.
 pub fn one_kind()
-    ensures register_or_seen { (bytes : List ℕ) (x : Content) (ids : Ids) → Holds bytes x → HoldsSeen bytes ids → ⊥ }
-    ensures register_or_piece { (bytes : List ℕ) (x : Content) (p : Piece) → Holds bytes x → HoldsPiece bytes p → ⊥ }
-    ensures seen_or_piece { (bytes : List ℕ) (ids : Ids) (p : Piece) → HoldsSeen bytes ids → HoldsPiece bytes p → ⊥ }
+    ensures register_or_seen { (bytes : List ℕ) (x : Content) (ids : Ids) → ReadsAs bytes x → ReadsAsSeen bytes ids → ⊥ }
+    ensures register_or_piece { (bytes : List ℕ) (x : Content) (p : Piece) → ReadsAs bytes x → ReadsAsPiece bytes p → ⊥ }
+    ensures seen_or_piece { (bytes : List ℕ) (ids : Ids) (p : Piece) → ReadsAsSeen bytes ids → ReadsAsPiece bytes p → ⊥ }
 {}

@@ -3,11 +3,11 @@
 ghost use Rattle.std.specs.Prelude.{◌≡◌, ◌≤◌, ◌<◌, ◌+◌, length, IfSome, IfNone};
 ghost use Rattle.std.specs.List.{flat_map};
 ghost use Rattle.reg_seen.specs.Runs.{AreRuns, EndInIds};
-ghost use Rattle.reg_file.specs.Layout.{grouped, op_bytes, piece_file, ranges_bytes, register_file, seen_file};
+ghost use Rattle.reg_file.specs.Layout.{body_bytes, grouped, note_bytes, op_bytes, piece_file, ranges_bytes, register_file, seen_file};
 
-use crate::heads::MOST;
+use crate::heads::{FIRST_VERSION, MOST, VERSION};
 use crate::spelling::replicas_of;
-use reg_op::{Op, OpBody};
+use reg_op::{Note, Op, OpBody};
 use reg_state::Run;
 
 /// The bytes of a head.
@@ -16,28 +16,52 @@ const HEAD: usize = 6;
 /// The bytes of a count.
 const COUNT: usize = 4;
 
-fn size_of(op: &Op) -> usize
-    ensures value { result ≡ length (op_bytes op.now) }
-    ensures bound { result ≤ 65561 }
+// How many bytes a note takes in a version.
+fn size_of_note(version: u8, note: &Note) -> usize
+    ensures value { result ≡ length (note_bytes version note.now) }
+    ensures bound { result ≤ 201 }
 {
-    let _id = op.id();
-    match op.body() {
-        OpBody::Enter(definition) => 25 + definition.as_bytes().len(),
-        OpBody::Supersede { old: _, newer: _ } => 61,
-        OpBody::Retire { entry: _ } => 41,
+    if version == FIRST_VERSION {
+        return 0;
+    }
+    1 + note.as_bytes().len()
+}
+
+fn size_of_body(body: &OpBody) -> usize
+    ensures value { result ≡ length (body_bytes body.now) }
+    ensures bound { result ≤ 65540 }
+{
+    match body {
+        OpBody::Enter(definition) => COUNT + definition.as_bytes().len(),
+        OpBody::Supersede { old, newer } => {
+            let _ids = (old.count(), newer.count());
+            40
+        }
+        OpBody::Retire { entry } => {
+            let _id = entry.count();
+            20
+        }
     }
 }
 
+fn size_of(version: u8, op: &Op) -> usize
+    ensures value { result ≡ length (op_bytes version op.now) }
+    ensures bound { result ≤ 65762 }
+{
+    let _id = op.id();
+    21 + size_of_note(version, op.note()) + size_of_body(op.body())
+}
+
 // So many bytes and those of the operations, where they are not too many.
-fn add_sizes(size: usize, ops: &[Op]) -> Option<usize>
+fn add_sizes(size: usize, version: u8, ops: &[Op]) -> Option<usize>
     requires { size ≤ MOST }
-    ensures some { IfSome result (λ n. (n ≡ size + length (flat_map op_bytes ops.now)) × (n ≤ MOST)) }
-    ensures none { IfNone result (MOST < size + length (flat_map op_bytes ops.now)) }
+    ensures some { IfSome result (λ n. (n ≡ size + length (flat_map (op_bytes version) ops.now)) × (n ≤ MOST)) }
+    ensures none { IfNone result (MOST < size + length (flat_map (op_bytes version) ops.now)) }
 {
     let mut total = size;
     let mut rest = ops;
     while let Some((op, others)) = rest.split_first() {
-        total += size_of(op);
+        total += size_of(version, op);
         if total > MOST {
             return None;
         }
@@ -65,16 +89,16 @@ fn add_ranges(size: usize, runs: &[Run]) -> Option<usize>
 }
 
 /// How many bytes a register's file has, where they are not too many.
-pub fn length_of_register(ops: &[Op], runs: &[Run]) -> Option<usize>
+pub fn length_of_register(version: u8, ops: &[Op], runs: &[Run]) -> Option<usize>
     requires runs { AreRuns runs.now }
     requires ids { EndInIds runs.now }
-    ensures some { IfSome result (λ n. (n ≡ length (register_file 1 ops.now runs.now)) × (n ≤ MOST)) }
-    ensures none { IfNone result (MOST < length (register_file 1 ops.now runs.now)) }
+    ensures some { IfSome result (λ n. (n ≡ length (register_file version ops.now runs.now)) × (n ≤ MOST)) }
+    ensures none { IfNone result (MOST < length (register_file version ops.now runs.now)) }
 {
     let Some(size) = add_ranges(HEAD + COUNT, runs) else {
         return None;
     };
-    match add_sizes(size, ops) {
+    match add_sizes(size, version, ops) {
         Some(total) => Some(total),
         None => None,
     }
@@ -84,8 +108,8 @@ pub fn length_of_register(ops: &[Op], runs: &[Run]) -> Option<usize>
 pub fn length_of_seen(runs: &[Run]) -> Option<usize>
     requires runs { AreRuns runs.now }
     requires ids { EndInIds runs.now }
-    ensures some { IfSome result (λ n. (n ≡ length (seen_file 1 runs.now)) × (n ≤ MOST)) }
-    ensures none { IfNone result (MOST < length (seen_file 1 runs.now)) }
+    ensures some { IfSome result (λ n. (n ≡ length (seen_file 2 runs.now)) × (n ≤ MOST)) }
+    ensures none { IfNone result (MOST < length (seen_file 2 runs.now)) }
 {
     match add_ranges(HEAD, runs) {
         Some(total) => Some(total),
@@ -97,8 +121,8 @@ pub fn length_of_seen(runs: &[Run]) -> Option<usize>
 pub fn length_of_piece(basis: &[Run], ops: &[Op], runs: &[Run]) -> Option<usize>
     requires basis { AreRuns basis.now × EndInIds basis.now }
     requires runs { AreRuns runs.now × EndInIds runs.now }
-    ensures some { IfSome result (λ n. (n ≡ length (piece_file 1 basis.now ops.now runs.now)) × (n ≤ MOST)) }
-    ensures none { IfNone result (MOST < length (piece_file 1 basis.now ops.now runs.now)) }
+    ensures some { IfSome result (λ n. (n ≡ length (piece_file 2 basis.now ops.now runs.now)) × (n ≤ MOST)) }
+    ensures none { IfNone result (MOST < length (piece_file 2 basis.now ops.now runs.now)) }
 {
     let Some(front) = add_ranges(HEAD + COUNT, basis) else {
         return None;
@@ -106,7 +130,7 @@ pub fn length_of_piece(basis: &[Run], ops: &[Op], runs: &[Run]) -> Option<usize>
     let Some(size) = add_ranges(front, runs) else {
         return None;
     };
-    match add_sizes(size, ops) {
+    match add_sizes(size, VERSION, ops) {
         Some(total) => Some(total),
         None => None,
     }

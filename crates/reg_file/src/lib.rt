@@ -5,6 +5,7 @@
 mod contents;
 mod fault;
 mod fields;
+mod first;
 mod heads;
 pub mod laws;
 mod length;
@@ -19,7 +20,8 @@ mod spelling;
 mod summaries;
 mod writing;
 
-pub use fault::{FileFault, ReadFileFault, WriteFileFault};
+pub use fault::{FileFault, FirstFileFault, ReadFileFault, WriteFileFault};
+pub use first::{write_first_bytes, write_first_register};
 pub use parts::{Part, read_part, read_part_beside, read_part_bytes};
 pub use pieces::{read_piece, read_piece_beside, read_piece_bytes, write_piece, write_piece_bytes};
 pub use reading::{read_bytes, read_register, read_register_beside};

@@ -12,7 +12,7 @@ use crate::place::Place;
 use reg_op::{Op, OpBody, OpId, SameEntry};
 use reg_state::{Register, Seen};
 use std::alloc::Global;
-use wkt_crs::{Definition, DefinitionFault, ReadFault};
+use wkt_crs::{Definition, DefinitionFault};
 
 /// The definition with this text that is known, where it has the text.
 fn known_as(alloc: Global, known: Option<&Definition>, text: &[u8]) -> Option<Definition>
@@ -45,7 +45,6 @@ fn definition_of(
     match Definition::from_canonical(alloc, text) {
         Ok(definition) => Ok(definition),
         Err(DefinitionFault::Memory) => Err(Stop::Memory),
-        Err(DefinitionFault::Read(ReadFault::Memory)) => Err(Stop::Memory),
         Err(DefinitionFault::NotCanonical) => Err(refused(FileFault::NotCanonical, left)),
         Err(fault) => Err(refused(FileFault::Definition(fault), left)),
     }
@@ -119,23 +118,24 @@ fn entered_in(known: &[Register], id: OpId) -> Option<&Definition> {
 fn op_of<'a>(
     alloc: Global,
     known: &[Register],
+    version: u8,
     last: Option<OpId>,
     seen: &Seen,
     bytes: &'a [u8],
 ) -> Result<(Op, &'a [u8]), Stop>
-    ensures ok { IfOk result (λ x. (operation seen.now last).Reads bytes.now x.0 x.1.now) }
-    ensures err { IfErr result (StopsIn (operation seen.now last) bytes.now) }
+    ensures ok { IfOk result (λ x. (operation version seen.now last).Reads bytes.now x.0 x.1.now) }
+    ensures err { IfErr result (StopsIn (operation version seen.now last) bytes.now) }
 {
-    let (heading, rest) = match heading_of(last, seen, bytes) {
+    let (heading, rest) = match heading_of(alloc, version, last, seen, bytes) {
         Ok(read) => read,
         Err(stop) => return Err(stop),
     };
-    let (id, kind) = heading;
+    let ((id, kind), note) = heading;
     let (body, rest) = match body_of(alloc, entered_in(known, id), kind, rest) {
         Ok(read) => read,
         Err(stop) => return Err(stop),
     };
-    match Op::new(id, body) {
+    match Op::new(id, body, note) {
         Ok(op) => {
             let _id = op.id();
             Ok((op, rest))
@@ -148,19 +148,20 @@ fn op_of<'a>(
 pub fn ops_of<'a>(
     alloc: Global,
     known: &[Register],
+    version: u8,
     seen: &Seen,
     count: u32,
     bytes: &'a [u8],
 ) -> Result<(Vec<Op>, Vec<Place>, &'a [u8]), Stop>
-    ensures ok { IfOk result (λ x. (operations seen.now count).Reads bytes.now x.0.items x.2.now × (x.1.items ≡ places_of x.0.items x.2.now)) }
-    ensures err { IfErr result (StopsIn (operations seen.now count) bytes.now) }
+    ensures ok { IfOk result (λ x. (operations version seen.now count).Reads bytes.now x.0.items x.2.now × (x.1.items ≡ places_of version x.0.items x.2.now)) }
+    ensures err { IfErr result (StopsIn (operations version seen.now count) bytes.now) }
 {
     let mut ops = Vec::new(alloc);
     let mut places = Vec::new(alloc);
     let mut last = None;
     let mut rest = bytes;
     for _ in 0..count {
-        let (op, after) = match op_of(alloc, known, last, seen, rest) {
+        let (op, after) = match op_of(alloc, known, version, last, seen, rest) {
             Ok(read) => read,
             Err(stop) => return Err(stop),
         };

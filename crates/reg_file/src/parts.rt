@@ -3,7 +3,7 @@
 ghost use Rattle.std.specs.Prelude.{◌≡◌, ◌⊎◌, Ok, Err, IfOk, IfErr};
 ghost use Rattle.reg_file.specs.declared.parts.Part.{Part as PartValue};
 ghost use Rattle.reg_file.specs.Reading.{says_piece};
-ghost use Rattle.reg_file.specs.Parts.{FindsPart, HoldsPart, IsPartReadFault, IsPartReadFromFault};
+ghost use Rattle.reg_file.specs.Parts.{FindsPart, IsPartReadFault, IsPartReadFromFault, ReadsAsPart};
 
 use crate::fault::ReadFileFault;
 use crate::heads::{MOST, PIECE};
@@ -31,10 +31,10 @@ fn says_piece(bytes: &[u8]) -> bool
 
 /// Reads a register or a piece from all of a file's bytes: a piece where the byte of the kind says so.
 pub fn read_part_bytes(alloc: Global, bytes: &[u8]) -> Result<Part, ReadFileFault>
-    // What is read is what the bytes hold.
-    ensures found { IfOk result (λ part. HoldsPart bytes.now part) }
-    // Bytes that hold a register or a piece are read, unless memory runs out.
-    ensures only { (part : PartValue) → HoldsPart bytes.now part → (result ≡ Ok part) ⊎ (result ≡ Err ReadFileFault.Memory) }
+    // What is read is what the bytes are a file of.
+    ensures found { IfOk result (λ part. ReadsAsPart bytes.now part) }
+    // A register's or a piece's file is read, unless memory runs out.
+    ensures only { (part : PartValue) → ReadsAsPart bytes.now part → (result ≡ Ok part) ⊎ (result ≡ Err ReadFileFault.Memory) }
     // Which fault it is: a piece's where the bytes say that they are one, and else a register's.
     ensures fault { IfErr result (IsPartReadFault bytes.now) }
 {
@@ -48,8 +48,8 @@ fn read_part_bytes_beside(
     known: &[Register],
     bytes: &[u8],
 ) -> Result<Part, ReadFileFault>
-    ensures found { IfOk result (λ part. HoldsPart bytes.now part) }
-    ensures only { (part : PartValue) → HoldsPart bytes.now part → (result ≡ Ok part) ⊎ (result ≡ Err ReadFileFault.Memory) }
+    ensures found { IfOk result (λ part. ReadsAsPart bytes.now part) }
+    ensures only { (part : PartValue) → ReadsAsPart bytes.now part → (result ≡ Ok part) ⊎ (result ≡ Err ReadFileFault.Memory) }
     ensures fault { IfErr result (IsPartReadFault bytes.now) }
 {
     if says_piece(bytes) {

@@ -8,14 +8,14 @@ ghost use Rattle.reg_op.specs.Lists.{has, ById};
 ghost use Rattle.reg_op.specs.Pieces.{Piece as PieceValue};
 ghost use Rattle.reg_file.specs.Layout.{piece_file};
 ghost use Rattle.reg_file.specs.Readers.{StopsIn};
-ghost use Rattle.reg_file.specs.Reading.{based, piece};
+ghost use Rattle.reg_file.specs.Reading.{based, piece, version_in};
 ghost use Rattle.reg_file.specs.Steps.{EndsPiece, ReadsBased, ReadsPiece, StopsAtEnd};
-ghost use Rattle.reg_file.specs.Files.{FindsPiece, HoldsPiece, IsPieceReadFault, IsPieceReadFromFault, IsPieceTooLarge, IsPieceWriteFault, WritesPiece};
+ghost use Rattle.reg_file.specs.Files.{FindsPiece, HoldsPiece, IsPieceReadFault, IsPieceReadFromFault, IsPieceTooLarge, IsPieceWriteFault, ReadsAsPiece, WritesPiece};
 
 use crate::contents::{seen_and_ops_of, stop_of};
 use crate::fault::{FileFault, ReadFileFault, Stop, WriteFileFault};
 use crate::fields::{head_of, refused};
-use crate::heads::{MOST, PIECE, VERSION};
+use crate::heads::{MOST, PIECE, VERSION, version_in};
 use crate::length::length_of_piece;
 use crate::place::Place;
 use crate::ranges::seen_of;
@@ -52,15 +52,15 @@ fn piece_of(
 }
 
 // The basis, and what is without it. Nothing follows.
-fn based_of(alloc: Global, known: &[Register], bytes: &[u8]) -> Result<Piece, Stop>
-    ensures ok { IfOk result (λ p. ReadsBased bytes.now p) }
-    ensures err { IfErr result (StopsIn based bytes.now) }
+fn based_of(alloc: Global, known: &[Register], version: u8, bytes: &[u8]) -> Result<Piece, Stop>
+    ensures ok { IfOk result (λ p. ReadsBased version bytes.now p) }
+    ensures err { IfErr result (StopsIn (based version) bytes.now) }
 {
     let (basis, rest) = match seen_of(alloc, &Seen::new(alloc), bytes) {
         Ok(read) => read,
         Err(stop) => return Err(stop),
     };
-    let (ops, places, seen, rest) = match seen_and_ops_of(alloc, known, &basis, rest) {
+    let (ops, places, seen, rest) = match seen_and_ops_of(alloc, known, version, &basis, rest) {
         Ok(read) => read,
         Err(stop) => return Err(stop),
     };
@@ -70,26 +70,34 @@ fn based_of(alloc: Global, known: &[Register], bytes: &[u8]) -> Result<Piece, St
     }
 }
 
-fn read_all(alloc: Global, known: &[Register], bytes: &[u8]) -> Result<Piece, Stop>
-    ensures ok { IfOk result (λ p. ReadsPiece bytes.now p) }
-    ensures err { IfErr result (StopsIn (piece 1) bytes.now) }
+fn read_in(alloc: Global, known: &[Register], version: u8, bytes: &[u8]) -> Result<Piece, Stop>
+    ensures ok { IfOk result (λ p. ReadsPiece version bytes.now p) }
+    ensures err { IfErr result (StopsIn (piece version) bytes.now) }
 {
-    let (_, rest) = match head_of(VERSION, PIECE, bytes) {
+    let (_, rest) = match head_of(version, PIECE, bytes) {
         Ok(read) => read,
         Err(stop) => return Err(stop),
     };
-    match based_of(alloc, known, rest) {
+    match based_of(alloc, known, version, rest) {
         Ok(piece) => Ok(piece),
         Err(stop) => Err(stop),
     }
 }
 
+// All of a file of the version that the bytes say.
+fn read_all(alloc: Global, known: &[Register], bytes: &[u8]) -> Result<Piece, Stop>
+    ensures ok { IfOk result (λ p. ReadsPiece (version_in bytes.now) bytes.now p) }
+    ensures err { IfErr result (StopsIn (piece (version_in bytes.now)) bytes.now) }
+{
+    read_in(alloc, known, version_in(bytes), bytes)
+}
+
 /// Reads a piece from all of a file's bytes.
 pub fn read_piece_bytes(alloc: Global, bytes: &[u8]) -> Result<Piece, ReadFileFault>
-    // What is read is what the bytes hold.
-    ensures found { IfOk result (λ p. HoldsPiece bytes.now p) }
-    // Bytes that hold a piece are read, unless memory runs out.
-    ensures only { (p : PieceValue) → HoldsPiece bytes.now p → (result ≡ Ok p) ⊎ (result ≡ Err ReadFileFault.Memory) }
+    // What is read is what the bytes are a file of.
+    ensures found { IfOk result (λ p. ReadsAsPiece bytes.now p) }
+    // A piece's file is read, unless memory runs out.
+    ensures only { (p : PieceValue) → ReadsAsPiece bytes.now p → (result ≡ Ok p) ⊎ (result ≡ Err ReadFileFault.Memory) }
     // Which fault it is.
     ensures fault { IfErr result (IsPieceReadFault bytes.now) }
 {
@@ -103,8 +111,8 @@ pub fn read_piece_bytes_beside(
     known: &[Register],
     bytes: &[u8],
 ) -> Result<Piece, ReadFileFault>
-    ensures found { IfOk result (λ p. HoldsPiece bytes.now p) }
-    ensures only { (p : PieceValue) → HoldsPiece bytes.now p → (result ≡ Ok p) ⊎ (result ≡ Err ReadFileFault.Memory) }
+    ensures found { IfOk result (λ p. ReadsAsPiece bytes.now p) }
+    ensures only { (p : PieceValue) → ReadsAsPiece bytes.now p → (result ≡ Ok p) ⊎ (result ≡ Err ReadFileFault.Memory) }
     ensures fault { IfErr result (IsPieceReadFault bytes.now) }
 {
     if bytes.len() > MOST {
@@ -160,13 +168,13 @@ fn spell_piece(
     requires basis { length basis.now < 2 ^ 32 }
     requires ops { length ops.now < 2 ^ 32 }
     requires runs { length runs.now < 2 ^ 32 }
-    ensures { IfOk result (λ out. out.items ≡ piece_file 1 basis.now ops.now runs.now) }
+    ensures { IfOk result (λ out. out.items ≡ piece_file 2 basis.now ops.now runs.now) }
 {
     let mut out = Vec::with_capacity(alloc, size)?;
     put_head(&mut out, VERSION, PIECE)?;
     put_ranges(&mut out, basis)?;
     put_ranges(&mut out, runs)?;
-    put_ops(&mut out, ops)?;
+    put_ops(&mut out, VERSION, ops)?;
     Ok(out)
 }
 

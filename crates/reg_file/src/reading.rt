@@ -3,38 +3,46 @@
 ghost use Rattle.std.specs.Prelude.{◌≡◌, ◌⊎◌, Ok, Err, IfOk, IfErr};
 ghost use Rattle.reg_op.specs.Contents.{Content};
 ghost use Rattle.reg_file.specs.Readers.{StopsIn};
-ghost use Rattle.reg_file.specs.Reading.{register};
+ghost use Rattle.reg_file.specs.Reading.{register, version_in};
 ghost use Rattle.reg_file.specs.Steps.{ReadsContent};
-ghost use Rattle.reg_file.specs.Files.{Finds, Holds, IsReadFault, IsReadFromFault};
+ghost use Rattle.reg_file.specs.Files.{Finds, IsReadFault, IsReadFromFault, ReadsAs};
 
 use crate::contents::kept_of;
 use crate::fault::{ReadFileFault, Stop};
 use crate::fields::head_of;
-use crate::heads::{MOST, REGISTER, VERSION};
+use crate::heads::{MOST, REGISTER, version_in};
 use byte_io::{InFault, Source, read_up_to};
 use reg_state::{Register, Seen};
 use std::alloc::Global;
 
-fn read_all(alloc: Global, known: &[Register], bytes: &[u8]) -> Result<Register, Stop>
-    ensures ok { IfOk result (λ r. ReadsContent bytes.now r) }
-    ensures err { IfErr result (StopsIn (register 1) bytes.now) }
+fn read_in(alloc: Global, known: &[Register], version: u8, bytes: &[u8]) -> Result<Register, Stop>
+    ensures ok { IfOk result (λ r. ReadsContent version bytes.now r) }
+    ensures err { IfErr result (StopsIn (register version) bytes.now) }
 {
-    let (_, rest) = match head_of(VERSION, REGISTER, bytes) {
+    let (_, rest) = match head_of(version, REGISTER, bytes) {
         Ok(read) => read,
         Err(stop) => return Err(stop),
     };
-    match kept_of(alloc, known, &Seen::new(alloc), rest) {
+    match kept_of(alloc, known, version, &Seen::new(alloc), rest) {
         Ok(register) => Ok(register),
         Err(stop) => Err(stop),
     }
 }
 
+// All of a file of the version that the bytes say.
+fn read_all(alloc: Global, known: &[Register], bytes: &[u8]) -> Result<Register, Stop>
+    ensures ok { IfOk result (λ r. ReadsContent (version_in bytes.now) bytes.now r) }
+    ensures err { IfErr result (StopsIn (register (version_in bytes.now)) bytes.now) }
+{
+    read_in(alloc, known, version_in(bytes), bytes)
+}
+
 /// Reads a register from all of a file's bytes.
 pub fn read_bytes(alloc: Global, bytes: &[u8]) -> Result<Register, ReadFileFault>
-    // What is read is what the bytes hold.
-    ensures found { IfOk result (λ r. Holds bytes.now r) }
-    // Bytes that hold a content are read, unless memory runs out.
-    ensures only { (x : Content) → Holds bytes.now x → (result ≡ Ok x) ⊎ (result ≡ Err ReadFileFault.Memory) }
+    // What is read is what the bytes are a file of.
+    ensures found { IfOk result (λ r. ReadsAs bytes.now r) }
+    // A content's file is read, unless memory runs out.
+    ensures only { (x : Content) → ReadsAs bytes.now x → (result ≡ Ok x) ⊎ (result ≡ Err ReadFileFault.Memory) }
     // Which fault it is.
     ensures fault { IfErr result (IsReadFault bytes.now) }
 {
@@ -48,8 +56,8 @@ pub fn read_bytes_beside(
     known: &[Register],
     bytes: &[u8],
 ) -> Result<Register, ReadFileFault>
-    ensures found { IfOk result (λ r. Holds bytes.now r) }
-    ensures only { (x : Content) → Holds bytes.now x → (result ≡ Ok x) ⊎ (result ≡ Err ReadFileFault.Memory) }
+    ensures found { IfOk result (λ r. ReadsAs bytes.now r) }
+    ensures only { (x : Content) → ReadsAs bytes.now x → (result ≡ Ok x) ⊎ (result ≡ Err ReadFileFault.Memory) }
     ensures fault { IfErr result (IsReadFault bytes.now) }
 {
     if bytes.len() > MOST {

@@ -4,10 +4,11 @@ ghost use Rattle.std.specs.Prelude.{◌≡◌, ◌≤◌, ◌<◌, ◌^◌, ◌+
 ghost use Rattle.std.specs.List.{prefix_len};
 ghost use Rattle.std.specs.Ordering.{is_eq};
 ghost use Rattle.reg_seen.specs.Runs.{replica_cmp};
-ghost use Rattle.reg_file.specs.Layout.{four, grouped, head, id_bytes, kind_byte, body_bytes, op_bytes, ops_bytes, ranges_bytes};
+ghost use Rattle.reg_file.specs.Layout.{four, grouped, head, id_bytes, kind_byte, body_bytes, note_bytes, op_bytes, ops_bytes, ranges_bytes};
 ghost use Rattle.reg_file.specs.Spelling.{is_of, spelled};
 
-use reg_op::{Op, OpBody, OpId};
+use crate::heads::FIRST_VERSION;
+use reg_op::{Note, Op, OpBody, OpId};
 use reg_state::Run;
 use std::alloc::AllocError;
 use uuid::Uuid;
@@ -52,23 +53,36 @@ fn kind_of(body: &OpBody) -> u8
     }
 }
 
-fn put_op(out: &mut Vec<u8>, op: &Op) -> Result<(), AllocError>
-    ensures { OnOk result (out.new.items ≡ out.old.items ++ op_bytes op.now) }
+// A note after its length, for which the first version has no room.
+fn put_note(out: &mut Vec<u8>, version: u8, note: &Note) -> Result<(), AllocError>
+    ensures { OnOk result (out.new.items ≡ out.old.items ++ note_bytes version note.now) }
+{
+    if version == FIRST_VERSION {
+        return Ok(());
+    }
+    let bytes = note.as_bytes();
+    out.push(bytes.len() as u8)?;
+    out.extend_from_slice(bytes)
+}
+
+fn put_op(out: &mut Vec<u8>, version: u8, op: &Op) -> Result<(), AllocError>
+    ensures { OnOk result (out.new.items ≡ out.old.items ++ op_bytes version op.now) }
 {
     let id = op.id();
     let body = op.body();
     put_id(out, &id)?;
     out.push(kind_of(body))?;
+    put_note(out, version, op.note())?;
     put_body(out, body)
 }
 
-pub fn put_ops(out: &mut Vec<u8>, ops: &[Op]) -> Result<(), AllocError>
+pub fn put_ops(out: &mut Vec<u8>, version: u8, ops: &[Op]) -> Result<(), AllocError>
     requires { length ops.now < 2 ^ 32 }
-    ensures { OnOk result (out.new.items ≡ out.old.items ++ ops_bytes ops.now) }
+    ensures { OnOk result (out.new.items ≡ out.old.items ++ ops_bytes version ops.now) }
 {
     put_number(out, ops.len() as u32)?;
     for op in ops {
-        put_op(out, op)?;
+        put_op(out, version, op)?;
     }
     Ok(())
 }

@@ -4,13 +4,13 @@ ghost use Rattle.std.specs.Prelude.{◌≡◌, ◌<◌, ◌^◌, ◌↔◌, ◌�
 ghost use Rattle.reg_op.specs.Ids.{Ids};
 ghost use Rattle.reg_file.specs.Layout.{seen_file};
 ghost use Rattle.reg_file.specs.Readers.{StopsIn};
-ghost use Rattle.reg_file.specs.Reading.{ended, summary};
+ghost use Rattle.reg_file.specs.Reading.{ended, summary, version_in};
 ghost use Rattle.reg_file.specs.Steps.{ReadsSummary};
-ghost use Rattle.reg_file.specs.Files.{FindsSeen, HoldsSeen, IsSeenReadFault, IsSeenReadFromFault, IsSeenTooLarge, IsSeenWriteFault, WritesSeen};
+ghost use Rattle.reg_file.specs.Files.{FindsSeen, HoldsSeen, IsSeenReadFault, IsSeenReadFromFault, IsSeenTooLarge, IsSeenWriteFault, ReadsAsSeen, WritesSeen};
 
 use crate::fault::{FileFault, ReadFileFault, Stop, WriteFileFault};
 use crate::fields::{head_of, refused};
-use crate::heads::{MOST, SEEN, VERSION};
+use crate::heads::{MOST, SEEN, VERSION, version_in};
 use crate::length::length_of_seen;
 use crate::ranges::seen_of;
 use crate::spelling::{put_head, put_ranges};
@@ -29,11 +29,11 @@ fn end_of(rest: &[u8]) -> Result<(), Stop>
     Ok(())
 }
 
-fn read_all(alloc: Global, bytes: &[u8]) -> Result<Seen, Stop>
-    ensures ok { IfOk result (λ seen. ReadsSummary bytes.now seen) }
-    ensures err { IfErr result (StopsIn (summary 1) bytes.now) }
+fn read_in(alloc: Global, version: u8, bytes: &[u8]) -> Result<Seen, Stop>
+    ensures ok { IfOk result (λ seen. ReadsSummary version bytes.now seen) }
+    ensures err { IfErr result (StopsIn (summary version) bytes.now) }
 {
-    let (_, rest) = match head_of(VERSION, SEEN, bytes) {
+    let (_, rest) = match head_of(version, SEEN, bytes) {
         Ok(read) => read,
         Err(stop) => return Err(stop),
     };
@@ -50,12 +50,20 @@ fn read_all(alloc: Global, bytes: &[u8]) -> Result<Seen, Stop>
     }
 }
 
+// All of a file of the version that the bytes say.
+fn read_all(alloc: Global, bytes: &[u8]) -> Result<Seen, Stop>
+    ensures ok { IfOk result (λ seen. ReadsSummary (version_in bytes.now) bytes.now seen) }
+    ensures err { IfErr result (StopsIn (summary (version_in bytes.now)) bytes.now) }
+{
+    read_in(alloc, version_in(bytes), bytes)
+}
+
 /// Reads the ids that were seen from all of a seen summary's bytes.
 pub fn read_seen_bytes(alloc: Global, bytes: &[u8]) -> Result<Seen, ReadFileFault>
-    // What is read is what the bytes hold.
-    ensures found { IfOk result (λ seen. HoldsSeen bytes.now seen) }
-    // Bytes that hold a summary are read, unless memory runs out.
-    ensures only { (ids : Ids) → HoldsSeen bytes.now ids → (result ≡ Ok ids) ⊎ (result ≡ Err ReadFileFault.Memory) }
+    // What is read is what the bytes are a file of.
+    ensures found { IfOk result (λ seen. ReadsAsSeen bytes.now seen) }
+    // A summary is read, unless memory runs out.
+    ensures only { (ids : Ids) → ReadsAsSeen bytes.now ids → (result ≡ Ok ids) ⊎ (result ≡ Err ReadFileFault.Memory) }
     // Which fault it is.
     ensures fault { IfErr result (IsSeenReadFault bytes.now) }
 {
@@ -92,7 +100,7 @@ pub fn read_seen<S: Source>(alloc: Global, source: &mut S) -> Result<Seen, ReadF
 // The file of the runs that were seen, in one allocation of its size.
 fn spell_seen(alloc: Global, runs: &[Run], size: usize) -> Result<Vec<u8>, AllocError>
     requires { length runs.now < 2 ^ 32 }
-    ensures { IfOk result (λ out. out.items ≡ seen_file 1 runs.now) }
+    ensures { IfOk result (λ out. out.items ≡ seen_file 2 runs.now) }
 {
     let mut out = Vec::with_capacity(alloc, size)?;
     put_head(&mut out, VERSION, SEEN)?;

@@ -1,22 +1,21 @@
 -- The first marks of sorted ones are the least.
 use Rattle.std.proofs.Common.{◌≡◌, ℕ, ◌<◌, ◌≤◌, ◌+◌, zero, suc, true, false, ◌||◌, cond, List, [], ◌∷◌, length, get_or, Option, Some, None, refl, sym, ap, ◌∙◌, subst, inl, inr, arith}
-use Rattle.std.proofs.lemmas.Bool.{true≢false, and_from, and_parts, or_cases, or_left, or_right, false_from_ne_true, true_from_ne_false, not-true, not_from_false}
+use Rattle.std.proofs.lemmas.Bool.{true≢false, and_from, and_parts, or_cases, or_left, or_right, false_from_ne_true, not-true, not_from_false}
 use Rattle.std.proofs.lemmas.List.Sorted.{ranks_by, sorted_far, list_any-IsPermutation}
 use Rattle.std.proofs.lemmas.List.Folds.{list_any-append}
 use Rattle.std.proofs.Common.{◌++◌}
 use Rattle.std.specs.List.Sorted.{IsSorted, IsPermutation}
 use Rattle.std.specs.Cmp.{tied_itself, Equal-is, both_ways}
-use Rattle.std.specs.Ordering.{is_lt, is_eq, eq_by_cmp, ordering_then}
+use Rattle.std.specs.Ordering.{is_lt, is_eq, eq_by_cmp}
 use Rattle.reg_op.specs.Set as set
 use Rattle.reg_op.specs.Set.{contains, contains-from_list, same_set}
-use Rattle.reg_op.specs.Ids.{id_cmp, is_before}
 use Rattle.reg_op.proofs.FiniteLemmas.{any_from_member, member_from_any, contains-topmost}
-use Rattle.reg_op.proofs.ClashLemmas.{tied_of, same_id}
 use Rattle.reg_marks.specs.declared.mark.Mark.{Mark}
 use Rattle.reg_marks.specs.declared.mark.Target.{Target}
-use Rattle.reg_marks.specs.Marks.{target_cmp, mark_cmp, is_at, has, MarkSet, lessens, least, was_at, firsts}
-use Rattle.reg_marks.specs.MarkLaws.{target_total, mark_total, mark_exact, at_exact, lessens_irreflexive, lessens_chain}
-use Rattle.reg_marks.proofs.OrderLemmas.{IsBy, by_target, same_mark, lesser_target}
+use Rattle.reg_marks.specs.Marks.{target_cmp, mark_cmp, has, MarkSet, lessens, least, covers, is_covered, firsts}
+use Rattle.reg_marks.specs.MarkLaws.{mark_total, mark_exact, lessens_irreflexive, lessens_chain}
+use Rattle.reg_marks.proofs.OrderLemmas.{IsBy, by_target}
+use Rattle.reg_marks.proofs.CoverLemmas.{lesser_covers, lesser_first, first_lessens, first_of, covers_chain, begins_covered}
 
 abbrev pub AllBy : Mark → List Mark → Type 0
 AllBy x [] = Unit {0}
@@ -44,24 +43,6 @@ all_by x (y ∷ ys) q h k = elim (or_cases (eq_by_cmp mark_cmp q y) (has ys q) k
   | inr e ↦ all_by x ys q h.1 e
 ]
 
-by_id : (x q : Mark) → IsBy x q → q.target ≡ x.target → is_before q.id x.id ≡ false
-by_id x q h e =
-    (λ k. is_lt (ordering_then (sym (tied_itself target_total x.target) k) (id_cmp q.id x.id)))
-    ∙ (λ k. is_lt (ordering_then (target_cmp (sym e k) x.target) (id_cmp q.id x.id)))
-    ∙ h
-
-at_itself : (t : Target) → is_eq (target_cmp t t) ≡ true
-at_itself t = ap is_eq (tied_itself target_total t)
-
-at_of : (t : Target) (m : Mark) → m.target ≡ t → is_at t m ≡ true
-at_of t m e = subst (λ u. is_eq (target_cmp m.target u) ≡ true) e (at_itself m.target)
-
--- a later mark of the same target that is another has a greater id
-lessened : (x q : Mark) → IsBy x q → q.target ≡ x.target → (q ≡ x → ⊥) → lessens x q ≡ true
-lessened x q h e other =
-    and_from _ _ (at_of q.target x (sym e))
-    (true_from_ne_false _ (λ late. other (same_mark q x e (same_id q.id x.id (by_id x q h e) late))))
-
 -- each is no sooner than a target
 abbrev AllFrom : Option Target → List Mark → Type 0
 AllFrom None xs = Unit {0}
@@ -77,18 +58,15 @@ from_rest (Some t) x xs h = λ q k. h q (or_right (eq_by_cmp mark_cmp q x) _ k)
 itself : (x : Mark) → eq_by_cmp mark_cmp x x ≡ true
 itself x = ap is_eq (tied_itself mark_total x)
 
--- between two of one target all have it
-not_at_later : (t : Option Target) (x : Mark) (xs : List Mark) (q : Mark) → AllFrom t (x ∷ xs) → IsBy x q → was_at t x ≡ false → was_at t q ≡ false
-not_at_later None x xs q from by no_x = refl
-not_at_later (Some t) x xs q from by no_x = false_from_ne_true _ (λ at.
-    let q_is : q.target ≡ t = at_exact t q at in
-    let low : is_lt (target_cmp x.target t) ≡ false = from x (or_left _ _ (itself x)) in
-    let high : is_lt (target_cmp t x.target) ≡ false = subst (λ u. is_lt (target_cmp u x.target) ≡ false) q_is (by_target x q by) in
-    true≢false (sym (tied_of target_total x.target t low high) ∙ no_x))
+-- between a target and what it covers all is covered
+not_covered_later : (t : Option Target) (x : Mark) (xs : List Mark) (q : Mark) → AllFrom t (x ∷ xs) → IsBy x q → is_covered t x ≡ false → is_covered t q ≡ false
+not_covered_later None x xs q from by no_x = refl
+not_covered_later (Some t) x xs q from by no_x = false_from_ne_true _ (λ at.
+    true≢false (sym ((begins_covered t).down x q by (from x (or_left _ _ (itself x))) at) ∙ no_x))
 
-was_at_same : (t : Option Target) (x q : Mark) → was_at t x ≡ true → q.target ≡ x.target → was_at t q ≡ true
-was_at_same None x q h e = absurd (true≢false (sym h))
-was_at_same (Some t) x q h e = at_of t q (e ∙ at_exact t x h)
+covered_chain : (t : Option Target) (x q : Mark) → is_covered t x ≡ true → covers x.target q ≡ true → is_covered t q ≡ true
+covered_chain None x q h e = absurd (true≢false (sym h))
+covered_chain (Some t) x q h e = covers_chain t x q h e
 
 abbrev NoLesser : List Mark → Mark → Type 0
 NoLesser xs q = (p : Mark) → has xs p ≡ true → lessens p q ≡ true → ⊥
@@ -96,15 +74,15 @@ NoLesser xs q = (p : Mark) → has xs p ≡ true → lessens p q ≡ true → �
 eq_of : (q x : Mark) → eq_by_cmp mark_cmp q x ≡ true → q ≡ x
 eq_of q x h = mark_exact q x ((Equal-is (mark_cmp q x)).0 h)
 
-pub sound : (t : Option Target) (xs : List Mark) (q : Mark) → Up xs → AllFrom t xs → has (firsts t xs) q ≡ true → (has xs q ≡ true) × NoLesser xs q × (was_at t q ≡ false)
+pub sound : (t : Option Target) (xs : List Mark) (q : Mark) → Up xs → AllFrom t xs → has (firsts t xs) q ≡ true → (has xs q ≡ true) × NoLesser xs q × (is_covered t q ≡ false)
 sound t [] q up from h = absurd (true≢false (sym h))
 sound t (x ∷ xs) q up from h =
-    elim (was_at t x) as (λ b. was_at t x ≡ b → has (cond b (firsts t xs) (x ∷ firsts (Some x.target) xs)) q ≡ true → (has (x ∷ xs) q ≡ true) × NoLesser (x ∷ xs) q × (was_at t q ≡ false)) [
+    elim (is_covered t x) as (λ b. is_covered t x ≡ b → has (cond b (firsts t xs) (x ∷ firsts (Some x.target) xs)) q ≡ true → (has (x ∷ xs) q ≡ true) × NoLesser (x ∷ xs) q × (is_covered t q ≡ false)) [
       | true ↦ λ at h.
           let r = sound t xs q up.1 (from_rest t x xs from) h in (
             or_right (eq_by_cmp mark_cmp q x) _ r.0,
             λ p k l. elim (or_cases (eq_by_cmp mark_cmp p x) (has xs p) k) [
-              | inl e ↦ true≢false (sym (was_at_same t x q at (sym (lesser_target p q l) ∙ ap (λ (m : Mark). m.target) (eq_of p x e))) ∙ r.2)
+              | inl e ↦ true≢false (sym (covered_chain t x q at (subst (λ (m : Mark). covers m.target q ≡ true) (eq_of p x e) (lesser_covers p q l))) ∙ r.2)
               | inr e ↦ r.1 p e l
             ],
             r.2,
@@ -114,30 +92,28 @@ sound t (x ∷ xs) q up from h =
           or_left _ _ e,
           λ p k l. elim (or_cases (eq_by_cmp mark_cmp p x) (has xs p) k) [
             | inl f ↦ lessens_irreflexive x (subst (λ m. lessens x m ≡ true) is (subst (λ m. lessens m q ≡ true) (eq_of p x f) l))
-            | inr f ↦
-                let l' : lessens p x ≡ true = subst (λ m. lessens p m ≡ true) is l in
-                true≢false (sym (and_parts _ _ l').1 ∙ by_id x p (all_by x xs p up.0 f) (lesser_target p x l'))
+            | inr f ↦ true≢false (sym (lesser_first p x (subst (λ m. lessens p m ≡ true) is l)) ∙ all_by x xs p up.0 f)
           ],
-          subst (λ m. was_at t m ≡ false) (sym is) no_x,
+          subst (λ m. is_covered t m ≡ false) (sym is) no_x,
         )
         | inr e ↦
             let r = sound (Some x.target) xs q up.1 (from_by x xs up.0) e in (
               or_right (eq_by_cmp mark_cmp q x) _ r.0,
               λ p k l. elim (or_cases (eq_by_cmp mark_cmp p x) (has xs p) k) [
-                | inl f ↦ true≢false (sym (at_of x.target q (sym (lesser_target p q l) ∙ ap (λ (m : Mark). m.target) (eq_of p x f))) ∙ r.2)
+                | inl f ↦ true≢false (sym (subst (λ (m : Mark). covers m.target q ≡ true) (eq_of p x f) (lesser_covers p q l)) ∙ r.2)
                 | inr f ↦ r.1 p f l
               ],
-              not_at_later t x xs q from (all_by x xs q up.0 r.0) no_x,
+              not_covered_later t x xs q from (all_by x xs q up.0 r.0) no_x,
             )
       ]
     ] refl h
 
-pub complete : (t : Option Target) (xs : List Mark) (q : Mark) → Up xs → has xs q ≡ true → NoLesser xs q → was_at t q ≡ false → has (firsts t xs) q ≡ true
+pub complete : (t : Option Target) (xs : List Mark) (q : Mark) → Up xs → has xs q ≡ true → NoLesser xs q → is_covered t q ≡ false → has (firsts t xs) q ≡ true
 complete t [] q up h none no_q = absurd (true≢false (sym h))
 complete t (x ∷ xs) q up h none no_q =
-    elim (was_at t x) as (λ b. was_at t x ≡ b → has (cond b (firsts t xs) (x ∷ firsts (Some x.target) xs)) q ≡ true) [
+    elim (is_covered t x) as (λ b. is_covered t x ≡ b → has (cond b (firsts t xs) (x ∷ firsts (Some x.target) xs)) q ≡ true) [
       | true ↦ λ at. elim (or_cases (eq_by_cmp mark_cmp q x) (has xs q) h) [
-        | inl e ↦ absurd (true≢false (sym (was_at_same t x q at (ap (λ (m : Mark). m.target) (eq_of q x e))) ∙ no_q))
+        | inl e ↦ absurd (true≢false (sym (subst (λ m. is_covered t m ≡ true) (sym (eq_of q x e)) at) ∙ no_q))
         | inr e ↦ complete t xs q up.1 e (λ p k l. none p (or_right (eq_by_cmp mark_cmp p x) _ k) l) no_q
       ]
       | false ↦ λ no_x. elim (eq_by_cmp mark_cmp q x) as (λ b. eq_by_cmp mark_cmp q x ≡ b → (b || has (firsts (Some x.target) xs) q) ≡ true) [
@@ -145,8 +121,7 @@ complete t (x ∷ xs) q up h none no_q =
         | false ↦ λ other.
             let later : has xs q ≡ true = (λ k. sym other k || has xs q) ∙ h in
             complete (Some x.target) xs q up.1 later (λ p k l. none p (or_right (eq_by_cmp mark_cmp p x) _ k) l)
-            (false_from_ne_true _ (λ at. none x (or_left _ _ (itself x))
-            (lessened x q (all_by x xs q up.0 later) (at_exact x.target q at) (λ e. true≢false (sym (subst (λ m. eq_by_cmp mark_cmp q m ≡ true) e (itself q)) ∙ other)))))
+            (false_from_ne_true _ (λ at. none x (or_left _ _ (itself x)) (first_lessens x q at (first_of x q (all_by x xs q up.0 later) other))))
       ] refl
     ] refl
 
@@ -189,12 +164,12 @@ set-append xs ys = same_set mark_total mark_exact _ _ (λ q.
 all_firsts : (x : Mark) (t : Option Target) (xs : List Mark) → AllBy x xs → AllBy x (firsts t xs)
 all_firsts x t [] h = tt
 all_firsts x t (y ∷ ys) h =
-    elim (was_at t y) as (λ b. AllBy x (cond b (firsts t ys) (y ∷ firsts (Some y.target) ys))) [ true ↦ all_firsts x t ys h.1 | false ↦ (h.0, all_firsts x (Some y.target) ys h.1) ]
+    elim (is_covered t y) as (λ b. AllBy x (cond b (firsts t ys) (y ∷ firsts (Some y.target) ys))) [ true ↦ all_firsts x t ys h.1 | false ↦ (h.0, all_firsts x (Some y.target) ys h.1) ]
 
 firsts_up : (t : Option Target) (xs : List Mark) → Up xs → Up (firsts t xs)
 firsts_up t [] up = tt
 firsts_up t (x ∷ xs) up =
-    elim (was_at t x) as (λ b. Up (cond b (firsts t xs) (x ∷ firsts (Some x.target) xs))) [
+    elim (is_covered t x) as (λ b. Up (cond b (firsts t xs) (x ∷ firsts (Some x.target) xs))) [
       | true ↦ firsts_up t xs up.1
       | false ↦ (all_firsts x (Some x.target) xs up.0, firsts_up (Some x.target) xs up.1)
     ]

@@ -17,7 +17,7 @@ use Rattle.reg_marks.proofs.FirstLemmas.{AllBy, Up, sorted_up, up_sorted}
 lt_mark : IsStrictWeakOrder (λ a b. is_lt (mark_cmp a b))
 lt_mark = ranks_by mark_total (λ m. m)
 
-by_chain : (a b c : Mark) → IsBy a b → IsBy b c → IsBy a c
+pub by_chain : (a b c : Mark) → IsBy a b → IsBy b c → IsBy a c
 by_chain a b c h k = lt_mark.chain c b a k h
 
 all_chain : (a b : Mark) (xs : List Mark) → IsBy a b → AllBy b xs → AllBy a xs

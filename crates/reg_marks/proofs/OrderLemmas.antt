@@ -20,7 +20,7 @@ use Rattle.reg_op.proofs.OpLemmas.{id_total}
 use Rattle.reg_op.proofs.ClashLemmas.{tied_of}
 use Rattle.reg_marks.specs.declared.mark.Mark.{Mark}
 use Rattle.reg_marks.specs.declared.mark.Target.{Target}
-use Rattle.reg_marks.specs.Marks.{target_cmp, mark_cmp, is_at, has, MarkSet, lessens, least, AreLeast, BeginsAt}
+use Rattle.reg_marks.specs.Marks.{target_cmp, mark_cmp, is_at, has, MarkSet, lessens_by, lessens, least, AreLeast, BeginsAt}
 use Rattle.reg_marks.specs.MarkLaws.{target_total, mark_total, mark_exact, at_exact, lessens_irreflexive, lessens_chain}
 
 lt_target : IsStrictWeakOrder (λ a b. is_lt (target_cmp a b))
@@ -78,7 +78,7 @@ none_least : (by : Option Id) → is_lt (option_cmp id_cmp by None) ≡ false
 none_least None = refl
 none_least (Some n) = refl
 
-same_back : (a b : Id) → is_same a b ≡ is_same b a
+pub same_back : (a b : Id) → is_same a b ≡ is_same b a
 same_back a b = (eq_by_cmp_equiv id_total).symm a b
 
 pub begins_entry : (e : Id) → BeginsAt (record { entry = e; by = None }) (λ m. is_same e m.target.entry)
@@ -113,14 +113,24 @@ found_there xs k m h at = list_any_at (eq_by_cmp mark_cmp m) xs k m h (ap (eq_by
 pub told_of : (t : Mark → Bool) (xs ys : List Mark) (s : MarkSet) (r q : Option Mark) → list_any t ys ≡ passes t r → ys ≡ xs → set.from_list {R = mark_cmp} xs ≡ s → r ≡ q → passes t q ≡ any t s
 told_of t xs ys s r q h e f g = sym (ap (passes t) g) ∙ sym h ∙ ap (list_any t) e ∙ sym (any-from_list t xs) ∙ ap (any t) f
 
--- ---- the least of each target
+-- ---- the least
 
--- what goes down along lesser marks of one target holds of some mark where it holds of some least one
+-- what goes down along lesser marks holds of some mark where it holds of some least one
 pub any-least : (t : Mark → Bool) → ((p m : Mark) → lessens p m ≡ true → t m ≡ true → t p ≡ true) → (s : MarkSet) → any t (least s) ≡ any t s
 any-least t falls s = any-topmost mark_total mark_exact lessens lessens_irreflexive lessens_chain t falls s
 
 pub any_at : (s : MarkSet) (t : Target) (i : Id) → contains s (record { target = t; id = i }) ≡ true → any (λ m. is_at t m) s ≡ true
 any_at s t i h = any_from_member mark_total mark_exact (λ m. is_at t m) s (record { target = t; id = i }) h (ap is_eq (tied_itself target_total t))
+
+lessens_itself : (by : Option Id) (before : Bool) → before ≡ true → lessens_by by by before ≡ true
+lessens_itself None before h = h
+lessens_itself (Some n) before h = and_from _ _ (ap is_eq (tied_itself id_total n)) h
+
+-- of two marks of one target the one with the lesser id makes the other needless
+pub lessens_at : (p m : Mark) → is_at m.target p ≡ true → is_before p.id m.id ≡ true → lessens p m ≡ true
+lessens_at p m a h =
+    subst (λ (t : Target). (is_same t.entry m.target.entry && lessens_by t.by m.target.by (is_before p.id m.id)) ≡ true) (sym (at_exact m.target p a))
+    (and_from _ _ (ap is_eq (tied_itself id_total m.target.entry)) (lessens_itself m.target.by _ h))
 
 -- a target has one least mark, which comes before an id where some mark of it does
 pub any_before : (s : MarkSet) → AreLeast s → (t : Target) (i j : Id) → contains s (record { target = t; id = i }) ≡ true → any (λ m. is_at t m && is_before m.id j) s ≡ is_before i j
@@ -132,14 +142,10 @@ any_before s are t i j h = both_ways _ _
     let sooner : is_before r.0.id i ≡ true = true_from_ne_false _ (λ no. true≢false (sym p.1 ∙ lt_id.chain r.0.id i j no late)) in
     let here : contains (least s) (record { target = t; id = i }) ≡ true = ap (λ x. contains x (record { target = t; id = i })) are ∙ h in
     let none = not-true _ (and_parts _ _ (sym (contains-topmost mark_total mark_exact lessens lessens_irreflexive lessens_chain s (record { target = t; id = i })) ∙ here)).1 in
-    true≢false (sym (any_from_member mark_total mark_exact (λ q. lessens q (record { target = t; id = i })) s r.0 r.1 (and_from _ _ p.0 sooner)) ∙ none)))
+    true≢false (sym (any_from_member mark_total mark_exact (λ q. lessens q (record { target = t; id = i })) s r.0 r.1 (lessens_at r.0 (record { target = t; id = i }) p.0 sooner)) ∙ none)))
     (λ k. any_from_member mark_total mark_exact (λ m. is_at t m && is_before m.id j) s (record { target = t; id = i }) h (and_from _ _ (ap is_eq (tied_itself target_total t)) k))
 
 pub none_before : (s : MarkSet) (t : Target) (j : Id) → any (λ m. is_at t m) s ≡ false → any (λ m. is_at t m && is_before m.id j) s ≡ false
 none_before s t j h = false_from_ne_true _ (λ k.
     let r = member_from_any mark_total mark_exact (λ m. is_at t m && is_before m.id j) s k in
     true≢false (sym (any_from_member mark_total mark_exact (λ m. is_at t m) s r.0 r.1 (and_parts _ _ r.2).0) ∙ h))
-
--- a lesser mark is of the same target
-pub lesser_target : (p m : Mark) → lessens p m ≡ true → p.target ≡ m.target
-lesser_target p m h = at_exact m.target p (and_parts _ _ h).0

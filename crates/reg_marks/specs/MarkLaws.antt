@@ -12,11 +12,11 @@ use Rattle.reg_op.specs.Set as set
 use Rattle.reg_op.specs.Set.{IsAntisymmetric, contains, union, same_set, contains-empty}
 use Rattle.reg_op.specs.Ids.{Id, id_cmp}
 use Rattle.reg_op.proofs.FiniteLemmas.{union_comm, union_assoc, union_again, union_itself, union-empty, topmost-union, topmost-topmost, contains-topmost}
-use Rattle.reg_op.proofs.OpLemmas.{id_total, id_exact, is_before_chain, not_before_itself}
+use Rattle.reg_op.proofs.OpLemmas.{id_total, id_exact, is_same_chain, is_before_chain, not_before_itself}
 use Rattle.reg_join.specs.Joining.{JoinLaws}
 use Rattle.reg_marks.specs.declared.mark.Mark.{Mark}
 use Rattle.reg_marks.specs.declared.mark.Target.{Target}
-use Rattle.reg_marks.specs.Marks.{target_cmp, mark_cmp, is_at, MarkSet, lessens, least, AreLeast}
+use Rattle.reg_marks.specs.Marks.{target_cmp, mark_cmp, is_at, MarkSet, lessens_by, lessens, least, AreLeast}
 
 -- ---- the order of marks
 
@@ -56,14 +56,31 @@ mark_exact a b e =
 pub at_exact : (t : Target) (m : Mark) → is_at t m ≡ true → m.target ≡ t
 at_exact t m h = target_exact m.target t ((Equal-is (target_cmp m.target t)).0 h)
 
+needs_before : (by : Option Id) (before : Bool) → lessens_by by by before ≡ true → before ≡ true
+needs_before None before h = h
+needs_before (Some n) before h = (and_parts _ _ h).1
+
 pub lessens_irreflexive : (m : Mark) → lessens m m ≡ true → ⊥
-lessens_irreflexive m h = not_before_itself m.id (and_parts _ _ h).1
+lessens_irreflexive m h = not_before_itself m.id (needs_before m.target.by _ (and_parts _ _ h).1)
+
+by_chain : (b c d : Bool) → (b ≡ true → c ≡ true → d ≡ true) → (x y z : Option Id) → lessens_by x y b ≡ true → lessens_by y z c ≡ true → lessens_by x z d ≡ true
+by_chain b c d chain None None None h k = chain h k
+by_chain b c d chain None None (Some z) h k = refl
+by_chain b c d chain None (Some y) None h k = absurd (true≢false (sym k))
+by_chain b c d chain None (Some y) (Some z) h k = refl
+by_chain b c d chain (Some x) None z h k = absurd (true≢false (sym h))
+by_chain b c d chain (Some x) (Some y) None h k = absurd (true≢false (sym k))
+by_chain b c d chain (Some x) (Some y) (Some z) h k =
+    let p = and_parts _ _ h in
+    let q = and_parts _ _ k in
+    and_from _ _ (is_same_chain x y z p.0 q.0) (chain p.1 q.1)
 
 pub lessens_chain : (p q m : Mark) → lessens p q ≡ true → lessens q m ≡ true → lessens p m ≡ true
 lessens_chain p q m h k =
     let a = and_parts _ _ h in
     let b = and_parts _ _ k in
-    and_from _ _ (subst (λ t. is_at t p ≡ true) (at_exact m.target q b.0) a.0) (is_before_chain p.id q.id m.id a.1 b.1)
+    and_from _ _ (is_same_chain p.target.entry q.target.entry m.target.entry a.0 b.0)
+    (by_chain _ _ _ (is_before_chain p.id q.id m.id) p.target.by q.target.by m.target.by a.1 b.1)
 
 -- ---- the laws
 

@@ -8,7 +8,7 @@ use Rattle.std.specs.Ordering.{ordering_then, is_eq, is_lt, eq_by_cmp}
 use Rattle.std.specs.Coded.{Coded, code_by, coded×, coded_option}
 use Rattle.reg_op.specs.Set as set
 use Rattle.reg_op.specs.Finite.{topmost}
-use Rattle.reg_op.specs.Ids.{Id, id_cmp, is_before, id_code}
+use Rattle.reg_op.specs.Ids.{Id, id_cmp, is_before, is_same, id_code}
 use Rattle.reg_marks.specs.declared.mark.Mark.{Mark}
 use Rattle.reg_marks.specs.declared.mark.Target.{Target}
 
@@ -30,19 +30,35 @@ mark_code =
     code_by ((Id × Option Id) × Id) (coded× (coded× id_code (coded_option id_code)) id_code) (λ m. ((m.target.entry, m.target.by), m.id))
     (λ p. record { target = record { entry = p.0.0; by = p.0.1 }; id = p.1 }) (λ _. refl)
 
--- beside p there is no need of m: it is about the same, and has a lesser id
-abbrev pub lessens : Mark → Mark → Bool
-lessens p m = is_at m.target p && is_before p.id m.id
+-- beside p there is no need of m: it retires the same entry, or supersedes it by the same one, and has a greater id, or it
+-- supersedes an entry that p retires
+abbrev pub lessens_by : Option Id → Option Id → Bool → Bool
+lessens_by None None before = before
+lessens_by None (Some n) before = true
+lessens_by (Some n) None before = false
+lessens_by (Some n) (Some o) before = is_same n o && before
 
--- the least of each target
+abbrev pub lessens : Mark → Mark → Bool
+lessens p m = is_same p.target.entry m.target.entry && lessens_by p.target.by m.target.by (is_before p.id m.id)
+
+-- what a mark at the target makes needless: a greater one there, and where it retires an entry, each supersession of it
+abbrev pub covers_by : Option Id → Option Id → Bool
+covers_by None by = true
+covers_by (Some n) None = false
+covers_by (Some n) (Some o) = is_same n o
+
+abbrev pub covers : Target → Mark → Bool
+covers t m = is_same t.entry m.target.entry && covers_by t.by m.target.by
+
+-- the least: those of which there is need beside all others
 abbrev pub least : MarkSet → MarkSet
 least s = topmost lessens s
 
--- each mark is the least of its target
+-- there is need of each
 abbrev pub AreLeast : MarkSet → Type 0
 AreLeast s = least s ≡ s
 
--- they ascend, and each is the least of its target
+-- they ascend, and there is need of each
 pub record AreMarks (ms : List Mark) : Type 0 where
   pub sorted : IsSorted mark_cmp ms
   pub are_least : AreLeast (set.from_list ms)
@@ -55,11 +71,11 @@ pub record BeginsAt (target : Target) (t : Mark → Bool) : Type 0 where
   pub from : (m : Mark) → t m ≡ true → is_lt (target_cmp m.target target) ≡ false
   pub down : (m n : Mark) → is_lt (mark_cmp n m) ≡ false → is_lt (target_cmp m.target target) ≡ false → t n ≡ true → t m ≡ true
 
--- the first mark of each target, of sorted marks that follow one of a target
-abbrev pub was_at : Option Target → Mark → Bool
-was_at None m = false
-was_at (Some t) m = is_at t m
+-- of sorted marks that follow one at a target, those that none before them covers
+abbrev pub is_covered : Option Target → Mark → Bool
+is_covered None m = false
+is_covered (Some t) m = covers t m
 
 abbrev pub firsts : Option Target → List Mark → List Mark
 firsts t [] = []
-firsts t (m ∷ ms) = if was_at t m then firsts t ms else (m ∷ firsts (Some m.target) ms)
+firsts t (m ∷ ms) = if is_covered t m then firsts t ms else (m ∷ firsts (Some m.target) ms)

@@ -2,7 +2,7 @@
 
 ghost use Rattle.std.specs.Prelude.{◌≡◌};
 ghost use Rattle.std.specs.Ordering.{is_lt};
-ghost use Rattle.reg_marks.specs.Marks.{is_at, mark_cmp, target_cmp};
+ghost use Rattle.reg_marks.specs.Marks.{covers, is_at, mark_cmp, target_cmp};
 
 use reg_op::OpId;
 
@@ -30,6 +30,20 @@ pub(crate) fn is_below(mark: &Mark, target: &Target) -> bool
     ensures { result ≡ is_lt (target_cmp mark.now.target target.now) }
 {
     mark.target.cmp(target).is_lt()
+}
+
+/// Whether a mark at the target makes the other needless, if it comes first.
+pub(crate) fn covers(target: &Target, mark: &Mark) -> bool
+    ensures { result ≡ covers target.now mark.now }
+{
+    if !target.entry.is_same(&mark.target.entry) {
+        return false;
+    }
+    match (target.by, mark.target.by) {
+        (None, _) => true,
+        (Some(_), None) => false,
+        (Some(newer), Some(other)) => newer.is_same(&other),
+    }
 }
 
 pub(crate) fn comes_first(first: &Mark, second: &Mark) -> bool

@@ -1,23 +1,24 @@
-//! The least mark of each target, and their join.
+//! The least marks, and their join.
 
-ghost use Rattle.std.specs.Prelude.{◌≡◌, ◌++◌, true, false, Bool, None, IfOk, IfSome, IfNone};
-ghost use Rattle.std.specs.List.{list_any};
+ghost use Rattle.std.specs.Prelude.{◌≡◌, ℕ, ◌<◌, ◌≤◌, ◌++◌, ◌&&◌, true, false, not, Bool, None, IfOk, OnOk, OnErr, IfSome, IfNone, filter};
+ghost use Rattle.std.specs.List.{insert, list_any};
+ghost use Rattle.std.specs.Vec.{vec_capacity, vec_len};
 ghost use Rattle.std.specs.List.Sorted.{IsSorted};
 ghost use Rattle.reg_op.specs.Set as set;
 ghost use Rattle.reg_op.specs.Finite.{any};
-ghost use Rattle.reg_op.specs.Ids.{is_same};
+ghost use Rattle.reg_op.specs.Ids.{is_before, is_same};
 ghost use Rattle.reg_op.specs.Lists.{passes};
-ghost use Rattle.reg_marks.specs.Marks.{mark_cmp, firsts, has, is_at, least, was_at, AreLeast, BeginsAt};
+ghost use Rattle.reg_marks.specs.Marks.{mark_cmp, firsts, has, covers, is_at, is_covered, least, lessens, AreLeast, BeginsAt};
 ghost use Rattle.reg_marks.specs.MarkLaws.{joined_marks, merged_marks, AlwaysAgree, marks_laws};
 
-use crate::mark::{Mark, Target, comes_first, is_at, is_below};
+use crate::mark::{Mark, Target, comes_first, covers, is_at, is_below};
 use reg_join::{Join, JoinFault};
 use reg_op::OpId;
 use std::alloc::{AllocError, Global};
 use std::convert::Infallible;
 use std::marker::Model;
 
-/// The least mark of each target: by the entry, and for an entry its retirement before its supersessions.
+/// The least mark of each entry that is retired, or else of each pair of which one supersedes the other. They are sorted.
 #[derive(Drop)]
 pub struct Marks {
     marks: Vec<Mark>,
@@ -79,6 +80,62 @@ impl Marks {
         }
     }
 
+    /// Whether beside some mark there is no need of this one.
+    pub fn lessens(&self, mark: &Mark) -> bool
+        ensures { result ≡ any (λ p. lessens p mark.now) self.now }
+    {
+        if self.has_earlier(mark) {
+            return true;
+        }
+        match mark.target.by {
+            None => false,
+            Some(_) => self.is_retired(mark.target.entry),
+        }
+    }
+
+    fn is_retired(&self, entry: OpId) -> bool
+        ensures { result ≡ any (λ p. is_at (record { entry = entry; by = None }) p) self.now }
+    {
+        match self.least(&Target { entry, by: None }) {
+            Some(_) => true,
+            None => false,
+        }
+    }
+
+    // Whether a lesser id marks the same.
+    fn has_earlier(&self, mark: &Mark) -> bool
+        ensures { result ≡ any (λ p. is_at mark.now.target p && is_before p.id mark.now.id) self.now }
+    {
+        match self.least(&mark.target) {
+            Some(least) => least.is_before(&mark.id),
+            None => false,
+        }
+    }
+
+    /// Whether a mark at the target would make some mark needless, if it came first.
+    pub fn has_covered(&self, target: &Target) -> bool
+        ensures { result ≡ any (λ m. covers target.now m) self.now }
+    {
+        match first_from(&self.marks, target) {
+            Some(first) => covers(target, &first),
+            None => false,
+        }
+    }
+
+    /// Takes one more mark, without those of which there is no need beside it. A needless one changes nothing.
+    pub fn insert(&mut self, mark: Mark) -> Result<(), AllocError>
+        ensures ok { OnOk result (self.new ≡ least (set.insert self.old mark)) }
+        ensures err { OnErr result (self.new ≡ self.old) }
+    {
+        if self.lessens(&mark) {
+            return Ok(());
+        }
+        self.marks.reserve(1)?;
+        remove_covered(&mut self.marks, &mark.target);
+        put_in_place(&mut self.marks, mark);
+        Ok(())
+    }
+
     /// A copy in memory of its own.
     pub fn try_clone(&self, alloc: Global) -> Result<Marks, AllocError>
         ensures { IfOk result (λ copy. copy ≡ self.now) }
@@ -101,6 +158,34 @@ fn first_from(marks: &[Mark], target: &Target) -> Option<Mark>
     None
 }
 
+// Removes what a mark at the target makes needless. There is seldom any.
+fn remove_covered(marks: &mut Vec<Mark>, target: &Target)
+    requires { IsSorted mark_cmp marks.old.items }
+    ensures items { marks.new.items ≡ filter (λ m. not (covers target.now m)) marks.old.items }
+    ensures len { vec_len marks.new ≤ vec_len marks.old }
+    ensures capacity { vec_capacity marks.new ≡ vec_capacity marks.old }
+{
+    let Some(first) = first_from(marks, target) else {
+        return;
+    };
+    if covers(target, &first) {
+        marks.retain(|mark| !covers(target, mark));
+    }
+}
+
+// Puts a mark before the first that is not below it. There is room.
+fn put_in_place(marks: &mut Vec<Mark>, mark: Mark)
+    requires sorted { IsSorted mark_cmp marks.old.items }
+    requires room { vec_len marks.old < vec_capacity marks.old }
+    ensures sorted { IsSorted mark_cmp marks.new.items }
+    ensures put { (i : ℕ) × (marks.new.items ≡ insert marks.old.items i mark) }
+{
+    let at = marks.partition_point(|other| comes_first(other, &mark));
+    if let Err(_) = marks.insert(at, mark) {
+        return;
+    }
+}
+
 // The least marks of a list, sorted.
 fn least_of(alloc: Global, all: Vec<Mark>) -> Result<Vec<Mark>, AllocError>
     ensures sorted { IfOk result (λ made. IsSorted mark_cmp made.items) }
@@ -111,7 +196,7 @@ fn least_of(alloc: Global, all: Vec<Mark>) -> Result<Vec<Mark>, AllocError>
     firsts_of(alloc, &sorted)
 }
 
-// The first mark of each target.
+// The marks that none before them covers.
 fn firsts_of(alloc: Global, sorted: &[Mark]) -> Result<Vec<Mark>, AllocError>
     ensures { IfOk result (λ made. made.items ≡ firsts None sorted.now) }
 {
@@ -119,7 +204,7 @@ fn firsts_of(alloc: Global, sorted: &[Mark]) -> Result<Vec<Mark>, AllocError>
     let mut last: Option<Target> = None;
     let mut rest = sorted;
     while let Some((mark, others)) = rest.split_first() {
-        if !was_at(&last, mark) {
+        if !is_covered(&last, mark) {
             made.push(*mark)?;
             last = Some(mark.target);
         }
@@ -128,12 +213,12 @@ fn firsts_of(alloc: Global, sorted: &[Mark]) -> Result<Vec<Mark>, AllocError>
     Ok(made)
 }
 
-fn was_at(last: &Option<Target>, mark: &Mark) -> bool
-    ensures { result ≡ was_at last.now mark.now }
+fn is_covered(last: &Option<Target>, mark: &Mark) -> bool
+    ensures { result ≡ is_covered last.now mark.now }
 {
     match last {
         None => false,
-        Some(target) => is_at(mark, target),
+        Some(target) => covers(target, mark),
     }
 }
 

@@ -101,9 +101,9 @@ still_replaced : (r p a b t u : Bool) → (not r && a) ≡ (not r && (t || u)) �
 still_replaced true p a b t u h = refl
 still_replaced false p a b t u h = ap (λ x. not p && (x || b)) h ∙ ap (λ x. not p && x) (or_assoc t u b)
 
-module _ (c : Command) (ops : Ops) (before : List Id) (y : Content) (i f : Id) where
+module _ (c : Command) (ops : Ops) (before : List Id) (y : Content) (i f : Id) (note : List ℕ) where
   abbrev o : Op
-  o = record { id = i; body = effect_of c f }
+  o = record { id = i; body = effect_of c f; note = note }
 
   abbrev s : Ops
   s = set.union y.ops (one o)
@@ -156,26 +156,26 @@ faults c ops before (e ∷ es) = else_next (fault_of c ops (list_any (is_same e)
 abbrev pub effects : Command → List Id → List Body
 effects c es = map (effect_of c) es
 
-against : (c : Command) (ops : Ops) (before : List Id) (y : Content) (replica : List ℕ) (n : ℕ) (es : List Id) → Grown c ops before y.ops → objections y (numbered replica n (effects c es)) ≡ faults c ops before es
-against c ops before y replica n [] g = refl
-against c ops before y replica n (e ∷ es) g =
+against : (c : Command) (ops : Ops) (before : List Id) (y : Content) (replica : List ℕ) (n : ℕ) (note : List ℕ) (es : List Id) → Grown c ops before y.ops → objections y (numbered replica n note (effects c es)) ≡ faults c ops before es
+against c ops before y replica n note [] g = refl
+against c ops before y replica n note (e ∷ es) g =
     let i : Id = id_at replica n in
-    (λ k. else_next (objection_is c ops before y.ops e g k) (against c ops (before ++ e ∷ []) (with_op y (record { id = i; body = effect_of c e })) replica (n + 1) es (grown_more c ops before y i e g) k))
+    (λ k. else_next (objection_is c ops before y.ops e g k) (against c ops (before ++ e ∷ []) (with_op y (record { id = i; body = effect_of c e; note = note })) replica (n + 1) note es (grown_more c ops before y i e note g) k))
 
-pub objections_are : (c : Command) (x : Content) (replica : List ℕ) (n : ℕ) (es : List Id) → objections x (numbered replica n (effects c es)) ≡ faults c x.ops [] es
-objections_are c x replica n es = against c x.ops [] x replica n es (grown_none c x.ops)
+pub objections_are : (c : Command) (x : Content) (replica : List ℕ) (n : ℕ) (note : List ℕ) (es : List Id) → objections x (numbered replica n note (effects c es)) ≡ faults c x.ops [] es
+objections_are c x replica n note es = against c x.ops [] x replica n note es (grown_none c x.ops)
 
 -- the first of those that are left is at fault
-pub first_at : (c : Command) (x : Content) (replica : List ℕ) (n : ℕ) (es : List Id) (k : ℕ) (e : Id) (f : OfficeFault) → k < length es → e ≡ get_or es k e
-    → faults c x.ops [] es ≡ faults c x.ops (take k es) (drop k es) → Some f ≡ fault_of c x.ops (list_any (is_same e) (take k es)) e → Some f ≡ objections x (numbered replica n (effects c es))
-first_at c x replica n es k e f h at walked found =
-    sym (objections_are c x replica n es ∙ walked
+pub first_at : (c : Command) (x : Content) (replica : List ℕ) (n : ℕ) (note : List ℕ) (es : List Id) (k : ℕ) (e : Id) (f : OfficeFault) → k < length es → e ≡ get_or es k e
+    → faults c x.ops [] es ≡ faults c x.ops (take k es) (drop k es) → Some f ≡ fault_of c x.ops (list_any (is_same e) (take k es)) e → Some f ≡ objections x (numbered replica n note (effects c es))
+first_at c x replica n note es k e f h at walked found =
+    sym (objections_are c x replica n note es ∙ walked
     ∙ ap (faults c x.ops (take k es)) (drop_more es k e h)
     ∙ (λ j. else_next (fault_of c x.ops (list_any (is_same (sym at j)) (take k es)) (sym at j)) (faults c x.ops (take k es ++ sym at j ∷ []) (drop (k + 1) es)))
     ∙ (λ j. else_next (sym found j) (faults c x.ops (take k es ++ e ∷ []) (drop (k + 1) es))))
 
-pub none_left : (c : Command) (x : Content) (replica : List ℕ) (n : ℕ) (es : List Id) (k : ℕ) → length es ≤ k → faults c x.ops [] es ≡ faults c x.ops (take k es) (drop k es) → None ≡ objections x (numbered replica n (effects c es))
-none_left c x replica n es k h walked = sym (objections_are c x replica n es ∙ walked ∙ ap (faults c x.ops (take k es)) (drop_all k es h))
+pub none_left : (c : Command) (x : Content) (replica : List ℕ) (n : ℕ) (note : List ℕ) (es : List Id) (k : ℕ) → length es ≤ k → faults c x.ops [] es ≡ faults c x.ops (take k es) (drop k es) → None ≡ objections x (numbered replica n note (effects c es))
+none_left c x replica n note es k h walked = sym (objections_are c x replica n note es ∙ walked ∙ ap (faults c x.ops (take k es)) (drop_all k es h))
 
 -- ---- a command that is not refused has possible effects
 
@@ -193,8 +193,8 @@ not_of_itself (Supersede old) ops e h s = told (enters ops old) (enters ops e) (
     told true false same r q p h s = cc
     told false b same r q p h s = cc
 
-pub possible : (c : Command) (x : Content) (replica : List ℕ) (n : ℕ) (es : List Id) → objections x (numbered replica n (effects c es)) ≡ None → All (λ e. ¬ (IsOfItself (effect_of c e))) es
-possible c x replica n [] h = λ k d lt. absurd (omega arith)
-possible c x replica n (e ∷ es) h =
-    let p = nothing_against (objection x.ops (effect_of c e)) (objections (with_op x (record { id = id_at replica n; body = effect_of c e })) (numbered replica (n + 1) (effects c es))) h in
-    All-cons (λ i. ¬ (IsOfItself (effect_of c i))) e es (not_of_itself c x.ops e p.0) (possible c (with_op x (record { id = id_at replica n; body = effect_of c e })) replica (n + 1) es p.1)
+pub possible : (c : Command) (x : Content) (replica : List ℕ) (n : ℕ) (note : List ℕ) (es : List Id) → objections x (numbered replica n note (effects c es)) ≡ None → All (λ e. ¬ (IsOfItself (effect_of c e))) es
+possible c x replica n note [] h = λ k d lt. absurd (omega arith)
+possible c x replica n note (e ∷ es) h =
+    let p = nothing_against (objection x.ops (effect_of c e)) (objections (with_op x (record { id = id_at replica n; body = effect_of c e; note = note })) (numbered replica (n + 1) note (effects c es))) h in
+    All-cons (λ i. ¬ (IsOfItself (effect_of c i))) e es (not_of_itself c x.ops e p.0) (possible c (with_op x (record { id = id_at replica n; body = effect_of c e; note = note })) replica (n + 1) note es p.1)

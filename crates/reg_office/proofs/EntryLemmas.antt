@@ -1,8 +1,8 @@
 -- An entry has one row, whose text spells a value.
-use Rattle.std.proofs.Common.{◌≡◌, ℕ, Bool, true, false, cond, ◌&&◌, List, [], ◌∷◌, ◌++◌, append-nil, refl, sym, ap, ◌∙◌, subst, inl, inr, ◌⊎◌}
+use Rattle.std.proofs.Common.{◌≡◌, ℕ, true, false, cond, ◌&&◌, List, [], ◌∷◌, ◌++◌, append-nil, refl, sym, ap, ◌∙◌, subst, inl, inr}
 use Rattle.std.proofs.lemmas.Bool.{or_cases, or_left, or_right, and_from, and_parts, true≢false, false_from_ne_true}
 use Rattle.std.proofs.lemmas.List.Elements.{Contains-append_cases, filter-append}
-use Rattle.std.specs.List.{Contains, list_any, flat_map, filter}
+use Rattle.std.specs.List.{Contains, flat_map, filter}
 use Rattle.std.specs.Cmp.{Equal-is, tied_itself}
 use Rattle.std.specs.Ordering.{is_eq, eq_by_cmp}
 use Rattle.csv.specs.Writing.{row_text, default_writer}
@@ -33,27 +33,28 @@ use Rattle.reg_office.proofs.WorldReports.{one_line, same_lines}
 abbrev rows_in : Ops → List Op → List Row
 rows_in s os = flat_map (λ (o : Op). rows_at s o.id o.body) os
 
-row_at : (s : Ops) (o : Op) (b : Body) (r : Row) → o.body ≡ b → Contains (rows_at s o.id b) r → o ≡ entering r.entry r.definition
+row_at : (s : Ops) (o : Op) (b : Body) (r : Row) → o.body ≡ b → Contains (rows_at s o.id b) r → o ≡ entering r.entry r.definition o.note
 row_at s o (Enter text) r e h = elim (in_cons r _ [] h) [
-  | inl same ↦ (λ k. record { id = o.id; body = e k }) ∙ sym (ap (λ (q : Row). entering q.entry q.definition) same)
+  | inl same ↦ (λ k. record { id = o.id; body = e k; note = o.note }) ∙ sym (ap (λ (q : Row). entering q.entry q.definition o.note) same)
   | inr later ↦ absurd (none_in r later)
 ]
 row_at s o (Supersede old newer) r e h = absurd (none_in r h)
 row_at s o (Retire entry) r e h = absurd (none_in r h)
 
-row_among : (s : Ops) (os : List Op) (r : Row) → Contains (rows_in s os) r → has os (entering r.entry r.definition) ≡ true
+row_among : (s : Ops) (os : List Op) (r : Row) → Contains (rows_in s os) r → (note : List ℕ) × (has os (entering r.entry r.definition note) ≡ true)
 row_among s [] r h = absurd (none_in r h)
 row_among s (o ∷ os) r h = elim (Contains-append_cases (rows_at s o.id o.body) (rows_in s os) r h) [
-  | inl here ↦ or_left _ (has os (entering r.entry r.definition)) (subst (λ p. eq_by_cmp op_cmp p o ≡ true) (row_at s o o.body r refl here) (ap is_eq (tied_itself op_total o)))
-  | inr later ↦ or_right (eq_by_cmp op_cmp (entering r.entry r.definition) o) _ (row_among s os r later)
+  | inl here ↦ (o.note, or_left _ (has os (entering r.entry r.definition o.note)) (subst (λ p. eq_by_cmp op_cmp p o ≡ true) (row_at s o o.body r refl here) (ap is_eq (tied_itself op_total o))))
+  | inr later ↦ let rest = row_among s os r later in (rest.0, or_right (eq_by_cmp op_cmp (entering r.entry r.definition rest.0) o) _ rest.1)
 ]
 
-pub row_is_entered : (s : Ops) (r : Row) → Contains (rows s) r → contains s (entering r.entry r.definition) ≡ true
-row_is_entered s r h = contains-items s (entering r.entry r.definition) ∙ row_among s (set.items s) r h
+pub row_is_entered : (s : Ops) (r : Row) → Contains (rows s) r → (note : List ℕ) × (contains s (entering r.entry r.definition note) ≡ true)
+row_is_entered s r h = let there = row_among s (set.items s) r h in (there.0, contains-items s (entering r.entry r.definition there.0) ∙ there.1)
 
 pub row_is_spelled : (x : Content) → IsContent x → (r : Row) → Contains (rows x.ops) r → (crs : Crs) × IsCrsOf crs r.definition
 row_is_spelled x is r h =
-    let d = (is.are_operations (entering r.entry r.definition) (row_is_entered x.ops r h)).body in
+    let there = row_is_entered x.ops r h in
+    let d = (is.are_operations (entering r.entry r.definition there.0) there.1).body in
     (d.crs, (d.canonical, spelled_by_definition r.definition d))
 
 -- ---- the rows of one entry
@@ -94,15 +95,15 @@ pub record IsRowOf (e : Id) (rs : List Row) (r : Row) : Type 0 where
   pub alone : of_entry e rs ≡ r ∷ []
   pub entry : r.entry ≡ e
 
-one_row : (s : Ops) (e : Id) (text : List ℕ) (os : List Op) → ById os → has os (entering e text) ≡ true → (r : Row) × IsRowOf e (rows_in s os) r
-one_row s e text [] up h = absurd (true≢false (sym h))
-one_row s e text (o ∷ os) up h = elim (or_cases (eq_by_cmp op_cmp (entering e text) o) (has os (entering e text)) h) [
+one_row : (s : Ops) (e : Id) (text note : List ℕ) (os : List Op) → ById os → has os (entering e text note) ≡ true → (r : Row) × IsRowOf e (rows_in s os) r
+one_row s e text note [] up h = absurd (true≢false (sym h))
+one_row s e text note (o ∷ os) up h = elim (or_cases (eq_by_cmp op_cmp (entering e text note) o) (has os (entering e text note)) h) [
   | inl same ↦
-      let is : entering e text ≡ o = op_exact (entering e text) o ((Equal-is (op_cmp (entering e text) o)).0 same) in
+      let is : entering e text note ≡ o = op_exact (entering e text note) o ((Equal-is (op_cmp (entering e text note) o)).0 same) in
       subst (λ p. (r : Row) × IsRowOf e (rows_in s (p ∷ os)) r) is (here (subst (λ (p : Op). AllAfter p.id os) (sym is) up.0))
   | inr later ↦
-      let rest = one_row s e text os up.1 later in
-      let before : is_before o.id e ≡ true = is_after_first o.id os (entering e text) up.0 later in
+      let rest = one_row s e text note os up.1 later in
+      let before : is_before o.id e ≡ true = is_after_first o.id os (entering e text note) up.0 later in
       let other : is_same e o.id ≡ false = false_from_ne_true _ (λ same. not_before_itself o.id (subst (λ i. is_before o.id i ≡ true) (is_same_exact e o.id same) before)) in (
         rest.0,
         record {
@@ -112,7 +113,7 @@ one_row s e text (o ∷ os) up h = elim (or_cases (eq_by_cmp op_cmp (entering e 
       )
 ]
   where
-    here : AllAfter e os → (r : Row) × IsRowOf e (rows_in s (entering e text ∷ os)) r
+    here : AllAfter e os → (r : Row) × IsRowOf e (rows_in s (entering e text note ∷ os)) r
     here after = (
       entry_row s e text,
       record {
@@ -126,11 +127,11 @@ row_of_entry x is e h =
     let m = member_from_any op_total op_exact (λ (o : Op). is_same e o.id && is_enter o.body) x.ops h in
     let parts = and_parts _ _ m.2 in
     let there : has (set.items x.ops) m.0 ≡ true = sym (contains-items x.ops m.0) ∙ m.1 in
-    let row = one_row x.ops e (text_of m.0.body) (set.items x.ops) (items_by_id x.ops is.one_body) (subst (λ o. has (set.items x.ops) o ≡ true) (enters_text m.0 m.0.body refl (is_same_exact e m.0.id parts.0) parts.1) there) in
+    let row = one_row x.ops e (text_of m.0.body) m.0.note (set.items x.ops) (items_by_id x.ops is.one_body) (subst (λ o. has (set.items x.ops) o ≡ true) (enters_text m.0 m.0.body refl (is_same_exact e m.0.id parts.0) parts.1) there) in
     (row.0, row.1.alone, row.1.entry)
   where
-    enters_text : (o : Op) (b : Body) → o.body ≡ b → e ≡ o.id → is_enter b ≡ true → o ≡ entering e (text_of o.body)
-    enters_text o (Enter text) is same h = λ k. record { id = sym same k; body = (is ∙ ap Enter (sym (ap text_of is))) k }
+    enters_text : (o : Op) (b : Body) → o.body ≡ b → e ≡ o.id → is_enter b ≡ true → o ≡ entering e (text_of o.body) o.note
+    enters_text o (Enter text) is same h = λ k. record { id = sym same k; body = (is ∙ ap Enter (sym (ap text_of is))) k; note = o.note }
     enters_text o (Supersede old newer) is same h = absurd (true≢false (sym h))
     enters_text o (Retire entry) is same h = absurd (true≢false (sym h))
 

@@ -15,11 +15,13 @@ pub mod OneLemmas
 pub mod WorldCommands
 pub mod WorldInvariant
 pub mod WorldComes
+pub mod WorldShelves
 pub mod WorldLemmas
 pub mod WorldFollows
 pub mod WorldGaps
 pub mod WorldReports
 pub mod WorldSteps
+pub mod WorldStops
 pub mod WorldMade
 pub mod EntryLemmas
 pub mod WorldSame

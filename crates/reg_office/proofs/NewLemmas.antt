@@ -26,7 +26,7 @@ use Rattle.reg_office.specs.declared.command.Command.{Command}
 use Rattle.reg_office.specs.declared.command.Command.TheVariants.{Retire, Supersede}
 use Rattle.reg_office.specs.declared.fault.OfficeFault.{OfficeFault}
 use Rattle.reg_office.specs.declared.fault.OfficeFault.TheVariants as fault
-use Rattle.reg_office.specs.Making.{greatest, numbered, objections, is_spent, made_unless, made}
+use Rattle.reg_office.specs.Making.{greatest, numbered, objections, else_next, note_fault, is_spent, made_unless, made}
 use Rattle.reg_office.specs.Effects.{effect_of, fault_of}
 use Rattle.reg_office.proofs.EffectLemmas.{chain, faults, effects, objections_are, nothing_against}
 use Rattle.reg_office.proofs.NumberLemmas.{op_cases}
@@ -76,11 +76,11 @@ each_new c ops before (f ∷ fs) h e m =
 
 -- ---- the operations of a command replace none of one another
 
-pub member_of : (f : Id → Body) (r : List ℕ) (n : ℕ) (es : List Id) (o : Op) → has (numbered r n (map f es)) o ≡ true → (e : Id) × (list_any (is_same e) es ≡ true) × (o.body ≡ f e)
-member_of f r n [] o h = absurd (true≢false (sym h))
-member_of f r n (e ∷ es) o h = elim (op_cases o _ (numbered r (n + 1) (map f es)) h) [
+pub member_of : (f : Id → Body) (r : List ℕ) (n : ℕ) (note : List ℕ) (es : List Id) (o : Op) → has (numbered r n note (map f es)) o ≡ true → (e : Id) × (list_any (is_same e) es ≡ true) × (o.body ≡ f e)
+member_of f r n note [] o h = absurd (true≢false (sym h))
+member_of f r n note (e ∷ es) o h = elim (op_cases o _ (numbered r (n + 1) note (map f es)) h) [
   | inl a ↦ (e, or_left (is_same e e) _ (same_itself e), ap (λ (p : Op). p.body) a)
-  | inr a ↦ let m = member_of f r (n + 1) es o a in (m.0, or_right (is_same m.0 e) _ m.1, m.2)
+  | inr a ↦ let m = member_of f r (n + 1) note es o a in (m.0, or_right (is_same m.0 e) _ m.1, m.2)
 ]
 
 same_effect : (c : Command) (before : Bool) (e f : Id) → replaces_body before (effect_of c e) (effect_of c f) ≡ true → is_same e f ≡ true
@@ -90,21 +90,21 @@ same_effect (Supersede old) before e f h = (and_parts _ _ (and_parts _ _ h).1).0
 same_entry : (c : Command) (p o : Op) (e f : Id) → p.body ≡ effect_of c e → o.body ≡ effect_of c f → replaces p o ≡ true → e ≡ f
 same_entry c p o e f a b h = is_same_exact e f (same_effect c (is_before p.id o.id) e f (subst (λ x. replaces_body (is_before p.id o.id) (effect_of c e) x ≡ true) b (subst (λ x. replaces_body (is_before p.id o.id) x o.body ≡ true) a h)))
 
-pub none_replaces : (c : Command) (r : List ℕ) (n : ℕ) (es : List Id) → Distinct es → (p o : Op) → has (numbered r n (effects c es)) p ≡ true → has (numbered r n (effects c es)) o ≡ true → replaces p o ≡ true → ⊥
-none_replaces c r n [] d p o h k over = true≢false (sym h)
-none_replaces c r n (e ∷ es) d p o h k over =
-    elim (op_cases p _ (numbered r (n + 1) (effects c es)) h) [
-      | inl a ↦ elim (op_cases o _ (numbered r (n + 1) (effects c es)) k) [
+pub none_replaces : (c : Command) (r : List ℕ) (n : ℕ) (note : List ℕ) (es : List Id) → Distinct es → (p o : Op) → has (numbered r n note (effects c es)) p ≡ true → has (numbered r n note (effects c es)) o ≡ true → replaces p o ≡ true → ⊥
+none_replaces c r n note [] d p o h k over = true≢false (sym h)
+none_replaces c r n note (e ∷ es) d p o h k over =
+    elim (op_cases p _ (numbered r (n + 1) note (effects c es)) h) [
+      | inl a ↦ elim (op_cases o _ (numbered r (n + 1) note (effects c es)) k) [
         | inl b ↦ replaces_irreflexive o (subst (λ q. replaces q o ≡ true) (a ∙ sym b) over)
         | inr b ↦
-            let m = member_of (effect_of c) r (n + 1) es o b in
+            let m = member_of (effect_of c) r (n + 1) note es o b in
             true≢false (sym (subst (λ i. list_any (is_same i) es ≡ true) (sym (same_entry c p o e m.0 (ap (λ (q : Op). q.body) a) m.2 over)) m.1) ∙ d.0)
       ]
-      | inr a ↦ elim (op_cases o _ (numbered r (n + 1) (effects c es)) k) [
+      | inr a ↦ elim (op_cases o _ (numbered r (n + 1) note (effects c es)) k) [
         | inl b ↦
-            let m = member_of (effect_of c) r (n + 1) es p a in
+            let m = member_of (effect_of c) r (n + 1) note es p a in
             true≢false (sym (subst (λ i. list_any (is_same i) es ≡ true) (same_entry c p o m.0 e m.2 (ap (λ (q : Op). q.body) b) over) m.1) ∙ d.0)
-        | inr b ↦ none_replaces c r (n + 1) es d.1 p o a b over
+        | inr b ↦ none_replaces c r (n + 1) note es d.1 p o a b over
       ]
     ]
 
@@ -127,8 +127,8 @@ drops_none os free = ap (option_map (λ (o : Op). o.id)) (find_none (λ o. any (
     let p = member_from_any op_total op_exact (λ p. replaces p o.0) (of_list os) o.2 in
     free p.0 o.0 (in_list os p.0 p.1) (in_list os o.0 o.1) p.2)))
 
-pub none_dropped : (c : Command) (x : Content) (r : List ℕ) (n : ℕ) (es : List Id) → objections x (numbered r n (effects c es)) ≡ None → first_dropped (of_list (numbered r n (effects c es))) ≡ None
-none_dropped c x r n es h = drops_none (numbered r n (effects c es)) (none_replaces c r n es (named_once c x.ops [] es (sym (objections_are c x r n es) ∙ h)).0)
+pub none_dropped : (c : Command) (x : Content) (r : List ℕ) (n : ℕ) (note : List ℕ) (es : List Id) → objections x (numbered r n note (effects c es)) ≡ None → first_dropped (of_list (numbered r n note (effects c es))) ≡ None
+none_dropped c x r n note es h = drops_none (numbered r n note (effects c es)) (none_replaces c r n note es (named_once c x.ops [] es (sym (objections_are c x r n note es) ∙ h)).0)
 
 -- ---- nothing that was there replaces them
 
@@ -153,20 +153,20 @@ pair_new old newer true true false false true t h k = cc
 pair_new old newer true true false false false true h k = cc
 pair_new old newer true true false false false false h k = true≢false (sym k)
 
-none_above : (c : Command) (ops : Ops) (e : Id) → fault_of c ops false e ≡ None → (i : Id) (b : Body) (before : Bool) → contains ops (record { id = i; body = b }) ≡ true → replaces_body before b (effect_of c e) ≡ true → ⊥
-none_above Retire ops e h i (Enter text) before m over = true≢false (sym over)
-none_above Retire ops e h i (Superseding a n) before m over = true≢false (sym over)
-none_above Retire ops e h i (Retiring f) before m over =
-    two_new e (enters ops e) (retires ops e) h (any_from_member op_total op_exact (λ o. is_retirement e o.body) ops (record { id = i; body = Retiring f }) m (is_same_back f e (and_parts _ _ over).0))
-none_above (Supersede old) ops e h i (Enter text) before m over = true≢false (sym over)
-none_above (Supersede old) ops e h i (Retiring f) before m over =
+none_above : (c : Command) (ops : Ops) (e : Id) → fault_of c ops false e ≡ None → (i : Id) (b : Body) (t : List ℕ) (before : Bool) → contains ops (record { id = i; body = b; note = t }) ≡ true → replaces_body before b (effect_of c e) ≡ true → ⊥
+none_above Retire ops e h i (Enter text) t before m over = true≢false (sym over)
+none_above Retire ops e h i (Superseding a n) t before m over = true≢false (sym over)
+none_above Retire ops e h i (Retiring f) t before m over =
+    two_new e (enters ops e) (retires ops e) h (any_from_member op_total op_exact (λ o. is_retirement e o.body) ops (record { id = i; body = Retiring f; note = t }) m (is_same_back f e (and_parts _ _ over).0))
+none_above (Supersede old) ops e h i (Enter text) t before m over = true≢false (sym over)
+none_above (Supersede old) ops e h i (Retiring f) t before m over =
     old_stands old e (enters ops old) (enters ops e) (is_same old e) (retires ops old) (retires ops e) (is_replaced_by ops old e || false) h
-    (any_from_member op_total op_exact (λ o. is_retirement old o.body) ops (record { id = i; body = Retiring f }) m (is_same_back f old over))
-none_above (Supersede old) ops e h i (Superseding a n) before m over =
+    (any_from_member op_total op_exact (λ o. is_retirement old o.body) ops (record { id = i; body = Retiring f; note = t }) m (is_same_back f old over))
+none_above (Supersede old) ops e h i (Superseding a n) t before m over =
     let p = and_parts _ _ over in
     let q = and_parts _ _ p.1 in
     pair_new old e (enters ops old) (enters ops e) (is_same old e) (retires ops old) (retires ops e) (any (λ o. is_supersession old (is_same e) o.body) ops) h
-    (any_from_member op_total op_exact (λ o. is_supersession old (is_same e) o.body) ops (record { id = i; body = Superseding a n }) m (and_from _ _ (is_same_back a old p.0) (is_same_back n e q.0)))
+    (any_from_member op_total op_exact (λ o. is_supersession old (is_same e) o.body) ops (record { id = i; body = Superseding a n; note = t }) m (and_from _ _ (is_same_back a old p.0) (is_same_back n e q.0)))
 
 -- what nothing replaces is kept beside what was there
 joined_has : (x : Content) (os : List Op) (o : Op) → has os o ≡ true → Unreplaced os → ((p : Op) → contains x.ops p ≡ true → replaces p o ≡ true → ⊥) → contains (merged x (state (of_list os))).ops o ≡ true
@@ -182,16 +182,16 @@ not_refused : (f : Option OfficeFault) (spent : Bool) (os ps : List Op) → made
 not_refused None spent os ps h = refl
 not_refused (Some f) spent os ps h = cc
 
-pub effects_kept : (c : Command) (x : Content) (r : List ℕ) (es : List Id) (os : List Op) (o : Op) → made x r (effects c es) ≡ Ok os → has os o ≡ true → contains (merged x (state (of_list os))).ops o ≡ true
-effects_kept c x r es os o h k =
+pub effects_kept : (c : Command) (x : Content) (r note : List ℕ) (es : List Id) (os : List Op) (o : Op) → made x r note (effects c es) ≡ Ok os → has os o ≡ true → contains (merged x (state (of_list os))).ops o ≡ true
+effects_kept c x r note es os o h k =
     let n : ℕ = greatest r x.seen + 1 in
-    let are : os ≡ numbered r n (effects c es) = made_are x r (effects c es) os h in
-    let none : faults c x.ops [] es ≡ None = sym (objections_are c x r n es) ∙ not_refused (objections x (numbered r n (effects c es))) (is_spent (greatest r x.seen) (length (effects c es))) (numbered r n (effects c es)) os h in
-    let mine : has (numbered r n (effects c es)) o ≡ true = subst (λ l. has l o ≡ true) are k in
-    let m = member_of (effect_of c) r n es o mine in
+    let are : os ≡ numbered r n note (effects c es) = made_are x r note (effects c es) os h in
+    let none : faults c x.ops [] es ≡ None = sym (objections_are c x r n note es) ∙ (nothing_against (note_fault note) _ (not_refused (else_next (note_fault note) (objections x (numbered r n note (effects c es)))) (is_spent (greatest r x.seen) (length (effects c es))) (numbered r n note (effects c es)) os h)).1 in
+    let mine : has (numbered r n note (effects c es)) o ≡ true = subst (λ l. has l o ≡ true) are k in
+    let m = member_of (effect_of c) r n note es o mine in
     subst (λ l. contains (merged x (state (of_list l))).ops o ≡ true) (sym are)
-    (joined_has x (numbered r n (effects c es)) o mine (none_replaces c r n es (named_once c x.ops [] es none).0)
-    (λ p a over. none_above c x.ops m.0 (each_new c x.ops [] es none m.0 m.1) p.id p.body (is_before p.id o.id) a (subst (λ b. replaces_body (is_before p.id o.id) p.body b ≡ true) m.2 over)))
+    (joined_has x (numbered r n note (effects c es)) o mine (none_replaces c r n note es (named_once c x.ops [] es none).0)
+    (λ p a over. none_above c x.ops m.0 (each_new c x.ops [] es none m.0 m.1) p.id p.body p.note (is_before p.id o.id) a (subst (λ b. replaces_body (is_before p.id o.id) p.body b ≡ true) m.2 over)))
 
 -- nothing replaces an Enter
 over_enter : (before : Bool) (b : Body) (text : List ℕ) → replaces_body before b (Enter text) ≡ true → ⊥
@@ -199,14 +199,14 @@ over_enter before (Enter t) text h = true≢false (sym h)
 over_enter before (Superseding a n) text h = true≢false (sym h)
 over_enter before (Retiring e) text h = true≢false (sym h)
 
-over_none : (r : List ℕ) (n : ℕ) (text : List ℕ) (os : List Op) (p q : Op) → os ≡ numbered r n (Enter text ∷ []) → has os q ≡ true → replaces p q ≡ true → ⊥
-over_none r n text os p q are h over = elim (op_cases q _ [] (subst (λ l. has l q ≡ true) are h)) [
+over_none : (r : List ℕ) (n : ℕ) (note text : List ℕ) (os : List Op) (p q : Op) → os ≡ numbered r n note (Enter text ∷ []) → has os q ≡ true → replaces p q ≡ true → ⊥
+over_none r n note text os p q are h over = elim (op_cases q _ [] (subst (λ l. has l q ≡ true) are h)) [
   | inl e ↦ over_enter (is_before p.id q.id) p.body text (subst (λ (i : Op). replaces_body (is_before p.id q.id) p.body i.body ≡ true) e over)
   | inr e ↦ true≢false (sym e)
 ]
 
-pub entered_kept : (x : Content) (r text : List ℕ) (os : List Op) (o : Op) → made x r (Enter text ∷ []) ≡ Ok os → has os o ≡ true → contains (merged x (state (of_list os))).ops o ≡ true
-entered_kept x r text os o h k =
+pub entered_kept : (x : Content) (r note text : List ℕ) (os : List Op) (o : Op) → made x r note (Enter text ∷ []) ≡ Ok os → has os o ≡ true → contains (merged x (state (of_list os))).ops o ≡ true
+entered_kept x r note text os o h k =
     let n : ℕ = greatest r x.seen + 1 in
-    let are : os ≡ numbered r n (Enter text ∷ []) = made_are x r (Enter text ∷ []) os h in
-    joined_has x os o k (λ p q a b over. over_none r n text os p q are b over) (λ p a over. over_none r n text os p o are k over)
+    let are : os ≡ numbered r n note (Enter text ∷ []) = made_are x r note (Enter text ∷ []) os h in
+    joined_has x os o k (λ p q a b over. over_none r n note text os p q are b over) (λ p a over. over_none r n note text os p o are k over)

@@ -1,5 +1,5 @@
 -- What a command numbers is new, and of one body an id.
-use Rattle.std.proofs.Common.{◌≡◌, ℕ, ◌+◌, ◌-◌, ◌<◌, ◌≤◌, nat_lt, add-one, get_or, take, Bool, true, false, ◌&&◌, ◌||◌, cond, max, List, [], ◌∷◌, ◌++◌, map, length, Option, Some, None, Result, Ok, Err, zero, suc, refl, sym, ap, ◌∙◌, subst, inl, inr, ◌⊎◌, arith}
+use Rattle.std.proofs.Common.{◌≡◌, ℕ, ◌+◌, ◌-◌, ◌<◌, ◌≤◌, nat_lt, add-one, get_or, take, true, false, ◌&&◌, cond, max, List, [], ◌∷◌, ◌++◌, map, length, Some, None, Ok, Err, zero, suc, refl, sym, ap, ◌∙◌, subst, inl, inr, ◌⊎◌, arith}
 use Rattle.std.proofs.lemmas.Bool.Decides.{nat_tests}
 use Rattle.std.proofs.lemmas.List.{take_more, take_all, length-take}
 use Rattle.std.proofs.lemmas.Bool.{cases_lt, or_cases, or_left, or_right, true≢false}
@@ -25,7 +25,7 @@ use Rattle.reg_seen.specs.Runs.{replica_cmp, id_at, ids_from, ids_of_run, IsGrea
 use Rattle.reg_seen.proofs.RunLemmas.{same_replica, replica_itself}
 use Rattle.reg_office.specs.declared.fault.OfficeFault.{OfficeFault}
 use Rattle.reg_office.specs.declared.fault.OfficeFault.TheVariants as fault
-use Rattle.reg_office.specs.Making.{greatest_of, greatest, numbered, objections, is_spent, made_unless, made}
+use Rattle.reg_office.specs.Making.{greatest_of, greatest, numbered, objections, else_next, note_fault, is_spent, made_unless, made}
 use Rattle.reg_office.specs.Commands.{Does}
 
 -- the head or the tail of a list has it
@@ -36,26 +36,26 @@ op_cases o x xs h =
       | inr e ↦ inr e
     ]
 
-pub numbered_on : (r : List ℕ) (n : ℕ) (bs : List Body) (o : Op) → has (numbered r n bs) o ≡ true → (o.id.replica ≡ r) × (n ≤ o.id.count)
-numbered_on r n [] o h = absurd (true≢false (sym h))
-numbered_on r n (b ∷ bs) o h =
-    elim (op_cases o _ (numbered r (n + 1) bs) h) [
+pub numbered_on : (r : List ℕ) (n : ℕ) (note : List ℕ) (bs : List Body) (o : Op) → has (numbered r n note bs) o ≡ true → (o.id.replica ≡ r) × (n ≤ o.id.count)
+numbered_on r n note [] o h = absurd (true≢false (sym h))
+numbered_on r n note (b ∷ bs) o h =
+    elim (op_cases o _ (numbered r (n + 1) note bs) h) [
       | inl e ↦ (ap (λ p. p.id.replica) e, let c : o.id.count ≡ n = ap (λ p. p.id.count) e in omega arith)
-      | inr e ↦ let rest = numbered_on r (n + 1) bs o e in (rest.0, omega arith)
+      | inr e ↦ let rest = numbered_on r (n + 1) note bs o e in (rest.0, omega arith)
     ]
 
-pub numbered_once : (r : List ℕ) (n : ℕ) (bs : List Body) (p o : Op) → has (numbered r n bs) p ≡ true → has (numbered r n bs) o ≡ true → p.id ≡ o.id → p ≡ o
-numbered_once r n [] p o h k e = absurd (true≢false (sym h))
-numbered_once r n (b ∷ bs) p o h k e =
+pub numbered_once : (r : List ℕ) (n : ℕ) (note : List ℕ) (bs : List Body) (p o : Op) → has (numbered r n note bs) p ≡ true → has (numbered r n note bs) o ≡ true → p.id ≡ o.id → p ≡ o
+numbered_once r n note [] p o h k e = absurd (true≢false (sym h))
+numbered_once r n note (b ∷ bs) p o h k e =
     let counts : p.id.count ≡ o.id.count = ap (λ i. i.count) e in
-    elim (op_cases p _ (numbered r (n + 1) bs) h) [
-      | inl a ↦ elim (op_cases o _ (numbered r (n + 1) bs) k) [
+    elim (op_cases p _ (numbered r (n + 1) note bs) h) [
+      | inl a ↦ elim (op_cases o _ (numbered r (n + 1) note bs) k) [
         | inl c ↦ a ∙ sym c
-        | inr c ↦ let rest = numbered_on r (n + 1) bs o c in let here : p.id.count ≡ n = ap (λ q. q.id.count) a in absurd (omega arith)
+        | inr c ↦ let rest = numbered_on r (n + 1) note bs o c in let here : p.id.count ≡ n = ap (λ q. q.id.count) a in absurd (omega arith)
       ]
-      | inr a ↦ elim (op_cases o _ (numbered r (n + 1) bs) k) [
-        | inl c ↦ let rest = numbered_on r (n + 1) bs p a in let here : o.id.count ≡ n = ap (λ q. q.id.count) c in absurd (omega arith)
-        | inr c ↦ numbered_once r (n + 1) bs p o a c e
+      | inr a ↦ elim (op_cases o _ (numbered r (n + 1) note bs) k) [
+        | inl c ↦ let rest = numbered_on r (n + 1) note bs p a in let here : o.id.count ≡ n = ap (λ q. q.id.count) c in absurd (omega arith)
+        | inr c ↦ numbered_once r (n + 1) note bs p o a c e
       ]
     ]
 
@@ -106,61 +106,61 @@ greatest_is r seen n is =
 
 -- ---- what is numbered on was not seen
 
-pub number_is_new : (x : Content) (r : List ℕ) (bs : List Body) (o : Op) → has (numbered r (greatest r x.seen + 1) bs) o ≡ true → contains x.seen o.id ≡ true → ⊥
-number_is_new x r bs o h k =
-    let on = numbered_on r (greatest r x.seen + 1) bs o h in
+pub number_is_new : (x : Content) (r note : List ℕ) (bs : List Body) (o : Op) → has (numbered r (greatest r x.seen + 1) note bs) o ≡ true → contains x.seen o.id ≡ true → ⊥
+number_is_new x r note bs o h k =
+    let on = numbered_on r (greatest r x.seen + 1) note bs o h in
     let by = count-greatest r x.seen o.id k on.0 in
     absurd (omega arith)
 
-pub numbers_agree : (x : Content) (r : List ℕ) (bs : List Body) → IsContent x → OneBody (set.union x.ops (set.from_list {R = op_cmp} (numbered r (greatest r x.seen + 1) bs)))
-numbers_agree x r bs is p o a b e =
+pub numbers_agree : (x : Content) (r note : List ℕ) (bs : List Body) → IsContent x → OneBody (set.union x.ops (set.from_list {R = op_cmp} (numbered r (greatest r x.seen + 1) note bs)))
+numbers_agree x r note bs is p o a b e =
     elim (where_is p a) [
       | inl h ↦ elim (where_is o b) [
         | inl k ↦ is.one_body p o h k e
-        | inr k ↦ absurd (number_is_new x r bs o k (subst (λ i. contains x.seen i ≡ true) e (is.are_seen p h)))
+        | inr k ↦ absurd (number_is_new x r note bs o k (subst (λ i. contains x.seen i ≡ true) e (is.are_seen p h)))
       ]
       | inr h ↦ elim (where_is o b) [
-        | inl k ↦ absurd (number_is_new x r bs p h (subst (λ i. contains x.seen i ≡ true) (sym e) (is.are_seen o k)))
-        | inr k ↦ numbered_once r (greatest r x.seen + 1) bs p o h k e
+        | inl k ↦ absurd (number_is_new x r note bs p h (subst (λ i. contains x.seen i ≡ true) (sym e) (is.are_seen o k)))
+        | inr k ↦ numbered_once r (greatest r x.seen + 1) note bs p o h k e
       ]
     ]
   where
-    where_is : (q : Op) → contains (set.union x.ops (set.from_list {R = op_cmp} (numbered r (greatest r x.seen + 1) bs))) q ≡ true → (contains x.ops q ≡ true) ⊎ (has (numbered r (greatest r x.seen + 1) bs) q ≡ true)
-    where_is q h = elim (or_cases (contains x.ops q) (contains (set.from_list {R = op_cmp} (numbered r (greatest r x.seen + 1) bs)) q) (sym (contains_op-union x.ops (set.from_list (numbered r (greatest r x.seen + 1) bs)) q) ∙ h)) [
+    where_is : (q : Op) → contains (set.union x.ops (set.from_list {R = op_cmp} (numbered r (greatest r x.seen + 1) note bs))) q ≡ true → (contains x.ops q ≡ true) ⊎ (has (numbered r (greatest r x.seen + 1) note bs) q ≡ true)
+    where_is q h = elim (or_cases (contains x.ops q) (contains (set.from_list {R = op_cmp} (numbered r (greatest r x.seen + 1) note bs)) q) (sym (contains_op-union x.ops (set.from_list (numbered r (greatest r x.seen + 1) note bs)) q) ∙ h)) [
       | inl i ↦ inl i
-      | inr i ↦ inr (sym (contains-from_list op_total (numbered r (greatest r x.seen + 1) bs) q) ∙ i)
+      | inr i ↦ inr (sym (contains-from_list op_total (numbered r (greatest r x.seen + 1) note bs) q) ∙ i)
     ]
 
-pub numbers_join : (x : Content) (r : List ℕ) (bs : List Body) → IsContent x → (s : Ops) → s ≡ set.from_list {R = op_cmp} (numbered r (greatest r x.seen + 1) bs) → joined x (state s) ≡ Ok (merged x (state s))
-numbers_join x r bs is s e =
-    let one : OneBody (set.union x.ops s) = subst (λ t. OneBody (set.union x.ops t)) (sym e) (numbers_agree x r bs is) in
+pub numbers_join : (x : Content) (r note : List ℕ) (bs : List Body) → IsContent x → (s : Ops) → s ≡ set.from_list {R = op_cmp} (numbered r (greatest r x.seen + 1) note bs) → joined x (state s) ≡ Ok (merged x (state s))
+numbers_join x r note bs is s e =
+    let one : OneBody (set.union x.ops s) = subst (λ t. OneBody (set.union x.ops t)) (sym e) (numbers_agree x r note bs is) in
     joined_content x (state s) (OneBody-within (set.union x.ops (kept s)) (set.union x.ops s)
     (union_within x.ops (kept s) (set.union x.ops s) (union_left x.ops s) (λ o h. union_right x.ops s o (kept_is_within s o h))) one)
 
 -- ---- in a list
 
-after_numbered : (r : List ℕ) (m n : ℕ) (bs : List Body) → m < n → AllAfter (id_at r m) (numbered r n bs)
-after_numbered r m n [] h = tt
-after_numbered r m n (b ∷ bs) h = (before r m n h, after_numbered r m (n + 1) bs (omega arith))
+after_numbered : (r : List ℕ) (m n : ℕ) (note : List ℕ) (bs : List Body) → m < n → AllAfter (id_at r m) (numbered r n note bs)
+after_numbered r m n note [] h = tt
+after_numbered r m n note (b ∷ bs) h = (before r m n h, after_numbered r m (n + 1) note bs (omega arith))
   where
     before : (r : List ℕ) (m n : ℕ) → m < n → is_before (id_at r m) (id_at r n) ≡ true
     before r m n h = (λ k. is_lt (ordering_then (tied_itself nat_list_cmp_total r k) (nat_cmp m n))) ∙ ap is_lt (sym (nat_cmp_is m n Less h))
 
-pub numbered_by_id : (r : List ℕ) (n : ℕ) (bs : List Body) → ById (numbered r n bs)
-numbered_by_id r n [] = tt
-numbered_by_id r n (b ∷ bs) = (after_numbered r n (n + 1) bs (omega arith), numbered_by_id r (n + 1) bs)
+pub numbered_by_id : (r : List ℕ) (n : ℕ) (note : List ℕ) (bs : List Body) → ById (numbered r n note bs)
+numbered_by_id r n note [] = tt
+numbered_by_id r n note (b ∷ bs) = (after_numbered r n (n + 1) note bs (omega arith), numbered_by_id r (n + 1) note bs)
 
-pub numbered_ids : (r : List ℕ) (n : ℕ) (bs : List Body) → map (λ (o : Op). o.id) (numbered r n bs) ≡ ids_from r n (length bs)
-numbered_ids r n [] = refl
-numbered_ids r n (b ∷ bs) = ap (λ is. id_at r n ∷ is) (numbered_ids r (n + 1) bs)
+pub numbered_ids : (r : List ℕ) (n : ℕ) (note : List ℕ) (bs : List Body) → map (λ (o : Op). o.id) (numbered r n note bs) ≡ ids_from r n (length bs)
+numbered_ids r n note [] = refl
+numbered_ids r n note (b ∷ bs) = ap (λ is. id_at r n ∷ is) (numbered_ids r (n + 1) note bs)
 
 -- ---- one operation after another
 
-numbered_push : (r : List ℕ) (n : ℕ) (bs : List Body) (b : Body) → numbered r n (bs ++ b ∷ []) ≡ numbered r n bs ++ record { id = id_at r (n + length bs); body = b } ∷ []
-numbered_push r n [] b = let e : n ≡ n + 0 = omega arith in ap (λ m. record { id = id_at r m; body = b } ∷ []) e
-numbered_push r n (c ∷ bs) b =
+numbered_push : (r : List ℕ) (n : ℕ) (note : List ℕ) (bs : List Body) (b : Body) → numbered r n note (bs ++ b ∷ []) ≡ numbered r n note bs ++ record { id = id_at r (n + length bs); body = b; note = note } ∷ []
+numbered_push r n note [] b = let e : n ≡ n + 0 = omega arith in ap (λ m. record { id = id_at r m; body = b; note = note } ∷ []) e
+numbered_push r n note (c ∷ bs) b =
     let e : n + 1 + length bs ≡ n + (length bs + 1) = omega arith in
-    ap (λ os. record { id = id_at r n; body = c } ∷ os) (numbered_push r (n + 1) bs b ∙ ap (λ m. numbered r (n + 1) bs ++ record { id = id_at r m; body = b } ∷ []) (e ∙ ap (λ m. n + m) (add-one (length bs))))
+    ap (λ os. record { id = id_at r n; body = c; note = note } ∷ os) (numbered_push r (n + 1) note bs b ∙ ap (λ m. numbered r (n + 1) note bs ++ record { id = id_at r m; body = b; note = note } ∷ []) (e ∙ ap (λ m. n + m) (add-one (length bs))))
 
 map_push : {X Y : Type 0} (f : X → Y) (xs : List X) (x : X) → map f (xs ++ x ∷ []) ≡ map f xs ++ f x ∷ []
 map_push f [] x = refl
@@ -173,18 +173,18 @@ length_map f (x ∷ xs) = ap suc (length_map f xs)
 length_front : {X : Type 0} (k : ℕ) (xs : List X) → k < length xs → length (take k xs) ≡ k
 length_front k xs h = omega (arith, length-take k xs)
 
-pub numbered_more : (f : Id → Body) (r : List ℕ) (n : ℕ) (es : List Id) (k : ℕ) (e : Id) (os : List Op) (o : Op) → k < length es → e ≡ get_or es k e → os ≡ numbered r n (map f (take k es)) → o ≡ record { id = id_at r (n + k); body = f e }
-    → os ++ o ∷ [] ≡ numbered r n (map f (take (k + 1) es))
-numbered_more f r n es k e os o h at before is =
+pub numbered_more : (f : Id → Body) (r : List ℕ) (n : ℕ) (note : List ℕ) (es : List Id) (k : ℕ) (e : Id) (os : List Op) (o : Op) → k < length es → e ≡ get_or es k e → os ≡ numbered r n note (map f (take k es)) → o ≡ record { id = id_at r (n + k); body = f e; note = note }
+    → os ++ o ∷ [] ≡ numbered r n note (map f (take (k + 1) es))
+numbered_more f r n note es k e os o h at before is =
     (λ j. before j ++ is j ∷ [])
-    ∙ (λ j. numbered r n (map f (take k es)) ++ record { id = id_at r (n + sym (length_map f (take k es) ∙ length_front k es h) j); body = f e } ∷ [])
-    ∙ sym (numbered_push r n (map f (take k es)) (f e))
-    ∙ (λ j. numbered r n (sym (map_push f (take k es) e) j))
-    ∙ (λ j. numbered r n (map f (take k es ++ at j ∷ [])))
-    ∙ (λ j. numbered r n (map f (sym (take_more es k e h) j)))
+    ∙ (λ j. numbered r n note (map f (take k es)) ++ record { id = id_at r (n + sym (length_map f (take k es) ∙ length_front k es h) j); body = f e; note = note } ∷ [])
+    ∙ sym (numbered_push r n note (map f (take k es)) (f e))
+    ∙ (λ j. numbered r n note (sym (map_push f (take k es) e) j))
+    ∙ (λ j. numbered r n note (map f (take k es ++ at j ∷ [])))
+    ∙ (λ j. numbered r n note (map f (sym (take_more es k e h) j)))
 
-pub numbered_all : (f : Id → Body) (r : List ℕ) (n : ℕ) (es : List Id) (k : ℕ) (os : List Op) → length es ≤ k → os ≡ numbered r n (map f (take k es)) → os ≡ numbered r n (map f es)
-numbered_all f r n es k os h e = e ∙ ap (λ l. numbered r n (map f l)) (take_all k es h)
+pub numbered_all : (f : Id → Body) (r : List ℕ) (n : ℕ) (note : List ℕ) (es : List Id) (k : ℕ) (os : List Op) → length es ≤ k → os ≡ numbered r n note (map f (take k es)) → os ≡ numbered r n note (map f es)
+numbered_all f r n note es k os h e = e ∙ ap (λ l. numbered r n note (map f l)) (take_all k es h)
 
 -- ---- what is made
 
@@ -194,30 +194,30 @@ unspent limit g k h = grind (arith, nat_tests)
 spent : (limit g k : ℕ) → 0 < k → limit < g + k → (nat_lt 0 k && nat_lt limit (g + k)) ≡ true
 spent limit g k p h = grind (arith, nat_tests)
 
-pub made_ok : (x : Content) (r : List ℕ) (bs : List Body) → objections x (numbered r (greatest r x.seen + 1) bs) ≡ None → greatest r x.seen + length bs ≤ 4294967295 → made x r bs ≡ Ok (numbered r (greatest r x.seen + 1) bs)
-made_ok x r bs e h = λ j. made_unless (e j) (unspent 4294967295 (greatest r x.seen) (length bs) h j) (numbered r (greatest r x.seen + 1) bs)
+pub made_ok : (x : Content) (r note : List ℕ) (bs : List Body) → note_fault note ≡ None → objections x (numbered r (greatest r x.seen + 1) note bs) ≡ None → greatest r x.seen + length bs ≤ 4294967295 → made x r note bs ≡ Ok (numbered r (greatest r x.seen + 1) note bs)
+made_ok x r note bs a e h = λ j. made_unless (else_next (a j) (e j)) (unspent 4294967295 (greatest r x.seen) (length bs) h j) (numbered r (greatest r x.seen + 1) note bs)
 
-pub made_spent : (x : Content) (r : List ℕ) (bs : List Body) → objections x (numbered r (greatest r x.seen + 1) bs) ≡ None → 0 < length bs → 4294967295 < greatest r x.seen + length bs → made x r bs ≡ Err fault.CountSpent
-made_spent x r bs e p h = λ j. made_unless (e j) (spent 4294967295 (greatest r x.seen) (length bs) p h j) (numbered r (greatest r x.seen + 1) bs)
+pub made_spent : (x : Content) (r note : List ℕ) (bs : List Body) → note_fault note ≡ None → objections x (numbered r (greatest r x.seen + 1) note bs) ≡ None → 0 < length bs → 4294967295 < greatest r x.seen + length bs → made x r note bs ≡ Err fault.CountSpent
+made_spent x r note bs a e p h = λ j. made_unless (else_next (a j) (e j)) (spent 4294967295 (greatest r x.seen) (length bs) p h j) (numbered r (greatest r x.seen + 1) note bs)
 
-pub made_refused : (x : Content) (r : List ℕ) (bs : List Body) (f : OfficeFault) → objections x (numbered r (greatest r x.seen + 1) bs) ≡ Some f → made x r bs ≡ Err f
-made_refused x r bs f e = λ j. made_unless (e j) (is_spent (greatest r x.seen) (length bs)) (numbered r (greatest r x.seen + 1) bs)
+pub made_refused : (x : Content) (r note : List ℕ) (bs : List Body) (f : OfficeFault) → note_fault note ≡ None → objections x (numbered r (greatest r x.seen + 1) note bs) ≡ Some f → made x r note bs ≡ Err f
+made_refused x r note bs f a e = λ j. made_unless (else_next (a j) (e j)) (is_spent (greatest r x.seen) (length bs)) (numbered r (greatest r x.seen + 1) note bs)
 
 -- ---- one new operation
 
-pub one_made : (x : Content) (r : List ℕ) (b : Body) (o : Op) (i : Id) (n : ℕ) (v : Ids) → o ≡ record { id = i; body = b } → i ≡ record { replica = r; count = n } → n ≡ greatest r v + 1 → v ≡ x.seen
-    → o ≡ record { id = id_at r (greatest r x.seen + 1); body = b }
-one_made x r b o i n v e f g h = e ∙ (λ j. record { id = f j; body = b }) ∙ (λ j. record { id = id_at r (g j); body = b }) ∙ (λ j. record { id = id_at r (greatest r (h j) + 1); body = b })
+pub one_made : (x : Content) (r note : List ℕ) (b : Body) (o : Op) (i : Id) (t : List ℕ) (n : ℕ) (v : Ids) → o ≡ record { id = i; body = b; note = t } → t ≡ note → i ≡ record { replica = r; count = n } → n ≡ greatest r v + 1 → v ≡ x.seen
+    → o ≡ record { id = id_at r (greatest r x.seen + 1); body = b; note = note }
+one_made x r note b o i t n v e s f g h = e ∙ (λ j. record { id = f j; body = b; note = s j }) ∙ (λ j. record { id = id_at r (g j); body = b; note = note }) ∙ (λ j. record { id = id_at r (greatest r (h j) + 1); body = b; note = note })
 
-pub one_joins : (x : Content) (r : List ℕ) (b : Body) (o : Op) → IsContent x → o ≡ record { id = id_at r (greatest r x.seen + 1); body = b } → joined x (state (one o)) ≡ Ok (merged x (state (one o)))
-one_joins x r b o is e = numbers_join x r (b ∷ []) is (one o) (ap one e)
+pub one_joins : (x : Content) (r note : List ℕ) (b : Body) (o : Op) → IsContent x → o ≡ record { id = id_at r (greatest r x.seen + 1); body = b; note = note } → joined x (state (one o)) ≡ Ok (merged x (state (one o)))
+one_joins x r note b o is e = numbers_join x r note (b ∷ []) is (one o) (ap one e)
 
 -- an Enter meets no objection
-pub enter_done : (x y : Content) (r text : List ℕ) (o : Op) (i : Id) → o ≡ record { id = id_at r (greatest r x.seen + 1); body = Enter text } → i ≡ o.id → greatest r x.seen + 1 ≤ 4294967295 → joined x (state (one o)) ≡ Ok y
-    → Does x r (Enter text ∷ []) y (i ∷ [])
-enter_done x y r text o i e f h j = record {
-  ops = record { id = id_at r (greatest r x.seen + 1); body = Enter text } ∷ [];
-  are_made = made_ok x r (Enter text ∷ []) refl h;
+pub enter_done : (x y : Content) (r note text : List ℕ) (o : Op) (i : Id) → note_fault note ≡ None → o ≡ record { id = id_at r (greatest r x.seen + 1); body = Enter text; note = note } → i ≡ o.id → greatest r x.seen + 1 ≤ 4294967295 → joined x (state (one o)) ≡ Ok y
+    → Does x r note (Enter text ∷ []) y (i ∷ [])
+enter_done x y r note text o i a e f h j = record {
+  ops = record { id = id_at r (greatest r x.seen + 1); body = Enter text; note = note } ∷ [];
+  are_made = made_ok x r note (Enter text ∷ []) a refl h;
   are_joined = (λ k. joined x (state (one (sym e k)))) ∙ j;
   their_ids = (λ k. f k ∷ []) ∙ (λ k. (e k).id ∷ []);
 }
@@ -247,20 +247,20 @@ pub state_is : (os : List Op) (w : Ids) (r : Content) → r ≡ content_at os w 
 state_is os w r e is f = e ∙ same_content (content_at os w) (state (set.from_list os)) (sym (subst (λ (x : Content). kept x.ops ≡ x.ops) e is.is_kept)) f
 
 -- a run of numbers from a first one on
-pub run_of_numbered : (r : List ℕ) (n high : ℕ) (bs : List Body) (os : List Op) → 0 < length bs → high ≡ n + (length bs - 1) → os ≡ numbered r n bs → map (λ (o : Op). o.id) os ≡ ids_of_run (record { replica = r; low = n; high = high })
-run_of_numbered r n high bs os p h e =
+pub run_of_numbered : (r : List ℕ) (n high : ℕ) (note : List ℕ) (bs : List Body) (os : List Op) → 0 < length bs → high ≡ n + (length bs - 1) → os ≡ numbered r n note bs → map (λ (o : Op). o.id) os ≡ ids_of_run (record { replica = r; low = n; high = high })
+run_of_numbered r n high note bs os p h e =
     let count : length bs ≡ high + 1 - n = omega arith in
-    ap (map (λ (o : Op). o.id)) e ∙ numbered_ids r n bs ∙ ap (ids_from r n) count
+    ap (map (λ (o : Op). o.id)) e ∙ numbered_ids r n note bs ∙ ap (ids_from r n) count
 
 -- a command that names nothing makes nothing
-pub none_done : (x : Content) (r : List ℕ) (f : Id → Body) (es is : List Id) → IsContent x → length es ≡ 0 → is ≡ [] → Does x r (map f es) x is
-none_done x r f [] is content h e = record {
+pub none_done : (x : Content) (r note : List ℕ) (f : Id → Body) (es is : List Id) → note_fault note ≡ None → IsContent x → length es ≡ 0 → is ≡ [] → Does x r note (map f es) x is
+none_done x r note f [] is a content h e = record {
   ops = [];
-  are_made = refl;
+  are_made = λ j. made_unless (else_next (a j) None) false [];
   are_joined = ap (joined x) state-empty ∙ joined_comm x nothing ∙ joined_nothing x content;
   their_ids = e;
 }
-none_done x r f (i ∷ es) is content h e = absurd (omega arith)
+none_done x r note f (i ∷ es) is a content h e = absurd (omega arith)
 
 pub none_above : (v : Ids) (run : Run) → v ≡ set.empty → IsAbove v run
 none_above v run e i h = absurd (true≢false (sym h ∙ ap (λ t. contains t i) e ∙ contains-empty id_cmp i))

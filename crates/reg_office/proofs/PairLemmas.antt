@@ -1,5 +1,5 @@
 -- The pairs of an entry stand together among sorted pairs.
-use Rattle.std.proofs.Common.{◌≡◌, ℕ, ◌+◌, ◌-◌, ◌<◌, ◌≤◌, Bool, true, false, not, ◌&&◌, ◌||◌, cond, List, [], ◌∷◌, ◌++◌, map, length, get_or, take, drop, refl, sym, ap, ◌∙◌, subst, inl, inr, arith}
+use Rattle.std.proofs.Common.{◌≡◌, ℕ, ◌+◌, ◌-◌, ◌<◌, ◌≤◌, Bool, true, false, not, ◌&&◌, ◌||◌, List, [], ◌∷◌, map, length, get_or, take, drop, refl, sym, ap, ◌∙◌, subst, inl, inr, arith}
 use Rattle.std.proofs.lemmas.Bool.{true≢false, and_parts, and_from, false_from_ne_true, true_from_ne_false, not-true, cases_lt}
 use Rattle.std.proofs.lemmas.List.{get_or-drop, get_or-take, length-take, length-drop, take_all}
 use Rattle.std.proofs.lemmas.List.Folds.{list_any_at, list_any-append}
@@ -12,13 +12,13 @@ use Rattle.std.specs.declared.cmp.Ordering.{Ordering}
 use Rattle.std.specs.declared.cmp.Ordering.TheVariants.{Less, Equal, Greater}
 use Rattle.reg_op.specs.Set as set
 use Rattle.reg_op.specs.Set.{contains-from_list, same_set, items-from_list}
-use Rattle.reg_op.specs.Ids.{Id, Ids, id_cmp, is_same, is_before}
+use Rattle.reg_op.specs.Ids.{Id, id_cmp, is_same, is_before}
 use Rattle.reg_op.specs.Operations.{Op, Ops, op_cmp}
 use Rattle.reg_op.specs.declared.operation.OpBody.{OpBody as Body}
 use Rattle.reg_op.specs.declared.operation.OpBody.TheVariants.{Enter, Supersede, Retire}
 use Rattle.reg_op.specs.Finite.{any}
-use Rattle.reg_op.specs.Rows.{newer_in, newer_of}
-use Rattle.reg_op.specs.Status.{enters, is_enter, retires, is_supersession, is_replaced_by}
+use Rattle.reg_op.specs.Rows.{newer_of}
+use Rattle.reg_op.specs.Status.{enters, is_enter, retires, is_supersession}
 use Rattle.reg_op.proofs.PointLemmas.{index_of_any}
 use Rattle.reg_op.proofs.ClashLemmas.{tied_of, lt_id_itself}
 use Rattle.reg_op.proofs.OpLemmas.{id_total, id_exact, op_total, op_exact, is_same_exact}

@@ -1,18 +1,16 @@
 -- A file that was sent holds one thing, which has one file.
-use Rattle.std.proofs.Common.{◌≡◌, ℕ, ◌++◌, ◌<◌, ◌≤◌, get_or, Bool, true, false, not, ◌&&◌, List, length, Ok, refl, sym, ap, ◌∙◌, subst, inl, inr, ◌⊎◌, arith}
-use Rattle.std.proofs.lemmas.Bool.{cases_lt, and_parts, true≢false}
+use Rattle.std.proofs.Common.{◌≡◌, ℕ, true, List, length, refl, sym, ap, ◌∙◌, subst, inl, inr, ◌⊎◌}
+use Rattle.std.proofs.lemmas.Bool.{cases_lt, true≢false}
 use Rattle.reg_op.specs.Set as set
 use Rattle.reg_op.specs.Set.{contains, contains-empty}
-use Rattle.reg_op.specs.Ids.{Ids}
-use Rattle.reg_op.specs.Operations.{Op, Ops, op_cmp, ids, kept, OneBody}
-use Rattle.reg_op.specs.Contents.{Content, state, AreOperations, IsContent}
-use Rattle.reg_op.proofs.ContentLemmas.{state_is_content, kept_is_within}
-use Rattle.reg_op.specs.Pieces.{Piece, piece_for, IsPiece}
-use Rattle.reg_op.proofs.PieceLemmas.{outside_parts, piece_is}
+use Rattle.reg_op.specs.Operations.{Op, Ops, op_cmp}
+use Rattle.reg_op.specs.Contents.{Content, state, IsContent}
+use Rattle.reg_op.proofs.ContentLemmas.{kept_is_within}
+use Rattle.reg_op.specs.Pieces.{Piece, IsPiece}
+use Rattle.reg_op.proofs.PieceLemmas.{outside_parts}
 use Rattle.reg_seen.specs.Runs.{AllIds}
-use Rattle.reg_seen.proofs.CanonLemmas.{same_runs}
-use Rattle.reg_file.specs.Layout.{head, file, seen_file, piece_file}
-use Rattle.reg_file.specs.Files.{most, Holds, IsFileOf, IsSeenFileOf, IsPieceFileOf, HoldsSeen, HoldsPiece}
+use Rattle.reg_file.specs.Layout.{file, seen_file, piece_file}
+use Rattle.reg_file.specs.Files.{most, IsFileOf, IsSeenFileOf, IsPieceFileOf}
 use Rattle.reg_file.proofs.HoldLemmas.{one_content, one_file}
 use Rattle.reg_file.proofs.SummaryLemmas.{one_summary, one_file as one_seen_file}
 use Rattle.reg_file.proofs.PieceLemmas.{one_piece, one_file as one_piece_file}
@@ -57,7 +55,7 @@ has_file (OfRegister x) is =
     ]
 has_file (OfSeen v) is =
     let r = runs_of_ids v is in
-    let bytes : List ℕ = seen_file 1 r.0 in
+    let bytes : List ℕ = seen_file 2 r.0 in
     let are : IsSeenFileOf v bytes = record { runs = r.0; are_runs = r.1; all = r.2; whole = refl } in
     elim (cases_lt most (length bytes)) [
       | inl h ↦ inr (bytes, are, h)
@@ -66,7 +64,7 @@ has_file (OfSeen v) is =
 has_file (OfPiece p) is =
     let b = runs_of_ids p.basis is.are_ids in
     let r = runs_of_ids p.seen is.content.are_ids in
-    let bytes : List ℕ = piece_file 1 b.0 (set.items p.ops) r.0 in
+    let bytes : List ℕ = piece_file 2 b.0 (set.items p.ops) r.0 in
     let are : IsPieceFileOf p bytes = record { basis = b.0; are_basis = b.1; all_basis = b.2; runs = r.0; are_runs = r.1; all = r.2; whole = refl } in
     elim (cases_lt most (length bytes)) [
       | inl h ↦ inr (bytes, are, h)

@@ -1,10 +1,9 @@
 -- Lines of a report, one after another.
 use Rattle.std.proofs.Common.{◌≡◌, ℕ, List, [], ◌∷◌, ◌++◌, append_assoc, append-nil, map, length, arith, refl, sym, ap, ◌∙◌, subst}
 use Rattle.csv.specs.Writing.{row_text, default_writer}
-use Rattle.reg_op.specs.Rows.{Row as RowOf}
 use Rattle.reg_office.specs.declared.row.Row.{Row}
 use Rattle.reg_office.specs.Seen.{row_seen}
-use Rattle.reg_office.specs.Lines.{AreLines, IsSheet, Sheet, sheet_text, IsReady, WritesRow, IsEntryLine, entries_header}
+use Rattle.reg_office.specs.Lines.{AreLines, IsSheet, IsEntryLine, entries_header}
 
 -- what is still to come completes the report
 abbrev pub Completes : List Row → List Row → List ℕ → Type 0

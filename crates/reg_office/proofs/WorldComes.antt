@@ -1,5 +1,5 @@
 -- What comes of each event keeps the invariant.
-use Rattle.std.proofs.Common.{◌≡◌, ℕ, Bool, true, false, ◌||◌, cond, List, [], ◌∷◌, length, Option, Some, None, Ok, Err, refl, sym, ap, ◌∙◌, subst, inl, inr, ◌⊎◌, zero, suc, arith}
+use Rattle.std.proofs.Common.{◌≡◌, ℕ, Bool, true, false, ◌||◌, cond, List, [], ◌∷◌, Option, Some, None, Ok, Err, refl, sym, ap, ◌∙◌, subst, inl, inr, ◌⊎◌}
 use Rattle.std.proofs.lemmas.Bool.{or_cases, or_left, or_right, true≢false}
 use Rattle.std.specs.Cmp.{tied_itself}
 use Rattle.std.specs.Ordering.{is_eq, eq_by_cmp}
@@ -10,26 +10,24 @@ use Rattle.reg_op.specs.Ids.{Id, Ids, is_same}
 use Rattle.reg_op.specs.Lists.{has}
 use Rattle.reg_op.specs.Operations.{Op, Ops, one, op_cmp, ids, OneBody}
 use Rattle.reg_op.specs.declared.operation.OpBody.{OpBody as Body}
-use Rattle.reg_op.specs.Contents.{Content, state, nothing, joined, AreOperations, IsContent}
+use Rattle.reg_op.specs.Contents.{Content, state, joined, AreOperations}
 use Rattle.reg_op.proofs.OpLemmas.{op_total, op_exact}
 use Rattle.reg_op.proofs.FiniteLemmas.{union_comm}
 use Rattle.reg_op.proofs.OneLemmas.{one_is}
-use Rattle.reg_op.proofs.ContentLemmas.{joined-state, state_is_content, OneBody-within, union_within, union_left, union_right, ids_has, contains_op-union, state-empty, nothing_is_content}
+use Rattle.reg_op.proofs.ContentLemmas.{joined-state, OneBody-within, union_within, union_left, union_right, ids_has, contains_op-union}
 use Rattle.reg_op.specs.Pieces.{Piece, part_of, piece_for, IsHeld, first_missing, Basis, joined_where, joined_piece}
 use Rattle.reg_op.proofs.PieceLemmas.{piece_is}
 use Rattle.reg_op.proofs.RefusalLemmas.{missing_none, pieces_joined}
-use Rattle.reg_seen.specs.Runs.{replica_cmp, AllIds}
-use Rattle.reg_seen.proofs.RunLemmas.{same_replica, replica_itself}
-use Rattle.reg_file.specs.Layout.{file}
-use Rattle.reg_file.specs.Files.{Holds, HoldsSeen}
+use Rattle.reg_seen.specs.Runs.{AllIds}
+use Rattle.reg_file.specs.Files.{HoldsSeen}
 use Rattle.reg_file.proofs.HoldLemmas.{one_content}
 use Rattle.reg_office.specs.Making.{made}
 use Rattle.reg_office.specs.Pooled.{Pooled, OfRegister, OfSeen, OfPiece, HoldsAny, ops_in, TellsOf}
-use Rattle.reg_office.specs.World.{Office, Sent, World, start, Event, Make, Send, SendSeen, SendPiece, Take, TakeOne, Restart, IsEvent, Outcome, Unchanged, Clashes, Sends, Writes, Gains, gained, gained_by_piece, joins, makes, takes, takes_one, sends_piece, picked, Reads, ComesOf, put, pooled, After, Leads, IsWorld}
-use Rattle.reg_office.proofs.PooledLemmas.{IsSound, one_pooled, ops_within}
+use Rattle.reg_office.specs.World.{Sent, World, Event, Make, Send, SendSeen, SendPiece, Take, TakeOne, Restart, Stop, office_of, IsEvent, Outcome, Gains, gained, gained_by_piece, joins, makes, takes, takes_one, sends_piece, picked, Reads, ComesOf}
+use Rattle.reg_office.proofs.PooledLemmas.{one_pooled, ops_within}
 use Rattle.reg_office.proofs.LawLemmas.{are_unseen, are_once}
 use Rattle.reg_office.proofs.WorldCommands.{made_operations, made_on}
-use Rattle.reg_office.proofs.WorldInvariant.{IsWithin, IsSent, AreSent, Invariant, Grows, sent_at, sent_within, office_content, IsGain, IsWritten, IsGood}
+use Rattle.reg_office.proofs.WorldInvariant.{IsWithin, IsSent, Invariant, sent_at, office_content, IsGood}
 
 -- operations that are joined, of those that were made or of new ones of the office
 record AreJoined (w : World) (inv : Invariant w) (i : List ℕ) (more : Ops) : Type 0 where
@@ -82,15 +80,15 @@ taken w inv i more within = record {
 -- ---- an office makes operations
 
 -- what was made before has other ids
-pub new_id : (w : World) (inv : Invariant w) (i : List ℕ) (bs : List Body) (os : List Op) (o p : Op) → made (w.offices i).content i bs ≡ Ok os → has os o ≡ true → contains inv.all p ≡ true → p.id ≡ o.id → ⊥
-new_id w inv i bs os o p h a b e =
-    let own : p.id.replica ≡ i = ap (λ j. j.replica) e ∙ made_on (w.offices i).content i bs os h o a in
+pub new_id : (w : World) (inv : Invariant w) (i : List ℕ) (bs : List Body) (note : List ℕ) (os : List Op) (o p : Op) → made (w.offices i).content i note bs ≡ Ok os → has os o ≡ true → contains inv.all p ≡ true → p.id ≡ o.id → ⊥
+new_id w inv i bs note os o p h a b e =
+    let own : p.id.replica ≡ i = ap (λ j. j.replica) e ∙ made_on (w.offices i).content i note bs os h o a in
     let reached : contains (w.offices i).reached p ≡ true = subst (λ j. contains (w.offices j).reached p ≡ true) own (inv.own p b) in
     let seen : contains (w.offices i).content.seen p.id ≡ true = subst (λ (c : Content). contains c.seen p.id ≡ true) (sym (inv.content i)) (ids_has _ p reached) in
-    true≢false (sym (subst (λ j. contains (w.offices i).content.seen j ≡ true) e seen) ∙ are_unseen (w.offices i).content i bs os o h a)
+    true≢false (sym (subst (λ j. contains (w.offices i).content.seen j ≡ true) e seen) ∙ are_unseen (w.offices i).content i note bs os o h a)
 
-new_are_joined : (w : World) (inv : Invariant w) (i : List ℕ) (bs : List Body) (os : List Op) → IsEvent (Make i bs) → made (w.offices i).content i bs ≡ Ok os → AreJoined w inv i (set.from_list os)
-new_are_joined w inv i bs os is h =
+new_are_joined : (w : World) (inv : Invariant w) (i : List ℕ) (bs : List Body) (note : List ℕ) (os : List Op) → IsEvent w (Make i bs note) → made (w.offices i).content i note bs ≡ Ok os → AreJoined w inv i (set.from_list os)
+new_are_joined w inv i bs note os is h =
     let x = (w.offices i).content in
     let new : Ops = set.from_list os in
     let all = union inv.all new in
@@ -101,30 +99,30 @@ new_are_joined w inv i bs os is h =
       all = all;
       operations = λ o k. elim (where_is o k) [
         | inl a ↦ inv.operations o a
-        | inr b ↦ made_operations x i bs os is.0 is.1 is.2 h o (listed o b)
+        | inr b ↦ made_operations x i note bs os is.0 is.1 is.2 is.3 h o (listed o b)
       ];
       one_body = λ p o a b e. elim (where_is p a) [
         | inl a' ↦ elim (where_is o b) [
           | inl b' ↦ inv.one_body p o a' b' e
-          | inr b' ↦ absurd (new_id w inv i bs os o p h (listed o b') a' e)
+          | inr b' ↦ absurd (new_id w inv i bs note os o p h (listed o b') a' e)
         ]
         | inr a' ↦ elim (where_is o b) [
-          | inl b' ↦ absurd (new_id w inv i bs os p o h (listed p a') b' (sym e))
-          | inr b' ↦ are_once x i bs os p o h (listed p a') (listed o b') e
+          | inl b' ↦ absurd (new_id w inv i bs note os p o h (listed p a') b' (sym e))
+          | inr b' ↦ are_once x i note bs os p o h (listed p a') (listed o b') e
         ]
       ];
       grows = union_left inv.all new;
       within = union_right inv.all new;
       news = λ o k. elim (where_is o k) [
         | inl a ↦ inl a
-        | inr b ↦ inr (made_on x i bs os h o (listed o b), b)
+        | inr b ↦ inr (made_on x i note bs os h o (listed o b), b)
       ];
     }
 
-make_good : (w : World) (inv : Invariant w) (i : List ℕ) (bs : List Body) → IsEvent (Make i bs) → IsGood w inv (makes w i (made (w.offices i).content i bs))
-make_good w inv i bs is =
-    elim (made (w.offices i).content i bs) as (λ r. made (w.offices i).content i bs ≡ r → IsGood w inv (makes w i r)) [
-      | Ok os ↦ λ h. join_good w inv i (state (set.from_list os)) (set.from_list os) refl (new_are_joined w inv i bs os is h)
+make_good : (w : World) (inv : Invariant w) (i : List ℕ) (bs : List Body) (note : List ℕ) → IsEvent w (Make i bs note) → IsGood w inv (makes w i (made (w.offices i).content i note bs))
+make_good w inv i bs note is =
+    elim (made (w.offices i).content i note bs) as (λ r. made (w.offices i).content i note bs ≡ r → IsGood w inv (makes w i r)) [
+      | Ok os ↦ λ h. join_good w inv i (state (set.from_list os)) (set.from_list os) refl (new_are_joined w inv i bs note os is h)
       | Err f ↦ λ h. tt
     ] refl
 
@@ -211,8 +209,21 @@ reads_good w inv next each (Some s) at out h = subst (IsGood w inv) (sym h.2) (e
 seen_ids : (bytes : List ℕ) (what : Pooled) → HoldsAny bytes what → (seen : Ids) → what ≡ OfSeen seen → AllIds seen
 seen_ids bytes what h seen e = let k : HoldsSeen bytes seen = subst (HoldsAny bytes) e h in k.are_ids
 
-pub comes_good : (w : World) (inv : Invariant w) (e : Event) → IsEvent e → (out : Outcome) → ComesOf w e out → IsGood w inv out
-comes_good w inv (Make i bs) is out h = subst (IsGood w inv) (sym h) (make_good w inv i bs is)
+-- what an office had
+same_good : (w : World) (inv : Invariant w) (i : List ℕ) (x : Content) → x ≡ state (w.offices i).reached → IsGood w inv (Gains i x (w.offices i).reached)
+same_good w inv i x is = record {
+  all = inv.all;
+  operations = inv.operations;
+  one_body = inv.one_body;
+  is_state = is;
+  grows = λ o a. a;
+  more = λ o a. a;
+  within = inv.within i;
+  news = λ o a. inl a;
+}
+
+pub comes_good : (w : World) (inv : Invariant w) (e : Event) → IsEvent w e → (out : Outcome) → ComesOf w e out → IsGood w inv out
+comes_good w inv (Make i bs note) is out h = subst (IsGood w inv) (sym h) (make_good w inv i bs note is)
 comes_good w inv (Send i) is out h = subst (IsGood w inv) (sym h) (record { what = OfRegister (state (w.offices i).reached); holds = inv.last i; tells = refl; within = inv.within i })
 comes_good w inv (SendSeen i) is out h = subst (IsGood w inv) (sym h) (record { tells = ap (λ (x : Content). x.seen) (inv.content i); within = inv.within i; sound = (office_content w inv i).are_ids })
 comes_good w inv (SendPiece i place) is out h =
@@ -223,13 +234,6 @@ comes_good w inv (TakeOne i place id) is out h =
     reads_good w inv (λ what reached. takes_one w i (picked id (ops_in what)))
     (λ s what sent holds. one_good w inv i id (ops_in what) (λ o k. sent.within o (ops_within s.reached what (told inv.all s what sent holds) o k)))
     (slice_get w.pool place) (λ s at. sent_at inv.all w.pool place s inv.pool at) out h
-comes_good w inv (Restart i) is out h = subst (IsGood w inv) (sym h.2) (record {
-  all = inv.all;
-  operations = inv.operations;
-  one_body = inv.one_body;
-  is_state = one_content (w.offices i).last h.0 (state (w.offices i).reached) h.1 (inv.last i);
-  grows = λ o a. a;
-  more = λ o a. a;
-  within = inv.within i;
-  news = λ o a. inl a;
-})
+comes_good w inv (Restart i) is out h = subst (IsGood w inv) (sym h.2) (same_good w inv i h.0 (one_content (w.offices i).last h.0 (state (w.offices i).reached) h.1 (inv.last i)))
+comes_good w inv (Stop e left) is out (inl new) = comes_good w inv e is.1 out new.0
+comes_good w inv (Stop e left) is out (inr old) = subst (IsGood w inv) (sym old.2) (same_good w inv (office_of e) (w.offices (office_of e)).content (inv.content (office_of e)))

@@ -1,30 +1,30 @@
 -- What follows in every world.
-use Rattle.std.proofs.Common.{◌≡◌, ℕ, Bool, true, false, cond, List, [], ◌∷◌, map, length, Option, Some, None, Ok, refl, sym, ap, ◌∙◌, subst, inl, inr, ◌⊎◌}
+use Rattle.std.proofs.Common.{◌≡◌, ℕ, Bool, true, false, cond, List, [], ◌∷◌, map, Option, Some, None, Ok, refl, sym, ap, ◌∙◌, subst, inl, inr, ◌⊎◌}
 use Rattle.std.proofs.lemmas.Bool.{true≢false}
 use Rattle.std.specs.List.{slice_get}
-use Rattle.reg_op.specs.Set as set
 use Rattle.reg_op.specs.Set.{contains, union, contains-empty}
-use Rattle.reg_op.specs.Ids.{Id, is_same}
+use Rattle.reg_op.specs.Ids.{Id}
 use Rattle.reg_op.specs.Lists.{has}
 use Rattle.reg_op.specs.Finite.{any}
 use Rattle.reg_op.specs.Operations.{Op, Ops, op_cmp, OneBody}
 use Rattle.reg_op.specs.declared.operation.OpBody.{OpBody as Body}
-use Rattle.reg_op.specs.Contents.{Content, state, joined, IsContent}
+use Rattle.reg_op.specs.Contents.{Content, state, joined}
 use Rattle.reg_op.specs.declared.status.Status.TheVariants.{Retired, Superseded, Valid}
 use Rattle.reg_op.specs.Status.{enters, retires, supersedes, status}
 use Rattle.reg_op.proofs.FiniteLemmas.{any_from_member, member_from_any}
 use Rattle.reg_op.proofs.OpLemmas.{op_total, op_exact}
-use Rattle.reg_op.proofs.ContentLemmas.{joined_comm, state_is_content, OneBody-within, union_within, union_left}
+use Rattle.reg_op.proofs.ContentLemmas.{joined_comm, OneBody-within, union_within, union_left}
 use Rattle.reg_op.proofs.StatusLemmas.{status-kept}
 use Rattle.reg_op.proofs.JoinLemmas.{joined_ok}
 use Rattle.reg_state.specs.ManyLaws.{all_of}
-use Rattle.reg_file.specs.Files.{IsFileOf}
+use Rattle.reg_file.specs.Files.{Holds, IsFileOf}
 use Rattle.reg_file.proofs.HoldLemmas.{one_content, one_file}
 use Rattle.reg_office.specs.Making.{made}
 use Rattle.reg_office.specs.Pooled.{Pooled, OfRegister, HoldsAny, ops_in, TellsOf}
-use Rattle.reg_office.specs.World.{Sent, World, Event, Make, Send, SendSeen, SendPiece, Take, TakeOne, Restart, IsEvent, Outcome, Unchanged, Clashes, Sends, Writes, Gains, takes, takes_one, sends_piece, picked, Reads, ComesOf, put, pooled, After, IsTooMuch, Happens, Leads}
+use Rattle.reg_office.specs.World.{Sent, World, Event, Make, Send, SendSeen, SendPiece, Take, TakeOne, Restart, Stop, office_of, IsEvent, IsShelfAfter, stays, Outcome, Unchanged, Clashes, Sends, Writes, Gains, takes, takes_one, sends_piece, picked, Reads, ComesOf, put, pooled, After, IsTooMuch, Happens, Leads}
 use Rattle.reg_office.proofs.PooledLemmas.{one_pooled, one_pooled_file, has_file}
-use Rattle.reg_office.proofs.WorldInvariant.{IsWithin, sent_at, Invariant, IsGood}
+use Rattle.reg_office.proofs.WorldInvariant.{IsWithin, sent_at, Invariant, gain_content, IsGood}
+use Rattle.reg_office.proofs.WorldShelves.{shelf_or_not}
 use Rattle.reg_office.proofs.WorldComes.{new_id, comes_good}
 use Rattle.reg_office.proofs.WorldLemmas.{leads_keeps}
 
@@ -44,26 +44,53 @@ all_within w inv (i ∷ is) o h = union_within (w.offices i).reached (all_of (ma
 pub together : (w : World) → Invariant w → (is : List (List ℕ)) → OneBody (all_of (map (λ i. (w.offices i).reached) is))
 together w inv is = OneBody-within _ _ (all_within w inv is) inv.one_body
 
-pub are_new : (w : World) → Invariant w → (i j : List ℕ) (effects : List Body) (os : List Op) (o p : Op) → made (w.offices i).content i effects ≡ Ok os → has os o ≡ true → contains (w.offices j).reached p ≡ true → p.id ≡ o.id → ⊥
-are_new w inv i j effects os o p h a b e = new_id w inv i effects os o p h a (inv.within j p b) e
+pub are_new : (w : World) → Invariant w → (i j : List ℕ) (effects : List Body) (note : List ℕ) (os : List Op) (o p : Op) → made (w.offices i).content i note effects ≡ Ok os → has os o ≡ true → contains (w.offices j).reached p ≡ true → p.id ≡ o.id → ⊥
+are_new w inv i j effects note os o p h a b e = new_id w inv i effects note os o p h a (inv.within j p b) e
 
-pub never_clashes : (w : World) → Invariant w → (e : Event) (id : Id) → IsEvent e → ComesOf w e (Clashes id) → ⊥
+pub never_clashes : (w : World) → Invariant w → (e : Event) (id : Id) → IsEvent w e → ComesOf w e (Clashes id) → ⊥
 never_clashes w inv e id is h = comes_good w inv e is (Clashes id) h
 
 -- ---- each event has an outcome, and one world after it
+
+reads_one : (next : Pooled → Ops → Outcome) (o : Option Sent) (out other : Outcome) → Reads next o out → Reads next o other → out ≡ other
+reads_one next None out other h k = h ∙ sym k
+reads_one next (Some s) out other h k = h.2 ∙ ap (λ what. next what s.reached) (one_pooled s.bytes h.0 k.0 h.1 k.1) ∙ sym k.2
+
+one_outcome : (w : World) (e : Event) (out other : Outcome) → ComesOf w e out → ComesOf w e other → out ≡ other
+one_outcome w (Make i effects note) out other h k = h ∙ sym k
+one_outcome w (Send i) out other h k = h ∙ sym k
+one_outcome w (SendSeen i) out other h k = h ∙ sym k
+one_outcome w (SendPiece i place) out other h k = reads_one (λ what reached. sends_piece w i what) (slice_get w.pool place) out other h k
+one_outcome w (Take i place) out other h k = reads_one (takes w i) (slice_get w.pool place) out other h k
+one_outcome w (TakeOne i place id) out other h k = reads_one (λ what reached. takes_one w i (picked id (ops_in what))) (slice_get w.pool place) out other h k
+one_outcome w (Restart i) out other h k = h.2 ∙ ap (λ x. Gains i x (w.offices i).reached) (one_content (w.offices i).last h.0 k.0 h.1 k.1) ∙ sym k.2
+one_outcome w (Stop e left) out other (inl h) (inl k) = one_outcome w e out other h.0 k.0
+one_outcome w (Stop e left) out other (inl h) (inr k) = absurd (k.1 out h.0 h.1)
+one_outcome w (Stop e left) out other (inr h) (inl k) = absurd (h.1 other k.0 k.1)
+one_outcome w (Stop e left) out other (inr h) (inr k) = h.2 ∙ sym k.2
 
 reads_some : (next : Pooled → Ops → Outcome) (o : Option Sent) → ((s : Sent) → o ≡ Some s → (what : Pooled) × HoldsAny s.bytes what × TellsOf s.reached what) → (out : Outcome) × Reads next o out
 reads_some next None at = (Unchanged, refl)
 reads_some next (Some s) at = let r = at s refl in (next r.0 s.reached, (r.0, r.1, refl))
 
-outcome : (w : World) → Invariant w → (e : Event) → (out : Outcome) × ComesOf w e out
-outcome w inv (Make i effects) = (_, refl)
-outcome w inv (Send i) = (_, refl)
-outcome w inv (SendSeen i) = (_, refl)
-outcome w inv (SendPiece i place) = reads_some (λ what reached. sends_piece w i what) (slice_get w.pool place) (reads w inv place)
-outcome w inv (Take i place) = reads_some (takes w i) (slice_get w.pool place) (reads w inv place)
-outcome w inv (TakeOne i place id) = reads_some (λ what reached. takes_one w i (picked id (ops_in what))) (slice_get w.pool place) (reads w inv place)
-outcome w inv (Restart i) = (_, (state (w.offices i).reached, inv.last i, refl))
+outcome : (w : World) → Invariant w → (e : Event) → IsEvent w e → (out : Outcome) × ComesOf w e out
+outcome w inv (Make i effects note) is = (_, refl)
+outcome w inv (Send i) is = (_, refl)
+outcome w inv (SendSeen i) is = (_, refl)
+outcome w inv (SendPiece i place) is = reads_some (λ what reached. sends_piece w i what) (slice_get w.pool place) (reads w inv place)
+outcome w inv (Take i place) is = reads_some (takes w i) (slice_get w.pool place) (reads w inv place)
+outcome w inv (TakeOne i place id) is = reads_some (λ what reached. takes_one w i (picked id (ops_in what))) (slice_get w.pool place) (reads w inv place)
+outcome w inv (Restart i) is = (_, (state (w.offices i).reached, inv.last i, refl))
+outcome w inv (Stop e left) is =
+    let came = outcome w inv e is.1 in
+    let office = w.offices (office_of e) in
+    elim is.2 [
+      | inl old ↦ elim (shelf_or_not w inv left office.content old (office.last, subst (Holds office.last) (sym (inv.content (office_of e))) (inv.last (office_of e))) came.0 (comes_good w inv e is.1 came.0 came.1)) [
+        | inl new ↦ (came.0, inl (came.1, new))
+        | inr never ↦ (stays w (office_of e), inr (old, λ out comes. subst (λ r. IsShelfAfter left r → ⊥) (one_outcome w e came.0 out came.1 comes) never, refl))
+      ]
+      | inr new ↦ (new.0, inl (new.1, new.2))
+    ]
 
 -- what can stand in a file comes into a world, or its file is too large
 follows : (w : World) (inv : Invariant w) (out : Outcome) → IsGood w inv out → ((v : World) × After w out v) ⊎ IsTooMuch out
@@ -75,27 +102,13 @@ follows w inv (Writes what reached) good = elim (has_file what good.sound) [
   | inr large ↦ inr large
 ]
 follows w inv (Gains i x reached) good =
-    let content : IsContent x = subst IsContent (sym good.is_state) (state_is_content reached (λ o h. good.operations o (good.within o h)) (OneBody-within _ _ good.within good.one_body)) in
-    elim (has_file (OfRegister x) content) [
+    elim (has_file (OfRegister x) (gain_content w inv i x reached good)) [
       | inl f ↦ inl (_, (f.0, f.1, refl))
       | inr large ↦ inr large
     ]
 
-pub goes_on : (w : World) → Invariant w → (e : Event) → IsEvent e → (out : Outcome) × ComesOf w e out × (((v : World) × After w out v) ⊎ IsTooMuch out)
-goes_on w inv e is = let r = outcome w inv e in (r.0, r.1, follows w inv r.0 (comes_good w inv e is r.0 r.1))
-
-reads_one : (next : Pooled → Ops → Outcome) (o : Option Sent) (out other : Outcome) → Reads next o out → Reads next o other → out ≡ other
-reads_one next None out other h k = h ∙ sym k
-reads_one next (Some s) out other h k = h.2 ∙ ap (λ what. next what s.reached) (one_pooled s.bytes h.0 k.0 h.1 k.1) ∙ sym k.2
-
-one_outcome : (w : World) (e : Event) (out other : Outcome) → ComesOf w e out → ComesOf w e other → out ≡ other
-one_outcome w (Make i effects) out other h k = h ∙ sym k
-one_outcome w (Send i) out other h k = h ∙ sym k
-one_outcome w (SendSeen i) out other h k = h ∙ sym k
-one_outcome w (SendPiece i place) out other h k = reads_one (λ what reached. sends_piece w i what) (slice_get w.pool place) out other h k
-one_outcome w (Take i place) out other h k = reads_one (takes w i) (slice_get w.pool place) out other h k
-one_outcome w (TakeOne i place id) out other h k = reads_one (λ what reached. takes_one w i (picked id (ops_in what))) (slice_get w.pool place) out other h k
-one_outcome w (Restart i) out other h k = h.2 ∙ ap (λ x. Gains i x (w.offices i).reached) (one_content (w.offices i).last h.0 k.0 h.1 k.1) ∙ sym k.2
+pub goes_on : (w : World) → Invariant w → (e : Event) → IsEvent w e → (out : Outcome) × ComesOf w e out × (((v : World) × After w out v) ⊎ IsTooMuch out)
+goes_on w inv e is = let r = outcome w inv e is in (r.0, r.1, follows w inv r.0 (comes_good w inv e is r.0 r.1))
 
 one_after : (w : World) (out : Outcome) (u v : World) → After w out u → After w out v → u ≡ v
 one_after w Unchanged u v h k = h ∙ sym k

@@ -1,36 +1,20 @@
 -- The world after each event, and every world, keep the invariant.
-use Rattle.std.proofs.Common.{◌≡◌, ℕ, Bool, true, false, ◌||◌, cond, List, [], ◌∷◌, length, Option, Some, None, Ok, Err, refl, sym, ap, ◌∙◌, subst, inl, inr, ◌⊎◌, zero, suc, arith}
-use Rattle.std.proofs.lemmas.Bool.{or_cases, or_left, or_right, true≢false}
-use Rattle.std.specs.Cmp.{tied_itself}
-use Rattle.std.specs.Ordering.{is_eq, eq_by_cmp}
-use Rattle.std.specs.List.{find, slice_get}
+use Rattle.std.proofs.Common.{◌≡◌, ℕ, true, false, cond, List, [], ◌∷◌, length, refl, sym, ◌∙◌, subst, inl, inr, arith}
+use Rattle.std.proofs.lemmas.Bool.{true≢false}
+use Rattle.std.specs.Ordering.{is_eq}
 use Rattle.reg_op.specs.Set as set
 use Rattle.reg_op.specs.Set.{contains, union, contains-items, contains-from_list, contains-empty}
-use Rattle.reg_op.specs.Ids.{Id, Ids, is_same}
-use Rattle.reg_op.specs.Lists.{has}
-use Rattle.reg_op.specs.Operations.{Op, Ops, one, op_cmp, ids, OneBody}
-use Rattle.reg_op.specs.declared.operation.OpBody.{OpBody as Body}
-use Rattle.reg_op.specs.Contents.{Content, state, nothing, joined, AreOperations, IsContent}
-use Rattle.reg_op.proofs.OpLemmas.{op_total, op_exact}
-use Rattle.reg_op.proofs.FiniteLemmas.{union_comm}
-use Rattle.reg_op.proofs.OneLemmas.{one_is}
-use Rattle.reg_op.proofs.ContentLemmas.{joined-state, state_is_content, OneBody-within, union_within, union_left, union_right, ids_has, contains_op-union, state-empty, nothing_is_content}
-use Rattle.reg_op.specs.Pieces.{Piece, part_of, piece_for, IsHeld, first_missing, Basis, joined_where, joined_piece}
-use Rattle.reg_op.proofs.PieceLemmas.{piece_is}
-use Rattle.reg_op.proofs.RefusalLemmas.{missing_none, pieces_joined}
-use Rattle.reg_seen.specs.Runs.{replica_cmp, AllIds}
+use Rattle.reg_op.specs.Operations.{Ops, op_cmp}
+use Rattle.reg_op.specs.Contents.{Content, state, nothing}
+use Rattle.reg_op.proofs.OpLemmas.{op_total}
+use Rattle.reg_op.proofs.ContentLemmas.{state-empty, nothing_is_content}
+use Rattle.reg_seen.specs.Runs.{replica_cmp}
 use Rattle.reg_seen.proofs.RunLemmas.{same_replica, replica_itself}
 use Rattle.reg_file.specs.Layout.{file}
-use Rattle.reg_file.specs.Files.{Holds, HoldsSeen}
-use Rattle.reg_file.proofs.HoldLemmas.{one_content}
-use Rattle.reg_office.specs.Making.{made}
-use Rattle.reg_office.specs.Pooled.{Pooled, OfRegister, OfSeen, OfPiece, HoldsAny, ops_in, TellsOf}
-use Rattle.reg_office.specs.World.{Office, Sent, World, start, Event, Make, Send, SendSeen, SendPiece, Take, TakeOne, Restart, IsEvent, Outcome, Unchanged, Clashes, Sends, Writes, Gains, gained, gained_by_piece, joins, makes, takes, takes_one, sends_piece, picked, Reads, ComesOf, put, pooled, After, Leads, IsWorld}
-use Rattle.reg_office.proofs.PooledLemmas.{IsSound, one_pooled, ops_within}
-use Rattle.reg_office.proofs.LawLemmas.{are_unseen, are_once}
-use Rattle.reg_office.proofs.WorldCommands.{made_operations, made_on}
-use Rattle.reg_office.proofs.WorldInvariant.{IsWithin, IsSent, AreSent, Invariant, Grows, sent_at, sent_within, office_content, IsGain, IsWritten, IsGood}
-use Rattle.reg_office.proofs.WorldComes.{new_id, found_is_in, one_good, told, piece_joins, piece_refused, held_or_not, takes_good, comes_good}
+use Rattle.reg_file.specs.Files.{Holds}
+use Rattle.reg_office.specs.World.{Office, Sent, World, start, Event, Outcome, Unchanged, Clashes, Sends, Writes, Gains, put, pooled, After, Leads, IsWorld}
+use Rattle.reg_office.proofs.WorldInvariant.{IsWithin, IsSent, Invariant, Grows, sent_within, IsGain, IsGood}
+use Rattle.reg_office.proofs.WorldComes.{comes_good}
 
 -- ---- the world after it
 

@@ -1,28 +1,25 @@
 -- What any office reached was made, and what was sent stays in the pool.
-use Rattle.std.proofs.Common.{◌≡◌, ℕ, Bool, true, false, List, [], ◌∷◌, ◌++◌, append_assoc, Option, Some, None, Result, Ok, Err, refl, sym, ap, ◌∙◌, subst, inl, inr, ◌⊎◌}
+use Rattle.std.proofs.Common.{◌≡◌, ℕ, true, List, [], ◌∷◌, ◌++◌, append_assoc, Some, None, Ok, Err, refl, sym, ap, ◌∙◌, subst, inl, inr, ◌⊎◌}
 use Rattle.std.proofs.lemmas.Bool.{or_cases, cases_Bool, true≢false}
 use Rattle.std.specs.Ordering.{is_eq}
 use Rattle.std.specs.List.{slice_get}
 use Rattle.reg_op.specs.Set as set
 use Rattle.reg_op.specs.Set.{contains, contains-from_list, contains-empty}
-use Rattle.reg_op.specs.Ids.{Id}
 use Rattle.reg_op.specs.Operations.{Op, Ops, one, op_cmp}
-use Rattle.reg_op.specs.declared.operation.OpBody.{OpBody as Body}
 use Rattle.reg_op.proofs.OpLemmas.{op_total}
 use Rattle.reg_op.proofs.OneLemmas.{one_is}
 use Rattle.reg_op.proofs.ContentLemmas.{contains_op-union}
 use Rattle.reg_seen.specs.Runs.{replica_cmp}
 use Rattle.reg_seen.proofs.RunLemmas.{same_replica, replica_itself}
-use Rattle.reg_office.specs.declared.fault.OfficeFault.{OfficeFault}
 use Rattle.reg_office.specs.Making.{made}
-use Rattle.reg_office.specs.Pooled.{Pooled, ops_in}
-use Rattle.reg_office.specs.World.{Sent, World, start, Event, Make, Send, SendSeen, SendPiece, Take, TakeOne, Restart, Outcome, Unchanged, Clashes, Sends, Writes, Gains, After, Happens, Leads}
+use Rattle.reg_office.specs.Pooled.{ops_in}
+use Rattle.reg_office.specs.World.{Sent, World, start, Event, Make, Send, SendSeen, SendPiece, Take, TakeOne, Restart, Stop, office_of, Outcome, Unchanged, Clashes, Sends, Writes, Gains, After, Happens, Leads}
 use Rattle.reg_office.specs.Reached.{Reaches, IsMadeBy, WasMade}
 use Rattle.reg_office.proofs.WorldInvariant.{sent_at, Invariant}
 use Rattle.reg_office.proofs.WorldComes.{comes_good}
 use Rattle.reg_office.proofs.WorldLemmas.{starts, after_keeps}
 use Rattle.reg_office.proofs.PooledLemmas.{ops_within}
-use Rattle.reg_office.proofs.WorldSteps.{made_reaches, refused_makes, sent_is_pooled, seen_is_pooled, answer_keeps, restart_keeps, nothing_to_take, nothing_to_find, taken_or_not, one_or_none}
+use Rattle.reg_office.proofs.WorldSteps.{made_reaches, refused_makes, sent_is_pooled, seen_is_pooled, answer_keeps, restart_keeps, stopped_before, nothing_to_take, nothing_to_find, taken_or_not, one_or_none}
 
 -- ---- the pool
 
@@ -65,13 +62,13 @@ unchanged_known : (w v : World) (inv : Invariant w) (e : Event) → v ≡ w → 
 unchanged_known w v inv e same k o h = inl (inv.within k o (subst (λ (u : World). contains (u.offices k).reached o ≡ true) same h))
 
 step_known : (w : World) (inv : Invariant w) (e : Event) (v : World) → Happens w e v → (k : List ℕ) (o : Op) → contains (v.offices k).reached o ≡ true → Known w inv e o
-step_known w inv (Make i bs) v h k o now =
-    elim (made (w.offices i).content i bs) as (λ r. made (w.offices i).content i bs ≡ r → Known w inv (Make i bs) o) [
-      | Ok os ↦ λ e. elim (now_reached w v i (set.from_list os) (made_reaches w inv i bs os v e h) k o now) [
+step_known w inv (Make i bs note) v h k o now =
+    elim (made (w.offices i).content i note bs) as (λ r. made (w.offices i).content i note bs ≡ r → Known w inv (Make i bs note) o) [
+      | Ok os ↦ λ e. elim (now_reached w v i (set.from_list os) (made_reaches w inv i bs note os v e h) k o now) [
         | inl a ↦ inl (inv.within k o a)
         | inr b ↦ inr (os, e, sym (contains-from_list op_total os o) ∙ b)
       ]
-      | Err fault ↦ λ e. unchanged_known w v inv (Make i bs) (refused_makes w v i bs fault e h) k o now
+      | Err fault ↦ λ e. unchanged_known w v inv (Make i bs note) (refused_makes w v i bs note fault e h) k o now
     ] refl
 step_known w inv (Send i) v h k o now = inl (inv.within k o (subst (λ (u : World). contains (u.offices k).reached o ≡ true) (sent_is_pooled w v i h) now))
 step_known w inv (SendSeen i) v h k o now = inl (inv.within k o (subst (λ (u : World). contains (u.offices k).reached o ≡ true) (seen_is_pooled w v inv i h).2 now))
@@ -101,6 +98,13 @@ step_known w inv (TakeOne i place id) v h k o now =
       | None ↦ λ none. unchanged_known w v inv (TakeOne i place id) (nothing_to_find w v i place id none h) k o now
     ] refl
 step_known w inv (Restart i) v h k o now = unchanged_known w v inv (Restart i) (restart_keeps w v inv i h) k o now
+step_known w inv (Stop e left) v h k o now = elim h.1.1 [
+  | inl new ↦ elim (step_known w inv e v (h.0.1, (h.1.0, new.0, h.1.2)) k o now) [
+    | inl a ↦ inl a
+    | inr b ↦ inr (b, (h.1.0, new.0, new.1))
+  ]
+  | inr old ↦ unchanged_known w v inv (Stop e left) (stopped_before w v inv (office_of e) (subst (λ out. After w out v) old.2 h.1.2)) k o now
+]
 
 -- ---- what events make
 

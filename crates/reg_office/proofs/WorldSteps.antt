@@ -1,5 +1,5 @@
 -- What each event leaves.
-use Rattle.std.proofs.Common.{◌≡◌, ◌≢◌, ℕ, Bool, true, false, cond, ◌||◌, List, [], ◌∷◌, Option, Some, None, Result, Ok, Err, refl, sym, ap, ◌∙◌, subst, inl, inr, ◌⊎◌}
+use Rattle.std.proofs.Common.{◌≡◌, ◌≢◌, ℕ, Bool, true, false, cond, List, [], ◌∷◌, Some, None, Result, Ok, Err, refl, sym, ap, ◌∙◌, subst, inl, inr, ◌⊎◌}
 use Rattle.std.proofs.lemmas.Bool.{or_cases, or_left, or_right, true≢false}
 use Rattle.std.specs.Cmp.{Equal-is}
 use Rattle.std.specs.Ordering.{is_eq, eq_by_cmp}
@@ -22,7 +22,7 @@ use Rattle.reg_file.proofs.HoldLemmas.{one_content, one_file}
 use Rattle.reg_office.specs.declared.fault.OfficeFault.{OfficeFault}
 use Rattle.reg_office.specs.Making.{made}
 use Rattle.reg_office.specs.Pooled.{Pooled, OfRegister, OfSeen, OfPiece, HoldsAny, ops_in}
-use Rattle.reg_office.specs.World.{Office, Sent, World, Event, Make, Send, SendSeen, SendPiece, Take, TakeOne, Restart, Outcome, Gains, gained, gained_by_piece, joins, makes, takes, takes_one, sends_piece, picked, Reads, After, put, pooled, Happens}
+use Rattle.reg_office.specs.World.{Office, Sent, World, Make, Send, SendSeen, SendPiece, Take, TakeOne, Restart, Outcome, Gains, gained, gained_by_piece, joins, makes, takes, takes_one, sends_piece, picked, Reads, stays, After, put, pooled, Happens}
 use Rattle.reg_office.specs.Reached.{Reaches}
 use Rattle.reg_office.proofs.PooledLemmas.{one_pooled, ops_within}
 use Rattle.reg_office.proofs.WorldInvariant.{IsWithin, IsSent, sent_at, Invariant, IsGood}
@@ -30,7 +30,7 @@ use Rattle.reg_office.proofs.WorldComes.{found_is_in, one_good, told, piece_join
 
 -- ---- an office is put into a world
 
-put_here : (w : World) (i : List ℕ) (office : Office) → (put w i office).offices i ≡ office
+pub put_here : (w : World) (i : List ℕ) (office : Office) → (put w i office).offices i ≡ office
 put_here w i office = ap (λ b. cond b office (w.offices i)) (replica_itself i)
 
 put_other : (w : World) (i : List ℕ) (office : Office) (j : List ℕ) → j ≢ i → (put w i office).offices j ≡ w.offices j
@@ -75,28 +75,36 @@ join_reaches w inv i x more good v h =
 
 -- ---- it makes operations
 
-pub made_reaches : (w : World) (inv : Invariant w) (i : List ℕ) (bs : List Body) (os : List Op) (v : World) → made (w.offices i).content i bs ≡ Ok os → Happens w (Make i bs) v → Reaches w i (set.from_list os) v
-made_reaches w inv i bs os v e h =
-    let good = comes_good w inv (Make i bs) h.0 (makes w i (made (w.offices i).content i bs)) refl in
+pub made_reaches : (w : World) (inv : Invariant w) (i : List ℕ) (bs : List Body) (note : List ℕ) (os : List Op) (v : World) → made (w.offices i).content i note bs ≡ Ok os → Happens w (Make i bs note) v → Reaches w i (set.from_list os) v
+made_reaches w inv i bs note os v e h =
+    let good = comes_good w inv (Make i bs note) h.0 (makes w i (made (w.offices i).content i note bs)) refl in
     let after = subst (λ out. After w out v) h.1.1 h.1.2 in
     join_reaches w inv i (state (set.from_list os)) (set.from_list os) (subst (λ r. IsGood w inv (makes w i r)) e good) v (subst (λ r. After w (makes w i r) v) e after)
 
-pub refused_makes : (w v : World) (i : List ℕ) (bs : List Body) (fault : OfficeFault) → made (w.offices i).content i bs ≡ Err fault → Happens w (Make i bs) v → v ≡ w
-refused_makes w v i bs fault e h = subst (λ r. After w (makes w i r) v) e (subst (λ out. After w out v) h.1.1 h.1.2)
+pub refused_makes : (w v : World) (i : List ℕ) (bs : List Body) (note : List ℕ) (fault : OfficeFault) → made (w.offices i).content i note bs ≡ Err fault → Happens w (Make i bs note) v → v ≡ w
+refused_makes w v i bs note fault e h = subst (λ r. After w (makes w i r) v) e (subst (λ out. After w out v) h.1.1 h.1.2)
 
 -- ---- it sends, and begins again
 
 pub sent_is_pooled : (w v : World) (i : List ℕ) → Happens w (Send i) v → v ≡ pooled w (record { bytes = (w.offices i).last; reached = (w.offices i).reached })
 sent_is_pooled w v i h = subst (λ out. After w out v) h.1.1 h.1.2
 
+-- what it had stays
+stays_same : (w v : World) (inv : Invariant w) (i : List ℕ) (x : Content) → Holds (w.offices i).last x → After w (Gains i x (w.offices i).reached) v → v ≡ w
+stays_same w v inv i x held after =
+    let office = w.offices i in
+    let content : x ≡ office.content = one_content office.last x (state office.reached) held (inv.last i) ∙ sym (inv.content i) in
+    let last : after.0 ≡ office.last = one_file x after.0 office.last after.1.bytes_are held.bytes_are in
+    after.2 ∙ put_same w i (record { content = x; last = after.0; reached = office.reached }) (λ k. record { content = content k; last = last k; reached = office.reached })
+
 pub restart_keeps : (w v : World) (inv : Invariant w) (i : List ℕ) → Happens w (Restart i) v → v ≡ w
 restart_keeps w v inv i h =
-    let office = w.offices i in
     let came = h.1.1 in
-    let after = subst (λ out. After w out v) came.2 h.1.2 in
-    let content : came.0 ≡ office.content = one_content office.last came.0 (state office.reached) came.1 (inv.last i) ∙ sym (inv.content i) in
-    let last : after.0 ≡ office.last = one_file came.0 after.0 office.last after.1.bytes_are came.1.bytes_are in
-    after.2 ∙ put_same w i (record { content = came.0; last = after.0; reached = office.reached }) (λ k. record { content = content k; last = last k; reached = office.reached })
+    stays_same w v inv i came.0 came.1 (subst (λ out. After w out v) came.2 h.1.2)
+
+-- it is stopped before anything is kept
+pub stopped_before : (w v : World) (inv : Invariant w) (i : List ℕ) → After w (stays w i) v → v ≡ w
+stopped_before w v inv i after = stays_same w v inv i (w.offices i).content (subst (Holds (w.offices i).last) (sym (inv.content i)) (inv.last i)) after
 
 -- what is made of what it reached comes into the pool
 pub seen_is_pooled : (w v : World) (inv : Invariant w) (i : List ℕ) → Happens w (SendSeen i) v

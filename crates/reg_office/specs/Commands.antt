@@ -1,5 +1,5 @@
 -- The effects of commands, and what a command that is done leaves.
-use Rattle.std.specs.Prelude.{◌≡◌, ℕ, List, map, Ok, Err, Result}
+use Rattle.std.specs.Prelude.{◌≡◌, ℕ, List, map, Ok}
 use Rattle.reg_op.specs.Set as set
 use Rattle.reg_op.specs.Ids.{Id}
 use Rattle.reg_op.specs.Operations.{Op}
@@ -17,8 +17,8 @@ abbrev pub supersessions : Id → List Id → List Body
 supersessions old newer = map (Supersede old) newer
 
 -- the operations that the command makes of the old content have joined it, and these are their ids
-pub record Does (old : Content) (replica : List ℕ) (bodies : List Body) (new : Content) (ids : List Id) : Type 0 where
+pub record Does (old : Content) (replica note : List ℕ) (bodies : List Body) (new : Content) (ids : List Id) : Type 0 where
   pub ops : List Op
-  pub are_made : made old replica bodies ≡ Ok ops
+  pub are_made : made old replica note bodies ≡ Ok ops
   pub are_joined : joined old (state (set.from_list ops)) ≡ Ok new
   pub their_ids : ids ≡ map (λ o. o.id) ops

@@ -47,15 +47,15 @@ abbrev pub conflict_lines : Contested → List (List (List ℕ))
 conflict_lines c = map (contender_fields c.key.authority c.key.code) c.entries
 
 abbrev pub ops_header : List (List ℕ)
-ops_header = codes "operation" ∷ codes "effect" ∷ codes "entry" ∷ codes "replaced_by" ∷ codes "definition" ∷ []
+ops_header = codes "operation" ∷ codes "effect" ∷ codes "entry" ∷ codes "replaced_by" ∷ codes "definition" ∷ codes "note" ∷ []
 
-abbrev pub body_fields : Id → Body → List (List ℕ)
-body_fields i (Enter text) = printed i ∷ codes "enter" ∷ printed i ∷ [] ∷ text ∷ []
-body_fields i (Supersede old newer) = printed i ∷ codes "supersede" ∷ printed old ∷ printed newer ∷ [] ∷ []
-body_fields i (Retire entry) = printed i ∷ codes "retire" ∷ printed entry ∷ [] ∷ [] ∷ []
+abbrev pub body_fields : Id → Body → List ℕ → List (List ℕ)
+body_fields i (Enter text) note = printed i ∷ codes "enter" ∷ printed i ∷ [] ∷ text ∷ note ∷ []
+body_fields i (Supersede old newer) note = printed i ∷ codes "supersede" ∷ printed old ∷ printed newer ∷ [] ∷ note ∷ []
+body_fields i (Retire entry) note = printed i ∷ codes "retire" ∷ printed entry ∷ [] ∷ [] ∷ note ∷ []
 
 abbrev pub op_fields : Op → List (List ℕ)
-op_fields o = body_fields o.id o.body
+op_fields o = body_fields o.id o.body o.note
 
 -- a writer in memory, and what was written so far
 abbrev pub Sheet : Type 0

@@ -1,5 +1,5 @@
 -- What a command of an office makes of a content.
-use Rattle.std.specs.Prelude.{ℕ, ◌+◌, ◌==◌, ◌<◌, max, nat_lt, not, ◌&&◌, Bool, List, [], ◌∷◌, length, Option, Some, None, Result, Ok, Err, if◌then◌else◌}
+use Rattle.std.specs.Prelude.{ℕ, ◌+◌, max, nat_lt, not, ◌&&◌, Bool, List, [], ◌∷◌, length, Option, Some, None, Result, Ok, Err, if◌then◌else◌}
 use Rattle.std.specs.Ordering.{is_eq}
 use Rattle.reg_op.specs.Set as set
 use Rattle.reg_op.specs.Ids.{Id, Ids, is_same}
@@ -20,10 +20,10 @@ greatest_of replica (i ∷ is) = if is_eq (replica_cmp i.replica replica) then m
 abbrev pub greatest : List ℕ → Ids → ℕ
 greatest replica seen = greatest_of replica (set.items seen)
 
--- operations of a replica, numbered on from a count
-abbrev pub numbered : List ℕ → ℕ → List Body → List Op
-numbered replica count [] = []
-numbered replica count (b ∷ bs) = record { id = id_at replica count; body = b } ∷ numbered replica (count + 1) bs
+-- operations of a replica with one note, numbered on from a count
+abbrev pub numbered : List ℕ → ℕ → List ℕ → List Body → List Op
+numbered replica count note [] = []
+numbered replica count note (b ∷ bs) = record { id = id_at replica count; body = b; note = note } ∷ numbered replica (count + 1) note bs
 
 -- what a content has against one more effect
 abbrev pub objection : Ops → Body → Option OfficeFault
@@ -52,6 +52,10 @@ abbrev pub objections : Content → List Op → Option OfficeFault
 objections x [] = None
 objections x (o ∷ os) = else_next (objection x.ops o.body) (objections (with_op x o) os)
 
+-- a note has at most 200 bytes
+abbrev pub note_fault : List ℕ → Option OfficeFault
+note_fault note = if nat_lt 200 (length note) then Some fault.NoteTooLong else None
+
 -- the last of some numbers from a first one on would pass 4,294,967,295
 abbrev pub is_spent : ℕ → ℕ → Bool
 is_spent greatest number = nat_lt 0 number && nat_lt 4294967295 (greatest + number)
@@ -60,8 +64,9 @@ abbrev pub made_unless : Option OfficeFault → Bool → List Op → Result (Lis
 made_unless (Some f) spent os = Err f
 made_unless None spent os = if spent then Err fault.CountSpent else Ok os
 
--- the operations of a command: numbered on from the greatest own count seen, or refused
-abbrev pub made : Content → List ℕ → List Body → Result (List Op) OfficeFault
-made x replica bodies =
-    let os = numbered replica (greatest replica x.seen + 1) bodies in
-    made_unless (objections x os) (is_spent (greatest replica x.seen) (length bodies)) os
+-- the operations of a command with their note: numbered on from the greatest own count seen, or refused. A long note is
+-- refused first, also where no operation would have it
+abbrev pub made : Content → List ℕ → List ℕ → List Body → Result (List Op) OfficeFault
+made x replica note bodies =
+    let os = numbered replica (greatest replica x.seen + 1) note bodies in
+    made_unless (else_next (note_fault note) (objections x os)) (is_spent (greatest replica x.seen) (length bodies)) os

@@ -1,10 +1,10 @@
 -- What offices reach, and by which events.
-use Rattle.std.specs.Prelude.{◌≡◌, ◌≢◌, ℕ, true, List, [], ◌∷◌, ◌++◌, Ok}
+use Rattle.std.specs.Prelude.{◌≡◌, ◌≢◌, ℕ, true, List, ◌∷◌, ◌++◌, Ok}
 use Rattle.reg_op.specs.Set as set
 use Rattle.reg_op.specs.Lists.{has}
 use Rattle.reg_op.specs.Operations.{Op, Ops}
 use Rattle.reg_office.specs.Making.{made}
-use Rattle.reg_office.specs.World.{World, Event, Make, Leads}
+use Rattle.reg_office.specs.World.{World, Event, Make, Stop, LeavesNew, Leads}
 
 -- an office has reached some operations more, and nothing else has changed
 pub record Reaches (w : World) (i : List ℕ) (more : Ops) (v : World) : Type 0 where
@@ -12,9 +12,10 @@ pub record Reaches (w : World) (i : List ℕ) (more : Ops) (v : World) : Type 0 
   pub others : (j : List ℕ) → j ≢ i → v.offices j ≡ w.offices j
   pub pool : v.pool ≡ w.pool
 
--- by the event an office makes the operation
+-- by the event an office makes the operation; by one that is stopped where what it makes is kept
 abbrev pub IsMadeBy : World → Event → Op → Type 0
-IsMadeBy w (Make i effects) o = (os : List Op) × (made (w.offices i).content i effects ≡ Ok os) × (has os o ≡ true)
+IsMadeBy w (Make i effects note) o = (os : List Op) × (made (w.offices i).content i note effects ≡ Ok os) × (has os o ≡ true)
+IsMadeBy w (Stop e left) o = IsMadeBy w e o × LeavesNew w e left
 IsMadeBy w e o = ⊥
 
 -- an office made the operation by one of the events that lead on from w

@@ -1,5 +1,5 @@
 -- Offices that exchange files, under any list of events.
-use Rattle.std.specs.Prelude.{◌≡◌, ℕ, ◌<◌, List, [], ◌∷◌, All, length, Option, Some, None, Result, Ok, Err, find, slice_get, if◌then◌else◌}
+use Rattle.std.specs.Prelude.{◌≡◌, ◌⊎◌, ℕ, ◌<◌, IsUtf8, List, [], ◌∷◌, All, length, Option, Some, None, Result, Ok, Err, find, slice_get, if◌then◌else◌}
 use Rattle.std.specs.Ordering.{is_eq}
 use Rattle.wkt_crs.specs.Definition.{IsDefinition}
 use Rattle.reg_op.specs.Set as set
@@ -9,9 +9,10 @@ use Rattle.reg_op.specs.declared.operation.OpBody.{OpBody as Body}
 use Rattle.reg_op.specs.declared.operation.OpBody.TheVariants.{Enter, Supersede, Retire}
 use Rattle.reg_op.specs.Contents.{Content, state, nothing, joined}
 use Rattle.reg_seen.specs.Runs.{replica_cmp}
-use Rattle.reg_op.specs.Pieces.{Piece, piece_for, PieceRefusal, Basis, Clash, joined_piece}
+use Rattle.reg_op.specs.Pieces.{piece_for, PieceRefusal, Basis, Clash, joined_piece}
 use Rattle.reg_file.specs.Layout.{file}
 use Rattle.reg_file.specs.Files.{Holds, IsTooLarge}
+use Rattle.reg_shelf.specs.Shelf.{IsShelf}
 use Rattle.reg_office.specs.declared.fault.OfficeFault.{OfficeFault}
 use Rattle.reg_office.specs.Making.{made}
 use Rattle.reg_office.specs.Pooled.{Pooled, OfRegister, OfSeen, OfPiece, HoldsAny, IsAnyTooLarge, ops_in}
@@ -36,27 +37,30 @@ pub record World : Type 0 where
 abbrev pub start : World
 start = record { offices = λ i. record { content = nothing; last = file [] []; reached = set.empty }; pool = [] }
 
--- an office makes the operations of one command; sends its last file; sends a summary of what it has seen; sends the piece
--- of its register for a summary at a place of the pool; takes a file from a place of the pool; takes the operation of one id
--- in such a file; begins again from its last file
+-- an office makes the operations of one command, each with its note; sends its last file; sends a summary of what it has
+-- seen; sends the piece of its register for a summary at a place of the pool; takes a file from a place of the pool; takes
+-- the operation of one id in such a file; begins again from its last file; or is stopped while it keeps what comes of an event,
+-- and begins again from the bytes that are left
 pub data Event : Type 0 where
-  Make : (office : List ℕ) (effects : List Body) → Event
+  Make : (office : List ℕ) (effects : List Body) (note : List ℕ) → Event
   Send : (office : List ℕ) → Event
   SendSeen : (office : List ℕ) → Event
   SendPiece : (office : List ℕ) (place : ℕ) → Event
   Take : (office : List ℕ) (place : ℕ) → Event
   TakeOne : (office : List ℕ) (place : ℕ) (id : Id) → Event
   Restart : (office : List ℕ) → Event
+  Stop : (event : Event) (left : List ℕ) → Event
 
--- who commands has a UUID, enters definitions, and names entries by ids
-abbrev pub IsEffect : Body → Type 0
-IsEffect (Enter text) = IsDefinition text
-IsEffect (Supersede old newer) = IsId old × IsId newer
-IsEffect (Retire entry) = IsId entry
-
-abbrev pub IsEvent : Event → Type 0
-IsEvent (Make i effects) = (length i ≡ 16) × All (λ b. b < 256) i × All IsEffect effects
-IsEvent e = Unit {0}
+-- the office whose event it is
+abbrev pub office_of : Event → List ℕ
+office_of (Make i effects note) = i
+office_of (Send i) = i
+office_of (SendSeen i) = i
+office_of (SendPiece i place) = i
+office_of (Take i place) = i
+office_of (TakeOne i place id) = i
+office_of (Restart i) = i
+office_of (Stop e left) = office_of e
 
 -- ---- what comes of an event
 
@@ -112,14 +116,56 @@ Reads next (Some sent) out = (what : Pooled) × HoldsAny sent.bytes what × (out
 abbrev pub picked : Id → Ops → Option Op
 picked id s = find (λ o. is_same o.id id) (set.items s)
 
+-- ---- what a stop leaves
+
+-- the bytes are a shelf of the content that an office has by it
+abbrev pub IsShelfAfter : List ℕ → Outcome → Type 0
+IsShelfAfter left (Gains i x reached) = IsShelf left x
+IsShelfAfter left out = ⊥
+
+-- an office has what it had
+abbrev pub stays : World → List ℕ → Outcome
+stays w i = Gains i (w.offices i).content (w.offices i).reached
+
+-- the bytes are a shelf of what was to come, and it has come; or else of what there was, and that stays
+abbrev pub Leaves : (Outcome → Type 0) → Outcome → List ℕ → Outcome → Type 0
+Leaves Comes was left out = (Comes out × IsShelfAfter left out) ⊎ (IsShelfAfter left was × ((new : Outcome) → Comes new → ¬ (IsShelfAfter left new)) × (out ≡ was))
+
+-- ---- each event
+
 abbrev pub ComesOf : World → Event → Outcome → Type 0
-ComesOf w (Make i effects) out = out ≡ makes w i (made (w.offices i).content i effects)
+ComesOf w (Make i effects note) out = out ≡ makes w i (made (w.offices i).content i note effects)
 ComesOf w (Send i) out = out ≡ Sends (record { bytes = (w.offices i).last; reached = (w.offices i).reached })
 ComesOf w (SendSeen i) out = out ≡ Writes (OfSeen (w.offices i).content.seen) (w.offices i).reached
 ComesOf w (SendPiece i place) out = Reads (λ what reached. sends_piece w i what) (slice_get w.pool place) out
 ComesOf w (Take i place) out = Reads (takes w i) (slice_get w.pool place) out
 ComesOf w (TakeOne i place id) out = Reads (λ what reached. takes_one w i (picked id (ops_in what))) (slice_get w.pool place) out
 ComesOf w (Restart i) out = (x : Content) × Holds (w.offices i).last x × (out ≡ Gains i x (w.offices i).reached)
+ComesOf w (Stop e left) out = Leaves (ComesOf w e) (stays w (office_of e)) left out
+
+-- bytes that are left are a shelf of what was to come of the event
+abbrev pub LeavesNew : World → Event → List ℕ → Type 0
+LeavesNew w e left = (new : Outcome) × ComesOf w e new × IsShelfAfter left new
+
+-- what an office makes or takes is kept
+abbrev pub IsKept : Event → Type 0
+IsKept (Make i effects note) = Unit {0}
+IsKept (Take i place) = Unit {0}
+IsKept (TakeOne i place id) = Unit {0}
+IsKept e = ⊥
+
+-- a command enters definitions, and names entries by ids
+abbrev pub IsEffect : Body → Type 0
+IsEffect (Enter text) = IsDefinition text
+IsEffect (Supersede old newer) = IsId old × IsId newer
+IsEffect (Retire entry) = IsId entry
+
+-- who commands has a UUID, and notes a text of UTF-8. A stop comes while something is kept, and leaves a
+-- shelf of that or of what there was: at no moment of `keep` is any image of the disk anything else
+abbrev pub IsEvent : World → Event → Type 0
+IsEvent w (Make i effects note) = (length i ≡ 16) × All (λ b. b < 256) i × All IsEffect effects × IsUtf8 note
+IsEvent w (Stop e left) = IsKept e × IsEvent w e × (IsShelfAfter left (stays w (office_of e)) ⊎ LeavesNew w e left)
+IsEvent w e = Unit {0}
 
 -- ---- the world after it
 
@@ -146,7 +192,7 @@ IsTooMuch (Writes what reached) = IsAnyTooLarge what
 IsTooMuch out = ⊥
 
 abbrev pub Happens : World → Event → World → Type 0
-Happens w e v = IsEvent e × ((out : Outcome) × ComesOf w e out × After w out v)
+Happens w e v = IsEvent w e × ((out : Outcome) × ComesOf w e out × After w out v)
 
 -- from w, the events lead to v, one after another
 abbrev pub Leads : World → List Event → World → Type 0

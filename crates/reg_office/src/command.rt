@@ -8,7 +8,7 @@ ghost use Rattle.reg_office.specs.Effects.{effect_of, fault_of};
 use crate::OfficeFault;
 use crate::entry::{is_entered, is_retired};
 use crate::repeat::first_repeat;
-use reg_op::{Op, OpBody, OpId};
+use reg_op::{Note, Op, OpBody, OpId};
 use reg_state::Register;
 use std::alloc::{AllocError, Global};
 use uuid::Uuid;
@@ -66,7 +66,7 @@ impl Command {
         register: &Register,
         named: &[OpId],
     ) -> Option<OfficeFault>
-        ensures { (replica : List ℕ) (n : ℕ) → result ≡ objections register.now (numbered replica n (map (effect_of self.now) named.now)) }
+        ensures { (replica : List ℕ) (n : ℕ) (note : List ℕ) → result ≡ objections register.now (numbered replica n note (map (effect_of self.now) named.now)) }
     {
         let repeat = first_repeat(alloc, named);
         for (k, entry) in named.iter().enumerate() {
@@ -86,25 +86,27 @@ impl Command {
         }
     }
 
-    /// An operation for each of the entries, numbered on from a first count.
+    /// An operation for each of the entries with one note, numbered on from a first count.
     pub fn ops(
         &self,
         alloc: Global,
         replica: Uuid,
         first: u32,
+        note: &Note,
         named: &[OpId],
     ) -> Result<Vec<Op>, AllocError>
         requires positive { 0 < first }
         requires fits { first + length named.now ≤ 4294967296 }
         requires possible { All (λ e. ¬ (IsOfItself (effect_of self.now e))) named.now }
-        ensures { IfOk result (λ ops. ops.items ≡ numbered replica first (map (effect_of self.now) named.now)) }
+        ensures { IfOk result (λ ops. ops.items ≡ numbered replica first note.now (map (effect_of self.now) named.now)) }
     {
         let mut ops = Vec::with_capacity(alloc, named.len())?;
         for (k, entry) in named.iter().enumerate() {
             let Some(id) = OpId::new(replica, first + k as u32) else {
                 unreachable!();
             };
-            let Ok(op) = Op::new(id, self.effect(*entry)) else {
+            let noted = note.try_clone()?;
+            let Ok(op) = Op::new(id, self.effect(*entry), noted) else {
                 unreachable!();
             };
             ops.push(op)?;

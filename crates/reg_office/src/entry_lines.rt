@@ -1,17 +1,18 @@
 //! The report of entries, line by line.
 
-ghost use Rattle.std.specs.Prelude.{◌≡◌, ℕ, ◌++◌, List, [], ◌∷◌, map, Some, IfOk, OnOk};
+ghost use Rattle.std.specs.Prelude.{◌≡◌, ℕ, ◌++◌, List, map, Some, IfOk, OnOk};
 ghost use Rattle.reg_op.specs.Text.{printed};
 ghost use Rattle.reg_office.specs.Lines.{entries_header, status_word, spaced, spaced_after, IsEntryLine, IsSheet, IsReady, WritesRow};
 ghost use Rattle.reg_office.specs.Seen.{row_seen};
 
-use crate::lines::printed;
+use crate::lines::{printed, write_six};
 use crate::row::Row;
 use csv::Writer;
 use reg_op::{OpId, Status};
 use std::alloc::{AllocError, Global};
 
-fn status_word(status: Status) -> &'static [u8]
+/// How a report names a status.
+pub fn status_word(status: Status) -> &'static [u8]
     ensures { result.now ≡ status_word (Some status) }
 {
     match status {
@@ -33,8 +34,8 @@ fn spaced_after(text: &mut Vec<u8>, ids: &[OpId]) -> Result<(), AllocError>
     Ok(())
 }
 
-// The ids with one space between.
-fn spaced(alloc: Global, ids: &[OpId]) -> Result<Vec<u8>, AllocError>
+/// The ids with one space between.
+pub fn spaced(alloc: Global, ids: &[OpId]) -> Result<Vec<u8>, AllocError>
     ensures { IfOk result (λ text. text.items ≡ spaced ids.now) }
 {
     let mut text = Vec::new(alloc);
@@ -44,23 +45,6 @@ fn spaced(alloc: Global, ids: &[OpId]) -> Result<Vec<u8>, AllocError>
     first.write_to(&mut text)?;
     spaced_after(&mut text, others)?;
     Ok(text)
-}
-
-fn write_six(
-    wtr: &mut Writer<Vec<u8>>,
-    first: &[u8],
-    second: &[u8],
-    third: &[u8],
-    fourth: &[u8],
-    fifth: &[u8],
-    sixth: &[u8],
-) -> Result<(), AllocError>
-    requires { IsReady wtr.old }
-    ensures { OnOk result (WritesRow wtr.old wtr.new (first.now ∷ second.now ∷ third.now ∷ fourth.now ∷ fifth.now ∷ sixth.now ∷ [])) }
-{
-    let fields = [first, second, third, fourth, fifth, sixth];
-    wtr.write_fields(&fields).map_err(|_| AllocError)?;
-    Ok(())
 }
 
 fn write_header(wtr: &mut Writer<Vec<u8>>) -> Result<(), AllocError>

@@ -5,6 +5,8 @@ use reg_op::OpId;
 /// Why an office refuses a command.
 #[derive(Clone, Copy, Debug, PartialEq, Eq)]
 pub enum OfficeFault {
+    /// A note has more than 200 bytes.
+    NoteTooLong,
     /// Nothing entered this id.
     UnknownEntry(OpId),
     /// An entry was to supersede itself.

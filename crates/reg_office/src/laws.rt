@@ -1,6 +1,6 @@
 //! The laws of what commands make, of reports, and of every world. A call does nothing: its contract is the law.
 
-ghost use Rattle.std.specs.Prelude.{◌≡◌, ◌≢◌, ◌↔◌, ◌⊎◌, ◌+◌, ◌++◌, ◌<◌, ℕ, List, [], ◌∷◌, Contains, map, length, slice_get, true, false, None, Some, Ok, Err};
+ghost use Rattle.std.specs.Prelude.{◌≡◌, ◌≢◌, ◌↔◌, ◌⊎◌, ◌+◌, ◌++◌, ◌<◌, ◌≤◌, ℕ, List, [], ◌∷◌, Contains, map, length, slice_get, true, false, None, Some, Ok, Err};
 ghost use Rattle.csv.specs.Writing.{row_text, default_writer};
 ghost use Rattle.crs_value.specs.declared.crs.Crs.{Crs};
 ghost use Rattle.wkt_crs.specs.Definition.{IsCrsOf};
@@ -18,6 +18,7 @@ ghost use Rattle.reg_op.specs.Status.{enters, status};
 ghost use Rattle.reg_seen.specs.Runs.{ids_from, IsGreatest};
 ghost use Rattle.reg_state.specs.ManyLaws.{all_of};
 ghost use Rattle.reg_file.specs.Files.{Holds, HoldsSeen, HoldsPiece};
+ghost use Rattle.reg_shelf.specs.Shelf.{IsShelf};
 ghost use Rattle.reg_office.specs.declared.fault.OfficeFault.{OfficeFault};
 ghost use Rattle.reg_office.specs.declared.fault.OfficeFault.TheVariants as fault;
 ghost use Rattle.reg_office.specs.Commands.{retirements, supersessions};
@@ -31,34 +32,40 @@ ghost use Rattle.reg_office.specs.Reports.{IsReport, IsOpsReport, rows_of, IsEnt
 ghost use Rattle.reg_op.specs.Pieces.{Piece, piece_for, IsHeld};
 ghost use Rattle.reg_office.specs.Pooled.{Pooled, HoldsAny, ops_in, TellsOf};
 ghost use Rattle.reg_office.specs.Reached.{Reaches, WasMade};
-ghost use Rattle.reg_office.specs.World.{World, start, Event, Make, Send, SendSeen, SendPiece, Take, TakeOne, Restart, Sent, Outcome, Clashes, IsEvent, IsTooMuch, IsWorld, ComesOf, After, pooled, Happens, Leads};
+ghost use Rattle.reg_office.specs.World.{World, start, Event, Make, Send, SendSeen, SendPiece, Take, TakeOne, Restart, Stop, office_of, Sent, Outcome, Clashes, IsEvent, IsTooMuch, IsWorld, ComesOf, After, pooled, Happens, Leads};
 
 /// New operations have the effects of the command in their order, numbered on without a hole from the greatest own
 /// count seen. None of their ids was seen before, and so they join the content without a clash.
 pub fn numbers_are_new()
     ensures greatest { (replica : List ℕ) (seen : Ids) → IsGreatest seen replica (greatest replica seen) }
-    ensures bodies { (x : Content) (replica : List ℕ) (bodies : List Body) (os : List Op) → made x replica bodies ≡ Ok os → map (λ o. o.body) os ≡ bodies }
-    ensures numbers { (x : Content) (replica : List ℕ) (bodies : List Body) (os : List Op) → made x replica bodies ≡ Ok os → map (λ o. o.id) os ≡ ids_from replica (greatest replica x.seen + 1) (length bodies) }
-    ensures unseen { (x : Content) (replica : List ℕ) (bodies : List Body) (os : List Op) (o : Op) → made x replica bodies ≡ Ok os → has os o ≡ true → set.contains x.seen o.id ≡ false }
-    ensures once { (x : Content) (replica : List ℕ) (bodies : List Body) (os : List Op) (p o : Op) → made x replica bodies ≡ Ok os → has os p ≡ true → has os o ≡ true → p.id ≡ o.id → p ≡ o }
-    ensures joined { (x : Content) (replica : List ℕ) (bodies : List Body) (os : List Op) → IsContent x → made x replica bodies ≡ Ok os
+    ensures bodies { (x : Content) (replica note : List ℕ) (bodies : List Body) (os : List Op) → made x replica note bodies ≡ Ok os → map (λ o. o.body) os ≡ bodies }
+    ensures notes { (x : Content) (replica note : List ℕ) (bodies : List Body) (os : List Op) (o : Op) → made x replica note bodies ≡ Ok os → has os o ≡ true → o.note ≡ note }
+    ensures numbers { (x : Content) (replica note : List ℕ) (bodies : List Body) (os : List Op) → made x replica note bodies ≡ Ok os → map (λ o. o.id) os ≡ ids_from replica (greatest replica x.seen + 1) (length bodies) }
+    ensures unseen { (x : Content) (replica note : List ℕ) (bodies : List Body) (os : List Op) (o : Op) → made x replica note bodies ≡ Ok os → has os o ≡ true → set.contains x.seen o.id ≡ false }
+    ensures once { (x : Content) (replica note : List ℕ) (bodies : List Body) (os : List Op) (p o : Op) → made x replica note bodies ≡ Ok os → has os p ≡ true → has os o ≡ true → p.id ≡ o.id → p ≡ o }
+    ensures joined { (x : Content) (replica note : List ℕ) (bodies : List Body) (os : List Op) → IsContent x → made x replica note bodies ≡ Ok os
         → joined x (state (set.from_list {R = op_cmp} os)) ≡ Ok (merged x (state (set.from_list {R = op_cmp} os))) }
+{}
+
+/// A note of more than 200 bytes is refused before anything else, also where the command names nothing.
+pub fn long_notes_are_refused_first()
+    ensures { (x : Content) (replica note : List ℕ) (bodies : List Body) → (made x replica note bodies ≡ Err fault.NoteTooLong) ↔ (200 < length note) }
 {}
 
 /// A count is spent exactly where nothing else is against the command, and the number of its last operation would pass
 /// 4,294,967,295.
 pub fn counts_are_spent_last()
-    ensures { (x : Content) (replica : List ℕ) (bodies : List Body) → (made x replica bodies ≡ Err fault.CountSpent)
-        ↔ ((objections x (numbered replica (greatest replica x.seen + 1) bodies) ≡ None) × (0 < length bodies) × (4294967295 < greatest replica x.seen + length bodies)) }
+    ensures { (x : Content) (replica note : List ℕ) (bodies : List Body) → (made x replica note bodies ≡ Err fault.CountSpent)
+        ↔ ((length note ≤ 200) × (objections x (numbered replica (greatest replica x.seen + 1) note bodies) ≡ None) × (0 < length bodies) × (4294967295 < greatest replica x.seen + length bodies)) }
 {}
 
 /// Each operation that a command makes is kept, since its effect is new.
 pub fn effects_are_kept()
-    ensures entered { (x : Content) (replica text : List ℕ) (os : List Op) (o : Op) → made x replica (Enter text ∷ []) ≡ Ok os → has os o ≡ true
+    ensures entered { (x : Content) (replica note text : List ℕ) (os : List Op) (o : Op) → made x replica note (Enter text ∷ []) ≡ Ok os → has os o ≡ true
         → set.contains (merged x (state (set.from_list {R = op_cmp} os))).ops o ≡ true }
-    ensures retired { (x : Content) (replica : List ℕ) (entries : List Id) (os : List Op) (o : Op) → made x replica (retirements entries) ≡ Ok os → has os o ≡ true
+    ensures retired { (x : Content) (replica note : List ℕ) (entries : List Id) (os : List Op) (o : Op) → made x replica note (retirements entries) ≡ Ok os → has os o ≡ true
         → set.contains (merged x (state (set.from_list {R = op_cmp} os))).ops o ≡ true }
-    ensures superseded { (x : Content) (replica : List ℕ) (old : Id) (newer : List Id) (os : List Op) (o : Op) → made x replica (supersessions old newer) ≡ Ok os → has os o ≡ true
+    ensures superseded { (x : Content) (replica note : List ℕ) (old : Id) (newer : List Id) (os : List Op) (o : Op) → made x replica note (supersessions old newer) ≡ Ok os → has os o ≡ true
         → set.contains (merged x (state (set.from_list {R = op_cmp} os))).ops o ≡ true }
 {}
 
@@ -89,12 +96,13 @@ pub fn one_line()
 /// The text of each row, which an export gives out where the entry is not retired, is the one that was entered. It is
 /// the canonical text of a value, and spells that value.
 pub fn texts_are_read()
-    ensures entered { (x : Content) (r : Row) → Contains (rows x.ops) r → set.contains x.ops (entering r.entry r.definition) ≡ true }
+    ensures entered { (x : Content) (r : Row) → Contains (rows x.ops) r → (note : List ℕ) × (set.contains x.ops (entering r.entry r.definition note) ≡ true) }
     ensures spelled { (x : Content) (r : Row) → IsContent x → Contains (rows x.ops) r → (crs : Crs) × IsCrsOf crs r.definition }
 {}
 
 /// What holds in every world: any number of offices, each with a UUID of its own, after any list of events. Files are
-/// lost, late, repeated and out of order; offices restart from their last files.
+/// lost, late, repeated and out of order; offices restart from their last files, or from what a stop leaves of the shelves on
+/// which they keep what they make and take.
 pub fn every_world()
     // What an office has is the state of all that it made and was sent, although marks were pruned on the way.
     ensures content { (w : World) → IsWorld w → (i : List ℕ) → (w.offices i).content ≡ state (w.offices i).reached }
@@ -114,10 +122,10 @@ pub fn every_world()
     ensures same_exports { (w : World) → IsWorld w → (i j : List ℕ) → (w.offices i).reached ≡ (w.offices j).reached
         → export (w.offices i).content.ops ≡ export (w.offices j).content.ops }
     // What an office makes, it has reached; a command that is refused changes nothing.
-    ensures made_is_reached { (w v : World) → IsWorld w → (i : List ℕ) (effects : List Body) (os : List Op) → made (w.offices i).content i effects ≡ Ok os
-        → Happens w (Make i effects) v → Reaches w i (set.from_list os) v }
-    ensures refused_makes_nothing { (w v : World) (i : List ℕ) (effects : List Body) (f : OfficeFault) → made (w.offices i).content i effects ≡ Err f
-        → Happens w (Make i effects) v → v ≡ w }
+    ensures made_is_reached { (w v : World) → IsWorld w → (i : List ℕ) (effects : List Body) (note : List ℕ) (os : List Op) → made (w.offices i).content i note effects ≡ Ok os
+        → Happens w (Make i effects note) v → Reaches w i (set.from_list os) v }
+    ensures refused_makes_nothing { (w v : World) (i : List ℕ) (effects : List Body) (note : List ℕ) (f : OfficeFault) → made (w.offices i).content i note effects ≡ Err f
+        → Happens w (Make i effects note) v → v ≡ w }
     // Its last file comes into the pool, and stays there.
     ensures sent_is_pooled { (w v : World) (i : List ℕ) → Happens w (Send i) v
         → v ≡ pooled w (record { bytes = (w.offices i).last; reached = (w.offices i).reached }) }
@@ -151,21 +159,28 @@ pub fn every_world()
     ensures nothing_to_answer { (w v : World) (i : List ℕ) (place : ℕ) → slice_get w.pool place ≡ None → Happens w (SendPiece i place) v → v ≡ w }
     // An office that begins again has what it had.
     ensures restart_keeps { (w v : World) → IsWorld w → (i : List ℕ) → Happens w (Restart i) v → v ≡ w }
+    // A stop leaves all of its event, or nothing of it, and the office begins again with the content of what was left: with the
+    // new one wherever that is it, so that what the event gives is reached; and else the event made nothing.
+    ensures stop_is_all_or_nothing { (w v : World) → IsWorld w → (e : Event) (left : List ℕ) → Happens w (Stop e left) v → Happens w e v ⊎ (v ≡ w) }
+    ensures stop_leaves_a_shelf { (w v : World) → IsWorld w → (e : Event) (left : List ℕ) → Happens w (Stop e left) v
+        → IsShelf left (v.offices (office_of e)).content }
+    ensures stop_leaves_the_new { (w u v : World) → IsWorld w → (e : Event) (left : List ℕ) → Happens w (Stop e left) v → Happens w e u
+        → IsShelf left (u.offices (office_of e)).content → v ≡ u }
     // All that any office reached was made on the way.
     ensures was_made { (w : World) (events : List Event) → Leads start events w → (i : List ℕ) (o : Op) → set.contains (w.offices i).reached o ≡ true → WasMade start events o }
     // All that any offices reached has one body an id.
     ensures one_body { (w : World) → IsWorld w → (offices : List (List ℕ)) → OneBody (all_of (map (λ i. (w.offices i).reached) offices)) }
     // What an office makes has ids that nobody has reached, and that differ from one another.
-    ensures new_ids { (w : World) → IsWorld w → (i j : List ℕ) (effects : List Body) (os : List Op) (o p : Op) → made (w.offices i).content i effects ≡ Ok os
+    ensures new_ids { (w : World) → IsWorld w → (i j : List ℕ) (effects : List Body) (note : List ℕ) (os : List Op) (o p : Op) → made (w.offices i).content i note effects ≡ Ok os
         → has os o ≡ true → set.contains (w.offices j).reached p ≡ true → p.id ≢ o.id }
-    ensures own_ids { (w : World) → IsWorld w → (i : List ℕ) (effects : List Body) (os : List Op) → made (w.offices i).content i effects ≡ Ok os → ById os }
+    ensures own_ids { (w : World) → IsWorld w → (i : List ℕ) (effects : List Body) (note : List ℕ) (os : List Op) → made (w.offices i).content i note effects ≡ Ok os → ById os }
     // What it has reached, it keeps: so no id is made twice.
     ensures grows { (w v : World) (later : List Event) → IsWorld w → Leads w later v → (i : List ℕ) (o : Op)
         → set.contains (w.offices i).reached o ≡ true → set.contains (v.offices i).reached o ≡ true }
     // Nothing that happens meets a clash.
-    ensures no_clash { (w : World) → IsWorld w → (e : Event) (id : Id) → IsEvent e → ¬ (ComesOf w e (Clashes id)) }
+    ensures no_clash { (w : World) → IsWorld w → (e : Event) (id : Id) → IsEvent w e → ¬ (ComesOf w e (Clashes id)) }
     // Each event has an outcome, and a world comes after it unless a file would be too large.
-    ensures goes_on { (w : World) → IsWorld w → (e : Event) → IsEvent e
+    ensures goes_on { (w : World) → IsWorld w → (e : Event) → IsEvent w e
         → (out : Outcome) × ComesOf w e out × (((v : World) × After w out v) ⊎ IsTooMuch out) }
     // It is one world.
     ensures one_world { (w u v : World) (e : Event) → Happens w e u → Happens w e v → u ≡ v }

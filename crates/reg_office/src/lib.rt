@@ -13,6 +13,7 @@ mod gap;
 pub mod laws;
 mod lines;
 mod named;
+mod note;
 mod office;
 mod one_entry;
 mod repeat;
@@ -21,8 +22,10 @@ mod supersession;
 mod writing;
 
 pub use conflict::{Conflict, conflicts};
+pub use entry_lines::{entries_text, spaced, status_word};
 pub use fault::OfficeFault;
 pub use gap::{Gap, gaps};
+pub use lines::printed;
 pub use named::awaited;
 pub use office::Office;
 pub use one_entry::report_entry;

@@ -10,6 +10,7 @@ use reg_op::{Op, OpBody, OpId};
 use std::alloc::{AllocError, Global};
 use uuid::Uuid;
 
+/// The printed form of an id.
 pub fn printed(alloc: Global, id: OpId) -> Result<Vec<u8>, AllocError>
     ensures { IfOk result (λ text. text.items ≡ printed id) }
 {
@@ -93,28 +94,31 @@ fn write_ops_header(wtr: &mut Writer<Vec<u8>>) -> Result<(), AllocError>
     requires { IsReady wtr.old }
     ensures { OnOk result (WritesRow wtr.old wtr.new ops_header) }
 {
-    write_five(
+    write_six(
         wtr,
         b"operation",
         b"effect",
         b"entry",
         b"replaced_by",
         b"definition",
+        b"note",
     )
 }
 
-fn write_five(
+/// A line of six fields.
+pub fn write_six(
     wtr: &mut Writer<Vec<u8>>,
     first: &[u8],
     second: &[u8],
     third: &[u8],
     fourth: &[u8],
     fifth: &[u8],
+    sixth: &[u8],
 ) -> Result<(), AllocError>
     requires { IsReady wtr.old }
-    ensures { OnOk result (WritesRow wtr.old wtr.new (first.now ∷ second.now ∷ third.now ∷ fourth.now ∷ fifth.now ∷ [])) }
+    ensures { OnOk result (WritesRow wtr.old wtr.new (first.now ∷ second.now ∷ third.now ∷ fourth.now ∷ fifth.now ∷ sixth.now ∷ [])) }
 {
-    let fields = [first, second, third, fourth, fifth];
+    let fields = [first, second, third, fourth, fifth, sixth];
     wtr.write_fields(&fields).map_err(|_| AllocError)?;
     Ok(())
 }
@@ -124,36 +128,20 @@ fn write_op(alloc: Global, wtr: &mut Writer<Vec<u8>>, op: &Op) -> Result<(), All
     ensures { OnOk result (WritesRow wtr.old wtr.new (op_fields op.now)) }
 {
     let id = printed(alloc, op.id())?;
+    let note = op.note().as_bytes();
     match op.body() {
         OpBody::Enter(definition) => {
-            let fields = [
-                id.as_slice(),
-                b"enter",
-                id.as_slice(),
-                b"",
-                definition.as_bytes(),
-            ];
-            wtr.write_fields(&fields).map_err(|_| AllocError)?;
-            Ok(())
+            let text = definition.as_bytes();
+            write_six(wtr, &id, b"enter", &id, b"", text, note)
         }
         OpBody::Supersede { old, newer } => {
             let old = printed(alloc, *old)?;
             let newer = printed(alloc, *newer)?;
-            let fields = [
-                id.as_slice(),
-                b"supersede",
-                old.as_slice(),
-                newer.as_slice(),
-                b"",
-            ];
-            wtr.write_fields(&fields).map_err(|_| AllocError)?;
-            Ok(())
+            write_six(wtr, &id, b"supersede", &old, &newer, b"", note)
         }
         OpBody::Retire { entry } => {
             let entry = printed(alloc, *entry)?;
-            let fields = [id.as_slice(), b"retire", entry.as_slice(), b"", b""];
-            wtr.write_fields(&fields).map_err(|_| AllocError)?;
-            Ok(())
+            write_six(wtr, &id, b"retire", &entry, b"", b"", note)
         }
     }
 }

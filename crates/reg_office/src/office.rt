@@ -16,6 +16,7 @@ ghost use Rattle.reg_office.specs.Effects.{effect_of};
 
 use crate::OfficeFault;
 use crate::command::Command;
+use crate::note::{note_fault, note_of};
 use reg_op::{Op, OpBody, OpId};
 use reg_state::{ContentFault, Join, JoinFault, Register, Run, Seen, TakeFault};
 use std::alloc::{AllocError, Global};
@@ -57,20 +58,26 @@ impl Office {
     }
 
     /// Enters a definition.
-    pub fn enter(&mut self, definition: Definition) -> Result<OpId, OfficeFault>
-        ensures ok { IfOk result (λ id. Does self.old.register self.old.replica (body.Enter definition ∷ []) self.new.register (id ∷ [])) }
-        ensures refused { made self.old.register self.old.replica (body.Enter definition ∷ []) ≡ Err fault.CountSpent → result ≡ Err fault.CountSpent }
-        ensures fault { IfErr result (λ f. (made self.old.register self.old.replica (body.Enter definition ∷ []) ≡ Err f) ⊎ (f ≡ fault.Memory)) }
+    pub fn enter(&mut self, definition: Definition, note: &str) -> Result<OpId, OfficeFault>
+        ensures ok { IfOk result (λ id. Does self.old.register self.old.replica note.now (body.Enter definition ∷ []) self.new.register (id ∷ [])) }
+        ensures refused { (f : OfficeFault) → made self.old.register self.old.replica note.now (body.Enter definition ∷ []) ≡ Err f → result ≡ Err f }
+        ensures fault { IfErr result (λ f. (made self.old.register self.old.replica note.now (body.Enter definition ∷ []) ≡ Err f) ⊎ (f ≡ fault.Memory)) }
         ensures unchanged { OnErr result (self.new ≡ self.old) }
         ensures replica { self.new.replica ≡ self.old.replica }
     {
+        if let Some(fault) = note_fault(note) {
+            return Err(fault);
+        }
         let Some(first) = next_count(self.register.seen(), self.replica, 1) else {
             return Err(OfficeFault::CountSpent);
         };
         let Some(id) = OpId::new(self.replica, first) else {
             unreachable!();
         };
-        let Ok(op) = Op::new(id, OpBody::Enter(definition)) else {
+        let Ok(noted) = note_of(self.register.allocator(), note) else {
+            return Err(OfficeFault::Memory);
+        };
+        let Ok(op) = Op::new(id, OpBody::Enter(definition), noted) else {
             unreachable!();
         };
         match self.register.take(op) {
@@ -81,14 +88,19 @@ impl Office {
     }
 
     /// Retires entries.
-    pub fn retire(&mut self, alloc: Global, entries: &[OpId]) -> Result<Vec<OpId>, OfficeFault>
-        ensures ok { IfOk result (λ ids. Does self.old.register self.old.replica (retirements entries.now) self.new.register ids.items) }
-        ensures refused { (f : OfficeFault) → made self.old.register self.old.replica (retirements entries.now) ≡ Err f → result ≡ Err f }
-        ensures fault { IfErr result (λ f. (made self.old.register self.old.replica (retirements entries.now) ≡ Err f) ⊎ (f ≡ fault.Memory)) }
+    pub fn retire(
+        &mut self,
+        alloc: Global,
+        entries: &[OpId],
+        note: &str,
+    ) -> Result<Vec<OpId>, OfficeFault>
+        ensures ok { IfOk result (λ ids. Does self.old.register self.old.replica note.now (retirements entries.now) self.new.register ids.items) }
+        ensures refused { (f : OfficeFault) → made self.old.register self.old.replica note.now (retirements entries.now) ≡ Err f → result ≡ Err f }
+        ensures fault { IfErr result (λ f. (made self.old.register self.old.replica note.now (retirements entries.now) ≡ Err f) ⊎ (f ≡ fault.Memory)) }
         ensures unchanged { OnErr result (self.new ≡ self.old) }
         ensures replica { self.new.replica ≡ self.old.replica }
     {
-        self.run(alloc, &Command::Retire, entries)
+        self.run(alloc, &Command::Retire, entries, note)
     }
 
     /// Supersedes an old entry by newer ones.
@@ -97,14 +109,15 @@ impl Office {
         alloc: Global,
         old: OpId,
         newer: &[OpId],
+        note: &str,
     ) -> Result<Vec<OpId>, OfficeFault>
-        ensures ok { IfOk result (λ ids. Does self.old.register self.old.replica (supersessions old newer.now) self.new.register ids.items) }
-        ensures refused { (f : OfficeFault) → made self.old.register self.old.replica (supersessions old newer.now) ≡ Err f → result ≡ Err f }
-        ensures fault { IfErr result (λ f. (made self.old.register self.old.replica (supersessions old newer.now) ≡ Err f) ⊎ (f ≡ fault.Memory)) }
+        ensures ok { IfOk result (λ ids. Does self.old.register self.old.replica note.now (supersessions old newer.now) self.new.register ids.items) }
+        ensures refused { (f : OfficeFault) → made self.old.register self.old.replica note.now (supersessions old newer.now) ≡ Err f → result ≡ Err f }
+        ensures fault { IfErr result (λ f. (made self.old.register self.old.replica note.now (supersessions old newer.now) ≡ Err f) ⊎ (f ≡ fault.Memory)) }
         ensures unchanged { OnErr result (self.new ≡ self.old) }
         ensures replica { self.new.replica ≡ self.old.replica }
     {
-        self.run(alloc, &Command::Supersede(old), newer)
+        self.run(alloc, &Command::Supersede(old), newer, note)
     }
 
     fn run(
@@ -112,13 +125,17 @@ impl Office {
         alloc: Global,
         command: &Command,
         named: &[OpId],
+        note: &str,
     ) -> Result<Vec<OpId>, OfficeFault>
-        ensures ok { IfOk result (λ ids. Does self.old.register self.old.replica (map (effect_of command.now) named.now) self.new.register ids.items) }
-        ensures refused { (f : OfficeFault) → made self.old.register self.old.replica (map (effect_of command.now) named.now) ≡ Err f → result ≡ Err f }
-        ensures fault { IfErr result (λ f. (made self.old.register self.old.replica (map (effect_of command.now) named.now) ≡ Err f) ⊎ (f ≡ fault.Memory)) }
+        ensures ok { IfOk result (λ ids. Does self.old.register self.old.replica note.now (map (effect_of command.now) named.now) self.new.register ids.items) }
+        ensures refused { (f : OfficeFault) → made self.old.register self.old.replica note.now (map (effect_of command.now) named.now) ≡ Err f → result ≡ Err f }
+        ensures fault { IfErr result (λ f. (made self.old.register self.old.replica note.now (map (effect_of command.now) named.now) ≡ Err f) ⊎ (f ≡ fault.Memory)) }
         ensures unchanged { OnErr result (self.new ≡ self.old) }
         ensures replica { self.new.replica ≡ self.old.replica }
     {
+        if let Some(fault) = note_fault(note) {
+            return Err(fault);
+        }
         if let Some(fault) = command.first_fault(alloc, &self.register, named) {
             return Err(fault);
         }
@@ -129,7 +146,7 @@ impl Office {
         let Some(first) = next_count(seen, self.replica, named.len()) else {
             return Err(OfficeFault::CountSpent);
         };
-        match self.joined(alloc, command, first, named) {
+        match self.joined(alloc, command, first, named, note) {
             Ok((register, ids)) => {
                 self.register = register;
                 Ok(ids)
@@ -145,16 +162,19 @@ impl Office {
         command: &Command,
         first: u32,
         named: &[OpId],
+        note: &str,
     ) -> Result<(Register, Vec<OpId>), AllocError>
+        requires short { length note.now ≤ 200 }
         requires some { 0 < length named.now }
         requires fits { first + length named.now ≤ 4294967296 }
         requires first { first ≡ greatest self.now.replica self.now.register.seen + 1 }
-        requires made { objections self.now.register (numbered self.now.replica first (map (effect_of command.now) named.now)) ≡ None }
+        requires made { objections self.now.register (numbered self.now.replica first note.now (map (effect_of command.now) named.now)) ≡ None }
         requires possible { All (λ e. ¬ (IsOfItself (effect_of command.now e))) named.now }
-        ensures register { IfOk result (λ p. joined self.now.register (state (set.from_list {R = op_cmp} (numbered self.now.replica first (map (effect_of command.now) named.now)))) ≡ Ok p.0) }
-        ensures ids { IfOk result (λ p. p.1.items ≡ map (λ (o : Operation). o.id) (numbered self.now.replica first (map (effect_of command.now) named.now))) }
+        ensures register { IfOk result (λ p. joined self.now.register (state (set.from_list {R = op_cmp} (numbered self.now.replica first note.now (map (effect_of command.now) named.now)))) ≡ Ok p.0) }
+        ensures ids { IfOk result (λ p. p.1.items ≡ map (λ (o : Operation). o.id) (numbered self.now.replica first note.now (map (effect_of command.now) named.now))) }
     {
-        let ops = command.ops(alloc, self.replica, first, named)?;
+        let noted = note_of(alloc, note)?;
+        let ops = command.ops(alloc, self.replica, first, &noted, named)?;
         let ids = ids_of(alloc, &ops)?;
         let run = Run {
             replica: self.replica,

@@ -17,43 +17,43 @@ use Rattle.std.specs.Cmp.{both_ways}
 same_itself : (i : Id) → is_same i i ≡ true
 same_itself i = ap is_eq (tied_itself id_total i)
 
-of_op : (s : Ops) (j : Id) (b c : Body) → b ≡ c → contains s (record { id = j; body = b }) ≡ true → contains s (record { id = j; body = c }) ≡ true
-of_op s j b c e h = subst (λ x. contains s (record { id = j; body = x }) ≡ true) e h
+of_op : (s : Ops) (j : Id) (b c : Body) (n : List ℕ) → b ≡ c → contains s (record { id = j; body = b; note = n }) ≡ true → contains s (record { id = j; body = c; note = n }) ≡ true
+of_op s j b c n e h = subst (λ x. contains s (record { id = j; body = x; note = n }) ≡ true) e h
 
-pub kept_enter : (s : Ops) (i : Id) (text : List ℕ) → contains (kept s) (entering i text) ≡ contains s (entering i text)
-kept_enter s i text = both_ways _ _ (kept_is_within s (entering i text)) (λ h. kept_has s (entering i text) h (λ p n r. nothing_over p.body (is_before p.id i) r))
+pub kept_enter : (s : Ops) (i : Id) (text note : List ℕ) → contains (kept s) (entering i text note) ≡ contains s (entering i text note)
+kept_enter s i text note = both_ways _ _ (kept_is_within s (entering i text note)) (λ h. kept_has s (entering i text note) h (λ p n r. nothing_over p.body (is_before p.id i) r))
   where
     nothing_over : (b : Body) (before : Bool) → replaces_body before b (Enter text) ≡ true → ⊥
     nothing_over (Enter t) before h = true≢false (sym h)
     nothing_over (Supersede o n) before h = true≢false (sym h)
     nothing_over (Retire e) before h = true≢false (sym h)
 
-pub kept_retirement : (s : Ops) (i e : Id) → (contains (kept s) (retiring i e) ≡ true) ↔ IsLeastRetirement s i e
-kept_retirement s i e = (
+pub kept_retirement : (s : Ops) (i e : Id) (note : List ℕ) → (contains (kept s) (retiring i e note) ≡ true) ↔ IsLeastRetirement s i e note
+kept_retirement s i e note = (
   λ h. record {
-    there = kept_is_within s (retiring i e) h;
-    least = λ j k. false_from_ne_true _ (λ b. kept_free s (retiring i e) (retiring j e) h k (and_from _ _ (same_itself e) b));
+    there = kept_is_within s (retiring i e note) h;
+    least = λ j other k. false_from_ne_true _ (λ b. kept_free s (retiring i e note) (retiring j e other) h k (and_from _ _ (same_itself e) b));
   },
-  λ l. kept_has s (retiring i e) l.there (λ p n r. refuted l p.id p.body n r),
+  λ l. kept_has s (retiring i e note) l.there (λ p n r. refuted l p.id p.body p.note n r),
 )
   where
-    refuted : IsLeastRetirement s i e → (j : Id) (b : Body) → contains s (record { id = j; body = b }) ≡ true → replaces_body (is_before j i) b (Retire e) ≡ true → ⊥
-    refuted l j (Enter t) n r = true≢false (sym r)
-    refuted l j (Supersede o w) n r = true≢false (sym r)
-    refuted l j (Retire f) n r =
+    refuted : IsLeastRetirement s i e note → (j : Id) (b : Body) (m : List ℕ) → contains s (record { id = j; body = b; note = m }) ≡ true → replaces_body (is_before j i) b (Retire e) ≡ true → ⊥
+    refuted l j (Enter t) m n r = true≢false (sym r)
+    refuted l j (Supersede o w) m n r = true≢false (sym r)
+    refuted l j (Retire f) m n r =
         let p = and_parts _ _ r in
-        true≢false (sym p.1 ∙ l.least j (of_op s j (Retire f) (Retire e) (ap Retire (is_same_exact f e p.0)) n))
+        true≢false (sym p.1 ∙ l.least j m (of_op s j (Retire f) (Retire e) m (ap Retire (is_same_exact f e p.0)) n))
 
-pub kept_supersession : (s : Ops) (i old newer : Id) → (contains (kept s) (superseding i old newer) ≡ true) ↔ IsLeastSupersession s i old newer
-kept_supersession s i old newer = (
+pub kept_supersession : (s : Ops) (i old newer : Id) (note : List ℕ) → (contains (kept s) (superseding i old newer note) ≡ true) ↔ IsLeastSupersession s i old newer note
+kept_supersession s i old newer note = (
   λ h. record {
-    there = kept_is_within s (superseding i old newer) h;
-    least = λ j k. false_from_ne_true _ (λ b. kept_free s (superseding i old newer) (superseding j old newer) h k (and_from _ _ (same_itself old) (and_from _ _ (same_itself newer) b)));
+    there = kept_is_within s (superseding i old newer note) h;
+    least = λ j other k. false_from_ne_true _ (λ b. kept_free s (superseding i old newer note) (superseding j old newer other) h k (and_from _ _ (same_itself old) (and_from _ _ (same_itself newer) b)));
     stands = false_from_ne_true _ (λ r.
         let m = member_from_any op_total op_exact (λ o. is_retirement old o.body) s r in
-        kept_free s (superseding i old newer) m.0 h m.1 (over m.0.body (is_before m.0.id i) m.2));
+        kept_free s (superseding i old newer note) m.0 h m.1 (over m.0.body (is_before m.0.id i) m.2));
   },
-  λ l. kept_has s (superseding i old newer) l.there (λ p n r. refuted l p.id p.body n r),
+  λ l. kept_has s (superseding i old newer note) l.there (λ p n r. refuted l p.id p.body p.note n r),
 )
   where
     over : (b : Body) (before : Bool) → is_retirement old b ≡ true → replaces_body before b (Supersede old newer) ≡ true
@@ -61,10 +61,10 @@ kept_supersession s i old newer = (
     over (Supersede o n) before h = absurd (true≢false (sym h))
     over (Retire e) before h = is_same_back old e h
 
-    refuted : IsLeastSupersession s i old newer → (j : Id) (b : Body) → contains s (record { id = j; body = b }) ≡ true → replaces_body (is_before j i) b (Supersede old newer) ≡ true → ⊥
-    refuted l j (Enter t) n r = true≢false (sym r)
-    refuted l j (Retire f) n r = true≢false (sym (any_from_member op_total op_exact (λ o. is_retirement old o.body) s (record { id = j; body = Retire f }) n (is_same_back f old r)) ∙ l.stands)
-    refuted l j (Supersede o w) n r =
+    refuted : IsLeastSupersession s i old newer note → (j : Id) (b : Body) (m : List ℕ) → contains s (record { id = j; body = b; note = m }) ≡ true → replaces_body (is_before j i) b (Supersede old newer) ≡ true → ⊥
+    refuted l j (Enter t) m n r = true≢false (sym r)
+    refuted l j (Retire f) m n r = true≢false (sym (any_from_member op_total op_exact (λ o. is_retirement old o.body) s (record { id = j; body = Retire f; note = m }) n (is_same_back f old r)) ∙ l.stands)
+    refuted l j (Supersede o w) m n r =
         let p = and_parts _ _ r in
         let q = and_parts _ _ p.1 in
-        true≢false (sym q.1 ∙ l.least j (of_op s j (Supersede o w) (Supersede old newer) (λ k. Supersede (is_same_exact o old p.0 k) (is_same_exact w newer q.0 k)) n))
+        true≢false (sym q.1 ∙ l.least j m (of_op s j (Supersede o w) (Supersede old newer) m (λ k. Supersede (is_same_exact o old p.0 k) (is_same_exact w newer q.0 k)) n))

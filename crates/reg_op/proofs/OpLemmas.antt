@@ -27,7 +27,7 @@ body_total : IsTotalOrder body_cmp
 body_total = then_total (on_total kind_of nat_cmp_total) (then_total (on_total text_of nat_list_cmp_total) (on_total named_in (lists_total id_total)))
 
 pub op_total : IsTotalOrder op_cmp
-op_total = then_total (on_total (λ a. a.id) id_total) (on_total (λ a. a.body) body_total)
+op_total = then_total (on_total (λ a. a.id) id_total) (then_total (on_total (λ a. a.body) body_total) (on_total (λ a. a.note) nat_list_cmp_total))
 
 same_body : (a b : Body) → kind_of a ≡ kind_of b → text_of a ≡ text_of b → named_in a ≡ named_in b → a ≡ b
 same_body (Enter t) (Enter u) k e f = ap Enter e
@@ -50,9 +50,11 @@ body_exact a b e =
 pub op_exact : IsAntisymmetric op_cmp
 op_exact a b e =
     let i = both_equal (id_cmp a.id b.id) _ e in
+    let n = both_equal (body_cmp a.body b.body) _ i.1 in
     let id : a.id ≡ b.id = id_exact _ _ i.0 in
-    let body : a.body ≡ b.body = body_exact _ _ i.1 in
-    λ j. record { id = id j; body = body j }
+    let body : a.body ≡ b.body = body_exact _ _ n.0 in
+    let note : a.note ≡ b.note = bytes_exact _ _ n.1 in
+    λ j. record { id = id j; body = body j; note = note j }
 
 -- ---- `replaces` is a strict order
 

@@ -26,14 +26,15 @@ body_back (Enter text) = refl
 body_back (Supersede old newer) = refl
 body_back (Retire entry) = refl
 
-abbrev pub with_body : Id → Body → Op
-with_body i b = record { id = i; body = b }
+abbrev pub with_body : Id → Body → List ℕ → Op
+with_body i b note = record { id = i; body = b; note = note }
 
 abbrev pub op_code : Coded Op
 op_code =
-    code_by (Id × (ℕ × (List ℕ × List Id))) (coded× id_code (coded× coded_ℕ (coded× (coded_list coded_ℕ) (coded_list id_code))))
-    (λ o. (o.id, (kind_of o.body, (text_of o.body, named_in o.body)))) (λ p. with_body p.0 (body_of p.1.0 p.1.1.0 p.1.1.1))
-    (λ o k. with_body o.id (body_back o.body k))
+    code_by (Id × (ℕ × (List ℕ × (List Id × List ℕ))))
+    (coded× id_code (coded× coded_ℕ (coded× (coded_list coded_ℕ) (coded× (coded_list id_code) (coded_list coded_ℕ)))))
+    (λ o. (o.id, (kind_of o.body, (text_of o.body, (named_in o.body, o.note)))))
+    (λ p. with_body p.0 (body_of p.1.0 p.1.1.0 p.1.1.1.0) p.1.1.1.1) (λ o k. with_body o.id (body_back o.body k) o.note)
 
 abbrev pub content_code : Coded Content
 content_code =

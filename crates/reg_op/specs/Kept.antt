@@ -6,24 +6,25 @@ use Rattle.reg_op.specs.Ids.{Id, is_before}
 use Rattle.reg_op.specs.Operations.{Op, Enter, Supersede, Retire, Ops, replaces, kept, clashes}
 use Rattle.reg_op.specs.Status.{retires}
 
-abbrev pub entering : Id → List ℕ → Op
-entering i text = record { id = i; body = Enter text }
+-- an effect under an id, with its note
+abbrev pub entering : Id → List ℕ → List ℕ → Op
+entering i text note = record { id = i; body = Enter text; note = note }
 
-abbrev pub superseding : Id → Id → Id → Op
-superseding i old newer = record { id = i; body = Supersede old newer }
+abbrev pub superseding : Id → Id → Id → List ℕ → Op
+superseding i old newer note = record { id = i; body = Supersede old newer; note = note }
 
-abbrev pub retiring : Id → Id → Op
-retiring i entry = record { id = i; body = Retire entry }
+abbrev pub retiring : Id → Id → List ℕ → Op
+retiring i entry note = record { id = i; body = Retire entry; note = note }
 
--- the retirement of an entry that has the least id
-pub record IsLeastRetirement (s : Ops) (i entry : Id) : Type 0 where
-  pub there : set.contains s (retiring i entry) ≡ true
-  pub least : (j : Id) → set.contains s (retiring j entry) ≡ true → is_before j i ≡ false
+-- the retirement of an entry that has the least id, whatever the others note
+pub record IsLeastRetirement (s : Ops) (i entry : Id) (note : List ℕ) : Type 0 where
+  pub there : set.contains s (retiring i entry note) ≡ true
+  pub least : (j : Id) (other : List ℕ) → set.contains s (retiring j entry other) ≡ true → is_before j i ≡ false
 
--- the supersession of a pair that has the least id, where the old entry is not retired
-pub record IsLeastSupersession (s : Ops) (i old newer : Id) : Type 0 where
-  pub there : set.contains s (superseding i old newer) ≡ true
-  pub least : (j : Id) → set.contains s (superseding j old newer) ≡ true → is_before j i ≡ false
+-- the supersession of a pair that has the least id, whatever the others note, where the old entry is not retired
+pub record IsLeastSupersession (s : Ops) (i old newer : Id) (note : List ℕ) : Type 0 where
+  pub there : set.contains s (superseding i old newer note) ≡ true
+  pub least : (j : Id) (other : List ℕ) → set.contains s (superseding j old newer other) ≡ true → is_before j i ≡ false
   pub stands : retires s old ≡ false
 
 -- the least id that has two bodies

@@ -4,6 +4,7 @@ pub mod Finite
 pub mod Ids
 pub mod Kept
 pub mod Lists
+pub mod Notes
 pub mod Operations
 pub mod Pieces
 pub mod Rows

@@ -7,13 +7,15 @@ use Rattle.wkt_crs.specs.Definition.{IsDefinition}
 use Rattle.reg_op.specs.Set as set
 use Rattle.reg_op.specs.Finite.{any, topmost}
 use Rattle.reg_op.specs.Ids.{Id, IsId, Ids, id_cmp, is_before, is_same}
+use Rattle.reg_op.specs.Notes.{IsNote}
 pub use Rattle.reg_op.specs.declared.operation.OpBody.{OpBody as Body}
 pub use Rattle.reg_op.specs.declared.operation.OpBody.TheVariants.{Enter, Supersede, Retire}
 
--- one effect, under an id of its own
+-- one effect, under an id of its own, and what is noted of it
 pub record Op : Type 0 where
   pub id : Id
   pub body : Body
+  pub note : List ℕ
 
 -- a definition is entered, an entry is superseded by another, an entry is retired
 abbrev pub IsBody : Body → Type 0
@@ -24,6 +26,7 @@ IsBody (Retire entry) = IsId entry
 pub record IsOperation (o : Op) : Type 0 where
   pub id : IsId o.id
   pub body : IsBody o.body
+  pub note : IsNote o.note
 
 -- the entry would supersede itself
 abbrev pub IsOfItself : Body → Type 0
@@ -52,9 +55,9 @@ body_cmp a b =
     ordering_then (nat_cmp (kind_of a) (kind_of b))
     (ordering_then (slice_cmp nat_cmp (text_of a) (text_of b)) (slice_cmp id_cmp (named_in a) (named_in b)))
 
--- operations are ordered by the id, and then by the body
+-- operations are ordered by the id, then by the body and the note
 abbrev pub op_cmp : Op → Op → Ordering
-op_cmp a b = ordering_then (id_cmp a.id b.id) (body_cmp a.body b.body)
+op_cmp a b = ordering_then (id_cmp a.id b.id) (ordering_then (body_cmp a.body b.body) (slice_cmp nat_cmp a.note b.note))
 
 -- a set of operations
 abbrev pub Ops : Type 0
@@ -68,7 +71,7 @@ one o = set.insert set.empty o
 abbrev pub ids : Ops → Ids
 ids s = set.from_list (map (λ o. o.id) (set.items s))
 
--- no id has two bodies
+-- no id has two bodies, nor two notes: the note is of the body
 abbrev pub OneBody : Ops → Type 0
 OneBody s = (p o : Op) → set.contains s p ≡ true → set.contains s o ≡ true → p.id ≡ o.id → p ≡ o
 
@@ -87,7 +90,7 @@ replaces p o = replaces_body (is_before p.id o.id) p.body o.body
 abbrev pub kept : Ops → Ops
 kept s = topmost replaces s
 
--- the id is the same, and the body is not
+-- the id is the same, and the body or the note is not
 abbrev pub clashes : Op → Op → Bool
 clashes p o = is_same p.id o.id && not (is_eq (op_cmp p o))
 

@@ -16,14 +16,14 @@ pub fn kept_of_union()
 {}
 
 /// What is kept: all Enters; the least retirement of an entry; of an entry that is not retired the least supersession
-/// of a pair.
+/// of a pair. Each keeps its own note.
 pub fn least_are_kept()
-    ensures enters { (s : Ops) (i : Id) (text : List ℕ) →
-        set.contains (kept s) (entering i text) ≡ set.contains s (entering i text) }
-    ensures retirements { (s : Ops) (i e : Id) →
-        (set.contains (kept s) (retiring i e) ≡ true) ↔ IsLeastRetirement s i e }
-    ensures supersessions { (s : Ops) (i old newer : Id) →
-        (set.contains (kept s) (superseding i old newer) ≡ true) ↔ IsLeastSupersession s i old newer }
+    ensures enters { (s : Ops) (i : Id) (text note : List ℕ) →
+        set.contains (kept s) (entering i text note) ≡ set.contains s (entering i text note) }
+    ensures retirements { (s : Ops) (i e : Id) (note : List ℕ) →
+        (set.contains (kept s) (retiring i e note) ≡ true) ↔ IsLeastRetirement s i e note }
+    ensures supersessions { (s : Ops) (i old newer : Id) (note : List ℕ) →
+        (set.contains (kept s) (superseding i old newer note) ≡ true) ↔ IsLeastSupersession s i old newer note }
 {}
 
 /// Status, rows, keys in conflict and what is awaited are over what is kept what they are over the whole set. Any test may

@@ -3,10 +3,12 @@
 
 mod count;
 pub mod laws;
+mod note;
 mod op_id;
 mod operation;
 mod status;
 
+pub use note::{Note, NoteFault};
 pub use op_id::OpId;
 pub use operation::{Op, OpBody, SameEntry};
 pub use status::Status;

@@ -4,7 +4,7 @@ ghost use Rattle.std.specs.Prelude.{◌≡◌, ◌↔◌, false, IsTrue, IfOk, I
 ghost use Rattle.std.specs.Ordering.{is_eq};
 ghost use Rattle.reg_op.specs.Operations.{Op as Operation, IsBody, IsOperation, IsOfItself, op_cmp, clashes, replaces};
 
-use crate::OpId;
+use crate::{Note, OpId};
 use std::alloc::{AllocError, Global};
 use std::marker::Model;
 use wkt_crs::Definition;
@@ -21,11 +21,12 @@ pub enum OpBody {
 #[derive(Clone, Copy, Debug, PartialEq, Eq)]
 pub struct SameEntry;
 
-/// An operation: one effect, under an id of its own.
+/// An operation: one effect, under an id of its own, and what is noted of it.
 #[derive(Drop)]
 pub struct Op {
     id: OpId,
     body: OpBody,
+    note: Note,
 }
 
 impl Model for Op {
@@ -36,22 +37,23 @@ impl Model for Op {
 
     ghost coded = { op_code };
 
-    ghost view = { λ o. record { id = o.id; body = o.body } };
+    ghost view = { λ o. record { id = o.id; body = o.body; note = o.note } };
 
-    ghost invariant = { λ o. IsOperation (record { id = o.id; body = o.body }) };
+    ghost invariant = { λ o. IsOperation (record { id = o.id; body = o.body; note = o.note }) };
 }
 
 impl Op {
     /// An operation of this id, unless it would supersede an entry by itself.
-    pub fn new(id: OpId, body: OpBody) -> Result<Op, SameEntry>
-        ensures ok { IfOk result (λ op. op ≡ record { id = id; body = body }) }
+    pub fn new(id: OpId, body: OpBody, note: Note) -> Result<Op, SameEntry>
+        ensures ok { IfOk result (λ op. op ≡ record { id = id; body = body; note = note }) }
         ensures same { IsErr result ↔ IsOfItself body }
     {
         let _count = id.count();
+        let _noted = note.as_bytes();
         if body.is_of_itself() {
             return Err(SameEntry);
         }
-        Ok(Op { id, body })
+        Ok(Op { id, body, note })
     }
 
     /// The id, which no other operation has.
@@ -69,21 +71,34 @@ impl Op {
         &self.body
     }
 
-    /// Gives back what the operation was made of.
-    pub fn into_parts(self) -> (OpId, OpBody)
-        ensures id { result.0 ≡ self.id }
-        ensures body { result.1 ≡ self.body }
+    /// What is noted of it.
+    pub fn note(&self) -> &Note
+        ensures { result.now ≡ self.now.note }
     {
-        let Op { id, body } = self;
-        (id, body)
+        &self.note
     }
 
-    /// A copy, which shares its definition.
+    /// Gives back what the operation was made of.
+    pub fn into_parts(self) -> (OpId, OpBody, Note)
+        ensures id { result.0 ≡ self.id }
+        ensures body { result.1 ≡ self.body }
+        ensures note { result.2 ≡ self.note }
+    {
+        let Op { id, body, note } = self;
+        (id, body, note)
+    }
+
+    /// A copy, which shares its definition and its note.
     pub fn try_clone(&self, alloc: Global) -> Result<Op, AllocError>
         ensures { IfOk result (λ copy. copy ≡ self.now) }
     {
         let body = self.body.try_clone(alloc)?;
-        Ok(Op { id: self.id, body })
+        let note = self.note.try_clone()?;
+        Ok(Op {
+            id: self.id,
+            body,
+            note,
+        })
     }
 
     /// Whether they are one operation.
@@ -96,10 +111,10 @@ impl Op {
     fn equals(&self, other: &Op) -> bool
         ensures { IsTrue result ↔ (self.now ≡ other.now) }
     {
-        self.id == other.id && self.body.is_same(&other.body)
+        self.id == other.id && self.body.is_same(&other.body) && self.note.is_same(&other.note)
     }
 
-    /// Whether the id is the same, and the body is not.
+    /// Whether the id is the same, and the body or the note is not.
     pub fn clashes(&self, other: &Op) -> bool
         ensures { result ≡ clashes self.now other.now }
     {

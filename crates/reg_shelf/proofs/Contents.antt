@@ -8,13 +8,13 @@ use Rattle.reg_op.specs.Set as set
 use Rattle.reg_op.specs.Operations.{Op}
 use Rattle.reg_op.specs.Contents.{Content, nothing}
 use Rattle.reg_op.proofs.OpLemmas.{op_total}
-use Rattle.reg_file.specs.Files.{Holds, IsFileOf, IsTooLarge}
-use Rattle.reg_file.specs.Layout.{file}
+use Rattle.reg_file.specs.Files.{Holds, ReadsAs, IsFileOf, IsTooLarge}
+use Rattle.reg_file.specs.Layout.{register_file}
 use Rattle.reg_file.proofs.HoldLemmas as files
 use Rattle.reg_shelf.specs.Shelf.{IsShelf, IsShelfOf, IsNoShelf}
 
 pub one_content : (image : List ℕ) (x y : Content) → IsShelf image x → IsShelf image y → x ≡ y
-one_content image x y p q = files.one_content p.bytes x y p.held (subst (λ (b : List ℕ). Holds b y) (sym (one_bytes image p.bytes q.bytes p.shelf q.shelf)) q.held)
+one_content image x y p q = files.one_reading p.bytes x y p.held (subst (λ (b : List ℕ). ReadsAs b y) (sym (one_bytes image p.bytes q.bytes p.shelf q.shelf)) q.held)
 
 one_size : (image a b : List ℕ) (x : slots.IsShelf image a) (y : slots.IsShelf image b) → x.size ≡ y.size
 one_size image a b x y = sym (from_be_bytes-to_be_bytes_4 x.size x.head.size_fits) ∙ ap (λ (t : List ℕ). from_be_bytes w32 t) (sym x.head.size_stands ∙ y.head.size_stands) ∙ from_be_bytes-to_be_bytes_4 y.size y.head.size_fits
@@ -22,16 +22,10 @@ one_size image a b x y = sym (from_be_bytes-to_be_bytes_4 x.size x.head.size_fit
 pub one_size_of : (image : List ℕ) (m n : ℕ) (x y : Content) → IsShelfOf image m x → IsShelfOf image n y → m ≡ n
 one_size_of image m n x y (p, is-m) (q, is-n) = sym is-m ∙ one_size image p.bytes q.bytes p.shelf q.shelf ∙ is-n
 
-pub shelf_of : (image bytes : List ℕ) (x : Content) → slots.IsShelf image bytes → Holds bytes x → IsShelf image x
+pub shelf_of : (image bytes : List ℕ) (x : Content) → slots.IsShelf image bytes → ReadsAs bytes x → IsShelf image x
 shelf_of image bytes x shelf held = record { bytes = bytes; shelf = shelf; held = held }
 
--- shelves of a content have the same bytes
-pub each_same : (images : List ℕ → Type 0) (seen : List ℕ) (was : Content) (first : IsShelf seen was) → ((c : List ℕ) → images c → IsShelf c was) → (c : List ℕ) → images c → slots.IsShelf c first.bytes
-each_same images seen was first all c may =
-    let s = all c may in
-    subst (λ (b : List ℕ). slots.IsShelf c b) (files.one_file was s.bytes first.bytes s.held.bytes_are first.held.bytes_are) s.shelf
-
-pub either_of : (was x : Content) (old new : List ℕ) → Holds old was → Holds new x → (c : List ℕ) → slots.IsShelf c old ⊎ slots.IsShelf c new → IsShelf c was ⊎ IsShelf c x
+pub either_of : (was x : Content) (old new : List ℕ) → ReadsAs old was → ReadsAs new x → (c : List ℕ) → slots.IsShelf c old ⊎ slots.IsShelf c new → IsShelf c was ⊎ IsShelf c x
 either_of was x old new before after c (inl shelf) = inl (shelf_of c old was shelf before)
 either_of was x old new before after c (inr shelf) = inr (shelf_of c new x shelf after)
 
@@ -39,15 +33,15 @@ either_of was x old new before after c (inr shelf) = inr (shelf_of c new x shelf
 pub none_by_slots : (image : List ℕ) → slots.IsNoShelf image → IsNoShelf image
 none_by_slots image none x s = none s.bytes s.shelf
 
-pub none_by_bytes : (image bytes : List ℕ) → slots.IsShelf image bytes → ((x : Content) → Holds bytes x → ⊥) → IsNoShelf image
-none_by_bytes image bytes shelf none x s = none x (subst (λ (b : List ℕ). Holds b x) (one_bytes image s.bytes bytes s.shelf shelf) s.held)
+pub none_by_bytes : (image bytes : List ℕ) → slots.IsShelf image bytes → ((x : Content) → ReadsAs bytes x → ⊥) → IsNoShelf image
+none_by_bytes image bytes shelf none x s = none x (subst (λ (b : List ℕ). ReadsAs b x) (one_bytes image s.bytes bytes s.shelf shelf) s.held)
 
 -- the file of the empty register has 14 bytes
-empty_file : IsFileOf nothing (file [] [])
-empty_file = record { runs = []; are_runs = tt; all = refl; whole = ap (λ (ops : List Op). file ops []) (sym (set.items-from_list op_total [] tt)) }
+empty_file : IsFileOf nothing (register_file 2 [] [])
+empty_file = record { runs = []; are_runs = tt; all = refl; whole = ap (λ (ops : List Op). register_file 2 ops []) (sym (set.items-from_list op_total [] tt)) }
 
 pub empty_length : (bytes : List ℕ) → IsFileOf nothing bytes → length bytes ≡ 14
-empty_length bytes f = ap length (files.one_file nothing bytes (file [] []) f empty_file)
+empty_length bytes f = ap length (files.one_file nothing bytes (register_file 2 [] []) f empty_file)
 
 pub empty_fits : IsTooLarge nothing → ⊥
 empty_fits (bytes, f, long) = absurd (omega (arith, long, empty_length bytes f))

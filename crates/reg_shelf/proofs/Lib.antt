@@ -1,3 +1,3 @@
-mod Contents
+pub mod Contents
 mod Kept
 mod Outcomes

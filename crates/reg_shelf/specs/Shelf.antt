@@ -2,13 +2,13 @@
 use Rattle.std.specs.Prelude.{◌≡◌, ℕ, List}
 use Rattle.byte_shelf.specs.Shelf as slots
 use Rattle.reg_op.specs.Contents.{Content}
-use Rattle.reg_file.specs.Files.{Holds}
+use Rattle.reg_file.specs.Files.{ReadsAs}
 
--- the bytes in the slot in use are the file of the content
+-- the bytes in the slot in use are a file of the content, of either version
 pub record IsShelf (image : List ℕ) (x : Content) : Type 0 where
   pub bytes : List ℕ
   pub shelf : slots.IsShelf image bytes
-  pub held : Holds bytes x
+  pub held : ReadsAs bytes x
 
 -- the same, of that size
 abbrev pub IsShelfOf : List ℕ → ℕ → Content → Type 0
@@ -20,4 +20,4 @@ IsNoShelf image = (x : Content) → IsShelf image x → ⊥
 
 -- the content has a file
 abbrev pub HasFile : Content → Type 0
-HasFile x = (bytes : List ℕ) × Holds bytes x
+HasFile x = (bytes : List ℕ) × ReadsAs bytes x

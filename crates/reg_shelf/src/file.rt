@@ -2,7 +2,7 @@
 
 ghost use Rattle.std.specs.Prelude.{◌≡◌, ◌⊎◌, IfOk, IfErr, IsErrOf};
 ghost use Rattle.reg_op.specs.Contents.{Content};
-ghost use Rattle.reg_file.specs.Files.{Holds, IsTooLarge};
+ghost use Rattle.reg_file.specs.Files.{Holds, ReadsAs, IsTooLarge};
 
 use byte_shelf::ShelfFault;
 use reg_file::{ReadFileFault, WriteFileFault, read_bytes, write_bytes};
@@ -24,8 +24,8 @@ pub fn file_of(alloc: Global, register: &Register) -> Result<Vec<u8>, ShelfFault
 
 /// The register whose file the bytes are.
 pub fn register_of(alloc: Global, bytes: &[u8]) -> Result<Register, ShelfFault>
-    ensures held { IfOk result (λ r. Holds bytes.now r) }
-    ensures none { IsErrOf result ShelfFault.NotShelf → (x : Content) → Holds bytes.now x → ⊥ }
+    ensures held { IfOk result (λ r. ReadsAs bytes.now r) }
+    ensures none { IsErrOf result ShelfFault.NotShelf → (x : Content) → ReadsAs bytes.now x → ⊥ }
     ensures faults { IfErr result (λ f. (f ≡ ShelfFault.NotShelf) ⊎ (f ≡ ShelfFault.Memory)) }
 {
     match read_bytes(alloc, bytes) {

@@ -1,7 +1,9 @@
+pub mod MarkJoin
 pub mod MarkLemmas
 pub mod MergeLemmas
 pub mod PieceLemmas
 pub mod TableLemmas
 pub mod TakeLemmas
 pub mod PutLemmas
+pub mod OneMoreLemmas
 pub mod ManyLemmas

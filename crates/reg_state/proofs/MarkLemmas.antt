@@ -1,6 +1,5 @@
 -- The marks that operations set, and what they replace.
-use Rattle.std.proofs.Common.{◌≡◌, ℕ, Bool, true, false, ◌&&◌, ◌<◌, List, [], ◌∷◌, ◌++◌, append-nil, arith, length, refl, sym, ap, ◌∙◌, subst, Option, None, Some, ◌||◌}
-use Rattle.std.proofs.lemmas.Bool.{and_from, and_parts, true≢false}
+use Rattle.std.proofs.Common.{◌≡◌, ℕ, Bool, true, false, ◌&&◌, ◌<◌, List, [], ◌∷◌, ◌++◌, append-nil, arith, length, refl, sym, ap, ◌∙◌, Option, None, Some, ◌||◌}
 use Rattle.std.specs.Cmp.{eq_by_cmp_equiv, tied_then}
 use Rattle.std.specs.Ordering.{is_eq, ordering_then}
 use Rattle.std.specs.declared.cmp.Ordering.{Ordering}
@@ -8,7 +7,7 @@ use Rattle.std.specs.declared.cmp.Ordering.TheVariants.{Less, Equal, Greater}
 use Rattle.reg_op.specs.Set as set
 use Rattle.reg_op.specs.Ids.{Id}
 use Rattle.reg_op.specs.Finite.{any}
-use Rattle.reg_op.specs.Operations.{Op}
+use Rattle.reg_op.specs.Operations.{Op, op_cmp, kept}
 use Rattle.std.specs.List.{list_any}
 use Rattle.std.specs.Option.{option_cmp}
 use Rattle.reg_op.specs.declared.operation.OpBody.TheVariants.{Enter, Supersede, Retire}
@@ -18,11 +17,11 @@ use Rattle.reg_op.proofs.FiniteLemmas.{list_any-or}
 use Rattle.std.proofs.lemmas.List.Folds.{list_any-append}
 use Rattle.reg_op.specs.declared.operation.OpBody.{OpBody as Body}
 use Rattle.reg_op.specs.Status.{is_retirement, is_supersession}
-use Rattle.reg_op.proofs.OpLemmas.{id_total, is_before_chain}
+use Rattle.reg_op.proofs.OpLemmas.{id_total}
 use Rattle.reg_marks.specs.declared.mark.Mark.{Mark}
-use Rattle.reg_marks.specs.declared.mark.Target.{Target}
-use Rattle.reg_marks.specs.Marks.{MarkSet, target_cmp, is_at, lessens}
-use Rattle.reg_marks.proofs.OrderLemmas.{any-from_list, any-least, lesser_target}
+use Rattle.reg_marks.specs.Marks.{MarkSet, is_at, lessens}
+use Rattle.reg_marks.proofs.OrderLemmas.{any-from_list, any-least}
+use Rattle.reg_state.proofs.MarkJoin.{own_marks}
 use Rattle.reg_state.specs.Marks.{marks_of, marks_of_body, least_marks, target_body, op_of}
 
 pub marks_whole : (ms : List Mark) (rest : List Op) (all : List Mark) → length rest < 1 → ms ++ marks_of rest ≡ all → ms ≡ all
@@ -76,15 +75,15 @@ none_any : (ms : List Mark) → list_any (λ (m : Mark). false) ms ≡ false
 none_any [] = refl
 none_any (m ∷ ms) = none_any ms
 
-pub replaced_enter : (ms : List Mark) (i : Id) (text : List ℕ) → false ≡ list_any (λ m. replaces (op_of m) (record { id = i; body = Enter text })) ms
-replaced_enter ms i text = sym (none_any ms) ∙ same_any _ _ (λ m. at_enter m.target.entry text m.target.by (is_before m.id i)) ms
+pub replaced_enter : (ms : List Mark) (i : Id) (text note : List ℕ) → false ≡ list_any (λ m. replaces (op_of m) (record { id = i; body = Enter text; note = note })) ms
+replaced_enter ms i text note = sym (none_any ms) ∙ same_any _ _ (λ m. at_enter m.target.entry text m.target.by (is_before m.id i)) ms
 
-pub replaced_retire : (ms : List Mark) (i entry : Id) → list_any (λ m. is_at (record { entry = entry; by = None }) m && is_before m.id i) ms ≡ list_any (λ m. replaces (op_of m) (record { id = i; body = Retire entry })) ms
-replaced_retire ms i entry = same_any _ _ (λ m. at_retire m.target.entry entry m.target.by (is_before m.id i)) ms
+pub replaced_retire : (ms : List Mark) (i entry : Id) (note : List ℕ) → list_any (λ m. is_at (record { entry = entry; by = None }) m && is_before m.id i) ms ≡ list_any (λ m. replaces (op_of m) (record { id = i; body = Retire entry; note = note })) ms
+replaced_retire ms i entry note = same_any _ _ (λ m. at_retire m.target.entry entry m.target.by (is_before m.id i)) ms
 
-pub replaced_supersede : (ms : List Mark) (i old newer : Id)
-    → (list_any (λ m. is_at (record { entry = old; by = None }) m) ms || list_any (λ m. is_at (record { entry = old; by = Some newer }) m && is_before m.id i) ms) ≡ list_any (λ m. replaces (op_of m) (record { id = i; body = Supersede old newer })) ms
-replaced_supersede ms i old newer =
+pub replaced_supersede : (ms : List Mark) (i old newer : Id) (note : List ℕ)
+    → (list_any (λ m. is_at (record { entry = old; by = None }) m) ms || list_any (λ m. is_at (record { entry = old; by = Some newer }) m && is_before m.id i) ms) ≡ list_any (λ m. replaces (op_of m) (record { id = i; body = Supersede old newer; note = note })) ms
+replaced_supersede ms i old newer note =
     sym (list_any-or (λ (m : Mark). is_at (record { entry = old; by = None }) m) (λ (m : Mark). is_at (record { entry = old; by = Some newer }) m && is_before m.id i) ms)
     ∙ same_any _ _ (λ m. at_supersede m.target.entry old newer m.target.by (is_before m.id i)) ms
 
@@ -94,12 +93,12 @@ same_back : (a b : Id) → is_same a b ≡ is_same b a
 same_back a b = (eq_by_cmp_equiv id_total).symm a b
 
 -- what holds of the marks of an operation alone holds of the marks of all
-through : (t : Mark → Bool) (u : Op → Bool) → ((i : Id) (b : Body) → list_any t (marks_of_body i b) ≡ u (record { id = i; body = b })) → (os : List Op) → list_any t (marks_of os) ≡ list_any u os
+through : (t : Mark → Bool) (u : Op → Bool) → ((i : Id) (b : Body) (n : List ℕ) → list_any t (marks_of_body i b) ≡ u (record { id = i; body = b; note = n })) → (os : List Op) → list_any t (marks_of os) ≡ list_any u os
 through t u each [] = refl
-through t u each (o ∷ os) = list_any-append t (marks_of_body o.id o.body) (marks_of os) ∙ (λ k. each o.id o.body k || through t u each os k)
+through t u each (o ∷ os) = list_any-append t (marks_of_body o.id o.body) (marks_of os) ∙ (λ k. each o.id o.body o.note k || through t u each os k)
 
 marks_retire : (e : Id) (os : List Op) → list_any (λ m. is_at (record { entry = e; by = None }) m) (marks_of os) ≡ list_any (λ o. is_retirement e o.body) os
-marks_retire e os = through _ (λ o. is_retirement e o.body) each os
+marks_retire e os = through _ (λ o. is_retirement e o.body) (λ i b n. each i b) os
   where
     each : (i : Id) (b : Body) → list_any (λ m. is_at (record { entry = e; by = None }) m) (marks_of_body i b) ≡ is_retirement e b
     each i (Enter text) = refl
@@ -107,7 +106,7 @@ marks_retire e os = through _ (λ o. is_retirement e o.body) each os
     each i (Retire entry) = or_false _ ∙ then_equal (id_cmp entry e) ∙ same_back entry e
 
 marks_supersede : (e n : Id) (os : List Op) → list_any (λ m. is_at (record { entry = e; by = Some n }) m) (marks_of os) ≡ list_any (λ o. is_supersession e (is_same n) o.body) os
-marks_supersede e n os = through _ (λ o. is_supersession e (is_same n) o.body) each os
+marks_supersede e n os = through _ (λ o. is_supersession e (is_same n) o.body) (λ i b m. each i b) os
   where
     each : (i : Id) (b : Body) → list_any (λ m. is_at (record { entry = e; by = Some n }) m) (marks_of_body i b) ≡ is_supersession e (is_same n) b
     each i (Enter text) = refl
@@ -117,7 +116,7 @@ marks_supersede e n os = through _ (λ o. is_supersession e (is_same n) o.body) 
 marks_touch : (e : Id) (os : List Op)
     → list_any (λ m. is_same e m.target.entry) (marks_of os) ≡ (list_any (λ o. is_retirement e o.body) os || list_any (λ o. is_supersession e (λ n. true) o.body) os)
 marks_touch e os =
-    through _ (λ o. is_retirement e o.body || is_supersession e (λ n. true) o.body) each os
+    through _ (λ o. is_retirement e o.body || is_supersession e (λ n. true) o.body) (λ i b n. each i b) os
     ∙ list_any-or (λ (o : Op). is_retirement e o.body) (λ o. is_supersession e (λ n. true) o.body) os
   where
     and_true : (b : Bool) → b ≡ (b && true)
@@ -134,35 +133,18 @@ marks_touch e os =
 pub any_marks : (t : Mark → Bool) → ((p m : Mark) → lessens p m ≡ true → t m ≡ true → t p ≡ true) → (os : List Op) (ms : MarkSet) → ms ≡ least_marks os → any t ms ≡ list_any t (marks_of os)
 any_marks t falls os ms e = ap (any t) e ∙ any-least t falls (set.from_list (marks_of os)) ∙ any-from_list t (marks_of os)
 
-sooner_replaces : (b c : Bool) → (b ≡ true → c ≡ true) → (x y : Body) → replaces_body b x y ≡ true → replaces_body c x y ≡ true
-sooner_replaces b c h (Enter s) (Enter t) r = absurd (true≢false (sym r))
-sooner_replaces b c h (Enter s) (Supersede old newer) r = absurd (true≢false (sym r))
-sooner_replaces b c h (Enter s) (Retire e) r = absurd (true≢false (sym r))
-sooner_replaces b c h (Supersede old newer) (Enter t) r = absurd (true≢false (sym r))
-sooner_replaces b c h (Supersede old newer) (Supersede old2 newer2) r = let p = and_parts _ _ r in let q = and_parts _ _ p.1 in and_from _ _ p.0 (and_from _ _ q.0 (h q.1))
-sooner_replaces b c h (Supersede old newer) (Retire e) r = absurd (true≢false (sym r))
-sooner_replaces b c h (Retire e) (Enter t) r = absurd (true≢false (sym r))
-sooner_replaces b c h (Retire e) (Supersede old newer) r = r
-sooner_replaces b c h (Retire e) (Retire f) r = let p = and_parts _ _ r in and_from _ _ p.0 (h p.1)
+-- where of operations none replaces another, their marks are all there
+any_own : (t : Mark → Bool) (os : List Op) (ms : MarkSet) → ms ≡ least_marks os → kept (set.from_list {R = op_cmp} os) ≡ set.from_list os → any t ms ≡ list_any t (marks_of os)
+any_own t os ms e k = ap (any t) (e ∙ own_marks os k) ∙ any-from_list t (marks_of os)
 
--- what a mark replaces, a lesser one of its target does
-pub replacing_falls : (q : Op) (p m : Mark) → lessens p m ≡ true → replaces (op_of m) q ≡ true → replaces (op_of p) q ≡ true
-replacing_falls q p m h r =
-    subst (λ (t : Target). replaces_body (is_before p.id q.id) (target_body t.entry t.by) q.body ≡ true) (sym (lesser_target p m h))
-    (sooner_replaces (is_before m.id q.id) (is_before p.id q.id) (λ k. is_before_chain p.id m.id q.id (and_parts _ _ h).1 k) (target_body m.target.entry m.target.by) q.body r)
+pub any_retired : (e : Id) (os : List Op) (ms : MarkSet) → ms ≡ least_marks os → kept (set.from_list {R = op_cmp} os) ≡ set.from_list os
+    → any (λ m. is_at (record { entry = e; by = None }) m) ms ≡ list_any (λ o. is_retirement e o.body) os
+any_retired e os ms is k = any_own (λ m. is_at (record { entry = e; by = None }) m) os ms is k ∙ marks_retire e os
 
-pub any_retired : (e : Id) (os : List Op) (ms : MarkSet) → ms ≡ least_marks os → any (λ m. is_at (record { entry = e; by = None }) m) ms ≡ list_any (λ o. is_retirement e o.body) os
-any_retired e os ms is =
-    any_marks (λ m. is_at (record { entry = e; by = None }) m) (λ p m h k. ap (λ t. is_eq (target_cmp t (record { entry = e; by = None }))) (lesser_target p m h) ∙ k) os ms is
-    ∙ marks_retire e os
-
-pub any_touched : (e : Id) (os : List Op) (ms : MarkSet) → ms ≡ least_marks os
+pub any_touched : (e : Id) (os : List Op) (ms : MarkSet) → ms ≡ least_marks os → kept (set.from_list {R = op_cmp} os) ≡ set.from_list os
     → any (λ m. is_same e m.target.entry) ms ≡ (list_any (λ o. is_retirement e o.body) os || list_any (λ o. is_supersession e (λ n. true) o.body) os)
-any_touched e os ms is =
-    any_marks (λ m. is_same e m.target.entry) (λ p m h k. ap (λ (t : Target). is_same e t.entry) (lesser_target p m h) ∙ k) os ms is
-    ∙ marks_touch e os
+any_touched e os ms is k = any_own (λ m. is_same e m.target.entry) os ms is k ∙ marks_touch e os
 
-pub any_superseded : (e n : Id) (os : List Op) (ms : MarkSet) → ms ≡ least_marks os → any (λ m. is_at (record { entry = e; by = Some n }) m) ms ≡ list_any (λ o. is_supersession e (is_same n) o.body) os
-any_superseded e n os ms is =
-    any_marks (λ m. is_at (record { entry = e; by = Some n }) m) (λ p m h k. ap (λ t. is_eq (target_cmp t (record { entry = e; by = Some n }))) (lesser_target p m h) ∙ k) os ms is
-    ∙ marks_supersede e n os
+pub any_superseded : (e n : Id) (os : List Op) (ms : MarkSet) → ms ≡ least_marks os → kept (set.from_list {R = op_cmp} os) ≡ set.from_list os
+    → any (λ m. is_at (record { entry = e; by = Some n }) m) ms ≡ list_any (λ o. is_supersession e (is_same n) o.body) os
+any_superseded e n os ms is k = any_own (λ m. is_at (record { entry = e; by = Some n }) m) os ms is k ∙ marks_supersede e n os

@@ -1,6 +1,6 @@
 -- A walk along two lists of operations by id.
 use Rattle.std.proofs.Common.{◌≡◌, ℕ, Bool, true, false, not, ◌&&◌, ◌||◌, cond, List, [], ◌∷◌, ◌++◌, append_assoc, append-nil, length, refl, sym, ap, ◌∙◌, subst, inl, inr, ◌⊎◌, Some, None, arith, zero, suc, get_or, ◌<◌, ◌≤◌}
-use Rattle.std.proofs.lemmas.Bool.{true≢false, and_parts, or_left, or_right, false_from_ne_true}
+use Rattle.std.proofs.lemmas.Bool.{true≢false, and_from, and_parts, or_left, or_right, false_from_ne_true}
 use Rattle.std.proofs.lemmas.List.Folds.{list_any-append}
 use Rattle.std.specs.List.{list_any, filter, find}
 use Rattle.std.specs.Option.{option_map}
@@ -316,3 +316,9 @@ filter_on f g [] h = refl
 filter_on f g (x ∷ xs) h =
     let rest = filter_on f g xs (λ q k. h q (or_right (eq_by_cmp op_cmp q x) (has xs q) k)) in
     λ k. cond (h x (or_left _ (has xs x) (ap is_eq (tied_itself op_total x))) k) (x ∷ rest k) (rest k)
+
+pub id_from : (i : Id) (o : Op) → is_same i o.id ≡ true → is_before o.id i ≡ false
+id_from i o h = entry_from i (λ (p : Op). true) o (and_from _ _ h refl)
+
+pub id_down : (i : Id) (p o : Op) → IsUpTo p o → is_before p.id i ≡ false → is_same i o.id ≡ true → is_same i p.id ≡ true
+id_down i p o le low h = (and_parts _ _ (entry_down i (λ (q : Op). true) p o le low (and_from _ _ h refl))).0

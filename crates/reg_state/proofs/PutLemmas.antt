@@ -1,6 +1,6 @@
 -- An entry that is put among operations by id.
-use Rattle.std.proofs.Common.{◌≡◌, ℕ, ◌<◌, ◌≤◌, Bool, true, false, not, ◌&&◌, ◌||◌, List, [], ◌∷◌, ◌++◌, length, get_or, take, drop, zero, suc, append_assoc, Ok, refl, sym, ap, ◌∙◌, subst, inl, inr, arith}
-use Rattle.std.proofs.lemmas.Bool.{true≢false, true_from_ne_false, false_from_ne_true, or_cases, and_from}
+use Rattle.std.proofs.Common.{◌≡◌, ℕ, ◌<◌, ◌≤◌, Bool, true, false, not, ◌&&◌, ◌||◌, List, [], ◌∷◌, ◌++◌, length, get_or, take, drop, zero, suc, append_assoc, refl, sym, ap, ◌∙◌, subst, inl, inr, arith}
+use Rattle.std.proofs.lemmas.Bool.{true≢false, true_from_ne_false, or_cases}
 use Rattle.std.proofs.lemmas.List.{take-append-drop}
 use Rattle.std.proofs.lemmas.List.Folds.{list_any-append, list_any_at}
 use Rattle.std.specs.List.{insert}
@@ -13,21 +13,18 @@ use Rattle.reg_op.specs.Ids.{Id, Ids, is_same, is_before}
 use Rattle.reg_op.specs.Operations.{Op, IsOperation, op_cmp, one, ids, replaces, OneBody}
 use Rattle.reg_op.specs.declared.operation.OpBody.{OpBody as Body}
 use Rattle.reg_op.specs.declared.operation.OpBody.TheVariants.{Enter, Supersede, Retire}
-use Rattle.reg_op.specs.Contents.{Content, merged, state, IsContent}
+use Rattle.reg_op.specs.Contents.{merged, state, IsContent}
 use Rattle.reg_op.specs.Lists.{has, AllAfter, ById, content_at}
-use Rattle.reg_op.specs.Status.{enters, is_enter}
-use Rattle.reg_op.proofs.FiniteLemmas.{any_from_member}
-use Rattle.reg_op.proofs.OpLemmas.{id_total, op_total, op_exact, is_same_exact}
-use Rattle.reg_op.proofs.ContentLemmas.{union_left, union_right}
+use Rattle.reg_op.specs.Status.{is_enter}
+use Rattle.reg_op.proofs.OpLemmas.{id_total, op_total, op_exact}
 use Rattle.reg_op.proofs.ClashLemmas.{same_id}
-use Rattle.reg_op.proofs.OneLemmas.{any-from_list, merged_is_content, one_has}
+use Rattle.reg_op.proofs.OneLemmas.{any-from_list, merged_is_content}
 use Rattle.reg_marks.specs.Marks.{MarkSet, least}
-use Rattle.reg_seen.specs.SeenLaws.{united}
 use Rattle.reg_state.specs.Marks.{marks_of, marks_of_body, least_marks}
 use Rattle.reg_state.specs.Merge.{is_marked_off, stays}
 use Rattle.reg_state.specs.Tables.{AreTables}
 use Rattle.reg_state.proofs.MarkLemmas.{replaced_enter}
-use Rattle.reg_state.proofs.TableLemmas.{enter_replaces, marked_off, kept_off, merged_at, united_same}
+use Rattle.reg_state.proofs.TableLemmas.{enter_replaces, marked_off, kept_off, merged_at}
 use Rattle.reg_state.proofs.TakeLemmas.{ids_one, content_of_one, tables_of_one, with_one}
 
 -- ---- in its place
@@ -67,7 +64,7 @@ by_id_at i xs out o id up absent is e at =
 
 -- ---- the same operations, and one more
 
-has_put : (i : ℕ) (xs : List Op) (o q : Op) → has (insert xs i o) q ≡ (has xs q || has (o ∷ []) q)
+pub has_put : (i : ℕ) (xs : List Op) (o q : Op) → has (insert xs i o) q ≡ (has xs q || has (o ∷ []) q)
 has_put i xs o q =
     list_any-append (eq_by_cmp op_cmp q) (take i xs) (o ∷ drop i xs)
     ∙ turned (has (take i xs) q) (eq_by_cmp op_cmp q o) (has (drop i xs) q)
@@ -99,23 +96,23 @@ marks_put i xs o h =
 -- ---- what is put in is neither replaced, nor replaces
 
 unreplaced : (ms : MarkSet) (o : Op) → is_enter o.body ≡ true → is_marked_off ms o ≡ false
-unreplaced ms o h = from o.id o.body h
+unreplaced ms o h = from o.body h
   where
-    from : (i : Id) (b : Body) → is_enter b ≡ true → is_marked_off ms (record { id = i; body = b }) ≡ false
-    from i (Enter text) h = sym (replaced_enter (set.items ms) i text)
-    from i (Supersede old newer) h = absurd (true≢false (sym h))
-    from i (Retire entry) h = absurd (true≢false (sym h))
+    from : (b : Body) → is_enter b ≡ true → is_marked_off ms (record { id = o.id; body = b; note = o.note }) ≡ false
+    from (Enter text) h = sym (replaced_enter (set.items ms) o.id text o.note)
+    from (Supersede old newer) h = absurd (true≢false (sym h))
+    from (Retire entry) h = absurd (true≢false (sym h))
 
 replaces_none : (o q : Op) → is_enter o.body ≡ true → is_marked_off (least_marks (o ∷ [])) q ≡ false
 replaces_none o q h =
     marked_off (o ∷ []) (least_marks (o ∷ [])) refl q
     ∙ any-from_list (λ p. replaces p q) (o ∷ [])
-    ∙ from o.id o.body h
+    ∙ from o.body h
   where
-    from : (i : Id) (b : Body) → is_enter b ≡ true → (replaces (record { id = i; body = b }) q || false) ≡ false
-    from i (Enter text) h = ap (λ b. b || false) (enter_replaces text q i)
-    from i (Supersede old newer) h = absurd (true≢false (sym h))
-    from i (Retire entry) h = absurd (true≢false (sym h))
+    from : (b : Body) → is_enter b ≡ true → (replaces (record { id = o.id; body = b; note = o.note }) q || false) ≡ false
+    from (Enter text) h = ap (λ b. b || false) (enter_replaces text o.note q o.id)
+    from (Supersede old newer) h = absurd (true≢false (sym h))
+    from (Retire entry) h = absurd (true≢false (sym h))
 
 all_stay : (xs : List Op) (ms : MarkSet) (v : Ids) (o q : Op) → AreTables xs ms v → is_enter o.body ≡ true → (has xs q || has (o ∷ []) q) ≡ true → stays ms (least_marks (o ∷ [])) q ≡ true
 all_stay xs ms v o q is h k =
@@ -159,19 +156,5 @@ put_tables xs out ms v w i o is op h e up f one_body = record {
       (merged_is_content (content_at xs v) (state (one o)) is.is_content (subst IsContent (content_of_one o (o ∷ []) (ids (one o)) refl refl) (own_one o op).is_content) (with_one (content_at xs v) o one_body));
 }
 
-pub seen_more : (v w once : Ids) (i : Id) (o : Op) → united v once ≡ Ok w → once ≡ set.from_list (i ∷ []) → i ≡ o.id → w ≡ union v (ids (one o))
-seen_more v w once i o e f g =
-    sym (united_same (union v once) w e)
-    ∙ ap (union v) (f ∙ ap (λ (j : Id). set.from_list (j ∷ [])) g ∙ sym (ids_one o))
-
--- ---- an entry whose id enters nothing has an id of its own
-
-pub absent_at : (x : Content) (xs : List Op) (v : Ids) (o : Op) → content_at xs v ≡ x → OneBody (union x.ops (one o)) → is_enter o.body ≡ true → enters x.ops o.id ≡ false
-    → (q : Op) → has xs q ≡ true → is_same o.id q.id ≡ false
-absent_at x xs v o e one_body enter none q h = false_from_ne_true _ (λ same.
-    let there : set.contains x.ops q ≡ true = subst (λ (y : Content). set.contains y.ops q ≡ true) e (contains-from_list op_total xs q ∙ h) in
-    let own : set.contains (one o) o ≡ true = one_has o in
-    let is : q ≡ o = one_body q o (union_left x.ops (one o) q there) (union_right x.ops (one o) o own) (sym (is_same_exact o.id q.id same)) in
-    let entered : enters x.ops o.id ≡ true =
-    any_from_member op_total op_exact (λ p. is_same o.id p.id && is_enter p.body) x.ops q there (and_from _ _ same (subst (λ (p : Op). is_enter p.body ≡ true) (sym is) enter)) in
-    true≢false (sym entered ∙ none))
+pub seen_more : (v w : Ids) (i : Id) (o : Op) → w ≡ union v (set.from_list (i ∷ [])) → i ≡ o.id → w ≡ union v (ids (one o))
+seen_more v w i o e f = e ∙ ap (union v) (ap (λ (j : Id). set.from_list (j ∷ [])) f ∙ sym (ids_one o))

@@ -35,7 +35,8 @@ use Rattle.reg_state.specs.Tables.{AreTables}
 use Rattle.reg_op.specs.declared.status.Status.{Status}
 use Rattle.reg_op.specs.declared.status.Status.TheVariants.{Retired, Superseded, Valid}
 use Rattle.reg_op.specs.Status.{enters, retires, supersedes, status, is_enter, is_retirement, is_supersession}
-use Rattle.reg_state.proofs.MarkLemmas.{any_marks, any_retired, any_superseded, any_touched, replacing_falls}
+use Rattle.reg_state.proofs.MarkLemmas.{any_marks, any_retired, any_superseded, any_touched}
+use Rattle.reg_state.proofs.MarkJoin.{replacing_falls}
 
 -- ---- the clash of two contents, by a walk along both
 
@@ -83,8 +84,8 @@ module _ (xs ys : List Op) (up : ById xs) (vp : ById ys) (one : OneBody (set.fro
 
 -- ---- what marks replace is what the operations do
 
-pub enter_replaces : (e : List ℕ) (q : Op) (i : Id) → replaces (record { id = i; body = Enter e }) q ≡ false
-enter_replaces e q i = from (is_before i q.id) q.body
+pub enter_replaces : (e note : List ℕ) (q : Op) (i : Id) → replaces (record { id = i; body = Enter e; note = note }) q ≡ false
+enter_replaces e note q i = from (is_before i q.id) q.body
   where
     from : (b : Bool) (x : Body) → replaces_body b (Enter e) x ≡ false
     from b (Enter t) = refl
@@ -100,8 +101,8 @@ marks_replace (o ∷ os) q =
     or_end true = refl
     or_end false = refl
 
-    one : (b : Body) → list_any (λ m. replaces (op_of m) q) (marks_of_body o.id b) ≡ replaces (record { id = o.id; body = b }) q
-    one (Enter e) = sym (enter_replaces e q o.id)
+    one : (b : Body) → list_any (λ m. replaces (op_of m) q) (marks_of_body o.id b) ≡ replaces (record { id = o.id; body = b; note = o.note }) q
+    one (Enter e) = sym (enter_replaces e o.note q o.id)
     one (Supersede old newer) = or_end _
     one (Retire entry) = or_end _
 
@@ -168,13 +169,13 @@ ok_not_err x b h = cc
 
 -- ---- statuses
 
-pub retired_at : (xs : List Op) (ms : MarkSet) → ms ≡ least_marks xs → (e : Id)
+pub retired_at : (xs : List Op) (ms : MarkSet) → ms ≡ least_marks xs → kept (set.from_list {R = op_cmp} xs) ≡ set.from_list xs → (e : Id)
     → any (λ m. is_at (record { entry = e; by = None }) m) ms ≡ retires (set.from_list {R = op_cmp} xs) e
-retired_at xs ms marked e = any_retired e xs ms marked ∙ sym (any-from_list (λ o. is_retirement e o.body) xs)
+retired_at xs ms marked k e = any_retired e xs ms marked k ∙ sym (any-from_list (λ o. is_retirement e o.body) xs)
 
-pub superseded_at : (xs : List Op) (ms : MarkSet) → ms ≡ least_marks xs → (e n : Id)
+pub superseded_at : (xs : List Op) (ms : MarkSet) → ms ≡ least_marks xs → kept (set.from_list {R = op_cmp} xs) ≡ set.from_list xs → (e n : Id)
     → any (λ m. is_at (record { entry = e; by = Some n }) m) ms ≡ any (λ o. is_supersession e (is_same n) o.body) (set.from_list {R = op_cmp} xs)
-superseded_at xs ms marked e n = any_superseded e n xs ms marked ∙ sym (any-from_list (λ o. is_supersession e (is_same n) o.body) xs)
+superseded_at xs ms marked k e n = any_superseded e n xs ms marked k ∙ sym (any-from_list (λ o. is_supersession e (is_same n) o.body) xs)
 
 abbrev pub status_by : Bool → Bool → Bool → Option Status
 status_by entered retired touched = cond entered (Some (cond retired Retired (cond touched Superseded Valid))) None
@@ -183,14 +184,14 @@ inner : (r s t : Bool) → t ≡ (r || s) → cond r Retired (cond s Superseded 
 inner true s t h = refl
 inner false s t h = ap (λ b. cond b Superseded Valid) (sym h)
 
-pub status_at : (xs : List Op) (ms : MarkSet) → ms ≡ least_marks xs → (e : Id)
+pub status_at : (xs : List Op) (ms : MarkSet) → ms ≡ least_marks xs → kept (set.from_list {R = op_cmp} xs) ≡ set.from_list xs → (e : Id)
     → status (set.from_list {R = op_cmp} xs) e ≡ status_by (list_any (λ o. is_same e o.id && is_enter o.body) xs) (any (λ m. is_at (record { entry = e; by = None }) m) ms) (any (λ m. is_same e m.target.entry) ms)
-status_at xs ms marked e =
+status_at xs ms marked own e =
     let s : Ops = set.from_list xs in
     let touched : any (λ m. is_same e m.target.entry) ms ≡ (retires s e || supersedes s e) =
-    any_touched e xs ms marked ∙ sym (λ k. any-from_list (λ o. is_retirement e o.body) xs k || any-from_list (λ o. is_supersession e (λ n. true) o.body) xs k) in
+    any_touched e xs ms marked own ∙ sym (λ k. any-from_list (λ o. is_retirement e o.body) xs k || any-from_list (λ o. is_supersession e (λ n. true) o.body) xs k) in
     (λ k. cond (any-from_list (λ o. is_same e o.id && is_enter o.body) xs k) (Some (inner (retires s e) (supersedes s e) _ touched k)) None)
-    ∙ (λ k. cond (list_any (λ o. is_same e o.id && is_enter o.body) xs) (Some (cond (sym (retired_at xs ms marked e) k) Retired (cond (any (λ m. is_same e m.target.entry) ms) Superseded Valid))) None)
+    ∙ (λ k. cond (list_any (λ o. is_same e o.id && is_enter o.body) xs) (Some (cond (sym (retired_at xs ms marked own e) k) Retired (cond (any (λ m. is_same e m.target.entry) ms) Superseded Valid))) None)
 
 -- ---- from operations by id
 
@@ -277,13 +278,17 @@ united_same a b h = cc
 
 -- ---- what an operation at a place enters
 
-pub found_at : {X : Type 0} (f : X → Op) (os : List Op) (k : ℕ) (o : Op) → k < length os → get_or os k o ≡ o → (r : Option X) → IfSome r (λ d. o ≡ f d) → IfSome r (λ d. has os (f d) ≡ true)
+pub found_at : {X : Type 0} (f : X → List ℕ → Op) (os : List Op) (k : ℕ) (o : Op) → k < length os → get_or os k o ≡ o → (r : Option X) → IfSome r (λ d. o ≡ f d o.note)
+    → IfSome r (λ d. (note : List ℕ) × (has os (f d note) ≡ true))
 found_at f os k o h at None found = tt
-found_at f os k o h at (Some d) found = list_any_at (eq_by_cmp op_cmp (f d)) os k o h (ap (eq_by_cmp op_cmp (f d)) (at ∙ found) ∙ ap is_eq (tied_itself op_total (f d)))
+found_at f os k o h at (Some d) found =
+    let q = f d o.note in
+    (o.note, list_any_at (eq_by_cmp op_cmp q) os k o h (ap (eq_by_cmp op_cmp q) (at ∙ found) ∙ ap is_eq (tied_itself op_total q)))
 
-pub found_there : {X : Type 0} (f : X → Op) (os : List Op) (r : Option X) → IfSome r (λ d. has os (f d) ≡ true) → IfSome r (λ d. contains (set.from_list {R = op_cmp} os) (f d) ≡ true)
+pub found_there : {X : Type 0} (f : X → List ℕ → Op) (os : List Op) (r : Option X) → IfSome r (λ d. (note : List ℕ) × (has os (f d note) ≡ true))
+    → IfSome r (λ d. (note : List ℕ) × (contains (set.from_list {R = op_cmp} os) (f d note) ≡ true))
 found_there f os None found = tt
-found_there f os (Some d) found = contains-from_list op_total os (f d) ∙ found
+found_there f os (Some d) found = (found.0, contains-from_list op_total os (f d found.0) ∙ found.1)
 
 pub entered_none : {X : Type 0} (os : List Op) (e : Id) (r : Option X) → is_some r ≡ list_any (λ o. is_same e o.id && is_enter o.body) os → IfNone r (enters (set.from_list {R = op_cmp} os) e ≡ false)
 entered_none os e None told = any-from_list (λ o. is_same e o.id && is_enter o.body) os ∙ sym told

@@ -12,9 +12,9 @@ abbrev pub target_body : Id → Option Id → Body
 target_body e None = Retire e
 target_body e (Some n) = Supersede e n
 
--- the operation that set a mark
+-- the operation that set a mark, but for its note, which nothing here looks at
 abbrev pub op_of : Mark → Op
-op_of m = record { id = m.id; body = target_body m.target.entry m.target.by }
+op_of m = record { id = m.id; body = target_body m.target.entry m.target.by; note = [] }
 
 abbrev pub mark_at : Id → Option Id → Id → Mark
 mark_at e by i = record { target = record { entry = e; by = by }; id = i }
@@ -28,6 +28,6 @@ abbrev pub marks_of : List Op → List Mark
 marks_of [] = []
 marks_of (o ∷ os) = marks_of_body o.id o.body ++ marks_of os
 
--- of each target the least that they set
+-- the least of those that they set
 abbrev pub least_marks : List Op → MarkSet
 least_marks os = least (set.from_list (marks_of os))

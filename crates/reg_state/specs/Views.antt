@@ -12,4 +12,4 @@ body_seen (lent.Supersede old newer) = Supersede old newer
 body_seen (lent.Retire entry) = Retire entry
 
 abbrev pub op_seen : OpView → Op
-op_seen v = record { id = v.id; body = body_seen v.body }
+op_seen v = record { id = v.id; body = body_seen v.body; note = v.note.now }

@@ -1,9 +1,10 @@
 //! The marks that operations set, and what these make redundant.
 
-ghost use Rattle.std.specs.Prelude.{◌≡◌, ◌&&◌, ◌++◌, OnOk, IfOk};
+ghost use Rattle.std.specs.Prelude.{◌≡◌, ◌&&◌, ◌++◌, [], ◌∷◌, true, OnOk, IfOk, IfSome, IfNone};
 ghost use Rattle.reg_op.specs.Ids.{is_before};
 ghost use Rattle.reg_op.specs.Finite.{any};
 ghost use Rattle.reg_op.specs.Operations.{replaces};
+ghost use Rattle.reg_op.specs.Status.{is_enter};
 ghost use Rattle.reg_marks.specs.Marks.{is_at};
 ghost use Rattle.reg_state.specs.Marks.{least_marks, marks_of_body, op_of};
 
@@ -63,27 +64,37 @@ pub fn is_replaced(marks: &Marks, op: &Op) -> bool
     }
 }
 
-// Puts the mark that an operation sets at the end.
-fn push_mark(marks: &mut Vec<Mark>, op: &Op) -> Result<(), AllocError>
-    ensures { OnOk result (marks.new.items ≡ marks.old.items ++ marks_of_body op.now.id op.now.body) }
+/// The mark that an operation sets, if it is no entry.
+pub fn mark_of(op: &Op) -> Option<Mark>
+    ensures some { IfSome result (λ mark. marks_of_body op.now.id op.now.body ≡ mark ∷ []) }
+    ensures none { IfNone result (is_enter op.now.body ≡ true) }
 {
     let id = op.id();
     match op.body() {
-        OpBody::Enter(_) => {}
+        OpBody::Enter(_) => None,
         OpBody::Retire { entry } => {
             let target = Target {
                 entry: *entry,
                 by: None,
             };
-            marks.push(Mark { target, id })?;
+            Some(Mark { target, id })
         }
         OpBody::Supersede { old, newer } => {
             let target = Target {
                 entry: *old,
                 by: Some(*newer),
             };
-            marks.push(Mark { target, id })?;
+            Some(Mark { target, id })
         }
+    }
+}
+
+// Puts the mark that an operation sets at the end.
+fn push_mark(marks: &mut Vec<Mark>, op: &Op) -> Result<(), AllocError>
+    ensures { OnOk result (marks.new.items ≡ marks.old.items ++ marks_of_body op.now.id op.now.body) }
+{
+    if let Some(Mark { target, id }) = mark_of(op) {
+        marks.push(Mark { target, id })?;
     }
     Ok(())
 }

@@ -1,24 +1,27 @@
 //! The register: one operation taken, two registers joined.
 
-ghost use Rattle.std.specs.Prelude.{◌≡◌, ◌↔◌, true, false, List, [], ◌∷◌, Ok, Err, OnOk, OnErr, IfOk, IfSome, IfNone, Some, None};
+ghost use Rattle.std.specs.Prelude.{◌≡◌, ◌↔◌, ℕ, true, false, List, [], ◌∷◌, Ok, Err, OnOk, OnErr, IfOk, IfSome, IfNone, Some, None};
 ghost use Rattle.reg_op.specs.Set as set;
 ghost use Rattle.reg_op.specs.Ids.{Id, is_same};
-ghost use Rattle.reg_op.specs.Operations.{Op as Operation, one, op_cmp, OneBody};
+ghost use Rattle.reg_op.specs.Operations.{Op as Operation, ids, one, op_cmp, IsOperation, OneBody};
 ghost use Rattle.reg_op.specs.Contents.{Content, Agreed, IsContent, state, nothing, merged, joined};
 ghost use Rattle.reg_op.specs.Pieces.{outside};
 ghost use Rattle.reg_op.specs.Finite.{any};
 ghost use Rattle.reg_op.specs.Status.{enters, status, is_enter, is_supersession};
 ghost use Rattle.reg_op.specs.Kept.{entering, first_dropped};
 ghost use Rattle.reg_op.specs.Lists.{ById, has, content_at};
+ghost use Rattle.reg_state.specs.Marks.{marks_of_body};
 ghost use Rattle.reg_state.specs.RegisterLaws.{register_laws};
 
-use crate::marks::{is_marked, marks_of};
+use crate::marks::{is_marked, is_replaced, mark_of, marks_of};
 use crate::merge::join_ops;
 use crate::outside::ops_outside;
-use crate::table::{definition_in, first_clash, first_replaced, is_entry, put_op};
+use crate::table::{
+    definition_in, first_clash, first_replaced, has_id, put_op, put_with_room, remove_replaced,
+};
 use crate::view::Ops;
 use reg_join::{Join, JoinFault};
-use reg_marks::{Marks, Target};
+use reg_marks::{Mark, Marks, Target};
 use reg_op::{Op, OpId, Status};
 use reg_seen::{Run, Seen};
 use std::alloc::{AllocError, Global};
@@ -96,6 +99,11 @@ impl Register {
         Ok(Register { ops, marks, seen })
     }
 
+    /// The allocator that it was made with.
+    pub fn allocator(&self) -> Global {
+        *self.ops.allocator()
+    }
+
     /// The operations that are kept, by id.
     pub fn ops(&self) -> Ops<'_>
         ensures items { result ≡ set.items self.now.ops }
@@ -137,9 +145,9 @@ impl Register {
         is_marked(&self.marks, &Target { entry: old, by })
     }
 
-    /// The definition that an id entered.
+    /// The definition that an id entered, whatever was noted of it.
     pub fn definition(&self, entry: OpId) -> Option<&Definition>
-        ensures found { IfSome result (λ d. set.contains self.now.ops (entering entry d.now) ≡ true) }
+        ensures found { IfSome result (λ d. (note : List ℕ) × (set.contains self.now.ops (entering entry d.now note) ≡ true)) }
         ensures none { IfNone result (enters self.now.ops entry ≡ false) }
     {
         definition_in(&self.ops, entry)
@@ -181,57 +189,59 @@ impl Register {
         Ok(Register { ops, marks, seen })
     }
 
-    // Joins one operation whose id has no other body. A new entry is put in its place. A mark may make others redundant,
-    // and is joined as a register of its own.
+    // Joins one operation whose id has no other body. One that is there changes nothing.
     fn put(&mut self, alloc: Global, op: Op) -> Result<(), AllocError>
         requires { OneBody (set.union self.old.ops (one op)) }
         ensures ok { OnOk result (self.new ≡ merged self.old (state (one op))) }
         ensures err { OnErr result (self.new ≡ self.old) }
     {
-        if is_entry(&op) && self.definition(op.id()).is_none() {
-            return self.put_entry(alloc, op);
+        if has_id(&self.ops, op.id()) {
+            return Ok(());
         }
-        let register = self.merge_op(alloc, op)?;
-        *self = register;
-        Ok(())
+        let seen = with_id(alloc, &self.seen, op.id())?;
+        match mark_of(&op) {
+            None => self.put_entry(op, seen),
+            Some(mark) => self.put_mark(op, mark, seen),
+        }
     }
 
-    // Puts in an entry, whose id enters nothing yet.
-    fn put_entry(&mut self, alloc: Global, op: Op) -> Result<(), AllocError>
+    // Puts in an entry, whose id no operation has.
+    fn put_entry(&mut self, op: Op, seen: Seen) -> Result<(), AllocError>
+        requires operation { IsOperation op }
         requires entry { is_enter op.body ≡ true }
-        requires entered { enters self.old.ops op.id ≡ false }
+        requires absent { (q : Operation) → set.contains self.old.ops q ≡ true → is_same op.id q.id ≡ false }
         requires one_body { OneBody (set.union self.old.ops (one op)) }
+        requires seen { seen ≡ set.union self.old.seen (ids (one op)) }
         ensures ok { OnOk result (self.new ≡ merged self.old (state (one op))) }
         ensures err { OnErr result (self.new ≡ self.old) }
     {
-        let once = seen_once(alloc, op.id())?;
-        let seen = match self.seen.join(alloc, &once) {
-            Ok(seen) => seen,
-            Err(_) => return Err(AllocError),
-        };
         put_op(&mut self.ops, op)?;
         self.seen = seen;
         Ok(())
     }
 
-    // The register of one operation.
-    fn of_op(alloc: Global, op: Op) -> Result<Register, AllocError>
-        ensures { IfOk result (λ register. register ≡ state (one op)) }
+    // Puts in an operation that sets a mark, whose id no operation has, and removes what it replaces. One that is replaced
+    // is seen alone. All that can fail comes first.
+    fn put_mark(&mut self, op: Op, mark: Mark, seen: Seen) -> Result<(), AllocError>
+        requires operation { IsOperation op }
+        requires mark { marks_of_body op.id op.body ≡ mark ∷ [] }
+        requires absent { (q : Operation) → set.contains self.old.ops q ≡ true → is_same op.id q.id ≡ false }
+        requires one_body { OneBody (set.union self.old.ops (one op)) }
+        requires seen { seen ≡ set.union self.old.seen (ids (one op)) }
+        ensures ok { OnOk result (self.new ≡ merged self.old (state (one op))) }
+        ensures err { OnErr result (self.new ≡ self.old) }
     {
-        let seen = seen_once(alloc, op.id())?;
-        let mut ops = Vec::new(alloc);
-        ops.push(op)?;
-        let marks = marks_of(alloc, &ops)?;
-        Ok(Register { ops, marks, seen })
-    }
-
-    // Joins one operation whose id has no other body.
-    fn merge_op(&self, alloc: Global, op: Op) -> Result<Register, AllocError>
-        requires { OneBody (set.union self.now.ops (one op)) }
-        ensures { IfOk result (λ register. register ≡ merged self.now (state (one op))) }
-    {
-        let one = Register::of_op(alloc, op)?;
-        self.merge(alloc, &one)
+        if is_replaced(&self.marks, &op) {
+            self.seen = seen;
+            return Ok(());
+        }
+        self.ops.reserve(1)?;
+        let replaces = self.marks.has_covered(&mark.target);
+        self.marks.insert(mark)?;
+        remove_replaced(&mut self.ops, &op, replaces);
+        put_with_room(&mut self.ops, op);
+        self.seen = seen;
+        Ok(())
     }
 
     // Joins registers in which no id has two bodies.
@@ -240,7 +250,9 @@ impl Register {
         ensures { IfOk result (λ r. r ≡ merged self.now other.now) }
     {
         let ops = join_ops(alloc, &self.ops, &self.marks, &other.ops, &other.marks)?;
-        let marks = marks_of(alloc, &ops)?;
+        let Ok(marks) = self.marks.join(alloc, &other.marks) else {
+            return Err(AllocError);
+        };
         match self.seen.join(alloc, &other.seen) {
             Ok(seen) => Ok(Register { ops, marks, seen }),
             Err(_) => Err(AllocError),
@@ -259,6 +271,17 @@ fn seen_once(alloc: Global, id: OpId) -> Result<Seen, AllocError>
         high: id.count(),
     })?;
     Ok(seen)
+}
+
+// What was seen, and an id.
+fn with_id(alloc: Global, seen: &Seen, id: OpId) -> Result<Seen, AllocError>
+    ensures { IfOk result (λ more. more ≡ set.union seen.now (set.from_list (id ∷ []))) }
+{
+    let once = seen_once(alloc, id)?;
+    match seen.join(alloc, &once) {
+        Ok(more) => Ok(more),
+        Err(_) => Err(AllocError),
+    }
 }
 
 // Copies of operations, in their order.

@@ -1,9 +1,9 @@
 //! Lists of operations by id, and searches in them.
 
-ghost use Rattle.std.specs.Prelude.{◌≡◌, ◌&&◌, ℕ, true, false, IfSome, IfNone, OnOk, OnErr, is_some};
+ghost use Rattle.std.specs.Prelude.{◌≡◌, ◌&&◌, ◌<◌, ◌≤◌, ℕ, List, true, false, not, IfSome, IfNone, OnOk, OnErr, is_some, filter, vec_len, vec_capacity};
 ghost use Rattle.std.specs.List.{insert, list_any};
 ghost use Rattle.reg_op.specs.Ids.{is_same, is_before};
-ghost use Rattle.reg_op.specs.Operations.{Op as Operation, IsOperation};
+ghost use Rattle.reg_op.specs.Operations.{Op as Operation, IsOperation, replaces};
 ghost use Rattle.reg_op.specs.Status.{is_enter};
 ghost use Rattle.reg_op.specs.Kept.{entering};
 ghost use Rattle.reg_op.specs.Lists.{ById, has};
@@ -31,7 +31,7 @@ pub fn comes_first(first: &Op, second: &Op) -> bool
 // What the operation enters, if the id is its own.
 fn definition_of(op: &Op, id: OpId) -> Option<&Definition>
     ensures told { is_some result ≡ (is_same id op.now.id && is_enter op.now.body) }
-    ensures found { IfSome result (λ d. op.now ≡ entering id d.now) }
+    ensures found { IfSome result (λ d. op.now ≡ entering id d.now op.now.note) }
 {
     if !id.is_same(&op.id()) {
         return None;
@@ -43,15 +43,16 @@ fn definition_of(op: &Op, id: OpId) -> Option<&Definition>
     }
 }
 
-/// Whether it enters a definition.
-pub fn is_entry(op: &Op) -> bool
-    ensures { result ≡ is_enter op.now.body }
+/// Whether an operation has the id.
+pub fn has_id(ops: &[Op], id: OpId) -> bool
+    requires { ById ops.now }
+    ensures { result ≡ list_any (λ o. is_same id o.id) ops.now }
 {
-    match op.body() {
-        OpBody::Enter(_) => true,
-        OpBody::Supersede { old: _, newer: _ } => false,
-        OpBody::Retire { entry: _ } => false,
+    let at = ops.partition_point(|op| is_earlier(op, id));
+    if at < ops.len() {
+        return id.is_same(&ops[at].id());
     }
+    false
 }
 
 /// Puts an operation in its place, whose id no other has.
@@ -62,19 +63,44 @@ pub fn put_op(ops: &mut Vec<Op>, op: Op) -> Result<(), AllocError>
     ensures by_id { OnOk result (ById ops.new.items) }
     ensures err { OnErr result (ops.new.items ≡ ops.old.items) }
 {
+    ops.reserve(1)?;
+    put_with_room(ops, op);
+    Ok(())
+}
+
+/// The same where there is room.
+pub fn put_with_room(ops: &mut Vec<Op>, op: Op)
+    requires by_id { ById ops.old.items }
+    requires absent { (q : Operation) → has ops.old.items q ≡ true → is_same op.id q.id ≡ false }
+    requires room { vec_len ops.old < vec_capacity ops.old }
+    ensures put { (i : ℕ) × (ops.new.items ≡ insert ops.old.items i op) }
+    ensures by_id { ById ops.new.items }
+{
     let id = op.id();
     let at = ops.partition_point(|other| is_earlier(other, id));
+    // It cannot fail.
     if let Err(_) = ops.insert(at, op) {
-        return Err(AllocError);
+        return;
     }
-    Ok(())
+}
+
+/// Removes what an operation replaces, unless it is known that there is none.
+pub fn remove_replaced(ops: &mut Vec<Op>, op: &Op, some: bool)
+    requires { some ≡ false → ops.old.items ≡ filter (λ o. not (replaces op.now o)) ops.old.items }
+    ensures items { ops.new.items ≡ filter (λ o. not (replaces op.now o)) ops.old.items }
+    ensures len { vec_len ops.new ≤ vec_len ops.old }
+    ensures capacity { vec_capacity ops.new ≡ vec_capacity ops.old }
+{
+    if some {
+        ops.retain(|other| !op.replaces(other));
+    }
 }
 
 /// What the operation of the id enters, among operations by id.
 pub fn definition_in(ops: &[Op], id: OpId) -> Option<&Definition>
     requires { ById ops.now }
     ensures told { is_some result ≡ list_any (λ o. is_same id o.id && is_enter o.body) ops.now }
-    ensures found { IfSome result (λ d. has ops.now (entering id d.now) ≡ true) }
+    ensures found { IfSome result (λ d. (note : List ℕ) × (has ops.now (entering id d.now note) ≡ true)) }
 {
     let at = ops.partition_point(|op| is_earlier(op, id));
     if at < ops.len() {

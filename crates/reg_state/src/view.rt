@@ -1,10 +1,10 @@
-//! Operations as a caller sees them, with their definitions lent.
+//! Operations as a caller sees them, with their definitions and notes lent.
 
 ghost use Rattle.std.specs.Prelude.{◌≡◌};
 ghost use Rattle.std.specs.Iterator.{YieldsFirstBy, item_count};
 ghost use Rattle.reg_state.specs.Views.{op_seen};
 
-use reg_op::{Op, OpBody, OpId};
+use reg_op::{Note, Op, OpBody, OpId};
 use std::marker::Model;
 use wkt_crs::Definition;
 
@@ -16,11 +16,12 @@ pub enum BodyView<'a> {
     Retire { entry: OpId },
 }
 
-/// An operation, with its definition lent.
+/// An operation, with its definition and its note lent.
 #[derive(Clone, Copy)]
 pub struct OpView<'a> {
     pub id: OpId,
     pub body: BodyView<'a>,
+    pub note: &'a Note,
 }
 
 fn view_of(op: &Op) -> OpView<'_>
@@ -35,7 +36,8 @@ fn view_of(op: &Op) -> OpView<'_>
         },
         OpBody::Retire { entry } => BodyView::Retire { entry: *entry },
     };
-    OpView { id, body }
+    let note = op.note();
+    OpView { id, body, note }
 }
 
 /// The operations that a register keeps, by id: seen as the list of those that are left.

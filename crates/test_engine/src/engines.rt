@@ -2,10 +2,12 @@
 
 mod change;
 mod check;
+mod downgrade;
 mod export;
 mod faults;
 mod growth;
 mod merge;
+mod notes;
 mod reports;
 
 use byte_io::{Pieces, Then};
@@ -25,7 +27,7 @@ pub const A: &[u8] = &[0, 0, 0, 0, 0, 0, 0x40, 0, 0x80, 0, 0, 0, 0, 0, 0, 0x0a];
 pub const B: &[u8] = &[0, 0, 0, 0, 0, 0, 0x40, 0, 0x80, 0, 0, 0, 0, 0, 0, 0x0b];
 
 /// The file of the empty register.
-pub const EMPTY: &[u8] = &[0x43, 0x52, 0x53, 0x52, 1, 1, 0, 0, 0, 0, 0, 0, 0, 0];
+pub const EMPTY: &[u8] = &[0x43, 0x52, 0x53, 0x52, 2, 1, 0, 0, 0, 0, 0, 0, 0, 0];
 
 /// A replica of which all counts from 1 to this one are seen.
 #[derive(Drop)]
@@ -50,7 +52,7 @@ pub fn file_of(
     count: u8,
     operations: &[&[u8]],
 ) -> Result<Vec<u8>, AllocError> {
-    let mut bytes = joined(alloc, &[b"CRSR\x01\x01", &[0, 0, 0]])?;
+    let mut bytes = joined(alloc, &[b"CRSR\x02\x01", &[0, 0, 0]])?;
     bytes.push(replicas.len().min(100) as u8)?;
     for replica in replicas {
         bytes.extend_from_slice(replica.uuid)?;
@@ -63,12 +65,12 @@ pub fn file_of(
     Ok(bytes)
 }
 
-/// The operation of this id that enters a text of 93 bytes.
+/// The operation of this id that enters a text of 93 bytes, with an empty note.
 pub fn enter(alloc: Global, uuid: &[u8], count: u8, text: &[u8]) -> Result<Vec<u8>, AllocError> {
-    joined(alloc, &[uuid, &[0, 0, 0, count, 1, 0, 0, 0, 93], text])
+    joined(alloc, &[uuid, &[0, 0, 0, count, 1, 0, 0, 0, 0, 93], text])
 }
 
-/// The file of one entry of the first replica, of 160 bytes.
+/// The file of one entry of the first replica, of 161 bytes.
 pub fn entry_file(alloc: Global, text: &[u8]) -> Result<Vec<u8>, AllocError> {
     let enter = enter(alloc, A, 1, text)?;
     file_of(alloc, &[Replica { uuid: A, last: 1 }], 1, &[&enter])
@@ -78,14 +80,14 @@ pub fn entry_file(alloc: Global, text: &[u8]) -> Result<Vec<u8>, AllocError> {
 pub fn one_retired(alloc: Global) -> Result<Vec<u8>, AllocError> {
     let one = enter(alloc, A, 1, HEIGHT)?;
     let two = enter(alloc, A, 2, OTHER_HEIGHT)?;
-    let retire = joined(alloc, &[A, &[0, 0, 0, 3, 3], A, &[0, 0, 0, 1]])?;
+    let retire = joined(alloc, &[A, &[0, 0, 0, 3, 3, 0], A, &[0, 0, 0, 1]])?;
     let replicas = [Replica { uuid: A, last: 3 }, Replica { uuid: B, last: 1 }];
     file_of(alloc, &replicas, 3, &[&one, &two, &retire])
 }
 
-/// The file of the second replica, which retired the first entry of the first and has not seen it: 83 bytes.
+/// The file of the second replica, which retired the first entry of the first and has not seen it: 84 bytes.
 pub fn retirement_file(alloc: Global) -> Result<Vec<u8>, AllocError> {
-    let retire = joined(alloc, &[B, &[0, 0, 0, 1, 3], A, &[0, 0, 0, 1]])?;
+    let retire = joined(alloc, &[B, &[0, 0, 0, 1, 3, 0], A, &[0, 0, 0, 1]])?;
     file_of(alloc, &[Replica { uuid: B, last: 1 }], 1, &[&retire])
 }
 

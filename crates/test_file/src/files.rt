@@ -2,12 +2,14 @@
 
 mod damage;
 mod devices;
+mod first;
 mod growth;
+mod notes;
 mod pieces;
 mod worked;
 
 use reg_file::{FileFault, ReadFileFault, read_bytes, write_bytes};
-use reg_op::{Op, OpBody, OpId};
+use reg_op::{Note, Op, OpBody, OpId};
 use reg_state::Register;
 use std::alloc::{AllocError, Global};
 use std::process::Abort;
@@ -30,8 +32,31 @@ pub const OTHER_HEIGHT: &[u8] =
 pub const SPELLED: &[u8] =
     b"VERTCRS[\"H\",VDATUM[\"D\"],CS[vertical,1],AXIS[\"height (H)\",up],LENGTHUNIT[\"metre\",1.0],ID[\"X\",7]]";
 
-/// The header of a register's file of version 1.
-pub const HEAD: &[u8] = &[0x43, 0x52, 0x53, 0x52, 0x01, 0x01];
+/// The version that is written.
+pub const SECOND: u8 = 2;
+
+/// The version before it, which has no notes.
+pub const FIRST: u8 = 1;
+
+/// The kinds of files.
+pub const REGISTER: u8 = 1;
+
+pub const SEEN: u8 = 2;
+
+pub const PIECE: u8 = 3;
+
+/// What stands first in a file of a version and a kind.
+pub fn head(version: u8, kind: u8) -> [u8; 6] {
+    [0x43, 0x52, 0x53, 0x52, version, kind]
+}
+
+/// An empty note: its length in the second version, and nothing in the first.
+pub fn no_note(version: u8) -> &'static [u8] {
+    if version == FIRST {
+        return &[];
+    }
+    &[0]
+}
 
 /// The bytes of a replica.
 pub const UUID_A: &[u8] = &[0, 0, 0, 0, 0, 0, 0x40, 0, 0x80, 0, 0, 0, 0, 0, 0, 0x0a];
@@ -55,11 +80,12 @@ pub fn joined(alloc: Global, parts: &[&[u8]]) -> Result<Vec<u8>, AllocError> {
 /// The file of the seen ids of one replica, in these ranges, and of so many operations in these bytes.
 pub fn file_of(
     alloc: Global,
+    version: u8,
     ranges: &[(u32, u32)],
     count: u32,
     operations: &[u8],
 ) -> Result<Vec<u8>, AllocError> {
-    let mut bytes = joined(alloc, &[HEAD, &four(1), UUID_A])?;
+    let mut bytes = joined(alloc, &[&head(version, REGISTER), &four(1), UUID_A])?;
     bytes.extend_from_slice(&four(ranges.len().min(1000) as u32))?;
     for (low, high) in ranges {
         bytes.extend_from_slice(&four(*low))?;
@@ -70,16 +96,31 @@ pub fn file_of(
     Ok(bytes)
 }
 
-/// An operation that enters a text of 93 bytes or so.
-pub fn enter_bytes(alloc: Global, count: u32, text: &[u8]) -> Result<Vec<u8>, AllocError> {
+/// An operation that enters a text of 93 bytes or so, with a note in these bytes.
+pub fn noted_bytes(
+    alloc: Global,
+    count: u32,
+    note: &[u8],
+    text: &[u8],
+) -> Result<Vec<u8>, AllocError> {
     let len = text.len().min(100_000) as u32;
-    joined(alloc, &[UUID_A, &four(count), &[1], &four(len), text])
+    joined(alloc, &[UUID_A, &four(count), &[1], note, &four(len), text])
 }
 
-/// The file of one entry, of 160 bytes.
-pub fn entry_file(alloc: Global) -> Result<Vec<u8>, AllocError> {
-    let enter = enter_bytes(alloc, 1, HEIGHT)?;
-    file_of(alloc, &[(1, 1)], 1, &enter)
+/// The same, with no note.
+pub fn enter_bytes(
+    alloc: Global,
+    version: u8,
+    count: u32,
+    text: &[u8],
+) -> Result<Vec<u8>, AllocError> {
+    noted_bytes(alloc, count, no_note(version), text)
+}
+
+/// The file of one entry, of 161 bytes, and of 160 in the first version.
+pub fn entry_file(alloc: Global, version: u8) -> Result<Vec<u8>, AllocError> {
+    let enter = enter_bytes(alloc, version, 1, HEIGHT)?;
+    file_of(alloc, version, &[(1, 1)], 1, &enter)
 }
 
 fn fault_of(alloc: Global, bytes: &[u8]) -> Option<(FileFault, usize)> {
@@ -102,12 +143,17 @@ pub fn is_written(alloc: Global, register: &Register, bytes: &[u8]) -> bool {
     }
 }
 
-/// Whether the bytes are read, and written again byte for byte.
-pub fn goes_round(alloc: Global, bytes: &[u8]) -> bool {
+/// Whether the bytes are read as a register, whose file is the others.
+pub fn goes_to(alloc: Global, bytes: &[u8], others: &[u8]) -> bool {
     match read_bytes(alloc, bytes) {
-        Ok(register) => is_written(alloc, &register, bytes),
+        Ok(register) => is_written(alloc, &register, others),
         Err(_) => false,
     }
+}
+
+/// Whether the bytes are read, and written again byte for byte.
+pub fn goes_round(alloc: Global, bytes: &[u8]) -> bool {
+    goes_to(alloc, bytes, bytes)
 }
 
 // What a test needs before it can look at anything is expected, and not handed on by `?`: a refusal would drop all
@@ -124,8 +170,16 @@ pub fn enter(rt: &impl Abort, alloc: Global, register: &mut Register, id: OpId, 
 }
 
 pub fn take(rt: &impl Abort, register: &mut Register, id: OpId, body: OpBody) {
-    let op = Op::new(id, body).expect(rt, "an operation");
+    take_noted(rt, register, id, body, Note::empty());
+}
+
+pub fn take_noted(rt: &impl Abort, register: &mut Register, id: OpId, body: OpBody, note: Note) {
+    let op = Op::new(id, body, note).expect(rt, "an operation");
     register.take(op).expect(rt, "room for an operation");
+}
+
+pub fn note_of(rt: &impl Abort, alloc: Global, text: &[u8]) -> Note {
+    Note::new(alloc, text).expect(rt, "a note")
 }
 
 /// The register of the file of one entry.

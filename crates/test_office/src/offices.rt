@@ -6,7 +6,7 @@ mod reports;
 mod worlds;
 
 use reg_office::{Office, OfficeFault};
-use reg_op::{Op, OpBody, OpId, Status};
+use reg_op::{Note, Op, OpBody, OpId, Status};
 use reg_state::{Join, Register};
 use std::alloc::Global;
 use std::process::Abort;
@@ -130,7 +130,7 @@ fn body_of(alloc: Global, step: Step) -> Result<OpBody, Refused> {
 }
 
 fn made(alloc: Global, step: Step) -> Result<Op, Refused> {
-    match Op::new(step.id, body_of(alloc, step)?) {
+    match Op::new(step.id, body_of(alloc, step)?, Note::empty()) {
         Ok(op) => Ok(op),
         Err(_) => Err(Refused),
     }

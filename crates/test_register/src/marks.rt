@@ -34,12 +34,64 @@ fn the_least_of_each_target_is_kept(rt: HostRuntime) {
     let retired = Target { entry, by: None };
     let by = Some(newer);
     let replaced = Target { entry, by };
-    let one = marks_of(&rt, alloc, &[mark(retired, later), mark(replaced, later)]);
+    let one = marks_of(&rt, alloc, &[mark(retired, later)]);
     let other = marks_of(&rt, alloc, &[mark(retired, later), mark(retired, sooner)]);
+    let third = marks_of(&rt, alloc, &[mark(replaced, later)]);
     assert!(rt; one.least(&retired) == Some(later));
     assert!(rt; other.least(&retired) == Some(sooner));
     assert!(rt; other.least(&replaced) == None);
+    assert!(rt; third.least(&replaced) == Some(later));
     let both = joined(&rt, alloc, one, other);
     assert!(rt; both.least(&retired) == Some(sooner));
-    assert!(rt; both.least(&replaced) == Some(later));
+    let all = joined(&rt, alloc, third, both);
+    assert!(rt; all.least(&retired) == Some(sooner));
+    assert!(rt; all.least(&replaced) == None);
+}
+
+#[test]
+fn one_more_mark_takes_the_place_of_those_that_it_makes_needless(rt: HostRuntime) {
+    let alloc = rt.alloc();
+    let entry = id_of(&rt, b"00000000-0000-4000-8000-00000000000a:2");
+    let first = id_of(&rt, b"00000000-0000-4000-8000-00000000000a:1");
+    let last = id_of(&rt, b"00000000-0000-4000-8000-00000000000a:3");
+    let sooner = id_of(&rt, b"00000000-0000-4000-8000-00000000000b:1");
+    let later = id_of(&rt, b"00000000-0000-4000-8000-00000000000c:1");
+    let retired = Target { entry, by: None };
+    let by_first = Target {
+        entry,
+        by: Some(first),
+    };
+    let by_last = Target {
+        entry,
+        by: Some(last),
+    };
+    let before = Target {
+        entry: first,
+        by: Some(last),
+    };
+    let after = Target {
+        entry: last,
+        by: None,
+    };
+    let mut marks = Marks::new(alloc);
+    for target in [after, by_last, before, by_first] {
+        marks.insert(mark(target, later)).expect(&rt, "room");
+    }
+    marks.insert(mark(by_last, sooner)).expect(&rt, "room");
+    assert!(rt; marks.least(&by_last) == Some(sooner));
+    marks.insert(mark(by_last, later)).expect(&rt, "room");
+    assert!(rt; marks.least(&by_last) == Some(sooner));
+    assert!(rt; marks.has_covered(&retired));
+    assert!(rt; !marks.lessens(&mark(retired, later)));
+    marks.insert(mark(retired, later)).expect(&rt, "room");
+    assert!(rt; marks.least(&retired) == Some(later));
+    assert!(rt; marks.least(&by_first) == None);
+    assert!(rt; marks.least(&by_last) == None);
+    assert!(rt; marks.least(&before) == Some(later));
+    assert!(rt; marks.least(&after) == Some(later));
+    assert!(rt; marks.lessens(&mark(by_first, sooner)));
+    marks.insert(mark(by_first, sooner)).expect(&rt, "room");
+    assert!(rt; marks.least(&by_first) == None);
+    marks.insert(mark(retired, sooner)).expect(&rt, "room");
+    assert!(rt; marks.least(&retired) == Some(sooner));
 }

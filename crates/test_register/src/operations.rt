@@ -1,6 +1,6 @@
 //! Tests of ids and operations.
 
-use reg_op::{Op, OpBody, OpId, SameEntry};
+use reg_op::{Note, NoteFault, Op, OpBody, OpId, SameEntry};
 use std::alloc::Global;
 use std::process::Abort;
 use uuid::Uuid;
@@ -85,12 +85,12 @@ fn ids_are_ordered_by_the_uuid_and_then_the_count(rt: HostRuntime) {
 }
 
 fn op_of(rt: &impl Abort, id: OpId, body: OpBody) -> Op {
-    Op::new(id, body).expect(rt, "an operation that is not of itself")
+    Op::new(id, body, Note::empty()).expect(rt, "an operation that is not of itself")
 }
 
 fn is_supersession(op: Op, wanted: OpId) -> bool {
-    let (id, body) = op.into_parts();
-    id == wanted && matches!(body, OpBody::Supersede { old: _, newer: _ })
+    let (id, body, note) = op.into_parts();
+    id == wanted && note.is_empty() && matches!(body, OpBody::Supersede { old: _, newer: _ })
 }
 
 #[test]
@@ -101,7 +101,7 @@ fn no_entry_supersedes_itself(rt: HostRuntime) {
         newer: one,
     };
     assert!(rt; same.is_of_itself());
-    assert!(rt; Op::new(id_of(&rt, A, 2), same).err() == Some(SameEntry));
+    assert!(rt; Op::new(id_of(&rt, A, 2), same, Note::empty()).err() == Some(SameEntry));
 }
 
 #[test]
@@ -135,6 +135,45 @@ fn two_texts_under_one_id_clash(rt: HostRuntime) {
     let one = id_of(&rt, A, 1);
     let (enter, clash) = (entering(&rt, alloc, one, G), entering(&rt, alloc, one, H));
     assert!(rt; enter.clashes(&clash));
+}
+
+// The retirement of the first entry, with a note.
+fn noted(rt: &impl Abort, alloc: Global, note: &[u8]) -> Op {
+    let note = Note::new(alloc, note).expect(rt, "a note");
+    let entry = id_of(rt, A, 1);
+    let op = Op::new(id_of(rt, A, 2), OpBody::Retire { entry }, note);
+    op.expect(rt, "an operation that is not of itself")
+}
+
+#[test]
+fn two_notes_under_one_id_clash(rt: HostRuntime) {
+    let alloc = rt.alloc();
+    let first = noted(&rt, alloc, b"first");
+    let second = noted(&rt, alloc, b"second");
+    assert!(rt; first.clashes(&second) && !first.is_same(&second));
+    assert!(rt; first.note().as_bytes() == b"first".as_slice() && !first.note().is_empty());
+    let copy = first.try_clone(alloc).expect(&rt, "a copy");
+    assert!(rt; copy.is_same(&first) && copy.note().is_same(first.note()));
+}
+
+// Whether these bytes are refused so.
+fn is_refused(alloc: Global, bytes: &[u8], fault: NoteFault) -> bool {
+    Note::new(alloc, bytes).err() == Some(fault)
+}
+
+#[test]
+fn a_note_has_at_most_200_bytes_of_utf8(rt: HostRuntime) {
+    let alloc = rt.alloc();
+    let longest = Note::new(alloc, &[b'n'; 200]).expect(&rt, "a note");
+    assert_eq!(rt; longest.as_bytes().len(), 200);
+    let empty = Note::new(alloc, b"").expect(&rt, "a note");
+    assert!(rt; empty.is_empty() && empty.is_same(&Note::empty()));
+    let copy = longest.try_clone().expect(&rt, "a copy");
+    assert!(rt; copy.is_same(&longest) && !copy.is_same(&empty));
+    assert!(rt; is_refused(alloc, &[b'n'; 201], NoteFault::NoteTooLong));
+    assert!(rt; is_refused(alloc, &[0xFF; 201], NoteFault::NoteTooLong));
+    assert!(rt; is_refused(alloc, &[0xFF], NoteFault::NoteNotUtf8));
+    assert!(rt; is_refused(alloc, &[b'n', 0xC3], NoteFault::NoteNotUtf8));
 }
 
 // Whether an entry and a retirement, under two ids, differ.

@@ -7,7 +7,7 @@ mod pieces;
 mod plain;
 mod rows;
 
-use reg_op::{Op, OpBody, OpId, Status};
+use reg_op::{Note, Op, OpBody, OpId, Status};
 use reg_state::{Join, JoinFault, Register};
 use std::alloc::Global;
 use std::process::Abort;
@@ -59,6 +59,23 @@ fn text_of(sample: Sample) -> &'static [u8] {
     }
 }
 
+/// What is noted of an operation.
+#[derive(Clone, Copy)]
+pub enum Remark {
+    Nothing,
+    One,
+    Other,
+}
+
+/// The bytes of a remark.
+pub fn note_of(remark: Remark) -> &'static [u8] {
+    match remark {
+        Remark::Nothing => b"",
+        Remark::One => b"b",
+        Remark::Other => b"c",
+    }
+}
+
 /// What an operation does.
 #[derive(Clone, Copy)]
 enum Effect {
@@ -76,6 +93,7 @@ pub struct Step {
     sample: Sample,
     entry: OpId,
     newer: OpId,
+    remark: Remark,
 }
 
 pub fn enter(id: OpId, sample: Sample) -> Step {
@@ -85,6 +103,7 @@ pub fn enter(id: OpId, sample: Sample) -> Step {
         sample,
         entry: id,
         newer: id,
+        remark: Remark::Nothing,
     }
 }
 
@@ -95,6 +114,7 @@ pub fn retire(id: OpId, entry: OpId) -> Step {
         sample: Sample::Height,
         entry,
         newer: id,
+        remark: Remark::Nothing,
     }
 }
 
@@ -105,7 +125,13 @@ pub fn supersede(id: OpId, old: OpId, newer: OpId) -> Step {
         sample: Sample::Height,
         entry: old,
         newer,
+        remark: Remark::Nothing,
     }
+}
+
+/// The same step with a note.
+pub fn noted(step: Step, remark: Remark) -> Step {
+    Step { remark, ..step }
 }
 
 fn body_of(alloc: Global, step: Step) -> Result<OpBody, Refused> {
@@ -121,7 +147,12 @@ fn body_of(alloc: Global, step: Step) -> Result<OpBody, Refused> {
 }
 
 pub fn made(alloc: Global, step: Step) -> Result<Op, Refused> {
-    match Op::new(step.id, body_of(alloc, step)?) {
+    let Step { id, remark, .. } = step;
+    let body = body_of(alloc, step)?;
+    let Ok(note) = Note::new(alloc, note_of(remark)) else {
+        return Err(Refused);
+    };
+    match Op::new(id, body, note) {
         Ok(op) => Ok(op),
         Err(_) => Err(Refused),
     }

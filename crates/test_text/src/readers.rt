@@ -4,6 +4,7 @@ mod canonical;
 mod definitions;
 mod extents;
 mod growth;
+mod printed;
 mod refused;
 
 use std::alloc::Global;

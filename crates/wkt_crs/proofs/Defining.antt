@@ -4,7 +4,7 @@ use Rattle.std.proofs.Math.Logic.{∥∥₁_elim}
 use Rattle.std.proofs.Math.Bridge.{le_prop}
 use Rattle.std.proofs.Props.{props}
 use mathlib.Core.HLevel.{is_prop→PathP}
-use Rattle.std.specs.Prelude.{◌⊎◌, ◌&&◌, not, Some, Result, Ok, Err, IfOk, IfErr}
+use Rattle.std.specs.Prelude.{◌⊎◌, ◌&&◌, not, Option, Some, None, Result, Ok, Err, IfOk, IfErr}
 use Rattle.std.specs.Cmp.Lexicographic.{pointwise}
 use Rattle.std.proofs.lemmas.Bool.{eqb-true, eq-eqb}
 use Rattle.crs_part.specs.declared.text.Text.{Text}
@@ -14,12 +14,16 @@ use Rattle.crs_value.specs.declared.crs.Crs.{Crs}
 use Rattle.crs_value.specs.declared.key.Key.{Key}
 use Rattle.wkt_crs.specs.declared.fault.ReadFault.{ReadFault}
 use Rattle.wkt_crs.specs.declared.fault.ReadFault.TheVariants as read
+use Rattle.wkt_crs.specs.declared.fault.Unspelled.{Unspelled}
+use Rattle.wkt_crs.specs.declared.fault.Unspelled.TheVariants as refused
 use Rattle.wkt_crs.specs.Faults.{FirstFault}
+use Rattle.wkt_crs.specs.Unspelled.{as_read, unspelled}
 use Rattle.wkt_crs.specs.declared.definition.DefinitionFault.{DefinitionFault}
 use Rattle.wkt_crs.specs.declared.definition.DefinitionFault.TheVariants as fault
 use Rattle.wkt_crs.specs.Spells.{Spells, canon}
 use Rattle.wkt_crs.specs.Definition.{HasNone, HasKey, HasName, IsDefinedBy, IsDefinition, IsCrsOf, IsNameIn, IsKeyIn, IsCanonicalFault, of_read}
 use Rattle.wkt_crs.proofs.Texts.{one_value}
+use Rattle.wkt_crs.proofs.Verdicts.{value_or_fault}
 use Rattle.wkt_crs.proofs.Written.{canonical_spells}
 
 pub canonical_text : (crs : Crs) (bytes : List ℕ) → bytes ≡ canon crs → length bytes ≤ 65536 → Spells bytes crs
@@ -61,6 +65,15 @@ is_key_in key name bytes d =
 pub key_of_first : (ids : List Ident) (key : Key) → IsFirstKey ids (Some key) → (id : Ident) (others : List Ident) → ids ≡ id ∷ others → IsKeyOf id key
 key_of_first [] key h id others e = absurd cc
 key_of_first (x ∷ xs) key h id others e = let same : x ≡ id = cc in subst (λ i. IsKeyOf i key) same h
+
+pub some_first : (ids : List Ident) (o : Option Key) → o ≡ None → ¬ (ids ≡ []) → IsFirstKey ids o → ⊥
+some_first [] o e n h = n refl
+some_first (x ∷ xs) None e n h = absurd h
+some_first (x ∷ xs) (Some key) e n h = absurd cc
+
+-- what is a definition is not refused
+pub never_refused : (bytes : List ℕ) (f : ReadFault) → IsDefinition bytes → FirstFault bytes f → f ≡ read.Memory
+never_refused bytes f d h = value_or_fault bytes d.crs f (spelled_by_definition bytes d) h
 
 pub defines : (crs : Crs) (key : Key) (name : Text) (bytes : List ℕ) → (bytes ≡ canon crs) × (length bytes ≤ 65536) × ¬ (HasNone crs) → HasKey crs key → HasName crs name → IsDefinedBy key name bytes
 defines crs key name bytes h k n =
@@ -130,9 +143,22 @@ read_refused bytes (read.Slot f) short h = (short, h)
 read_refused bytes (read.Broken condition at) short h = (short, h)
 read_refused bytes read.Memory short h = tt
 
--- a text that is refused as one that spells nothing has a first fault
-pub read_fault : (bytes : List ℕ) (f : ReadFault) → IsCanonicalFault bytes (fault.Read f) → (length bytes ≤ 65536) × FirstFault bytes f
-read_fault bytes (read.Text f) h = h
-read_fault bytes (read.Slot f) h = h
-read_fault bytes (read.Broken condition at) h = h
-read_fault bytes read.Memory h = absurd h
+-- what is wrong with a text is no want of memory
+pub not_memory : (f : Unspelled) → as_read f ≡ read.Memory → ⊥
+not_memory (refused.Text f) e = cc
+not_memory (refused.Slot f) e = cc
+not_memory (refused.Broken condition at) e = cc
+
+known : Option Unspelled → Unspelled → Unspelled
+known (Some f) g = f
+known None g = g
+
+unspelled_read : (f : Unspelled) → unspelled (as_read f) ≡ Some f
+unspelled_read (refused.Text f) = refl
+unspelled_read (refused.Slot f) = refl
+unspelled_read (refused.Broken condition at) = refl
+
+-- two refusals that read as one are one
+pub one_refusal : (f g : Unspelled) → as_read f ≡ as_read g → f ≡ g
+unfolding known
+one_refusal f g e = ap (λ o. known o f) (sym (unspelled_read f) ∙ (ap unspelled e ∙ unspelled_read g))

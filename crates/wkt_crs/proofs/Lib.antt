@@ -1,11 +1,16 @@
 pub mod Defining
+pub mod EachText
 pub mod Editions
 pub mod FromText
 pub mod GoodTrees
+pub mod Keywords
+pub mod LeafValues
+pub mod NodeValues
 pub mod Passes
 pub mod Recognized
 pub mod Sources
 pub mod Systems
 pub mod Texts
+pub mod Values
 pub mod Verdicts
 pub mod Written

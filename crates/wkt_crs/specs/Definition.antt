@@ -1,17 +1,19 @@
 -- What a definition is, and why a reference system or a text is none.
-use Rattle.std.specs.Prelude.{◌≡◌, ℕ, ◌≤◌, ◌<◌, List, [], ◌∷◌, length}
+use Rattle.std.specs.Prelude.{◌≡◌, ℕ, ◌≤◌, ◌<◌, List, [], ◌∷◌, length, Option, Some, None, codes}
 use Rattle.crs_part.specs.declared.identifiers.Ident.{Ident}
 use Rattle.crs_part.specs.declared.text.Text.{Text}
-use Rattle.crs_part.specs.Slots.{ids_of, name_of}
+use Rattle.crs_part.specs.Slots.{ids_of}
+use Rattle.crs_part.specs.Slots as slots
 use Rattle.crs_value.specs.declared.crs.Crs.{Crs}
 use Rattle.crs_value.specs.declared.key.Key.{Key}
 use Rattle.crs_value.specs.Keys.{IsKeyOf}
 use Rattle.wkt_crs.specs.declared.fault.ReadFault.{ReadFault}
-use Rattle.wkt_crs.specs.declared.fault.ReadFault.TheVariants as read
+use Rattle.wkt_crs.specs.declared.fault.Unspelled.{Unspelled}
 use Rattle.wkt_crs.specs.declared.definition.DefinitionFault.{DefinitionFault}
 use Rattle.wkt_crs.specs.declared.definition.DefinitionFault.TheVariants as fault
 use Rattle.wkt_crs.specs.Spells.{Spells, canon}
 use Rattle.wkt_crs.specs.Faults.{FirstFault}
+use Rattle.wkt_crs.specs.Unspelled.{as_read, unspelled, name_of, place_of}
 
 -- the reference system has no identifier of its own
 abbrev pub HasNone : Crs → Type 0
@@ -23,7 +25,7 @@ HasKey crs key = (id : Ident) (others : List Ident) → ids_of crs.parts ≡ id 
 
 -- its name
 abbrev pub HasName : Crs → Text → Type 0
-HasName crs name = name.bytes ≡ (name_of crs.parts).bytes
+HasName crs name = name.bytes ≡ (slots.name_of crs.parts).bytes
 
 -- the bytes are the canonical text of a reference system with an identifier, and not too long
 pub record IsDefinition (bytes : List ℕ) : Type 0 where
@@ -59,20 +61,14 @@ IsNewFault crs fault.Memory = Unit {0}
 
 abbrev pub IsCanonicalFault : List ℕ → DefinitionFault → Type 0
 IsCanonicalFault bytes fault.CanonicalTooLong = 65536 < length bytes
-IsCanonicalFault bytes (fault.Read (read.Text f)) = (length bytes ≤ 65536) × FirstFault bytes (read.Text f)
-IsCanonicalFault bytes (fault.Read (read.Slot f)) = (length bytes ≤ 65536) × FirstFault bytes (read.Slot f)
-IsCanonicalFault bytes (fault.Read (read.Broken condition at)) = (length bytes ≤ 65536) × FirstFault bytes (read.Broken condition at)
-IsCanonicalFault bytes (fault.Read read.Memory) = ⊥
+IsCanonicalFault bytes (fault.Read f) = (length bytes ≤ 65536) × FirstFault bytes (as_read f)
 IsCanonicalFault bytes fault.NoIdentifier = (length bytes ≤ 65536) × ((crs : Crs) × Spells bytes crs × HasNone crs)
 IsCanonicalFault bytes fault.NotCanonical = (length bytes ≤ 65536) × ((crs : Crs) × Spells bytes crs × ¬ (HasNone crs) × ¬ (bytes ≡ canon crs))
 IsCanonicalFault bytes fault.Memory = Unit {0}
 
 -- why a text gives no definition: what it spells has none, or it spells nothing
 abbrev pub IsTextFault : List ℕ → DefinitionFault → Type 0
-IsTextFault text (fault.Read (read.Text f)) = FirstFault text (read.Text f)
-IsTextFault text (fault.Read (read.Slot f)) = FirstFault text (read.Slot f)
-IsTextFault text (fault.Read (read.Broken condition at)) = FirstFault text (read.Broken condition at)
-IsTextFault text (fault.Read read.Memory) = ⊥
+IsTextFault text (fault.Read f) = FirstFault text (as_read f)
 IsTextFault text fault.NoIdentifier = (crs : Crs) × Spells text crs × HasNone crs
 IsTextFault text fault.CanonicalTooLong = (crs : Crs) × Spells text crs × (¬ (HasNone crs)) × (65536 < length (canon crs))
 IsTextFault text fault.NotCanonical = ⊥
@@ -86,9 +82,23 @@ IsSeenFault bytes fault.CanonicalTooLong = ⊥
 IsSeenFault bytes fault.NotCanonical = ⊥
 IsSeenFault bytes fault.Memory = Unit {0}
 
--- `Memory` is one fault
+abbrev pub refused_or_memory : Option Unspelled → DefinitionFault
+refused_or_memory (Some f) = fault.Read f
+refused_or_memory None = fault.Memory
+
+-- the fault of a definition that was to be read
 abbrev pub of_read : ReadFault → DefinitionFault
-of_read (read.Text f) = fault.Read (read.Text f)
-of_read (read.Slot f) = fault.Read (read.Slot f)
-of_read (read.Broken condition at) = fault.Read (read.Broken condition at)
-of_read read.Memory = fault.Memory
+of_read f = refused_or_memory (unspelled f)
+
+-- what a fault is called
+abbrev pub fault_name : DefinitionFault → List ℕ
+fault_name (fault.Read f) = name_of f
+fault_name fault.NoIdentifier = codes "NoIdentifier"
+fault_name fault.CanonicalTooLong = codes "CanonicalTooLong"
+fault_name fault.NotCanonical = codes "NotCanonical"
+fault_name fault.Memory = codes "Memory"
+
+-- where a fault is
+abbrev pub fault_place : DefinitionFault → Option ℕ
+fault_place (fault.Read f) = place_of f
+fault_place f = None

@@ -3,3 +3,6 @@ pub mod Faults
 pub mod Source
 pub mod Passing
 pub mod Definition
+pub mod Verdict
+pub mod Keywords
+pub mod Unspelled

@@ -12,6 +12,7 @@ use Rattle.wkt_crs.specs.declared.source.DefineFromFault.{DefineFromFault}
 use Rattle.wkt_crs.specs.declared.source.DefineFromFault.TheVariants as define
 use Rattle.wkt_crs.specs.Spells.{Spells, SpellsCanon, canon}
 use Rattle.wkt_crs.specs.Faults.{FirstFault}
+use Rattle.wkt_crs.specs.Unspelled.{as_read}
 use Rattle.wkt_crs.specs.Definition.{HasNone, IsDefinition}
 
 -- the text of a source: all that it has left, or the first bytes of it, one more than a text may have
@@ -53,10 +54,7 @@ IsReadFromFault old new (from.Refused fault.Memory) = ReadsPart old new
 -- the source failed, or its text is refused, or what it spells has no identifier or too long a canonical text, or memory ran out
 abbrev pub IsDefineFromFault : SourceState → SourceState → DefineFromFault → Type 0
 IsDefineFromFault old new (define.ReadFailed n) = FailsAt n old new
-IsDefineFromFault old new (define.Refused (undefined.Read (fault.Text f))) = Refuses old new (fault.Text f)
-IsDefineFromFault old new (define.Refused (undefined.Read (fault.Slot f))) = Refuses old new (fault.Slot f)
-IsDefineFromFault old new (define.Refused (undefined.Read (fault.Broken c place))) = Refuses old new (fault.Broken c place)
-IsDefineFromFault old new (define.Refused (undefined.Read fault.Memory)) = ⊥
+IsDefineFromFault old new (define.Refused (undefined.Read f)) = Refuses old new (as_read f)
 IsDefineFromFault old new (define.Refused undefined.NoIdentifier) = (v : Crs) × Finds old new v × HasNone v
 IsDefineFromFault old new (define.Refused undefined.CanonicalTooLong) = (v : Crs) × Finds old new v × (¬ (HasNone v)) × (65536 < length (canon v))
 IsDefineFromFault old new (define.Refused undefined.NotCanonical) = ⊥

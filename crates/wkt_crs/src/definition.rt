@@ -7,18 +7,19 @@ ghost use Rattle.wkt_tree.specs.declared.fault.TextFault.{TextFault};
 ghost use Rattle.wkt_tree.specs.Faults as tree;
 ghost use Rattle.wkt_tier.specs.declared.fault.SlotFault.{SlotFault};
 ghost use Rattle.wkt_canonical.specs.Reads.{IsCanonicalOf};
-ghost use Rattle.wkt_crs.specs.declared.fault.ReadFault.TheVariants as read;
+ghost use Rattle.wkt_crs.specs.declared.fault.Unspelled.TheVariants as refused;
 ghost use Rattle.wkt_crs.specs.Spells.{canon};
 ghost use Rattle.wkt_crs.specs.Faults.{FirstSlot};
 ghost use Rattle.wkt_crs.specs.Definition.{HasNone, IsCanonicalFault, IsSeenFault, IsDefinedBy, IsDefinition, of_read};
 ghost use Rattle.wkt_crs.specs.declared.definition.DefinitionFault.TheVariants as fault;
 
-use crate::fault::ReadFault;
+use crate::fault::{ReadFault, Unspelled};
 use crate::reading::read_crs;
 use crate::writing::write_crs;
 use crs_part::{Many, Text, TryClone};
 use crs_value::{Crs, Key};
 use std::alloc::{AllocError, Global};
+use std::fmt;
 use std::marker::Model;
 use std::rc::Rc;
 use wkt_canonical::{Identifier, Seen, recognize};
@@ -30,7 +31,7 @@ const MOST: usize = 65_536;
 #[derive(Clone, Copy, Debug, PartialEq, Eq)]
 pub enum DefinitionFault {
     /// The text spells no reference system, and this is its first fault.
-    Read(ReadFault),
+    Read(Unspelled),
     /// The reference system has no identifier of its own.
     NoIdentifier,
     /// The canonical text has more than 65,536 bytes.
@@ -39,6 +40,47 @@ pub enum DefinitionFault {
     NotCanonical,
     /// An allocation failed.
     Memory,
+}
+
+impl DefinitionFault {
+    ghost use Rattle.std.specs.Prelude.{◌≡◌};
+    ghost use Rattle.wkt_crs.specs.Definition.{fault_name, fault_place};
+
+    /// How it is printed.
+    pub fn name(self) -> &'static str
+        ensures { result.now ≡ fault_name self }
+    {
+        match self {
+            DefinitionFault::Read(fault) => fault.name(),
+            DefinitionFault::NoIdentifier => "NoIdentifier",
+            DefinitionFault::CanonicalTooLong => "CanonicalTooLong",
+            DefinitionFault::NotCanonical => "NotCanonical",
+            DefinitionFault::Memory => "Memory",
+        }
+    }
+
+    /// The offset in the text that it is reported at, from 0, where it has one.
+    pub fn place(self) -> Option<usize>
+        ensures { result ≡ fault_place self }
+    {
+        match self {
+            DefinitionFault::Read(fault) => fault.place(),
+            DefinitionFault::NoIdentifier => None,
+            DefinitionFault::CanonicalTooLong => None,
+            DefinitionFault::NotCanonical => None,
+            DefinitionFault::Memory => None,
+        }
+    }
+}
+
+impl fmt::Display for DefinitionFault {
+    fn fmt<W: fmt::Write>(&self, f: &mut fmt::Formatter<W>) -> fmt::Result {
+        match self {
+            DefinitionFault::Read(fault) => fault.fmt(f),
+            DefinitionFault::Memory => f.write_str("out of memory"),
+            fault => f.write_str(fault.name()),
+        }
+    }
 }
 
 #[derive(Drop)]
@@ -69,7 +111,7 @@ impl Definition {
     ghost use Rattle.wkt_tree.specs.declared.fault.TextFault.{TextFault};
     ghost use Rattle.wkt_tree.specs.Faults as tree;
     ghost use Rattle.wkt_tier.specs.declared.fault.SlotFault.{SlotFault};
-    ghost use Rattle.wkt_crs.specs.declared.fault.ReadFault.TheVariants as read;
+    ghost use Rattle.wkt_crs.specs.declared.fault.Unspelled.TheVariants as refused;
     ghost use Rattle.wkt_crs.specs.Faults.{FirstSlot};
     ghost use Rattle.wkt_crs.specs.declared.definition.DefinitionFault.TheVariants as fault;
     ghost use Rattle.wkt_crs.specs.Spells.{Spells, SpellsCanon, canon};
@@ -103,8 +145,8 @@ impl Definition {
         ensures only { IsDefinition bytes.now → (result ≡ Ok bytes.now) ⊎ (result ≡ Err fault.Memory) }
         // These always come: `Memory` never stands in their place.
         ensures long { 65536 < length bytes.now → result ≡ Err fault.CanonicalTooLong }
-        ensures text { (f : TextFault) → length bytes.now ≤ 65536 → tree.FirstFault bytes.now f → result ≡ Err (fault.Read (read.Text f)) }
-        ensures slot { (f : SlotFault) → length bytes.now ≤ 65536 → FirstSlot bytes.now f → result ≡ Err (fault.Read (read.Slot f)) }
+        ensures text { (f : TextFault) → length bytes.now ≤ 65536 → tree.FirstFault bytes.now f → result ≡ Err (fault.Read (refused.Text f)) }
+        ensures slot { (f : SlotFault) → length bytes.now ≤ 65536 → FirstSlot bytes.now f → result ≡ Err (fault.Read (refused.Slot f)) }
     {
         if bytes.len() > MOST {
             return Err(DefinitionFault::CanonicalTooLong);
@@ -122,8 +164,8 @@ impl Definition {
         ensures fault { IfErr result (IsTextFault text.now) }
         ensures only { (v : Crs) → Spells text.now v → IsDefinition (canon v) → (result ≡ Ok (canon v)) ⊎ (result ≡ Err fault.Memory) }
         // These come without memory.
-        ensures text { (f : TextFault) → tree.FirstFault text.now f → result ≡ Err (fault.Read (read.Text f)) }
-        ensures slot { (f : SlotFault) → FirstSlot text.now f → result ≡ Err (fault.Read (read.Slot f)) }
+        ensures text { (f : TextFault) → tree.FirstFault text.now f → result ≡ Err (fault.Read (refused.Text f)) }
+        ensures slot { (f : SlotFault) → FirstSlot text.now f → result ≡ Err (fault.Read (refused.Slot f)) }
     {
         if let Some(seen) = seen_in(text) {
             return of_seen(alloc, text, seen);
@@ -148,7 +190,11 @@ impl Definition {
     {
         match read_crs(alloc, self.as_bytes()) {
             Ok(crs) => Ok(crs),
-            Err(_) => Err(AllocError),
+            Err(ReadFault::Memory) => Err(AllocError),
+            // A definition spells what it defines.
+            Err(ReadFault::Text(_)) => unreachable!(),
+            Err(ReadFault::Slot(_)) => unreachable!(),
+            Err(ReadFault::Broken { .. }) => unreachable!(),
         }
     }
 
@@ -247,8 +293,8 @@ fn read_canonical(alloc: Global, bytes: &[u8]) -> Result<Definition, DefinitionF
     ensures ok { IfOk result (λ d. d ≡ bytes.now) }
     ensures fault { IfErr result (IsCanonicalFault bytes.now) }
     ensures only { IsDefinition bytes.now → (result ≡ Ok bytes.now) ⊎ (result ≡ Err fault.Memory) }
-    ensures text { (f : TextFault) → tree.FirstFault bytes.now f → result ≡ Err (fault.Read (read.Text f)) }
-    ensures slot { (f : SlotFault) → FirstSlot bytes.now f → result ≡ Err (fault.Read (read.Slot f)) }
+    ensures text { (f : TextFault) → tree.FirstFault bytes.now f → result ≡ Err (fault.Read (refused.Text f)) }
+    ensures slot { (f : SlotFault) → FirstSlot bytes.now f → result ≡ Err (fault.Read (refused.Slot f)) }
 {
     let crs = match read_crs(alloc, bytes) {
         Ok(crs) => crs,
@@ -275,7 +321,9 @@ fn defined(alloc: Global, crs: &Crs, text: Vec<u8>) -> Result<Definition, Defini
 {
     let key = match crs.key(alloc) {
         Ok(Some(key)) => key,
-        _ => return Err(DefinitionFault::Memory),
+        // An identifier has a key.
+        Ok(None) => unreachable!(),
+        Err(_) => return Err(DefinitionFault::Memory),
     };
     let Ok(name) = crs.name().try_clone(alloc) else {
         return Err(DefinitionFault::Memory);
@@ -289,8 +337,8 @@ fn defined(alloc: Global, crs: &Crs, text: Vec<u8>) -> Result<Definition, Defini
 fn of_read(fault: ReadFault) -> DefinitionFault
     ensures { result ≡ of_read fault }
 {
-    match fault {
-        ReadFault::Memory => DefinitionFault::Memory,
-        other => DefinitionFault::Read(other),
+    match fault.unspelled() {
+        Some(refused) => DefinitionFault::Read(refused),
+        None => DefinitionFault::Memory,
     }
 }

@@ -1,12 +1,57 @@
 //! What holds of all texts and all values.
 
-ghost use Rattle.std.specs.Prelude.{◌≡◌, ◌≤◌, length, List, ℕ};
+ghost use Rattle.std.specs.Prelude.{◌≡◌, ◌≤◌, ◌↔◌, length, List, ℕ, Some};
+ghost use Rattle.crs_part.specs.declared.crs.CrsParts.{CrsParts};
 ghost use Rattle.crs_value.specs.declared.crs.Crs.{Crs};
+ghost use Rattle.wkt_tree.specs.Tree.{Tok};
+ghost use Rattle.wkt_tree.specs.Faults.{IsOutline};
+ghost use Rattle.wkt_slots.specs.declared.table.Edition.TheVariants as editions;
+ghost use Rattle.wkt_slots.specs.declared.table.Keyword.{Keyword};
+ghost use Rattle.wkt_slots.specs.declared.table.Takes.TheVariants as kinds;
+ghost use Rattle.wkt_slots.specs.Words.{keyword_of};
+ghost use Rattle.wkt_tier.specs.Slots.{IsClean};
+ghost use Rattle.wkt_tier.specs.Bare.{Bare};
+ghost use Rattle.wkt_good.specs.Good.{Good};
+ghost use Rattle.wkt_meaning.specs.SecondEdition.{Fitting};
+ghost use Rattle.wkt_meaning.specs.Denotes.{DenotesParts};
 ghost use Rattle.wkt_crs.specs.declared.fault.ReadFault.{ReadFault};
 ghost use Rattle.wkt_crs.specs.declared.fault.ReadFault.TheVariants as fault;
 ghost use Rattle.wkt_meaning.specs.FirstEdition.{NothingAdded};
 ghost use Rattle.wkt_crs.specs.Spells.{FirstSpells, Spells, canon, pretty};
 ghost use Rattle.wkt_crs.specs.Faults.{FirstFault};
+ghost use Rattle.wkt_crs.specs.Keywords.{IsKeyword};
+ghost use Rattle.wkt_crs.specs.Verdict.{HasVerdict};
+
+use wkt_slots::Edition;
+use wkt_tier::check_slots;
+use wkt_tree::scan;
+
+/// What has a meaning as a keyword is, in any letter case, the preferred keyword of that meaning or one of its alternates.
+pub fn keywords()
+    ensures { (bytes : List ℕ) (k : Keyword) → (keyword_of bytes ≡ Some k) ↔ IsKeyword k bytes }
+{}
+
+/// A tree denotes a value where its leaves are tokens, and its arguments fit the rows everywhere.
+pub fn fitting_denotes()
+    ensures { (depth : ℕ) (x : Bare) → Good depth x → Fitting kinds.AnyCrs x → (v : CrsParts) × DenotesParts x v }
+{}
+
+/// A text without a fault of its tokens or of its slots spells a value, or some condition is the first that fails.
+pub fn clean_text()
+    ensures { (text : List ℕ) (toks : List Tok) → IsOutline text toks → IsClean editions.Second toks → HasVerdict text }
+{}
+
+/// Each text spells a value, or has a first fault. So `Memory` is never the only answer that the clauses of a reader leave.
+pub fn each_text(text: &[u8])
+    ensures { HasVerdict text.now }
+{
+    let Ok(outline) = scan(text) else {
+        return;
+    };
+    if let Err(_) = check_slots(Edition::Second, &outline) {
+        return;
+    }
+}
 
 /// A text spells one value at most.
 pub fn one_value()

@@ -17,7 +17,7 @@ pub use byte_io::{
 pub use canonical::canonical_text;
 pub use crs_value::{Condition, Crs, Key};
 pub use definition::{Definition, DefinitionFault};
-pub use fault::ReadFault;
+pub use fault::{ReadFault, Unspelled};
 pub use reading::read_crs;
 pub use source::{DefineFromFault, ReadFromFault, canonical_text_from, define_from, read_crs_from};
 pub use wkt_slots::SlotName;

@@ -13,11 +13,11 @@ use std::process::Abort;
 use uuid::Uuid;
 use wkt_crs::{SlotFault, SlotName};
 
-const OFFICE_A: u128 = 0x4000_8000_0000_0000_000a;
+pub const OFFICE_A: u128 = 0x4000_8000_0000_0000_000a;
 
-const OFFICE_B: u128 = 0x4000_8000_0000_0000_000b;
+pub const OFFICE_B: u128 = 0x4000_8000_0000_0000_000b;
 
-const OFFICE_C: u128 = 0x4000_8000_0000_0000_000c;
+pub const OFFICE_C: u128 = 0x4000_8000_0000_0000_000c;
 
 /// The first system with a factor that is spelled in another way.
 const HEIGHT_AS_ENTERED: &[u8] =
@@ -25,12 +25,12 @@ const HEIGHT_AS_ENTERED: &[u8] =
 
 /// The file that a command wrote, and the ids that it printed.
 #[derive(Drop)]
-struct Done {
-    file: Vec<u8>,
-    ids: Vec<u8>,
+pub struct Done {
+    pub file: Vec<u8>,
+    pub ids: Vec<u8>,
 }
 
-fn id(rt: &impl Abort, replica: u128, count: u32) -> OpId {
+pub fn id(rt: &impl Abort, replica: u128, count: u32) -> OpId {
     OpId::new(Uuid::from_u128(replica), count).expect(rt, "a count above 0")
 }
 
@@ -60,6 +60,17 @@ fn entered(
     replica: u128,
     text: &[u8],
 ) -> Result<Done, CliFault> {
+    entered_with(rt, alloc, register, replica, text, "")
+}
+
+pub fn entered_with(
+    rt: &impl Abort,
+    alloc: Global,
+    register: &[u8],
+    replica: u128,
+    text: &[u8],
+    note: &str,
+) -> Result<Done, CliFault> {
     let mut source = Pieces::new(register, 7, Then::Ends);
     let mut text = Pieces::new(text, 7, Then::Ends);
     let mut target = MemoryTarget::new(alloc, true);
@@ -70,6 +81,7 @@ fn entered(
         &mut source,
         replica,
         &mut text,
+        note,
         &mut target,
         &mut sink,
     );
@@ -83,11 +95,30 @@ fn retired(
     replica: u128,
     entries: &[OpId],
 ) -> Result<Done, CliFault> {
+    retired_with(rt, alloc, register, replica, entries, "")
+}
+
+pub fn retired_with(
+    rt: &impl Abort,
+    alloc: Global,
+    register: &[u8],
+    replica: u128,
+    entries: &[OpId],
+    note: &str,
+) -> Result<Done, CliFault> {
     let mut source = Pieces::new(register, 7, Then::Ends);
     let mut target = MemoryTarget::new(alloc, true);
     let mut sink = Writing::new(Vec::new(alloc));
     let replica = Uuid::from_u128(replica);
-    let done = run_retire(alloc, &mut source, replica, entries, &mut target, &mut sink);
+    let done = run_retire(
+        alloc,
+        &mut source,
+        replica,
+        entries,
+        note,
+        &mut target,
+        &mut sink,
+    );
     outcome(rt, alloc, done, &target, sink)
 }
 
@@ -99,6 +130,18 @@ fn superseded(
     old: OpId,
     newer: &[OpId],
 ) -> Result<Done, CliFault> {
+    superseded_with(rt, alloc, register, replica, old, newer, "")
+}
+
+pub fn superseded_with(
+    rt: &impl Abort,
+    alloc: Global,
+    register: &[u8],
+    replica: u128,
+    old: OpId,
+    newer: &[OpId],
+    note: &str,
+) -> Result<Done, CliFault> {
     let mut source = Pieces::new(register, 7, Then::Ends);
     let mut target = MemoryTarget::new(alloc, true);
     let mut sink = Writing::new(Vec::new(alloc));
@@ -109,18 +152,19 @@ fn superseded(
         replica,
         old,
         newer,
+        note,
         &mut target,
         &mut sink,
     );
     outcome(rt, alloc, done, &target, sink)
 }
 
-fn refused(refusal: Refusal) -> Option<CliFault> {
+pub fn refused(refusal: Refusal) -> Option<CliFault> {
     Some(CliFault::Refused(refusal))
 }
 
 // An entry of each of two replicas.
-fn one_each(alloc: Global) -> Result<Vec<u8>, AllocError> {
+pub fn one_each(alloc: Global) -> Result<Vec<u8>, AllocError> {
     let one = enter(alloc, A, 1, HEIGHT)?;
     let two = enter(alloc, B, 1, OTHER_HEIGHT)?;
     let replicas = [Replica { uuid: A, last: 1 }, Replica { uuid: B, last: 1 }];
@@ -128,7 +172,7 @@ fn one_each(alloc: Global) -> Result<Vec<u8>, AllocError> {
 }
 
 #[test]
-fn the_first_entry_has_160_bytes(rt: HostRuntime) {
+fn the_first_entry_has_161_bytes(rt: HostRuntime) {
     let alloc = rt.alloc();
     let want = entry_file(alloc, HEIGHT).expect(&rt, "a file");
     for text in [HEIGHT, HEIGHT_AS_ENTERED] {
@@ -236,6 +280,7 @@ fn the_output_stands_where_the_ids_cannot_be_printed(rt: HostRuntime) {
                 &mut source,
                 replica,
                 &mut text,
+                "",
                 &mut target,
                 &mut sink,
             )
@@ -261,6 +306,7 @@ fn an_output_that_does_not_open_prints_no_id(rt: HostRuntime) {
         &mut source,
         replica,
         &entries,
+        "",
         &mut target,
         &mut sink,
     )
@@ -295,7 +341,7 @@ fn second_file(rt: &impl Abort, alloc: Global, first: &[u8]) -> Vec<u8> {
 // An entry of each of two replicas, of which the first is retired. A supersession of it was seen.
 fn last_file(alloc: Global) -> Result<Vec<u8>, AllocError> {
     let one = enter(alloc, A, 1, HEIGHT)?;
-    let retire = joined(alloc, &[A, &[0, 0, 0, 2, 3], A, &[0, 0, 0, 1]])?;
+    let retire = joined(alloc, &[A, &[0, 0, 0, 2, 3, 0], A, &[0, 0, 0, 1]])?;
     let two = enter(alloc, B, 1, OTHER_HEIGHT)?;
     let replicas = [Replica { uuid: A, last: 2 }, Replica { uuid: B, last: 2 }];
     file_of(alloc, &replicas, 3, &[&one, &retire, &two])
@@ -309,7 +355,7 @@ fn three_offices_end_with_equal_files(rt: HostRuntime) {
     let entries = [id(&rt, OFFICE_A, 1)];
     let first = retired(&rt, alloc, &sent.file, OFFICE_A, &entries).expect(&rt, "a retirement");
     let want = last_file(alloc).expect(&rt, "a file");
-    assert_eq!(rt; want.len(), 347);
+    assert_eq!(rt; want.len(), 350);
     let others = [first.file.as_slice(), &second, &sent.file, &second];
     let c = merged_in_turn(&rt, alloc, EMPTY, &others);
     assert!(rt; c.as_slice() == want.as_slice());

@@ -21,11 +21,11 @@ fn superseded(alloc: Global) -> Result<Vec<u8>, AllocError> {
     let two = enter(alloc, A, 2, OTHER_HEIGHT)?;
     let by_two = joined(
         alloc,
-        &[A, &[0, 0, 0, 3, 2], A, &[0, 0, 0, 1], A, &[0, 0, 0, 2]],
+        &[A, &[0, 0, 0, 3, 2, 0], A, &[0, 0, 0, 1], A, &[0, 0, 0, 2]],
     )?;
     let by_one = joined(
         alloc,
-        &[B, &[0, 0, 0, 1, 2], A, &[0, 0, 0, 2], A, &[0, 0, 0, 1]],
+        &[B, &[0, 0, 0, 1, 2, 0], A, &[0, 0, 0, 2], A, &[0, 0, 0, 1]],
     )?;
     let replicas = [Replica { uuid: A, last: 3 }, Replica { uuid: B, last: 1 }];
     file_of(alloc, &replicas, 4, &[&one, &two, &by_two, &by_one])
@@ -35,7 +35,7 @@ fn superseded(alloc: Global) -> Result<Vec<u8>, AllocError> {
 fn retired(alloc: Global) -> Result<Vec<u8>, AllocError> {
     let one = enter(alloc, A, 1, HEIGHT)?;
     let two = enter(alloc, A, 2, OTHER_HEIGHT)?;
-    let retire = joined(alloc, &[A, &[0, 0, 0, 3, 3], A, &[0, 0, 0, 1]])?;
+    let retire = joined(alloc, &[A, &[0, 0, 0, 3, 3, 0], A, &[0, 0, 0, 1]])?;
     file_of(
         alloc,
         &[Replica { uuid: A, last: 3 }],
@@ -81,7 +81,7 @@ fn tells_how_much_of_an_export_went_out(rt: HostRuntime) {
         }
     }
     let mut sink = Room::new(alloc, 4096, 1000, Full::Fails);
-    let mut source = Pieces::new(b"CRSR\x02", 4096, Then::Ends);
+    let mut source = Pieces::new(b"CRSR\x03", 4096, Then::Ends);
     let fault = run_export(alloc, &mut source, &mut sink).err();
     let version = CliFault::File {
         number: 1,

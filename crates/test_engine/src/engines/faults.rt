@@ -3,7 +3,7 @@
 use reg_engine::{CliFault, InputFault, OutFault, Refusal};
 use reg_file::FileFault;
 use reg_op::OpId;
-use wkt_crs::{Condition, DefinitionFault, ReadFault, SlotFault, SlotName, TextFault};
+use wkt_crs::{Condition, DefinitionFault, SlotFault, SlotName, TextFault, Unspelled};
 
 #[test]
 fn names_each_fault_and_its_status(rt: HostRuntime) {
@@ -85,6 +85,10 @@ fn names_the_ids_of_refusals(rt: HostRuntime) {
             b"refused: Basis 936da01f-9abd-4d9d-80c7-02af85c822a8:4294967295",
         ),
         (
+            Refusal::HasNote(id),
+            b"refused: HasNote 936da01f-9abd-4d9d-80c7-02af85c822a8:4294967295",
+        ),
+        (
             Refusal::UnknownEntry(id),
             b"refused: UnknownEntry 936da01f-9abd-4d9d-80c7-02af85c822a8:4294967295",
         ),
@@ -96,6 +100,7 @@ fn names_the_ids_of_refusals(rt: HostRuntime) {
             Refusal::AlreadySuperseded(id),
             b"refused: AlreadySuperseded 936da01f-9abd-4d9d-80c7-02af85c822a8:4294967295",
         ),
+        (Refusal::NoteTooLong, b"refused: NoteTooLong"),
         (Refusal::SameEntry, b"refused: SameEntry"),
         (Refusal::CountSpent, b"refused: CountSpent"),
         (Refusal::NoIdentifier, b"refused: NoIdentifier"),
@@ -115,9 +120,9 @@ fn names_the_ids_of_refusals(rt: HostRuntime) {
 
 #[test]
 fn names_each_fault_of_a_file(rt: HostRuntime) {
-    let text = |fault| FileFault::Definition(DefinitionFault::Read(ReadFault::Text(fault)));
-    let slot = |fault| FileFault::Definition(DefinitionFault::Read(ReadFault::Slot(fault)));
-    let broken = FileFault::Definition(DefinitionFault::Read(ReadFault::Broken {
+    let text = |fault| FileFault::Definition(DefinitionFault::Read(Unspelled::Text(fault)));
+    let slot = |fault| FileFault::Definition(DefinitionFault::Read(Unspelled::Slot(fault)));
+    let broken = FileFault::Definition(DefinitionFault::Read(Unspelled::Broken {
         condition: Condition::C3,
         place: 0,
     }));
@@ -132,6 +137,8 @@ fn names_each_fault_of_a_file(rt: HostRuntime) {
         (FileFault::OpIdBad, 42, b"file 2: OpIdBad at 42"),
         (FileFault::OpKind, 62, b"file 2: OpKind at 62"),
         (FileFault::NotSeen, 42, b"file 2: NotSeen at 42"),
+        (FileFault::NoteTooLong, 63, b"file 2: NoteTooLong at 63"),
+        (FileFault::NoteNotUtf8, 63, b"file 2: NoteNotUtf8 at 63"),
         (FileFault::SameEntry, 181, b"file 2: SameEntry at 181"),
         (FileFault::NotCanonical, 63, b"file 2: NotCanonical at 63"),
         (FileFault::NotKept, 201, b"file 2: NotKept at 201"),

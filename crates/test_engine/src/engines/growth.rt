@@ -11,7 +11,7 @@ fn a_refused_growth_in_a_merge_opens_nothing(rt: HostRuntime) {
     let Ok(file) = one_retired(alloc) else {
         return;
     };
-    assert_eq!(rt; file.len(), 347);
+    assert_eq!(rt; file.len(), 350);
     let Ok(mut sources) = sources(alloc, &[&file, &file], 4096) else {
         return;
     };

@@ -42,7 +42,7 @@ fn refuses(rt: &impl Abort, alloc: Global, files: &[&[u8]], fault: &CliFault) ->
 // The file of an entry of the first replica and its retirement by the second.
 fn retired_file(alloc: Global) -> Result<Vec<u8>, AllocError> {
     let enter = enter(alloc, A, 1, HEIGHT)?;
-    let retire = joined(alloc, &[B, &[0, 0, 0, 1, 3], A, &[0, 0, 0, 1]])?;
+    let retire = joined(alloc, &[B, &[0, 0, 0, 1, 3, 0], A, &[0, 0, 0, 1]])?;
     let replicas = [Replica { uuid: A, last: 1 }, Replica { uuid: B, last: 1 }];
     file_of(alloc, &replicas, 2, &[&enter, &retire])
 }
@@ -60,13 +60,13 @@ fn a_new_register_has_14_bytes(rt: HostRuntime) {
 }
 
 #[test]
-fn an_entry_and_its_retirement_in_any_order_have_229_bytes(rt: HostRuntime) {
+fn an_entry_and_its_retirement_in_any_order_have_231_bytes(rt: HostRuntime) {
     let alloc = rt.alloc();
     let entry = entry_file(alloc, HEIGHT).expect(&rt, "a file");
     let retired = retirement_file(alloc).expect(&rt, "a file");
-    assert_eq!(rt; (entry.len(), retired.len()), (160, 83));
+    assert_eq!(rt; (entry.len(), retired.len()), (161, 84));
     let want = retired_file(alloc).expect(&rt, "a file");
-    assert_eq!(rt; want.len(), 229);
+    assert_eq!(rt; want.len(), 231);
     let lists = [
         [entry.as_slice(), retired.as_slice(), EMPTY],
         [&retired, EMPTY, &entry],
@@ -91,14 +91,14 @@ fn file_with(alloc: Global, replicas: &[Replica], more: &[&[u8]]) -> Result<Vec<
 #[test]
 fn a_retirement_drops_the_supersession_that_another_file_has(rt: HostRuntime) {
     let alloc = rt.alloc();
-    let retire: &[&[u8]] = &[A, &[0, 0, 0, 3, 3], A, &[0, 0, 0, 1]];
-    let supersede: &[&[u8]] = &[B, &[0, 0, 0, 1, 2], A, &[0, 0, 0, 1], A, &[0, 0, 0, 2]];
+    let retire: &[&[u8]] = &[A, &[0, 0, 0, 3, 3, 0], A, &[0, 0, 0, 1]];
+    let supersede: &[&[u8]] = &[B, &[0, 0, 0, 1, 2, 0], A, &[0, 0, 0, 1], A, &[0, 0, 0, 2]];
     let first = file_with(alloc, &[Replica { uuid: A, last: 3 }], retire).expect(&rt, "a file");
     let seen = [Replica { uuid: A, last: 2 }, Replica { uuid: B, last: 1 }];
     let second = file_with(alloc, &seen, supersede).expect(&rt, "a file");
     let all = [Replica { uuid: A, last: 3 }, Replica { uuid: B, last: 1 }];
     let want = file_with(alloc, &all, retire).expect(&rt, "a file");
-    assert_eq!(rt; want.len(), 347);
+    assert_eq!(rt; want.len(), 350);
     for list in [[first.as_slice(), second.as_slice()], [&second, &first]] {
         assert!(rt; merges_to(&rt, alloc, &list, &want));
     }
@@ -131,7 +131,7 @@ fn two_operations_of_one_id_clash(rt: HostRuntime) {
 fn tells_which_file_failed_and_where(rt: HostRuntime) {
     let alloc = rt.alloc();
     let entry = entry_file(alloc, HEIGHT).expect(&rt, "a file");
-    for n in [0, 1, 7, 159, 160] {
+    for n in [0, 1, 7, 160, 161] {
         assert!(rt; n <= entry.len());
         let mut sources = sources(alloc, &[EMPTY, &entry], 4096).expect(&rt, "sources");
         let cut = Pieces::new(&entry[..n], 3, Then::Fails);

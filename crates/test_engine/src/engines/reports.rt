@@ -17,7 +17,10 @@ const HEIGHT_OF_TEXT: &[u8] =
 // Two entries of one key whose texts differ.
 fn in_conflict(alloc: Global) -> Result<Vec<u8>, AllocError> {
     let one = enter(alloc, A, 1, HEIGHT)?;
-    let two = joined(alloc, &[B, &[0, 0, 0, 1, 1, 0, 0, 0, 95], HEIGHT_OF_TEXT])?;
+    let two = joined(
+        alloc,
+        &[B, &[0, 0, 0, 1, 1, 0, 0, 0, 0, 95], HEIGHT_OF_TEXT],
+    )?;
     let replicas = [Replica { uuid: A, last: 1 }, Replica { uuid: B, last: 1 }];
     file_of(alloc, &replicas, 2, &[&one, &two])
 }
@@ -41,7 +44,7 @@ const AWAITED: &[u8] = b"entry
 ";
 
 const LAST_OPERATION: &[u8] =
-    b"00000000-0000-4000-8000-00000000000a:3,retire,00000000-0000-4000-8000-00000000000a:1,,
+    b"00000000-0000-4000-8000-00000000000a:3,retire,00000000-0000-4000-8000-00000000000a:1,,,
 ";
 
 #[test]
@@ -81,7 +84,7 @@ fn operations_are_told_by_id(rt: HostRuntime) {
     let mut sink = Room::new(alloc, 4096, 4096, Full::Fails);
     let done = run_ops(alloc, &mut source, &mut sink).is_ok();
     assert!(rt; done);
-    let header = b"operation,effect,entry,replaced_by,definition\n".as_slice();
+    let header = b"operation,effect,entry,replaced_by,definition,note\n".as_slice();
     assert!(rt; sink.taken().starts_with(header));
     assert!(rt; sink.taken().ends_with(LAST_OPERATION));
 }
@@ -118,7 +121,7 @@ fn a_report_tells_how_much_of_it_went_out(rt: HostRuntime) {
         let fault = run_ops(alloc, &mut source, &mut sink).err();
         assert_eq!(rt; fault, Some(CliFault::Out(OutFault::WriteFailed(n))));
     }
-    let mut source = Pieces::new(b"CRSR\x01\x01\x00", 4096, Then::Ends);
+    let mut source = Pieces::new(b"CRSR\x02\x01\x00", 4096, Then::Ends);
     let mut sink = Room::new(alloc, 4096, 1000, Full::Fails);
     let fault = run_report(alloc, &mut source, ReportKind::Gaps, &mut sink).err();
     let truncated = InputFault::BadFile {

@@ -1,6 +1,6 @@
 //! Sources and sinks that fail, cut what goes by, or never end.
 
-use super::{OTHER_HEIGHT, enter_bytes, entry_file, file_of, is_written, one_entry};
+use super::{FIRST, OTHER_HEIGHT, SECOND, enter_bytes, entry_file, file_of, is_written, one_entry};
 use byte_io::{Full, Pieces, Reading, Room, Then};
 use reg_file::{
     ReadFileFault, WriteFileFault, read_register, read_register_beside, write_register,
@@ -17,11 +17,13 @@ fn is_refused(outcome: Result<Register, ReadFileFault>, fault: ReadFileFault) ->
 #[test]
 fn a_source_that_fails_is_told_with_its_bytes(rt: HostRuntime) {
     let alloc = rt.alloc();
-    let file = entry_file(alloc).expect(&rt, "a file");
-    for n in 0..=file.len() {
-        let mut source = Pieces::new(&file[..n], 3, Then::Fails);
-        let outcome = read_register(alloc, &mut source);
-        assert!(rt; is_refused(outcome, ReadFileFault::ReadFailed(n)), "{n}");
+    for version in [FIRST, SECOND] {
+        let file = entry_file(alloc, version).expect(&rt, "a file");
+        for n in 0..=file.len() {
+            let mut source = Pieces::new(&file[..n], 3, Then::Fails);
+            let outcome = read_register(alloc, &mut source);
+            assert!(rt; is_refused(outcome, ReadFileFault::ReadFailed(n)), "{n}");
+        }
     }
 }
 
@@ -35,11 +37,13 @@ fn operations_of(alloc: Global, file: &[u8], piece: usize) -> Option<usize> {
 #[test]
 fn pieces_change_no_answer(rt: HostRuntime) {
     let alloc = rt.alloc();
-    let file = entry_file(alloc).expect(&rt, "a file");
-    for piece in [1, 2, 3, 7, 4096] {
-        assert_eq!(rt; operations_of(alloc, &file, piece), Some(1));
-        let cut = &file[..file.len().min(100)];
-        assert_eq!(rt; operations_of(alloc, cut, piece), None);
+    for version in [FIRST, SECOND] {
+        let file = entry_file(alloc, version).expect(&rt, "a file");
+        for piece in [1, 2, 3, 7, 4096] {
+            assert_eq!(rt; operations_of(alloc, &file, piece), Some(1));
+            let cut = &file[..file.len().min(100)];
+            assert_eq!(rt; operations_of(alloc, cut, piece), None);
+        }
     }
 }
 
@@ -54,9 +58,9 @@ fn read_beside(rt: &impl Abort, alloc: Global, known: &mut Vec<Register>, file: 
 #[test]
 fn what_is_known_changes_no_answer(rt: HostRuntime) {
     let alloc = rt.alloc();
-    let file = entry_file(alloc).expect(&rt, "a file");
-    let enter = enter_bytes(alloc, 1, OTHER_HEIGHT).expect(&rt, "an operation");
-    let other = file_of(alloc, &[(1, 1)], 1, &enter).expect(&rt, "a file");
+    let file = entry_file(alloc, SECOND).expect(&rt, "a file");
+    let enter = enter_bytes(alloc, SECOND, 1, OTHER_HEIGHT).expect(&rt, "an operation");
+    let other = file_of(alloc, SECOND, &[(1, 1)], 1, &enter).expect(&rt, "a file");
     let mut known = Vec::new(alloc);
     // The second has the first one's id with another text, and the third the second one's text.
     for bytes in [&other, &file, &file] {
@@ -74,7 +78,7 @@ fn is_cut(alloc: Global, register: &Register, front: &[u8], full: Full) -> bool 
 #[test]
 fn a_sink_that_fails_is_told_with_its_bytes(rt: HostRuntime) {
     let alloc = rt.alloc();
-    let file = entry_file(alloc).expect(&rt, "a file");
+    let file = entry_file(alloc, SECOND).expect(&rt, "a file");
     let register = one_entry(&rt, alloc);
     for n in 0..file.len() {
         for full in [Full::Fails, Full::TakesNone] {

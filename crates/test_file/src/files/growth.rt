@@ -1,13 +1,13 @@
 //! What a failed allocation gives. The allocations fail one by one under `rt try --test --fail-alloc N`; where none is,
 //! these tests see that each call succeeds.
 
-use super::{HEAD, UUID_A, entry_file, four, joined};
+use super::{REGISTER, SECOND, UUID_A, entry_file, four, head, joined};
 use reg_file::{FileFault, ReadFileFault, WriteFileFault, read_bytes, write_bytes};
 
 #[test]
 fn a_refused_growth_is_want_of_memory(rt: HostRuntime) {
     let alloc = rt.alloc();
-    let Ok(file) = entry_file(alloc) else {
+    let Ok(file) = entry_file(alloc, SECOND) else {
         return;
     };
     match read_bytes(alloc, &file) {
@@ -25,7 +25,7 @@ fn a_count_asks_for_no_memory(rt: HostRuntime) {
     let Ok(file) = joined(
         alloc,
         &[
-            HEAD,
+            &head(SECOND, REGISTER),
             &four(1),
             UUID_A,
             &four(1),

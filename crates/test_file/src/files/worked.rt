@@ -1,8 +1,8 @@
 //! Worked files, byte for byte.
 
 use super::{
-    A, B, HEAD, HEIGHT, OTHER_HEIGHT, UUID_A, UUID_B, enter, entry_file, four, goes_round, id_of,
-    is_written, joined, one_entry, take,
+    A, B, HEIGHT, OTHER_HEIGHT, REGISTER, SECOND, UUID_A, UUID_B, enter, entry_file, four,
+    goes_round, head, id_of, is_written, joined, one_entry, take,
 };
 use reg_file::write_bytes;
 use reg_op::{OpBody, OpId};
@@ -13,30 +13,30 @@ use std::process::Abort;
 #[test]
 fn the_empty_register_has_14_bytes(rt: HostRuntime) {
     let alloc = rt.alloc();
-    let bytes = [0x43, 0x52, 0x53, 0x52, 1, 1, 0, 0, 0, 0, 0, 0, 0, 0];
+    let bytes = [0x43, 0x52, 0x53, 0x52, 2, 1, 0, 0, 0, 0, 0, 0, 0, 0];
     assert!(rt; is_written(alloc, &Register::new(alloc), &bytes));
     assert!(rt; goes_round(alloc, &bytes));
 }
 
 #[test]
-fn one_entry_has_160_bytes(rt: HostRuntime) {
+fn one_entry_has_161_bytes(rt: HostRuntime) {
     let alloc = rt.alloc();
     let bytes = joined(
         alloc,
         &[
-            HEAD,
+            &head(SECOND, REGISTER),
             &[0, 0, 0, 1],
             UUID_A,
             &[0, 0, 0, 1, 0, 0, 0, 1, 0, 0, 0, 1],
             &[0, 0, 0, 1],
             UUID_A,
-            &[0, 0, 0, 1, 1, 0, 0, 0, 0x5d],
+            &[0, 0, 0, 1, 1, 0, 0, 0, 0, 0x5d],
             HEIGHT,
         ],
     )
     .expect(&rt, "a file");
-    assert_eq!(rt; bytes.len(), 160);
-    assert!(rt; entry_file(alloc).expect(&rt, "a file").as_slice() == bytes.as_slice());
+    assert_eq!(rt; bytes.len(), 161);
+    assert!(rt; entry_file(alloc, SECOND).expect(&rt, "a file").as_slice() == bytes.as_slice());
     assert!(rt; is_written(alloc, &one_entry(&rt, alloc), &bytes));
     assert!(rt; goes_round(alloc, &bytes));
 }
@@ -46,7 +46,7 @@ fn worked_file(alloc: Global) -> Result<Vec<u8>, AllocError> {
     joined(
         alloc,
         &[
-            HEAD,
+            &head(SECOND, REGISTER),
             &four(2),
             UUID_A,
             &four(1),
@@ -59,17 +59,17 @@ fn worked_file(alloc: Global) -> Result<Vec<u8>, AllocError> {
             &four(3),
             UUID_A,
             &four(1),
-            &[1],
+            &[1, 0],
             &four(93),
             HEIGHT,
             UUID_A,
             &four(2),
-            &[1],
+            &[1, 0],
             &four(93),
             OTHER_HEIGHT,
             UUID_A,
             &four(3),
-            &[3],
+            &[3, 0],
             UUID_A,
             &four(1),
         ],
@@ -85,10 +85,10 @@ fn two_entries(rt: &impl Abort, alloc: Global, one: OpId, two: OpId) -> Register
 }
 
 #[test]
-fn two_replicas_have_347_bytes(rt: HostRuntime) {
+fn two_replicas_have_350_bytes(rt: HostRuntime) {
     let alloc = rt.alloc();
     let bytes = worked_file(alloc).expect(&rt, "a file");
-    assert_eq!(rt; bytes.len(), 347);
+    assert_eq!(rt; bytes.len(), 350);
     let (one, two) = (id_of(&rt, A, 1), id_of(&rt, A, 2));
     let mut register = two_entries(&rt, alloc, one, two);
     let other = OpBody::Supersede {
@@ -121,6 +121,7 @@ fn each_kind_of_operation_goes_round(rt: HostRuntime) {
 #[test]
 fn laws_can_be_called() {
     reg_file::laws::one_content();
+    reg_file::laws::one_version();
     reg_file::laws::one_file();
     reg_file::laws::each_has_a_file();
     reg_file::laws::held_or_fault();

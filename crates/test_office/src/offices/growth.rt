@@ -32,7 +32,7 @@ fn a_refused_command_leaves_the_office(rt: HostRuntime) {
     let Some((mut office, before)) = office_and_copy(&rt, alloc) else {
         return;
     };
-    let outcome = office.retire(alloc, &[one, other]);
+    let outcome = office.retire(alloc, &[one, other], "both");
     assert!(rt; are_retired_or_left(outcome, is_unchanged(office, before)));
 }
 
@@ -43,7 +43,7 @@ fn a_repeat_is_told_whatever_memory_there_is(rt: HostRuntime) {
     let Some((mut office, before)) = office_and_copy(&rt, alloc) else {
         return;
     };
-    let outcome = office.retire(alloc, &[one, other, one, other]);
+    let outcome = office.retire(alloc, &[one, other, one, other], "both");
     assert!(rt; is_refused(outcome, OfficeFault::AlreadyRetired(one)));
     assert!(rt; is_unchanged(office, before));
 }
@@ -65,7 +65,7 @@ fn a_refused_entry_leaves_the_office(rt: HostRuntime) {
     let Some((mut office, before)) = office_and_copy(&rt, alloc) else {
         return;
     };
-    let outcome = office.enter(text);
+    let outcome = office.enter(text, "checked");
     assert!(rt; is_entered_or_left(outcome, is_unchanged(office, before)));
 }
 

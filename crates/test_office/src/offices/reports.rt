@@ -1,8 +1,8 @@
 //! Reports of the worked examples.
 
 use super::{
-    A, B, Sample, Step, contested, enter, having_seen, id_of, joined, register_of, retire,
-    supersede, worked,
+    A, B, HEIGHT, Sample, Step, contested, definition, enter, having_seen, id_of, joined, office,
+    register_of, retire, supersede, worked,
 };
 use byte_io::{Full, Room, Writing};
 use reg_office::{
@@ -46,11 +46,29 @@ fn operations_of_the_worked_example(rt: HostRuntime) {
     let mut sink = Writing::new(Vec::new(alloc));
     assert!(rt; report_ops(alloc, &register, &mut sink) == Ok(()));
     let text = sink.into_inner();
-    assert!(rt; text.starts_with(b"operation,effect,entry,replaced_by,definition\n"));
+    assert!(rt; text.starts_with(b"operation,effect,entry,replaced_by,definition,note\n"));
     assert!(rt;
         text.ends_with(
-            b"00000000-0000-4000-8000-00000000000a:3,retire,00000000-0000-4000-8000-00000000000a:1,,\n"
+            b"00000000-0000-4000-8000-00000000000a:3,retire,00000000-0000-4000-8000-00000000000a:1,,,\n"
         )
+    );
+}
+
+#[test]
+fn a_note_stands_last_in_its_line(rt: HostRuntime) {
+    let alloc = rt.alloc();
+    let mut office = office(A, Register::new(alloc));
+    let text = definition(&rt, alloc, HEIGHT);
+    assert!(rt; office.enter(text, "first").is_ok());
+    let mut sink = Writing::new(Vec::new(alloc));
+    assert!(rt; report_ops(alloc, office.register(), &mut sink) == Ok(()));
+    assert!(rt;
+        sink.into_inner().as_slice()
+            == b"operation,effect,entry,replaced_by,definition,note\n\
+              00000000-0000-4000-8000-00000000000a:1,enter,00000000-0000-4000-8000-00000000000a:1,,\
+              \"VERTCRS[\"\"H\"\",VDATUM[\"\"D\"\"],CS[vertical,1],AXIS[\"\"height (H)\"\",up],\
+              LENGTHUNIT[\"\"metre\"\",1],ID[\"\"X\"\",7]]\",first\n"
+                .as_slice()
     );
 }
 

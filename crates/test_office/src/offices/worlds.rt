@@ -57,13 +57,13 @@ fn having_taken(
 // The id of the text when the office has entered it.
 fn entered(rt: &impl Abort, alloc: Global, office: &mut Office, text: &[u8]) -> OpId {
     let text = definition(rt, alloc, text);
-    office.enter(text).expect(rt, "an entry")
+    office.enter(text, "").expect(rt, "an entry")
 }
 
 // Two entries of two replicas, of which the first is retired. A supersession of it was seen.
 fn whole_file(rt: &impl Abort, alloc: Global) -> Vec<u8> {
     let parts: &[&[u8]] = &[
-        b"CRSR\x01\x01",
+        b"CRSR\x02\x01",
         &[0, 0, 0, 2],
         UUID_A,
         &[0, 0, 0, 1, 0, 0, 0, 1, 0, 0, 0, 2],
@@ -71,14 +71,14 @@ fn whole_file(rt: &impl Abort, alloc: Global) -> Vec<u8> {
         &[0, 0, 0, 1, 0, 0, 0, 1, 0, 0, 0, 2],
         &[0, 0, 0, 3],
         UUID_A,
-        &[0, 0, 0, 1, 1, 0, 0, 0, 93],
+        &[0, 0, 0, 1, 1, 0, 0, 0, 0, 93],
         HEIGHT,
         UUID_A,
-        &[0, 0, 0, 2, 3],
+        &[0, 0, 0, 2, 3, 0],
         UUID_A,
         &[0, 0, 0, 1],
         UUID_B,
-        &[0, 0, 0, 1, 1, 0, 0, 0, 93],
+        &[0, 0, 0, 1, 1, 0, 0, 0, 0, 93],
         OTHER_HEIGHT,
     ];
     let mut bytes = Vec::new(alloc);
@@ -100,7 +100,7 @@ fn second_office(rt: &impl Abort, alloc: Global, file: &[u8]) -> Office {
     let mut b = having_taken(rt, alloc, B, office(B, Register::new(alloc)), &[file]);
     let other = entered(rt, alloc, &mut b, OTHER_HEIGHT);
     let _ids = b
-        .supersede(alloc, id_of(rt, A, 1), &[other])
+        .supersede(alloc, id_of(rt, A, 1), &[other], "")
         .expect(rt, "a supersession");
     b
 }
@@ -109,7 +109,7 @@ fn second_office(rt: &impl Abort, alloc: Global, file: &[u8]) -> Office {
 fn having_retired(rt: &impl Abort, alloc: Global, before: Office) -> Office {
     let mut a = before;
     let _ids = a
-        .retire(alloc, &[id_of(rt, A, 1)])
+        .retire(alloc, &[id_of(rt, A, 1)], "")
         .expect(rt, "a retirement");
     a
 }
@@ -128,7 +128,7 @@ fn three_offices_come_to_one_file(rt: HostRuntime) {
     let a = having_taken(&rt, alloc, A, a, &[&second]);
     let b = having_taken(&rt, alloc, B, b, &[&third, &third]);
     let want = whole_file(&rt, alloc);
-    assert_eq!(rt; want.len(), 347);
+    assert_eq!(rt; want.len(), 350);
     assert!(rt; ends_with(&rt, alloc, a, &want));
     assert!(rt; ends_with(&rt, alloc, b, &want));
     assert!(rt; ends_with(&rt, alloc, c, &want));
@@ -156,7 +156,7 @@ fn two_orders_make_one_file(rt: HostRuntime) {
         enter(one, Sample::Height),
     ];
     let file = last_file(&rt, alloc, office(B, worked(&rt, alloc)));
-    assert_eq!(rt; file.len(), 347);
+    assert_eq!(rt; file.len(), 350);
     let other = office(C, register_of(&rt, alloc, &steps));
     assert!(rt; ends_with(&rt, alloc, other, &file));
 }

@@ -1,8 +1,8 @@
 //! The worked examples: which operations are kept, and which ids are seen.
 
 use super::{
-    A, B, C, SAME_KEY, Sample, Step, are_same, enter, has_status, id_of, joined, keeps,
-    register_of, retire, supersede, worked,
+    A, B, C, Remark, SAME_KEY, Sample, Step, are_same, enter, has_status, id_of, joined, keeps,
+    noted, register_of, retire, supersede, take, worked,
 };
 use reg_op::{OpId, Status};
 use reg_state::{BodyView, Join, JoinFault, Register, Run};
@@ -171,6 +171,50 @@ fn two_bodies_of_one_id_clash(rt: HostRuntime) {
     let left = register_of(&rt, alloc, &[enter(id, Sample::Height)]);
     let right = register_of(&rt, alloc, &[enter(id, Sample::OtherHeight)]);
     assert!(rt; clashes_at(joined(alloc, left, right), id));
+}
+
+#[test]
+fn two_notes_of_one_id_clash(rt: HostRuntime) {
+    let alloc = rt.alloc();
+    let id = id_of(&rt, A, 1);
+    let one = noted(enter(id, Sample::Height), Remark::One);
+    let left = register_of(&rt, alloc, &[one]);
+    let other = noted(enter(id, Sample::Height), Remark::Other);
+    let right = register_of(&rt, alloc, &[other]);
+    assert!(rt; clashes_at(joined(alloc, left, right), id));
+}
+
+// Whether the operation of this id is lent with this note.
+fn lends_note(register: &Register, id: OpId, note: &[u8]) -> bool {
+    for op in register.ops() {
+        if op.id == id {
+            return op.note.as_bytes() == note;
+        }
+    }
+    false
+}
+
+// An entry, and its retirement with a note.
+fn entry_and_mark(entry: OpId, mark: OpId, remark: Remark) -> [Step; 2] {
+    [
+        enter(entry, Sample::Height),
+        noted(retire(mark, entry), remark),
+    ]
+}
+
+#[test]
+fn a_kept_retirement_keeps_its_own_note(rt: HostRuntime) {
+    let alloc = rt.alloc();
+    let ids = [id_of(&rt, A, 1), id_of(&rt, B, 1), id_of(&rt, C, 1)];
+    let late = entry_and_mark(ids[0], ids[2], Remark::Other);
+    let mut register = register_of(&rt, alloc, &late);
+    let early = entry_and_mark(ids[0], ids[1], Remark::One);
+    let other = register_of(&rt, alloc, &early);
+    let both = register.join(alloc, &other).expect(&rt, "a register");
+    assert!(rt; keeps(&both, &ids[..2]) && lends_note(&both, ids[1], b"b"));
+    take(alloc, &mut register, early[1]).expect(&rt, "an operation");
+    assert!(rt; lends_note(&register, ids[1], b"b") && lends_note(&register, ids[0], b""));
+    assert!(rt; are_same(both, register));
 }
 
 #[test]

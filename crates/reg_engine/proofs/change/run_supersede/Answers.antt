@@ -9,9 +9,9 @@ pub returns-in-Err-supersede-clause-fault : goal.returns-in-Err-supersede-clause
 returns-in-Err-supersede-clause-fault g c =
     let old = desk (g.S.Source.state c.args.source.now) (outputs (g.T.Sink.state c.args.target.now) (g.K.Sink.state c.args.sink.now)) in
     let new = desk (g.S.Source.state c.read_file.new.source) (outputs (g.T.Sink.state c.args.target.now) (g.K.Sink.state c.args.sink.now)) in
-    subst (IsChangeFault c.args.replica (supersessions c.args.old c.args.newer.now) old new) (sym c.of_office.ensures)
-    (change_refused c.args.replica (supersessions c.args.old c.args.newer.now) old new c.in-Ok.register c.in-Err-supersede.fault c.in-Ok.ensures.found refl
-    (made_of c.new-office.result.register c.in-Ok.register c.new-office.result.replica c.args.replica (supersessions c.args.old c.args.newer.now) c.in-Err-supersede.fault c.new-office.ensures.register c.new-office.ensures.replica c.in-Err-supersede.ensures.fault))
+    subst (IsChangeFault c.args.replica c.args.note.now (supersessions c.args.old c.args.newer.now) old new) (sym c.of_office.ensures)
+    (change_refused c.args.replica c.args.note.now (supersessions c.args.old c.args.newer.now) old new c.in-Ok.register c.in-Err-supersede.fault c.in-Ok.ensures.found refl
+    (made_of c.new-office.result.register c.in-Ok.register c.new-office.result.replica c.args.replica c.args.note.now (supersessions c.args.old c.args.newer.now) c.in-Err-supersede.fault c.new-office.ensures.register c.new-office.ensures.replica c.in-Err-supersede.ensures.fault))
 
 pub returns-in-Ok-give_out-clause-changed : goal.returns-in-Ok-give_out-clause-changed
 returns-in-Ok-give_out-clause-changed g c = (
@@ -20,13 +20,13 @@ returns-in-Ok-give_out-clause-changed g c = (
   (
     c.supersede.new.self.register,
     c.in-Ok-supersede.ids.items,
-    does_of _ _ _ _ _ _ _ c.new-office.ensures.register c.new-office.ensures.replica c.in-Ok-supersede.ensures.ok,
+    does_of _ _ _ _ _ _ _ _ c.new-office.ensures.register c.new-office.ensures.replica c.in-Ok-supersede.ensures.ok,
     gives_of _ _ _ _ _ _ c.register.ensures c.deref.ensures.value c.in-Ok-give_out.ensures.given,
   ),
 )
 
 pub returns-clause-fault : goal.returns-clause-fault
 returns-clause-fault g c =
-    change_ungiven c.args.replica (supersessions c.args.old c.args.newer.now) _ _ c.in-Ok.register c.supersede.new.self.register c.in-Ok-supersede.ids.items c.in-Ok.ensures.found
-    (does_of _ _ _ _ _ _ _ c.new-office.ensures.register c.new-office.ensures.replica c.in-Ok-supersede.ensures.ok)
+    change_ungiven c.args.replica c.args.note.now (supersessions c.args.old c.args.newer.now) _ _ c.in-Ok.register c.supersede.new.self.register c.in-Ok-supersede.ids.items c.in-Ok.ensures.found
+    (does_of _ _ _ _ _ _ _ _ c.new-office.ensures.register c.new-office.ensures.replica c.in-Ok-supersede.ensures.ok)
     c.in-Err-give_out.fault (ungiven_of _ _ _ _ _ _ _ c.register.ensures c.deref.ensures.value c.in-Err-give_out.ensures.fault)

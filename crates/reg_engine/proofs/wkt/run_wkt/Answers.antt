@@ -10,7 +10,8 @@ returns-in-Ok-write_all-clause-shown g c = (
     c.in-Ok-line_in.line.items,
     record {
       definition = c.in-Some.definition.now;
-      entered = c.in-Some.ensures.found;
+      note = c.in-Some.ensures.found.0;
+      entered = c.in-Some.ensures.found.1;
       crs = c.in-Ok-line_in.ensures.0;
       spelled = c.in-Ok-line_in.ensures.1;
       is = c.in-Ok-line_in.ensures.2;
@@ -27,7 +28,8 @@ returns-clause-fault g c = (
     c.in-Ok-line_in.line.items,
     record {
       definition = c.in-Some.definition.now;
-      entered = c.in-Some.ensures.found;
+      note = c.in-Some.ensures.found.0;
+      entered = c.in-Some.ensures.found.1;
       crs = c.in-Ok-line_in.ensures.0;
       spelled = c.in-Ok-line_in.ensures.1;
       is = c.in-Ok-line_in.ensures.2;

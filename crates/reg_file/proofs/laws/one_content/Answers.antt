@@ -4,10 +4,10 @@ use Rattle.reg_file.proofs.PieceLemmas as pieces
 use Rattle.reg_file.proofs.laws.one_content.Goals as goal
 
 pub returns-clause-register : goal.returns-clause-register
-returns-clause-register c = registers.one_content
+returns-clause-register c = registers.one_reading
 
 pub returns-clause-seen : goal.returns-clause-seen
-returns-clause-seen c = summaries.one_summary
+returns-clause-seen c = summaries.one_reading
 
 pub returns-clause-piece : goal.returns-clause-piece
-returns-clause-piece c = pieces.one_piece
+returns-clause-piece c = pieces.one_reading

@@ -1,4 +1,3 @@
-use Rattle.std.proofs.Common.{arith}
 use Rattle.reg_file.proofs.SizeLemmas.{ranges_size, ranges_over, many_runs}
 use Rattle.reg_file.proofs.length.add_ranges.Goals as goal
 

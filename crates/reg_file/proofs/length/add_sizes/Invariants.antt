@@ -5,7 +5,7 @@ use Rattle.reg_file.proofs.length.add_sizes.Given as goal
 
 abbrev pub invariant-loop-op : goal.invariant-loop-op
 invariant-loop-op l = record {
-  whole : l.total + length (flat_map op_bytes l.rest) ≡ l.size + length (flat_map op_bytes l.ops);
+  whole : l.total + length (flat_map (op_bytes l.version) l.rest) ≡ l.size + length (flat_map (op_bytes l.version) l.ops);
   few : l.total ≤ 67108864;
 }
 

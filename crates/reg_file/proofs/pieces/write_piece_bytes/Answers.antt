@@ -17,28 +17,28 @@ returns-in_default-clause-large c =
     let os = c.ops-ops.result.now in
     let rs = c.runs-runs.result.now in
     let f = file_of p bs os rs c.ops-ops.ensures.items c.runs-basis.ensures.runs (c.runs-basis.ensures.all ∙ c.basis.ensures.value) c.runs-runs.ensures.runs (c.runs-runs.ensures.all ∙ c.seen.ensures.value) in
-    (λ e. (piece_file 1 bs os rs, f, c.in_default.ensures.none), λ t. refl)
+    (λ e. (piece_file 2 bs os rs, f, c.in_default.ensures.none), λ t. refl)
 
 pub spell_piece-requires-clause-basis : goal.spell_piece-requires-clause-basis
 spell_piece-requires-clause-basis c =
     let bs = c.runs-basis.result.now in
     let os = c.ops-ops.result.now in
     let rs = c.runs-runs.result.now in
-    few (length bs) (length (piece_file 1 bs os rs)) c.in-Some.size c.in-Some.ensures.some.0 c.in-Some.ensures.some.1 (file_long bs os rs).basis
+    few (length bs) (length (piece_file 2 bs os rs)) c.in-Some.size c.in-Some.ensures.some.0 c.in-Some.ensures.some.1 (file_long 2 bs os rs).basis
 
 pub spell_piece-requires-clause-ops : goal.spell_piece-requires-clause-ops
 spell_piece-requires-clause-ops c =
     let bs = c.runs-basis.result.now in
     let os = c.ops-ops.result.now in
     let rs = c.runs-runs.result.now in
-    few (length os) (length (piece_file 1 bs os rs)) c.in-Some.size c.in-Some.ensures.some.0 c.in-Some.ensures.some.1 (file_long bs os rs).ops
+    few (length os) (length (piece_file 2 bs os rs)) c.in-Some.size c.in-Some.ensures.some.0 c.in-Some.ensures.some.1 (file_long 2 bs os rs).ops
 
 pub spell_piece-requires-clause-runs : goal.spell_piece-requires-clause-runs
 spell_piece-requires-clause-runs c =
     let bs = c.runs-basis.result.now in
     let os = c.ops-ops.result.now in
     let rs = c.runs-runs.result.now in
-    few (length rs) (length (piece_file 1 bs os rs)) c.in-Some.size c.in-Some.ensures.some.0 c.in-Some.ensures.some.1 (file_long bs os rs).seen
+    few (length rs) (length (piece_file 2 bs os rs)) c.in-Some.size c.in-Some.ensures.some.0 c.in-Some.ensures.some.1 (file_long 2 bs os rs).seen
 
 pub returns-in-Ok-clause-large : goal.returns-in-Ok-clause-large
 returns-in-Ok-clause-large c =
@@ -47,7 +47,7 @@ returns-in-Ok-clause-large c =
     let os = c.ops-ops.result.now in
     let rs = c.runs-runs.result.now in
     let f = file_of p bs os rs c.ops-ops.ensures.items c.runs-basis.ensures.runs (c.runs-basis.ensures.all ∙ c.basis.ensures.value) c.runs-runs.ensures.runs (c.runs-runs.ensures.all ∙ c.seen.ensures.value) in
-    (λ e. absurd cc, λ t. absurd (not_large p (piece_file 1 bs os rs) f (fits (length (piece_file 1 bs os rs)) c.in-Some.size c.in-Some.ensures.some.0 c.in-Some.ensures.some.1) t))
+    (λ e. absurd cc, λ t. absurd (not_large p (piece_file 2 bs os rs) f (fits (length (piece_file 2 bs os rs)) c.in-Some.size c.in-Some.ensures.some.0 c.in-Some.ensures.some.1) t))
 
 pub returns-in-Err-clause-large : goal.returns-in-Err-clause-large
 returns-in-Err-clause-large c =
@@ -56,4 +56,4 @@ returns-in-Err-clause-large c =
     let os = c.ops-ops.result.now in
     let rs = c.runs-runs.result.now in
     let f = file_of p bs os rs c.ops-ops.ensures.items c.runs-basis.ensures.runs (c.runs-basis.ensures.all ∙ c.basis.ensures.value) c.runs-runs.ensures.runs (c.runs-runs.ensures.all ∙ c.seen.ensures.value) in
-    (λ e. absurd cc, λ t. absurd (not_large p (piece_file 1 bs os rs) f (fits (length (piece_file 1 bs os rs)) c.in-Some.size c.in-Some.ensures.some.0 c.in-Some.ensures.some.1) t))
+    (λ e. absurd cc, λ t. absurd (not_large p (piece_file 2 bs os rs) f (fits (length (piece_file 2 bs os rs)) c.in-Some.size c.in-Some.ensures.some.0 c.in-Some.ensures.some.1) t))

@@ -1,5 +1,4 @@
 use Rattle.std.proofs.lemmas.List.Filters.{dedup_is}
-use Rattle.reg_op.specs.Ids.{id_cmp}
 use Rattle.reg_op.proofs.OpLemmas.{id_total, id_exact}
 use Rattle.reg_office.proofs.SortLemmas.{sorted_items, ids_exact}
 use Rattle.reg_office.proofs.distinct.distinct.Goals as goal

@@ -1,4 +1,4 @@
-use Rattle.std.proofs.Common.{◌≡◌, ℕ, List, ◌++◌, map, length}
+use Rattle.std.proofs.Common.{ℕ, List, ◌++◌, map, length}
 use Rattle.reg_office.specs.Lines.{entries_header, IsEntryLine, AreLines, IsSheet, sheet_text, IsReady}
 use Rattle.reg_office.specs.Seen.{row_seen}
 use Rattle.reg_office.proofs.entry_lines.entries_text.Given as goal

@@ -3,6 +3,7 @@ use Rattle.reg_office.proofs.WorldLemmas.{reached, leads_keeps}
 use Rattle.reg_office.proofs.WorldFollows.{same_files, reads, together, are_new, never_clashes, goes_on, one_world, stays_retired, retired_in_joins}
 use Rattle.reg_office.proofs.WorldSame.{same_reports, same_ops_reports, same_exports}
 use Rattle.reg_office.proofs.WorldSteps.{made_reaches, refused_makes, sent_is_pooled, seen_is_pooled, piece_is_pooled, no_summary, taken_reaches, piece_reaches, piece_is_refused, summary_is_refused, one_reaches, one_is_missing, nothing_to_take, nothing_to_find, nothing_to_answer, restart_keeps}
+use Rattle.reg_office.proofs.WorldStops.{stop_is_all_or_nothing, stop_leaves_a_shelf, stop_leaves_the_new}
 use Rattle.reg_office.proofs.WorldMade.{pool_grows, was_made}
 use Rattle.reg_office.proofs.laws.every_world.Goals as goal
 
@@ -15,7 +16,7 @@ returns c = record {
   same_reports = λ w h. same_reports w (reached w h);
   same_ops_reports = λ w h. same_ops_reports w (reached w h);
   same_exports = λ w h. same_exports w (reached w h);
-  made_is_reached = λ w v h i effects os. made_reaches w (reached w h) i effects os v;
+  made_is_reached = λ w v h i effects note os. made_reaches w (reached w h) i effects note os v;
   refused_makes_nothing = refused_makes;
   sent_is_pooled = sent_is_pooled;
   pool_stays = λ w v later. pool_grows later w v;
@@ -32,10 +33,13 @@ returns c = record {
   nothing_to_find = nothing_to_find;
   nothing_to_answer = nothing_to_answer;
   restart_keeps = λ w v h. restart_keeps w v (reached w h);
+  stop_is_all_or_nothing = λ w v h. stop_is_all_or_nothing w v (reached w h);
+  stop_leaves_a_shelf = λ w v h. stop_leaves_a_shelf w v (reached w h);
+  stop_leaves_the_new = λ w u v h e left happens. stop_leaves_the_new w v (reached w h) e left happens u;
   was_made = was_made;
   one_body = λ w h. together w (reached w h);
   new_ids = λ w h. are_new w (reached w h);
-  own_ids = λ w h i effects os k. made_by_id (w.offices i).content i effects os k;
+  own_ids = λ w h i effects note os k. made_by_id (w.offices i).content i note effects os k;
   grows = λ w v later h k. (leads_keeps later w (reached w h) v k).1;
   no_clash = λ w h. never_clashes w (reached w h);
   goes_on = λ w h. goes_on w (reached w h);

@@ -1,6 +1,4 @@
-use Rattle.std.proofs.Common.{◌≡◌, ◌++◌, take}
-use Rattle.std.specs.List.{flat_map}
-use Rattle.csv.specs.Writing.{row_text, default_writer}
+use Rattle.std.proofs.Common.{◌≡◌, take}
 use Rattle.reg_office.specs.Lines.{ops_header, op_fields, sheet_of, sheet_text, IsReady}
 use Rattle.reg_office.proofs.lines.ops_text.Given as goal
 

@@ -1,4 +1,4 @@
-use Rattle.std.proofs.Common.{sym, ap, ◌∙◌}
+use Rattle.std.proofs.Common.{sym, ◌∙◌}
 use Rattle.reg_office.proofs.PairLemmas.{newer_are, none_newer}
 use Rattle.reg_office.proofs.row.newer_of.Goals as goal
 

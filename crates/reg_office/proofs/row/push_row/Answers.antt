@@ -1,4 +1,3 @@
-use Rattle.std.proofs.Common.{sym}
 use Rattle.reg_office.proofs.PairLemmas.{it_enters}
 use Rattle.reg_office.proofs.row.push_row.Goals as goal
 

@@ -1,4 +1,4 @@
-use Rattle.std.proofs.Common.{sym, ◌∙◌}
+use Rattle.std.proofs.Common.{◌∙◌}
 use Rattle.reg_office.proofs.PairLemmas.{is_member}
 use Rattle.reg_office.proofs.row.rows.Goals as goal
 

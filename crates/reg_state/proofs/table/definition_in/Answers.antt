@@ -4,6 +4,7 @@ use Rattle.std.proofs.lemmas.Option.{slice_get-get_or}
 use Rattle.reg_op.specs.Ids.{is_same, is_before}
 use Rattle.reg_op.specs.Operations.{Op}
 use Rattle.reg_op.specs.Status.{is_enter}
+use Rattle.reg_op.specs.Kept.{entering}
 use Rattle.reg_op.specs.Lists.{passes}
 use Rattle.reg_op.proofs.PointLemmas.{parted, told, slice_get_past}
 use Rattle.reg_state.proofs.MergeLemmas.{IsUpTo, by_id_far, earlier_low, entry_from, entry_down}
@@ -23,7 +24,7 @@ returns-then-at-ops-clause-told c =
 
 pub returns-then-at-ops-clause-found : goal.returns-then-at-ops-clause-found
 returns-then-at-ops-clause-found c =
-    found_at _ c.args.ops.now c.partition_point-at.result c.index-ops-at.result c.if-at-ops.true (sym c.index-ops-at.is) c.definition_of.result c.definition_of.ensures.found
+    found_at (λ d note. entering c.args.id d.now note) c.args.ops.now c.partition_point-at.result c.index-ops-at.result c.if-at-ops.true (sym c.index-ops-at.is) c.definition_of.result c.definition_of.ensures.found
 
 pub returns-clause-told : goal.returns-clause-told
 returns-clause-told c =

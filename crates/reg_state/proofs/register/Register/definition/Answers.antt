@@ -1,4 +1,4 @@
-use Rattle.std.proofs.Common.{◌≡◌, List, true, false, ◌&&◌, IfSome, IfNone, ap, ◌∙◌, subst}
+use Rattle.std.proofs.Common.{◌≡◌, ℕ, List, true, false, ◌&&◌, IfSome, IfNone, ap, ◌∙◌, subst}
 use Rattle.std.specs.List.{list_any}
 use Rattle.reg_op.specs.Set as set
 use Rattle.reg_op.specs.Ids.{is_same}
@@ -13,9 +13,9 @@ use Rattle.reg_state.proofs.register.Register.definition.Goals as goal
 pub returns-clause-found : goal.returns-clause-found
 returns-clause-found c =
     let r = c.definition_in.result in
-    subst (λ (x : Content). IfSome r (λ d. set.contains x.ops (entering c.args.entry d.now) ≡ true)) c.self.view_is
-    (found_there (λ d. entering c.args.entry d.now) c.self.inside.ops.items r
-    (subst (λ (os : List Op). IfSome r (λ d. has os (entering c.args.entry d.now) ≡ true)) c.deref.ensures.value c.definition_in.ensures.found))
+    subst (λ (x : Content). IfSome r (λ d. (note : List ℕ) × (set.contains x.ops (entering c.args.entry d.now note) ≡ true))) c.self.view_is
+    (found_there (λ d note. entering c.args.entry d.now note) c.self.inside.ops.items r
+    (subst (λ (os : List Op). IfSome r (λ d. (note : List ℕ) × (has os (entering c.args.entry d.now note) ≡ true))) c.deref.ensures.value c.definition_in.ensures.found))
 
 pub returns-clause-none : goal.returns-clause-none
 returns-clause-none c =

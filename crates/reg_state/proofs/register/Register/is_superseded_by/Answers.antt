@@ -9,5 +9,5 @@ pub returns : goal.returns
 returns c =
     let xs = c.self.inside.ops.items in
     let ms = c.self.inside.marks in
-    c.is_marked.ensures ∙ superseded_at xs ms c.self.invariant.marked c.args.old c.args.newer
+    c.is_marked.ensures ∙ superseded_at xs ms c.self.invariant.marked c.self.invariant.is_content.is_kept c.args.old c.args.newer
     ∙ ap (λ x. any (λ o. is_supersession c.args.old (is_same c.args.newer) o.body) x.ops) c.self.view_is

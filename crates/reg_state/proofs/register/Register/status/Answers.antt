@@ -15,7 +15,7 @@ returns-then-is_none c =
     let ms = c.self.inside.marks in
     let e = c.args.entry in
     let is : status c.args.self.now.ops e ≡ status_by (list_any (λ o. is_same e o.id && is_enter o.body) xs) (any (λ m. is_at (record { entry = e; by = None }) m) ms) (any (λ m. is_same e m.target.entry) ms) =
-    sym (ap (λ x. status x.ops e) c.self.view_is) ∙ status_at xs ms c.self.invariant.marked e in
+    sym (ap (λ x. status x.ops e) c.self.view_is) ∙ status_at xs ms c.self.invariant.marked c.self.invariant.is_content.is_kept e in
     let entered : list_any (λ (o : Op). is_same e o.id && is_enter o.body) xs ≡ false =
     ap (list_any (λ (o : Op). is_same e o.id && is_enter o.body)) (sym c.deref.ensures.value) ∙ sym c.definition_in.ensures.told ∙ c.is_none.ensures ∙ ap not c.if-is_none.true in
     sym (is ∙ (λ k. status_by (entered k) (any (λ m. is_at (record { entry = e; by = None }) m) ms) (any (λ m. is_same e m.target.entry) ms)))
@@ -26,7 +26,7 @@ returns-then-is_marked c =
     let ms = c.self.inside.marks in
     let e = c.args.entry in
     let is : status c.args.self.now.ops e ≡ status_by (list_any (λ o. is_same e o.id && is_enter o.body) xs) (any (λ m. is_at (record { entry = e; by = None }) m) ms) (any (λ m. is_same e m.target.entry) ms) =
-    sym (ap (λ x. status x.ops e) c.self.view_is) ∙ status_at xs ms c.self.invariant.marked e in
+    sym (ap (λ x. status x.ops e) c.self.view_is) ∙ status_at xs ms c.self.invariant.marked c.self.invariant.is_content.is_kept e in
     let entered : list_any (λ (o : Op). is_same e o.id && is_enter o.body) xs ≡ true =
     ap (list_any (λ (o : Op). is_same e o.id && is_enter o.body)) (sym c.deref.ensures.value) ∙ sym c.definition_in.ensures.told ∙ c.is_none.ensures ∙ ap not c.if-is_none.false in
     let retired : any (λ (m : Mark). is_at (record { entry = e; by = None }) m) ms ≡ true =
@@ -39,7 +39,7 @@ returns-then-is_touched c =
     let ms = c.self.inside.marks in
     let e = c.args.entry in
     let is : status c.args.self.now.ops e ≡ status_by (list_any (λ o. is_same e o.id && is_enter o.body) xs) (any (λ m. is_at (record { entry = e; by = None }) m) ms) (any (λ m. is_same e m.target.entry) ms) =
-    sym (ap (λ x. status x.ops e) c.self.view_is) ∙ status_at xs ms c.self.invariant.marked e in
+    sym (ap (λ x. status x.ops e) c.self.view_is) ∙ status_at xs ms c.self.invariant.marked c.self.invariant.is_content.is_kept e in
     let entered : list_any (λ (o : Op). is_same e o.id && is_enter o.body) xs ≡ true =
     ap (list_any (λ (o : Op). is_same e o.id && is_enter o.body)) (sym c.deref.ensures.value) ∙ sym c.definition_in.ensures.told ∙ c.is_none.ensures ∙ ap not c.if-is_none.false in
     let retired : any (λ (m : Mark). is_at (record { entry = e; by = None }) m) ms ≡ false =
@@ -54,7 +54,7 @@ returns c =
     let ms = c.self.inside.marks in
     let e = c.args.entry in
     let is : status c.args.self.now.ops e ≡ status_by (list_any (λ o. is_same e o.id && is_enter o.body) xs) (any (λ m. is_at (record { entry = e; by = None }) m) ms) (any (λ m. is_same e m.target.entry) ms) =
-    sym (ap (λ x. status x.ops e) c.self.view_is) ∙ status_at xs ms c.self.invariant.marked e in
+    sym (ap (λ x. status x.ops e) c.self.view_is) ∙ status_at xs ms c.self.invariant.marked c.self.invariant.is_content.is_kept e in
     let entered : list_any (λ (o : Op). is_same e o.id && is_enter o.body) xs ≡ true =
     ap (list_any (λ (o : Op). is_same e o.id && is_enter o.body)) (sym c.deref.ensures.value) ∙ sym c.definition_in.ensures.told ∙ c.is_none.ensures ∙ ap not c.if-is_none.false in
     let retired : any (λ (m : Mark). is_at (record { entry = e; by = None }) m) ms ≡ false =

@@ -1,0 +1,181 @@
+-- A register that is restored from a shelf, and one that is kept there then.
+use Rattle.std.proofs.Common.{◌≡◌, ◌⊎◌, ◌+◌, ◌<◌, ◌≤◌, ◌^◌, inl, inr, ⊎_elim, Bool, ℕ, List, length, take, drop, refl, sym, ap, subst, ◌∙◌, arith, length-take, length-drop}
+use Rattle.std.specs.Int.{w32, to_be_bytes, from_be_bytes}
+use Rattle.std.proofs.lemmas.Nat.{from_be_bytes-to_be_bytes_4}
+use Rattle.std.specs.Prelude.{IsTrue, Err, IsErrOf}
+use Rattle.byte_io.specs.Device.{SinkState}
+use Rattle.byte_disk.specs.Disk.{Only, LeavesOnly}
+use Rattle.byte_disk.proofs.Moments.{weaker, joined}
+use Rattle.byte_shelf.specs.Shelf.{StandAt, HasHead, HasNoHead, IsSize}
+use Rattle.byte_shelf.specs.Keep.{AddsNothing, CountsFault}
+use Rattle.byte_shelf.specs.declared.fault.ShelfFault.{ShelfFault}
+use Rattle.byte_shelf.specs.declared.fault.ShelfFault.TheVariants as shelf
+use Rattle.reg_op.specs.Contents.{Content}
+use Rattle.reg_op.specs.Ids.{Id}
+use Rattle.reg_shelf.specs.Shelf.{IsShelf, IsNoShelf, HasFile}
+use Rattle.reg_shelf.specs.Keep.{IsTooLarge, IsRestoreFault}
+use Rattle.reg_engine.specs.declared.fault.OutFault.TheVariants as out
+use Rattle.reg_engine.specs.declared.fault.ShelfProblem.TheVariants as problem
+use Rattle.reg_engine.specs.declared.fault.CliFault.{CliFault}
+use Rattle.reg_engine.specs.declared.fault.CliFault.TheVariants as cli
+use Rattle.reg_engine.specs.Fault.{shelf_fault}
+use Rattle.reg_engine.specs.Outputs.{IsUnpublished}
+use Rattle.reg_engine.specs.Shelf.{Disks, Has, HasNoContent, IsSure, AddsNothingTo, StaysOn, PassesOn, KeepsOn, HasNoRoom, IsUnrestored, IsUnkept, KeepsAndTells, IsUntold, IsUnshelfFault}
+
+-- ---- faults
+
+abbrev IsRestoring : ShelfFault → Type 0
+IsRestoring shelf.BadSize = ⊥
+IsRestoring shelf.TooLarge = ⊥
+IsRestoring shelf.NotShelf = Unit {0}
+IsRestoring shelf.Memory = Unit {0}
+IsRestoring shelf.DiskFailed = Unit {0}
+
+is_restoring : (f : ShelfFault) → IsRestoreFault f → IsRestoring f
+is_restoring f (inl e) = subst IsRestoring (sym e) tt
+is_restoring f (inr (inl e)) = subst IsRestoring (sym e) tt
+is_restoring f (inr (inr e)) = subst IsRestoring (sym e) tt
+
+pub unrestored : {D T : Type 0} (d : Disks D) (old new : D) (f : ShelfFault) → IsRestoreFault f → CountsFault {T = T} (Err f) (d.failures old) (d.failures new)
+    → (IsTrue (d.tells old) → IsErrOf {T = T} (Err f) shelf.NotShelf → IsNoShelf (d.seen old)) → AddsNothingTo d old new → IsUnrestored d old new (shelf_fault f)
+unrestored d old new shelf.BadSize is counts none nothing = absurd (is_restoring shelf.BadSize is)
+unrestored d old new shelf.TooLarge is counts none nothing = absurd (is_restoring shelf.TooLarge is)
+unrestored d old new shelf.NotShelf is counts none nothing = (λ told. none told refl, record { quiet = counts; nothing = nothing })
+unrestored d old new shelf.Memory is counts none nothing = record { quiet = counts; nothing = nothing }
+unrestored d old new shelf.DiskFailed is counts none nothing = (counts, nothing)
+
+-- a disk that reads as a shelf has a head
+long_head : (s : List ℕ) (n : ℕ) → StandAt s 1 (to_be_bytes w32 n) → 5 ≤ length s
+long_head s n stands = omega (arith, ap length stands, length-take 4 (drop 1 s), length-drop 1 s)
+
+one_size : (s : List ℕ) (a b : ℕ) → a < 2 ^ 32 → b < 2 ^ 32 → StandAt s 1 (to_be_bytes w32 a) → StandAt s 1 (to_be_bytes w32 b) → a ≡ b
+one_size s a b p q x y = sym (from_be_bytes-to_be_bytes_4 a p) ∙ ap (λ (t : List ℕ). from_be_bytes w32 t) (sym x ∙ y) ∙ from_be_bytes-to_be_bytes_4 b q
+
+no_head : (s : List ℕ) (x : Content) → HasNoHead s → IsShelf s x → ⊥
+no_head s x (inl short) p = omega (arith, short, long_head s p.shelf.size p.shelf.head.size_stands)
+no_head s x (inr (gate, size, head, bad)) p =
+    bad (subst IsSize (one_size s p.shelf.size size p.shelf.head.size_fits head.size_fits p.shelf.head.size_stands head.size_stands) p.shelf.in_range)
+
+pub unkept : {D T : Type 0} (d : Disks D) (old new : D) (x y : Content) (f : ShelfFault) → Has d old x → (IsErrOf {T = T} (Err f) shelf.BadSize → ⊥)
+    → CountsFault {T = T} (Err f) (d.failures old) (d.failures new) → (IsTrue (d.tells old) → IsErrOf {T = T} (Err f) shelf.NotShelf → HasNoHead (d.seen old))
+    → (IsTrue (d.tells old) → IsErrOf {T = T} (Err f) shelf.TooLarge → IsTooLarge (d.seen old) y)
+    → (IsTrue (d.tells old) → d.failures new ≡ d.failures old → AddsNothing d.seen d.images d.moment d.since old new) → PassesOn d x y old new → IsUnkept d x y old new (shelf_fault f)
+unkept d old new x y shelf.BadSize has good counts head large refused passes = absurd (good refl)
+unkept d old new x y shelf.TooLarge has good counts head large refused passes = (λ told. large told refl, record { quiet = counts; nothing = λ told. refused told counts })
+unkept d old new x y shelf.NotShelf has good counts head large refused passes =
+    (λ told. no_head (d.seen old) x (head told refl) (has told), record { quiet = counts; nothing = λ told. refused told counts })
+unkept d old new x y shelf.Memory has good counts head large refused passes = record { quiet = counts; nothing = λ told. refused told counts }
+unkept d old new x y shelf.DiskFailed has good counts head large refused passes = (counts, passes)
+
+pub untold : {D : Type 0} (d : Disks D) (old new : D) (x y : Content) (ids : List Id) (before after : SinkState) → after ≡ before
+    → (f : CliFault) → IsUnkept d x y old new f → IsUntold d x y ids old new before after f
+untold d old new x y ids before after same (cli.Refused r) h = absurd h
+untold d old new x y ids before after same (cli.File k f) h = absurd h
+untold d old new x y ids before after same (cli.Out f) h = absurd h
+untold d old new x y ids before after same cli.Memory h = (h, same)
+untold d old new x y ids before after same (cli.Shelf p) h = (h, same)
+
+-- ---- what a stop leaves where nothing but a shelf was sure
+
+all_shelves : {D : Type 0} (d : Disks D) (old : D) (x : Content) → Has d old x → IsSure d old → IsTrue (d.tells old) → (c : List ℕ) → d.images old c → IsShelf c x
+all_shelves d old x has sure told c may = subst (λ (t : List ℕ). IsShelf t x) (sym (sure told c may)) (has told)
+
+pub passes_on : {D : Type 0} (d : Disks D) (old new : D) (x y : Content) → Has d old x → IsSure d old
+    → (IsTrue (d.tells old) → (was : Content) → ((c : List ℕ) → d.images old c → IsShelf c was) → LeavesOnly d.moment d.since old new (λ c. IsShelf c was ⊎ IsShelf c y))
+    → PassesOn d x y old new
+passes_on d old new x y has sure leaves = λ told.
+    weaker d.moment d.since old new (λ c. IsShelf c x ⊎ IsShelf c y) (λ c. d.images old c ⊎ (IsShelf c x ⊎ IsShelf c y)) (leaves told x (all_shelves d old x has sure told)) (λ c left. inr left)
+
+pub keeps_on : {D : Type 0} (d : Disks D) (old new : D) (x y : Content) → Has d old x → IsSure d old → d.tells new ≡ d.tells old → d.failures new ≡ d.failures old → HasFile y
+    → (IsTrue (d.tells old) → (was : Content) → ((c : List ℕ) → d.images old c → IsShelf c was) → Only (d.seen new) (d.images new) × IsShelf (d.seen new) y)
+    → PassesOn d x y old new → KeepsOn d x y old new
+keeps_on d old new x y has sure tells quiet file kept passes =
+    let before : IsTrue (d.tells new) → IsTrue (d.tells old) = λ told. subst (λ (b : Bool). IsTrue b) tells told in
+    let now : IsTrue (d.tells new) → Only (d.seen new) (d.images new) × IsShelf (d.seen new) y = λ told. kept (before told) x (all_shelves d old x has sure (before told)) in
+    record { quiet = quiet; file = file; has = λ told. (now told).1; sure = λ told. (now told).0; passes = passes }
+
+-- ---- one step after another
+
+module _ {D : Type 0} (d : Disks D) (old mid new : D) (tells : d.tells mid ≡ d.tells old) (stays : StaysOn d old mid) where
+  then_told : IsTrue (d.tells old) → IsTrue (d.tells mid)
+  then_told told = subst (λ (b : Bool). IsTrue b) (sym tells) told
+
+  pub then_has : (x : Content) → Has d old x → Has d mid x
+  then_has x has = λ told.
+      let first = subst (λ (b : Bool). IsTrue b) tells told in
+      subst (λ (t : List ℕ). IsShelf t x) (sym (stays.nothing first).same) (has first)
+
+  then_nothing : AddsNothingTo d mid new → AddsNothingTo d old new
+  then_nothing more = λ told.
+      let first = stays.nothing told in
+      let second = more (then_told told) in record {
+        same = second.same ∙ first.same;
+        fewer = λ c may. first.fewer c (second.fewer c may);
+        any_moment = joined d.moment d.since old mid new (d.images old) first.any_moment
+            (weaker d.moment d.since mid new (d.images mid) (d.images old) second.any_moment first.fewer);
+      }
+
+  pub then_stays : StaysOn d mid new → StaysOn d old new
+  then_stays more = record { quiet = more.quiet ∙ stays.quiet; nothing = then_nothing more.nothing }
+
+  pub then_passes : (x y : Content) → PassesOn d x y mid new → PassesOn d x y old new
+  then_passes x y passes = λ told.
+      let first = stays.nothing told in
+      let P : List ℕ → Type 0 = λ c. d.images old c ⊎ (IsShelf c x ⊎ IsShelf c y) in
+      joined d.moment d.since old mid new P (weaker d.moment d.since old mid (d.images old) P first.any_moment (λ c may. inl may))
+      (weaker d.moment d.since mid new (λ c. d.images mid c ⊎ (IsShelf c x ⊎ IsShelf c y)) P (passes (then_told told)) (λ c left. ⊎_elim (λ may. inl (first.fewer c may)) inr left))
+
+  pub then_keeps : (x y : Content) → KeepsOn d x y mid new → KeepsOn d x y old new
+  then_keeps x y keeps = record { quiet = keeps.quiet ∙ stays.quiet; file = keeps.file; has = keeps.has; sure = keeps.sure; passes = then_passes x y keeps.passes }
+
+  room_before : (y : Content) → HasNoRoom d mid y → HasNoRoom d old y
+  room_before y large = λ told. subst (λ (t : List ℕ). IsTooLarge t y) (stays.nothing told).same (large (then_told told))
+
+  pub then_unkept : (x y : Content) (f : CliFault) → IsUnkept d x y mid new f → IsUnkept d x y old new f
+  then_unkept x y (cli.Refused r) h = h
+  then_unkept x y (cli.File k f) h = h
+  then_unkept x y (cli.Out f) h = h
+  then_unkept x y cli.Memory h = then_stays h
+  then_unkept x y (cli.Shelf problem.NotOpened) h = h
+  then_unkept x y (cli.Shelf problem.NotShelf) h = (λ told. h.0 (then_told told), then_stays h.1)
+  then_unkept x y (cli.Shelf problem.TooLarge) h = (room_before y h.0, then_stays h.1)
+  then_unkept x y (cli.Shelf problem.DiskFailed) h = (h.0 ∙ ap (λ (n : ℕ). n + 1) stays.quiet, then_passes x y h.1)
+
+  pub then_untold : (x y : Content) (ids : List Id) (before after : SinkState) (f : CliFault) → IsUntold d x y ids mid new before after f → IsUntold d x y ids old new before after f
+  then_untold x y ids before after (cli.Refused r) h = h
+  then_untold x y ids before after (cli.File k f) h = h
+  then_untold x y ids before after (cli.Out out.NotOpened) h = h
+  then_untold x y ids before after (cli.Out out.TooLarge) h = h
+  then_untold x y ids before after (cli.Out (out.WriteFailed n)) h = (then_keeps x y h.0, h.1)
+  then_untold x y ids before after cli.Memory h = (then_stays h.0, h.1)
+  then_untold x y ids before after (cli.Shelf p) h = (then_unkept x y (cli.Shelf p) h.0, h.1)
+
+-- a content that was restored, and another of equal value that is kept then
+module _ {D : Type 0} (d : Disks D) (old mid new : D) (tells : d.tells mid ≡ d.tells old) (stays : StaysOn d old mid) (sure : IsSure d mid) (x : Content) (has : Has d old x) where
+  pub kept_then : (y : Content) → ((was : Content) → Has d mid was → IsSure d mid → KeepsOn d was y mid new) → KeepsOn d x y old new
+  kept_then y keeps = then_keeps d old mid new tells stays x y (keeps x (then_has d old mid new tells stays x has) sure)
+
+  pub unkept_then : (y : Content) (f : CliFault) → ((was : Content) → Has d mid was → IsSure d mid → IsUnkept d was y mid new f) → IsUnkept d x y old new f
+  unkept_then y f fault = then_unkept d old mid new tells stays x y f (fault x (then_has d old mid new tells stays x has) sure)
+
+  pub told_then : (y z : Content) (is js : List Id) (before after : SinkState) → y ≡ z → is ≡ js
+      → ((was : Content) → Has d mid was → IsSure d mid → KeepsAndTells d was y is mid new before after) → KeepsAndTells d x z js old new before after
+  told_then y z is js before after e f told =
+      let both = subst (λ k. KeepsAndTells d x k js mid new before after) e (subst (λ k. KeepsAndTells d x y k mid new before after) f (told x (then_has d old mid new tells stays x has) sure)) in
+      (then_keeps d old mid new tells stays x z both.0, both.1)
+
+  pub untold_then : (y z : Content) (is js : List Id) (before after : SinkState) (f : CliFault) → y ≡ z → is ≡ js
+      → ((was : Content) → Has d mid was → IsSure d mid → IsUntold d was y is mid new before after f) → IsUntold d x z js old new before after f
+  untold_then y z is js before after f e g fault =
+      then_untold d old mid new tells stays x z js before after f
+      (subst (λ k. IsUntold d x k js mid new before after f) e (subst (λ k. IsUntold d x y k mid new before after f) g (fault x (then_has d old mid new tells stays x has) sure)))
+
+-- ---- a command that reads a shelf alone
+
+pub unpublished_on : {D : Type 0} (d : Disks D) (old new : D) (before after : SinkState) (x : Content) → Has d old x → StaysOn d old new
+    → (f : CliFault) → IsUnpublished x before after f → IsUnshelfFault d old new before after f
+unpublished_on d old new before after x has stays (cli.Refused r) h = absurd h
+unpublished_on d old new before after x has stays (cli.File k f) h = absurd h
+unpublished_on d old new before after x has stays (cli.Out f) h = (x, has, h, stays)
+unpublished_on d old new before after x has stays cli.Memory h = (stays, h)
+unpublished_on d old new before after x has stays (cli.Shelf p) h = absurd h

@@ -1,0 +1,168 @@
+-- What becomes of the disk of a shelf, and commands that make a shelf, or write out what one has.
+use Rattle.std.specs.Prelude.{◌≡◌, ◌⊎◌, ◌+◌, Bool, IsTrue, List, ℕ}
+use Rattle.byte_io.specs.Device.{SinkState}
+use Rattle.byte_io.specs.Whole.{WritesAll, IsCutAt}
+use Rattle.byte_disk.specs.Disk.{Only, SameImages, LeavesOnly}
+use Rattle.byte_shelf.specs.Shelf.{IsSize}
+use Rattle.byte_shelf.specs.Keep.{AddsNothing}
+use Rattle.reg_op.specs.Ids.{Id}
+use Rattle.reg_op.specs.Contents.{Content, nothing}
+use Rattle.reg_shelf.specs.Shelf.{IsShelf, IsShelfOf, IsNoShelf, HasFile}
+use Rattle.reg_shelf.specs.Keep.{IsTooLarge}
+use Rattle.reg_engine.specs.declared.fault.Refusal.{Refusal}
+use Rattle.reg_engine.specs.declared.fault.Refusal.TheVariants as refusal
+use Rattle.reg_engine.specs.declared.fault.OutFault.{OutFault}
+use Rattle.reg_engine.specs.declared.fault.OutFault.TheVariants as out
+use Rattle.reg_engine.specs.declared.fault.ShelfProblem.{ShelfProblem}
+use Rattle.reg_engine.specs.declared.fault.ShelfProblem.TheVariants as problem
+use Rattle.reg_engine.specs.declared.fault.CliFault.{CliFault}
+use Rattle.reg_engine.specs.declared.fault.CliFault.TheVariants as cli
+use Rattle.reg_engine.specs.Outputs.{id_lines, PublishesFile, IsOutFault}
+
+-- what a contract sees of the disks of a type
+pub record Disks (D : Type 0) : Type 1 where
+  pub tells : D → Bool
+  pub seen : D → List ℕ
+  pub images : D → List ℕ → Type 0
+  pub moment : D → ℕ
+  pub since : D → ℕ → List ℕ → Type 0
+  pub failures : D → ℕ
+
+abbrev pub disks : {D : Type 0} → (D → Bool) → (D → List ℕ) → (D → List ℕ → Type 0) → (D → ℕ) → (D → ℕ → List ℕ → Type 0) → (D → ℕ) → Disks D
+disks tells seen images moment since failures = record { tells = tells; seen = seen; images = images; moment = moment; since = since; failures = failures }
+
+-- ---- what a disk has
+
+-- it reads as a shelf of the content, where it tells; as a shelf of none
+abbrev pub Has : {D : Type 0} → Disks D → D → Content → Type 0
+Has d old x = IsTrue (d.tells old) → IsShelf (d.seen old) x
+
+abbrev pub HasNoContent : {D : Type 0} → Disks D → D → Type 0
+HasNoContent d old = IsTrue (d.tells old) → IsNoShelf (d.seen old)
+
+-- a stop leaves nothing but what it reads as
+abbrev pub IsSure : {D : Type 0} → Disks D → D → Type 0
+IsSure d now = IsTrue (d.tells now) → Only (d.seen now) (d.images now)
+
+-- ---- what a command did to it
+
+-- it reads as before, and a stop leaves nothing that it might not have left before
+abbrev pub AddsNothingTo : {D : Type 0} → Disks D → D → D → Type 0
+AddsNothingTo d old new = IsTrue (d.tells old) → AddsNothing d.seen d.images d.moment d.since old new
+
+-- nor did it fail
+pub record StaysOn {D : Type 0} (d : Disks D) (old new : D) : Type 0 where
+  pub quiet : d.failures new ≡ d.failures old
+  pub nothing : AddsNothingTo d old new
+
+-- a stop on the way leaves what it might have left before, or a shelf of the first content, or of the second
+abbrev pub PassesOn : {D : Type 0} → Disks D → Content → Content → D → D → Type 0
+PassesOn d x y old new = IsTrue (d.tells old) → LeavesOnly d.moment d.since old new (λ c. d.images old c ⊎ (IsShelf c x ⊎ IsShelf c y))
+
+-- a shelf of the first content is now one of the second, and a stop leaves nothing else
+pub record KeepsOn {D : Type 0} (d : Disks D) (x y : Content) (old new : D) : Type 0 where
+  pub quiet : d.failures new ≡ d.failures old
+  pub file : HasFile y
+  pub has : Has d new y
+  pub sure : IsSure d new
+  pub passes : PassesOn d x y old new
+
+-- it failed, once
+abbrev pub Fails : {D : Type 0} → Disks D → D → D → Type 0
+Fails d old new = d.failures new ≡ d.failures old + 1
+
+-- the content has too many bytes for the shelf as which the disk reads
+abbrev pub HasNoRoom : {D : Type 0} → Disks D → D → Content → Type 0
+HasNoRoom d old y = IsTrue (d.tells old) → IsTooLarge (d.seen old) y
+
+-- ---- the steps
+
+-- why no register was restored; nothing changed
+abbrev pub IsUnrestored : {D : Type 0} → Disks D → D → D → CliFault → Type 0
+IsUnrestored d old new (cli.Refused r) = ⊥
+IsUnrestored d old new (cli.File k f) = ⊥
+IsUnrestored d old new (cli.Out f) = ⊥
+IsUnrestored d old new cli.Memory = StaysOn d old new
+IsUnrestored d old new (cli.Shelf problem.NotOpened) = ⊥
+IsUnrestored d old new (cli.Shelf problem.NotShelf) = HasNoContent d old × StaysOn d old new
+IsUnrestored d old new (cli.Shelf problem.TooLarge) = ⊥
+IsUnrestored d old new (cli.Shelf problem.DiskFailed) = Fails d old new × AddsNothingTo d old new
+
+-- why the second content was not kept; a disk that tells has been found to read as a shelf by then
+abbrev pub IsUnkept : {D : Type 0} → Disks D → Content → Content → D → D → CliFault → Type 0
+IsUnkept d x y old new (cli.Refused r) = ⊥
+IsUnkept d x y old new (cli.File k f) = ⊥
+IsUnkept d x y old new (cli.Out f) = ⊥
+IsUnkept d x y old new cli.Memory = StaysOn d old new
+IsUnkept d x y old new (cli.Shelf problem.NotOpened) = ⊥
+IsUnkept d x y old new (cli.Shelf problem.NotShelf) = (IsTrue (d.tells old) → ⊥) × StaysOn d old new
+IsUnkept d x y old new (cli.Shelf problem.TooLarge) = HasNoRoom d old y × StaysOn d old new
+IsUnkept d x y old new (cli.Shelf problem.DiskFailed) = Fails d old new × PassesOn d x y old new
+
+-- it was kept, and then the lines of the ids went out
+abbrev pub KeepsAndTells : {D : Type 0} → Disks D → Content → Content → List Id → D → D → SinkState → SinkState → Type 0
+KeepsAndTells d x y ids old new before after = KeepsOn d x y old new × WritesAll (id_lines ids) before after
+
+-- or it was not kept, and no line went out; or it was, and exactly n bytes of the lines
+abbrev pub IsUntold : {D : Type 0} → Disks D → Content → Content → List Id → D → D → SinkState → SinkState → CliFault → Type 0
+IsUntold d x y ids old new before after (cli.Refused r) = ⊥
+IsUntold d x y ids old new before after (cli.File k f) = ⊥
+IsUntold d x y ids old new before after (cli.Out out.NotOpened) = ⊥
+IsUntold d x y ids old new before after (cli.Out out.TooLarge) = ⊥
+IsUntold d x y ids old new before after (cli.Out (out.WriteFailed n)) = KeepsOn d x y old new × IsCutAt n (id_lines ids) before after
+IsUntold d x y ids old new before after cli.Memory = StaysOn d old new × (after ≡ before)
+IsUntold d x y ids old new before after (cli.Shelf p) = IsUnkept d x y old new (cli.Shelf p) × (after ≡ before)
+
+-- ---- a command that makes one content of another
+
+-- what is wrong with the shelf: it was not read, and nor was anything else; or it was, and what was made is not kept
+abbrev pub IsShelfFault : {D : Type 0} → Disks D → Type 0 → (Content → Content → Type 0) → D → D → ShelfProblem → Type 0
+IsShelfFault d Unread Makes old new p = (IsUnrestored d old new (cli.Shelf p) × Unread)
+    ⊎ ((x : Content) × (y : Content) × Has d old x × Makes x y × IsUnkept d x y old new (cli.Shelf p))
+
+-- ---- a new shelf
+
+-- the disk was made a shelf of the empty register, of this size
+pub record IsNewShelf {D : Type 0} (d : Disks D) (size : ℕ) (old new : D) : Type 0 where
+  pub quiet : d.failures new ≡ d.failures old
+  pub sized : IsSize size
+  pub has : IsTrue (d.tells new) → IsShelfOf (d.seen new) size nothing
+  pub sure : IsSure d new
+
+-- why it was not; of a size that no shelf has nothing is opened
+abbrev pub IsUnformatted : {D : Type 0} → Disks D → (D → ℕ) → ℕ → D → D → CliFault → Type 0
+IsUnformatted d openings size old new (cli.Refused refusal.BadSize) = (IsSize size → ⊥) × (new ≡ old)
+IsUnformatted d openings size old new (cli.Refused r) = ⊥
+IsUnformatted d openings size old new (cli.File k f) = ⊥
+IsUnformatted d openings size old new (cli.Out f) = ⊥
+IsUnformatted d openings size old new cli.Memory = IsSize size × (d.failures new ≡ d.failures old) × (openings new ≡ openings old + 1)
+IsUnformatted d openings size old new (cli.Shelf problem.NotOpened) = IsSize size × Fails d old new × (openings new ≡ openings old)
+    × (IsTrue (d.tells old) → (d.seen new ≡ d.seen old) × SameImages (d.images old) (d.images new))
+IsUnformatted d openings size old new (cli.Shelf problem.NotShelf) = ⊥
+IsUnformatted d openings size old new (cli.Shelf problem.TooLarge) = ⊥
+IsUnformatted d openings size old new (cli.Shelf problem.DiskFailed) = IsSize size × Fails d old new
+
+-- ---- a command that reads a shelf alone
+
+-- the shelf had a content, of which this went out, and it has it still
+abbrev pub ReadsOn : {D : Type 0} → Disks D → D → D → (Content → Type 0) → Type 0
+ReadsOn d old new Gives = (x : Content) × Has d old x × Gives x × StaysOn d old new
+
+-- what was done instead: the register is refused; or not all went out; or no register was restored, and nothing went out
+abbrev pub IsUnreadOn : {D : Type 0} → Disks D → D → D → (Content → Refusal → Type 0) → (Content → OutFault → Type 0) → Type 0 → CliFault → Type 0
+IsUnreadOn d old new Refuses FailsOut Unopened (cli.Refused r) = (x : Content) × Has d old x × Refuses x r × StaysOn d old new × Unopened
+IsUnreadOn d old new Refuses FailsOut Unopened (cli.File k f) = ⊥
+IsUnreadOn d old new Refuses FailsOut Unopened (cli.Out f) = (x : Content) × Has d old x × FailsOut x f × StaysOn d old new
+IsUnreadOn d old new Refuses FailsOut Unopened cli.Memory = StaysOn d old new × Unopened
+IsUnreadOn d old new Refuses FailsOut Unopened (cli.Shelf p) = IsUnrestored d old new (cli.Shelf p) × Unopened
+
+-- no register is refused
+abbrev pub Never : Content → Refusal → Type 0
+Never x r = ⊥
+
+-- the register's file went out
+abbrev pub IsUnshelved : {D : Type 0} → Disks D → D → D → SinkState → SinkState → Type 0
+IsUnshelved d old new before after = ReadsOn d old new (λ x. PublishesFile x before after)
+
+abbrev pub IsUnshelfFault : {D : Type 0} → Disks D → D → D → SinkState → SinkState → CliFault → Type 0
+IsUnshelfFault d old new before after f = IsUnreadOn d old new Never (λ x f. IsOutFault x before after f) (after ≡ before) f

@@ -1,0 +1,59 @@
+//! The command `merge` into a register that stands on a shelf.
+
+ghost use Rattle.std.specs.Prelude.{◌≡◌, map, OnOk, IfErr};
+ghost use Rattle.reg_engine.specs.Shelf.{disks};
+ghost use Rattle.reg_engine.specs.MergeOn.{shelf_ends, IsMergedOn, IsMergeFaultOn};
+
+use crate::fault::CliFault;
+use crate::inputs::{Parts, parts_of, read_parts_after};
+use crate::merge::{join_pieces, join_registers};
+use crate::shelf_steps::{keep_on, restore_from};
+use byte_disk::Disk;
+use byte_io::Source;
+use std::alloc::Global;
+use std::mem::forget;
+
+/// Restores the register of the shelf, then reads a register or a piece from each source, and keeps their join: the
+/// shelf's register, all others, and then the pieces in their order. A source's number is its place in the list, from 1.
+/// Once the join is kept, the memory of what was read is not given back.
+pub fn run_merge_on<D: Disk, S: Source>(
+    alloc: Global,
+    disk: &mut D,
+    sources: &mut [S],
+) -> Result<(), CliFault>
+    ensures merged { OnOk result (IsMergedOn (disks D.tells D.seen D.images D.moment D.images_since D.failures)
+        (shelf_ends (map S.state sources.old) disk.old) (shelf_ends (map S.state sources.new) disk.new)) }
+    ensures fault { IfErr result (IsMergeFaultOn (disks D.tells D.seen D.images D.moment D.images_since D.failures)
+        (shelf_ends (map S.state sources.old) disk.old) (shelf_ends (map S.state sources.new) disk.new)) }
+    ensures tells { D.tells disk.new ≡ D.tells disk.old }
+{
+    let first = match restore_from(alloc, disk) {
+        Ok(register) => register,
+        Err(fault) => return Err(fault),
+    };
+    let Ok(known) = parts_of(alloc, first) else {
+        return Err(CliFault::Memory);
+    };
+    let Parts { registers, pieces } = match read_parts_after(alloc, known, sources) {
+        Ok(parts) => parts,
+        Err(fault) => return Err(fault),
+    };
+    let begun = match join_registers(alloc, &registers) {
+        Ok(begun) => begun,
+        Err(fault) => return Err(fault),
+    };
+    let joined = match join_pieces(alloc, begun, &pieces) {
+        Ok(joined) => joined,
+        Err(fault) => return Err(fault),
+    };
+    match keep_on(alloc, disk, &joined) {
+        Ok(()) => {
+            // A program ends with its merge, as that into a file.
+            forget(joined);
+            forget(registers);
+            forget(pieces);
+            Ok(())
+        }
+        Err(fault) => Err(fault),
+    }
+}

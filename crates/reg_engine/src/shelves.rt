@@ -1,0 +1,54 @@
+//! The commands `shelf` and `unshelf`.
+
+ghost use Rattle.std.specs.Prelude.{◌≡◌, ◌↔◌, Err, OnOk, IfErr};
+ghost use Rattle.byte_shelf.specs.Shelf.{IsSize};
+ghost use Rattle.reg_engine.specs.Shelf.{disks, IsNewShelf, IsUnformatted, IsUnshelved, IsUnshelfFault};
+
+use crate::fault::{CliFault, Refusal, ShelfProblem};
+use crate::outputs::publish_register;
+use crate::shelf_steps::restore_from;
+use byte_disk::{Disk, NewDisk};
+use byte_io::Target;
+use reg_shelf::{format, is_size};
+use std::alloc::Global;
+
+/// Opens the disk, empty, and makes it a shelf of the empty register, for files of up to `size` bytes.
+pub fn run_shelf<D: NewDisk>(alloc: Global, disk: &mut D, size: u32) -> Result<(), CliFault>
+    ensures made { OnOk result (IsNewShelf (disks D.tells D.seen D.images D.moment D.images_since D.failures) size disk.old disk.new) }
+    ensures fault { IfErr result (IsUnformatted (disks D.tells D.seen D.images D.moment D.images_since D.failures) D.openings size disk.old disk.new) }
+    ensures bad_size { (result ≡ Err (CliFault.Refused Refusal.BadSize)) ↔ (IsSize size → ⊥) }
+    ensures tells { D.tells disk.new ≡ D.tells disk.old }
+{
+    if !is_size(size) {
+        return Err(CliFault::Refused(Refusal::BadSize));
+    }
+    if let Err(_) = disk.open() {
+        return Err(CliFault::Shelf(ShelfProblem::NotOpened));
+    }
+    match format(alloc, disk, size) {
+        Ok(()) => Ok(()),
+        Err(fault) => Err(CliFault::of_shelf(fault)),
+    }
+}
+
+/// Writes the file of the register that stands on the shelf.
+pub fn run_unshelf<D: Disk, T: Target>(
+    alloc: Global,
+    disk: &mut D,
+    target: &mut T,
+) -> Result<(), CliFault>
+    ensures written { OnOk result (IsUnshelved (disks D.tells D.seen D.images D.moment D.images_since D.failures) disk.old disk.new
+        (T.state target.old) (T.state target.new)) }
+    ensures fault { IfErr result (IsUnshelfFault (disks D.tells D.seen D.images D.moment D.images_since D.failures) disk.old disk.new
+        (T.state target.old) (T.state target.new)) }
+    ensures tells { D.tells disk.new ≡ D.tells disk.old }
+{
+    let register = match restore_from(alloc, disk) {
+        Ok(register) => register,
+        Err(fault) => return Err(fault),
+    };
+    match publish_register(alloc, &register, target) {
+        Ok(()) => Ok(()),
+        Err(fault) => Err(fault),
+    }
+}

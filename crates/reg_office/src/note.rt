@@ -1,0 +1,33 @@
+//! The note of a command, which each of its operations gets.
+
+ghost use Rattle.std.specs.Prelude.{◌≡◌, ◌≤◌, length, IfOk};
+ghost use Rattle.reg_office.specs.Making.{note_fault};
+
+use crate::OfficeFault;
+use reg_op::{Note, NoteFault};
+use std::alloc::{AllocError, Global};
+
+const MAX_BYTES: usize = 200;
+
+/// Why a note is refused.
+pub fn note_fault(note: &str) -> Option<OfficeFault>
+    ensures { result ≡ note_fault note.now }
+{
+    if note.len() > MAX_BYTES {
+        return Some(OfficeFault::NoteTooLong);
+    }
+    None
+}
+
+/// The note of a text that is not refused.
+pub fn note_of(alloc: Global, text: &str) -> Result<Note, AllocError>
+    requires { length text.now ≤ 200 }
+    ensures { IfOk result (λ note. note ≡ text.now) }
+{
+    match Note::new(alloc, text.as_bytes()) {
+        Ok(note) => Ok(note),
+        Err(NoteFault::Memory) => Err(AllocError),
+        Err(NoteFault::NoteTooLong) => unreachable!(),
+        Err(NoteFault::NoteNotUtf8) => unreachable!(),
+    }
+}

@@ -1,0 +1,127 @@
+//! Notes of operations.
+
+ghost use Rattle.std.specs.Prelude.{◌≡◌, ◌↔◌, ◌<◌, ◌≤◌, ◌⊎◌, true, [], length, Ok, Err, IfOk, IfErr, IsTrue, IsUtf8};
+ghost use Rattle.std.specs.Str.{is_utf8};
+ghost use Rattle.reg_op.specs.declared.note.NoteFault.TheVariants as fault;
+ghost use Rattle.reg_op.specs.Notes.{IsNote, IsNoteFault};
+
+use std::alloc::{AllocError, Global};
+use std::marker::Model;
+use std::rc::Rc;
+
+/// The most bytes of a note.
+const MOST: usize = 200;
+
+/// Why some bytes are no note.
+#[derive(Clone, Copy, Debug, PartialEq, Eq)]
+pub enum NoteFault {
+    /// There are more than 200 bytes.
+    NoteTooLong,
+    /// The bytes are not UTF-8.
+    NoteNotUtf8,
+    /// An allocation failed.
+    Memory,
+}
+
+#[derive(Drop)]
+struct Written {
+    bytes: Vec<u8>,
+    ghost utf8: { is_utf8 bytes.items ≡ true },
+    ghost short: { length bytes.items ≤ 200 },
+}
+
+/// What is noted of an operation: UTF-8 of at most 200 bytes, seen as these. Copies share it, and an empty note takes no
+/// memory.
+#[derive(Drop)]
+pub struct Note {
+    written: Option<Rc<Written>>,
+}
+
+impl Model for Note {
+    ghost use Rattle.std.specs.Prelude.{ℕ, List};
+    ghost use Rattle.reg_op.specs.Notes.{bytes_in};
+
+    ghost Value = { List ℕ };
+
+    ghost view = { λ n. bytes_in (λ r. r.value.bytes.items) n.written };
+}
+
+impl Note {
+    /// The note without bytes.
+    pub fn empty() -> Note
+        ensures { result ≡ [] }
+    {
+        Note { written: None }
+    }
+
+    /// The note of these bytes.
+    pub fn new(alloc: Global, bytes: &[u8]) -> Result<Note, NoteFault>
+        ensures ok { IfOk result (λ note. (note ≡ bytes.now) × IsNote bytes.now) }
+        ensures fault { IfErr result (IsNoteFault bytes.now) }
+        ensures only { IsNote bytes.now → (result ≡ Ok bytes.now) ⊎ (result ≡ Err fault.Memory) }
+        // These come without memory.
+        ensures long { 200 < length bytes.now → result ≡ Err fault.NoteTooLong }
+        ensures bytes { length bytes.now ≤ 200 → ¬ (IsUtf8 bytes.now) → result ≡ Err fault.NoteNotUtf8 }
+        ensures empty { bytes.now ≡ [] → result ≡ Ok [] }
+    {
+        if bytes.len() > MOST {
+            return Err(NoteFault::NoteTooLong);
+        }
+        if bytes.is_empty() {
+            return Ok(Note::empty());
+        }
+        if let Err(_) = simdutf8::compat::from_utf8(bytes) {
+            return Err(NoteFault::NoteNotUtf8);
+        }
+        match copied(alloc, bytes) {
+            Ok(note) => Ok(note),
+            Err(_) => Err(NoteFault::Memory),
+        }
+    }
+
+    /// The bytes, which are UTF-8.
+    pub fn as_bytes(&self) -> &[u8]
+        ensures bytes { result.now ≡ self.now }
+        ensures note { IsNote self.now }
+    {
+        match &self.written {
+            Some(written) => written.bytes.as_slice(),
+            None => &[],
+        }
+    }
+
+    /// Whether it has no bytes.
+    pub fn is_empty(&self) -> bool
+        ensures { IsTrue result ↔ (self.now ≡ []) }
+    {
+        self.as_bytes().is_empty()
+    }
+
+    /// The same, which shares its bytes.
+    pub fn try_clone(&self) -> Result<Note, AllocError>
+        ensures { IfOk result (λ copy. copy ≡ self.now) }
+    {
+        let Some(written) = &self.written else {
+            return Ok(Note::empty());
+        };
+        let written = Some(written.clone()?);
+        Ok(Note { written })
+    }
+
+    /// Whether they say the same.
+    pub fn is_same(&self, other: &Note) -> bool
+        ensures { IsTrue result ↔ (self.now ≡ other.now) }
+    {
+        self.as_bytes() == other.as_bytes()
+    }
+}
+
+// The note of bytes that are one.
+fn copied(alloc: Global, bytes: &[u8]) -> Result<Note, AllocError>
+    requires { IsNote bytes.now }
+    ensures { IfOk result (λ note. note ≡ bytes.now) }
+{
+    let bytes = Vec::from_slice(alloc, bytes)?;
+    let written = Some(Rc::new(alloc, Written { bytes })?);
+    Ok(Note { written })
+}

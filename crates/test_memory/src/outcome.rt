@@ -1,0 +1,53 @@
+//! What comes of a call.
+
+use reg_op::OpId;
+use std::process::ExitCode;
+
+/// What comes of a call.
+#[derive(Drop)]
+pub enum Outcome {
+    Done,
+    /// Out of memory; what it was called on is as it was.
+    Memory,
+    /// A text is refused with this fault at this offset.
+    Fault(&'static str, usize),
+    /// An operation is refused: the fault and the id.
+    Refused(&'static str, OpId),
+    /// Another answer, or what it was called on has changed.
+    Wrong,
+}
+
+impl Outcome {
+    /// Of a call that leaves nothing where memory fails.
+    pub fn of(is_done: bool) -> Outcome {
+        if is_done {
+            Outcome::Done
+        } else {
+            Outcome::Memory
+        }
+    }
+
+    /// Of a call whose memory failed, which has to leave its object.
+    pub fn left(is_left: bool) -> Outcome {
+        if is_left {
+            Outcome::Memory
+        } else {
+            Outcome::Wrong
+        }
+    }
+
+    /// Prints it, and gives the program's status: 0 done, 1 refused, 3 wrong, 4 out of memory.
+    pub fn print(&self, rt: &HostRuntime) -> ExitCode {
+        let (said, status) = match self {
+            Outcome::Done => (println!(rt; "done"), 0),
+            Outcome::Memory => (println!(rt; "out of memory"), 4),
+            Outcome::Fault(name, place) => (println!(rt; "{name} at {place}"), 1),
+            Outcome::Refused(name, id) => (println!(rt; "{name} {}", id.count()), 1),
+            Outcome::Wrong => (println!(rt; "wrong"), 3),
+        };
+        match said {
+            Ok(()) => ExitCode::from(status),
+            Err(_) => ExitCode::from(3),
+        }
+    }
+}

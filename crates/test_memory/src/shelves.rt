@@ -1,0 +1,54 @@
+//! Calls on shelves.
+
+use crate::outcome::Outcome;
+use crate::{ready, word};
+use byte_disk::{MemDisk, Pending};
+use byte_shelf::ShelfFault;
+use reg_file::read_bytes;
+use std::{fs, io};
+
+/// Keeps a register on a shelf: `keep SHELF FILE`.
+pub fn keep(rt: &HostRuntime, words: &[String]) -> io::Result<Outcome> {
+    let shelf = fs::read(rt, word(words, 2))?;
+    let file = fs::read(rt, word(words, 3))?;
+    let held = shelf.to_vec(rt.alloc())?;
+    let (Ok(register), Ok(mut disk)) = (
+        read_bytes(rt.alloc(), &file),
+        MemDisk::new(rt.alloc(), held),
+    ) else {
+        return Ok(Outcome::Memory);
+    };
+    ready(rt)?;
+    Ok(match reg_shelf::keep(rt.alloc(), &mut disk, &register) {
+        Ok(()) => Outcome::Done,
+        Err(ShelfFault::Memory) => Outcome::left(disk.bytes() == shelf.as_slice()),
+        // The disk's own record may be what fails: a stop then leaves what was there, or what is kept.
+        Err(ShelfFault::DiskFailed) => restored(rt, &disk),
+        Err(_) => Outcome::Wrong,
+    })
+}
+
+/// Whether what a stop leaves is a shelf.
+fn restored(rt: &HostRuntime, disk: &MemDisk) -> Outcome {
+    let Ok(left) = disk.left(Pending::Old) else {
+        return Outcome::Wrong;
+    };
+    match MemDisk::new(rt.alloc(), left) {
+        Ok(mut disk) => Outcome::left(reg_shelf::restore(rt.alloc(), &mut disk).is_ok()),
+        Err(_) => Outcome::Wrong,
+    }
+}
+
+/// Restores the register of a shelf: `restore SHELF`.
+pub fn restore(rt: &HostRuntime, words: &[String]) -> io::Result<Outcome> {
+    let shelf = fs::read(rt, word(words, 2))?;
+    let Ok(mut disk) = MemDisk::new(rt.alloc(), shelf) else {
+        return Ok(Outcome::Memory);
+    };
+    ready(rt)?;
+    Ok(match reg_shelf::restore(rt.alloc(), &mut disk) {
+        Ok(_) => Outcome::Done,
+        Err(ShelfFault::Memory) | Err(ShelfFault::DiskFailed) => Outcome::Memory,
+        Err(_) => Outcome::Wrong,
+    })
+}

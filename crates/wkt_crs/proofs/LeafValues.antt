@@ -1,0 +1,153 @@
+-- Texts, numbers and words that fit a slot have a value.
+use Rattle.std.proofs.Common.{◌≡◌, ℕ, Bool, true, false, cond, List, [], ◌∷◌, map, Option, Some, None, refl, sym, ap, ◌∙◌}
+use Rattle.std.specs.Prelude.{◌||◌}
+use Rattle.std.specs.Bool.{Decides}
+use Rattle.std.specs.Char.{to_ascii_lowercase}
+use Rattle.std.specs.List.{list_any}
+use Rattle.std.specs.Str.{bytes_eq}
+use Rattle.std.proofs.lemmas.Slice.Eq.{bytes_eq-Decides}
+use Rattle.std.proofs.lemmas.Str.{is_utf8-from_IsUtf8}
+use Rattle.crs_number.specs.Count.{is_count}
+use Rattle.crs_number.specs.declared.decimals.Decimal.{Decimal}
+use Rattle.crs_number.proofs.CountLemmas.{count_from}
+use Rattle.crs_part.specs.declared.text.Text.{Text}
+use Rattle.crs_part.specs.declared.identifiers.NumberOrText.{NumberOrText}
+use Rattle.crs_part.specs.declared.identifiers.NumberOrText.TheVariants as code
+use Rattle.wkt_tree.specs.Tokens.{IsNumber}
+use Rattle.wkt_slots.specs.declared.table.Argument.TheVariants as arguments
+use Rattle.wkt_slots.specs.declared.table.Keyword.{Keyword}
+use Rattle.wkt_slots.specs.declared.table.Takes.{Takes}
+use Rattle.wkt_slots.specs.declared.table.Takes.TheVariants as kinds
+use Rattle.wkt_slots.specs.Rows.{takes}
+use Rattle.wkt_slots.specs.Words.{keyword_of, is_cs_kind, is_direction}
+use Rattle.wkt_tier.specs.Bare.{Bare, text, number, word, node}
+use Rattle.wkt_tier.specs.Slots.{argument_by}
+use Rattle.wkt_good.specs.Good.{IsText}
+use Rattle.wkt_meaning.specs.SecondEdition.{Fitting}
+use Rattle.wkt_meaning.specs.Leaves.{DenotesText, DenotesNumber, DenotesWord}
+use Rattle.wkt_meaning.specs.Words.{system_word, direction_word, kinds_listed, directions_listed}
+use Rattle.wkt_meaning.specs.Denotes.{DenotesCode}
+use Rattle.wkt_meaning.proofs.Leaves.{DenotesSmall, Small}
+use Rattle.wkt_build.proofs.LeafLemmas.{kind_listed, direction_listed}
+use Rattle.wkt_crs.proofs.Values.{IsRead, Has}
+
+-- ---- what a slot doesn't take
+
+abbrev numbered : Takes → Bool → Bool
+numbered t c = takes t (cond c arguments.Count arguments.Number)
+
+abbrev worded : Takes → Bool → Bool → Bool
+worded t c d = takes t (cond c arguments.CsKind (cond d arguments.Direction arguments.OtherWord))
+
+no_node : {A : Type 0} (t : Takes) → ((k : Keyword) → takes t (arguments.Node k) ≡ false) → (o : Option Keyword) → takes t (argument_by o) ≡ true → A
+no_node t h None e = absurd cc
+no_node t h (Some k) e = let z = sym (h k) ∙ e in absurd cc
+
+no_word : {A : Type 0} (t : Takes) → takes t arguments.CsKind ≡ false → takes t arguments.Direction ≡ false → (c d : Bool) → worded t c d ≡ true → A
+no_word t p q true d e = let z = sym p ∙ e in absurd cc
+no_word t p q false true e = let z = sym q ∙ e in absurd cc
+no_word t p q false false e = absurd cc
+
+no_number : {A : Type 0} (t : Takes) → takes t arguments.Count ≡ false → takes t arguments.Number ≡ false → (c : Bool) → numbered t c ≡ true → A
+no_number t p q true e = let z = sym p ∙ e in absurd cc
+no_number t p q false e = let z = sym q ∙ e in absurd cc
+
+-- ---- texts and numbers
+
+text_of : (b : List ℕ) → IsText b → (v : Text) × DenotesText (text b) v
+text_of b h = (record { bytes = h.content; utf8 = is_utf8-from_IsUtf8 h.content h.utf8 }, ap text h.is)
+
+number_of : (b : List ℕ) → IsNumber b → (v : Decimal) × DenotesNumber (number b) v
+number_of b h = (h.0, record { bytes = b; is = refl; spells = h.1 })
+
+text_in : (x : Bare) → IsRead x → Fitting kinds.Text x → (v : Text) × DenotesText x v
+text_in (text b) r f = text_of b r
+text_in (number b) r f = no_number kinds.Text refl refl (is_count b) f.taken
+text_in (word b) r f = no_word kinds.Text refl refl (is_cs_kind b) (is_direction b) f.taken
+text_in (node k xs) r f = no_node kinds.Text (λ k. refl) (keyword_of k) f.taken
+
+pub text_has : Has kinds.Text DenotesText
+text_has = record { of = text_in }
+
+number_in : (x : Bare) → IsRead x → Fitting kinds.Number x → (v : Decimal) × DenotesNumber x v
+number_in (text b) r f = let e = f.taken in absurd cc
+number_in (number b) r f = number_of b r
+number_in (word b) r f = no_word kinds.Number refl refl (is_cs_kind b) (is_direction b) f.taken
+number_in (node k xs) r f = no_node kinds.Number (λ k. refl) (keyword_of k) f.taken
+
+pub number_has : Has kinds.Number DenotesNumber
+number_has = record { of = number_in }
+
+code_in : (x : Bare) → IsRead x → Fitting kinds.NumberOrText x → (v : NumberOrText) × DenotesCode x v
+code_in (text b) r f = let v = text_of b r in (code.Text v.0, v.1)
+code_in (number b) r f = let v = number_of b r in (code.Number v.0, v.1)
+code_in (word b) r f = no_word kinds.NumberOrText refl refl (is_cs_kind b) (is_direction b) f.taken
+code_in (node k xs) r f = no_node kinds.NumberOrText (λ k. refl) (keyword_of k) f.taken
+
+pub code_has : Has kinds.NumberOrText DenotesCode
+code_has = record { of = code_in }
+
+count_true : (c : Bool) → numbered kinds.Count c ≡ true → c ≡ true
+count_true true e = refl
+count_true false e = absurd cc
+
+count_in : (x : Bare) → IsRead x → Fitting kinds.Count x → (v : Small) × DenotesSmall x v
+count_in (text b) r f = let e = f.taken in absurd cc
+count_in (number b) r f = let c = count_from b (count_true (is_count b) f.taken) in (record { value = c.count; small = c.small }, record { bytes = b; is = refl; spells = c.spelled; small = c.small })
+count_in (word b) r f = no_word kinds.Count refl refl (is_cs_kind b) (is_direction b) f.taken
+count_in (node k xs) r f = no_node kinds.Count (λ k. refl) (keyword_of k) f.taken
+
+pub count_has : Has kinds.Count DenotesSmall
+count_has = record { of = count_in }
+
+-- ---- words
+
+abbrev letters : List ℕ → List ℕ
+letters b = map to_ascii_lowercase b
+
+same_bytes : (a b : List ℕ) → bytes_eq a b ≡ true → a ≡ b
+same_bytes a b h = by (bytes_eq a b) (bytes_eq-Decides a b) h
+  where
+    by : (t : Bool) → Decides t (a ≡ b) → t ≡ true → a ≡ b
+    by t d e = d.0 e
+
+-- a word is listed where some value has it
+listed_value : {A : Type 0} (f : A → List ℕ) (vs : List A) (l : List ℕ) → list_any (λ w. bytes_eq (letters w) l) (map f vs) ≡ true → (v : A) × (letters (f v) ≡ l)
+listed_value f [] l e = absurd cc
+listed_value f (v ∷ vs) l e = by (bytes_eq (letters (f v)) l) refl e (listed_value f vs l)
+  where
+    by : (b : Bool) → bytes_eq (letters (f v)) l ≡ b → (b || list_any (λ w. bytes_eq (letters w) l) (map f vs)) ≡ true → (list_any (λ w. bytes_eq (letters w) l) (map f vs) ≡ true → (w : _) × (letters (f w) ≡ l)) → (w : _) × (letters (f w) ≡ l)
+    by true same h g = (v, same_bytes (letters (f v)) l same)
+    by false same h g = g h
+
+word_of : {A : Type 0} (f : A → List ℕ) (vs : List A) (b : List ℕ) → list_any (λ w. bytes_eq (letters w) (letters b)) (map f vs) ≡ true → (v : A) × DenotesWord f (word b) v
+word_of f vs b h = let v = listed_value f vs (letters b) h in (v.0, record { bytes = b; is = refl; spells = v.1 })
+
+kind_true : (c d : Bool) → worded kinds.CsKind c d ≡ true → c ≡ true
+kind_true true d e = refl
+kind_true false true e = absurd cc
+kind_true false false e = absurd cc
+
+direction_true : (c d : Bool) → worded kinds.Direction c d ≡ true → d ≡ true
+direction_true true true e = refl
+direction_true true false e = absurd cc
+direction_true false true e = refl
+direction_true false false e = absurd cc
+
+kind_in : (x : Bare) → IsRead x → Fitting kinds.CsKind x → (v : _) × DenotesWord system_word x v
+kind_in (text b) r f = let e = f.taken in absurd cc
+kind_in (number b) r f = no_number kinds.CsKind refl refl (is_count b) f.taken
+kind_in (word b) r f = word_of system_word kinds_listed b (sym (kind_listed b) ∙ kind_true (is_cs_kind b) (is_direction b) f.taken)
+kind_in (node k xs) r f = no_node kinds.CsKind (λ k. refl) (keyword_of k) f.taken
+
+pub kind_has : Has kinds.CsKind (DenotesWord system_word)
+kind_has = record { of = kind_in }
+
+direction_in : (x : Bare) → IsRead x → Fitting kinds.Direction x → (v : _) × DenotesWord direction_word x v
+direction_in (text b) r f = let e = f.taken in absurd cc
+direction_in (number b) r f = no_number kinds.Direction refl refl (is_count b) f.taken
+direction_in (word b) r f = word_of direction_word directions_listed b (sym (direction_listed b) ∙ direction_true (is_cs_kind b) (is_direction b) f.taken)
+direction_in (node k xs) r f = no_node kinds.Direction (λ k. refl) (keyword_of k) f.taken
+
+pub direction_has : Has kinds.Direction (DenotesWord direction_word)
+direction_has = record { of = direction_in }
