@@ -1,6 +1,6 @@
 //! The engines that only read a shelf.
 
-use super::{FIRST_LINE, HEIGHT, disk_of, entry_file, id, joined, register_of, shelf_of};
+use super::{HEIGHT, disk_of, entry_file, id, joined, register_of, shelf_of};
 use byte_disk::MemDisk;
 use byte_io::{Full, MemoryTarget, Pieces, Room, Then};
 use reg_engine::{
@@ -15,6 +15,10 @@ use std::process::Abort;
 
 const ENTRIES: &[u8] =
     b"entry,authority,code,name,status,replaced_by\n00000000-0000-4000-8000-00000000000a:1,X,7,H,valid,\n";
+
+/// The header of the report of operations, and the first id.
+const OPERATIONS: &[u8] =
+    b"operation,effect,entry,replaced_by,definition,note\n00000000-0000-4000-8000-00000000000a:1,enter,";
 
 /// The summary of the empty register.
 const NONE_SEEN: &[u8] = &[0x43, 0x52, 0x53, 0x52, 2, 2, 0, 0, 0, 0];
@@ -68,9 +72,7 @@ fn reports_go_out(rt: HostRuntime) {
     assert_eq!(rt; fault, Some(CliFault::Refused(Refusal::UnknownEntry(none))));
     let mut sink = Room::new(alloc, 7, 1000, Full::Fails);
     assert_eq!(rt; run_ops_on(alloc, &mut disk, &mut sink).err(), None);
-    let head = b"operation,effect,entry,replaced_by,definition,note\n";
-    assert!(rt; &sink.taken()[..head.len()] == head.as_slice());
-    assert!(rt; &sink.taken()[head.len()..head.len() + 38] == &FIRST_LINE[..38]);
+    assert!(rt; sink.taken().starts_with(OPERATIONS));
     let mut none = disk_of(&rt, alloc, b"no shelf");
     let fault = run_ops_on(alloc, &mut none, &mut sink).err();
     assert_eq!(rt; fault, Some(CliFault::Shelf(ShelfProblem::NotShelf)));
