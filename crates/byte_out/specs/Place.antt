@@ -1,0 +1,78 @@
+-- What a contract sees of the place of a file, and what each call of it does.
+use Rattle.std.specs.Prelude.{◌≡◌, ◌⊎◌, ◌+◌, ⊤, [], ℕ, Bool, true, List, Option, None, Some, Ok, Err, IsSome, if◌then◌else◌}
+use Rattle.std.specs.declared.result.Result.{Result}
+use Rattle.std.specs.Io.KnownBytes.{Appends}
+use Rattle.byte_io.specs.Device.{SinkState, CountsFailure}
+use Rattle.byte_io.specs.declared.fault.WriteFault.{WriteFault}
+use Rattle.byte_out.specs.declared.fault.MakeFault.{MakeFault}
+use Rattle.byte_out.specs.declared.fault.MakeFault.TheVariants as make
+
+-- what is at the name, and beside it
+pub record Files : Type 0 where
+  -- the file at the name, where there is one
+  pub stands : Option (List ℕ)
+  -- the new file
+  pub beside : Option (List ℕ)
+  -- whether a stop leaves the new file whole
+  pub sure : Bool
+  -- whether a stop so far might have left part of a new file at the name
+  pub torn : Bool
+  -- how often the new file could not be removed
+  pub stuck : ℕ
+
+-- the counts of calls and the bytes that went to the new file; and what is there, where it is told
+pub record PlaceState : Type 0 where
+  pub sink : SinkState
+  pub files : Option Files
+
+-- nothing is told of what is there
+abbrev pub untold : SinkState → PlaceState
+untold sink = record { sink = sink; files = None }
+
+-- this became of what is there, where it is told
+abbrev pub Told : (Files → Files → Type 0) → Option Files → Option Files → Type 0
+Told P None new = ⊤
+Told P (Some old) None = ⊥
+Told P (Some old) (Some new) = P old new
+
+-- what is at the name stays, and so does what a stop might have left there
+pub record Stays (old new : Files) : Type 0 where
+  pub same_file : new.stands ≡ old.stands
+  pub same_torn : new.torn ≡ old.torn
+
+-- an empty file was made beside, where none was; or nothing changed
+abbrev pub IsMade : {T : Type 0} → Result T MakeFault → Files → Files → Type 0
+IsMade (Ok t) old new = Stays old new × (old.beside ≡ None) × (new.beside ≡ Some []) × (new.stuck ≡ old.stuck)
+IsMade (Err make.NotOpened) old new = new ≡ old
+IsMade (Err make.Exists) old new = (new ≡ old) × IsSome old.beside
+
+-- the new file grew by all these bytes; or it has some of them
+abbrev pub IsFilled : {T : Type 0} → Result T WriteFault → List ℕ → Files → Files → Type 0
+IsFilled (Ok t) bytes old new = Stays old new × Appends old.beside new.beside bytes × (new.stuck ≡ old.stuck)
+IsFilled (Err e) bytes old new = Stays old new × (new.stuck ≡ old.stuck)
+
+-- a stop leaves the new file whole; or nothing is sure
+abbrev pub IsSynced : {T E : Type 0} → Result T E → Files → Files → Type 0
+IsSynced (Ok t) old new = Stays old new × (new.beside ≡ old.beside) × (new.sure ≡ true) × (new.stuck ≡ old.stuck)
+IsSynced (Err e) old new = Stays old new × (new.beside ≡ old.beside) × (new.stuck ≡ old.stuck)
+
+-- the new file stands at the name; or the old one does. Where the new file is not sure, a stop leaves part of it
+abbrev pub IsPut : {T E : Type 0} → Result T E → Files → Files → Type 0
+IsPut (Ok t) old new = (new.stands ≡ old.beside) × (new.beside ≡ None) × (new.torn ≡ (if old.sure then old.torn else true)) × (new.stuck ≡ old.stuck)
+IsPut (Err e) old new = (new.stands ≡ old.stands) × (new.beside ≡ old.beside) × (new.torn ≡ (if old.sure then old.torn else true)) × (new.stuck ≡ old.stuck)
+
+-- nothing is beside; or it could not be removed, which is counted
+abbrev pub IsCleared : Files → Files → Type 0
+IsCleared old new = ((new.beside ≡ None) × (new.stuck ≡ old.stuck)) ⊎ (new.stuck ≡ old.stuck + 1)
+
+-- the new file was removed
+abbrev pub IsRemoved : Files → Files → Type 0
+IsRemoved old new = Stays old new × IsCleared old new
+
+-- no byte moved, and a failure is counted at an `Err`
+pub record CountsOnly {T E : Type 0} (result : Result T E) (old new : SinkState) : Type 0 where
+  pub written : new.written ≡ old.written
+  pub taken : new.taken ≡ old.taken
+  pub failures : CountsFailure result old.failures new.failures
+  pub stalls : new.stalls ≡ old.stalls
+  pub openings : new.openings ≡ old.openings

@@ -1,0 +1,191 @@
+//! A place in memory, for tests: it tells what stands there, and fails where it is set to.
+
+ghost use Rattle.std.specs.Prelude.{◌≡◌, None, Some, false, option_map};
+ghost use Rattle.byte_io.specs.Device.{target_of};
+
+use crate::fault::MakeFault;
+use crate::place::Place;
+use byte_io::{DeviceFault, Log, NotOpened, Tally, WriteFault};
+use std::alloc::Global;
+
+/// A step of a place in memory.
+#[derive(Clone, Copy, Debug, PartialEq, Eq)]
+pub enum Step {
+    Make,
+    Sync,
+    Put,
+    Remove,
+}
+
+/// A place in memory, with room for a new file of some length. A step can be set to fail.
+#[derive(Drop)]
+pub struct MemPlace {
+    alloc: Global,
+    stands: Option<Vec<u8>>,
+    beside: Option<Vec<u8>>,
+    room: usize,
+    fails: Option<Step>,
+    sure: bool,
+    torn: bool,
+    taken: Log,
+    failures: Tally,
+    stalls: Tally,
+    openings: Tally,
+    stuck: Tally,
+}
+
+impl MemPlace {
+    /// A place with this file, or none, and beside it what another writer left, or nothing.
+    pub fn new(
+        alloc: Global,
+        stands: Option<Vec<u8>>,
+        beside: Option<Vec<u8>>,
+        room: usize,
+    ) -> MemPlace
+        ensures files { (⟦<MemPlace as Place>⟧.state result).files ≡ Some (record {
+          stands = option_map (λ v. v.items) stands;
+          beside = option_map (λ v. v.items) beside;
+          sure = false;
+          torn = false;
+          stuck = 0;
+        }) }
+        ensures calls { (⟦<MemPlace as Place>⟧.state result).sink ≡ target_of None }
+        ensures room { (result.room ≡ room) × (result.fails ≡ None) }
+    {
+        MemPlace {
+            alloc,
+            stands,
+            beside,
+            room,
+            fails: None,
+            sure: false,
+            torn: false,
+            taken: Log::empty(),
+            failures: Tally::none(),
+            stalls: Tally::none(),
+            openings: Tally::none(),
+            stuck: Tally::none(),
+        }
+    }
+
+    /// Sets that this step fails.
+    pub fn fail_at(&mut self, step: Step)
+        ensures set { self.new.fails ≡ Some step }
+        ensures rest { ⟦<MemPlace as Place>⟧.state self.new ≡ ⟦<MemPlace as Place>⟧.state self.old }
+    {
+        self.fails = Some(step);
+    }
+
+    /// What stands there.
+    pub fn stands(&self) -> Option<&[u8]>
+        ensures { option_map (λ s. s.now) result ≡ option_map (λ v. v.items) self.now.stands }
+    {
+        match &self.stands {
+            Some(file) => Some(file),
+            None => None,
+        }
+    }
+
+    /// What is beside it.
+    pub fn beside(&self) -> Option<&[u8]>
+        ensures { option_map (λ s. s.now) result ≡ option_map (λ v. v.items) self.now.beside }
+    {
+        match &self.beside {
+            Some(file) => Some(file),
+            None => None,
+        }
+    }
+
+    /// Whether a stop so far might have left part of a new file there.
+    pub fn is_torn(&self) -> bool
+        ensures { result ≡ self.now.torn }
+    {
+        self.torn
+    }
+}
+
+impl Place for MemPlace {
+    ghost state = { λ s. record {
+      sink = record {
+        written = None;
+        taken = s.taken.bytes;
+        failures = s.failures.count;
+        stalls = s.stalls.count;
+        openings = s.openings.count;
+      };
+      files = Some (record {
+        stands = option_map (λ v. v.items) s.stands;
+        beside = option_map (λ v. v.items) s.beside;
+        sure = s.sure;
+        torn = s.torn;
+        stuck = s.stuck.count;
+      });
+    } };
+
+    fn make(&mut self) -> Result<(), MakeFault> {
+        if self.beside.is_some() {
+            self.failures = Tally::after(&self.failures);
+            return Err(MakeFault::Exists);
+        }
+        if self.fails == Some(Step::Make) {
+            self.failures = Tally::after(&self.failures);
+            return Err(MakeFault::NotOpened);
+        }
+        self.openings = Tally::after(&self.openings);
+        self.beside = Some(Vec::new(self.alloc));
+        self.sure = false;
+        Ok(())
+    }
+
+    fn write(&mut self, bytes: &[u8]) -> Result<(), WriteFault> {
+        if bytes.is_empty() {
+            return Ok(());
+        }
+        let count = self.room.min(bytes.len());
+        let Some(held) = &mut self.beside else {
+            self.stalls = Tally::after(&self.stalls);
+            return Err(WriteFault { written: 0 });
+        };
+        self.sure = false;
+        if held.extend_from_slice(&bytes[..count]).is_err() {
+            self.failures = Tally::after(&self.failures);
+            return Err(WriteFault { written: 0 });
+        }
+        self.taken.note(&bytes[..count]);
+        if count < bytes.len() {
+            self.failures = Tally::after(&self.failures);
+            return Err(WriteFault { written: count });
+        }
+        Ok(())
+    }
+
+    fn sync(&mut self) -> Result<(), DeviceFault> {
+        if self.fails == Some(Step::Sync) {
+            self.failures = Tally::after(&self.failures);
+            return Err(DeviceFault);
+        }
+        self.sure = true;
+        Ok(())
+    }
+
+    fn put(&mut self) -> Result<(), NotOpened> {
+        // Cut short, it may be done or not.
+        if !self.sure {
+            self.torn = true;
+        }
+        if self.fails == Some(Step::Put) {
+            self.failures = Tally::after(&self.failures);
+            return Err(NotOpened);
+        }
+        self.stands = self.beside.take();
+        Ok(())
+    }
+
+    fn remove(&mut self) {
+        if self.fails == Some(Step::Remove) {
+            self.stuck = Tally::after(&self.stuck);
+            return;
+        }
+        self.beside = None;
+    }
+}

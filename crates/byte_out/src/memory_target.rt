@@ -1,0 +1,32 @@
+//! A target in memory as a place, for tests: what it takes stands nowhere.
+
+ghost use Rattle.byte_out.specs.Place.{untold};
+
+use crate::fault::MakeFault;
+use crate::place::Place;
+use byte_io::{DeviceFault, MemoryTarget, NotOpened, Sink, Target, WriteFault, write_all};
+
+impl Place for MemoryTarget {
+    ghost state = { λ s. untold (⟦<MemoryTarget as Sink>⟧.state s) };
+
+    fn make(&mut self) -> Result<(), MakeFault> {
+        match self.open() {
+            Ok(()) => Ok(()),
+            Err(_) => Err(MakeFault::NotOpened),
+        }
+    }
+
+    fn write(&mut self, bytes: &[u8]) -> Result<(), WriteFault> {
+        write_all(self, bytes)
+    }
+
+    fn sync(&mut self) -> Result<(), DeviceFault> {
+        Ok(())
+    }
+
+    fn put(&mut self) -> Result<(), NotOpened> {
+        Ok(())
+    }
+
+    fn remove(&mut self) {}
+}

@@ -1,0 +1,44 @@
+//! The place of a file, in contracts that say what stands there.
+
+ghost use Rattle.std.specs.Prelude.{◌≡◌, OnOk, IfErr};
+ghost use Rattle.byte_io.specs.Device.{Opens};
+ghost use Rattle.byte_io.specs.Whole.{WritesAll, IsCutAt};
+ghost use Rattle.byte_out.specs.Place.{PlaceState, Told, IsMade, IsFilled, IsSynced, IsPut, IsRemoved, CountsOnly};
+
+use crate::fault::MakeFault;
+use byte_io::{DeviceFault, NotOpened, WriteFault};
+
+/// The name of a file, beside which a new file can be made and then put in the place of the old one.
+pub trait Place {
+    /// What its calls did, and what is there, where that is told.
+    ghost state: { Self → PlaceState };
+
+    /// Makes the new file, empty.
+    fn make(&mut self) -> Result<(), MakeFault>
+        ensures calls { Opens result (state self.old).sink (state self.new).sink }
+        ensures files { Told (IsMade result) (state self.old).files (state self.new).files };
+
+    /// Writes all the bytes to the new file.
+    fn write(&mut self, bytes: &[u8]) -> Result<(), WriteFault>
+        ensures ok { OnOk result
+            (WritesAll bytes.now (state self.old).sink (state self.new).sink) }
+        ensures fault { IfErr result
+            (λ e. IsCutAt e.written bytes.now (state self.old).sink (state self.new).sink) }
+        ensures files { Told (IsFilled result bytes.now)
+            (state self.old).files (state self.new).files };
+
+    /// Makes sure of the new file.
+    fn sync(&mut self) -> Result<(), DeviceFault>
+        ensures calls { CountsOnly result (state self.old).sink (state self.new).sink }
+        ensures files { Told (IsSynced result) (state self.old).files (state self.new).files };
+
+    /// Gives the new file the name of the old one, which is gone then.
+    fn put(&mut self) -> Result<(), NotOpened>
+        ensures calls { CountsOnly result (state self.old).sink (state self.new).sink }
+        ensures files { Told (IsPut result) (state self.old).files (state self.new).files };
+
+    /// Removes the new file, if it can.
+    fn remove(&mut self)
+        ensures calls { (state self.new).sink ≡ (state self.old).sink }
+        ensures files { Told IsRemoved (state self.old).files (state self.new).files };
+}
