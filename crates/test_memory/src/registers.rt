@@ -38,11 +38,17 @@ pub fn take(rt: &HostRuntime, words: &[String]) -> io::Result<Outcome> {
         return Ok(Outcome::Memory);
     };
     ready(rt)?;
-    Ok(match register.take(op) {
-        Ok(()) => Outcome::Done,
-        Err(TakeFault::Memory) => Outcome::left(is_left(rt, &register, &file)),
-        Err(TakeFault::Clash(id)) => Outcome::Refused("Clash", id),
+    Ok(match register.take(op).err() {
+        None => Outcome::Done,
+        Some(fault) => of_take(fault, is_left(rt, &register, &file)),
     })
+}
+
+fn of_take(fault: TakeFault, is_left: bool) -> Outcome {
+    match fault {
+        TakeFault::Memory => Outcome::left(is_left),
+        TakeFault::Clash(id) => Outcome::Refused("Clash", id),
+    }
 }
 
 /// Joins two registers: `join FILE OTHER`.
@@ -72,12 +78,18 @@ pub fn piece(rt: &HostRuntime, words: &[String]) -> io::Result<Outcome> {
         return Ok(Outcome::Memory);
     };
     ready(rt)?;
-    Ok(match register.join_piece(rt.alloc(), &piece) {
-        Ok(_) => Outcome::Done,
-        Err(PieceFault::Memory) => Outcome::left(is_left(rt, &register, &file)),
-        Err(PieceFault::Basis(id)) => Outcome::Refused("Basis", id),
-        Err(PieceFault::Clash(id)) => Outcome::Refused("Clash", id),
+    Ok(match register.join_piece(rt.alloc(), &piece).err() {
+        None => Outcome::Done,
+        Some(fault) => of_piece(fault, is_left(rt, &register, &file)),
     })
+}
+
+fn of_piece(fault: PieceFault, is_left: bool) -> Outcome {
+    match fault {
+        PieceFault::Memory => Outcome::left(is_left),
+        PieceFault::Basis(id) => Outcome::Refused("Basis", id),
+        PieceFault::Clash(id) => Outcome::Refused("Clash", id),
+    }
 }
 
 /// Supersedes an entry by others, for the office of the entry: `supersede FILE OLD BY..`.
