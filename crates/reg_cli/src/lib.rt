@@ -1,10 +1,17 @@
 //! The command line of `crsreg`: its words, the files and streams that they name, the engine of each command.
 #![tactic(auto)]
 
+mod change;
 mod command;
-mod help;
+mod exchange;
+mod explain;
+mod look;
+mod look_shelf;
+mod many;
+mod outcome;
 mod read_shelf;
 mod shelf;
+mod show;
 mod words;
 
 pub use command::{answer, run};

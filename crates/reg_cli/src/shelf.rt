@@ -1,43 +1,27 @@
-//! Commands that make a shelf, or change the register that stands on one.
-use crate::command::{entries, entry, open, open_all, replica, word};
+//! Commands that change the register that stands on a shelf.
+use crate::explain;
+use crate::many::{import_on, settle_on};
+use crate::outcome::Outcome;
 use crate::read_shelf::show_on;
-use byte_disk::{FileDisk, NewFile};
+use crate::words::{entries, entry, open, open_all, open_shelf, replica, word};
 use byte_io::Writing;
 use clap::ArgMatches;
-use reg_engine::{
-    CliFault, Refusal, ShelfProblem, run_enter_on, run_merge_on, run_retire_on, run_shelf,
-    run_supersede_on,
-};
-use std::fs::OpenOptions;
+use reg_engine::{CliFault, run_enter_on, run_merge_on, run_retire_on, run_supersede_on};
 use std::io;
-use std::rt::Files;
-
-/// Makes a shelf of the file. A size that is no number is one that no shelf has.
-pub fn shelf(rt: &HostRuntime, path: &str, size: &str) -> Result<(), CliFault> {
-    let Ok(size) = size.parse::<u32>() else {
-        return Err(CliFault::Refused(Refusal::BadSize));
-    };
-    run_shelf(rt.alloc(), &mut NewFile::new(rt, path), size)
-}
 
 /// What the command did on a shelf, which is opened before the files.
-pub fn perform_on(
-    rt: &HostRuntime,
-    name: &str,
-    matches: &ArgMatches<'_>,
-) -> Option<Result<(), CliFault>> {
+pub fn perform_on(rt: &HostRuntime, name: &str, matches: &ArgMatches<'_>) -> Option<Outcome> {
     let outcome = match name {
+        "enter" if matches.get_flag("explain") => return Some(explain::enter_on(rt, matches)),
         "enter" => enter(rt, matches),
         "supersede" => supersede(rt, matches),
         "retire" => retire(rt, matches),
-        "merge" => merge(
-            rt,
-            word(matches, "OUT"),
-            matches.get_strs("FILE").unwrap_or(&[]),
-        ),
+        "import" => return Some(import_on(rt, matches)),
+        "settle" => settle_on(rt, matches),
+        "merge" => merge(rt, matches),
         _ => return show_on(rt, name, matches),
     };
-    Some(outcome)
+    Some(Outcome::of(outcome))
 }
 
 fn enter(rt: &HostRuntime, matches: &ArgMatches<'_>) -> Result<(), CliFault> {
@@ -87,15 +71,9 @@ fn retire(rt: &HostRuntime, matches: &ArgMatches<'_>) -> Result<(), CliFault> {
     )
 }
 
-fn merge(rt: &HostRuntime, path: &str, paths: &[&str]) -> Result<(), CliFault> {
-    let mut disk = open_shelf(rt, path)?;
-    let mut sources = open_all(rt, rt.alloc(), paths)?;
+fn merge(rt: &HostRuntime, matches: &ArgMatches<'_>) -> Result<(), CliFault> {
+    let mut disk = open_shelf(rt, word(matches, "OUT"))?;
+    let paths = matches.get_strs("FILE").unwrap_or(&[]);
+    let mut sources = open_all(rt, rt.alloc(), 1, paths)?;
     run_merge_on(rt.alloc(), &mut disk, &mut sources)
-}
-
-fn open_shelf<R: Files>(rt: &R, path: &str) -> Result<FileDisk<R::File>, CliFault> {
-    match OpenOptions::new().read(true).write(true).open(rt, path) {
-        Ok(file) => Ok(FileDisk::new(file)),
-        Err(_) => Err(CliFault::Shelf(ShelfProblem::NotOpened)),
-    }
 }

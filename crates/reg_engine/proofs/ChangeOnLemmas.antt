@@ -43,6 +43,7 @@ pub change_untold : {D : Type 0} (d : Disks D) (replica note : List ℕ) (bodies
 change_untold d replica note bodies old new x y ids has does (cli.Refused r) h = absurd h
 change_untold d replica note bodies old new x y ids has does (cli.File k f) h = absurd h
 change_untold d replica note bodies old new x y ids has does (cli.Out out.NotOpened) h = absurd h
+change_untold d replica note bodies old new x y ids has does (cli.Out out.NewExists) h = absurd h
 change_untold d replica note bodies old new x y ids has does (cli.Out out.TooLarge) h = absurd h
 change_untold d replica note bodies old new x y ids has does (cli.Out (out.WriteFailed n)) h = (x, has, (y, ids, does, h.0, h.1))
 change_untold d replica note bodies old new x y ids has does cli.Memory h = h
@@ -80,6 +81,7 @@ pub enter_untold : {D : Type 0} (d : Disks D) (replica note : List ℕ) (old new
 enter_untold d replica note old new x y v ids both does (cli.Refused r) h = absurd h
 enter_untold d replica note old new x y v ids both does (cli.File k f) h = absurd h
 enter_untold d replica note old new x y v ids both does (cli.Out out.NotOpened) h = absurd h
+enter_untold d replica note old new x y v ids both does (cli.Out out.NewExists) h = absurd h
 enter_untold d replica note old new x y v ids both does (cli.Out out.TooLarge) h = absurd h
 enter_untold d replica note old new x y v ids both does (cli.Out (out.WriteFailed n)) h = (x, v, both, (y, ids, does, h.0, h.1))
 enter_untold d replica note old new x y v ids both does cli.Memory h = (part_of_found old.text new.text v both.0.1, h.0, h.1)

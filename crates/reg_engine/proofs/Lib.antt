@@ -1,12 +1,12 @@
-mod ChangeLemmas
+pub mod ChangeLemmas
 mod ChangeOnLemmas
 mod DowngradeLemmas
 mod ExchangeLemmas
 mod ExportLemmas
-mod InputLemmas
+pub mod InputLemmas
 mod MergeLemmas
 mod MergeOnLemmas
 mod OutputLemmas
 mod ReadOnLemmas
 mod ReportLemmas
-mod ShelfLemmas
+pub mod ShelfLemmas

@@ -19,7 +19,7 @@ use Rattle.reg_engine.specs.declared.fault.CliFault.{CliFault}
 use Rattle.reg_engine.specs.declared.fault.CliFault.TheVariants as cli
 use Rattle.reg_engine.specs.declared.fault.OutFault.TheVariants as out
 use Rattle.reg_engine.specs.declared.fault.Refusal.TheVariants as refusal
-use Rattle.byte_io.specs.Device.{SinkState}
+use Rattle.byte_out.specs.Place.{PlaceState}
 use Rattle.std.specs.Prelude.{◌↔◌}
 use Rattle.reg_state.specs.declared.piece.PieceFault.{PieceFault}
 use Rattle.reg_state.specs.declared.piece.PieceFault.TheVariants as piece
@@ -137,18 +137,21 @@ ways r (cli.Refused refusal.CountSpent) h = absurd h
 ways r (cli.Refused refusal.BadId) h = absurd h
 ways r (cli.Refused refusal.BadReplica) h = absurd h
 ways r (cli.Refused refusal.BadSize) h = absurd h
+ways r (cli.Refused refusal.NoEntry) h = absurd h
+ways r (cli.Refused refusal.Unsettled) h = absurd h
+ways r (cli.Refused (refusal.KeyTaken id)) h = absurd h
 ways r (cli.File k f) h = absurd h
 ways r (cli.Out f) h = absurd h
 ways r cli.Memory h = inr (inr refl)
 ways r (cli.Shelf p) h = absurd h
 
-refused_by : (old new : Ends) (ps : List Part) (r : Result Content PieceRefusal) → HoldAll old.sources new.sources ps → join_of ps ≡ r → new.target ≡ old.target
+refused_by : (old new : Ends) (ps : List Part) (r : Result Content PieceRefusal) → HoldAll old.sources new.sources ps → join_of ps ≡ r → new.place ≡ old.place
     → (f : CliFault) → Ways r f → IsMergeFault old new f
 refused_by old new ps r held is same f (inl (id, e, h)) = subst (λ k. IsMergeFault old new k) (sym e) (ps, held, is ∙ h, same)
 refused_by old new ps r held is same f (inr (inl (id, e, h))) = subst (λ k. IsMergeFault old new k) (sym e) (ps, held, is ∙ h, same)
 refused_by old new ps r held is same f (inr (inr e)) = subst (λ k. IsMergeFault old new k) (sym e) (none_failed old.sources new.sources ps held, same)
 
-refused_as : (old new : Ends) (ps : List Part) (r : Result Content PieceRefusal) → HoldAll old.sources new.sources ps → join_of ps ≡ r → new.target ≡ old.target
+refused_as : (old new : Ends) (ps : List Part) (r : Result Content PieceRefusal) → HoldAll old.sources new.sources ps → join_of ps ≡ r → new.place ≡ old.place
     → (f : CliFault) → IsUnjoined r f → IsMergeFault old new f
 refused_as old new ps r held is same f h = refused_by old new ps r held is same f (ways r f h)
 
@@ -168,12 +171,12 @@ unjoined_by r q basis clash (piece.Basis id) is = (basis id).0 is
 unjoined_by r q basis clash (piece.Clash id) is = (clash id).0 is
 unjoined_by r q basis clash piece.Memory is = tt
 
-pub unjoined_first : (old new : Ends) (xs : List Content) (qs : List Piece) → GiveParts old.sources new.sources xs qs → new.target ≡ old.target
+pub unjoined_first : (old new : Ends) (xs : List Content) (qs : List Piece) → GiveParts old.sources new.sources xs qs → new.place ≡ old.place
     → (f : CliFault) → IsUnjoined (begun (all_joined joined (Ok nothing) xs)) f → IsMergeFault old new f
 unjoined_first old new xs qs (ps, held, e, g) same f h =
     refused_as old new ps (with_pieces (begun (all_joined joined (Ok nothing) xs)) qs) held (of_parts ps xs qs e g) same f (refusal_stays (begun (all_joined joined (Ok nothing) xs)) qs f h)
 
-pub unjoined_then : (old new : Ends) (xs : List Content) (qs : List Piece) (y : Content) → GiveParts old.sources new.sources xs qs → new.target ≡ old.target
+pub unjoined_then : (old new : Ends) (xs : List Content) (qs : List Piece) (y : Content) → GiveParts old.sources new.sources xs qs → new.place ≡ old.place
     → begun (all_joined joined (Ok nothing) xs) ≡ Ok y → (f : CliFault) → IsUnjoined (with_pieces (Ok y) qs) f → IsMergeFault old new f
 unjoined_then old new xs qs y (ps, held, e, g) same first f h =
     refused_as old new ps (with_pieces (Ok y) qs) held (of_parts ps xs qs e g ∙ ap (λ r. with_pieces r qs) first) same f h
@@ -183,9 +186,9 @@ pub joins_to : (ps : List Part) (xs : List Content) (qs : List Piece) (y x : Con
     → begun (all_joined joined (Ok nothing) xs) ≡ Ok y → with_pieces (Ok y) qs ≡ Ok x → JoinTo ps x
 joins_to ps xs qs y x e g first then-all = of_parts ps xs qs e g ∙ ap (λ r. with_pieces r qs) first ∙ then-all
 
--- what the target met is what the merge met
+-- what the place met is what the merge met
 pub unmerged : (old new : Ends) (ps : List Part) (x : Content) → HoldAll old.sources new.sources ps → JoinTo ps x
-    → (f : CliFault) → IsUnpublished x old.target new.target f → IsMergeFault old new f
+    → (f : CliFault) → IsUnpublished x old.place new.place f → IsMergeFault old new f
 unmerged old new ps x held join (cli.Refused r) h = absurd h
 unmerged old new ps x held join (cli.File k f) h = absurd h
 unmerged old new ps x held join (cli.Out f) h = (ps, held, (x, join, h))
@@ -206,5 +209,5 @@ abbrev fault_or : CliFault → Result (Unit {0}) CliFault → CliFault
 fault_or d (Ok x) = d
 fault_or d (Err f) = f
 
-pub never_too_large : (old new : SinkState) (f : CliFault) → IsUnpublished nothing old new f → ◌≡◌ {A = Result (Unit {0}) CliFault} (Err f) (Err (cli.Out out.TooLarge)) → ⊥
+pub never_too_large : (old new : PlaceState) (f : CliFault) → IsUnpublished nothing old new f → ◌≡◌ {A = Result (Unit {0}) CliFault} (Err f) (Err (cli.Out out.TooLarge)) → ⊥
 never_too_large old new f h e = nothing_is_small (subst (λ k. IsUnpublished nothing old new k) (ap (fault_or f) e) h).0

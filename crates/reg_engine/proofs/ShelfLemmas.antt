@@ -4,6 +4,7 @@ use Rattle.std.specs.Int.{w32, to_be_bytes, from_be_bytes}
 use Rattle.std.proofs.lemmas.Nat.{from_be_bytes-to_be_bytes_4}
 use Rattle.std.specs.Prelude.{IsTrue, Err, IsErrOf}
 use Rattle.byte_io.specs.Device.{SinkState}
+use Rattle.byte_out.specs.Place.{PlaceState}
 use Rattle.byte_disk.specs.Disk.{Only, LeavesOnly}
 use Rattle.byte_disk.proofs.Moments.{weaker, joined}
 use Rattle.byte_shelf.specs.Shelf.{StandAt, HasHead, HasNoHead, IsSize}
@@ -145,6 +146,7 @@ module _ {D : Type 0} (d : Disks D) (old mid new : D) (tells : d.tells mid ≡ d
   then_untold x y ids before after (cli.Refused r) h = h
   then_untold x y ids before after (cli.File k f) h = h
   then_untold x y ids before after (cli.Out out.NotOpened) h = h
+  then_untold x y ids before after (cli.Out out.NewExists) h = h
   then_untold x y ids before after (cli.Out out.TooLarge) h = h
   then_untold x y ids before after (cli.Out (out.WriteFailed n)) h = (then_keeps x y h.0, h.1)
   then_untold x y ids before after cli.Memory h = (then_stays h.0, h.1)
@@ -172,7 +174,7 @@ module _ {D : Type 0} (d : Disks D) (old mid new : D) (tells : d.tells mid ≡ d
 
 -- ---- a command that reads a shelf alone
 
-pub unpublished_on : {D : Type 0} (d : Disks D) (old new : D) (before after : SinkState) (x : Content) → Has d old x → StaysOn d old new
+pub unpublished_on : {D : Type 0} (d : Disks D) (old new : D) (before after : PlaceState) (x : Content) → Has d old x → StaysOn d old new
     → (f : CliFault) → IsUnpublished x before after f → IsUnshelfFault d old new before after f
 unpublished_on d old new before after x has stays (cli.Refused r) h = absurd h
 unpublished_on d old new before after x has stays (cli.File k f) h = absurd h

@@ -1,5 +1,7 @@
 -- The faults of commands: their exit statuses, and where they come from.
 use Rattle.std.specs.Prelude.{ℕ}
+use Rattle.byte_out.specs.declared.fault.ReplaceFault.{ReplaceFault}
+use Rattle.byte_out.specs.declared.fault.ReplaceFault.TheVariants as replaced
 use Rattle.wkt_crs.specs.declared.fault.ReadFault.TheVariants as read
 use Rattle.wkt_crs.specs.Unspelled.{as_read}
 use Rattle.wkt_crs.specs.declared.source.ReadFromFault.{ReadFromFault}
@@ -67,6 +69,12 @@ write_fault writing.Memory = cli.Memory
 abbrev pub first_fault : FirstFileFault → CliFault
 first_fault (first.HasNote id) = cli.Refused (refusal.HasNote id)
 first_fault (first.Write f) = write_fault f
+
+-- the fault of a command that put a file in a place
+abbrev pub replace_fault : ReplaceFault → CliFault
+replace_fault replaced.NotOpened = cli.Out out.NotOpened
+replace_fault replaced.NewExists = cli.Out out.NewExists
+replace_fault (replaced.WriteFailed n) = cli.Out (out.WriteFailed n)
 
 -- the fault of a command that an office was given
 abbrev pub office_fault : OfficeFault → CliFault

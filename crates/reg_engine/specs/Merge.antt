@@ -1,6 +1,7 @@
 -- A merge of registers and pieces: what came in, and what went out.
 use Rattle.std.specs.Prelude.{◌≡◌, ◌++◌, ◌∷◌, [], List, ℕ, Result, Ok, Err, map}
-use Rattle.byte_io.specs.Device.{SourceState, SinkState}
+use Rattle.byte_io.specs.Device.{SourceState}
+use Rattle.byte_out.specs.Place.{PlaceState}
 use Rattle.reg_op.specs.Contents.{Content, nothing, joined}
 use Rattle.reg_op.specs.Ids.{Id}
 use Rattle.reg_op.specs.Pieces.{Piece, PieceRefusal, Basis, Clash, part_of, joined_piece}
@@ -64,26 +65,26 @@ brought ps = registers ps ++ map part_of (pieces ps)
 
 -- ---- what the command does
 
--- what a merge sees of its sources and its target
+-- what a merge sees of its sources and its place
 pub record Ends : Type 0 where
   pub sources : List SourceState
-  pub target : SinkState
+  pub place : PlaceState
 
-abbrev pub ends : List SourceState → SinkState → Ends
-ends sources target = record { sources = sources; target = target }
+abbrev pub ends : List SourceState → PlaceState → Ends
+ends sources place = record { sources = sources; place = place }
 
 -- each source gave the file of a part, and the file of what they join to went out
 abbrev pub IsMerged : Ends → Ends → Type 0
 IsMerged old new = (ps : List Part) × HoldAll old.sources new.sources ps
-    × ((x : Content) × JoinTo ps x × PublishesFile x old.target new.target)
+    × ((x : Content) × JoinTo ps x × PublishesFile x old.place new.place)
 
 -- what a merge did, by its fault; where it refuses, nothing was opened
 abbrev pub IsMergeFault : Ends → Ends → CliFault → Type 0
-IsMergeFault old new (cli.Refused (refusal.Clash id)) = (ps : List Part) × HoldAll old.sources new.sources ps × ClashAt ps id × (new.target ≡ old.target)
-IsMergeFault old new (cli.Refused (refusal.Basis id)) = (ps : List Part) × HoldAll old.sources new.sources ps × BasisAt ps id × (new.target ≡ old.target)
+IsMergeFault old new (cli.Refused (refusal.Clash id)) = (ps : List Part) × HoldAll old.sources new.sources ps × ClashAt ps id × (new.place ≡ old.place)
+IsMergeFault old new (cli.Refused (refusal.Basis id)) = (ps : List Part) × HoldAll old.sources new.sources ps × BasisAt ps id × (new.place ≡ old.place)
 IsMergeFault old new (cli.Refused r) = ⊥
-IsMergeFault old new (cli.File k f) = StopsAt k f old.sources new.sources × (new.target ≡ old.target)
+IsMergeFault old new (cli.File k f) = StopsAt k f old.sources new.sources × (new.place ≡ old.place)
 IsMergeFault old new (cli.Out f) = (ps : List Part) × HoldAll old.sources new.sources ps
-    × ((x : Content) × JoinTo ps x × IsOutFault x old.target new.target f)
-IsMergeFault old new cli.Memory = NoneFails old.sources new.sources × (new.target ≡ old.target)
+    × ((x : Content) × JoinTo ps x × IsOutFault x old.place new.place f)
+IsMergeFault old new cli.Memory = NoneFails old.sources new.sources × (new.place ≡ old.place)
 IsMergeFault old new (cli.Shelf p) = ⊥

@@ -1,10 +1,11 @@
--- A file, to a target that is opened once the file is made; and ids, to a sink.
+-- A file, put in a place once all of it is made; and ids, to a sink.
 use Rattle.std.specs.Prelude.{◌≡◌, ◌++◌, ◌∷◌, ◌⊎◌, [], List, ℕ}
 use Rattle.std.specs.List.{flat_map}
 use Rattle.byte_io.specs.Device.{SinkState}
 use Rattle.byte_io.specs.Whole.{WritesAll, IsCutAt}
-use Rattle.byte_io.specs.Publish.{Publishes, IsPublishFault}
-use Rattle.byte_io.specs.declared.fault.PublishFault.TheVariants as publish
+use Rattle.byte_out.specs.Place.{PlaceState}
+use Rattle.byte_out.specs.Replace.{Replaces, IsReplaceFault}
+use Rattle.byte_out.specs.declared.fault.ReplaceFault.TheVariants as replaced
 use Rattle.reg_op.specs.Contents.{Content}
 use Rattle.reg_op.specs.Ids.{Id, Ids}
 use Rattle.reg_op.specs.Pieces.{Piece}
@@ -15,18 +16,19 @@ use Rattle.reg_engine.specs.declared.fault.OutFault.TheVariants as out
 use Rattle.reg_engine.specs.declared.fault.CliFault.{CliFault}
 use Rattle.reg_engine.specs.declared.fault.CliFault.TheVariants as cli
 
--- it was opened once, and such a file went out whole
-abbrev pub PublishesBy : (List ℕ → Type 0) → SinkState → SinkState → Type 0
-PublishesBy Are old new = (bytes : List ℕ) × Are bytes × Publishes bytes old new
+-- such a file went out whole, and stands at the place
+abbrev pub PublishesBy : (List ℕ → Type 0) → PlaceState → PlaceState → Type 0
+PublishesBy Are old new = (bytes : List ℕ) × Are bytes × Replaces bytes old new
 
--- the file would be too large, and nothing was opened; or it was not opened; or exactly the first n bytes went out
-abbrev pub IsOutFaultBy : (List ℕ → Type 0) → Type 0 → SinkState → SinkState → OutFault → Type 0
+-- the file would be too large, and the place is as it was; or what stood there stands, for this fault of replacing it
+abbrev pub IsOutFaultBy : (List ℕ → Type 0) → Type 0 → PlaceState → PlaceState → OutFault → Type 0
 IsOutFaultBy Are Large old new out.TooLarge = Large × (new ≡ old)
-IsOutFaultBy Are Large old new out.NotOpened = (bytes : List ℕ) × Are bytes × IsPublishFault bytes old new publish.NotOpened
-IsOutFaultBy Are Large old new (out.WriteFailed n) = (bytes : List ℕ) × Are bytes × IsPublishFault bytes old new (publish.WriteFailed n)
+IsOutFaultBy Are Large old new out.NotOpened = (bytes : List ℕ) × Are bytes × IsReplaceFault bytes old new replaced.NotOpened
+IsOutFaultBy Are Large old new out.NewExists = (bytes : List ℕ) × Are bytes × IsReplaceFault bytes old new replaced.NewExists
+IsOutFaultBy Are Large old new (out.WriteFailed n) = (bytes : List ℕ) × Are bytes × IsReplaceFault bytes old new (replaced.WriteFailed n)
 
--- what a command did to its target, by its fault; out of memory, nothing was opened
-abbrev pub IsUnpublishedBy : (List ℕ → Type 0) → Type 0 → SinkState → SinkState → CliFault → Type 0
+-- what a command did to its place, by its fault; out of memory, nothing
+abbrev pub IsUnpublishedBy : (List ℕ → Type 0) → Type 0 → PlaceState → PlaceState → CliFault → Type 0
 IsUnpublishedBy Are Large old new (cli.Refused r) = ⊥
 IsUnpublishedBy Are Large old new (cli.File k f) = ⊥
 IsUnpublishedBy Are Large old new (cli.Out f) = IsOutFaultBy Are Large old new f
@@ -34,35 +36,36 @@ IsUnpublishedBy Are Large old new cli.Memory = new ≡ old
 IsUnpublishedBy Are Large old new (cli.Shelf p) = ⊥
 
 -- the same, where just these bytes are the file
-abbrev pub IsUnpublishedOf : List ℕ → SinkState → SinkState → CliFault → Type 0
+abbrev pub IsUnpublishedOf : List ℕ → PlaceState → PlaceState → CliFault → Type 0
 IsUnpublishedOf bytes old new (cli.Refused r) = ⊥
 IsUnpublishedOf bytes old new (cli.File k f) = ⊥
 IsUnpublishedOf bytes old new (cli.Out out.TooLarge) = ⊥
-IsUnpublishedOf bytes old new (cli.Out out.NotOpened) = IsPublishFault bytes old new publish.NotOpened
-IsUnpublishedOf bytes old new (cli.Out (out.WriteFailed n)) = IsPublishFault bytes old new (publish.WriteFailed n)
+IsUnpublishedOf bytes old new (cli.Out out.NotOpened) = IsReplaceFault bytes old new replaced.NotOpened
+IsUnpublishedOf bytes old new (cli.Out out.NewExists) = IsReplaceFault bytes old new replaced.NewExists
+IsUnpublishedOf bytes old new (cli.Out (out.WriteFailed n)) = IsReplaceFault bytes old new (replaced.WriteFailed n)
 IsUnpublishedOf bytes old new cli.Memory = ⊥
 IsUnpublishedOf bytes old new (cli.Shelf p) = ⊥
 
 -- the same of the file of a content; of the ids that were seen; of a piece
-abbrev pub PublishesFile : Content → SinkState → SinkState → Type 0
+abbrev pub PublishesFile : Content → PlaceState → PlaceState → Type 0
 PublishesFile x old new = PublishesBy (λ bytes. Holds bytes x) old new
 
-abbrev pub IsOutFault : Content → SinkState → SinkState → OutFault → Type 0
+abbrev pub IsOutFault : Content → PlaceState → PlaceState → OutFault → Type 0
 IsOutFault x old new f = IsOutFaultBy (λ bytes. Holds bytes x) (IsTooLarge x) old new f
 
-abbrev pub IsUnpublished : Content → SinkState → SinkState → CliFault → Type 0
+abbrev pub IsUnpublished : Content → PlaceState → PlaceState → CliFault → Type 0
 IsUnpublished x old new f = IsUnpublishedBy (λ bytes. Holds bytes x) (IsTooLarge x) old new f
 
-abbrev pub PublishesSeen : Ids → SinkState → SinkState → Type 0
+abbrev pub PublishesSeen : Ids → PlaceState → PlaceState → Type 0
 PublishesSeen ids old new = PublishesBy (λ bytes. HoldsSeen bytes ids) old new
 
-abbrev pub IsUnpublishedSeen : Ids → SinkState → SinkState → CliFault → Type 0
+abbrev pub IsUnpublishedSeen : Ids → PlaceState → PlaceState → CliFault → Type 0
 IsUnpublishedSeen ids old new f = IsUnpublishedBy (λ bytes. HoldsSeen bytes ids) (IsSeenTooLarge ids) old new f
 
-abbrev pub PublishesPiece : Piece → SinkState → SinkState → Type 0
+abbrev pub PublishesPiece : Piece → PlaceState → PlaceState → Type 0
 PublishesPiece p old new = PublishesBy (λ bytes. HoldsPiece bytes p) old new
 
-abbrev pub IsUnpublishedPiece : Piece → SinkState → SinkState → CliFault → Type 0
+abbrev pub IsUnpublishedPiece : Piece → PlaceState → PlaceState → CliFault → Type 0
 IsUnpublishedPiece p old new f = IsUnpublishedBy (λ bytes. HoldsPiece bytes p) (IsPieceTooLarge p) old new f
 
 -- ---- and ids
@@ -73,23 +76,24 @@ id_lines ids = flat_map (λ i. printed i ++ 10 ∷ []) ids
 
 -- what a command that makes operations sees of its outputs: where the register goes, and where the ids
 pub record Outputs : Type 0 where
-  pub target : SinkState
+  pub place : PlaceState
   pub ids : SinkState
 
-abbrev pub outputs : SinkState → SinkState → Outputs
-outputs target ids = record { target = target; ids = ids }
+abbrev pub outputs : PlaceState → SinkState → Outputs
+outputs place ids = record { place = place; ids = ids }
 
 -- the content's file went out whole, and so did the lines of the ids
 abbrev pub GivesOut : Content → List Id → Outputs → Outputs → Type 0
-GivesOut x ids old new = PublishesFile x old.target new.target × WritesAll (id_lines ids) old.ids new.ids
+GivesOut x ids old new = PublishesFile x old.place new.place × WritesAll (id_lines ids) old.ids new.ids
 
 -- what did not go out, by the fault: something of the file, and no id; or the file did, and exactly n bytes of the lines
 abbrev pub IsUngiven : Content → List Id → Outputs → Outputs → CliFault → Type 0
 IsUngiven x ids old new (cli.Refused r) = ⊥
 IsUngiven x ids old new (cli.File k f) = ⊥
-IsUngiven x ids old new (cli.Out out.TooLarge) = IsOutFault x old.target new.target out.TooLarge × (new.ids ≡ old.ids)
-IsUngiven x ids old new (cli.Out out.NotOpened) = IsOutFault x old.target new.target out.NotOpened × (new.ids ≡ old.ids)
-IsUngiven x ids old new (cli.Out (out.WriteFailed n)) = (IsOutFault x old.target new.target (out.WriteFailed n) × (new.ids ≡ old.ids))
-    ⊎ (PublishesFile x old.target new.target × IsCutAt n (id_lines ids) old.ids new.ids)
+IsUngiven x ids old new (cli.Out out.TooLarge) = IsOutFault x old.place new.place out.TooLarge × (new.ids ≡ old.ids)
+IsUngiven x ids old new (cli.Out out.NotOpened) = IsOutFault x old.place new.place out.NotOpened × (new.ids ≡ old.ids)
+IsUngiven x ids old new (cli.Out out.NewExists) = IsOutFault x old.place new.place out.NewExists × (new.ids ≡ old.ids)
+IsUngiven x ids old new (cli.Out (out.WriteFailed n)) = (IsOutFault x old.place new.place (out.WriteFailed n) × (new.ids ≡ old.ids))
+    ⊎ (PublishesFile x old.place new.place × IsCutAt n (id_lines ids) old.ids new.ids)
 IsUngiven x ids old new cli.Memory = new ≡ old
 IsUngiven x ids old new (cli.Shelf p) = ⊥

@@ -2,6 +2,7 @@
 use Rattle.std.specs.Prelude.{◌≡◌, true, false, List, ℕ}
 use Rattle.byte_io.specs.Device.{SourceState, SinkState}
 use Rattle.byte_io.specs.Whole.{WritesAll, IsCutAt}
+use Rattle.byte_out.specs.Place.{PlaceState}
 use Rattle.reg_op.specs.Ids.{Id, Ids}
 use Rattle.reg_op.specs.Contents.{Content}
 use Rattle.reg_op.specs.Pieces.{piece_for}
@@ -31,6 +32,7 @@ Lacks entry x r = ⊥
 abbrev pub IsCutOut : (List ℕ → Type 0) → SinkState → SinkState → OutFault → Type 0
 IsCutOut Is before after (out.WriteFailed n) = (text : List ℕ) × Is text × IsCutAt n text before after
 IsCutOut Is before after out.NotOpened = ⊥
+IsCutOut Is before after out.NewExists = ⊥
 IsCutOut Is before after out.TooLarge = ⊥
 
 -- ---- reports
@@ -41,6 +43,7 @@ IsReportedOn d IsText old new before after = ReadsOn d old new (λ x. Reports (I
 abbrev pub IsReportCut : (Content → List ℕ → Type 0) → SinkState → SinkState → Content → OutFault → Type 0
 IsReportCut IsText before after x (out.WriteFailed n) = IsReportFault (IsText x) before after (report.WriteFailed n)
 IsReportCut IsText before after x out.NotOpened = ⊥
+IsReportCut IsText before after x out.NewExists = ⊥
 IsReportCut IsText before after x out.TooLarge = ⊥
 
 abbrev pub IsUnreportedOn : {D : Type 0} → Disks D → (Content → Refusal → Type 0) → (Content → List ℕ → Type 0) → D → D → SinkState → SinkState → CliFault → Type 0
@@ -62,35 +65,35 @@ IsShowFaultOn d form entry old new before after f = IsUnreadOn d old new (Lacks 
 
 -- ---- summaries and pieces
 
-abbrev pub IsSummedOn : {D : Type 0} → Disks D → D → D → SinkState → SinkState → Type 0
+abbrev pub IsSummedOn : {D : Type 0} → Disks D → D → D → PlaceState → PlaceState → Type 0
 IsSummedOn d old new before after = ReadsOn d old new (λ x. PublishesSeen x.seen before after)
 
-abbrev pub IsSumFaultOn : {D : Type 0} → Disks D → D → D → SinkState → SinkState → CliFault → Type 0
+abbrev pub IsSumFaultOn : {D : Type 0} → Disks D → D → D → PlaceState → PlaceState → CliFault → Type 0
 IsSumFaultOn d old new before after f = IsUnreadOn d old new Never (λ x f. IsUnpublishedSeen x.seen before after (cli.Out f)) (after ≡ before) f
 
--- what the command sees of the disk, of the summary that the piece is for, and of its target
+-- what the command sees of the disk, of the summary that the piece is for, and of its place
 pub record ShelfPieceDesk (D : Type 0) : Type 0 where
   pub disk : D
   pub summary : SourceState
-  pub target : SinkState
+  pub place : PlaceState
 
-abbrev pub shelf_piece_desk : {D : Type 0} → D → SourceState → SinkState → ShelfPieceDesk D
-shelf_piece_desk disk summary target = record { disk = disk; summary = summary; target = target }
+abbrev pub shelf_piece_desk : {D : Type 0} → D → SourceState → PlaceState → ShelfPieceDesk D
+shelf_piece_desk disk summary place = record { disk = disk; summary = summary; place = place }
 
 -- the shelf had a content, and then the summary is of these ids
 abbrev pub ReadsForOn : {D : Type 0} → Disks D → Content → Ids → ShelfPieceDesk D → ShelfPieceDesk D → Type 0
 ReadsForOn d x basis old new = Has d old.disk x × FindsSeen old.summary new.summary basis
 
 abbrev pub IsPieceMadeOn : {D : Type 0} → Disks D → ShelfPieceDesk D → ShelfPieceDesk D → Type 0
-IsPieceMadeOn d old new = (x : Content) × (basis : Ids) × ReadsForOn d x basis old new × PublishesPiece (piece_for x basis) old.target new.target
+IsPieceMadeOn d old new = (x : Content) × (basis : Ids) × ReadsForOn d x basis old new × PublishesPiece (piece_for x basis) old.place new.place
     × StaysOn d old.disk new.disk
 
 -- what was done instead, by the fault; the summary is file 1
 abbrev pub IsPieceFaultOn : {D : Type 0} → Disks D → ShelfPieceDesk D → ShelfPieceDesk D → CliFault → Type 0
 IsPieceFaultOn d old new (cli.Refused r) = ⊥
 IsPieceFaultOn d old new (cli.File k f) = (k ≡ 1) × ((x : Content) × Has d old.disk x) × IsSummaryFault f old.summary new.summary
-    × StaysOn d old.disk new.disk × (new.target ≡ old.target)
+    × StaysOn d old.disk new.disk × (new.place ≡ old.place)
 IsPieceFaultOn d old new (cli.Out f) = (x : Content) × (basis : Ids) × ReadsForOn d x basis old new
-    × IsUnpublishedPiece (piece_for x basis) old.target new.target (cli.Out f) × StaysOn d old.disk new.disk
-IsPieceFaultOn d old new cli.Memory = NeverFails old.summary new.summary × StaysOn d old.disk new.disk × (new.target ≡ old.target)
-IsPieceFaultOn d old new (cli.Shelf p) = IsUnrestored d old.disk new.disk (cli.Shelf p) × (new.summary ≡ old.summary) × (new.target ≡ old.target)
+    × IsUnpublishedPiece (piece_for x basis) old.place new.place (cli.Out f) × StaysOn d old.disk new.disk
+IsPieceFaultOn d old new cli.Memory = NeverFails old.summary new.summary × StaysOn d old.disk new.disk × (new.place ≡ old.place)
+IsPieceFaultOn d old new (cli.Shelf p) = IsUnrestored d old.disk new.disk (cli.Shelf p) × (new.summary ≡ old.summary) × (new.place ≡ old.place)

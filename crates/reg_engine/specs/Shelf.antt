@@ -2,6 +2,7 @@
 use Rattle.std.specs.Prelude.{◌≡◌, ◌⊎◌, ◌+◌, Bool, IsTrue, List, ℕ}
 use Rattle.byte_io.specs.Device.{SinkState}
 use Rattle.byte_io.specs.Whole.{WritesAll, IsCutAt}
+use Rattle.byte_out.specs.Place.{PlaceState}
 use Rattle.byte_disk.specs.Disk.{Only, SameImages, LeavesOnly}
 use Rattle.byte_shelf.specs.Shelf.{IsSize}
 use Rattle.byte_shelf.specs.Keep.{AddsNothing}
@@ -108,6 +109,7 @@ abbrev pub IsUntold : {D : Type 0} → Disks D → Content → Content → List 
 IsUntold d x y ids old new before after (cli.Refused r) = ⊥
 IsUntold d x y ids old new before after (cli.File k f) = ⊥
 IsUntold d x y ids old new before after (cli.Out out.NotOpened) = ⊥
+IsUntold d x y ids old new before after (cli.Out out.NewExists) = ⊥
 IsUntold d x y ids old new before after (cli.Out out.TooLarge) = ⊥
 IsUntold d x y ids old new before after (cli.Out (out.WriteFailed n)) = KeepsOn d x y old new × IsCutAt n (id_lines ids) before after
 IsUntold d x y ids old new before after cli.Memory = StaysOn d old new × (after ≡ before)
@@ -161,8 +163,8 @@ abbrev pub Never : Content → Refusal → Type 0
 Never x r = ⊥
 
 -- the register's file went out
-abbrev pub IsUnshelved : {D : Type 0} → Disks D → D → D → SinkState → SinkState → Type 0
+abbrev pub IsUnshelved : {D : Type 0} → Disks D → D → D → PlaceState → PlaceState → Type 0
 IsUnshelved d old new before after = ReadsOn d old new (λ x. PublishesFile x before after)
 
-abbrev pub IsUnshelfFault : {D : Type 0} → Disks D → D → D → SinkState → SinkState → CliFault → Type 0
+abbrev pub IsUnshelfFault : {D : Type 0} → Disks D → D → D → PlaceState → PlaceState → CliFault → Type 0
 IsUnshelfFault d old new before after f = IsUnreadOn d old new Never (λ x f. IsOutFault x before after f) (after ≡ before) f

@@ -9,26 +9,27 @@ use crate::inputs::read_summary;
 use crate::outputs::{publish_piece, publish_seen};
 use crate::shelf_steps::restore_from;
 use byte_disk::Disk;
-use byte_io::{Source, Target};
+use byte_io::Source;
+use byte_out::Place;
 use std::alloc::Global;
 
 /// Restores the register of the shelf, and writes the file of the ids that it has seen.
-pub fn run_seen_on<D: Disk, T: Target>(
+pub fn run_seen_on<D: Disk, P: Place>(
     alloc: Global,
     disk: &mut D,
-    target: &mut T,
+    place: &mut P,
 ) -> Result<(), CliFault>
     ensures summed { OnOk result (IsSummedOn (disks D.tells D.seen D.images D.moment D.images_since D.failures)
-        disk.old disk.new (T.state target.old) (T.state target.new)) }
+        disk.old disk.new (P.state place.old) (P.state place.new)) }
     ensures fault { IfErr result (IsSumFaultOn (disks D.tells D.seen D.images D.moment D.images_since D.failures)
-        disk.old disk.new (T.state target.old) (T.state target.new)) }
+        disk.old disk.new (P.state place.old) (P.state place.new)) }
     ensures tells { D.tells disk.new ≡ D.tells disk.old }
 {
     let register = match restore_from(alloc, disk) {
         Ok(register) => register,
         Err(fault) => return Err(fault),
     };
-    match publish_seen(alloc, register.seen(), target) {
+    match publish_seen(alloc, register.seen(), place) {
         Ok(()) => Ok(()),
         Err(fault) => Err(fault),
     }
@@ -36,18 +37,18 @@ pub fn run_seen_on<D: Disk, T: Target>(
 
 /// Restores the register of the shelf, and then reads a summary, which is file 1; and writes the file of the register's
 /// piece for one who has seen the summary's ids.
-pub fn run_piece_on<D: Disk, U: Source, T: Target>(
+pub fn run_piece_on<D: Disk, U: Source, P: Place>(
     alloc: Global,
     disk: &mut D,
     summary: &mut U,
-    target: &mut T,
+    place: &mut P,
 ) -> Result<(), CliFault>
     ensures made { OnOk result (IsPieceMadeOn (disks D.tells D.seen D.images D.moment D.images_since D.failures)
-        (shelf_piece_desk disk.old (U.state summary.old) (T.state target.old))
-        (shelf_piece_desk disk.new (U.state summary.new) (T.state target.new))) }
+        (shelf_piece_desk disk.old (U.state summary.old) (P.state place.old))
+        (shelf_piece_desk disk.new (U.state summary.new) (P.state place.new))) }
     ensures fault { IfErr result (IsPieceFaultOn (disks D.tells D.seen D.images D.moment D.images_since D.failures)
-        (shelf_piece_desk disk.old (U.state summary.old) (T.state target.old))
-        (shelf_piece_desk disk.new (U.state summary.new) (T.state target.new))) }
+        (shelf_piece_desk disk.old (U.state summary.old) (P.state place.old))
+        (shelf_piece_desk disk.new (U.state summary.new) (P.state place.new))) }
     ensures tells { D.tells disk.new ≡ D.tells disk.old }
 {
     let register = match restore_from(alloc, disk) {
@@ -61,7 +62,7 @@ pub fn run_piece_on<D: Disk, U: Source, T: Target>(
     let Ok(piece) = register.piece_for(alloc, &basis) else {
         return Err(CliFault::Memory);
     };
-    match publish_piece(alloc, &piece, target) {
+    match publish_piece(alloc, &piece, place) {
         Ok(()) => Ok(()),
         Err(fault) => Err(fault),
     }

@@ -1,8 +1,9 @@
 //! What an engine reports: the fault, how it prints, and its exit status.
 
 ghost use Rattle.std.specs.Prelude.{◌≡◌};
-ghost use Rattle.reg_engine.specs.Fault.{status_of, text_fault, definition_fault, file_fault, first_fault, write_fault, office_fault, piece_fault, shelf_fault};
+ghost use Rattle.reg_engine.specs.Fault.{status_of, text_fault, definition_fault, file_fault, first_fault, write_fault, replace_fault, office_fault, piece_fault, shelf_fault};
 
+use byte_out::ReplaceFault;
 use reg_file::{FileFault, FirstFileFault, ReadFileFault, WriteFileFault};
 use reg_office::OfficeFault;
 use reg_op::OpId;
@@ -49,6 +50,12 @@ pub enum Refusal {
     BadReplica,
     /// A shelf was to be made for files of up to so many bytes, and no shelf is; or the word is no number.
     BadSize,
+    /// A search that was to print ids found no entry.
+    NoEntry,
+    /// A register has keys in conflict, awaited ids or gaps.
+    Unsettled,
+    /// This entry has the key, with another text.
+    KeyTaken(OpId),
 }
 
 impl fmt::Display for Refusal {
@@ -78,6 +85,9 @@ impl fmt::Display for Refusal {
             Refusal::BadId => f.write_str("BadId"),
             Refusal::BadReplica => f.write_str("BadReplica"),
             Refusal::BadSize => f.write_str("BadSize"),
+            Refusal::NoEntry => f.write_str("NoEntry"),
+            Refusal::Unsettled => f.write_str("Unsettled"),
+            Refusal::KeyTaken(id) => of_id(f, "KeyTaken", *id),
         }
     }
 }
@@ -158,8 +168,12 @@ fn file_fault_name(fault: FileFault) -> &'static str {
 /// What went wrong with the output.
 #[derive(Clone, Copy, Debug, PartialEq, Eq, Error)]
 pub enum OutFault {
+    /// No file was made, or a whole one could not be given its name.
     #[error("NotOpened")]
     NotOpened,
+    /// Beside the output is a file that another writer makes, or left when it was stopped.
+    #[error("NewExists")]
+    NewExists,
     /// The file would have too many bytes. The output was not opened.
     #[error("TooLarge")]
     TooLarge,
@@ -202,7 +216,7 @@ pub enum CliFault {
 
 impl CliFault {
     /// The fault of reading the text in the file of this number.
-    pub(crate) fn of_text(number: usize, fault: ReadFromFault) -> CliFault
+    pub fn of_text(number: usize, fault: ReadFromFault) -> CliFault
         ensures { result ≡ text_fault number fault }
     {
         match fault {
@@ -224,7 +238,7 @@ impl CliFault {
     }
 
     /// The fault of making a definition of the text in the file of this number.
-    pub(crate) fn of_definition(number: usize, fault: DefineFromFault) -> CliFault
+    pub fn of_definition(number: usize, fault: DefineFromFault) -> CliFault
         ensures { result ≡ definition_fault number fault }
     {
         match fault {
@@ -254,7 +268,7 @@ impl CliFault {
     }
 
     /// The fault of reading the file of this number.
-    pub(crate) fn of_file(number: usize, fault: ReadFileFault) -> CliFault
+    pub fn of_file(number: usize, fault: ReadFileFault) -> CliFault
         ensures { result ≡ file_fault number fault }
     {
         let fault = match fault {
@@ -267,7 +281,7 @@ impl CliFault {
     }
 
     /// The fault of a command that an office was given.
-    pub(crate) fn of_office(fault: OfficeFault) -> CliFault
+    pub fn of_office(fault: OfficeFault) -> CliFault
         ensures { result ≡ office_fault fault }
     {
         let refusal = match fault {
@@ -283,7 +297,7 @@ impl CliFault {
     }
 
     /// The fault of writing a file of version 1.
-    pub(crate) fn of_first(fault: FirstFileFault) -> CliFault
+    pub fn of_first(fault: FirstFileFault) -> CliFault
         ensures { result ≡ first_fault fault }
     {
         match fault {
@@ -292,7 +306,8 @@ impl CliFault {
         }
     }
 
-    fn of_write(fault: WriteFileFault) -> CliFault
+    /// The fault of writing a file.
+    pub fn of_write(fault: WriteFileFault) -> CliFault
         ensures { result ≡ write_fault fault }
     {
         match fault {
@@ -302,8 +317,19 @@ impl CliFault {
         }
     }
 
+    /// The fault of putting a file in a place.
+    pub fn of_replace(fault: ReplaceFault) -> CliFault
+        ensures { result ≡ replace_fault fault }
+    {
+        match fault {
+            ReplaceFault::NotOpened => CliFault::Out(OutFault::NotOpened),
+            ReplaceFault::NewExists => CliFault::Out(OutFault::NewExists),
+            ReplaceFault::WriteFailed(n) => CliFault::Out(OutFault::WriteFailed(n)),
+        }
+    }
+
     /// The fault of joining a piece.
-    pub(crate) fn of_piece(fault: PieceFault) -> CliFault
+    pub fn of_piece(fault: PieceFault) -> CliFault
         ensures { result ≡ piece_fault fault }
     {
         match fault {
@@ -314,7 +340,7 @@ impl CliFault {
     }
 
     /// The fault of a shelf.
-    pub(crate) fn of_shelf(fault: ShelfFault) -> CliFault
+    pub fn of_shelf(fault: ShelfFault) -> CliFault
         ensures { result ≡ shelf_fault fault }
     {
         match fault {

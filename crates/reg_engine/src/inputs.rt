@@ -79,7 +79,7 @@ impl Parts {
 }
 
 /// A register alone.
-pub(crate) fn parts_of(alloc: Global, register: Register) -> Result<Parts, AllocError>
+pub fn parts_of(alloc: Global, register: Register) -> Result<Parts, AllocError>
     ensures registers { IfOk result (λ parts. parts.registers.items ≡ register ∷ []) }
     ensures pieces { IfOk result (λ parts. parts.pieces.items ≡ []) }
 {
@@ -104,7 +104,7 @@ pub fn read_parts<S: Source>(alloc: Global, sources: &mut [S]) -> Result<Parts, 
 }
 
 /// Reads them likewise, after those that are known. What a known register has is not read again.
-pub(crate) fn read_parts_after<S: Source>(
+pub fn read_parts_after<S: Source>(
     alloc: Global,
     known: Parts,
     sources: &mut [S],

@@ -1,9 +1,12 @@
-//! What holds of all merges. A call does nothing: its contract is the law.
+//! What holds of all merges and of all exports. A call does nothing: its contract is the law.
 
-ghost use Rattle.std.specs.Prelude.{◌≡◌, ℕ, List, map};
+ghost use Rattle.std.specs.Prelude.{◌≡◌, ℕ, List, map, Contains};
+ghost use Rattle.crs_value.specs.declared.crs.Crs.{Crs};
+ghost use Rattle.wkt_crs.specs.Definition.{IsCrsOf};
 ghost use Rattle.reg_op.specs.Operations.{Ops, OneBody};
-ghost use Rattle.reg_op.specs.Contents.{state, nothing};
-ghost use Rattle.reg_file.specs.Files.{Holds, IsTooLarge};
+ghost use Rattle.reg_op.specs.Contents.{Content, state, nothing};
+ghost use Rattle.reg_op.specs.Rows.{Row, rows};
+ghost use Rattle.reg_file.specs.Files.{Holds, IsTooLarge, ReadsAs};
 ghost use Rattle.reg_state.specs.ManyLaws.{all_ops, all_seen, all_of};
 ghost use Rattle.reg_file.specs.declared.parts.Part.{Part};
 ghost use Rattle.reg_file.specs.declared.parts.Part.TheVariants as part;
@@ -16,6 +19,12 @@ pub fn merge_of_many()
     ensures order { (ps qs : List Part) (bytes others : List ℕ) → OneBody (all_ops (brought ps)) → all_ops (brought ps) ≡ all_ops (brought qs)
         → all_seen (brought ps) ≡ all_seen (brought qs) → IsMergeOf ps bytes → IsMergeOf qs others → bytes ≡ others }
     ensures states { (ss : List Ops) (bytes : List ℕ) → OneBody (all_of ss) → IsMergeOf (map part.Register (map state ss)) bytes → Holds bytes (state (all_of ss)) }
+{}
+
+/// Each entry of a register that is read from a file has a definition that spells a value, and is its canonical text. So what
+/// an export of the file prints reads back as these values.
+pub fn exported_is_read()
+    ensures { (bytes : List ℕ) (x : Content) → ReadsAs bytes x → (r : Row) → Contains (rows x.ops) r → (v : Crs) × IsCrsOf v r.definition }
 {}
 
 /// The empty register's file is short enough.

@@ -1,4 +1,4 @@
-//! The engines of `crsreg`: a function a command, over any source, sink and target, and the faults that they answer.
+//! The engines of `crsreg`: a function a command, over any source, sink and place, and the faults that they answer.
 #![tactic(auto)]
 
 mod change;
@@ -29,12 +29,13 @@ pub use exchange::{run_piece, run_seen};
 pub use exchange_on::{run_piece_on, run_seen_on};
 pub use export::run_export;
 pub use fault::{CliFault, InputFault, OutFault, Refusal, ShelfProblem};
-pub use inputs::{Parts, read_file, read_parts};
+pub use inputs::{Parts, parts_of, read_file, read_parts, read_parts_after};
 pub use merge::{join_pieces, join_registers, run_merge, run_new};
 pub use merge_on::run_merge_on;
-pub use outputs::id_lines;
+pub use outputs::{give_out, id_lines, publish_register};
 pub use reports::{run_ops, run_report, run_show};
 pub use reports_on::{run_ops_on, run_report_on, run_show_on};
+pub use shelf_steps::{keep_and_tell, keep_on, restore_from};
 pub use shelves::{run_shelf, run_unshelf};
 pub use texts_on::{run_export_on, run_wkt_on};
 pub use wkt::{Form, run_wkt};

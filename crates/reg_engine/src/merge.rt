@@ -10,18 +10,19 @@ ghost use Rattle.reg_engine.specs.Merge.{ends, begun, with_pieces, IsUnjoined, I
 use crate::fault::{CliFault, OutFault, Refusal};
 use crate::inputs::{Parts, read_parts};
 use crate::outputs::publish_register;
-use byte_io::{Source, Target};
+use byte_io::Source;
+use byte_out::Place;
 use reg_state::{JoinFault, Piece, Register, join_all};
 use std::alloc::Global;
 use std::mem::forget;
 
 /// Writes the file of the register that has seen nothing.
-pub fn run_new<T: Target>(alloc: Global, target: &mut T) -> Result<(), CliFault>
-    ensures published { OnOk result (PublishesFile nothing (T.state target.old) (T.state target.new)) }
-    ensures fault { IfErr result (IsUnpublished nothing (T.state target.old) (T.state target.new)) }
+pub fn run_new<P: Place>(alloc: Global, place: &mut P) -> Result<(), CliFault>
+    ensures published { OnOk result (PublishesFile nothing (P.state place.old) (P.state place.new)) }
+    ensures fault { IfErr result (IsUnpublished nothing (P.state place.old) (P.state place.new)) }
     ensures small { result ≢ Err (CliFault.Out OutFault.TooLarge) }
 {
-    match publish_register(alloc, &Register::new(alloc), target) {
+    match publish_register(alloc, &Register::new(alloc), place) {
         Ok(()) => Ok(()),
         Err(fault) => Err(fault),
     }
@@ -72,17 +73,17 @@ pub fn join_pieces(
 /// Reads a register or a piece from each source, and writes the file of their join: all registers, and then the pieces in
 /// their order. A source's number is its place in the list, from 1. Once the file is written, the memory of what was read
 /// is not given back.
-pub fn run_merge<S: Source, T: Target>(
+pub fn run_merge<S: Source, P: Place>(
     alloc: Global,
     sources: &mut [S],
-    target: &mut T,
+    place: &mut P,
 ) -> Result<(), CliFault>
     ensures merged { OnOk result (IsMerged
-        (ends (map S.state sources.old) (T.state target.old))
-        (ends (map S.state sources.new) (T.state target.new))) }
+        (ends (map S.state sources.old) (P.state place.old))
+        (ends (map S.state sources.new) (P.state place.new))) }
     ensures fault { IfErr result (IsMergeFault
-        (ends (map S.state sources.old) (T.state target.old))
-        (ends (map S.state sources.new) (T.state target.new))) }
+        (ends (map S.state sources.old) (P.state place.old))
+        (ends (map S.state sources.new) (P.state place.new))) }
 {
     let Parts { registers, pieces } = match read_parts(alloc, sources) {
         Ok(parts) => parts,
@@ -96,7 +97,7 @@ pub fn run_merge<S: Source, T: Target>(
         Ok(joined) => joined,
         Err(fault) => return Err(fault),
     };
-    match publish_register(alloc, &joined, target) {
+    match publish_register(alloc, &joined, place) {
         Ok(()) => {
             // A program ends with its merge. Giving back each definition by itself would take a twelfth of its time.
             forget(joined);

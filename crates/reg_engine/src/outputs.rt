@@ -1,14 +1,15 @@
-//! Files, written to targets, and the ids that are printed then.
+//! Files, put in places, and the ids that are printed then.
 
 ghost use Rattle.std.specs.Prelude.{◌≡◌, ◌++◌, ◌∷◌, [], IfOk, OnOk, IfErr};
 ghost use Rattle.reg_op.specs.Text.{printed};
-ghost use Rattle.byte_io.specs.Publish.{Publishes};
+ghost use Rattle.byte_out.specs.Replace.{Replaces};
 ghost use Rattle.reg_engine.specs.Outputs.{IsUnpublishedOf, PublishesFile, IsUnpublished, PublishesSeen, IsUnpublishedSeen, PublishesPiece, IsUnpublishedPiece};
 ghost use Rattle.reg_engine.specs.Outputs.{id_lines, outputs, GivesOut, IsUngiven};
 ghost use Rattle.reg_engine.specs.Downgrade.{PublishesFirst, IsUnpublishedFirst};
 
 use crate::fault::{CliFault, OutFault};
-use byte_io::{PublishFault, Sink, Target, publish, write_all};
+use byte_io::{Sink, write_all};
+use byte_out::{Place, replace};
 use reg_file::{
     WriteFileFault, write_bytes, write_first_bytes, write_piece_bytes, write_seen_bytes,
 };
@@ -16,76 +17,76 @@ use reg_op::OpId;
 use reg_state::{Piece, Register, Seen};
 use std::alloc::{AllocError, Global};
 
-// Opens the target and writes the file that was made.
-fn publish_bytes<T: Target>(bytes: &[u8], target: &mut T) -> Result<(), CliFault>
-    ensures published { OnOk result (Publishes bytes.now (T.state target.old) (T.state target.new)) }
-    ensures fault { IfErr result (IsUnpublishedOf bytes.now (T.state target.old) (T.state target.new)) }
+// Puts the file that was made in the place.
+fn publish_bytes<P: Place>(bytes: &[u8], place: &mut P) -> Result<(), CliFault>
+    ensures published { OnOk result (Replaces bytes.now (P.state place.old) (P.state place.new)) }
+    ensures fault { IfErr result (IsUnpublishedOf bytes.now (P.state place.old) (P.state place.new)) }
 {
-    match publish(target, bytes) {
+    match replace(place, bytes) {
         Ok(()) => Ok(()),
-        Err(PublishFault::NotOpened) => Err(CliFault::Out(OutFault::NotOpened)),
-        Err(PublishFault::WriteFailed(n)) => Err(CliFault::Out(OutFault::WriteFailed(n))),
+        Err(fault) => Err(CliFault::of_replace(fault)),
     }
 }
 
-/// Writes the register's file to the target, which is opened once the file is made.
-pub(crate) fn publish_register<T: Target>(
+/// Puts the register's file in the place, of which nothing is made before all of the file is. What stood there stands
+/// unless all is done.
+pub fn publish_register<P: Place>(
     alloc: Global,
     register: &Register,
-    target: &mut T,
+    place: &mut P,
 ) -> Result<(), CliFault>
-    ensures published { OnOk result (PublishesFile register.now (T.state target.old) (T.state target.new)) }
-    ensures fault { IfErr result (IsUnpublished register.now (T.state target.old) (T.state target.new)) }
+    ensures published { OnOk result (PublishesFile register.now (P.state place.old) (P.state place.new)) }
+    ensures fault { IfErr result (IsUnpublished register.now (P.state place.old) (P.state place.new)) }
 {
     match write_bytes(alloc, register) {
-        Ok(bytes) => publish_bytes(&bytes, target),
+        Ok(bytes) => publish_bytes(&bytes, place),
         Err(WriteFileFault::TooLarge) => Err(CliFault::Out(OutFault::TooLarge)),
         Err(_) => Err(CliFault::Memory),
     }
 }
 
-/// Writes the register's file of version 1, likewise.
-pub(crate) fn publish_first<T: Target>(
+/// Puts the register's file of version 1 there, likewise.
+pub(crate) fn publish_first<P: Place>(
     alloc: Global,
     register: &Register,
-    target: &mut T,
+    place: &mut P,
 ) -> Result<(), CliFault>
-    ensures published { OnOk result (PublishesFirst register.now (T.state target.old) (T.state target.new)) }
-    ensures fault { IfErr result (IsUnpublishedFirst register.now (T.state target.old) (T.state target.new)) }
+    ensures published { OnOk result (PublishesFirst register.now (P.state place.old) (P.state place.new)) }
+    ensures fault { IfErr result (IsUnpublishedFirst register.now (P.state place.old) (P.state place.new)) }
 {
     match write_first_bytes(alloc, register) {
-        Ok(bytes) => publish_bytes(&bytes, target),
+        Ok(bytes) => publish_bytes(&bytes, place),
         Err(fault) => Err(CliFault::of_first(fault)),
     }
 }
 
-/// Writes the file of the ids that were seen, likewise.
-pub(crate) fn publish_seen<T: Target>(
+/// Puts the file of the ids that were seen there, likewise.
+pub(crate) fn publish_seen<P: Place>(
     alloc: Global,
     seen: &Seen,
-    target: &mut T,
+    place: &mut P,
 ) -> Result<(), CliFault>
-    ensures published { OnOk result (PublishesSeen seen.now (T.state target.old) (T.state target.new)) }
-    ensures fault { IfErr result (IsUnpublishedSeen seen.now (T.state target.old) (T.state target.new)) }
+    ensures published { OnOk result (PublishesSeen seen.now (P.state place.old) (P.state place.new)) }
+    ensures fault { IfErr result (IsUnpublishedSeen seen.now (P.state place.old) (P.state place.new)) }
 {
     match write_seen_bytes(alloc, seen) {
-        Ok(bytes) => publish_bytes(&bytes, target),
+        Ok(bytes) => publish_bytes(&bytes, place),
         Err(WriteFileFault::TooLarge) => Err(CliFault::Out(OutFault::TooLarge)),
         Err(_) => Err(CliFault::Memory),
     }
 }
 
-/// Writes the piece's file, likewise.
-pub(crate) fn publish_piece<T: Target>(
+/// Puts the piece's file there, likewise.
+pub(crate) fn publish_piece<P: Place>(
     alloc: Global,
     piece: &Piece,
-    target: &mut T,
+    place: &mut P,
 ) -> Result<(), CliFault>
-    ensures published { OnOk result (PublishesPiece piece.now (T.state target.old) (T.state target.new)) }
-    ensures fault { IfErr result (IsUnpublishedPiece piece.now (T.state target.old) (T.state target.new)) }
+    ensures published { OnOk result (PublishesPiece piece.now (P.state place.old) (P.state place.new)) }
+    ensures fault { IfErr result (IsUnpublishedPiece piece.now (P.state place.old) (P.state place.new)) }
 {
     match write_piece_bytes(alloc, piece) {
-        Ok(bytes) => publish_bytes(&bytes, target),
+        Ok(bytes) => publish_bytes(&bytes, place),
         Err(WriteFileFault::TooLarge) => Err(CliFault::Out(OutFault::TooLarge)),
         Err(_) => Err(CliFault::Memory),
     }
@@ -110,26 +111,26 @@ fn push_line(lines: &mut Vec<u8>, id: &OpId) -> Result<(), AllocError>
     Ok(())
 }
 
-/// Writes the register's file to the target, and then a line for each id to the sink. The lines are made before the
-/// target is opened.
-pub(crate) fn give_out<T: Target, K: Sink>(
+/// Puts the register's file in the place, and then writes a line for each id to the sink. The lines are made before
+/// anything is made in the place.
+pub fn give_out<P: Place, K: Sink>(
     alloc: Global,
     register: &Register,
     ids: &[OpId],
-    target: &mut T,
+    place: &mut P,
     sink: &mut K,
 ) -> Result<(), CliFault>
     ensures given { OnOk result (GivesOut register.now ids.now
-        (outputs (T.state target.old) (K.state sink.old))
-        (outputs (T.state target.new) (K.state sink.new))) }
+        (outputs (P.state place.old) (K.state sink.old))
+        (outputs (P.state place.new) (K.state sink.new))) }
     ensures fault { IfErr result (IsUngiven register.now ids.now
-        (outputs (T.state target.old) (K.state sink.old))
-        (outputs (T.state target.new) (K.state sink.new))) }
+        (outputs (P.state place.old) (K.state sink.old))
+        (outputs (P.state place.new) (K.state sink.new))) }
 {
     let Ok(lines) = id_lines(alloc, ids) else {
         return Err(CliFault::Memory);
     };
-    if let Err(fault) = publish_register(alloc, register, target) {
+    if let Err(fault) = publish_register(alloc, register, place) {
         return Err(fault);
     }
     match write_all(sink, &lines) {

@@ -14,7 +14,7 @@ use reg_state::Register;
 use std::alloc::Global;
 
 /// The register of the shelf.
-pub(crate) fn restore_from<D: Disk>(alloc: Global, disk: &mut D) -> Result<Register, CliFault>
+pub fn restore_from<D: Disk>(alloc: Global, disk: &mut D) -> Result<Register, CliFault>
     ensures found { IfOk result (Has (disks D.tells D.seen D.images D.moment D.images_since D.failures) disk.old) }
     ensures sure { OnOk result (IsSure (disks D.tells D.seen D.images D.moment D.images_since D.failures) disk.new) }
     ensures stays { OnOk result (StaysOn (disks D.tells D.seen D.images D.moment D.images_since D.failures) disk.old disk.new) }
@@ -28,11 +28,7 @@ pub(crate) fn restore_from<D: Disk>(alloc: Global, disk: &mut D) -> Result<Regis
 }
 
 /// Keeps the register on the shelf, from which another was restored.
-pub(crate) fn keep_on<D: Disk>(
-    alloc: Global,
-    disk: &mut D,
-    register: &Register,
-) -> Result<(), CliFault>
+pub fn keep_on<D: Disk>(alloc: Global, disk: &mut D, register: &Register) -> Result<(), CliFault>
     ensures kept { (was : Content) → Has (disks D.tells D.seen D.images D.moment D.images_since D.failures) disk.old was
         → IsSure (disks D.tells D.seen D.images D.moment D.images_since D.failures) disk.old
         → OnOk result (KeepsOn (disks D.tells D.seen D.images D.moment D.images_since D.failures) was register.now disk.old disk.new) }
@@ -49,7 +45,7 @@ pub(crate) fn keep_on<D: Disk>(
 
 /// Keeps the register likewise, and then writes a line for each id to the sink. The lines are made before the register is
 /// kept.
-pub(crate) fn keep_and_tell<D: Disk, K: Sink>(
+pub fn keep_and_tell<D: Disk, K: Sink>(
     alloc: Global,
     disk: &mut D,
     register: &Register,

@@ -8,7 +8,7 @@ use crate::fault::{CliFault, Refusal, ShelfProblem};
 use crate::outputs::publish_register;
 use crate::shelf_steps::restore_from;
 use byte_disk::{Disk, NewDisk};
-use byte_io::Target;
+use byte_out::Place;
 use reg_shelf::{format, is_size};
 use std::alloc::Global;
 
@@ -32,22 +32,22 @@ pub fn run_shelf<D: NewDisk>(alloc: Global, disk: &mut D, size: u32) -> Result<(
 }
 
 /// Writes the file of the register that stands on the shelf.
-pub fn run_unshelf<D: Disk, T: Target>(
+pub fn run_unshelf<D: Disk, P: Place>(
     alloc: Global,
     disk: &mut D,
-    target: &mut T,
+    place: &mut P,
 ) -> Result<(), CliFault>
     ensures written { OnOk result (IsUnshelved (disks D.tells D.seen D.images D.moment D.images_since D.failures) disk.old disk.new
-        (T.state target.old) (T.state target.new)) }
+        (P.state place.old) (P.state place.new)) }
     ensures fault { IfErr result (IsUnshelfFault (disks D.tells D.seen D.images D.moment D.images_since D.failures) disk.old disk.new
-        (T.state target.old) (T.state target.new)) }
+        (P.state place.old) (P.state place.new)) }
     ensures tells { D.tells disk.new ≡ D.tells disk.old }
 {
     let register = match restore_from(alloc, disk) {
         Ok(register) => register,
         Err(fault) => return Err(fault),
     };
-    match publish_register(alloc, &register, target) {
+    match publish_register(alloc, &register, place) {
         Ok(()) => Ok(()),
         Err(fault) => Err(fault),
     }

@@ -8,6 +8,7 @@ mod faults;
 mod growth;
 mod merge;
 mod notes;
+mod outputs;
 mod reports;
 
 use byte_io::{Pieces, Then};

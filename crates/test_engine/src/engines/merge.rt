@@ -167,5 +167,6 @@ fn tells_an_output_that_does_not_open_last(rt: HostRuntime) {
 #[test]
 fn laws_can_be_called() {
     reg_engine::laws::merge_of_many();
+    reg_engine::laws::exported_is_read();
     reg_engine::laws::nothing_is_small();
 }

@@ -10,15 +10,15 @@ use Rattle.reg_engine.proofs.change.run_enter.Goals as goal
 
 pub returns-in-Err-define_from-clause-fault : goal.returns-in-Err-define_from-clause-fault
 returns-in-Err-define_from-clause-fault g c =
-    let old = entry_desk (g.S.Source.state c.args.source.now) (g.X.Source.state c.args.text.now) (outputs (g.T.Sink.state c.args.target.now) (g.K.Sink.state c.args.sink.now)) in
-    let new = entry_desk (g.S.Source.state c.read_file.new.source) (g.X.Source.state c.define_from.new.source) (outputs (g.T.Sink.state c.args.target.now) (g.K.Sink.state c.args.sink.now)) in
+    let old = entry_desk (g.S.Source.state c.args.source.now) (g.X.Source.state c.args.text.now) (outputs (g.P.Place.state c.args.place.now) (g.K.Sink.state c.args.sink.now)) in
+    let new = entry_desk (g.S.Source.state c.read_file.new.source) (g.X.Source.state c.define_from.new.source) (outputs (g.P.Place.state c.args.place.now) (g.K.Sink.state c.args.sink.now)) in
     subst (IsEnterFault c.args.replica c.args.note.now old new) (sym c.of_definition.ensures)
     (enter_undefined c.args.replica c.args.note.now old new c.in-Ok.register c.in-Err-define_from.fault c.in-Ok.ensures.found c.in-Err-define_from.ensures.fault refl)
 
 pub returns-in-Err-enter-clause-fault : goal.returns-in-Err-enter-clause-fault
 returns-in-Err-enter-clause-fault g c =
-    let old = entry_desk (g.S.Source.state c.args.source.now) (g.X.Source.state c.args.text.now) (outputs (g.T.Sink.state c.args.target.now) (g.K.Sink.state c.args.sink.now)) in
-    let new = entry_desk (g.S.Source.state c.read_file.new.source) (g.X.Source.state c.define_from.new.source) (outputs (g.T.Sink.state c.args.target.now) (g.K.Sink.state c.args.sink.now)) in
+    let old = entry_desk (g.S.Source.state c.args.source.now) (g.X.Source.state c.args.text.now) (outputs (g.P.Place.state c.args.place.now) (g.K.Sink.state c.args.sink.now)) in
+    let new = entry_desk (g.S.Source.state c.read_file.new.source) (g.X.Source.state c.define_from.new.source) (outputs (g.P.Place.state c.args.place.now) (g.K.Sink.state c.args.sink.now)) in
     let found = c.in-Ok-define_from.ensures.found in
     subst (IsEnterFault c.args.replica c.args.note.now old new) (sym c.of_office.ensures)
     (enter_refused c.args.replica c.args.note.now old new c.in-Ok.register (value_of found) c.in-Err-enter.fault (reads_definition old new c.in-Ok.register c.in-Ok-define_from.definition c.in-Ok.ensures.found found)
@@ -28,8 +28,8 @@ returns-in-Err-enter-clause-fault g c =
 
 pub returns-in-Ok-give_out-clause-entered : goal.returns-in-Ok-give_out-clause-entered
 returns-in-Ok-give_out-clause-entered g c =
-    let old = entry_desk (g.S.Source.state c.args.source.now) (g.X.Source.state c.args.text.now) (outputs (g.T.Sink.state c.args.target.now) (g.K.Sink.state c.args.sink.now)) in
-    let new = entry_desk (g.S.Source.state c.read_file.new.source) (g.X.Source.state c.define_from.new.source) (outputs (g.T.Sink.state c.give_out.new.target) (g.K.Sink.state c.give_out.new.sink)) in
+    let old = entry_desk (g.S.Source.state c.args.source.now) (g.X.Source.state c.args.text.now) (outputs (g.P.Place.state c.args.place.now) (g.K.Sink.state c.args.sink.now)) in
+    let new = entry_desk (g.S.Source.state c.read_file.new.source) (g.X.Source.state c.define_from.new.source) (outputs (g.P.Place.state c.give_out.new.place) (g.K.Sink.state c.give_out.new.sink)) in
     let found = c.in-Ok-define_from.ensures.found in
     let does = subst (λ d. Does c.in-Ok.register c.args.replica c.args.note.now (Enter d ∷ []) c.enter.new.self.register (c.in-Ok-enter.id ∷ [])) (defined_is found)
     (does_of c.new-office.result.register c.in-Ok.register c.enter.new.self.register c.new-office.result.replica c.args.replica c.args.note.now (Enter c.in-Ok-define_from.definition ∷ []) (c.in-Ok-enter.id ∷ [])
@@ -42,8 +42,8 @@ returns-in-Ok-give_out-clause-entered g c =
 
 pub returns-clause-fault : goal.returns-clause-fault
 returns-clause-fault g c =
-    let old = entry_desk (g.S.Source.state c.args.source.now) (g.X.Source.state c.args.text.now) (outputs (g.T.Sink.state c.args.target.now) (g.K.Sink.state c.args.sink.now)) in
-    let new = entry_desk (g.S.Source.state c.read_file.new.source) (g.X.Source.state c.define_from.new.source) (outputs (g.T.Sink.state c.give_out.new.target) (g.K.Sink.state c.give_out.new.sink)) in
+    let old = entry_desk (g.S.Source.state c.args.source.now) (g.X.Source.state c.args.text.now) (outputs (g.P.Place.state c.args.place.now) (g.K.Sink.state c.args.sink.now)) in
+    let new = entry_desk (g.S.Source.state c.read_file.new.source) (g.X.Source.state c.define_from.new.source) (outputs (g.P.Place.state c.give_out.new.place) (g.K.Sink.state c.give_out.new.sink)) in
     let found = c.in-Ok-define_from.ensures.found in
     let does = subst (λ d. Does c.in-Ok.register c.args.replica c.args.note.now (Enter d ∷ []) c.enter.new.self.register (c.in-Ok-enter.id ∷ [])) (defined_is found)
     (does_of c.new-office.result.register c.in-Ok.register c.enter.new.self.register c.new-office.result.replica c.args.replica c.args.note.now (Enter c.in-Ok-define_from.definition ∷ []) (c.in-Ok-enter.id ∷ [])

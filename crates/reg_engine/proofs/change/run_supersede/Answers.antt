@@ -7,8 +7,8 @@ use Rattle.reg_engine.proofs.change.run_supersede.Goals as goal
 
 pub returns-in-Err-supersede-clause-fault : goal.returns-in-Err-supersede-clause-fault
 returns-in-Err-supersede-clause-fault g c =
-    let old = desk (g.S.Source.state c.args.source.now) (outputs (g.T.Sink.state c.args.target.now) (g.K.Sink.state c.args.sink.now)) in
-    let new = desk (g.S.Source.state c.read_file.new.source) (outputs (g.T.Sink.state c.args.target.now) (g.K.Sink.state c.args.sink.now)) in
+    let old = desk (g.S.Source.state c.args.source.now) (outputs (g.P.Place.state c.args.place.now) (g.K.Sink.state c.args.sink.now)) in
+    let new = desk (g.S.Source.state c.read_file.new.source) (outputs (g.P.Place.state c.args.place.now) (g.K.Sink.state c.args.sink.now)) in
     subst (IsChangeFault c.args.replica c.args.note.now (supersessions c.args.old c.args.newer.now) old new) (sym c.of_office.ensures)
     (change_refused c.args.replica c.args.note.now (supersessions c.args.old c.args.newer.now) old new c.in-Ok.register c.in-Err-supersede.fault c.in-Ok.ensures.found refl
     (made_of c.new-office.result.register c.in-Ok.register c.new-office.result.replica c.args.replica c.args.note.now (supersessions c.args.old c.args.newer.now) c.in-Err-supersede.fault c.new-office.ensures.register c.new-office.ensures.replica c.in-Err-supersede.ensures.fault))

@@ -5,6 +5,6 @@ use Rattle.reg_engine.proofs.merge.run_new.Goals as goal
 
 pub returns-clause-small : goal.returns-clause-small
 returns-clause-small g c =
-    let before = g.T.Sink.state c.args.target.now in
-    let after = g.T.Sink.state c.publish_register-2.new.target in
+    let before = g.P.Place.state c.args.place.now in
+    let after = g.P.Place.state c.publish_register-2.new.place in
     never_too_large before after c.in-Err.fault (subst (λ x. IsUnpublished x before after c.in-Err.fault) c.new.ensures c.in-Err.ensures.fault)

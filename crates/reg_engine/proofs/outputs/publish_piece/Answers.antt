@@ -5,10 +5,10 @@ use Rattle.reg_engine.proofs.outputs.publish_piece.Goals as goal
 
 pub returns-in-Ok-clause-published : goal.returns-in-Ok-clause-published
 returns-in-Ok-clause-published g c =
-    published_by c.publish_bytes.result (λ b. HoldsPiece b c.args.piece.now) c.deref.result.now (g.T.Sink.state c.args.target.now) (g.T.Sink.state c.publish_bytes.new.target)
+    published_by c.publish_bytes.result (λ b. HoldsPiece b c.args.piece.now) c.deref.result.now (g.P.Place.state c.args.place.now) (g.P.Place.state c.publish_bytes.new.place)
     (subst (λ b. HoldsPiece b c.args.piece.now) (sym c.deref.ensures.value) c.in-Ok.ensures.held) c.publish_bytes.ensures.published
 
 pub returns-in-Ok-clause-fault : goal.returns-in-Ok-clause-fault
 returns-in-Ok-clause-fault g c =
-    unpublished_by c.publish_bytes.result (λ b. HoldsPiece b c.args.piece.now) (IsPieceTooLarge c.args.piece.now) c.deref.result.now (g.T.Sink.state c.args.target.now) (g.T.Sink.state c.publish_bytes.new.target)
+    unpublished_by c.publish_bytes.result (λ b. HoldsPiece b c.args.piece.now) (IsPieceTooLarge c.args.piece.now) c.deref.result.now (g.P.Place.state c.args.place.now) (g.P.Place.state c.publish_bytes.new.place)
     (subst (λ b. HoldsPiece b c.args.piece.now) (sym c.deref.ensures.value) c.in-Ok.ensures.held) c.publish_bytes.ensures.fault

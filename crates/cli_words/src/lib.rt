@@ -1,0 +1,18 @@
+//! The words of the command line of `crsreg`, and what help says of them.
+#![tactic(auto)]
+
+mod arguments;
+mod change;
+mod change_help;
+mod exchange;
+mod exchange_help;
+mod look;
+mod look_help;
+mod many;
+mod many_help;
+mod read;
+mod read_help;
+mod whole;
+mod whole_help;
+
+pub use whole::command_line;

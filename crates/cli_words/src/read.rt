@@ -1,0 +1,67 @@
+//! The commands that show a register, or an entry of it.
+use crate::arguments::{READ_SHELF, entry, flag, on_shelf, register};
+use crate::read_help::{EXPORT_HELP, OPS_HELP, REPORT_HELP, SHOW_HELP, WKT_HELP};
+use clap::{Arg, Command};
+use std::alloc::{AllocError, Global};
+
+const KINDS: [&str; 4] = ["entries", "conflicts", "awaited", "gaps"];
+
+/// `show`.
+pub fn show<'a>(alloc: Global) -> Result<Command<'a>, AllocError> {
+    Command::new(alloc, "show")
+        .about("Prints the key, the name and the status of one entry")
+        .after_help(SHOW_HELP)
+        .arg(register(alloc))?
+        .arg(on_shelf(alloc, READ_SHELF))?
+        .arg(entry(alloc))
+}
+
+/// `wkt`.
+pub fn wkt<'a>(alloc: Global) -> Result<Command<'a>, AllocError> {
+    Command::new(alloc, "wkt")
+        .about("Prints the text of one entry")
+        .after_help(WKT_HELP)
+        .arg(register(alloc))?
+        .arg(on_shelf(alloc, READ_SHELF))?
+        .arg(entry(alloc))?
+        .arg(flag(
+            alloc,
+            "pretty",
+            "Indents the text, with a line for each node",
+        ))
+}
+
+/// `export`.
+pub fn export<'a>(alloc: Global) -> Result<Command<'a>, AllocError> {
+    Command::new(alloc, "export")
+        .about("Prints the texts of all entries that are not retired")
+        .after_help(EXPORT_HELP)
+        .arg(register(alloc))?
+        .arg(on_shelf(alloc, READ_SHELF))
+}
+
+/// `ops`.
+pub fn ops<'a>(alloc: Global) -> Result<Command<'a>, AllocError> {
+    Command::new(alloc, "ops")
+        .about("Prints the operations that a register keeps")
+        .after_help(OPS_HELP)
+        .arg(register(alloc))?
+        .arg(on_shelf(alloc, READ_SHELF))
+}
+
+/// `report`.
+pub fn report<'a>(alloc: Global) -> Result<Command<'a>, AllocError> {
+    Command::new(alloc, "report")
+        .about("Prints a report on a register")
+        .after_help(REPORT_HELP)
+        .arg(register(alloc))?
+        .arg(on_shelf(alloc, READ_SHELF))?
+        .arg(kind(alloc))
+}
+
+fn kind<'a>(alloc: Global) -> Arg<'a> {
+    Arg::new(alloc, "KIND")
+        .help("What is listed")
+        .value_parser(KINDS.as_slice())
+        .required(true)
+}

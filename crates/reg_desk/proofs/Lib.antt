@@ -1,0 +1,7 @@
+pub mod DiffLemmas
+pub mod DiffOnLemmas
+pub mod PartLemmas
+pub mod FindLemmas
+pub mod LookLemmas
+pub mod StatusLemmas
+mod SettleLemmas

@@ -1,0 +1,112 @@
+-- Files of registers and pieces that were read, and what they join to.
+use Rattle.std.proofs.Common.{◌≡◌, ◌∷◌, [], List, ℕ, ◌+◌, ◌<◌, ◌≤◌, ◌^◌, zero, suc, length, refl, ap, sym, subst, append-nil, arith, Ok, Err, Result, Some, None, ◌∙◌}
+use Rattle.std.specs.declared.option.Option.{Option}
+use Rattle.std.specs.Io.KnownBytes.{Consumes}
+use Rattle.byte_io.specs.Device.{SourceState}
+use Rattle.reg_file.specs.Files.{Finds}
+use Rattle.reg_file.specs.Parts.{FindsPart}
+use Rattle.reg_file.specs.declared.parts.Part.{Part}
+use Rattle.reg_file.specs.declared.parts.Part.TheVariants as part
+use Rattle.reg_join.specs.Joining.{all_joined}
+use Rattle.reg_op.specs.Contents.{Content, nothing, joined}
+use Rattle.reg_op.specs.Pieces.{Piece, PieceRefusal}
+use Rattle.reg_engine.specs.declared.fault.InputFault.{InputFault}
+use Rattle.reg_engine.specs.declared.fault.Refusal.TheVariants as refusal
+use Rattle.reg_engine.specs.declared.fault.CliFault.{CliFault}
+use Rattle.reg_engine.specs.declared.fault.CliFault.TheVariants as cli
+use Rattle.reg_engine.specs.Inputs.{NeverFails, HoldAll, StopsAt, NoneFails, AreUnread, GivePartsAfter, registers, pieces}
+use Rattle.reg_engine.specs.Merge.{begun, with_pieces, join_of, IsUnjoined}
+use Rattle.reg_desk.specs.Diff.{one_later, IsFew, AreUnreadLater}
+
+-- ---- what was read
+
+part_gives : (o n : SourceState) (p : Part) → FindsPart o n p → NeverFails o n
+part_gives o n p (bytes, read, held) = (bytes, read.given, read.front, read.bounded, read.quiet)
+
+pub found_gives : (o n : SourceState) (x : Content) → Finds o n x → NeverFails o n
+found_gives o n x found = part_gives o n (part.Register x) found
+
+consumes_none : (left : Option (List ℕ)) → Consumes left left []
+consumes_none None = tt
+consumes_none (Some xs) = refl
+
+pub none_given : (os : List SourceState) → NoneFails os os
+none_given [] = tt
+none_given (o ∷ os) = (([], sym (append-nil o.given), consumes_none o.left, omega (arith), refl), none_given os)
+
+pub none_failed : (os ns : List SourceState) (ps : List Part) → HoldAll os ns ps → NoneFails os ns
+none_failed [] [] [] h = tt
+none_failed [] [] (p ∷ ps) h = absurd h
+none_failed [] (n ∷ ns) ps h = absurd h
+none_failed (o ∷ os) [] ps h = absurd h
+none_failed (o ∷ os) (n ∷ ns) [] h = absurd h
+none_failed (o ∷ os) (n ∷ ns) (p ∷ ps) h = (part_gives o n p h.0, none_failed os ns ps h.1)
+
+-- ---- numbers of files
+
+stops_within : (k : ℕ) (f : InputFault) (old new : List SourceState) → StopsAt k f old new → k ≤ length old
+stops_within zero f old new h = absurd h
+stops_within (suc k) f [] new h = absurd h
+stops_within (suc k) f (o ∷ os) [] h = absurd h
+stops_within (suc zero) f (o ∷ os) (n ∷ ns) h = omega arith
+stops_within (suc (suc k)) f (o ∷ os) (n ∷ ns) h = let within : suc k ≤ length os = stops_within (suc k) f os ns h.1 in omega arith
+
+pub few : (old new : List SourceState) (f : CliFault) → AreUnread old new f → length old + 1 < 2 ^ 64 → IsFew f
+few old new (cli.Refused r) h size = tt
+few old new (cli.File k f) h size = let within : k ≤ length old = stops_within k f old new h in omega arith
+few old new (cli.Out f) h size = tt
+few old new cli.Memory h size = tt
+few old new (cli.Shelf p) h size = tt
+
+pub unread_later : (old new : List SourceState) (f : CliFault) → AreUnread old new f → AreUnreadLater old new (one_later f)
+unread_later old new (cli.Refused r) h = absurd h
+unread_later old new (cli.File k f) h = (k, refl, h)
+unread_later old new (cli.Out f) h = absurd h
+unread_later old new cli.Memory h = h
+unread_later old new (cli.Shelf p) h = absurd h
+
+-- ---- the join
+
+-- the join of what was read is that of the parts
+pub of_parts : (ps : List Part) (xs : List Content) (qs : List Piece) → xs ≡ registers ps → qs ≡ pieces ps → join_of ps ≡ with_pieces (begun (all_joined joined (Ok nothing) xs)) qs
+of_parts ps xs qs e f =
+    ap (λ ys. with_pieces (begun (all_joined joined (Ok nothing) ys)) (pieces ps)) (sym e) ∙ ap (λ ys. with_pieces (begun (all_joined joined (Ok nothing) xs)) ys) (sym f)
+
+refused_all : (r : PieceRefusal) (qs : List Piece) → with_pieces (Err r) qs ≡ Err r
+refused_all r [] = refl
+refused_all r (q ∷ qs) = refused_all r qs
+
+-- pieces do not mend a refusal of the registers
+pub refusal_stays : (r : Result Content PieceRefusal) (qs : List Piece) (f : CliFault) → IsUnjoined r f → IsUnjoined (with_pieces r qs) f
+refusal_stays (Err e) qs f h = subst (λ r. IsUnjoined r f) (sym (refused_all e qs)) h
+refusal_stays (Ok x) qs (cli.Refused (refusal.Clash id)) h = absurd (cc)
+refusal_stays (Ok x) qs (cli.Refused (refusal.Basis id)) h = absurd (cc)
+refusal_stays (Ok x) qs (cli.Refused r) h = absurd h
+refusal_stays (Ok x) qs (cli.File k f) h = absurd h
+refusal_stays (Ok x) qs (cli.Out f) h = absurd h
+refusal_stays (Ok x) qs cli.Memory h = tt
+refusal_stays (Ok x) qs (cli.Shelf p) h = absurd h
+
+-- ---- the first of the registers
+
+abbrev head_of : Content → List Content → Content
+head_of d [] = d
+head_of d (x ∷ xs) = x
+
+abbrev tail_of : List Content → List Content
+tail_of [] = []
+tail_of (x ∷ xs) = xs
+
+pub first_is : (x first : Content) (xs ys later : List Content) → xs ≡ x ∷ ys → xs ≡ first ∷ later → first ≡ x
+first_is x first xs ys later e h = ap (head_of x) (sym h ∙ e)
+
+pub later_are : (x first : Content) (xs ys later : List Content) → xs ≡ x ∷ ys → xs ≡ first ∷ later → later ≡ ys
+later_are x first xs ys later e h = ap tail_of (sym h ∙ e)
+
+pub never_none : (x : Content) (xs ys : List Content) → xs ≡ x ∷ ys → length xs ≡ 0 → ⊥
+never_none x xs ys e h = absurd (omega (arith, ap length e))
+
+pub gives_from : (some others : List Content) (few none : List Piece) (old new : List SourceState) (xs : List Content) (qs : List Piece) → some ≡ others → few ≡ none
+    → GivePartsAfter some few old new xs qs → GivePartsAfter others none old new xs qs
+gives_from some others few none old new xs qs e f h =
+    subst (λ k. GivePartsAfter k none old new xs qs) e (subst (λ k. GivePartsAfter some k old new xs qs) f h)

@@ -1,0 +1,77 @@
+-- The lines of files, one after another, and what is answered of them.
+use Rattle.std.proofs.Common.{◌≡◌, ℕ, ◌+◌, ◌-◌, ◌<◌, ◌≤◌, min, Bor, List, [], ◌∷◌, ◌++◌, All, append_assoc, append-nil, length, length-append, length-drop, map, take, drop, get_or, zero, suc, arith, refl, sym, ap, ◌∙◌, subst, inl, inr, ◌⊎◌, Some, None}
+use Rattle.std.proofs.lemmas.Bool.{cases_lt}
+use Rattle.std.proofs.lemmas.List.{drop_more, length-map}
+use Rattle.std.proofs.lemmas.List.Elements.{All-push}
+use Rattle.csv.specs.Writing.{row_text, default_writer}
+use Rattle.reg_engine.specs.declared.fault.InputFault.{InputFault}
+use Rattle.reg_desk.specs.declared.look.Look.{Look}
+use Rattle.reg_desk.specs.Status.{status_header, IsStatusLine, AreStatusLines, IsStatusText, fault_of, AreGood}
+
+abbrev pub text_of : Bor (List ℕ) → List ℕ
+text_of n = n.now
+
+-- what is still to come completes the report
+abbrev pub Completes : List (List ℕ) → List Look → List (List ℕ) → List Look → List ℕ → Type 0
+Completes names looks ns ls text = (more : List ℕ) → AreStatusLines ns ls more → IsStatusText names looks (text ++ more)
+
+pub line_more : (names : List (List ℕ)) (looks : List Look) (ns ms : List (List ℕ)) (ls ks : List Look) (n : List ℕ) (l : Look) (old new : List ℕ) (fields : List (List ℕ))
+    → ns ≡ n ∷ ms → ls ≡ l ∷ ks → IsStatusLine n l fields → new ≡ old ++ row_text default_writer fields → Completes names looks ns ls old → Completes names looks ms ks new
+line_more names looks ns ms ls ks n l old new fields e d is h done more lines =
+    subst (IsStatusText names looks) (sym (append_assoc old (row_text default_writer fields) more) ∙ ap (λ t. t ++ more) (sym h))
+    (done (row_text default_writer fields ++ more) (subst (λ xs. AreStatusLines xs ls (row_text default_writer fields ++ more)) (sym e)
+    (subst (λ ys. AreStatusLines (n ∷ ms) ys (row_text default_writer fields ++ more)) (sym d) (fields, more, is, lines, refl))))
+
+pub line_at : (names : List (Bor (List ℕ))) (looks : List Look) (i : ℕ) (d : Bor (List ℕ)) (e : Look) (old new : List ℕ) (fields : List (List ℕ)) → i < length names → i < length looks
+    → IsStatusLine (get_or names i d).now (get_or looks i e) fields → new ≡ old ++ row_text default_writer fields
+    → Completes (map text_of names) looks (map text_of (drop i names)) (drop i looks) old
+    → Completes (map text_of names) looks (map text_of (drop (i + 1) names)) (drop (i + 1) looks) new
+line_at names looks i d e old new fields within inside is h done =
+    line_more (map text_of names) looks (map text_of (drop i names)) (map text_of (drop (i + 1) names)) (drop i looks) (drop (i + 1) looks) (get_or names i d).now (get_or looks i e) old new fields
+    (ap (map text_of) (drop_more names i d within)) (drop_more looks i e inside) is h done
+
+no_more : (ns : List (List ℕ)) (ls : List Look) → (length ns ≡ 0) ⊎ (length ls ≡ 0) → AreStatusLines ns ls []
+no_more [] ls h = refl
+no_more (n ∷ ns) [] h = refl
+no_more (n ∷ ns) (l ∷ ls) (inl h) = absurd (omega arith)
+no_more (n ∷ ns) (l ∷ ls) (inr h) = absurd (omega arith)
+
+pub lines_done : (names : List (Bor (List ℕ))) (looks : List Look) (i : ℕ) (text out : List ℕ) → min (length names) (length looks) ≤ i → out ≡ text
+    → Completes (map text_of names) looks (map text_of (drop i names)) (drop i looks) text → IsStatusText (map text_of names) looks out
+lines_done names looks i text out past h done =
+    subst (IsStatusText (map text_of names) looks) (append-nil text ∙ sym h) (done [] (no_more (map text_of (drop i names)) (drop i looks) (elim (cases_lt (length names) (length looks)) [
+      | inl l ↦ inl (length-map (drop i names) text_of ∙ length-drop i names ∙ omega (arith, l, past))
+      | inr l ↦ inr (length-drop i looks ∙ omega (arith, l, past))
+    ])))
+
+-- ---- the first that is bad
+
+-- so far all are good
+abbrev pub Passed : List Look → List Look → Type 0
+Passed looks rest = (before : List Look) × (looks ≡ before ++ rest) × AreGood before
+
+none_good : AreGood []
+none_good k d h = absurd (omega arith)
+
+pub none_passed : (looks : List Look) → Passed looks looks
+none_passed looks = ([], refl, none_good)
+
+pub passed_more : (looks rest others : List Look) (l : Look) → rest ≡ l ∷ others → fault_of l ≡ None → Passed looks rest → Passed looks others
+passed_more looks rest others l e is (before, all, good) = (
+  before ++ l ∷ [],
+  all ∙ ap (λ r. before ++ r) e ∙ sym (append_assoc before (l ∷ []) others),
+  All-push (λ (k : Look). fault_of k ≡ None) before l good is,
+)
+
+pub first_bad : (looks rest others : List Look) (l : Look) (f : InputFault) (number : ℕ) → rest ≡ l ∷ others → fault_of l ≡ Some f → number ≡ length looks - length others → Passed looks rest
+    → (before : List Look) × (m : Look) × (after : List Look) × (looks ≡ before ++ m ∷ after) × AreGood before × (fault_of m ≡ Some f) × (number ≡ length before + 1)
+first_bad looks rest others l f number e is at (before, all, good) =
+    let parts : looks ≡ before ++ l ∷ others = all ∙ ap (λ r. before ++ r) e in
+    (before, l, others, parts, good, is, omega (arith, at, ap length parts, length-append before (l ∷ others)))
+
+pub less_long : (looks rest others : List Look) (l : Look) → rest ≡ l ∷ others → Passed looks rest → length others ≤ length looks
+less_long looks rest others l e (before, all, good) = omega (arith, ap length all, length-append before rest, ap length e)
+
+pub all_passed : (looks rest : List Look) → length rest ≡ 0 → Passed looks rest → AreGood looks
+all_passed looks [] h (before, all, good) = subst AreGood (sym (all ∙ append-nil before)) good
+all_passed looks (l ∷ rest) h p = absurd (omega arith)

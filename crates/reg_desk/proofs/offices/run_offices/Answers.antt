@@ -1,0 +1,25 @@
+use Rattle.std.proofs.Common.{subst}
+use Rattle.byte_io.specs.Whole.{WritesAll, IsCutAt}
+use Rattle.reg_desk.proofs.offices.run_offices.Goals as goal
+
+pub returns-in-Ok-write_all-clause-reported : goal.returns-in-Ok-write_all-clause-reported
+returns-in-Ok-write_all-clause-reported g c = (
+  c.in-Ok.register,
+  c.in-Ok.ensures.found,
+  (
+    c.in-Ok-text_of.text.items,
+    c.in-Ok-text_of.ensures,
+    subst (λ l. WritesAll l (g.K.Sink.state c.args.sink.now) (g.K.Sink.state c.write_all.new.sink)) c.deref.ensures.value c.in-Ok-write_all.ensures.ok,
+  ),
+)
+
+pub returns-clause-fault : goal.returns-clause-fault
+returns-clause-fault g c = (
+  c.in-Ok.register,
+  c.in-Ok.ensures.found,
+  (
+    c.in-Ok-text_of.text.items,
+    c.in-Ok-text_of.ensures,
+    subst (λ l. IsCutAt c.in-Err-write_all.fault.written l (g.K.Sink.state c.args.sink.now) (g.K.Sink.state c.write_all.new.sink)) c.deref.ensures.value c.in-Err-write_all.ensures.fault,
+  ),
+)

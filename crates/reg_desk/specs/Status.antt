@@ -1,0 +1,113 @@
+-- The reports of offices and of files: what came in, and what went out.
+use Rattle.std.specs.Prelude.{◌≡◌, ℕ, ◌+◌, nat_lt, Bool, true, false, ◌||◌, List, [], ◌∷◌, ◌++◌, All, length, codes, decimal, Option, Some, None}
+use Rattle.std.specs.List.{list_any}
+use Rattle.csv.specs.Writing.{row_text, default_writer}
+use Rattle.csv.specs.Records.{fields_of, partial_of}
+use Rattle.csv.specs.declared.record.ByteRecord.{ByteRecord}
+use Rattle.byte_io.specs.Device.{SourceState, SinkState}
+use Rattle.byte_io.specs.Whole.{WritesAll, IsCutAt}
+use Rattle.reg_op.specs.Contents.{Content}
+use Rattle.reg_office.specs.Lines.{sheet_of}
+use Rattle.reg_engine.specs.declared.fault.InputFault.{InputFault}
+use Rattle.reg_engine.specs.declared.fault.Refusal.TheVariants as refusal
+use Rattle.reg_engine.specs.declared.fault.OutFault.TheVariants as out
+use Rattle.reg_engine.specs.declared.fault.CliFault.{CliFault}
+use Rattle.reg_engine.specs.declared.fault.CliFault.TheVariants as cli
+use Rattle.reg_status.specs.declared.figures.Figures.{Figures}
+use Rattle.reg_status.specs.declared.office.OfficeFigures.{OfficeFigures}
+use Rattle.reg_status.specs.Offices.{offices_header, office_fields, AreOffices}
+use Rattle.reg_desk.specs.declared.look.Look.{Look}
+use Rattle.reg_desk.specs.declared.look.Look.TheVariants as look
+use Rattle.reg_desk.specs.Look.{AreLooks}
+
+-- ---- offices
+
+abbrev pub IsOfficesText : Content → List ℕ → Type 0
+IsOfficesText x text = (os : List OfficeFigures) × AreOffices x os × (text ≡ sheet_of offices_header office_fields os)
+
+-- ---- the line of a file
+
+abbrev pub status_header : List (List ℕ)
+status_header = codes "file" ∷ codes "bytes" ∷ codes "fault" ∷ codes "operations" ∷ codes "entries" ∷ codes "valid" ∷ codes "superseded" ∷ codes "retired"
+    ∷ codes "conflicts" ∷ codes "awaited" ∷ codes "gaps" ∷ []
+
+abbrev pub figure_fields : Figures → List (List ℕ)
+figure_fields f = decimal f.operations ∷ decimal f.entries ∷ decimal f.valid ∷ decimal f.superseded ∷ decimal f.retired
+    ∷ decimal f.conflicts ∷ decimal f.awaited ∷ decimal f.gaps ∷ []
+
+abbrev pub no_figures : List (List ℕ)
+no_figures = [] ∷ [] ∷ [] ∷ [] ∷ [] ∷ [] ∷ [] ∷ [] ∷ []
+
+-- fields were put behind those of a record
+pub record Adds (old new : ByteRecord) (fields : List (List ℕ)) : Type 0 where
+  pub fields_are : fields_of new ≡ fields_of old ++ fields
+  pub whole : partial_of new ≡ []
+
+-- the name, the bytes where it was read whole, the fault's words where it has one, and the figures where it has none
+abbrev pub IsStatusLine : List ℕ → Look → List (List ℕ) → Type 0
+IsStatusLine name (look.Figures n f) fields = fields ≡ name ∷ decimal n ∷ [] ∷ figure_fields f
+IsStatusLine name (look.NoRegister n f) fields = (words : List ℕ) × (fields ≡ name ∷ decimal n ∷ words ∷ no_figures)
+IsStatusLine name (look.Unread f) fields = (words : List ℕ) × (fields ≡ name ∷ [] ∷ words ∷ no_figures)
+
+-- a line for each name and what the file of this name has
+abbrev pub AreStatusLines : List (List ℕ) → List Look → List ℕ → Type 0
+AreStatusLines [] ls text = text ≡ []
+AreStatusLines (n ∷ ns) [] text = text ≡ []
+AreStatusLines (n ∷ ns) (l ∷ ls) text = (fields : List (List ℕ)) × (rest : List ℕ) × IsStatusLine n l fields × AreStatusLines ns ls rest
+    × (text ≡ row_text default_writer fields ++ rest)
+
+-- a header, and those lines
+abbrev pub IsStatusText : List (List ℕ) → List Look → List ℕ → Type 0
+IsStatusText names looks text = (lines : List ℕ) × AreStatusLines names looks lines × (text ≡ row_text default_writer status_header ++ lines)
+
+-- ---- what is answered
+
+abbrev pub fault_of : Look → Option InputFault
+fault_of (look.Figures n f) = None
+fault_of (look.NoRegister n f) = Some f
+fault_of (look.Unread f) = Some f
+
+-- each is a register's
+abbrev pub AreGood : List Look → Type 0
+AreGood looks = All (λ l. fault_of l ≡ None) looks
+
+-- the first that is not is the one of this number, from 1, and has this fault
+abbrev pub IsFirstBad : List Look → CliFault → Type 0
+IsFirstBad looks (cli.File k f) = (before : List Look) × (l : Look) × (after : List Look) × (looks ≡ before ++ l ∷ after) × AreGood before
+    × (fault_of l ≡ Some f) × (k ≡ length before + 1)
+IsFirstBad looks fault = ⊥
+
+-- it has keys in conflict, awaited ids or gaps
+abbrev pub is_unsettled : Look → Bool
+is_unsettled (look.Figures n f) = nat_lt 0 f.conflicts || (nat_lt 0 f.awaited || nat_lt 0 f.gaps)
+is_unsettled (look.NoRegister n f) = false
+is_unsettled (look.Unread f) = false
+
+-- where it is asked, none has
+abbrev pub IsSettled : Bool → List Look → Type 0
+IsSettled settled looks = settled ≡ true → list_any is_unsettled looks ≡ false
+
+-- why a list of files is not answered by nothing
+abbrev pub IsVerdict : Bool → List Look → CliFault → Type 0
+IsVerdict settled looks (cli.File k f) = IsFirstBad looks (cli.File k f)
+IsVerdict settled looks (cli.Refused refusal.Unsettled) = (settled ≡ true) × AreGood looks × (list_any is_unsettled looks ≡ true)
+IsVerdict settled looks fault = ⊥
+
+-- ---- the command
+
+-- the files have these looks, and their lines went out
+abbrev pub Tells : List (List ℕ) → List (Option SourceState) → List (Option SourceState) → SinkState → SinkState → List Look → Type 0
+Tells names old new before after looks = AreLooks old new looks × ((text : List ℕ) × IsStatusText names looks text × WritesAll text before after)
+
+abbrev pub IsTold : Bool → List (List ℕ) → List (Option SourceState) → List (Option SourceState) → SinkState → SinkState → Type 0
+IsTold settled names old new before after = (looks : List Look) × Tells names old new before after looks × AreGood looks × IsSettled settled looks
+
+-- what was done instead, by the fault
+abbrev pub IsUntold : Bool → List (List ℕ) → List (Option SourceState) → List (Option SourceState) → SinkState → SinkState → CliFault → Type 0
+IsUntold settled names old new before after (cli.Refused r) = (looks : List Look) × Tells names old new before after looks × IsVerdict settled looks (cli.Refused r)
+IsUntold settled names old new before after (cli.File k f) = (looks : List Look) × Tells names old new before after looks × IsVerdict settled looks (cli.File k f)
+IsUntold settled names old new before after (cli.Out (out.WriteFailed n)) = (looks : List Look) × AreLooks old new looks
+    × ((text : List ℕ) × IsStatusText names looks text × IsCutAt n text before after)
+IsUntold settled names old new before after (cli.Out f) = ⊥
+IsUntold settled names old new before after cli.Memory = after ≡ before
+IsUntold settled names old new before after (cli.Shelf p) = ⊥

@@ -1,0 +1,107 @@
+//! Explanations beside the faults of commands.
+
+ghost use Rattle.std.specs.Prelude.{◌≡◌, ◌⊎◌, IfOk, IfErr, OnOk, IsSome};
+ghost use Rattle.reg_engine.specs.Devices.{devices};
+ghost use Rattle.reg_engine.specs.Check.{IsPrinted, IsCheckFault};
+ghost use Rattle.reg_engine.specs.declared.fault.CliFault.TheVariants as cli;
+ghost use Rattle.reg_desk.specs.Explained.{note_text, problem_of, text_problem};
+
+use byte_io::{Sink, Source};
+use reg_engine::{CliFault, Refusal, run_check};
+use std::alloc::{AllocError, Global};
+use wkt_crs::{DefinitionFault, Unspelled};
+use wkt_explain::{Kept, explain_text};
+
+/// Why a command did not do its work, and what is said of the text beside it, where that is the reason.
+#[derive(Drop)]
+pub struct Explained {
+    pub fault: CliFault,
+    pub note: Vec<u8>,
+}
+
+// What is wrong with a text, where that is why it is refused.
+fn text_problem(refusal: Refusal) -> Option<DefinitionFault>
+    ensures { result ≡ text_problem refusal }
+{
+    match refusal {
+        Refusal::Text(fault) => Some(DefinitionFault::Read(Unspelled::Text(fault))),
+        Refusal::Slot(fault) => Some(DefinitionFault::Read(Unspelled::Slot(fault))),
+        Refusal::Broken { condition, place } => {
+            Some(DefinitionFault::Read(Unspelled::Broken { condition, place }))
+        }
+        Refusal::NoIdentifier => Some(DefinitionFault::NoIdentifier),
+        Refusal::CanonicalTooLong => Some(DefinitionFault::CanonicalTooLong),
+        _ => None,
+    }
+}
+
+/// What is wrong with the text that a command read, where that is its fault.
+pub fn problem_of(fault: &CliFault) -> Option<DefinitionFault>
+    ensures { result ≡ problem_of fault.now }
+{
+    match fault {
+        CliFault::Refused(refusal) => text_problem(*refusal),
+        _ => None,
+    }
+}
+
+fn note_of<S: Source>(
+    alloc: Global,
+    name: &str,
+    text: &Kept<S>,
+    problem: DefinitionFault,
+) -> Result<Vec<u8>, AllocError>
+    ensures { IfOk result (λ note. note.items ≡ note_text name.now (⟦<Kept<S> as Source>⟧.state text.now).given (Some problem)) }
+{
+    let Some(bytes) = text.bytes() else {
+        return Err(AllocError);
+    };
+    explain_text(alloc, name, bytes, problem)
+}
+
+/// The fault of a command, with the explanation of the text that was read from the file of this name, where the text is
+/// the reason. Where there is no memory for that, the fault is `Memory`.
+pub fn explained_fault<S: Source>(
+    alloc: Global,
+    name: &str,
+    text: &Kept<S>,
+    fault: CliFault,
+) -> Explained
+    ensures fault { (result.fault ≡ fault) ⊎ ((result.fault ≡ cli.Memory) × IsSome (problem_of fault)) }
+    ensures note { result.note.items ≡ note_text name.now (⟦<Kept<S> as Source>⟧.state text.now).given (problem_of result.fault) }
+{
+    let Some(problem) = problem_of(&fault) else {
+        return Explained {
+            fault,
+            note: Vec::new(alloc),
+        };
+    };
+    match note_of(alloc, name, text, problem) {
+        Ok(note) => Explained { fault, note },
+        Err(_) => Explained {
+            fault: CliFault::Memory,
+            note: Vec::new(alloc),
+        },
+    }
+}
+
+/// `run_check`, which explains why a text is refused; its file has this name.
+pub fn run_check_explained<S: Source, K: Sink>(
+    alloc: Global,
+    name: &str,
+    text: &mut Kept<S>,
+    sink: &mut K,
+) -> Result<(), Explained>
+    ensures printed { OnOk result (IsPrinted
+        (devices (⟦<Kept<S> as Source>⟧.state text.old) (K.state sink.old))
+        (devices (⟦<Kept<S> as Source>⟧.state text.new) (K.state sink.new))) }
+    ensures fault { IfErr result (λ e. IsCheckFault
+        (devices (⟦<Kept<S> as Source>⟧.state text.old) (K.state sink.old))
+        (devices (⟦<Kept<S> as Source>⟧.state text.new) (K.state sink.new)) e.fault) }
+    ensures note { IfErr result (λ e. e.note.items ≡ note_text name.now (⟦<Kept<S> as Source>⟧.state text.new).given (problem_of e.fault)) }
+{
+    match run_check(alloc, text, sink) {
+        Ok(()) => Ok(()),
+        Err(fault) => Err(explained_fault(alloc, name, text, fault)),
+    }
+}

@@ -1,0 +1,112 @@
+//! The command `status`.
+
+ghost use Rattle.std.specs.Prelude.{◌≡◌, map, IfOk, OnOk, IfErr};
+ghost use Rattle.std.specs.List.{list_any};
+ghost use Rattle.reg_desk.specs.Look.{file_state, AreLooks};
+ghost use Rattle.reg_desk.specs.Status.{fault_of, is_unsettled, AreGood, IsFirstBad, IsSettled, IsTold, IsUntold, IsVerdict};
+
+use crate::look::{Look, Opened, look_into};
+use crate::status_lines::status_text;
+use byte_io::{Sink, Source, write_all};
+use reg_engine::{CliFault, InputFault, OutFault, Refusal};
+use std::alloc::{AllocError, Global};
+
+// What each file has, in their order.
+fn looks_of<S: Source>(alloc: Global, files: &mut [Opened<S>]) -> Result<Vec<Look>, AllocError>
+    ensures { IfOk result (λ looks. AreLooks (map (file_state S.state) files.old) (map (file_state S.state) files.new) looks.items) }
+{
+    let mut looks = Vec::new(alloc);
+    for i in 0..files.len() {
+        let look = look_into(alloc, &mut files[i])?;
+        looks.push(look)?;
+    }
+    Ok(looks)
+}
+
+fn fault_of(look: &Look) -> Option<InputFault>
+    ensures { result ≡ fault_of look.now }
+{
+    match look {
+        Look::Figures { .. } => None,
+        Look::NoRegister { bytes: _, fault } => Some(*fault),
+        Look::Unread(fault) => Some(*fault),
+    }
+}
+
+fn is_unsettled(look: &Look) -> bool
+    ensures { result ≡ is_unsettled look.now }
+{
+    match look {
+        Look::Figures { bytes: _, figures } => {
+            figures.conflicts > 0 || figures.awaited > 0 || figures.gaps > 0
+        }
+        Look::NoRegister { .. } => false,
+        Look::Unread(_) => false,
+    }
+}
+
+// That each file is a register's.
+fn all_good(looks: &[Look]) -> Result<(), CliFault>
+    ensures good { OnOk result (AreGood looks.now) }
+    ensures fault { IfErr result (IsFirstBad looks.now) }
+{
+    let mut rest = looks;
+    while let Some((look, others)) = rest.split_first() {
+        if let Some(fault) = fault_of(look) {
+            let number = looks.len() - others.len();
+            return Err(CliFault::File { number, fault });
+        }
+        rest = others;
+    }
+    Ok(())
+}
+
+fn any_unsettled(looks: &[Look]) -> bool
+    ensures { result ≡ list_any is_unsettled looks.now }
+{
+    looks.iter().any(|look| is_unsettled(look))
+}
+
+// That each is a register's, and settled where that is asked.
+fn verdict(looks: &[Look], settled: bool) -> Result<(), CliFault>
+    ensures good { OnOk result (AreGood looks.now × IsSettled settled looks.now) }
+    ensures fault { IfErr result (IsVerdict settled looks.now) }
+{
+    if let Err(fault) = all_good(looks) {
+        return Err(fault);
+    }
+    if !settled {
+        return Ok(());
+    }
+    if any_unsettled(looks) {
+        return Err(CliFault::Refused(Refusal::Unsettled));
+    }
+    Ok(())
+}
+
+/// Looks at each file, and writes a line for each, under its name. There are as many names as files. Then the fault of the
+/// first that is no register's is the answer; else, where it is asked that they are settled, one that has keys in conflict,
+/// awaited ids or gaps is refused.
+pub fn run_status<S: Source, K: Sink>(
+    alloc: Global,
+    names: &[&[u8]],
+    files: &mut [Opened<S>],
+    settled: bool,
+    sink: &mut K,
+) -> Result<(), CliFault>
+    ensures told { OnOk result (IsTold settled (map (λ n. n.now) names.now) (map (file_state S.state) files.old) (map (file_state S.state) files.new)
+        (K.state sink.old) (K.state sink.new)) }
+    ensures fault { IfErr result (IsUntold settled (map (λ n. n.now) names.now) (map (file_state S.state) files.old) (map (file_state S.state) files.new)
+        (K.state sink.old) (K.state sink.new)) }
+{
+    let Ok(looks) = looks_of(alloc, files) else {
+        return Err(CliFault::Memory);
+    };
+    let Ok(text) = status_text(alloc, names, &looks) else {
+        return Err(CliFault::Memory);
+    };
+    if let Err(fault) = write_all(sink, &text) {
+        return Err(CliFault::Out(OutFault::WriteFailed(fault.written)));
+    }
+    verdict(&looks, settled)
+}

@@ -1,0 +1,4 @@
+pub mod Changes
+pub mod Lines
+pub mod Seen
+pub mod Walk

@@ -1,0 +1,13 @@
+//! What the rows of two registers do not share.
+#![tactic(auto)]
+
+mod change;
+mod comparing;
+pub mod laws;
+mod lines;
+mod walk;
+
+pub use change::{Change, Sign};
+pub use comparing::{Comparison, compare};
+pub use lines::changes_text;
+pub use walk::changes;

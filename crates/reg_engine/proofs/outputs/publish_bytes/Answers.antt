@@ -1,0 +1,10 @@
+use Rattle.std.proofs.Common.{sym, subst}
+use Rattle.reg_engine.specs.Outputs.{IsUnpublishedOf}
+use Rattle.reg_engine.proofs.OutputLemmas.{unreplaced}
+use Rattle.reg_engine.proofs.outputs.publish_bytes.Goals as goal
+
+pub returns-in-Err-clause-fault : goal.returns-in-Err-clause-fault
+returns-in-Err-clause-fault g c =
+    let old = g.P.Place.state c.args.place.now in
+    let new = g.P.Place.state c.replace.new.place in
+    subst (IsUnpublishedOf c.args.bytes.now old new) (sym c.of_replace.ensures) (unreplaced c.args.bytes.now old new c.in-Err.fault c.in-Err.ensures.fault)

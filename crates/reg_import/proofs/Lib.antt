@@ -1,0 +1,9 @@
+pub mod NumberedLemmas
+pub mod KnownLemmas
+pub mod LeastLemmas
+pub mod ToldLemmas
+pub mod StepLemmas
+pub mod OnceLemmas
+pub mod FreshLemmas
+pub mod ImportLemmas
+pub mod LineLemmas

@@ -1,0 +1,34 @@
+-- Operations that are numbered on.
+use Rattle.std.proofs.Common.{◌≡◌, ℕ, ◌+◌, List, [], ◌∷◌, ◌++◌, append_assoc, length, suc, refl, sym, ap, ◌∙◌, arith}
+use Rattle.std.proofs.Common.{add-one}
+use Rattle.reg_op.specs.Operations.{Op}
+use Rattle.reg_op.specs.declared.operation.OpBody.{OpBody as Body}
+use Rattle.reg_op.specs.declared.operation.OpBody.TheVariants.{Retire}
+use Rattle.reg_seen.specs.Runs.{id_at}
+use Rattle.reg_office.specs.Making.{numbered}
+use Rattle.reg_import.specs.declared.known.Known.{Known}
+use Rattle.reg_import.specs.Plans.{retired}
+
+pub numbered_append : (r : List ℕ) (n : ℕ) (note : List ℕ) (bs cs : List Body) → numbered r n note (bs ++ cs) ≡ numbered r n note bs ++ numbered r (n + length bs) note cs
+numbered_append r n note [] cs = let e : n ≡ n + 0 = omega arith in ap (λ m. numbered r m note cs) e
+numbered_append r n note (b ∷ bs) cs =
+    let e : n + 1 + length bs ≡ n + (length bs + 1) = omega arith in
+    ap (λ os. record { id = id_at r n; body = b; note = note } ∷ os)
+    (numbered_append r (n + 1) note bs cs ∙ ap (λ m. numbered r (n + 1) note bs ++ numbered r m note cs) (e ∙ ap (λ m. n + m) (add-one (length bs))))
+
+pub length_numbered : (r : List ℕ) (n : ℕ) (note : List ℕ) (bs : List Body) → length (numbered r n note bs) ≡ length bs
+length_numbered r n note [] = refl
+length_numbered r n note (b ∷ bs) = ap suc (length_numbered r (n + 1) note bs)
+
+-- one effect more, where others are still to come
+pub numbered_next : (r : List ℕ) (n : ℕ) (note : List ℕ) (b : Body) (bs : List Body) (old new : List Op) → new ≡ old ++ numbered r n note (b ∷ []) → new ++ numbered r (n + 1) note bs ≡ old ++ numbered r n note (b ∷ bs)
+numbered_next r n note b bs old new h = ap (λ os. os ++ numbered r (n + 1) note bs) h ∙ append_assoc old (numbered r n note (b ∷ [])) (numbered r (n + 1) note bs)
+
+-- the retirement of an entry, where others are still to come
+pub retirement_next : (r : List ℕ) (n : ℕ) (note : List ℕ) (e : Known) (rest others : List Known) (old new start : List Op) → rest ≡ e ∷ others → new ≡ old ++ numbered r n note (Retire e.entry ∷ []) → old ++ numbered r n note (retired rest) ≡ start
+    → new ++ numbered r (n + 1) note (retired others) ≡ start
+retirement_next r n note e rest others old new start at h done =
+    numbered_next r n note (Retire e.entry) (retired others) old new h ∙ sym (ap (λ es. old ++ numbered r n note (retired es)) at) ∙ done
+
+pub same_length : (r : List ℕ) (n : ℕ) (note : List ℕ) (bs : List Body) (os : List Op) → os ≡ numbered r n note bs → length os ≡ length bs
+same_length r n note bs os h = ap length h ∙ length_numbered r n note bs

@@ -1,0 +1,138 @@
+-- What importing texts does, text by text.
+use Rattle.std.specs.Prelude.{◌≡◌, ℕ, ◌+◌, nat_eq, nat_le, Bool, true, false, ◌&&◌, List, [], ◌∷◌, ◌++◌, map, length, take, slice_get, Option, Some, None, option_map, if◌then◌else◌}
+use Rattle.std.specs.Option.{unwrap_or}
+use Rattle.std.specs.List.{flat_map, list_any}
+use Rattle.std.specs.Cmp.Lexicographic.{pointwise}
+use Rattle.crs_value.specs.declared.key.Key.{Key}
+use Rattle.reg_op.specs.Ids.{Id, is_before}
+use Rattle.reg_op.specs.declared.operation.OpBody.{OpBody as Body}
+use Rattle.reg_op.specs.declared.operation.OpBody.TheVariants.{Enter, Retire}
+use Rattle.reg_seen.specs.Runs.{id_at}
+use Rattle.reg_office.specs.Conflicts.{bytes_of}
+use Rattle.reg_import.specs.declared.known.Known.{Known}
+use Rattle.reg_import.specs.declared.reading.Reading.{Reading}
+use Rattle.reg_import.specs.declared.reading.Reading.TheVariants as reading
+use Rattle.reg_import.specs.declared.told.Differs.{Differs}
+use Rattle.reg_import.specs.declared.told.Differs.TheVariants as differs
+use Rattle.reg_import.specs.declared.told.Problem.TheVariants as problem
+use Rattle.reg_import.specs.declared.told.Told.{Told}
+use Rattle.reg_import.specs.declared.told.Told.TheVariants as told
+use Rattle.reg_import.specs.Known.{OfKey, At, with_key}
+
+-- the entry has this canonical text
+abbrev pub has_text : List ℕ → Known → Bool
+has_text text e = pointwise nat_eq e.definition text
+
+abbrev pub has_text_and_is_valid : List ℕ → Known → Bool
+has_text_and_is_valid text e = has_text text e && e.valid
+
+abbrev pub any_entry : Known → Bool
+any_entry e = true
+
+abbrev pub sooner : Id → Option Id → Id
+sooner i None = i
+sooner i (Some j) = if is_before j i then j else i
+
+-- the least id of the entries that pass
+abbrev pub least : (Known → Bool) → List Known → Option Id
+least passes [] = None
+least passes (e ∷ es) = if passes e then Some (sooner e.entry (least passes es)) else least passes es
+
+-- the last number that would be given is a number
+abbrev pub unless_spent : ℕ → Told → Told
+unless_spent last t = if nat_le last 4294967295 then t else told.Spent
+
+-- of a text that no entry has: nothing has its key, or an entry has, the least of them this one
+abbrev pub told_of_new : Option Id → Differs → Id → OfKey → Told
+told_of_new None d new there = unless_spent new.count (told.Entered new)
+told_of_new (Some other) differs.Refuse new there = told.Refused (problem.KeyTaken other)
+told_of_new (Some other) differs.Beside new there = unless_spent new.count (told.Beside new)
+told_of_new (Some other) differs.Revise new there =
+    if there.ours then told.Refused (problem.KeyTaken other) else unless_spent (new.count + length there.known) (told.Revised new)
+
+-- of a text, over what there is of its key. A text has one key, so each entry that has the text is among these
+abbrev pub told_of : Differs → Id → OfKey → List ℕ → Told
+told_of d new there text =
+    unwrap_or (option_map told.Same (least (has_text_and_is_valid text) there.known))
+    (unwrap_or (option_map told.Superseded (least (has_text text) there.known)) (told_of_new (least any_entry there.known) d new there))
+
+-- the effects that this has
+abbrev pub bodies_of : Told → List ℕ → List Known → List Body
+bodies_of (told.Same i) text others = []
+bodies_of (told.Superseded i) text others = []
+bodies_of (told.Entered i) text others = Enter text ∷ []
+bodies_of (told.Beside i) text others = Enter text ∷ []
+bodies_of (told.Revised i) text others = Enter text ∷ map (λ (e : Known). Retire e.entry) others
+bodies_of (told.Refused p) text others = []
+bodies_of told.Spent text others = []
+
+abbrev pub entered : Id → Key → List ℕ → Known
+entered i key text = record { entry = i; key = key; definition = text; valid = true }
+
+-- what there is of the key then
+abbrev pub then_of : Told → Key → List ℕ → OfKey → OfKey
+then_of (told.Same i) key text there = record { known = there.known; ours = true }
+then_of (told.Superseded i) key text there = record { known = there.known; ours = true }
+then_of (told.Entered i) key text there = record { known = there.known ++ entered i key text ∷ []; ours = true }
+then_of (told.Beside i) key text there = record { known = there.known ++ entered i key text ∷ []; ours = true }
+then_of (told.Revised i) key text there = record { known = entered i key text ∷ []; ours = true }
+then_of (told.Refused p) key text there = there
+then_of told.Spent key text there = there
+
+-- what comes of a text as it was read, over what there is of each key, where this is the number of the next operation
+abbrev pub told_at : Differs → List ℕ → ℕ → At → Reading → Told
+told_at d replica n at (reading.Unread f) = told.Refused (problem.Unread f)
+told_at d replica n at (reading.Defined text key) = told_of d (id_at replica n) (at (bytes_of key)) text
+
+abbrev pub bodies_at : Told → At → Reading → List Body
+bodies_at t at (reading.Unread f) = []
+bodies_at t at (reading.Defined text key) = bodies_of t text (at (bytes_of key)).known
+
+abbrev pub then_at : Told → At → Reading → At
+then_at t at (reading.Unread f) = at
+then_at t at (reading.Defined text key) = with_key (bytes_of key) (then_of t key text (at (bytes_of key))) at
+
+-- what comes of a text, and its effects
+pub record Step : Type 0 where
+  pub told : Told
+  pub bodies : List Body
+
+-- one text after another, each over what those before it made; the operations are numbered on
+abbrev pub imports : Differs → List ℕ → ℕ → At → List Reading → List Step
+imports d replica n at [] = []
+imports d replica n at (text ∷ texts) =
+    let t = told_at d replica n at text in
+    let bodies = bodies_at t at text in
+    record { told = t; bodies = bodies } ∷ imports d replica (n + length bodies) (then_at t at text) texts
+
+abbrev pub tolds : List Step → List Told
+tolds steps = map (λ (s : Step). s.told) steps
+
+-- all effects, in their order
+abbrev pub effects : List Step → List Body
+effects steps = flat_map (λ (s : Step). s.bodies) steps
+
+abbrev pub is_refused : Told → Bool
+is_refused (told.Same i) = false
+is_refused (told.Superseded i) = false
+is_refused (told.Entered i) = false
+is_refused (told.Beside i) = false
+is_refused (told.Revised i) = false
+is_refused (told.Refused p) = true
+is_refused told.Spent = false
+
+abbrev pub is_spent : Told → Bool
+is_spent (told.Same i) = false
+is_spent (told.Superseded i) = false
+is_spent (told.Entered i) = false
+is_spent (told.Beside i) = false
+is_spent (told.Revised i) = false
+is_spent (told.Refused p) = false
+is_spent told.Spent = true
+
+-- no text is refused
+abbrev pub NoneRefused : List Told → Type 0
+NoneRefused ts = list_any is_refused ts ≡ false
+
+abbrev pub NoneSpent : List Told → Type 0
+NoneSpent ts = list_any is_spent ts ≡ false

@@ -1,0 +1,60 @@
+-- The entries that are not retired, and what there is of each key.
+use Rattle.std.specs.Prelude.{◌≡◌, ℕ, Bool, true, false, not, List, [], ◌∷◌, ◌++◌, filter, Option, Some, None, if◌then◌else◌}
+use Rattle.std.specs.Ordering.{is_eq}
+use Rattle.wkt_crs.specs.Definition.{IsKeyIn}
+use Rattle.reg_op.specs.Ids.{Id}
+use Rattle.reg_op.specs.Operations.{Ops}
+use Rattle.reg_op.specs.Rows.{Row, rows}
+use Rattle.reg_op.specs.declared.status.Status.{Status}
+use Rattle.reg_op.specs.declared.status.Status.TheVariants.{Valid, Superseded, Retired}
+use Rattle.reg_office.specs.Conflicts.{KeyBytes, bytes_of, key_cmp}
+use Rattle.reg_office.specs.Exports.{is_retired}
+use Rattle.reg_import.specs.declared.known.Known.{Known}
+
+abbrev pub is_valid : Option Status → Bool
+is_valid None = false
+is_valid (Some Valid) = true
+is_valid (Some Superseded) = false
+is_valid (Some Retired) = false
+
+-- it is the entry of the row: its text, the key of that, and whether nothing supersedes it
+pub record IsKnown (r : Row) (e : Known) : Type 0 where
+  pub entry : e.entry ≡ r.entry
+  pub definition : e.definition ≡ r.definition
+  pub keyed : IsKeyIn e.key r.definition
+  pub valid : e.valid ≡ is_valid r.status
+
+-- one for each row
+abbrev pub AreKnown : List Row → List Known → Type 0
+AreKnown [] es = es ≡ []
+AreKnown (r ∷ rs) es = (e : Known) × (rest : List Known) × IsKnown r e × AreKnown rs rest × (es ≡ e ∷ rest)
+
+abbrev pub stands : Row → Bool
+stands r = not (is_retired r.status)
+
+-- those of a set of operations that are not retired, by id
+abbrev pub AreStanding : Ops → List Known → Type 0
+AreStanding s es = AreKnown (filter stands (rows s)) es
+
+-- what there is of a key: its entries that are not retired, and whether this command entered one of them, or found one the same
+pub record OfKey : Type 0 where
+  pub known : List Known
+  pub ours : Bool
+
+-- what there is of each key
+abbrev pub At : Type 0
+At = KeyBytes → OfKey
+
+abbrev pub is_key : KeyBytes → KeyBytes → Bool
+is_key a b = is_eq (key_cmp a b)
+
+abbrev pub key_of : Known → KeyBytes
+key_of e = bytes_of e.key
+
+-- the entries of each key among some, before the command
+abbrev pub by_key : List Known → At
+by_key es = λ k. record { known = filter (λ (e : Known). is_key k (key_of e)) es; ours = false }
+
+-- of this key there is something new, of the others what there was
+abbrev pub with_key : KeyBytes → OfKey → At → At
+with_key key new old = λ k. if is_key key k then new else old k

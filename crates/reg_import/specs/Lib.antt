@@ -1,0 +1,6 @@
+pub mod Known
+pub mod Readings
+pub mod Imports
+pub mod Index
+pub mod Plans
+pub mod Lines

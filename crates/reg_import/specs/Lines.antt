@@ -1,0 +1,94 @@
+-- What is printed of an import.
+use Rattle.std.specs.Prelude.{◌≡◌, ℕ, List, [], ◌∷◌, ◌++◌, slice_get, codes, decimal}
+use Rattle.std.specs.Option.{unwrap_or}
+use Rattle.crs_part.specs.Slots.{name_of}
+use Rattle.crs_value.specs.declared.crs.Crs.{Crs}
+use Rattle.crs_value.specs.Checking as condition
+use Rattle.wkt_slots.specs.Names.{slot_name}
+use Rattle.wkt_tier.specs.declared.fault.SlotFault.TheVariants as slot
+use Rattle.wkt_crs.specs.declared.fault.Unspelled.TheVariants as refused
+use Rattle.wkt_crs.specs.declared.definition.DefinitionFault.{DefinitionFault}
+use Rattle.wkt_crs.specs.declared.definition.DefinitionFault.TheVariants as fault
+use Rattle.wkt_crs.specs.Definition.{IsCrsOf, fault_name}
+use Rattle.reg_op.specs.Text.{printed}
+use Rattle.reg_import.specs.declared.reading.FileText.{FileText}
+use Rattle.reg_import.specs.declared.reading.Reading.{Reading}
+use Rattle.reg_import.specs.declared.reading.Reading.TheVariants as reading
+use Rattle.reg_import.specs.declared.told.Problem.{Problem}
+use Rattle.reg_import.specs.declared.told.Problem.TheVariants as problem
+use Rattle.reg_import.specs.declared.told.Told.{Told}
+use Rattle.reg_import.specs.declared.told.Told.TheVariants as told
+
+abbrev pub import_header : List (List ℕ)
+import_header = codes "file" ∷ codes "place" ∷ codes "action" ∷ codes "entry" ∷ codes "authority" ∷ codes "code" ∷ codes "name" ∷ codes "fault" ∷ []
+
+abbrev pub action_word : Told → List ℕ
+action_word (told.Same i) = codes "same"
+action_word (told.Superseded i) = codes "superseded"
+action_word (told.Entered i) = codes "entered"
+action_word (told.Beside i) = codes "beside"
+action_word (told.Revised i) = codes "revised"
+action_word (told.Refused p) = codes "refused"
+action_word told.Spent = []
+
+-- the new entry, or the one that has the text
+abbrev pub entry_text : Told → List ℕ
+entry_text (told.Same i) = printed i
+entry_text (told.Superseded i) = printed i
+entry_text (told.Entered i) = printed i
+entry_text (told.Beside i) = printed i
+entry_text (told.Revised i) = printed i
+entry_text (told.Refused p) = []
+entry_text told.Spent = []
+
+-- what a fault is called, and what it names
+abbrev pub fault_words : DefinitionFault → List ℕ
+fault_words (fault.Read (refused.Slot (slot.Missing name place))) = codes "Missing" ++ 32 ∷ slot_name name
+fault_words (fault.Read (refused.Broken c place)) = codes "Broken" ++ 32 ∷ condition.name_of c
+fault_words f = fault_name f
+
+abbrev pub problem_words : Problem → List ℕ
+problem_words (problem.Unread f) = fault_words f
+problem_words (problem.KeyTaken i) = codes "KeyTaken" ++ 32 ∷ printed i
+
+-- what is against a text, and where
+abbrev pub problem_text : Problem → ℕ → List ℕ
+problem_text p at = problem_words p ++ codes " at " ++ decimal at
+
+abbrev pub fault_text : Told → ℕ → List ℕ
+fault_text (told.Same i) at = []
+fault_text (told.Superseded i) at = []
+fault_text (told.Entered i) at = []
+fault_text (told.Beside i) at = []
+fault_text (told.Revised i) at = []
+fault_text (told.Refused p) at = problem_text p at
+fault_text told.Spent at = []
+
+-- the name of a file, as it was given
+abbrev pub name_at : List (List ℕ) → ℕ → List ℕ
+name_at names file = unwrap_or (slice_get names file) []
+
+-- the fields of a text that has this authority, this code and this name: its file and place, what came of it, its entry, these,
+-- and what is against it
+abbrev pub line_fields : List (List ℕ) → FileText → Told → List ℕ → List ℕ → List ℕ → List (List ℕ)
+line_fields names x t authority code name =
+    name_at names x.file ∷ decimal x.place ∷ action_word t ∷ entry_text t ∷ authority ∷ code ∷ name ∷ fault_text t x.at ∷ []
+
+-- a text, and what came of it
+pub record Line : Type 0 where
+  pub text : FileText
+  pub told : Told
+
+abbrev pub lines_of : List FileText → List Told → List Line
+lines_of [] ts = []
+lines_of (x ∷ xs) [] = []
+lines_of (x ∷ xs) (t ∷ ts) = record { text = x; told = t } ∷ lines_of xs ts
+
+-- they are the fields of such a line, with the key and the name of what was read
+abbrev pub IsLineOf : List (List ℕ) → FileText → Told → Reading → List (List ℕ) → Type 0
+IsLineOf names x t (reading.Defined definition key) fields =
+    (crs : Crs) × IsCrsOf crs definition × (fields ≡ line_fields names x t key.authority.bytes key.code.bytes (name_of crs.parts).bytes)
+IsLineOf names x t (reading.Unread f) fields = fields ≡ line_fields names x t [] [] []
+
+abbrev pub IsImportLine : List (List ℕ) → Line → List (List ℕ) → Type 0
+IsImportLine names l fields = IsLineOf names l.text l.told l.text.reading fields

@@ -1,0 +1,144 @@
+//! Many texts, imported at once.
+
+ghost use Rattle.std.specs.Prelude.{◌≡◌, ◌+◌, ◌≤◌, length, IfOk, IfErr, IfSome, IfNone};
+ghost use Rattle.std.specs.List.{list_any};
+ghost use Rattle.reg_op.specs.Set as set;
+ghost use Rattle.reg_op.specs.Lists.{ById};
+ghost use Rattle.reg_office.specs.Making.{greatest};
+ghost use Rattle.reg_import.specs.Readings.{readings};
+ghost use Rattle.reg_import.specs.Imports.{is_spent, NoneRefused};
+ghost use Rattle.reg_import.specs.Plans.{IsFirstRefused, IsRefusedPlan, IsPassedPlan, Plans, Imports, IsImportRefusal};
+
+use crate::making::join_ops;
+use crate::plan::{Plan, plan_of};
+use crate::reading::FileText;
+use crate::told::{Differs, Problem, Told};
+use reg_op::{Note, NoteFault};
+use reg_state::Register;
+use std::alloc::{AllocError, Global};
+use uuid::Uuid;
+
+const MAX_NOTE: usize = 200;
+
+/// A register that texts were imported into, and what came of each text.
+#[derive(Drop)]
+pub struct Imported {
+    pub register: Register,
+    pub told: Vec<Told>,
+}
+
+/// Why nothing is imported.
+#[derive(Clone, Copy, Debug, PartialEq, Eq)]
+pub enum ImportRefusal {
+    /// A note has more than 200 bytes.
+    NoteTooLong,
+    /// The text at this place, from 0, is the first that is refused.
+    Refused { at: usize, problem: Problem },
+    /// A number would pass 4,294,967,295.
+    CountSpent,
+    Memory,
+}
+
+/// A refused text: its place among all, from 0, and what is against it.
+#[derive(Clone, Copy, Debug, PartialEq, Eq)]
+pub struct Refused {
+    pub at: usize,
+    pub problem: Problem,
+}
+
+/// The first text that is refused.
+pub fn first_refused(told: &[Told]) -> Option<Refused>
+    ensures some { IfSome result (λ f. IsFirstRefused told.now f.at f.problem) }
+    ensures none { IfNone result (NoneRefused told.now) }
+{
+    for (at, this) in told.iter().enumerate() {
+        if let Told::Refused(problem) = *this {
+            return Some(Refused { at, problem });
+        }
+    }
+    None
+}
+
+fn some_spent(told: &[Told]) -> bool
+    ensures { result ≡ list_any is_spent told.now }
+{
+    told.iter().any(|this| this.is_spent())
+}
+
+// Why a plan is not made, where refused texts are passed over or not.
+fn refusal_of(told: &[Told], keep_going: bool) -> Option<ImportRefusal>
+    ensures some { IfSome result (IsRefusedPlan keep_going told.now) }
+    ensures none { IfNone result (IsPassedPlan keep_going told.now) }
+{
+    if !keep_going {
+        if let Some(Refused { at, problem }) = first_refused(told) {
+            return Some(ImportRefusal::Refused { at, problem });
+        }
+    }
+    if some_spent(told) {
+        return Some(ImportRefusal::CountSpent);
+    }
+    None
+}
+
+fn note_of(alloc: Global, text: &str) -> Result<Note, AllocError>
+    requires { length text.now ≤ 200 }
+    ensures { IfOk result (λ note. note ≡ text.now) }
+{
+    match Note::new(alloc, text.as_bytes()) {
+        Ok(note) => Ok(note),
+        Err(NoteFault::Memory) => Err(AllocError),
+        Err(NoteFault::NoteTooLong) => unreachable!(),
+        Err(NoteFault::NoteNotUtf8) => unreachable!(),
+    }
+}
+
+// The plan of a command with this note.
+fn planned(
+    alloc: Global,
+    register: &Register,
+    replica: Uuid,
+    note: &str,
+    differs: Differs,
+    texts: &[FileText],
+) -> Result<Plan, AllocError>
+    requires { length note.now ≤ 200 }
+    ensures plans { IfOk result (λ p. Plans register.now replica note.now differs (readings texts.now) p.told.items p.ops.items) }
+    ensures fits { IfOk result (λ p. greatest replica register.now.seen + 1 + length p.ops.items ≤ 4294967296) }
+    ensures by_id { IfOk result (λ p. ById (set.items register.now.ops)) }
+{
+    let noted = note_of(alloc, note)?;
+    let _by_id = register.ops();
+    let plan = plan_of(alloc, register, differs, replica, &noted, texts)?;
+    Ok(plan)
+}
+
+/// Imports texts into a register, as the replica, with the note. Texts that are refused are passed over, or else the first
+/// of them refuses all.
+pub fn import_texts(
+    alloc: Global,
+    register: Register,
+    replica: Uuid,
+    note: &str,
+    differs: Differs,
+    keep_going: bool,
+    texts: &[FileText],
+) -> Result<Imported, ImportRefusal>
+    ensures ok { IfOk result (λ made. Imports register replica note.now differs keep_going (readings texts.now) made.register made.told.items) }
+    ensures fault { IfErr result (IsImportRefusal register replica note.now differs keep_going (readings texts.now)) }
+{
+    if note.len() > MAX_NOTE {
+        return Err(ImportRefusal::NoteTooLong);
+    }
+    let Ok(plan) = planned(alloc, &register, replica, note, differs, texts) else {
+        return Err(ImportRefusal::Memory);
+    };
+    if let Some(refusal) = refusal_of(&plan.told, keep_going) {
+        return Err(refusal);
+    }
+    let Plan { told, ops } = plan;
+    match join_ops(alloc, register, replica, ops) {
+        Ok(register) => Ok(Imported { register, told }),
+        Err(_) => Err(ImportRefusal::Memory),
+    }
+}

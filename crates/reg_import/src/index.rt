@@ -1,0 +1,111 @@
+//! The entries that are not retired, by key.
+
+ghost use Rattle.std.specs.Prelude.{◌≡◌, ◌++◌, ◌∷◌, [], List, map, IfOk, OnOk};
+ghost use Rattle.reg_office.specs.Conflicts.{bytes_of};
+ghost use Rattle.reg_office.specs.Seen.{row_seen};
+ghost use Rattle.reg_import.specs.declared.known.Known.{Known};
+ghost use Rattle.reg_import.specs.Known.{At, AreKnown, AreStanding, with_key, by_key};
+ghost use Rattle.reg_import.specs.Index.{key_bytes, bucket_seen, nothing_there, with_entry, Indexes};
+
+use crate::known::{Known, known_of, standing};
+use crs_value::Key;
+use reg_office::Row;
+use reg_state::Register;
+use std::alloc::{AllocError, Global};
+use std::collections::BTreeMap;
+
+/// The bytes of a key's authority and of its code, by which keys are ordered.
+#[derive(PartialEq, Eq, PartialOrd, Ord, Drop)]
+pub struct KeyText {
+    pub authority: Vec<u8>,
+    pub code: Vec<u8>,
+}
+
+/// The entries of a key, and whether this command entered one of them, or found one the same.
+#[derive(Drop)]
+pub struct Bucket {
+    pub known: Vec<Known>,
+    pub ours: bool,
+}
+
+/// The bytes of a key.
+pub fn text_of(alloc: Global, key: &Key) -> Result<KeyText, AllocError>
+    ensures { IfOk result (λ text. key_bytes text ≡ bytes_of key.now) }
+{
+    Ok(KeyText {
+        authority: Vec::from_slice(alloc, key.authority.as_bytes())?,
+        code: Vec::from_slice(alloc, key.code.as_bytes())?,
+    })
+}
+
+/// Takes out what there is of a key.
+pub fn take(alloc: Global, index: &mut BTreeMap<KeyText, Bucket>, key: &KeyText) -> Bucket
+    ensures found { (at : At) → Indexes index.old at → bucket_seen result ≡ at (key_bytes key.now) }
+    ensures rest { (at : At) → Indexes index.old at → Indexes index.new (with_key (key_bytes key.now) nothing_there at) }
+{
+    match index.remove(key) {
+        Some(bucket) => bucket,
+        None => Bucket {
+            known: Vec::new(alloc),
+            ours: false,
+        },
+    }
+}
+
+/// Puts in what there is of a key.
+pub fn put(
+    index: &mut BTreeMap<KeyText, Bucket>,
+    key: KeyText,
+    bucket: Bucket,
+) -> Result<(), AllocError>
+    ensures { OnOk result ((at : At) → Indexes index.old at → Indexes index.new (with_key (key_bytes key) (bucket_seen bucket) at)) }
+{
+    let _ = index.insert(key, bucket)?;
+    Ok(())
+}
+
+fn with_one(known: Vec<Known>, ours: bool, entry: Known) -> Result<Bucket, AllocError>
+    ensures { IfOk result (λ b. bucket_seen b ≡ record { known = known.items ++ entry ∷ []; ours = ours }) }
+{
+    let mut known = known;
+    known.push(entry)?;
+    Ok(Bucket { known, ours })
+}
+
+// Puts in one entry more.
+fn put_known(
+    alloc: Global,
+    index: &mut BTreeMap<KeyText, Bucket>,
+    entry: Known,
+) -> Result<(), AllocError>
+    ensures { OnOk result ((at : At) → Indexes index.old at → Indexes index.new (with_entry entry at)) }
+{
+    let key = text_of(alloc, &entry.key)?;
+    let Bucket { known, ours } = take(alloc, index, &key);
+    let bucket = with_one(known, ours, entry)?;
+    put(index, key, bucket)?;
+    Ok(())
+}
+
+// The index of the entries of rows.
+fn index_of_rows(alloc: Global, rows: &[Row]) -> Result<BTreeMap<KeyText, Bucket>, AllocError>
+    ensures { IfOk result (λ index. (es : List Known) × AreKnown (map row_seen rows.now) es × Indexes index (by_key es)) }
+{
+    let mut index = BTreeMap::new(alloc);
+    let mut rest = rows;
+    while let Some((row, others)) = rest.split_first() {
+        let entry = known_of(alloc, row)?;
+        put_known(alloc, &mut index, entry)?;
+        rest = others;
+    }
+    Ok(index)
+}
+
+/// The index of the register's entries that are not retired.
+pub fn index_of(alloc: Global, register: &Register) -> Result<BTreeMap<KeyText, Bucket>, AllocError>
+    ensures { IfOk result (λ index. (es : List Known) × AreStanding register.now.ops es × Indexes index (by_key es)) }
+{
+    let rows = standing(alloc, register)?;
+    let index = index_of_rows(alloc, &rows)?;
+    Ok(index)
+}

@@ -1,0 +1,70 @@
+//! The least of some entries.
+
+ghost use Rattle.std.specs.Prelude.{◌≡◌, Some};
+ghost use Rattle.reg_import.specs.Imports.{least, has_text, has_text_and_is_valid, any_entry, sooner};
+
+use crate::known::Known;
+use reg_op::OpId;
+
+fn sooner(entry: OpId, other: Option<OpId>) -> OpId
+    ensures { result ≡ sooner entry other }
+{
+    match other {
+        None => entry,
+        Some(other) => {
+            if other.is_before(&entry) {
+                return other;
+            }
+            entry
+        }
+    }
+}
+
+fn has_text(entry: &Known, text: &[u8]) -> bool
+    ensures { result ≡ has_text text.now entry.now }
+{
+    entry.definition.as_bytes() == text
+}
+
+/// The least of the entries that have the text and are valid.
+pub fn least_valid(entries: &[Known], text: &[u8]) -> Option<OpId>
+    ensures { result ≡ least (has_text_and_is_valid text.now) entries.now }
+{
+    let mut best = None;
+    let mut rest = entries;
+    while let Some((entry, others)) = rest.split_last() {
+        if has_text(entry, text) && entry.valid {
+            best = Some(sooner(entry.entry, best));
+        }
+        rest = others;
+    }
+    best
+}
+
+/// The least of those that have the text.
+pub fn least_same(entries: &[Known], text: &[u8]) -> Option<OpId>
+    ensures { result ≡ least (has_text text.now) entries.now }
+{
+    let mut best = None;
+    let mut rest = entries;
+    while let Some((entry, others)) = rest.split_last() {
+        if has_text(entry, text) {
+            best = Some(sooner(entry.entry, best));
+        }
+        rest = others;
+    }
+    best
+}
+
+/// The least of them all.
+pub fn least_of_all(entries: &[Known]) -> Option<OpId>
+    ensures { result ≡ least any_entry entries.now }
+{
+    let mut best = None;
+    let mut rest = entries;
+    while let Some((entry, others)) = rest.split_last() {
+        best = Some(sooner(entry.entry, best));
+        rest = others;
+    }
+    best
+}

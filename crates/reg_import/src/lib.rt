@@ -1,0 +1,17 @@
+//! Many texts entered at once: what comes of each, over the register so far.
+#![tactic(auto)]
+
+mod import;
+mod index;
+mod known;
+mod least;
+mod lines;
+mod making;
+mod plan;
+mod reading;
+mod told;
+
+pub use import::{ImportRefusal, Imported, Refused, first_refused, import_texts};
+pub use lines::lines_text;
+pub use reading::{FileText, Reading, read_at};
+pub use told::{Differs, Problem, Told};

@@ -1,0 +1,259 @@
+//! What is printed of an import, line by line.
+
+ghost use Rattle.std.specs.Prelude.{◌≡◌, ◌++◌, [], ◌∷◌, ℕ, List, codes, decimal, map, IfOk, OnOk};
+ghost use Rattle.std.specs.String.{string_bytes};
+ghost use Rattle.reg_op.specs.Text.{printed};
+ghost use Rattle.reg_office.specs.Lines.{IsSheet, IsReady, WritesRow};
+ghost use Rattle.reg_import.specs.Lines.{Line, lines_of, action_word, entry_text, fault_words, problem_words, problem_text, fault_text, name_at, import_header, line_fields, IsImportLine};
+
+use crate::reading::{FileText, Reading};
+use crate::told::{Problem, Told};
+use csv::Writer;
+use reg_office::printed;
+use reg_op::OpId;
+use std::alloc::{AllocError, Global};
+use wkt_crs::{DefinitionFault, SlotFault, Unspelled};
+
+fn action_word(told: &Told) -> &'static [u8]
+    ensures { result.now ≡ action_word told.now }
+{
+    match told {
+        Told::Same(_) => b"same",
+        Told::Superseded(_) => b"superseded",
+        Told::Entered(_) => b"entered",
+        Told::Beside(_) => b"beside",
+        Told::Revised(_) => b"revised",
+        Told::Refused(_) => b"refused",
+        Told::Spent => b"",
+    }
+}
+
+fn entry_text(alloc: Global, told: &Told) -> Result<Vec<u8>, AllocError>
+    ensures { IfOk result (λ text. text.items ≡ entry_text told.now) }
+{
+    match told {
+        Told::Same(entry) => printed(alloc, *entry),
+        Told::Superseded(entry) => printed(alloc, *entry),
+        Told::Entered(entry) => printed(alloc, *entry),
+        Told::Beside(entry) => printed(alloc, *entry),
+        Told::Revised(entry) => printed(alloc, *entry),
+        Told::Refused(_) => Ok(Vec::new(alloc)),
+        Told::Spent => Ok(Vec::new(alloc)),
+    }
+}
+
+fn push_all(text: &mut Vec<u8>, bytes: &[u8]) -> Result<(), AllocError>
+    ensures { OnOk result (text.new.items ≡ text.old.items ++ bytes.now) }
+{
+    text.extend_from_slice(bytes)?;
+    Ok(())
+}
+
+fn two_words(alloc: Global, first: &[u8], second: &[u8]) -> Result<Vec<u8>, AllocError>
+    ensures { IfOk result (λ text. text.items ≡ first.now ++ 32 ∷ second.now) }
+{
+    let mut text = Vec::new(alloc);
+    push_all(&mut text, first)?;
+    text.push(b' ')?;
+    push_all(&mut text, second)?;
+    Ok(text)
+}
+
+fn one_word(alloc: Global, word: &[u8]) -> Result<Vec<u8>, AllocError>
+    ensures { IfOk result (λ text. text.items ≡ word.now) }
+{
+    Vec::from_slice(alloc, word)
+}
+
+fn key_taken(alloc: Global, entry: OpId) -> Result<Vec<u8>, AllocError>
+    ensures { IfOk result (λ text. text.items ≡ codes "KeyTaken" ++ 32 ∷ printed entry) }
+{
+    let entry = printed(alloc, entry)?;
+    two_words(alloc, b"KeyTaken", &entry)
+}
+
+// What a fault is called, and what it names.
+fn fault_words(alloc: Global, fault: &DefinitionFault) -> Result<Vec<u8>, AllocError>
+    ensures { IfOk result (λ text. text.items ≡ fault_words fault.now) }
+{
+    match fault {
+        DefinitionFault::Read(Unspelled::Slot(SlotFault::Missing(slot, _))) => {
+            two_words(alloc, b"Missing", slot.name().as_bytes())
+        }
+        DefinitionFault::Read(
+            Unspelled::Broken {
+                condition,
+                place: _,
+            },
+        ) => two_words(alloc, b"Broken", condition.name().as_bytes()),
+        fault => one_word(alloc, fault.name().as_bytes()),
+    }
+}
+
+// What is against a text, without its place.
+fn problem_words(alloc: Global, problem: &Problem) -> Result<Vec<u8>, AllocError>
+    ensures { IfOk result (λ text. text.items ≡ problem_words problem.now) }
+{
+    match problem {
+        Problem::KeyTaken(entry) => key_taken(alloc, *entry),
+        Problem::Unread(fault) => fault_words(alloc, fault),
+    }
+}
+
+fn decimal(alloc: Global, number: usize) -> Result<Vec<u8>, AllocError>
+    ensures { IfOk result (λ text. text.items ≡ decimal number) }
+{
+    let text = number.to_string(alloc)?;
+    Vec::from_slice(alloc, text.as_bytes())
+}
+
+// What is against a text, and its place.
+fn problem_text(alloc: Global, problem: &Problem, at: usize) -> Result<Vec<u8>, AllocError>
+    ensures { IfOk result (λ text. text.items ≡ problem_text problem.now at) }
+{
+    let mut text = problem_words(alloc, problem)?;
+    let number = decimal(alloc, at)?;
+    push_all(&mut text, b" at ")?;
+    push_all(&mut text, &number)?;
+    Ok(text)
+}
+
+fn fault_text(alloc: Global, told: &Told, at: usize) -> Result<Vec<u8>, AllocError>
+    ensures { IfOk result (λ text. text.items ≡ fault_text told.now at) }
+{
+    match told {
+        Told::Refused(problem) => problem_text(alloc, problem, at),
+        Told::Same(_) => Ok(Vec::new(alloc)),
+        Told::Superseded(_) => Ok(Vec::new(alloc)),
+        Told::Entered(_) => Ok(Vec::new(alloc)),
+        Told::Beside(_) => Ok(Vec::new(alloc)),
+        Told::Revised(_) => Ok(Vec::new(alloc)),
+        Told::Spent => Ok(Vec::new(alloc)),
+    }
+}
+
+fn name_at(names: &[String], file: usize) -> &[u8]
+    ensures { result.now ≡ name_at (map string_bytes names.now) file }
+{
+    match names.get(file) {
+        Some(name) => name.as_bytes(),
+        None => b"",
+    }
+}
+
+// A line of eight fields.
+fn write_eight(
+    wtr: &mut Writer<Vec<u8>>,
+    first: &[u8],
+    second: &[u8],
+    third: &[u8],
+    fourth: &[u8],
+    fifth: &[u8],
+    sixth: &[u8],
+    seventh: &[u8],
+    eighth: &[u8],
+) -> Result<(), AllocError>
+    requires { IsReady wtr.old }
+    ensures { OnOk result (WritesRow wtr.old wtr.new (first.now ∷ second.now ∷ third.now ∷ fourth.now ∷ fifth.now ∷ sixth.now ∷ seventh.now ∷ eighth.now ∷ [])) }
+{
+    let fields = [first, second, third, fourth, fifth, sixth, seventh, eighth];
+    wtr.write_fields(&fields).map_err(|_| AllocError)?;
+    Ok(())
+}
+
+fn write_header(wtr: &mut Writer<Vec<u8>>) -> Result<(), AllocError>
+    requires { IsReady wtr.old }
+    ensures { OnOk result (WritesRow wtr.old wtr.new import_header) }
+{
+    write_eight(
+        wtr,
+        b"file",
+        b"place",
+        b"action",
+        b"entry",
+        b"authority",
+        b"code",
+        b"name",
+        b"fault",
+    )
+}
+
+// A line of a text that has this authority, this code and this name.
+fn write_named(
+    alloc: Global,
+    wtr: &mut Writer<Vec<u8>>,
+    names: &[String],
+    text: &FileText,
+    told: &Told,
+    authority: &[u8],
+    code: &[u8],
+    name: &[u8],
+) -> Result<(), AllocError>
+    requires { IsReady wtr.old }
+    ensures { OnOk result (WritesRow wtr.old wtr.new (line_fields (map string_bytes names.now) text.now told.now authority.now code.now name.now)) }
+{
+    let place = decimal(alloc, text.place)?;
+    let entry = entry_text(alloc, told)?;
+    let fault = fault_text(alloc, told, text.at)?;
+    write_eight(
+        wtr,
+        name_at(names, text.file),
+        &place,
+        action_word(told),
+        &entry,
+        authority,
+        code,
+        name,
+        &fault,
+    )?;
+    Ok(())
+}
+
+fn write_line(
+    alloc: Global,
+    wtr: &mut Writer<Vec<u8>>,
+    names: &[String],
+    text: &FileText,
+    told: &Told,
+) -> Result<(), AllocError>
+    requires { IsReady wtr.old }
+    ensures { OnOk result ((fields : List (List ℕ)) × IsImportLine (map string_bytes names.now) (record { text = text.now; told = told.now }) fields × WritesRow wtr.old wtr.new fields) }
+{
+    match &text.reading {
+        Reading::Defined { definition, key } => {
+            let authority = key.authority.as_bytes();
+            let code = key.code.as_bytes();
+            let name = definition.name().as_bytes();
+            write_named(alloc, wtr, names, text, told, authority, code, name)?;
+            Ok(())
+        }
+        Reading::Unread(_) => write_named(alloc, wtr, names, text, told, b"", b"", b""),
+    }
+}
+
+/// A header, and a line for each text, of which the files have these names.
+pub fn lines_text(
+    alloc: Global,
+    names: &[String],
+    texts: &[FileText],
+    told: &[Told],
+) -> Result<Vec<u8>, AllocError>
+    ensures { IfOk result (λ text. IsSheet import_header (IsImportLine (map string_bytes names.now)) (lines_of texts.now told.now) text.items) }
+{
+    let mut wtr = Writer::from_writer(Vec::new(alloc));
+    write_header(&mut wtr)?;
+    let mut texts = texts;
+    let mut told = told;
+    while let (Some((text, others)), Some((this, later))) = (
+        texts.split_first(),
+        told.split_first(),
+    ) {
+        write_line(alloc, &mut wtr, names, text, this)?;
+        texts = others;
+        told = later;
+    }
+    match wtr.into_inner() {
+        Ok(text) => Ok(text),
+        Err(_) => Err(AllocError),
+    }
+}

@@ -1,0 +1,201 @@
+//! The operations of a command, and the register that they join.
+
+ghost use Rattle.std.specs.Prelude.{◌≡◌, ◌+◌, ◌<◌, ◌≤◌, ◌++◌, [], ◌∷◌, map, length, None, Ok, OnOk, IfOk};
+ghost use Rattle.reg_op.specs.Set as set;
+ghost use Rattle.reg_op.specs.Lists.{ById};
+ghost use Rattle.reg_op.specs.Operations.{Op as Operation, op_cmp, IsOfItself};
+ghost use Rattle.reg_op.specs.declared.operation.OpBody.TheVariants as body;
+ghost use Rattle.reg_op.specs.Contents.{state, joined};
+ghost use Rattle.reg_seen.specs.Runs.{IsRun, ids_of_run};
+ghost use Rattle.reg_state.specs.Tables.{first_dropped};
+ghost use Rattle.reg_office.specs.Making.{greatest, numbered, objections};
+ghost use Rattle.reg_import.specs.Imports.{bodies_of};
+ghost use Rattle.reg_import.specs.Plans.{retired, AreNumbered};
+
+use crate::known::Known;
+use crate::told::Told;
+use reg_op::{Note, Op, OpBody, OpId};
+use reg_state::{ContentFault, Join, JoinFault, Register, Run, Seen};
+use std::alloc::{AllocError, Global};
+use uuid::Uuid;
+use wkt_crs::Definition;
+
+// Puts an operation at the end.
+fn push_op(
+    ops: &mut Vec<Op>,
+    replica: Uuid,
+    count: u64,
+    note: &Note,
+    body: OpBody,
+) -> Result<(), AllocError>
+    requires positive { 0 < count }
+    requires fits { count < 4294967296 }
+    requires possible { ¬ (IsOfItself body) }
+    ensures { OnOk result (ops.new.items ≡ ops.old.items ++ numbered replica count note.now (body ∷ [])) }
+{
+    let Some(id) = OpId::new(replica, count as u32) else {
+        unreachable!();
+    };
+    let noted = note.try_clone()?;
+    let Ok(op) = Op::new(id, body, noted) else {
+        unreachable!();
+    };
+    ops.push(op)?;
+    Ok(())
+}
+
+// Puts the retirements of some entries at the end.
+fn push_retirements(
+    ops: &mut Vec<Op>,
+    replica: Uuid,
+    first: u64,
+    note: &Note,
+    entries: &[Known],
+) -> Result<(), AllocError>
+    requires positive { 0 < first }
+    requires fits { first + length entries.now ≤ 4294967296 }
+    ensures { OnOk result (ops.new.items ≡ ops.old.items ++ numbered replica first note.now (retired entries.now)) }
+{
+    let mut count = first;
+    let mut rest = entries;
+    while let Some((entry, others)) = rest.split_first() {
+        push_op(
+            ops,
+            replica,
+            count,
+            note,
+            OpBody::Retire { entry: entry.entry },
+        )?;
+        count += 1;
+        rest = others;
+    }
+    Ok(())
+}
+
+fn push_entered(
+    alloc: Global,
+    ops: &mut Vec<Op>,
+    replica: Uuid,
+    count: u64,
+    note: &Note,
+    definition: &Definition,
+) -> Result<(), AllocError>
+    requires positive { 0 < count }
+    requires fits { count < 4294967296 }
+    ensures { OnOk result (ops.new.items ≡ ops.old.items ++ numbered replica count note.now (body.Enter definition.now ∷ [])) }
+{
+    let definition = definition.try_clone(alloc)?;
+    push_op(ops, replica, count, note, OpBody::Enter(definition))
+}
+
+/// Puts the operations that a text makes at the end.
+pub fn push_ops(
+    alloc: Global,
+    ops: &mut Vec<Op>,
+    replica: Uuid,
+    count: u64,
+    note: &Note,
+    told: &Told,
+    definition: &Definition,
+    others: &[Known],
+) -> Result<(), AllocError>
+    requires positive { 0 < count }
+    requires fits { count + length (bodies_of told.now definition.now others.now) ≤ 4294967296 }
+    ensures { OnOk result (ops.new.items ≡ ops.old.items ++ numbered replica count note.now (bodies_of told.now definition.now others.now)) }
+{
+    match told {
+        Told::Entered(_) => push_entered(alloc, ops, replica, count, note, definition),
+        Told::Beside(_) => push_entered(alloc, ops, replica, count, note, definition),
+        Told::Revised(_) => {
+            push_entered(alloc, ops, replica, count, note, definition)?;
+            push_retirements(ops, replica, count + 1, note, others)
+        }
+        Told::Same(_) => Ok(()),
+        Told::Superseded(_) => Ok(()),
+        Told::Refused(_) => Ok(()),
+        Told::Spent => Ok(()),
+    }
+}
+
+// The register of operations whose ids are a run's.
+fn register_of(alloc: Global, ops: Vec<Op>, run: Run) -> Result<Register, AllocError>
+    requires run { IsRun run }
+    requires by_id { ById ops.items }
+    requires ids { map (λ (o : Operation). o.id) ops.items ≡ ids_of_run run }
+    requires kept { first_dropped (set.from_list {R = op_cmp} ops.items) ≡ None }
+    ensures { IfOk result (λ register. register ≡ state (set.from_list {R = op_cmp} ops.items)) }
+{
+    let mut seen = Seen::new(alloc);
+    seen.add_run(run)?;
+    match Register::from_content(alloc, ops, seen) {
+        Ok(register) => {
+            let _content = register.seen();
+            Ok(register)
+        }
+        Err(ContentFault::Memory) => Err(AllocError),
+        Err(ContentFault::NotKept(_)) => unreachable!(),
+    }
+}
+
+/// How many operations there are.
+pub fn count_of(ops: &[Op]) -> usize
+    ensures { result ≡ length ops.now }
+{
+    ops.len()
+}
+
+// The register that operations have joined, the first of which has this count.
+fn joined(
+    alloc: Global,
+    register: &Register,
+    replica: Uuid,
+    first: u32,
+    ops: Vec<Op>,
+) -> Result<Register, AllocError>
+    requires some { 0 < length ops.items }
+    requires fits { first + length ops.items ≤ 4294967296 }
+    requires first { first ≡ greatest replica register.now.seen + 1 }
+    requires ops { AreNumbered replica first ops.items }
+    requires kept { first_dropped (set.from_list {R = op_cmp} ops.items) ≡ None }
+    ensures { IfOk result (λ y. joined register.now (state (set.from_list {R = op_cmp} ops.items)) ≡ Ok y) }
+{
+    let run = Run {
+        replica,
+        low: first,
+        high: first + (count_of(&ops) as u32 - 1),
+    };
+    let fresh = register_of(alloc, ops, run)?;
+    let _content = register.seen();
+    match register.join(alloc, &fresh) {
+        Ok(register) => Ok(register),
+        Err(JoinFault::Memory) => Err(AllocError),
+        Err(JoinFault::Clash(_)) => unreachable!(),
+    }
+}
+
+/// The greatest own count that was seen.
+pub fn last_count(seen: &Seen, replica: Uuid) -> u32
+    ensures { result ≡ greatest replica seen.now }
+{
+    seen.greatest(replica)
+}
+
+/// The register that the operations of a replica have joined, which are numbered on from the greatest own count seen.
+pub fn join_ops(
+    alloc: Global,
+    register: Register,
+    replica: Uuid,
+    ops: Vec<Op>,
+) -> Result<Register, AllocError>
+    requires fits { greatest replica register.seen + 1 + length ops.items ≤ 4294967296 }
+    requires ops { AreNumbered replica (greatest replica register.seen + 1) ops.items }
+    requires kept { first_dropped (set.from_list {R = op_cmp} ops.items) ≡ None }
+    ensures { IfOk result (λ y. joined register (state (set.from_list {R = op_cmp} ops.items)) ≡ Ok y) }
+{
+    let last = last_count(register.seen(), replica);
+    let slice = ops.as_slice();
+    if slice.is_empty() {
+        return Ok(register);
+    }
+    joined(alloc, &register, replica, last + 1, ops)
+}

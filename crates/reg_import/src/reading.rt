@@ -1,0 +1,80 @@
+//! Texts, as they are read.
+
+ghost use Rattle.std.specs.Prelude.{◌≡◌, ◌+◌, IfOk, IfSome};
+ghost use Rattle.reg_import.specs.Readings.{IsReading, place_in, IsFileText};
+
+use crs_part::TryClone;
+use crs_value::Key;
+use std::alloc::{AllocError, Global};
+use wkt_crs::{Definition, DefinitionFault};
+
+/// What a text is read as.
+#[derive(Drop)]
+pub enum Reading {
+    /// A definition, and its key.
+    Defined { definition: Definition, key: Key },
+    /// No definition, for this reason.
+    Unread(DefinitionFault),
+}
+
+/// A text of a file: the number of the file among those that were given, from 0; the place of its first byte; the place that
+/// is told where something is against it; and what it is read as.
+#[derive(Drop)]
+pub struct FileText {
+    pub file: usize,
+    pub place: usize,
+    pub at: usize,
+    pub reading: Reading,
+}
+
+// Where a text's fault is, or its first byte, in a file in which it begins at this place.
+fn told_at(place: usize, reading: &Reading) -> Option<usize>
+    ensures { IfSome result (λ at. at ≡ place + place_in reading.now) }
+{
+    match reading {
+        Reading::Defined {
+            definition: _,
+            key: _,
+        } => Some(place),
+        Reading::Unread(fault) => match fault.place() {
+            Some(inner) => place.checked_add(inner),
+            None => Some(place),
+        },
+    }
+}
+
+/// Reads a text that begins at this place of the file.
+pub fn read_at(
+    alloc: Global,
+    file: usize,
+    place: usize,
+    text: &[u8],
+) -> Result<FileText, AllocError>
+    ensures { IfOk result (IsFileText file place text.now) }
+{
+    let reading = read_text(alloc, text)?;
+    // No place is so great, since files are in memory.
+    let Some(at) = told_at(place, &reading) else {
+        return Err(AllocError);
+    };
+    Ok(FileText {
+        file,
+        place,
+        at,
+        reading,
+    })
+}
+
+// Reads a text.
+fn read_text(alloc: Global, text: &[u8]) -> Result<Reading, AllocError>
+    ensures { IfOk result (IsReading text.now) }
+{
+    match Definition::from_text(alloc, text) {
+        Ok(definition) => {
+            let key = definition.key().try_clone(alloc)?;
+            Ok(Reading::Defined { definition, key })
+        }
+        Err(DefinitionFault::Memory) => Err(AllocError),
+        Err(fault) => Ok(Reading::Unread(fault)),
+    }
+}

@@ -1,0 +1,5 @@
+mod Alike
+mod Walks
+mod Steps
+pub mod After
+pub mod Settled

@@ -1,0 +1,80 @@
+-- Which entries are retired so that others of their keys are kept.
+use Rattle.std.specs.Prelude.{◌≡◌, ◌≢◌, ◌⊎◌, List, [], ◌∷◌, ◌++◌, Contains, Some}
+use Rattle.reg_op.specs.Ids.{Id}
+use Rattle.reg_op.specs.Rows.{Row}
+use Rattle.reg_op.specs.declared.status.Status.TheVariants.{Retired}
+use Rattle.reg_office.specs.Conflicts.{KeyBytes, HasKey}
+use Rattle.reg_settle.specs.declared.fault.SettleFault.{SettleFault}
+use Rattle.reg_settle.specs.declared.fault.SettleFault.TheVariants as fault
+
+-- they have one key
+pub record SharesKey (one other : Row) : Type 0 where
+  pub key : KeyBytes
+  pub of_one : HasKey one.definition key
+  pub of_other : HasKey other.definition key
+
+-- they have one key, and different texts
+pub record Differs (one other : Row) : Type 0 where
+  pub shares : SharesKey one other
+  pub differ : one.definition ≢ other.definition
+
+-- the entries of the rows for which P holds, in their order
+abbrev pub Picks : (Row → Type 0) → List Row → List Id → Type 0
+Picks P [] ids = ids ≡ []
+Picks P (r ∷ rs) ids = (P r × ((later : List Id) × Picks P rs later × (ids ≡ r.entry ∷ later))) ⊎ ((¬ (P r)) × Picks P rs ids)
+
+-- the row is kept before, and has the key and another text
+pub record Takes (before : List Id) (keep r : Row) : Type 0 where
+  pub differs : Differs r keep
+  pub kept : Contains before r.entry
+
+-- some row does so
+pub record IsTaken (rs : List Row) (before : List Id) (keep : Row) : Type 0 where
+  pub other : Row
+  pub there : Contains rs other
+  pub takes : Takes before keep other
+
+-- k can be kept after others: it is the entry of a row that is not retired, and no other text of its key is kept
+pub record IsKept (rs : List Row) (before : List Id) (k : Id) (keep : Row) : Type 0 where
+  pub there : Contains rs keep
+  pub is : keep.entry ≡ k
+  pub stands : keep.status ≢ Some Retired
+  pub agrees : ¬ (IsTaken rs before keep)
+
+-- beside the kept row this one is retired: it has the key, and is no entry that is kept, nor one that is retired already
+pub record IsRival (keeps retired : List Id) (keep r : Row) : Type 0 where
+  pub shares : SharesKey keep r
+  pub stands : r.status ≢ Some Retired
+  pub no_keep : ¬ (Contains keeps r.entry)
+  pub left : ¬ (Contains retired r.entry)
+
+-- for each of some entries in their order, after others, its rivals are retired by id, each once; which makes the list of all
+abbrev pub Settles : List Row → List Id → List Id → List Id → List Id → List Id → Type 0
+Settles rs keeps before [] retired all = all ≡ retired
+Settles rs keeps before (k ∷ ks) retired all =
+    (keep : Row) × IsKept rs before k keep × ((mine : List Id) × Picks (IsRival keeps retired keep) rs mine × Settles rs keeps (before ++ k ∷ []) ks (retired ++ mine) all)
+
+-- what settling retires, where these entries are to be kept
+abbrev pub IsSettled : List Row → List Id → List Id → Type 0
+IsSettled rs keeps all = Settles rs keeps [] keeps [] all
+
+-- a row of the entry
+pub record HasRow (rs : List Row) (k : Id) (r : Row) : Type 0 where
+  pub there : Contains rs r
+  pub is : r.entry ≡ k
+
+-- why k cannot be kept after others
+abbrev pub IsObjection : List Row → List Id → Id → SettleFault → Type 0
+IsObjection rs before k (fault.UnknownEntry i) = (i ≡ k) × ((r : Row) → ¬ (HasRow rs k r))
+IsObjection rs before k (fault.AlreadyRetired i) = (i ≡ k) × ((r : Row) × HasRow rs k r × (r.status ≡ Some Retired))
+IsObjection rs before k (fault.KeyTaken i) = (i ≡ k) × ((r : Row) × HasRow rs k r × (r.status ≢ Some Retired) × IsTaken rs before r)
+IsObjection rs before k fault.Memory = ⊥
+
+-- the first of some entries that cannot be kept, after others, cannot for this reason
+abbrev pub Refuses : List Row → List Id → List Id → SettleFault → Type 0
+Refuses rs before [] f = ⊥
+Refuses rs before (k ∷ ks) f = IsObjection rs before k f ⊎ ((keep : Row) × IsKept rs before k keep × Refuses rs (before ++ k ∷ []) ks f)
+
+-- why nothing is settled
+abbrev pub IsUnsettled : List Row → List Id → SettleFault → Type 0
+IsUnsettled rs keeps f = Refuses rs [] keeps f

@@ -1,0 +1,5 @@
+pub mod PartLemmas
+pub mod SeenLemmas
+pub mod OpsLemmas
+pub mod OfficeLemmas
+pub mod FigureLemmas

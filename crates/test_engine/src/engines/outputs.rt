@@ -1,0 +1,108 @@
+//! Outputs over a place that tells what stands there: a step that fails leaves the old file, and nothing beside.
+
+use super::change::{OFFICE_A, id};
+use super::{EMPTY, HEIGHT, entry_file};
+use byte_io::{Pieces, Then, Writing};
+use byte_out::{MemPlace, Step};
+use reg_engine::{CliFault, OutFault, run_new, run_retire};
+use std::alloc::Global;
+use std::process::Abort;
+use uuid::Uuid;
+
+const OLD: &[u8] = b"what stood there";
+
+// A place with an old file, with room for a new one of so many bytes, and with what is beside.
+fn place(rt: &impl Abort, alloc: Global, beside: Option<&[u8]>, room: usize) -> MemPlace {
+    let old = Vec::from_slice(alloc, OLD).expect(rt, "room for a file");
+    let beside = match beside {
+        Some(bytes) => Some(Vec::from_slice(alloc, bytes).expect(rt, "room for a file")),
+        None => None,
+    };
+    MemPlace::new(alloc, Some(old), beside, room)
+}
+
+// The fault of a new register that goes to the place, after which these files are there.
+fn new_leaves(
+    rt: &impl Abort,
+    alloc: Global,
+    place: &mut MemPlace,
+    stands: &[u8],
+    beside: Option<&[u8]>,
+) -> Option<CliFault> {
+    let fault = run_new(alloc, place).err();
+    assert!(rt; place.stands() == Some(stands));
+    assert!(rt; place.beside() == beside);
+    assert!(rt; !place.is_torn());
+    fault
+}
+
+#[test]
+fn a_new_file_stands_in_the_place_of_the_old_one(rt: HostRuntime) {
+    let alloc = rt.alloc();
+    let mut place = place(&rt, alloc, None, 14);
+    assert_eq!(rt; new_leaves(&rt, alloc, &mut place, EMPTY, None), None);
+
+    let mut empty = MemPlace::new(alloc, None, None, 14);
+    assert_eq!(rt; new_leaves(&rt, alloc, &mut empty, EMPTY, None), None);
+}
+
+#[test]
+fn a_step_that_fails_leaves_the_old_file(rt: HostRuntime) {
+    let alloc = rt.alloc();
+    let steps = [
+        (Step::Make, OutFault::NotOpened),
+        (Step::Sync, OutFault::WriteFailed(14)),
+        (Step::Put, OutFault::NotOpened),
+    ];
+    for (step, fault) in steps {
+        let mut place = place(&rt, alloc, None, 14);
+        place.fail_at(step);
+        let given = new_leaves(&rt, alloc, &mut place, OLD, None);
+        assert_eq!(rt; given, Some(CliFault::Out(fault)));
+    }
+}
+
+#[test]
+fn a_full_disk_leaves_the_old_file(rt: HostRuntime) {
+    let alloc = rt.alloc();
+    for room in [0, 1, 13] {
+        let mut place = place(&rt, alloc, None, room);
+        let given = new_leaves(&rt, alloc, &mut place, OLD, None);
+        assert_eq!(rt; given, Some(CliFault::Out(OutFault::WriteFailed(room))));
+    }
+}
+
+#[test]
+fn the_new_file_of_another_writer_stays(rt: HostRuntime) {
+    let alloc = rt.alloc();
+    let mut place = place(&rt, alloc, Some(b"half"), 14);
+    let given = new_leaves(&rt, alloc, &mut place, OLD, Some(b"half"));
+    assert_eq!(rt; given, Some(CliFault::Out(OutFault::NewExists)));
+}
+
+#[test]
+fn a_file_that_is_not_put_prints_no_id(rt: HostRuntime) {
+    let alloc = rt.alloc();
+    let file = entry_file(alloc, HEIGHT).expect(&rt, "a file");
+    for step in [Step::Make, Step::Sync, Step::Put] {
+        let mut source = Pieces::new(&file, 7, Then::Ends);
+        let mut place = place(&rt, alloc, None, 1000);
+        place.fail_at(step);
+        let mut sink = Writing::new(Vec::new(alloc));
+        let replica = Uuid::from_u128(OFFICE_A);
+        let entries = [id(&rt, OFFICE_A, 1)];
+        let done = run_retire(
+            alloc,
+            &mut source,
+            replica,
+            &entries,
+            "",
+            &mut place,
+            &mut sink,
+        );
+        assert!(rt; done.is_err());
+        assert!(rt; place.stands() == Some(OLD));
+        assert!(rt; place.beside().is_none());
+        assert!(rt; sink.into_inner().is_empty());
+    }
+}

@@ -1,0 +1,97 @@
+-- Hints for what users really have.
+use Rattle.std.specs.Prelude.{ℕ, ◌||◌, ◌&&◌, Bool, not, List, [], ◌∷◌, take, drop, codes, nat_eq, Option, Some, None, if◌then◌else◌}
+use Rattle.std.specs.List.{prefix_len, starts_with}
+use Rattle.wkt_slots.specs.Words.{same_word}
+use Rattle.wkt_tree.specs.Bytes.{is_blank, is_word_byte}
+use Rattle.wkt_tree.specs.declared.fault.TextFault.{TextFault}
+use Rattle.wkt_tree.specs.declared.fault.TextFault.TheVariants.{NotUtf8, After}
+use Rattle.wkt_tier.specs.declared.fault.SlotFault.TheVariants.{NotHere, Missing, NotCount, WordUnknown}
+use Rattle.wkt_crs.specs.declared.fault.Unspelled.TheVariants.{Text, Slot, Broken}
+use Rattle.wkt_crs.specs.declared.definition.DefinitionFault.{DefinitionFault}
+use Rattle.wkt_crs.specs.declared.definition.DefinitionFault.TheVariants as fault
+use Rattle.wkt_explain.specs.declared.hints.Hint.{Hint}
+use Rattle.wkt_explain.specs.declared.hints.Hint.TheVariants as hints
+
+-- what a hint says
+abbrev pub hint_text : Hint → List ℕ
+hint_text hints.ByteOrderMark = codes "the text begins with a byte order mark: save it without one"
+hint_text hints.Utf16 = codes "this is UTF-16: save the text as UTF-8"
+hint_text hints.Latin = codes "this may be Latin-1 or Windows-1252: save the text as UTF-8"
+hint_text hints.ProjJson = codes "this is JSON, perhaps PROJJSON: its WKT is wanted, as of projinfo -o WKT2:2019"
+hint_text hints.Gml = codes "this is XML, perhaps GML: its WKT is wanted"
+hint_text hints.ProjString = codes "this is a string of PROJ: its WKT is wanted, as of projinfo -o WKT2:2019"
+hint_text hints.Wkt1 = codes "this is WKT 1: WKT 2 is wanted, as of projinfo -o WKT2:2019"
+hint_text hints.OutsideUsage = codes "here WKT of 2015 has it: WKT of 2019 puts SCOPE, AREA, BBOX and VERTICALEXTENT into a USAGE"
+hint_text hints.UnitFirst = codes "PRIMEM stands before the unit: the simplified form of PROJ has them the other way round"
+hint_text hints.Dynamic = codes "systems of a dynamic datum are not read"
+hint_text hints.TwoTexts = codes "one text is read here: import reads files of many"
+hint_text hints.NoIdentifier = codes "put an ID[\"AUTHORITY\",\"CODE\"] before the last delimiter"
+
+-- the bytes begin with these
+abbrev pub begins : List ℕ → List ℕ → Bool
+begins front bytes = starts_with nat_eq bytes front
+
+abbrev pub behind_blanks : List ℕ → List ℕ
+behind_blanks text = drop (prefix_len is_blank text) text
+
+abbrev pub front_word : List ℕ → List ℕ
+front_word bytes = take (prefix_len is_word_byte bytes) bytes
+
+-- the word that begins at a place
+abbrev pub word_at : List ℕ → ℕ → List ℕ
+word_at text place = front_word (drop place text)
+
+abbrev pub is_wkt1 : List ℕ → Bool
+is_wkt1 word = same_word (codes "PROJCS") word || same_word (codes "GEOGCS") word || same_word (codes "GEOCCS") word || same_word (codes "VERT_CS") word
+    || same_word (codes "COMPD_CS") word || same_word (codes "LOCAL_CS") word || same_word (codes "FITTED_CS") word
+
+abbrev pub is_extent : List ℕ → Bool
+is_extent word = same_word (codes "SCOPE") word || same_word (codes "AREA") word || same_word (codes "BBOX") word || same_word (codes "VERTICALEXTENT") word
+
+abbrev pub is_base : List ℕ → Bool
+is_base word = same_word (codes "BASEGEOGCRS") word || same_word (codes "BASEGEODCRS") word
+
+-- of a word that can't stand in a node
+abbrev pub word_hint : List ℕ → List ℕ → Option Hint
+word_hint word node =
+    if is_wkt1 word then Some hints.Wkt1
+    else (if same_word (codes "DYNAMIC") word then Some hints.Dynamic
+    else (if is_extent word && not (same_word (codes "USAGE") node) then Some hints.OutsideUsage
+    else (if same_word (codes "PRIMEM") word && is_base node then Some hints.UnitFirst
+    else None)))
+
+-- of what stands at the front of a text that is not written with tokens
+abbrev pub front_hint : List ℕ → Option Hint
+front_hint text =
+    if begins (239 ∷ 187 ∷ 191 ∷ []) text then Some hints.ByteOrderMark
+    else (if begins (codes "{") (behind_blanks text) then Some hints.ProjJson
+    else (if begins (codes "<") (behind_blanks text) then Some hints.Gml
+    else (if begins (codes "+proj=") (behind_blanks text) || begins (codes "+init=") (behind_blanks text) then Some hints.ProjString
+    else None)))
+
+-- of bytes that are no UTF-8
+abbrev pub encoding_hint : List ℕ → Hint
+encoding_hint text = if begins (255 ∷ 254 ∷ []) text || begins (254 ∷ 255 ∷ []) text then hints.Utf16 else hints.Latin
+
+-- of what follows a text that is complete
+abbrev pub after_hint : List ℕ → Option Hint
+after_hint [] = None
+after_hint (b ∷ bs) = Some hints.TwoTexts
+
+abbrev pub text_hint : List ℕ → TextFault → Option Hint
+text_hint text (NotUtf8 at) = Some (encoding_hint text)
+text_hint text (After at) = after_hint (word_at text at)
+text_hint text _ = front_hint text
+
+-- of a text with this fault, which stands in the node of this keyword
+abbrev pub hint_of : List ℕ → List ℕ → DefinitionFault → Option Hint
+hint_of text node (fault.Read (Text f)) = text_hint text f
+hint_of text node (fault.Read (Slot (NotHere at))) = word_hint (word_at text at) node
+hint_of text node (fault.Read (Slot (Missing s at))) = None
+hint_of text node (fault.Read (Slot (NotCount at))) = None
+hint_of text node (fault.Read (Slot (WordUnknown at))) = None
+hint_of text node (fault.Read (Broken c at)) = None
+hint_of text node fault.NoIdentifier = Some hints.NoIdentifier
+hint_of text node fault.CanonicalTooLong = None
+hint_of text node fault.NotCanonical = None
+hint_of text node fault.Memory = None

@@ -1,0 +1,9 @@
+pub mod Characters
+pub mod Position
+pub mod Path
+pub mod Shown
+pub mod Sentences
+pub mod Hints
+pub mod Explains
+pub mod Kept
+pub mod Opened

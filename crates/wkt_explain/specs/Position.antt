@@ -1,0 +1,24 @@
+-- Lines, which end at line feeds.
+use Rattle.std.specs.Prelude.{ℕ, ◌+◌, ◌-◌, ◌==◌, Bool, not, List, length, take, drop, count_by}
+use Rattle.std.specs.List.{prefix_len, suffix_len}
+use Rattle.wkt_explain.specs.Characters.{chars}
+
+-- the byte ends no line
+abbrev pub goes_on : ℕ → Bool
+goes_on b = not (b == 10)
+
+-- the bytes before the first line feed, or all
+abbrev pub first_line : List ℕ → List ℕ
+first_line bytes = take (prefix_len goes_on bytes) bytes
+
+-- the bytes behind the last line feed, or all
+abbrev pub last_line : List ℕ → List ℕ
+last_line bytes = drop (length bytes - suffix_len goes_on bytes) bytes
+
+-- the number of the line that these bytes lead to, from 1
+abbrev pub line_number : List ℕ → ℕ
+line_number bytes = count_by (λ b. b == 10) bytes + 1
+
+-- the column that they lead to, from 1
+abbrev pub column : List ℕ → ℕ
+column bytes = length (chars (last_line bytes)) + 1

@@ -1,0 +1,197 @@
+//! Hints for what users really have.
+
+ghost use Rattle.std.specs.Prelude.{◌≡◌};
+ghost use Rattle.std.specs.List.{prefix_len};
+ghost use Rattle.wkt_slots.specs.Words.{same_word};
+ghost use Rattle.wkt_tree.specs.Bytes.{is_blank, is_word_byte};
+ghost use Rattle.wkt_explain.specs.Hints.{after_hint, behind_blanks, encoding_hint, front_hint, hint_of, hint_text, is_base, is_extent, is_wkt1, text_hint, word_at, word_hint};
+
+use crate::path::{is_blank, is_word_byte};
+use wkt_crs::{DefinitionFault, SlotFault, TextFault, Unspelled};
+
+/// What a text that is refused may be, or how it may be mended.
+#[derive(Clone, Copy, Debug, PartialEq, Eq)]
+pub enum Hint {
+    ByteOrderMark,
+    Utf16,
+    Latin,
+    ProjJson,
+    Gml,
+    ProjString,
+    Wkt1,
+    OutsideUsage,
+    UnitFirst,
+    Dynamic,
+    TwoTexts,
+    NoIdentifier,
+}
+
+impl Hint {
+    /// What it says.
+    pub fn text(self) -> &'static str
+        ensures { result.now ≡ hint_text self }
+    {
+        match self {
+            Hint::ByteOrderMark => "the text begins with a byte order mark: save it without one",
+            Hint::Utf16 => "this is UTF-16: save the text as UTF-8",
+            Hint::Latin => "this may be Latin-1 or Windows-1252: save the text as UTF-8",
+            Hint::ProjJson =>
+                "this is JSON, perhaps PROJJSON: its WKT is wanted, as of projinfo -o WKT2:2019",
+            Hint::Gml => "this is XML, perhaps GML: its WKT is wanted",
+            Hint::ProjString =>
+                "this is a string of PROJ: its WKT is wanted, as of projinfo -o WKT2:2019",
+            Hint::Wkt1 => "this is WKT 1: WKT 2 is wanted, as of projinfo -o WKT2:2019",
+            Hint::OutsideUsage =>
+                "here WKT of 2015 has it: WKT of 2019 puts SCOPE, AREA, BBOX and VERTICALEXTENT into a USAGE",
+            Hint::UnitFirst =>
+                "PRIMEM stands before the unit: the simplified form of PROJ has them the other way round",
+            Hint::Dynamic => "systems of a dynamic datum are not read",
+            Hint::TwoTexts => "one text is read here: import reads files of many",
+            Hint::NoIdentifier => "put an ID[\"AUTHORITY\",\"CODE\"] before the last delimiter",
+        }
+    }
+}
+
+fn blank_len(bytes: &[u8]) -> usize
+    ensures { result ≡ prefix_len is_blank bytes.now }
+{
+    bytes.iter().take_while(|b| is_blank(**b)).count()
+}
+
+fn word_len(bytes: &[u8]) -> usize
+    ensures { result ≡ prefix_len is_word_byte bytes.now }
+{
+    bytes.iter().take_while(|b| is_word_byte(**b)).count()
+}
+
+fn behind_blanks(text: &[u8]) -> &[u8]
+    ensures { result.now ≡ behind_blanks text.now }
+{
+    let (_, rest) = text.split_at(blank_len(text));
+    rest
+}
+
+// The word that begins at the place.
+fn word_at(text: &[u8], place: usize) -> &[u8]
+    ensures { result.now ≡ word_at text.now place }
+{
+    let (_, rest) = text.split_at(place.min(text.len()));
+    let (word, _) = rest.split_at(word_len(rest));
+    word
+}
+
+fn same_word(a: &[u8], b: &[u8]) -> bool
+    ensures { result ≡ same_word a.now b.now }
+{
+    a.eq_ignore_ascii_case(b)
+}
+
+fn is_wkt1(word: &[u8]) -> bool
+    ensures { result ≡ is_wkt1 word.now }
+{
+    same_word(b"PROJCS", word)
+        || same_word(b"GEOGCS", word)
+        || same_word(b"GEOCCS", word)
+        || same_word(b"VERT_CS", word)
+        || same_word(b"COMPD_CS", word)
+        || same_word(b"LOCAL_CS", word)
+        || same_word(b"FITTED_CS", word)
+}
+
+fn is_extent(word: &[u8]) -> bool
+    ensures { result ≡ is_extent word.now }
+{
+    same_word(b"SCOPE", word)
+        || same_word(b"AREA", word)
+        || same_word(b"BBOX", word)
+        || same_word(b"VERTICALEXTENT", word)
+}
+
+fn is_base(word: &[u8]) -> bool
+    ensures { result ≡ is_base word.now }
+{
+    same_word(b"BASEGEOGCRS", word) || same_word(b"BASEGEODCRS", word)
+}
+
+// Of a word that cannot stand in this node.
+fn word_hint(word: &[u8], node: &[u8]) -> Option<Hint>
+    ensures { result ≡ word_hint word.now node.now }
+{
+    if is_wkt1(word) {
+        return Some(Hint::Wkt1);
+    }
+    if same_word(b"DYNAMIC", word) {
+        return Some(Hint::Dynamic);
+    }
+    if is_extent(word) && !same_word(b"USAGE", node) {
+        return Some(Hint::OutsideUsage);
+    }
+    if same_word(b"PRIMEM", word) && is_base(node) {
+        return Some(Hint::UnitFirst);
+    }
+    None
+}
+
+// Of what stands at the front of a text that is not written with tokens.
+fn front_hint(text: &[u8]) -> Option<Hint>
+    ensures { result ≡ front_hint text.now }
+{
+    if text.starts_with(b"\xef\xbb\xbf") {
+        return Some(Hint::ByteOrderMark);
+    }
+    let front = behind_blanks(text);
+    if front.starts_with(b"{") {
+        return Some(Hint::ProjJson);
+    }
+    if front.starts_with(b"<") {
+        return Some(Hint::Gml);
+    }
+    if front.starts_with(b"+proj=") || front.starts_with(b"+init=") {
+        return Some(Hint::ProjString);
+    }
+    None
+}
+
+// Of bytes that are no UTF-8.
+fn encoding_hint(text: &[u8]) -> Hint
+    ensures { result ≡ encoding_hint text.now }
+{
+    if text.starts_with(b"\xff\xfe") || text.starts_with(b"\xfe\xff") {
+        return Hint::Utf16;
+    }
+    Hint::Latin
+}
+
+fn text_hint(text: &[u8], fault: TextFault) -> Option<Hint>
+    ensures { result ≡ text_hint text.now fault }
+{
+    match fault {
+        TextFault::NotUtf8(_) => Some(encoding_hint(text)),
+        TextFault::After(place) => after_hint(word_at(text, place)),
+        _ => front_hint(text),
+    }
+}
+
+// Of what follows a text that is complete.
+fn after_hint(word: &[u8]) -> Option<Hint>
+    ensures { result ≡ after_hint word.now }
+{
+    if word.is_empty() {
+        return None;
+    }
+    Some(Hint::TwoTexts)
+}
+
+/// The hint for the fault of a text, where there is one; `node` is the keyword of the node that it stands in.
+pub(crate) fn hint_of(text: &[u8], node: &[u8], fault: DefinitionFault) -> Option<Hint>
+    ensures { result ≡ hint_of text.now node.now fault }
+{
+    match fault {
+        DefinitionFault::Read(Unspelled::Text(fault)) => text_hint(text, fault),
+        DefinitionFault::Read(Unspelled::Slot(SlotFault::NotHere(place))) => {
+            word_hint(word_at(text, place), node)
+        }
+        DefinitionFault::NoIdentifier => Some(Hint::NoIdentifier),
+        _ => None,
+    }
+}

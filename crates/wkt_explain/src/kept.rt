@@ -1,0 +1,66 @@
+//! A source that keeps what it gave.
+
+ghost use Rattle.std.specs.Prelude.{◌≡◌, true};
+
+use byte_io::{DeviceFault, Log, Source};
+use std::alloc::Global;
+
+/// A source, with the bytes that it gave, as long as there is memory for them.
+#[derive(Drop)]
+pub struct Kept<S> {
+    source: S,
+    bytes: Vec<u8>,
+    is_whole: bool,
+    given: Log,
+    ghost kept: { is_whole ≡ true → bytes.items ≡ given.bytes },
+}
+
+impl<S: Source> Kept<S> {
+    ghost use Rattle.std.specs.Prelude.{◌≡◌, [], true, IfSome};
+    ghost use Rattle.wkt_explain.specs.Kept.{anew};
+
+    /// The source, of which nothing is kept yet.
+    pub fn new(alloc: Global, source: S) -> Kept<S>
+        ensures { ⟦<Kept<S> as Source>⟧.state result ≡ anew (S.state source) }
+    {
+        Kept {
+            source,
+            bytes: Vec::new(alloc),
+            is_whole: true,
+            given: Log::empty(),
+        }
+    }
+
+    /// All that it gave, where there was memory for that.
+    pub fn bytes(&self) -> Option<&[u8]>
+        ensures { IfSome result (λ bytes. bytes.now ≡ (⟦<Kept<S> as Source>⟧.state self.now).given) }
+    {
+        if !self.is_whole {
+            return None;
+        }
+        Some(&self.bytes)
+    }
+}
+
+impl<S: Source> Source for Kept<S> {
+    ghost state = { λ s. record {
+      left = (S.state s.source).left;
+      given = s.given.bytes;
+      failures = (S.state s.source).failures;
+      ends = (S.state s.source).ends;
+    } };
+
+    fn read_some(&mut self, buf: &mut [u8]) -> Result<usize, DeviceFault> {
+        match self.source.read_some(buf) {
+            Ok(n) => {
+                let front = &buf[..n];
+                if self.bytes.extend_from_slice(front).is_err() {
+                    self.is_whole = false;
+                }
+                self.given.note(front);
+                Ok(n)
+            }
+            Err(fault) => Err(fault),
+        }
+    }
+}

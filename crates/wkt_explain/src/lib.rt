@@ -1,0 +1,16 @@
+//! Says in words where a text is refused, and why.
+#![tactic(auto)]
+
+mod characters;
+mod explain;
+mod hints;
+mod kept;
+pub mod laws;
+mod path;
+mod position;
+mod sentences;
+mod shown;
+
+pub use explain::{explain_text, explain_within};
+pub use hints::Hint;
+pub use kept::Kept;

@@ -1,0 +1,179 @@
+//! Which nodes are open at a place.
+
+ghost use Rattle.std.specs.Prelude.{◌≡◌, true, [], map, IfOk, OnOk};
+ghost use Rattle.wkt_tree.specs.Bytes.{is_blank, is_word_byte};
+ghost use Rattle.wkt_explain.specs.Path.{piece_of, trail_seen, start, outside, takes, open_at, is_named, path_at};
+
+use std::alloc::{AllocError, Global};
+use std::mem;
+
+/// What a byte outside quotation marks is.
+#[derive(Clone, Copy, Debug, PartialEq, Eq)]
+pub(crate) enum Piece {
+    Mark,
+    Opens,
+    Closes,
+    InWord,
+    Blank,
+    Other,
+}
+
+pub(crate) fn is_word_byte(b: u8) -> bool
+    ensures { result ≡ is_word_byte b }
+{
+    b.is_ascii_alphabetic() || b.is_ascii_digit() || b == b'_'
+}
+
+pub(crate) fn is_blank(b: u8) -> bool
+    ensures { result ≡ is_blank b }
+{
+    b == b' ' || b == b'\t' || b == b'\r' || b == b'\n'
+}
+
+fn piece_of(b: u8) -> Piece
+    ensures { result ≡ piece_of b }
+{
+    if is_word_byte(b) {
+        return Piece::InWord;
+    }
+    if is_blank(b) {
+        return Piece::Blank;
+    }
+    match b {
+        b'"' => Piece::Mark,
+        b'[' => Piece::Opens,
+        b'(' => Piece::Opens,
+        b']' => Piece::Closes,
+        b')' => Piece::Closes,
+        _ => Piece::Other,
+    }
+}
+
+/// What was read up to some place: whether it stands in quotation marks, the word before it, whether that is whole, and
+/// the words before the delimiters that are open, the outermost first.
+#[derive(Drop)]
+pub(crate) struct Trail {
+    quoted: bool,
+    whole: bool,
+    word: Vec<u8>,
+    opened: Vec<Vec<u8>>,
+}
+
+impl Trail {
+    fn new(alloc: Global) -> Trail
+        ensures { trail_seen result ≡ start }
+    {
+        Trail {
+            quoted: false,
+            whole: true,
+            word: Vec::new(alloc),
+            opened: Vec::new(alloc),
+        }
+    }
+
+    fn extend(&mut self, b: u8) -> Result<(), AllocError>
+        ensures { OnOk result (trail_seen self.new ≡ outside Piece.InWord b (trail_seen self.old)) }
+    {
+        if self.whole {
+            self.word.clear();
+        }
+        self.word.push(b)?;
+        self.whole = false;
+        Ok(())
+    }
+
+    fn begin(&mut self, alloc: Global, b: u8) -> Result<(), AllocError>
+        ensures { OnOk result (trail_seen self.new ≡ outside Piece.Opens b (trail_seen self.old)) }
+    {
+        let word = mem::replace(&mut self.word, Vec::new(alloc));
+        self.opened.push(word)?;
+        self.whole = true;
+        Ok(())
+    }
+
+    fn end(&mut self, b: u8)
+        ensures { trail_seen self.new ≡ outside Piece.Closes b (trail_seen self.old) }
+    {
+        let _ = self.opened.pop();
+        self.word.clear();
+        self.whole = true;
+    }
+
+    fn forget(&mut self, quoted: bool)
+        ensures { trail_seen self.new ≡ record (trail_seen self.old) { quoted = quoted; whole = true; word = [] } }
+    {
+        self.quoted = quoted;
+        self.word.clear();
+        self.whole = true;
+    }
+
+    fn take_outside(&mut self, alloc: Global, b: u8) -> Result<(), AllocError>
+        ensures { OnOk result (trail_seen self.new ≡ outside (piece_of b) b (trail_seen self.old)) }
+    {
+        match piece_of(b) {
+            Piece::InWord => self.extend(b),
+            Piece::Opens => self.begin(alloc, b),
+            Piece::Blank => {
+                self.whole = true;
+                Ok(())
+            }
+            Piece::Closes => {
+                self.end(b);
+                Ok(())
+            }
+            Piece::Mark => {
+                self.forget(true);
+                Ok(())
+            }
+            Piece::Other => {
+                self.forget(false);
+                Ok(())
+            }
+        }
+    }
+
+    fn take(&mut self, alloc: Global, b: u8) -> Result<(), AllocError>
+        ensures { OnOk result (trail_seen self.new ≡ takes (trail_seen self.old) b) }
+    {
+        if !self.quoted {
+            return self.take_outside(alloc, b);
+        }
+        if b == b'"' {
+            self.forget(false);
+        }
+        Ok(())
+    }
+}
+
+// The words before the delimiters that are open behind the text.
+fn open_at(alloc: Global, text: &[u8]) -> Result<Vec<Vec<u8>>, AllocError>
+    ensures { IfOk result (λ words. map (λ w. w.items) words.items ≡ open_at text.now) }
+{
+    let mut trail = Trail::new(alloc);
+    let mut rest = text;
+    while let Some((b, others)) = rest.split_first() {
+        trail.take(alloc, *b)?;
+        rest = others;
+    }
+    let Trail {
+        quoted: _,
+        whole: _,
+        word: _,
+        opened,
+    } = trail;
+    Ok(opened)
+}
+
+/// The keywords of the nodes that are open behind the text, the outermost first.
+pub(crate) fn path_at(alloc: Global, text: &[u8]) -> Result<Vec<Vec<u8>>, AllocError>
+    ensures { IfOk result (λ path. map (λ w. w.items) path.items ≡ path_at text.now) }
+{
+    let opened = open_at(alloc, text)?;
+    let mut path = Vec::new(alloc);
+    for word in opened {
+        if !word.is_empty() {
+            path.push(word)?;
+        }
+    }
+    Ok(path)
+}

@@ -1,0 +1,23 @@
+-- The length of the first text, by a count of what is open.
+use Rattle.std.specs.Prelude.{ℕ, suc, ◌+◌, ◌-◌, Bool, not, List, [], ◌∷◌, Option, Some, None, nat_le, if◌then◌else◌}
+use Rattle.wkt_tree.specs.Tokens.{is_mark}
+use Rattle.wkt_texts.specs.Texts.{is_opening, is_closing}
+
+-- the count after a byte outside marks, or none where that byte ends the text
+abbrev pub counted : ℕ → ℕ → Option ℕ
+counted count b =
+    if is_opening b then Some (count + 1)
+    else (if is_closing b then (if nat_le count 1 then None else Some (count - 1)) else Some count)
+
+-- one byte, and those after it where the text goes on
+abbrev pub one_and : (ℕ → ℕ) → Option ℕ → ℕ
+one_and others None = 1
+one_and others (Some count) = suc (others count)
+
+-- how many of the bytes belong to a text of which so many delimiters are open, and perhaps a mark
+abbrev pub text_len : ℕ → Bool → List ℕ → ℕ
+text_len count quoted [] = 0
+text_len count quoted (b ∷ bs) =
+    if is_mark b then suc (text_len count (not quoted) bs)
+    else (if quoted then suc (text_len count quoted bs)
+    else one_and (λ next. text_len next quoted bs) (counted count b))

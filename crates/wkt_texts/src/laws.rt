@@ -1,0 +1,16 @@
+//! What holds of all files.
+
+ghost use Rattle.std.specs.Prelude.{◌≡◌, List, ℕ, All};
+ghost use Rattle.wkt_tree.specs.Tree.{Piece};
+ghost use Rattle.wkt_texts.specs.Texts.{IsCutInto};
+ghost use Rattle.wkt_texts.specs.Printed.{IsCanonical, printed, AreFound};
+
+/// A file is cut into texts in one way.
+pub fn one_cut()
+    ensures { (file : List ℕ) (texts others : List Piece) → IsCutInto file texts → IsCutInto file others → texts ≡ others }
+{}
+
+/// Canonical texts that are written one after another, each with a newline, are found again.
+pub fn written_are_found()
+    ensures { (texts : List (List ℕ)) → All IsCanonical texts → AreFound (printed texts) texts }
+{}
