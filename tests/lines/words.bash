@@ -39,3 +39,27 @@ for k in range(1, count + 1):
 sys.stdout.buffer.write(b"".join(out))
 END
 }
+
+# entry FILE: prints the register file with one entry of the office A, whose text is the one in this file.
+entry() { single 02 a 00000001; bytes 01 00 "$(printf %08x "$(size "$1")")"; cat "$1"; }
+
+# full VERSION: prints the file of a register of the office A that has as many bytes as a file may have: 1,023 entries of 65,536 bytes
+# each, and one that fills the rest.
+full() {
+    python3 - "$1" <<'END_OF_PROGRAM'
+import sys
+version = int(sys.argv[1])
+four = lambda n: n.to_bytes(4, "big")
+uuid = bytes.fromhex("0000000000004000800000000000000a")
+note = b"\0" if version == 2 else b""
+left = 67_108_864 - 42
+out = [b"CRSR", bytes([version, 1]), four(1), uuid, four(1), four(1), four(1024), four(1024)]
+for k in range(1, 1025):
+    size = min(65_536, left - 25 - len(note))
+    text = b'VERTCRS["H",VDATUM["D"],CS[vertical,1],AXIS["height (H)",up],LENGTHUNIT["metre",1],ID["X",%d],REMARK["' % k
+    text += b"r" * (size - len(text) - 3) + b'"]]'
+    out += [uuid, four(k), b"\1", note, four(len(text)), text]
+    left -= 25 + len(note) + size
+sys.stdout.buffer.write(b"".join(out))
+END_OF_PROGRAM
+}
