@@ -23,7 +23,7 @@ use Rattle.wkt_tier.specs.declared.fault.SlotFault.{SlotFault}
 use Rattle.wkt_tier.specs.Slots.{IsClean, IsFirst}
 use Rattle.wkt_tier.specs.Bare.{Bare, bare, all_bare, none, and}
 use Rattle.wkt_tier.proofs.Fitting.{clean_fitted, fitted_cuts}
-use Rattle.wkt_good.specs.Good.{Good, IsText}
+use Rattle.wkt_write.specs.WellFormed.{WellFormed, IsText}
 use Rattle.wkt_meaning.specs.SecondEdition.{Fitting, AllFitting}
 use Rattle.wkt_meaning.specs.Denotes.{DenotesParts}
 use Rattle.wkt_crs.specs.declared.fault.ReadFault.TheVariants as fault
@@ -61,7 +61,7 @@ mutual
 
 -- ---- trees that fit
 
-pub good_denotes : (n : ℕ) (x : Bare) → Good n x → Fitting kinds.AnyCrs x → (v : CrsParts) × DenotesParts x v
+pub good_denotes : (n : ℕ) (x : Bare) → WellFormed n x → Fitting kinds.AnyCrs x → (v : CrsParts) × DenotesParts x v
 good_denotes n x g f = parts_has.of x (good_read n x g) f
 
 one_fits : (x : Bare) (run rest : List Bare) → x ∷ [] ≡ run ++ rest → AllFitting kinds.AnyCrs run → rest ≡ [] → Fitting kinds.AnyCrs x

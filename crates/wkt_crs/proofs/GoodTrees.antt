@@ -16,8 +16,8 @@ use Rattle.crs_part.specs.declared.crs.Single.TheVariants as single
 use Rattle.crs_part.specs.declared.crs.CrsParts.{CrsParts}
 use Rattle.crs_part.specs.declared.crs.CrsParts.TheVariants as parts
 use Rattle.wkt_tier.specs.Bare.{Bare, bares, node}
-use Rattle.wkt_good.specs.Good.{Good, AllGood, is_name}
-use Rattle.wkt_good.proofs.Tokens.{word_token, text_is, number_token, count_token}
+use Rattle.wkt_write.specs.WellFormed.{WellFormed, AllWellFormed, is_name}
+use Rattle.wkt_write.proofs.Tokens.{word_token, text_is, number_token, count_token}
 use Rattle.wkt_meaning.specs.Runs.{listed}
 use Rattle.wkt_meaning.specs.Words.{system_word, direction_word}
 use Rattle.wkt_meaning.specs.Trees as trees
@@ -25,18 +25,18 @@ use Rattle.wkt_meaning.proofs.Leaves.{Small}
 
 -- the trees of all values are good where this many delimiters may be open
 abbrev Goods : {A : Type 0} → ℕ → (A → Bare) → Type 0
-Goods {A} h tree = (n : ℕ) → h ≤ n → (v : A) → Good n (tree v)
+Goods {A} h tree = (n : ℕ) → h ≤ n → (v : A) → WellFormed n (tree v)
 
 -- the runs of a slot, all good
 record Run (A : Type 0) (h : ℕ) : Type 0 where
   run : A → List Bare
-  good : (n : ℕ) → h ≤ n → (v : A) → AllGood n (bares (run v))
+  good : (n : ℕ) → h ≤ n → (v : A) → AllWellFormed n (bares (run v))
 
-each_good : {A : Type 0} (h : ℕ) (tree : A → Bare) → Goods h tree → (n : ℕ) → h ≤ n → (vs : List A) → AllGood n (bares (map tree vs))
+each_good : {A : Type 0} (h : ℕ) (tree : A → Bare) → Goods h tree → (n : ℕ) → h ≤ n → (vs : List A) → AllWellFormed n (bares (map tree vs))
 each_good h tree g n l [] = tt
 each_good h tree g n l (v ∷ vs) = (g n l v, each_good h tree g n l vs)
 
-maybe_good : {A : Type 0} (h : ℕ) (tree : A → Bare) → Goods h tree → (n : ℕ) → h ≤ n → (o : Option A) → AllGood n (bares (trees.maybe tree o))
+maybe_good : {A : Type 0} (h : ℕ) (tree : A → Bare) → Goods h tree → (n : ℕ) → h ≤ n → (o : Option A) → AllWellFormed n (bares (trees.maybe tree o))
 maybe_good h tree g n l None = tt
 maybe_good h tree g n l (Some v) = (g n l v, tt)
 
@@ -52,7 +52,7 @@ each h tree g = record { run = map tree; good = each_good h tree g }
 abbrev some : {A : Type 0} (h : ℕ) (tree : A → Bare) → Goods h tree → Run (NonEmpty A) h
 some h tree g = record { run = λ v. map tree (listed v); good = λ n l v. each_good h tree g n l (listed v) }
 
-join : (n : ℕ) (xs ys : List Bare) → AllGood n (bares xs) → AllGood n (bares ys) → AllGood n (bares (xs ++ ys))
+join : (n : ℕ) (xs ys : List Bare) → AllWellFormed n (bares xs) → AllWellFormed n (bares ys) → AllWellFormed n (bares (xs ++ ys))
 join n [] ys g h = h
 join n (x ∷ xs) ys g h = (g.0, join n xs ys g.1 h)
 
@@ -293,5 +293,5 @@ parts_good n l (parts.Single v) = component_good n (omega (arith, l)) v
 parts_good n l (parts.Compound v) = compound_good n (omega (arith, l)) v
 
 -- the canonical tree of a value
-pub canonical_good : (v : CrsParts) → Good 16 (trees.parts_tree v)
+pub canonical_good : (v : CrsParts) → WellFormed 16 (trees.parts_tree v)
 canonical_good v = parts_good 16 (omega arith) v

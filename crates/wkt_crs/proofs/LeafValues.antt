@@ -22,7 +22,7 @@ use Rattle.wkt_slots.specs.Rows.{takes}
 use Rattle.wkt_slots.specs.Words.{keyword_of, is_cs_kind, is_direction}
 use Rattle.wkt_tier.specs.Bare.{Bare, text, number, word, node}
 use Rattle.wkt_tier.specs.Slots.{argument_by}
-use Rattle.wkt_good.specs.Good.{IsText}
+use Rattle.wkt_write.specs.WellFormed.{IsText}
 use Rattle.wkt_meaning.specs.SecondEdition.{Fitting}
 use Rattle.wkt_meaning.specs.Leaves.{DenotesText, DenotesNumber, DenotesWord}
 use Rattle.wkt_meaning.specs.Words.{system_word, direction_word, kinds_listed, directions_listed}

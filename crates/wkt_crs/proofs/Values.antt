@@ -13,7 +13,7 @@ use Rattle.wkt_slots.specs.Rows.{enters, Times}
 use Rattle.wkt_slots.specs.Words.{keyword_of}
 use Rattle.wkt_tier.specs.Bare.{Bare, Bares, text, number, word, node, none, and, args}
 use Rattle.wkt_tier.proofs.Fitting.{fitted_cuts, passes_of}
-use Rattle.wkt_good.specs.Good.{Good, AllGood, SomeGood, IsText}
+use Rattle.wkt_write.specs.WellFormed.{WellFormed, AllWellFormed, SomeWellFormed, IsText}
 use Rattle.wkt_meaning.specs.SecondEdition.{row_of, Fitted, Fitting, AllFitting, Cuts}
 use Rattle.wkt_meaning.specs.Runs.{Fields, nothing, ◌&◌, Runs, IsNode, One, Maybe, Each, AtLeastOne}
 use Rattle.wkt_meaning.proofs.Rows.{slot}
@@ -41,18 +41,18 @@ each_read none h = tt
 each_read (and x xs) h = (h.0, each_read xs h.1)
 
 mutual
-  pub good_read : (n : ℕ) (x : Bare) → Good n x → IsRead x
+  pub good_read : (n : ℕ) (x : Bare) → WellFormed n x → IsRead x
   good_read n (text b) g = g
   good_read n (number b) g = g.readable
   good_read n (word b) g = tt
   good_read zero (node k xs) g = absurd g
   good_read (suc n) (node k xs) g = some_read n xs g.1
 
-  some_read : (n : ℕ) (xs : Bares) → SomeGood n xs → AllRead xs
+  some_read : (n : ℕ) (xs : Bares) → SomeWellFormed n xs → AllRead xs
   some_read n none g = absurd g
   some_read n (and x xs) g = (good_read n x g.0, all_read n xs g.1)
 
-  all_read : (n : ℕ) (xs : Bares) → AllGood n xs → AllRead xs
+  all_read : (n : ℕ) (xs : Bares) → AllWellFormed n xs → AllRead xs
   all_read n none g = tt
   all_read n (and x xs) g = (good_read n x g.0, all_read n xs g.1)
 

@@ -11,7 +11,7 @@ ghost use Rattle.wkt_slots.specs.declared.table.Takes.TheVariants as kinds;
 ghost use Rattle.wkt_slots.specs.Words.{keyword_of};
 ghost use Rattle.wkt_tier.specs.Slots.{IsClean};
 ghost use Rattle.wkt_tier.specs.Bare.{Bare};
-ghost use Rattle.wkt_good.specs.Good.{Good};
+ghost use Rattle.wkt_write.specs.WellFormed.{WellFormed};
 ghost use Rattle.wkt_meaning.specs.SecondEdition.{Fitting};
 ghost use Rattle.wkt_meaning.specs.Denotes.{DenotesParts};
 ghost use Rattle.wkt_crs.specs.declared.fault.ReadFault.{ReadFault};
@@ -33,7 +33,7 @@ pub fn keywords()
 
 /// A tree denotes a value where its leaves are tokens, and its arguments fit the rows everywhere.
 pub fn fitting_denotes()
-    ensures { (depth : ℕ) (x : Bare) → Good depth x → Fitting kinds.AnyCrs x → (v : CrsParts) × DenotesParts x v }
+    ensures { (depth : ℕ) (x : Bare) → WellFormed depth x → Fitting kinds.AnyCrs x → (v : CrsParts) × DenotesParts x v }
 {}
 
 /// A text without a fault of its tokens or of its slots spells a value, or some condition is the first that fails.

@@ -14,7 +14,7 @@ use Rattle.wkt_tree.specs.Tokens.{Stops}
 use Rattle.wkt_tree.proofs.Cuts.{begins_unblank}
 use Rattle.wkt_tree.proofs.Utf8.{begun_small}
 use Rattle.wkt_tier.specs.Bare.{Bare, Bares, node}
-use Rattle.wkt_good.specs.Good.{Good}
+use Rattle.wkt_write.specs.WellFormed.{WellFormed}
 use Rattle.wkt_meaning.specs.Render.{render, render_all}
 use Rattle.wkt_meaning.specs.Trees.{parts_tree}
 use Rattle.wkt_crs.proofs.GoodTrees.{canonical_good}
@@ -33,7 +33,7 @@ record IsWhole (text : List ℕ) : Type 0 where
   small : first < 128
   len : (rest : List ℕ) → text_len 0 false (text ++ rest) ≡ length text
 
-node_whole : (k : List ℕ) (xs : Bares) (n : ℕ) → Good n (node k xs) → IsWhole (render (node k xs))
+node_whole : (k : List ℕ) (xs : Bares) (n : ℕ) → WellFormed n (node k xs) → IsWhole (render (node k xs))
 node_whole k xs zero g = absurd g
 node_whole k xs (suc n) g = record {
   first = g.0.first;
@@ -56,10 +56,10 @@ root_of (parts.Single (single.Projected v)) = record { keyword = _; items = _; i
 root_of (parts.Single (single.Vertical v)) = record { keyword = _; items = _; is = refl }
 root_of (parts.Compound v) = record { keyword = _; items = _; is = refl }
 
-parts_whole : (v : CrsParts) → Good 16 (parts_tree v) → IsWhole (render (parts_tree v))
+parts_whole : (v : CrsParts) → WellFormed 16 (parts_tree v) → IsWhole (render (parts_tree v))
 parts_whole v g =
     let root = root_of v in
-    subst (λ x. IsWhole (render x)) (sym root.is) (node_whole root.keyword root.items 16 (subst (λ x. Good 16 x) root.is g))
+    subst (λ x. IsWhole (render x)) (sym root.is) (node_whole root.keyword root.items 16 (subst (λ x. WellFormed 16 x) root.is g))
 
 canonical_whole : (text : List ℕ) → IsCanonical text → IsWhole text
 canonical_whole text c = subst (λ t. IsWhole t) (sym c.1) (parts_whole c.0.parts (canonical_good c.0.parts))

@@ -10,7 +10,7 @@ use Rattle.wkt_tree.specs.Tokens.{is_mark}
 use Rattle.wkt_tree.proofs.Lexemes.{by_mark, body, body-mark, body-plain}
 use Rattle.wkt_tree.proofs.Sound.{word_begins, number_begins}
 use Rattle.wkt_tier.specs.Bare.{Bare, Bares, text, number, word, node, none, and}
-use Rattle.wkt_good.specs.Good.{IsToken, IsText, Good, SomeGood, AllGood}
+use Rattle.wkt_write.specs.WellFormed.{IsToken, IsText, WellFormed, SomeWellFormed, AllWellFormed}
 use Rattle.wkt_meaning.specs.Render.{render, render_all, render_behind}
 use Rattle.wkt_texts.specs.Texts.{is_opening, is_closing}
 use Rattle.wkt_texts.specs.Counting.{text_len}
@@ -92,24 +92,24 @@ skips_node bs s count l rest =
     ap (λ l. suc (text_len (count + 1) false l)) (append_assoc bs (93 ∷ []) rest) ∙ omega (arith, inner, closed, length-append bs (93 ∷ []))
 
 mutual
-  item : (x : Bare) (n : ℕ) → Good n x → Skips (render x)
+  item : (x : Bare) (n : ℕ) → WellFormed n x → Skips (render x)
   item (text b) n g count l = passes_text count b g
   item (number b) n g count l = passes_number count b g
   item (word b) n g count l = passes_word count b g
   item (node k xs) zero g count l = absurd g
   item (node k xs) (suc n) g count l = passes_append count k (91 ∷ (render_all xs ++ (93 ∷ []))) (passes_word count k g.0) (skips_node (render_all xs) (some_items xs n g.1) count l)
 
-  some_items : (xs : Bares) (n : ℕ) → SomeGood n xs → Skips (render_all xs)
+  some_items : (xs : Bares) (n : ℕ) → SomeWellFormed n xs → Skips (render_all xs)
   some_items none n g count l = absurd g
   some_items (and i r) n g count l = passes_append count (render i) (render_behind r) (item i n g.0 count l) (later_items r n g.1 count l)
 
-  later_items : (xs : Bares) (n : ℕ) → AllGood n xs → Skips (render_behind xs)
+  later_items : (xs : Bares) (n : ℕ) → AllWellFormed n xs → Skips (render_behind xs)
   later_items none n g count l = passes_nothing count
   later_items (and i r) n g count l = passes_byte count 44 (render i ++ render_behind r) (record { mark = refl; opening = refl; closing = refl })
       (passes_append count (render i) (render_behind r) (item i n g.0 count l) (later_items r n g.1 count l))
 
 -- the text of a node is one text, whatever follows
-pub one_text : (k : List ℕ) (xs : Bares) (n : ℕ) → Good n (node k xs) → (rest : List ℕ) → text_len 0 false (render (node k xs) ++ rest) ≡ length (render (node k xs))
+pub one_text : (k : List ℕ) (xs : Bares) (n : ℕ) → WellFormed n (node k xs) → (rest : List ℕ) → text_len 0 false (render (node k xs) ++ rest) ≡ length (render (node k xs))
 one_text k xs zero g rest = absurd g
 one_text k xs (suc n) g rest =
     let inner : text_len 1 false (render_all xs ++ (93 ∷ rest)) ≡ length (render_all xs) + text_len 1 false (93 ∷ rest) = some_items xs n g.1 1 (omega arith) (93 ∷ rest) in

@@ -10,7 +10,7 @@ use Rattle.wkt_tree.specs.Tree.{Piece, Tok, tok, Item, Items, last, more, tokens
 use Rattle.wkt_tree.specs.Tree as tree
 use Rattle.wkt_tree.specs.Tokens.{Stops, is_mark, Ends, First, Front, end_of, doubled}
 use Rattle.wkt_tier.specs.Bare.{Bare, Bares, text, number, word, node, none, and, bare, all_bare}
-use Rattle.wkt_good.specs.Good.{IsToken, IsText, Good, AllGood}
+use Rattle.wkt_write.specs.WellFormed.{IsToken, IsText, WellFormed, AllWellFormed}
 use Rattle.wkt_write.specs.declared.layout.Layout as layouts
 use Rattle.wkt_write.specs.declared.layout.Layout.TheVariants.{OneLine, Root, Inside}
 use Rattle.wkt_write.specs.Layout.{before, inner, laid, laid_all, laid_behind}
@@ -161,7 +161,7 @@ place_node layout n place k i r rest name_is head tail =
 mutual
   unfolding laid laid_all laid_behind
 
-  pub place_item : (t : Bare) (layout : layouts.Layout) (n place : ℕ) (rest : List ℕ) → Good n t → StopsAll rest → Placed layout n place t rest
+  pub place_item : (t : Bare) (layout : layouts.Layout) (n place : ℕ) (rest : List ℕ) → WellFormed n t → StopsAll rest → Placed layout n place t rest
   place_item (text b) layout n place rest g s = record { item = tree.text (piece place b); end = place + length b; is = refl; within = tt; front = (rest, first_here Quoted place b rest (text_token b g) s.of_text, (refl, refl)) }
   place_item (number b) layout n place rest g s = record { item = tree.number (piece place b); end = place + length b; is = refl; within = tt; front = (rest, first_here Number place b rest g s.of_number, (refl, refl)) }
   place_item (word b) layout n place rest g s = record { item = tree.word (piece place b); end = place + length b; is = refl; within = tt; front = (rest, first_here Word place b rest g s.of_word, (refl, refl)) }
@@ -171,7 +171,7 @@ mutual
       let head = place_item i (inner layout) n (place + length (before layout) + length k + 1) (laid_behind (inner layout) r ++ 93 ∷ rest) g.1.0 (behind_stops (inner layout) r (93 ∷ rest) (closing_stops rest)) in
       place_node layout n place k i r rest g.0 head (place_behind r (inner layout) n head.end (93 ∷ rest) g.1.1 (closing_stops rest))
 
-  pub place_behind : (r : Bares) (layout : layouts.Layout) (n place : ℕ) (rest : List ℕ) → AllGood n r → StopsAll rest → Behind layout n place r rest
+  pub place_behind : (r : Bares) (layout : layouts.Layout) (n place : ℕ) (rest : List ℕ) → AllWellFormed n r → StopsAll rest → Behind layout n place r rest
   place_behind none layout n place rest g s = none_behind layout n place rest
   place_behind (and i r) layout n place rest g s =
       let head = place_item i layout n (place + 1) (laid_behind layout r ++ rest) g.0 (behind_stops layout r rest s) in

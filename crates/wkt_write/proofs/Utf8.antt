@@ -13,7 +13,7 @@ use Rattle.wkt_tree.specs.Tokens.{doubled, quoted}
 use Rattle.wkt_tree.proofs.Lexemes.{by_mark}
 use Rattle.wkt_tree.proofs.Utf8.{blank_small, word_small, number_small, begun_small}
 use Rattle.wkt_tier.specs.Bare.{Bare, Bares, text, number, word, node, none, and}
-use Rattle.wkt_good.specs.Good.{IsToken, Good, AllGood}
+use Rattle.wkt_write.specs.WellFormed.{IsToken, WellFormed, AllWellFormed}
 use Rattle.wkt_write.specs.declared.layout.Layout as layouts
 use Rattle.wkt_write.specs.Layout.{before, inner, laid, laid_all, laid_behind}
 use Rattle.wkt_write.proofs.Placing.{before_blank}
@@ -98,7 +98,7 @@ node_utf8 blanks k inside b t u =
 mutual
   unfolding laid laid_all laid_behind
 
-  pub laid_utf8 : (t : Bare) (layout : layouts.Layout) (n : ℕ) → Good n t → IsUtf8 (laid layout t)
+  pub laid_utf8 : (t : Bare) (layout : layouts.Layout) (n : ℕ) → WellFormed n t → IsUtf8 (laid layout t)
   laid_utf8 (text b) layout n g = subst IsUtf8 (sym g.is) (quoted_utf8 g.content g.utf8)
   laid_utf8 (number b) layout n g = number_utf8 b g
   laid_utf8 (word b) layout n g = word_utf8 b g
@@ -108,6 +108,6 @@ mutual
       node_utf8 (before layout) k (laid (inner layout) i ++ laid_behind (inner layout) r) (before_blank layout) g.0
       (IsUtf8-append (laid (inner layout) i) (laid_behind (inner layout) r) (laid_utf8 i (inner layout) n g.1.0) (behind_utf8 r (inner layout) n g.1.1))
 
-  behind_utf8 : (r : Bares) (layout : layouts.Layout) (n : ℕ) → AllGood n r → IsUtf8 (laid_behind layout r)
+  behind_utf8 : (r : Bares) (layout : layouts.Layout) (n : ℕ) → AllWellFormed n r → IsUtf8 (laid_behind layout r)
   behind_utf8 none layout n g = IsUtf8-nil
   behind_utf8 (and i r) layout n g = ascii_cons 44 _ (omega arith) (IsUtf8-append (laid layout i) (laid_behind layout r) (laid_utf8 i layout n g.0) (behind_utf8 r layout n g.1))

@@ -16,5 +16,5 @@ mod values;
 mod write;
 mod written;
 
-pub use laws::reading_laws;
+pub use laws::{reading_laws, token_laws};
 pub use write::{write_crs, write_crs_with_room, write_pretty};

@@ -1,5 +1,5 @@
-use Rattle.wkt_good.proofs.Tokens.{word_token, number_token, count_token, text_is}
-use Rattle.wkt_good.proofs.laws.token_laws.Goals as goal
+use Rattle.wkt_write.proofs.Tokens.{word_token, number_token, count_token, text_is}
+use Rattle.wkt_write.proofs.laws.token_laws.Goals as goal
 
 pub returns-clause-word : goal.returns-clause-word
 returns-clause-word c = word_token

@@ -16,7 +16,7 @@ use Rattle.crs_part.specs.declared.text.Text.{Text}
 use Rattle.wkt_tree.specs.declared.token.TokenKind.TheVariants.{Word, Number}
 use Rattle.wkt_tree.specs.Bytes.{is_word_byte, is_number_byte, begun_by}
 use Rattle.wkt_tree.specs.Tokens.{IsNumber, quoted}
-use Rattle.wkt_good.specs.Good.{IsToken, IsText, is_name}
+use Rattle.wkt_write.specs.WellFormed.{IsToken, IsText, is_name}
 
 both : (a b : Bool) → a && b ≡ true → (a ≡ true) × (b ≡ true)
 both true b h = (refl, h)

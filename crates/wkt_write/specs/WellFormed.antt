@@ -30,17 +30,17 @@ is_name (b ∷ bs) = is_ascii_alphabetic b && list_all is_word_byte bs
 
 -- the leaves are tokens, each node has an argument, and at most n delimiters are open at once
 abbrev mutual
-  pub Good : ℕ → Bare → Type 0
-  Good n (text b) = IsText b
-  Good n (number b) = IsToken Number b
-  Good n (word b) = IsToken Word b
-  Good zero (node k xs) = ⊥
-  Good (suc n) (node k xs) = IsToken Word k × SomeGood n xs
+  pub WellFormed : ℕ → Bare → Type 0
+  WellFormed n (text b) = IsText b
+  WellFormed n (number b) = IsToken Number b
+  WellFormed n (word b) = IsToken Word b
+  WellFormed zero (node k xs) = ⊥
+  WellFormed (suc n) (node k xs) = IsToken Word k × SomeWellFormed n xs
 
-  pub SomeGood : ℕ → Bares → Type 0
-  SomeGood n none = ⊥
-  SomeGood n (and i r) = Good n i × AllGood n r
+  pub SomeWellFormed : ℕ → Bares → Type 0
+  SomeWellFormed n none = ⊥
+  SomeWellFormed n (and i r) = WellFormed n i × AllWellFormed n r
 
-  pub AllGood : ℕ → Bares → Type 0
-  AllGood n none = Unit {0}
-  AllGood n (and i r) = Good n i × AllGood n r
+  pub AllWellFormed : ℕ → Bares → Type 0
+  AllWellFormed n none = Unit {0}
+  AllWellFormed n (and i r) = WellFormed n i × AllWellFormed n r
