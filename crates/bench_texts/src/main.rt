@@ -8,8 +8,7 @@ use std::{env, fs, io};
 use wkt_crs::{
     Definition, DefinitionFault, ReadFault, canonical_text, read_crs, write_crs, write_pretty,
 };
-use wkt_slots::Edition;
-use wkt_tier::check_slots;
+use wkt_grammar::{Edition, check_slots};
 use wkt_tree::scan;
 
 /// What is done with a text.

@@ -1,2 +1,3 @@
 pub mod Texts
 pub mod Spelled
+pub mod Found

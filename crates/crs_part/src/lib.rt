@@ -14,6 +14,7 @@ mod systems;
 mod text;
 mod units;
 mod usages;
+mod words;
 
 pub use boxed::Boxed;
 pub use conversions::{Conversion, Parameter};
@@ -30,3 +31,4 @@ pub use systems::{Axis, CoordSystem, Direction, Meridian, Order, SystemKind};
 pub use text::Text;
 pub use units::{AngleUnit, LengthUnit, Unit, UnitDefinition};
 pub use usages::{BoundingBox, Usage, VerticalExtent};
+pub use words::{Word, first_of, same_word};

@@ -4,8 +4,8 @@ use Rattle.std.specs.Option.{unwrap_or}
 use Rattle.crs_part.specs.Slots.{name_of}
 use Rattle.crs_value.specs.declared.crs.Crs.{Crs}
 use Rattle.crs_value.specs.Checking as condition
-use Rattle.wkt_slots.specs.Names.{slot_name}
-use Rattle.wkt_tier.specs.declared.fault.SlotFault.TheVariants as slot
+use Rattle.wkt_grammar.specs.Names.{slot_name}
+use Rattle.wkt_grammar.specs.declared.fault.SlotFault.TheVariants as slot
 use Rattle.wkt_crs.specs.declared.fault.Unspelled.TheVariants as refused
 use Rattle.wkt_crs.specs.declared.definition.DefinitionFault.{DefinitionFault}
 use Rattle.wkt_crs.specs.declared.definition.DefinitionFault.TheVariants as fault

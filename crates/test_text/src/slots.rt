@@ -1,8 +1,7 @@
 //! Known texts, with their first slot faults.
 
 use std::process::Abort;
-use wkt_slots::{Edition, SlotName};
-use wkt_tier::{SlotFault, check_slots};
+use wkt_grammar::{Edition, SlotFault, SlotName, check_slots};
 use wkt_tree::scan;
 
 // Whether this is the first fault of a text, or it has none.

@@ -18,15 +18,15 @@ use Rattle.crs_part.specs.declared.crs.Compound.{Compound}
 use Rattle.crs_part.specs.declared.crs.CrsParts.TheVariants as parts
 use Rattle.wkt_tree.specs.Tree.{Piece, Tok, tok, Item, tokens}
 use Rattle.wkt_tree.specs.Tree as tree
-use Rattle.wkt_slots.specs.declared.table.Keyword.{Keyword}
-use Rattle.wkt_slots.specs.declared.table.Keyword.TheVariants as keywords
-use Rattle.wkt_slots.specs.declared.table.Node.{Node}
-use Rattle.wkt_slots.specs.declared.table.Node.TheVariants as nodes
-use Rattle.wkt_slots.specs.declared.table.Takes.{Takes}
-use Rattle.wkt_slots.specs.declared.table.Takes.TheVariants as kinds
-use Rattle.wkt_slots.specs.Rows.{enters}
-use Rattle.wkt_slots.specs.Words.{keyword_of}
-use Rattle.wkt_tier.specs.Bare.{Bare, Bares, text, number, word, node, bare}
+use Rattle.wkt_grammar.specs.declared.table.Keyword.{Keyword}
+use Rattle.wkt_grammar.specs.declared.table.Keyword.TheVariants as keywords
+use Rattle.wkt_grammar.specs.declared.table.Node.{Node}
+use Rattle.wkt_grammar.specs.declared.table.Node.TheVariants as nodes
+use Rattle.wkt_grammar.specs.declared.table.Takes.{Takes}
+use Rattle.wkt_grammar.specs.declared.table.Takes.TheVariants as kinds
+use Rattle.wkt_grammar.specs.Rows.{enters}
+use Rattle.wkt_grammar.specs.Words.{keyword_of}
+use Rattle.wkt_grammar.specs.Bare.{Bare, Bares, text, number, word, node, bare}
 use Rattle.wkt_meaning.specs.SecondEdition.{Fitted, Fitting}
 use Rattle.wkt_meaning.specs.Runs.{Fields, IsNode}
 use Rattle.wkt_meaning.specs.Denotes.{unit_fields, DenotesUnit, DenotesLengthUnit, DenotesAngleUnit, datum_fields, geodetic_ensemble_fields, DenotesGeodeticFrame, vertical_datum_fields, vertical_ensemble_fields, DenotesVerticalFrame, base_fields, DenotesBase, geodetic_fields, projected_fields, vertical_fields, DenotesSingle, compound_fields, DenotesParts, base_keyword, geodetic_keyword}

@@ -18,17 +18,17 @@ use Rattle.wkt_tree.specs.declared.token.TokenKind.TheVariants.{Word, Quoted, Nu
 use Rattle.wkt_tree.specs.Tree.{Piece, Tok, tok, Item, tokens}
 use Rattle.wkt_tree.specs.Tree as tree
 use Rattle.wkt_tree.specs.Tokens.{quoted, IsQuoted}
-use Rattle.wkt_slots.specs.declared.table.Takes.{Takes}
-use Rattle.wkt_slots.specs.declared.table.Takes.TheVariants as kinds
-use Rattle.wkt_slots.specs.declared.table.Argument.TheVariants as arguments
-use Rattle.wkt_slots.specs.declared.table.Keyword.{Keyword}
-use Rattle.wkt_slots.specs.Rows.{takes}
-use Rattle.wkt_slots.specs.Words.{keyword_of, is_cs_kind, is_direction}
-use Rattle.wkt_tier.specs.Slots.{argument_by}
-use Rattle.wkt_tier.specs.Bare.{Bare, text, bare, shape}
+use Rattle.wkt_grammar.specs.declared.table.Takes.{Takes}
+use Rattle.wkt_grammar.specs.declared.table.Takes.TheVariants as kinds
+use Rattle.wkt_grammar.specs.declared.table.Argument.TheVariants as arguments
+use Rattle.wkt_grammar.specs.declared.table.Keyword.{Keyword}
+use Rattle.wkt_grammar.specs.Rows.{takes}
+use Rattle.wkt_grammar.specs.Words.{keyword_of, is_cs_kind, is_direction}
+use Rattle.wkt_grammar.specs.Slots.{argument_by}
+use Rattle.wkt_grammar.specs.Bare.{Bare, text, bare, shape}
 use Rattle.wkt_meaning.specs.SecondEdition.{Fitting}
 use Rattle.wkt_meaning.specs.Leaves.{undoubled, DenotesText, DenotesNumber, DenotesCount, DenotesWord}
-use Rattle.wkt_meaning.specs.Words.{system_word, direction_word, first_word, kinds_listed, directions_listed}
+use Rattle.crs_part.specs.Words.{system_word, direction_word, first_word, kinds_listed, directions_listed}
 use Rattle.wkt_meaning.specs.Denotes.{DenotesCode}
 use Rattle.wkt_meaning.proofs.Leaves.{undoubled-quoted}
 use Rattle.wkt_build.specs.Reads.{Next}

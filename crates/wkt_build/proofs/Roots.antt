@@ -3,12 +3,12 @@ use Rattle.std.proofs.Common.{◌≡◌, List, [], ◌∷◌, ◌++◌, length, 
 use Rattle.std.specs.Prelude.{Result, Ok, Err, IfOk}
 use Rattle.crs_part.specs.declared.crs.CrsParts.{CrsParts}
 use Rattle.wkt_tree.specs.Tree.{Tok, tokens, node}
-use Rattle.wkt_slots.specs.declared.table.Edition.TheVariants as editions
-use Rattle.wkt_slots.specs.declared.table.Takes.TheVariants as kinds
-use Rattle.wkt_slots.specs.declared.table.Node.TheVariants as nodes
-use Rattle.wkt_tier.specs.Bare.{Bare, bare, and, none}
+use Rattle.wkt_grammar.specs.declared.table.Edition.TheVariants as editions
+use Rattle.wkt_grammar.specs.declared.table.Takes.TheVariants as kinds
+use Rattle.wkt_grammar.specs.declared.table.Node.TheVariants as nodes
+use Rattle.wkt_grammar.specs.Bare.{Bare, bare, and, none}
 use Rattle.wkt_meaning.specs.SecondEdition.{Fitting, AllFitting}
-use Rattle.wkt_tier.proofs.Fitting.{clean_fitted, fitted_cuts}
+use Rattle.wkt_grammar.proofs.Fitting.{clean_fitted, fitted_cuts}
 use Rattle.wkt_meaning.specs.Denotes.{DenotesParts}
 use Rattle.wkt_build.specs.Reads.{Builds}
 use Rattle.wkt_build.specs.Whole.{BuildsParts}

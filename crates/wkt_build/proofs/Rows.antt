@@ -7,25 +7,25 @@ use Rattle.crs_part.specs.declared.many.NonEmpty.{NonEmpty}
 use Rattle.wkt_tree.specs.declared.token.TokenKind.TheVariants.{Comma, Open, Close}
 use Rattle.wkt_tree.specs.Tree.{Piece, Tok, tok, Item, Items, last, more, tokens, all_tokens}
 use Rattle.wkt_tree.specs.Tree as tree
-use Rattle.wkt_slots.specs.declared.table.Edition.TheVariants as editions
-use Rattle.wkt_slots.specs.declared.table.Slot.{Slot}
-use Rattle.wkt_slots.specs.declared.table.SlotName.{SlotName}
-use Rattle.wkt_slots.specs.declared.table.Node.{Node}
-use Rattle.wkt_slots.specs.declared.table.Keyword.{Keyword}
-use Rattle.wkt_slots.specs.declared.table.Takes.{Takes}
-use Rattle.wkt_slots.specs.declared.table.Takes.TheVariants as kinds
-use Rattle.wkt_slots.specs.declared.table.Argument.TheVariants as arguments
-use Rattle.wkt_slots.specs.declared.table.Often.TheVariants.{Once, AtMostOnce, Any, AtLeastOnce}
-use Rattle.wkt_slots.specs.Rows.{takes, enters, is_required}
-use Rattle.wkt_slots.specs.Words.{keyword_of, is_cs_kind, is_direction}
+use Rattle.wkt_grammar.specs.declared.table.Edition.TheVariants as editions
+use Rattle.wkt_grammar.specs.declared.table.Slot.{Slot}
+use Rattle.wkt_grammar.specs.declared.table.SlotName.{SlotName}
+use Rattle.wkt_grammar.specs.declared.table.Node.{Node}
+use Rattle.wkt_grammar.specs.declared.table.Keyword.{Keyword}
+use Rattle.wkt_grammar.specs.declared.table.Takes.{Takes}
+use Rattle.wkt_grammar.specs.declared.table.Takes.TheVariants as kinds
+use Rattle.wkt_grammar.specs.declared.table.Argument.TheVariants as arguments
+use Rattle.wkt_grammar.specs.declared.table.Often.TheVariants.{Once, AtMostOnce, Any, AtLeastOnce}
+use Rattle.wkt_grammar.specs.Rows.{takes, enters, is_required}
+use Rattle.wkt_grammar.specs.Words.{keyword_of, is_cs_kind, is_direction}
 use Rattle.crs_number.specs.Count.{is_count}
-use Rattle.wkt_slots.specs.Walk.{is_many, may_begin, all_arguments, is_clear}
-use Rattle.wkt_slots.proofs.Walks.{begins, each_argument}
-use Rattle.wkt_tier.specs.Slots.{argument_by}
-use Rattle.wkt_tier.specs.Next.{next_is, is_open, Follows}
-use Rattle.wkt_tier.specs.Bare.{Bare, Bares, text, number, word, node, args, bare, all_bare, shape}
-use Rattle.wkt_tier.specs.Fitted.{entered}
-use Rattle.wkt_tier.proofs.Fitting.{fitted_cuts, cuts_fits, passes_of}
+use Rattle.wkt_grammar.specs.Walk.{is_many, may_begin, all_arguments, is_clear}
+use Rattle.wkt_grammar.proofs.Walks.{begins, each_argument}
+use Rattle.wkt_grammar.specs.Slots.{argument_by}
+use Rattle.wkt_grammar.specs.Next.{next_is, is_open, Follows}
+use Rattle.wkt_grammar.specs.Bare.{Bare, Bares, text, number, word, node, args, bare, all_bare, shape}
+use Rattle.wkt_grammar.specs.Fitted.{entered}
+use Rattle.wkt_grammar.proofs.Fitting.{fitted_cuts, cuts_fits, passes_of}
 use Rattle.wkt_meaning.specs.SecondEdition.{row_of, Fitted, Fitting, AllFitting, Cuts}
 use Rattle.wkt_meaning.specs.Runs.{Fields, nothing, ◌&◌, Runs, IsNode, One, Maybe, Each, AtLeastOne}
 use Rattle.wkt_meaning.specs.Leaves.{DenotesCount}

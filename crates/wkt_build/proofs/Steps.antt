@@ -3,13 +3,13 @@ use Rattle.std.proofs.Common.{◌≡◌, ◌<◌, true, false, List, [], ◌∷�
 use Rattle.wkt_tree.specs.declared.token.TokenKind.TheVariants.{Comma}
 use Rattle.wkt_tree.specs.Tree.{Piece, Tok, tok, Item, Items, last, more, tokens, all_tokens}
 use Rattle.wkt_tree.specs.Tree as tree
-use Rattle.wkt_slots.specs.declared.table.Takes.{Takes}
-use Rattle.wkt_slots.specs.Rows.{takes}
-use Rattle.wkt_tier.specs.Slots.{argument}
-use Rattle.wkt_tier.specs.Next.{coming, Follows}
-use Rattle.wkt_tier.specs.Bare.{Bare, shape}
+use Rattle.wkt_grammar.specs.declared.table.Takes.{Takes}
+use Rattle.wkt_grammar.specs.Rows.{takes}
+use Rattle.wkt_grammar.specs.Slots.{argument}
+use Rattle.wkt_grammar.specs.Next.{coming, Follows}
+use Rattle.wkt_grammar.specs.Bare.{Bare, shape}
 use Rattle.wkt_meaning.specs.SecondEdition.{Fitting, AllFitting}
-use Rattle.wkt_tier.proofs.Fitting.{shape-bare}
+use Rattle.wkt_grammar.proofs.Fitting.{shape-bare}
 use Rattle.wkt_meaning.specs.Runs.{Each}
 use Rattle.wkt_build.specs.Reads.{Next, Behind, comes}
 

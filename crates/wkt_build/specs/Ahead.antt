@@ -1,8 +1,8 @@
 -- What a reader knows of the argument after a comma.
 use Rattle.std.specs.Prelude.{◌≡◌, ⊤, true, false, List, drop}
 use Rattle.wkt_tree.specs.Tree.{Tok}
-use Rattle.wkt_slots.specs.declared.table.Argument.TheVariants as arguments
-use Rattle.wkt_tier.specs.Next.{next_is, is_comma, coming}
+use Rattle.wkt_grammar.specs.declared.table.Argument.TheVariants as arguments
+use Rattle.wkt_grammar.specs.Next.{next_is, is_comma, coming}
 use Rattle.wkt_build.specs.declared.reader.Ahead.{Ahead}
 use Rattle.wkt_build.specs.declared.reader.Ahead.TheVariants.{NoComma, Node, Anything}
 

@@ -10,9 +10,9 @@ use Rattle.crs_part.specs.declared.units.AngleUnit.TheVariants as angle_unit
 use Rattle.crs_part.specs.declared.crs.GeodeticKind.{GeodeticKind}
 use Rattle.crs_part.specs.declared.crs.GeodeticKind.TheVariants as geodetic_kind
 use Rattle.wkt_tree.specs.Tree.{Tok}
-use Rattle.wkt_slots.specs.declared.table.Keyword.{Keyword}
-use Rattle.wkt_slots.specs.declared.table.Keyword.TheVariants as keywords
-use Rattle.wkt_slots.specs.Words.{keyword_of}
+use Rattle.wkt_grammar.specs.declared.table.Keyword.{Keyword}
+use Rattle.wkt_grammar.specs.declared.table.Keyword.TheVariants as keywords
+use Rattle.wkt_grammar.specs.Words.{keyword_of}
 
 -- what the next token means as a keyword
 abbrev pub next_keyword : List Tok → Option Keyword

@@ -2,13 +2,13 @@
 use Rattle.std.specs.Prelude.{◌≡◌, ℕ, Bool, false, ◌&&◌, List, [], ◌∷◌, ◌++◌, Result, IfOk, Option, Some, drop}
 use Rattle.wkt_tree.specs.declared.token.TokenKind.TheVariants.{Comma}
 use Rattle.wkt_tree.specs.Tree.{Piece, Tok, tok, Item, tokens}
-use Rattle.wkt_slots.specs.declared.table.Takes.{Takes}
-use Rattle.wkt_slots.specs.declared.table.Node.{Node}
-use Rattle.wkt_slots.specs.declared.table.Keyword.{Keyword}
-use Rattle.wkt_slots.specs.Rows.{takes}
-use Rattle.wkt_slots.specs.Words.{keyword_of}
-use Rattle.wkt_tier.specs.Next.{next_is, is_comma, coming, Follows}
-use Rattle.wkt_tier.specs.Bare.{Bare, Bares, node, bare}
+use Rattle.wkt_grammar.specs.declared.table.Takes.{Takes}
+use Rattle.wkt_grammar.specs.declared.table.Node.{Node}
+use Rattle.wkt_grammar.specs.declared.table.Keyword.{Keyword}
+use Rattle.wkt_grammar.specs.Rows.{takes}
+use Rattle.wkt_grammar.specs.Words.{keyword_of}
+use Rattle.wkt_grammar.specs.Next.{next_is, is_comma, coming, Follows}
+use Rattle.wkt_grammar.specs.Bare.{Bare, Bares, node, bare}
 use Rattle.wkt_meaning.specs.SecondEdition.{Fitted, Fitting, AllFitting}
 use Rattle.wkt_meaning.specs.Runs.{Fields, IsNode, Each}
 

@@ -3,12 +3,13 @@ use Rattle.std.specs.Prelude.{◌≡◌, List, [], ◌∷◌, Result, IfOk}
 use Rattle.wkt_tree.specs.declared.token.Delimiter.{Delimiter}
 use Rattle.wkt_tree.specs.declared.token.TokenKind.TheVariants.{Close}
 use Rattle.wkt_tree.specs.Tree.{Piece, Tok, tok}
-use Rattle.wkt_slots.specs.declared.table.Slot.{Slot}
-use Rattle.wkt_slots.specs.declared.table.Often.TheVariants.{Once, AtMostOnce, Any, AtLeastOnce}
-use Rattle.wkt_slots.specs.declared.table.SlotName.TheVariants as slots
-use Rattle.wkt_slots.specs.declared.table.Takes.TheVariants as kinds
-use Rattle.wkt_slots.specs.declared.table.Keyword.TheVariants as keywords
-use Rattle.wkt_tier.specs.Bare.{Bare}
+use Rattle.wkt_grammar.specs.declared.table.Slot.{Slot}
+use Rattle.wkt_grammar.specs.declared.table.Often.TheVariants.{Once, AtMostOnce, Any, AtLeastOnce}
+use Rattle.wkt_grammar.specs.declared.table.SlotName.TheVariants as slots
+use Rattle.wkt_grammar.specs.declared.table.Node.TheVariants as nodes
+use Rattle.wkt_grammar.specs.declared.table.Takes.TheVariants as kinds
+use Rattle.wkt_grammar.specs.declared.table.Keyword.TheVariants as keywords
+use Rattle.wkt_grammar.specs.Bare.{Bare}
 use Rattle.wkt_meaning.specs.SecondEdition.{Cuts}
 use Rattle.wkt_meaning.specs.Runs.{Fields, nothing, ◌&◌, Runs, One, Maybe, Each, AtLeastOne}
 use Rattle.wkt_meaning.specs.Denotes.{DenotesSystem, DenotesAxis, DenotesUnit, DenotesAngleUnit, DenotesPrimeMeridian, DenotesUsage, DenotesIdent, DenotesNamed, DenotesValue}
@@ -33,9 +34,9 @@ pub record Reads (row : List Slot) (fields : Fields) (old new : List Tok) : Type
 -- the slots after the unit of the axes
 abbrev pub tail_row : List Slot
 tail_row =
-    (record { name = slots.Usage; takes = kinds.Usage; often = Any })
-    ∷ (record { name = slots.Id; takes = kinds.Identifier; often = Any })
-    ∷ (record { name = slots.Remark; takes = kinds.Remark; often = AtMostOnce })
+    (record { name = slots.Usage; takes = (kinds.Node keywords.Usage nodes.Usage); often = Any })
+    ∷ (record { name = slots.Id; takes = (kinds.Node keywords.Identifier nodes.Identifier); often = Any })
+    ∷ (record { name = slots.Remark; takes = (kinds.Node keywords.Remark nodes.Value); often = AtMostOnce })
     ∷ []
 
 abbrev pub tail_fields : Tail → Fields
@@ -43,7 +44,7 @@ tail_fields v = Each DenotesUsage v.usages & Each DenotesIdent v.ids & Maybe (De
 
 -- those of a vertical system
 abbrev pub vertical_tail_row : List Slot
-vertical_tail_row = (record { name = slots.GeoidModel; takes = kinds.GeoidModel; often = Any }) ∷ tail_row
+vertical_tail_row = (record { name = slots.GeoidModel; takes = (kinds.Node keywords.GeoidModel nodes.Named); often = Any }) ∷ tail_row
 
 abbrev pub vertical_tail_fields : VerticalTail → Fields
 vertical_tail_fields v =
@@ -56,8 +57,8 @@ vertical_tail_fields v =
 -- the slots of the coordinates, and then those of a row
 abbrev pub from_coordinates : List Slot → List Slot
 from_coordinates row =
-    (record { name = slots.Cs; takes = kinds.CoordinateSystem; often = Once })
-    ∷ (record { name = slots.Axis; takes = kinds.Axis; often = AtLeastOnce })
+    (record { name = slots.Cs; takes = (kinds.Node keywords.CoordinateSystem nodes.CoordinateSystem); often = Once })
+    ∷ (record { name = slots.Axis; takes = (kinds.Node keywords.Axis nodes.Axis); often = AtLeastOnce })
     ∷ (record { name = slots.Unit; takes = kinds.AnyUnit; often = AtMostOnce })
     ∷ row
 
@@ -96,9 +97,9 @@ vertical_ending_fields v =
 -- the slots of a base system after its datum
 abbrev pub base_ending_row : List Slot
 base_ending_row =
-    (record { name = slots.PrimeMeridian; takes = kinds.PrimeMeridian; often = AtMostOnce })
+    (record { name = slots.PrimeMeridian; takes = (kinds.Node keywords.PrimeMeridian nodes.PrimeMeridian); often = AtMostOnce })
     ∷ (record { name = slots.Unit; takes = kinds.AngleUnit; often = AtMostOnce })
-    ∷ (record { name = slots.Id; takes = kinds.Identifier; often = Any })
+    ∷ (record { name = slots.Id; takes = (kinds.Node keywords.Identifier nodes.Identifier); often = Any })
     ∷ []
 
 abbrev pub base_ending_fields : BaseEnding → Fields

@@ -2,13 +2,13 @@
 use Rattle.std.specs.Prelude.{◌≡◌, List, Result, IfOk}
 use Rattle.crs_part.specs.declared.crs.Single.{Single}
 use Rattle.wkt_tree.specs.Tree.{Tok}
-use Rattle.wkt_slots.specs.declared.table.Keyword.{Keyword}
-use Rattle.wkt_slots.specs.declared.table.Node.{Node}
-use Rattle.wkt_slots.specs.declared.table.Takes.TheVariants as kinds
-use Rattle.wkt_slots.specs.Rows.{enters}
-use Rattle.wkt_slots.specs.Words.{keyword_of}
+use Rattle.wkt_grammar.specs.declared.table.Keyword.{Keyword}
+use Rattle.wkt_grammar.specs.declared.table.Node.{Node}
+use Rattle.wkt_grammar.specs.declared.table.Takes.TheVariants as kinds
+use Rattle.wkt_grammar.specs.Rows.{enters}
+use Rattle.wkt_grammar.specs.Words.{keyword_of}
 use Rattle.std.specs.Prelude.{ℕ, Some}
-use Rattle.wkt_tier.specs.Bare.{Bare, Bares, node}
+use Rattle.wkt_grammar.specs.Bare.{Bare, Bares, node}
 use Rattle.wkt_meaning.specs.SecondEdition.{Fitted}
 use Rattle.wkt_meaning.specs.Denotes.{DenotesSingle}
 use Rattle.wkt_build.specs.Reads.{Next}

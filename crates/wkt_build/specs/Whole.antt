@@ -3,9 +3,9 @@ use Rattle.std.specs.Prelude.{◌≡◌, List, Result, IfOk}
 use Rattle.crs_part.specs.declared.crs.CrsParts.{CrsParts}
 use Rattle.wkt_tree.specs.declared.token.Delimiter.{Delimiter}
 use Rattle.wkt_tree.specs.Tree.{Piece, Tok, Items, node, tokens}
-use Rattle.wkt_slots.specs.declared.table.Edition.TheVariants as editions
-use Rattle.wkt_tier.specs.Slots.{IsClean}
-use Rattle.wkt_tier.specs.Bare.{bare}
+use Rattle.wkt_grammar.specs.declared.table.Edition.TheVariants as editions
+use Rattle.wkt_grammar.specs.Slots.{IsClean}
+use Rattle.wkt_grammar.specs.Bare.{bare}
 use Rattle.wkt_meaning.specs.Denotes.{DenotesParts}
 
 -- where the tokens are those of a tree without a slot fault in the second edition, the tree denotes what is built

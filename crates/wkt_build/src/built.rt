@@ -1,14 +1,14 @@
 //! Values that are built of the arguments that come.
 
 ghost use Rattle.std.specs.Prelude.{◌≡◌, ◌≤◌, length, false, true, List, drop, IfOk, OnOk, None, Ok};
-ghost use Rattle.wkt_slots.specs.declared.table.Takes as declared;
-ghost use Rattle.wkt_tier.specs.Bare.{Bare};
+ghost use Rattle.wkt_grammar.specs.declared.table.Takes as declared;
+ghost use Rattle.wkt_grammar.specs.Bare.{Bare};
 ghost use Rattle.wkt_build.specs.Reads.{Builds, BuildsEach, BuildsOne, BuildsSome, comes};
 
 use crate::reader::Reader;
 use crs_part::{Many, NonEmpty};
 use std::alloc::{AllocError, Global};
-use wkt_slots::Takes;
+use wkt_grammar::Takes;
 
 /// An argument that is built as a value of `V`.
 pub(crate) trait Built<V> {

@@ -5,7 +5,7 @@ ghost use Rattle.wkt_build.specs.Choices.{angle_unit_as, geodetic_kind_of, is_co
 
 use crate::reader::Reader;
 use crs_part::{AngleUnit, GeodeticKind, LengthUnit, Unit, UnitDefinition};
-use wkt_slots::{Keyword, keyword_of};
+use wkt_grammar::{Keyword, keyword_of};
 
 /// What the token that comes means as a keyword.
 pub(crate) fn next_keyword(cursor: &Reader<'_>) -> Option<Keyword>

@@ -1,6 +1,8 @@
 //! Conversions.
 
-ghost use Rattle.wkt_slots.specs.declared.table.Takes.TheVariants as kinds;
+ghost use Rattle.wkt_grammar.specs.declared.table.Keyword.TheVariants as keywords;
+ghost use Rattle.wkt_grammar.specs.declared.table.Node.TheVariants as nodes;
+ghost use Rattle.wkt_grammar.specs.declared.table.Takes.TheVariants as kinds;
 ghost use Rattle.wkt_meaning.specs.Denotes.{DenotesConversion, DenotesParameter};
 
 use crate::built::{Built, pass, take_each, take_maybe, take_one};
@@ -9,15 +11,15 @@ use crate::reader::Reader;
 use crs_number::Decimal;
 use crs_part::{Conversion, Ident, Named, Parameter, Text, Unit};
 use std::alloc::{AllocError, Global};
-use wkt_slots::Takes;
+use wkt_grammar::{Keyword, Node, Takes};
 
 impl Built<Parameter> for Parameter {
-    ghost slot_kind = { kinds.Parameter };
+    ghost slot_kind = { kinds.Node keywords.Parameter nodes.Parameter };
 
     ghost Denotes = { DenotesParameter };
 
     fn kind() -> Takes {
-        Takes::Parameter
+        Takes::Node(Keyword::Parameter, Node::Parameter)
     }
 
     fn build(alloc: Global, cursor: &mut Reader<'_>) -> Result<Parameter, AllocError> {
@@ -37,12 +39,12 @@ impl Built<Parameter> for Parameter {
 }
 
 impl Built<Conversion> for Conversion {
-    ghost slot_kind = { kinds.Conversion };
+    ghost slot_kind = { kinds.Node keywords.Conversion nodes.Conversion };
 
     ghost Denotes = { DenotesConversion };
 
     fn kind() -> Takes {
-        Takes::Conversion
+        Takes::Node(Keyword::Conversion, Node::Conversion)
     }
 
     fn build(alloc: Global, cursor: &mut Reader<'_>) -> Result<Conversion, AllocError> {

@@ -2,8 +2,8 @@
 
 ghost use Rattle.std.specs.Prelude.{◌≡◌, ◌≤◌, length, IfOk};
 ghost use Rattle.wkt_build.specs.Single.{BuildsSingle};
-ghost use Rattle.wkt_slots.specs.declared.table.Node.TheVariants as nodes;
-ghost use Rattle.wkt_slots.specs.declared.table.Takes.TheVariants as kinds;
+ghost use Rattle.wkt_grammar.specs.declared.table.Node.TheVariants as nodes;
+ghost use Rattle.wkt_grammar.specs.declared.table.Takes.TheVariants as kinds;
 ghost use Rattle.wkt_meaning.specs.Denotes.{DenotesBase, DenotesParts, DenotesSingle, base_fields, compound_fields, geodetic_fields, projected_fields, vertical_fields};
 ghost use Rattle.wkt_build.specs.Reads.{BuildsNode};
 
@@ -18,7 +18,7 @@ use crs_part::{
     VerticalFrame,
 };
 use std::alloc::{AllocError, Global};
-use wkt_slots::Takes;
+use wkt_grammar::Takes;
 
 pub(crate) fn build_base(
     kind: GeodeticKind,

@@ -1,8 +1,9 @@
 //! Datums and ensembles of them.
 
 ghost use Rattle.std.specs.Prelude.{◌≤◌, length};
-ghost use Rattle.wkt_slots.specs.declared.table.Node.TheVariants as nodes;
-ghost use Rattle.wkt_slots.specs.declared.table.Takes.TheVariants as kinds;
+ghost use Rattle.wkt_grammar.specs.declared.table.Node.TheVariants as nodes;
+ghost use Rattle.wkt_grammar.specs.declared.table.Keyword.TheVariants as keywords;
+ghost use Rattle.wkt_grammar.specs.declared.table.Takes.TheVariants as kinds;
 ghost use Rattle.wkt_meaning.specs.Denotes.{DenotesAccuracy, DenotesEllipsoid, DenotesGeodeticFrame, DenotesPrimeMeridian, DenotesVerticalFrame, accuracy_fields, datum_fields, geodetic_ensemble_fields, vertical_datum_fields, vertical_ensemble_fields};
 ghost use Rattle.wkt_build.specs.Reads.{BuildsNode};
 
@@ -17,15 +18,15 @@ use crs_part::{
     NonEmpty, PrimeMeridian, Text, VerticalDatum, VerticalEnsemble, VerticalFrame,
 };
 use std::alloc::{AllocError, Global};
-use wkt_slots::Takes;
+use wkt_grammar::{Keyword, Node, Takes};
 
 impl Built<Ellipsoid> for Ellipsoid {
-    ghost slot_kind = { kinds.Ellipsoid };
+    ghost slot_kind = { kinds.Node keywords.Ellipsoid nodes.Ellipsoid };
 
     ghost Denotes = { DenotesEllipsoid };
 
     fn kind() -> Takes {
-        Takes::Ellipsoid
+        Takes::Node(Keyword::Ellipsoid, Node::Ellipsoid)
     }
 
     fn build(alloc: Global, cursor: &mut Reader<'_>) -> Result<Ellipsoid, AllocError> {
@@ -47,12 +48,12 @@ impl Built<Ellipsoid> for Ellipsoid {
 }
 
 impl Built<PrimeMeridian> for PrimeMeridian {
-    ghost slot_kind = { kinds.PrimeMeridian };
+    ghost slot_kind = { kinds.Node keywords.PrimeMeridian nodes.PrimeMeridian };
 
     ghost Denotes = { DenotesPrimeMeridian };
 
     fn kind() -> Takes {
-        Takes::PrimeMeridian
+        Takes::Node(Keyword::PrimeMeridian, Node::PrimeMeridian)
     }
 
     fn build(alloc: Global, cursor: &mut Reader<'_>) -> Result<PrimeMeridian, AllocError> {
@@ -118,12 +119,12 @@ pub(crate) fn build_accuracy(alloc: Global, cursor: &mut Reader<'_>) -> Result<D
 pub(crate) struct Accuracy;
 
 impl Built<Decimal> for Accuracy {
-    ghost slot_kind = { kinds.EnsembleAccuracy };
+    ghost slot_kind = { kinds.Node keywords.EnsembleAccuracy nodes.EnsembleAccuracy };
 
     ghost Denotes = { DenotesAccuracy };
 
     fn kind() -> Takes {
-        Takes::EnsembleAccuracy
+        Takes::Node(Keyword::EnsembleAccuracy, Node::EnsembleAccuracy)
     }
 
     fn build(alloc: Global, cursor: &mut Reader<'_>) -> Result<Decimal, AllocError> {

@@ -1,9 +1,9 @@
 //! Identifiers, and nodes that have a name and identifiers alone.
 
 ghost use Rattle.std.specs.Prelude.{◌≤◌, length};
-ghost use Rattle.wkt_slots.specs.declared.table.Keyword.TheVariants as keywords;
-ghost use Rattle.wkt_slots.specs.declared.table.Node.TheVariants as nodes;
-ghost use Rattle.wkt_slots.specs.declared.table.Takes.TheVariants as kinds;
+ghost use Rattle.wkt_grammar.specs.declared.table.Keyword.TheVariants as keywords;
+ghost use Rattle.wkt_grammar.specs.declared.table.Node.TheVariants as nodes;
+ghost use Rattle.wkt_grammar.specs.declared.table.Takes.TheVariants as kinds;
 ghost use Rattle.wkt_meaning.specs.Denotes.{DenotesIdent, DenotesNamed, named_fields};
 ghost use Rattle.wkt_build.specs.Reads.{BuildsNode};
 
@@ -12,15 +12,15 @@ use crate::reader::Reader;
 use crate::values::{Citation, Uri};
 use crs_part::{Ident, Named, NumberOrText, Text};
 use std::alloc::{AllocError, Global};
-use wkt_slots::Takes;
+use wkt_grammar::{Keyword, Node, Takes};
 
 impl Built<Ident> for Ident {
-    ghost slot_kind = { kinds.Identifier };
+    ghost slot_kind = { kinds.Node keywords.Identifier nodes.Identifier };
 
     ghost Denotes = { DenotesIdent };
 
     fn kind() -> Takes {
-        Takes::Identifier
+        Takes::Node(Keyword::Identifier, Node::Identifier)
     }
 
     fn build(alloc: Global, cursor: &mut Reader<'_>) -> Result<Ident, AllocError> {
@@ -56,12 +56,12 @@ pub(crate) fn build_named(alloc: Global, cursor: &mut Reader<'_>) -> Result<Name
 pub(crate) struct Member;
 
 impl Built<Named> for Member {
-    ghost slot_kind = { kinds.Member };
+    ghost slot_kind = { kinds.Node keywords.Member nodes.Named };
 
     ghost Denotes = { DenotesNamed keywords.Member };
 
     fn kind() -> Takes {
-        Takes::Member
+        Takes::Node(Keyword::Member, Node::Named)
     }
 
     fn build(alloc: Global, cursor: &mut Reader<'_>) -> Result<Named, AllocError> {
@@ -73,12 +73,12 @@ impl Built<Named> for Member {
 pub(crate) struct Method;
 
 impl Built<Named> for Method {
-    ghost slot_kind = { kinds.Method };
+    ghost slot_kind = { kinds.Node keywords.Method nodes.Named };
 
     ghost Denotes = { DenotesNamed keywords.Method };
 
     fn kind() -> Takes {
-        Takes::Method
+        Takes::Node(Keyword::Method, Node::Named)
     }
 
     fn build(alloc: Global, cursor: &mut Reader<'_>) -> Result<Named, AllocError> {
@@ -90,12 +90,12 @@ impl Built<Named> for Method {
 pub(crate) struct GeoidModel;
 
 impl Built<Named> for GeoidModel {
-    ghost slot_kind = { kinds.GeoidModel };
+    ghost slot_kind = { kinds.Node keywords.GeoidModel nodes.Named };
 
     ghost Denotes = { DenotesNamed keywords.GeoidModel };
 
     fn kind() -> Takes {
-        Takes::GeoidModel
+        Takes::Node(Keyword::GeoidModel, Node::Named)
     }
 
     fn build(alloc: Global, cursor: &mut Reader<'_>) -> Result<Named, AllocError> {

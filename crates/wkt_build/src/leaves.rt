@@ -4,7 +4,7 @@ ghost use Rattle.std.specs.Prelude.{◌≡◌, ◌≤◌, length, false, drop, I
 ghost use Rattle.std.specs.List.{list_any};
 ghost use Rattle.crs_number.specs.Numeral.{Spells};
 ghost use Rattle.wkt_tree.specs.Tokens.{IsQuoted, IsNumber, is_mark};
-ghost use Rattle.wkt_slots.specs.declared.table.Takes.TheVariants as kinds;
+ghost use Rattle.wkt_grammar.specs.declared.table.Takes.TheVariants as kinds;
 ghost use Rattle.wkt_meaning.specs.Leaves.{DenotesCount, DenotesText, DenotesNumber, undoubled};
 ghost use Rattle.wkt_meaning.specs.Denotes.{DenotesCode};
 ghost use Rattle.wkt_build.specs.Leaves.{TakesCount, TakesNumber, TakesText, next_is_number};
@@ -14,7 +14,7 @@ use crate::reader::Reader;
 use crs_number::Decimal;
 use crs_part::{Many, NumberOrText, Text};
 use std::alloc::{AllocError, Global};
-use wkt_slots::Takes;
+use wkt_grammar::Takes;
 use wkt_tree::TokenKind;
 
 // ---- numbers

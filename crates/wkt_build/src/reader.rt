@@ -4,15 +4,14 @@ ghost use Rattle.std.specs.Prelude.{◌≡◌, drop, slice_get, IfSome};
 ghost use Rattle.std.specs.Option.{option_map};
 ghost use Rattle.wkt_tree.specs.Tokens.{IsSound};
 ghost use Rattle.wkt_tree.specs.Faults.{view};
-ghost use Rattle.wkt_slots.specs.Rows.{takes};
-ghost use Rattle.wkt_tier.specs.Next.{coming, is_comma, next_is};
+ghost use Rattle.wkt_grammar.specs.Rows.{takes};
+ghost use Rattle.wkt_grammar.specs.Next.{coming, is_comma, next_is};
 ghost use Rattle.wkt_build.specs.Ahead.{IsAhead, IsTold};
 ghost use Rattle.wkt_build.specs.Reads.{comes};
 
 use crs_number::is_count;
 use std::marker::Model;
-use wkt_slots::{Argument, Keyword, Takes, enters, takes};
-use wkt_tier::{coming, next_is_comma};
+use wkt_grammar::{Argument, Keyword, Takes, coming, enters, next_is_comma, takes};
 use wkt_tree::{Cursor, Token, TokenKind};
 
 /// What follows a comma, where it was looked up ahead.

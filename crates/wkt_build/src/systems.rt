@@ -1,7 +1,9 @@
 //! Coordinate systems and their axes.
 
 ghost use Rattle.std.specs.Prelude.{◌≡◌};
-ghost use Rattle.wkt_slots.specs.declared.table.Takes.TheVariants as kinds;
+ghost use Rattle.wkt_grammar.specs.declared.table.Keyword.TheVariants as keywords;
+ghost use Rattle.wkt_grammar.specs.declared.table.Node.TheVariants as nodes;
+ghost use Rattle.wkt_grammar.specs.declared.table.Takes.TheVariants as kinds;
 ghost use Rattle.wkt_meaning.specs.Denotes.{DenotesAxis, DenotesMeridian, DenotesOrder, DenotesSystem};
 
 use crate::built::{Built, pass, take_each, take_maybe, take_one};
@@ -11,7 +13,7 @@ use crs_part::{
     AngleUnit, Axis, CoordSystem, Direction, Ident, Many, Meridian, Order, SystemKind, Text, Unit,
 };
 use std::alloc::{AllocError, Global};
-use wkt_slots::Takes;
+use wkt_grammar::{Keyword, Node, Takes};
 
 fn system_of(kind: SystemKind, dimension: u32, ids: Many<Ident>) -> CoordSystem
     ensures kind { result.kind ≡ kind }
@@ -32,12 +34,12 @@ fn order_of(position: u32) -> Order
 }
 
 impl Built<CoordSystem> for CoordSystem {
-    ghost slot_kind = { kinds.CoordinateSystem };
+    ghost slot_kind = { kinds.Node keywords.CoordinateSystem nodes.CoordinateSystem };
 
     ghost Denotes = { DenotesSystem };
 
     fn kind() -> Takes {
-        Takes::CoordinateSystem
+        Takes::Node(Keyword::CoordinateSystem, Node::CoordinateSystem)
     }
 
     fn build(alloc: Global, cursor: &mut Reader<'_>) -> Result<CoordSystem, AllocError> {
@@ -51,12 +53,12 @@ impl Built<CoordSystem> for CoordSystem {
 }
 
 impl Built<Meridian> for Meridian {
-    ghost slot_kind = { kinds.Meridian };
+    ghost slot_kind = { kinds.Node keywords.Meridian nodes.Meridian };
 
     ghost Denotes = { DenotesMeridian };
 
     fn kind() -> Takes {
-        Takes::Meridian
+        Takes::Node(Keyword::Meridian, Node::Meridian)
     }
 
     fn build(alloc: Global, cursor: &mut Reader<'_>) -> Result<Meridian, AllocError> {
@@ -69,12 +71,12 @@ impl Built<Meridian> for Meridian {
 }
 
 impl Built<Order> for Order {
-    ghost slot_kind = { kinds.Order };
+    ghost slot_kind = { kinds.Node keywords.Order nodes.Order };
 
     ghost Denotes = { DenotesOrder };
 
     fn kind() -> Takes {
-        Takes::Order
+        Takes::Node(Keyword::Order, Node::Order)
     }
 
     fn build(alloc: Global, cursor: &mut Reader<'_>) -> Result<Order, AllocError> {
@@ -86,12 +88,12 @@ impl Built<Order> for Order {
 }
 
 impl Built<Axis> for Axis {
-    ghost slot_kind = { kinds.Axis };
+    ghost slot_kind = { kinds.Node keywords.Axis nodes.Axis };
 
     ghost Denotes = { DenotesAxis };
 
     fn kind() -> Takes {
-        Takes::Axis
+        Takes::Node(Keyword::Axis, Node::Axis)
     }
 
     fn build(alloc: Global, cursor: &mut Reader<'_>) -> Result<Axis, AllocError> {

@@ -1,8 +1,8 @@
 //! Units.
 
 ghost use Rattle.std.specs.Prelude.{◌≤◌, length};
-ghost use Rattle.wkt_slots.specs.declared.table.Node.TheVariants as nodes;
-ghost use Rattle.wkt_slots.specs.declared.table.Takes.TheVariants as kinds;
+ghost use Rattle.wkt_grammar.specs.declared.table.Node.TheVariants as nodes;
+ghost use Rattle.wkt_grammar.specs.declared.table.Takes.TheVariants as kinds;
 ghost use Rattle.wkt_meaning.specs.Denotes.{DenotesAngleUnit, DenotesLengthUnit, DenotesUnit, unit_fields};
 ghost use Rattle.wkt_build.specs.Reads.{BuildsNode};
 
@@ -12,7 +12,7 @@ use crate::reader::Reader;
 use crs_number::Decimal;
 use crs_part::{AngleUnit, Ident, LengthUnit, Text, Unit, UnitDefinition};
 use std::alloc::{AllocError, Global};
-use wkt_slots::Takes;
+use wkt_grammar::Takes;
 
 pub(crate) fn build_unit(
     alloc: Global,

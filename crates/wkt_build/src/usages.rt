@@ -1,6 +1,8 @@
 //! Usages.
 
-ghost use Rattle.wkt_slots.specs.declared.table.Takes.TheVariants as kinds;
+ghost use Rattle.wkt_grammar.specs.declared.table.Keyword.TheVariants as keywords;
+ghost use Rattle.wkt_grammar.specs.declared.table.Node.TheVariants as nodes;
+ghost use Rattle.wkt_grammar.specs.declared.table.Takes.TheVariants as kinds;
 ghost use Rattle.wkt_meaning.specs.Denotes.{DenotesBoundingBox, DenotesUsage, DenotesVerticalExtent};
 
 use crate::built::{Built, pass, take_maybe, take_one};
@@ -9,15 +11,15 @@ use crate::values::{Area, Scope};
 use crs_number::Decimal;
 use crs_part::{BoundingBox, LengthUnit, Text, Usage, VerticalExtent};
 use std::alloc::{AllocError, Global};
-use wkt_slots::Takes;
+use wkt_grammar::{Keyword, Node, Takes};
 
 impl Built<BoundingBox> for BoundingBox {
-    ghost slot_kind = { kinds.BoundingBox };
+    ghost slot_kind = { kinds.Node keywords.BoundingBox nodes.BoundingBox };
 
     ghost Denotes = { DenotesBoundingBox };
 
     fn kind() -> Takes {
-        Takes::BoundingBox
+        Takes::Node(Keyword::BoundingBox, Node::BoundingBox)
     }
 
     fn build(alloc: Global, cursor: &mut Reader<'_>) -> Result<BoundingBox, AllocError> {
@@ -37,12 +39,12 @@ impl Built<BoundingBox> for BoundingBox {
 }
 
 impl Built<VerticalExtent> for VerticalExtent {
-    ghost slot_kind = { kinds.VerticalExtent };
+    ghost slot_kind = { kinds.Node keywords.VerticalExtent nodes.VerticalExtent };
 
     ghost Denotes = { DenotesVerticalExtent };
 
     fn kind() -> Takes {
-        Takes::VerticalExtent
+        Takes::Node(Keyword::VerticalExtent, Node::VerticalExtent)
     }
 
     fn build(alloc: Global, cursor: &mut Reader<'_>) -> Result<VerticalExtent, AllocError> {
@@ -56,12 +58,12 @@ impl Built<VerticalExtent> for VerticalExtent {
 }
 
 impl Built<Usage> for Usage {
-    ghost slot_kind = { kinds.Usage };
+    ghost slot_kind = { kinds.Node keywords.Usage nodes.Usage };
 
     ghost Denotes = { DenotesUsage };
 
     fn kind() -> Takes {
-        Takes::Usage
+        Takes::Node(Keyword::Usage, Node::Usage)
     }
 
     fn build(alloc: Global, cursor: &mut Reader<'_>) -> Result<Usage, AllocError> {

@@ -1,9 +1,9 @@
 //! Nodes that hold a text alone.
 
 ghost use Rattle.std.specs.Prelude.{◌≤◌, length};
-ghost use Rattle.wkt_slots.specs.declared.table.Keyword.TheVariants as keywords;
-ghost use Rattle.wkt_slots.specs.declared.table.Node.TheVariants as nodes;
-ghost use Rattle.wkt_slots.specs.declared.table.Takes.TheVariants as kinds;
+ghost use Rattle.wkt_grammar.specs.declared.table.Keyword.TheVariants as keywords;
+ghost use Rattle.wkt_grammar.specs.declared.table.Node.TheVariants as nodes;
+ghost use Rattle.wkt_grammar.specs.declared.table.Takes.TheVariants as kinds;
 ghost use Rattle.wkt_meaning.specs.Denotes.{DenotesValue, value_fields};
 ghost use Rattle.wkt_build.specs.Reads.{BuildsNode};
 
@@ -11,7 +11,7 @@ use crate::built::{Built, pass, take_one};
 use crate::reader::Reader;
 use crs_part::Text;
 use std::alloc::{AllocError, Global};
-use wkt_slots::Takes;
+use wkt_grammar::{Keyword, Node, Takes};
 
 pub(crate) fn build_value(alloc: Global, cursor: &mut Reader<'_>) -> Result<Text, AllocError>
     ensures builds { BuildsNode nodes.Value value_fields cursor.old cursor.new result }
@@ -27,12 +27,12 @@ pub(crate) fn build_value(alloc: Global, cursor: &mut Reader<'_>) -> Result<Text
 pub(crate) struct Scope;
 
 impl Built<Text> for Scope {
-    ghost slot_kind = { kinds.Scope };
+    ghost slot_kind = { kinds.Node keywords.Scope nodes.Value };
 
     ghost Denotes = { DenotesValue keywords.Scope };
 
     fn kind() -> Takes {
-        Takes::Scope
+        Takes::Node(Keyword::Scope, Node::Value)
     }
 
     fn build(alloc: Global, cursor: &mut Reader<'_>) -> Result<Text, AllocError> {
@@ -44,12 +44,12 @@ impl Built<Text> for Scope {
 pub(crate) struct Area;
 
 impl Built<Text> for Area {
-    ghost slot_kind = { kinds.Area };
+    ghost slot_kind = { kinds.Node keywords.Area nodes.Value };
 
     ghost Denotes = { DenotesValue keywords.Area };
 
     fn kind() -> Takes {
-        Takes::Area
+        Takes::Node(Keyword::Area, Node::Value)
     }
 
     fn build(alloc: Global, cursor: &mut Reader<'_>) -> Result<Text, AllocError> {
@@ -61,12 +61,12 @@ impl Built<Text> for Area {
 pub(crate) struct Anchor;
 
 impl Built<Text> for Anchor {
-    ghost slot_kind = { kinds.Anchor };
+    ghost slot_kind = { kinds.Node keywords.Anchor nodes.Value };
 
     ghost Denotes = { DenotesValue keywords.Anchor };
 
     fn kind() -> Takes {
-        Takes::Anchor
+        Takes::Node(Keyword::Anchor, Node::Value)
     }
 
     fn build(alloc: Global, cursor: &mut Reader<'_>) -> Result<Text, AllocError> {
@@ -78,12 +78,12 @@ impl Built<Text> for Anchor {
 pub(crate) struct Citation;
 
 impl Built<Text> for Citation {
-    ghost slot_kind = { kinds.Citation };
+    ghost slot_kind = { kinds.Node keywords.Citation nodes.Value };
 
     ghost Denotes = { DenotesValue keywords.Citation };
 
     fn kind() -> Takes {
-        Takes::Citation
+        Takes::Node(Keyword::Citation, Node::Value)
     }
 
     fn build(alloc: Global, cursor: &mut Reader<'_>) -> Result<Text, AllocError> {
@@ -95,12 +95,12 @@ impl Built<Text> for Citation {
 pub(crate) struct Uri;
 
 impl Built<Text> for Uri {
-    ghost slot_kind = { kinds.Uri };
+    ghost slot_kind = { kinds.Node keywords.Uri nodes.Value };
 
     ghost Denotes = { DenotesValue keywords.Uri };
 
     fn kind() -> Takes {
-        Takes::Uri
+        Takes::Node(Keyword::Uri, Node::Value)
     }
 
     fn build(alloc: Global, cursor: &mut Reader<'_>) -> Result<Text, AllocError> {
@@ -112,12 +112,12 @@ impl Built<Text> for Uri {
 pub(crate) struct Remark;
 
 impl Built<Text> for Remark {
-    ghost slot_kind = { kinds.Remark };
+    ghost slot_kind = { kinds.Node keywords.Remark nodes.Value };
 
     ghost Denotes = { DenotesValue keywords.Remark };
 
     fn kind() -> Takes {
-        Takes::Remark
+        Takes::Node(Keyword::Remark, Node::Value)
     }
 
     fn build(alloc: Global, cursor: &mut Reader<'_>) -> Result<Text, AllocError> {

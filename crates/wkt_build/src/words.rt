@@ -2,17 +2,17 @@
 
 ghost use Rattle.std.specs.Prelude.{◌≡◌, ◌≤◌, length, map, IfOk};
 ghost use Rattle.std.specs.Char.{to_ascii_lowercase};
-ghost use Rattle.wkt_slots.specs.declared.table.Takes.TheVariants as kinds;
-ghost use Rattle.wkt_slots.specs.Words.{is_cs_kind, is_direction, same_word};
+ghost use Rattle.wkt_grammar.specs.declared.table.Takes.TheVariants as kinds;
+ghost use Rattle.wkt_grammar.specs.Words.{is_cs_kind, is_direction, same_word};
 ghost use Rattle.wkt_meaning.specs.Leaves.{DenotesWord};
-ghost use Rattle.wkt_meaning.specs.Words.{direction_word, directions_listed, first_word, kinds_listed, system_word};
+ghost use Rattle.crs_part.specs.Words.{direction_word, directions_listed, first_word, kinds_listed, system_word};
 ghost use Rattle.wkt_build.specs.Leaves.{TakesWord};
 
 use crate::built::Built;
 use crate::reader::Reader;
 use crs_part::{Direction, SystemKind};
 use std::alloc::{AllocError, Global};
-use wkt_slots::Takes;
+use wkt_grammar::Takes;
 use wkt_tree::TokenKind;
 
 static KINDS: [SystemKind; 4] = [

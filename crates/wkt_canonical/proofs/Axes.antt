@@ -13,7 +13,7 @@ use Rattle.crs_part.specs.declared.systems.Meridian.{Meridian}
 use Rattle.crs_part.specs.declared.systems.Axis.{Axis}
 use Rattle.crs_value.specs.Units.{any_units, meridian_units, axis_units}
 use Rattle.crs_value.specs.Conditions.{axis_fits, unit_fits, is_order, is_north_or_south}
-use Rattle.wkt_meaning.specs.Words.{system_word, direction_word}
+use Rattle.crs_part.specs.Words.{system_word, direction_word}
 use Rattle.wkt_meaning.specs.Render.{render}
 use Rattle.wkt_meaning.specs.Trees.{one, text_tree, number_tree, kind_tree, count_tree, direction_tree, ident_tree, angle_unit_tree, meridian_tree, axis_tree}
 use Rattle.wkt_canonical.specs.declared.units.Group.{Group}

@@ -3,7 +3,7 @@ use Rattle.std.proofs.Common.{◌≡◌, ℕ, List, [], ◌∷◌, ◌++◌, ref
 use Rattle.std.proofs.lemmas.List.{map-append}
 use Rattle.std.specs.Prelude.{None, Some, ◌&&◌}
 use Rattle.std.specs.List.{list_all}
-use Rattle.wkt_tier.specs.Bare.{Bare, bares}
+use Rattle.wkt_grammar.specs.Bare.{Bare, bares}
 use Rattle.wkt_meaning.specs.Render.{render, render_behind}
 use Rattle.wkt_meaning.specs.Trees.{one, joined, branch}
 use Rattle.wkt_canonical.specs.Reads.{behind, ReadsFirst, ReadsOne, ReadsMaybe, ReadsEach, ReadsSome, ReadsInside, ReadsWithin}

@@ -32,7 +32,7 @@ use Rattle.wkt_canonical.specs.declared.crs.Seen.{Seen}
 use Rattle.wkt_canonical.specs.declared.crs.Component.{Component}
 use Rattle.wkt_canonical.specs.Seen.{Identifies, IsFirst, IsSeen}
 use Rattle.wkt_canonical.specs.Tests.{all_positive, unit_passes, meridian_passes, IsAxis, AxesHold, Holds}
-use Rattle.wkt_tier.specs.Bare.{Bare, bares}
+use Rattle.wkt_grammar.specs.Bare.{Bare, bares}
 use Rattle.wkt_meaning.specs.Render.{render, render_behind}
 use Rattle.wkt_meaning.specs.Runs.{listed}
 use Rattle.wkt_meaning.specs.Trees.{one, maybe, joined, unit_tree, system_tree, meridian_tree, order_tree, axis_tree, usage_tree, ident_tree, text_tree, code_tree, value_tree, single_tree}

@@ -1,7 +1,7 @@
 //! Nodes, after their opening delimiters.
 
 ghost use Rattle.std.specs.Prelude.{◌≡◌, ◌++◌, Bool, List, ℕ, IfSome};
-ghost use Rattle.wkt_tier.specs.Bare.{Bare};
+ghost use Rattle.wkt_grammar.specs.Bare.{Bare};
 ghost use Rattle.wkt_canonical.specs.Reads.{ReadsOne, ReadsMaybe, ReadsEach, ReadsSome, ReadsInside};
 
 use crate::front::behind;

@@ -1,7 +1,7 @@
 //! Words of kinds and directions, and digits.
 
 ghost use Rattle.std.specs.Prelude.{◌≡◌, ◌++◌, IfSome};
-ghost use Rattle.wkt_meaning.specs.Words.{system_word, direction_word};
+ghost use Rattle.crs_part.specs.Words.{system_word, direction_word};
 ghost use Rattle.wkt_canonical.specs.Reads.{ReadsDigit};
 
 use crate::front::behind;

@@ -16,13 +16,13 @@ use Rattle.wkt_tree.specs.Cursor.{IsSoundToken}
 use Rattle.wkt_tree.specs.Faults.{IsOutline}
 use Rattle.wkt_tree.specs.Faults as text
 use Rattle.wkt_tree.proofs.Sound.{cut_sound}
-use Rattle.wkt_slots.specs.declared.table.Edition.TheVariants as editions
-use Rattle.wkt_slots.specs.declared.table.Node.TheVariants as nodes
-use Rattle.wkt_slots.specs.declared.table.Takes.TheVariants as kinds
-use Rattle.wkt_tier.specs.declared.fault.SlotFault.{SlotFault}
-use Rattle.wkt_tier.specs.Slots.{IsClean, IsFirst}
-use Rattle.wkt_tier.specs.Bare.{Bare, bare, all_bare, none, and}
-use Rattle.wkt_tier.proofs.Fitting.{clean_fitted, fitted_cuts}
+use Rattle.wkt_grammar.specs.declared.table.Edition.TheVariants as editions
+use Rattle.wkt_grammar.specs.declared.table.Node.TheVariants as nodes
+use Rattle.wkt_grammar.specs.declared.table.Takes.TheVariants as kinds
+use Rattle.wkt_grammar.specs.declared.fault.SlotFault.{SlotFault}
+use Rattle.wkt_grammar.specs.Slots.{IsClean, IsFirst}
+use Rattle.wkt_grammar.specs.Bare.{Bare, bare, all_bare, none, and}
+use Rattle.wkt_grammar.proofs.Fitting.{clean_fitted, fitted_cuts}
 use Rattle.wkt_write.specs.WellFormed.{WellFormed, IsText}
 use Rattle.wkt_meaning.specs.SecondEdition.{Fitting, AllFitting}
 use Rattle.wkt_meaning.specs.Denotes.{DenotesParts}

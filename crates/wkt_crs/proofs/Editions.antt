@@ -1,7 +1,7 @@
 -- What texts spelled by the first edition of the grammar, and what they spell.
 use Rattle.std.proofs.Common.{ℕ, List}
 use Rattle.crs_value.specs.declared.crs.Crs.{Crs}
-use Rattle.wkt_tier.specs.Bare.{bare}
+use Rattle.wkt_grammar.specs.Bare.{bare}
 use Rattle.wkt_meaning.specs.FirstEdition.{NothingAdded}
 use Rattle.wkt_meaning.proofs.FirstEdition.{parts_still, parts_before}
 use Rattle.wkt_crs.specs.Spells.{FirstSpells, Spells}

@@ -1,5 +1,5 @@
 -- The canonical tree of each value is good: its leaves are tokens, and it is not too deep. A line a slot.
-use Rattle.std.proofs.Common.{◌≡◌, ℕ, zero, suc, ◌≤◌, true, List, [], ◌∷◌, ◌++◌, map, Option, Some, None, refl, codes, arith}
+use Rattle.std.proofs.Common.{◌≡◌, ℕ, zero, suc, ◌≤◌, true, List, [], ◌∷◌, ◌++◌, map, Option, Some, None, refl, arith}
 use Rattle.std.specs.Prelude.{max}
 use Rattle.crs_part.specs.declared.many.NonEmpty.{NonEmpty}
 use Rattle.crs_part.specs.declared.identifiers.NumberOrText.TheVariants as code
@@ -15,11 +15,13 @@ use Rattle.crs_part.specs.declared.crs.GeodeticKind.TheVariants as geodetic_kind
 use Rattle.crs_part.specs.declared.crs.Single.TheVariants as single
 use Rattle.crs_part.specs.declared.crs.CrsParts.{CrsParts}
 use Rattle.crs_part.specs.declared.crs.CrsParts.TheVariants as parts
-use Rattle.wkt_tier.specs.Bare.{Bare, bares, node}
+use Rattle.wkt_grammar.specs.declared.table.Keyword.TheVariants as keywords
+use Rattle.wkt_grammar.specs.Words.{spelling}
+use Rattle.wkt_grammar.specs.Bare.{Bare, bares, node}
 use Rattle.wkt_write.specs.WellFormed.{WellFormed, AllWellFormed, is_name}
 use Rattle.wkt_write.proofs.Tokens.{word_token, text_is, number_token, count_token}
 use Rattle.wkt_meaning.specs.Runs.{listed}
-use Rattle.wkt_meaning.specs.Words.{system_word, direction_word}
+use Rattle.crs_part.specs.Words.{system_word, direction_word}
 use Rattle.wkt_meaning.specs.Trees as trees
 use Rattle.wkt_meaning.proofs.Leaves.{Small}
 
@@ -113,60 +115,60 @@ direction_good n l to.Down = word_token (direction_word to.Down) refl
 
 -- ---- nodes
 
-scope_good : Goods 1 (trees.value_tree (codes "SCOPE"))
-scope_good = branch_good 0 0 (λ v. codes "SCOPE") trees.text_tree (λ v. v) (λ v. tt) (λ v. refl) text_good
+scope_good : Goods 1 (trees.value_tree (spelling keywords.Scope))
+scope_good = branch_good 0 0 (λ v. spelling keywords.Scope) trees.text_tree (λ v. v) (λ v. tt) (λ v. refl) text_good
     none
 
-area_good : Goods 1 (trees.value_tree (codes "AREA"))
-area_good = branch_good 0 0 (λ v. codes "AREA") trees.text_tree (λ v. v) (λ v. tt) (λ v. refl) text_good
+area_good : Goods 1 (trees.value_tree (spelling keywords.Area))
+area_good = branch_good 0 0 (λ v. spelling keywords.Area) trees.text_tree (λ v. v) (λ v. tt) (λ v. refl) text_good
     none
 
-anchor_good : Goods 1 (trees.value_tree (codes "ANCHOR"))
-anchor_good = branch_good 0 0 (λ v. codes "ANCHOR") trees.text_tree (λ v. v) (λ v. tt) (λ v. refl) text_good
+anchor_good : Goods 1 (trees.value_tree (spelling keywords.Anchor))
+anchor_good = branch_good 0 0 (λ v. spelling keywords.Anchor) trees.text_tree (λ v. v) (λ v. tt) (λ v. refl) text_good
     none
 
-citation_good : Goods 1 (trees.value_tree (codes "CITATION"))
-citation_good = branch_good 0 0 (λ v. codes "CITATION") trees.text_tree (λ v. v) (λ v. tt) (λ v. refl) text_good
+citation_good : Goods 1 (trees.value_tree (spelling keywords.Citation))
+citation_good = branch_good 0 0 (λ v. spelling keywords.Citation) trees.text_tree (λ v. v) (λ v. tt) (λ v. refl) text_good
     none
 
-uri_good : Goods 1 (trees.value_tree (codes "URI"))
-uri_good = branch_good 0 0 (λ v. codes "URI") trees.text_tree (λ v. v) (λ v. tt) (λ v. refl) text_good
+uri_good : Goods 1 (trees.value_tree (spelling keywords.Uri))
+uri_good = branch_good 0 0 (λ v. spelling keywords.Uri) trees.text_tree (λ v. v) (λ v. tt) (λ v. refl) text_good
     none
 
-remark_good : Goods 1 (trees.value_tree (codes "REMARK"))
-remark_good = branch_good 0 0 (λ v. codes "REMARK") trees.text_tree (λ v. v) (λ v. tt) (λ v. refl) text_good
+remark_good : Goods 1 (trees.value_tree (spelling keywords.Remark))
+remark_good = branch_good 0 0 (λ v. spelling keywords.Remark) trees.text_tree (λ v. v) (λ v. tt) (λ v. refl) text_good
     none
 
 ident_good : Goods 2 trees.ident_tree
-ident_good = branch_good 0 1 (λ v. codes "ID") trees.text_tree (λ v. v.authority) (λ v. (v.code, (v.version, (v.citation, (v.uri, tt))))) (λ v. refl) text_good
-    (then 0 1 (one 0 trees.code_tree code_good) (then 0 1 (maybe 0 trees.code_tree code_good) (then 1 1 (maybe 1 (trees.value_tree (codes "CITATION")) citation_good) (then 1 0 (maybe 1 (trees.value_tree (codes "URI")) uri_good) none))))
+ident_good = branch_good 0 1 (λ v. spelling keywords.Identifier) trees.text_tree (λ v. v.authority) (λ v. (v.code, (v.version, (v.citation, (v.uri, tt))))) (λ v. refl) text_good
+    (then 0 1 (one 0 trees.code_tree code_good) (then 0 1 (maybe 0 trees.code_tree code_good) (then 1 1 (maybe 1 (trees.value_tree (spelling keywords.Citation)) citation_good) (then 1 0 (maybe 1 (trees.value_tree (spelling keywords.Uri)) uri_good) none))))
 
-member_good : Goods 3 (trees.named_tree (codes "MEMBER"))
-member_good = branch_good 0 2 (λ v. codes "MEMBER") trees.text_tree (λ v. v.name) (λ v. (v.ids, tt)) (λ v. refl) text_good
+member_good : Goods 3 (trees.named_tree (spelling keywords.Member))
+member_good = branch_good 0 2 (λ v. spelling keywords.Member) trees.text_tree (λ v. v.name) (λ v. (v.ids, tt)) (λ v. refl) text_good
     (then 2 0 (each 2 trees.ident_tree ident_good) none)
 
-method_good : Goods 3 (trees.named_tree (codes "METHOD"))
-method_good = branch_good 0 2 (λ v. codes "METHOD") trees.text_tree (λ v. v.name) (λ v. (v.ids, tt)) (λ v. refl) text_good
+method_good : Goods 3 (trees.named_tree (spelling keywords.Method))
+method_good = branch_good 0 2 (λ v. spelling keywords.Method) trees.text_tree (λ v. v.name) (λ v. (v.ids, tt)) (λ v. refl) text_good
     (then 2 0 (each 2 trees.ident_tree ident_good) none)
 
-geoid_model_good : Goods 3 (trees.named_tree (codes "GEOIDMODEL"))
-geoid_model_good = branch_good 0 2 (λ v. codes "GEOIDMODEL") trees.text_tree (λ v. v.name) (λ v. (v.ids, tt)) (λ v. refl) text_good
+geoid_model_good : Goods 3 (trees.named_tree (spelling keywords.GeoidModel))
+geoid_model_good = branch_good 0 2 (λ v. spelling keywords.GeoidModel) trees.text_tree (λ v. v.name) (λ v. (v.ids, tt)) (λ v. refl) text_good
     (then 2 0 (each 2 trees.ident_tree ident_good) none)
 
-length_of_good : Goods 3 (trees.unit_of_tree (codes "LENGTHUNIT"))
-length_of_good = branch_good 0 2 (λ v. codes "LENGTHUNIT") trees.text_tree (λ v. v.name) (λ v. (v.factor, (v.ids, tt))) (λ v. refl) text_good
+length_of_good : Goods 3 (trees.unit_of_tree (spelling keywords.LengthUnit))
+length_of_good = branch_good 0 2 (λ v. spelling keywords.LengthUnit) trees.text_tree (λ v. v.name) (λ v. (v.factor, (v.ids, tt))) (λ v. refl) text_good
     (then 0 2 (one 0 trees.number_tree number_good) (then 2 0 (each 2 trees.ident_tree ident_good) none))
 
-angle_of_good : Goods 3 (trees.unit_of_tree (codes "ANGLEUNIT"))
-angle_of_good = branch_good 0 2 (λ v. codes "ANGLEUNIT") trees.text_tree (λ v. v.name) (λ v. (v.factor, (v.ids, tt))) (λ v. refl) text_good
+angle_of_good : Goods 3 (trees.unit_of_tree (spelling keywords.AngleUnit))
+angle_of_good = branch_good 0 2 (λ v. spelling keywords.AngleUnit) trees.text_tree (λ v. v.name) (λ v. (v.factor, (v.ids, tt))) (λ v. refl) text_good
     (then 0 2 (one 0 trees.number_tree number_good) (then 2 0 (each 2 trees.ident_tree ident_good) none))
 
-scale_of_good : Goods 3 (trees.unit_of_tree (codes "SCALEUNIT"))
-scale_of_good = branch_good 0 2 (λ v. codes "SCALEUNIT") trees.text_tree (λ v. v.name) (λ v. (v.factor, (v.ids, tt))) (λ v. refl) text_good
+scale_of_good : Goods 3 (trees.unit_of_tree (spelling keywords.ScaleUnit))
+scale_of_good = branch_good 0 2 (λ v. spelling keywords.ScaleUnit) trees.text_tree (λ v. v.name) (λ v. (v.factor, (v.ids, tt))) (λ v. refl) text_good
     (then 0 2 (one 0 trees.number_tree number_good) (then 2 0 (each 2 trees.ident_tree ident_good) none))
 
-generic_of_good : Goods 3 (trees.unit_of_tree (codes "UNIT"))
-generic_of_good = branch_good 0 2 (λ v. codes "UNIT") trees.text_tree (λ v. v.name) (λ v. (v.factor, (v.ids, tt))) (λ v. refl) text_good
+generic_of_good : Goods 3 (trees.unit_of_tree (spelling keywords.Unit))
+generic_of_good = branch_good 0 2 (λ v. spelling keywords.Unit) trees.text_tree (λ v. v.name) (λ v. (v.factor, (v.ids, tt))) (λ v. refl) text_good
     (then 0 2 (one 0 trees.number_tree number_good) (then 2 0 (each 2 trees.ident_tree ident_good) none))
 
 unit_good : Goods 3 trees.unit_tree
@@ -184,44 +186,44 @@ angle_unit_good n l (angle_unit.Angle v) = angle_of_good n (omega (arith, l)) v
 angle_unit_good n l (angle_unit.Generic v) = generic_of_good n (omega (arith, l)) v
 
 bounding_box_good : Goods 1 trees.bounding_box_tree
-bounding_box_good = branch_good 0 0 (λ v. codes "BBOX") trees.number_tree (λ v. v.south) (λ v. (v.west, (v.north, (v.east, tt)))) (λ v. refl) number_good
+bounding_box_good = branch_good 0 0 (λ v. spelling keywords.BoundingBox) trees.number_tree (λ v. v.south) (λ v. (v.west, (v.north, (v.east, tt)))) (λ v. refl) number_good
     (then 0 0 (one 0 trees.number_tree number_good) (then 0 0 (one 0 trees.number_tree number_good) (then 0 0 (one 0 trees.number_tree number_good) none)))
 
 vertical_extent_good : Goods 4 trees.vertical_extent_tree
-vertical_extent_good = branch_good 0 3 (λ v. codes "VERTICALEXTENT") trees.number_tree (λ v. v.low) (λ v. (v.high, (v.unit, tt))) (λ v. refl) number_good
+vertical_extent_good = branch_good 0 3 (λ v. spelling keywords.VerticalExtent) trees.number_tree (λ v. v.low) (λ v. (v.high, (v.unit, tt))) (λ v. refl) number_good
     (then 0 3 (one 0 trees.number_tree number_good) (then 3 0 (maybe 3 trees.length_unit_tree length_unit_good) none))
 
 usage_good : Goods 5 trees.usage_tree
-usage_good = branch_good 1 4 (λ v. codes "USAGE") (trees.value_tree (codes "SCOPE")) (λ v. v.scope) (λ v. (v.area, (v.bounding_box, (v.vertical_extent, tt)))) (λ v. refl) scope_good
-    (then 1 4 (maybe 1 (trees.value_tree (codes "AREA")) area_good) (then 1 4 (maybe 1 trees.bounding_box_tree bounding_box_good) (then 4 0 (maybe 4 trees.vertical_extent_tree vertical_extent_good) none)))
+usage_good = branch_good 1 4 (λ v. spelling keywords.Usage) (trees.value_tree (spelling keywords.Scope)) (λ v. v.scope) (λ v. (v.area, (v.bounding_box, (v.vertical_extent, tt)))) (λ v. refl) scope_good
+    (then 1 4 (maybe 1 (trees.value_tree (spelling keywords.Area)) area_good) (then 1 4 (maybe 1 trees.bounding_box_tree bounding_box_good) (then 4 0 (maybe 4 trees.vertical_extent_tree vertical_extent_good) none)))
 
 ellipsoid_good : Goods 4 trees.ellipsoid_tree
-ellipsoid_good = branch_good 0 3 (λ v. codes "ELLIPSOID") trees.text_tree (λ v. v.name) (λ v. (v.radius, (v.flattening, (v.unit, (v.ids, tt))))) (λ v. refl) text_good
+ellipsoid_good = branch_good 0 3 (λ v. spelling keywords.Ellipsoid) trees.text_tree (λ v. v.name) (λ v. (v.radius, (v.flattening, (v.unit, (v.ids, tt))))) (λ v. refl) text_good
     (then 0 3 (one 0 trees.number_tree number_good) (then 0 3 (one 0 trees.number_tree number_good) (then 3 2 (maybe 3 trees.length_unit_tree length_unit_good) (then 2 0 (each 2 trees.ident_tree ident_good) none))))
 
 prime_meridian_good : Goods 4 trees.prime_meridian_tree
-prime_meridian_good = branch_good 0 3 (λ v. codes "PRIMEM") trees.text_tree (λ v. v.name) (λ v. (v.longitude, (v.unit, (v.ids, tt)))) (λ v. refl) text_good
+prime_meridian_good = branch_good 0 3 (λ v. spelling keywords.PrimeMeridian) trees.text_tree (λ v. v.name) (λ v. (v.longitude, (v.unit, (v.ids, tt)))) (λ v. refl) text_good
     (then 0 3 (one 0 trees.number_tree number_good) (then 3 2 (maybe 3 trees.angle_unit_tree angle_unit_good) (then 2 0 (each 2 trees.ident_tree ident_good) none)))
 
 accuracy_good : Goods 1 trees.accuracy_tree
-accuracy_good = branch_good 0 0 (λ v. codes "ENSEMBLEACCURACY") trees.number_tree (λ v. v) (λ v. tt) (λ v. refl) number_good
+accuracy_good = branch_good 0 0 (λ v. spelling keywords.EnsembleAccuracy) trees.number_tree (λ v. v) (λ v. tt) (λ v. refl) number_good
     none
 
 datum_good : Goods 5 trees.datum_tree
-datum_good = branch_good 0 4 (λ v. codes "DATUM") trees.text_tree (λ v. v.name) (λ v. (v.ellipsoid, (v.anchor, (v.ids, tt)))) (λ v. refl) text_good
-    (then 4 2 (one 4 trees.ellipsoid_tree ellipsoid_good) (then 1 2 (maybe 1 (trees.value_tree (codes "ANCHOR")) anchor_good) (then 2 0 (each 2 trees.ident_tree ident_good) none)))
+datum_good = branch_good 0 4 (λ v. spelling keywords.Datum) trees.text_tree (λ v. v.name) (λ v. (v.ellipsoid, (v.anchor, (v.ids, tt)))) (λ v. refl) text_good
+    (then 4 2 (one 4 trees.ellipsoid_tree ellipsoid_good) (then 1 2 (maybe 1 (trees.value_tree (spelling keywords.Anchor)) anchor_good) (then 2 0 (each 2 trees.ident_tree ident_good) none)))
 
 vertical_datum_good : Goods 3 trees.vertical_datum_tree
-vertical_datum_good = branch_good 0 2 (λ v. codes "VDATUM") trees.text_tree (λ v. v.name) (λ v. (v.anchor, (v.ids, tt))) (λ v. refl) text_good
-    (then 1 2 (maybe 1 (trees.value_tree (codes "ANCHOR")) anchor_good) (then 2 0 (each 2 trees.ident_tree ident_good) none))
+vertical_datum_good = branch_good 0 2 (λ v. spelling keywords.VerticalDatum) trees.text_tree (λ v. v.name) (λ v. (v.anchor, (v.ids, tt))) (λ v. refl) text_good
+    (then 1 2 (maybe 1 (trees.value_tree (spelling keywords.Anchor)) anchor_good) (then 2 0 (each 2 trees.ident_tree ident_good) none))
 
 geodetic_ensemble_good : Goods 5 trees.geodetic_ensemble_tree
-geodetic_ensemble_good = branch_good 0 4 (λ v. codes "ENSEMBLE") trees.text_tree (λ v. v.name) (λ v. (v.members, (v.ellipsoid, (v.accuracy, (v.ids, tt))))) (λ v. refl) text_good
-    (then 3 4 (some 3 (trees.named_tree (codes "MEMBER")) member_good) (then 4 2 (one 4 trees.ellipsoid_tree ellipsoid_good) (then 1 2 (one 1 trees.accuracy_tree accuracy_good) (then 2 0 (each 2 trees.ident_tree ident_good) none))))
+geodetic_ensemble_good = branch_good 0 4 (λ v. spelling keywords.Ensemble) trees.text_tree (λ v. v.name) (λ v. (v.members, (v.ellipsoid, (v.accuracy, (v.ids, tt))))) (λ v. refl) text_good
+    (then 3 4 (some 3 (trees.named_tree (spelling keywords.Member)) member_good) (then 4 2 (one 4 trees.ellipsoid_tree ellipsoid_good) (then 1 2 (one 1 trees.accuracy_tree accuracy_good) (then 2 0 (each 2 trees.ident_tree ident_good) none))))
 
 vertical_ensemble_good : Goods 4 trees.vertical_ensemble_tree
-vertical_ensemble_good = branch_good 0 3 (λ v. codes "ENSEMBLE") trees.text_tree (λ v. v.name) (λ v. (v.members, (v.accuracy, (v.ids, tt)))) (λ v. refl) text_good
-    (then 3 2 (some 3 (trees.named_tree (codes "MEMBER")) member_good) (then 1 2 (one 1 trees.accuracy_tree accuracy_good) (then 2 0 (each 2 trees.ident_tree ident_good) none)))
+vertical_ensemble_good = branch_good 0 3 (λ v. spelling keywords.Ensemble) trees.text_tree (λ v. v.name) (λ v. (v.members, (v.accuracy, (v.ids, tt)))) (λ v. refl) text_good
+    (then 3 2 (some 3 (trees.named_tree (spelling keywords.Member)) member_good) (then 1 2 (one 1 trees.accuracy_tree accuracy_good) (then 2 0 (each 2 trees.ident_tree ident_good) none)))
 
 geodetic_frame_good : Goods 5 trees.geodetic_frame_tree
 geodetic_frame_good n l (geodetic_frame.Datum v) = datum_good n (omega (arith, l)) v
@@ -232,28 +234,28 @@ vertical_frame_good n l (vertical_frame.Datum v) = vertical_datum_good n (omega 
 vertical_frame_good n l (vertical_frame.Ensemble v) = vertical_ensemble_good n (omega (arith, l)) v
 
 system_good : Goods 3 trees.system_tree
-system_good = branch_good 0 2 (λ v. codes "CS") trees.kind_tree (λ v. v.kind) (λ v. ((record { value = v.dimension; small = v.count }), (v.ids, tt))) (λ v. refl) kind_good
+system_good = branch_good 0 2 (λ v. spelling keywords.CoordinateSystem) trees.kind_tree (λ v. v.kind) (λ v. ((record { value = v.dimension; small = v.count }), (v.ids, tt))) (λ v. refl) kind_good
     (then 0 2 (one 0 (λ (c : Small). trees.count_tree c.value) count_good) (then 2 0 (each 2 trees.ident_tree ident_good) none))
 
 meridian_good : Goods 4 trees.meridian_tree
-meridian_good = branch_good 0 3 (λ v. codes "MERIDIAN") trees.number_tree (λ v. v.longitude) (λ v. (v.unit, tt)) (λ v. refl) number_good
+meridian_good = branch_good 0 3 (λ v. spelling keywords.Meridian) trees.number_tree (λ v. v.longitude) (λ v. (v.unit, tt)) (λ v. refl) number_good
     (then 3 0 (one 3 trees.angle_unit_tree angle_unit_good) none)
 
 order_good : Goods 1 trees.order_tree
-order_good = branch_good 0 0 (λ v. codes "ORDER") (λ (c : Small). trees.count_tree c.value) (λ v. (record { value = v.position; small = v.count })) (λ v. tt) (λ v. refl) count_good
+order_good = branch_good 0 0 (λ v. spelling keywords.Order) (λ (c : Small). trees.count_tree c.value) (λ v. (record { value = v.position; small = v.count })) (λ v. tt) (λ v. refl) count_good
     none
 
 axis_good : Goods 5 trees.axis_tree
-axis_good = branch_good 0 4 (λ v. codes "AXIS") trees.text_tree (λ v. v.name) (λ v. (v.direction, (v.meridian, (v.order, (v.unit, (v.ids, tt)))))) (λ v. refl) text_good
+axis_good = branch_good 0 4 (λ v. spelling keywords.Axis) trees.text_tree (λ v. v.name) (λ v. (v.direction, (v.meridian, (v.order, (v.unit, (v.ids, tt)))))) (λ v. refl) text_good
     (then 0 4 (one 0 trees.direction_tree direction_good) (then 4 3 (maybe 4 trees.meridian_tree meridian_good) (then 1 3 (maybe 1 trees.order_tree order_good) (then 3 2 (maybe 3 trees.unit_tree unit_good) (then 2 0 (each 2 trees.ident_tree ident_good) none)))))
 
 parameter_good : Goods 4 trees.parameter_tree
-parameter_good = branch_good 0 3 (λ v. codes "PARAMETER") trees.text_tree (λ v. v.name) (λ v. (v.value, (v.unit, (v.ids, tt)))) (λ v. refl) text_good
+parameter_good = branch_good 0 3 (λ v. spelling keywords.Parameter) trees.text_tree (λ v. v.name) (λ v. (v.value, (v.unit, (v.ids, tt)))) (λ v. refl) text_good
     (then 0 3 (one 0 trees.number_tree number_good) (then 3 2 (maybe 3 trees.unit_tree unit_good) (then 2 0 (each 2 trees.ident_tree ident_good) none)))
 
 conversion_good : Goods 5 trees.conversion_tree
-conversion_good = branch_good 0 4 (λ v. codes "CONVERSION") trees.text_tree (λ v. v.name) (λ v. (v.method, (v.parameters, (v.ids, tt)))) (λ v. refl) text_good
-    (then 3 4 (one 3 (trees.named_tree (codes "METHOD")) method_good) (then 4 2 (each 4 trees.parameter_tree parameter_good) (then 2 0 (each 2 trees.ident_tree ident_good) none)))
+conversion_good = branch_good 0 4 (λ v. spelling keywords.Conversion) trees.text_tree (λ v. v.name) (λ v. (v.method, (v.parameters, (v.ids, tt)))) (λ v. refl) text_good
+    (then 3 4 (one 3 (trees.named_tree (spelling keywords.Method)) method_good) (then 4 2 (each 4 trees.parameter_tree parameter_good) (then 2 0 (each 2 trees.ident_tree ident_good) none)))
 
 base_name_good : (v : GeodeticKind) → is_name (trees.base_name v) ≡ true
 base_name_good geodetic_kind.Geodetic = refl
@@ -269,15 +271,15 @@ base_good = branch_good 0 5 (λ v. trees.base_name v.kind) trees.text_tree (λ v
 
 geodetic_good : Goods 6 trees.geodetic_tree
 geodetic_good = branch_good 0 5 (λ v. trees.geodetic_name v.kind) trees.text_tree (λ v. v.name) (λ v. (v.datum, (v.prime_meridian, (v.system, (v.axes, (v.unit, (v.usages, (v.ids, (v.remark, tt))))))))) (λ v. geodetic_name_good v.kind) text_good
-    (then 5 5 (one 5 trees.geodetic_frame_tree geodetic_frame_good) (then 4 5 (maybe 4 trees.prime_meridian_tree prime_meridian_good) (then 3 5 (one 3 trees.system_tree system_good) (then 5 5 (some 5 trees.axis_tree axis_good) (then 3 5 (maybe 3 trees.unit_tree unit_good) (then 5 2 (each 5 trees.usage_tree usage_good) (then 2 1 (each 2 trees.ident_tree ident_good) (then 1 0 (maybe 1 (trees.value_tree (codes "REMARK")) remark_good) none))))))))
+    (then 5 5 (one 5 trees.geodetic_frame_tree geodetic_frame_good) (then 4 5 (maybe 4 trees.prime_meridian_tree prime_meridian_good) (then 3 5 (one 3 trees.system_tree system_good) (then 5 5 (some 5 trees.axis_tree axis_good) (then 3 5 (maybe 3 trees.unit_tree unit_good) (then 5 2 (each 5 trees.usage_tree usage_good) (then 2 1 (each 2 trees.ident_tree ident_good) (then 1 0 (maybe 1 (trees.value_tree (spelling keywords.Remark)) remark_good) none))))))))
 
 projected_good : Goods 7 trees.projected_tree
-projected_good = branch_good 0 6 (λ v. codes "PROJCRS") trees.text_tree (λ v. v.name) (λ v. (v.base, (v.conversion, (v.system, (v.axes, (v.unit, (v.usages, (v.ids, (v.remark, tt))))))))) (λ v. refl) text_good
-    (then 6 5 (one 6 trees.base_tree base_good) (then 5 5 (one 5 trees.conversion_tree conversion_good) (then 3 5 (one 3 trees.system_tree system_good) (then 5 5 (some 5 trees.axis_tree axis_good) (then 3 5 (maybe 3 trees.unit_tree unit_good) (then 5 2 (each 5 trees.usage_tree usage_good) (then 2 1 (each 2 trees.ident_tree ident_good) (then 1 0 (maybe 1 (trees.value_tree (codes "REMARK")) remark_good) none))))))))
+projected_good = branch_good 0 6 (λ v. spelling keywords.ProjectedCrs) trees.text_tree (λ v. v.name) (λ v. (v.base, (v.conversion, (v.system, (v.axes, (v.unit, (v.usages, (v.ids, (v.remark, tt))))))))) (λ v. refl) text_good
+    (then 6 5 (one 6 trees.base_tree base_good) (then 5 5 (one 5 trees.conversion_tree conversion_good) (then 3 5 (one 3 trees.system_tree system_good) (then 5 5 (some 5 trees.axis_tree axis_good) (then 3 5 (maybe 3 trees.unit_tree unit_good) (then 5 2 (each 5 trees.usage_tree usage_good) (then 2 1 (each 2 trees.ident_tree ident_good) (then 1 0 (maybe 1 (trees.value_tree (spelling keywords.Remark)) remark_good) none))))))))
 
 vertical_good : Goods 6 trees.vertical_tree
-vertical_good = branch_good 0 5 (λ v. codes "VERTCRS") trees.text_tree (λ v. v.name) (λ v. (v.datum, (v.system, (v.axes, (v.unit, (v.geoid_models, (v.usages, (v.ids, (v.remark, tt))))))))) (λ v. refl) text_good
-    (then 4 5 (one 4 trees.vertical_frame_tree vertical_frame_good) (then 3 5 (one 3 trees.system_tree system_good) (then 5 5 (some 5 trees.axis_tree axis_good) (then 3 5 (maybe 3 trees.unit_tree unit_good) (then 3 5 (each 3 (trees.named_tree (codes "GEOIDMODEL")) geoid_model_good) (then 5 2 (each 5 trees.usage_tree usage_good) (then 2 1 (each 2 trees.ident_tree ident_good) (then 1 0 (maybe 1 (trees.value_tree (codes "REMARK")) remark_good) none))))))))
+vertical_good = branch_good 0 5 (λ v. spelling keywords.VerticalCrs) trees.text_tree (λ v. v.name) (λ v. (v.datum, (v.system, (v.axes, (v.unit, (v.geoid_models, (v.usages, (v.ids, (v.remark, tt))))))))) (λ v. refl) text_good
+    (then 4 5 (one 4 trees.vertical_frame_tree vertical_frame_good) (then 3 5 (one 3 trees.system_tree system_good) (then 5 5 (some 5 trees.axis_tree axis_good) (then 3 5 (maybe 3 trees.unit_tree unit_good) (then 3 5 (each 3 (trees.named_tree (spelling keywords.GeoidModel)) geoid_model_good) (then 5 2 (each 5 trees.usage_tree usage_good) (then 2 1 (each 2 trees.ident_tree ident_good) (then 1 0 (maybe 1 (trees.value_tree (spelling keywords.Remark)) remark_good) none))))))))
 
 component_good : Goods 7 trees.single_tree
 component_good n l (single.Geodetic v) = geodetic_good n (omega (arith, l)) v
@@ -285,8 +287,8 @@ component_good n l (single.Projected v) = projected_good n (omega (arith, l)) v
 component_good n l (single.Vertical v) = vertical_good n (omega (arith, l)) v
 
 compound_good : Goods 8 trees.compound_tree
-compound_good = branch_good 0 7 (λ v. codes "COMPOUNDCRS") trees.text_tree (λ v. v.name) (λ v. (v.first, (v.second, (v.usages, (v.ids, (v.remark, tt)))))) (λ v. refl) text_good
-    (then 7 7 (one 7 trees.single_tree component_good) (then 7 5 (one 7 trees.single_tree component_good) (then 5 2 (each 5 trees.usage_tree usage_good) (then 2 1 (each 2 trees.ident_tree ident_good) (then 1 0 (maybe 1 (trees.value_tree (codes "REMARK")) remark_good) none)))))
+compound_good = branch_good 0 7 (λ v. spelling keywords.CompoundCrs) trees.text_tree (λ v. v.name) (λ v. (v.first, (v.second, (v.usages, (v.ids, (v.remark, tt)))))) (λ v. refl) text_good
+    (then 7 7 (one 7 trees.single_tree component_good) (then 7 5 (one 7 trees.single_tree component_good) (then 5 2 (each 5 trees.usage_tree usage_good) (then 2 1 (each 2 trees.ident_tree ident_good) (then 1 0 (maybe 1 (trees.value_tree (spelling keywords.Remark)) remark_good) none)))))
 
 parts_good : Goods 8 trees.parts_tree
 parts_good n l (parts.Single v) = component_good n (omega (arith, l)) v

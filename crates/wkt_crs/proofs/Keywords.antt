@@ -6,10 +6,10 @@ use Rattle.std.specs.List.{list_any}
 use Rattle.std.specs.Char.{to_ascii_lowercase}
 use Rattle.std.specs.Str.{bytes_eq}
 use Rattle.std.proofs.lemmas.Slice.Eq.{bytes_eq-Decides}
-use Rattle.wkt_slots.specs.declared.table.Keyword.{Keyword}
-use Rattle.wkt_slots.specs.declared.table.Keyword.TheVariants as keywords
-use Rattle.wkt_slots.specs.declared.words.TheConstants.{SPELLINGS, MEANINGS}
-use Rattle.wkt_slots.specs.Words.{same_word, look, keyword_of}
+use Rattle.wkt_grammar.specs.declared.table.Keyword.{Keyword}
+use Rattle.wkt_grammar.specs.declared.table.Keyword.TheVariants as keywords
+use Rattle.wkt_grammar.specs.declared.words.TheConstants.{SPELLINGS, MEANINGS}
+use Rattle.wkt_grammar.specs.Words.{same_word, look, keyword_of}
 use Rattle.wkt_crs.specs.Keywords.{preferred, alternates, IsKeyword}
 
 abbrev words : Keyword → List (List ℕ)

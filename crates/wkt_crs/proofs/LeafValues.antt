@@ -14,18 +14,18 @@ use Rattle.crs_part.specs.declared.text.Text.{Text}
 use Rattle.crs_part.specs.declared.identifiers.NumberOrText.{NumberOrText}
 use Rattle.crs_part.specs.declared.identifiers.NumberOrText.TheVariants as code
 use Rattle.wkt_tree.specs.Tokens.{IsNumber}
-use Rattle.wkt_slots.specs.declared.table.Argument.TheVariants as arguments
-use Rattle.wkt_slots.specs.declared.table.Keyword.{Keyword}
-use Rattle.wkt_slots.specs.declared.table.Takes.{Takes}
-use Rattle.wkt_slots.specs.declared.table.Takes.TheVariants as kinds
-use Rattle.wkt_slots.specs.Rows.{takes}
-use Rattle.wkt_slots.specs.Words.{keyword_of, is_cs_kind, is_direction}
-use Rattle.wkt_tier.specs.Bare.{Bare, text, number, word, node}
-use Rattle.wkt_tier.specs.Slots.{argument_by}
+use Rattle.wkt_grammar.specs.declared.table.Argument.TheVariants as arguments
+use Rattle.wkt_grammar.specs.declared.table.Keyword.{Keyword}
+use Rattle.wkt_grammar.specs.declared.table.Takes.{Takes}
+use Rattle.wkt_grammar.specs.declared.table.Takes.TheVariants as kinds
+use Rattle.wkt_grammar.specs.Rows.{takes}
+use Rattle.wkt_grammar.specs.Words.{keyword_of, is_cs_kind, is_direction}
+use Rattle.wkt_grammar.specs.Bare.{Bare, text, number, word, node}
+use Rattle.wkt_grammar.specs.Slots.{argument_by}
 use Rattle.wkt_write.specs.WellFormed.{IsText}
 use Rattle.wkt_meaning.specs.SecondEdition.{Fitting}
 use Rattle.wkt_meaning.specs.Leaves.{DenotesText, DenotesNumber, DenotesWord}
-use Rattle.wkt_meaning.specs.Words.{system_word, direction_word, kinds_listed, directions_listed}
+use Rattle.crs_part.specs.Words.{system_word, direction_word, kinds_listed, directions_listed}
 use Rattle.wkt_meaning.specs.Denotes.{DenotesCode}
 use Rattle.wkt_meaning.proofs.Leaves.{DenotesSmall, Small}
 use Rattle.wkt_build.proofs.LeafLemmas.{kind_listed, direction_listed}

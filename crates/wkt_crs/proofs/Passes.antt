@@ -6,8 +6,8 @@ use Rattle.wkt_tree.specs.declared.token.Delimiter.{Delimiter}
 use Rattle.wkt_tree.specs.declared.token.TokenKind.TheVariants.{Comma, Close}
 use Rattle.wkt_tree.specs.Tree.{Piece, Tok, tok}
 use Rattle.wkt_tree.specs.Tree.{Item, Items, text, number, word, node, last, more, tokens, all_tokens}
-use Rattle.wkt_tier.specs.Next.{is_open, is_comma, next_is, place_next}
-use Rattle.wkt_tier.specs.Slots.{begin}
+use Rattle.wkt_grammar.specs.Next.{is_open, is_comma, next_is, place_next}
+use Rattle.wkt_grammar.specs.Slots.{begin}
 use Rattle.wkt_crs.specs.Faults.{first_begin}
 use Rattle.wkt_crs.specs.Passing.{is_word, PassesItem, PassesItems, PassesFirst, TellsPlace}
 use Rattle.crs_value.specs.declared.broken.Whose.TheVariants.{First, Second}

@@ -15,7 +15,7 @@ use Rattle.crs_value.specs.declared.key.Key.{Key}
 use Rattle.wkt_tree.specs.declared.fault.TextFault.{TextFault}
 use Rattle.wkt_tree.specs.Faults as tree
 use Rattle.wkt_tree.proofs.Exclusion.{fault_no}
-use Rattle.wkt_tier.specs.declared.fault.SlotFault.{SlotFault}
+use Rattle.wkt_grammar.specs.declared.fault.SlotFault.{SlotFault}
 use Rattle.wkt_canonical.specs.declared.identifiers.Identifier.{Identifier}
 use Rattle.wkt_canonical.specs.declared.crs.Seen.{Seen}
 use Rattle.wkt_canonical.specs.Seen.{Identifies, IsFirst}

@@ -13,7 +13,7 @@ use Rattle.crs_value.proofs.Checks.{first_of, first_of_single}
 use Rattle.wkt_tree.specs.declared.token.Delimiter.{Delimiter}
 use Rattle.wkt_tree.specs.Tree.{Piece, Item, Items, last, more, tokens}
 use Rattle.wkt_tree.specs.Tree as tree
-use Rattle.wkt_tier.specs.Bare.{Bare, args, bare, all_bare}
+use Rattle.wkt_grammar.specs.Bare.{Bare, args, bare, all_bare}
 use Rattle.wkt_meaning.specs.Runs.{One}
 use Rattle.wkt_meaning.specs.Leaves.{DenotesText}
 use Rattle.wkt_meaning.specs.Denotes.{DenotesParts, DenotesSingle, DenotesCompound}

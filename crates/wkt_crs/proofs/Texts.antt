@@ -10,10 +10,10 @@ use Rattle.wkt_tree.specs.Tokens.{Cut}
 use Rattle.wkt_tree.specs.Faults.{IsOutline}
 use Rattle.wkt_tree.proofs.Cuts.{one_cut}
 use Rattle.wkt_tree.proofs.OneTree.{one_tree}
-use Rattle.wkt_slots.specs.declared.table.Edition.TheVariants as editions
-use Rattle.wkt_tier.specs.declared.fault.SlotFault.{SlotFault}
-use Rattle.wkt_tier.specs.Slots.{whole, HasFault, IsClean, IsFirst}
-use Rattle.wkt_tier.specs.Bare.{bare}
+use Rattle.wkt_grammar.specs.declared.table.Edition.TheVariants as editions
+use Rattle.wkt_grammar.specs.declared.fault.SlotFault.{SlotFault}
+use Rattle.wkt_grammar.specs.Slots.{whole, HasFault, IsClean, IsFirst}
+use Rattle.wkt_grammar.specs.Bare.{bare}
 use Rattle.wkt_meaning.specs.Denotes.{DenotesParts}
 use Rattle.wkt_meaning.proofs.Nodes.{parts_law}
 use Rattle.wkt_crs.specs.Spells.{Spells}
@@ -23,7 +23,7 @@ use Rattle.wkt_crs.proofs.Systems.{told_place}
 use Rattle.wkt_tree.specs.Cut.{cut}
 use Rattle.crs_value.specs.declared.broken.Broken.{Broken}
 use Rattle.crs_value.specs.Checking.{first_broken}
-use Rattle.wkt_tier.proofs.Clean.{fits_clean}
+use Rattle.wkt_grammar.proofs.Clean.{fits_clean}
 
 pub one_item : (text : List ℕ) (i j : Item) → Cut 0 text (tokens i) → Cut 0 text (tokens j) → i ≡ j
 one_item text i j f g = one_tree i j (one_cut text (tokens i) (tokens j) f g)

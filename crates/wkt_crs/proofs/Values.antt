@@ -2,17 +2,17 @@
 use Rattle.std.proofs.Common.{◌≡◌, ℕ, zero, suc, ◌≤◌, true, List, [], ◌∷◌, ◌++◌, length, Option, Some, None, subst, arith}
 use Rattle.crs_part.specs.declared.many.NonEmpty.{NonEmpty}
 use Rattle.wkt_tree.specs.Tokens.{IsNumber}
-use Rattle.wkt_slots.specs.declared.table.Edition.TheVariants as editions
-use Rattle.wkt_slots.specs.declared.table.Slot.{Slot}
-use Rattle.wkt_slots.specs.declared.table.SlotName.{SlotName}
-use Rattle.wkt_slots.specs.declared.table.Node.{Node}
-use Rattle.wkt_slots.specs.declared.table.Keyword.{Keyword}
-use Rattle.wkt_slots.specs.declared.table.Takes.{Takes}
-use Rattle.wkt_slots.specs.declared.table.Often.TheVariants.{Once, AtMostOnce, Any, AtLeastOnce}
-use Rattle.wkt_slots.specs.Rows.{enters, Times}
-use Rattle.wkt_slots.specs.Words.{keyword_of}
-use Rattle.wkt_tier.specs.Bare.{Bare, Bares, text, number, word, node, none, and, args}
-use Rattle.wkt_tier.proofs.Fitting.{fitted_cuts, passes_of}
+use Rattle.wkt_grammar.specs.declared.table.Edition.TheVariants as editions
+use Rattle.wkt_grammar.specs.declared.table.Slot.{Slot}
+use Rattle.wkt_grammar.specs.declared.table.SlotName.{SlotName}
+use Rattle.wkt_grammar.specs.declared.table.Node.{Node}
+use Rattle.wkt_grammar.specs.declared.table.Keyword.{Keyword}
+use Rattle.wkt_grammar.specs.declared.table.Takes.{Takes}
+use Rattle.wkt_grammar.specs.declared.table.Often.TheVariants.{Once, AtMostOnce, Any, AtLeastOnce}
+use Rattle.wkt_grammar.specs.Rows.{enters, Times}
+use Rattle.wkt_grammar.specs.Words.{keyword_of}
+use Rattle.wkt_grammar.specs.Bare.{Bare, Bares, text, number, word, node, none, and, args}
+use Rattle.wkt_grammar.proofs.Fitting.{fitted_cuts, passes_of}
 use Rattle.wkt_write.specs.WellFormed.{WellFormed, AllWellFormed, SomeWellFormed, IsText}
 use Rattle.wkt_meaning.specs.SecondEdition.{row_of, Fitted, Fitting, AllFitting, Cuts}
 use Rattle.wkt_meaning.specs.Runs.{Fields, nothing, ◌&◌, Runs, IsNode, One, Maybe, Each, AtLeastOne}

@@ -8,7 +8,7 @@ use Rattle.crs_value.specs.Checking.{first_broken}
 use Rattle.crs_value.proofs.Checks.{none_broken}
 use Rattle.wkt_tree.proofs.Exclusion.{fault_no}
 use Rattle.wkt_tree.proofs.First as first
-use Rattle.wkt_tier.specs.Bare.{bare}
+use Rattle.wkt_grammar.specs.Bare.{bare}
 use Rattle.wkt_meaning.specs.Denotes.{DenotesParts}
 use Rattle.wkt_meaning.proofs.Nodes.{parts_law}
 use Rattle.wkt_crs.specs.declared.fault.ReadFault.{ReadFault}

@@ -6,7 +6,7 @@ use Rattle.crs_part.specs.declared.crs.Single.TheVariants as single
 use Rattle.crs_value.specs.declared.crs.Crs.{Crs}
 use Rattle.wkt_tree.specs.Tree.{Item, IsTree, Within, tokens}
 use Rattle.wkt_tree.specs.Tree as tree
-use Rattle.wkt_tier.specs.Bare.{Bare, Bares, node, bare}
+use Rattle.wkt_grammar.specs.Bare.{Bare, Bares, node, bare}
 use Rattle.wkt_meaning.specs.Denotes.{DenotesParts}
 use Rattle.wkt_meaning.specs.Trees.{parts_tree}
 use Rattle.wkt_meaning.proofs.Nodes.{parts_law}

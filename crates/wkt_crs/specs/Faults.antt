@@ -8,10 +8,10 @@ use Rattle.crs_value.specs.Checking.{first_broken}
 use Rattle.wkt_tree.specs.Tree.{Tok, Item, Items, text, number, word, node, last, more, tokens}
 use Rattle.wkt_tree.specs.Faults.{IsOutline}
 use Rattle.wkt_tree.specs.Faults as tree
-use Rattle.wkt_slots.specs.declared.table.Edition.TheVariants as editions
-use Rattle.wkt_tier.specs.declared.fault.SlotFault.{SlotFault}
-use Rattle.wkt_tier.specs.Slots.{IsFirst, begin}
-use Rattle.wkt_tier.specs.Bare.{bare}
+use Rattle.wkt_grammar.specs.declared.table.Edition.TheVariants as editions
+use Rattle.wkt_grammar.specs.declared.fault.SlotFault.{SlotFault}
+use Rattle.wkt_grammar.specs.Slots.{IsFirst, begin}
+use Rattle.wkt_grammar.specs.Bare.{bare}
 use Rattle.wkt_meaning.specs.Denotes.{DenotesParts}
 use Rattle.wkt_crs.specs.declared.fault.ReadFault.{ReadFault}
 use Rattle.wkt_crs.specs.declared.fault.ReadFault.TheVariants as fault

@@ -1,9 +1,9 @@
 -- The keywords, as the standard spells them: the preferred ones, and the eleven alternate ones.
 use Rattle.std.specs.Prelude.{◌≡◌, ℕ, true, List, [], ◌∷◌, codes}
 use Rattle.std.specs.List.{list_any}
-use Rattle.wkt_slots.specs.declared.table.Keyword.{Keyword}
-use Rattle.wkt_slots.specs.declared.table.Keyword.TheVariants as keywords
-use Rattle.wkt_slots.specs.Words.{same_word}
+use Rattle.wkt_grammar.specs.declared.table.Keyword.{Keyword}
+use Rattle.wkt_grammar.specs.declared.table.Keyword.TheVariants as keywords
+use Rattle.wkt_grammar.specs.Words.{same_word}
 
 -- the keyword that canonical texts have
 abbrev pub preferred : Keyword → List ℕ

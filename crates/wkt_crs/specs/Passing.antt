@@ -6,7 +6,7 @@ use Rattle.wkt_tree.specs.declared.token.Delimiter.{Delimiter}
 use Rattle.wkt_tree.specs.declared.token.TokenKind.{TokenKind}
 use Rattle.wkt_tree.specs.declared.token.TokenKind.TheVariants.{Word, Quoted, Number, Comma, Open, Close}
 use Rattle.wkt_tree.specs.Tree.{Piece, Tok, tok, Item, Items, node, more, tokens, all_tokens}
-use Rattle.wkt_tier.specs.Next.{Follows, place_next}
+use Rattle.wkt_grammar.specs.Next.{Follows, place_next}
 use Rattle.wkt_crs.specs.Faults.{keyword_place}
 
 abbrev pub is_word : TokenKind → Bool

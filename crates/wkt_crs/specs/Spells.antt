@@ -3,7 +3,7 @@ use Rattle.std.specs.Prelude.{◌≡◌, ℕ, List}
 use Rattle.crs_value.specs.declared.crs.Crs.{Crs}
 use Rattle.wkt_tree.specs.Tree.{Item, tokens}
 use Rattle.wkt_tree.specs.Faults.{IsOutline}
-use Rattle.wkt_tier.specs.Bare.{bare}
+use Rattle.wkt_grammar.specs.Bare.{bare}
 use Rattle.wkt_meaning.specs.Denotes.{DenotesParts}
 use Rattle.wkt_meaning.specs.FirstEdition.{FirstDenotesParts}
 use Rattle.wkt_meaning.specs.Canon as meaning

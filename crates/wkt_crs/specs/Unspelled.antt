@@ -1,8 +1,8 @@
 -- What is wrong with a text, apart from want of memory: names, places, and what reading answers.
 use Rattle.std.specs.Prelude.{ℕ, List, Option, Some, None, codes}
 use Rattle.wkt_tree.specs.Names as tree
-use Rattle.wkt_tier.specs.Names.{fault_name}
-use Rattle.wkt_tier.specs.Slots.{place}
+use Rattle.wkt_grammar.specs.Faults.{fault_name}
+use Rattle.wkt_grammar.specs.Slots.{place}
 use Rattle.wkt_crs.specs.declared.fault.Unspelled.{Unspelled}
 use Rattle.wkt_crs.specs.declared.fault.Unspelled.TheVariants as refused
 use Rattle.wkt_crs.specs.declared.fault.ReadFault.{ReadFault}

@@ -4,7 +4,7 @@ ghost use Rattle.std.specs.Prelude.{◌≡◌, ◌≤◌, true, length, IfOk, If
 ghost use Rattle.crs_value.specs.declared.crs.Crs.{Crs};
 ghost use Rattle.wkt_tree.specs.declared.fault.TextFault.{TextFault};
 ghost use Rattle.wkt_tree.specs.Faults as tree;
-ghost use Rattle.wkt_tier.specs.declared.fault.SlotFault.{SlotFault};
+ghost use Rattle.wkt_grammar.specs.declared.fault.SlotFault.{SlotFault};
 ghost use Rattle.wkt_crs.specs.declared.fault.ReadFault.TheVariants as fault;
 ghost use Rattle.wkt_crs.specs.Spells.{Spells, SpellsCanon};
 ghost use Rattle.wkt_crs.specs.Faults.{FirstFault, FirstSlot};

@@ -5,7 +5,7 @@ ghost use Rattle.std.specs.Str.{is_utf8};
 ghost use Rattle.crs_part.specs.Slots.{ids_of};
 ghost use Rattle.wkt_tree.specs.declared.fault.TextFault.{TextFault};
 ghost use Rattle.wkt_tree.specs.Faults as tree;
-ghost use Rattle.wkt_tier.specs.declared.fault.SlotFault.{SlotFault};
+ghost use Rattle.wkt_grammar.specs.declared.fault.SlotFault.{SlotFault};
 ghost use Rattle.wkt_canonical.specs.Reads.{IsCanonicalOf};
 ghost use Rattle.wkt_crs.specs.declared.fault.Unspelled.TheVariants as refused;
 ghost use Rattle.wkt_crs.specs.Spells.{canon};
@@ -110,7 +110,7 @@ impl Definition {
     ghost use Rattle.std.specs.Prelude.{◌≡◌, ◌≤◌, ◌<◌, ◌⊎◌, length, Ok, Err, IfOk, IfErr};
     ghost use Rattle.wkt_tree.specs.declared.fault.TextFault.{TextFault};
     ghost use Rattle.wkt_tree.specs.Faults as tree;
-    ghost use Rattle.wkt_tier.specs.declared.fault.SlotFault.{SlotFault};
+    ghost use Rattle.wkt_grammar.specs.declared.fault.SlotFault.{SlotFault};
     ghost use Rattle.wkt_crs.specs.declared.fault.Unspelled.TheVariants as refused;
     ghost use Rattle.wkt_crs.specs.Faults.{FirstSlot};
     ghost use Rattle.wkt_crs.specs.declared.definition.DefinitionFault.TheVariants as fault;

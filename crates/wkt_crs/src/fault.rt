@@ -4,7 +4,7 @@ ghost use Rattle.std.specs.Prelude.{◌≡◌};
 
 use crs_value::Condition;
 use std::fmt;
-use wkt_tier::SlotFault;
+use wkt_grammar::SlotFault;
 use wkt_tree::TextFault;
 
 /// What is wrong with a text: its first fault. It prints as its name, what it names, and its place.
@@ -47,10 +47,7 @@ impl Unspelled {
 impl fmt::Display for Unspelled {
     fn fmt<W: fmt::Write>(&self, f: &mut fmt::Formatter<W>) -> fmt::Result {
         match self {
-            Unspelled::Slot(SlotFault::Missing(slot, place)) => {
-                let slot = slot.name();
-                write!(f, "Missing {slot} at {place}")
-            }
+            Unspelled::Slot(fault) => fault.fmt(f),
             Unspelled::Broken { condition, place } => {
                 let condition = condition.name();
                 write!(f, "Broken {condition} at {place}")

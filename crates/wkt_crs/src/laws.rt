@@ -5,12 +5,12 @@ ghost use Rattle.crs_part.specs.declared.crs.CrsParts.{CrsParts};
 ghost use Rattle.crs_value.specs.declared.crs.Crs.{Crs};
 ghost use Rattle.wkt_tree.specs.Tree.{Tok};
 ghost use Rattle.wkt_tree.specs.Faults.{IsOutline};
-ghost use Rattle.wkt_slots.specs.declared.table.Edition.TheVariants as editions;
-ghost use Rattle.wkt_slots.specs.declared.table.Keyword.{Keyword};
-ghost use Rattle.wkt_slots.specs.declared.table.Takes.TheVariants as kinds;
-ghost use Rattle.wkt_slots.specs.Words.{keyword_of};
-ghost use Rattle.wkt_tier.specs.Slots.{IsClean};
-ghost use Rattle.wkt_tier.specs.Bare.{Bare};
+ghost use Rattle.wkt_grammar.specs.declared.table.Edition.TheVariants as editions;
+ghost use Rattle.wkt_grammar.specs.declared.table.Keyword.{Keyword};
+ghost use Rattle.wkt_grammar.specs.declared.table.Takes.TheVariants as kinds;
+ghost use Rattle.wkt_grammar.specs.Words.{keyword_of};
+ghost use Rattle.wkt_grammar.specs.Slots.{IsClean};
+ghost use Rattle.wkt_grammar.specs.Bare.{Bare};
 ghost use Rattle.wkt_write.specs.WellFormed.{WellFormed};
 ghost use Rattle.wkt_meaning.specs.SecondEdition.{Fitting};
 ghost use Rattle.wkt_meaning.specs.Denotes.{DenotesParts};
@@ -22,8 +22,7 @@ ghost use Rattle.wkt_crs.specs.Faults.{FirstFault};
 ghost use Rattle.wkt_crs.specs.Keywords.{IsKeyword};
 ghost use Rattle.wkt_crs.specs.Verdict.{HasVerdict};
 
-use wkt_slots::Edition;
-use wkt_tier::check_slots;
+use wkt_grammar::{Edition, check_slots};
 use wkt_tree::scan;
 
 /// What has a meaning as a keyword is, in any letter case, the preferred keyword of that meaning or one of its alternates.

@@ -20,7 +20,6 @@ pub use definition::{Definition, DefinitionFault};
 pub use fault::{ReadFault, Unspelled};
 pub use reading::read_crs;
 pub use source::{DefineFromFault, ReadFromFault, canonical_text_from, define_from, read_crs_from};
-pub use wkt_slots::SlotName;
-pub use wkt_tier::SlotFault;
+pub use wkt_grammar::{SlotFault, SlotName};
 pub use wkt_tree::TextFault;
 pub use writing::{write_crs, write_pretty};

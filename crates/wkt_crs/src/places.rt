@@ -2,11 +2,11 @@
 
 ghost use Rattle.std.specs.Prelude.{◌≡◌, ◌≤◌, length};
 ghost use Rattle.wkt_tree.specs.Cut.{cut};
-ghost use Rattle.wkt_tier.specs.Next.{is_open, next_is, place_next};
+ghost use Rattle.wkt_grammar.specs.Next.{is_open, next_is, place_next};
 ghost use Rattle.wkt_crs.specs.Passing.{PassesItem, PassesItems, PassesFirst, TellsPlace, is_word};
 
 use crs_value::Whose;
-use wkt_tier::next_is_comma;
+use wkt_grammar::next_is_comma;
 use wkt_tree::{Cursor, Outline, TokenKind};
 
 fn next_is_word(cursor: &Cursor<'_>) -> bool

@@ -4,7 +4,7 @@ ghost use Rattle.std.specs.Prelude.{◌≡◌, ◌⊎◌, Ok, Err, IfOk, IfErr};
 ghost use Rattle.crs_value.specs.declared.crs.Crs.{Crs};
 ghost use Rattle.wkt_tree.specs.declared.fault.TextFault.{TextFault};
 ghost use Rattle.wkt_tree.specs.Faults as tree;
-ghost use Rattle.wkt_tier.specs.declared.fault.SlotFault.{SlotFault};
+ghost use Rattle.wkt_grammar.specs.declared.fault.SlotFault.{SlotFault};
 ghost use Rattle.wkt_crs.specs.declared.fault.ReadFault.TheVariants as fault;
 ghost use Rattle.wkt_crs.specs.Spells.{Spells};
 ghost use Rattle.wkt_crs.specs.Faults.{FirstFault, FirstSlot};
@@ -14,8 +14,7 @@ use crate::places::keyword_place;
 use crs_value::Crs;
 use std::alloc::Global;
 use wkt_build::build_parts;
-use wkt_slots::Edition;
-use wkt_tier::check_slots;
+use wkt_grammar::{Edition, check_slots};
 use wkt_tree::scan;
 
 /// The value that the text spells, or its first fault. Faults of the text and of its slots are reported before

@@ -1,11 +1,11 @@
 -- Hints for what users really have.
 use Rattle.std.specs.Prelude.{ℕ, ◌||◌, ◌&&◌, Bool, not, List, [], ◌∷◌, take, drop, codes, nat_eq, Option, Some, None, if◌then◌else◌}
 use Rattle.std.specs.List.{prefix_len, starts_with}
-use Rattle.wkt_slots.specs.Words.{same_word}
+use Rattle.wkt_grammar.specs.Words.{same_word}
 use Rattle.wkt_tree.specs.Bytes.{is_blank, is_word_byte}
 use Rattle.wkt_tree.specs.declared.fault.TextFault.{TextFault}
 use Rattle.wkt_tree.specs.declared.fault.TextFault.TheVariants.{NotUtf8, After}
-use Rattle.wkt_tier.specs.declared.fault.SlotFault.TheVariants.{NotHere, Missing, NotCount, WordUnknown}
+use Rattle.wkt_grammar.specs.declared.fault.SlotFault.TheVariants.{NotHere, Missing, NotCount, WordUnknown}
 use Rattle.wkt_crs.specs.declared.fault.Unspelled.TheVariants.{Text, Slot, Broken}
 use Rattle.wkt_crs.specs.declared.definition.DefinitionFault.{DefinitionFault}
 use Rattle.wkt_crs.specs.declared.definition.DefinitionFault.TheVariants as fault

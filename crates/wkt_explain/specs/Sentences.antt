@@ -2,12 +2,12 @@
 use Rattle.std.specs.Prelude.{ℕ, List, codes}
 use Rattle.crs_value.specs.declared.broken.Condition.{Condition}
 use Rattle.crs_value.specs.declared.broken.Condition.TheVariants as condition
-use Rattle.wkt_slots.specs.declared.table.SlotName.{SlotName}
-use Rattle.wkt_slots.specs.declared.table.SlotName.TheVariants as slot
+use Rattle.wkt_grammar.specs.declared.table.SlotName.{SlotName}
+use Rattle.wkt_grammar.specs.declared.table.SlotName.TheVariants as slot
 use Rattle.wkt_tree.specs.declared.fault.TextFault.{TextFault}
 use Rattle.wkt_tree.specs.declared.fault.TextFault.TheVariants as text
-use Rattle.wkt_tier.specs.declared.fault.SlotFault.{SlotFault}
-use Rattle.wkt_tier.specs.declared.fault.SlotFault.TheVariants as argument
+use Rattle.wkt_grammar.specs.declared.fault.SlotFault.{SlotFault}
+use Rattle.wkt_grammar.specs.declared.fault.SlotFault.TheVariants as argument
 use Rattle.wkt_crs.specs.declared.fault.Unspelled.{Unspelled}
 use Rattle.wkt_crs.specs.declared.fault.Unspelled.TheVariants as refused
 use Rattle.wkt_crs.specs.declared.definition.DefinitionFault.{DefinitionFault}

@@ -2,7 +2,7 @@
 
 ghost use Rattle.std.specs.Prelude.{◌≡◌};
 ghost use Rattle.std.specs.List.{prefix_len};
-ghost use Rattle.wkt_slots.specs.Words.{same_word};
+ghost use Rattle.wkt_grammar.specs.Words.{same_word};
 ghost use Rattle.wkt_tree.specs.Bytes.{is_blank, is_word_byte};
 ghost use Rattle.wkt_explain.specs.Hints.{after_hint, behind_blanks, encoding_hint, front_hint, hint_of, hint_text, is_base, is_extent, is_wkt1, text_hint, word_at, word_hint};
 

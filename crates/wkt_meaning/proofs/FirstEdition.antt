@@ -10,16 +10,16 @@ use Rattle.crs_part.specs.declared.crs.Single.TheVariants as single
 use Rattle.crs_part.specs.declared.crs.Compound.{Compound}
 use Rattle.crs_part.specs.declared.crs.CrsParts.{CrsParts}
 use Rattle.crs_part.specs.declared.crs.CrsParts.TheVariants as parts
-use Rattle.wkt_slots.specs.declared.table.Edition.{Edition}
-use Rattle.wkt_slots.specs.declared.table.Edition.TheVariants as editions
-use Rattle.wkt_slots.specs.declared.table.Slot.{Slot}
-use Rattle.wkt_slots.specs.declared.table.Node.{Node}
-use Rattle.wkt_slots.specs.declared.table.Node.TheVariants as nodes
-use Rattle.wkt_slots.specs.declared.table.Keyword.{Keyword}
-use Rattle.wkt_slots.specs.declared.table.Keyword.TheVariants as keywords
-use Rattle.wkt_slots.specs.declared.table.Argument.{Argument}
-use Rattle.wkt_slots.specs.Rows.{takes, Times, row_of}
-use Rattle.wkt_tier.specs.Bare.{Bare, args}
+use Rattle.wkt_grammar.specs.declared.table.Edition.{Edition}
+use Rattle.wkt_grammar.specs.declared.table.Edition.TheVariants as editions
+use Rattle.wkt_grammar.specs.declared.table.Slot.{Slot}
+use Rattle.wkt_grammar.specs.declared.table.Node.{Node}
+use Rattle.wkt_grammar.specs.declared.table.Node.TheVariants as nodes
+use Rattle.wkt_grammar.specs.declared.table.Keyword.{Keyword}
+use Rattle.wkt_grammar.specs.declared.table.Keyword.TheVariants as keywords
+use Rattle.wkt_grammar.specs.declared.table.Argument.{Argument}
+use Rattle.wkt_grammar.specs.Rows.{takes, Times, row_of}
+use Rattle.wkt_grammar.specs.Bare.{Bare, args}
 use Rattle.wkt_meaning.specs.Runs.{Fields, nothing, ◌&◌, Runs, IsNodeIn, One, Maybe, Each}
 use Rattle.wkt_meaning.specs.Denotes.{DenotesVerticalExtent, DenotesNamed, usage_fields, DenotesUsage, geodetic_keyword, geodetic_fields, DenotesGeodetic, projected_fields, DenotesProjected, vertical_fields, DenotesVertical, DenotesSingle, compound_fields, DenotesCompound, DenotesParts}
 use Rattle.wkt_meaning.specs.FirstEdition.{first_usage_fields, FirstDenotesUsage, first_geodetic_fields, FirstDenotesGeodetic, first_projected_fields, FirstDenotesProjected, first_vertical_fields, FirstDenotesVertical, FirstDenotesSingle, first_compound_fields, FirstDenotesCompound, FirstDenotesParts, HasNoExtents, AddsNothing, NothingAdded}

@@ -25,18 +25,18 @@ use Rattle.crs_part.specs.declared.systems.SystemKind.TheVariants as kind
 use Rattle.crs_part.proofs.Texts.{same_text}
 use Rattle.wkt_tree.specs.Tokens.{quoted, doubled, is_mark}
 use Rattle.wkt_tree.proofs.Lexemes.{by_mark, body-mark, body-plain}
-use Rattle.wkt_slots.specs.declared.table.Takes.{Takes}
-use Rattle.wkt_slots.specs.declared.table.Takes.TheVariants as kinds
-use Rattle.wkt_slots.specs.declared.table.Argument.{Argument}
-use Rattle.wkt_slots.specs.declared.table.Argument.TheVariants as arguments
-use Rattle.wkt_slots.specs.declared.words.TheConstants.{CS_KINDS, DIRECTIONS}
-use Rattle.wkt_slots.specs.Rows.{takes}
-use Rattle.wkt_slots.specs.Words.{is_cs_kind, is_direction}
-use Rattle.wkt_tier.specs.Slots.{number_argument, word_argument}
-use Rattle.wkt_tier.specs.Bare.{Bare, text, number, word}
+use Rattle.wkt_grammar.specs.declared.table.Takes.{Takes}
+use Rattle.wkt_grammar.specs.declared.table.Takes.TheVariants as kinds
+use Rattle.wkt_grammar.specs.declared.table.Argument.{Argument}
+use Rattle.wkt_grammar.specs.declared.table.Argument.TheVariants as arguments
+use Rattle.wkt_grammar.specs.declared.words.TheConstants.{CS_KINDS, DIRECTIONS}
+use Rattle.wkt_grammar.specs.Rows.{takes}
+use Rattle.wkt_grammar.specs.Words.{is_cs_kind, is_direction}
+use Rattle.wkt_grammar.specs.Slots.{number_argument, word_argument}
+use Rattle.wkt_grammar.specs.Bare.{Bare, text, number, word}
 use Rattle.wkt_meaning.specs.SecondEdition.{Fitting}
 use Rattle.wkt_meaning.specs.Leaves.{undoubled, SameWord, DenotesText, DenotesNumber, DenotesCount, DenotesWord}
-use Rattle.wkt_meaning.specs.Words.{system_word, direction_word, first_word, kinds_listed, directions_listed}
+use Rattle.crs_part.specs.Words.{system_word, direction_word, first_word, kinds_listed, directions_listed}
 use Rattle.wkt_meaning.specs.Denotes.{DenotesCode}
 use Rattle.wkt_meaning.specs.Trees.{text_tree, number_tree, count_tree, kind_tree, direction_tree, code_tree}
 use Rattle.wkt_meaning.proofs.Rows.{Law}

@@ -4,23 +4,23 @@ use Rattle.std.specs.Prelude.{◌&&◌, not, max}
 use Rattle.std.specs.Option.{is_some}
 use Rattle.std.specs.List.{AllPass, list_all}
 use Rattle.std.proofs.lemmas.List.Elements.{All-nil, All-cons, All-head, All-tail}
-use Rattle.wkt_slots.specs.declared.table.Edition.TheVariants as editions
-use Rattle.wkt_slots.specs.declared.table.Slot.{Slot}
-use Rattle.wkt_slots.specs.declared.table.SlotName.{SlotName}
-use Rattle.wkt_slots.specs.declared.table.Node.{Node}
-use Rattle.wkt_slots.specs.declared.table.Keyword.{Keyword}
-use Rattle.wkt_slots.specs.declared.table.Takes.{Takes}
-use Rattle.wkt_slots.specs.declared.table.Argument.{Argument}
-use Rattle.wkt_slots.specs.declared.table.Often.{Often}
-use Rattle.wkt_slots.specs.declared.table.Often.TheVariants.{Once, AtMostOnce, Any, AtLeastOnce}
-use Rattle.wkt_slots.specs.Rows.{takes, enters, Times, Fits, is_required}
-use Rattle.wkt_slots.specs.Words.{keyword_of}
-use Rattle.wkt_slots.specs.Walk.{is_many, may_begin, all_arguments, is_clear}
-use Rattle.wkt_slots.proofs.Walks.{begins, each_argument, rows_clear}
-use Rattle.wkt_tier.specs.Slots.{argument_by}
-use Rattle.wkt_tier.specs.Bare.{Bare, Bares, node, args, bares, shape}
-use Rattle.wkt_tier.specs.Fitted.{entered}
-use Rattle.wkt_tier.proofs.Fitting.{cuts_fitted}
+use Rattle.wkt_grammar.specs.declared.table.Edition.TheVariants as editions
+use Rattle.wkt_grammar.specs.declared.table.Slot.{Slot}
+use Rattle.wkt_grammar.specs.declared.table.SlotName.{SlotName}
+use Rattle.wkt_grammar.specs.declared.table.Node.{Node}
+use Rattle.wkt_grammar.specs.declared.table.Keyword.{Keyword}
+use Rattle.wkt_grammar.specs.declared.table.Takes.{Takes}
+use Rattle.wkt_grammar.specs.declared.table.Argument.{Argument}
+use Rattle.wkt_grammar.specs.declared.table.Often.{Often}
+use Rattle.wkt_grammar.specs.declared.table.Often.TheVariants.{Once, AtMostOnce, Any, AtLeastOnce}
+use Rattle.wkt_grammar.specs.Rows.{takes, enters, Times, Fits, is_required}
+use Rattle.wkt_grammar.specs.Words.{keyword_of}
+use Rattle.wkt_grammar.specs.Walk.{is_many, may_begin, all_arguments, is_clear}
+use Rattle.wkt_grammar.proofs.Walks.{begins, each_argument, rows_clear}
+use Rattle.wkt_grammar.specs.Slots.{argument_by}
+use Rattle.wkt_grammar.specs.Bare.{Bare, Bares, node, args, bares, shape}
+use Rattle.wkt_grammar.specs.Fitted.{entered}
+use Rattle.wkt_grammar.proofs.Fitting.{cuts_fitted}
 use Rattle.wkt_meaning.specs.SecondEdition.{row_of, Fitted, Fitting, AllFitting, Cuts}
 use Rattle.wkt_meaning.specs.Runs.{Fields, nothing, ◌&◌, Runs, IsNode, One, Maybe, Each, listed, AtLeastOne}
 use Rattle.crs_part.specs.declared.many.NonEmpty.{NonEmpty}

@@ -42,13 +42,13 @@ use Rattle.crs_part.specs.declared.crs.Single.TheVariants as single
 use Rattle.crs_part.specs.declared.crs.Compound.{Compound}
 use Rattle.crs_part.specs.declared.crs.CrsParts.{CrsParts}
 use Rattle.crs_part.specs.declared.crs.CrsParts.TheVariants as parts
-use Rattle.wkt_slots.specs.declared.table.Keyword.{Keyword}
-use Rattle.wkt_slots.specs.declared.table.Keyword.TheVariants as keywords
-use Rattle.wkt_slots.specs.declared.table.Node.TheVariants as nodes
-use Rattle.wkt_tier.specs.Bare.{Bare}
+use Rattle.wkt_grammar.specs.declared.table.Keyword.{Keyword}
+use Rattle.wkt_grammar.specs.declared.table.Keyword.TheVariants as keywords
+use Rattle.wkt_grammar.specs.declared.table.Node.TheVariants as nodes
+use Rattle.wkt_grammar.specs.Bare.{Bare}
 use Rattle.wkt_meaning.specs.Runs.{Fields, nothing, ◌&◌, IsNode, One, Maybe, Each, AtLeastOne}
 use Rattle.wkt_meaning.specs.Leaves.{DenotesText, DenotesNumber, DenotesCount, DenotesWord}
-use Rattle.wkt_meaning.specs.Words.{system_word, direction_word}
+use Rattle.crs_part.specs.Words.{system_word, direction_word}
 
 -- SCOPE, AREA, ANCHOR, CITATION, URI, REMARK: a text
 abbrev pub value_fields : Text → Fields

@@ -10,12 +10,12 @@ use Rattle.crs_part.specs.declared.crs.Single.TheVariants as single
 use Rattle.crs_part.specs.declared.crs.Compound.{Compound}
 use Rattle.crs_part.specs.declared.crs.CrsParts.{CrsParts}
 use Rattle.crs_part.specs.declared.crs.CrsParts.TheVariants as parts
-use Rattle.wkt_slots.specs.declared.table.Edition.TheVariants as editions
-use Rattle.wkt_slots.specs.declared.table.Keyword.{Keyword}
-use Rattle.wkt_slots.specs.declared.table.Keyword.TheVariants as keywords
-use Rattle.wkt_slots.specs.declared.table.Node.{Node}
-use Rattle.wkt_slots.specs.declared.table.Node.TheVariants as nodes
-use Rattle.wkt_tier.specs.Bare.{Bare}
+use Rattle.wkt_grammar.specs.declared.table.Edition.TheVariants as editions
+use Rattle.wkt_grammar.specs.declared.table.Keyword.{Keyword}
+use Rattle.wkt_grammar.specs.declared.table.Keyword.TheVariants as keywords
+use Rattle.wkt_grammar.specs.declared.table.Node.{Node}
+use Rattle.wkt_grammar.specs.declared.table.Node.TheVariants as nodes
+use Rattle.wkt_grammar.specs.Bare.{Bare}
 use Rattle.wkt_meaning.specs.Runs.{Fields, nothing, ◌&◌, IsNodeIn, One, Maybe, Each, AtLeastOne}
 use Rattle.wkt_meaning.specs.Leaves.{DenotesText}
 use Rattle.wkt_meaning.specs.Denotes.{DenotesValue, DenotesIdent, DenotesUnit, DenotesBoundingBox, DenotesPrimeMeridian, DenotesGeodeticFrame, DenotesVerticalFrame, DenotesSystem, DenotesAxis, DenotesConversion, DenotesBase, geodetic_keyword}

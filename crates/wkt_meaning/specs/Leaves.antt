@@ -6,7 +6,7 @@ use Rattle.crs_number.specs.Count.{SpellsWhole}
 use Rattle.crs_number.specs.declared.decimals.Decimal.{Decimal}
 use Rattle.crs_part.specs.declared.text.Text.{Text}
 use Rattle.wkt_tree.specs.Tokens.{quoted, is_mark}
-use Rattle.wkt_tier.specs.Bare.{Bare, text, number, word}
+use Rattle.wkt_grammar.specs.Bare.{Bare, text, number, word}
 
 -- what stands between the marks: of two marks the first is left out, and so is the one at the end
 abbrev pub undoubled : Bool → List ℕ → List ℕ

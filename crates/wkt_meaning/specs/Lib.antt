@@ -1,7 +1,6 @@
 pub mod SecondEdition
 pub mod Runs
 pub mod Leaves
-pub mod Words
 pub mod Denotes
 pub mod FirstEdition
 pub mod Render

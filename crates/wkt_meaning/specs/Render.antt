@@ -1,6 +1,6 @@
 -- The text of a tree: canonical, and indented.
 use Rattle.std.specs.Prelude.{ℕ, suc, ◌*◌, List, [], ◌∷◌, ◌++◌, replicate}
-use Rattle.wkt_tier.specs.Bare.{Bare, Bares, text, number, word, node, none, and}
+use Rattle.wkt_grammar.specs.Bare.{Bare, Bares, text, number, word, node, none, and}
 
 abbrev mutual
   -- square brackets, one comma between two items, no blanks

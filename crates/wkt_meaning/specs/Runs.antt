@@ -2,14 +2,14 @@
 use Rattle.std.specs.Prelude.{◌≡◌, ℕ, List, [], ◌∷◌, ◌++◌, length, map, Option, Some, None}
 use Rattle.std.specs.List.{AllPass}
 use Rattle.crs_part.specs.declared.many.NonEmpty.{NonEmpty}
-use Rattle.wkt_slots.specs.declared.table.Edition.{Edition}
-use Rattle.wkt_slots.specs.declared.table.Edition.TheVariants as editions
-use Rattle.wkt_slots.specs.declared.table.Slot.{Slot}
-use Rattle.wkt_slots.specs.declared.table.Node.{Node}
-use Rattle.wkt_slots.specs.declared.table.Keyword.{Keyword}
-use Rattle.wkt_slots.specs.Rows.{takes, Times, row_of}
-use Rattle.wkt_slots.specs.Words.{keyword_of}
-use Rattle.wkt_tier.specs.Bare.{Bare, Bares, node, args, shape}
+use Rattle.wkt_grammar.specs.declared.table.Edition.{Edition}
+use Rattle.wkt_grammar.specs.declared.table.Edition.TheVariants as editions
+use Rattle.wkt_grammar.specs.declared.table.Slot.{Slot}
+use Rattle.wkt_grammar.specs.declared.table.Node.{Node}
+use Rattle.wkt_grammar.specs.declared.table.Keyword.{Keyword}
+use Rattle.wkt_grammar.specs.Rows.{takes, Times, row_of}
+use Rattle.wkt_grammar.specs.Words.{keyword_of}
+use Rattle.wkt_grammar.specs.Bare.{Bare, Bares, node, args, shape}
 
 -- what is said of the run of each slot, in the order of the slots
 infixr 5 ◌&◌

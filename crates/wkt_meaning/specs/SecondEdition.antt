@@ -1,12 +1,12 @@
 -- What fits the rows of the second edition of the grammar, the one in which values are read and written.
 use Rattle.std.specs.Prelude.{List}
-use Rattle.wkt_slots.specs.declared.table.Edition.TheVariants as editions
-use Rattle.wkt_slots.specs.declared.table.Slot.{Slot}
-use Rattle.wkt_slots.specs.declared.table.Node.{Node}
-use Rattle.wkt_slots.specs.declared.table.Takes.{Takes}
-use Rattle.wkt_slots.specs.Rows as rows
-use Rattle.wkt_tier.specs.Bare.{Bare, Bares}
-use Rattle.wkt_tier.specs.Fitted as fitted
+use Rattle.wkt_grammar.specs.declared.table.Edition.TheVariants as editions
+use Rattle.wkt_grammar.specs.declared.table.Slot.{Slot}
+use Rattle.wkt_grammar.specs.declared.table.Node.{Node}
+use Rattle.wkt_grammar.specs.declared.table.Takes.{Takes}
+use Rattle.wkt_grammar.specs.Rows as rows
+use Rattle.wkt_grammar.specs.Bare.{Bare, Bares}
+use Rattle.wkt_grammar.specs.Fitted as fitted
 
 abbrev pub row_of : Node → List Slot
 row_of = rows.row_of editions.Second

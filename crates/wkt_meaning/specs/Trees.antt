@@ -1,5 +1,5 @@
 -- The canonical tree of each value: a line a slot, in the order of its row.
-use Rattle.std.specs.Prelude.{ℕ, List, [], ◌∷◌, ◌++◌, map, decimal, Option, Some, None, codes}
+use Rattle.std.specs.Prelude.{ℕ, List, [], ◌∷◌, ◌++◌, map, decimal, Option, Some, None}
 use Rattle.crs_number.specs.Canonical.{canonical}
 use Rattle.crs_number.specs.declared.decimals.Decimal.{Decimal}
 use Rattle.crs_part.specs.declared.text.Text.{Text}
@@ -47,9 +47,11 @@ use Rattle.crs_part.specs.declared.crs.Compound.{Compound}
 use Rattle.crs_part.specs.declared.crs.CrsParts.{CrsParts}
 use Rattle.crs_part.specs.declared.crs.CrsParts.TheVariants as parts
 use Rattle.wkt_tree.specs.Tokens.{quoted}
-use Rattle.wkt_tier.specs.Bare.{Bare, text, number, word, node, bares}
+use Rattle.wkt_grammar.specs.declared.table.Keyword.TheVariants as keywords
+use Rattle.wkt_grammar.specs.Words.{spelling}
+use Rattle.wkt_grammar.specs.Bare.{Bare, text, number, word, node, bares}
 use Rattle.wkt_meaning.specs.Runs.{listed}
-use Rattle.wkt_meaning.specs.Words.{system_word, direction_word}
+use Rattle.crs_part.specs.Words.{system_word, direction_word}
 
 -- ---- runs of arguments
 
@@ -96,12 +98,12 @@ value_tree keyword v = branch keyword (one (text_tree v) ∷ [])
 -- ---- identifiers
 
 abbrev pub ident_tree : Ident → Bare
-ident_tree v = branch (codes "ID") (
+ident_tree v = branch (spelling keywords.Identifier) (
     one (text_tree v.authority)
     ∷ one (code_tree v.code)
     ∷ maybe code_tree v.version
-    ∷ maybe (value_tree (codes "CITATION")) v.citation
-    ∷ maybe (value_tree (codes "URI")) v.uri
+    ∷ maybe (value_tree (spelling keywords.Citation)) v.citation
+    ∷ maybe (value_tree (spelling keywords.Uri)) v.uri
     ∷ []
     )
 
@@ -114,23 +116,23 @@ abbrev pub unit_of_tree : List ℕ → UnitDefinition → Bare
 unit_of_tree keyword v = branch keyword (one (text_tree v.name) ∷ one (number_tree v.factor) ∷ map ident_tree v.ids ∷ [])
 
 abbrev pub unit_tree : units.Unit → Bare
-unit_tree (unit.Length v) = unit_of_tree (codes "LENGTHUNIT") v
-unit_tree (unit.Angle v) = unit_of_tree (codes "ANGLEUNIT") v
-unit_tree (unit.Scale v) = unit_of_tree (codes "SCALEUNIT") v
-unit_tree (unit.Generic v) = unit_of_tree (codes "UNIT") v
+unit_tree (unit.Length v) = unit_of_tree (spelling keywords.LengthUnit) v
+unit_tree (unit.Angle v) = unit_of_tree (spelling keywords.AngleUnit) v
+unit_tree (unit.Scale v) = unit_of_tree (spelling keywords.ScaleUnit) v
+unit_tree (unit.Generic v) = unit_of_tree (spelling keywords.Unit) v
 
 abbrev pub length_unit_tree : LengthUnit → Bare
-length_unit_tree (length_unit.Length v) = unit_of_tree (codes "LENGTHUNIT") v
-length_unit_tree (length_unit.Generic v) = unit_of_tree (codes "UNIT") v
+length_unit_tree (length_unit.Length v) = unit_of_tree (spelling keywords.LengthUnit) v
+length_unit_tree (length_unit.Generic v) = unit_of_tree (spelling keywords.Unit) v
 
 abbrev pub angle_unit_tree : AngleUnit → Bare
-angle_unit_tree (angle_unit.Angle v) = unit_of_tree (codes "ANGLEUNIT") v
-angle_unit_tree (angle_unit.Generic v) = unit_of_tree (codes "UNIT") v
+angle_unit_tree (angle_unit.Angle v) = unit_of_tree (spelling keywords.AngleUnit) v
+angle_unit_tree (angle_unit.Generic v) = unit_of_tree (spelling keywords.Unit) v
 
 -- ---- usages
 
 abbrev pub bounding_box_tree : BoundingBox → Bare
-bounding_box_tree v = branch (codes "BBOX") (
+bounding_box_tree v = branch (spelling keywords.BoundingBox) (
     one (number_tree v.south)
     ∷ one (number_tree v.west)
     ∷ one (number_tree v.north)
@@ -139,7 +141,7 @@ bounding_box_tree v = branch (codes "BBOX") (
     )
 
 abbrev pub vertical_extent_tree : VerticalExtent → Bare
-vertical_extent_tree v = branch (codes "VERTICALEXTENT") (
+vertical_extent_tree v = branch (spelling keywords.VerticalExtent) (
     one (number_tree v.low)
     ∷ one (number_tree v.high)
     ∷ maybe length_unit_tree v.unit
@@ -147,9 +149,9 @@ vertical_extent_tree v = branch (codes "VERTICALEXTENT") (
     )
 
 abbrev pub usage_tree : Usage → Bare
-usage_tree v = branch (codes "USAGE") (
-    one (value_tree (codes "SCOPE") v.scope)
-    ∷ maybe (value_tree (codes "AREA")) v.area
+usage_tree v = branch (spelling keywords.Usage) (
+    one (value_tree (spelling keywords.Scope) v.scope)
+    ∷ maybe (value_tree (spelling keywords.Area)) v.area
     ∷ maybe bounding_box_tree v.bounding_box
     ∷ maybe vertical_extent_tree v.vertical_extent
     ∷ []
@@ -158,7 +160,7 @@ usage_tree v = branch (codes "USAGE") (
 -- ---- datums
 
 abbrev pub ellipsoid_tree : Ellipsoid → Bare
-ellipsoid_tree v = branch (codes "ELLIPSOID") (
+ellipsoid_tree v = branch (spelling keywords.Ellipsoid) (
     one (text_tree v.name)
     ∷ one (number_tree v.radius)
     ∷ one (number_tree v.flattening)
@@ -168,7 +170,7 @@ ellipsoid_tree v = branch (codes "ELLIPSOID") (
     )
 
 abbrev pub prime_meridian_tree : PrimeMeridian → Bare
-prime_meridian_tree v = branch (codes "PRIMEM") (
+prime_meridian_tree v = branch (spelling keywords.PrimeMeridian) (
     one (text_tree v.name)
     ∷ one (number_tree v.longitude)
     ∷ maybe angle_unit_tree v.unit
@@ -177,29 +179,29 @@ prime_meridian_tree v = branch (codes "PRIMEM") (
     )
 
 abbrev pub datum_tree : Datum → Bare
-datum_tree v = branch (codes "DATUM") (
+datum_tree v = branch (spelling keywords.Datum) (
     one (text_tree v.name)
     ∷ one (ellipsoid_tree v.ellipsoid)
-    ∷ maybe (value_tree (codes "ANCHOR")) v.anchor
+    ∷ maybe (value_tree (spelling keywords.Anchor)) v.anchor
     ∷ map ident_tree v.ids
     ∷ []
     )
 
 abbrev pub vertical_datum_tree : VerticalDatum → Bare
-vertical_datum_tree v = branch (codes "VDATUM") (
+vertical_datum_tree v = branch (spelling keywords.VerticalDatum) (
     one (text_tree v.name)
-    ∷ maybe (value_tree (codes "ANCHOR")) v.anchor
+    ∷ maybe (value_tree (spelling keywords.Anchor)) v.anchor
     ∷ map ident_tree v.ids
     ∷ []
     )
 
 abbrev pub accuracy_tree : Decimal → Bare
-accuracy_tree v = branch (codes "ENSEMBLEACCURACY") (one (number_tree v) ∷ [])
+accuracy_tree v = branch (spelling keywords.EnsembleAccuracy) (one (number_tree v) ∷ [])
 
 abbrev pub geodetic_ensemble_tree : GeodeticEnsemble → Bare
-geodetic_ensemble_tree v = branch (codes "ENSEMBLE") (
+geodetic_ensemble_tree v = branch (spelling keywords.Ensemble) (
     one (text_tree v.name)
-    ∷ map (named_tree (codes "MEMBER")) (listed v.members)
+    ∷ map (named_tree (spelling keywords.Member)) (listed v.members)
     ∷ one (ellipsoid_tree v.ellipsoid)
     ∷ one (accuracy_tree v.accuracy)
     ∷ map ident_tree v.ids
@@ -207,9 +209,9 @@ geodetic_ensemble_tree v = branch (codes "ENSEMBLE") (
     )
 
 abbrev pub vertical_ensemble_tree : VerticalEnsemble → Bare
-vertical_ensemble_tree v = branch (codes "ENSEMBLE") (
+vertical_ensemble_tree v = branch (spelling keywords.Ensemble) (
     one (text_tree v.name)
-    ∷ map (named_tree (codes "MEMBER")) (listed v.members)
+    ∷ map (named_tree (spelling keywords.Member)) (listed v.members)
     ∷ one (accuracy_tree v.accuracy)
     ∷ map ident_tree v.ids
     ∷ []
@@ -226,16 +228,16 @@ vertical_frame_tree (vertical_frame.Ensemble v) = vertical_ensemble_tree v
 -- ---- coordinate systems
 
 abbrev pub system_tree : CoordSystem → Bare
-system_tree v = branch (codes "CS") (one (kind_tree v.kind) ∷ one (count_tree v.dimension) ∷ map ident_tree v.ids ∷ [])
+system_tree v = branch (spelling keywords.CoordinateSystem) (one (kind_tree v.kind) ∷ one (count_tree v.dimension) ∷ map ident_tree v.ids ∷ [])
 
 abbrev pub meridian_tree : Meridian → Bare
-meridian_tree v = branch (codes "MERIDIAN") (one (number_tree v.longitude) ∷ one (angle_unit_tree v.unit) ∷ [])
+meridian_tree v = branch (spelling keywords.Meridian) (one (number_tree v.longitude) ∷ one (angle_unit_tree v.unit) ∷ [])
 
 abbrev pub order_tree : Order → Bare
-order_tree v = branch (codes "ORDER") (one (count_tree v.position) ∷ [])
+order_tree v = branch (spelling keywords.Order) (one (count_tree v.position) ∷ [])
 
 abbrev pub axis_tree : Axis → Bare
-axis_tree v = branch (codes "AXIS") (
+axis_tree v = branch (spelling keywords.Axis) (
     one (text_tree v.name)
     ∷ one (direction_tree v.direction)
     ∷ maybe meridian_tree v.meridian
@@ -248,7 +250,7 @@ axis_tree v = branch (codes "AXIS") (
 -- ---- conversions
 
 abbrev pub parameter_tree : Parameter → Bare
-parameter_tree v = branch (codes "PARAMETER") (
+parameter_tree v = branch (spelling keywords.Parameter) (
     one (text_tree v.name)
     ∷ one (number_tree v.value)
     ∷ maybe unit_tree v.unit
@@ -257,9 +259,9 @@ parameter_tree v = branch (codes "PARAMETER") (
     )
 
 abbrev pub conversion_tree : Conversion → Bare
-conversion_tree v = branch (codes "CONVERSION") (
+conversion_tree v = branch (spelling keywords.Conversion) (
     one (text_tree v.name)
-    ∷ one (named_tree (codes "METHOD") v.method)
+    ∷ one (named_tree (spelling keywords.Method) v.method)
     ∷ map parameter_tree v.parameters
     ∷ map ident_tree v.ids
     ∷ []
@@ -268,12 +270,12 @@ conversion_tree v = branch (codes "CONVERSION") (
 -- ---- coordinate reference systems
 
 abbrev pub geodetic_name : GeodeticKind → List ℕ
-geodetic_name geodetic_kind.Geodetic = codes "GEODCRS"
-geodetic_name geodetic_kind.Geographic = codes "GEOGCRS"
+geodetic_name geodetic_kind.Geodetic = spelling keywords.GeodeticCrs
+geodetic_name geodetic_kind.Geographic = spelling keywords.GeographicCrs
 
 abbrev pub base_name : GeodeticKind → List ℕ
-base_name geodetic_kind.Geodetic = codes "BASEGEODCRS"
-base_name geodetic_kind.Geographic = codes "BASEGEOGCRS"
+base_name geodetic_kind.Geodetic = spelling keywords.BaseGeodeticCrs
+base_name geodetic_kind.Geographic = spelling keywords.BaseGeographicCrs
 
 abbrev pub base_tree : BaseCrs → Bare
 base_tree v = branch (base_name v.kind) (
@@ -295,12 +297,12 @@ geodetic_tree v = branch (geodetic_name v.kind) (
     ∷ maybe unit_tree v.unit
     ∷ map usage_tree v.usages
     ∷ map ident_tree v.ids
-    ∷ maybe (value_tree (codes "REMARK")) v.remark
+    ∷ maybe (value_tree (spelling keywords.Remark)) v.remark
     ∷ []
     )
 
 abbrev pub projected_tree : Projected → Bare
-projected_tree v = branch (codes "PROJCRS") (
+projected_tree v = branch (spelling keywords.ProjectedCrs) (
     one (text_tree v.name)
     ∷ one (base_tree v.base)
     ∷ one (conversion_tree v.conversion)
@@ -309,21 +311,21 @@ projected_tree v = branch (codes "PROJCRS") (
     ∷ maybe unit_tree v.unit
     ∷ map usage_tree v.usages
     ∷ map ident_tree v.ids
-    ∷ maybe (value_tree (codes "REMARK")) v.remark
+    ∷ maybe (value_tree (spelling keywords.Remark)) v.remark
     ∷ []
     )
 
 abbrev pub vertical_tree : verticals.Vertical → Bare
-vertical_tree v = branch (codes "VERTCRS") (
+vertical_tree v = branch (spelling keywords.VerticalCrs) (
     one (text_tree v.name)
     ∷ one (vertical_frame_tree v.datum)
     ∷ one (system_tree v.system)
     ∷ map axis_tree (listed v.axes)
     ∷ maybe unit_tree v.unit
-    ∷ map (named_tree (codes "GEOIDMODEL")) v.geoid_models
+    ∷ map (named_tree (spelling keywords.GeoidModel)) v.geoid_models
     ∷ map usage_tree v.usages
     ∷ map ident_tree v.ids
-    ∷ maybe (value_tree (codes "REMARK")) v.remark
+    ∷ maybe (value_tree (spelling keywords.Remark)) v.remark
     ∷ []
     )
 
@@ -333,13 +335,13 @@ single_tree (single.Projected v) = projected_tree v
 single_tree (single.Vertical v) = vertical_tree v
 
 abbrev pub compound_tree : Compound → Bare
-compound_tree v = branch (codes "COMPOUNDCRS") (
+compound_tree v = branch (spelling keywords.CompoundCrs) (
     one (text_tree v.name)
     ∷ one (single_tree v.first)
     ∷ one (single_tree v.second)
     ∷ map usage_tree v.usages
     ∷ map ident_tree v.ids
-    ∷ maybe (value_tree (codes "REMARK")) v.remark
+    ∷ maybe (value_tree (spelling keywords.Remark)) v.remark
     ∷ []
     )
 

@@ -2,8 +2,8 @@
 
 ghost use Rattle.std.specs.Prelude.{◌≡◌};
 ghost use Rattle.crs_part.specs.declared.crs.CrsParts.{CrsParts};
-ghost use Rattle.wkt_slots.specs.declared.table.Takes.TheVariants as kinds;
-ghost use Rattle.wkt_tier.specs.Bare.{Bare};
+ghost use Rattle.wkt_grammar.specs.declared.table.Takes.TheVariants as kinds;
+ghost use Rattle.wkt_grammar.specs.Bare.{Bare};
 ghost use Rattle.wkt_meaning.specs.SecondEdition.{Fitting};
 ghost use Rattle.wkt_meaning.specs.Denotes.{DenotesParts};
 ghost use Rattle.wkt_meaning.specs.FirstEdition.{FirstDenotesParts, NothingAdded};

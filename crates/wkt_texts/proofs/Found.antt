@@ -13,7 +13,7 @@ use Rattle.wkt_tree.specs.Tree.{Piece}
 use Rattle.wkt_tree.specs.Tokens.{Stops}
 use Rattle.wkt_tree.proofs.Cuts.{begins_unblank}
 use Rattle.wkt_tree.proofs.Utf8.{begun_small}
-use Rattle.wkt_tier.specs.Bare.{Bare, Bares, node}
+use Rattle.wkt_grammar.specs.Bare.{Bare, Bares, node}
 use Rattle.wkt_write.specs.WellFormed.{WellFormed}
 use Rattle.wkt_meaning.specs.Render.{render, render_all}
 use Rattle.wkt_meaning.specs.Trees.{parts_tree}

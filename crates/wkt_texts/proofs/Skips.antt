@@ -9,7 +9,7 @@ use Rattle.wkt_tree.specs.Bytes.{is_word_byte, is_number_byte, begins_number}
 use Rattle.wkt_tree.specs.Tokens.{is_mark}
 use Rattle.wkt_tree.proofs.Lexemes.{by_mark, body, body-mark, body-plain}
 use Rattle.wkt_tree.proofs.Sound.{word_begins, number_begins}
-use Rattle.wkt_tier.specs.Bare.{Bare, Bares, text, number, word, node, none, and}
+use Rattle.wkt_grammar.specs.Bare.{Bare, Bares, text, number, word, node, none, and}
 use Rattle.wkt_write.specs.WellFormed.{IsToken, IsText, WellFormed, SomeWellFormed, AllWellFormed}
 use Rattle.wkt_meaning.specs.Render.{render, render_all, render_behind}
 use Rattle.wkt_texts.specs.Texts.{is_opening, is_closing}

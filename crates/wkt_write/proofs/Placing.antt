@@ -9,7 +9,7 @@ use Rattle.wkt_tree.specs.Bytes.{is_blank, is_word_byte, is_number_byte, begun_b
 use Rattle.wkt_tree.specs.Tree.{Piece, Tok, tok, Item, Items, last, more, tokens, all_tokens, Within, AllWithin}
 use Rattle.wkt_tree.specs.Tree as tree
 use Rattle.wkt_tree.specs.Tokens.{Stops, is_mark, Ends, First, Front, end_of, doubled}
-use Rattle.wkt_tier.specs.Bare.{Bare, Bares, text, number, word, node, none, and, bare, all_bare}
+use Rattle.wkt_grammar.specs.Bare.{Bare, Bares, text, number, word, node, none, and, bare, all_bare}
 use Rattle.wkt_write.specs.WellFormed.{IsToken, IsText, WellFormed, AllWellFormed}
 use Rattle.wkt_write.specs.declared.layout.Layout as layouts
 use Rattle.wkt_write.specs.declared.layout.Layout.TheVariants.{OneLine, Root, Inside}

@@ -3,7 +3,7 @@ use Rattle.std.proofs.Common.{[], subst, append-nil}
 use Rattle.std.proofs.lemmas.List.Elements.{All-nil}
 use Rattle.wkt_tree.specs.Tree.{tokens}
 use Rattle.wkt_tree.specs.Tokens.{Front}
-use Rattle.wkt_tier.specs.Bare.{Bare}
+use Rattle.wkt_grammar.specs.Bare.{Bare}
 use Rattle.wkt_write.specs.WellFormed.{WellFormed}
 use Rattle.wkt_meaning.specs.Render.{render, indented}
 use Rattle.wkt_write.specs.declared.layout.Layout as layouts

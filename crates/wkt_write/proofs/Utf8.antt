@@ -12,7 +12,7 @@ use Rattle.wkt_tree.specs.Bytes.{is_blank, is_word_byte, is_number_byte}
 use Rattle.wkt_tree.specs.Tokens.{doubled, quoted}
 use Rattle.wkt_tree.proofs.Lexemes.{by_mark}
 use Rattle.wkt_tree.proofs.Utf8.{blank_small, word_small, number_small, begun_small}
-use Rattle.wkt_tier.specs.Bare.{Bare, Bares, text, number, word, node, none, and}
+use Rattle.wkt_grammar.specs.Bare.{Bare, Bares, text, number, word, node, none, and}
 use Rattle.wkt_write.specs.WellFormed.{IsToken, WellFormed, AllWellFormed}
 use Rattle.wkt_write.specs.declared.layout.Layout as layouts
 use Rattle.wkt_write.specs.Layout.{before, inner, laid, laid_all, laid_behind}

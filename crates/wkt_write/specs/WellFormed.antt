@@ -6,7 +6,7 @@ use Rattle.wkt_tree.specs.declared.token.TokenKind.{TokenKind}
 use Rattle.wkt_tree.specs.declared.token.TokenKind.TheVariants.{Word, Number}
 use Rattle.wkt_tree.specs.Bytes.{is_word_byte, begun_by}
 use Rattle.wkt_tree.specs.Tokens.{Follow, IsReadable, quoted}
-use Rattle.wkt_tier.specs.Bare.{Bare, Bares, text, number, word, node, none, and}
+use Rattle.wkt_grammar.specs.Bare.{Bare, Bares, text, number, word, node, none, and}
 
 -- the bytes are a token of this kind
 pub record IsToken (kind : TokenKind) (bytes : List ℕ) : Type 0 where

@@ -3,7 +3,7 @@
 ghost use Rattle.std.specs.Prelude.{◌≡◌, ◌++◌, ◌∷◌, [], List, ℕ, OnOk, IfSome, position, length, ◌<◌};
 ghost use Rattle.std.specs.List.{flat_map, list_any};
 ghost use Rattle.wkt_tree.specs.Tokens.{doubled, is_mark};
-ghost use Rattle.wkt_meaning.specs.Words.{system_word, direction_word};
+ghost use Rattle.crs_part.specs.Words.{system_word, direction_word};
 ghost use Rattle.wkt_meaning.specs.Trees.{text_tree, number_tree, count_tree, kind_tree, direction_tree, code_tree};
 
 use crate::layout::Layout;

@@ -1,7 +1,7 @@
 //! What is written.
 
 ghost use Rattle.std.specs.Prelude.{◌≡◌, ◌++◌, OnOk};
-ghost use Rattle.wkt_tier.specs.Bare.{Bare};
+ghost use Rattle.wkt_grammar.specs.Bare.{Bare};
 ghost use Rattle.wkt_write.specs.Layout.{laid};
 
 use crate::layout::Layout;

@@ -1,5 +1,5 @@
-use Rattle.wkt_slots.specs.declared.table.Node.TheVariants as nodes
-use Rattle.wkt_slots.specs.declared.table.SlotName.TheVariants as slots
+use Rattle.wkt_grammar.specs.declared.table.Node.TheVariants as nodes
+use Rattle.wkt_grammar.specs.declared.table.SlotName.TheVariants as slots
 use Rattle.wkt_meaning.specs.Denotes.{base_fields}
 use Rattle.wkt_meaning.proofs.Leaves.{text_law}
 use Rattle.wkt_meaning.proofs.Nodes.{geodetic_frame_law}

@@ -1,7 +1,8 @@
 use Rattle.std.proofs.Common.{ap, ◌∙◌, None, OnOk, IfOk, ◌≡◌, refl, subst}
-use Rattle.wkt_slots.specs.declared.table.Node.TheVariants as nodes
-use Rattle.wkt_slots.specs.declared.table.SlotName.TheVariants as slots
-use Rattle.wkt_slots.specs.declared.table.Takes.TheVariants as kinds
+use Rattle.wkt_grammar.specs.declared.table.Node.TheVariants as nodes
+use Rattle.wkt_grammar.specs.declared.table.SlotName.TheVariants as slots
+use Rattle.wkt_grammar.specs.declared.table.Keyword.TheVariants as keywords
+use Rattle.wkt_grammar.specs.declared.table.Takes.TheVariants as kinds
 use Rattle.wkt_meaning.specs.Denotes.{geodetic_fields, DenotesGeodeticFrame, DenotesPrimeMeridian}
 use Rattle.wkt_meaning.proofs.Leaves.{text_law}
 use Rattle.wkt_meaning.proofs.Nodes.{geodetic_frame_law, prime_meridian_law}
@@ -28,7 +29,7 @@ returns-clause-builds c =
     (then_one slots.Datum geodetic_frame_law c.take_one.new.cursor d
     (kept (Made kinds.GeodeticDatum DenotesGeodeticFrame c.take_one.new.cursor start) c.in_ok-datum.datum d (ap (λ p. p.0) three.0 ∙ two.0) c.in_ok-datum.ensures.builds)
     (then_maybe slots.PrimeMeridian prime_meridian_law refl start m
-    (λ k. held (BuildsSome kinds.PrimeMeridian DenotesPrimeMeridian start end) c.take_maybe.result c.in_ok-datum-2.prime_meridian m two.1 same (c.take_maybe.ensures.some k))
+    (λ k. held (BuildsSome (kinds.Node keywords.PrimeMeridian nodes.PrimeMeridian) DenotesPrimeMeridian start end) c.take_maybe.result c.in_ok-datum-2.prime_meridian m two.1 same (c.take_maybe.ensures.some k))
     (λ k. subst (λ r. OnOk r (end ≡ start)) two.1 (c.take_maybe.ensures.none k))
     (λ k. held (λ r. IfOk r (λ o. o ≡ None)) c.take_maybe.result c.in_ok-datum-2.prime_meridian m two.1 same (c.take_maybe.ensures.absent k))
     (held (BuildsRest ending_row ending_fields end c.take_ending.new.cursor) c.take_ending.result e e three.1 refl c.take_ending.ensures.builds)))) c.pass-2.ensures.left

@@ -1,7 +1,8 @@
 use Rattle.std.proofs.Common.{ap, ◌∙◌, refl}
-use Rattle.wkt_slots.specs.declared.table.Node.TheVariants as nodes
-use Rattle.wkt_slots.specs.declared.table.SlotName.TheVariants as slots
-use Rattle.wkt_slots.specs.declared.table.Takes.TheVariants as kinds
+use Rattle.wkt_grammar.specs.declared.table.Node.TheVariants as nodes
+use Rattle.wkt_grammar.specs.declared.table.SlotName.TheVariants as slots
+use Rattle.wkt_grammar.specs.declared.table.Keyword.TheVariants as keywords
+use Rattle.wkt_grammar.specs.declared.table.Takes.TheVariants as kinds
 use Rattle.wkt_meaning.specs.Denotes.{projected_fields, DenotesBase, DenotesConversion}
 use Rattle.wkt_meaning.proofs.Leaves.{text_law}
 use Rattle.wkt_meaning.proofs.Nodes.{base_law, conversion_law}
@@ -25,5 +26,5 @@ returns-clause-builds c =
     (then_one slots.Base base_law c.take_one.new.cursor b
     (kept (Made kinds.BaseCrs DenotesBase c.take_one.new.cursor c.take_one-2.new.cursor) c.in_ok-base.base b (ap (λ p. p.0) three.0 ∙ two.0) c.in_ok-base.ensures.builds)
     (then_one slots.Conversion conversion_law c.take_one-2.new.cursor k
-    (held (BuildsOne kinds.Conversion DenotesConversion c.take_one-2.new.cursor c.take_one-3.new.cursor) c.take_one-3.result c.in_ok-base-2.conversion k two.1 (ap (λ p. p.1) three.0) c.take_one-3.ensures.builds)
+    (held (BuildsOne (kinds.Node keywords.Conversion nodes.Conversion) DenotesConversion c.take_one-2.new.cursor c.take_one-3.new.cursor) c.take_one-3.result c.in_ok-base-2.conversion k two.1 (ap (λ p. p.1) three.0) c.take_one-3.ensures.builds)
     (held (BuildsRest ending_row ending_fields c.take_one-3.new.cursor c.take_ending.new.cursor) c.take_ending.result e e three.1 refl c.take_ending.ensures.builds)))) c.pass-2.ensures.left

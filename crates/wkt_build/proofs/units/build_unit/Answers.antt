@@ -1,6 +1,6 @@
 use Rattle.std.proofs.Common.{refl}
-use Rattle.wkt_slots.specs.declared.table.Node.TheVariants as nodes
-use Rattle.wkt_slots.specs.declared.table.SlotName.TheVariants as slots
+use Rattle.wkt_grammar.specs.declared.table.Node.TheVariants as nodes
+use Rattle.wkt_grammar.specs.declared.table.SlotName.TheVariants as slots
 use Rattle.wkt_meaning.specs.Denotes.{unit_fields}
 use Rattle.wkt_meaning.proofs.Leaves.{number_law, text_law}
 use Rattle.wkt_meaning.proofs.Nodes.{ident_law}

@@ -1,6 +1,6 @@
 use Rattle.std.proofs.Common.{sym, ap, ◌∙◌, add-one, arith}
 use Rattle.std.specs.Str.{bytes_eq}
-use Rattle.wkt_meaning.specs.Words.{direction_word}
+use Rattle.crs_part.specs.Words.{direction_word}
 use Rattle.wkt_build.proofs.LeafLemmas.{passed_over, letters}
 use Rattle.wkt_build.proofs.words.first_direction.Goals as goal
 

@@ -1,6 +1,6 @@
 use Rattle.std.proofs.Common.{◌≡◌, ◌≤◌, ◌-◌, length, drop, map}
 use Rattle.std.specs.Char.{to_ascii_lowercase}
-use Rattle.wkt_meaning.specs.Words.{direction_word, first_word}
+use Rattle.crs_part.specs.Words.{direction_word, first_word}
 use Rattle.wkt_build.proofs.words.first_direction.Given as goal
 
 abbrev pub invariant-loop-i : goal.invariant-loop-i

@@ -1,7 +1,7 @@
 use Rattle.crs_part.specs.declared.systems.Direction.TheVariants as to
 use Rattle.std.proofs.Common.{sym, ap}
-use Rattle.wkt_slots.specs.Words.{is_direction}
-use Rattle.wkt_meaning.specs.Words.{direction_word, directions_listed}
+use Rattle.wkt_grammar.specs.Words.{is_direction}
+use Rattle.crs_part.specs.Words.{direction_word, directions_listed}
 use Rattle.wkt_tree.specs.Faults.{view}
 use Rattle.wkt_tree.specs.Tree.{Tok}
 use Rattle.wkt_build.proofs.LeafLemmas.{word_takes, word_lost, peeked, direction_listed}

@@ -1,7 +1,7 @@
 use Rattle.crs_part.specs.declared.systems.SystemKind.TheVariants as kind
 use Rattle.std.proofs.Common.{sym, ap}
-use Rattle.wkt_slots.specs.Words.{is_cs_kind}
-use Rattle.wkt_meaning.specs.Words.{system_word, kinds_listed}
+use Rattle.wkt_grammar.specs.Words.{is_cs_kind}
+use Rattle.crs_part.specs.Words.{system_word, kinds_listed}
 use Rattle.wkt_tree.specs.Faults.{view}
 use Rattle.wkt_tree.specs.Tree.{Tok}
 use Rattle.wkt_build.proofs.LeafLemmas.{word_takes, word_lost, peeked, kind_listed}

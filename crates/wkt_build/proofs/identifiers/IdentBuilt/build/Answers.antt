@@ -1,8 +1,8 @@
 use Rattle.std.proofs.Common.{refl}
-use Rattle.wkt_slots.specs.declared.table.Takes.TheVariants as kinds
-use Rattle.wkt_slots.specs.declared.table.Keyword.TheVariants as keywords
-use Rattle.wkt_slots.specs.declared.table.Node.TheVariants as nodes
-use Rattle.wkt_slots.specs.declared.table.SlotName.TheVariants as slots
+use Rattle.wkt_grammar.specs.declared.table.Takes.TheVariants as kinds
+use Rattle.wkt_grammar.specs.declared.table.Keyword.TheVariants as keywords
+use Rattle.wkt_grammar.specs.declared.table.Node.TheVariants as nodes
+use Rattle.wkt_grammar.specs.declared.table.SlotName.TheVariants as slots
 use Rattle.wkt_meaning.specs.Denotes.{ident_fields}
 use Rattle.wkt_meaning.proofs.Leaves.{code_law, text_law}
 use Rattle.wkt_meaning.proofs.Nodes.{citation_law, uri_law}
@@ -14,7 +14,7 @@ use Rattle.wkt_build.proofs.identifiers.IdentBuilt.build.Goals as goal
 pub returns-clause-builds : goal.returns-clause-builds
 returns-clause-builds c =
     let v : Ident = record { authority = c.in_ok-authority.authority; code = c.in_ok-code.code; version = c.in_ok-version.version; citation = c.in_ok-citation.citation; uri = c.in_ok-uri.uri } in
-    made_argument kinds.Identifier keywords.Identifier nodes.Identifier ident_fields c.args.cursor.now c.pass-2.new.cursor v refl only_ident
+    made_argument (kinds.Node keywords.Identifier nodes.Identifier) keywords.Identifier nodes.Identifier ident_fields c.args.cursor.now c.pass-2.new.cursor v refl only_ident
     (made_node nodes.Identifier ident_fields c.args.cursor.now c.pass-2.new.cursor v c.pass.ensures.left
     (first_one slots.Authority text_law c.pass.new.cursor c.in_ok-authority.authority c.in_ok-authority.ensures.builds
     (then_one slots.Code code_law c.take_one.new.cursor c.in_ok-code.code c.in_ok-code.ensures.builds

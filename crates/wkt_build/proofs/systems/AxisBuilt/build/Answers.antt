@@ -1,8 +1,8 @@
 use Rattle.std.proofs.Common.{refl}
-use Rattle.wkt_slots.specs.declared.table.Takes.TheVariants as kinds
-use Rattle.wkt_slots.specs.declared.table.Keyword.TheVariants as keywords
-use Rattle.wkt_slots.specs.declared.table.Node.TheVariants as nodes
-use Rattle.wkt_slots.specs.declared.table.SlotName.TheVariants as slots
+use Rattle.wkt_grammar.specs.declared.table.Takes.TheVariants as kinds
+use Rattle.wkt_grammar.specs.declared.table.Keyword.TheVariants as keywords
+use Rattle.wkt_grammar.specs.declared.table.Node.TheVariants as nodes
+use Rattle.wkt_grammar.specs.declared.table.SlotName.TheVariants as slots
 use Rattle.wkt_meaning.specs.Denotes.{axis_fields}
 use Rattle.wkt_meaning.proofs.Leaves.{direction_law, text_law}
 use Rattle.wkt_meaning.proofs.Nodes.{ident_law, meridian_law, order_law, unit_law}
@@ -14,7 +14,7 @@ use Rattle.wkt_build.proofs.systems.AxisBuilt.build.Goals as goal
 pub returns-clause-builds : goal.returns-clause-builds
 returns-clause-builds c =
     let v : Axis = record { name = c.in_ok-name.name; direction = c.in_ok-direction.direction; meridian = c.in_ok-meridian.meridian; order = c.in_ok-order.order; unit = c.in_ok-unit.unit; ids = c.in_ok-ids.ids } in
-    made_argument kinds.Axis keywords.Axis nodes.Axis axis_fields c.args.cursor.now c.pass-2.new.cursor v refl only_axis
+    made_argument (kinds.Node keywords.Axis nodes.Axis) keywords.Axis nodes.Axis axis_fields c.args.cursor.now c.pass-2.new.cursor v refl only_axis
     (made_node nodes.Axis axis_fields c.args.cursor.now c.pass-2.new.cursor v c.pass.ensures.left
     (first_one slots.Name text_law c.pass.new.cursor c.in_ok-name.name c.in_ok-name.ensures.builds
     (then_one slots.Direction direction_law c.take_one.new.cursor c.in_ok-direction.direction c.in_ok-direction.ensures.builds

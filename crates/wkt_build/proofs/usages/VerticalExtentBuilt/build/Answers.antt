@@ -1,8 +1,8 @@
 use Rattle.std.proofs.Common.{refl}
-use Rattle.wkt_slots.specs.declared.table.Takes.TheVariants as kinds
-use Rattle.wkt_slots.specs.declared.table.Keyword.TheVariants as keywords
-use Rattle.wkt_slots.specs.declared.table.Node.TheVariants as nodes
-use Rattle.wkt_slots.specs.declared.table.SlotName.TheVariants as slots
+use Rattle.wkt_grammar.specs.declared.table.Takes.TheVariants as kinds
+use Rattle.wkt_grammar.specs.declared.table.Keyword.TheVariants as keywords
+use Rattle.wkt_grammar.specs.declared.table.Node.TheVariants as nodes
+use Rattle.wkt_grammar.specs.declared.table.SlotName.TheVariants as slots
 use Rattle.wkt_meaning.specs.Denotes.{vertical_extent_fields}
 use Rattle.wkt_meaning.proofs.Leaves.{number_law}
 use Rattle.wkt_meaning.proofs.Nodes.{length_unit_law}
@@ -14,7 +14,7 @@ use Rattle.wkt_build.proofs.usages.VerticalExtentBuilt.build.Goals as goal
 pub returns-clause-builds : goal.returns-clause-builds
 returns-clause-builds c =
     let v : VerticalExtent = record { low = c.in_ok-low.low; high = c.in_ok-high.high; unit = c.in_ok-unit.unit } in
-    made_argument kinds.VerticalExtent keywords.VerticalExtent nodes.VerticalExtent vertical_extent_fields c.args.cursor.now c.pass-2.new.cursor v refl only_vertical_extent
+    made_argument (kinds.Node keywords.VerticalExtent nodes.VerticalExtent) keywords.VerticalExtent nodes.VerticalExtent vertical_extent_fields c.args.cursor.now c.pass-2.new.cursor v refl only_vertical_extent
     (made_node nodes.VerticalExtent vertical_extent_fields c.args.cursor.now c.pass-2.new.cursor v c.pass.ensures.left
     (first_one slots.Low number_law c.pass.new.cursor c.in_ok-low.low c.in_ok-low.ensures.builds
     (then_one slots.High number_law c.take_one.new.cursor c.in_ok-high.high c.in_ok-high.ensures.builds

@@ -1,6 +1,6 @@
-use Rattle.wkt_slots.specs.declared.table.Takes.TheVariants as kinds
-use Rattle.wkt_slots.specs.Words.{is_direction}
-use Rattle.wkt_meaning.specs.Words.{direction_word}
+use Rattle.wkt_grammar.specs.declared.table.Takes.TheVariants as kinds
+use Rattle.wkt_grammar.specs.Words.{is_direction}
+use Rattle.crs_part.specs.Words.{direction_word}
 use Rattle.wkt_build.proofs.LeafLemmas.{word_made, direction_item}
 use Rattle.wkt_build.proofs.words.DirectionBuilt.build.Goals as goal
 

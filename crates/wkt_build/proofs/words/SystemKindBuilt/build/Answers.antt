@@ -1,6 +1,6 @@
-use Rattle.wkt_slots.specs.declared.table.Takes.TheVariants as kinds
-use Rattle.wkt_slots.specs.Words.{is_cs_kind}
-use Rattle.wkt_meaning.specs.Words.{system_word}
+use Rattle.wkt_grammar.specs.declared.table.Takes.TheVariants as kinds
+use Rattle.wkt_grammar.specs.Words.{is_cs_kind}
+use Rattle.crs_part.specs.Words.{system_word}
 use Rattle.wkt_build.proofs.LeafLemmas.{word_made, kind_item}
 use Rattle.wkt_build.proofs.words.SystemKindBuilt.build.Goals as goal
 

@@ -1,0 +1,12 @@
+pub mod Walks
+pub mod Tables
+pub mod Editions
+mod Meanings
+pub mod Steps
+pub mod Found
+pub mod Reach
+pub mod Whole
+pub mod Fitting
+pub mod Clean
+pub mod StillClean
+mod Entered

@@ -1,0 +1,12 @@
+pub mod Rows
+pub mod Walk
+pub mod Words
+pub mod Names
+pub mod Editions
+pub mod Ensembles
+pub mod Slots
+pub mod First
+pub mod Next
+pub mod Bare
+pub mod Fitted
+pub mod Faults
