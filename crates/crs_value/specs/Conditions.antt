@@ -20,6 +20,8 @@ use Rattle.crs_part.specs.declared.crs.GeodeticKind.TheVariants as geodetic
 use Rattle.crs_part.specs.declared.crs.Single.{Single}
 use Rattle.crs_part.specs.declared.crs.Single.TheVariants.{Geodetic, Projected, Vertical}
 use Rattle.crs_part.specs.declared.crs.Compound.{Compound}
+use Rattle.crs_value.specs.declared.kinds.UnitKind.{UnitKind}
+use Rattle.crs_value.specs.declared.kinds.UnitKind.TheVariants as measures
 use Rattle.crs_value.specs.Units.{units_of, own_units}
 
 -- C1: as many axes as the dimension
@@ -89,11 +91,22 @@ takes_angle kind.Cartesian k = false
 takes_angle kind.Spherical k = true
 takes_angle kind.Vertical k = false
 
+-- it may be of this kind
+abbrev pub takes_unit : SystemKind → ℕ → UnitKind → Bool
+takes_unit system k measures.Length = takes_length system k
+takes_unit system k measures.Angle = takes_angle system k
+takes_unit system k measures.Scale = false
+takes_unit system k measures.Generic = true
+
+-- what a unit measures, where its keyword says so
+abbrev pub unit_kind : Unit → UnitKind
+unit_kind (Length unit) = measures.Length
+unit_kind (Angle unit) = measures.Angle
+unit_kind (Scale unit) = measures.Scale
+unit_kind (Generic unit) = measures.Generic
+
 abbrev pub unit_fits : SystemKind → ℕ → Unit → Bool
-unit_fits system k (Length unit) = takes_length system k
-unit_fits system k (Angle unit) = takes_angle system k
-unit_fits system k (Scale unit) = false
-unit_fits system k (Generic unit) = true
+unit_fits system k unit = takes_unit system k (unit_kind unit)
 
 -- the unit that an axis is measured in, its own or else the common one, fits it
 abbrev pub axis_fits : SystemKind → Option Unit → ℕ → Axis → Bool
@@ -103,18 +116,18 @@ axis_fits system common k axis = option_map_or (unit_fits system k) (option_or a
 abbrev pub units_fit : SystemKind → List Axis → Option Unit → Bool
 units_fit system axes common = list_all (λ p. axis_fits system common p.0 p.1) (enumerate_from 0 axes)
 
-abbrev pub is_ellipsoidal : SystemKind → Bool
-is_ellipsoidal kind.Ellipsoidal = true
-is_ellipsoidal system = false
+abbrev pub is_ellipsoidal_plane : SystemKind → ℕ → Bool
+is_ellipsoidal_plane kind.Ellipsoidal n = n == 2
+is_ellipsoidal_plane system n = false
 
-abbrev pub is_cartesian : SystemKind → Bool
-is_cartesian kind.Cartesian = true
-is_cartesian system = false
+abbrev pub is_cartesian_plane : SystemKind → ℕ → Bool
+is_cartesian_plane kind.Cartesian n = n == 2
+is_cartesian_plane system n = false
 
 -- C6: the first component is geodetic or geographic with an ellipsoidal system of 2, or projected with a Cartesian one of 2
 abbrev pub may_be_first : Single → Bool
-may_be_first (Geodetic crs) = is_ellipsoidal crs.system.kind && crs.system.dimension == 2
-may_be_first (Projected crs) = is_cartesian crs.system.kind && crs.system.dimension == 2
+may_be_first (Geodetic crs) = is_ellipsoidal_plane crs.system.kind crs.system.dimension
+may_be_first (Projected crs) = is_cartesian_plane crs.system.kind crs.system.dimension
 may_be_first (Vertical crs) = false
 
 -- C6: the second is vertical

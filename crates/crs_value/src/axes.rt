@@ -3,9 +3,10 @@
 ghost use Rattle.std.specs.Prelude.{◌≡◌, is_some, is_none, ◌||◌};
 ghost use Rattle.std.specs.List.{list_all, enumerate_from};
 ghost use Rattle.crs_part.specs.Slots.{items_of};
-ghost use Rattle.crs_value.specs.Conditions.{has_axis_a_dimension, has_units, is_order, has_orders, takes_length, takes_angle, unit_fits, axis_fits, units_fit, is_north_or_south, has_meridians};
+ghost use Rattle.crs_value.specs.Conditions.{has_axis_a_dimension, has_units, is_order, has_orders, unit_kind, unit_fits, axis_fits, units_fit, is_north_or_south, has_meridians};
 
-use crs_part::{Axis, CoordSystem, Direction, NonEmpty, Order, SystemKind, Unit};
+use crate::kinds::{UnitKind, is_north_or_south, takes_unit};
+use crs_part::{Axis, CoordSystem, NonEmpty, Order, SystemKind, Unit};
 
 pub(crate) fn has_axis_a_dimension(system: &CoordSystem, axes: &NonEmpty<Axis>) -> bool
     ensures { result ≡ has_axis_a_dimension system.now (items_of axes.now) }
@@ -104,30 +105,17 @@ fn axis_fits(system: SystemKind, common: &Option<Unit>, index: usize, axis: &Axi
 fn unit_fits(system: SystemKind, index: usize, unit: &Unit) -> bool
     ensures { result ≡ unit_fits system index unit.now }
 {
+    takes_unit(system, index, unit_kind(unit))
+}
+
+fn unit_kind(unit: &Unit) -> UnitKind
+    ensures { result ≡ unit_kind unit.now }
+{
     match unit {
-        Unit::Length(_) => takes_length(system, index),
-        Unit::Angle(_) => takes_angle(system, index),
-        Unit::Scale(_) => false,
-        Unit::Generic(_) => true,
-    }
-}
-
-fn takes_length(system: SystemKind, index: usize) -> bool
-    ensures { result ≡ takes_length system index }
-{
-    match system {
-        SystemKind::Ellipsoidal => index >= 2,
-        SystemKind::Cartesian | SystemKind::Spherical | SystemKind::Vertical => true,
-    }
-}
-
-fn takes_angle(system: SystemKind, index: usize) -> bool
-    ensures { result ≡ takes_angle system index }
-{
-    match system {
-        SystemKind::Ellipsoidal => index < 2,
-        SystemKind::Spherical => true,
-        SystemKind::Cartesian | SystemKind::Vertical => false,
+        Unit::Length(_) => UnitKind::Length,
+        Unit::Angle(_) => UnitKind::Angle,
+        Unit::Scale(_) => UnitKind::Scale,
+        Unit::Generic(_) => UnitKind::Generic,
     }
 }
 
@@ -147,13 +135,4 @@ fn has_meridian(axis: &Axis) -> bool
     ensures { result ≡ (is_none axis.now.meridian || is_north_or_south axis.now.direction) }
 {
     axis.meridian.is_none() || is_north_or_south(axis.direction)
-}
-
-fn is_north_or_south(direction: Direction) -> bool
-    ensures { result ≡ is_north_or_south direction }
-{
-    match direction {
-        Direction::North | Direction::South => true,
-        _ => false,
-    }
 }

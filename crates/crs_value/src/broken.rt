@@ -2,6 +2,8 @@
 
 ghost use Rattle.std.specs.Prelude.{◌≡◌};
 
+use std::fmt;
+
 /// Which reference system a condition is about: a component of a compound, or the whole.
 #[derive(Clone, Copy, Debug, PartialEq, Eq)]
 pub enum Whose {
@@ -51,9 +53,26 @@ impl Condition {
     }
 }
 
-/// A condition that does not hold.
+impl fmt::Display for Condition {
+    fn fmt<W: fmt::Write>(&self, f: &mut fmt::Formatter<W>) -> fmt::Result {
+        f.write_str(self.name())
+    }
+}
+
+/// A condition that does not hold. It prints as the condition, and of which component.
 #[derive(Clone, Copy, Debug, PartialEq, Eq)]
 pub struct Broken {
     pub whose: Whose,
     pub condition: Condition,
+}
+
+impl fmt::Display for Broken {
+    fn fmt<W: fmt::Write>(&self, f: &mut fmt::Formatter<W>) -> fmt::Result {
+        let condition = self.condition.name();
+        match self.whose {
+            Whose::First => write!(f, "Broken {condition} of the first component"),
+            Whose::Second => write!(f, "Broken {condition} of the second component"),
+            Whose::Whole => write!(f, "Broken {condition}"),
+        }
+    }
 }
