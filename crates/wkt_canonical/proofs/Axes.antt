@@ -12,14 +12,13 @@ use Rattle.crs_part.specs.declared.systems.Direction.{Direction}
 use Rattle.crs_part.specs.declared.systems.Meridian.{Meridian}
 use Rattle.crs_part.specs.declared.systems.Axis.{Axis}
 use Rattle.crs_value.specs.Units.{any_units, meridian_units, axis_units}
-use Rattle.crs_value.specs.Conditions.{axis_fits, unit_fits, is_order, is_north_or_south}
 use Rattle.crs_part.specs.Words.{system_word, direction_word}
+use Rattle.crs_value.specs.Conditions.{takes_unit, axis_fits, unit_fits, is_order, is_north_or_south}
 use Rattle.wkt_meaning.specs.Render.{render}
 use Rattle.wkt_meaning.specs.Trees.{one, text_tree, number_tree, kind_tree, count_tree, direction_tree, ident_tree, angle_unit_tree, meridian_tree, axis_tree}
-use Rattle.wkt_canonical.specs.declared.units.Group.{Group}
-use Rattle.wkt_canonical.specs.Groups.{group_fits, FitsEach}
-use Rattle.wkt_canonical.specs.Reads.{ReadsFirst, ReadsOne, ReadsEach, ReadsInside, ReadsUnit, ReadsDigit, ReadsSystem, ReadsMeridian, ReadsOrder, ReadsAxisUnit, ReadsCommonUnit, ReadsAxis, ReadsAxes, any, group_of}
-use Rattle.wkt_canonical.specs.Tests.{all_positive, angle_unit_passes, meridian_passes, IsAxis, AxesHold}
+use Rattle.crs_value.specs.declared.kinds.UnitKind.{UnitKind}
+use Rattle.wkt_canonical.specs.Reads.{ReadsFirst, ReadsOne, ReadsEach, ReadsInside, ReadsUnit, ReadsDigit, ReadsSystem, ReadsMeridian, ReadsOrder, ReadsAxisUnit, ReadsCommonUnit, ReadsAxis, ReadsAxes, any}
+use Rattle.wkt_canonical.specs.Tests.{all_positive, angle_unit_passes, meridian_passes, FitsEach, IsAxis, AxesHold}
 use Rattle.wkt_canonical.proofs.Runs.{closed, also, whole, behind_comma_is, no_run, two_runs}
 use Rattle.wkt_canonical.proofs.Nodes.{both_pass, any_units_pass}
 
@@ -63,17 +62,11 @@ order k n e digit close same =
 pub no_order : (k : ℕ) (text : List ℕ) → ReadsOrder k false text text
 no_order k text = record { value = None; ordered = λ h. absurd (cc); unordered = λ h. refl; is = no_run text }
 
-fits_by_group : (system : SystemKind) (k : ℕ) (u : Unit) → unit_fits system k u ≡ group_fits system k (group_of u)
-fits_by_group system k (unit.Length u) = refl
-fits_by_group system k (unit.Angle u) = refl
-fits_by_group system k (unit.Scale u) = refl
-fits_by_group system k (unit.Generic u) = refl
-
-pub axis_unit : {text rest : List ℕ} (system : SystemKind) (k : ℕ) (which : Group) → ReadsUnit which text rest → group_fits system k which ≡ true → ReadsAxisUnit system k true text rest
+pub axis_unit : {text rest : List ℕ} (system : SystemKind) (k : ℕ) (which : UnitKind) → ReadsUnit which text rest → takes_unit system k which ≡ true → ReadsAxisUnit system k true text rest
 axis_unit system k which r h = record {
   value = Some r.value;
   passes = r.passes;
-  with_unit = λ t. (refl, fits_by_group system k r.value ∙ (ap (group_fits system k) r.group ∙ h));
+  with_unit = λ t. (refl, ap (takes_unit system k) r.kind ∙ h);
   without_unit = λ f. absurd (cc);
   is = r.is;
 }
@@ -207,18 +200,18 @@ axes_of_three {system} n a b c common =
 pub no_common_unit : (system : SystemKind) (dimension : ℕ) (text : List ℕ) (has_unit : Bool) → has_unit ≡ true → ReadsCommonUnit system dimension has_unit text text
 no_common_unit system dimension text has_unit h = record { value = None; passes = refl; fits = λ f. absurd (cc); is = no_run text }
 
-pub any_common_unit : {text rest : List ℕ} (system : SystemKind) (dimension : ℕ) (has_unit : Bool) (which : Group) → ReadsUnit which text rest → has_unit ≡ true → ReadsCommonUnit system dimension has_unit text rest
+pub any_common_unit : {text rest : List ℕ} (system : SystemKind) (dimension : ℕ) (has_unit : Bool) (which : UnitKind) → ReadsUnit which text rest → has_unit ≡ true → ReadsCommonUnit system dimension has_unit text rest
 any_common_unit system dimension has_unit which r h = record { value = Some r.value; passes = r.passes; fits = λ f. absurd (cc); is = r.is }
 
-pub fitting_common_unit : {text rest : List ℕ} (system : SystemKind) (dimension : ℕ) (has_unit : Bool) (which : Group) → ReadsUnit which text rest → FitsEach system dimension which → ReadsCommonUnit system dimension has_unit text rest
+pub fitting_common_unit : {text rest : List ℕ} (system : SystemKind) (dimension : ℕ) (has_unit : Bool) (which : UnitKind) → ReadsUnit which text rest → FitsEach system dimension which → ReadsCommonUnit system dimension has_unit text rest
 fitting_common_unit system dimension has_unit which r h = record {
   value = Some r.value;
   passes = r.passes;
-  fits = λ f. (refl, λ k small below. fits_by_group system k r.value ∙ (ap (group_fits system k) r.group ∙ h k small below));
+  fits = λ f. (refl, λ k small below. ap (takes_unit system k) r.kind ∙ h k small below);
   is = r.is;
 }
 
-pub fits_each : (system : SystemKind) (dimension : ℕ) (which : Group) → group_fits system 0 which ≡ true → (1 < dimension → group_fits system 1 which ≡ true) → (2 < dimension → group_fits system 2 which ≡ true) → FitsEach system dimension which
+pub fits_each : (system : SystemKind) (dimension : ℕ) (which : UnitKind) → takes_unit system 0 which ≡ true → (1 < dimension → takes_unit system 1 which ≡ true) → (2 < dimension → takes_unit system 2 which ≡ true) → FitsEach system dimension which
 fits_each system dimension which a b c zero small below = a
 fits_each system dimension which a b c (suc zero) small below = b below
 fits_each system dimension which a b c (suc (suc zero)) small below = c below

@@ -1,6 +1,6 @@
 pub mod Axes
 pub mod Codes
-pub mod Groups
+pub mod UnitKinds
 pub mod Nodes
 pub mod Numbers
 pub mod Runs

@@ -1,5 +1,5 @@
 -- Coordinate reference systems.
-use Rattle.std.proofs.Common.{◌≡◌, ℕ, Bool, true, false, ◌&&◌, List, [], ◌∷◌, ◌++◌, ◌∙◌, ap, sym, refl, subst, length, arith, map, append-nil}
+use Rattle.std.proofs.Common.{◌≡◌, ℕ, Bool, true, false, List, [], ◌∷◌, ◌++◌, ◌∙◌, ap, sym, refl, subst, length, arith, map, append-nil}
 use Rattle.std.specs.Prelude.{Option, Some, None, IfSome, is_some, codes, ◌==◌}
 use Rattle.std.specs.List.{flat_map}
 use Rattle.std.specs.Option.{option_map_or}
@@ -19,7 +19,7 @@ use Rattle.crs_part.specs.declared.crs.Single.{Single}
 use Rattle.crs_part.specs.declared.crs.Single.TheVariants as single
 use Rattle.crs_part.specs.declared.crs.CrsParts.TheVariants as parts
 use Rattle.crs_value.specs.Units.{any_units, angle_units, usage_units, frame_units, prime_meridian_units, axis_units, conversion_units, base_units}
-use Rattle.crs_value.specs.Conditions.{has_size, may_be_of, may_be_projected, may_be_vertical, may_have_system, may_be_first, may_be_second, is_ellipsoidal, is_cartesian, has_sizes, has_own_sizes}
+use Rattle.crs_value.specs.Conditions.{has_size, may_be_of, may_be_projected, may_be_vertical, may_have_system, may_be_first, may_be_second, is_ellipsoidal_plane, is_cartesian_plane, has_sizes, has_own_sizes}
 use Rattle.crs_value.specs.declared.broken.Condition.TheVariants.{C1, C2, C3, C4, C5, C6, C7, C8}
 use Rattle.crs_value.specs.declared.broken.Whose.TheVariants.{First, Second, Whole}
 use Rattle.crs_value.specs.Checking.{HasConditions}
@@ -76,7 +76,7 @@ frame_holds frame h = and_both (has_size (ellipsoid_of frame)) (all_positive (fr
 
 -- ---- reference systems of one part
 
-pub geodetic : {content text a b c d e rest : List ℕ} (kind : GeodeticKind) (system : SystemKind) (dimension : ℕ) (component : Component) → component.seen.name.now ≡ content → ReadsText content text a → ReadsOne frame_passes geodetic_frame_tree a b → ReadsMaybe prime_meridian_passes prime_meridian_tree b c → ReadsSystem system dimension c d → may_be_of kind system dimension ≡ true → ReadsAxes system dimension d e → ReadsEnd component.seen.identifier e rest → component.may_be_first ≡ (is_ellipsoidal system && dimension == 2) → component.may_be_second ≡ false → ReadsSingle component ((geodetic_name kind ++ 91 ∷ []) ++ text) rest
+pub geodetic : {content text a b c d e rest : List ℕ} (kind : GeodeticKind) (system : SystemKind) (dimension : ℕ) (component : Component) → component.seen.name.now ≡ content → ReadsText content text a → ReadsOne frame_passes geodetic_frame_tree a b → ReadsMaybe prime_meridian_passes prime_meridian_tree b c → ReadsSystem system dimension c d → may_be_of kind system dimension ≡ true → ReadsAxes system dimension d e → ReadsEnd component.seen.identifier e rest → component.may_be_first ≡ is_ellipsoidal_plane system dimension → component.may_be_second ≡ false → ReadsSingle component ((geodetic_name kind ++ 91 ∷ []) ++ text) rest
 geodetic kind system dimension component same name datum meridian s may axes end is_plane second =
     let v : Geodetic = record { kind = kind; name = name.value; datum = datum.value; prime_meridian = meridian.value; system = s.value; axes = axes.value; unit = axes.common; usages = end.usages; ids = end.ids; remark = end.remark } in
     let f = frame_holds datum.value datum.passes in
@@ -111,7 +111,7 @@ base kind name datum meridian unit ids close =
 pub base_came : {text inside rest : List ℕ} (kind : GeodeticKind) → text ≡ (44 ∷ (base_name kind ++ 91 ∷ [])) ++ inside → ReadsInside base_passes base_tree (44 ∷ (base_name kind ++ 91 ∷ [])) inside rest → ReadsOne base_passes base_tree text rest
 base_came kind e r = record { value = r.value; passes = r.passes; is = e ∙ r.is }
 
-pub projected : {content text a b c d e rest : List ℕ} (system : SystemKind) (dimension : ℕ) (component : Component) → component.seen.name.now ≡ content → ReadsText content text a → ReadsOne base_passes base_tree a b → ReadsOne conversion_passes conversion_tree b c → ReadsSystem system dimension c d → may_be_projected system dimension ≡ true → ReadsAxes system dimension d e → ReadsEnd component.seen.identifier e rest → component.may_be_first ≡ (is_cartesian system && dimension == 2) → component.may_be_second ≡ false → ReadsSingle component (codes "PROJCRS[" ++ text) rest
+pub projected : {content text a b c d e rest : List ℕ} (system : SystemKind) (dimension : ℕ) (component : Component) → component.seen.name.now ≡ content → ReadsText content text a → ReadsOne base_passes base_tree a b → ReadsOne conversion_passes conversion_tree b c → ReadsSystem system dimension c d → may_be_projected system dimension ≡ true → ReadsAxes system dimension d e → ReadsEnd component.seen.identifier e rest → component.may_be_first ≡ is_cartesian_plane system dimension → component.may_be_second ≡ false → ReadsSingle component (codes "PROJCRS[" ++ text) rest
 projected system dimension component same name base conversion s may axes end is_plane second =
     let v : Projected = record { name = name.value; base = base.value; conversion = conversion.value; system = s.value; axes = axes.value; unit = axes.common; usages = end.usages; ids = end.ids; remark = end.remark } in
     let b = and_both (has_size (ellipsoid_of base.value.datum)) (all_positive (base_units base.value)) base.passes in

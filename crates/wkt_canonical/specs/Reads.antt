@@ -19,14 +19,12 @@ use Rattle.crs_part.specs.declared.crs.Single.{Single}
 use Rattle.crs_part.specs.declared.crs.CrsParts.{CrsParts}
 use Rattle.crs_part.specs.declared.crs.CrsParts.TheVariants as parts
 use Rattle.crs_value.specs.Keys.{text_of}
-use Rattle.crs_value.specs.Conditions.{is_order, is_north_or_south, unit_fits, may_be_first, may_be_second}
+use Rattle.crs_value.specs.Conditions.{is_order, is_north_or_south, unit_kind, unit_fits, may_be_first, may_be_second}
 use Rattle.crs_value.specs.Checking.{HasConditions}
 use Rattle.crs_value.specs.Units.{usage_units}
 use Rattle.wkt_meaning.specs.Canon.{canon}
 use Rattle.crs_part.specs.declared.units.Unit.{Unit}
-use Rattle.crs_part.specs.declared.units.Unit.TheVariants as unit
-use Rattle.wkt_canonical.specs.declared.units.Group.{Group}
-use Rattle.wkt_canonical.specs.declared.units.Group.TheVariants as group
+use Rattle.crs_value.specs.declared.kinds.UnitKind.{UnitKind}
 use Rattle.wkt_canonical.specs.declared.identifiers.Identifier.{Identifier}
 use Rattle.wkt_canonical.specs.declared.crs.Seen.{Seen}
 use Rattle.wkt_canonical.specs.declared.crs.Component.{Component}
@@ -106,18 +104,11 @@ pub record ReadsSome {A : Type 0} (test : A → Bool) (tree : A → Bare) (text 
   pub passes : list_all test (listed value) ≡ true
   pub is : text ≡ behind (map tree (listed value)) ++ rest
 
--- the group of a unit
-abbrev pub group_of : Unit → Group
-group_of (unit.Length u) = group.Length
-group_of (unit.Angle u) = group.Angle
-group_of (unit.Scale u) = group.Scale
-group_of (unit.Generic u) = group.Generic
-
--- a unit of this group
-pub record ReadsUnit (which : Group) (text rest : List ℕ) : Type 0 where
+-- a unit of this kind
+pub record ReadsUnit (which : UnitKind) (text rest : List ℕ) : Type 0 where
   pub value : Unit
   pub passes : unit_passes value ≡ true
-  pub group : group_of value ≡ which
+  pub kind : unit_kind value ≡ which
   pub is : text ≡ behind (one (unit_tree value)) ++ rest
 
 -- a digit

@@ -1,5 +1,5 @@
 -- What is asked of a value on the way, so that all conditions hold of the whole.
-use Rattle.std.specs.Prelude.{◌≡◌, ℕ, Bool, true, false, ◌||◌, ◌&&◌, Option, None, is_some, is_none, List, length}
+use Rattle.std.specs.Prelude.{◌≡◌, ℕ, ◌<◌, Bool, true, false, ◌||◌, ◌&&◌, Option, None, is_some, is_none, List, length}
 use Rattle.std.specs.List.{list_all, flat_map}
 use Rattle.std.specs.Option.{option_map_or}
 use Rattle.crs_part.specs.Slots.{ellipsoid_of}
@@ -22,9 +22,10 @@ use Rattle.crs_part.specs.declared.conversions.Conversion.{Conversion}
 use Rattle.crs_part.specs.declared.crs.BaseCrs.{BaseCrs}
 use Rattle.crs_part.specs.declared.crs.Single.{Single}
 use Rattle.crs_value.specs.declared.broken.Condition.{Condition}
+use Rattle.crs_value.specs.declared.kinds.UnitKind.{UnitKind}
 use Rattle.crs_value.specs.Checking.{holds}
 use Rattle.crs_value.specs.Units.{any_units, length_units, angle_units, extent_units, usage_units, ellipsoid_units, prime_meridian_units, meridian_units, axis_units, parameter_units, conversion_units, base_units}
-use Rattle.crs_value.specs.Conditions.{has_positive_factor, has_size, has_units, has_orders, units_fit, has_meridians, unit_fits, is_order, is_north_or_south}
+use Rattle.crs_value.specs.Conditions.{has_positive_factor, has_size, has_units, has_orders, units_fit, has_meridians, takes_unit, unit_fits, is_order, is_north_or_south}
 
 -- every conversion factor is above 0
 abbrev pub all_positive : List UnitDefinition → Bool
@@ -71,6 +72,10 @@ conversion_passes conversion = all_positive (conversion_units conversion)
 
 abbrev pub base_passes : BaseCrs → Bool
 base_passes base = has_size (ellipsoid_of base.datum) && all_positive (base_units base)
+
+-- each axis of a system of at most three may have a unit of this kind
+abbrev pub FitsEach : SystemKind → ℕ → UnitKind → Type 0
+FitsEach system dimension which = (k : ℕ) → k < 3 → k < dimension → takes_unit system k which ≡ true
 
 -- an axis at this place, with its number or without one, with a unit of its own that fits it or without one
 pub record IsAxis (system : SystemKind) (k : ℕ) (has_order has_unit : Bool) (axis : Axis) : Type 0 where

@@ -1,7 +1,6 @@
 //! Coordinate reference systems.
 
-ghost use Rattle.std.specs.Prelude.{◌≡◌, ◌∷◌, [], ◌++◌, ◌&&◌, ◌==◌, true, false, codes, IfSome};
-ghost use Rattle.crs_value.specs.Conditions.{may_be_of, may_be_geodetic, may_be_geographic, may_be_projected, may_be_vertical, is_two_or_three, is_ellipsoidal, is_cartesian};
+ghost use Rattle.std.specs.Prelude.{◌∷◌, [], ◌++◌, codes, IfSome};
 ghost use Rattle.wkt_meaning.specs.Trees.{base_tree, base_name, geodetic_name};
 ghost use Rattle.wkt_canonical.specs.Reads.{ReadsOne, ReadsInside, ReadsSingle, ReadsEnd, ReadsWhole};
 ghost use Rattle.wkt_canonical.specs.Tests.{base_passes};
@@ -14,7 +13,10 @@ use crate::node::{each, maybe, one};
 use crate::systems::{axes, system};
 use crate::units::maybe_angle_unit;
 use crate::values::remark;
-use crs_part::{Conversion, GeodeticKind, Ident, PrimeMeridian, SystemKind, Usage};
+use crs_part::{Conversion, GeodeticKind, Ident, PrimeMeridian, Usage};
+use crs_value::{
+    is_cartesian_plane, is_ellipsoidal_plane, may_be_of, may_be_projected, may_be_vertical,
+};
 
 /// The name of a reference system, as it stands between its marks, and its first identifier.
 #[derive(Clone, Copy)]
@@ -181,74 +183,4 @@ fn vertical(bytes: &[u8]) -> Option<(Component<'_>, &[u8])>
         may_be_second: true,
     };
     Some((component, rest))
-}
-
-fn is_two_or_three(dimension: u32) -> bool
-    ensures { result ≡ is_two_or_three dimension }
-{
-    dimension == 2 || dimension == 3
-}
-
-fn may_be_geographic(system: SystemKind, dimension: u32) -> bool
-    ensures { result ≡ may_be_geographic system dimension }
-{
-    match system {
-        SystemKind::Ellipsoidal => is_two_or_three(dimension),
-        SystemKind::Cartesian | SystemKind::Spherical | SystemKind::Vertical => false,
-    }
-}
-
-fn may_be_geodetic(system: SystemKind, dimension: u32) -> bool
-    ensures { result ≡ may_be_geodetic system dimension }
-{
-    match system {
-        SystemKind::Ellipsoidal | SystemKind::Spherical => is_two_or_three(dimension),
-        SystemKind::Cartesian => dimension == 3,
-        SystemKind::Vertical => false,
-    }
-}
-
-fn may_be_of(kind: GeodeticKind, system: SystemKind, dimension: u32) -> bool
-    ensures { result ≡ may_be_of kind system dimension }
-{
-    match kind {
-        GeodeticKind::Geodetic => may_be_geodetic(system, dimension),
-        GeodeticKind::Geographic => may_be_geographic(system, dimension),
-    }
-}
-
-fn may_be_projected(system: SystemKind, dimension: u32) -> bool
-    ensures { result ≡ may_be_projected system dimension }
-{
-    match system {
-        SystemKind::Cartesian => is_two_or_three(dimension),
-        SystemKind::Ellipsoidal | SystemKind::Spherical | SystemKind::Vertical => false,
-    }
-}
-
-fn may_be_vertical(system: SystemKind, dimension: u32) -> bool
-    ensures { result ≡ may_be_vertical system dimension }
-{
-    match system {
-        SystemKind::Vertical => dimension == 1,
-        SystemKind::Ellipsoidal | SystemKind::Cartesian | SystemKind::Spherical => false,
-    }
-}
-
-fn is_ellipsoidal_plane(system: SystemKind, dimension: u32) -> bool
-    ensures { result ≡ (is_ellipsoidal system && dimension == 2) }
-{
-    match system {
-        SystemKind::Ellipsoidal => dimension == 2,
-        SystemKind::Cartesian | SystemKind::Spherical | SystemKind::Vertical => false,
-    }
-}
-
-fn is_cartesian_plane(system: SystemKind, dimension: u32) -> bool
-    ensures { result ≡ (is_cartesian system && dimension == 2) }
-{
-    match system {
-        SystemKind::Cartesian => dimension == 2,
-        SystemKind::Ellipsoidal | SystemKind::Spherical | SystemKind::Vertical => false,
-    }
 }

@@ -1,19 +1,18 @@
 //! Coordinate systems and their axes.
 
 ghost use Rattle.std.specs.Prelude.{◌≡◌, ◌<◌, true, codes, IfSome};
-ghost use Rattle.crs_value.specs.Conditions.{takes_length, takes_angle, is_north_or_south};
 ghost use Rattle.wkt_meaning.specs.Trees.{meridian_tree};
-ghost use Rattle.wkt_canonical.specs.Groups.{group_fits, FitsEach};
 ghost use Rattle.wkt_canonical.specs.Reads.{ReadsSystem, ReadsMeridian, ReadsOrder, ReadsAxisUnit, ReadsCommonUnit, ReadsAxis, ReadsAxes};
-ghost use Rattle.wkt_canonical.specs.Tests.{meridian_passes};
+ghost use Rattle.wkt_canonical.specs.Tests.{meridian_passes, FitsEach};
 
 use crate::front::behind;
 use crate::leaves::text;
 use crate::node::{Node, each, one};
 use crate::numerals::number;
-use crate::units::{Group, angle_unit, unit};
+use crate::units::{angle_unit, unit};
 use crate::words::{digit, direction, kind};
 use crs_part::{Direction, Ident, Meridian, SystemKind};
+use crs_value::{UnitKind, is_north_or_south, takes_unit};
 
 /// The kind and the dimension of a coordinate system, and the rest after it.
 pub(crate) fn system(bytes: &[u8]) -> Option<(SystemKind, u32, &[u8])>
@@ -60,17 +59,8 @@ fn meridian(direction: Direction, bytes: &[u8]) -> Option<&[u8]>
     Some(rest)
 }
 
-fn is_north_or_south(direction: Direction) -> bool
-    ensures { result ≡ is_north_or_south direction }
-{
-    match direction {
-        Direction::North | Direction::South => true,
-        _ => false,
-    }
-}
-
 /// Whether the axis has its order, and the rest after that.
-fn order(k: u32, bytes: &[u8]) -> Option<(bool, &[u8])>
+fn order(k: usize, bytes: &[u8]) -> Option<(bool, &[u8])>
     requires { k < 3 }
     ensures { IfSome result (λ found. ReadsOrder k found.0 bytes.now found.1.now) }
 {
@@ -79,20 +69,20 @@ fn order(k: u32, bytes: &[u8]) -> Option<(bool, &[u8])>
     };
     let (position, rest) = digit(inside)?;
     let rest = behind(rest, b"]")?;
-    if position != k + 1 {
+    if position as usize != k + 1 {
         return None;
     }
     Some((true, rest))
 }
 
 /// Whether the axis has a unit, which fits it, and the rest after that.
-fn axis_unit(kind: SystemKind, k: u32, bytes: &[u8]) -> Option<(bool, &[u8])>
+fn axis_unit(kind: SystemKind, k: usize, bytes: &[u8]) -> Option<(bool, &[u8])>
     ensures { IfSome result (λ found. ReadsAxisUnit kind k found.0 bytes.now found.1.now) }
 {
-    let Some((group, rest)) = unit(bytes) else {
+    let Some((unit_kind, rest)) = unit(bytes) else {
         return Some((false, bytes));
     };
-    if !fits(kind, k, group) {
+    if !takes_unit(kind, k, unit_kind) {
         return None;
     }
     Some((true, rest))
@@ -102,7 +92,7 @@ fn axis_unit(kind: SystemKind, k: u32, bytes: &[u8]) -> Option<(bool, &[u8])>
 fn common_unit(kind: SystemKind, dimension: u32, has_unit: bool, bytes: &[u8]) -> Option<&[u8]>
     ensures { IfSome result (λ rest. ReadsCommonUnit kind dimension has_unit bytes.now rest.now) }
 {
-    let Some((group, rest)) = unit(bytes) else {
+    let Some((unit_kind, rest)) = unit(bytes) else {
         if !has_unit {
             return None;
         }
@@ -111,60 +101,30 @@ fn common_unit(kind: SystemKind, dimension: u32, has_unit: bool, bytes: &[u8]) -
     if has_unit {
         return Some(rest);
     }
-    if !fits_each(kind, dimension, group) {
+    if !fits_each(kind, dimension, unit_kind) {
         return None;
     }
     Some(rest)
 }
 
 /// Whether a unit fits each of at most three axes.
-fn fits_each(kind: SystemKind, dimension: u32, group: Group) -> bool
-    ensures { result ≡ true → FitsEach kind dimension group }
+fn fits_each(kind: SystemKind, dimension: u32, unit_kind: UnitKind) -> bool
+    ensures { result ≡ true → FitsEach kind dimension unit_kind }
 {
-    if !fits(kind, 0, group) {
+    if !takes_unit(kind, 0, unit_kind) {
         return false;
     }
-    if 1 < dimension && !fits(kind, 1, group) {
+    if 1 < dimension && !takes_unit(kind, 1, unit_kind) {
         return false;
     }
-    if 2 < dimension && !fits(kind, 2, group) {
+    if 2 < dimension && !takes_unit(kind, 2, unit_kind) {
         return false;
     }
     true
 }
 
-fn fits(kind: SystemKind, k: u32, group: Group) -> bool
-    ensures { result ≡ group_fits kind k group }
-{
-    match group {
-        Group::Length => takes_length(kind, k),
-        Group::Angle => takes_angle(kind, k),
-        Group::Scale => false,
-        Group::Generic => true,
-    }
-}
-
-fn takes_length(kind: SystemKind, k: u32) -> bool
-    ensures { result ≡ takes_length kind k }
-{
-    match kind {
-        SystemKind::Ellipsoidal => !(k < 2),
-        SystemKind::Cartesian | SystemKind::Spherical | SystemKind::Vertical => true,
-    }
-}
-
-fn takes_angle(kind: SystemKind, k: u32) -> bool
-    ensures { result ≡ takes_angle kind k }
-{
-    match kind {
-        SystemKind::Ellipsoidal => k < 2,
-        SystemKind::Spherical => true,
-        SystemKind::Cartesian | SystemKind::Vertical => false,
-    }
-}
-
 /// Whether the axis at this place has its order, whether it has a unit, and the rest after the axis.
-fn axis(system: SystemKind, k: u32, bytes: &[u8]) -> Option<(bool, bool, &[u8])>
+fn axis(system: SystemKind, k: usize, bytes: &[u8]) -> Option<(bool, bool, &[u8])>
     requires { k < 3 }
     ensures { IfSome result (λ found. ReadsAxis system k found.0 found.1 bytes.now found.2.now) }
 {
@@ -183,7 +143,7 @@ fn axis(system: SystemKind, k: u32, bytes: &[u8]) -> Option<(bool, bool, &[u8])>
 /// The rest after an axis that has its order and a unit, or has none, as an axis before it.
 fn further_axis(
     system: SystemKind,
-    k: u32,
+    k: usize,
     has_order: bool,
     has_unit: bool,
     bytes: &[u8],

@@ -11,15 +11,7 @@ use crate::leaves::text;
 use crate::node::each;
 use crate::numerals::positive_number_behind_comma;
 use crs_part::Ident;
-
-/// What a unit measures, where its keyword says so.
-#[derive(Clone, Copy, PartialEq, Eq)]
-pub(crate) enum Group {
-    Length,
-    Angle,
-    Scale,
-    Generic,
-}
+use crs_value::UnitKind;
 
 /// The rest after a unit, read from after its opening delimiter.
 fn definition(bytes: &[u8]) -> Option<&[u8]>
@@ -32,25 +24,25 @@ fn definition(bytes: &[u8]) -> Option<&[u8]>
     Some(rest)
 }
 
-/// The group of a unit that comes, and the rest after it.
-pub(crate) fn unit(bytes: &[u8]) -> Option<(Group, &[u8])>
+/// The kind of a unit that comes, and the rest after it.
+pub(crate) fn unit(bytes: &[u8]) -> Option<(UnitKind, &[u8])>
     ensures { IfSome result (λ found. ReadsUnit found.0 bytes.now found.1.now) }
 {
     if let Some(inside) = behind(bytes, b",LENGTHUNIT[") {
         let rest = definition(inside)?;
-        return Some((Group::Length, rest));
+        return Some((UnitKind::Length, rest));
     }
     if let Some(inside) = behind(bytes, b",ANGLEUNIT[") {
         let rest = definition(inside)?;
-        return Some((Group::Angle, rest));
+        return Some((UnitKind::Angle, rest));
     }
     if let Some(inside) = behind(bytes, b",SCALEUNIT[") {
         let rest = definition(inside)?;
-        return Some((Group::Scale, rest));
+        return Some((UnitKind::Scale, rest));
     }
     let inside = behind(bytes, b",UNIT[")?;
     let rest = definition(inside)?;
-    Some((Group::Generic, rest))
+    Some((UnitKind::Generic, rest))
 }
 
 /// The rest after a unit, if it comes.

@@ -6,4 +6,4 @@ pub returns-in_default : goal.returns-in_default
 returns-in_default c = axes.no_axis_unit _ _ _
 
 pub returns : goal.returns
-returns c = axes.axis_unit _ _ _ c.in-Some.ensures (sym c.fits.ensures ∙ c.if-not-fits.false)
+returns c = axes.axis_unit _ _ _ c.in-Some.ensures (sym c.takes_unit.ensures ∙ c.if-not-takes_unit.false)

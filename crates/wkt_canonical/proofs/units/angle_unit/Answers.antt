@@ -1,4 +1,4 @@
-use Rattle.wkt_canonical.proofs.Groups as units
+use Rattle.wkt_canonical.proofs.UnitKinds as units
 use Rattle.wkt_canonical.proofs.units.angle_unit.Goals as goal
 
 pub returns-in-Some : goal.returns-in-Some

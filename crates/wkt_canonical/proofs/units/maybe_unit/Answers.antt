@@ -1,5 +1,5 @@
 use Rattle.wkt_canonical.proofs.Runs as runs
-use Rattle.wkt_canonical.proofs.Groups as units
+use Rattle.wkt_canonical.proofs.UnitKinds as units
 use Rattle.wkt_canonical.proofs.units.maybe_unit.Goals as goal
 
 pub returns-in-Some : goal.returns-in-Some
