@@ -1,7 +1,7 @@
 pub mod Walks
 pub mod Tables
 pub mod Editions
-mod Meanings
+pub mod Keywords
 pub mod Steps
 pub mod Found
 pub mod Reach

@@ -14,7 +14,8 @@ use Rattle.wkt_grammar.specs.declared.table.Argument.TheVariants as arguments
 use Rattle.wkt_grammar.specs.declared.table.Node.{Node}
 use Rattle.wkt_grammar.specs.declared.table.Node.TheVariants as nodes
 use Rattle.wkt_grammar.specs.Rows.{row_of, row_in, enters, takes, is_required, Fits, Admitted}
-use Rattle.wkt_grammar.specs.Walk.{is_many, next, walk, all_keywords, all_arguments}
+use Rattle.wkt_grammar.specs.Words.{all_keywords}
+use Rattle.wkt_grammar.specs.Walk.{is_many, next, walk, all_arguments}
 use Rattle.wkt_grammar.proofs.Walks.{goes_on, rows_clear, walk_push, each_argument, admits}
 
 -- ---- the row of a node by its keyword

@@ -20,6 +20,8 @@ use Rattle.wkt_grammar.specs.declared.table.Node.TheVariants as nodes
 use Rattle.wkt_grammar.specs.declared.table.Keyword.TheVariants as keywords
 use Rattle.wkt_grammar.specs.Rows.{row_of, takes, Times, Fits, Admitted, is_required, FirstMissing}
 use Rattle.wkt_grammar.specs.declared.walk.Place.{Place}
+use Rattle.std.specs.Option.{is_some}
+use Rattle.wkt_grammar.proofs.Keywords.{is_same}
 use Rattle.std.specs.Prelude.{MatchOption, IfSome, IfNone}
 use Rattle.wkt_grammar.specs.Walk.{IsAt, is_many, next, walk, missing, may_begin, all_arguments, is_clear}
 
@@ -263,28 +265,7 @@ some_taken kinds.BaseCrs = ((arguments.Node keywords.BaseGeodeticCrs), refl)
 some_taken kinds.LengthUnit = ((arguments.Node keywords.LengthUnit), refl)
 some_taken kinds.AngleUnit = ((arguments.Node keywords.AngleUnit), refl)
 some_taken kinds.AnyUnit = ((arguments.Node keywords.LengthUnit), refl)
-some_taken kinds.Conversion = ((arguments.Node keywords.Conversion), refl)
-some_taken kinds.PrimeMeridian = ((arguments.Node keywords.PrimeMeridian), refl)
-some_taken kinds.CoordinateSystem = ((arguments.Node keywords.CoordinateSystem), refl)
-some_taken kinds.Axis = ((arguments.Node keywords.Axis), refl)
-some_taken kinds.Usage = ((arguments.Node keywords.Usage), refl)
-some_taken kinds.Identifier = ((arguments.Node keywords.Identifier), refl)
-some_taken kinds.Remark = ((arguments.Node keywords.Remark), refl)
-some_taken kinds.GeoidModel = ((arguments.Node keywords.GeoidModel), refl)
-some_taken kinds.Ellipsoid = ((arguments.Node keywords.Ellipsoid), refl)
-some_taken kinds.Anchor = ((arguments.Node keywords.Anchor), refl)
-some_taken kinds.Member = ((arguments.Node keywords.Member), refl)
-some_taken kinds.EnsembleAccuracy = ((arguments.Node keywords.EnsembleAccuracy), refl)
-some_taken kinds.Method = ((arguments.Node keywords.Method), refl)
-some_taken kinds.Parameter = ((arguments.Node keywords.Parameter), refl)
-some_taken kinds.Meridian = ((arguments.Node keywords.Meridian), refl)
-some_taken kinds.Order = ((arguments.Node keywords.Order), refl)
-some_taken kinds.Scope = ((arguments.Node keywords.Scope), refl)
-some_taken kinds.Area = ((arguments.Node keywords.Area), refl)
-some_taken kinds.BoundingBox = ((arguments.Node keywords.BoundingBox), refl)
-some_taken kinds.VerticalExtent = ((arguments.Node keywords.VerticalExtent), refl)
-some_taken kinds.Citation = ((arguments.Node keywords.Citation), refl)
-some_taken kinds.Uri = ((arguments.Node keywords.Uri), refl)
+some_taken (kinds.Node k n) = (arguments.Node k, ap (λ t. is_some (cond t (Some n) None)) (is_same k))
 
 one_of : (o : Often) (filled : Bool) → (is_required o && not filled) ≡ true → Times o (1 + had filled)
 one_of Once false e = refl

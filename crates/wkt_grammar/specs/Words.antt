@@ -1,5 +1,5 @@
 -- The keywords, how they are spelled, and what words mean, in any letter case.
-use Rattle.std.specs.Prelude.{◌×◌, ℕ, List, [], ◌∷◌, ◌++◌, Bool, ◌==◌, Option, map, codes}
+use Rattle.std.specs.Prelude.{ℕ, List, [], ◌∷◌, ◌++◌, Bool, ◌==◌, Option, map, codes}
 use Rattle.std.specs.Char.{to_ascii_lowercase}
 use Rattle.std.specs.Option.{is_some}
 use Rattle.std.specs.Map.{lookup}

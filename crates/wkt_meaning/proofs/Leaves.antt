@@ -1,7 +1,8 @@
 -- The laws of texts, numbers and words.
 use Rattle.std.proofs.Common.{◌≡◌, ℕ, ◌<◌, ◌^◌, Bool, true, false, List, [], ◌∷◌, ◌++◌, map, drop, decimal, Some, refl, sym, ap, ◌∙◌, subst, ⊎_elim, arith}
 use Rattle.std.specs.Prelude.{if◌then◌else◌, cond}
-use Rattle.std.specs.List.{flat_map, list_any}
+use Rattle.std.specs.List.{flat_map}
+use Rattle.std.specs.Option.{is_some}
 use Rattle.std.specs.Char.{to_ascii_lowercase}
 use Rattle.std.specs.Str.{bytes_eq}
 use Rattle.std.proofs.lemmas.Bool.Decides.{nat_tests}
@@ -29,7 +30,6 @@ use Rattle.wkt_grammar.specs.declared.table.Takes.{Takes}
 use Rattle.wkt_grammar.specs.declared.table.Takes.TheVariants as kinds
 use Rattle.wkt_grammar.specs.declared.table.Argument.{Argument}
 use Rattle.wkt_grammar.specs.declared.table.Argument.TheVariants as arguments
-use Rattle.wkt_grammar.specs.declared.words.TheConstants.{CS_KINDS, DIRECTIONS}
 use Rattle.wkt_grammar.specs.Rows.{takes}
 use Rattle.wkt_grammar.specs.Words.{is_cs_kind, is_direction}
 use Rattle.wkt_grammar.specs.Slots.{number_argument, word_argument}
@@ -150,10 +150,10 @@ abbrev small_letters : List ℕ → List ℕ
 small_letters b = map to_ascii_lowercase b
 
 abbrev kind_by : List ℕ → Bool
-kind_by l = list_any (λ w. bytes_eq (small_letters w.now) l) CS_KINDS
+kind_by l = is_some (first_word system_word kinds_listed l)
 
 abbrev direction_by : List ℕ → Bool
-direction_by l = list_any (λ w. bytes_eq (small_letters w.now) l) DIRECTIONS
+direction_by l = is_some (first_word direction_word directions_listed l)
 
 abbrev word_by : List ℕ → Argument
 word_by l = if kind_by l then arguments.CsKind else (if direction_by l then arguments.Direction else arguments.OtherWord)

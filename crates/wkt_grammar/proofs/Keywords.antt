@@ -1,0 +1,132 @@
+-- Keywords: their places, their spellings, and what these mean.
+use Rattle.std.proofs.Common.{◌≡◌, ℕ, Bool, true, false, cond, List, [], ◌∷◌, ◌++◌, map, get_or, Option, Some, None, refl, sym, ap, ◌∙◌, arith}
+use Rattle.std.specs.Prelude.{◌==◌, if◌then◌else◌}
+use Rattle.std.specs.Char.{to_ascii_lowercase}
+use Rattle.std.specs.Map.{lookup}
+use Rattle.std.specs.Option.{option_or}
+use Rattle.crs_part.specs.Words.{first_word, same_word}
+use Rattle.wkt_grammar.specs.declared.table.Keyword.{Keyword}
+use Rattle.wkt_grammar.specs.declared.table.Keyword.TheVariants as keywords
+use Rattle.wkt_grammar.specs.declared.table.Node.{Node}
+use Rattle.wkt_grammar.specs.declared.table.Takes.TheVariants as kinds
+use Rattle.wkt_grammar.specs.Rows.{enters}
+use Rattle.wkt_grammar.specs.Words.{all_keywords, alternates, keyword_of, place_of, same_keyword, spelling}
+
+-- ---- places
+
+placed : (k : Keyword) → get_or all_keywords (place_of k) keywords.Unit ≡ k
+placed keywords.GeodeticCrs = refl
+placed keywords.GeographicCrs = refl
+placed keywords.ProjectedCrs = refl
+placed keywords.VerticalCrs = refl
+placed keywords.CompoundCrs = refl
+placed keywords.BaseGeodeticCrs = refl
+placed keywords.BaseGeographicCrs = refl
+placed keywords.Datum = refl
+placed keywords.VerticalDatum = refl
+placed keywords.Ensemble = refl
+placed keywords.Member = refl
+placed keywords.Method = refl
+placed keywords.GeoidModel = refl
+placed keywords.EnsembleAccuracy = refl
+placed keywords.Ellipsoid = refl
+placed keywords.PrimeMeridian = refl
+placed keywords.Conversion = refl
+placed keywords.Parameter = refl
+placed keywords.LengthUnit = refl
+placed keywords.AngleUnit = refl
+placed keywords.ScaleUnit = refl
+placed keywords.Unit = refl
+placed keywords.CoordinateSystem = refl
+placed keywords.Axis = refl
+placed keywords.Meridian = refl
+placed keywords.Order = refl
+placed keywords.Usage = refl
+placed keywords.BoundingBox = refl
+placed keywords.VerticalExtent = refl
+placed keywords.Scope = refl
+placed keywords.Area = refl
+placed keywords.Anchor = refl
+placed keywords.Citation = refl
+placed keywords.Uri = refl
+placed keywords.Remark = refl
+placed keywords.Identifier = refl
+
+same_place : (a b : ℕ) → (a == b) ≡ true → a ≡ b
+same_place a b e = grind arith
+
+own_place : (a : ℕ) → (a == a) ≡ true
+own_place a = grind arith
+
+pub same_is : (a b : Keyword) → same_keyword a b ≡ true → a ≡ b
+same_is a b e = sym (placed a) ∙ (ap (λ i. get_or all_keywords i keywords.Unit) (same_place (place_of a) (place_of b) e) ∙ placed b)
+
+pub is_same : (k : Keyword) → same_keyword k k ≡ true
+is_same k = own_place (place_of k)
+
+-- a slot for a node with one keyword takes that one alone
+pub node_only : (own : Keyword) (n : Node) (k : Keyword) (m : Node) → enters (kinds.Node own n) k ≡ Some m → (k ≡ own) × (m ≡ n)
+node_only own n k m e = by (same_keyword own k) refl e
+  where
+    by : (t : Bool) → same_keyword own k ≡ t → (if t then Some n else None) ≡ Some m → (k ≡ own) × (m ≡ n)
+    by true s f = (sym (same_is own k s), cc)
+    by false s f = absurd cc
+
+-- ---- spellings
+
+pub keyword_spelled : (k : Keyword) → keyword_of (spelling k) ≡ Some k
+unfolding keyword_of
+keyword_spelled keywords.GeodeticCrs = refl
+keyword_spelled keywords.GeographicCrs = refl
+keyword_spelled keywords.ProjectedCrs = refl
+keyword_spelled keywords.VerticalCrs = refl
+keyword_spelled keywords.CompoundCrs = refl
+keyword_spelled keywords.BaseGeodeticCrs = refl
+keyword_spelled keywords.BaseGeographicCrs = refl
+keyword_spelled keywords.Datum = refl
+keyword_spelled keywords.VerticalDatum = refl
+keyword_spelled keywords.Ensemble = refl
+keyword_spelled keywords.Member = refl
+keyword_spelled keywords.Method = refl
+keyword_spelled keywords.GeoidModel = refl
+keyword_spelled keywords.EnsembleAccuracy = refl
+keyword_spelled keywords.Ellipsoid = refl
+keyword_spelled keywords.PrimeMeridian = refl
+keyword_spelled keywords.Conversion = refl
+keyword_spelled keywords.Parameter = refl
+keyword_spelled keywords.LengthUnit = refl
+keyword_spelled keywords.AngleUnit = refl
+keyword_spelled keywords.ScaleUnit = refl
+keyword_spelled keywords.Unit = refl
+keyword_spelled keywords.CoordinateSystem = refl
+keyword_spelled keywords.Axis = refl
+keyword_spelled keywords.Meridian = refl
+keyword_spelled keywords.Order = refl
+keyword_spelled keywords.Usage = refl
+keyword_spelled keywords.BoundingBox = refl
+keyword_spelled keywords.VerticalExtent = refl
+keyword_spelled keywords.Scope = refl
+keyword_spelled keywords.Area = refl
+keyword_spelled keywords.Anchor = refl
+keyword_spelled keywords.Citation = refl
+keyword_spelled keywords.Uri = refl
+keyword_spelled keywords.Remark = refl
+keyword_spelled keywords.Identifier = refl
+
+pub alternates_mean : map (λ (a : List ℕ × Keyword). keyword_of a.0) alternates ≡ map (λ (a : List ℕ × Keyword). Some a.1) alternates
+unfolding keyword_of
+alternates_mean = refl
+
+-- a word is looked for among the spellings of some keywords, and then among others
+after : (ks : List Keyword) (others : List (List ℕ × Keyword)) (bytes : List ℕ)
+    → lookup (λ w. same_word w bytes) (map (λ k. (spelling k, k)) ks ++ others) ≡ option_or (first_word spelling ks (map to_ascii_lowercase bytes)) (lookup (λ w. same_word w bytes) others)
+after [] others bytes = refl
+after (k ∷ ks) others bytes = by (same_word (spelling k) bytes) _ _ _ (after ks others bytes)
+  where
+    by : (t : Bool) (x y z : Option Keyword) → x ≡ option_or y z → cond t (Some k) x ≡ option_or (cond t (Some k) y) z
+    by true x y z h = refl
+    by false x y z h = h
+
+pub by_spelling : (bytes : List ℕ) → keyword_of bytes ≡ option_or (first_word spelling all_keywords (map to_ascii_lowercase bytes)) (lookup (λ w. same_word w bytes) alternates)
+unfolding keyword_of
+by_spelling bytes = after all_keywords alternates bytes
