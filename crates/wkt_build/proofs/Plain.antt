@@ -1,18 +1,17 @@
 -- Texts without marks inside.
-use Rattle.std.proofs.Common.{◌≡◌, ℕ, Bool, true, false, List, [], ◌∷◌, ◌++◌, refl, sym, ap, ◌∙◌}
-use Rattle.std.specs.Prelude.{◌||◌, if◌then◌else◌}
-use Rattle.std.specs.List.{list_any}
+use Rattle.std.proofs.Common.{◌≡◌, ℕ, zero, suc, ◌+◌, ◌<◌, true, false, List, [], ◌∷◌, length, take, get_or, Some, refl, sym, ap, ◌∙◌, arith}
+use Rattle.std.specs.Prelude.{position}
+use Rattle.std.proofs.lemmas.List.Quantifiers.{position-Some}
 use Rattle.wkt_tree.specs.Tokens.{is_mark}
 use Rattle.wkt_meaning.specs.Leaves.{undoubled}
 
--- the only mark is the one at the end
-pub one_mark : (xs : List ℕ) → list_any is_mark xs ≡ false → xs ≡ undoubled false (xs ++ (34 ∷ []))
-one_mark [] h = refl
-one_mark (x ∷ xs) h = by (is_mark x) h (one_mark xs)
-  where
-    by : (b : Bool) → (b || list_any is_mark xs) ≡ false → (list_any is_mark xs ≡ false → xs ≡ undoubled false (xs ++ (34 ∷ []))) → x ∷ xs ≡ (if b then undoubled true (xs ++ (34 ∷ [])) else x ∷ undoubled false (xs ++ (34 ∷ [])))
-    by true e r = absurd cc
-    by false e r = ap (λ (l : List ℕ). x ∷ l) (r e)
+-- bytes that are no marks, and then the mark at the end
+ended : (xs : List ℕ) (i : ℕ) → i + 1 ≡ length xs → is_mark (get_or xs i 0) ≡ true → ((k : ℕ) → k < i → is_mark (get_or xs k 0) ≡ false) → take i xs ≡ undoubled false xs
+ended [] i last m others = absurd (omega (arith, last))
+ended (x ∷ []) zero last m others = rw m refl
+ended (x ∷ y ∷ xs) zero last m others = absurd (omega (arith, last))
+ended (x ∷ xs) (suc i) last m others = rw (others 0 (omega arith)) (ap (λ (l : List ℕ). x ∷ l) (ended xs i (omega (arith, last)) m (λ k h. others (suc k) (omega (arith, h)))))
 
-pub plain_is : (bytes xs : List ℕ) (x : ℕ) → bytes ≡ xs ++ (x ∷ []) → x ≡ 34 → list_any is_mark xs ≡ false → xs ≡ undoubled false bytes
-plain_is bytes xs x is mark h = one_mark xs h ∙ (ap (λ (y : ℕ). undoubled false (xs ++ (y ∷ []))) (sym mark) ∙ ap (undoubled false) (sym is))
+-- the first mark is the one at the end
+pub plain_is : (bytes : List ℕ) (i : ℕ) → position is_mark bytes ≡ Some i → i + 1 ≡ length bytes → take i bytes ≡ undoubled false bytes
+plain_is bytes i e last = let s = position-Some is_mark bytes i 0 e in ended bytes i last s.1 s.2

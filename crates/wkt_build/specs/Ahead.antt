@@ -1,10 +1,17 @@
--- What a reader knows of the argument after a comma.
-use Rattle.std.specs.Prelude.{◌≡◌, ⊤, true, false, List, drop}
+-- What a reader knows of the keyword that comes, and of the argument after a comma.
+use Rattle.std.specs.Prelude.{◌≡◌, ⊤, true, false, List, drop, Option, Some, None}
 use Rattle.wkt_tree.specs.Tree.{Tok}
 use Rattle.wkt_grammar.specs.declared.table.Argument.TheVariants as arguments
+use Rattle.wkt_grammar.specs.declared.table.Keyword.{Keyword}
 use Rattle.wkt_grammar.specs.Next.{next_is, is_comma, coming}
+use Rattle.wkt_build.specs.Choices.{next_keyword}
 use Rattle.wkt_build.specs.declared.reader.Ahead.{Ahead}
 use Rattle.wkt_build.specs.declared.reader.Ahead.TheVariants.{NoComma, Node, Anything}
+
+-- what is said of the keyword that comes is so
+abbrev pub IsKnown : Option Keyword → List Tok → Type 0
+IsKnown None toks = ⊤
+IsKnown (Some keyword) toks = next_keyword toks ≡ Some keyword
 
 -- what is said of the argument that comes is so
 abbrev pub IsTold : Ahead → List Tok → Type 0

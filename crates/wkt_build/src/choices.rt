@@ -1,21 +1,10 @@
-//! What the keyword that comes decides.
+//! What a keyword decides.
 
 ghost use Rattle.std.specs.Prelude.{◌≡◌};
-ghost use Rattle.wkt_build.specs.Choices.{angle_unit_as, geodetic_kind_of, is_compound, is_ensemble, is_projected, is_vertical, length_unit_as, next_keyword, unit_as};
+ghost use Rattle.wkt_build.specs.Choices.{angle_unit_as, geodetic_kind_of, is_compound, is_ensemble, is_projected, is_vertical, length_unit_as, unit_as};
 
-use crate::reader::Reader;
 use crs_part::{AngleUnit, GeodeticKind, LengthUnit, Unit, UnitDefinition};
-use wkt_grammar::{Keyword, keyword_of};
-
-/// What the token that comes means as a keyword.
-pub(crate) fn next_keyword(cursor: &Reader<'_>) -> Option<Keyword>
-    ensures { result ≡ next_keyword cursor.now }
-{
-    match cursor.peek() {
-        Some(token) => keyword_of(token.bytes),
-        None => None,
-    }
-}
+use wkt_grammar::Keyword;
 
 pub(crate) fn unit_as(keyword: Option<Keyword>, unit: UnitDefinition) -> Unit
     ensures { result ≡ unit_as keyword unit }

@@ -8,7 +8,7 @@ ghost use Rattle.wkt_meaning.specs.Denotes.{DenotesBase, DenotesParts, DenotesSi
 ghost use Rattle.wkt_build.specs.Reads.{BuildsNode};
 
 use crate::built::{Built, pass, take_each, take_maybe, take_one, with};
-use crate::choices::{geodetic_kind_of, is_compound, is_projected, is_vertical, next_keyword};
+use crate::choices::{geodetic_kind_of, is_compound, is_projected, is_vertical};
 use crate::ending::{take_base_ending, take_ending, take_vertical_ending};
 use crate::reader::Reader;
 use crate::values::Remark;
@@ -54,7 +54,7 @@ impl Built<BaseCrs> for BaseCrs {
     }
 
     fn build(alloc: Global, cursor: &mut Reader<'_>) -> Result<BaseCrs, AllocError> {
-        let kind = geodetic_kind_of(next_keyword(cursor));
+        let kind = geodetic_kind_of(cursor.next_keyword());
         build_base(kind, alloc, cursor)
     }
 }
@@ -150,7 +150,7 @@ fn build_single(alloc: Global, cursor: &mut Reader<'_>) -> Result<Single, AllocE
     ensures builds { BuildsSingle cursor.old cursor.new result }
     ensures shorter { length cursor.new ≤ length cursor.old }
 {
-    let keyword = next_keyword(cursor);
+    let keyword = cursor.next_keyword();
     if is_projected(keyword) {
         let projected = build_projected(alloc, cursor)?;
         return Ok(Single::Projected(projected));
@@ -211,7 +211,7 @@ impl Built<CrsParts> for CrsParts {
     }
 
     fn build(alloc: Global, cursor: &mut Reader<'_>) -> Result<CrsParts, AllocError> {
-        if is_compound(next_keyword(cursor)) {
+        if is_compound(cursor.next_keyword()) {
             let compound = build_compound(alloc, cursor)?;
             let boxed = Boxed::new(alloc, compound)?;
             return Ok(CrsParts::Compound(boxed));

@@ -8,7 +8,7 @@ ghost use Rattle.wkt_meaning.specs.Denotes.{DenotesAccuracy, DenotesEllipsoid, D
 ghost use Rattle.wkt_build.specs.Reads.{BuildsNode};
 
 use crate::built::{Built, pass, take_each, take_maybe, take_one};
-use crate::choices::{is_ensemble, next_keyword};
+use crate::choices::is_ensemble;
 use crate::identifiers::Member;
 use crate::reader::Reader;
 use crate::values::Anchor;
@@ -194,7 +194,7 @@ impl Built<GeodeticFrame> for GeodeticFrame {
     }
 
     fn build(alloc: Global, cursor: &mut Reader<'_>) -> Result<GeodeticFrame, AllocError> {
-        if is_ensemble(next_keyword(cursor)) {
+        if is_ensemble(cursor.next_keyword()) {
             let ensemble = build_geodetic_ensemble(alloc, cursor)?;
             return Ok(GeodeticFrame::Ensemble(ensemble));
         }
@@ -213,7 +213,7 @@ impl Built<VerticalFrame> for VerticalFrame {
     }
 
     fn build(alloc: Global, cursor: &mut Reader<'_>) -> Result<VerticalFrame, AllocError> {
-        if is_ensemble(next_keyword(cursor)) {
+        if is_ensemble(cursor.next_keyword()) {
             let ensemble = build_vertical_ensemble(alloc, cursor)?;
             return Ok(VerticalFrame::Ensemble(ensemble));
         }

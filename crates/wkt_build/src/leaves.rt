@@ -1,9 +1,8 @@
 //! Texts, numbers and words.
 
 ghost use Rattle.std.specs.Prelude.{◌≡◌, ◌≤◌, length, false, drop, IfOk, IfSome};
-ghost use Rattle.std.specs.List.{list_any};
 ghost use Rattle.crs_number.specs.Numeral.{Spells};
-ghost use Rattle.wkt_tree.specs.Tokens.{IsQuoted, IsNumber, is_mark};
+ghost use Rattle.wkt_tree.specs.Tokens.{IsQuoted, IsNumber};
 ghost use Rattle.wkt_grammar.specs.declared.table.Takes.TheVariants as kinds;
 ghost use Rattle.wkt_meaning.specs.Leaves.{DenotesCount, DenotesText, DenotesNumber, undoubled};
 ghost use Rattle.wkt_meaning.specs.Denotes.{DenotesCode};
@@ -15,7 +14,7 @@ use crs_number::Decimal;
 use crs_part::{Many, NumberOrText, Text};
 use std::alloc::{AllocError, Global};
 use wkt_grammar::Takes;
-use wkt_tree::TokenKind;
+use wkt_tree::{TokenKind, first_mark};
 
 // ---- numbers
 
@@ -147,17 +146,11 @@ fn undoubled(alloc: Global, bytes: &[u8]) -> Result<Many<u8>, AllocError>
 fn plain(bytes: &[u8]) -> Option<&[u8]>
     ensures { IfSome result (λ content. content.now ≡ undoubled false bytes.now) }
 {
-    let (last, content) = bytes.split_last()?;
-    if *last != b'"' || has_mark(content) {
+    let mark = first_mark(bytes)?;
+    if mark + 1 != bytes.len() {
         return None;
     }
-    Some(content)
-}
-
-fn has_mark(bytes: &[u8]) -> bool
-    ensures { result ≡ list_any is_mark bytes.now }
-{
-    bytes.iter().any(|byte| *byte == b'"')
+    Some(&bytes[..mark])
 }
 
 /// The bytes up to the mark that closes them, without the first of two marks.

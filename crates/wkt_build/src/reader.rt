@@ -1,17 +1,20 @@
 //! The tokens that come, and which argument follows a comma.
 
 ghost use Rattle.std.specs.Prelude.{◌≡◌, drop, slice_get, IfSome};
+ghost use Rattle.std.specs.Bool.{OnTrue};
 ghost use Rattle.std.specs.Option.{option_map};
+ghost use Rattle.wkt_tree.specs.declared.token.TokenKind.TheVariants.{Word};
 ghost use Rattle.wkt_tree.specs.Tokens.{IsSound};
 ghost use Rattle.wkt_tree.specs.Faults.{view};
 ghost use Rattle.wkt_grammar.specs.Rows.{takes};
-ghost use Rattle.wkt_grammar.specs.Next.{coming, is_comma, next_is};
-ghost use Rattle.wkt_build.specs.Ahead.{IsAhead, IsTold};
+ghost use Rattle.wkt_grammar.specs.Next.{coming, is_comma, is_open, next_is};
+ghost use Rattle.wkt_build.specs.Ahead.{IsAhead, IsKnown, IsTold};
+ghost use Rattle.wkt_build.specs.Choices.{next_keyword};
 ghost use Rattle.wkt_build.specs.Reads.{comes};
 
 use crs_number::is_count;
 use std::marker::Model;
-use wkt_grammar::{Argument, Keyword, Takes, coming, enters, next_is_comma, takes};
+use wkt_grammar::{Argument, Keyword, Takes, coming, enters, keyword_of, next_is_comma, next_is_open, takes};
 use wkt_tree::{Cursor, Token, TokenKind};
 
 /// What follows a comma, where it was looked up ahead.
@@ -29,6 +32,8 @@ pub(crate) enum Ahead {
 #[derive(Drop)]
 pub(crate) struct Reader<'a> {
     cursor: Cursor<'a>,
+    /// The keyword that comes, where it was looked up ahead.
+    keyword: Option<Keyword>,
     behind: Cursor<'a>,
     ahead: Ahead,
 }
@@ -36,16 +41,16 @@ pub(crate) struct Reader<'a> {
 impl<'a> Model for Reader<'a> {
     ghost use Rattle.std.specs.Prelude.{List};
     ghost use Rattle.wkt_tree.specs.Tree.{Tok};
-    ghost use Rattle.wkt_build.specs.Ahead.{IsAhead};
+    ghost use Rattle.wkt_build.specs.Ahead.{IsAhead, IsKnown};
 
     ghost Value = { List Tok };
 
     ghost view = { λ r. r.cursor };
 
-    ghost invariant = { λ r. IsAhead r.ahead r.behind r.cursor };
+    ghost invariant = { λ r. IsAhead r.ahead r.behind r.cursor × IsKnown r.keyword r.cursor };
 }
 
-/// What the argument is that begins here, where it is a node.
+/// What the argument is that begins here, where it is a node. A word that begins none is not looked up.
 #[inline(always)]
 fn told(behind: &Cursor<'_>) -> Ahead
     ensures { IsTold result behind.now }
@@ -53,12 +58,35 @@ fn told(behind: &Cursor<'_>) -> Ahead
     let Some(token) = behind.peek() else {
         return Ahead::Anything;
     };
-    match token.kind {
-        TokenKind::Word => match coming(behind) {
-            Argument::Node(keyword) => Ahead::Node(keyword),
-            _ => Ahead::Anything,
+    if !is_word(token.kind) {
+        return Ahead::Anything;
+    }
+    let mut inside = behind.fork();
+    inside.advance();
+    if !next_is_open(&inside) {
+        return Ahead::Anything;
+    }
+    match keyword_of(token.bytes) {
+        Some(keyword) => Ahead::Node(keyword),
+        None => Ahead::Anything,
+    }
+}
+
+fn is_word(kind: TokenKind) -> bool
+    ensures { OnTrue result (kind ≡ Word) }
+{
+    matches!(kind, TokenKind::Word)
+}
+
+fn next_is_open(cursor: &Cursor<'_>) -> bool
+    ensures { result ≡ next_is is_open cursor.now }
+{
+    match cursor.peek() {
+        Some(token) => match token.kind {
+            TokenKind::Open(_) => true,
+            _ => false,
         },
-        _ => Ahead::Anything,
+        None => false,
     }
 }
 
@@ -89,6 +117,7 @@ impl<'a> Reader<'a> {
         if !next_is_comma(&cursor) {
             return Reader {
                 cursor,
+                keyword: None,
                 behind,
                 ahead: Ahead::NoComma,
             };
@@ -97,6 +126,7 @@ impl<'a> Reader<'a> {
         let ahead = told(&behind);
         Reader {
             cursor,
+            keyword: None,
             behind,
             ahead,
         }
@@ -111,14 +141,32 @@ impl<'a> Reader<'a> {
         self.cursor.peek()
     }
 
+    /// What the token that comes means as a keyword.
+    #[inline(always)]
+    pub(crate) fn next_keyword(&self) -> Option<Keyword>
+        ensures { result ≡ next_keyword self.now }
+    {
+        if self.keyword.is_some() {
+            return self.keyword;
+        }
+        match self.cursor.peek() {
+            Some(token) => keyword_of(token.bytes),
+            None => None,
+        }
+    }
+
     /// Goes past the token that comes, where one does.
     #[inline(always)]
     pub(crate) fn advance(&mut self)
         ensures { self.new ≡ drop 1 self.old }
     {
+        self.keyword = None;
         match self.ahead {
             Ahead::NoComma => self.cursor.advance(),
-            Ahead::Node(_) => self.cursor = self.behind.fork(),
+            Ahead::Node(keyword) => {
+                self.cursor = self.behind.fork();
+                self.keyword = Some(keyword);
+            }
             Ahead::Anything => self.cursor = self.behind.fork(),
         }
         if next_is_comma(&self.cursor) {

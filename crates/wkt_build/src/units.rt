@@ -7,7 +7,7 @@ ghost use Rattle.wkt_meaning.specs.Denotes.{DenotesAngleUnit, DenotesLengthUnit,
 ghost use Rattle.wkt_build.specs.Reads.{BuildsNode};
 
 use crate::built::{Built, pass, take_each, take_one};
-use crate::choices::{angle_unit_as, length_unit_as, next_keyword, unit_as};
+use crate::choices::{angle_unit_as, length_unit_as, unit_as};
 use crate::reader::Reader;
 use crs_number::Decimal;
 use crs_part::{AngleUnit, Ident, LengthUnit, Text, Unit, UnitDefinition};
@@ -39,7 +39,7 @@ impl Built<Unit> for Unit {
     }
 
     fn build(alloc: Global, cursor: &mut Reader<'_>) -> Result<Unit, AllocError> {
-        let keyword = next_keyword(cursor);
+        let keyword = cursor.next_keyword();
         let unit = build_unit(alloc, cursor)?;
         Ok(unit_as(keyword, unit))
     }
@@ -55,7 +55,7 @@ impl Built<LengthUnit> for LengthUnit {
     }
 
     fn build(alloc: Global, cursor: &mut Reader<'_>) -> Result<LengthUnit, AllocError> {
-        let keyword = next_keyword(cursor);
+        let keyword = cursor.next_keyword();
         let unit = build_unit(alloc, cursor)?;
         Ok(length_unit_as(keyword, unit))
     }
@@ -71,7 +71,7 @@ impl Built<AngleUnit> for AngleUnit {
     }
 
     fn build(alloc: Global, cursor: &mut Reader<'_>) -> Result<AngleUnit, AllocError> {
-        let keyword = next_keyword(cursor);
+        let keyword = cursor.next_keyword();
         let unit = build_unit(alloc, cursor)?;
         Ok(angle_unit_as(keyword, unit))
     }

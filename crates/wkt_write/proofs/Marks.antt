@@ -1,7 +1,7 @@
 -- Marks doubled, and margins.
-use Rattle.std.proofs.Common.{◌≡◌, ℕ, zero, suc, ◌+◌, ◌*◌, ◌<◌, Bool, true, false, List, [], ◌∷◌, ◌++◌, length, take, drop, get_or, replicate, Some, None, refl, sym, ap, ◌∙◌, subst, append_assoc, arith, inl, inr}
-use Rattle.std.specs.Prelude.{position, Result, Ok, Err, OnOk, is_ok, ◌||◌, if◌then◌else◌}
-use Rattle.std.specs.List.{flat_map, list_any, position_from}
+use Rattle.std.proofs.Common.{◌≡◌, ℕ, zero, suc, ◌+◌, ◌*◌, ◌<◌, true, false, List, [], ◌∷◌, ◌++◌, length, take, drop, get_or, replicate, Some, None, refl, sym, ap, ◌∙◌, subst, append_assoc, arith, inl, inr}
+use Rattle.std.specs.Prelude.{position, Result, Ok, Err, OnOk, is_ok}
+use Rattle.std.specs.List.{flat_map, position_from}
 use Rattle.std.proofs.lemmas.List.{replicate-append-replicate}
 use Rattle.std.proofs.lemmas.List.Quantifiers.{position-Some}
 use Rattle.std.proofs.lemmas.Iterator.Adapters.{position_from-zero}
@@ -44,18 +44,6 @@ unmarked_from i (x ∷ xs) e =
 -- without a mark
 pub no_mark : (xs : List ℕ) → position is_mark xs ≡ None → flat_map doubled xs ≡ xs
 no_mark xs e = unmarked_from 0 xs (sym (position_from-zero is_mark xs) ∙ e)
-
-none_from : (i : ℕ) (xs : List ℕ) → list_any is_mark xs ≡ false → position_from is_mark i xs ≡ None
-none_from i [] h = refl
-none_from i (x ∷ xs) h = by (is_mark x) h (none_from (i + 1) xs)
-  where
-    by : (b : Bool) → (b || list_any is_mark xs) ≡ false → (list_any is_mark xs ≡ false → position_from is_mark (i + 1) xs ≡ None) → (if b then Some i else position_from is_mark (i + 1) xs) ≡ None
-    by true e r = absurd cc
-    by false e r = r e
-
--- what no byte is has no place
-pub none_found : (xs : List ℕ) → list_any is_mark xs ≡ false → position is_mark xs ≡ None
-none_found xs h = position_from-zero is_mark xs ∙ none_from 0 xs h
 
 pub step : (old mid new xs piece rest : List ℕ) (i : ℕ) → position is_mark xs ≡ Some i → piece ≡ take (i + 1) xs → rest ≡ drop (i + 1) xs → new ≡ (mid ++ piece) ++ 34 ∷ [] → mid ++ flat_map doubled xs ≡ old → new ++ flat_map doubled rest ≡ old
 step old mid new xs piece rest i e p r n h =

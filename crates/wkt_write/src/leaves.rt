@@ -1,8 +1,8 @@
 //! Texts, numbers and words.
 
-ghost use Rattle.std.specs.Prelude.{◌≡◌, ◌++◌, ◌∷◌, [], List, ℕ, OnOk, IfSome, position, length, ◌<◌};
-ghost use Rattle.std.specs.List.{flat_map, list_any};
-ghost use Rattle.wkt_tree.specs.Tokens.{doubled, is_mark};
+ghost use Rattle.std.specs.Prelude.{◌≡◌, ◌++◌, OnOk};
+ghost use Rattle.std.specs.List.{flat_map};
+ghost use Rattle.wkt_tree.specs.Tokens.{doubled};
 ghost use Rattle.crs_part.specs.Words.{system_word, direction_word};
 ghost use Rattle.wkt_meaning.specs.Trees.{text_tree, number_tree, count_tree, kind_tree, direction_tree, code_tree};
 
@@ -12,6 +12,7 @@ use crs_number::Decimal;
 use crs_part::{Direction, NumberOrText, SystemKind, Text};
 use itoa::Buffer;
 use std::alloc::AllocError;
+use wkt_tree::first_mark;
 
 #[tactic(auto, unfolding(crate::specs::Layout::laid))]
 impl Written for Text {
@@ -37,28 +38,6 @@ fn push_doubled(out: &mut Vec<u8>, bytes: &[u8]) -> Result<(), AllocError>
         rest = behind;
     }
     out.extend_from_slice(rest)
-}
-
-fn first_mark(bytes: &[u8]) -> Option<usize>
-    ensures first { result ≡ position is_mark bytes.now }
-    ensures within { IfSome result (λ mark. mark < length bytes.now) }
-{
-    // Most texts have none, and that is seen sooner than a place.
-    if !has_mark(bytes) {
-        return None;
-    }
-    bytes.iter().position(|byte| *byte == b'"')
-}
-
-// It looks at all bytes, many at once, and doesn't stop at a mark.
-fn has_mark(bytes: &[u8]) -> bool
-    ensures { result ≡ list_any is_mark bytes.now }
-{
-    let mut found = false;
-    for byte in bytes {
-        found = found | (*byte == b'"');
-    }
-    found
 }
 
 #[tactic(auto, unfolding(crate::specs::Layout::laid))]
