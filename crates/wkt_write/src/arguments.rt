@@ -9,12 +9,13 @@ use crate::layout::Layout;
 use crate::written::Written;
 use crs_part::{Many, NonEmpty};
 use std::alloc::AllocError;
+use wkt_grammar::Keyword;
 
 /// Opens a node, and gives the layout of its arguments.
 pub(crate) fn push_open(
     out: &mut Vec<u8>,
     layout: Layout,
-    keyword: &[u8],
+    keyword: Keyword,
 ) -> Result<Layout, AllocError>
     ensures text { OnOk result (out.new.items ≡ out.old.items ++ (before layout ++ (keyword.now ++ 91 ∷ []))) }
     ensures inside { IfOk result (λ inside. inside ≡ inner layout) }

@@ -8,12 +8,13 @@ use crate::layout::Layout;
 use crate::written::Written;
 use crs_part::{Conversion, Parameter};
 use std::alloc::AllocError;
+use wkt_grammar::Keyword;
 
 impl Written for Parameter {
     ghost tree = { parameter_tree };
 
     fn push_to(&self, out: &mut Vec<u8>, layout: Layout) -> Result<(), AllocError> {
-        let inside = push_open(out, layout, b"PARAMETER")?;
+        let inside = push_open(out, layout, Keyword::Parameter)?;
         self.name.push_to(out, inside)?;
         push_one(out, inside, &self.value)?;
         push_maybe(out, inside, &self.unit)?;
@@ -26,7 +27,7 @@ impl Written for Conversion {
     ghost tree = { conversion_tree };
 
     fn push_to(&self, out: &mut Vec<u8>, layout: Layout) -> Result<(), AllocError> {
-        let inside = push_open(out, layout, b"CONVERSION")?;
+        let inside = push_open(out, layout, Keyword::Conversion)?;
         self.name.push_to(out, inside)?;
         push_method(out, inside, &self.method)?;
         push_each(out, inside, &self.parameters)?;

@@ -10,13 +10,14 @@ use crate::values::push_remark;
 use crate::written::Written;
 use crs_part::{BaseCrs, Compound, CrsParts, Geodetic, GeodeticKind, Projected, Single, Vertical};
 use std::alloc::AllocError;
+use wkt_grammar::Keyword;
 
 fn geodetic_keyword(kind: GeodeticKind) -> &'static [u8]
     ensures { result.now ≡ geodetic_name kind }
 {
     match kind {
-        GeodeticKind::Geodetic => b"GEODCRS",
-        GeodeticKind::Geographic => b"GEOGCRS",
+        GeodeticKind::Geodetic => Keyword::GeodeticCrs,
+        GeodeticKind::Geographic => Keyword::GeographicCrs,
     }
 }
 
@@ -24,8 +25,8 @@ fn base_keyword(kind: GeodeticKind) -> &'static [u8]
     ensures { result.now ≡ base_name kind }
 {
     match kind {
-        GeodeticKind::Geodetic => b"BASEGEODCRS",
-        GeodeticKind::Geographic => b"BASEGEOGCRS",
+        GeodeticKind::Geodetic => Keyword::BaseGeodeticCrs,
+        GeodeticKind::Geographic => Keyword::BaseGeographicCrs,
     }
 }
 
@@ -65,7 +66,7 @@ impl Written for Projected {
     ghost tree = { projected_tree };
 
     fn push_to(&self, out: &mut Vec<u8>, layout: Layout) -> Result<(), AllocError> {
-        let inside = push_open(out, layout, b"PROJCRS")?;
+        let inside = push_open(out, layout, Keyword::ProjectedCrs)?;
         self.name.push_to(out, inside)?;
         push_one(out, inside, &self.base)?;
         push_one(out, inside, &self.conversion)?;
@@ -83,7 +84,7 @@ impl Written for Vertical {
     ghost tree = { vertical_tree };
 
     fn push_to(&self, out: &mut Vec<u8>, layout: Layout) -> Result<(), AllocError> {
-        let inside = push_open(out, layout, b"VERTCRS")?;
+        let inside = push_open(out, layout, Keyword::VerticalCrs)?;
         self.name.push_to(out, inside)?;
         push_one(out, inside, &self.datum)?;
         push_one(out, inside, &self.system)?;
@@ -113,7 +114,7 @@ impl Written for Compound {
     ghost tree = { compound_tree };
 
     fn push_to(&self, out: &mut Vec<u8>, layout: Layout) -> Result<(), AllocError> {
-        let inside = push_open(out, layout, b"COMPOUNDCRS")?;
+        let inside = push_open(out, layout, Keyword::CompoundCrs)?;
         self.name.push_to(out, inside)?;
         push_one(out, inside, &self.first)?;
         push_one(out, inside, &self.second)?;

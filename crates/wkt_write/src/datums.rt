@@ -15,12 +15,13 @@ use crs_part::{
     VerticalEnsemble, VerticalFrame,
 };
 use std::alloc::AllocError;
+use wkt_grammar::Keyword;
 
 impl Written for Ellipsoid {
     ghost tree = { ellipsoid_tree };
 
     fn push_to(&self, out: &mut Vec<u8>, layout: Layout) -> Result<(), AllocError> {
-        let inside = push_open(out, layout, b"ELLIPSOID")?;
+        let inside = push_open(out, layout, Keyword::Ellipsoid)?;
         self.name.push_to(out, inside)?;
         push_one(out, inside, &self.radius)?;
         push_one(out, inside, &self.flattening)?;
@@ -34,7 +35,7 @@ impl Written for PrimeMeridian {
     ghost tree = { prime_meridian_tree };
 
     fn push_to(&self, out: &mut Vec<u8>, layout: Layout) -> Result<(), AllocError> {
-        let inside = push_open(out, layout, b"PRIMEM")?;
+        let inside = push_open(out, layout, Keyword::PrimeMeridian)?;
         self.name.push_to(out, inside)?;
         push_one(out, inside, &self.longitude)?;
         push_maybe(out, inside, &self.unit)?;
@@ -47,10 +48,10 @@ impl Written for Datum {
     ghost tree = { datum_tree };
 
     fn push_to(&self, out: &mut Vec<u8>, layout: Layout) -> Result<(), AllocError> {
-        let inside = push_open(out, layout, b"DATUM")?;
+        let inside = push_open(out, layout, Keyword::Datum)?;
         self.name.push_to(out, inside)?;
         push_one(out, inside, &self.ellipsoid)?;
-        push_maybe_value(out, inside, b"ANCHOR", &self.anchor)?;
+        push_maybe_value(out, inside, Keyword::Anchor, &self.anchor)?;
         push_each(out, inside, &self.ids)?;
         push_close(out)
     }
@@ -60,9 +61,9 @@ impl Written for VerticalDatum {
     ghost tree = { vertical_datum_tree };
 
     fn push_to(&self, out: &mut Vec<u8>, layout: Layout) -> Result<(), AllocError> {
-        let inside = push_open(out, layout, b"VDATUM")?;
+        let inside = push_open(out, layout, Keyword::VerticalDatum)?;
         self.name.push_to(out, inside)?;
-        push_maybe_value(out, inside, b"ANCHOR", &self.anchor)?;
+        push_maybe_value(out, inside, Keyword::Anchor, &self.anchor)?;
         push_each(out, inside, &self.ids)?;
         push_close(out)
     }
@@ -75,7 +76,7 @@ fn push_node_of_accuracy(
 ) -> Result<(), AllocError>
     ensures { OnOk result (out.new.items ≡ out.old.items ++ laid layout (accuracy_tree accuracy.now)) }
 {
-    let inside = push_open(out, layout, b"ENSEMBLEACCURACY")?;
+    let inside = push_open(out, layout, Keyword::EnsembleAccuracy)?;
     accuracy.push_to(out, inside)?;
     push_close(out)
 }
@@ -91,7 +92,7 @@ impl Written for GeodeticEnsemble {
     ghost tree = { geodetic_ensemble_tree };
 
     fn push_to(&self, out: &mut Vec<u8>, layout: Layout) -> Result<(), AllocError> {
-        let inside = push_open(out, layout, b"ENSEMBLE")?;
+        let inside = push_open(out, layout, Keyword::Ensemble)?;
         self.name.push_to(out, inside)?;
         push_members(out, inside, &self.members)?;
         push_one(out, inside, &self.ellipsoid)?;
@@ -105,7 +106,7 @@ impl Written for VerticalEnsemble {
     ghost tree = { vertical_ensemble_tree };
 
     fn push_to(&self, out: &mut Vec<u8>, layout: Layout) -> Result<(), AllocError> {
-        let inside = push_open(out, layout, b"ENSEMBLE")?;
+        let inside = push_open(out, layout, Keyword::Ensemble)?;
         self.name.push_to(out, inside)?;
         push_members(out, inside, &self.members)?;
         push_accuracy(out, inside, &self.accuracy)?;

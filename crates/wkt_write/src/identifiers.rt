@@ -11,17 +11,18 @@ use crate::values::push_maybe_value;
 use crate::written::Written;
 use crs_part::{Ident, Many, Named, NonEmpty};
 use std::alloc::AllocError;
+use wkt_grammar::Keyword;
 
 impl Written for Ident {
     ghost tree = { ident_tree };
 
     fn push_to(&self, out: &mut Vec<u8>, layout: Layout) -> Result<(), AllocError> {
-        let inside = push_open(out, layout, b"ID")?;
+        let inside = push_open(out, layout, Keyword::Identifier)?;
         self.authority.push_to(out, inside)?;
         push_one(out, inside, &self.code)?;
         push_maybe(out, inside, &self.version)?;
-        push_maybe_value(out, inside, b"CITATION", &self.citation)?;
-        push_maybe_value(out, inside, b"URI", &self.uri)?;
+        push_maybe_value(out, inside, Keyword::Citation, &self.citation)?;
+        push_maybe_value(out, inside, Keyword::Uri, &self.uri)?;
         push_close(out)
     }
 }
@@ -29,7 +30,7 @@ impl Written for Ident {
 fn push_named(
     out: &mut Vec<u8>,
     layout: Layout,
-    keyword: &[u8],
+    keyword: Keyword,
     named: &Named,
 ) -> Result<(), AllocError>
     ensures { OnOk result (out.new.items ≡ out.old.items ++ laid layout (named_tree keyword.now named.now)) }
@@ -44,7 +45,7 @@ fn push_named(
 fn push_one_named(
     out: &mut Vec<u8>,
     layout: Layout,
-    keyword: &[u8],
+    keyword: Keyword,
     named: &Named,
 ) -> Result<(), AllocError>
     ensures { OnOk result (out.new.items ≡ out.old.items ++ behind layout (one (named_tree keyword.now named.now))) }
@@ -57,7 +58,7 @@ fn push_one_named(
 fn push_each_named(
     out: &mut Vec<u8>,
     layout: Layout,
-    keyword: &[u8],
+    keyword: Keyword,
     items: &Many<Named>,
 ) -> Result<(), AllocError>
     ensures { OnOk result (out.new.items ≡ out.old.items ++ behind layout (map (named_tree keyword.now) items.now)) }
@@ -75,7 +76,7 @@ pub(crate) fn push_method(
 ) -> Result<(), AllocError>
     ensures { OnOk result (out.new.items ≡ out.old.items ++ behind layout (one (named_tree (codes "METHOD") method.now))) }
 {
-    push_one_named(out, layout, b"METHOD", method)
+    push_one_named(out, layout, Keyword::Method, method)
 }
 
 pub(crate) fn push_members(
@@ -85,8 +86,8 @@ pub(crate) fn push_members(
 ) -> Result<(), AllocError>
     ensures { OnOk result (out.new.items ≡ out.old.items ++ behind layout (map (named_tree (codes "MEMBER")) (listed members.now))) }
 {
-    push_one_named(out, layout, b"MEMBER", &members.first)?;
-    push_each_named(out, layout, b"MEMBER", &members.others)
+    push_one_named(out, layout, Keyword::Member, &members.first)?;
+    push_each_named(out, layout, Keyword::Member, &members.others)
 }
 
 pub(crate) fn push_geoid_models(
@@ -96,5 +97,5 @@ pub(crate) fn push_geoid_models(
 ) -> Result<(), AllocError>
     ensures { OnOk result (out.new.items ≡ out.old.items ++ behind layout (map (named_tree (codes "GEOIDMODEL")) models.now)) }
 {
-    push_each_named(out, layout, b"GEOIDMODEL", models)
+    push_each_named(out, layout, Keyword::GeoidModel, models)
 }

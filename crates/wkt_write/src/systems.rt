@@ -7,12 +7,13 @@ use crate::layout::Layout;
 use crate::written::Written;
 use crs_part::{Axis, CoordSystem, Meridian, Order};
 use std::alloc::AllocError;
+use wkt_grammar::Keyword;
 
 impl Written for CoordSystem {
     ghost tree = { system_tree };
 
     fn push_to(&self, out: &mut Vec<u8>, layout: Layout) -> Result<(), AllocError> {
-        let inside = push_open(out, layout, b"CS")?;
+        let inside = push_open(out, layout, Keyword::CoordinateSystem)?;
         self.kind.push_to(out, inside)?;
         push_one(out, inside, &self.dimension)?;
         push_each(out, inside, &self.ids)?;
@@ -24,7 +25,7 @@ impl Written for Meridian {
     ghost tree = { meridian_tree };
 
     fn push_to(&self, out: &mut Vec<u8>, layout: Layout) -> Result<(), AllocError> {
-        let inside = push_open(out, layout, b"MERIDIAN")?;
+        let inside = push_open(out, layout, Keyword::Meridian)?;
         self.longitude.push_to(out, inside)?;
         push_one(out, inside, &self.unit)?;
         push_close(out)
@@ -35,7 +36,7 @@ impl Written for Order {
     ghost tree = { order_tree };
 
     fn push_to(&self, out: &mut Vec<u8>, layout: Layout) -> Result<(), AllocError> {
-        let inside = push_open(out, layout, b"ORDER")?;
+        let inside = push_open(out, layout, Keyword::Order)?;
         self.position.push_to(out, inside)?;
         push_close(out)
     }
@@ -45,7 +46,7 @@ impl Written for Axis {
     ghost tree = { axis_tree };
 
     fn push_to(&self, out: &mut Vec<u8>, layout: Layout) -> Result<(), AllocError> {
-        let inside = push_open(out, layout, b"AXIS")?;
+        let inside = push_open(out, layout, Keyword::Axis)?;
         self.name.push_to(out, inside)?;
         push_one(out, inside, &self.direction)?;
         push_maybe(out, inside, &self.meridian)?;

@@ -9,11 +9,12 @@ use crate::layout::Layout;
 use crate::written::Written;
 use crs_part::{AngleUnit, LengthUnit, Unit, UnitDefinition};
 use std::alloc::AllocError;
+use wkt_grammar::Keyword;
 
 fn push_unit(
     out: &mut Vec<u8>,
     layout: Layout,
-    keyword: &[u8],
+    keyword: Keyword,
     unit: &UnitDefinition,
 ) -> Result<(), AllocError>
     ensures { OnOk result (out.new.items ≡ out.old.items ++ laid layout (unit_of_tree keyword.now unit.now)) }
@@ -30,10 +31,10 @@ impl Written for Unit {
 
     fn push_to(&self, out: &mut Vec<u8>, layout: Layout) -> Result<(), AllocError> {
         match self {
-            Unit::Length(unit) => push_unit(out, layout, b"LENGTHUNIT", unit),
-            Unit::Angle(unit) => push_unit(out, layout, b"ANGLEUNIT", unit),
-            Unit::Scale(unit) => push_unit(out, layout, b"SCALEUNIT", unit),
-            Unit::Generic(unit) => push_unit(out, layout, b"UNIT", unit),
+            Unit::Length(unit) => push_unit(out, layout, Keyword::LengthUnit, unit),
+            Unit::Angle(unit) => push_unit(out, layout, Keyword::AngleUnit, unit),
+            Unit::Scale(unit) => push_unit(out, layout, Keyword::ScaleUnit, unit),
+            Unit::Generic(unit) => push_unit(out, layout, Keyword::Unit, unit),
         }
     }
 }
@@ -43,8 +44,8 @@ impl Written for LengthUnit {
 
     fn push_to(&self, out: &mut Vec<u8>, layout: Layout) -> Result<(), AllocError> {
         match self {
-            LengthUnit::Length(unit) => push_unit(out, layout, b"LENGTHUNIT", unit),
-            LengthUnit::Generic(unit) => push_unit(out, layout, b"UNIT", unit),
+            LengthUnit::Length(unit) => push_unit(out, layout, Keyword::LengthUnit, unit),
+            LengthUnit::Generic(unit) => push_unit(out, layout, Keyword::Unit, unit),
         }
     }
 }
@@ -54,8 +55,8 @@ impl Written for AngleUnit {
 
     fn push_to(&self, out: &mut Vec<u8>, layout: Layout) -> Result<(), AllocError> {
         match self {
-            AngleUnit::Angle(unit) => push_unit(out, layout, b"ANGLEUNIT", unit),
-            AngleUnit::Generic(unit) => push_unit(out, layout, b"UNIT", unit),
+            AngleUnit::Angle(unit) => push_unit(out, layout, Keyword::AngleUnit, unit),
+            AngleUnit::Generic(unit) => push_unit(out, layout, Keyword::Unit, unit),
         }
     }
 }

@@ -8,12 +8,13 @@ use crate::values::{push_maybe_value, push_value};
 use crate::written::Written;
 use crs_part::{BoundingBox, Usage, VerticalExtent};
 use std::alloc::AllocError;
+use wkt_grammar::Keyword;
 
 impl Written for BoundingBox {
     ghost tree = { bounding_box_tree };
 
     fn push_to(&self, out: &mut Vec<u8>, layout: Layout) -> Result<(), AllocError> {
-        let inside = push_open(out, layout, b"BBOX")?;
+        let inside = push_open(out, layout, Keyword::BoundingBox)?;
         self.south.push_to(out, inside)?;
         push_one(out, inside, &self.west)?;
         push_one(out, inside, &self.north)?;
@@ -26,7 +27,7 @@ impl Written for VerticalExtent {
     ghost tree = { vertical_extent_tree };
 
     fn push_to(&self, out: &mut Vec<u8>, layout: Layout) -> Result<(), AllocError> {
-        let inside = push_open(out, layout, b"VERTICALEXTENT")?;
+        let inside = push_open(out, layout, Keyword::VerticalExtent)?;
         self.low.push_to(out, inside)?;
         push_one(out, inside, &self.high)?;
         push_maybe(out, inside, &self.unit)?;
@@ -38,9 +39,9 @@ impl Written for Usage {
     ghost tree = { usage_tree };
 
     fn push_to(&self, out: &mut Vec<u8>, layout: Layout) -> Result<(), AllocError> {
-        let inside = push_open(out, layout, b"USAGE")?;
-        push_value(out, inside, b"SCOPE", &self.scope)?;
-        push_maybe_value(out, inside, b"AREA", &self.area)?;
+        let inside = push_open(out, layout, Keyword::Usage)?;
+        push_value(out, inside, Keyword::Scope, &self.scope)?;
+        push_maybe_value(out, inside, Keyword::Area, &self.area)?;
         push_maybe(out, inside, &self.bounding_box)?;
         push_maybe(out, inside, &self.vertical_extent)?;
         push_close(out)

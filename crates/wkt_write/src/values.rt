@@ -9,11 +9,12 @@ use crate::layout::Layout;
 use crate::written::Written;
 use crs_part::Text;
 use std::alloc::AllocError;
+use wkt_grammar::Keyword;
 
 pub(crate) fn push_value(
     out: &mut Vec<u8>,
     layout: Layout,
-    keyword: &[u8],
+    keyword: Keyword,
     value: &Text,
 ) -> Result<(), AllocError>
     ensures { OnOk result (out.new.items ≡ out.old.items ++ laid layout (value_tree keyword.now value.now)) }
@@ -26,7 +27,7 @@ pub(crate) fn push_value(
 pub(crate) fn push_maybe_value(
     out: &mut Vec<u8>,
     layout: Layout,
-    keyword: &[u8],
+    keyword: Keyword,
     value: &Option<Text>,
 ) -> Result<(), AllocError>
     ensures { OnOk result (out.new.items ≡ out.old.items ++ behind layout (maybe (value_tree keyword.now) value.now)) }
@@ -47,5 +48,5 @@ pub(crate) fn push_remark(
 ) -> Result<(), AllocError>
     ensures { OnOk result (out.new.items ≡ out.old.items ++ behind layout (maybe (value_tree (codes "REMARK")) remark.now)) }
 {
-    push_maybe_value(out, layout, b"REMARK", remark)
+    push_maybe_value(out, layout, Keyword::Remark, remark)
 }
