@@ -1,7 +1,7 @@
 -- What is built of texts, numbers and words.
 use Rattle.std.proofs.Common.{◌≡◌, ℕ, zero, suc, ◌<◌, ◌^◌, length, get_or, arith, Bool, true, false, List, [], ◌∷◌, ◌++◌, map, drop, slice_get, Option, Some, None, Result, Ok, Err, IfOk, refl, sym, ap, ◌∙◌, subst, pos}
 use Rattle.std.specs.Prelude.{cond, if◌then◌else◌, ◌||◌}
-use Rattle.std.specs.List.{list_any}
+use Rattle.std.specs.Option.{is_some}
 use Rattle.std.specs.Char.{to_ascii_lowercase}
 use Rattle.std.specs.Str.{bytes_eq, is_utf8}
 use Rattle.std.proofs.lemmas.Str.{is_utf8-from_IsUtf8}
@@ -161,15 +161,6 @@ text_code_made old new v h m x rest f n =
 abbrev pub letters : List ℕ → List ℕ
 letters b = map to_ascii_lowercase b
 
--- a word is listed where some value has it
-found_word : {A : Type 0} (f : A → List ℕ) (vs : List A) (l : List ℕ) → list_any (λ w. bytes_eq (letters w) l) (map f vs) ≡ true → (v : A) × (first_word f vs l ≡ Some v)
-found_word f [] l e = absurd cc
-found_word f (v ∷ vs) l e = by (bytes_eq (letters (f v)) l) e (found_word f vs l)
-  where
-    by : (b : Bool) → (b || list_any (λ w. bytes_eq (letters w) l) (map f vs)) ≡ true → (list_any (λ w. bytes_eq (letters w) l) (map f vs) ≡ true → (w : _) × (first_word f vs l ≡ Some w)) → (w : _) × ((if b then Some v else first_word f vs l) ≡ Some w)
-    by true h g = (v, refl)
-    by false h g = g h
-
 same_bytes : (a b : List ℕ) → bytes_eq a b ≡ true → a ≡ b
 same_bytes a b h = by (bytes_eq a b) (bytes_eq-Decides a b) h
   where
@@ -184,28 +175,36 @@ word_is f (w ∷ vs) l v e = by (bytes_eq (letters (f w)) l) refl e (word_is f v
     by true h g r = let same : w ≡ v = cc in ap (λ z. letters (f z)) (sym same) ∙ same_bytes (letters (f w)) l h
     by false h g r = r g
 
-pub kind_listed : (b : List ℕ) → is_cs_kind b ≡ list_any (λ w. bytes_eq (letters w) (letters b)) (map system_word kinds_listed)
+-- a word is listed where some value has it
+abbrev pub IsListed : {A : Type 0} → (List ℕ → Bool) → (A → List ℕ) → List A → Type 0
+IsListed is_listed f vs = (b : List ℕ) → is_listed b ≡ is_some (first_word f vs (letters b))
+
+pub kind_listed : IsListed is_cs_kind system_word kinds_listed
 unfolding is_cs_kind
 kind_listed b = refl
 
-pub direction_listed : (b : List ℕ) → is_direction b ≡ list_any (λ w. bytes_eq (letters w) (letters b)) (map direction_word directions_listed)
+pub direction_listed : IsListed is_direction direction_word directions_listed
 unfolding is_direction
 direction_listed b = refl
 
-pub word_takes : {A : Type 0} (is_listed : List ℕ → Bool) (f : A → List ℕ) (vs : List A) (old new : List Tok) (bytes : List ℕ) (v : A) → ((b : List ℕ) → is_listed b ≡ list_any (λ w. bytes_eq (letters w) (letters b)) (map f vs))
-    → ((t : Tok) (rest : List Tok) → old ≡ t ∷ rest → (t.piece.bytes ≡ bytes) × (new ≡ rest)) → (first_word f vs (letters bytes) ≡ Some v) → TakesWord is_listed f old new v
-word_takes is_listed f vs old new bytes v h m e t rest o l = let a = m t rest o in (word_is f vs (letters bytes) v e ∙ ap letters (sym a.0), a.1)
+-- the token that comes has these bytes, and what follows it is left
+abbrev pub Passed : List Tok → List Tok → List ℕ → Type 0
+Passed old new bytes = (t : Tok) (rest : List Tok) → old ≡ t ∷ rest → (t.piece.bytes ≡ bytes) × (new ≡ rest)
 
-pub word_lost : {A : Type 0} (is_listed : List ℕ → Bool) (f : A → List ℕ) (vs : List A) (old new : List Tok) (bytes : List ℕ) (v : A) → ((b : List ℕ) → is_listed b ≡ list_any (λ w. bytes_eq (letters w) (letters b)) (map f vs))
-    → ((t : Tok) (rest : List Tok) → old ≡ t ∷ rest → (t.piece.bytes ≡ bytes) × (new ≡ rest)) → (first_word f vs (letters bytes) ≡ None) → TakesWord is_listed f old new v
+-- the token that was peeked is passed
+pub passed : (old new : List Tok) (t : Tok) → Some t ≡ slice_get old 0 → new ≡ drop 1 old → Passed old new t.piece.bytes
+passed old new t e n u rest h = let same : t ≡ u = peeked (e ∙ ap (λ (l : List Tok). slice_get l 0) h) in (ap (λ (v : Tok). v.piece.bytes) (sym same), n ∙ ap (drop 1) h)
+  where
+    peeked : Some t ≡ Some u → t ≡ u
+    peeked g = cc
+
+pub word_takes : {A : Type 0} (is_listed : List ℕ → Bool) (f : A → List ℕ) (vs : List A) (old new : List Tok) (bytes : List ℕ) (v : A) → Passed old new bytes → first_word f vs (letters bytes) ≡ Some v → TakesWord is_listed f old new v
+word_takes is_listed f vs old new bytes v m e t rest o l = let a = m t rest o in (word_is f vs (letters bytes) v e ∙ ap letters (sym a.0), a.1)
+
+pub word_lost : {A : Type 0} (is_listed : List ℕ → Bool) (f : A → List ℕ) (vs : List A) (old new : List Tok) (bytes : List ℕ) (v : A) → IsListed is_listed f vs → Passed old new bytes → first_word f vs (letters bytes) ≡ None → TakesWord is_listed f old new v
 word_lost is_listed f vs old new bytes v h m e t rest o l =
-    let a = m t rest o in
-    let w = found_word f vs (letters bytes) (ap (λ b. list_any (λ w. bytes_eq (letters w) (letters b)) (map f vs)) (sym a.0) ∙ (sym (h t.piece.bytes) ∙ l)) in
-    absurd (let z = sym e ∙ w.1 in cc)
-
--- what a token that was peeked is
-pub peeked : (old new : List Tok) (t : Tok) → Some t ≡ slice_get old 0 → new ≡ drop 1 old → (u : Tok) (rest : List Tok) → old ≡ u ∷ rest → (t ≡ u) × (new ≡ rest)
-peeked old new t e n u rest h = (let g = e ∙ ap (λ (l : List Tok). slice_get l 0) h in cc, n ∙ ap (drop 1) h)
+    let listed = sym l ∙ (h t.piece.bytes ∙ (ap (λ b. is_some (first_word f vs (letters b))) (m t rest o).0 ∙ ap is_some e)) in
+    absurd cc
 
 pub word_made : {A : Type 0} (kind : Takes) (is_listed : List ℕ → Bool) (f : A → List ℕ) (old new : List Tok) (v : A) → ((i : Item) → takes kind (shape (bare i)) ≡ true → (p : Piece) × (i ≡ tree.word p) × (is_listed p.bytes ≡ true)) → TakesWord is_listed f old new v
     → (x : Bare) (rest : List Tok) → Fitting kind x → Next x old rest → DenotesWord f x v × (new ≡ rest)
@@ -240,9 +239,3 @@ direction_item (tree.node k f o items c) t = absurd (no_node kinds.Direction (λ
 pub text_result : {E : Type 0} (old new : List Tok) (r : Result Text E) → IfOk r (TakesText old new) → (x : Bare) (rest : List Tok) → Fitting kinds.Text x → Next x old rest → IfOk r (λ v. DenotesText x v × (new ≡ rest))
 text_result old new (Ok v) m x rest f n = text_made old new v m x rest f n
 text_result old new (Err e) m x rest f n = tt
-
--- a value whose word it is not is passed over
-pub passed_over : {A : Type 0} (f : A → List ℕ) (vs : List A) (l : List ℕ) (i : ℕ) (d : A) → i < length vs → bytes_eq (letters (f (get_or vs i d))) l ≡ false → first_word f (drop i vs) l ≡ first_word f (drop (suc i) vs) l
-passed_over f [] l i d h e = absurd (omega arith)
-passed_over f (v ∷ vs) l zero d h e = ap (λ t. if t then Some v else first_word f vs l) e
-passed_over f (v ∷ vs) l (suc i) d h e = passed_over f vs l i d (omega arith) e

@@ -1,7 +1,6 @@
 pub mod Steps
 pub mod Rows
 pub mod Held
-pub mod Only
 pub mod LeafLemmas
 pub mod Chosen
 pub mod Roots

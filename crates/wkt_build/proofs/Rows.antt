@@ -20,6 +20,7 @@ use Rattle.wkt_grammar.specs.Rows.{takes, enters, is_required}
 use Rattle.wkt_grammar.specs.Words.{keyword_of, is_cs_kind, is_direction}
 use Rattle.crs_number.specs.Count.{is_count}
 use Rattle.wkt_grammar.specs.Walk.{is_many, may_begin, all_arguments, is_clear}
+use Rattle.wkt_grammar.proofs.Keywords.{node_only}
 use Rattle.wkt_grammar.proofs.Walks.{begins, each_argument}
 use Rattle.wkt_grammar.specs.Slots.{argument_by}
 use Rattle.wkt_grammar.specs.Next.{next_is, is_open, Follows}
@@ -299,22 +300,18 @@ entered_of t e (node k xs) f = by (keyword_of k) refl f.taken
         let m = some_of (enters t K) q in
         record { keyword = k; items = xs; means = K; row = m.0; is = refl; meaning = p; enters = m.1; fitted = f.sound m.0 (ap (entered t) p ∙ m.1) }
 
--- a slot that takes nodes with this keyword and row alone
-abbrev pub Only : Takes → Keyword → Node → Type 0
-Only t K n = (J : Keyword) (m : Node) → enters t J ≡ Some m → (J ≡ K) × (m ≡ n)
-
--- what is built of the argument of such a slot
-pub made_argument : {A : Type 0} (t : Takes) (K : Keyword) (n : Node) (F : A → Fields) (old new : List Tok) (v : A) → takes_nodes t ≡ true → Only t K n → MadeNode n F old new v
-    → (x : Bare) (rest : List Tok) → Fitting t x → Next x old rest → IsNode K n (F v) x × (new ≡ rest)
-made_argument t K n F old new v nodes only m x rest f next =
-    let e = entered_of t nodes x f in
-    let o = only e.means e.row e.enters in
+-- what is built of the argument of a slot for nodes with one keyword
+pub made_argument : {A : Type 0} (K : Keyword) (n : Node) (F : A → Fields) (old new : List Tok) (v : A) → MadeNode n F old new v
+    → (x : Bare) (rest : List Tok) → Fitting (kinds.Node K n) x → Next x old rest → IsNode K n (F v) x × (new ≡ rest)
+made_argument K n F old new v m x rest f next =
+    let e = entered_of (kinds.Node K n) refl x f in
+    let o = node_only K n e.means e.row e.enters in
     m x e.keyword e.items K rest e.is (e.meaning ∙ ap Some o.0) (subst (λ r. Fitted r e.items) o.1 e.fitted) next
 
-pub argument_result : {A E : Type 0} (t : Takes) (K : Keyword) (n : Node) (F : A → Fields) (old new : List Tok) (r : Result A E) → takes_nodes t ≡ true → Only t K n → BuildsNode n F old new r
-    → (x : Bare) (rest : List Tok) → Fitting t x → Next x old rest → IfOk r (λ v. IsNode K n (F v) x × (new ≡ rest))
-argument_result t K n F old new (Ok v) nodes only m x rest f next = made_argument t K n F old new v nodes only m x rest f next
-argument_result t K n F old new (Err e) nodes only m x rest f next = tt
+pub argument_result : {A E : Type 0} (K : Keyword) (n : Node) (F : A → Fields) (old new : List Tok) (r : Result A E) → BuildsNode n F old new r
+    → (x : Bare) (rest : List Tok) → Fitting (kinds.Node K n) x → Next x old rest → IfOk r (λ v. IsNode K n (F v) x × (new ≡ rest))
+argument_result K n F old new (Ok v) m x rest f next = made_argument K n F old new v m x rest f next
+argument_result K n F old new (Err e) m x rest f next = tt
 
 -- ---- the same value under another name
 

@@ -34,9 +34,9 @@ pub record Reads (row : List Slot) (fields : Fields) (old new : List Tok) : Type
 -- the slots after the unit of the axes
 abbrev pub tail_row : List Slot
 tail_row =
-    (record { name = slots.Usage; takes = (kinds.Node keywords.Usage nodes.Usage); often = Any })
-    ∷ (record { name = slots.Id; takes = (kinds.Node keywords.Identifier nodes.Identifier); often = Any })
-    ∷ (record { name = slots.Remark; takes = (kinds.Node keywords.Remark nodes.Value); often = AtMostOnce })
+    (record { name = slots.Usage; takes = kinds.Node keywords.Usage nodes.Usage; often = Any })
+    ∷ (record { name = slots.Id; takes = kinds.Node keywords.Identifier nodes.Identifier; often = Any })
+    ∷ (record { name = slots.Remark; takes = kinds.Node keywords.Remark nodes.Value; often = AtMostOnce })
     ∷ []
 
 abbrev pub tail_fields : Tail → Fields
@@ -44,7 +44,7 @@ tail_fields v = Each DenotesUsage v.usages & Each DenotesIdent v.ids & Maybe (De
 
 -- those of a vertical system
 abbrev pub vertical_tail_row : List Slot
-vertical_tail_row = (record { name = slots.GeoidModel; takes = (kinds.Node keywords.GeoidModel nodes.Named); often = Any }) ∷ tail_row
+vertical_tail_row = (record { name = slots.GeoidModel; takes = kinds.Node keywords.GeoidModel nodes.Named; often = Any }) ∷ tail_row
 
 abbrev pub vertical_tail_fields : VerticalTail → Fields
 vertical_tail_fields v =
@@ -57,8 +57,8 @@ vertical_tail_fields v =
 -- the slots of the coordinates, and then those of a row
 abbrev pub from_coordinates : List Slot → List Slot
 from_coordinates row =
-    (record { name = slots.Cs; takes = (kinds.Node keywords.CoordinateSystem nodes.CoordinateSystem); often = Once })
-    ∷ (record { name = slots.Axis; takes = (kinds.Node keywords.Axis nodes.Axis); often = AtLeastOnce })
+    (record { name = slots.Cs; takes = kinds.Node keywords.CoordinateSystem nodes.CoordinateSystem; often = Once })
+    ∷ (record { name = slots.Axis; takes = kinds.Node keywords.Axis nodes.Axis; often = AtLeastOnce })
     ∷ (record { name = slots.Unit; takes = kinds.AnyUnit; often = AtMostOnce })
     ∷ row
 
@@ -97,9 +97,9 @@ vertical_ending_fields v =
 -- the slots of a base system after its datum
 abbrev pub base_ending_row : List Slot
 base_ending_row =
-    (record { name = slots.PrimeMeridian; takes = (kinds.Node keywords.PrimeMeridian nodes.PrimeMeridian); often = AtMostOnce })
+    (record { name = slots.PrimeMeridian; takes = kinds.Node keywords.PrimeMeridian nodes.PrimeMeridian; often = AtMostOnce })
     ∷ (record { name = slots.Unit; takes = kinds.AngleUnit; often = AtMostOnce })
-    ∷ (record { name = slots.Id; takes = (kinds.Node keywords.Identifier nodes.Identifier); often = Any })
+    ∷ (record { name = slots.Id; takes = kinds.Node keywords.Identifier nodes.Identifier; often = Any })
     ∷ []
 
 abbrev pub base_ending_fields : BaseEnding → Fields

@@ -11,14 +11,14 @@ use crate::built::{Built, pass, take_each, take_maybe, take_one, with};
 use crate::choices::{geodetic_kind_of, is_compound, is_projected, is_vertical};
 use crate::ending::{take_base_ending, take_ending, take_vertical_ending};
 use crate::reader::Reader;
-use crate::values::Remark;
+use crate::values::take_maybe_value;
 use crs_part::{
     Axis, BaseCrs, Boxed, Compound, Conversion, CoordSystem, CrsParts, Geodetic, GeodeticFrame,
     GeodeticKind, Ident, NonEmpty, PrimeMeridian, Projected, Single, Text, Unit, Usage, Vertical,
     VerticalFrame,
 };
 use std::alloc::{AllocError, Global};
-use wkt_grammar::Takes;
+use wkt_grammar::{Keyword, Takes};
 
 pub(crate) fn build_base(
     kind: GeodeticKind,
@@ -189,7 +189,7 @@ pub(crate) fn build_compound(alloc: Global, cursor: &mut Reader<'_>) -> Result<C
     let second = take_one::<Single, Single>(alloc, cursor)?;
     let usages = take_each::<Usage, Usage>(alloc, cursor)?;
     let ids = take_each::<Ident, Ident>(alloc, cursor)?;
-    let remark = take_maybe::<Remark, Text>(alloc, cursor)?;
+    let remark = take_maybe_value(alloc, cursor, Keyword::Remark)?;
     pass(cursor);
     Ok(Compound {
         name,

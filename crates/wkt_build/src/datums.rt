@@ -11,7 +11,7 @@ use crate::built::{Built, pass, take_each, take_maybe, take_one};
 use crate::choices::is_ensemble;
 use crate::identifiers::Member;
 use crate::reader::Reader;
-use crate::values::Anchor;
+use crate::values::take_maybe_value;
 use crs_number::Decimal;
 use crs_part::{
     AngleUnit, Datum, Ellipsoid, GeodeticEnsemble, GeodeticFrame, Ident, LengthUnit, Named,
@@ -79,7 +79,7 @@ pub(crate) fn build_datum(alloc: Global, cursor: &mut Reader<'_>) -> Result<Datu
     pass(cursor);
     let name = take_one::<Text, Text>(alloc, cursor)?;
     let ellipsoid = take_one::<Ellipsoid, Ellipsoid>(alloc, cursor)?;
-    let anchor = take_maybe::<Anchor, Text>(alloc, cursor)?;
+    let anchor = take_maybe_value(alloc, cursor, Keyword::Anchor)?;
     let ids = take_each::<Ident, Ident>(alloc, cursor)?;
     pass(cursor);
     Ok(Datum {
@@ -99,7 +99,7 @@ pub(crate) fn build_vertical_datum(
 {
     pass(cursor);
     let name = take_one::<Text, Text>(alloc, cursor)?;
-    let anchor = take_maybe::<Anchor, Text>(alloc, cursor)?;
+    let anchor = take_maybe_value(alloc, cursor, Keyword::Anchor)?;
     let ids = take_each::<Ident, Ident>(alloc, cursor)?;
     pass(cursor);
     Ok(VerticalDatum { name, anchor, ids })

@@ -8,11 +8,12 @@ ghost use Rattle.wkt_build.specs.Rest.{BuildsBefore, BuildsRest, base_ending_fie
 use crate::built::{take_each, take_maybe, take_one, with};
 use crate::identifiers::GeoidModel;
 use crate::reader::Reader;
-use crate::values::Remark;
+use crate::values::take_maybe_value;
 use crs_part::{
     AngleUnit, Axis, CoordSystem, Ident, Many, Named, NonEmpty, PrimeMeridian, Text, Unit, Usage,
 };
 use std::alloc::{AllocError, Global};
+use wkt_grammar::Keyword;
 
 /// The coordinate system, its axes, and their unit.
 #[derive(Drop)]
@@ -76,7 +77,7 @@ pub(crate) fn take_tail(alloc: Global, cursor: &mut Reader<'_>) -> Result<Tail, 
 {
     let usages = take_each::<Usage, Usage>(alloc, cursor)?;
     let ids = take_each::<Ident, Ident>(alloc, cursor)?;
-    let remark = take_maybe::<Remark, Text>(alloc, cursor)?;
+    let remark = take_maybe_value(alloc, cursor, Keyword::Remark)?;
     Ok(Tail {
         usages,
         ids,

@@ -9,7 +9,7 @@ ghost use Rattle.wkt_build.specs.Reads.{BuildsNode};
 
 use crate::built::{Built, pass, take_each, take_maybe, take_one};
 use crate::reader::Reader;
-use crate::values::{Citation, Uri};
+use crate::values::take_maybe_value;
 use crs_part::{Ident, Named, NumberOrText, Text};
 use std::alloc::{AllocError, Global};
 use wkt_grammar::{Keyword, Node, Takes};
@@ -28,8 +28,8 @@ impl Built<Ident> for Ident {
         let authority = take_one::<Text, Text>(alloc, cursor)?;
         let code = take_one::<NumberOrText, NumberOrText>(alloc, cursor)?;
         let version = take_maybe::<NumberOrText, NumberOrText>(alloc, cursor)?;
-        let citation = take_maybe::<Citation, Text>(alloc, cursor)?;
-        let uri = take_maybe::<Uri, Text>(alloc, cursor)?;
+        let citation = take_maybe_value(alloc, cursor, Keyword::Citation)?;
+        let uri = take_maybe_value(alloc, cursor, Keyword::Uri)?;
         pass(cursor);
         Ok(Ident {
             authority,

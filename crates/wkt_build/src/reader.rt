@@ -78,18 +78,6 @@ fn is_word(kind: TokenKind) -> bool
     matches!(kind, TokenKind::Word)
 }
 
-fn next_is_open(cursor: &Cursor<'_>) -> bool
-    ensures { result ≡ next_is is_open cursor.now }
-{
-    match cursor.peek() {
-        Some(token) => match token.kind {
-            TokenKind::Open(_) => true,
-            _ => false,
-        },
-        None => false,
-    }
-}
-
 /// Whether a slot of this kind takes the argument that comes.
 #[inline(always)]
 fn is_taken(kind: Takes, cursor: &Cursor<'_>) -> bool

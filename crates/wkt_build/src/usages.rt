@@ -7,7 +7,7 @@ ghost use Rattle.wkt_meaning.specs.Denotes.{DenotesBoundingBox, DenotesUsage, De
 
 use crate::built::{Built, pass, take_maybe, take_one};
 use crate::reader::Reader;
-use crate::values::{Area, Scope};
+use crate::values::{take_maybe_value, take_value};
 use crs_number::Decimal;
 use crs_part::{BoundingBox, LengthUnit, Text, Usage, VerticalExtent};
 use std::alloc::{AllocError, Global};
@@ -68,8 +68,8 @@ impl Built<Usage> for Usage {
 
     fn build(alloc: Global, cursor: &mut Reader<'_>) -> Result<Usage, AllocError> {
         pass(cursor);
-        let scope = take_one::<Scope, Text>(alloc, cursor)?;
-        let area = take_maybe::<Area, Text>(alloc, cursor)?;
+        let scope = take_value(alloc, cursor, Keyword::Scope)?;
+        let area = take_maybe_value(alloc, cursor, Keyword::Area)?;
         let bounding_box = take_maybe::<BoundingBox, BoundingBox>(alloc, cursor)?;
         let vertical_extent = take_maybe::<VerticalExtent, VerticalExtent>(alloc, cursor)?;
         pass(cursor);

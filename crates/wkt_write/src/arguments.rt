@@ -1,6 +1,7 @@
 //! A node's brackets, and its arguments after the first.
 
 ghost use Rattle.std.specs.Prelude.{◌≡◌, ◌++◌, ◌∷◌, [], List, ℕ, map, OnOk, IfOk};
+ghost use Rattle.wkt_grammar.specs.Words.{spelling};
 ghost use Rattle.wkt_meaning.specs.Runs.{listed};
 ghost use Rattle.wkt_meaning.specs.Trees.{one, maybe};
 ghost use Rattle.wkt_write.specs.Layout.{before, inner, behind};
@@ -17,12 +18,12 @@ pub(crate) fn push_open(
     layout: Layout,
     keyword: Keyword,
 ) -> Result<Layout, AllocError>
-    ensures text { OnOk result (out.new.items ≡ out.old.items ++ (before layout ++ (keyword.now ++ 91 ∷ []))) }
+    ensures text { OnOk result (out.new.items ≡ out.old.items ++ (before layout ++ (spelling keyword ++ 91 ∷ []))) }
     ensures inside { IfOk result (λ inside. inside ≡ inner layout) }
 {
     let inside = layout.inner()?;
     layout.push_before(out)?;
-    out.extend_from_slice(keyword)?;
+    out.extend_from_slice(keyword.spelling())?;
     out.push(b'[')?;
     Ok(inside)
 }

@@ -1,6 +1,7 @@
 //! Coordinate reference systems.
 
 ghost use Rattle.std.specs.Prelude.{◌≡◌};
+ghost use Rattle.wkt_grammar.specs.Words.{spelling};
 ghost use Rattle.wkt_meaning.specs.Trees.{geodetic_name, base_name, base_tree, geodetic_tree, projected_tree, vertical_tree, single_tree, compound_tree, parts_tree};
 
 use crate::arguments::{push_close, push_each, push_maybe, push_one, push_open, push_some};
@@ -12,8 +13,8 @@ use crs_part::{BaseCrs, Compound, CrsParts, Geodetic, GeodeticKind, Projected, S
 use std::alloc::AllocError;
 use wkt_grammar::Keyword;
 
-fn geodetic_keyword(kind: GeodeticKind) -> &'static [u8]
-    ensures { result.now ≡ geodetic_name kind }
+fn geodetic_keyword(kind: GeodeticKind) -> Keyword
+    ensures { spelling result ≡ geodetic_name kind }
 {
     match kind {
         GeodeticKind::Geodetic => Keyword::GeodeticCrs,
@@ -21,8 +22,8 @@ fn geodetic_keyword(kind: GeodeticKind) -> &'static [u8]
     }
 }
 
-fn base_keyword(kind: GeodeticKind) -> &'static [u8]
-    ensures { result.now ≡ base_name kind }
+fn base_keyword(kind: GeodeticKind) -> Keyword
+    ensures { spelling result ≡ base_name kind }
 {
     match kind {
         GeodeticKind::Geodetic => Keyword::BaseGeodeticCrs,

@@ -3,13 +3,12 @@
 ghost use Rattle.std.specs.Prelude.{◌≡◌, ◌++◌, OnOk};
 ghost use Rattle.std.specs.List.{flat_map};
 ghost use Rattle.wkt_tree.specs.Tokens.{doubled};
-ghost use Rattle.crs_part.specs.Words.{system_word, direction_word};
 ghost use Rattle.wkt_meaning.specs.Trees.{text_tree, number_tree, count_tree, kind_tree, direction_tree, code_tree};
 
 use crate::layout::Layout;
 use crate::written::Written;
 use crs_number::Decimal;
-use crs_part::{Direction, NumberOrText, SystemKind, Text};
+use crs_part::{Direction, NumberOrText, SystemKind, Text, Word};
 use itoa::Buffer;
 use std::alloc::AllocError;
 use wkt_tree::first_mark;
@@ -64,12 +63,7 @@ impl Written for SystemKind {
     ghost tree = { kind_tree };
 
     fn push_to(&self, out: &mut Vec<u8>, _layout: Layout) -> Result<(), AllocError> {
-        out.extend_from_slice(match self {
-            SystemKind::Ellipsoidal => b"ellipsoidal".as_slice(),
-            SystemKind::Cartesian => b"Cartesian",
-            SystemKind::Spherical => b"spherical",
-            SystemKind::Vertical => b"vertical",
-        })
+        out.extend_from_slice(self.word())
     }
 }
 
@@ -90,34 +84,6 @@ impl Written for Direction {
     ghost tree = { direction_tree };
 
     fn push_to(&self, out: &mut Vec<u8>, _layout: Layout) -> Result<(), AllocError> {
-        out.extend_from_slice(direction_bytes(*self))
-    }
-}
-
-fn direction_bytes(direction: Direction) -> &'static [u8]
-    ensures { result.now ≡ direction_word direction }
-{
-    match direction {
-        Direction::North => b"north",
-        Direction::NorthNorthEast => b"northNorthEast",
-        Direction::NorthEast => b"northEast",
-        Direction::EastNorthEast => b"eastNorthEast",
-        Direction::East => b"east",
-        Direction::EastSouthEast => b"eastSouthEast",
-        Direction::SouthEast => b"southEast",
-        Direction::SouthSouthEast => b"southSouthEast",
-        Direction::South => b"south",
-        Direction::SouthSouthWest => b"southSouthWest",
-        Direction::SouthWest => b"southWest",
-        Direction::WestSouthWest => b"westSouthWest",
-        Direction::West => b"west",
-        Direction::WestNorthWest => b"westNorthWest",
-        Direction::NorthWest => b"northWest",
-        Direction::NorthNorthWest => b"northNorthWest",
-        Direction::GeocentricX => b"geocentricX",
-        Direction::GeocentricY => b"geocentricY",
-        Direction::GeocentricZ => b"geocentricZ",
-        Direction::Up => b"up",
-        Direction::Down => b"down",
+        out.extend_from_slice(self.word())
     }
 }

@@ -18,4 +18,4 @@ returns-clause-builds c =
     (then_each slots.Usage usage_law refl c.take_one-3.new.cursor c.in_ok-usages.usages c.in_ok-usages.ensures.builds
     (then_each slots.Id ident_law refl c.take_each.new.cursor c.in_ok-ids.ids c.in_ok-ids.ensures.builds
     (then_maybe slots.Remark remark_law refl c.take_each-2.new.cursor c.in_ok-remark.remark c.in_ok-remark.ensures.some c.in_ok-remark.ensures.none c.in_ok-remark.ensures.absent
-    (done c.take_maybe.new.cursor))))))) c.pass-2.ensures.left
+    (done c.take_maybe_value.new.cursor))))))) c.pass-2.ensures.left

@@ -15,5 +15,5 @@ returns-clause-builds c =
     (first_one slots.Name text_law c.pass.new.cursor c.in_ok-name.name c.in_ok-name.ensures.builds
     (then_one slots.Ellipsoid ellipsoid_law c.take_one.new.cursor c.in_ok-ellipsoid.ellipsoid c.in_ok-ellipsoid.ensures.builds
     (then_maybe slots.Anchor anchor_law refl c.take_one-2.new.cursor c.in_ok-anchor.anchor c.in_ok-anchor.ensures.some c.in_ok-anchor.ensures.none c.in_ok-anchor.ensures.absent
-    (then_each slots.Id ident_law refl c.take_maybe.new.cursor c.in_ok-ids.ids c.in_ok-ids.ensures.builds
+    (then_each slots.Id ident_law refl c.take_maybe_value.new.cursor c.in_ok-ids.ids c.in_ok-ids.ensures.builds
     (done c.take_each.new.cursor))))) c.pass-2.ensures.left

@@ -14,5 +14,5 @@ returns-clause-builds c =
     made_node nodes.VerticalDatum vertical_datum_fields c.args.cursor.now c.pass-2.new.cursor v c.pass.ensures.left
     (first_one slots.Name text_law c.pass.new.cursor c.in_ok-name.name c.in_ok-name.ensures.builds
     (then_maybe slots.Anchor anchor_law refl c.take_one.new.cursor c.in_ok-anchor.anchor c.in_ok-anchor.ensures.some c.in_ok-anchor.ensures.none c.in_ok-anchor.ensures.absent
-    (then_each slots.Id ident_law refl c.take_maybe.new.cursor c.in_ok-ids.ids c.in_ok-ids.ensures.builds
+    (then_each slots.Id ident_law refl c.take_maybe_value.new.cursor c.in_ok-ids.ids c.in_ok-ids.ensures.builds
     (done c.take_each.new.cursor)))) c.pass-2.ensures.left

@@ -1,5 +1,4 @@
 use Rattle.std.proofs.Common.{refl}
-use Rattle.wkt_grammar.specs.declared.table.Takes.TheVariants as kinds
 use Rattle.wkt_grammar.specs.declared.table.Keyword.TheVariants as keywords
 use Rattle.wkt_grammar.specs.declared.table.Node.TheVariants as nodes
 use Rattle.wkt_grammar.specs.declared.table.SlotName.TheVariants as slots
@@ -7,14 +6,13 @@ use Rattle.wkt_meaning.specs.Denotes.{conversion_fields}
 use Rattle.wkt_meaning.proofs.Leaves.{text_law}
 use Rattle.wkt_meaning.proofs.Nodes.{ident_law, method_law, parameter_law}
 use Rattle.crs_part.specs.declared.conversions.Conversion.{Conversion}
-use Rattle.wkt_build.proofs.Only.{only_conversion}
 use Rattle.wkt_build.proofs.Rows.{done, first_one, made_argument, made_node, then_each, then_one}
 use Rattle.wkt_build.proofs.conversions.ConversionBuilt.build.Goals as goal
 
 pub returns-clause-builds : goal.returns-clause-builds
 returns-clause-builds c =
     let v : Conversion = record { name = c.in_ok-name.name; method = c.in_ok-method.method; parameters = c.in_ok-parameters.parameters; ids = c.in_ok-ids.ids } in
-    made_argument (kinds.Node keywords.Conversion nodes.Conversion) keywords.Conversion nodes.Conversion conversion_fields c.args.cursor.now c.pass-2.new.cursor v refl only_conversion
+    made_argument keywords.Conversion nodes.Conversion conversion_fields c.args.cursor.now c.pass-2.new.cursor v
     (made_node nodes.Conversion conversion_fields c.args.cursor.now c.pass-2.new.cursor v c.pass.ensures.left
     (first_one slots.Name text_law c.pass.new.cursor c.in_ok-name.name c.in_ok-name.ensures.builds
     (then_one slots.Method method_law c.take_one.new.cursor c.in_ok-method.method c.in_ok-method.ensures.builds

@@ -1,11 +1,9 @@
 use Rattle.std.proofs.Common.{refl}
-use Rattle.wkt_grammar.specs.declared.table.Takes.TheVariants as kinds
 use Rattle.wkt_grammar.specs.declared.table.Keyword.TheVariants as keywords
 use Rattle.wkt_grammar.specs.declared.table.Node.TheVariants as nodes
 use Rattle.wkt_meaning.specs.Denotes.{accuracy_fields}
-use Rattle.wkt_build.proofs.Only.{only_accuracy}
 use Rattle.wkt_build.proofs.Rows.{argument_result}
 use Rattle.wkt_build.proofs.datums.AccuracyBuiltDecimal.build.Goals as goal
 
 pub returns-clause-builds : goal.returns-clause-builds
-returns-clause-builds c = argument_result (kinds.Node keywords.EnsembleAccuracy nodes.EnsembleAccuracy) keywords.EnsembleAccuracy nodes.EnsembleAccuracy accuracy_fields c.args.cursor.now c.build_accuracy.new.cursor c.build_accuracy.result refl only_accuracy c.build_accuracy.ensures.builds
+returns-clause-builds c = argument_result keywords.EnsembleAccuracy nodes.EnsembleAccuracy accuracy_fields c.args.cursor.now c.build_accuracy.new.cursor c.build_accuracy.result c.build_accuracy.ensures.builds

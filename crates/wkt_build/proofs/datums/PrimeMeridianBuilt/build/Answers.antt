@@ -1,5 +1,4 @@
 use Rattle.std.proofs.Common.{refl}
-use Rattle.wkt_grammar.specs.declared.table.Takes.TheVariants as kinds
 use Rattle.wkt_grammar.specs.declared.table.Keyword.TheVariants as keywords
 use Rattle.wkt_grammar.specs.declared.table.Node.TheVariants as nodes
 use Rattle.wkt_grammar.specs.declared.table.SlotName.TheVariants as slots
@@ -7,14 +6,13 @@ use Rattle.wkt_meaning.specs.Denotes.{prime_meridian_fields}
 use Rattle.wkt_meaning.proofs.Leaves.{number_law, text_law}
 use Rattle.wkt_meaning.proofs.Nodes.{angle_unit_law, ident_law}
 use Rattle.crs_part.specs.declared.datums.PrimeMeridian.{PrimeMeridian}
-use Rattle.wkt_build.proofs.Only.{only_prime_meridian}
 use Rattle.wkt_build.proofs.Rows.{done, first_one, made_argument, made_node, then_each, then_maybe, then_one}
 use Rattle.wkt_build.proofs.datums.PrimeMeridianBuilt.build.Goals as goal
 
 pub returns-clause-builds : goal.returns-clause-builds
 returns-clause-builds c =
     let v : PrimeMeridian = record { name = c.in_ok-name.name; longitude = c.in_ok-longitude.longitude; unit = c.in_ok-unit.unit; ids = c.in_ok-ids.ids } in
-    made_argument (kinds.Node keywords.PrimeMeridian nodes.PrimeMeridian) keywords.PrimeMeridian nodes.PrimeMeridian prime_meridian_fields c.args.cursor.now c.pass-2.new.cursor v refl only_prime_meridian
+    made_argument keywords.PrimeMeridian nodes.PrimeMeridian prime_meridian_fields c.args.cursor.now c.pass-2.new.cursor v
     (made_node nodes.PrimeMeridian prime_meridian_fields c.args.cursor.now c.pass-2.new.cursor v c.pass.ensures.left
     (first_one slots.Name text_law c.pass.new.cursor c.in_ok-name.name c.in_ok-name.ensures.builds
     (then_one slots.Longitude number_law c.take_one.new.cursor c.in_ok-longitude.longitude c.in_ok-longitude.ensures.builds

@@ -1,11 +1,9 @@
 use Rattle.std.proofs.Common.{refl}
-use Rattle.wkt_grammar.specs.declared.table.Takes.TheVariants as kinds
 use Rattle.wkt_grammar.specs.declared.table.Keyword.TheVariants as keywords
 use Rattle.wkt_grammar.specs.declared.table.Node.TheVariants as nodes
 use Rattle.wkt_meaning.specs.Denotes.{named_fields}
-use Rattle.wkt_build.proofs.Only.{only_member}
 use Rattle.wkt_build.proofs.Rows.{argument_result}
 use Rattle.wkt_build.proofs.identifiers.MemberBuiltNamed.build.Goals as goal
 
 pub returns-clause-builds : goal.returns-clause-builds
-returns-clause-builds c = argument_result (kinds.Node keywords.Member nodes.Named) keywords.Member nodes.Named named_fields c.args.cursor.now c.build_named.new.cursor c.build_named.result refl only_member c.build_named.ensures.builds
+returns-clause-builds c = argument_result keywords.Member nodes.Named named_fields c.args.cursor.now c.build_named.new.cursor c.build_named.result c.build_named.ensures.builds
