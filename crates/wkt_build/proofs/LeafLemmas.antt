@@ -167,7 +167,8 @@ same_bytes a b h = by (bytes_eq a b) (bytes_eq-Decides a b) h
     by : (t : Bool) → Decides t (a ≡ b) → t ≡ true → a ≡ b
     by t d e = d.0 e
 
-word_is : {A : Type 0} (f : A → List ℕ) (vs : List A) (l : List ℕ) (v : A) → first_word f vs l ≡ Some v → letters (f v) ≡ l
+-- the word of the value that was found is the one that was looked for
+pub word_is : {A : Type 0} (f : A → List ℕ) (vs : List A) (l : List ℕ) (v : A) → first_word f vs l ≡ Some v → letters (f v) ≡ l
 word_is f [] l v e = absurd cc
 word_is f (w ∷ vs) l v e = by (bytes_eq (letters (f w)) l) refl e (word_is f vs l v)
   where

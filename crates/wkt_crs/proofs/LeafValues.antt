@@ -1,11 +1,6 @@
 -- Texts, numbers and words that fit a slot have a value.
 use Rattle.std.proofs.Common.{◌≡◌, ℕ, Bool, true, false, cond, List, [], ◌∷◌, map, Option, Some, None, refl, sym, ap, ◌∙◌}
-use Rattle.std.specs.Prelude.{◌||◌}
-use Rattle.std.specs.Bool.{Decides}
-use Rattle.std.specs.Char.{to_ascii_lowercase}
-use Rattle.std.specs.List.{list_any}
-use Rattle.std.specs.Str.{bytes_eq}
-use Rattle.std.proofs.lemmas.Slice.Eq.{bytes_eq-Decides}
+use Rattle.std.specs.Option.{is_some}
 use Rattle.std.proofs.lemmas.Str.{is_utf8-from_IsUtf8}
 use Rattle.crs_number.specs.Count.{is_count}
 use Rattle.crs_number.specs.declared.decimals.Decimal.{Decimal}
@@ -25,10 +20,10 @@ use Rattle.wkt_grammar.specs.Slots.{argument_by}
 use Rattle.wkt_write.specs.WellFormed.{IsText}
 use Rattle.wkt_meaning.specs.SecondEdition.{Fitting}
 use Rattle.wkt_meaning.specs.Leaves.{DenotesText, DenotesNumber, DenotesWord}
-use Rattle.crs_part.specs.Words.{system_word, direction_word, kinds_listed, directions_listed}
+use Rattle.crs_part.specs.Words.{system_word, direction_word, first_word, kinds_listed, directions_listed}
 use Rattle.wkt_meaning.specs.Denotes.{DenotesCode}
 use Rattle.wkt_meaning.proofs.Leaves.{DenotesSmall, Small}
-use Rattle.wkt_build.proofs.LeafLemmas.{kind_listed, direction_listed}
+use Rattle.wkt_build.proofs.LeafLemmas.{letters, word_is, kind_listed, direction_listed}
 use Rattle.wkt_crs.proofs.Values.{IsRead, Has}
 
 -- ---- what a slot doesn't take
@@ -102,26 +97,13 @@ count_has = record { of = count_in }
 
 -- ---- words
 
-abbrev letters : List ℕ → List ℕ
-letters b = map to_ascii_lowercase b
-
-same_bytes : (a b : List ℕ) → bytes_eq a b ≡ true → a ≡ b
-same_bytes a b h = by (bytes_eq a b) (bytes_eq-Decides a b) h
+-- a word that is listed is that of some value
+word_of : {A : Type 0} (f : A → List ℕ) (vs : List A) (b : List ℕ) → is_some (first_word f vs (letters b)) ≡ true → (v : A) × DenotesWord f (word b) v
+word_of {A} f vs b h = by (first_word f vs (letters b)) refl h
   where
-    by : (t : Bool) → Decides t (a ≡ b) → t ≡ true → a ≡ b
-    by t d e = d.0 e
-
--- a word is listed where some value has it
-listed_value : {A : Type 0} (f : A → List ℕ) (vs : List A) (l : List ℕ) → list_any (λ w. bytes_eq (letters w) l) (map f vs) ≡ true → (v : A) × (letters (f v) ≡ l)
-listed_value f [] l e = absurd cc
-listed_value f (v ∷ vs) l e = by (bytes_eq (letters (f v)) l) refl e (listed_value f vs l)
-  where
-    by : (b : Bool) → bytes_eq (letters (f v)) l ≡ b → (b || list_any (λ w. bytes_eq (letters w) l) (map f vs)) ≡ true → (list_any (λ w. bytes_eq (letters w) l) (map f vs) ≡ true → (w : _) × (letters (f w) ≡ l)) → (w : _) × (letters (f w) ≡ l)
-    by true same h g = (v, same_bytes (letters (f v)) l same)
-    by false same h g = g h
-
-word_of : {A : Type 0} (f : A → List ℕ) (vs : List A) (b : List ℕ) → list_any (λ w. bytes_eq (letters w) (letters b)) (map f vs) ≡ true → (v : A) × DenotesWord f (word b) v
-word_of f vs b h = let v = listed_value f vs (letters b) h in (v.0, record { bytes = b; is = refl; spells = v.1 })
+    by : (o : Option A) → first_word f vs (letters b) ≡ o → is_some o ≡ true → (v : A) × DenotesWord f (word b) v
+    by None e h = absurd cc
+    by (Some v) e h = (v, record { bytes = b; is = refl; spells = word_is f vs (letters b) v e })
 
 kind_true : (c d : Bool) → worded kinds.CsKind c d ≡ true → c ≡ true
 kind_true true d e = refl

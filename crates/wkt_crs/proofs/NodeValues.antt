@@ -35,44 +35,43 @@ use Rattle.wkt_grammar.specs.declared.table.Takes.TheVariants as kinds
 use Rattle.wkt_grammar.specs.Rows.{enters}
 use Rattle.wkt_grammar.specs.Bare.{Bare}
 use Rattle.wkt_meaning.specs.Denotes.{DenotesValue, DenotesIdent, DenotesNamed, DenotesUnitOf, DenotesUnit, DenotesLengthUnit, DenotesAngleUnit, DenotesBoundingBox, DenotesVerticalExtent, DenotesUsage, DenotesEllipsoid, DenotesPrimeMeridian, DenotesDatum, DenotesVerticalDatum, DenotesAccuracy, DenotesGeodeticEnsemble, DenotesVerticalEnsemble, DenotesGeodeticFrame, DenotesVerticalFrame, DenotesSystem, DenotesMeridian, DenotesOrder, DenotesAxis, DenotesParameter, DenotesConversion, geodetic_keyword, base_keyword, DenotesBase, DenotesGeodetic, DenotesProjected, DenotesVertical, DenotesSingle, DenotesCompound, DenotesParts}
-use Rattle.wkt_build.proofs.Only.{only_scope, only_area, only_anchor, only_citation, only_uri, only_remark, only_member, only_method, only_geoid_model, only_accuracy, only_ident, only_bounding_box, only_vertical_extent, only_usage, only_ellipsoid, only_prime_meridian, only_parameter, only_conversion, only_meridian, only_axis, only_order, only_system}
 use Rattle.wkt_crs.proofs.Values.{Has, Entered, one, maybe, each, some, done, ◌>>◌, node_has, by_keyword, alone}
 use Rattle.wkt_crs.proofs.LeafValues.{text_has, number_has, code_has, count_has, kind_has, direction_has}
 
 -- ---- values, identifiers
 
 scope_has : Has (kinds.Node keywords.Scope nodes.Value) (DenotesValue keywords.Scope)
-scope_has = alone (kinds.Node keywords.Scope nodes.Value) keywords.Scope nodes.Value refl only_scope (one slots.Value text_has >> done) (λ v. v.0) (λ x v d. d)
+scope_has = alone keywords.Scope nodes.Value (one slots.Value text_has >> done) (λ v. v.0) (λ x v d. d)
 
 area_has : Has (kinds.Node keywords.Area nodes.Value) (DenotesValue keywords.Area)
-area_has = alone (kinds.Node keywords.Area nodes.Value) keywords.Area nodes.Value refl only_area (one slots.Value text_has >> done) (λ v. v.0) (λ x v d. d)
+area_has = alone keywords.Area nodes.Value (one slots.Value text_has >> done) (λ v. v.0) (λ x v d. d)
 
 anchor_has : Has (kinds.Node keywords.Anchor nodes.Value) (DenotesValue keywords.Anchor)
-anchor_has = alone (kinds.Node keywords.Anchor nodes.Value) keywords.Anchor nodes.Value refl only_anchor (one slots.Value text_has >> done) (λ v. v.0) (λ x v d. d)
+anchor_has = alone keywords.Anchor nodes.Value (one slots.Value text_has >> done) (λ v. v.0) (λ x v d. d)
 
 citation_has : Has (kinds.Node keywords.Citation nodes.Value) (DenotesValue keywords.Citation)
-citation_has = alone (kinds.Node keywords.Citation nodes.Value) keywords.Citation nodes.Value refl only_citation (one slots.Value text_has >> done) (λ v. v.0) (λ x v d. d)
+citation_has = alone keywords.Citation nodes.Value (one slots.Value text_has >> done) (λ v. v.0) (λ x v d. d)
 
 uri_has : Has (kinds.Node keywords.Uri nodes.Value) (DenotesValue keywords.Uri)
-uri_has = alone (kinds.Node keywords.Uri nodes.Value) keywords.Uri nodes.Value refl only_uri (one slots.Value text_has >> done) (λ v. v.0) (λ x v d. d)
+uri_has = alone keywords.Uri nodes.Value (one slots.Value text_has >> done) (λ v. v.0) (λ x v d. d)
 
 remark_has : Has (kinds.Node keywords.Remark nodes.Value) (DenotesValue keywords.Remark)
-remark_has = alone (kinds.Node keywords.Remark nodes.Value) keywords.Remark nodes.Value refl only_remark (one slots.Value text_has >> done) (λ v. v.0) (λ x v d. d)
+remark_has = alone keywords.Remark nodes.Value (one slots.Value text_has >> done) (λ v. v.0) (λ x v d. d)
 
 ident_has : Has (kinds.Node keywords.Identifier nodes.Identifier) DenotesIdent
 ident_has =
-    alone (kinds.Node keywords.Identifier nodes.Identifier) keywords.Identifier nodes.Identifier refl only_ident
+    alone keywords.Identifier nodes.Identifier
     (one slots.Authority text_has >> one slots.Code code_has >> maybe slots.Version code_has >> maybe slots.Citation citation_has >> maybe slots.Uri uri_has >> done)
     (λ v. record { authority = v.0; code = v.1.0; version = v.1.1.0; citation = v.1.1.1.0; uri = v.1.1.1.1.0 }) (λ x v d. d)
 
 member_has : Has (kinds.Node keywords.Member nodes.Named) (DenotesNamed keywords.Member)
-member_has = alone (kinds.Node keywords.Member nodes.Named) keywords.Member nodes.Named refl only_member (one slots.Name text_has >> each slots.Id ident_has >> done) (λ v. record { name = v.0; ids = v.1.0 }) (λ x v d. d)
+member_has = alone keywords.Member nodes.Named (one slots.Name text_has >> each slots.Id ident_has >> done) (λ v. record { name = v.0; ids = v.1.0 }) (λ x v d. d)
 
 method_has : Has (kinds.Node keywords.Method nodes.Named) (DenotesNamed keywords.Method)
-method_has = alone (kinds.Node keywords.Method nodes.Named) keywords.Method nodes.Named refl only_method (one slots.Name text_has >> each slots.Id ident_has >> done) (λ v. record { name = v.0; ids = v.1.0 }) (λ x v d. d)
+method_has = alone keywords.Method nodes.Named (one slots.Name text_has >> each slots.Id ident_has >> done) (λ v. record { name = v.0; ids = v.1.0 }) (λ x v d. d)
 
 geoid_model_has : Has (kinds.Node keywords.GeoidModel nodes.Named) (DenotesNamed keywords.GeoidModel)
-geoid_model_has = alone (kinds.Node keywords.GeoidModel nodes.Named) keywords.GeoidModel nodes.Named refl only_geoid_model (one slots.Name text_has >> each slots.Id ident_has >> done) (λ v. record { name = v.0; ids = v.1.0 }) (λ x v d. d)
+geoid_model_has = alone keywords.GeoidModel nodes.Named (one slots.Name text_has >> each slots.Id ident_has >> done) (λ v. record { name = v.0; ids = v.1.0 }) (λ x v d. d)
 
 -- ---- units
 
@@ -117,19 +116,19 @@ angle_unit_has = by_keyword kinds.AngleUnit refl angle_unit_by
 
 bounding_box_has : Has (kinds.Node keywords.BoundingBox nodes.BoundingBox) DenotesBoundingBox
 bounding_box_has =
-    alone (kinds.Node keywords.BoundingBox nodes.BoundingBox) keywords.BoundingBox nodes.BoundingBox refl only_bounding_box
+    alone keywords.BoundingBox nodes.BoundingBox
     (one slots.South number_has >> one slots.West number_has >> one slots.North number_has >> one slots.East number_has >> done)
     (λ v. record { south = v.0; west = v.1.0; north = v.1.1.0; east = v.1.1.1.0 }) (λ x v d. d)
 
 vertical_extent_has : Has (kinds.Node keywords.VerticalExtent nodes.VerticalExtent) DenotesVerticalExtent
 vertical_extent_has =
-    alone (kinds.Node keywords.VerticalExtent nodes.VerticalExtent) keywords.VerticalExtent nodes.VerticalExtent refl only_vertical_extent
+    alone keywords.VerticalExtent nodes.VerticalExtent
     (one slots.Low number_has >> one slots.High number_has >> maybe slots.Unit length_unit_has >> done)
     (λ v. record { low = v.0; high = v.1.0; unit = v.1.1.0 }) (λ x v d. d)
 
 usage_has : Has (kinds.Node keywords.Usage nodes.Usage) DenotesUsage
 usage_has =
-    alone (kinds.Node keywords.Usage nodes.Usage) keywords.Usage nodes.Usage refl only_usage
+    alone keywords.Usage nodes.Usage
     (one slots.Scope scope_has >> maybe slots.Area area_has >> maybe slots.BoundingBox bounding_box_has >> maybe slots.VerticalExtent vertical_extent_has >> done)
     (λ v. record { scope = v.0; area = v.1.0; bounding_box = v.1.1.0; vertical_extent = v.1.1.1.0 }) (λ x v d. d)
 
@@ -137,19 +136,19 @@ usage_has =
 
 ellipsoid_has : Has (kinds.Node keywords.Ellipsoid nodes.Ellipsoid) DenotesEllipsoid
 ellipsoid_has =
-    alone (kinds.Node keywords.Ellipsoid nodes.Ellipsoid) keywords.Ellipsoid nodes.Ellipsoid refl only_ellipsoid
+    alone keywords.Ellipsoid nodes.Ellipsoid
     (one slots.Name text_has >> one slots.Radius number_has >> one slots.Flattening number_has >> maybe slots.Unit length_unit_has >> each slots.Id ident_has >> done)
     (λ v. record { name = v.0; radius = v.1.0; flattening = v.1.1.0; unit = v.1.1.1.0; ids = v.1.1.1.1.0 }) (λ x v d. d)
 
 prime_meridian_has : Has (kinds.Node keywords.PrimeMeridian nodes.PrimeMeridian) DenotesPrimeMeridian
 prime_meridian_has =
-    alone (kinds.Node keywords.PrimeMeridian nodes.PrimeMeridian) keywords.PrimeMeridian nodes.PrimeMeridian refl only_prime_meridian
+    alone keywords.PrimeMeridian nodes.PrimeMeridian
     (one slots.Name text_has >> one slots.Longitude number_has >> maybe slots.Unit angle_unit_has >> each slots.Id ident_has >> done)
     (λ v. record { name = v.0; longitude = v.1.0; unit = v.1.1.0; ids = v.1.1.1.0 }) (λ x v d. d)
 
 accuracy_has : Has (kinds.Node keywords.EnsembleAccuracy nodes.EnsembleAccuracy) DenotesAccuracy
 accuracy_has =
-    alone (kinds.Node keywords.EnsembleAccuracy nodes.EnsembleAccuracy) keywords.EnsembleAccuracy nodes.EnsembleAccuracy refl only_accuracy
+    alone keywords.EnsembleAccuracy nodes.EnsembleAccuracy
     (one slots.Value number_has >> done)
     (λ v. v.0) (λ x v d. d)
 
@@ -193,25 +192,25 @@ vertical_frame_has = by_keyword kinds.VerticalDatum refl vertical_frame_by
 
 system_has : Has (kinds.Node keywords.CoordinateSystem nodes.CoordinateSystem) DenotesSystem
 system_has =
-    alone (kinds.Node keywords.CoordinateSystem nodes.CoordinateSystem) keywords.CoordinateSystem nodes.CoordinateSystem refl only_system
+    alone keywords.CoordinateSystem nodes.CoordinateSystem
     (one slots.Kind kind_has >> one slots.Dimension count_has >> each slots.Id ident_has >> done)
     (λ v. record { kind = v.0; dimension = v.1.0.value; ids = v.1.1.0; count = v.1.0.small }) (λ x v d. d)
 
 meridian_has : Has (kinds.Node keywords.Meridian nodes.Meridian) DenotesMeridian
 meridian_has =
-    alone (kinds.Node keywords.Meridian nodes.Meridian) keywords.Meridian nodes.Meridian refl only_meridian
+    alone keywords.Meridian nodes.Meridian
     (one slots.Longitude number_has >> one slots.Unit angle_unit_has >> done)
     (λ v. record { longitude = v.0; unit = v.1.0 }) (λ x v d. d)
 
 order_has : Has (kinds.Node keywords.Order nodes.Order) DenotesOrder
 order_has =
-    alone (kinds.Node keywords.Order nodes.Order) keywords.Order nodes.Order refl only_order
+    alone keywords.Order nodes.Order
     (one slots.Position count_has >> done)
     (λ v. record { position = v.0.value; count = v.0.small }) (λ x v d. d)
 
 axis_has : Has (kinds.Node keywords.Axis nodes.Axis) DenotesAxis
 axis_has =
-    alone (kinds.Node keywords.Axis nodes.Axis) keywords.Axis nodes.Axis refl only_axis
+    alone keywords.Axis nodes.Axis
     (one slots.Name text_has >> one slots.Direction direction_has >> maybe slots.Meridian meridian_has >> maybe slots.Order order_has >> maybe slots.Unit unit_has >> each slots.Id ident_has >> done)
     (λ v. record { name = v.0; direction = v.1.0; meridian = v.1.1.0; order = v.1.1.1.0; unit = v.1.1.1.1.0; ids = v.1.1.1.1.1.0 }) (λ x v d. d)
 
@@ -219,13 +218,13 @@ axis_has =
 
 parameter_has : Has (kinds.Node keywords.Parameter nodes.Parameter) DenotesParameter
 parameter_has =
-    alone (kinds.Node keywords.Parameter nodes.Parameter) keywords.Parameter nodes.Parameter refl only_parameter
+    alone keywords.Parameter nodes.Parameter
     (one slots.Name text_has >> one slots.Value number_has >> maybe slots.Unit unit_has >> each slots.Id ident_has >> done)
     (λ v. record { name = v.0; value = v.1.0; unit = v.1.1.0; ids = v.1.1.1.0 }) (λ x v d. d)
 
 conversion_has : Has (kinds.Node keywords.Conversion nodes.Conversion) DenotesConversion
 conversion_has =
-    alone (kinds.Node keywords.Conversion nodes.Conversion) keywords.Conversion nodes.Conversion refl only_conversion
+    alone keywords.Conversion nodes.Conversion
     (one slots.Name text_has >> one slots.Method method_has >> each slots.Parameter parameter_has >> each slots.Id ident_has >> done)
     (λ v. record { name = v.0; method = v.1.0; parameters = v.1.1.0; ids = v.1.1.1.0 }) (λ x v d. d)
 

@@ -1,5 +1,5 @@
 -- Arguments that fit a slot have a value, and so do those that fit a row: there is something that they denote.
-use Rattle.std.proofs.Common.{◌≡◌, ℕ, zero, suc, ◌≤◌, true, List, [], ◌∷◌, ◌++◌, length, Option, Some, None, subst, arith}
+use Rattle.std.proofs.Common.{◌≡◌, ℕ, zero, suc, ◌≤◌, true, List, [], ◌∷◌, ◌++◌, length, Option, Some, None, refl, subst, arith}
 use Rattle.crs_part.specs.declared.many.NonEmpty.{NonEmpty}
 use Rattle.wkt_tree.specs.Tokens.{IsNumber}
 use Rattle.wkt_grammar.specs.declared.table.Edition.TheVariants as editions
@@ -8,16 +8,18 @@ use Rattle.wkt_grammar.specs.declared.table.SlotName.{SlotName}
 use Rattle.wkt_grammar.specs.declared.table.Node.{Node}
 use Rattle.wkt_grammar.specs.declared.table.Keyword.{Keyword}
 use Rattle.wkt_grammar.specs.declared.table.Takes.{Takes}
+use Rattle.wkt_grammar.specs.declared.table.Takes.TheVariants as kinds
 use Rattle.wkt_grammar.specs.declared.table.Often.TheVariants.{Once, AtMostOnce, Any, AtLeastOnce}
 use Rattle.wkt_grammar.specs.Rows.{enters, Times}
 use Rattle.wkt_grammar.specs.Words.{keyword_of}
 use Rattle.wkt_grammar.specs.Bare.{Bare, Bares, text, number, word, node, none, and, args}
 use Rattle.wkt_grammar.proofs.Fitting.{fitted_cuts, passes_of}
+use Rattle.wkt_grammar.proofs.Keywords.{node_only}
 use Rattle.wkt_write.specs.WellFormed.{WellFormed, AllWellFormed, SomeWellFormed, IsText}
 use Rattle.wkt_meaning.specs.SecondEdition.{row_of, Fitted, Fitting, AllFitting, Cuts}
 use Rattle.wkt_meaning.specs.Runs.{Fields, nothing, ◌&◌, Runs, IsNode, One, Maybe, Each, AtLeastOne}
 use Rattle.wkt_meaning.proofs.Rows.{slot}
-use Rattle.wkt_build.proofs.Rows.{Only, takes_nodes, entered_of}
+use Rattle.wkt_build.proofs.Rows.{takes_nodes, entered_of}
 
 -- ---- trees of which all texts and numbers can be read
 
@@ -145,11 +147,11 @@ by_keyword {A} {D} t nodes choose = record {
 }
 
 -- the same, where the slot takes one keyword alone
-pub alone : {A B : Type 0} {F : B → Fields} {D : Bare → A → Type 0} (t : Takes) (K : Keyword) (n : Node) → takes_nodes t ≡ true → Only t K n → RowHas (row_of n) F → (make : B → A) → ((x : Bare) (v : B) → IsNode K n (F v) x → D x (make v)) → Has t D
-alone {A} {B} {F} {D} t K n nodes only row make is = by_keyword t nodes choose
+pub alone : {A B : Type 0} {F : B → Fields} {D : Bare → A → Type 0} (K : Keyword) (n : Node) → RowHas (row_of n) F → (make : B → A) → ((x : Bare) (v : B) → IsNode K n (F v) x → D x (make v)) → Has (kinds.Node K n) D
+alone {A} {B} {F} {D} K n row make is = by_keyword (kinds.Node K n) refl choose
   where
-    choose : (J : Keyword) (m : Node) → enters t J ≡ Some m → (x : Bare) → Entered J m x → (v : A) × D x v
+    choose : (J : Keyword) (m : Node) → enters (kinds.Node K n) J ≡ Some m → (x : Bare) → Entered J m x → (v : A) × D x v
     choose J m e x h =
-        let o = only J m e in
+        let o = node_only K n J m e in
         let v = node_has n row J m o.1 x h in
         (make v.0, is x v.0 (subst (λ k. IsNode k n (F v.0) x) o.0 v.1))
