@@ -3,7 +3,6 @@ pub mod EachText
 pub mod Editions
 pub mod FromText
 pub mod GoodTrees
-pub mod Keywords
 pub mod LeafValues
 pub mod NodeValues
 pub mod Passes

@@ -4,5 +4,4 @@ pub mod Source
 pub mod Passing
 pub mod Definition
 pub mod Verdict
-pub mod Keywords
 pub mod Unspelled

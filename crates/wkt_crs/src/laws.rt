@@ -1,14 +1,12 @@
 //! What holds of all texts and all values.
 
-ghost use Rattle.std.specs.Prelude.{◌≡◌, ◌≤◌, ◌↔◌, length, List, ℕ, Some};
+ghost use Rattle.std.specs.Prelude.{◌≡◌, ◌≤◌, length, List, ℕ, Some};
 ghost use Rattle.crs_part.specs.declared.crs.CrsParts.{CrsParts};
 ghost use Rattle.crs_value.specs.declared.crs.Crs.{Crs};
 ghost use Rattle.wkt_tree.specs.Tree.{Tok};
 ghost use Rattle.wkt_tree.specs.Faults.{IsOutline};
 ghost use Rattle.wkt_grammar.specs.declared.table.Edition.TheVariants as editions;
-ghost use Rattle.wkt_grammar.specs.declared.table.Keyword.{Keyword};
 ghost use Rattle.wkt_grammar.specs.declared.table.Takes.TheVariants as kinds;
-ghost use Rattle.wkt_grammar.specs.Words.{keyword_of};
 ghost use Rattle.wkt_grammar.specs.Slots.{IsClean};
 ghost use Rattle.wkt_grammar.specs.Bare.{Bare};
 ghost use Rattle.wkt_write.specs.WellFormed.{WellFormed};
@@ -19,16 +17,10 @@ ghost use Rattle.wkt_crs.specs.declared.fault.ReadFault.TheVariants as fault;
 ghost use Rattle.wkt_meaning.specs.FirstEdition.{NothingAdded};
 ghost use Rattle.wkt_crs.specs.Spells.{FirstSpells, Spells, canon, pretty};
 ghost use Rattle.wkt_crs.specs.Faults.{FirstFault};
-ghost use Rattle.wkt_crs.specs.Keywords.{IsKeyword};
 ghost use Rattle.wkt_crs.specs.Verdict.{HasVerdict};
 
 use wkt_grammar::{Edition, check_slots};
 use wkt_tree::scan;
-
-/// What has a meaning as a keyword is, in any letter case, the preferred keyword of that meaning or one of its alternates.
-pub fn keywords()
-    ensures { (bytes : List ℕ) (k : Keyword) → (keyword_of bytes ≡ Some k) ↔ IsKeyword k bytes }
-{}
 
 /// A tree denotes a value where its leaves are tokens, and its arguments fit the rows everywhere.
 pub fn fitting_denotes()

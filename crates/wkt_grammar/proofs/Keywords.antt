@@ -1,7 +1,11 @@
 -- Keywords: their places, their spellings, and what these mean.
 use Rattle.std.proofs.Common.{◌≡◌, ℕ, Bool, true, false, cond, List, [], ◌∷◌, ◌++◌, map, get_or, Option, Some, None, refl, sym, ap, ◌∙◌, arith}
-use Rattle.std.specs.Prelude.{◌==◌, if◌then◌else◌}
+use Rattle.std.specs.Prelude.{◌==◌, ◌&&◌, ◌||◌, ◌↔◌, if◌then◌else◌}
+use Rattle.std.specs.Bool.{Decides}
 use Rattle.std.specs.Char.{to_ascii_lowercase}
+use Rattle.std.specs.List.{list_any}
+use Rattle.std.specs.Str.{bytes_eq}
+use Rattle.std.proofs.lemmas.Slice.Eq.{bytes_eq-Decides}
 use Rattle.std.specs.Map.{lookup}
 use Rattle.std.specs.Option.{option_or}
 use Rattle.crs_part.specs.Words.{first_word, same_word}
@@ -10,7 +14,7 @@ use Rattle.wkt_grammar.specs.declared.table.Keyword.TheVariants as keywords
 use Rattle.wkt_grammar.specs.declared.table.Node.{Node}
 use Rattle.wkt_grammar.specs.declared.table.Takes.TheVariants as kinds
 use Rattle.wkt_grammar.specs.Rows.{enters}
-use Rattle.wkt_grammar.specs.Words.{all_keywords, alternates, keyword_of, place_of, same_keyword, spelling}
+use Rattle.wkt_grammar.specs.Words.{IsKeyword, all_keywords, alternates, keyword_of, meanings, place_of, same_keyword, spelling}
 
 -- ---- places
 
@@ -113,10 +117,6 @@ keyword_spelled keywords.Uri = refl
 keyword_spelled keywords.Remark = refl
 keyword_spelled keywords.Identifier = refl
 
-pub alternates_mean : map (λ (a : List ℕ × Keyword). keyword_of a.0) alternates ≡ map (λ (a : List ℕ × Keyword). Some a.1) alternates
-unfolding keyword_of
-alternates_mean = refl
-
 -- a word is looked for among the spellings of some keywords, and then among others
 after : (ks : List Keyword) (others : List (List ℕ × Keyword)) (bytes : List ℕ)
     → lookup (λ w. same_word w bytes) (map (λ k. (spelling k, k)) ks ++ others) ≡ option_or (first_word spelling ks (map to_ascii_lowercase bytes)) (lookup (λ w. same_word w bytes) others)
@@ -130,3 +130,63 @@ after (k ∷ ks) others bytes = by (same_word (spelling k) bytes) _ _ _ (after k
 pub by_spelling : (bytes : List ℕ) → keyword_of bytes ≡ option_or (first_word spelling all_keywords (map to_ascii_lowercase bytes)) (lookup (λ w. same_word w bytes) alternates)
 unfolding keyword_of
 by_spelling bytes = after all_keywords alternates bytes
+
+-- ---- a word that is a spelling of a keyword means it
+
+abbrev Meanings : Type 0
+Meanings = List (List ℕ × Keyword)
+
+abbrev is_keyword : Keyword → List ℕ → Meanings → Bool
+is_keyword k bytes ms = list_any (λ m. same_word m.0 bytes && same_keyword m.1 k) ms
+
+some_same : (a b : Keyword) → Some a ≡ Some b → a ≡ b
+some_same a b e = cc
+
+looked_up : (k : Keyword) (bytes : List ℕ) (ms : Meanings) → lookup (λ w. same_word w bytes) ms ≡ Some k → is_keyword k bytes ms ≡ true
+looked_up k bytes [] e = absurd cc
+looked_up k bytes (m ∷ ms) e = by (same_word m.0 bytes) e (looked_up k bytes ms)
+  where
+    by : (t : Bool) → cond t (Some m.1) (lookup (λ w. same_word w bytes) ms) ≡ Some k → (lookup (λ w. same_word w bytes) ms ≡ Some k → is_keyword k bytes ms ≡ true) → ((t && same_keyword m.1 k) || is_keyword k bytes ms) ≡ true
+    by true f g = ap (λ t. t || is_keyword k bytes ms) (ap (λ j. same_keyword j k) (some_same m.1 k f) ∙ is_same k)
+    by false f g = g f
+
+same_bytes : (a b : List ℕ) → bytes_eq a b ≡ true → a ≡ b
+same_bytes a b h = by (bytes_eq a b) (bytes_eq-Decides a b) h
+  where
+    by : (t : Bool) → Decides t (a ≡ b) → t ≡ true → a ≡ b
+    by t d e = d.0 e
+
+meaning_by : List ℕ → Option Keyword
+meaning_by l = lookup (λ w. bytes_eq (map to_ascii_lowercase w) l) meanings
+
+same_meaning : (a b : List ℕ) → same_word a b ≡ true → keyword_of a ≡ keyword_of b
+unfolding keyword_of
+same_meaning a b e = ap meaning_by (same_bytes (map to_ascii_lowercase a) (map to_ascii_lowercase b) e)
+
+abbrev AllMean : Meanings → Type 0
+AllMean [] = Unit {0}
+AllMean (m ∷ ms) = (keyword_of m.0 ≡ Some m.1) × AllMean ms
+
+each_means : (ms : Meanings) → map (λ m. keyword_of m.0) ms ≡ map (λ m. Some m.1) ms → AllMean ms
+each_means [] e = tt
+each_means (m ∷ ms) e = (cc, each_means ms cc)
+
+table_means : map (λ m. keyword_of m.0) meanings ≡ map (λ m. Some m.1) meanings
+unfolding keyword_of
+table_means = refl
+
+listed : (k : Keyword) (bytes : List ℕ) (ms : Meanings) → AllMean ms → is_keyword k bytes ms ≡ true → keyword_of bytes ≡ Some k
+listed k bytes [] a h = absurd cc
+listed k bytes (m ∷ ms) a h = by (same_word m.0 bytes) (same_keyword m.1 k) refl refl h
+  where
+    by : (s t : Bool) → same_word m.0 bytes ≡ s → same_keyword m.1 k ≡ t → ((s && t) || is_keyword k bytes ms) ≡ true → keyword_of bytes ≡ Some k
+    by true true p q g = sym (same_meaning m.0 bytes p) ∙ (a.0 ∙ ap Some (same_is m.1 k q))
+    by true false p q g = listed k bytes ms a.1 g
+    by false t p q g = listed k bytes ms a.1 g
+
+found : (bytes : List ℕ) (k : Keyword) → keyword_of bytes ≡ Some k → IsKeyword k bytes
+unfolding keyword_of
+found bytes k e = looked_up k bytes meanings e
+
+pub keywords_are : (bytes : List ℕ) (k : Keyword) → (keyword_of bytes ≡ Some k) ↔ IsKeyword k bytes
+keywords_are bytes k = (found bytes k, λ h. listed k bytes meanings (each_means meanings table_means) h)

@@ -1,7 +1,8 @@
 -- The keywords, how they are spelled, and what words mean, in any letter case.
-use Rattle.std.specs.Prelude.{ℕ, List, [], ◌∷◌, ◌++◌, Bool, ◌==◌, Option, map, codes}
+use Rattle.std.specs.Prelude.{◌≡◌, ℕ, List, [], ◌∷◌, ◌++◌, Bool, true, ◌==◌, ◌&&◌, Option, map, codes}
 use Rattle.std.specs.Char.{to_ascii_lowercase}
 use Rattle.std.specs.Option.{is_some}
+use Rattle.std.specs.List.{list_any}
 use Rattle.std.specs.Map.{lookup}
 use Rattle.crs_part.specs.Words.{system_word, kinds_listed, direction_word, directions_listed, first_word, same_word}
 use Rattle.wkt_grammar.specs.declared.table.Keyword.{Keyword}
@@ -65,15 +66,13 @@ alternates =
     ∷ (codes "PRIMEMERIDIAN", keywords.PrimeMeridian)
     ∷ []
 
+-- every spelling, and what it means
+abbrev pub meanings : List (List ℕ × Keyword)
+meanings = map (λ k. (spelling k, k)) all_keywords ++ alternates
+
 -- what a word means: that of the first spelling that it is, in any letter case
 unfoldable pub keyword_of : List ℕ → Option Keyword
-keyword_of bytes = lookup (λ w. same_word w bytes) (map (λ k. (spelling k, k)) all_keywords ++ alternates)
-
-unfoldable pub is_cs_kind : List ℕ → Bool
-is_cs_kind bytes = is_some (first_word system_word kinds_listed (map to_ascii_lowercase bytes))
-
-unfoldable pub is_direction : List ℕ → Bool
-is_direction bytes = is_some (first_word direction_word directions_listed (map to_ascii_lowercase bytes))
+keyword_of bytes = lookup (λ w. same_word w bytes) meanings
 
 -- the place of a keyword among all of them
 abbrev pub place_of : Keyword → ℕ
@@ -116,3 +115,13 @@ place_of keywords.Identifier = 35
 
 abbrev pub same_keyword : Keyword → Keyword → Bool
 same_keyword a b = place_of a == place_of b
+
+-- the bytes are a spelling with this meaning, in any letter case
+abbrev pub IsKeyword : Keyword → List ℕ → Type 0
+IsKeyword k bytes = list_any (λ m. same_word m.0 bytes && same_keyword m.1 k) meanings ≡ true
+
+unfoldable pub is_cs_kind : List ℕ → Bool
+is_cs_kind bytes = is_some (first_word system_word kinds_listed (map to_ascii_lowercase bytes))
+
+unfoldable pub is_direction : List ℕ → Bool
+is_direction bytes = is_some (first_word direction_word directions_listed (map to_ascii_lowercase bytes))

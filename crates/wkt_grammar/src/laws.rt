@@ -1,6 +1,6 @@
 //! What holds of the whole table, and between the editions.
 
-ghost use Rattle.std.specs.Prelude.{◌≡◌, ◌<◌, ◌++◌, ◌∷◌, [], List, ℕ, true, false, length, get_or, Some};
+ghost use Rattle.std.specs.Prelude.{◌≡◌, ◌<◌, ◌++◌, ◌∷◌, ◌↔◌, [], List, ℕ, true, false, length, get_or, Some};
 ghost use Rattle.wkt_grammar.specs.declared.table.Edition.{Edition};
 ghost use Rattle.wkt_grammar.specs.declared.table.Edition.TheVariants as editions;
 ghost use Rattle.wkt_grammar.specs.declared.table.Node.{Node};
@@ -10,11 +10,17 @@ ghost use Rattle.wkt_grammar.specs.declared.table.Keyword.{Keyword};
 ghost use Rattle.wkt_grammar.specs.declared.table.Argument.{Argument};
 ghost use Rattle.wkt_grammar.specs.declared.table.Argument.TheVariants as arguments;
 ghost use Rattle.wkt_grammar.specs.Editions.{without_added};
+ghost use Rattle.wkt_grammar.specs.Words.{IsKeyword, keyword_of};
 ghost use Rattle.wkt_grammar.specs.Ensembles.{needs_ellipsoid, takes_ellipsoid};
 ghost use Rattle.wkt_tree.specs.Tree.{Tok};
 ghost use Rattle.wkt_tree.specs.Tokens.{Cut};
 ghost use Rattle.wkt_grammar.specs.Slots.{IsClean};
 ghost use Rattle.wkt_grammar.specs.Rows.{Admitted, Fits, enters, row_in, row_of};
+
+/// What has a meaning as a keyword is, in any letter case, a spelling with this meaning, and no other keyword's.
+pub fn keywords()
+    ensures { (bytes : List ℕ) (k : Keyword) → (keyword_of bytes ≡ Some k) ↔ IsKeyword k bytes }
+{}
 
 /// Each slot of a row that takes a keyword gives it the same row.
 pub fn slot_decides()

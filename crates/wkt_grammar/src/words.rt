@@ -1,6 +1,6 @@
 //! The keywords: how each is spelled, and what a spelling means.
 
-ghost use Rattle.std.specs.Prelude.{◌≡◌, length, map, Some, IfSome, IsTrue};
+ghost use Rattle.std.specs.Prelude.{◌≡◌, ◌<◌, length, map, Some, IfSome, IsTrue};
 ghost use Rattle.std.specs.List.{zip};
 ghost use Rattle.std.specs.Map.{lookup};
 ghost use Rattle.crs_part.specs.Words.{same_word};
@@ -205,7 +205,9 @@ static LIKELY: [Keyword; 64] = [
 
 /// A sum of the first byte, the last and the length, by which the spellings of the frequent keywords differ.
 #[inline(always)]
-fn mixed(first: u8, last: u8, length: usize) -> usize {
+fn mixed(first: u8, last: u8, length: usize) -> usize
+    ensures { result < 64 }
+{
     (usize::from(first) * 14 + usize::from(last) * 4 + length % 64 * 5) % 64
 }
 

@@ -28,7 +28,7 @@ use Rattle.wkt_grammar.specs.declared.table.SlotName.TheVariants as slots
 use Rattle.wkt_grammar.specs.declared.table.Takes.{Takes}
 use Rattle.wkt_grammar.specs.declared.table.Takes.TheVariants as kinds
 use Rattle.wkt_grammar.specs.Rows.{enters}
-use Rattle.wkt_grammar.specs.Words.{spelling, keyword_of}
+use Rattle.wkt_grammar.specs.Words.{keyword_of}
 use Rattle.wkt_grammar.specs.declared.table.Node.{Node}
 use Rattle.wkt_grammar.specs.Bare.{Bare}
 use Rattle.wkt_meaning.specs.SecondEdition.{Fitting}
@@ -40,100 +40,82 @@ use Rattle.wkt_meaning.proofs.Leaves.{text_law, number_law, code_law, kind_law, 
 
 -- ---- values, identifiers
 
-pub value_law : (t : Takes) (K : Keyword) (word : List ℕ) → enters t K ≡ Some nodes.Value → keyword_of word ≡ Some K → Law t 1 (DenotesValue K) (value_tree word)
-value_law t K word e k =
-    node_law t (λ v. K) nodes.Value (λ v. word) (λ v. (v, tt)) (λ v. e) (λ v. k) (λ v w k h. λ i. (h i).0)
+pub value_law : (t : Takes) (K : Keyword) → enters t K ≡ Some nodes.Value → Law t 1 (DenotesValue K) (value_tree K)
+value_law t K e =
+    node_law t (λ v. K) nodes.Value (λ v. (v, tt)) (λ v. e) (λ v w k h. λ i. (h i).0)
     (one slots.Value text_law >> done)
 
-pub citation_law : Law (kinds.Node keywords.Citation nodes.Value) 1 (DenotesValue keywords.Citation) (value_tree (spelling keywords.Citation))
-unfolding keyword_of
-citation_law = value_law (kinds.Node keywords.Citation nodes.Value) keywords.Citation (spelling keywords.Citation) refl refl
+pub citation_law : Law (kinds.Node keywords.Citation nodes.Value) 1 (DenotesValue keywords.Citation) (value_tree keywords.Citation)
+citation_law = value_law (kinds.Node keywords.Citation nodes.Value) keywords.Citation refl
 
-pub uri_law : Law (kinds.Node keywords.Uri nodes.Value) 1 (DenotesValue keywords.Uri) (value_tree (spelling keywords.Uri))
-unfolding keyword_of
-uri_law = value_law (kinds.Node keywords.Uri nodes.Value) keywords.Uri (spelling keywords.Uri) refl refl
+pub uri_law : Law (kinds.Node keywords.Uri nodes.Value) 1 (DenotesValue keywords.Uri) (value_tree keywords.Uri)
+uri_law = value_law (kinds.Node keywords.Uri nodes.Value) keywords.Uri refl
 
 pub ident_law : Law (kinds.Node keywords.Identifier nodes.Identifier) 2 DenotesIdent ident_tree
-unfolding keyword_of
 ident_law =
-    node_law (kinds.Node keywords.Identifier nodes.Identifier) (λ v. keywords.Identifier) nodes.Identifier (λ v. spelling keywords.Identifier) (λ v. (v.authority, (v.code, (v.version, (v.citation, (v.uri, tt)))))) (λ v. refl) (λ v. refl)
+    node_law (kinds.Node keywords.Identifier nodes.Identifier) (λ v. keywords.Identifier) nodes.Identifier (λ v. (v.authority, (v.code, (v.version, (v.citation, (v.uri, tt)))))) (λ v. refl)
     (λ v w k h. λ i. record { authority = (h i).0; code = (h i).1.0; version = (h i).1.1.0; citation = (h i).1.1.1.0; uri = (h i).1.1.1.1.0 })
     (one slots.Authority text_law >> one slots.Code code_law >> maybe slots.Version code_law >> maybe slots.Citation citation_law >> maybe slots.Uri uri_law >> done)
 
-pub scope_law : Law (kinds.Node keywords.Scope nodes.Value) 1 (DenotesValue keywords.Scope) (value_tree (spelling keywords.Scope))
-unfolding keyword_of
-scope_law = value_law (kinds.Node keywords.Scope nodes.Value) keywords.Scope (spelling keywords.Scope) refl refl
+pub scope_law : Law (kinds.Node keywords.Scope nodes.Value) 1 (DenotesValue keywords.Scope) (value_tree keywords.Scope)
+scope_law = value_law (kinds.Node keywords.Scope nodes.Value) keywords.Scope refl
 
-pub area_law : Law (kinds.Node keywords.Area nodes.Value) 1 (DenotesValue keywords.Area) (value_tree (spelling keywords.Area))
-unfolding keyword_of
-area_law = value_law (kinds.Node keywords.Area nodes.Value) keywords.Area (spelling keywords.Area) refl refl
+pub area_law : Law (kinds.Node keywords.Area nodes.Value) 1 (DenotesValue keywords.Area) (value_tree keywords.Area)
+area_law = value_law (kinds.Node keywords.Area nodes.Value) keywords.Area refl
 
-pub anchor_law : Law (kinds.Node keywords.Anchor nodes.Value) 1 (DenotesValue keywords.Anchor) (value_tree (spelling keywords.Anchor))
-unfolding keyword_of
-anchor_law = value_law (kinds.Node keywords.Anchor nodes.Value) keywords.Anchor (spelling keywords.Anchor) refl refl
+pub anchor_law : Law (kinds.Node keywords.Anchor nodes.Value) 1 (DenotesValue keywords.Anchor) (value_tree keywords.Anchor)
+anchor_law = value_law (kinds.Node keywords.Anchor nodes.Value) keywords.Anchor refl
 
-pub remark_law : Law (kinds.Node keywords.Remark nodes.Value) 1 (DenotesValue keywords.Remark) (value_tree (spelling keywords.Remark))
-unfolding keyword_of
-remark_law = value_law (kinds.Node keywords.Remark nodes.Value) keywords.Remark (spelling keywords.Remark) refl refl
+pub remark_law : Law (kinds.Node keywords.Remark nodes.Value) 1 (DenotesValue keywords.Remark) (value_tree keywords.Remark)
+remark_law = value_law (kinds.Node keywords.Remark nodes.Value) keywords.Remark refl
 
-named_law : (t : Takes) (K : Keyword) (word : List ℕ) → enters t K ≡ Some nodes.Named → keyword_of word ≡ Some K → Law t 3 (DenotesNamed K) (named_tree word)
-named_law t K word e k =
-    node_law t (λ v. K) nodes.Named (λ v. word) (λ v. (v.name, (v.ids, tt))) (λ v. e) (λ v. k) (λ v w k h. λ i. record { name = (h i).0; ids = (h i).1.0 })
+named_law : (t : Takes) (K : Keyword) → enters t K ≡ Some nodes.Named → Law t 3 (DenotesNamed K) (named_tree K)
+named_law t K e =
+    node_law t (λ v. K) nodes.Named (λ v. (v.name, (v.ids, tt))) (λ v. e) (λ v w k h. λ i. record { name = (h i).0; ids = (h i).1.0 })
     (one slots.Name text_law >> each slots.Id ident_law >> done)
 
-pub member_law : Law (kinds.Node keywords.Member nodes.Named) 3 (DenotesNamed keywords.Member) (named_tree (spelling keywords.Member))
-unfolding keyword_of
-member_law = named_law (kinds.Node keywords.Member nodes.Named) keywords.Member (spelling keywords.Member) refl refl
+pub member_law : Law (kinds.Node keywords.Member nodes.Named) 3 (DenotesNamed keywords.Member) (named_tree keywords.Member)
+member_law = named_law (kinds.Node keywords.Member nodes.Named) keywords.Member refl
 
-pub method_law : Law (kinds.Node keywords.Method nodes.Named) 3 (DenotesNamed keywords.Method) (named_tree (spelling keywords.Method))
-unfolding keyword_of
-method_law = named_law (kinds.Node keywords.Method nodes.Named) keywords.Method (spelling keywords.Method) refl refl
+pub method_law : Law (kinds.Node keywords.Method nodes.Named) 3 (DenotesNamed keywords.Method) (named_tree keywords.Method)
+method_law = named_law (kinds.Node keywords.Method nodes.Named) keywords.Method refl
 
-pub geoid_model_law : Law (kinds.Node keywords.GeoidModel nodes.Named) 3 (DenotesNamed keywords.GeoidModel) (named_tree (spelling keywords.GeoidModel))
-unfolding keyword_of
-geoid_model_law = named_law (kinds.Node keywords.GeoidModel nodes.Named) keywords.GeoidModel (spelling keywords.GeoidModel) refl refl
+pub geoid_model_law : Law (kinds.Node keywords.GeoidModel nodes.Named) 3 (DenotesNamed keywords.GeoidModel) (named_tree keywords.GeoidModel)
+geoid_model_law = named_law (kinds.Node keywords.GeoidModel nodes.Named) keywords.GeoidModel refl
 
 -- ---- units
 
-unit_of_law : (t : Takes) (K : Keyword) (word : List ℕ) → enters t K ≡ Some nodes.Unit → keyword_of word ≡ Some K → Law t 3 (DenotesUnitOf K) (unit_of_tree word)
-unit_of_law t K word e k =
-    node_law t (λ v. K) nodes.Unit (λ v. word) (λ v. (v.name, (v.factor, (v.ids, tt)))) (λ v. e) (λ v. k) (λ v w k h. λ i. record { name = (h i).0; factor = (h i).1.0; ids = (h i).1.1.0 })
+unit_of_law : (t : Takes) (K : Keyword) → enters t K ≡ Some nodes.Unit → Law t 3 (DenotesUnitOf K) (unit_of_tree K)
+unit_of_law t K e =
+    node_law t (λ v. K) nodes.Unit (λ v. (v.name, (v.factor, (v.ids, tt)))) (λ v. e) (λ v w k h. λ i. record { name = (h i).0; factor = (h i).1.0; ids = (h i).1.1.0 })
     (one slots.Name text_law >> one slots.Factor number_law >> each slots.Id ident_law >> done)
 
-abbrev Units : Takes → Keyword → List ℕ → Type 0
-Units t K word = Law t 3 (DenotesUnitOf K) (unit_of_tree word)
+abbrev Units : Takes → Keyword → Type 0
+Units t K = Law t 3 (DenotesUnitOf K) (unit_of_tree K)
 
-any_length : Units kinds.AnyUnit keywords.LengthUnit (spelling keywords.LengthUnit)
-unfolding keyword_of
-any_length = unit_of_law kinds.AnyUnit keywords.LengthUnit (spelling keywords.LengthUnit) refl refl
+any_length : Units kinds.AnyUnit keywords.LengthUnit
+any_length = unit_of_law kinds.AnyUnit keywords.LengthUnit refl
 
-any_angle : Units kinds.AnyUnit keywords.AngleUnit (spelling keywords.AngleUnit)
-unfolding keyword_of
-any_angle = unit_of_law kinds.AnyUnit keywords.AngleUnit (spelling keywords.AngleUnit) refl refl
+any_angle : Units kinds.AnyUnit keywords.AngleUnit
+any_angle = unit_of_law kinds.AnyUnit keywords.AngleUnit refl
 
-any_scale : Units kinds.AnyUnit keywords.ScaleUnit (spelling keywords.ScaleUnit)
-unfolding keyword_of
-any_scale = unit_of_law kinds.AnyUnit keywords.ScaleUnit (spelling keywords.ScaleUnit) refl refl
+any_scale : Units kinds.AnyUnit keywords.ScaleUnit
+any_scale = unit_of_law kinds.AnyUnit keywords.ScaleUnit refl
 
-any_generic : Units kinds.AnyUnit keywords.Unit (spelling keywords.Unit)
-unfolding keyword_of
-any_generic = unit_of_law kinds.AnyUnit keywords.Unit (spelling keywords.Unit) refl refl
+any_generic : Units kinds.AnyUnit keywords.Unit
+any_generic = unit_of_law kinds.AnyUnit keywords.Unit refl
 
-length_length : Units kinds.LengthUnit keywords.LengthUnit (spelling keywords.LengthUnit)
-unfolding keyword_of
-length_length = unit_of_law kinds.LengthUnit keywords.LengthUnit (spelling keywords.LengthUnit) refl refl
+length_length : Units kinds.LengthUnit keywords.LengthUnit
+length_length = unit_of_law kinds.LengthUnit keywords.LengthUnit refl
 
-length_generic : Units kinds.LengthUnit keywords.Unit (spelling keywords.Unit)
-unfolding keyword_of
-length_generic = unit_of_law kinds.LengthUnit keywords.Unit (spelling keywords.Unit) refl refl
+length_generic : Units kinds.LengthUnit keywords.Unit
+length_generic = unit_of_law kinds.LengthUnit keywords.Unit refl
 
-angle_angle : Units kinds.AngleUnit keywords.AngleUnit (spelling keywords.AngleUnit)
-unfolding keyword_of
-angle_angle = unit_of_law kinds.AngleUnit keywords.AngleUnit (spelling keywords.AngleUnit) refl refl
+angle_angle : Units kinds.AngleUnit keywords.AngleUnit
+angle_angle = unit_of_law kinds.AngleUnit keywords.AngleUnit refl
 
-angle_generic : Units kinds.AngleUnit keywords.Unit (spelling keywords.Unit)
-unfolding keyword_of
-angle_generic = unit_of_law kinds.AngleUnit keywords.Unit (spelling keywords.Unit) refl refl
+angle_generic : Units kinds.AngleUnit keywords.Unit
+angle_generic = unit_of_law kinds.AngleUnit keywords.Unit refl
 
 -- one tree is not two nodes with other keywords
 one_keyword : {n m : Node} {F G : Fields} (K J : Keyword) (x : Bare) → IsNode K n F x → IsNode J m G x → K ≡ J
@@ -209,65 +191,55 @@ angle_unit_law = record { fits = angle_unit_fits; once = angle_unit_once; spelle
 -- ---- usages
 
 pub bounding_box_law : Law (kinds.Node keywords.BoundingBox nodes.BoundingBox) 1 DenotesBoundingBox bounding_box_tree
-unfolding keyword_of
 bounding_box_law =
-    node_law (kinds.Node keywords.BoundingBox nodes.BoundingBox) (λ v. keywords.BoundingBox) nodes.BoundingBox (λ v. spelling keywords.BoundingBox) (λ v. (v.south, (v.west, (v.north, (v.east, tt))))) (λ v. refl) (λ v. refl) (λ v w k h. λ i. record { south = (h i).0; west = (h i).1.0; north = (h i).1.1.0; east = (h i).1.1.1.0 })
+    node_law (kinds.Node keywords.BoundingBox nodes.BoundingBox) (λ v. keywords.BoundingBox) nodes.BoundingBox (λ v. (v.south, (v.west, (v.north, (v.east, tt))))) (λ v. refl) (λ v w k h. λ i. record { south = (h i).0; west = (h i).1.0; north = (h i).1.1.0; east = (h i).1.1.1.0 })
     (one slots.South number_law >> one slots.West number_law >> one slots.North number_law >> one slots.East number_law >> done)
 
 pub vertical_extent_law : Law (kinds.Node keywords.VerticalExtent nodes.VerticalExtent) 4 DenotesVerticalExtent vertical_extent_tree
-unfolding keyword_of
 vertical_extent_law =
-    node_law (kinds.Node keywords.VerticalExtent nodes.VerticalExtent) (λ v. keywords.VerticalExtent) nodes.VerticalExtent (λ v. spelling keywords.VerticalExtent) (λ v. (v.low, (v.high, (v.unit, tt)))) (λ v. refl) (λ v. refl) (λ v w k h. λ i. record { low = (h i).0; high = (h i).1.0; unit = (h i).1.1.0 })
+    node_law (kinds.Node keywords.VerticalExtent nodes.VerticalExtent) (λ v. keywords.VerticalExtent) nodes.VerticalExtent (λ v. (v.low, (v.high, (v.unit, tt)))) (λ v. refl) (λ v w k h. λ i. record { low = (h i).0; high = (h i).1.0; unit = (h i).1.1.0 })
     (one slots.Low number_law >> one slots.High number_law >> maybe slots.Unit length_unit_law >> done)
 
 pub usage_law : Law (kinds.Node keywords.Usage nodes.Usage) 5 DenotesUsage usage_tree
-unfolding keyword_of
 usage_law =
-    node_law (kinds.Node keywords.Usage nodes.Usage) (λ v. keywords.Usage) nodes.Usage (λ v. spelling keywords.Usage) (λ v. (v.scope, (v.area, (v.bounding_box, (v.vertical_extent, tt))))) (λ v. refl) (λ v. refl) (λ v w k h. λ i. record { scope = (h i).0; area = (h i).1.0; bounding_box = (h i).1.1.0; vertical_extent = (h i).1.1.1.0 })
+    node_law (kinds.Node keywords.Usage nodes.Usage) (λ v. keywords.Usage) nodes.Usage (λ v. (v.scope, (v.area, (v.bounding_box, (v.vertical_extent, tt))))) (λ v. refl) (λ v w k h. λ i. record { scope = (h i).0; area = (h i).1.0; bounding_box = (h i).1.1.0; vertical_extent = (h i).1.1.1.0 })
     (one slots.Scope scope_law >> maybe slots.Area area_law >> maybe slots.BoundingBox bounding_box_law >> maybe slots.VerticalExtent vertical_extent_law >> done)
 
 -- ---- datums
 
 pub ellipsoid_law : Law (kinds.Node keywords.Ellipsoid nodes.Ellipsoid) 4 DenotesEllipsoid ellipsoid_tree
-unfolding keyword_of
 ellipsoid_law =
-    node_law (kinds.Node keywords.Ellipsoid nodes.Ellipsoid) (λ v. keywords.Ellipsoid) nodes.Ellipsoid (λ v. spelling keywords.Ellipsoid) (λ v. (v.name, (v.radius, (v.flattening, (v.unit, (v.ids, tt)))))) (λ v. refl) (λ v. refl) (λ v w k h. λ i. record { name = (h i).0; radius = (h i).1.0; flattening = (h i).1.1.0; unit = (h i).1.1.1.0; ids = (h i).1.1.1.1.0 })
+    node_law (kinds.Node keywords.Ellipsoid nodes.Ellipsoid) (λ v. keywords.Ellipsoid) nodes.Ellipsoid (λ v. (v.name, (v.radius, (v.flattening, (v.unit, (v.ids, tt)))))) (λ v. refl) (λ v w k h. λ i. record { name = (h i).0; radius = (h i).1.0; flattening = (h i).1.1.0; unit = (h i).1.1.1.0; ids = (h i).1.1.1.1.0 })
     (one slots.Name text_law >> one slots.Radius number_law >> one slots.Flattening number_law >> maybe slots.Unit length_unit_law >> each slots.Id ident_law >> done)
 
 pub prime_meridian_law : Law (kinds.Node keywords.PrimeMeridian nodes.PrimeMeridian) 4 DenotesPrimeMeridian prime_meridian_tree
-unfolding keyword_of
 prime_meridian_law =
-    node_law (kinds.Node keywords.PrimeMeridian nodes.PrimeMeridian) (λ v. keywords.PrimeMeridian) nodes.PrimeMeridian (λ v. spelling keywords.PrimeMeridian) (λ v. (v.name, (v.longitude, (v.unit, (v.ids, tt))))) (λ v. refl) (λ v. refl) (λ v w k h. λ i. record { name = (h i).0; longitude = (h i).1.0; unit = (h i).1.1.0; ids = (h i).1.1.1.0 })
+    node_law (kinds.Node keywords.PrimeMeridian nodes.PrimeMeridian) (λ v. keywords.PrimeMeridian) nodes.PrimeMeridian (λ v. (v.name, (v.longitude, (v.unit, (v.ids, tt))))) (λ v. refl) (λ v w k h. λ i. record { name = (h i).0; longitude = (h i).1.0; unit = (h i).1.1.0; ids = (h i).1.1.1.0 })
     (one slots.Name text_law >> one slots.Longitude number_law >> maybe slots.Unit angle_unit_law >> each slots.Id ident_law >> done)
 
 pub accuracy_law : Law (kinds.Node keywords.EnsembleAccuracy nodes.EnsembleAccuracy) 1 DenotesAccuracy accuracy_tree
-unfolding keyword_of
 accuracy_law =
-    node_law (kinds.Node keywords.EnsembleAccuracy nodes.EnsembleAccuracy) (λ v. keywords.EnsembleAccuracy) nodes.EnsembleAccuracy (λ v. spelling keywords.EnsembleAccuracy) (λ v. (v, tt)) (λ v. refl) (λ v. refl) (λ v w k h. λ i. (h i).0)
+    node_law (kinds.Node keywords.EnsembleAccuracy nodes.EnsembleAccuracy) (λ v. keywords.EnsembleAccuracy) nodes.EnsembleAccuracy (λ v. (v, tt)) (λ v. refl) (λ v w k h. λ i. (h i).0)
     (one slots.Value number_law >> done)
 
 pub datum_law : Law kinds.GeodeticDatum 5 DenotesDatum datum_tree
-unfolding keyword_of
 datum_law =
-    node_law kinds.GeodeticDatum (λ v. keywords.Datum) nodes.Datum (λ v. spelling keywords.Datum) (λ v. (v.name, (v.ellipsoid, (v.anchor, (v.ids, tt))))) (λ v. refl) (λ v. refl) (λ v w k h. λ i. record { name = (h i).0; ellipsoid = (h i).1.0; anchor = (h i).1.1.0; ids = (h i).1.1.1.0 })
+    node_law kinds.GeodeticDatum (λ v. keywords.Datum) nodes.Datum (λ v. (v.name, (v.ellipsoid, (v.anchor, (v.ids, tt))))) (λ v. refl) (λ v w k h. λ i. record { name = (h i).0; ellipsoid = (h i).1.0; anchor = (h i).1.1.0; ids = (h i).1.1.1.0 })
     (one slots.Name text_law >> one slots.Ellipsoid ellipsoid_law >> maybe slots.Anchor anchor_law >> each slots.Id ident_law >> done)
 
 pub geodetic_ensemble_law : Law kinds.GeodeticDatum 5 DenotesGeodeticEnsemble geodetic_ensemble_tree
-unfolding keyword_of
 geodetic_ensemble_law =
-    node_law kinds.GeodeticDatum (λ v. keywords.Ensemble) nodes.GeodeticEnsemble (λ v. spelling keywords.Ensemble) (λ v. (v.name, (v.members, (v.ellipsoid, (v.accuracy, (v.ids, tt)))))) (λ v. refl) (λ v. refl) (λ v w k h. λ i. record { name = (h i).0; members = (h i).1.0; ellipsoid = (h i).1.1.0; accuracy = (h i).1.1.1.0; ids = (h i).1.1.1.1.0 })
+    node_law kinds.GeodeticDatum (λ v. keywords.Ensemble) nodes.GeodeticEnsemble (λ v. (v.name, (v.members, (v.ellipsoid, (v.accuracy, (v.ids, tt)))))) (λ v. refl) (λ v w k h. λ i. record { name = (h i).0; members = (h i).1.0; ellipsoid = (h i).1.1.0; accuracy = (h i).1.1.1.0; ids = (h i).1.1.1.1.0 })
     (one slots.Name text_law >> some slots.Member member_law >> one slots.Ellipsoid ellipsoid_law >> one slots.Accuracy accuracy_law >> each slots.Id ident_law >> done)
 
 pub vertical_datum_law : Law kinds.VerticalDatum 3 DenotesVerticalDatum vertical_datum_tree
-unfolding keyword_of
 vertical_datum_law =
-    node_law kinds.VerticalDatum (λ v. keywords.VerticalDatum) nodes.VerticalDatum (λ v. spelling keywords.VerticalDatum) (λ v. (v.name, (v.anchor, (v.ids, tt)))) (λ v. refl) (λ v. refl) (λ v w k h. λ i. record { name = (h i).0; anchor = (h i).1.0; ids = (h i).1.1.0 })
+    node_law kinds.VerticalDatum (λ v. keywords.VerticalDatum) nodes.VerticalDatum (λ v. (v.name, (v.anchor, (v.ids, tt)))) (λ v. refl) (λ v w k h. λ i. record { name = (h i).0; anchor = (h i).1.0; ids = (h i).1.1.0 })
     (one slots.Name text_law >> maybe slots.Anchor anchor_law >> each slots.Id ident_law >> done)
 
 pub vertical_ensemble_law : Law kinds.VerticalDatum 4 DenotesVerticalEnsemble vertical_ensemble_tree
-unfolding keyword_of
 vertical_ensemble_law =
-    node_law kinds.VerticalDatum (λ v. keywords.Ensemble) nodes.VerticalEnsemble (λ v. spelling keywords.Ensemble) (λ v. (v.name, (v.members, (v.accuracy, (v.ids, tt))))) (λ v. refl) (λ v. refl) (λ v w k h. λ i. record { name = (h i).0; members = (h i).1.0; accuracy = (h i).1.1.0; ids = (h i).1.1.1.0 })
+    node_law kinds.VerticalDatum (λ v. keywords.Ensemble) nodes.VerticalEnsemble (λ v. (v.name, (v.members, (v.accuracy, (v.ids, tt))))) (λ v. refl) (λ v w k h. λ i. record { name = (h i).0; members = (h i).1.0; accuracy = (h i).1.1.0; ids = (h i).1.1.1.0 })
     (one slots.Name text_law >> some slots.Member member_law >> one slots.Accuracy accuracy_law >> each slots.Id ident_law >> done)
 
 geodetic_frame_fits : (x : Bare) (v : GeodeticFrame) → DenotesGeodeticFrame x v → Fitting kinds.GeodeticDatum x
@@ -313,45 +285,39 @@ same_system : (v w : CoordSystem) → v.kind ≡ w.kind → v.dimension ≡ w.di
 same_system v w a b c = λ i. record { kind = a i; dimension = b i; ids = c i; count = is_prop→PathP (λ j. b j < 2 ^ 32) (λ j. hlevel props) v.count w.count i }
 
 pub system_law : Law (kinds.Node keywords.CoordinateSystem nodes.CoordinateSystem) 3 DenotesSystem system_tree
-unfolding keyword_of
 system_law =
-    node_law (kinds.Node keywords.CoordinateSystem nodes.CoordinateSystem) (λ v. keywords.CoordinateSystem) nodes.CoordinateSystem (λ v. spelling keywords.CoordinateSystem) (λ v. (v.kind, (small v.dimension v.count, (v.ids, tt)))) (λ v. refl) (λ v. refl)
+    node_law (kinds.Node keywords.CoordinateSystem nodes.CoordinateSystem) (λ v. keywords.CoordinateSystem) nodes.CoordinateSystem (λ v. (v.kind, (small v.dimension v.count, (v.ids, tt)))) (λ v. refl)
     (λ v w k h. same_system v w (λ i. (h i).0) (λ i. (h i).1.0.value) (λ i. (h i).1.1.0))
     (one slots.Kind kind_law >> one slots.Dimension count_law >> each slots.Id ident_law >> done)
 
 pub meridian_law : Law (kinds.Node keywords.Meridian nodes.Meridian) 4 DenotesMeridian meridian_tree
-unfolding keyword_of
 meridian_law =
-    node_law (kinds.Node keywords.Meridian nodes.Meridian) (λ v. keywords.Meridian) nodes.Meridian (λ v. spelling keywords.Meridian) (λ v. (v.longitude, (v.unit, tt))) (λ v. refl) (λ v. refl) (λ v w k h. λ i. record { longitude = (h i).0; unit = (h i).1.0 })
+    node_law (kinds.Node keywords.Meridian nodes.Meridian) (λ v. keywords.Meridian) nodes.Meridian (λ v. (v.longitude, (v.unit, tt))) (λ v. refl) (λ v w k h. λ i. record { longitude = (h i).0; unit = (h i).1.0 })
     (one slots.Longitude number_law >> one slots.Unit angle_unit_law >> done)
 
 same_order : (v w : Order) → v.position ≡ w.position → v ≡ w
 same_order v w a = λ i. record { position = a i; count = is_prop→PathP (λ j. a j < 2 ^ 32) (λ j. hlevel props) v.count w.count i }
 
 pub order_law : Law (kinds.Node keywords.Order nodes.Order) 1 DenotesOrder order_tree
-unfolding keyword_of
 order_law =
-    node_law (kinds.Node keywords.Order nodes.Order) (λ v. keywords.Order) nodes.Order (λ v. spelling keywords.Order) (λ v. (small v.position v.count, tt)) (λ v. refl) (λ v. refl) (λ v w k h. same_order v w (λ i. (h i).0.value))
+    node_law (kinds.Node keywords.Order nodes.Order) (λ v. keywords.Order) nodes.Order (λ v. (small v.position v.count, tt)) (λ v. refl) (λ v w k h. same_order v w (λ i. (h i).0.value))
     (one slots.Position count_law >> done)
 
 pub axis_law : Law (kinds.Node keywords.Axis nodes.Axis) 5 DenotesAxis axis_tree
-unfolding keyword_of
 axis_law =
-    node_law (kinds.Node keywords.Axis nodes.Axis) (λ v. keywords.Axis) nodes.Axis (λ v. spelling keywords.Axis) (λ v. (v.name, (v.direction, (v.meridian, (v.order, (v.unit, (v.ids, tt))))))) (λ v. refl) (λ v. refl) (λ v w k h. λ i. record { name = (h i).0; direction = (h i).1.0; meridian = (h i).1.1.0; order = (h i).1.1.1.0; unit = (h i).1.1.1.1.0; ids = (h i).1.1.1.1.1.0 })
+    node_law (kinds.Node keywords.Axis nodes.Axis) (λ v. keywords.Axis) nodes.Axis (λ v. (v.name, (v.direction, (v.meridian, (v.order, (v.unit, (v.ids, tt))))))) (λ v. refl) (λ v w k h. λ i. record { name = (h i).0; direction = (h i).1.0; meridian = (h i).1.1.0; order = (h i).1.1.1.0; unit = (h i).1.1.1.1.0; ids = (h i).1.1.1.1.1.0 })
     (one slots.Name text_law >> one slots.Direction direction_law >> maybe slots.Meridian meridian_law >> maybe slots.Order order_law >> maybe slots.Unit unit_law >> each slots.Id ident_law >> done)
 
 -- ---- conversions
 
 pub parameter_law : Law (kinds.Node keywords.Parameter nodes.Parameter) 4 DenotesParameter parameter_tree
-unfolding keyword_of
 parameter_law =
-    node_law (kinds.Node keywords.Parameter nodes.Parameter) (λ v. keywords.Parameter) nodes.Parameter (λ v. spelling keywords.Parameter) (λ v. (v.name, (v.value, (v.unit, (v.ids, tt))))) (λ v. refl) (λ v. refl) (λ v w k h. λ i. record { name = (h i).0; value = (h i).1.0; unit = (h i).1.1.0; ids = (h i).1.1.1.0 })
+    node_law (kinds.Node keywords.Parameter nodes.Parameter) (λ v. keywords.Parameter) nodes.Parameter (λ v. (v.name, (v.value, (v.unit, (v.ids, tt))))) (λ v. refl) (λ v w k h. λ i. record { name = (h i).0; value = (h i).1.0; unit = (h i).1.1.0; ids = (h i).1.1.1.0 })
     (one slots.Name text_law >> one slots.Value number_law >> maybe slots.Unit unit_law >> each slots.Id ident_law >> done)
 
 pub conversion_law : Law (kinds.Node keywords.Conversion nodes.Conversion) 5 DenotesConversion conversion_tree
-unfolding keyword_of
 conversion_law =
-    node_law (kinds.Node keywords.Conversion nodes.Conversion) (λ v. keywords.Conversion) nodes.Conversion (λ v. spelling keywords.Conversion) (λ v. (v.name, (v.method, (v.parameters, (v.ids, tt))))) (λ v. refl) (λ v. refl) (λ v w k h. λ i. record { name = (h i).0; method = (h i).1.0; parameters = (h i).1.1.0; ids = (h i).1.1.1.0 })
+    node_law (kinds.Node keywords.Conversion nodes.Conversion) (λ v. keywords.Conversion) nodes.Conversion (λ v. (v.name, (v.method, (v.parameters, (v.ids, tt))))) (λ v. refl) (λ v w k h. λ i. record { name = (h i).0; method = (h i).1.0; parameters = (h i).1.1.0; ids = (h i).1.1.1.0 })
     (one slots.Name text_law >> one slots.Method method_law >> each slots.Parameter parameter_law >> each slots.Id ident_law >> done)
 
 -- ---- coordinate reference systems
@@ -366,14 +332,9 @@ base_enters : (v : GeodeticKind) → enters kinds.BaseCrs (base_keyword v) ≡ S
 base_enters geodetic_kind.Geodetic = refl
 base_enters geodetic_kind.Geographic = refl
 
-base_means : (v : GeodeticKind) → keyword_of (base_name v) ≡ Some (base_keyword v)
-unfolding keyword_of
-base_means geodetic_kind.Geodetic = refl
-base_means geodetic_kind.Geographic = refl
-
 pub base_law : Law kinds.BaseCrs 6 DenotesBase base_tree
 base_law =
-    node_law kinds.BaseCrs (λ v. base_keyword v.kind) nodes.BaseCrs (λ v. base_name v.kind) (λ v. (v.name, (v.datum, (v.prime_meridian, (v.unit, (v.ids, tt)))))) (λ v. base_enters v.kind) (λ v. base_means v.kind)
+    node_law kinds.BaseCrs (λ v. base_keyword v.kind) nodes.BaseCrs (λ v. (v.name, (v.datum, (v.prime_meridian, (v.unit, (v.ids, tt)))))) (λ v. base_enters v.kind)
     (λ v w k h. λ i. record { kind = base_kind_once v.kind w.kind k i; name = (h i).0; datum = (h i).1.0; prime_meridian = (h i).1.1.0; unit = (h i).1.1.1.0; ids = (h i).1.1.1.1.0 })
     (one slots.Name text_law >> one slots.Datum geodetic_frame_law >> maybe slots.PrimeMeridian prime_meridian_law >> maybe slots.Unit angle_unit_law >> each slots.Id ident_law >> done)
 
@@ -382,11 +343,6 @@ geodetic_kind_once geodetic_kind.Geodetic geodetic_kind.Geodetic e = refl
 geodetic_kind_once geodetic_kind.Geographic geodetic_kind.Geographic e = refl
 geodetic_kind_once geodetic_kind.Geodetic geodetic_kind.Geographic e = absurd cc
 geodetic_kind_once geodetic_kind.Geographic geodetic_kind.Geodetic e = absurd cc
-
-geodetic_means : (v : GeodeticKind) → keyword_of (geodetic_name v) ≡ Some (geodetic_keyword v)
-unfolding keyword_of
-geodetic_means geodetic_kind.Geodetic = refl
-geodetic_means geodetic_kind.Geographic = refl
 
 -- the slots of a component of a compound, and of the root
 abbrev Singles : Takes → Type 0
@@ -408,21 +364,19 @@ singles_any = (λ v. of v, refl, refl)
 
 geodetic_law : (t : Takes) → Singles t → Law t 6 DenotesGeodetic geodetic_tree
 geodetic_law t s =
-    node_law t (λ v. geodetic_keyword v.kind) nodes.GeodeticCrs (λ v. geodetic_name v.kind) (λ v. (v.name, (v.datum, (v.prime_meridian, (v.system, (v.axes, (v.unit, (v.usages, (v.ids, (v.remark, tt)))))))))) (λ v. s.0 v.kind) (λ v. geodetic_means v.kind)
+    node_law t (λ v. geodetic_keyword v.kind) nodes.GeodeticCrs (λ v. (v.name, (v.datum, (v.prime_meridian, (v.system, (v.axes, (v.unit, (v.usages, (v.ids, (v.remark, tt)))))))))) (λ v. s.0 v.kind)
     (λ v w k h. λ i. record { kind = geodetic_kind_once v.kind w.kind k i; name = (h i).0; datum = (h i).1.0; prime_meridian = (h i).1.1.0; system = (h i).1.1.1.0; axes = (h i).1.1.1.1.0; unit = (h i).1.1.1.1.1.0; usages = (h i).1.1.1.1.1.1.0; ids = (h i).1.1.1.1.1.1.1.0; remark = (h i).1.1.1.1.1.1.1.1.0 })
     (one slots.Name text_law >> one slots.Datum geodetic_frame_law >> maybe slots.PrimeMeridian prime_meridian_law >> one slots.Cs system_law >> some slots.Axis axis_law >> maybe slots.Unit unit_law >> each slots.Usage usage_law >> each slots.Id ident_law >> maybe slots.Remark remark_law >> done)
 
 projected_law : (t : Takes) → Singles t → Law t 7 DenotesProjected projected_tree
-unfolding keyword_of
 projected_law t s =
-    node_law t (λ v. keywords.ProjectedCrs) nodes.ProjectedCrs (λ v. spelling keywords.ProjectedCrs) (λ v. (v.name, (v.base, (v.conversion, (v.system, (v.axes, (v.unit, (v.usages, (v.ids, (v.remark, tt)))))))))) (λ v. s.1) (λ v. refl)
+    node_law t (λ v. keywords.ProjectedCrs) nodes.ProjectedCrs (λ v. (v.name, (v.base, (v.conversion, (v.system, (v.axes, (v.unit, (v.usages, (v.ids, (v.remark, tt)))))))))) (λ v. s.1)
     (λ v w k h. λ i. record { name = (h i).0; base = (h i).1.0; conversion = (h i).1.1.0; system = (h i).1.1.1.0; axes = (h i).1.1.1.1.0; unit = (h i).1.1.1.1.1.0; usages = (h i).1.1.1.1.1.1.0; ids = (h i).1.1.1.1.1.1.1.0; remark = (h i).1.1.1.1.1.1.1.1.0 })
     (one slots.Name text_law >> one slots.Base base_law >> one slots.Conversion conversion_law >> one slots.Cs system_law >> some slots.Axis axis_law >> maybe slots.Unit unit_law >> each slots.Usage usage_law >> each slots.Id ident_law >> maybe slots.Remark remark_law >> done)
 
 vertical_law : (t : Takes) → Singles t → Law t 6 DenotesVertical vertical_tree
-unfolding keyword_of
 vertical_law t s =
-    node_law t (λ v. keywords.VerticalCrs) nodes.VerticalCrs (λ v. spelling keywords.VerticalCrs) (λ v. (v.name, (v.datum, (v.system, (v.axes, (v.unit, (v.geoid_models, (v.usages, (v.ids, (v.remark, tt)))))))))) (λ v. s.2) (λ v. refl)
+    node_law t (λ v. keywords.VerticalCrs) nodes.VerticalCrs (λ v. (v.name, (v.datum, (v.system, (v.axes, (v.unit, (v.geoid_models, (v.usages, (v.ids, (v.remark, tt)))))))))) (λ v. s.2)
     (λ v w k h. λ i. record { name = (h i).0; datum = (h i).1.0; system = (h i).1.1.0; axes = (h i).1.1.1.0; unit = (h i).1.1.1.1.0; geoid_models = (h i).1.1.1.1.1.0; usages = (h i).1.1.1.1.1.1.0; ids = (h i).1.1.1.1.1.1.1.0; remark = (h i).1.1.1.1.1.1.1.1.0 })
     (one slots.Name text_law >> one slots.Datum vertical_frame_law >> one slots.Cs system_law >> some slots.Axis axis_law >> maybe slots.Unit unit_law >> each slots.GeoidModel geoid_model_law >> each slots.Usage usage_law >> each slots.Id ident_law >> maybe slots.Remark remark_law >> done)
 
@@ -472,9 +426,8 @@ pub component_law : Law kinds.SingleCrs 7 DenotesSingle single_tree
 component_law = single_law kinds.SingleCrs singles_single
 
 pub compound_law : Law kinds.AnyCrs 8 DenotesCompound compound_tree
-unfolding keyword_of
 compound_law =
-    node_law kinds.AnyCrs (λ v. keywords.CompoundCrs) nodes.CompoundCrs (λ v. spelling keywords.CompoundCrs) (λ v. (v.name, (v.first, (v.second, (v.usages, (v.ids, (v.remark, tt))))))) (λ v. refl) (λ v. refl)
+    node_law kinds.AnyCrs (λ v. keywords.CompoundCrs) nodes.CompoundCrs (λ v. (v.name, (v.first, (v.second, (v.usages, (v.ids, (v.remark, tt))))))) (λ v. refl)
     (λ v w k h. λ i. record { name = (h i).0; first = (h i).1.0; second = (h i).1.1.0; usages = (h i).1.1.1.0; ids = (h i).1.1.1.1.0; remark = (h i).1.1.1.1.1.0 })
     (one slots.Name text_law >> one slots.First component_law >> one slots.Second component_law >> each slots.Usage usage_law >> each slots.Id ident_law >> maybe slots.Remark remark_law >> done)
 

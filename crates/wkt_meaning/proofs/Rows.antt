@@ -14,7 +14,8 @@ use Rattle.wkt_grammar.specs.declared.table.Argument.{Argument}
 use Rattle.wkt_grammar.specs.declared.table.Often.{Often}
 use Rattle.wkt_grammar.specs.declared.table.Often.TheVariants.{Once, AtMostOnce, Any, AtLeastOnce}
 use Rattle.wkt_grammar.specs.Rows.{takes, enters, Times, Fits, is_required}
-use Rattle.wkt_grammar.specs.Words.{keyword_of}
+use Rattle.wkt_grammar.specs.Words.{spelling, keyword_of}
+use Rattle.wkt_grammar.proofs.Keywords.{keyword_spelled}
 use Rattle.wkt_grammar.specs.Walk.{is_many, may_begin, all_arguments, is_clear}
 use Rattle.wkt_grammar.proofs.Walks.{begins, each_argument, rows_clear}
 use Rattle.wkt_grammar.specs.Slots.{argument_by}
@@ -253,20 +254,20 @@ some_keyword : (a b : Keyword) → Some a ≡ Some b → a ≡ b
 some_keyword a b h = cc
 
 -- A value is what it says of the keyword, and the fields.
-pub node_law : {A B : Type 0} {h : ℕ} {F : B → Fields} {run : B → List Bare} (t : Takes) (K : A → Keyword) (n : Node) (word : A → List ℕ) (to : A → B)
-    → ((v : A) → enters t (K v) ≡ Some n) → ((v : A) → keyword_of (word v) ≡ Some (K v)) → ((v w : A) → K v ≡ K w → to v ≡ to w → v ≡ w) → RowLaw (row_of n) h F run
-    → Law t (suc h) (λ x v. IsNode (K v) n (F (to v)) x) (λ v. node (word v) (bares (run (to v))))
-node_law {A} {B} {h} {F} {run} t K n word to enter means same row = record {
+pub node_law : {A B : Type 0} {h : ℕ} {F : B → Fields} {run : B → List Bare} (t : Takes) (K : A → Keyword) (n : Node) (to : A → B)
+    → ((v : A) → enters t (K v) ≡ Some n) → ((v w : A) → K v ≡ K w → to v ≡ to w → v ≡ w) → RowLaw (row_of n) h F run
+    → Law t (suc h) (λ x v. IsNode (K v) n (F (to v)) x) (λ v. node (spelling (K v)) (bares (run (to v))))
+node_law {A} {B} {h} {F} {run} t K n to enter same row = record {
   fits = λ x v d. subst (Fitting t) (sym d.is) (node_fitting t (K v) n d.keyword d.items d.meaning (enter v) (cuts_fitted editions.Second n d.items (row.fits (to v) (args d.items) d.runs)));
   once = λ x v w d e.
       let items = same_items d.keyword e.keyword d.items e.items (sym d.is ∙ e.is) in
       let key = some_keyword (K v) (K w) (sym d.meaning ∙ (ap keyword_of items.0 ∙ e.meaning)) in
       same v w key (row.once (rows_clear editions.Second n) (args d.items) (to v) (to w) d.runs (subst (λ l. Runs (row_of n) (F (to w)) (args l)) (sym items.1) e.runs));
   spelled = λ v. record {
-    keyword = word v;
+    keyword = spelling (K v);
     items = bares (run (to v));
     is = refl;
-    meaning = means v;
+    meaning = keyword_spelled (K v);
     runs = subst (λ l. Runs (row_of n) (F (to v)) l) (sym (args_bares (run (to v)))) (row.spelled (to v));
   };
 }

@@ -35,8 +35,6 @@ use Rattle.crs_part.specs.declared.systems.Order.{Order}
 use Rattle.crs_part.specs.declared.systems.Axis.{Axis}
 use Rattle.crs_part.specs.declared.conversions.Parameter.{Parameter}
 use Rattle.crs_part.specs.declared.conversions.Conversion.{Conversion}
-use Rattle.crs_part.specs.declared.crs.GeodeticKind.{GeodeticKind}
-use Rattle.crs_part.specs.declared.crs.GeodeticKind.TheVariants as geodetic_kind
 use Rattle.crs_part.specs.declared.crs.BaseCrs.{BaseCrs}
 use Rattle.crs_part.specs.declared.crs.Geodetic.{Geodetic}
 use Rattle.crs_part.specs.declared.crs.Projected.{Projected}
@@ -47,9 +45,11 @@ use Rattle.crs_part.specs.declared.crs.Compound.{Compound}
 use Rattle.crs_part.specs.declared.crs.CrsParts.{CrsParts}
 use Rattle.crs_part.specs.declared.crs.CrsParts.TheVariants as parts
 use Rattle.wkt_tree.specs.Tokens.{quoted}
+use Rattle.wkt_grammar.specs.declared.table.Keyword.{Keyword}
 use Rattle.wkt_grammar.specs.declared.table.Keyword.TheVariants as keywords
 use Rattle.wkt_grammar.specs.Words.{spelling}
 use Rattle.wkt_grammar.specs.Bare.{Bare, text, number, word, node, bares}
+use Rattle.wkt_meaning.specs.Denotes.{geodetic_keyword, base_keyword}
 use Rattle.wkt_meaning.specs.Runs.{listed}
 use Rattle.crs_part.specs.Words.{system_word, direction_word}
 
@@ -66,9 +66,9 @@ abbrev pub joined : List (List Bare) → List Bare
 joined [] = []
 joined (run ∷ runs) = run ++ joined runs
 
--- a node with these runs
-abbrev pub branch : List ℕ → List (List Bare) → Bare
-branch keyword runs = node keyword (bares (joined runs))
+-- a node with this keyword and these runs
+abbrev pub branch : Keyword → List (List Bare) → Bare
+branch keyword runs = node (spelling keyword) (bares (joined runs))
 
 -- ---- leaves
 
@@ -92,47 +92,47 @@ code_tree (code.Number d) = number_tree d
 code_tree (code.Text t) = text_tree t
 
 -- SCOPE, AREA, ANCHOR, CITATION, URI, REMARK
-abbrev pub value_tree : List ℕ → Text → Bare
+abbrev pub value_tree : Keyword → Text → Bare
 value_tree keyword v = branch keyword (one (text_tree v) ∷ [])
 
 -- ---- identifiers
 
 abbrev pub ident_tree : Ident → Bare
-ident_tree v = branch (spelling keywords.Identifier) (
+ident_tree v = branch keywords.Identifier (
     one (text_tree v.authority)
     ∷ one (code_tree v.code)
     ∷ maybe code_tree v.version
-    ∷ maybe (value_tree (spelling keywords.Citation)) v.citation
-    ∷ maybe (value_tree (spelling keywords.Uri)) v.uri
+    ∷ maybe (value_tree keywords.Citation) v.citation
+    ∷ maybe (value_tree keywords.Uri) v.uri
     ∷ []
     )
 
-abbrev pub named_tree : List ℕ → Named → Bare
+abbrev pub named_tree : Keyword → Named → Bare
 named_tree keyword v = branch keyword (one (text_tree v.name) ∷ map ident_tree v.ids ∷ [])
 
 -- ---- units
 
-abbrev pub unit_of_tree : List ℕ → UnitDefinition → Bare
+abbrev pub unit_of_tree : Keyword → UnitDefinition → Bare
 unit_of_tree keyword v = branch keyword (one (text_tree v.name) ∷ one (number_tree v.factor) ∷ map ident_tree v.ids ∷ [])
 
 abbrev pub unit_tree : units.Unit → Bare
-unit_tree (unit.Length v) = unit_of_tree (spelling keywords.LengthUnit) v
-unit_tree (unit.Angle v) = unit_of_tree (spelling keywords.AngleUnit) v
-unit_tree (unit.Scale v) = unit_of_tree (spelling keywords.ScaleUnit) v
-unit_tree (unit.Generic v) = unit_of_tree (spelling keywords.Unit) v
+unit_tree (unit.Length v) = unit_of_tree keywords.LengthUnit v
+unit_tree (unit.Angle v) = unit_of_tree keywords.AngleUnit v
+unit_tree (unit.Scale v) = unit_of_tree keywords.ScaleUnit v
+unit_tree (unit.Generic v) = unit_of_tree keywords.Unit v
 
 abbrev pub length_unit_tree : LengthUnit → Bare
-length_unit_tree (length_unit.Length v) = unit_of_tree (spelling keywords.LengthUnit) v
-length_unit_tree (length_unit.Generic v) = unit_of_tree (spelling keywords.Unit) v
+length_unit_tree (length_unit.Length v) = unit_of_tree keywords.LengthUnit v
+length_unit_tree (length_unit.Generic v) = unit_of_tree keywords.Unit v
 
 abbrev pub angle_unit_tree : AngleUnit → Bare
-angle_unit_tree (angle_unit.Angle v) = unit_of_tree (spelling keywords.AngleUnit) v
-angle_unit_tree (angle_unit.Generic v) = unit_of_tree (spelling keywords.Unit) v
+angle_unit_tree (angle_unit.Angle v) = unit_of_tree keywords.AngleUnit v
+angle_unit_tree (angle_unit.Generic v) = unit_of_tree keywords.Unit v
 
 -- ---- usages
 
 abbrev pub bounding_box_tree : BoundingBox → Bare
-bounding_box_tree v = branch (spelling keywords.BoundingBox) (
+bounding_box_tree v = branch keywords.BoundingBox (
     one (number_tree v.south)
     ∷ one (number_tree v.west)
     ∷ one (number_tree v.north)
@@ -141,7 +141,7 @@ bounding_box_tree v = branch (spelling keywords.BoundingBox) (
     )
 
 abbrev pub vertical_extent_tree : VerticalExtent → Bare
-vertical_extent_tree v = branch (spelling keywords.VerticalExtent) (
+vertical_extent_tree v = branch keywords.VerticalExtent (
     one (number_tree v.low)
     ∷ one (number_tree v.high)
     ∷ maybe length_unit_tree v.unit
@@ -149,9 +149,9 @@ vertical_extent_tree v = branch (spelling keywords.VerticalExtent) (
     )
 
 abbrev pub usage_tree : Usage → Bare
-usage_tree v = branch (spelling keywords.Usage) (
-    one (value_tree (spelling keywords.Scope) v.scope)
-    ∷ maybe (value_tree (spelling keywords.Area)) v.area
+usage_tree v = branch keywords.Usage (
+    one (value_tree keywords.Scope v.scope)
+    ∷ maybe (value_tree keywords.Area) v.area
     ∷ maybe bounding_box_tree v.bounding_box
     ∷ maybe vertical_extent_tree v.vertical_extent
     ∷ []
@@ -160,7 +160,7 @@ usage_tree v = branch (spelling keywords.Usage) (
 -- ---- datums
 
 abbrev pub ellipsoid_tree : Ellipsoid → Bare
-ellipsoid_tree v = branch (spelling keywords.Ellipsoid) (
+ellipsoid_tree v = branch keywords.Ellipsoid (
     one (text_tree v.name)
     ∷ one (number_tree v.radius)
     ∷ one (number_tree v.flattening)
@@ -170,7 +170,7 @@ ellipsoid_tree v = branch (spelling keywords.Ellipsoid) (
     )
 
 abbrev pub prime_meridian_tree : PrimeMeridian → Bare
-prime_meridian_tree v = branch (spelling keywords.PrimeMeridian) (
+prime_meridian_tree v = branch keywords.PrimeMeridian (
     one (text_tree v.name)
     ∷ one (number_tree v.longitude)
     ∷ maybe angle_unit_tree v.unit
@@ -179,29 +179,29 @@ prime_meridian_tree v = branch (spelling keywords.PrimeMeridian) (
     )
 
 abbrev pub datum_tree : Datum → Bare
-datum_tree v = branch (spelling keywords.Datum) (
+datum_tree v = branch keywords.Datum (
     one (text_tree v.name)
     ∷ one (ellipsoid_tree v.ellipsoid)
-    ∷ maybe (value_tree (spelling keywords.Anchor)) v.anchor
+    ∷ maybe (value_tree keywords.Anchor) v.anchor
     ∷ map ident_tree v.ids
     ∷ []
     )
 
 abbrev pub vertical_datum_tree : VerticalDatum → Bare
-vertical_datum_tree v = branch (spelling keywords.VerticalDatum) (
+vertical_datum_tree v = branch keywords.VerticalDatum (
     one (text_tree v.name)
-    ∷ maybe (value_tree (spelling keywords.Anchor)) v.anchor
+    ∷ maybe (value_tree keywords.Anchor) v.anchor
     ∷ map ident_tree v.ids
     ∷ []
     )
 
 abbrev pub accuracy_tree : Decimal → Bare
-accuracy_tree v = branch (spelling keywords.EnsembleAccuracy) (one (number_tree v) ∷ [])
+accuracy_tree v = branch keywords.EnsembleAccuracy (one (number_tree v) ∷ [])
 
 abbrev pub geodetic_ensemble_tree : GeodeticEnsemble → Bare
-geodetic_ensemble_tree v = branch (spelling keywords.Ensemble) (
+geodetic_ensemble_tree v = branch keywords.Ensemble (
     one (text_tree v.name)
-    ∷ map (named_tree (spelling keywords.Member)) (listed v.members)
+    ∷ map (named_tree keywords.Member) (listed v.members)
     ∷ one (ellipsoid_tree v.ellipsoid)
     ∷ one (accuracy_tree v.accuracy)
     ∷ map ident_tree v.ids
@@ -209,9 +209,9 @@ geodetic_ensemble_tree v = branch (spelling keywords.Ensemble) (
     )
 
 abbrev pub vertical_ensemble_tree : VerticalEnsemble → Bare
-vertical_ensemble_tree v = branch (spelling keywords.Ensemble) (
+vertical_ensemble_tree v = branch keywords.Ensemble (
     one (text_tree v.name)
-    ∷ map (named_tree (spelling keywords.Member)) (listed v.members)
+    ∷ map (named_tree keywords.Member) (listed v.members)
     ∷ one (accuracy_tree v.accuracy)
     ∷ map ident_tree v.ids
     ∷ []
@@ -228,16 +228,16 @@ vertical_frame_tree (vertical_frame.Ensemble v) = vertical_ensemble_tree v
 -- ---- coordinate systems
 
 abbrev pub system_tree : CoordSystem → Bare
-system_tree v = branch (spelling keywords.CoordinateSystem) (one (kind_tree v.kind) ∷ one (count_tree v.dimension) ∷ map ident_tree v.ids ∷ [])
+system_tree v = branch keywords.CoordinateSystem (one (kind_tree v.kind) ∷ one (count_tree v.dimension) ∷ map ident_tree v.ids ∷ [])
 
 abbrev pub meridian_tree : Meridian → Bare
-meridian_tree v = branch (spelling keywords.Meridian) (one (number_tree v.longitude) ∷ one (angle_unit_tree v.unit) ∷ [])
+meridian_tree v = branch keywords.Meridian (one (number_tree v.longitude) ∷ one (angle_unit_tree v.unit) ∷ [])
 
 abbrev pub order_tree : Order → Bare
-order_tree v = branch (spelling keywords.Order) (one (count_tree v.position) ∷ [])
+order_tree v = branch keywords.Order (one (count_tree v.position) ∷ [])
 
 abbrev pub axis_tree : Axis → Bare
-axis_tree v = branch (spelling keywords.Axis) (
+axis_tree v = branch keywords.Axis (
     one (text_tree v.name)
     ∷ one (direction_tree v.direction)
     ∷ maybe meridian_tree v.meridian
@@ -250,7 +250,7 @@ axis_tree v = branch (spelling keywords.Axis) (
 -- ---- conversions
 
 abbrev pub parameter_tree : Parameter → Bare
-parameter_tree v = branch (spelling keywords.Parameter) (
+parameter_tree v = branch keywords.Parameter (
     one (text_tree v.name)
     ∷ one (number_tree v.value)
     ∷ maybe unit_tree v.unit
@@ -259,9 +259,9 @@ parameter_tree v = branch (spelling keywords.Parameter) (
     )
 
 abbrev pub conversion_tree : Conversion → Bare
-conversion_tree v = branch (spelling keywords.Conversion) (
+conversion_tree v = branch keywords.Conversion (
     one (text_tree v.name)
-    ∷ one (named_tree (spelling keywords.Method) v.method)
+    ∷ one (named_tree keywords.Method v.method)
     ∷ map parameter_tree v.parameters
     ∷ map ident_tree v.ids
     ∷ []
@@ -269,16 +269,8 @@ conversion_tree v = branch (spelling keywords.Conversion) (
 
 -- ---- coordinate reference systems
 
-abbrev pub geodetic_name : GeodeticKind → List ℕ
-geodetic_name geodetic_kind.Geodetic = spelling keywords.GeodeticCrs
-geodetic_name geodetic_kind.Geographic = spelling keywords.GeographicCrs
-
-abbrev pub base_name : GeodeticKind → List ℕ
-base_name geodetic_kind.Geodetic = spelling keywords.BaseGeodeticCrs
-base_name geodetic_kind.Geographic = spelling keywords.BaseGeographicCrs
-
 abbrev pub base_tree : BaseCrs → Bare
-base_tree v = branch (base_name v.kind) (
+base_tree v = branch (base_keyword v.kind) (
     one (text_tree v.name)
     ∷ one (geodetic_frame_tree v.datum)
     ∷ maybe prime_meridian_tree v.prime_meridian
@@ -288,7 +280,7 @@ base_tree v = branch (base_name v.kind) (
     )
 
 abbrev pub geodetic_tree : Geodetic → Bare
-geodetic_tree v = branch (geodetic_name v.kind) (
+geodetic_tree v = branch (geodetic_keyword v.kind) (
     one (text_tree v.name)
     ∷ one (geodetic_frame_tree v.datum)
     ∷ maybe prime_meridian_tree v.prime_meridian
@@ -297,12 +289,12 @@ geodetic_tree v = branch (geodetic_name v.kind) (
     ∷ maybe unit_tree v.unit
     ∷ map usage_tree v.usages
     ∷ map ident_tree v.ids
-    ∷ maybe (value_tree (spelling keywords.Remark)) v.remark
+    ∷ maybe (value_tree keywords.Remark) v.remark
     ∷ []
     )
 
 abbrev pub projected_tree : Projected → Bare
-projected_tree v = branch (spelling keywords.ProjectedCrs) (
+projected_tree v = branch keywords.ProjectedCrs (
     one (text_tree v.name)
     ∷ one (base_tree v.base)
     ∷ one (conversion_tree v.conversion)
@@ -311,21 +303,21 @@ projected_tree v = branch (spelling keywords.ProjectedCrs) (
     ∷ maybe unit_tree v.unit
     ∷ map usage_tree v.usages
     ∷ map ident_tree v.ids
-    ∷ maybe (value_tree (spelling keywords.Remark)) v.remark
+    ∷ maybe (value_tree keywords.Remark) v.remark
     ∷ []
     )
 
 abbrev pub vertical_tree : verticals.Vertical → Bare
-vertical_tree v = branch (spelling keywords.VerticalCrs) (
+vertical_tree v = branch keywords.VerticalCrs (
     one (text_tree v.name)
     ∷ one (vertical_frame_tree v.datum)
     ∷ one (system_tree v.system)
     ∷ map axis_tree (listed v.axes)
     ∷ maybe unit_tree v.unit
-    ∷ map (named_tree (spelling keywords.GeoidModel)) v.geoid_models
+    ∷ map (named_tree keywords.GeoidModel) v.geoid_models
     ∷ map usage_tree v.usages
     ∷ map ident_tree v.ids
-    ∷ maybe (value_tree (spelling keywords.Remark)) v.remark
+    ∷ maybe (value_tree keywords.Remark) v.remark
     ∷ []
     )
 
@@ -335,13 +327,13 @@ single_tree (single.Projected v) = projected_tree v
 single_tree (single.Vertical v) = vertical_tree v
 
 abbrev pub compound_tree : Compound → Bare
-compound_tree v = branch (spelling keywords.CompoundCrs) (
+compound_tree v = branch keywords.CompoundCrs (
     one (text_tree v.name)
     ∷ one (single_tree v.first)
     ∷ one (single_tree v.second)
     ∷ map usage_tree v.usages
     ∷ map ident_tree v.ids
-    ∷ maybe (value_tree (spelling keywords.Remark)) v.remark
+    ∷ maybe (value_tree keywords.Remark) v.remark
     ∷ []
     )
 
