@@ -1,8 +1,8 @@
 //! Coordinate reference systems.
 
 ghost use Rattle.std.specs.Prelude.{◌≡◌};
-ghost use Rattle.wkt_grammar.specs.Words.{spelling};
-ghost use Rattle.wkt_meaning.specs.Trees.{geodetic_name, base_name, base_tree, geodetic_tree, projected_tree, vertical_tree, single_tree, compound_tree, parts_tree};
+ghost use Rattle.wkt_meaning.specs.Denotes.{base_keyword, geodetic_keyword};
+ghost use Rattle.wkt_meaning.specs.Trees.{base_tree, geodetic_tree, projected_tree, vertical_tree, single_tree, compound_tree, parts_tree};
 
 use crate::arguments::{push_close, push_each, push_maybe, push_one, push_open, push_some};
 use crate::identifiers::push_geoid_models;
@@ -14,7 +14,7 @@ use std::alloc::AllocError;
 use wkt_grammar::Keyword;
 
 fn geodetic_keyword(kind: GeodeticKind) -> Keyword
-    ensures { spelling result ≡ geodetic_name kind }
+    ensures { result ≡ geodetic_keyword kind }
 {
     match kind {
         GeodeticKind::Geodetic => Keyword::GeodeticCrs,
@@ -23,7 +23,7 @@ fn geodetic_keyword(kind: GeodeticKind) -> Keyword
 }
 
 fn base_keyword(kind: GeodeticKind) -> Keyword
-    ensures { spelling result ≡ base_name kind }
+    ensures { result ≡ base_keyword kind }
 {
     match kind {
         GeodeticKind::Geodetic => Keyword::BaseGeodeticCrs,

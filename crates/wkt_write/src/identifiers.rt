@@ -2,7 +2,6 @@
 
 ghost use Rattle.std.specs.Prelude.{◌≡◌, ◌++◌, OnOk, map};
 ghost use Rattle.wkt_grammar.specs.declared.table.Keyword.TheVariants as keywords;
-ghost use Rattle.wkt_grammar.specs.Words.{spelling};
 ghost use Rattle.wkt_meaning.specs.Runs.{listed};
 ghost use Rattle.wkt_meaning.specs.Trees.{one, ident_tree, named_tree};
 ghost use Rattle.wkt_write.specs.Layout.{laid, behind};
@@ -35,7 +34,7 @@ fn push_named(
     keyword: Keyword,
     named: &Named,
 ) -> Result<(), AllocError>
-    ensures { OnOk result (out.new.items ≡ out.old.items ++ laid layout (named_tree (spelling keyword) named.now)) }
+    ensures { OnOk result (out.new.items ≡ out.old.items ++ laid layout (named_tree keyword named.now)) }
 {
     let inside = push_open(out, layout, keyword)?;
     named.name.push_to(out, inside)?;
@@ -50,7 +49,7 @@ fn push_one_named(
     keyword: Keyword,
     named: &Named,
 ) -> Result<(), AllocError>
-    ensures { OnOk result (out.new.items ≡ out.old.items ++ behind layout (one (named_tree (spelling keyword) named.now))) }
+    ensures { OnOk result (out.new.items ≡ out.old.items ++ behind layout (one (named_tree keyword named.now))) }
 {
     push_comma(out)?;
     push_named(out, layout, keyword, named)
@@ -63,7 +62,7 @@ fn push_each_named(
     keyword: Keyword,
     items: &Many<Named>,
 ) -> Result<(), AllocError>
-    ensures { OnOk result (out.new.items ≡ out.old.items ++ behind layout (map (named_tree (spelling keyword)) items.now)) }
+    ensures { OnOk result (out.new.items ≡ out.old.items ++ behind layout (map (named_tree keyword) items.now)) }
 {
     for item in items.as_slice() {
         push_one_named(out, layout, keyword, item)?;
@@ -76,7 +75,7 @@ pub(crate) fn push_method(
     layout: Layout,
     method: &Named,
 ) -> Result<(), AllocError>
-    ensures { OnOk result (out.new.items ≡ out.old.items ++ behind layout (one (named_tree (spelling keywords.Method) method.now))) }
+    ensures { OnOk result (out.new.items ≡ out.old.items ++ behind layout (one (named_tree keywords.Method method.now))) }
 {
     push_one_named(out, layout, Keyword::Method, method)
 }
@@ -86,7 +85,7 @@ pub(crate) fn push_members(
     layout: Layout,
     members: &NonEmpty<Named>,
 ) -> Result<(), AllocError>
-    ensures { OnOk result (out.new.items ≡ out.old.items ++ behind layout (map (named_tree (spelling keywords.Member)) (listed members.now))) }
+    ensures { OnOk result (out.new.items ≡ out.old.items ++ behind layout (map (named_tree keywords.Member) (listed members.now))) }
 {
     push_one_named(out, layout, Keyword::Member, &members.first)?;
     push_each_named(out, layout, Keyword::Member, &members.others)
@@ -97,7 +96,7 @@ pub(crate) fn push_geoid_models(
     layout: Layout,
     models: &Many<Named>,
 ) -> Result<(), AllocError>
-    ensures { OnOk result (out.new.items ≡ out.old.items ++ behind layout (map (named_tree (spelling keywords.GeoidModel)) models.now)) }
+    ensures { OnOk result (out.new.items ≡ out.old.items ++ behind layout (map (named_tree keywords.GeoidModel) models.now)) }
 {
     push_each_named(out, layout, Keyword::GeoidModel, models)
 }

@@ -1,7 +1,6 @@
 //! Units.
 
 ghost use Rattle.std.specs.Prelude.{◌≡◌, ◌++◌, OnOk};
-ghost use Rattle.wkt_grammar.specs.Words.{spelling};
 ghost use Rattle.wkt_meaning.specs.Trees.{unit_of_tree, unit_tree, length_unit_tree, angle_unit_tree};
 ghost use Rattle.wkt_write.specs.Layout.{laid};
 
@@ -18,7 +17,7 @@ fn push_unit(
     keyword: Keyword,
     unit: &UnitDefinition,
 ) -> Result<(), AllocError>
-    ensures { OnOk result (out.new.items ≡ out.old.items ++ laid layout (unit_of_tree (spelling keyword) unit.now)) }
+    ensures { OnOk result (out.new.items ≡ out.old.items ++ laid layout (unit_of_tree keyword unit.now)) }
 {
     let inside = push_open(out, layout, keyword)?;
     unit.name.push_to(out, inside)?;

@@ -2,7 +2,6 @@
 
 ghost use Rattle.std.specs.Prelude.{◌≡◌, ◌++◌, OnOk};
 ghost use Rattle.wkt_grammar.specs.declared.table.Keyword.TheVariants as keywords;
-ghost use Rattle.wkt_grammar.specs.Words.{spelling};
 ghost use Rattle.wkt_meaning.specs.Trees.{maybe, value_tree};
 ghost use Rattle.wkt_write.specs.Layout.{laid, behind};
 
@@ -19,7 +18,7 @@ pub(crate) fn push_value(
     keyword: Keyword,
     value: &Text,
 ) -> Result<(), AllocError>
-    ensures { OnOk result (out.new.items ≡ out.old.items ++ laid layout (value_tree (spelling keyword) value.now)) }
+    ensures { OnOk result (out.new.items ≡ out.old.items ++ laid layout (value_tree keyword value.now)) }
 {
     let inside = push_open(out, layout, keyword)?;
     value.push_to(out, inside)?;
@@ -32,7 +31,7 @@ pub(crate) fn push_maybe_value(
     keyword: Keyword,
     value: &Option<Text>,
 ) -> Result<(), AllocError>
-    ensures { OnOk result (out.new.items ≡ out.old.items ++ behind layout (maybe (value_tree (spelling keyword)) value.now)) }
+    ensures { OnOk result (out.new.items ≡ out.old.items ++ behind layout (maybe (value_tree keyword) value.now)) }
 {
     match value {
         Some(value) => {
@@ -48,7 +47,7 @@ pub(crate) fn push_remark(
     layout: Layout,
     remark: &Option<Text>,
 ) -> Result<(), AllocError>
-    ensures { OnOk result (out.new.items ≡ out.old.items ++ behind layout (maybe (value_tree (spelling keywords.Remark)) remark.now)) }
+    ensures { OnOk result (out.new.items ≡ out.old.items ++ behind layout (maybe (value_tree keywords.Remark) remark.now)) }
 {
     push_maybe_value(out, layout, Keyword::Remark, remark)
 }

@@ -1,8 +1,7 @@
 use Rattle.std.proofs.Common.{◌≡◌, ◌++◌, map, take}
-use Rattle.wkt_grammar.specs.Words.{spelling}
 use Rattle.wkt_meaning.specs.Trees.{named_tree}
 use Rattle.wkt_write.specs.Layout.{behind}
 use Rattle.wkt_write.proofs.identifiers.push_each_named.Given as goal
 
 abbrev pub invariant-loop-item : goal.invariant-loop-item
-invariant-loop-item l = l.out.items ≡ l.fn.out.items ++ behind l.layout (map (named_tree (spelling l.keyword)) (take l.item-index l.item-items))
+invariant-loop-item l = l.out.items ≡ l.fn.out.items ++ behind l.layout (map (named_tree l.keyword) (take l.item-index l.item-items))

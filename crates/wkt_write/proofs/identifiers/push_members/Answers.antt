@@ -1,7 +1,6 @@
 use Rattle.std.proofs.lemmas.Result.{on_ok_weaker}
 use Rattle.std.proofs.Common.{map}
 use Rattle.wkt_grammar.specs.declared.table.Keyword.TheVariants as keywords
-use Rattle.wkt_grammar.specs.Words.{spelling}
 use Rattle.wkt_meaning.specs.Trees.{one, named_tree}
 use Rattle.wkt_write.proofs.Writes.{runs}
 use Rattle.wkt_write.proofs.identifiers.push_members.Goals as goal
@@ -9,5 +8,5 @@ use Rattle.wkt_write.proofs.identifiers.push_members.Goals as goal
 pub returns : goal.returns
 returns c =
     let v = c.args.members.now in
-    let tree = named_tree (spelling keywords.Member) in
+    let tree = named_tree keywords.Member in
     on_ok_weaker c.push_each_named.result (runs c.args.layout _ (one (tree v.first)) (map tree v.others) c.in_ok-push_one_named.ensures) c.push_each_named.ensures
