@@ -15,6 +15,7 @@ use Rattle.crs_part.specs.declared.crs.GeodeticKind.TheVariants as geodetic_kind
 use Rattle.crs_part.specs.declared.crs.Single.TheVariants as single
 use Rattle.crs_part.specs.declared.crs.CrsParts.{CrsParts}
 use Rattle.crs_part.specs.declared.crs.CrsParts.TheVariants as parts
+use Rattle.wkt_grammar.specs.declared.table.Keyword.{Keyword}
 use Rattle.wkt_grammar.specs.declared.table.Keyword.TheVariants as keywords
 use Rattle.wkt_grammar.specs.Words.{spelling}
 use Rattle.wkt_grammar.specs.Bare.{Bare, bares, node}
@@ -22,6 +23,7 @@ use Rattle.wkt_write.specs.WellFormed.{WellFormed, AllWellFormed, is_name}
 use Rattle.wkt_write.proofs.Tokens.{word_token, text_is, number_token, count_token}
 use Rattle.wkt_meaning.specs.Runs.{listed}
 use Rattle.crs_part.specs.Words.{system_word, direction_word}
+use Rattle.wkt_meaning.specs.Denotes.{geodetic_keyword, base_keyword}
 use Rattle.wkt_meaning.specs.Trees as trees
 use Rattle.wkt_meaning.proofs.Leaves.{Small}
 
@@ -64,10 +66,10 @@ then h k r s = record { run = λ p. r.run p.0 ++ s.run p.1; good = λ n l p. joi
 abbrev none : Run (Unit {0}) 0
 none = record { run = λ u. []; good = λ n l u. tt }
 
-branch_good : {A B C : Type 0} (h k : ℕ) (word : A → List ℕ) (tree : B → Bare) (first : A → B) (others : A → C) → ((v : A) → is_name (word v) ≡ true) → Goods h tree → (r : Run C k)
-    → Goods (suc (max h k)) (λ v. node (word v) (bares (tree (first v) ∷ r.run (others v))))
-branch_good h k word tree first others w g r zero l v = absurd (omega (arith, l))
-branch_good h k word tree first others w g r (suc n) l v = (word_token (word v) (w v), (g n (omega (arith, l)) (first v), r.good n (omega (arith, l)) (others v)))
+branch_good : {A B C : Type 0} (h k : ℕ) (keyword : A → Keyword) (tree : B → Bare) (first : A → B) (others : A → C) → ((v : A) → is_name (spelling (keyword v)) ≡ true) → Goods h tree → (r : Run C k)
+    → Goods (suc (max h k)) (λ v. node (spelling (keyword v)) (bares (tree (first v) ∷ r.run (others v))))
+branch_good h k keyword tree first others w g r zero l v = absurd (omega (arith, l))
+branch_good h k keyword tree first others w g r (suc n) l v = (word_token (spelling (keyword v)) (w v), (g n (omega (arith, l)) (first v), r.good n (omega (arith, l)) (others v)))
 
 -- ---- leaves
 
@@ -115,60 +117,60 @@ direction_good n l to.Down = word_token (direction_word to.Down) refl
 
 -- ---- nodes
 
-scope_good : Goods 1 (trees.value_tree (spelling keywords.Scope))
-scope_good = branch_good 0 0 (λ v. spelling keywords.Scope) trees.text_tree (λ v. v) (λ v. tt) (λ v. refl) text_good
+scope_good : Goods 1 (trees.value_tree keywords.Scope)
+scope_good = branch_good 0 0 (λ v. keywords.Scope) trees.text_tree (λ v. v) (λ v. tt) (λ v. refl) text_good
     none
 
-area_good : Goods 1 (trees.value_tree (spelling keywords.Area))
-area_good = branch_good 0 0 (λ v. spelling keywords.Area) trees.text_tree (λ v. v) (λ v. tt) (λ v. refl) text_good
+area_good : Goods 1 (trees.value_tree keywords.Area)
+area_good = branch_good 0 0 (λ v. keywords.Area) trees.text_tree (λ v. v) (λ v. tt) (λ v. refl) text_good
     none
 
-anchor_good : Goods 1 (trees.value_tree (spelling keywords.Anchor))
-anchor_good = branch_good 0 0 (λ v. spelling keywords.Anchor) trees.text_tree (λ v. v) (λ v. tt) (λ v. refl) text_good
+anchor_good : Goods 1 (trees.value_tree keywords.Anchor)
+anchor_good = branch_good 0 0 (λ v. keywords.Anchor) trees.text_tree (λ v. v) (λ v. tt) (λ v. refl) text_good
     none
 
-citation_good : Goods 1 (trees.value_tree (spelling keywords.Citation))
-citation_good = branch_good 0 0 (λ v. spelling keywords.Citation) trees.text_tree (λ v. v) (λ v. tt) (λ v. refl) text_good
+citation_good : Goods 1 (trees.value_tree keywords.Citation)
+citation_good = branch_good 0 0 (λ v. keywords.Citation) trees.text_tree (λ v. v) (λ v. tt) (λ v. refl) text_good
     none
 
-uri_good : Goods 1 (trees.value_tree (spelling keywords.Uri))
-uri_good = branch_good 0 0 (λ v. spelling keywords.Uri) trees.text_tree (λ v. v) (λ v. tt) (λ v. refl) text_good
+uri_good : Goods 1 (trees.value_tree keywords.Uri)
+uri_good = branch_good 0 0 (λ v. keywords.Uri) trees.text_tree (λ v. v) (λ v. tt) (λ v. refl) text_good
     none
 
-remark_good : Goods 1 (trees.value_tree (spelling keywords.Remark))
-remark_good = branch_good 0 0 (λ v. spelling keywords.Remark) trees.text_tree (λ v. v) (λ v. tt) (λ v. refl) text_good
+remark_good : Goods 1 (trees.value_tree keywords.Remark)
+remark_good = branch_good 0 0 (λ v. keywords.Remark) trees.text_tree (λ v. v) (λ v. tt) (λ v. refl) text_good
     none
 
 ident_good : Goods 2 trees.ident_tree
-ident_good = branch_good 0 1 (λ v. spelling keywords.Identifier) trees.text_tree (λ v. v.authority) (λ v. (v.code, (v.version, (v.citation, (v.uri, tt))))) (λ v. refl) text_good
-    (then 0 1 (one 0 trees.code_tree code_good) (then 0 1 (maybe 0 trees.code_tree code_good) (then 1 1 (maybe 1 (trees.value_tree (spelling keywords.Citation)) citation_good) (then 1 0 (maybe 1 (trees.value_tree (spelling keywords.Uri)) uri_good) none))))
+ident_good = branch_good 0 1 (λ v. keywords.Identifier) trees.text_tree (λ v. v.authority) (λ v. (v.code, (v.version, (v.citation, (v.uri, tt))))) (λ v. refl) text_good
+    (then 0 1 (one 0 trees.code_tree code_good) (then 0 1 (maybe 0 trees.code_tree code_good) (then 1 1 (maybe 1 (trees.value_tree keywords.Citation) citation_good) (then 1 0 (maybe 1 (trees.value_tree keywords.Uri) uri_good) none))))
 
-member_good : Goods 3 (trees.named_tree (spelling keywords.Member))
-member_good = branch_good 0 2 (λ v. spelling keywords.Member) trees.text_tree (λ v. v.name) (λ v. (v.ids, tt)) (λ v. refl) text_good
+member_good : Goods 3 (trees.named_tree keywords.Member)
+member_good = branch_good 0 2 (λ v. keywords.Member) trees.text_tree (λ v. v.name) (λ v. (v.ids, tt)) (λ v. refl) text_good
     (then 2 0 (each 2 trees.ident_tree ident_good) none)
 
-method_good : Goods 3 (trees.named_tree (spelling keywords.Method))
-method_good = branch_good 0 2 (λ v. spelling keywords.Method) trees.text_tree (λ v. v.name) (λ v. (v.ids, tt)) (λ v. refl) text_good
+method_good : Goods 3 (trees.named_tree keywords.Method)
+method_good = branch_good 0 2 (λ v. keywords.Method) trees.text_tree (λ v. v.name) (λ v. (v.ids, tt)) (λ v. refl) text_good
     (then 2 0 (each 2 trees.ident_tree ident_good) none)
 
-geoid_model_good : Goods 3 (trees.named_tree (spelling keywords.GeoidModel))
-geoid_model_good = branch_good 0 2 (λ v. spelling keywords.GeoidModel) trees.text_tree (λ v. v.name) (λ v. (v.ids, tt)) (λ v. refl) text_good
+geoid_model_good : Goods 3 (trees.named_tree keywords.GeoidModel)
+geoid_model_good = branch_good 0 2 (λ v. keywords.GeoidModel) trees.text_tree (λ v. v.name) (λ v. (v.ids, tt)) (λ v. refl) text_good
     (then 2 0 (each 2 trees.ident_tree ident_good) none)
 
-length_of_good : Goods 3 (trees.unit_of_tree (spelling keywords.LengthUnit))
-length_of_good = branch_good 0 2 (λ v. spelling keywords.LengthUnit) trees.text_tree (λ v. v.name) (λ v. (v.factor, (v.ids, tt))) (λ v. refl) text_good
+length_of_good : Goods 3 (trees.unit_of_tree keywords.LengthUnit)
+length_of_good = branch_good 0 2 (λ v. keywords.LengthUnit) trees.text_tree (λ v. v.name) (λ v. (v.factor, (v.ids, tt))) (λ v. refl) text_good
     (then 0 2 (one 0 trees.number_tree number_good) (then 2 0 (each 2 trees.ident_tree ident_good) none))
 
-angle_of_good : Goods 3 (trees.unit_of_tree (spelling keywords.AngleUnit))
-angle_of_good = branch_good 0 2 (λ v. spelling keywords.AngleUnit) trees.text_tree (λ v. v.name) (λ v. (v.factor, (v.ids, tt))) (λ v. refl) text_good
+angle_of_good : Goods 3 (trees.unit_of_tree keywords.AngleUnit)
+angle_of_good = branch_good 0 2 (λ v. keywords.AngleUnit) trees.text_tree (λ v. v.name) (λ v. (v.factor, (v.ids, tt))) (λ v. refl) text_good
     (then 0 2 (one 0 trees.number_tree number_good) (then 2 0 (each 2 trees.ident_tree ident_good) none))
 
-scale_of_good : Goods 3 (trees.unit_of_tree (spelling keywords.ScaleUnit))
-scale_of_good = branch_good 0 2 (λ v. spelling keywords.ScaleUnit) trees.text_tree (λ v. v.name) (λ v. (v.factor, (v.ids, tt))) (λ v. refl) text_good
+scale_of_good : Goods 3 (trees.unit_of_tree keywords.ScaleUnit)
+scale_of_good = branch_good 0 2 (λ v. keywords.ScaleUnit) trees.text_tree (λ v. v.name) (λ v. (v.factor, (v.ids, tt))) (λ v. refl) text_good
     (then 0 2 (one 0 trees.number_tree number_good) (then 2 0 (each 2 trees.ident_tree ident_good) none))
 
-generic_of_good : Goods 3 (trees.unit_of_tree (spelling keywords.Unit))
-generic_of_good = branch_good 0 2 (λ v. spelling keywords.Unit) trees.text_tree (λ v. v.name) (λ v. (v.factor, (v.ids, tt))) (λ v. refl) text_good
+generic_of_good : Goods 3 (trees.unit_of_tree keywords.Unit)
+generic_of_good = branch_good 0 2 (λ v. keywords.Unit) trees.text_tree (λ v. v.name) (λ v. (v.factor, (v.ids, tt))) (λ v. refl) text_good
     (then 0 2 (one 0 trees.number_tree number_good) (then 2 0 (each 2 trees.ident_tree ident_good) none))
 
 unit_good : Goods 3 trees.unit_tree
@@ -186,44 +188,44 @@ angle_unit_good n l (angle_unit.Angle v) = angle_of_good n (omega (arith, l)) v
 angle_unit_good n l (angle_unit.Generic v) = generic_of_good n (omega (arith, l)) v
 
 bounding_box_good : Goods 1 trees.bounding_box_tree
-bounding_box_good = branch_good 0 0 (λ v. spelling keywords.BoundingBox) trees.number_tree (λ v. v.south) (λ v. (v.west, (v.north, (v.east, tt)))) (λ v. refl) number_good
+bounding_box_good = branch_good 0 0 (λ v. keywords.BoundingBox) trees.number_tree (λ v. v.south) (λ v. (v.west, (v.north, (v.east, tt)))) (λ v. refl) number_good
     (then 0 0 (one 0 trees.number_tree number_good) (then 0 0 (one 0 trees.number_tree number_good) (then 0 0 (one 0 trees.number_tree number_good) none)))
 
 vertical_extent_good : Goods 4 trees.vertical_extent_tree
-vertical_extent_good = branch_good 0 3 (λ v. spelling keywords.VerticalExtent) trees.number_tree (λ v. v.low) (λ v. (v.high, (v.unit, tt))) (λ v. refl) number_good
+vertical_extent_good = branch_good 0 3 (λ v. keywords.VerticalExtent) trees.number_tree (λ v. v.low) (λ v. (v.high, (v.unit, tt))) (λ v. refl) number_good
     (then 0 3 (one 0 trees.number_tree number_good) (then 3 0 (maybe 3 trees.length_unit_tree length_unit_good) none))
 
 usage_good : Goods 5 trees.usage_tree
-usage_good = branch_good 1 4 (λ v. spelling keywords.Usage) (trees.value_tree (spelling keywords.Scope)) (λ v. v.scope) (λ v. (v.area, (v.bounding_box, (v.vertical_extent, tt)))) (λ v. refl) scope_good
-    (then 1 4 (maybe 1 (trees.value_tree (spelling keywords.Area)) area_good) (then 1 4 (maybe 1 trees.bounding_box_tree bounding_box_good) (then 4 0 (maybe 4 trees.vertical_extent_tree vertical_extent_good) none)))
+usage_good = branch_good 1 4 (λ v. keywords.Usage) (trees.value_tree keywords.Scope) (λ v. v.scope) (λ v. (v.area, (v.bounding_box, (v.vertical_extent, tt)))) (λ v. refl) scope_good
+    (then 1 4 (maybe 1 (trees.value_tree keywords.Area) area_good) (then 1 4 (maybe 1 trees.bounding_box_tree bounding_box_good) (then 4 0 (maybe 4 trees.vertical_extent_tree vertical_extent_good) none)))
 
 ellipsoid_good : Goods 4 trees.ellipsoid_tree
-ellipsoid_good = branch_good 0 3 (λ v. spelling keywords.Ellipsoid) trees.text_tree (λ v. v.name) (λ v. (v.radius, (v.flattening, (v.unit, (v.ids, tt))))) (λ v. refl) text_good
+ellipsoid_good = branch_good 0 3 (λ v. keywords.Ellipsoid) trees.text_tree (λ v. v.name) (λ v. (v.radius, (v.flattening, (v.unit, (v.ids, tt))))) (λ v. refl) text_good
     (then 0 3 (one 0 trees.number_tree number_good) (then 0 3 (one 0 trees.number_tree number_good) (then 3 2 (maybe 3 trees.length_unit_tree length_unit_good) (then 2 0 (each 2 trees.ident_tree ident_good) none))))
 
 prime_meridian_good : Goods 4 trees.prime_meridian_tree
-prime_meridian_good = branch_good 0 3 (λ v. spelling keywords.PrimeMeridian) trees.text_tree (λ v. v.name) (λ v. (v.longitude, (v.unit, (v.ids, tt)))) (λ v. refl) text_good
+prime_meridian_good = branch_good 0 3 (λ v. keywords.PrimeMeridian) trees.text_tree (λ v. v.name) (λ v. (v.longitude, (v.unit, (v.ids, tt)))) (λ v. refl) text_good
     (then 0 3 (one 0 trees.number_tree number_good) (then 3 2 (maybe 3 trees.angle_unit_tree angle_unit_good) (then 2 0 (each 2 trees.ident_tree ident_good) none)))
 
 accuracy_good : Goods 1 trees.accuracy_tree
-accuracy_good = branch_good 0 0 (λ v. spelling keywords.EnsembleAccuracy) trees.number_tree (λ v. v) (λ v. tt) (λ v. refl) number_good
+accuracy_good = branch_good 0 0 (λ v. keywords.EnsembleAccuracy) trees.number_tree (λ v. v) (λ v. tt) (λ v. refl) number_good
     none
 
 datum_good : Goods 5 trees.datum_tree
-datum_good = branch_good 0 4 (λ v. spelling keywords.Datum) trees.text_tree (λ v. v.name) (λ v. (v.ellipsoid, (v.anchor, (v.ids, tt)))) (λ v. refl) text_good
-    (then 4 2 (one 4 trees.ellipsoid_tree ellipsoid_good) (then 1 2 (maybe 1 (trees.value_tree (spelling keywords.Anchor)) anchor_good) (then 2 0 (each 2 trees.ident_tree ident_good) none)))
+datum_good = branch_good 0 4 (λ v. keywords.Datum) trees.text_tree (λ v. v.name) (λ v. (v.ellipsoid, (v.anchor, (v.ids, tt)))) (λ v. refl) text_good
+    (then 4 2 (one 4 trees.ellipsoid_tree ellipsoid_good) (then 1 2 (maybe 1 (trees.value_tree keywords.Anchor) anchor_good) (then 2 0 (each 2 trees.ident_tree ident_good) none)))
 
 vertical_datum_good : Goods 3 trees.vertical_datum_tree
-vertical_datum_good = branch_good 0 2 (λ v. spelling keywords.VerticalDatum) trees.text_tree (λ v. v.name) (λ v. (v.anchor, (v.ids, tt))) (λ v. refl) text_good
-    (then 1 2 (maybe 1 (trees.value_tree (spelling keywords.Anchor)) anchor_good) (then 2 0 (each 2 trees.ident_tree ident_good) none))
+vertical_datum_good = branch_good 0 2 (λ v. keywords.VerticalDatum) trees.text_tree (λ v. v.name) (λ v. (v.anchor, (v.ids, tt))) (λ v. refl) text_good
+    (then 1 2 (maybe 1 (trees.value_tree keywords.Anchor) anchor_good) (then 2 0 (each 2 trees.ident_tree ident_good) none))
 
 geodetic_ensemble_good : Goods 5 trees.geodetic_ensemble_tree
-geodetic_ensemble_good = branch_good 0 4 (λ v. spelling keywords.Ensemble) trees.text_tree (λ v. v.name) (λ v. (v.members, (v.ellipsoid, (v.accuracy, (v.ids, tt))))) (λ v. refl) text_good
-    (then 3 4 (some 3 (trees.named_tree (spelling keywords.Member)) member_good) (then 4 2 (one 4 trees.ellipsoid_tree ellipsoid_good) (then 1 2 (one 1 trees.accuracy_tree accuracy_good) (then 2 0 (each 2 trees.ident_tree ident_good) none))))
+geodetic_ensemble_good = branch_good 0 4 (λ v. keywords.Ensemble) trees.text_tree (λ v. v.name) (λ v. (v.members, (v.ellipsoid, (v.accuracy, (v.ids, tt))))) (λ v. refl) text_good
+    (then 3 4 (some 3 (trees.named_tree keywords.Member) member_good) (then 4 2 (one 4 trees.ellipsoid_tree ellipsoid_good) (then 1 2 (one 1 trees.accuracy_tree accuracy_good) (then 2 0 (each 2 trees.ident_tree ident_good) none))))
 
 vertical_ensemble_good : Goods 4 trees.vertical_ensemble_tree
-vertical_ensemble_good = branch_good 0 3 (λ v. spelling keywords.Ensemble) trees.text_tree (λ v. v.name) (λ v. (v.members, (v.accuracy, (v.ids, tt)))) (λ v. refl) text_good
-    (then 3 2 (some 3 (trees.named_tree (spelling keywords.Member)) member_good) (then 1 2 (one 1 trees.accuracy_tree accuracy_good) (then 2 0 (each 2 trees.ident_tree ident_good) none)))
+vertical_ensemble_good = branch_good 0 3 (λ v. keywords.Ensemble) trees.text_tree (λ v. v.name) (λ v. (v.members, (v.accuracy, (v.ids, tt)))) (λ v. refl) text_good
+    (then 3 2 (some 3 (trees.named_tree keywords.Member) member_good) (then 1 2 (one 1 trees.accuracy_tree accuracy_good) (then 2 0 (each 2 trees.ident_tree ident_good) none)))
 
 geodetic_frame_good : Goods 5 trees.geodetic_frame_tree
 geodetic_frame_good n l (geodetic_frame.Datum v) = datum_good n (omega (arith, l)) v
@@ -234,52 +236,52 @@ vertical_frame_good n l (vertical_frame.Datum v) = vertical_datum_good n (omega 
 vertical_frame_good n l (vertical_frame.Ensemble v) = vertical_ensemble_good n (omega (arith, l)) v
 
 system_good : Goods 3 trees.system_tree
-system_good = branch_good 0 2 (λ v. spelling keywords.CoordinateSystem) trees.kind_tree (λ v. v.kind) (λ v. ((record { value = v.dimension; small = v.count }), (v.ids, tt))) (λ v. refl) kind_good
+system_good = branch_good 0 2 (λ v. keywords.CoordinateSystem) trees.kind_tree (λ v. v.kind) (λ v. ((record { value = v.dimension; small = v.count }), (v.ids, tt))) (λ v. refl) kind_good
     (then 0 2 (one 0 (λ (c : Small). trees.count_tree c.value) count_good) (then 2 0 (each 2 trees.ident_tree ident_good) none))
 
 meridian_good : Goods 4 trees.meridian_tree
-meridian_good = branch_good 0 3 (λ v. spelling keywords.Meridian) trees.number_tree (λ v. v.longitude) (λ v. (v.unit, tt)) (λ v. refl) number_good
+meridian_good = branch_good 0 3 (λ v. keywords.Meridian) trees.number_tree (λ v. v.longitude) (λ v. (v.unit, tt)) (λ v. refl) number_good
     (then 3 0 (one 3 trees.angle_unit_tree angle_unit_good) none)
 
 order_good : Goods 1 trees.order_tree
-order_good = branch_good 0 0 (λ v. spelling keywords.Order) (λ (c : Small). trees.count_tree c.value) (λ v. (record { value = v.position; small = v.count })) (λ v. tt) (λ v. refl) count_good
+order_good = branch_good 0 0 (λ v. keywords.Order) (λ (c : Small). trees.count_tree c.value) (λ v. (record { value = v.position; small = v.count })) (λ v. tt) (λ v. refl) count_good
     none
 
 axis_good : Goods 5 trees.axis_tree
-axis_good = branch_good 0 4 (λ v. spelling keywords.Axis) trees.text_tree (λ v. v.name) (λ v. (v.direction, (v.meridian, (v.order, (v.unit, (v.ids, tt)))))) (λ v. refl) text_good
+axis_good = branch_good 0 4 (λ v. keywords.Axis) trees.text_tree (λ v. v.name) (λ v. (v.direction, (v.meridian, (v.order, (v.unit, (v.ids, tt)))))) (λ v. refl) text_good
     (then 0 4 (one 0 trees.direction_tree direction_good) (then 4 3 (maybe 4 trees.meridian_tree meridian_good) (then 1 3 (maybe 1 trees.order_tree order_good) (then 3 2 (maybe 3 trees.unit_tree unit_good) (then 2 0 (each 2 trees.ident_tree ident_good) none)))))
 
 parameter_good : Goods 4 trees.parameter_tree
-parameter_good = branch_good 0 3 (λ v. spelling keywords.Parameter) trees.text_tree (λ v. v.name) (λ v. (v.value, (v.unit, (v.ids, tt)))) (λ v. refl) text_good
+parameter_good = branch_good 0 3 (λ v. keywords.Parameter) trees.text_tree (λ v. v.name) (λ v. (v.value, (v.unit, (v.ids, tt)))) (λ v. refl) text_good
     (then 0 3 (one 0 trees.number_tree number_good) (then 3 2 (maybe 3 trees.unit_tree unit_good) (then 2 0 (each 2 trees.ident_tree ident_good) none)))
 
 conversion_good : Goods 5 trees.conversion_tree
-conversion_good = branch_good 0 4 (λ v. spelling keywords.Conversion) trees.text_tree (λ v. v.name) (λ v. (v.method, (v.parameters, (v.ids, tt)))) (λ v. refl) text_good
-    (then 3 4 (one 3 (trees.named_tree (spelling keywords.Method)) method_good) (then 4 2 (each 4 trees.parameter_tree parameter_good) (then 2 0 (each 2 trees.ident_tree ident_good) none)))
+conversion_good = branch_good 0 4 (λ v. keywords.Conversion) trees.text_tree (λ v. v.name) (λ v. (v.method, (v.parameters, (v.ids, tt)))) (λ v. refl) text_good
+    (then 3 4 (one 3 (trees.named_tree keywords.Method) method_good) (then 4 2 (each 4 trees.parameter_tree parameter_good) (then 2 0 (each 2 trees.ident_tree ident_good) none)))
 
-base_name_good : (v : GeodeticKind) → is_name (trees.base_name v) ≡ true
-base_name_good geodetic_kind.Geodetic = refl
-base_name_good geodetic_kind.Geographic = refl
+base_is_name : (v : GeodeticKind) → is_name (spelling (base_keyword v)) ≡ true
+base_is_name geodetic_kind.Geodetic = refl
+base_is_name geodetic_kind.Geographic = refl
 
-geodetic_name_good : (v : GeodeticKind) → is_name (trees.geodetic_name v) ≡ true
-geodetic_name_good geodetic_kind.Geodetic = refl
-geodetic_name_good geodetic_kind.Geographic = refl
+geodetic_is_name : (v : GeodeticKind) → is_name (spelling (geodetic_keyword v)) ≡ true
+geodetic_is_name geodetic_kind.Geodetic = refl
+geodetic_is_name geodetic_kind.Geographic = refl
 
 base_good : Goods 6 trees.base_tree
-base_good = branch_good 0 5 (λ v. trees.base_name v.kind) trees.text_tree (λ v. v.name) (λ v. (v.datum, (v.prime_meridian, (v.unit, (v.ids, tt))))) (λ v. base_name_good v.kind) text_good
+base_good = branch_good 0 5 (λ v. base_keyword v.kind) trees.text_tree (λ v. v.name) (λ v. (v.datum, (v.prime_meridian, (v.unit, (v.ids, tt))))) (λ v. base_is_name v.kind) text_good
     (then 5 4 (one 5 trees.geodetic_frame_tree geodetic_frame_good) (then 4 3 (maybe 4 trees.prime_meridian_tree prime_meridian_good) (then 3 2 (maybe 3 trees.angle_unit_tree angle_unit_good) (then 2 0 (each 2 trees.ident_tree ident_good) none))))
 
 geodetic_good : Goods 6 trees.geodetic_tree
-geodetic_good = branch_good 0 5 (λ v. trees.geodetic_name v.kind) trees.text_tree (λ v. v.name) (λ v. (v.datum, (v.prime_meridian, (v.system, (v.axes, (v.unit, (v.usages, (v.ids, (v.remark, tt))))))))) (λ v. geodetic_name_good v.kind) text_good
-    (then 5 5 (one 5 trees.geodetic_frame_tree geodetic_frame_good) (then 4 5 (maybe 4 trees.prime_meridian_tree prime_meridian_good) (then 3 5 (one 3 trees.system_tree system_good) (then 5 5 (some 5 trees.axis_tree axis_good) (then 3 5 (maybe 3 trees.unit_tree unit_good) (then 5 2 (each 5 trees.usage_tree usage_good) (then 2 1 (each 2 trees.ident_tree ident_good) (then 1 0 (maybe 1 (trees.value_tree (spelling keywords.Remark)) remark_good) none))))))))
+geodetic_good = branch_good 0 5 (λ v. geodetic_keyword v.kind) trees.text_tree (λ v. v.name) (λ v. (v.datum, (v.prime_meridian, (v.system, (v.axes, (v.unit, (v.usages, (v.ids, (v.remark, tt))))))))) (λ v. geodetic_is_name v.kind) text_good
+    (then 5 5 (one 5 trees.geodetic_frame_tree geodetic_frame_good) (then 4 5 (maybe 4 trees.prime_meridian_tree prime_meridian_good) (then 3 5 (one 3 trees.system_tree system_good) (then 5 5 (some 5 trees.axis_tree axis_good) (then 3 5 (maybe 3 trees.unit_tree unit_good) (then 5 2 (each 5 trees.usage_tree usage_good) (then 2 1 (each 2 trees.ident_tree ident_good) (then 1 0 (maybe 1 (trees.value_tree keywords.Remark) remark_good) none))))))))
 
 projected_good : Goods 7 trees.projected_tree
-projected_good = branch_good 0 6 (λ v. spelling keywords.ProjectedCrs) trees.text_tree (λ v. v.name) (λ v. (v.base, (v.conversion, (v.system, (v.axes, (v.unit, (v.usages, (v.ids, (v.remark, tt))))))))) (λ v. refl) text_good
-    (then 6 5 (one 6 trees.base_tree base_good) (then 5 5 (one 5 trees.conversion_tree conversion_good) (then 3 5 (one 3 trees.system_tree system_good) (then 5 5 (some 5 trees.axis_tree axis_good) (then 3 5 (maybe 3 trees.unit_tree unit_good) (then 5 2 (each 5 trees.usage_tree usage_good) (then 2 1 (each 2 trees.ident_tree ident_good) (then 1 0 (maybe 1 (trees.value_tree (spelling keywords.Remark)) remark_good) none))))))))
+projected_good = branch_good 0 6 (λ v. keywords.ProjectedCrs) trees.text_tree (λ v. v.name) (λ v. (v.base, (v.conversion, (v.system, (v.axes, (v.unit, (v.usages, (v.ids, (v.remark, tt))))))))) (λ v. refl) text_good
+    (then 6 5 (one 6 trees.base_tree base_good) (then 5 5 (one 5 trees.conversion_tree conversion_good) (then 3 5 (one 3 trees.system_tree system_good) (then 5 5 (some 5 trees.axis_tree axis_good) (then 3 5 (maybe 3 trees.unit_tree unit_good) (then 5 2 (each 5 trees.usage_tree usage_good) (then 2 1 (each 2 trees.ident_tree ident_good) (then 1 0 (maybe 1 (trees.value_tree keywords.Remark) remark_good) none))))))))
 
 vertical_good : Goods 6 trees.vertical_tree
-vertical_good = branch_good 0 5 (λ v. spelling keywords.VerticalCrs) trees.text_tree (λ v. v.name) (λ v. (v.datum, (v.system, (v.axes, (v.unit, (v.geoid_models, (v.usages, (v.ids, (v.remark, tt))))))))) (λ v. refl) text_good
-    (then 4 5 (one 4 trees.vertical_frame_tree vertical_frame_good) (then 3 5 (one 3 trees.system_tree system_good) (then 5 5 (some 5 trees.axis_tree axis_good) (then 3 5 (maybe 3 trees.unit_tree unit_good) (then 3 5 (each 3 (trees.named_tree (spelling keywords.GeoidModel)) geoid_model_good) (then 5 2 (each 5 trees.usage_tree usage_good) (then 2 1 (each 2 trees.ident_tree ident_good) (then 1 0 (maybe 1 (trees.value_tree (spelling keywords.Remark)) remark_good) none))))))))
+vertical_good = branch_good 0 5 (λ v. keywords.VerticalCrs) trees.text_tree (λ v. v.name) (λ v. (v.datum, (v.system, (v.axes, (v.unit, (v.geoid_models, (v.usages, (v.ids, (v.remark, tt))))))))) (λ v. refl) text_good
+    (then 4 5 (one 4 trees.vertical_frame_tree vertical_frame_good) (then 3 5 (one 3 trees.system_tree system_good) (then 5 5 (some 5 trees.axis_tree axis_good) (then 3 5 (maybe 3 trees.unit_tree unit_good) (then 3 5 (each 3 (trees.named_tree keywords.GeoidModel) geoid_model_good) (then 5 2 (each 5 trees.usage_tree usage_good) (then 2 1 (each 2 trees.ident_tree ident_good) (then 1 0 (maybe 1 (trees.value_tree keywords.Remark) remark_good) none))))))))
 
 component_good : Goods 7 trees.single_tree
 component_good n l (single.Geodetic v) = geodetic_good n (omega (arith, l)) v
@@ -287,8 +289,8 @@ component_good n l (single.Projected v) = projected_good n (omega (arith, l)) v
 component_good n l (single.Vertical v) = vertical_good n (omega (arith, l)) v
 
 compound_good : Goods 8 trees.compound_tree
-compound_good = branch_good 0 7 (λ v. spelling keywords.CompoundCrs) trees.text_tree (λ v. v.name) (λ v. (v.first, (v.second, (v.usages, (v.ids, (v.remark, tt)))))) (λ v. refl) text_good
-    (then 7 7 (one 7 trees.single_tree component_good) (then 7 5 (one 7 trees.single_tree component_good) (then 5 2 (each 5 trees.usage_tree usage_good) (then 2 1 (each 2 trees.ident_tree ident_good) (then 1 0 (maybe 1 (trees.value_tree (spelling keywords.Remark)) remark_good) none)))))
+compound_good = branch_good 0 7 (λ v. keywords.CompoundCrs) trees.text_tree (λ v. v.name) (λ v. (v.first, (v.second, (v.usages, (v.ids, (v.remark, tt)))))) (λ v. refl) text_good
+    (then 7 7 (one 7 trees.single_tree component_good) (then 7 5 (one 7 trees.single_tree component_good) (then 5 2 (each 5 trees.usage_tree usage_good) (then 2 1 (each 2 trees.ident_tree ident_good) (then 1 0 (maybe 1 (trees.value_tree keywords.Remark) remark_good) none)))))
 
 parts_good : Goods 8 trees.parts_tree
 parts_good n l (parts.Single v) = component_good n (omega (arith, l)) v

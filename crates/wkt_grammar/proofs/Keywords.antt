@@ -156,7 +156,7 @@ same_bytes a b h = by (bytes_eq a b) (bytes_eq-Decides a b) h
     by : (t : Bool) → Decides t (a ≡ b) → t ≡ true → a ≡ b
     by t d e = d.0 e
 
-meaning_by : List ℕ → Option Keyword
+abbrev meaning_by : List ℕ → Option Keyword
 meaning_by l = lookup (λ w. bytes_eq (map to_ascii_lowercase w) l) meanings
 
 same_meaning : (a b : List ℕ) → same_word a b ≡ true → keyword_of a ≡ keyword_of b
@@ -177,12 +177,12 @@ table_means = refl
 
 listed : (k : Keyword) (bytes : List ℕ) (ms : Meanings) → AllMean ms → is_keyword k bytes ms ≡ true → keyword_of bytes ≡ Some k
 listed k bytes [] a h = absurd cc
-listed k bytes (m ∷ ms) a h = by (same_word m.0 bytes) (same_keyword m.1 k) refl refl h
+listed k bytes (m ∷ ms) a h = by (same_word m.0 bytes) (same_keyword m.1 k) refl refl h (λ g. listed k bytes ms a.1 g)
   where
-    by : (s t : Bool) → same_word m.0 bytes ≡ s → same_keyword m.1 k ≡ t → ((s && t) || is_keyword k bytes ms) ≡ true → keyword_of bytes ≡ Some k
-    by true true p q g = sym (same_meaning m.0 bytes p) ∙ (a.0 ∙ ap Some (same_is m.1 k q))
-    by true false p q g = listed k bytes ms a.1 g
-    by false t p q g = listed k bytes ms a.1 g
+    by : (s t : Bool) → same_word m.0 bytes ≡ s → same_keyword m.1 k ≡ t → ((s && t) || is_keyword k bytes ms) ≡ true → (is_keyword k bytes ms ≡ true → keyword_of bytes ≡ Some k) → keyword_of bytes ≡ Some k
+    by true true p q g r = sym (same_meaning m.0 bytes p) ∙ (a.0 ∙ ap Some (same_is m.1 k q))
+    by true false p q g r = r g
+    by false t p q g r = r g
 
 found : (bytes : List ℕ) (k : Keyword) → keyword_of bytes ≡ Some k → IsKeyword k bytes
 unfolding keyword_of
@@ -190,3 +190,14 @@ found bytes k e = looked_up k bytes meanings e
 
 pub keywords_are : (bytes : List ℕ) (k : Keyword) → (keyword_of bytes ≡ Some k) ↔ IsKeyword k bytes
 keywords_are bytes k = (found bytes k, λ h. listed k bytes meanings (each_means meanings table_means) h)
+
+-- ---- the ways in which the meaning of a word is found
+
+pub likely_means : (k : Keyword) (bytes : List ℕ) → spelling k ≡ bytes → Some k ≡ keyword_of bytes
+likely_means k bytes e = sym (keyword_spelled k) ∙ ap keyword_of e
+
+pub spelling_means : (k : Keyword) (bytes : List ℕ) → Some k ≡ first_word spelling all_keywords (map to_ascii_lowercase bytes) → Some k ≡ keyword_of bytes
+spelling_means k bytes e = sym (by_spelling bytes ∙ ap (λ o. option_or o (lookup (λ w. same_word w bytes) alternates)) (sym e))
+
+pub alternate_means : (o : Option Keyword) (bytes : List ℕ) → None ≡ first_word spelling all_keywords (map to_ascii_lowercase bytes) → o ≡ lookup (λ w. same_word w bytes) alternates → o ≡ keyword_of bytes
+alternate_means o bytes e f = f ∙ sym (by_spelling bytes ∙ ap (λ p. option_or p (lookup (λ w. same_word w bytes) alternates)) (sym e))
