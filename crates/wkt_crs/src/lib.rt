@@ -10,10 +10,7 @@ mod reading;
 mod source;
 mod writing;
 
-pub use byte_io::{
-    DeviceFault, Endless, FileTarget, Full, InFault, MemoryTarget, NotOpened, Pieces, PublishFault,
-    Reading, Room, Sink, Source, Target, Then, WriteFault, Writing, publish, read_up_to, write_all,
-};
+pub use byte_io::{DeviceFault, Reading, Sink, Source, Writing};
 pub use canonical::canonical_text;
 pub use crs_value::{Condition, Crs, Key};
 pub use definition::{Definition, DefinitionFault};

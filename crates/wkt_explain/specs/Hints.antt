@@ -1,7 +1,9 @@
 -- Hints for what users really have.
 use Rattle.std.specs.Prelude.{ℕ, ◌||◌, ◌&&◌, Bool, not, List, [], ◌∷◌, take, drop, codes, nat_eq, Option, Some, None, if◌then◌else◌}
 use Rattle.std.specs.List.{prefix_len, starts_with}
-use Rattle.wkt_grammar.specs.Words.{same_word}
+use Rattle.crs_part.specs.Words.{same_word}
+use Rattle.wkt_grammar.specs.declared.table.Keyword.TheVariants as keywords
+use Rattle.wkt_grammar.specs.Words.{spelling}
 use Rattle.wkt_tree.specs.Bytes.{is_blank, is_word_byte}
 use Rattle.wkt_tree.specs.declared.fault.TextFault.{TextFault}
 use Rattle.wkt_tree.specs.declared.fault.TextFault.TheVariants.{NotUtf8, After}
@@ -46,18 +48,18 @@ is_wkt1 word = same_word (codes "PROJCS") word || same_word (codes "GEOGCS") wor
     || same_word (codes "COMPD_CS") word || same_word (codes "LOCAL_CS") word || same_word (codes "FITTED_CS") word
 
 abbrev pub is_extent : List ℕ → Bool
-is_extent word = same_word (codes "SCOPE") word || same_word (codes "AREA") word || same_word (codes "BBOX") word || same_word (codes "VERTICALEXTENT") word
+is_extent word = same_word (spelling keywords.Scope) word || same_word (spelling keywords.Area) word || same_word (spelling keywords.BoundingBox) word || same_word (spelling keywords.VerticalExtent) word
 
 abbrev pub is_base : List ℕ → Bool
-is_base word = same_word (codes "BASEGEOGCRS") word || same_word (codes "BASEGEODCRS") word
+is_base word = same_word (spelling keywords.BaseGeographicCrs) word || same_word (spelling keywords.BaseGeodeticCrs) word
 
 -- of a word that can't stand in a node
 abbrev pub word_hint : List ℕ → List ℕ → Option Hint
 word_hint word node =
     if is_wkt1 word then Some hints.Wkt1
     else (if same_word (codes "DYNAMIC") word then Some hints.Dynamic
-    else (if is_extent word && not (same_word (codes "USAGE") node) then Some hints.OutsideUsage
-    else (if same_word (codes "PRIMEM") word && is_base node then Some hints.UnitFirst
+    else (if is_extent word && not (same_word (spelling keywords.Usage) node) then Some hints.OutsideUsage
+    else (if same_word (spelling keywords.PrimeMeridian) word && is_base node then Some hints.UnitFirst
     else None)))
 
 -- of what stands at the front of a text that is not written with tokens

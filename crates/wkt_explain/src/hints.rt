@@ -2,12 +2,13 @@
 
 ghost use Rattle.std.specs.Prelude.{◌≡◌};
 ghost use Rattle.std.specs.List.{prefix_len};
-ghost use Rattle.wkt_grammar.specs.Words.{same_word};
 ghost use Rattle.wkt_tree.specs.Bytes.{is_blank, is_word_byte};
 ghost use Rattle.wkt_explain.specs.Hints.{after_hint, behind_blanks, encoding_hint, front_hint, hint_of, hint_text, is_base, is_extent, is_wkt1, text_hint, word_at, word_hint};
 
 use crate::path::{is_blank, is_word_byte};
+use crs_part::same_word;
 use wkt_crs::{DefinitionFault, SlotFault, TextFault, Unspelled};
+use wkt_grammar::Keyword;
 
 /// What a text that is refused may be, or how it may be mended.
 #[derive(Clone, Copy, Debug, PartialEq, Eq)]
@@ -80,12 +81,6 @@ fn word_at(text: &[u8], place: usize) -> &[u8]
     word
 }
 
-fn same_word(a: &[u8], b: &[u8]) -> bool
-    ensures { result ≡ same_word a.now b.now }
-{
-    a.eq_ignore_ascii_case(b)
-}
-
 fn is_wkt1(word: &[u8]) -> bool
     ensures { result ≡ is_wkt1 word.now }
 {
@@ -101,16 +96,16 @@ fn is_wkt1(word: &[u8]) -> bool
 fn is_extent(word: &[u8]) -> bool
     ensures { result ≡ is_extent word.now }
 {
-    same_word(b"SCOPE", word)
-        || same_word(b"AREA", word)
-        || same_word(b"BBOX", word)
-        || same_word(b"VERTICALEXTENT", word)
+    same_word(Keyword::Scope.spelling(), word)
+        || same_word(Keyword::Area.spelling(), word)
+        || same_word(Keyword::BoundingBox.spelling(), word)
+        || same_word(Keyword::VerticalExtent.spelling(), word)
 }
 
 fn is_base(word: &[u8]) -> bool
     ensures { result ≡ is_base word.now }
 {
-    same_word(b"BASEGEOGCRS", word) || same_word(b"BASEGEODCRS", word)
+    same_word(Keyword::BaseGeographicCrs.spelling(), word) || same_word(Keyword::BaseGeodeticCrs.spelling(), word)
 }
 
 // Of a word that cannot stand in this node.
@@ -123,10 +118,10 @@ fn word_hint(word: &[u8], node: &[u8]) -> Option<Hint>
     if same_word(b"DYNAMIC", word) {
         return Some(Hint::Dynamic);
     }
-    if is_extent(word) && !same_word(b"USAGE", node) {
+    if is_extent(word) && !same_word(Keyword::Usage.spelling(), node) {
         return Some(Hint::OutsideUsage);
     }
-    if same_word(b"PRIMEM", word) && is_base(node) {
+    if same_word(Keyword::PrimeMeridian.spelling(), word) && is_base(node) {
         return Some(Hint::UnitFirst);
     }
     None

@@ -1,4 +1,5 @@
 pub mod Walks
+pub mod Missing
 pub mod Tables
 pub mod Editions
 pub mod Keywords

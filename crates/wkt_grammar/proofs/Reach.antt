@@ -15,7 +15,8 @@ use Rattle.wkt_grammar.specs.declared.table.Argument.TheVariants as arguments
 use Rattle.wkt_grammar.specs.Rows.{row_of, row_in, Admitted, Fits}
 use Rattle.wkt_grammar.specs.Words.{keyword_of, is_cs_kind, is_direction}
 use Rattle.wkt_grammar.specs.Walk.{next, walk, missing}
-use Rattle.wkt_grammar.proofs.Walks.{goes_on, admits, rows_clear, walk_push, missing_unfit, first_missing_is, missing_is}
+use Rattle.wkt_grammar.proofs.Walks.{goes_on, admits, rows_clear, walk_push, missing_unfit}
+use Rattle.wkt_grammar.proofs.Missing.{first_missing_is, missing_is}
 use Rattle.wkt_grammar.proofs.Tables.{lone_count, lone_kind, lone_direction}
 use Rattle.wkt_grammar.specs.declared.fault.SlotFault.{SlotFault}
 use Rattle.wkt_grammar.specs.declared.fault.SlotFault.TheVariants.{NotHere, Missing, NotCount, WordUnknown}

@@ -63,13 +63,7 @@ pub fn enters(kind: Takes, keyword: Keyword) -> Option<Node>
             Keyword::Unit => Some(Node::Unit),
             _ => None,
         },
-        Takes::Node(own, node) => {
-            if own == keyword {
-                Some(node)
-            } else {
-                None
-            }
-        }
+        Takes::Node(own, node) => { if own == keyword { Some(node) } else { None } }
     }
 }
 

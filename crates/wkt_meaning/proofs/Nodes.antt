@@ -1,5 +1,5 @@
 -- The laws of each node, from those of its slots: a line a slot, in the order of its row.
-use Rattle.std.proofs.Common.{◌≡◌, ℕ, ◌<◌, ◌^◌, List, Some, refl, sym, ap, ◌∙◌}
+use Rattle.std.proofs.Common.{◌≡◌, ℕ, ◌<◌, ◌^◌, Some, refl, sym, ap, ◌∙◌}
 use Rattle.std.proofs.Props.{props}
 use mathlib.Core.HLevel.{is_prop→PathP}
 use Rattle.crs_part.specs.declared.units.Unit as units
@@ -28,7 +28,6 @@ use Rattle.wkt_grammar.specs.declared.table.SlotName.TheVariants as slots
 use Rattle.wkt_grammar.specs.declared.table.Takes.{Takes}
 use Rattle.wkt_grammar.specs.declared.table.Takes.TheVariants as kinds
 use Rattle.wkt_grammar.specs.Rows.{enters}
-use Rattle.wkt_grammar.specs.Words.{keyword_of}
 use Rattle.wkt_grammar.specs.declared.table.Node.{Node}
 use Rattle.wkt_grammar.specs.Bare.{Bare}
 use Rattle.wkt_meaning.specs.SecondEdition.{Fitting}
