@@ -16,7 +16,7 @@ use Rattle.crs_part.specs.declared.crs.Single.{Single}
 use Rattle.crs_part.specs.declared.crs.Single.TheVariants as single
 use Rattle.crs_part.specs.declared.crs.Compound.{Compound}
 use Rattle.crs_part.specs.declared.crs.CrsParts.TheVariants as parts
-use Rattle.wkt_tree.specs.Tree.{Piece, Tok, tok, Item, tokens}
+use Rattle.wkt_tree.specs.Tree.{Tok, Item, tokens}
 use Rattle.wkt_tree.specs.Tree as tree
 use Rattle.wkt_grammar.specs.declared.table.Keyword.{Keyword}
 use Rattle.wkt_grammar.specs.declared.table.Keyword.TheVariants as keywords

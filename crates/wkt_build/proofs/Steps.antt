@@ -1,7 +1,7 @@
 -- What the builders of arguments make of the tokens that come.
 use Rattle.std.proofs.Common.{◌≡◌, ◌<◌, true, false, List, [], ◌∷◌, ◌++◌, length, drop, refl, sym, ap, ◌∙◌, subst, arith, append_assoc, append-nil}
 use Rattle.wkt_tree.specs.declared.token.TokenKind.TheVariants.{Comma}
-use Rattle.wkt_tree.specs.Tree.{Piece, Tok, tok, Item, Items, last, more, tokens, all_tokens}
+use Rattle.wkt_tree.specs.Tree.{Piece, Tok, tok, Item, tokens}
 use Rattle.wkt_tree.specs.Tree as tree
 use Rattle.wkt_grammar.specs.declared.table.Takes.{Takes}
 use Rattle.wkt_grammar.specs.Rows.{takes}

@@ -14,7 +14,9 @@ ghost use Rattle.wkt_build.specs.Reads.{comes};
 
 use crs_number::is_count;
 use std::marker::Model;
-use wkt_grammar::{Argument, Keyword, Takes, coming, enters, keyword_of, next_is_comma, next_is_open, takes};
+use wkt_grammar::{
+    Argument, Keyword, Takes, coming, enters, keyword_of, next_is_comma, next_is_open, takes,
+};
 use wkt_tree::{Cursor, Token, TokenKind};
 
 /// What follows a comma, where it was looked up ahead.

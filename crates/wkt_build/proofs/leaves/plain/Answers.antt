@@ -1,4 +1,4 @@
-use Rattle.std.proofs.Common.{sym, ◌∙◌}
+use Rattle.std.proofs.Common.{sym}
 use Rattle.wkt_build.proofs.Plain.{plain_is}
 use Rattle.wkt_build.proofs.leaves.plain.Goals as goal
 
