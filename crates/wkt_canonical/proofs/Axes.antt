@@ -1,7 +1,7 @@
 -- Coordinate systems and their axes.
 use Rattle.std.proofs.Common.{◌≡◌, ℕ, zero, suc, ◌+◌, ◌<◌, Bool, true, false, List, [], ◌∷◌, ◌++◌, ◌∙◌, ap, sym, refl, arith, subst}
 use mathlib.Core.Bool.{beq}
-use Rattle.std.specs.Prelude.{Option, Some, None, codes, not, ◌||◌, ◌==◌, is_some, is_none}
+use Rattle.std.specs.Prelude.{Option, Some, None, not, ◌||◌, ◌==◌, is_some, is_none}
 use Rattle.std.specs.List.{list_all, enumerate_from}
 use Rattle.std.specs.Option.{option_map_or, option_or}
 use Rattle.std.proofs.lemmas.Fmt.{decimal_digit}
@@ -14,10 +14,11 @@ use Rattle.crs_part.specs.declared.systems.Axis.{Axis}
 use Rattle.crs_value.specs.Units.{any_units, meridian_units, axis_units}
 use Rattle.crs_part.specs.Words.{system_word, direction_word}
 use Rattle.crs_value.specs.Conditions.{takes_unit, axis_fits, unit_fits, is_order, is_north_or_south}
+use Rattle.wkt_grammar.specs.declared.table.Keyword.TheVariants as keywords
 use Rattle.wkt_meaning.specs.Render.{render}
 use Rattle.wkt_meaning.specs.Trees.{one, text_tree, number_tree, kind_tree, count_tree, direction_tree, ident_tree, angle_unit_tree, meridian_tree, axis_tree}
 use Rattle.crs_value.specs.declared.kinds.UnitKind.{UnitKind}
-use Rattle.wkt_canonical.specs.Reads.{ReadsFirst, ReadsOne, ReadsEach, ReadsInside, ReadsUnit, ReadsDigit, ReadsSystem, ReadsMeridian, ReadsOrder, ReadsAxisUnit, ReadsCommonUnit, ReadsAxis, ReadsAxes, any}
+use Rattle.wkt_canonical.specs.Reads.{ReadsFirst, ReadsOne, ReadsEach, ReadsInside, ReadsUnit, ReadsDigit, ReadsSystem, ReadsMeridian, ReadsOrder, ReadsAxisUnit, ReadsCommonUnit, ReadsAxis, ReadsAxes, any, opening}
 use Rattle.wkt_canonical.specs.Tests.{all_positive, angle_unit_passes, meridian_passes, FitsEach, IsAxis, AxesHold}
 use Rattle.wkt_canonical.proofs.Runs.{closed, also, whole, behind_comma_is, no_run, two_runs}
 use Rattle.wkt_canonical.proofs.Nodes.{both_pass, any_units_pass}
@@ -25,20 +26,20 @@ use Rattle.wkt_canonical.proofs.Nodes.{both_pass, any_units_pass}
 digit_is : (n : ℕ) {text rest : List ℕ} → ReadsDigit n text rest → text ≡ render (count_tree n) ++ rest
 digit_is n {text} {rest} r = r.is ∙ ap (λ (l : List ℕ). l ++ rest) (sym (decimal_digit n r.small))
 
-pub system : {text inside a b c d rest : List ℕ} (kind : SystemKind) (dimension : ℕ) → text ≡ codes ",CS[" ++ inside → inside ≡ system_word kind ++ a → a ≡ 44 ∷ b → ReadsDigit dimension b c → ReadsEach any ident_tree c d → d ≡ 93 ∷ rest → ReadsSystem kind dimension text rest
+pub system : {text inside a b c d rest : List ℕ} (kind : SystemKind) (dimension : ℕ) → text ≡ opening keywords.CoordinateSystem ++ inside → inside ≡ system_word kind ++ a → a ≡ 44 ∷ b → ReadsDigit dimension b c → ReadsEach any ident_tree c d → d ≡ 93 ∷ rest → ReadsSystem kind dimension text rest
 system kind dimension e k comma digit ids close =
     record {
       value = record { kind = kind; dimension = dimension; ids = ids.values; count = omega (arith, digit.small) };
       kind_is = refl;
       dimension_is = refl;
-      is = e ∙ whole (codes "CS") (kind_tree kind) _ k (also _ _ (behind_comma_is (count_tree dimension) _ comma (digit_is dimension digit)) (also _ _ ids.is (closed close)));
+      is = e ∙ whole keywords.CoordinateSystem (kind_tree kind) _ k (also _ _ (behind_comma_is (count_tree dimension) _ comma (digit_is dimension digit)) (also _ _ ids.is (closed close)));
     }
 
-pub meridian : {text a b rest : List ℕ} → ReadsFirst any number_tree text a → ReadsOne angle_unit_passes angle_unit_tree a b → b ≡ 93 ∷ rest → ReadsInside meridian_passes meridian_tree (codes ",MERIDIAN[") text rest
+pub meridian : {text a b rest : List ℕ} → ReadsFirst any number_tree text a → ReadsOne angle_unit_passes angle_unit_tree a b → b ≡ 93 ∷ rest → ReadsInside meridian_passes meridian_tree keywords.Meridian text rest
 meridian longitude unit close = record {
   value = record { longitude = longitude.value; unit = unit.value };
   passes = unit.passes;
-  is = whole (codes "MERIDIAN") _ _ longitude.is (also _ _ unit.is (closed close));
+  is = whole keywords.Meridian _ _ longitude.is (also _ _ unit.is (closed close));
 }
 
 pub allowed_meridian : {text rest : List ℕ} (direction : Direction) → ReadsOne meridian_passes meridian_tree text rest → is_north_or_south direction ≡ true → ReadsMeridian direction text rest
@@ -47,13 +48,13 @@ allowed_meridian direction r h = record { value = Some r.value; passes = r.passe
 pub no_meridian : (direction : Direction) (text : List ℕ) → ReadsMeridian direction text text
 no_meridian direction text = record { value = None; passes = refl; allowed = refl; is = no_run text }
 
-pub order : {text inside a rest : List ℕ} (k n : ℕ) → text ≡ codes ",ORDER[" ++ inside → ReadsDigit n inside a → a ≡ 93 ∷ rest → n ≡ k + 1 → ReadsOrder k true text rest
+pub order : {text inside a rest : List ℕ} (k n : ℕ) → text ≡ opening keywords.Order ++ inside → ReadsDigit n inside a → a ≡ 93 ∷ rest → n ≡ k + 1 → ReadsOrder k true text rest
 order k n e digit close same =
     record {
       value = Some (record { position = n; count = omega (arith, digit.small) });
       ordered = λ h. same_number n (k + 1) same;
       unordered = λ h. absurd (cc);
-      is = e ∙ whole (codes "ORDER") (count_tree n) _ (digit_is n digit) (closed close);
+      is = e ∙ whole keywords.Order (count_tree n) _ (digit_is n digit) (closed close);
     }
   where
     same_number : (m n : ℕ) → m ≡ n → (m == n) ≡ true
@@ -74,7 +75,7 @@ axis_unit system k which r h = record {
 pub no_axis_unit : (system : SystemKind) (k : ℕ) (text : List ℕ) → ReadsAxisUnit system k false text text
 no_axis_unit system k text = record { value = None; passes = refl; with_unit = λ t. absurd (cc); without_unit = λ f. refl; is = no_run text }
 
-pub axis : {text inside a b c d e f g rest : List ℕ} (system : SystemKind) (k : ℕ) (direction : Direction) (has_order has_unit : Bool) → text ≡ codes ",AXIS[" ++ inside → ReadsFirst any text_tree inside a → a ≡ 44 ∷ b → b ≡ direction_word direction ++ c → ReadsMeridian direction c d → ReadsOrder k has_order d e → ReadsAxisUnit system k has_unit e f → ReadsEach any ident_tree f g → g ≡ 93 ∷ rest → ReadsAxis system k has_order has_unit text rest
+pub axis : {text inside a b c d e f g rest : List ℕ} (system : SystemKind) (k : ℕ) (direction : Direction) (has_order has_unit : Bool) → text ≡ opening keywords.Axis ++ inside → ReadsFirst any text_tree inside a → a ≡ 44 ∷ b → b ≡ direction_word direction ++ c → ReadsMeridian direction c d → ReadsOrder k has_order d e → ReadsAxisUnit system k has_unit e f → ReadsEach any ident_tree f g → g ≡ 93 ∷ rest → ReadsAxis system k has_order has_unit text rest
 axis system k direction has_order has_unit e name comma word meridian order unit ids close =
     record {
       value = record { name = name.value; direction = direction; meridian = meridian.value; order = order.value; unit = unit.value; ids = ids.values };
@@ -86,7 +87,7 @@ axis system k direction has_order has_unit e name comma word meridian order unit
         meridian = meridian.allowed;
         units = both_pass (option_map_or meridian_units meridian.value []) (option_map_or any_units unit.value []) (meridian_units_pass meridian.value meridian.passes) (any_units_pass unit.value unit.passes);
       };
-      is = e ∙ whole (codes "AXIS") _ _ name.is (also _ _ (behind_comma_is (direction_tree direction) _ comma word) (also _ _ meridian.is (also _ _ order.is (also _ _ unit.is (also _ _ ids.is (closed close))))));
+      is = e ∙ whole keywords.Axis _ _ name.is (also _ _ (behind_comma_is (direction_tree direction) _ comma word) (also _ _ meridian.is (also _ _ order.is (also _ _ unit.is (also _ _ ids.is (closed close))))));
     }
   where
     meridian_units_pass : (o : Option Meridian) → option_map_or meridian_passes o true ≡ true → all_positive (option_map_or meridian_units o []) ≡ true

@@ -1,12 +1,13 @@
 -- Codes and identifiers, and which identifier is the first.
 use Rattle.std.proofs.Common.{◌≡◌, ℕ, ◌-◌, List, [], ◌∷◌, ◌++◌, ◌∙◌, map, take, length, refl, sym, ap, subst, arith, length-append}
 use Rattle.std.proofs.Math.Seq.{take-append_seam}
-use Rattle.std.specs.Prelude.{Some, None, codes}
+use Rattle.std.specs.Prelude.{Some, None}
 use Rattle.crs_part.specs.declared.identifiers.NumberOrText.TheVariants as code
+use Rattle.wkt_grammar.specs.declared.table.Keyword.TheVariants as keywords
 use Rattle.wkt_meaning.specs.Render.{render}
 use Rattle.wkt_meaning.specs.Trees.{one, text_tree, number_tree, code_tree, ident_tree, value_tree}
 use Rattle.wkt_canonical.specs.declared.identifiers.Identifier.{Identifier}
-use Rattle.wkt_canonical.specs.Reads.{ReadsFirst, ReadsOne, ReadsMaybe, ReadsEach, ReadsInside, ReadsText, ReadsCode, ReadsIdentifier, ReadsIdentifiers, any}
+use Rattle.wkt_canonical.specs.Reads.{ReadsFirst, ReadsOne, ReadsMaybe, ReadsEach, ReadsInside, ReadsText, ReadsCode, ReadsIdentifier, ReadsIdentifiers, any, opening}
 use Rattle.wkt_canonical.proofs.Runs.{closed, also, whole, behind_comma_is, no_run, two_runs}
 
 pub code_of_text : {content text inside rest : List ℕ} → text ≡ 44 ∷ inside → ReadsText content inside rest → ReadsCode content text rest
@@ -30,20 +31,20 @@ code_of_number {inside = inside} {rest = rest} e r f =
 pub any_code : {content text rest : List ℕ} → ReadsCode content text rest → ReadsOne any code_tree text rest
 any_code r = record { value = r.value; passes = refl; is = r.is }
 
-pub ident : {name content text a b c d e rest : List ℕ} (seen : Identifier) → seen.authority.now ≡ name → seen.code.now ≡ content → ReadsText name text a → ReadsCode content a b → ReadsMaybe any code_tree b c → ReadsMaybe any (value_tree (codes "CITATION")) c d → ReadsMaybe any (value_tree (codes "URI")) d e → e ≡ 93 ∷ rest → ReadsIdentifier seen text rest
+pub ident : {name content text a b c d e rest : List ℕ} (seen : Identifier) → seen.authority.now ≡ name → seen.code.now ≡ content → ReadsText name text a → ReadsCode content a b → ReadsMaybe any code_tree b c → ReadsMaybe any (value_tree keywords.Citation) c d → ReadsMaybe any (value_tree keywords.Uri) d e → e ≡ 93 ∷ rest → ReadsIdentifier seen text rest
 ident seen n k authority code version citation uri close = record {
   value = record { authority = authority.value; code = code.value; version = version.value; citation = citation.value; uri = uri.value };
   identifies = record { authority = authority.content_is ∙ sym n; code = code.content_is ∙ sym k };
-  is = whole (codes "ID") _ _ authority.is (also _ _ code.is (also _ _ version.is (also _ _ citation.is (also _ _ uri.is (closed close)))));
+  is = whole keywords.Identifier _ _ authority.is (also _ _ code.is (also _ _ version.is (also _ _ citation.is (also _ _ uri.is (closed close)))));
 }
 
-pub any_identifier : {text rest : List ℕ} (seen : Identifier) → ReadsIdentifier seen text rest → ReadsInside any ident_tree (codes ",ID[") text rest
+pub any_identifier : {text rest : List ℕ} (seen : Identifier) → ReadsIdentifier seen text rest → ReadsInside any ident_tree keywords.Identifier text rest
 any_identifier seen r = record { value = r.value; passes = refl; is = r.is }
 
 pub no_identifiers : (text : List ℕ) → ReadsIdentifiers None text text
 no_identifiers text = record { values = []; first_is = refl; is = no_run text }
 
-pub some_identifiers : {text inside mid rest : List ℕ} (seen : Identifier) → text ≡ codes ",ID[" ++ inside → ReadsIdentifier seen inside mid → ReadsEach any ident_tree mid rest → ReadsIdentifiers (Some seen) text rest
+pub some_identifiers : {text inside mid rest : List ℕ} (seen : Identifier) → text ≡ opening keywords.Identifier ++ inside → ReadsIdentifier seen inside mid → ReadsEach any ident_tree mid rest → ReadsIdentifiers (Some seen) text rest
 some_identifiers seen e first others = record {
   values = first.value ∷ others.values;
   first_is = first.identifies;

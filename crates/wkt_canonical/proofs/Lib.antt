@@ -4,6 +4,7 @@ pub mod UnitKinds
 pub mod Nodes
 pub mod Numbers
 pub mod Runs
+pub mod Spelled
 pub mod Texts
 pub mod Ascii
 pub mod Wholes

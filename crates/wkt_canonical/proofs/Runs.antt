@@ -4,9 +4,11 @@ use Rattle.std.proofs.lemmas.List.{map-append}
 use Rattle.std.specs.Prelude.{None, Some, ◌&&◌}
 use Rattle.std.specs.List.{list_all}
 use Rattle.wkt_grammar.specs.Bare.{Bare, bares}
+use Rattle.wkt_grammar.specs.declared.table.Keyword.{Keyword}
+use Rattle.wkt_grammar.specs.Words.{spelling}
 use Rattle.wkt_meaning.specs.Render.{render, render_behind}
 use Rattle.wkt_meaning.specs.Trees.{one, joined, branch}
-use Rattle.wkt_canonical.specs.Reads.{behind, ReadsFirst, ReadsOne, ReadsMaybe, ReadsEach, ReadsSome, ReadsInside, ReadsWithin}
+use Rattle.wkt_canonical.specs.Reads.{beginning, opening, behind, ReadsFirst, ReadsOne, ReadsMaybe, ReadsEach, ReadsSome, ReadsInside, ReadsWithin}
 
 behind_append : (xs ys : List Bare) → render_behind (bares (xs ++ ys)) ≡ render_behind (bares xs) ++ render_behind (bares ys)
 behind_append [] ys = refl
@@ -30,17 +32,19 @@ also {text} {mid} {rest} run runs e g = record {
 }
 
 -- a whole node, from its opening delimiter on
-pub whole : {text mid rest : List ℕ} (k : List ℕ) (x : Bare) (runs : List (List Bare)) → text ≡ render x ++ mid → Goes runs mid rest → (44 ∷ (k ++ 91 ∷ [])) ++ text ≡ behind (one (branch k (one x ∷ runs))) ++ rest
+pub whole : {text mid rest : List ℕ} (keyword : Keyword) (x : Bare) (runs : List (List Bare)) → text ≡ render x ++ mid → Goes runs mid rest → opening keyword ++ text ≡ behind (one (branch keyword (one x ∷ runs))) ++ rest
 unfolding behind
-whole {text} {mid} {rest} k x runs e g =
+whole {text} {mid} {rest} keyword x runs e g =
+    let k = spelling keyword in
     let b = render_behind (bares (joined runs)) in
     let regroup : (44 ∷ (k ++ 91 ∷ [])) ++ (render x ++ (b ++ 93 ∷ rest)) ≡ (44 ∷ ((k ++ (91 ∷ ((render x ++ b) ++ 93 ∷ []))) ++ [])) ++ rest = simp (append_assoc, append-nil) in
     ap (λ l. (44 ∷ (k ++ 91 ∷ [])) ++ l) (e ∙ ap (λ l. render x ++ l) g.is) ∙ regroup
 
 -- the same of the root, which no comma stands before
-pub root : {text mid rest : List ℕ} (k : List ℕ) (x : Bare) (runs : List (List Bare)) → text ≡ render x ++ mid → Goes runs mid rest → (k ++ 91 ∷ []) ++ text ≡ render (branch k (one x ∷ runs)) ++ rest
+pub root : {text mid rest : List ℕ} (keyword : Keyword) (x : Bare) (runs : List (List Bare)) → text ≡ render x ++ mid → Goes runs mid rest → beginning keyword ++ text ≡ render (branch keyword (one x ∷ runs)) ++ rest
 unfolding behind
-root {text} {mid} {rest} k x runs e g =
+root {text} {mid} {rest} keyword x runs e g =
+    let k = spelling keyword in
     let b = render_behind (bares (joined runs)) in
     let regroup : (k ++ 91 ∷ []) ++ (render x ++ (b ++ 93 ∷ rest)) ≡ (k ++ (91 ∷ ((render x ++ b) ++ 93 ∷ []))) ++ rest = simp append_assoc in
     ap (λ l. (k ++ 91 ∷ []) ++ l) (e ∙ ap (λ l. render x ++ l) g.is) ∙ regroup
@@ -68,15 +72,15 @@ behind_comma test tree e r = record { value = r.value; passes = r.passes; is = b
 
 -- ---- nodes that come, or may come
 
-pub came : {A : Type 0} (test : A → Bool) (tree : A → Bare) {opening word text inside rest : List ℕ} → text ≡ word ++ inside → word ≡ opening → ReadsInside test tree opening inside rest → ReadsOne test tree text rest
-came test tree {inside = inside} e o r = record { value = r.value; passes = r.passes; is = e ∙ (ap (λ (l : List ℕ). l ++ inside) o ∙ r.is) }
+pub came : {A : Type 0} (test : A → Bool) (tree : A → Bare) {keyword own : Keyword} {text inside rest : List ℕ} → text ≡ opening keyword ++ inside → keyword ≡ own → ReadsInside test tree own inside rest → ReadsOne test tree text rest
+came test tree {inside = inside} e o r = record { value = r.value; passes = r.passes; is = e ∙ (ap (λ k. opening k ++ inside) o ∙ r.is) }
 
 -- one that came, where it might not have come
 pub maybe_came : {A : Type 0} (test : A → Bool) (tree : A → Bare) {text rest : List ℕ} → ReadsOne test tree text rest → ReadsMaybe test tree text rest
 maybe_came test tree r = record { value = Some r.value; passes = r.passes; is = r.is }
 
-pub came_within : {A : Type 0} (test : A → Bool) (tree : List ℕ → A → Bare) (k : List ℕ) {text inside rest : List ℕ} → text ≡ (44 ∷ (k ++ 91 ∷ [])) ++ inside → ReadsWithin test tree inside rest → ReadsOne test (tree k) text rest
-came_within test tree k e r = record { value = r.value; passes = r.passes; is = e ∙ r.is k }
+pub came_within : {A : Type 0} (test : A → Bool) (tree : Keyword → A → Bare) (keyword : Keyword) {text inside rest : List ℕ} → text ≡ opening keyword ++ inside → ReadsWithin test tree inside rest → ReadsOne test (tree keyword) text rest
+came_within test tree keyword e r = record { value = r.value; passes = r.passes; is = e ∙ r.is keyword }
 
 pub none_came : {A : Type 0} (test : A → Bool) (tree : A → Bare) (text : List ℕ) → ReadsMaybe test tree text text
 unfolding behind
@@ -123,8 +127,9 @@ tail_of : (a : ℕ) (xs ys : List ℕ) → a ∷ xs ≡ a ∷ ys → xs ≡ ys
 tail_of a xs ys e = cc
 
 -- a node that is the first argument
-pub first_within : {A : Type 0} (test : A → Bool) (tree : List ℕ → A → Bare) (k : List ℕ) {text inside rest : List ℕ} → text ≡ (k ++ 91 ∷ []) ++ inside → ReadsWithin test tree inside rest → ReadsFirst test (tree k) text rest
+pub first_within : {A : Type 0} (test : A → Bool) (tree : Keyword → A → Bare) (keyword : Keyword) {text inside rest : List ℕ} → text ≡ beginning keyword ++ inside → ReadsWithin test tree inside rest → ReadsFirst test (tree keyword) text rest
 unfolding behind
-first_within test tree k {text} {inside} {rest} e r =
-    let regroup : (44 ∷ (render (tree k r.value) ++ [])) ++ rest ≡ 44 ∷ (render (tree k r.value) ++ rest) = simp append-nil in
-    record { value = r.value; passes = r.passes; is = e ∙ tail_of 44 _ _ (r.is k ∙ regroup) }
+first_within test tree keyword {text} {inside} {rest} e r =
+    let x = tree keyword r.value in
+    let regroup : (44 ∷ (render x ++ [])) ++ rest ≡ 44 ∷ (render x ++ rest) = simp append-nil in
+    record { value = r.value; passes = r.passes; is = e ∙ tail_of 44 _ _ (r.is keyword ∙ regroup) }

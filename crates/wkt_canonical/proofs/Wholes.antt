@@ -1,6 +1,6 @@
 -- Coordinate reference systems.
 use Rattle.std.proofs.Common.{◌≡◌, ℕ, Bool, true, false, List, [], ◌∷◌, ◌++◌, ◌∙◌, ap, sym, refl, subst, length, arith, map, append-nil}
-use Rattle.std.specs.Prelude.{Option, Some, None, IfSome, is_some, codes, ◌==◌}
+use Rattle.std.specs.Prelude.{Option, Some, None, IfSome, is_some, ◌==◌}
 use Rattle.std.specs.List.{flat_map}
 use Rattle.std.specs.Option.{option_map_or}
 use Rattle.crs_part.specs.Slots.{ellipsoid_of, system_of, axes_of, common_unit_of}
@@ -23,18 +23,20 @@ use Rattle.crs_value.specs.Conditions.{has_size, may_be_of, may_be_projected, ma
 use Rattle.crs_value.specs.declared.broken.Condition.TheVariants.{C1, C2, C3, C4, C5, C6, C7, C8}
 use Rattle.crs_value.specs.declared.broken.Whose.TheVariants.{First, Second, Whole}
 use Rattle.crs_value.specs.Checking.{HasConditions}
+use Rattle.wkt_grammar.specs.declared.table.Keyword.TheVariants as keywords
 use Rattle.wkt_meaning.specs.Canon.{canon}
+use Rattle.wkt_meaning.specs.Denotes.{base_keyword, geodetic_keyword}
 use Rattle.wkt_meaning.specs.Runs.{listed}
-use Rattle.wkt_meaning.specs.Trees.{maybe, named_tree, text_tree, ident_tree, value_tree, usage_tree, angle_unit_tree, geodetic_frame_tree, vertical_frame_tree, prime_meridian_tree, conversion_tree, base_tree, base_name, geodetic_name, single_tree}
+use Rattle.wkt_meaning.specs.Trees.{maybe, named_tree, text_tree, ident_tree, value_tree, usage_tree, angle_unit_tree, geodetic_frame_tree, vertical_frame_tree, prime_meridian_tree, conversion_tree, base_tree, single_tree}
 use Rattle.wkt_canonical.specs.declared.identifiers.Identifier.{Identifier}
 use Rattle.wkt_canonical.specs.declared.crs.Seen.{Seen}
 use Rattle.wkt_canonical.specs.declared.crs.Component.{Component}
-use Rattle.wkt_canonical.specs.Reads.{ReadsFirst, ReadsOne, ReadsMaybe, ReadsEach, ReadsInside, ReadsText, ReadsIdentifiers, ReadsSystem, ReadsAxes, ReadsSingle, ReadsEnd, ReadsWhole, IsCanonicalOf, IsCanonical, any}
+use Rattle.wkt_canonical.specs.Reads.{ReadsFirst, ReadsOne, ReadsMaybe, ReadsEach, ReadsInside, ReadsText, ReadsIdentifiers, ReadsSystem, ReadsAxes, ReadsSingle, ReadsEnd, ReadsWhole, IsCanonicalOf, IsCanonical, any, beginning, opening}
 use Rattle.wkt_canonical.specs.Tests.{all_positive, angle_unit_passes, usage_passes, frame_passes, prime_meridian_passes, conversion_passes, base_passes, AxesHold, Holds}
 use Rattle.wkt_canonical.proofs.Runs.{Goes, closed, also, whole, root, behind_comma_is, and_both}
 use Rattle.wkt_canonical.proofs.Nodes.{both_pass, all_pass, and_true, angle_units_pass, any_units_pass}
 
-pub end : {text a b c rest : List ℕ} (first : Option Identifier) → ReadsEach usage_passes usage_tree text a → ReadsIdentifiers first a b → ReadsMaybe any (value_tree (codes "REMARK")) b c → c ≡ 93 ∷ rest → ReadsEnd first text rest
+pub end : {text a b c rest : List ℕ} (first : Option Identifier) → ReadsEach usage_passes usage_tree text a → ReadsIdentifiers first a b → ReadsMaybe any (value_tree keywords.Remark) b c → c ≡ 93 ∷ rest → ReadsEnd first text rest
 end first usages ids remark close =
     let g = also _ _ usages.is (also _ _ ids.is (also _ _ remark.is (closed close))) in
     record {
@@ -46,7 +48,7 @@ end first usages ids remark close =
       is = g.is;
     }
 
-ends : {first : Option Identifier} {text rest : List ℕ} (e : ReadsEnd first text rest) → Goes (map usage_tree e.usages ∷ map ident_tree e.ids ∷ maybe (value_tree (codes "REMARK")) e.remark ∷ []) text rest
+ends : {first : Option Identifier} {text rest : List ℕ} (e : ReadsEnd first text rest) → Goes (map usage_tree e.usages ∷ map ident_tree e.ids ∷ maybe (value_tree keywords.Remark) e.remark ∷ []) text rest
 ends e = record { is = e.is }
 
 -- ---- conditions
@@ -76,7 +78,7 @@ frame_holds frame h = and_both (has_size (ellipsoid_of frame)) (all_positive (fr
 
 -- ---- reference systems of one part
 
-pub geodetic : {content text a b c d e rest : List ℕ} (kind : GeodeticKind) (system : SystemKind) (dimension : ℕ) (component : Component) → component.seen.name.now ≡ content → ReadsText content text a → ReadsOne frame_passes geodetic_frame_tree a b → ReadsMaybe prime_meridian_passes prime_meridian_tree b c → ReadsSystem system dimension c d → may_be_of kind system dimension ≡ true → ReadsAxes system dimension d e → ReadsEnd component.seen.identifier e rest → component.may_be_first ≡ is_ellipsoidal_plane system dimension → component.may_be_second ≡ false → ReadsSingle component ((geodetic_name kind ++ 91 ∷ []) ++ text) rest
+pub geodetic : {content text a b c d e rest : List ℕ} (kind : GeodeticKind) (system : SystemKind) (dimension : ℕ) (component : Component) → component.seen.name.now ≡ content → ReadsText content text a → ReadsOne frame_passes geodetic_frame_tree a b → ReadsMaybe prime_meridian_passes prime_meridian_tree b c → ReadsSystem system dimension c d → may_be_of kind system dimension ≡ true → ReadsAxes system dimension d e → ReadsEnd component.seen.identifier e rest → component.may_be_first ≡ is_ellipsoidal_plane system dimension → component.may_be_second ≡ false → ReadsSingle component (beginning (geodetic_keyword kind) ++ text) rest
 geodetic kind system dimension component same name datum meridian s may axes end is_plane second =
     let v : Geodetic = record { kind = kind; name = name.value; datum = datum.value; prime_meridian = meridian.value; system = s.value; axes = axes.value; unit = axes.common; usages = end.usages; ids = end.ids; remark = end.remark } in
     let f = frame_holds datum.value datum.passes in
@@ -93,10 +95,10 @@ geodetic kind system dimension component same name datum meridian s may axes end
       first = rw s.kind_is (rw s.dimension_is (sym is_plane));
       second = sym second;
       seen = record { name = name.content_is ∙ sym same; identifier = end.first_is };
-      is = root (geodetic_name kind) (text_tree name.value) _ name.is (also _ _ datum.is (also _ _ meridian.is (also _ _ s.is (also _ _ axes.is (also _ _ axes.common_is (ends end))))));
+      is = root (geodetic_keyword kind) (text_tree name.value) _ name.is (also _ _ datum.is (also _ _ meridian.is (also _ _ s.is (also _ _ axes.is (also _ _ axes.common_is (ends end))))));
     }
 
-pub base : {text a b c d e rest : List ℕ} (kind : GeodeticKind) → ReadsFirst any text_tree text a → ReadsOne frame_passes geodetic_frame_tree a b → ReadsMaybe prime_meridian_passes prime_meridian_tree b c → ReadsMaybe angle_unit_passes angle_unit_tree c d → ReadsEach any ident_tree d e → e ≡ 93 ∷ rest → ReadsInside base_passes base_tree (44 ∷ (base_name kind ++ 91 ∷ [])) text rest
+pub base : {text a b c d e rest : List ℕ} (kind : GeodeticKind) → ReadsFirst any text_tree text a → ReadsOne frame_passes geodetic_frame_tree a b → ReadsMaybe prime_meridian_passes prime_meridian_tree b c → ReadsMaybe angle_unit_passes angle_unit_tree c d → ReadsEach any ident_tree d e → e ≡ 93 ∷ rest → ReadsInside base_passes base_tree (base_keyword kind) text rest
 base kind name datum meridian unit ids close =
     let f = frame_holds datum.value datum.passes in
     let fs = frame_units datum.value in
@@ -105,13 +107,13 @@ base kind name datum meridian unit ids close =
     record {
       value = record { kind = kind; name = name.value; datum = datum.value; prime_meridian = meridian.value; unit = unit.value; ids = ids.values };
       passes = and_true _ _ f.0 (both_pass (fs ++ ms) us (both_pass fs ms f.1 (prime_meridian_pass meridian.value meridian.passes)) (angle_units_pass unit.value unit.passes));
-      is = whole (base_name kind) _ _ name.is (also _ _ datum.is (also _ _ meridian.is (also _ _ unit.is (also _ _ ids.is (closed close)))));
+      is = whole (base_keyword kind) _ _ name.is (also _ _ datum.is (also _ _ meridian.is (also _ _ unit.is (also _ _ ids.is (closed close)))));
     }
 
-pub base_came : {text inside rest : List ℕ} (kind : GeodeticKind) → text ≡ (44 ∷ (base_name kind ++ 91 ∷ [])) ++ inside → ReadsInside base_passes base_tree (44 ∷ (base_name kind ++ 91 ∷ [])) inside rest → ReadsOne base_passes base_tree text rest
+pub base_came : {text inside rest : List ℕ} (kind : GeodeticKind) → text ≡ opening (base_keyword kind) ++ inside → ReadsInside base_passes base_tree (base_keyword kind) inside rest → ReadsOne base_passes base_tree text rest
 base_came kind e r = record { value = r.value; passes = r.passes; is = e ∙ r.is }
 
-pub projected : {content text a b c d e rest : List ℕ} (system : SystemKind) (dimension : ℕ) (component : Component) → component.seen.name.now ≡ content → ReadsText content text a → ReadsOne base_passes base_tree a b → ReadsOne conversion_passes conversion_tree b c → ReadsSystem system dimension c d → may_be_projected system dimension ≡ true → ReadsAxes system dimension d e → ReadsEnd component.seen.identifier e rest → component.may_be_first ≡ is_cartesian_plane system dimension → component.may_be_second ≡ false → ReadsSingle component (codes "PROJCRS[" ++ text) rest
+pub projected : {content text a b c d e rest : List ℕ} (system : SystemKind) (dimension : ℕ) (component : Component) → component.seen.name.now ≡ content → ReadsText content text a → ReadsOne base_passes base_tree a b → ReadsOne conversion_passes conversion_tree b c → ReadsSystem system dimension c d → may_be_projected system dimension ≡ true → ReadsAxes system dimension d e → ReadsEnd component.seen.identifier e rest → component.may_be_first ≡ is_cartesian_plane system dimension → component.may_be_second ≡ false → ReadsSingle component (beginning keywords.ProjectedCrs ++ text) rest
 projected system dimension component same name base conversion s may axes end is_plane second =
     let v : Projected = record { name = name.value; base = base.value; conversion = conversion.value; system = s.value; axes = axes.value; unit = axes.common; usages = end.usages; ids = end.ids; remark = end.remark } in
     let b = and_both (has_size (ellipsoid_of base.value.datum)) (all_positive (base_units base.value)) base.passes in
@@ -128,10 +130,10 @@ projected system dimension component same name base conversion s may axes end is
       first = rw s.kind_is (rw s.dimension_is (sym is_plane));
       second = sym second;
       seen = record { name = name.content_is ∙ sym same; identifier = end.first_is };
-      is = root (codes "PROJCRS") (text_tree name.value) _ name.is (also _ _ base.is (also _ _ conversion.is (also _ _ s.is (also _ _ axes.is (also _ _ axes.common_is (ends end))))));
+      is = root keywords.ProjectedCrs (text_tree name.value) _ name.is (also _ _ base.is (also _ _ conversion.is (also _ _ s.is (also _ _ axes.is (also _ _ axes.common_is (ends end))))));
     }
 
-pub vertical : {content text a b c d e rest : List ℕ} (system : SystemKind) (dimension : ℕ) (component : Component) → component.seen.name.now ≡ content → ReadsText content text a → ReadsOne any vertical_frame_tree a b → ReadsSystem system dimension b c → may_be_vertical system dimension ≡ true → ReadsAxes system dimension c d → ReadsEach any (named_tree (codes "GEOIDMODEL")) d e → ReadsEnd component.seen.identifier e rest → component.may_be_first ≡ false → component.may_be_second ≡ true → ReadsSingle component (codes "VERTCRS[" ++ text) rest
+pub vertical : {content text a b c d e rest : List ℕ} (system : SystemKind) (dimension : ℕ) (component : Component) → component.seen.name.now ≡ content → ReadsText content text a → ReadsOne any vertical_frame_tree a b → ReadsSystem system dimension b c → may_be_vertical system dimension ≡ true → ReadsAxes system dimension c d → ReadsEach any (named_tree keywords.GeoidModel) d e → ReadsEnd component.seen.identifier e rest → component.may_be_first ≡ false → component.may_be_second ≡ true → ReadsSingle component (beginning keywords.VerticalCrs ++ text) rest
 vertical system dimension component same name datum s may axes models end first second =
     let v : verticals.Vertical = record { name = name.value; datum = datum.value; system = s.value; axes = axes.value; unit = axes.common; geoid_models = models.values; usages = end.usages; ids = end.ids; remark = end.remark } in
     let xs = flat_map axis_units (listed axes.value) in
@@ -144,7 +146,7 @@ vertical system dimension component same name datum s may axes models end first 
       first = sym first;
       second = sym second;
       seen = record { name = name.content_is ∙ sym same; identifier = end.first_is };
-      is = root (codes "VERTCRS") (text_tree name.value) _ name.is (also _ _ datum.is (also _ _ s.is (also _ _ axes.is (also _ _ axes.common_is (also _ _ models.is (ends end))))));
+      is = root keywords.VerticalCrs (text_tree name.value) _ name.is (also _ _ datum.is (also _ _ s.is (also _ _ axes.is (also _ _ axes.common_is (also _ _ models.is (ends end))))));
     }
 
 pub at_front : {component : Component} {text rest : List ℕ} (front inside : List ℕ) → text ≡ front ++ inside → ReadsSingle component (front ++ inside) rest → ReadsSingle component text rest
@@ -169,20 +171,20 @@ compound_conditions v a b f s u Whole C6 = rw f s
 compound_conditions v a b f s u Whole C7 = u
 compound_conditions v a b f s u Whole C8 = refl
 
-pub compound : {content text a b c d e rest : List ℕ} {first second : Component} (seen : Seen) → seen.name.now ≡ content → ReadsText content text a → a ≡ 44 ∷ b → ReadsSingle first b c → c ≡ 44 ∷ d → ReadsSingle second d e → first.may_be_first ≡ true → second.may_be_second ≡ true → ReadsEnd seen.identifier e rest → ReadsWhole seen (codes "COMPOUNDCRS[" ++ text) rest
+pub compound : {content text a b c d e rest : List ℕ} {first second : Component} (seen : Seen) → seen.name.now ≡ content → ReadsText content text a → a ≡ 44 ∷ b → ReadsSingle first b c → c ≡ 44 ∷ d → ReadsSingle second d e → first.may_be_first ≡ true → second.may_be_second ≡ true → ReadsEnd seen.identifier e rest → ReadsWhole seen (beginning keywords.CompoundCrs ++ text) rest
 compound seen same name comma first comma' second f s end =
     let v : Compound = record { name = name.value; first = first.value; second = second.value; usages = end.usages; ids = end.ids; remark = end.remark } in
     record {
       value = parts.Compound v;
       conditions = compound_conditions v first.holds second.holds (first.first ∙ f) (second.second ∙ s) end.units_pass;
       seen_of = record { name = name.content_is ∙ sym same; identifier = end.first_is };
-      is = root (codes "COMPOUNDCRS") (text_tree name.value) _ name.is (also _ _ (behind_comma_is (single_tree first.value) _ comma first.is) (also _ _ (behind_comma_is (single_tree second.value) _ comma' second.is) (ends end)));
+      is = root keywords.CompoundCrs (text_tree name.value) _ name.is (also _ _ (behind_comma_is (single_tree first.value) _ comma first.is) (also _ _ (behind_comma_is (single_tree second.value) _ comma' second.is) (ends end)));
     }
 
 pub whole_of_single : {component : Component} {text rest : List ℕ} → ReadsSingle component text rest → ReadsWhole component.seen text rest
 whole_of_single r = record { value = parts.Single r.value; conditions = single_conditions r.value r.holds; seen_of = r.seen; is = r.is }
 
-pub whole_of_compound : {seen : Seen} {text inside rest : List ℕ} → text ≡ codes "COMPOUNDCRS[" ++ inside → ReadsWhole seen (codes "COMPOUNDCRS[" ++ inside) rest → ReadsWhole seen text rest
+pub whole_of_compound : {seen : Seen} {text inside rest : List ℕ} → text ≡ beginning keywords.CompoundCrs ++ inside → ReadsWhole seen (beginning keywords.CompoundCrs ++ inside) rest → ReadsWhole seen text rest
 whole_of_compound {seen} {rest = rest} e r = subst (λ t. ReadsWhole seen t rest) (sym e) r
 
 pub all_of_it : {seen : Seen} {text rest : List ℕ} → ReadsWhole seen text rest → rest ≡ [] → IsCanonicalOf seen text

@@ -1,5 +1,5 @@
 -- What stands at the front of a text: the canonical text of a value that passes a test, and the rest after it.
-use Rattle.std.specs.Prelude.{◌≡◌, ℕ, ◌+◌, ◌<◌, Bool, true, false, not, ◌||◌, None, is_some, is_none, codes, List, [], ◌∷◌, ◌++◌, map, Option}
+use Rattle.std.specs.Prelude.{◌≡◌, ℕ, ◌+◌, ◌<◌, Bool, true, false, not, ◌||◌, None, is_some, is_none, List, [], ◌∷◌, ◌++◌, map, Option}
 use Rattle.std.specs.Int.{is_positive, is_negative}
 use Rattle.std.specs.List.{list_all, flat_map}
 use Rattle.std.specs.Option.{option_map_or}
@@ -22,6 +22,9 @@ use Rattle.crs_value.specs.Keys.{text_of}
 use Rattle.crs_value.specs.Conditions.{is_order, is_north_or_south, unit_kind, unit_fits, may_be_first, may_be_second}
 use Rattle.crs_value.specs.Checking.{HasConditions}
 use Rattle.crs_value.specs.Units.{usage_units}
+use Rattle.wkt_grammar.specs.declared.table.Keyword.{Keyword}
+use Rattle.wkt_grammar.specs.declared.table.Keyword.TheVariants as keywords
+use Rattle.wkt_grammar.specs.Words.{spelling}
 use Rattle.wkt_meaning.specs.Canon.{canon}
 use Rattle.crs_part.specs.declared.units.Unit.{Unit}
 use Rattle.crs_value.specs.declared.kinds.UnitKind.{UnitKind}
@@ -38,6 +41,14 @@ use Rattle.wkt_meaning.specs.Trees.{one, maybe, joined, unit_tree, system_tree, 
 -- the text of arguments after the first
 unfoldable pub behind : List Bare → List ℕ
 behind xs = render_behind (bares xs)
+
+-- the keyword of a node and its opening delimiter
+abbrev pub beginning : Keyword → List ℕ
+beginning k = spelling k ++ 91 ∷ []
+
+-- the same after the comma before an argument
+abbrev pub opening : Keyword → List ℕ
+opening k = 44 ∷ beginning k
 
 -- the first argument of a node
 pub record ReadsFirst {A : Type 0} (test : A → Bool) (tree : A → Bare) (text rest : List ℕ) : Type 0 where
@@ -80,10 +91,10 @@ abbrev pub any : {A : Type 0} → A → Bool
 any value = true
 
 -- a node, of which the opening was read before
-pub record ReadsInside {A : Type 0} (test : A → Bool) (tree : A → Bare) (opening text rest : List ℕ) : Type 0 where
+pub record ReadsInside {A : Type 0} (test : A → Bool) (tree : A → Bare) (keyword : Keyword) (text rest : List ℕ) : Type 0 where
   pub value : A
   pub passes : test value ≡ true
-  pub is : opening ++ text ≡ behind (one (tree value)) ++ rest
+  pub is : opening keyword ++ text ≡ behind (one (tree value)) ++ rest
 
 -- a number above zero, and one not below zero
 abbrev pub is_above_zero : Decimal → Bool
@@ -93,10 +104,10 @@ abbrev pub is_not_below_zero : Decimal → Bool
 is_not_below_zero d = not (is_negative d.coefficient)
 
 -- a node of any keyword, of which the opening was read before
-pub record ReadsWithin {A : Type 0} (test : A → Bool) (tree : List ℕ → A → Bare) (text rest : List ℕ) : Type 0 where
+pub record ReadsWithin {A : Type 0} (test : A → Bool) (tree : Keyword → A → Bare) (text rest : List ℕ) : Type 0 where
   pub value : A
   pub passes : test value ≡ true
-  pub is : (k : List ℕ) → (44 ∷ (k ++ 91 ∷ [])) ++ text ≡ behind (one (tree k value)) ++ rest
+  pub is : (k : Keyword) → opening k ++ text ≡ behind (one (tree k value)) ++ rest
 
 -- one at least
 pub record ReadsSome {A : Type 0} (test : A → Bool) (tree : A → Bare) (text rest : List ℕ) : Type 0 where
@@ -173,7 +184,7 @@ pub record ReadsAxes (system : SystemKind) (dimension : ℕ) (text rest : List �
 pub record ReadsIdentifier (seen : Identifier) (text rest : List ℕ) : Type 0 where
   pub value : Ident
   pub identifies : Identifies seen value
-  pub is : codes ",ID[" ++ text ≡ behind (one (ident_tree value)) ++ rest
+  pub is : opening keywords.Identifier ++ text ≡ behind (one (ident_tree value)) ++ rest
 
 -- any number of identifiers, and which is the first
 pub record ReadsIdentifiers (first : Option Identifier) (text rest : List ℕ) : Type 0 where
@@ -199,7 +210,7 @@ pub record ReadsEnd (first : Option Identifier) (text rest : List ℕ) : Type 0 
   pub ids : List Ident
   pub first_is : IsFirst ids first
   pub remark : Option Text
-  pub is : text ≡ behind (joined (map usage_tree usages ∷ map ident_tree ids ∷ maybe (value_tree (codes "REMARK")) remark ∷ [])) ++ 93 ∷ rest
+  pub is : text ≡ behind (joined (map usage_tree usages ∷ map ident_tree ids ∷ maybe (value_tree keywords.Remark) remark ∷ [])) ++ 93 ∷ rest
 
 -- the parts of a reference system, of which all conditions hold
 pub record ReadsWhole (seen : Seen) (text rest : List ℕ) : Type 0 where

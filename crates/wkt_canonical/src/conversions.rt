@@ -1,6 +1,7 @@
 //! Conversions.
 
-ghost use Rattle.std.specs.Prelude.{codes, IfSome};
+ghost use Rattle.std.specs.Prelude.{IfSome};
+ghost use Rattle.wkt_grammar.specs.declared.table.Keyword.TheVariants as keywords;
 ghost use Rattle.wkt_meaning.specs.Trees.{parameter_tree, conversion_tree};
 ghost use Rattle.wkt_canonical.specs.Tests.{parameter_passes, conversion_passes};
 
@@ -11,16 +12,17 @@ use crate::node::{Node, each};
 use crate::numerals::number_behind_comma;
 use crate::units::maybe_unit;
 use crs_part::{Conversion, Ident, Parameter};
+use wkt_grammar::Keyword;
 
 impl Node for Parameter {
     ghost tree = { parameter_tree };
 
     ghost test = { parameter_passes };
 
-    ghost opening = { codes ",PARAMETER[" };
+    ghost keyword = { keywords.Parameter };
 
-    fn opening() -> &'static [u8] {
-        b",PARAMETER["
+    fn keyword() -> Keyword {
+        Keyword::Parameter
     }
 
     fn inside(bytes: &[u8]) -> Option<&[u8]> {
@@ -38,10 +40,10 @@ impl Node for Conversion {
 
     ghost test = { conversion_passes };
 
-    ghost opening = { codes ",CONVERSION[" };
+    ghost keyword = { keywords.Conversion };
 
-    fn opening() -> &'static [u8] {
-        b",CONVERSION["
+    fn keyword() -> Keyword {
+        Keyword::Conversion
     }
 
     fn inside(bytes: &[u8]) -> Option<&[u8]> {

@@ -1,22 +1,25 @@
 //! Coordinate reference systems.
 
-ghost use Rattle.std.specs.Prelude.{◌∷◌, [], ◌++◌, codes, IfSome};
-ghost use Rattle.wkt_meaning.specs.Trees.{base_tree, base_name, geodetic_name};
-ghost use Rattle.wkt_canonical.specs.Reads.{ReadsOne, ReadsInside, ReadsSingle, ReadsEnd, ReadsWhole};
+ghost use Rattle.std.specs.Prelude.{◌++◌, IfSome};
+ghost use Rattle.wkt_grammar.specs.declared.table.Keyword.TheVariants as keywords;
+ghost use Rattle.wkt_meaning.specs.Denotes.{base_keyword, geodetic_keyword};
+ghost use Rattle.wkt_meaning.specs.Trees.{base_tree};
+ghost use Rattle.wkt_canonical.specs.Reads.{ReadsOne, ReadsInside, ReadsSingle, ReadsEnd, ReadsWhole, beginning};
 ghost use Rattle.wkt_canonical.specs.Tests.{base_passes};
 
 use crate::datums::{geodetic_frame, vertical_frame};
-use crate::front::behind;
+use crate::front::{begins, behind, opens};
 use crate::identifiers::{Identifier, geoid_models, identifiers};
 use crate::leaves::{content, text};
 use crate::node::{each, maybe, one};
 use crate::systems::{axes, system};
 use crate::units::maybe_angle_unit;
-use crate::values::remark;
+use crate::values::maybe_value;
 use crs_part::{Conversion, GeodeticKind, Ident, PrimeMeridian, Usage};
 use crs_value::{
     is_cartesian_plane, is_ellipsoidal_plane, may_be_of, may_be_projected, may_be_vertical,
 };
+use wkt_grammar::Keyword;
 
 /// The name of a reference system, as it stands between its marks, and its first identifier.
 #[derive(Clone, Copy)]
@@ -37,7 +40,7 @@ struct Component<'a> {
 pub(crate) fn whole(bytes: &[u8]) -> Option<(Seen<'_>, &[u8])>
     ensures { IfSome result (λ found. ReadsWhole found.0 bytes.now found.1.now) }
 {
-    if let Some(inside) = behind(bytes, b"COMPOUNDCRS[") {
+    if let Some(inside) = begins(bytes, Keyword::CompoundCrs) {
         let (seen, rest) = compound(inside)?;
         return Some((seen, rest));
     }
@@ -47,7 +50,7 @@ pub(crate) fn whole(bytes: &[u8]) -> Option<(Seen<'_>, &[u8])>
 
 /// What is seen of a compound reference system, and the rest after it, read from after its opening delimiter.
 fn compound(bytes: &[u8]) -> Option<(Seen<'_>, &[u8])>
-    ensures { IfSome result (λ found. ReadsWhole found.0 (codes "COMPOUNDCRS[" ++ bytes.now) found.1.now) }
+    ensures { IfSome result (λ found. ReadsWhole found.0 (beginning keywords.CompoundCrs ++ bytes.now) found.1.now) }
 {
     let (name, rest) = content(bytes)?;
     let rest = behind(rest, b",")?;
@@ -68,19 +71,19 @@ fn compound(bytes: &[u8]) -> Option<(Seen<'_>, &[u8])>
 fn single(bytes: &[u8]) -> Option<(Component<'_>, &[u8])>
     ensures { IfSome result (λ found. ReadsSingle found.0 bytes.now found.1.now) }
 {
-    if let Some(inside) = behind(bytes, b"PROJCRS[") {
+    if let Some(inside) = begins(bytes, Keyword::ProjectedCrs) {
         let (component, rest) = projected(inside)?;
         return Some((component, rest));
     }
-    if let Some(inside) = behind(bytes, b"VERTCRS[") {
+    if let Some(inside) = begins(bytes, Keyword::VerticalCrs) {
         let (component, rest) = vertical(inside)?;
         return Some((component, rest));
     }
-    if let Some(inside) = behind(bytes, b"GEOGCRS[") {
+    if let Some(inside) = begins(bytes, Keyword::GeographicCrs) {
         let (component, rest) = geodetic(GeodeticKind::Geographic, inside)?;
         return Some((component, rest));
     }
-    let inside = behind(bytes, b"GEODCRS[")?;
+    let inside = begins(bytes, Keyword::GeodeticCrs)?;
     let (component, rest) = geodetic(GeodeticKind::Geodetic, inside)?;
     Some((component, rest))
 }
@@ -91,14 +94,14 @@ fn end(bytes: &[u8]) -> Option<(Option<Identifier<'_>>, &[u8])>
 {
     let rest = each::<Usage>(bytes)?;
     let (identifier, rest) = identifiers(rest)?;
-    let rest = remark(rest)?;
+    let rest = maybe_value(Keyword::Remark, rest)?;
     let rest = behind(rest, b"]")?;
     Some((identifier, rest))
 }
 
 /// What is seen of a geodetic reference system, and the rest after it, read from after its opening delimiter.
 fn geodetic(kind: GeodeticKind, bytes: &[u8]) -> Option<(Component<'_>, &[u8])>
-    ensures { IfSome result (λ found. ReadsSingle found.0 ((geodetic_name kind ++ 91 ∷ []) ++ bytes.now) found.1.now) }
+    ensures { IfSome result (λ found. ReadsSingle found.0 (beginning (geodetic_keyword kind) ++ bytes.now) found.1.now) }
 {
     let (name, rest) = content(bytes)?;
     let rest = geodetic_frame(rest)?;
@@ -119,7 +122,7 @@ fn geodetic(kind: GeodeticKind, bytes: &[u8]) -> Option<(Component<'_>, &[u8])>
 
 /// The rest after the base of a projected reference system, read from after its opening delimiter.
 fn base_of(kind: GeodeticKind, bytes: &[u8]) -> Option<&[u8]>
-    ensures { IfSome result (λ rest. ReadsInside base_passes base_tree (44 ∷ (base_name kind ++ 91 ∷ [])) bytes.now rest.now) }
+    ensures { IfSome result (λ rest. ReadsInside base_passes base_tree (base_keyword kind) bytes.now rest.now) }
 {
     let rest = text(bytes)?;
     let rest = geodetic_frame(rest)?;
@@ -134,18 +137,18 @@ fn base_of(kind: GeodeticKind, bytes: &[u8]) -> Option<&[u8]>
 fn base(bytes: &[u8]) -> Option<&[u8]>
     ensures { IfSome result (λ rest. ReadsOne base_passes base_tree bytes.now rest.now) }
 {
-    if let Some(inside) = behind(bytes, b",BASEGEOGCRS[") {
+    if let Some(inside) = opens(bytes, Keyword::BaseGeographicCrs) {
         let rest = base_of(GeodeticKind::Geographic, inside)?;
         return Some(rest);
     }
-    let inside = behind(bytes, b",BASEGEODCRS[")?;
+    let inside = opens(bytes, Keyword::BaseGeodeticCrs)?;
     let rest = base_of(GeodeticKind::Geodetic, inside)?;
     Some(rest)
 }
 
 /// What is seen of a projected reference system, and the rest after it, read from after its opening delimiter.
 fn projected(bytes: &[u8]) -> Option<(Component<'_>, &[u8])>
-    ensures { IfSome result (λ found. ReadsSingle found.0 (codes "PROJCRS[" ++ bytes.now) found.1.now) }
+    ensures { IfSome result (λ found. ReadsSingle found.0 (beginning keywords.ProjectedCrs ++ bytes.now) found.1.now) }
 {
     let (name, rest) = content(bytes)?;
     let rest = base(rest)?;
@@ -166,7 +169,7 @@ fn projected(bytes: &[u8]) -> Option<(Component<'_>, &[u8])>
 
 /// What is seen of a vertical reference system, and the rest after it, read from after its opening delimiter.
 fn vertical(bytes: &[u8]) -> Option<(Component<'_>, &[u8])>
-    ensures { IfSome result (λ found. ReadsSingle found.0 (codes "VERTCRS[" ++ bytes.now) found.1.now) }
+    ensures { IfSome result (λ found. ReadsSingle found.0 (beginning keywords.VerticalCrs ++ bytes.now) found.1.now) }
 {
     let (name, rest) = content(bytes)?;
     let rest = vertical_frame(rest)?;

@@ -1,29 +1,31 @@
 //! Datums, and ensembles of them.
 
-ghost use Rattle.std.specs.Prelude.{codes, IfSome};
+ghost use Rattle.std.specs.Prelude.{IfSome};
+ghost use Rattle.wkt_grammar.specs.declared.table.Keyword.TheVariants as keywords;
 ghost use Rattle.wkt_meaning.specs.Trees.{ellipsoid_tree, prime_meridian_tree, accuracy_tree, datum_tree, geodetic_ensemble_tree, vertical_datum_tree, vertical_ensemble_tree, geodetic_frame_tree, vertical_frame_tree};
 ghost use Rattle.wkt_canonical.specs.Reads.{ReadsOne, ReadsInside, any};
 ghost use Rattle.wkt_canonical.specs.Tests.{ellipsoid_passes, datum_passes, ensemble_passes, frame_passes, prime_meridian_passes};
 
-use crate::front::behind;
+use crate::front::{behind, opens};
 use crate::leaves::text;
 use crate::node::{Node, each, one, some};
 use crate::numerals::{
     number, number_behind_comma, positive_number_behind_comma, unsigned_number_behind_comma,
 };
 use crate::units::{maybe_angle_unit, maybe_length_unit};
-use crate::values::anchor;
+use crate::values::maybe_value;
 use crs_part::{Ellipsoid, Ident, Named, PrimeMeridian};
+use wkt_grammar::Keyword;
 
 impl Node for Ellipsoid {
     ghost tree = { ellipsoid_tree };
 
     ghost test = { ellipsoid_passes };
 
-    ghost opening = { codes ",ELLIPSOID[" };
+    ghost keyword = { keywords.Ellipsoid };
 
-    fn opening() -> &'static [u8] {
-        b",ELLIPSOID["
+    fn keyword() -> Keyword {
+        Keyword::Ellipsoid
     }
 
     fn inside(bytes: &[u8]) -> Option<&[u8]> {
@@ -42,10 +44,10 @@ impl Node for PrimeMeridian {
 
     ghost test = { prime_meridian_passes };
 
-    ghost opening = { codes ",PRIMEM[" };
+    ghost keyword = { keywords.PrimeMeridian };
 
-    fn opening() -> &'static [u8] {
-        b",PRIMEM["
+    fn keyword() -> Keyword {
+        Keyword::PrimeMeridian
     }
 
     fn inside(bytes: &[u8]) -> Option<&[u8]> {
@@ -62,7 +64,7 @@ impl Node for PrimeMeridian {
 fn accuracy(bytes: &[u8]) -> Option<&[u8]>
     ensures { IfSome result (λ rest. ReadsOne any accuracy_tree bytes.now rest.now) }
 {
-    let inside = behind(bytes, b",ENSEMBLEACCURACY[")?;
+    let inside = opens(bytes, Keyword::EnsembleAccuracy)?;
     let rest = number(inside)?;
     let rest = behind(rest, b"]")?;
     Some(rest)
@@ -70,11 +72,11 @@ fn accuracy(bytes: &[u8]) -> Option<&[u8]>
 
 /// The rest after a geodetic datum, read from after its opening delimiter.
 fn datum(bytes: &[u8]) -> Option<&[u8]>
-    ensures { IfSome result (λ rest. ReadsInside datum_passes datum_tree (codes ",DATUM[") bytes.now rest.now) }
+    ensures { IfSome result (λ rest. ReadsInside datum_passes datum_tree keywords.Datum bytes.now rest.now) }
 {
     let rest = text(bytes)?;
     let rest = one::<Ellipsoid>(rest)?;
-    let rest = anchor(rest)?;
+    let rest = maybe_value(Keyword::Anchor, rest)?;
     let rest = each::<Ident>(rest)?;
     let rest = behind(rest, b"]")?;
     Some(rest)
@@ -82,7 +84,7 @@ fn datum(bytes: &[u8]) -> Option<&[u8]>
 
 /// The rest after an ensemble of geodetic datums, read from after its opening delimiter.
 fn geodetic_ensemble(bytes: &[u8]) -> Option<&[u8]>
-    ensures { IfSome result (λ rest. ReadsInside ensemble_passes geodetic_ensemble_tree (codes ",ENSEMBLE[") bytes.now rest.now) }
+    ensures { IfSome result (λ rest. ReadsInside ensemble_passes geodetic_ensemble_tree keywords.Ensemble bytes.now rest.now) }
 {
     let rest = text(bytes)?;
     let rest = some::<Named>(rest)?;
@@ -97,21 +99,21 @@ fn geodetic_ensemble(bytes: &[u8]) -> Option<&[u8]>
 pub(crate) fn geodetic_frame(bytes: &[u8]) -> Option<&[u8]>
     ensures { IfSome result (λ rest. ReadsOne frame_passes geodetic_frame_tree bytes.now rest.now) }
 {
-    if let Some(inside) = behind(bytes, b",ENSEMBLE[") {
+    if let Some(inside) = opens(bytes, Keyword::Ensemble) {
         let rest = geodetic_ensemble(inside)?;
         return Some(rest);
     }
-    let inside = behind(bytes, b",DATUM[")?;
+    let inside = opens(bytes, Keyword::Datum)?;
     let rest = datum(inside)?;
     Some(rest)
 }
 
 /// The rest after a vertical datum, read from after its opening delimiter.
 fn vertical_datum(bytes: &[u8]) -> Option<&[u8]>
-    ensures { IfSome result (λ rest. ReadsInside any vertical_datum_tree (codes ",VDATUM[") bytes.now rest.now) }
+    ensures { IfSome result (λ rest. ReadsInside any vertical_datum_tree keywords.VerticalDatum bytes.now rest.now) }
 {
     let rest = text(bytes)?;
-    let rest = anchor(rest)?;
+    let rest = maybe_value(Keyword::Anchor, rest)?;
     let rest = each::<Ident>(rest)?;
     let rest = behind(rest, b"]")?;
     Some(rest)
@@ -119,7 +121,7 @@ fn vertical_datum(bytes: &[u8]) -> Option<&[u8]>
 
 /// The rest after an ensemble of vertical datums, read from after its opening delimiter.
 fn vertical_ensemble(bytes: &[u8]) -> Option<&[u8]>
-    ensures { IfSome result (λ rest. ReadsInside any vertical_ensemble_tree (codes ",ENSEMBLE[") bytes.now rest.now) }
+    ensures { IfSome result (λ rest. ReadsInside any vertical_ensemble_tree keywords.Ensemble bytes.now rest.now) }
 {
     let rest = text(bytes)?;
     let rest = some::<Named>(rest)?;
@@ -133,11 +135,11 @@ fn vertical_ensemble(bytes: &[u8]) -> Option<&[u8]>
 pub(crate) fn vertical_frame(bytes: &[u8]) -> Option<&[u8]>
     ensures { IfSome result (λ rest. ReadsOne any vertical_frame_tree bytes.now rest.now) }
 {
-    if let Some(inside) = behind(bytes, b",ENSEMBLE[") {
+    if let Some(inside) = opens(bytes, Keyword::Ensemble) {
         let rest = vertical_ensemble(inside)?;
         return Some(rest);
     }
-    let inside = behind(bytes, b",VDATUM[")?;
+    let inside = opens(bytes, Keyword::VerticalDatum)?;
     let rest = vertical_datum(inside)?;
     Some(rest)
 }

@@ -1,14 +1,16 @@
 //! Identifiers, and what has a name and identifiers alone.
 
-ghost use Rattle.std.specs.Prelude.{codes, IfSome};
+ghost use Rattle.std.specs.Prelude.{IfSome};
+ghost use Rattle.wkt_grammar.specs.declared.table.Keyword.TheVariants as keywords;
 ghost use Rattle.wkt_meaning.specs.Trees.{ident_tree, named_tree, code_tree};
 ghost use Rattle.wkt_canonical.specs.Reads.{ReadsEach, ReadsMaybe, ReadsOne, ReadsWithin, ReadsIdentifier, ReadsIdentifiers, any};
 
-use crate::front::behind;
+use crate::front::{behind, opens};
 use crate::leaves::{code, code_behind_comma, content, text};
 use crate::node::{Node, each};
-use crate::values::{citation, uri};
+use crate::values::maybe_value;
 use crs_part::{Ident, Named};
+use wkt_grammar::Keyword;
 
 /// The authority and the code of an identifier, as they stand between their marks. A number counts as it is written.
 #[derive(Clone, Copy)]
@@ -24,8 +26,8 @@ fn one_identifier(bytes: &[u8]) -> Option<(Identifier<'_>, &[u8])>
     let (authority, rest) = content(bytes)?;
     let (code, rest) = code(rest)?;
     let rest = version(rest);
-    let rest = citation(rest)?;
-    let rest = uri(rest)?;
+    let rest = maybe_value(Keyword::Citation, rest)?;
+    let rest = maybe_value(Keyword::Uri, rest)?;
     let rest = behind(rest, b"]")?;
     Some((Identifier { authority, code }, rest))
 }
@@ -34,7 +36,7 @@ fn one_identifier(bytes: &[u8]) -> Option<(Identifier<'_>, &[u8])>
 pub(crate) fn identifiers(bytes: &[u8]) -> Option<(Option<Identifier<'_>>, &[u8])>
     ensures { IfSome result (λ found. ReadsIdentifiers found.0 bytes.now found.1.now) }
 {
-    let Some(inside) = behind(bytes, b",ID[") else {
+    let Some(inside) = opens(bytes, Keyword::Identifier) else {
         return Some((None, bytes));
     };
     let (first, rest) = one_identifier(inside)?;
@@ -47,10 +49,10 @@ impl Node for Ident {
 
     ghost test = { any };
 
-    ghost opening = { codes ",ID[" };
+    ghost keyword = { keywords.Identifier };
 
-    fn opening() -> &'static [u8] {
-        b",ID["
+    fn keyword() -> Keyword {
+        Keyword::Identifier
     }
 
     fn inside(bytes: &[u8]) -> Option<&[u8]> {
@@ -81,14 +83,14 @@ fn named(bytes: &[u8]) -> Option<&[u8]>
 
 /// A member of an ensemble.
 impl Node for Named {
-    ghost tree = { named_tree (codes "MEMBER") };
+    ghost tree = { named_tree keywords.Member };
 
     ghost test = { any };
 
-    ghost opening = { codes ",MEMBER[" };
+    ghost keyword = { keywords.Member };
 
-    fn opening() -> &'static [u8] {
-        b",MEMBER["
+    fn keyword() -> Keyword {
+        Keyword::Member
     }
 
     fn inside(bytes: &[u8]) -> Option<&[u8]> {
@@ -99,20 +101,20 @@ impl Node for Named {
 
 /// The rest after the method of a conversion.
 pub(crate) fn method(bytes: &[u8]) -> Option<&[u8]>
-    ensures { IfSome result (λ rest. ReadsOne any (named_tree (codes "METHOD")) bytes.now rest.now) }
+    ensures { IfSome result (λ rest. ReadsOne any (named_tree keywords.Method) bytes.now rest.now) }
 {
-    let inside = behind(bytes, b",METHOD[")?;
+    let inside = opens(bytes, Keyword::Method)?;
     let rest = named(inside)?;
     Some(rest)
 }
 
 /// The rest after the geoid models that come.
 pub(crate) fn geoid_models(bytes: &[u8]) -> Option<&[u8]>
-    ensures { IfSome result (λ rest. ReadsEach any (named_tree (codes "GEOIDMODEL")) bytes.now rest.now) }
+    ensures { IfSome result (λ rest. ReadsEach any (named_tree keywords.GeoidModel) bytes.now rest.now) }
 {
     let mut rest = bytes;
     for _ in 0..bytes.len() {
-        let Some(inside) = behind(rest, b",GEOIDMODEL[") else {
+        let Some(inside) = opens(rest, Keyword::GeoidModel) else {
             return Some(rest);
         };
         rest = named(inside)?;

@@ -1,33 +1,34 @@
 //! Nodes, after their opening delimiters.
 
-ghost use Rattle.std.specs.Prelude.{◌≡◌, ◌++◌, Bool, List, ℕ, IfSome};
+ghost use Rattle.std.specs.Prelude.{◌≡◌, Bool, IfSome};
+ghost use Rattle.wkt_grammar.specs.declared.table.Keyword.{Keyword};
 ghost use Rattle.wkt_grammar.specs.Bare.{Bare};
 ghost use Rattle.wkt_canonical.specs.Reads.{ReadsOne, ReadsMaybe, ReadsEach, ReadsSome, ReadsInside};
 
-use crate::front::behind;
+use crate::front::opens;
+use wkt_grammar::Keyword;
 
-/// A value whose text is a node that is known by how it opens.
+/// A value whose text is a node that is known by its keyword.
 pub(crate) trait Node {
     ghost tree: { Self → Bare };
 
     ghost test: { Self → Bool };
 
-    ghost opening: { List ℕ };
+    ghost keyword: { Keyword };
 
-    /// The comma before it, its keyword and its opening delimiter.
-    fn opening() -> &'static [u8]
-        ensures { result.now ≡ opening };
+    fn keyword() -> Keyword
+        ensures { result ≡ keyword };
 
     /// The rest after the node, read from after its opening delimiter.
     fn inside(text: &[u8]) -> Option<&[u8]>
-        ensures { IfSome result (λ rest. ReadsInside test tree opening text.now rest.now) };
+        ensures { IfSome result (λ rest. ReadsInside test tree keyword text.now rest.now) };
 }
 
 /// The rest after the node, which has to come.
 pub(crate) fn one<T: Node>(text: &[u8]) -> Option<&[u8]>
     ensures { IfSome result (λ rest. ReadsOne T.test T.tree text.now rest.now) }
 {
-    let inside = behind(text, T::opening())?;
+    let inside = opens(text, T::keyword())?;
     let rest = T::inside(inside)?;
     Some(rest)
 }
@@ -36,7 +37,7 @@ pub(crate) fn one<T: Node>(text: &[u8]) -> Option<&[u8]>
 pub(crate) fn maybe<T: Node>(text: &[u8]) -> Option<&[u8]>
     ensures { IfSome result (λ rest. ReadsMaybe T.test T.tree text.now rest.now) }
 {
-    let Some(inside) = behind(text, T::opening()) else {
+    let Some(inside) = opens(text, T::keyword()) else {
         return Some(text);
     };
     let rest = T::inside(inside)?;
@@ -49,7 +50,7 @@ pub(crate) fn each<T: Node>(text: &[u8]) -> Option<&[u8]>
 {
     let mut rest = text;
     for _ in 0..text.len() {
-        let Some(inside) = behind(rest, T::opening()) else {
+        let Some(inside) = opens(rest, T::keyword()) else {
             return Some(rest);
         };
         rest = T::inside(inside)?;

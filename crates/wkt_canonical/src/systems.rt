@@ -1,11 +1,12 @@
 //! Coordinate systems and their axes.
 
-ghost use Rattle.std.specs.Prelude.{◌≡◌, ◌<◌, true, codes, IfSome};
+ghost use Rattle.std.specs.Prelude.{◌≡◌, ◌<◌, true, IfSome};
+ghost use Rattle.wkt_grammar.specs.declared.table.Keyword.TheVariants as keywords;
 ghost use Rattle.wkt_meaning.specs.Trees.{meridian_tree};
 ghost use Rattle.wkt_canonical.specs.Reads.{ReadsSystem, ReadsMeridian, ReadsOrder, ReadsAxisUnit, ReadsCommonUnit, ReadsAxis, ReadsAxes};
 ghost use Rattle.wkt_canonical.specs.Tests.{meridian_passes, FitsEach};
 
-use crate::front::behind;
+use crate::front::{behind, opens};
 use crate::leaves::text;
 use crate::node::{Node, each, one};
 use crate::numerals::number;
@@ -13,12 +14,13 @@ use crate::units::{angle_unit, unit};
 use crate::words::{digit, direction, kind};
 use crs_part::{Direction, Ident, Meridian, SystemKind};
 use crs_value::{UnitKind, is_north_or_south, takes_unit};
+use wkt_grammar::Keyword;
 
 /// The kind and the dimension of a coordinate system, and the rest after it.
 pub(crate) fn system(bytes: &[u8]) -> Option<(SystemKind, u32, &[u8])>
     ensures { IfSome result (λ found. ReadsSystem found.0 found.1 bytes.now found.2.now) }
 {
-    let inside = behind(bytes, b",CS[")?;
+    let inside = opens(bytes, Keyword::CoordinateSystem)?;
     let (kind, rest) = kind(inside)?;
     let rest = behind(rest, b",")?;
     let (dimension, rest) = digit(rest)?;
@@ -32,10 +34,10 @@ impl Node for Meridian {
 
     ghost test = { meridian_passes };
 
-    ghost opening = { codes ",MERIDIAN[" };
+    ghost keyword = { keywords.Meridian };
 
-    fn opening() -> &'static [u8] {
-        b",MERIDIAN["
+    fn keyword() -> Keyword {
+        Keyword::Meridian
     }
 
     fn inside(bytes: &[u8]) -> Option<&[u8]> {
@@ -64,7 +66,7 @@ fn order(k: usize, bytes: &[u8]) -> Option<(bool, &[u8])>
     requires { k < 3 }
     ensures { IfSome result (λ found. ReadsOrder k found.0 bytes.now found.1.now) }
 {
-    let Some(inside) = behind(bytes, b",ORDER[") else {
+    let Some(inside) = opens(bytes, Keyword::Order) else {
         return Some((false, bytes));
     };
     let (position, rest) = digit(inside)?;
@@ -128,7 +130,7 @@ fn axis(system: SystemKind, k: usize, bytes: &[u8]) -> Option<(bool, bool, &[u8]
     requires { k < 3 }
     ensures { IfSome result (λ found. ReadsAxis system k found.0 found.1 bytes.now found.2.now) }
 {
-    let inside = behind(bytes, b",AXIS[")?;
+    let inside = opens(bytes, Keyword::Axis)?;
     let rest = text(inside)?;
     let rest = behind(rest, b",")?;
     let (direction, rest) = direction(rest)?;

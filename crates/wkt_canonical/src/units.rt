@@ -6,12 +6,13 @@ ghost use Rattle.crs_value.specs.Conditions.{has_positive_factor};
 ghost use Rattle.wkt_canonical.specs.Reads.{ReadsOne, ReadsMaybe, ReadsWithin, ReadsUnit};
 ghost use Rattle.wkt_canonical.specs.Tests.{unit_passes, length_unit_passes, angle_unit_passes};
 
-use crate::front::behind;
+use crate::front::{behind, opens};
 use crate::leaves::text;
 use crate::node::each;
 use crate::numerals::positive_number_behind_comma;
 use crs_part::Ident;
 use crs_value::UnitKind;
+use wkt_grammar::Keyword;
 
 /// The rest after a unit, read from after its opening delimiter.
 fn definition(bytes: &[u8]) -> Option<&[u8]>
@@ -28,19 +29,19 @@ fn definition(bytes: &[u8]) -> Option<&[u8]>
 pub(crate) fn unit(bytes: &[u8]) -> Option<(UnitKind, &[u8])>
     ensures { IfSome result (λ found. ReadsUnit found.0 bytes.now found.1.now) }
 {
-    if let Some(inside) = behind(bytes, b",LENGTHUNIT[") {
+    if let Some(inside) = opens(bytes, Keyword::LengthUnit) {
         let rest = definition(inside)?;
         return Some((UnitKind::Length, rest));
     }
-    if let Some(inside) = behind(bytes, b",ANGLEUNIT[") {
+    if let Some(inside) = opens(bytes, Keyword::AngleUnit) {
         let rest = definition(inside)?;
         return Some((UnitKind::Angle, rest));
     }
-    if let Some(inside) = behind(bytes, b",SCALEUNIT[") {
+    if let Some(inside) = opens(bytes, Keyword::ScaleUnit) {
         let rest = definition(inside)?;
         return Some((UnitKind::Scale, rest));
     }
-    let inside = behind(bytes, b",UNIT[")?;
+    let inside = opens(bytes, Keyword::Unit)?;
     let rest = definition(inside)?;
     Some((UnitKind::Generic, rest))
 }
@@ -58,11 +59,11 @@ pub(crate) fn maybe_unit(bytes: &[u8]) -> &[u8]
 fn length_unit(bytes: &[u8]) -> Option<&[u8]>
     ensures { IfSome result (λ rest. ReadsOne length_unit_passes length_unit_tree bytes.now rest.now) }
 {
-    if let Some(inside) = behind(bytes, b",LENGTHUNIT[") {
+    if let Some(inside) = opens(bytes, Keyword::LengthUnit) {
         let rest = definition(inside)?;
         return Some(rest);
     }
-    let inside = behind(bytes, b",UNIT[")?;
+    let inside = opens(bytes, Keyword::Unit)?;
     let rest = definition(inside)?;
     Some(rest)
 }
@@ -81,11 +82,11 @@ pub(crate) fn maybe_length_unit(bytes: &[u8]) -> &[u8]
 pub(crate) fn angle_unit(bytes: &[u8]) -> Option<&[u8]>
     ensures { IfSome result (λ rest. ReadsOne angle_unit_passes angle_unit_tree bytes.now rest.now) }
 {
-    if let Some(inside) = behind(bytes, b",ANGLEUNIT[") {
+    if let Some(inside) = opens(bytes, Keyword::AngleUnit) {
         let rest = definition(inside)?;
         return Some(rest);
     }
-    let inside = behind(bytes, b",UNIT[")?;
+    let inside = opens(bytes, Keyword::Unit)?;
     let rest = definition(inside)?;
     Some(rest)
 }

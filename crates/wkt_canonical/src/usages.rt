@@ -1,26 +1,28 @@
 //! Usages.
 
-ghost use Rattle.std.specs.Prelude.{codes, IfSome};
+ghost use Rattle.std.specs.Prelude.{IfSome};
+ghost use Rattle.wkt_grammar.specs.declared.table.Keyword.TheVariants as keywords;
 ghost use Rattle.wkt_meaning.specs.Trees.{bounding_box_tree, vertical_extent_tree, usage_tree};
 ghost use Rattle.wkt_canonical.specs.Reads.{any};
 ghost use Rattle.wkt_canonical.specs.Tests.{extent_passes, usage_passes};
 
-use crate::front::behind;
+use crate::front::{begins, behind};
 use crate::node::{Node, maybe};
 use crate::numerals::{number, number_behind_comma};
 use crate::units::maybe_length_unit;
-use crate::values::{area, value};
+use crate::values::{maybe_value, value};
 use crs_part::{BoundingBox, Usage, VerticalExtent};
+use wkt_grammar::Keyword;
 
 impl Node for BoundingBox {
     ghost tree = { bounding_box_tree };
 
     ghost test = { any };
 
-    ghost opening = { codes ",BBOX[" };
+    ghost keyword = { keywords.BoundingBox };
 
-    fn opening() -> &'static [u8] {
-        b",BBOX["
+    fn keyword() -> Keyword {
+        Keyword::BoundingBox
     }
 
     fn inside(bytes: &[u8]) -> Option<&[u8]> {
@@ -38,10 +40,10 @@ impl Node for VerticalExtent {
 
     ghost test = { extent_passes };
 
-    ghost opening = { codes ",VERTICALEXTENT[" };
+    ghost keyword = { keywords.VerticalExtent };
 
-    fn opening() -> &'static [u8] {
-        b",VERTICALEXTENT["
+    fn keyword() -> Keyword {
+        Keyword::VerticalExtent
     }
 
     fn inside(bytes: &[u8]) -> Option<&[u8]> {
@@ -58,16 +60,16 @@ impl Node for Usage {
 
     ghost test = { usage_passes };
 
-    ghost opening = { codes ",USAGE[" };
+    ghost keyword = { keywords.Usage };
 
-    fn opening() -> &'static [u8] {
-        b",USAGE["
+    fn keyword() -> Keyword {
+        Keyword::Usage
     }
 
     fn inside(bytes: &[u8]) -> Option<&[u8]> {
-        let scope = behind(bytes, b"SCOPE[")?;
+        let scope = begins(bytes, Keyword::Scope)?;
         let rest = value(scope)?;
-        let rest = area(rest)?;
+        let rest = maybe_value(Keyword::Area, rest)?;
         let rest = maybe::<BoundingBox>(rest)?;
         let rest = maybe::<VerticalExtent>(rest)?;
         let rest = behind(rest, b"]")?;

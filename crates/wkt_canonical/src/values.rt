@@ -1,11 +1,12 @@
 //! Nodes that hold a text alone.
 
-ghost use Rattle.std.specs.Prelude.{codes, IfSome};
+ghost use Rattle.std.specs.Prelude.{IfSome};
 ghost use Rattle.wkt_meaning.specs.Trees.{value_tree};
 ghost use Rattle.wkt_canonical.specs.Reads.{ReadsMaybe, ReadsWithin, any};
 
-use crate::front::behind;
+use crate::front::{behind, opens};
 use crate::leaves::text;
+use wkt_grammar::Keyword;
 
 /// The rest after such a node, read from after its opening delimiter.
 pub(crate) fn value(bytes: &[u8]) -> Option<&[u8]>
@@ -16,55 +17,12 @@ pub(crate) fn value(bytes: &[u8]) -> Option<&[u8]>
     Some(rest)
 }
 
-/// The rest after a description of how a datum is anchored, if it comes.
-pub(crate) fn anchor(bytes: &[u8]) -> Option<&[u8]>
-    ensures { IfSome result (λ rest. ReadsMaybe any (value_tree (codes "ANCHOR")) bytes.now rest.now) }
+/// The rest after such a node of this keyword, if it comes.
+#[inline(always)]
+pub(crate) fn maybe_value(keyword: Keyword, bytes: &[u8]) -> Option<&[u8]>
+    ensures { IfSome result (λ rest. ReadsMaybe any (value_tree keyword) bytes.now rest.now) }
 {
-    let Some(inside) = behind(bytes, b",ANCHOR[") else {
-        return Some(bytes);
-    };
-    let rest = value(inside)?;
-    Some(rest)
-}
-
-/// The rest after a description of an area, if it comes.
-pub(crate) fn area(bytes: &[u8]) -> Option<&[u8]>
-    ensures { IfSome result (λ rest. ReadsMaybe any (value_tree (codes "AREA")) bytes.now rest.now) }
-{
-    let Some(inside) = behind(bytes, b",AREA[") else {
-        return Some(bytes);
-    };
-    let rest = value(inside)?;
-    Some(rest)
-}
-
-/// The rest after a citation, if it comes.
-pub(crate) fn citation(bytes: &[u8]) -> Option<&[u8]>
-    ensures { IfSome result (λ rest. ReadsMaybe any (value_tree (codes "CITATION")) bytes.now rest.now) }
-{
-    let Some(inside) = behind(bytes, b",CITATION[") else {
-        return Some(bytes);
-    };
-    let rest = value(inside)?;
-    Some(rest)
-}
-
-/// The rest after the place of an identifier, if it comes.
-pub(crate) fn uri(bytes: &[u8]) -> Option<&[u8]>
-    ensures { IfSome result (λ rest. ReadsMaybe any (value_tree (codes "URI")) bytes.now rest.now) }
-{
-    let Some(inside) = behind(bytes, b",URI[") else {
-        return Some(bytes);
-    };
-    let rest = value(inside)?;
-    Some(rest)
-}
-
-/// The rest after a remark, if it comes.
-pub(crate) fn remark(bytes: &[u8]) -> Option<&[u8]>
-    ensures { IfSome result (λ rest. ReadsMaybe any (value_tree (codes "REMARK")) bytes.now rest.now) }
-{
-    let Some(inside) = behind(bytes, b",REMARK[") else {
+    let Some(inside) = opens(bytes, keyword) else {
         return Some(bytes);
     };
     let rest = value(inside)?;

@@ -5,4 +5,4 @@ pub loop-init : goal.loop-init
 loop-init g c = runs.none_yet _ _ _
 
 pub loop-preserved : goal.loop-preserved
-loop-preserved g c = runs.one_more _ _ c.loop.invariant (runs.came _ _ c.in-Some.ensures c.opening.ensures c.in_ok-rest.ensures)
+loop-preserved g c = runs.one_more _ _ c.loop.invariant (runs.came _ _ c.in-Some.ensures c.keyword.ensures c.in_ok-rest.ensures)

@@ -5,4 +5,4 @@ pub returns-in_default : goal.returns-in_default
 returns-in_default g c = runs.none_came _ _ _
 
 pub returns : goal.returns
-returns g c = runs.maybe_came _ _ (runs.came _ _ c.in-Some.ensures c.opening.ensures c.in_ok-rest.ensures)
+returns g c = runs.maybe_came _ _ (runs.came _ _ c.in-Some.ensures c.keyword.ensures c.in_ok-rest.ensures)

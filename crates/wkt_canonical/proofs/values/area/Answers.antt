@@ -1,9 +1,0 @@
-use Rattle.std.specs.Prelude.{codes}
-use Rattle.wkt_canonical.proofs.Runs as runs
-use Rattle.wkt_canonical.proofs.values.area.Goals as goal
-
-pub returns-in_default : goal.returns-in_default
-returns-in_default c = runs.none_came _ _ _
-
-pub returns : goal.returns
-returns c = runs.maybe_came _ _ (runs.came_within _ _ (codes "AREA") c.in-Some.ensures c.in_ok-rest.ensures)
