@@ -6,7 +6,6 @@ use Rattle.std.specs.List.{list_all, enumerate_from}
 use Rattle.std.specs.Option.{option_map_or, option_or}
 use Rattle.std.proofs.lemmas.Fmt.{decimal_digit}
 use Rattle.crs_part.specs.declared.units.Unit.{Unit}
-use Rattle.crs_part.specs.declared.units.Unit.TheVariants as unit
 use Rattle.crs_part.specs.declared.systems.SystemKind.{SystemKind}
 use Rattle.crs_part.specs.declared.systems.Direction.{Direction}
 use Rattle.crs_part.specs.declared.systems.Meridian.{Meridian}

@@ -16,6 +16,7 @@ pub(crate) trait Node {
 
     ghost keyword: { Keyword };
 
+    /// The keyword of the node.
     fn keyword() -> Keyword
         ensures { result ≡ keyword };
 
