@@ -4,6 +4,7 @@ ghost use Rattle.std.specs.Prelude.{◌≡◌};
 ghost use Rattle.byte_io.specs.declared.fault.InFault.TheVariants.{Memory};
 
 use std::alloc::AllocError;
+use std::fmt;
 
 /// A device that failed. Which bytes it moved before, its contract says.
 #[derive(Clone, Copy, Debug, PartialEq, Eq)]
@@ -19,6 +20,40 @@ pub enum InFault {
     /// The source failed, this many bytes after the start.
     ReadFailed(usize),
     Memory,
+}
+
+impl InFault {
+    ghost use Rattle.byte_io.specs.Names.{in_name, in_place};
+
+    /// How it is printed.
+    pub fn name(self) -> &'static str
+        ensures { result.now ≡ in_name self }
+    {
+        match self {
+            InFault::ReadFailed(_) => "ReadFailed",
+            InFault::Memory => "Memory",
+        }
+    }
+
+    /// How many bytes were read before it, where it has a place.
+    pub fn place(self) -> Option<usize>
+        ensures { result ≡ in_place self }
+    {
+        match self {
+            InFault::ReadFailed(place) => Some(place),
+            InFault::Memory => None,
+        }
+    }
+}
+
+impl fmt::Display for InFault {
+    fn fmt<W: fmt::Write>(&self, f: &mut fmt::Formatter<W>) -> fmt::Result {
+        let name = self.name();
+        match self.place() {
+            Some(place) => write!(f, "{name} at {place}"),
+            None => f.write_str("out of memory"),
+        }
+    }
 }
 
 impl From<AllocError> for InFault {
@@ -41,4 +76,38 @@ pub enum PublishFault {
     NotOpened,
     /// The first bytes went, as many as these.
     WriteFailed(usize),
+}
+
+impl PublishFault {
+    ghost use Rattle.byte_io.specs.Names.{publish_name, publish_place};
+
+    /// How it is printed.
+    pub fn name(self) -> &'static str
+        ensures { result.now ≡ publish_name self }
+    {
+        match self {
+            PublishFault::NotOpened => "NotOpened",
+            PublishFault::WriteFailed(_) => "WriteFailed",
+        }
+    }
+
+    /// How many bytes went out before it, where it has a place.
+    pub fn place(self) -> Option<usize>
+        ensures { result ≡ publish_place self }
+    {
+        match self {
+            PublishFault::NotOpened => None,
+            PublishFault::WriteFailed(place) => Some(place),
+        }
+    }
+}
+
+impl fmt::Display for PublishFault {
+    fn fmt<W: fmt::Write>(&self, f: &mut fmt::Formatter<W>) -> fmt::Result {
+        let name = self.name();
+        match self.place() {
+            Some(place) => write!(f, "{name} at {place}"),
+            None => f.write_str(name),
+        }
+    }
 }

@@ -1,11 +1,35 @@
 //! Why a file was not replaced.
 
+ghost use Rattle.std.specs.Prelude.{◌≡◌};
+
+use std::fmt;
+
 /// Why no new file was made.
 #[derive(Clone, Copy, Debug, PartialEq, Eq)]
 pub enum MakeFault {
     NotOpened,
     /// There is one of its name already.
     Exists,
+}
+
+impl MakeFault {
+    ghost use Rattle.byte_out.specs.Names.{make_name};
+
+    /// How it is printed.
+    pub fn name(self) -> &'static str
+        ensures { result.now ≡ make_name self }
+    {
+        match self {
+            MakeFault::NotOpened => "NotOpened",
+            MakeFault::Exists => "Exists",
+        }
+    }
+}
+
+impl fmt::Display for MakeFault {
+    fn fmt<W: fmt::Write>(&self, f: &mut fmt::Formatter<W>) -> fmt::Result {
+        f.write_str(self.name())
+    }
 }
 
 /// Why the old file stands.
@@ -17,4 +41,40 @@ pub enum ReplaceFault {
     NewExists,
     /// The first bytes went, as many as these. Where all did, no sync made sure of them.
     WriteFailed(usize),
+}
+
+impl ReplaceFault {
+    ghost use Rattle.byte_out.specs.Names.{replace_name, replace_place};
+
+    /// How it is printed.
+    pub fn name(self) -> &'static str
+        ensures { result.now ≡ replace_name self }
+    {
+        match self {
+            ReplaceFault::NotOpened => "NotOpened",
+            ReplaceFault::NewExists => "NewExists",
+            ReplaceFault::WriteFailed(_) => "WriteFailed",
+        }
+    }
+
+    /// How many bytes went out before it, where it has a place.
+    pub fn place(self) -> Option<usize>
+        ensures { result ≡ replace_place self }
+    {
+        match self {
+            ReplaceFault::NotOpened => None,
+            ReplaceFault::NewExists => None,
+            ReplaceFault::WriteFailed(place) => Some(place),
+        }
+    }
+}
+
+impl fmt::Display for ReplaceFault {
+    fn fmt<W: fmt::Write>(&self, f: &mut fmt::Formatter<W>) -> fmt::Result {
+        let name = self.name();
+        match self.place() {
+            Some(place) => write!(f, "{name} at {place}"),
+            None => f.write_str(name),
+        }
+    }
 }

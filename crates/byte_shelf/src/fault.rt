@@ -1,5 +1,9 @@
 //! Why a shelf is not made, kept or read.
 
+ghost use Rattle.std.specs.Prelude.{◌≡◌};
+
+use std::fmt;
+
 /// Why a shelf is not made, kept or read.
 #[derive(Clone, Copy, Debug, PartialEq, Eq)]
 pub enum ShelfFault {
@@ -10,4 +14,30 @@ pub enum ShelfFault {
     NotShelf,
     Memory,
     DiskFailed,
+}
+
+impl ShelfFault {
+    ghost use Rattle.byte_shelf.specs.Names.{name_of};
+
+    /// How it is printed.
+    pub fn name(self) -> &'static str
+        ensures { result.now ≡ name_of self }
+    {
+        match self {
+            ShelfFault::BadSize => "BadSize",
+            ShelfFault::TooLarge => "TooLarge",
+            ShelfFault::NotShelf => "NotShelf",
+            ShelfFault::Memory => "Memory",
+            ShelfFault::DiskFailed => "DiskFailed",
+        }
+    }
+}
+
+impl fmt::Display for ShelfFault {
+    fn fmt<W: fmt::Write>(&self, f: &mut fmt::Formatter<W>) -> fmt::Result {
+        match self {
+            ShelfFault::Memory => f.write_str("out of memory"),
+            fault => f.write_str(fault.name()),
+        }
+    }
 }

@@ -8,3 +8,4 @@ pub mod ByValue
 pub mod Laws
 pub mod Canonical
 pub mod Count
+pub mod Names

@@ -11,6 +11,7 @@ use crate::numerals::Numeral;
 use crate::reduced::{Reduced, reduced_of, scaled};
 use crate::text::push_plain;
 use std::alloc::AllocError;
+use std::fmt;
 
 /// A text that does not spell a decimal.
 #[derive(Clone, Copy, Debug, PartialEq, Eq)]
@@ -19,6 +20,26 @@ pub enum NumberFault {
     BadNumber,
     /// It is too long, or its value is no decimal.
     NumberRange,
+}
+
+impl NumberFault {
+    ghost use Rattle.crs_number.specs.Names.{name_of};
+
+    /// How it is printed.
+    pub fn name(self) -> &'static str
+        ensures { result.now ≡ name_of self }
+    {
+        match self {
+            NumberFault::BadNumber => "BadNumber",
+            NumberFault::NumberRange => "NumberRange",
+        }
+    }
+}
+
+impl fmt::Display for NumberFault {
+    fn fmt<W: fmt::Write>(&self, f: &mut fmt::Formatter<W>) -> fmt::Result {
+        f.write_str(self.name())
+    }
 }
 
 /// A coefficient times a power of ten. The coefficient is no multiple of ten, and zero is 0 times

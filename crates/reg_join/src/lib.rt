@@ -5,6 +5,7 @@ ghost use Rattle.std.specs.Prelude.{◌≡◌, ◌↔◌, List, [], ◌∷◌, O
 ghost use Rattle.reg_join.specs.Joining.{JoinLaws, joined_both, all_joined, AllAgree, SameMembers};
 
 use std::alloc::{AllocError, Global};
+use std::fmt;
 
 /// Why a join is refused.
 #[derive(Clone, Copy, Debug, PartialEq, Eq, Drop)]
@@ -13,6 +14,29 @@ pub enum JoinFault<C> {
     Clash(C),
     /// An allocation failed.
     Memory,
+}
+
+impl<C> JoinFault<C> {
+    ghost use Rattle.reg_join.specs.Names.{name_of};
+
+    /// How it is printed.
+    pub fn name(&self) -> &'static str
+        ensures { result.now ≡ name_of self.now }
+    {
+        match self {
+            JoinFault::Clash(_) => "Clash",
+            JoinFault::Memory => "Memory",
+        }
+    }
+}
+
+impl<C: fmt::Display> fmt::Display for JoinFault<C> {
+    fn fmt<W: fmt::Write>(&self, f: &mut fmt::Formatter<W>) -> fmt::Result {
+        match self {
+            JoinFault::Clash(clash) => write!(f, "Clash {clash}"),
+            JoinFault::Memory => f.write_str("out of memory"),
+        }
+    }
 }
 
 /// A type whose values can be joined, if they agree.

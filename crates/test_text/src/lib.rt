@@ -6,6 +6,8 @@ mod counts;
 #[cfg(test)]
 mod devices;
 #[cfg(test)]
+mod faults;
+#[cfg(test)]
 mod numerals;
 #[cfg(test)]
 mod readers;

@@ -3,7 +3,9 @@
 ghost use Rattle.std.specs.Prelude.{◌≡◌};
 ghost use Rattle.wkt_tree.specs.Names.{name_of, place_of};
 
-/// The first fault of a text, with its place.
+use std::fmt;
+
+/// The first fault of a text, with its place. It prints as its name and its place.
 #[derive(Clone, Copy, Debug, PartialEq, Eq)]
 pub enum TextFault {
     /// It has more bytes than a text may have.
@@ -62,6 +64,16 @@ impl TextFault {
             TextFault::Depth(_) => "Depth",
             TextFault::EndEarly(_) => "EndEarly",
             TextFault::After(_) => "After",
+        }
+    }
+}
+
+impl fmt::Display for TextFault {
+    fn fmt<W: fmt::Write>(&self, f: &mut fmt::Formatter<W>) -> fmt::Result {
+        let name = self.name();
+        match self.place() {
+            Some(place) => write!(f, "{name} at {place}"),
+            None => f.write_str(name),
         }
     }
 }

@@ -1,0 +1,22 @@
+-- How faults are called, and where they are.
+use Rattle.std.specs.Prelude.{ℕ, List, Option, Some, None, codes}
+use Rattle.byte_out.specs.declared.fault.MakeFault.{MakeFault}
+use Rattle.byte_out.specs.declared.fault.MakeFault.TheVariants as made
+use Rattle.byte_out.specs.declared.fault.ReplaceFault.{ReplaceFault}
+use Rattle.byte_out.specs.declared.fault.ReplaceFault.TheVariants as replaced
+
+-- a new file that was not made
+abbrev pub make_name : MakeFault → List ℕ
+make_name made.NotOpened = codes "NotOpened"
+make_name made.Exists = codes "Exists"
+
+-- a file that was not replaced
+abbrev pub replace_name : ReplaceFault → List ℕ
+replace_name replaced.NotOpened = codes "NotOpened"
+replace_name replaced.NewExists = codes "NewExists"
+replace_name (replaced.WriteFailed at) = codes "WriteFailed"
+
+abbrev pub replace_place : ReplaceFault → Option ℕ
+replace_place replaced.NotOpened = None
+replace_place replaced.NewExists = None
+replace_place (replaced.WriteFailed at) = Some at
