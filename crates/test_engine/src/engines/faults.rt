@@ -1,5 +1,6 @@
 //! How faults print, and their exit statuses.
 
+use byte_out::{MakeFault, ReplaceFault};
 use reg_engine::{CliFault, InputFault, OutFault, Refusal};
 use reg_file::{FileFault, FirstFileFault, ReadFileFault, WriteFileFault};
 use reg_office::{OfficeFault, ReportFault};
@@ -247,4 +248,21 @@ fn faults_of_offices_print_without_a_command(rt: HostRuntime) {
         )
     );
     assert!(rt; prints(&rt, alloc, &ReportFault::Memory, b"out of memory"));
+}
+
+#[test]
+fn faults_of_places_print_without_a_command(rt: HostRuntime) {
+    let alloc = rt.alloc();
+    assert!(rt; prints(&rt, alloc, &MakeFault::NotOpened, b"NotOpened"));
+    assert!(rt; prints(&rt, alloc, &MakeFault::Exists, b"Exists"));
+    assert!(rt; prints(&rt, alloc, &ReplaceFault::NotOpened, b"NotOpened"));
+    assert!(rt; prints(&rt, alloc, &ReplaceFault::NewExists, b"NewExists"));
+    assert!(rt;
+        prints(
+            &rt,
+            alloc,
+            &ReplaceFault::WriteFailed(3),
+            b"WriteFailed at 3"
+        )
+    );
 }
