@@ -28,13 +28,8 @@ use Rattle.reg_desk.specs.Settle.{settle_fault, SettlesFor, CannotKeep, Retires,
 -- ---- retiring
 
 pub unmade : (x : Content) (replica note : List ℕ) (list : List Id) (f : OfficeFault) → (made x replica note (retirements list) ≡ Err f) ⊎ (f ≡ office.Memory) → IsUnmade x replica note list (office_fault f)
-unmade x replica note list office.NoteTooLong h = refused_for x replica note (retirements list) office.NoteTooLong refusal.NoteTooLong refl h
-unmade x replica note list (office.UnknownEntry id) h = refused_for x replica note (retirements list) (office.UnknownEntry id) (refusal.UnknownEntry id) refl h
-unmade x replica note list office.SameEntry h = refused_for x replica note (retirements list) office.SameEntry refusal.SameEntry refl h
-unmade x replica note list (office.AlreadyRetired id) h = refused_for x replica note (retirements list) (office.AlreadyRetired id) (refusal.AlreadyRetired id) refl h
-unmade x replica note list (office.AlreadySuperseded id) h = refused_for x replica note (retirements list) (office.AlreadySuperseded id) (refusal.AlreadySuperseded id) refl h
-unmade x replica note list office.CountSpent h = refused_for x replica note (retirements list) office.CountSpent refusal.CountSpent refl h
 unmade x replica note list office.Memory h = tt
+unmade x replica note list f h = refused_for x replica note (retirements list) f (refusal.Office f) refl h
 
 -- a list that an office does not retire
 pub list_unmade : (Lists : Content → List Id → Type 0) (Refuses : Content → Refusal → Type 0) (x : Content) (replica note : List ℕ) (list other : List Id) → length note ≤ 200
@@ -57,8 +52,8 @@ kept_not keeps x f r e (inr m) = absurd (never_memory f r e m)
 -- entries that cannot be kept
 pub cannot_keep : (keeps : List Id) (x : Content) (replica note : List ℕ) → length note ≤ 200 → (f : SettleFault) → IsUnsettled (rows x.ops) keeps f ⊎ (f ≡ settle.Memory)
     → IsUnretired (SettlesFor keeps) (CannotKeep keeps) replica note x (settle_fault f)
-cannot_keep keeps x replica note short (settle.UnknownEntry id) h = inr (inl (short, kept_not keeps x (settle.UnknownEntry id) (refusal.UnknownEntry id) refl h))
-cannot_keep keeps x replica note short (settle.AlreadyRetired id) h = inr (inl (short, kept_not keeps x (settle.AlreadyRetired id) (refusal.AlreadyRetired id) refl h))
+cannot_keep keeps x replica note short (settle.UnknownEntry id) h = inr (inl (short, kept_not keeps x (settle.UnknownEntry id) (refusal.Office (office.UnknownEntry id)) refl h))
+cannot_keep keeps x replica note short (settle.AlreadyRetired id) h = inr (inl (short, kept_not keeps x (settle.AlreadyRetired id) (refusal.Office (office.AlreadyRetired id)) refl h))
 cannot_keep keeps x replica note short (settle.KeyTaken id) h = inr (inl (short, kept_not keeps x (settle.KeyTaken id) (refusal.KeyTaken id) refl h))
 cannot_keep keeps x replica note short settle.Memory h = tt
 

@@ -5,6 +5,7 @@ use Rattle.reg_op.specs.Ids.{Id}
 use Rattle.reg_op.specs.Contents.{Content}
 use Rattle.reg_op.specs.Rows.{rows}
 use Rattle.reg_file.specs.Files.{Finds}
+use Rattle.reg_office.specs.declared.fault.OfficeFault.TheVariants as office
 use Rattle.reg_office.specs.Commands.{Does, retirements}
 use Rattle.reg_settle.specs.declared.fault.SettleFault.{SettleFault}
 use Rattle.reg_settle.specs.declared.fault.SettleFault.TheVariants as settle
@@ -23,8 +24,8 @@ use Rattle.reg_engine.specs.Shelf.{Disks, Has, StaysOn, KeepsOn, KeepsAndTells, 
 
 -- the fault of a command that could not keep what it was told to keep
 abbrev pub settle_fault : SettleFault → CliFault
-settle_fault (settle.UnknownEntry id) = cli.Refused (refusal.UnknownEntry id)
-settle_fault (settle.AlreadyRetired id) = cli.Refused (refusal.AlreadyRetired id)
+settle_fault (settle.UnknownEntry id) = cli.Refused (refusal.Office (office.UnknownEntry id))
+settle_fault (settle.AlreadyRetired id) = cli.Refused (refusal.Office (office.AlreadyRetired id))
 settle_fault (settle.KeyTaken id) = cli.Refused (refusal.KeyTaken id)
 settle_fault settle.Memory = cli.Memory
 
@@ -61,7 +62,7 @@ IsUnmade x replica note list (cli.Shelf p) = ⊥
 
 -- why none are: first a note is too long; then nothing is listed; then the office refuses
 abbrev pub IsUnretired : (Content → List Id → Type 0) → (Content → Refusal → Type 0) → List ℕ → List ℕ → Content → CliFault → Type 0
-IsUnretired Lists Refuses replica note x (cli.Refused r) = ((r ≡ refusal.NoteTooLong) × (200 < length note))
+IsUnretired Lists Refuses replica note x (cli.Refused r) = ((r ≡ refusal.Office office.NoteTooLong) × (200 < length note))
     ⊎ (((length note ≤ 200) × Refuses x r) ⊎ ((length note ≤ 200) × ((list : List Id) × Lists x list × IsRefused x replica note (retirements list) r)))
 IsUnretired Lists Refuses replica note x (cli.File k f) = ⊥
 IsUnretired Lists Refuses replica note x (cli.Out f) = ⊥

@@ -4,10 +4,11 @@ use crate::import_fault::ImportFault;
 use crate::texts::{read_files, read_texts};
 use byte_io::{Sink, Source, write_all};
 use byte_out::Place;
-use reg_engine::{CliFault, OutFault, Refusal, publish_register, read_file};
+use reg_engine::{CliFault, OutFault, publish_register, read_file};
 use reg_import::{
     Differs, FileText, ImportRefusal, Imported, Refused, first_refused, import_texts, lines_text,
 };
+use reg_office::OfficeFault;
 use reg_state::Register;
 use std::alloc::Global;
 use uuid::Uuid;
@@ -42,9 +43,11 @@ fn refused_in(first: usize, texts: &[FileText], refused: Refused) -> ImportFault
 
 fn of_refusal(first: usize, texts: &[FileText], refusal: ImportRefusal) -> ImportFault {
     match refusal {
-        ImportRefusal::NoteTooLong => ImportFault::Cli(CliFault::Refused(Refusal::NoteTooLong)),
+        ImportRefusal::NoteTooLong => ImportFault::Cli(CliFault::of_office(
+            OfficeFault::NoteTooLong,
+        )),
         ImportRefusal::Refused { at, problem } => refused_in(first, texts, Refused { at, problem }),
-        ImportRefusal::CountSpent => ImportFault::Cli(CliFault::Refused(Refusal::CountSpent)),
+        ImportRefusal::CountSpent => ImportFault::Cli(CliFault::of_office(OfficeFault::CountSpent)),
         ImportRefusal::Memory => ImportFault::Cli(CliFault::Memory),
     }
 }

@@ -5,7 +5,7 @@ ghost use Rattle.reg_office.specs.Commands.{Does, retirements};
 ghost use Rattle.reg_desk.specs.Settle.{settle_fault, SettlesFor, CannotKeep, SettlesEqual, NeverRefuses, Retires, IsUnretired, IsUnmade};
 
 use reg_engine::{CliFault, Refusal};
-use reg_office::Office;
+use reg_office::{Office, OfficeFault};
 use reg_op::OpId;
 use reg_settle::{SettleFault, doubles, to_retire};
 use reg_state::Register;
@@ -26,8 +26,12 @@ fn fault_of(fault: SettleFault) -> CliFault
     ensures { result ≡ settle_fault fault }
 {
     match fault {
-        SettleFault::UnknownEntry(id) => CliFault::Refused(Refusal::UnknownEntry(id)),
-        SettleFault::AlreadyRetired(id) => CliFault::Refused(Refusal::AlreadyRetired(id)),
+        SettleFault::UnknownEntry(id) => CliFault::Refused(Refusal::Office(
+            OfficeFault::UnknownEntry(id),
+        )),
+        SettleFault::AlreadyRetired(id) => CliFault::Refused(Refusal::Office(
+            OfficeFault::AlreadyRetired(id),
+        )),
         SettleFault::KeyTaken(id) => CliFault::Refused(Refusal::KeyTaken(id)),
         SettleFault::Memory => CliFault::Memory,
     }
@@ -67,7 +71,7 @@ pub(crate) fn settled(
     ensures fault { IfErr result (IsUnretired (SettlesFor keeps.now) (CannotKeep keeps.now) replica note.now register) }
 {
     if note.len() > MAX_NOTE {
-        return Err(CliFault::Refused(Refusal::NoteTooLong));
+        return Err(CliFault::Refused(Refusal::Office(OfficeFault::NoteTooLong)));
     }
     let entries = match to_retire(alloc, &register, keeps) {
         Ok(entries) => entries,
@@ -90,7 +94,7 @@ pub(crate) fn settled_equal(
     ensures fault { IfErr result (IsUnretired SettlesEqual NeverRefuses replica note.now register) }
 {
     if note.len() > MAX_NOTE {
-        return Err(CliFault::Refused(Refusal::NoteTooLong));
+        return Err(CliFault::Refused(Refusal::Office(OfficeFault::NoteTooLong)));
     }
     let entries = match doubles(alloc, &register) {
         Ok(entries) => entries,

@@ -55,13 +55,8 @@ refused_for x replica note bodies f r is (inr e) = absurd (never (subst (λ k. o
 
 pub change_refused : (replica note : List ℕ) (bodies : List Body) (old new : Desk) (x : Content) (f : OfficeFault) → Finds old.register new.register x
     → new.outputs ≡ old.outputs → (made x replica note bodies ≡ Err f) ⊎ (f ≡ office.Memory) → IsChangeFault replica note bodies old new (office_fault f)
-change_refused replica note bodies old new x office.NoteTooLong found same h = (x, found, refused_for x replica note bodies office.NoteTooLong refusal.NoteTooLong refl h, same)
-change_refused replica note bodies old new x (office.UnknownEntry id) found same h = (x, found, refused_for x replica note bodies (office.UnknownEntry id) (refusal.UnknownEntry id) refl h, same)
-change_refused replica note bodies old new x office.SameEntry found same h = (x, found, refused_for x replica note bodies office.SameEntry refusal.SameEntry refl h, same)
-change_refused replica note bodies old new x (office.AlreadyRetired id) found same h = (x, found, refused_for x replica note bodies (office.AlreadyRetired id) (refusal.AlreadyRetired id) refl h, same)
-change_refused replica note bodies old new x (office.AlreadySuperseded id) found same h = (x, found, refused_for x replica note bodies (office.AlreadySuperseded id) (refusal.AlreadySuperseded id) refl h, same)
-change_refused replica note bodies old new x office.CountSpent found same h = (x, found, refused_for x replica note bodies office.CountSpent refusal.CountSpent refl h, same)
 change_refused replica note bodies old new x office.Memory found same h = (found_gives old.register new.register x found, same)
+change_refused replica note bodies old new x f found same h = (x, found, refused_for x replica note bodies f (refusal.Office f) refl h, same)
 
 pub change_ungiven : (replica note : List ℕ) (bodies : List Body) (old new : Desk) (x y : Content) (ids : List Id) → Finds old.register new.register x
     → Does x replica note bodies y ids → (f : CliFault) → IsUngiven y ids old.outputs new.outputs f → IsChangeFault replica note bodies old new f
@@ -110,12 +105,9 @@ enter_ungiven replica note old new x y v ids both does (cli.Shelf p) h = absurd 
 -- an entry is refused for its note or its number alone
 abbrev pub IsOfEntry : OfficeFault → Type 0
 IsOfEntry office.NoteTooLong = Unit {0}
-IsOfEntry (office.UnknownEntry id) = ⊥
-IsOfEntry office.SameEntry = ⊥
-IsOfEntry (office.AlreadyRetired id) = ⊥
-IsOfEntry (office.AlreadySuperseded id) = ⊥
 IsOfEntry office.CountSpent = Unit {0}
 IsOfEntry office.Memory = Unit {0}
+IsOfEntry f = ⊥
 
 as_told : (f g : OfficeFault) → f ≡ g → IsOfEntry f → IsOfEntry g
 as_told f g e is = subst IsOfEntry e is
@@ -131,10 +123,7 @@ enter_only x replica note text f (inr e) = as_told office.Memory f (sym e) tt
 
 pub enter_refused : (replica note : List ℕ) (old new : EntryDesk) (x : Content) (v : Crs) (f : OfficeFault) → ReadsDefinition x v old new
     → (made x replica note (Enter (canon v) ∷ []) ≡ Err f) ⊎ (f ≡ office.Memory) → new.outputs ≡ old.outputs → IsEnterFault replica note old new (office_fault f)
-enter_refused replica note old new x v office.NoteTooLong both h same = ((x, v, both, refused_for x replica note (Enter (canon v) ∷ []) office.NoteTooLong refusal.NoteTooLong refl h), same)
-enter_refused replica note old new x v (office.UnknownEntry id) both h same = absurd (enter_only x replica note (canon v) (office.UnknownEntry id) h)
-enter_refused replica note old new x v office.SameEntry both h same = absurd (enter_only x replica note (canon v) office.SameEntry h)
-enter_refused replica note old new x v (office.AlreadyRetired id) both h same = absurd (enter_only x replica note (canon v) (office.AlreadyRetired id) h)
-enter_refused replica note old new x v (office.AlreadySuperseded id) both h same = absurd (enter_only x replica note (canon v) (office.AlreadySuperseded id) h)
-enter_refused replica note old new x v office.CountSpent both h same = ((x, v, both, refused_for x replica note (Enter (canon v) ∷ []) office.CountSpent refusal.CountSpent refl h), same)
+enter_refused replica note old new x v office.NoteTooLong both h same = ((x, v, both, refused_for x replica note (Enter (canon v) ∷ []) office.NoteTooLong (refusal.Office office.NoteTooLong) refl h), same)
+enter_refused replica note old new x v office.CountSpent both h same = ((x, v, both, refused_for x replica note (Enter (canon v) ∷ []) office.CountSpent (refusal.Office office.CountSpent) refl h), same)
 enter_refused replica note old new x v office.Memory both h same = ((found_gives old.register new.register x both.0.0, part_of_found old.text new.text v both.0.1), same)
+enter_refused replica note old new x v f both h same = absurd (enter_only x replica note (canon v) f h)

@@ -30,13 +30,8 @@ use Rattle.reg_engine.proofs.ChangeLemmas.{refused_for, part_of_found, value_of,
 
 pub change_refused : {D : Type 0} (d : Disks D) (replica note : List ℕ) (bodies : List Body) (old new : ShelfDesk D) (x : Content) → Has d old.disk x → StaysOn d old.disk new.disk
     → new.ids ≡ old.ids → (f : OfficeFault) → (made x replica note bodies ≡ Err f) ⊎ (f ≡ office.Memory) → IsChangeFaultOn d replica note bodies old new (office_fault f)
-change_refused d replica note bodies old new x has stays same office.NoteTooLong h = (x, has, refused_for x replica note bodies office.NoteTooLong refusal.NoteTooLong refl h, stays, same)
-change_refused d replica note bodies old new x has stays same (office.UnknownEntry id) h = (x, has, refused_for x replica note bodies (office.UnknownEntry id) (refusal.UnknownEntry id) refl h, stays, same)
-change_refused d replica note bodies old new x has stays same office.SameEntry h = (x, has, refused_for x replica note bodies office.SameEntry refusal.SameEntry refl h, stays, same)
-change_refused d replica note bodies old new x has stays same (office.AlreadyRetired id) h = (x, has, refused_for x replica note bodies (office.AlreadyRetired id) (refusal.AlreadyRetired id) refl h, stays, same)
-change_refused d replica note bodies old new x has stays same (office.AlreadySuperseded id) h = (x, has, refused_for x replica note bodies (office.AlreadySuperseded id) (refusal.AlreadySuperseded id) refl h, stays, same)
-change_refused d replica note bodies old new x has stays same office.CountSpent h = (x, has, refused_for x replica note bodies office.CountSpent refusal.CountSpent refl h, stays, same)
 change_refused d replica note bodies old new x has stays same office.Memory h = (stays, same)
+change_refused d replica note bodies old new x has stays same f h = (x, has, refused_for x replica note bodies f (refusal.Office f) refl h, stays, same)
 
 pub change_untold : {D : Type 0} (d : Disks D) (replica note : List ℕ) (bodies : List Body) (old new : ShelfDesk D) (x y : Content) (ids : List Id) → Has d old.disk x
     → Does x replica note bodies y ids → (f : CliFault) → IsUntold d x y ids old.disk new.disk old.ids new.ids f → IsChangeFaultOn d replica note bodies old new f
@@ -68,13 +63,10 @@ enter_undefined d replica note old new x has stays same (define.Refused undefine
 
 pub enter_refused : {D : Type 0} (d : Disks D) (replica note : List ℕ) (old new : ShelfEntryDesk D) (x : Content) (v : Crs) → ReadsDefinitionOn d x v old new → StaysOn d old.disk new.disk → new.ids ≡ old.ids
     → (f : OfficeFault) → (made x replica note (Enter (canon v) ∷ []) ≡ Err f) ⊎ (f ≡ office.Memory) → IsEnterFaultOn d replica note old new (office_fault f)
-enter_refused d replica note old new x v both stays same office.NoteTooLong h = ((x, v, both, refused_for x replica note (Enter (canon v) ∷ []) office.NoteTooLong refusal.NoteTooLong refl h), stays, same)
-enter_refused d replica note old new x v both stays same (office.UnknownEntry id) h = absurd (enter_only x replica note (canon v) (office.UnknownEntry id) h)
-enter_refused d replica note old new x v both stays same office.SameEntry h = absurd (enter_only x replica note (canon v) office.SameEntry h)
-enter_refused d replica note old new x v both stays same (office.AlreadyRetired id) h = absurd (enter_only x replica note (canon v) (office.AlreadyRetired id) h)
-enter_refused d replica note old new x v both stays same (office.AlreadySuperseded id) h = absurd (enter_only x replica note (canon v) (office.AlreadySuperseded id) h)
-enter_refused d replica note old new x v both stays same office.CountSpent h = ((x, v, both, refused_for x replica note (Enter (canon v) ∷ []) office.CountSpent refusal.CountSpent refl h), stays, same)
+enter_refused d replica note old new x v both stays same office.NoteTooLong h = ((x, v, both, refused_for x replica note (Enter (canon v) ∷ []) office.NoteTooLong (refusal.Office office.NoteTooLong) refl h), stays, same)
+enter_refused d replica note old new x v both stays same office.CountSpent h = ((x, v, both, refused_for x replica note (Enter (canon v) ∷ []) office.CountSpent (refusal.Office office.CountSpent) refl h), stays, same)
 enter_refused d replica note old new x v both stays same office.Memory h = (part_of_found old.text new.text v both.0.1, stays, same)
+enter_refused d replica note old new x v both stays same f h = absurd (enter_only x replica note (canon v) f h)
 
 pub enter_untold : {D : Type 0} (d : Disks D) (replica note : List ℕ) (old new : ShelfEntryDesk D) (x y : Content) (v : Crs) (ids : List Id) → ReadsDefinitionOn d x v old new
     → Does x replica note (Enter (canon v) ∷ []) y ids → (f : CliFault) → IsUntold d x y ids old.disk new.disk old.ids new.ids f → IsEnterFaultOn d replica note old new f

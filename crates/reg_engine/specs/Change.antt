@@ -13,6 +13,7 @@ use Rattle.reg_op.specs.declared.operation.OpBody.{OpBody as Body}
 use Rattle.reg_op.specs.declared.operation.OpBody.TheVariants.{Enter}
 use Rattle.reg_file.specs.Files.{Finds}
 use Rattle.reg_office.specs.declared.fault.OfficeFault.{OfficeFault}
+use Rattle.reg_office.specs.declared.fault.OfficeFault.TheVariants as office
 use Rattle.reg_office.specs.Making.{made}
 use Rattle.reg_office.specs.Commands.{Does}
 use Rattle.reg_engine.specs.declared.fault.InputFault.TheVariants as file
@@ -101,8 +102,10 @@ abbrev pub IsUnentered : List ℕ → List ℕ → EntryDesk → EntryDesk → C
 IsUnentered replica note old new (cli.Refused (refusal.Text f)) = RefusesText (read.Text f) old new
 IsUnentered replica note old new (cli.Refused (refusal.Slot f)) = RefusesText (read.Slot f) old new
 IsUnentered replica note old new (cli.Refused (refusal.Broken c place)) = RefusesText (read.Broken c place) old new
-IsUnentered replica note old new (cli.Refused refusal.NoteTooLong) = (x : Content) × (v : Crs) × ReadsDefinition x v old new × IsRefused x replica note (Enter (canon v) ∷ []) refusal.NoteTooLong
-IsUnentered replica note old new (cli.Refused refusal.CountSpent) = (x : Content) × (v : Crs) × ReadsDefinition x v old new × IsRefused x replica note (Enter (canon v) ∷ []) refusal.CountSpent
+IsUnentered replica note old new (cli.Refused (refusal.Office office.NoteTooLong)) = (x : Content) × (v : Crs) × ReadsDefinition x v old new
+    × IsRefused x replica note (Enter (canon v) ∷ []) (refusal.Office office.NoteTooLong)
+IsUnentered replica note old new (cli.Refused (refusal.Office office.CountSpent)) = (x : Content) × (v : Crs) × ReadsDefinition x v old new
+    × IsRefused x replica note (Enter (canon v) ∷ []) (refusal.Office office.CountSpent)
 IsUnentered replica note old new (cli.Refused r) = (x : Content) × (v : Crs) × ReadsBoth x v old new × IsUndefined v (cli.Refused r)
 IsUnentered replica note old new (cli.File k (file.ReadFailed n)) = ((k ≡ 1) × IsFileFault (file.ReadFailed n) old.register new.register × (new.text ≡ old.text))
     ⊎ ((k ≡ 2) × ((x : Content) × Finds old.register new.register x) × FailsAt n old.text new.text)

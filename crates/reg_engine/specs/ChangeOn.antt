@@ -11,6 +11,7 @@ use Rattle.reg_op.specs.Ids.{Id}
 use Rattle.reg_op.specs.Contents.{Content}
 use Rattle.reg_op.specs.declared.operation.OpBody.{OpBody as Body}
 use Rattle.reg_op.specs.declared.operation.OpBody.TheVariants.{Enter}
+use Rattle.reg_office.specs.declared.fault.OfficeFault.TheVariants as office
 use Rattle.reg_office.specs.Commands.{Does}
 use Rattle.reg_engine.specs.declared.fault.InputFault.TheVariants as file
 use Rattle.reg_engine.specs.declared.fault.Refusal.{Refusal}
@@ -85,8 +86,10 @@ abbrev pub IsUnenteredOn : {D : Type 0} → Disks D → List ℕ → List ℕ �
 IsUnenteredOn d replica note old new (refusal.Text f) = (x : Content) × Has d old.disk x × Refuses old.text new.text (read.Text f)
 IsUnenteredOn d replica note old new (refusal.Slot f) = (x : Content) × Has d old.disk x × Refuses old.text new.text (read.Slot f)
 IsUnenteredOn d replica note old new (refusal.Broken c place) = (x : Content) × Has d old.disk x × Refuses old.text new.text (read.Broken c place)
-IsUnenteredOn d replica note old new refusal.NoteTooLong = (x : Content) × (v : Crs) × ReadsDefinitionOn d x v old new × IsRefused x replica note (Enter (canon v) ∷ []) refusal.NoteTooLong
-IsUnenteredOn d replica note old new refusal.CountSpent = (x : Content) × (v : Crs) × ReadsDefinitionOn d x v old new × IsRefused x replica note (Enter (canon v) ∷ []) refusal.CountSpent
+IsUnenteredOn d replica note old new (refusal.Office office.NoteTooLong) = (x : Content) × (v : Crs) × ReadsDefinitionOn d x v old new
+    × IsRefused x replica note (Enter (canon v) ∷ []) (refusal.Office office.NoteTooLong)
+IsUnenteredOn d replica note old new (refusal.Office office.CountSpent) = (x : Content) × (v : Crs) × ReadsDefinitionOn d x v old new
+    × IsRefused x replica note (Enter (canon v) ∷ []) (refusal.Office office.CountSpent)
 IsUnenteredOn d replica note old new r = (x : Content) × (v : Crs) × ReadsBothOn d x v old new × IsUndefined v (cli.Refused r)
 
 -- what was done instead, by the fault; the text is file 1

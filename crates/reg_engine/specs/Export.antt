@@ -13,6 +13,7 @@ use Rattle.reg_op.specs.Status.{enters}
 use Rattle.reg_op.specs.Rows.{rows_at}
 use Rattle.reg_op.specs.Contents.{Content}
 use Rattle.reg_file.specs.Files.{Finds}
+use Rattle.reg_office.specs.declared.fault.OfficeFault.TheVariants as office
 use Rattle.reg_office.specs.Exports.{row_line, export}
 use Rattle.reg_engine.specs.declared.wkt.Form.{Form}
 use Rattle.reg_engine.specs.declared.wkt.Form.TheVariants.{Canonical, Indented}
@@ -71,7 +72,7 @@ IsShown form entry old new = (x : Content) × Finds old.source new.source x
 
 -- what was done instead, by the fault
 abbrev pub IsShowFault : Form → Id → Devices → Devices → CliFault → Type 0
-IsShowFault form entry old new (cli.Refused (refusal.UnknownEntry id)) = (id ≡ entry)
+IsShowFault form entry old new (cli.Refused (refusal.Office (office.UnknownEntry id))) = (id ≡ entry)
     × ((x : Content) × Finds old.source new.source x × (enters x.ops entry ≡ false)) × (new.sink ≡ old.sink)
 IsShowFault form entry old new (cli.Refused r) = ⊥
 IsShowFault form entry old new (cli.File k f) = (k ≡ 1) × IsFileFault f old.source new.source × (new.sink ≡ old.sink)

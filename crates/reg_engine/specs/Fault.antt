@@ -78,13 +78,8 @@ replace_fault (replaced.WriteFailed n) = cli.Out (out.WriteFailed n)
 
 -- the fault of a command that an office was given
 abbrev pub office_fault : OfficeFault → CliFault
-office_fault office.NoteTooLong = cli.Refused refusal.NoteTooLong
-office_fault (office.UnknownEntry id) = cli.Refused (refusal.UnknownEntry id)
-office_fault office.SameEntry = cli.Refused refusal.SameEntry
-office_fault (office.AlreadyRetired id) = cli.Refused (refusal.AlreadyRetired id)
-office_fault (office.AlreadySuperseded id) = cli.Refused (refusal.AlreadySuperseded id)
-office_fault office.CountSpent = cli.Refused refusal.CountSpent
 office_fault office.Memory = cli.Memory
+office_fault f = cli.Refused (refusal.Office f)
 
 -- the fault of a command that joined a piece
 abbrev pub piece_fault : PieceFault → CliFault

@@ -1,4 +1,5 @@
 pub mod Fault
+pub mod Names
 pub mod Devices
 pub mod Check
 pub mod Inputs

@@ -8,6 +8,7 @@ use Rattle.reg_op.specs.Contents.{Content}
 use Rattle.reg_op.specs.Pieces.{piece_for}
 use Rattle.reg_op.specs.Status.{enters}
 use Rattle.reg_file.specs.Files.{FindsSeen}
+use Rattle.reg_office.specs.declared.fault.OfficeFault.TheVariants as office
 use Rattle.reg_office.specs.Exports.{export}
 use Rattle.reg_office.specs.Reports.{Reports, IsReportFault}
 use Rattle.reg_office.specs.declared.writing.ReportFault.TheVariants as report
@@ -25,7 +26,7 @@ use Rattle.reg_engine.specs.Shelf.{Disks, Has, StaysOn, ReadsOn, IsUnreadOn, IsU
 
 -- the register has no such entry
 abbrev pub Lacks : Id → Content → Refusal → Type 0
-Lacks entry x (refusal.UnknownEntry id) = (id ≡ entry) × (enters x.ops entry ≡ false)
+Lacks entry x (refusal.Office (office.UnknownEntry id)) = (id ≡ entry) × (enters x.ops entry ≡ false)
 Lacks entry x r = ⊥
 
 -- some text with this property went out, but for what follows the first n bytes

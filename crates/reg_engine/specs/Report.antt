@@ -4,6 +4,7 @@ use Rattle.reg_op.specs.Ids.{Id}
 use Rattle.reg_op.specs.Contents.{Content}
 use Rattle.reg_op.specs.Status.{enters}
 use Rattle.reg_file.specs.Files.{Finds}
+use Rattle.reg_office.specs.declared.fault.OfficeFault.TheVariants as office
 use Rattle.reg_office.specs.Reports.{Reports, IsReportFault as IsReportFaultOf, IsEntryReport}
 use Rattle.reg_office.specs.declared.writing.ReportFault.TheVariants as report
 use Rattle.reg_engine.specs.declared.fault.Refusal.TheVariants as refusal
@@ -37,7 +38,7 @@ IsRowReported entry old new = IsReported (IsRowOf entry) old new
 
 -- what was done instead: the register has no such entry, or another fault
 abbrev pub IsRowUnreported : Id → Devices → Devices → CliFault → Type 0
-IsRowUnreported entry old new (cli.Refused (refusal.UnknownEntry id)) = (id ≡ entry)
+IsRowUnreported entry old new (cli.Refused (refusal.Office (office.UnknownEntry id))) = (id ≡ entry)
     × ((x : Content) × Finds old.source new.source x × (enters x.ops entry ≡ false)) × (new.sink ≡ old.sink)
 IsRowUnreported entry old new (cli.Refused r) = ⊥
 IsRowUnreported entry old new (cli.File k f) = IsUnreported (IsRowOf entry) old new (cli.File k f)

@@ -1,20 +1,14 @@
-//! What an engine reports: the fault, how it prints, and its exit status.
+//! What an engine reports: the fault, how it is called and prints, and its exit status.
 
 ghost use Rattle.std.specs.Prelude.{◌≡◌};
-ghost use Rattle.reg_engine.specs.Fault.{status_of, text_fault, definition_fault, file_fault, first_fault, write_fault, replace_fault, office_fault, piece_fault, shelf_fault};
+ghost use Rattle.reg_engine.specs.Fault.{status_of};
 
-use byte_out::ReplaceFault;
-use reg_file::{FileFault, FirstFileFault, ReadFileFault, WriteFileFault};
+use reg_file::FileFault;
 use reg_office::OfficeFault;
 use reg_op::OpId;
-use reg_shelf::ShelfFault;
-use reg_state::PieceFault;
-use std::fmt;
+use std::fmt::{self, Display};
 use thiserror::Error;
-use wkt_crs::{
-    Condition, DefineFromFault, DefinitionFault, ReadFault, ReadFromFault, SlotFault, TextFault,
-    Unspelled,
-};
+use wkt_crs::{Condition, SlotFault, TextFault, Unspelled};
 
 /// Why a command's input is refused. It prints as the fault's name, what it names, and its place.
 #[derive(Clone, Copy, Debug, PartialEq, Eq)]
@@ -31,19 +25,10 @@ pub enum Refusal {
     Clash(OpId),
     /// A piece that was to be joined is for one who has seen this id, and it was not seen.
     Basis(OpId),
-    /// The note of a command has more than 200 bytes.
-    NoteTooLong,
     /// The operation of this id has a note, for which a file of version 1 has no room.
     HasNote(OpId),
-    /// No operation of the register entered the id.
-    UnknownEntry(OpId),
-    /// An entry was to supersede itself.
-    SameEntry,
-    AlreadyRetired(OpId),
-    /// The old entry is superseded by this one already.
-    AlreadySuperseded(OpId),
-    /// The number of an operation would pass 4,294,967,295.
-    CountSpent,
+    /// What an office has against a command. `Memory` is none of these: that is `CliFault::Memory`.
+    Office(OfficeFault),
     /// A word that is to be an entry is no id.
     BadId,
     /// A word that is to be a replica is no UUID.
@@ -58,55 +43,81 @@ pub enum Refusal {
     KeyTaken(OpId),
 }
 
-impl fmt::Display for Refusal {
-    fn fmt<W: fmt::Write>(&self, f: &mut fmt::Formatter<W>) -> fmt::Result {
+impl Refusal {
+    ghost use Rattle.reg_engine.specs.Names.{refusal_name, refusal_place, refusal_id};
+
+    /// How it is printed.
+    pub fn name(self) -> &'static str
+        ensures { result.now ≡ refusal_name self }
+    {
         match self {
-            Refusal::Text(fault) => named(f, fault.name(), fault.place()),
-            Refusal::Slot(SlotFault::Missing(slot, place)) => {
-                let slot = slot.name();
-                write!(f, "Missing {slot} at {place}")
-            }
-            Refusal::Slot(fault) => named(f, fault.name(), Some(fault.place())),
-            Refusal::Broken { condition, place } => {
-                let condition = condition.name();
-                write!(f, "Broken {condition} at {place}")
-            }
-            Refusal::NoIdentifier => f.write_str("NoIdentifier"),
-            Refusal::CanonicalTooLong => f.write_str("CanonicalTooLong"),
-            Refusal::Clash(id) => of_id(f, "Clash", *id),
-            Refusal::Basis(id) => of_id(f, "Basis", *id),
-            Refusal::NoteTooLong => f.write_str("NoteTooLong"),
-            Refusal::HasNote(id) => of_id(f, "HasNote", *id),
-            Refusal::UnknownEntry(id) => of_id(f, "UnknownEntry", *id),
-            Refusal::SameEntry => f.write_str("SameEntry"),
-            Refusal::AlreadyRetired(id) => of_id(f, "AlreadyRetired", *id),
-            Refusal::AlreadySuperseded(id) => of_id(f, "AlreadySuperseded", *id),
-            Refusal::CountSpent => f.write_str("CountSpent"),
-            Refusal::BadId => f.write_str("BadId"),
-            Refusal::BadReplica => f.write_str("BadReplica"),
-            Refusal::BadSize => f.write_str("BadSize"),
-            Refusal::NoEntry => f.write_str("NoEntry"),
-            Refusal::Unsettled => f.write_str("Unsettled"),
-            Refusal::KeyTaken(id) => of_id(f, "KeyTaken", *id),
+            Refusal::Text(fault) => Unspelled::Text(fault).name(),
+            Refusal::Slot(fault) => Unspelled::Slot(fault).name(),
+            Refusal::Broken { .. } => "Broken",
+            Refusal::NoIdentifier => "NoIdentifier",
+            Refusal::CanonicalTooLong => "CanonicalTooLong",
+            Refusal::Clash(_) => "Clash",
+            Refusal::Basis(_) => "Basis",
+            Refusal::HasNote(_) => "HasNote",
+            Refusal::Office(fault) => fault.name(),
+            Refusal::BadId => "BadId",
+            Refusal::BadReplica => "BadReplica",
+            Refusal::BadSize => "BadSize",
+            Refusal::NoEntry => "NoEntry",
+            Refusal::Unsettled => "Unsettled",
+            Refusal::KeyTaken(_) => "KeyTaken",
+        }
+    }
+
+    /// The offset in a text that it is reported at, from 0, where it has one.
+    pub fn place(self) -> Option<usize>
+        ensures { result ≡ refusal_place self }
+    {
+        match self {
+            Refusal::Text(fault) => Unspelled::Text(fault).place(),
+            Refusal::Slot(fault) => Unspelled::Slot(fault).place(),
+            Refusal::Broken { place, .. } => Some(place),
+            _ => None,
+        }
+    }
+
+    /// The id that it names, where it names one.
+    pub fn id(self) -> Option<OpId>
+        ensures { result ≡ refusal_id self }
+    {
+        match self {
+            Refusal::Clash(id) => Some(id),
+            Refusal::Basis(id) => Some(id),
+            Refusal::HasNote(id) => Some(id),
+            Refusal::Office(fault) => fault.id(),
+            Refusal::KeyTaken(id) => Some(id),
+            _ => None,
         }
     }
 }
 
-fn named<W: fmt::Write>(
-    f: &mut fmt::Formatter<W>,
-    name: &str,
-    place: Option<usize>,
-) -> fmt::Result {
-    match place {
-        Some(place) => write!(f, "{name} at {place}"),
-        None => f.write_str(name),
+impl fmt::Display for Refusal {
+    fn fmt<W: fmt::Write>(&self, f: &mut fmt::Formatter<W>) -> fmt::Result {
+        match self {
+            Refusal::Text(fault) => Unspelled::Text(*fault).fmt(f),
+            Refusal::Slot(fault) => Unspelled::Slot(*fault).fmt(f),
+            Refusal::Broken { condition, place } => {
+                let fault = Unspelled::Broken {
+                    condition: *condition,
+                    place: *place,
+                };
+                fault.fmt(f)
+            }
+            Refusal::Office(fault) => fault.fmt(f),
+            refusal => {
+                let name = refusal.name();
+                match refusal.id() {
+                    Some(id) => write!(f, "{name} {id}"),
+                    None => f.write_str(name),
+                }
+            }
+        }
     }
-}
-
-fn of_id<W: fmt::Write>(f: &mut fmt::Formatter<W>, name: &str, id: OpId) -> fmt::Result {
-    let replica = id.replica();
-    let count = id.count();
-    write!(f, "{name} {replica}:{count}")
 }
 
 /// What went wrong with an input file. It prints as the fault's name and its place.
@@ -121,47 +132,45 @@ pub enum InputFault {
     BadFile { fault: FileFault, place: usize },
 }
 
-impl fmt::Display for InputFault {
-    fn fmt<W: fmt::Write>(&self, f: &mut fmt::Formatter<W>) -> fmt::Result {
+impl InputFault {
+    ghost use Rattle.reg_engine.specs.Names.{input_name, input_place};
+
+    /// How it is printed.
+    pub fn name(self) -> &'static str
+        ensures { result.now ≡ input_name self }
+    {
         match self {
-            InputFault::NotOpened => f.write_str("NotOpened"),
-            InputFault::ReadFailed(place) => write!(f, "ReadFailed at {place}"),
-            InputFault::TooLarge => f.write_str("TooLarge"),
-            InputFault::BadFile {
-                fault: FileFault::Definition(fault),
-                place,
-            } => {
-                // The name alone: what `Missing` and `Broken` name is left out.
-                let name = fault.name();
-                write!(f, "Definition {name} at {place}")
-            }
-            InputFault::BadFile { fault, place } => {
-                let name = file_fault_name(*fault);
-                write!(f, "{name} at {place}")
-            }
+            InputFault::NotOpened => "NotOpened",
+            InputFault::ReadFailed(_) => "ReadFailed",
+            InputFault::TooLarge => "TooLarge",
+            InputFault::BadFile { fault, .. } => fault.name(),
+        }
+    }
+
+    /// The offset that it is reported at, from 0, where it has one.
+    pub fn place(self) -> Option<usize>
+        ensures { result ≡ input_place self }
+    {
+        match self {
+            InputFault::ReadFailed(place) => Some(place),
+            InputFault::BadFile { place, .. } => Some(place),
+            _ => None,
         }
     }
 }
 
-fn file_fault_name(fault: FileFault) -> &'static str {
-    match fault {
-        FileFault::Magic => "Magic",
-        FileFault::Version => "Version",
-        FileFault::Kind => "Kind",
-        FileFault::Truncated => "Truncated",
-        FileFault::Ranges => "Ranges",
-        FileFault::ReplicaOrder => "ReplicaOrder",
-        FileFault::OpOrder => "OpOrder",
-        FileFault::OpIdBad => "OpIdBad",
-        FileFault::OpKind => "OpKind",
-        FileFault::NotSeen => "NotSeen",
-        FileFault::NoteTooLong => "NoteTooLong",
-        FileFault::NoteNotUtf8 => "NoteNotUtf8",
-        FileFault::SameEntry => "SameEntry",
-        FileFault::Definition(_) => "Definition",
-        FileFault::NotCanonical => "NotCanonical",
-        FileFault::NotKept => "NotKept",
-        FileFault::Trailing => "Trailing",
+impl fmt::Display for InputFault {
+    fn fmt<W: fmt::Write>(&self, f: &mut fmt::Formatter<W>) -> fmt::Result {
+        match self {
+            InputFault::BadFile { fault, place } => write!(f, "{fault} at {place}"),
+            fault => {
+                let name = fault.name();
+                match fault.place() {
+                    Some(place) => write!(f, "{name} at {place}"),
+                    None => f.write_str(name),
+                }
+            }
+        }
     }
 }
 
@@ -182,6 +191,32 @@ pub enum OutFault {
     WriteFailed(usize),
 }
 
+impl OutFault {
+    ghost use Rattle.reg_engine.specs.Names.{out_name, out_place};
+
+    /// How it is printed.
+    pub fn name(self) -> &'static str
+        ensures { result.now ≡ out_name self }
+    {
+        match self {
+            OutFault::NotOpened => "NotOpened",
+            OutFault::NewExists => "NewExists",
+            OutFault::TooLarge => "TooLarge",
+            OutFault::WriteFailed(_) => "WriteFailed",
+        }
+    }
+
+    /// How many bytes went out before it, where it has a place.
+    pub fn place(self) -> Option<usize>
+        ensures { result ≡ out_place self }
+    {
+        match self {
+            OutFault::WriteFailed(place) => Some(place),
+            _ => None,
+        }
+    }
+}
+
 /// What went wrong with a shelf.
 #[derive(Clone, Copy, Debug, PartialEq, Eq, Error)]
 pub enum ShelfProblem {
@@ -196,6 +231,22 @@ pub enum ShelfProblem {
     /// What it has is the register from before, or the new one. Nothing was printed.
     #[error("DiskFailed")]
     DiskFailed,
+}
+
+impl ShelfProblem {
+    ghost use Rattle.reg_engine.specs.Names.{problem_name};
+
+    /// How it is printed.
+    pub fn name(self) -> &'static str
+        ensures { result.now ≡ problem_name self }
+    {
+        match self {
+            ShelfProblem::NotOpened => "NotOpened",
+            ShelfProblem::NotShelf => "NotShelf",
+            ShelfProblem::TooLarge => "TooLarge",
+            ShelfProblem::DiskFailed => "DiskFailed",
+        }
+    }
 }
 
 /// Why a command did not do its work. It prints as one line.
@@ -215,140 +266,40 @@ pub enum CliFault {
 }
 
 impl CliFault {
-    /// The fault of reading the text in the file of this number.
-    pub fn of_text(number: usize, fault: ReadFromFault) -> CliFault
-        ensures { result ≡ text_fault number fault }
+    ghost use Rattle.reg_engine.specs.Names.{fault_name, fault_place, fault_id};
+
+    /// What it is of is called so, and is printed so.
+    pub fn name(self) -> &'static str
+        ensures { result.now ≡ fault_name self }
     {
-        match fault {
-            ReadFromFault::ReadFailed(n) => CliFault::File {
-                number,
-                fault: InputFault::ReadFailed(n),
-            },
-            ReadFromFault::Refused(ReadFault::Text(fault)) => {
-                CliFault::Refused(Refusal::Text(fault))
-            }
-            ReadFromFault::Refused(ReadFault::Slot(fault)) => {
-                CliFault::Refused(Refusal::Slot(fault))
-            }
-            ReadFromFault::Refused(ReadFault::Broken { condition, place }) => {
-                CliFault::Refused(Refusal::Broken { condition, place })
-            }
-            ReadFromFault::Refused(ReadFault::Memory) => CliFault::Memory,
+        match self {
+            CliFault::Refused(refusal) => refusal.name(),
+            CliFault::File { fault, .. } => fault.name(),
+            CliFault::Out(fault) => fault.name(),
+            CliFault::Memory => "Memory",
+            CliFault::Shelf(problem) => problem.name(),
         }
     }
 
-    /// The fault of making a definition of the text in the file of this number.
-    pub fn of_definition(number: usize, fault: DefineFromFault) -> CliFault
-        ensures { result ≡ definition_fault number fault }
+    /// The offset that it is reported at, from 0, where it has one.
+    pub fn place(self) -> Option<usize>
+        ensures { result ≡ fault_place self }
     {
-        match fault {
-            DefineFromFault::ReadFailed(n) => {
-                CliFault::of_text(number, ReadFromFault::ReadFailed(n))
-            }
-            DefineFromFault::Refused(DefinitionFault::Read(Unspelled::Text(text))) => {
-                CliFault::Refused(Refusal::Text(text))
-            }
-            DefineFromFault::Refused(DefinitionFault::Read(Unspelled::Slot(slot))) => {
-                CliFault::Refused(Refusal::Slot(slot))
-            }
-            DefineFromFault::Refused(
-                DefinitionFault::Read(Unspelled::Broken { condition, place }),
-            ) => CliFault::Refused(Refusal::Broken { condition, place }),
-            DefineFromFault::Refused(DefinitionFault::NoIdentifier) => {
-                CliFault::Refused(Refusal::NoIdentifier)
-            }
-            DefineFromFault::Refused(DefinitionFault::CanonicalTooLong) => {
-                CliFault::Refused(Refusal::CanonicalTooLong)
-            }
-            // A text need not be canonical.
-            DefineFromFault::Refused(DefinitionFault::NotCanonical | DefinitionFault::Memory) => {
-                CliFault::Memory
-            }
+        match self {
+            CliFault::Refused(refusal) => refusal.place(),
+            CliFault::File { fault, .. } => fault.place(),
+            CliFault::Out(fault) => fault.place(),
+            _ => None,
         }
     }
 
-    /// The fault of reading the file of this number.
-    pub fn of_file(number: usize, fault: ReadFileFault) -> CliFault
-        ensures { result ≡ file_fault number fault }
+    /// The id that it names, where it names one.
+    pub fn id(self) -> Option<OpId>
+        ensures { result ≡ fault_id self }
     {
-        let fault = match fault {
-            ReadFileFault::File { fault, place } => InputFault::BadFile { fault, place },
-            ReadFileFault::TooLarge => InputFault::TooLarge,
-            ReadFileFault::ReadFailed(n) => InputFault::ReadFailed(n),
-            ReadFileFault::Memory => return CliFault::Memory,
-        };
-        CliFault::File { number, fault }
-    }
-
-    /// The fault of a command that an office was given.
-    pub fn of_office(fault: OfficeFault) -> CliFault
-        ensures { result ≡ office_fault fault }
-    {
-        let refusal = match fault {
-            OfficeFault::NoteTooLong => Refusal::NoteTooLong,
-            OfficeFault::UnknownEntry(id) => Refusal::UnknownEntry(id),
-            OfficeFault::SameEntry => Refusal::SameEntry,
-            OfficeFault::AlreadyRetired(id) => Refusal::AlreadyRetired(id),
-            OfficeFault::AlreadySuperseded(id) => Refusal::AlreadySuperseded(id),
-            OfficeFault::CountSpent => Refusal::CountSpent,
-            OfficeFault::Memory => return CliFault::Memory,
-        };
-        CliFault::Refused(refusal)
-    }
-
-    /// The fault of writing a file of version 1.
-    pub fn of_first(fault: FirstFileFault) -> CliFault
-        ensures { result ≡ first_fault fault }
-    {
-        match fault {
-            FirstFileFault::HasNote(id) => CliFault::Refused(Refusal::HasNote(id)),
-            FirstFileFault::Write(fault) => CliFault::of_write(fault),
-        }
-    }
-
-    /// The fault of writing a file.
-    pub fn of_write(fault: WriteFileFault) -> CliFault
-        ensures { result ≡ write_fault fault }
-    {
-        match fault {
-            WriteFileFault::TooLarge => CliFault::Out(OutFault::TooLarge),
-            WriteFileFault::WriteFailed(n) => CliFault::Out(OutFault::WriteFailed(n)),
-            WriteFileFault::Memory => CliFault::Memory,
-        }
-    }
-
-    /// The fault of putting a file in a place.
-    pub fn of_replace(fault: ReplaceFault) -> CliFault
-        ensures { result ≡ replace_fault fault }
-    {
-        match fault {
-            ReplaceFault::NotOpened => CliFault::Out(OutFault::NotOpened),
-            ReplaceFault::NewExists => CliFault::Out(OutFault::NewExists),
-            ReplaceFault::WriteFailed(n) => CliFault::Out(OutFault::WriteFailed(n)),
-        }
-    }
-
-    /// The fault of joining a piece.
-    pub fn of_piece(fault: PieceFault) -> CliFault
-        ensures { result ≡ piece_fault fault }
-    {
-        match fault {
-            PieceFault::Basis(id) => CliFault::Refused(Refusal::Basis(id)),
-            PieceFault::Clash(id) => CliFault::Refused(Refusal::Clash(id)),
-            PieceFault::Memory => CliFault::Memory,
-        }
-    }
-
-    /// The fault of a shelf.
-    pub fn of_shelf(fault: ShelfFault) -> CliFault
-        ensures { result ≡ shelf_fault fault }
-    {
-        match fault {
-            ShelfFault::BadSize => CliFault::Refused(Refusal::BadSize),
-            ShelfFault::TooLarge => CliFault::Shelf(ShelfProblem::TooLarge),
-            ShelfFault::NotShelf => CliFault::Shelf(ShelfProblem::NotShelf),
-            ShelfFault::Memory => CliFault::Memory,
-            ShelfFault::DiskFailed => CliFault::Shelf(ShelfProblem::DiskFailed),
+        match self {
+            CliFault::Refused(refusal) => refusal.id(),
+            _ => None,
         }
     }
 

@@ -1,6 +1,7 @@
 //! The engines of `crsreg`: a function a command, over any source, sink and place, and the faults that they answer.
 #![tactic(auto)]
 
+mod causes;
 mod change;
 mod change_on;
 mod check;

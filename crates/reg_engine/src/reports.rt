@@ -8,7 +8,7 @@ ghost use Rattle.reg_engine.specs.Report.{IsReported, IsUnreported, IsRowReporte
 use crate::fault::{CliFault, OutFault, Refusal};
 use crate::inputs::read_file;
 use byte_io::{Sink, Source};
-use reg_office::{ReportFault, ReportKind, report, report_entry, report_ops};
+use reg_office::{OfficeFault, ReportFault, ReportKind, report, report_entry, report_ops};
 use reg_op::OpId;
 use std::alloc::Global;
 
@@ -80,7 +80,7 @@ pub fn run_show<S: Source, K: Sink>(
         Err(fault) => return Err(fault),
     };
     let Some(_) = register.definition(entry) else {
-        return Err(CliFault::Refused(Refusal::UnknownEntry(entry)));
+        return Err(CliFault::Refused(Refusal::Office(OfficeFault::UnknownEntry(entry))));
     };
     match report_entry(alloc, &register, entry, sink) {
         Ok(()) => Ok(()),

@@ -10,7 +10,7 @@ use crate::fault::{CliFault, OutFault, Refusal};
 use crate::shelf_steps::restore_from;
 use byte_disk::Disk;
 use byte_io::Sink;
-use reg_office::{ReportFault, ReportKind, report, report_entry, report_ops};
+use reg_office::{OfficeFault, ReportFault, ReportKind, report, report_entry, report_ops};
 use reg_op::OpId;
 use std::alloc::Global;
 
@@ -79,7 +79,7 @@ pub fn run_show_on<D: Disk, K: Sink>(
         Err(fault) => return Err(fault),
     };
     let Some(_) = register.definition(entry) else {
-        return Err(CliFault::Refused(Refusal::UnknownEntry(entry)));
+        return Err(CliFault::Refused(Refusal::Office(OfficeFault::UnknownEntry(entry))));
     };
     match report_entry(alloc, &register, entry, sink) {
         Ok(()) => Ok(()),

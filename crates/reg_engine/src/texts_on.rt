@@ -10,6 +10,7 @@ use crate::shelf_steps::restore_from;
 use crate::wkt::{Form, line_in};
 use byte_disk::Disk;
 use byte_io::{Sink, write_all};
+use reg_office::OfficeFault;
 use reg_op::OpId;
 use std::alloc::Global;
 
@@ -58,7 +59,7 @@ pub fn run_wkt_on<D: Disk, K: Sink>(
         Err(fault) => return Err(fault),
     };
     let Some(definition) = register.definition(entry) else {
-        return Err(CliFault::Refused(Refusal::UnknownEntry(entry)));
+        return Err(CliFault::Refused(Refusal::Office(OfficeFault::UnknownEntry(entry))));
     };
     let Ok(line) = line_in(alloc, form, definition) else {
         return Err(CliFault::Memory);

@@ -7,6 +7,7 @@ ghost use Rattle.reg_engine.specs.Export.{IsDefinitionText, IsDefinitionLine, Is
 use crate::fault::{CliFault, OutFault, Refusal};
 use crate::inputs::read_file;
 use byte_io::{Sink, Source, write_all};
+use reg_office::OfficeFault;
 use reg_op::OpId;
 use std::alloc::{AllocError, Global};
 use wkt_crs::{Definition, write_pretty};
@@ -38,7 +39,7 @@ pub fn run_wkt<S: Source, K: Sink>(
         Err(fault) => return Err(fault),
     };
     let Some(definition) = register.definition(entry) else {
-        return Err(CliFault::Refused(Refusal::UnknownEntry(entry)));
+        return Err(CliFault::Refused(Refusal::Office(OfficeFault::UnknownEntry(entry))));
     };
     let Ok(line) = line_in(alloc, form, definition) else {
         return Err(CliFault::Memory);

@@ -1,6 +1,7 @@
 pub mod Fields
 pub mod Files
 pub mod Layout
+pub mod Names
 pub mod Parts
 pub mod Readers
 pub mod Reading

@@ -1,4 +1,5 @@
 pub mod Making
+pub mod Names
 pub mod Commands
 pub mod Effects
 pub mod Repeats

@@ -13,6 +13,7 @@ use crate::row::rows;
 use byte_io::{Sink, write_all};
 use reg_state::Register;
 use std::alloc::{AllocError, Global};
+use std::fmt;
 
 /// What a report lists.
 #[derive(Clone, Copy, Debug, PartialEq, Eq)]
@@ -30,6 +31,40 @@ pub enum ReportFault {
     WriteFailed(usize),
     /// An allocation failed, and nothing went out.
     Memory,
+}
+
+impl ReportFault {
+    ghost use Rattle.reg_office.specs.Names.{report_name, report_place};
+
+    /// How it is printed.
+    pub fn name(self) -> &'static str
+        ensures { result.now ≡ report_name self }
+    {
+        match self {
+            ReportFault::WriteFailed(_) => "WriteFailed",
+            ReportFault::Memory => "Memory",
+        }
+    }
+
+    /// How many bytes went out before it, where it has a place.
+    pub fn place(self) -> Option<usize>
+        ensures { result ≡ report_place self }
+    {
+        match self {
+            ReportFault::WriteFailed(place) => Some(place),
+            ReportFault::Memory => None,
+        }
+    }
+}
+
+impl fmt::Display for ReportFault {
+    fn fmt<W: fmt::Write>(&self, f: &mut fmt::Formatter<W>) -> fmt::Result {
+        let name = self.name();
+        match self.place() {
+            Some(place) => write!(f, "{name} at {place}"),
+            None => f.write_str("out of memory"),
+        }
+    }
 }
 
 fn entries_report(alloc: Global, register: &Register) -> Result<Vec<u8>, AllocError>

@@ -1,5 +1,5 @@
 -- Notes of operations.
-use Rattle.std.specs.Prelude.{ℕ, ◌<◌, ◌≤◌, List, [], Option, Some, None, length, IsUtf8}
+use Rattle.std.specs.Prelude.{ℕ, ◌<◌, ◌≤◌, List, [], Option, Some, None, length, codes, IsUtf8}
 use Rattle.reg_op.specs.declared.note.NoteFault.{NoteFault}
 use Rattle.reg_op.specs.declared.note.NoteFault.TheVariants.{NoteTooLong, NoteNotUtf8, Memory}
 
@@ -18,3 +18,9 @@ IsNoteFault bytes Memory = IsNote bytes
 abbrev pub bytes_in : {X : Type 0} → (X → List ℕ) → Option X → List ℕ
 bytes_in bytes None = []
 bytes_in bytes (Some x) = bytes x
+
+-- what a fault is called
+abbrev pub fault_name : NoteFault → List ℕ
+fault_name NoteTooLong = codes "NoteTooLong"
+fault_name NoteNotUtf8 = codes "NoteNotUtf8"
+fault_name Memory = codes "Memory"

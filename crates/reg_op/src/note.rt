@@ -6,6 +6,7 @@ ghost use Rattle.reg_op.specs.declared.note.NoteFault.TheVariants as fault;
 ghost use Rattle.reg_op.specs.Notes.{IsNote, IsNoteFault};
 
 use std::alloc::{AllocError, Global};
+use std::fmt;
 use std::marker::Model;
 use std::rc::Rc;
 
@@ -21,6 +22,30 @@ pub enum NoteFault {
     NoteNotUtf8,
     /// An allocation failed.
     Memory,
+}
+
+impl NoteFault {
+    ghost use Rattle.reg_op.specs.Notes.{fault_name};
+
+    /// How it is printed.
+    pub fn name(self) -> &'static str
+        ensures { result.now ≡ fault_name self }
+    {
+        match self {
+            NoteFault::NoteTooLong => "NoteTooLong",
+            NoteFault::NoteNotUtf8 => "NoteNotUtf8",
+            NoteFault::Memory => "Memory",
+        }
+    }
+}
+
+impl fmt::Display for NoteFault {
+    fn fmt<W: fmt::Write>(&self, f: &mut fmt::Formatter<W>) -> fmt::Result {
+        match self {
+            NoteFault::Memory => f.write_str("out of memory"),
+            fault => f.write_str(fault.name()),
+        }
+    }
 }
 
 #[derive(Drop)]

@@ -8,10 +8,12 @@ ghost use Rattle.reg_op.specs.Text.{printed, Spells};
 use crate::count::count_of;
 use itoa::Buffer;
 use std::alloc::AllocError;
+use std::fmt;
 use std::marker::Model;
 use uuid::Uuid;
 
-/// The replica that numbered an operation, and the number. Ids are ordered by the UUID's bytes, then the count.
+/// The replica that numbered an operation, and the number. Ids are ordered by the UUID's bytes, then the count. An id
+/// prints as `write_to` spells it.
 #[derive(Clone, Copy, Debug, PartialEq, Eq, PartialOrd, Ord)]
 pub struct OpId {
     replica: Uuid,
@@ -115,6 +117,14 @@ impl OpId {
         ensures { result ≡ is_eq (id_cmp self.now other.now) }
     {
         self.cmp(other).is_eq()
+    }
+}
+
+impl fmt::Display for OpId {
+    fn fmt<W: fmt::Write>(&self, f: &mut fmt::Formatter<W>) -> fmt::Result {
+        let replica = self.replica;
+        let count = self.count;
+        write!(f, "{replica}:{count}")
     }
 }
 

@@ -1,2 +1,3 @@
 pub mod Settling
 pub mod Doubles
+pub mod Names

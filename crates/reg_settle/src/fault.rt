@@ -1,8 +1,11 @@
 //! Why nothing is settled.
 
-use reg_op::OpId;
+ghost use Rattle.std.specs.Prelude.{◌≡◌};
 
-/// Why nothing is settled.
+use reg_op::OpId;
+use std::fmt;
+
+/// Why nothing is settled. It prints as its name and the entry that it names.
 #[derive(Clone, Copy, Debug, PartialEq, Eq)]
 pub enum SettleFault {
     /// Nothing entered this id.
@@ -11,4 +14,42 @@ pub enum SettleFault {
     /// An entry that is kept before this one has its key and another text.
     KeyTaken(OpId),
     Memory,
+}
+
+impl SettleFault {
+    ghost use Rattle.reg_settle.specs.Names.{name_of, id_of};
+
+    /// How it is printed.
+    pub fn name(self) -> &'static str
+        ensures { result.now ≡ name_of self }
+    {
+        match self {
+            SettleFault::UnknownEntry(_) => "UnknownEntry",
+            SettleFault::AlreadyRetired(_) => "AlreadyRetired",
+            SettleFault::KeyTaken(_) => "KeyTaken",
+            SettleFault::Memory => "Memory",
+        }
+    }
+
+    /// The entry that it names, where it names one.
+    pub fn id(self) -> Option<OpId>
+        ensures { result ≡ id_of self }
+    {
+        match self {
+            SettleFault::UnknownEntry(id) => Some(id),
+            SettleFault::AlreadyRetired(id) => Some(id),
+            SettleFault::KeyTaken(id) => Some(id),
+            SettleFault::Memory => None,
+        }
+    }
+}
+
+impl fmt::Display for SettleFault {
+    fn fmt<W: fmt::Write>(&self, f: &mut fmt::Formatter<W>) -> fmt::Result {
+        let name = self.name();
+        match self.id() {
+            Some(id) => write!(f, "{name} {id}"),
+            None => f.write_str("out of memory"),
+        }
+    }
 }

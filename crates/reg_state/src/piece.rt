@@ -14,6 +14,7 @@ use reg_join::{Join, JoinFault};
 use reg_op::{Op, OpId};
 use reg_seen::Seen;
 use std::alloc::{AllocError, Global};
+use std::fmt;
 use std::marker::Model;
 
 /// Why a piece is not joined.
@@ -24,6 +25,42 @@ pub enum PieceFault {
     /// The least id that has another body.
     Clash(OpId),
     Memory,
+}
+
+impl PieceFault {
+    ghost use Rattle.reg_state.specs.Names.{piece_name, piece_id};
+
+    /// How it is printed.
+    pub fn name(self) -> &'static str
+        ensures { result.now ≡ piece_name self }
+    {
+        match self {
+            PieceFault::Basis(_) => "Basis",
+            PieceFault::Clash(_) => "Clash",
+            PieceFault::Memory => "Memory",
+        }
+    }
+
+    /// The id that it names, where it names one.
+    pub fn id(self) -> Option<OpId>
+        ensures { result ≡ piece_id self }
+    {
+        match self {
+            PieceFault::Basis(id) => Some(id),
+            PieceFault::Clash(id) => Some(id),
+            PieceFault::Memory => None,
+        }
+    }
+}
+
+impl fmt::Display for PieceFault {
+    fn fmt<W: fmt::Write>(&self, f: &mut fmt::Formatter<W>) -> fmt::Result {
+        match self {
+            PieceFault::Basis(id) => write!(f, "Basis {id}"),
+            PieceFault::Clash(id) => write!(f, "Clash {id}"),
+            PieceFault::Memory => f.write_str("out of memory"),
+        }
+    }
 }
 
 /// A piece: the operations and the seen ids that one lacks who has seen its basis.

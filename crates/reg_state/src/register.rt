@@ -26,7 +26,7 @@ use reg_op::{Op, OpId, Status};
 use reg_seen::{Run, Seen};
 use std::alloc::{AllocError, Global};
 use std::marker::Model;
-use std::slice;
+use std::{fmt, slice};
 use wkt_crs::Definition;
 
 /// Why operations are no register's.
@@ -37,12 +37,78 @@ pub enum ContentFault {
     Memory,
 }
 
+impl ContentFault {
+    ghost use Rattle.reg_state.specs.Names.{content_name, content_id};
+
+    /// How it is printed.
+    pub fn name(self) -> &'static str
+        ensures { result.now ≡ content_name self }
+    {
+        match self {
+            ContentFault::NotKept(_) => "NotKept",
+            ContentFault::Memory => "Memory",
+        }
+    }
+
+    /// The id that it names, where it names one.
+    pub fn id(self) -> Option<OpId>
+        ensures { result ≡ content_id self }
+    {
+        match self {
+            ContentFault::NotKept(id) => Some(id),
+            ContentFault::Memory => None,
+        }
+    }
+}
+
+impl fmt::Display for ContentFault {
+    fn fmt<W: fmt::Write>(&self, f: &mut fmt::Formatter<W>) -> fmt::Result {
+        match self {
+            ContentFault::NotKept(id) => write!(f, "NotKept {id}"),
+            ContentFault::Memory => f.write_str("out of memory"),
+        }
+    }
+}
+
 /// Why an operation is not taken.
 #[derive(Clone, Copy, Debug, PartialEq, Eq)]
 pub enum TakeFault {
     /// Its id has another body.
     Clash(OpId),
     Memory,
+}
+
+impl TakeFault {
+    ghost use Rattle.reg_state.specs.Names.{take_name, take_id};
+
+    /// How it is printed.
+    pub fn name(self) -> &'static str
+        ensures { result.now ≡ take_name self }
+    {
+        match self {
+            TakeFault::Clash(_) => "Clash",
+            TakeFault::Memory => "Memory",
+        }
+    }
+
+    /// The id that it names, where it names one.
+    pub fn id(self) -> Option<OpId>
+        ensures { result ≡ take_id self }
+    {
+        match self {
+            TakeFault::Clash(id) => Some(id),
+            TakeFault::Memory => None,
+        }
+    }
+}
+
+impl fmt::Display for TakeFault {
+    fn fmt<W: fmt::Write>(&self, f: &mut fmt::Formatter<W>) -> fmt::Result {
+        match self {
+            TakeFault::Clash(id) => write!(f, "Clash {id}"),
+            TakeFault::Memory => f.write_str("out of memory"),
+        }
+    }
 }
 
 /// A register: the operations that it keeps by id, the marks that they set, and the ids that it has seen.

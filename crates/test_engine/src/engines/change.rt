@@ -7,6 +7,7 @@ use super::{
 use byte_io::{Full, MemoryTarget, Pieces, Room, Target, Then, Writing};
 use reg_engine::{CliFault, InputFault, OutFault, Refusal, run_enter, run_retire, run_supersede};
 use reg_file::FileFault;
+use reg_office::OfficeFault;
 use reg_op::OpId;
 use std::alloc::{AllocError, Global};
 use std::process::Abort;
@@ -232,18 +233,31 @@ fn commands_are_refused_for_the_first_reason(rt: HostRuntime) {
     let second = id(&rt, OFFICE_A, 2);
     let none = id(&rt, OFFICE_B, 9);
     let retirements = [
-        ([first, first], Refusal::AlreadyRetired(first)),
-        ([second, second], Refusal::AlreadyRetired(second)),
-        ([second, none], Refusal::UnknownEntry(none)),
+        (
+            [first, first],
+            Refusal::Office(OfficeFault::AlreadyRetired(first)),
+        ),
+        (
+            [second, second],
+            Refusal::Office(OfficeFault::AlreadyRetired(second)),
+        ),
+        (
+            [second, none],
+            Refusal::Office(OfficeFault::UnknownEntry(none)),
+        ),
     ];
     for (entries, refusal) in retirements {
         let fault = retired(&rt, alloc, &file, OFFICE_C, &entries).err();
         assert_eq!(rt; fault, refused(refusal));
     }
     let supersessions = [
-        (second, second, Refusal::SameEntry),
-        (none, none, Refusal::UnknownEntry(none)),
-        (second, first, Refusal::AlreadyRetired(first)),
+        (second, second, Refusal::Office(OfficeFault::SameEntry)),
+        (none, none, Refusal::Office(OfficeFault::UnknownEntry(none))),
+        (
+            second,
+            first,
+            Refusal::Office(OfficeFault::AlreadyRetired(first)),
+        ),
     ];
     for (old, newer, refusal) in supersessions {
         let fault = superseded(&rt, alloc, &file, OFFICE_C, old, &[newer]).err();
@@ -258,7 +272,10 @@ fn new_ids_are_printed_in_their_order(rt: HostRuntime) {
     let first = id(&rt, OFFICE_A, 1);
     let second = id(&rt, OFFICE_B, 1);
     let twice = superseded(&rt, alloc, &file, OFFICE_C, first, &[second, second]).err();
-    assert_eq!(rt; twice, refused(Refusal::AlreadySuperseded(second)));
+    assert_eq!(rt;
+        twice,
+        refused(Refusal::Office(OfficeFault::AlreadySuperseded(second)))
+    );
     let done = retired(&rt, alloc, &file, OFFICE_C, &[first, second]).expect(&rt, "retirements");
     let lines = b"00000000-0000-4000-8000-00000000000c:1\n00000000-0000-4000-8000-00000000000c:2\n";
     assert_eq!(rt; done.ids.as_slice(), lines.as_slice());

@@ -4,6 +4,7 @@ use super::{A, B, EMPTY, HEIGHT, OTHER_HEIGHT, Replica, enter, entry_file, file_
 use byte_io::{Full, Pieces, Room, Then};
 use reg_engine::{CliFault, Form, InputFault, OutFault, Refusal, run_export, run_wkt};
 use reg_file::FileFault;
+use reg_office::OfficeFault;
 use reg_op::OpId;
 use std::alloc::{AllocError, Global};
 
@@ -126,7 +127,7 @@ fn knows_no_entry_that_was_not_entered(rt: HostRuntime) {
         let mut sink = Room::new(alloc, 7, 1000, Full::Fails);
         let mut source = Pieces::new(&retired, 4096, Then::Ends);
         let fault = run_wkt(alloc, &mut source, id, Form::Canonical, &mut sink).err();
-        let unknown = CliFault::Refused(Refusal::UnknownEntry(id));
+        let unknown = CliFault::Refused(Refusal::Office(OfficeFault::UnknownEntry(id)));
         assert_eq!(rt; fault, Some(unknown));
         assert_eq!(rt; sink.taken().len(), 0);
         let line = joined(alloc, &[b"refused: UnknownEntry ", text]).expect(&rt, "a file");

@@ -1,8 +1,13 @@
 //! How faults print, and their exit statuses.
 
+use byte_out::{MakeFault, ReplaceFault};
 use reg_engine::{CliFault, InputFault, OutFault, Refusal};
-use reg_file::FileFault;
+use reg_file::{FileFault, FirstFileFault, ReadFileFault, WriteFileFault};
+use reg_office::{OfficeFault, ReportFault};
 use reg_op::OpId;
+use std::alloc::Global;
+use std::fmt::Display;
+use std::process::Abort;
 use wkt_crs::{Condition, DefinitionFault, SlotFault, SlotName, TextFault, Unspelled};
 
 #[test]
@@ -90,20 +95,29 @@ fn names_the_ids_of_refusals(rt: HostRuntime) {
             b"refused: HasNote 936da01f-9abd-4d9d-80c7-02af85c822a8:4294967295",
         ),
         (
-            Refusal::UnknownEntry(id),
+            Refusal::Office(OfficeFault::UnknownEntry(id)),
             b"refused: UnknownEntry 936da01f-9abd-4d9d-80c7-02af85c822a8:4294967295",
         ),
         (
-            Refusal::AlreadyRetired(id),
+            Refusal::Office(OfficeFault::AlreadyRetired(id)),
             b"refused: AlreadyRetired 936da01f-9abd-4d9d-80c7-02af85c822a8:4294967295",
         ),
         (
-            Refusal::AlreadySuperseded(id),
+            Refusal::Office(OfficeFault::AlreadySuperseded(id)),
             b"refused: AlreadySuperseded 936da01f-9abd-4d9d-80c7-02af85c822a8:4294967295",
         ),
-        (Refusal::NoteTooLong, b"refused: NoteTooLong"),
-        (Refusal::SameEntry, b"refused: SameEntry"),
-        (Refusal::CountSpent, b"refused: CountSpent"),
+        (
+            Refusal::Office(OfficeFault::NoteTooLong),
+            b"refused: NoteTooLong",
+        ),
+        (
+            Refusal::Office(OfficeFault::SameEntry),
+            b"refused: SameEntry",
+        ),
+        (
+            Refusal::Office(OfficeFault::CountSpent),
+            b"refused: CountSpent",
+        ),
         (Refusal::NoIdentifier, b"refused: NoIdentifier"),
         (Refusal::CanonicalTooLong, b"refused: CanonicalTooLong"),
         (Refusal::BadId, b"refused: BadId"),
@@ -182,4 +196,73 @@ fn names_each_fault_of_a_file(rt: HostRuntime) {
         );
         assert_eq!(rt; fault.status(), 3);
     }
+}
+
+fn prints<D: Display>(rt: &impl Abort, alloc: Global, fault: &D, line: &[u8]) -> bool {
+    fault.to_string(alloc).expect(rt, "a line").as_bytes() == line
+}
+
+#[test]
+fn faults_of_files_print_without_a_command(rt: HostRuntime) {
+    let alloc = rt.alloc();
+    let bad = ReadFileFault::File {
+        fault: FileFault::Ranges,
+        place: 38,
+    };
+    assert!(rt; prints(&rt, alloc, &FileFault::Ranges, b"Ranges"));
+    assert!(rt; prints(&rt, alloc, &bad, b"Ranges at 38"));
+    assert!(rt; prints(&rt, alloc, &ReadFileFault::TooLarge, b"TooLarge"));
+    assert!(rt;
+        prints(
+            &rt,
+            alloc,
+            &ReadFileFault::ReadFailed(7),
+            b"ReadFailed at 7"
+        )
+    );
+    assert!(rt; prints(&rt, alloc, &ReadFileFault::Memory, b"out of memory"));
+    let write = FirstFileFault::Write;
+    assert!(rt; prints(&rt, alloc, &write(WriteFileFault::TooLarge), b"TooLarge"));
+    assert!(rt;
+        prints(
+            &rt,
+            alloc,
+            &write(WriteFileFault::WriteFailed(3)),
+            b"WriteFailed at 3"
+        )
+    );
+    assert!(rt; prints(&rt, alloc, &write(WriteFileFault::Memory), b"out of memory"));
+}
+
+#[test]
+fn faults_of_offices_print_without_a_command(rt: HostRuntime) {
+    let alloc = rt.alloc();
+    assert!(rt; prints(&rt, alloc, &OfficeFault::SameEntry, b"SameEntry"));
+    assert!(rt; prints(&rt, alloc, &OfficeFault::Memory, b"out of memory"));
+    assert!(rt;
+        prints(
+            &rt,
+            alloc,
+            &ReportFault::WriteFailed(3),
+            b"WriteFailed at 3"
+        )
+    );
+    assert!(rt; prints(&rt, alloc, &ReportFault::Memory, b"out of memory"));
+}
+
+#[test]
+fn faults_of_places_print_without_a_command(rt: HostRuntime) {
+    let alloc = rt.alloc();
+    assert!(rt; prints(&rt, alloc, &MakeFault::NotOpened, b"NotOpened"));
+    assert!(rt; prints(&rt, alloc, &MakeFault::Exists, b"Exists"));
+    assert!(rt; prints(&rt, alloc, &ReplaceFault::NotOpened, b"NotOpened"));
+    assert!(rt; prints(&rt, alloc, &ReplaceFault::NewExists, b"NewExists"));
+    assert!(rt;
+        prints(
+            &rt,
+            alloc,
+            &ReplaceFault::WriteFailed(3),
+            b"WriteFailed at 3"
+        )
+    );
 }

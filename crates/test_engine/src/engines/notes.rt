@@ -9,6 +9,7 @@ use super::{A, B, EMPTY, HEIGHT, OTHER_HEIGHT, Replica, entry_file, file_of, joi
 use byte_io::{Full, Pieces, Room, Then};
 use reg_engine::{CliFault, InputFault, Refusal, run_export, run_ops};
 use reg_file::FileFault;
+use reg_office::OfficeFault;
 use std::alloc::{AllocError, Global};
 use std::process::Abort;
 
@@ -83,7 +84,10 @@ fn each_operation_of_a_command_has_the_note(rt: HostRuntime) {
 #[test]
 fn a_note_has_at_most_200_bytes(rt: HostRuntime) {
     let alloc = rt.alloc();
-    for (number, fault) in [(200, None), (201, refused(Refusal::NoteTooLong))] {
+    for (number, fault) in [
+        (200, None),
+        (201, refused(Refusal::Office(OfficeFault::NoteTooLong))),
+    ] {
         let note = letters(&rt, alloc, number);
         let note = note.as_str();
         let file = entry_file(alloc, HEIGHT).expect(&rt, "a file");
@@ -101,14 +105,14 @@ fn a_note_has_at_most_200_bytes(rt: HostRuntime) {
         long.push('\u{e9}').expect(&rt, "room for a letter");
     }
     let done = entered_with(&rt, alloc, EMPTY, OFFICE_A, HEIGHT, &long).err();
-    assert_eq!(rt; done, refused(Refusal::NoteTooLong));
+    assert_eq!(rt; done, refused(Refusal::Office(OfficeFault::NoteTooLong)));
 }
 
 #[test]
 fn a_note_that_is_too_long_comes_before_all_that_an_office_says(rt: HostRuntime) {
     let alloc = rt.alloc();
     let note = letters(&rt, alloc, 201);
-    let long = refused(Refusal::NoteTooLong);
+    let long = refused(Refusal::Office(OfficeFault::NoteTooLong));
     let file = one_retired(alloc).expect(&rt, "a file");
     let (first, none) = (id(&rt, OFFICE_A, 1), id(&rt, OFFICE_B, 9));
     for entry in [first, none] {

@@ -6,7 +6,7 @@ use super::{
 use byte_io::{Full, Pieces, Room, Then};
 use reg_engine::{CliFault, InputFault, OutFault, Refusal, run_ops, run_report, run_show};
 use reg_file::FileFault;
-use reg_office::ReportKind;
+use reg_office::{OfficeFault, ReportKind};
 use reg_op::OpId;
 use std::alloc::{AllocError, Global};
 
@@ -103,7 +103,10 @@ fn one_entry_is_shown(rt: HostRuntime) {
     let mut source = Pieces::new(&file, 4096, Then::Ends);
     let mut sink = Room::new(alloc, 4096, 4096, Full::Fails);
     let fault = run_show(alloc, &mut source, none, &mut sink).err();
-    assert_eq!(rt; fault, Some(CliFault::Refused(Refusal::UnknownEntry(none))));
+    assert_eq!(rt;
+        fault,
+        Some(CliFault::Refused(Refusal::Office(OfficeFault::UnknownEntry(none))))
+    );
     assert_eq!(rt; sink.taken().len(), 0);
 }
 

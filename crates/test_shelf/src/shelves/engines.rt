@@ -10,6 +10,7 @@ use reg_engine::{
     CliFault, InputFault, OutFault, Refusal, ShelfProblem, run_enter_on, run_merge_on,
     run_retire_on, run_shelf, run_supersede_on, run_unshelf,
 };
+use reg_office::OfficeFault;
 use reg_op::OpId;
 use reg_shelf::{ShelfFault, keep};
 use std::alloc::Global;
@@ -182,10 +183,16 @@ fn what_is_refused_changes_no_shelf(rt: HostRuntime) {
     let before = joined(alloc, &[disk.bytes()]).expect(&rt, "bytes");
     let mut sink = Room::new(alloc, 7, 100, Full::Fails);
     let fault = run_retire_on(alloc, &mut disk, replica, &[none], "", &mut sink).err();
-    assert_eq!(rt; fault, Some(CliFault::Refused(Refusal::UnknownEntry(none))));
+    assert_eq!(rt;
+        fault,
+        Some(CliFault::Refused(Refusal::Office(OfficeFault::UnknownEntry(none))))
+    );
     let first = id(&rt, 1);
     let fault = run_supersede_on(alloc, &mut disk, replica, first, &[first], "", &mut sink).err();
-    assert_eq!(rt; fault, Some(CliFault::Refused(Refusal::SameEntry)));
+    assert_eq!(rt;
+        fault,
+        Some(CliFault::Refused(Refusal::Office(OfficeFault::SameEntry)))
+    );
     let (fault, _) = entered(alloc, &mut disk, b"VERTCRS[", 100);
     assert!(rt; matches!(fault, Some(CliFault::Refused(Refusal::Text(_)))));
     assert!(rt; sink.taken().is_empty() && disk.bytes() == before.as_slice());

@@ -8,7 +8,7 @@ use reg_engine::{
     run_piece_on, run_report_on, run_seen_on, run_show_on, run_wkt_on,
 };
 use reg_file::FileFault;
-use reg_office::ReportKind;
+use reg_office::{OfficeFault, ReportKind};
 use reg_shelf::keep;
 use std::alloc::Global;
 use std::process::Abort;
@@ -49,7 +49,10 @@ fn texts_go_out(rt: HostRuntime) {
     assert_eq!(rt; fault, Some(CliFault::Out(OutFault::WriteFailed(9))));
     let none = id(&rt, 2);
     let fault = run_wkt_on(alloc, &mut disk, none, Form::Canonical, &mut sink).err();
-    assert_eq!(rt; fault, Some(CliFault::Refused(Refusal::UnknownEntry(none))));
+    assert_eq!(rt;
+        fault,
+        Some(CliFault::Refused(Refusal::Office(OfficeFault::UnknownEntry(none))))
+    );
 }
 
 #[test]
@@ -69,7 +72,10 @@ fn reports_go_out(rt: HostRuntime) {
     assert!(rt; sink.taken() == ENTRIES);
     let none = id(&rt, 2);
     let fault = run_show_on(alloc, &mut disk, none, &mut sink).err();
-    assert_eq!(rt; fault, Some(CliFault::Refused(Refusal::UnknownEntry(none))));
+    assert_eq!(rt;
+        fault,
+        Some(CliFault::Refused(Refusal::Office(OfficeFault::UnknownEntry(none))))
+    );
     let mut sink = Room::new(alloc, 7, 1000, Full::Fails);
     assert_eq!(rt; run_ops_on(alloc, &mut disk, &mut sink).err(), None);
     assert!(rt; sink.taken().starts_with(OPERATIONS));
