@@ -69,7 +69,11 @@ fn push_fault(alloc: Global, row: &mut ByteRecord, fault: InputFault) -> Result<
 }
 
 // The same of what is wrong with a shelf.
-fn push_problem(alloc: Global, row: &mut ByteRecord, problem: ShelfProblem) -> Result<(), AllocError>
+fn push_problem(
+    alloc: Global,
+    row: &mut ByteRecord,
+    problem: ShelfProblem,
+) -> Result<(), AllocError>
     requires { partial_of row.old ≡ [] }
     ensures { OnOk result ((words : List ℕ) × Adds row.old row.new (words ∷ no_figures)) }
 {

@@ -55,7 +55,10 @@ fn look_onto<D: Disk>(alloc: Global, opened: &mut Opened<D>) -> Result<Look, All
 }
 
 // What each shelf has, in their order.
-fn shelf_looks_of<D: Disk>(alloc: Global, shelves: &mut [Opened<D>]) -> Result<Vec<Look>, AllocError>
+fn shelf_looks_of<D: Disk>(
+    alloc: Global,
+    shelves: &mut [Opened<D>],
+) -> Result<Vec<Look>, AllocError>
     ensures { IfOk result (λ looks. AreShelfLooks (disks D.tells D.seen D.images D.moment D.images_since D.failures)
         (map (opened_state itself) shelves.old) (map (opened_state itself) shelves.new) looks.items) }
 {

@@ -39,7 +39,13 @@ fn note_at(
         return Ok(Vec::new(alloc));
     }
     match cuts.get(refused.at) {
-        Some(cut) => note_of(alloc, order.names, files, *cut, Told::Refused(refused.problem)),
+        Some(cut) => note_of(
+            alloc,
+            order.names,
+            files,
+            *cut,
+            Told::Refused(refused.problem),
+        ),
         None => Ok(Vec::new(alloc)),
     }
 }

@@ -45,7 +45,14 @@ fn explained(
         return Err(AllocError);
     };
     let name = name_of(names, cut.file);
-    explain_within(alloc, name, content_of(files, cut.file), cut.place, end, fault)
+    explain_within(
+        alloc,
+        name,
+        content_of(files, cut.file),
+        cut.place,
+        end,
+        fault,
+    )
 }
 
 /// What is said of a text of which this came.

@@ -33,10 +33,7 @@ fn push_cuts<'a>(
 }
 
 /// Where the texts of the files stand, in their order.
-pub fn cut_files<'a>(
-    alloc: Global,
-    files: &'a [Vec<u8>],
-) -> Result<Vec<FileCut<'a>>, AllocError>
+pub fn cut_files<'a>(alloc: Global, files: &'a [Vec<u8>]) -> Result<Vec<FileCut<'a>>, AllocError>
     ensures { IfOk result (λ cuts. AreCuts 0 (bytes_of files.now) (map text_at cuts.items)) }
 {
     let mut all = Vec::new(alloc);
