@@ -1,7 +1,6 @@
 -- What there is of each key after an import, and what stands then.
-use Rattle.std.proofs.Common.{◌≡◌, ℕ, ◌+◌, ◌<◌, ◌≤◌, Bool, true, false, not, ◌&&◌, ◌||◌, cond, List, [], ◌∷◌, ◌++◌, append_assoc, append-nil, add-zero, map, filter, length, Ok, refl, sym, ap, ◌∙◌, subst, inl, inr, ◌⊎◌, arith}
+use Rattle.std.proofs.Common.{◌≡◌, ℕ, ◌+◌, true, false, ◌&&◌, ◌||◌, List, [], ◌∷◌, ◌++◌, append_assoc, append-nil, add-zero, length, refl, sym, ap, ◌∙◌, subst, inl, inr, ◌⊎◌, arith}
 use Rattle.std.specs.Prelude.{Contains}
-use Rattle.std.specs.List.{list_any}
 use Rattle.std.specs.Cmp.{tied_itself}
 use Rattle.std.specs.Ordering.{is_eq, eq_by_cmp}
 use Rattle.std.proofs.lemmas.Bool.{true≢false, or_cases, or_left, or_right, or_parts, and_parts, false_from_ne_true}
@@ -35,7 +34,7 @@ use Rattle.reg_import.specs.declared.told.Differs.{Differs}
 use Rattle.reg_import.specs.declared.told.Told.{Told}
 use Rattle.reg_import.specs.declared.told.Told.TheVariants as told
 use Rattle.reg_import.specs.Known.{AreStanding, OfKey, At, is_key, key_of, by_key, with_key}
-use Rattle.reg_import.specs.Imports.{told_of, bodies_of, entered, then_of, told_at, bodies_at, then_at, imports, tolds, effects, is_refused, is_spent, NoneSpent}
+use Rattle.reg_import.specs.Imports.{told_of, bodies_of, entered, then_of, imports, effects, is_refused, is_spent}
 use Rattle.reg_import.specs.Plans.{retired}
 use Rattle.reg_import.specs.Again.{HasStanding, RetiresNoneAhead}
 use Rattle.reg_import.proofs.NumberedLemmas.{numbered_append}
@@ -45,7 +44,7 @@ use Rattle.reg_import.proofs.OnceLemmas.{Once}
 use Rattle.reg_import.proofs.FreshLemmas.{imports_once}
 use Rattle.reg_import.proofs.TextLemmas.{HasText, comes_ours}
 use Rattle.reg_import.proofs.AgainLemmas.{at_key, finally, ours_stay, SameTexts}
-use Rattle.reg_import.proofs.StandingLemmas.{in_filter, to_filter, one_key, IsOld, standing_is_old, IsOneOf, old_is_standing, one_key_an_id, entry_stands, standing_entry, gone, still_entered, now_entered, was_entered, then_retired}
+use Rattle.reg_import.proofs.StandingLemmas.{in_filter, to_filter, one_key, IsOld, standing_is_old, old_is_standing, one_key_an_id, entry_stands, standing_entry, gone, still_entered, now_entered, was_entered, then_retired}
 
 -- the key of a text that was read is the one in it
 abbrev pub IsKeyed : Reading → Type 0

@@ -1,38 +1,34 @@
 -- Importing again, and importing what was exported.
-use Rattle.std.proofs.Common.{◌≡◌, ◌↔◌, ℕ, ◌+◌, ◌<◌, Bool, true, false, not, ◌||◌, cond, List, [], ◌∷◌, ◌++◌, map, filter, length, Some, None, refl, sym, ap, ◌∙◌, subst, inl, inr, ◌⊎◌, arith, zero, suc}
+use Rattle.std.proofs.Common.{◌≡◌, ◌↔◌, ℕ, ◌+◌, Bool, true, false, not, ◌||◌, cond, List, [], ◌∷◌, ◌++◌, map, filter, length, Some, refl, sym, ap, ◌∙◌, subst, inl, inr, ◌⊎◌, arith, zero, suc}
 use Rattle.std.specs.Prelude.{Contains, All}
 use Rattle.std.specs.List.{list_any, flat_map, slice_get}
 use Rattle.std.proofs.lemmas.List.Elements.{All-nil, All-cons}
 use Rattle.std.proofs.lemmas.Bool.{true≢false, or_parts, or_right, false_from_ne_true}
-use Rattle.crs_value.specs.declared.crs.Crs.{Crs}
 use Rattle.crs_value.specs.declared.key.Key.{Key}
 use Rattle.wkt_tree.specs.Tree.{Piece}
-use Rattle.wkt_crs.specs.Spells.{Spells, canon}
+use Rattle.wkt_crs.specs.Spells.{canon}
 use Rattle.wkt_crs.specs.Unspelled.{as_read}
-use Rattle.wkt_crs.specs.Definition.{HasNone, IsDefinition, IsKeyIn, IsTextFault}
+use Rattle.wkt_crs.specs.Definition.{HasNone, IsDefinition, IsTextFault}
 use Rattle.wkt_crs.specs.declared.definition.DefinitionFault.{DefinitionFault}
 use Rattle.wkt_crs.specs.declared.definition.DefinitionFault.TheVariants as fault
 use Rattle.wkt_crs.proofs.Texts.{one_value}
 use Rattle.wkt_crs.proofs.Defining.{spelled_by_definition, never_refused, not_memory}
 use Rattle.wkt_texts.specs.Texts.{IsCutInto}
-use Rattle.wkt_texts.specs.Printed.{IsCanonical, printed}
+use Rattle.wkt_texts.specs.Printed.{IsCanonical, printed, AreFound}
 use Rattle.wkt_texts.proofs.OneCut.{one_cut}
 use Rattle.wkt_texts.proofs.Found.{printed_found}
 use Rattle.reg_op.specs.Set as set
 use Rattle.reg_op.specs.Set.{contains, contains-empty}
-use Rattle.reg_op.specs.Ids.{Id}
 use Rattle.reg_op.specs.Kept.{entering}
-use Rattle.reg_op.specs.Operations.{Op, Ops, op_cmp}
-use Rattle.reg_op.specs.declared.operation.OpBody.{OpBody as Body}
-use Rattle.reg_op.specs.declared.operation.OpBody.TheVariants.{Enter}
+use Rattle.reg_op.specs.Operations.{Op, op_cmp}
 use Rattle.reg_op.specs.Contents.{Content, nothing, IsContent}
 use Rattle.reg_op.specs.Rows.{Row, rows}
-use Rattle.reg_op.specs.Status.{retires, is_retirement}
+use Rattle.reg_op.specs.Status.{is_retirement}
 use Rattle.reg_op.proofs.OpLemmas.{op_total, op_exact}
 use Rattle.reg_op.proofs.FiniteLemmas.{member_from_any}
 use Rattle.reg_op.proofs.ContentLemmas.{nothing_is_content}
 use Rattle.reg_seen.specs.Runs.{id_at}
-use Rattle.reg_office.specs.Conflicts.{KeyBytes, bytes_of}
+use Rattle.reg_office.specs.Conflicts.{bytes_of}
 use Rattle.reg_office.specs.Exports.{is_retired, row_line, export}
 use Rattle.reg_office.specs.Making.{greatest}
 use Rattle.reg_office.specs.Commands.{Does}
@@ -43,18 +39,19 @@ use Rattle.reg_import.specs.declared.reading.Reading.{Reading}
 use Rattle.reg_import.specs.declared.reading.Reading.TheVariants as reading
 use Rattle.reg_import.specs.declared.told.Differs.{Differs}
 use Rattle.reg_import.specs.declared.told.Differs.TheVariants as differs
+use Rattle.reg_import.specs.declared.told.Problem.{Problem}
 use Rattle.reg_import.specs.declared.told.Told.{Told}
 use Rattle.reg_import.specs.declared.told.Told.TheVariants as told
 use Rattle.reg_import.specs.declared.import.ImportRefusal.{ImportRefusal}
 use Rattle.reg_import.specs.declared.import.ImportRefusal.TheVariants as refusal
-use Rattle.reg_import.specs.Known.{AreStanding, stands, OfKey, At, is_key, by_key, with_key}
+use Rattle.reg_import.specs.Known.{stands, OfKey, At, by_key, with_key}
 use Rattle.reg_import.specs.Readings.{IsReading}
-use Rattle.reg_import.specs.Imports.{least, any_entry, told_of, bodies_of, then_of, imports, Step, tolds, effects, is_refused, is_spent, NoneRefused, NoneSpent}
+use Rattle.reg_import.specs.Imports.{told_of, bodies_of, then_of, imports, Step, tolds, effects, is_refused, is_spent, NoneRefused, NoneSpent}
 use Rattle.reg_import.specs.Plans.{AreSteps, Imports, IsImportRefusal}
-use Rattle.reg_import.specs.Again.{HasStanding, AreReadings, RetiresNoneAhead, is_there, IsToldAgain}
+use Rattle.reg_import.specs.Again.{HasStanding, standing_texts, AreReadings, RetiresNoneAhead, is_there, IsToldAgain}
 use Rattle.reg_import.proofs.KnownLemmas.{key_itself}
-use Rattle.reg_import.proofs.TextLemmas.{HasText, blocks, there_not_refused, refused_of_beside, comes_ours}
-use Rattle.reg_import.proofs.AgainLemmas.{at_key, finally, ours_stay, SameTexts, quiet_all}
+use Rattle.reg_import.proofs.TextLemmas.{HasText, refused_of_beside, comes_ours}
+use Rattle.reg_import.proofs.AgainLemmas.{at_key, finally, ours_stay, quiet_all}
 use Rattle.reg_import.proofs.StandingLemmas.{in_filter, to_filter, nothing_done, then_one_body, then_kept}
 use Rattle.reg_import.proofs.LastLemmas.{IsKeyed, AreKeyed, same_texts, last_stands, stood_or_read}
 
@@ -163,11 +160,7 @@ refused_again x y replica note again noted d keep_going readings ts is ahead key
 
 -- ---- what is exported
 
--- the texts of all entries that stand
-abbrev texts_in : List Row → List (List ℕ)
-texts_in rs = map (λ (r : Row). r.definition) (filter stands rs)
-
-lines_are : (rs : List Row) → flat_map row_line rs ≡ printed (texts_in rs)
+lines_are : (rs : List Row) → flat_map row_line rs ≡ printed (map (λ (r : Row). r.definition) (filter stands rs))
 lines_are [] = refl
 lines_are (r ∷ rs) =
     elim (is_retired r.status) as (λ b. (cond b [] (r.definition ++ 10 ∷ []) ++ flat_map row_line rs) ≡ printed (map (λ (q : Row). q.definition) (cond (not b) (r ∷ filter stands rs) (filter stands rs)))) [
@@ -184,7 +177,7 @@ all_canonical (text ∷ texts) h = let d = h text (in_head text texts) in All-co
 
 module _ (x : Content) (is : IsContent x) where
   abbrev texts : List (List ℕ)
-  texts = texts_in (rows x.ops)
+  texts = standing_texts x.ops
 
   exported_standing : (text : List ℕ) → Contains texts text → HasStanding x.ops text
   exported_standing text c =
@@ -199,11 +192,11 @@ module _ (x : Content) (is : IsContent x) where
   exported_defined text c = let h = exported_standing text c in subst IsDefinition h.definition (defined_rows x is h.row h.there)
 
   -- the file is cut into just these texts
+  pub exported_found : AreFound (export x.ops) texts
+  exported_found = subst (λ file. AreFound file texts) (sym (lines_are (rows x.ops))) (printed_found texts (all_canonical texts exported_defined))
+
   cut_texts : (cuts : List Piece) → IsCutInto (export x.ops) cuts → map (λ (c : Piece). c.bytes) cuts ≡ texts
-  cut_texts cuts h =
-      let found = printed_found texts (all_canonical texts exported_defined) in
-      let same : cuts ≡ found.0 = one_cut (export x.ops) cuts found.0 h (subst (λ file. IsCutInto file found.0) (sym (lines_are (rows x.ops))) found.1) in
-      ap (map (λ (c : Piece). c.bytes)) same ∙ found.2
+  cut_texts cuts h = ap (map (λ (c : Piece). c.bytes)) (one_cut (export x.ops) cuts exported_found.0 h exported_found.1) ∙ exported_found.2
 
 -- ---- how a definition is read
 
@@ -252,6 +245,36 @@ beside_there r n at (reading.Defined text key ∷ readings) other its unspent c 
       | inr later ↦ beside_there r m next readings other its parts.1 later
     ]
 
+-- each reading is a definition
+abbrev AllDefined : List Reading → Type 0
+AllDefined [] = Unit {0}
+AllDefined (reading.Unread f ∷ readings) = ⊥
+AllDefined (reading.Defined text key ∷ readings) = AllDefined readings
+
+all_defined : (texts : List (List ℕ)) (readings : List Reading) → ((text : List ℕ) → Contains texts text → IsDefinition text) → AreReadings texts readings → AllDefined readings
+all_defined [] readings are h = subst AllDefined (sym h) tt
+all_defined (text ∷ texts) readings are h =
+    let k = defined_as text h.0 h.2 (are text (in_head text texts)) in
+    let rest = all_defined texts h.1 (λ w c. are w (in_tail w text texts c)) h.3 in
+    subst AllDefined (sym (h.4 ∙ ap (λ r. r ∷ h.1) k.1)) rest
+
+beside_unrefused : (r : List ℕ) (n : ℕ) (at : At) (readings : List Reading) → AllDefined readings → NoneRefused (tolds (imports differs.Beside r n at readings))
+beside_unrefused r n at [] h = refl
+beside_unrefused r n at (reading.Unread f ∷ readings) h = absurd h
+beside_unrefused r n at (reading.Defined text key ∷ readings) h =
+    let there : OfKey = at (bytes_of key) in
+    let t : Told = told_of differs.Beside (id_at r n) there text in
+    let rest = beside_unrefused r (n + length (bodies_of t text there.known)) (with_key (bytes_of key) (then_of t key text there) at) readings h in
+    λ j. refused_of_beside (id_at r n) there text j || rest j
+
+pub exported_pass : (x : Content) (replica note : List ℕ) (keep_going : Bool) (cuts : List Piece) (readings : List Reading) (at : ℕ) (p : Problem) → IsContent x → IsCutInto (export x.ops) cuts
+    → AreReadings (map (λ (c : Piece). c.bytes) cuts) readings → IsImportRefusal nothing replica note differs.Beside keep_going readings (refusal.Refused at p) → ⊥
+exported_pass x replica note keep_going cuts readings at p is cut read h =
+    let are : AreReadings (standing_texts x.ops) readings = subst (λ l. AreReadings l readings) (cut_texts x is cuts cut) read in
+    let all : AllDefined readings = all_defined (standing_texts x.ops) readings (exported_defined x is) are in
+    let none : NoneRefused (tolds h.1.0) = subst (λ (steps : List Step). NoneRefused (tolds steps)) (sym h.1.1.2) (beside_unrefused replica (greatest replica nothing.seen + 1) (by_key h.1.1.0) readings all) in
+    true≢false (sym (passes_at (tolds h.1.0) at (told.Refused p) h.1.2.1.refused refl) ∙ none)
+
 none_retired : (replica : List ℕ) → RetiresNoneAhead nothing replica
 none_retired replica count h = false_from_ne_true _ (λ r.
     let m = member_from_any op_total op_exact (λ (o : Op). is_retirement (id_at replica count) o.body) (set.empty {R = op_cmp}) r in
@@ -263,8 +286,8 @@ nothing_stands text h = let p = row_is_entered nothing.ops h.row h.there in true
 pub import_exported : (x y : Content) (replica note : List ℕ) (keep_going : Bool) (cuts : List Piece) (readings : List Reading) (ts : List Told) → IsContent x → IsCutInto (export x.ops) cuts
     → AreReadings (map (λ (c : Piece). c.bytes) cuts) readings → Imports nothing replica note differs.Beside keep_going readings y ts → (text : List ℕ) → HasStanding y.ops text ↔ HasStanding x.ops text
 import_exported x y replica note keep_going cuts readings ts is cut read m text =
-    let are : AreReadings (texts_in (rows x.ops)) readings = subst (λ l. AreReadings l readings) (cut_texts x is cuts cut) read in
-    let keyed : AreKeyed readings = are_keyed (texts_in (rows x.ops)) readings are in
+    let are : AreReadings (standing_texts x.ops) readings = subst (λ l. AreReadings l readings) (cut_texts x is cuts cut) read in
+    let keyed : AreKeyed readings = are_keyed (standing_texts x.ops) readings are in
     let es : List Known = m.are_steps.0 in
     let first : ℕ = greatest replica nothing.seen + 1 in
     let done : Does nothing replica note (effects (imports differs.Beside replica first (by_key es) readings)) y m.ids = subst (λ s. Does nothing replica note (effects s) y m.ids) m.are_steps.2 m.does in
@@ -272,12 +295,12 @@ import_exported x y replica note keep_going cuts readings ts is cut read m text 
       λ h. elim (stood_or_read nothing y replica note differs.Beside readings es m.ids nothing_is_content (none_retired replica) keyed m.are_steps.1 done text h) [
         | inl before ↦ absurd (nothing_stands text before)
         | inr one ↦
-            let w = text_of (texts_in (rows x.ops)) readings (reading.Defined text one.0) are one.1 in
-            exported_standing x is text (subst (Contains (texts_in (rows x.ops))) (sym (same_definition w.0 text one.0 w.2 (exported_defined x is w.0 w.1))) w.1)
+            let w = text_of (standing_texts x.ops) readings (reading.Defined text one.0) are one.1 in
+            exported_standing x is text (subst (Contains (standing_texts x.ops)) (sym (same_definition w.0 text one.0 w.2 (exported_defined x is w.0 w.1))) w.1)
       ],
       λ h.
-          let c : Contains (texts_in (rows x.ops)) text = standing_exported x is text h in
-          let r = read_of (texts_in (rows x.ops)) readings text are c in
+          let c : Contains (standing_texts x.ops) text = standing_exported x is text h in
+          let r = read_of (standing_texts x.ops) readings text are c in
           let k = defined_as text r.0 r.2 (exported_defined x is text c) in
           last_stands nothing y replica note differs.Beside readings es m.ids nothing_is_content (none_retired replica) keyed m.are_steps.1 done (bytes_of k.0) text
           (beside_there replica first (by_key es) readings text k.0 unspent (subst (Contains readings) k.1 r.1)),

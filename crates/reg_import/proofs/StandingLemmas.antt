@@ -1,9 +1,7 @@
 -- The entries that stand in a content, and in one that new operations have joined.
-use Rattle.std.proofs.Common.{◌≡◌, ◌≢◌, ℕ, ◌+◌, Bool, true, false, not, ◌||◌, cond, List, [], ◌∷◌, ◌++◌, filter, Some, None, Result, Ok, refl, sym, ap, ◌∙◌, subst, inl, inr, ◌⊎◌}
+use Rattle.std.proofs.Common.{◌≡◌, ℕ, ◌+◌, Bool, true, false, not, ◌||◌, cond, List, [], ◌∷◌, ◌++◌, filter, Some, None, Result, Ok, refl, sym, ap, ◌∙◌, subst, inl, inr, ◌⊎◌}
 use Rattle.std.specs.Prelude.{Contains}
 use Rattle.std.specs.List.{list_any, flat_map}
-use Rattle.std.specs.Cmp.{tied_itself}
-use Rattle.std.specs.Ordering.{is_eq}
 use Rattle.std.proofs.lemmas.Bool.{true≢false, or_cases}
 use Rattle.std.proofs.lemmas.List.Elements.{Contains-append_cases, Contains-append_left, Contains-append_right}
 use Rattle.crs_part.specs.declared.identifiers.Ident.{Ident}
@@ -14,13 +12,13 @@ use Rattle.wkt_crs.specs.Definition.{HasKey, IsKeyIn}
 use Rattle.wkt_crs.proofs.Texts.{one_value}
 use Rattle.reg_op.specs.Set as set
 use Rattle.reg_op.specs.Set.{contains, contains-items, contains-from_list, union}
-use Rattle.reg_op.specs.Ids.{Id, is_same, is_before}
+use Rattle.reg_op.specs.Ids.{Id, is_before}
 use Rattle.reg_op.specs.Lists.{has}
 use Rattle.reg_op.specs.Kept.{entering}
 use Rattle.reg_op.specs.Operations.{Op, Ops, op_cmp, OneBody, kept, replaces_body}
 use Rattle.reg_op.specs.declared.operation.OpBody.{OpBody as Body}
 use Rattle.reg_op.specs.declared.operation.OpBody.TheVariants.{Enter, Supersede, Retire}
-use Rattle.reg_op.specs.Contents.{Content, state, nothing, merged, joined, IsContent}
+use Rattle.reg_op.specs.Contents.{Content, state, nothing, merged, joined}
 use Rattle.reg_op.specs.Rows.{Row, rows, rows_at, newer_of}
 use Rattle.reg_op.specs.Status.{enters, retires, supersedes, status, is_retirement}
 use Rattle.reg_op.specs.declared.status.Status.TheVariants.{Retired, Superseded, Valid}
@@ -30,7 +28,7 @@ use Rattle.reg_op.proofs.ContentLemmas.{contains_op-union, kept_is_within, kept-
 use Rattle.reg_op.proofs.OneLemmas.{kept_has, any-from_list}
 use Rattle.reg_op.proofs.StatusLemmas.{retires-kept}
 use Rattle.reg_op.proofs.JoinLemmas.{joined_ok}
-use Rattle.reg_office.specs.Conflicts.{KeyBytes, bytes_of}
+use Rattle.reg_office.specs.Conflicts.{bytes_of}
 use Rattle.reg_office.specs.Exports.{is_retired}
 use Rattle.reg_office.specs.Making.{greatest, numbered}
 use Rattle.reg_office.specs.Commands.{Does}

@@ -1,5 +1,5 @@
 -- What comes of a text, by whether an entry of its key has it.
-use Rattle.std.proofs.Common.{◌≡◌, ℕ, ◌+◌, ◌≤◌, nat_eq, nat_le, Bool, true, false, cond, List, [], ◌∷◌, ◌++◌, map, length, Option, Some, None, refl, sym, ap, ◌∙◌, subst, inl, inr, ◌⊎◌}
+use Rattle.std.proofs.Common.{◌≡◌, ℕ, ◌+◌, nat_eq, nat_le, Bool, true, false, cond, List, [], ◌∷◌, ◌++◌, length, Option, Some, None, refl, sym, ap, ◌∙◌, subst, inl, inr, ◌⊎◌}
 use Rattle.std.specs.Prelude.{option_map, Contains}
 use Rattle.std.specs.Option.{unwrap_or}
 use Rattle.std.specs.Cmp.Lexicographic.{pointwise}
@@ -8,7 +8,6 @@ use Rattle.std.proofs.lemmas.List.Elements.{Contains-append_left, Contains-appen
 use Rattle.crs_value.specs.declared.key.Key.{Key}
 use Rattle.wkt_crs.proofs.Defining.{same_bytes, not_same}
 use Rattle.reg_op.specs.Ids.{Id}
-use Rattle.reg_op.specs.declared.operation.OpBody.{OpBody as Body}
 use Rattle.reg_office.proofs.ConflictLemmas.{none_in, in_cons, in_head, in_tail}
 use Rattle.reg_import.specs.declared.known.Known.{Known}
 use Rattle.reg_import.specs.declared.told.Differs.{Differs}

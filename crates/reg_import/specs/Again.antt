@@ -1,5 +1,5 @@
 -- What stands in a content, and what is told where nothing is new.
-use Rattle.std.specs.Prelude.{◌≡◌, ℕ, ◌<◌, Bool, true, false, not, List, [], ◌∷◌, Contains, map}
+use Rattle.std.specs.Prelude.{◌≡◌, ℕ, ◌<◌, Bool, true, false, not, List, [], ◌∷◌, Contains, map, filter}
 use Rattle.reg_op.specs.Operations.{Ops}
 use Rattle.reg_op.specs.Contents.{Content}
 use Rattle.reg_op.specs.Rows.{Row, rows}
@@ -19,6 +19,10 @@ pub record HasStanding (s : Ops) (text : List ℕ) : Type 0 where
   pub there : Contains (rows s) row
   pub definition : row.definition ≡ text
   pub stands : stands row ≡ true
+
+-- the texts of all entries that are not retired, by id
+abbrev pub standing_texts : Ops → List (List ℕ)
+standing_texts s = map (λ (r : Row). r.definition) (filter stands (rows s))
 
 -- each text is read so
 abbrev pub AreReadings : List (List ℕ) → List Reading → Type 0
