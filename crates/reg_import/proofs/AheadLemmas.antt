@@ -159,7 +159,7 @@ none_ahead w is i count h =
     false_from_ne_true _ (λ r.
     let m = member_from_any op_total op_exact (λ (o : Op). is_retirement e o.body) x.ops r in
     let known : contains (w.offices i).reached m.0 ≡ true = kept_is_within (w.offices i).reached m.0 (subst (λ (y : Content). contains y.ops m.0 ≡ true) (inv.content i) m.1) in
-    let given = all_given is.0 start starts w (λ o there f body. absurd (true≢false (sym there ∙ contains-empty op_cmp o))) is.1 i m.0 known e (retires_body e m.0.body m.2) in
+    let given = all_given is.0 start starts w (λ o there f body. absurd (true≢false (sym (starts.own o there) ∙ contains-empty op_cmp o))) is.1 i m.0 known e (retires_body e m.0.body m.2) in
     let seen : contains x.seen e ≡ true = subst (λ (y : Content). contains y.seen e ≡ true) (sym (inv.content i)) (subst (λ j. contains (state (w.offices i).reached).seen j ≡ true) given.is (ids_has (w.offices i).reached given.op given.there)) in
     let most = count-greatest i x.seen e seen refl in
     absurd (omega arith))
