@@ -32,7 +32,8 @@ pub fn status<'a>(alloc: Global) -> Result<Command<'a>, AllocError> {
         .about("Prints how much each register has, and what is open in it")
         .after_help(STATUS_OF_HELP)
         .arg(several(alloc, "FILE", "The files of registers"))?
-        .arg(flag(alloc, "settled", "Refuses where something is open in one"))
+        .arg(flag(alloc, "settled", "Refuses where something is open in one"))?
+        .arg(on_shelf(alloc, "Each FILE is a shelf"))
 }
 
 /// `offices`.

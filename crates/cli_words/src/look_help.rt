@@ -20,7 +20,8 @@ register's has its fault there. All lines are printed; the first such fault is
 told on standard error, and the status is 3.
 
 With --settled it is refused as Unsettled where a register has a conflict, an
-awaited id or a gap.
+awaited id or a gap. With --shelf each FILE is a shelf; its bytes are those of
+the register's file on it.
 
 Example:
   crsreg status north.crs south.crs --settled";

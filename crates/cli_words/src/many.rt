@@ -24,6 +24,7 @@ pub fn import<'a>(alloc: Global, office: Option<&'a str>) -> Result<Command<'a>,
             "Says what would be done, and writes nothing",
         ))?;
     whole
+        .arg(flag(alloc, "explain", "Says more of why texts are refused"))?
         .arg(on_shelf(alloc, ON_SHELF))?
         .arg(unless_dry(alloc)?)
 }

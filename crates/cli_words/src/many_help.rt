@@ -17,7 +17,9 @@ text in it, what was done, the entry, its authority, code and name.
 
 The first text that is refused ends the command: nothing is written. With
 --keep-going it is listed with its fault, the others are entered, and the
-status is 1. The same files imported again do nothing.
+status is 1. With --explain it is said below the line of the fault of each text
+that is refused where it stands, and why. The same files imported again do
+nothing.
 
 Example:
   crsreg import office.crs --as 00000000-0000-4000-8000-00000000000a \\

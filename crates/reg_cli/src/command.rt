@@ -109,6 +109,7 @@ fn perform_explained(rt: &HostRuntime, name: &str, matches: &ArgMatches<'_>) -> 
     match name {
         "check" => Some(explain::check(rt, matches)),
         "enter" => Some(explain::enter(rt, matches)),
+        "import" => Some(import(rt, matches)),
         _ => None,
     }
 }

@@ -55,7 +55,7 @@ pub fn status(rt: &HostRuntime, matches: &ArgMatches<'_>) -> Result<(), CliFault
     let Ok(names) = names_of(rt.alloc(), paths) else {
         return Err(CliFault::Memory);
     };
-    let Ok(mut files) = opened(rt, rt.alloc(), paths) else {
+    let Ok(mut files) = opened_files(rt, rt.alloc(), paths) else {
         return Err(CliFault::Memory);
     };
     let mut sink = Writing::new(io::writer(rt));
@@ -72,7 +72,7 @@ pub fn names_of<'a>(alloc: Global, paths: &[&'a str]) -> Result<Vec<&'a [u8]>, A
 }
 
 // Opens all files that can be opened.
-fn opened<R: Files>(
+fn opened_files<R: Files>(
     rt: &R,
     alloc: Global,
     paths: &[&str],

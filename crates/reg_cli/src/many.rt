@@ -3,12 +3,10 @@ use crate::outcome::Outcome;
 use crate::words::{entries, open, open_shelf, place, replica, word};
 use byte_io::{Reading, Writing};
 use clap::ArgMatches;
-use reg_desk::{
-    ImportAs, run_import, run_import_on, run_settle, run_settle_equal, run_settle_equal_on,
-    run_settle_on, try_import, try_import_on,
-};
+use reg_desk::{run_settle, run_settle_equal, run_settle_equal_on, run_settle_on};
 use reg_engine::CliFault;
 use reg_import::Differs;
+use reg_load::{Order, run_import, run_import_on, try_import, try_import_on};
 use std::alloc::{AllocError, Global};
 use std::io;
 use std::rt::Files;
@@ -116,12 +114,15 @@ fn open_texts<R: Files>(
     Ok(sources)
 }
 
-// How texts are imported by the office of this replica.
-fn how(replica: Uuid, matches: &ArgMatches<'_>) -> ImportAs {
-    ImportAs {
+// What the office of this replica tells an import of files of these names.
+fn order_of<'a>(replica: Uuid, matches: &ArgMatches<'a>, names: &'a [String]) -> Order<'a> {
+    Order {
         replica,
         differs: differs(word(matches, "differs")),
         keep_going: matches.get_flag("keep-going"),
+        explain: matches.get_flag("explain"),
+        note: word(matches, "note"),
+        names,
     }
 }
 
@@ -146,17 +147,10 @@ pub fn import(rt: &HostRuntime, matches: &ArgMatches<'_>) -> Outcome {
         Ok(files) => files,
         Err(fault) => return Outcome::Fault(fault),
     };
+    let order = order_of(replica, matches, &names);
     let mut sink = Writing::new(io::writer(rt));
     if matches.get_flag("dry-run") {
-        let answer = try_import(
-            rt.alloc(),
-            &mut source,
-            &mut files,
-            &names,
-            &how(replica, matches),
-            word(matches, "note"),
-            &mut sink,
-        );
+        let answer = try_import(rt.alloc(), &mut source, &mut files, &order, &mut sink);
         return Outcome::of_import(answer);
     }
     let mut place = match place(rt, rt.alloc(), word(matches, "out")) {
@@ -167,9 +161,7 @@ pub fn import(rt: &HostRuntime, matches: &ArgMatches<'_>) -> Outcome {
         rt.alloc(),
         &mut source,
         &mut files,
-        &names,
-        &how(replica, matches),
-        word(matches, "note"),
+        &order,
         &mut place,
         &mut sink,
     );
@@ -197,28 +189,12 @@ pub fn import_on(rt: &HostRuntime, matches: &ArgMatches<'_>) -> Outcome {
         Ok(files) => files,
         Err(fault) => return Outcome::Fault(fault),
     };
-    let note = word(matches, "note");
+    let order = order_of(replica, matches, &names);
     let mut sink = Writing::new(io::writer(rt));
     let answer = if matches.get_flag("dry-run") {
-        try_import_on(
-            rt.alloc(),
-            &mut disk,
-            &mut files,
-            &names,
-            &how(replica, matches),
-            note,
-            &mut sink,
-        )
+        try_import_on(rt.alloc(), &mut disk, &mut files, &order, &mut sink)
     } else {
-        run_import_on(
-            rt.alloc(),
-            &mut disk,
-            &mut files,
-            &names,
-            &how(replica, matches),
-            note,
-            &mut sink,
-        )
+        run_import_on(rt.alloc(), &mut disk, &mut files, &order, &mut sink)
     };
     Outcome::of_import(answer)
 }

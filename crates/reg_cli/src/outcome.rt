@@ -1,7 +1,8 @@
 //! How a command ended: what is told of it, and the exit status.
 use byte_io::{Writing, write_all};
-use reg_desk::{Explained, ImportFault};
+use reg_desk::Explained;
 use reg_engine::{CliFault, OutFault};
+use reg_load::Unimported;
 use std::{fmt, io, str};
 
 /// The exit status where the command line is wrong.
@@ -19,7 +20,7 @@ pub enum Outcome {
     /// More is said of the text that is refused.
     Explained(Explained),
     /// Texts were not imported, or not all of them.
-    Import(ImportFault),
+    Import(Unimported),
     /// The command line is wrong, for a reason that clap does not see.
     Misuse(&'static str),
 }
@@ -42,10 +43,10 @@ impl Outcome {
     }
 
     /// How an import ended.
-    pub fn of_import(answer: Result<(), ImportFault>) -> Outcome {
+    pub fn of_import(answer: Result<(), Unimported>) -> Outcome {
         match answer {
             Ok(()) => Outcome::Done,
-            Err(fault) => Outcome::Import(fault),
+            Err(why) => Outcome::Import(why),
         }
     }
 }
@@ -61,7 +62,11 @@ pub fn status(rt: &HostRuntime, outcome: Outcome) -> u8 {
             add(rt, &explained.note);
             status
         }
-        Outcome::Import(fault) => complain(rt, &fault, fault.status()),
+        Outcome::Import(why) => {
+            let status = complain(rt, &why.fault, why.fault.status());
+            add(rt, &why.notes);
+            status
+        }
         Outcome::Misuse(line) => complain(rt, &line, MISUSE),
     }
 }

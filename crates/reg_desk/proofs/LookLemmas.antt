@@ -1,7 +1,6 @@
--- One more of the files, when those before it are looked at.
+-- One more of the files or shelves, when those before it are looked at.
 use Rattle.std.proofs.Common.{◌≡◌, ◌∷◌, ◌++◌, [], List, ℕ, ◌+◌, ◌<◌, ◌≤◌, zero, suc, length, map, take, drop, get_or, slice_set, refl, sym, ap, subst, ◌∙◌, arith}
 use Rattle.std.proofs.lemmas.List.{take_all, length-map}
-use Rattle.std.specs.declared.option.Option.{Option}
 use Rattle.byte_io.specs.Device.{SourceState}
 use Rattle.reg_op.specs.Contents.{Content}
 use Rattle.reg_file.specs.Files.{ReadsAs, ReadsBytes}
@@ -9,7 +8,7 @@ use Rattle.reg_engine.specs.declared.fault.InputFault.{InputFault}
 use Rattle.reg_engine.specs.Inputs.{NeverFails}
 use Rattle.reg_desk.specs.declared.look.Look.{Look}
 use Rattle.reg_desk.specs.declared.look.Look.TheVariants as look
-use Rattle.reg_desk.specs.Look.{IsLookOf, HasLook, IsLook, LooksAt, AreLooks}
+use Rattle.reg_desk.specs.Look.{IsLookOf, HasLook, IsLook, AreLooks}
 
 abbrev head_of : {A : Type 0} → A → List A → A
 head_of d [] = d
@@ -22,7 +21,7 @@ tail_of (x ∷ xs) = xs
 next : (i : ℕ) → suc i ≡ i + 1
 next i = omega arith
 
-module _ {F : Type 0} (st : F → Option SourceState) where
+module _ {F T : Type 0} (st : F → T) (At : T → T → Look → Type 0) where
   first : (w n : F) (ws ns : List F) → map st (n ∷ ns) ≡ map st (w ∷ ws) → st n ≡ st w
   first w n ws ns e = ap (head_of (st n)) e
 
@@ -42,28 +41,28 @@ module _ {F : Type 0} (st : F → Option SourceState) where
   behind was now i s size back = subst (λ j. drop j (map st (slice_set now i s)) ≡ drop j (map st was)) (next i) (behind_suc was now i s size back)
 
   looks_suc : (was now : List F) (i : ℕ) (o s : F) (ls : List Look) (l : Look) → i < length was → length now ≡ length was
-      → AreLooks (take i (map st was)) (take i (map st now)) ls → drop i (map st now) ≡ drop i (map st was) → LooksAt (st (get_or now i o)) (st s) l
-      → AreLooks (take (suc i) (map st was)) (take (suc i) (map st (slice_set now i s))) (ls ++ l ∷ [])
+      → AreLooks At (take i (map st was)) (take i (map st now)) ls → drop i (map st now) ≡ drop i (map st was) → At (st (get_or now i o)) (st s) l
+      → AreLooks At (take (suc i) (map st was)) (take (suc i) (map st (slice_set now i s))) (ls ++ l ∷ [])
   looks_suc was [] i o s ls l within size front back is = absurd (omega arith)
   looks_suc [] (n ∷ ns) i o s ls l within size front back is = absurd (omega arith)
-  looks_suc (w ∷ ws) (n ∷ ns) zero o s [] l within size front back is = (subst (λ k. LooksAt k (st s) l) (first w n ws ns back) is, tt)
+  looks_suc (w ∷ ws) (n ∷ ns) zero o s [] l within size front back is = (subst (λ k. At k (st s) l) (first w n ws ns back) is, tt)
   looks_suc (w ∷ ws) (n ∷ ns) zero o s (k ∷ ks) l within size front back is = absurd front
   looks_suc (w ∷ ws) (n ∷ ns) (suc i) o s [] l within size front back is = absurd front
   looks_suc (w ∷ ws) (n ∷ ns) (suc i) o s (k ∷ ks) l within size front back is = (front.0, looks_suc ws ns i o s ks l (omega arith) (omega arith) front.1 back is)
 
   pub looks_next : (was now : List F) (i : ℕ) (o s : F) (ls ms : List Look) (l : Look) → i < length was → length now ≡ length was
-      → AreLooks (take i (map st was)) (take i (map st now)) ls → drop i (map st now) ≡ drop i (map st was) → LooksAt (st (get_or now i o)) (st s) l → ms ≡ ls ++ l ∷ []
-      → AreLooks (take (i + 1) (map st was)) (take (i + 1) (map st (slice_set now i s))) ms
+      → AreLooks At (take i (map st was)) (take i (map st now)) ls → drop i (map st now) ≡ drop i (map st was) → At (st (get_or now i o)) (st s) l → ms ≡ ls ++ l ∷ []
+      → AreLooks At (take (i + 1) (map st was)) (take (i + 1) (map st (slice_set now i s))) ms
   looks_next was now i o s ls ms l within size front back is pushed =
-      subst (λ j. AreLooks (take j (map st was)) (take j (map st (slice_set now i s))) ms) (next i)
-      (subst (λ ks. AreLooks (take (suc i) (map st was)) (take (suc i) (map st (slice_set now i s))) ks) (sym pushed) (looks_suc was now i o s ls l within size front back is))
+      subst (λ j. AreLooks At (take j (map st was)) (take j (map st (slice_set now i s))) ms) (next i)
+      (subst (λ ks. AreLooks At (take (suc i) (map st was)) (take (suc i) (map st (slice_set now i s))) ks) (sym pushed) (looks_suc was now i o s ls l within size front back is))
 
   -- after the last
   pub looks_all : (was now : List F) (i : ℕ) (ls : List Look) → length was ≤ i → length now ≡ length was
-      → AreLooks (take i (map st was)) (take i (map st now)) ls → AreLooks (map st was) (map st now) ls
+      → AreLooks At (take i (map st was)) (take i (map st now)) ls → AreLooks At (map st was) (map st now) ls
   looks_all was now i ls past size h =
-      subst (λ os. AreLooks os (map st now) ls) (take_all i (map st was) (omega (arith, length-map was st, past)))
-      (subst (λ ns. AreLooks (take i (map st was)) ns ls) (take_all i (map st now) (omega (arith, length-map now st, size, past))) h)
+      subst (λ os. AreLooks At os (map st now) ls) (take_all i (map st was) (omega (arith, length-map was st, past)))
+      (subst (λ ns. AreLooks At (take i (map st was)) ns ls) (take_all i (map st now) (omega (arith, length-map now st, size, past))) h)
 
 -- ---- one file
 
@@ -71,10 +70,12 @@ pub look_has : (bytes : List ℕ) (x : Content) (n : ℕ) (l : Look) → n ≡ l
 look_has bytes x n (look.Figures m f) e r h = (h.0 ∙ e, (x, r, h.1))
 look_has bytes x n (look.NoRegister m f) e r h = absurd h
 look_has bytes x n (look.Unread f) e r h = absurd h
+look_has bytes x n (look.NoShelf p) e r h = absurd h
 
 pub looked : (old new : SourceState) (bytes : List ℕ) (l : Look) → ReadsBytes old new bytes → HasLook bytes l → IsLook old new l
 looked old new bytes (look.Figures n f) r h = (bytes, r, h)
 looked old new bytes (look.NoRegister n f) r h = (bytes, r, h)
+looked old new bytes (look.NoShelf p) r h = absurd h
 looked old new bytes (look.Unread f) r h = subst (λ (g : InputFault). IsLook old new (look.Unread g)) (sym h.0) (bytes, r, h.1)
 
 pub gave : (old new : SourceState) (bytes : List ℕ) → ReadsBytes old new bytes → NeverFails old new

@@ -4,9 +4,10 @@ use Rattle.std.proofs.lemmas.Bool.{cases_lt}
 use Rattle.std.proofs.lemmas.List.{drop_more, length-map}
 use Rattle.std.proofs.lemmas.List.Elements.{All-push}
 use Rattle.csv.specs.Writing.{row_text, default_writer}
-use Rattle.reg_engine.specs.declared.fault.InputFault.{InputFault}
+use Rattle.reg_engine.specs.declared.fault.CliFault.{CliFault}
 use Rattle.reg_desk.specs.declared.look.Look.{Look}
-use Rattle.reg_desk.specs.Status.{status_header, IsStatusLine, AreStatusLines, IsStatusText, fault_of, AreGood}
+use Rattle.reg_desk.specs.declared.look.Look.TheVariants as look
+use Rattle.reg_desk.specs.Status.{status_header, IsStatusLine, AreStatusLines, IsStatusText, fault_at, IsGood, AreGood, IsFirstBad}
 
 abbrev pub text_of : Bor (List ℕ) → List ℕ
 text_of n = n.now
@@ -56,18 +57,25 @@ none_good k d h = absurd (omega arith)
 pub none_passed : (looks : List Look) → Passed looks looks
 none_passed looks = ([], refl, none_good)
 
-pub passed_more : (looks rest others : List Look) (l : Look) → rest ≡ l ∷ others → fault_of l ≡ None → Passed looks rest → Passed looks others
-passed_more looks rest others l e is (before, all, good) = (
+good_of : (k : ℕ) (l : Look) → fault_at k l ≡ None → IsGood l
+good_of k (look.Figures n f) e = tt
+good_of k (look.NoRegister n f) e = absurd (cc)
+good_of k (look.Unread f) e = absurd (cc)
+good_of k (look.NoShelf p) e = absurd (cc)
+
+pub passed_more : (looks rest others : List Look) (l : Look) (number : ℕ) → rest ≡ l ∷ others → fault_at number l ≡ None → Passed looks rest → Passed looks others
+passed_more looks rest others l number e is (before, all, good) = (
   before ++ l ∷ [],
   all ∙ ap (λ r. before ++ r) e ∙ sym (append_assoc before (l ∷ []) others),
-  All-push (λ (k : Look). fault_of k ≡ None) before l good is,
+  All-push IsGood before l good (good_of number l is),
 )
 
-pub first_bad : (looks rest others : List Look) (l : Look) (f : InputFault) (number : ℕ) → rest ≡ l ∷ others → fault_of l ≡ Some f → number ≡ length looks - length others → Passed looks rest
-    → (before : List Look) × (m : Look) × (after : List Look) × (looks ≡ before ++ m ∷ after) × AreGood before × (fault_of m ≡ Some f) × (number ≡ length before + 1)
+pub first_bad : (looks rest others : List Look) (l : Look) (f : CliFault) (number : ℕ) → rest ≡ l ∷ others → fault_at number l ≡ Some f → number ≡ length looks - length others → Passed looks rest
+    → IsFirstBad looks f
 first_bad looks rest others l f number e is at (before, all, good) =
     let parts : looks ≡ before ++ l ∷ others = all ∙ ap (λ r. before ++ r) e in
-    (before, l, others, parts, good, is, omega (arith, at, ap length parts, length-append before (l ∷ others)))
+    let counts : number ≡ length before + 1 = omega (arith, at, ap length parts, length-append before (l ∷ others)) in
+    (before, l, others, parts, good, subst (λ k. fault_at k l ≡ Some f) counts is)
 
 pub less_long : (looks rest others : List Look) (l : Look) → rest ≡ l ∷ others → Passed looks rest → length others ≤ length looks
 less_long looks rest others l e (before, all, good) = omega (arith, ap length all, length-append before rest, ap length e)

@@ -1,12 +1,16 @@
--- Files that are looked at: what each has, or what is wrong with it.
-use Rattle.std.specs.Prelude.{◌≡◌, ℕ, ◌≤◌, ◌<◌, List, [], ◌∷◌, length, Option, Some, None}
+-- Files and shelves that are looked at: what each has, or what is wrong with it.
+use Rattle.std.specs.Prelude.{◌≡◌, ℕ, ◌≤◌, ◌<◌, IsTrue, List, [], ◌∷◌, length, Option, Some, None}
 use Rattle.byte_io.specs.Device.{SourceState}
 use Rattle.reg_op.specs.Contents.{Content}
 use Rattle.reg_file.specs.Files.{most, ReadsAs, ReadsBytes}
 use Rattle.reg_file.specs.Reading.{HasFault}
 use Rattle.reg_engine.specs.declared.fault.InputFault.{InputFault}
 use Rattle.reg_engine.specs.declared.fault.InputFault.TheVariants as file
+use Rattle.reg_engine.specs.declared.fault.ShelfProblem.TheVariants as problem
+use Rattle.reg_engine.specs.declared.fault.CliFault.TheVariants as cli
 use Rattle.reg_engine.specs.Inputs.{IsFileFault}
+use Rattle.reg_engine.specs.Shelf.{Disks, StaysOn, IsUnrestored}
+use Rattle.reg_shelf.specs.Shelf.{IsShelf}
 use Rattle.reg_status.specs.Figures.{AreFigures}
 use Rattle.reg_desk.specs.declared.look.Look.{Look}
 use Rattle.reg_desk.specs.declared.look.Look.TheVariants as look
@@ -23,12 +27,14 @@ abbrev pub IsLookOf : Content → ℕ → Look → Type 0
 IsLookOf x n (look.Figures m figures) = (m ≡ n) × AreFigures x figures
 IsLookOf x n (look.NoRegister m f) = ⊥
 IsLookOf x n (look.Unread f) = ⊥
+IsLookOf x n (look.NoShelf p) = ⊥
 
 -- what bytes have
 abbrev pub HasLook : List ℕ → Look → Type 0
 HasLook bytes (look.Figures n figures) = (n ≡ length bytes) × ((x : Content) × ReadsAs bytes x × AreFigures x figures)
 HasLook bytes (look.NoRegister n f) = (n ≡ length bytes) × IsNoRegister bytes f
 HasLook bytes (look.Unread f) = (f ≡ file.TooLarge) × (most < length bytes)
+HasLook bytes (look.NoShelf p) = ⊥
 
 -- the source gave all its bytes, and this is what they have; or it was not read whole, for this reason
 abbrev pub IsLook : SourceState → SourceState → Look → Type 0
@@ -36,24 +42,57 @@ IsLook old new (look.Figures n figures) = (bytes : List ℕ) × ReadsBytes old n
 IsLook old new (look.NoRegister n f) = (bytes : List ℕ) × ReadsBytes old new bytes × HasLook bytes (look.NoRegister n f)
 IsLook old new (look.Unread (file.BadFile f place)) = ⊥
 IsLook old new (look.Unread f) = IsFileFault f old new
+IsLook old new (look.NoShelf p) = ⊥
 
--- what a contract sees of a file, opened or not
-abbrev pub file_state : {S : Type 0} → (S → SourceState) → Opened S → Option SourceState
-file_state state (opened.Source source) = Some (state source)
-file_state state opened.NotOpened = None
+-- the disk reads as a shelf of so many bytes, the file of a register with these figures, and stays as it was; or nothing was
+-- restored, for this reason
+abbrev pub IsShelfLook : {D : Type 0} → Disks D → D → D → Look → Type 0
+IsShelfLook d old new (look.Figures n figures) = (x : Content) × (IsTrue (d.tells old) → (s : IsShelf (d.seen old) x) × (n ≡ length s.bytes)) × AreFigures x figures × StaysOn d old new
+IsShelfLook d old new (look.NoRegister n f) = ⊥
+IsShelfLook d old new (look.Unread f) = ⊥
+IsShelfLook d old new (look.NoShelf p) = IsUnrestored d old new (cli.Shelf p)
 
--- the same of a file: one that was not opened has that fault
-abbrev pub LooksAt : Option SourceState → Option SourceState → Look → Type 0
-LooksAt None None l = l ≡ look.Unread file.NotOpened
-LooksAt None (Some new) l = ⊥
-LooksAt (Some old) None l = ⊥
-LooksAt (Some old) (Some new) l = IsLook old new l
+-- of bytes that a shelf has: the figures of their register and their number, or that they are none's
+abbrev pub IsRegisterLook : List ℕ → Look → Type 0
+IsRegisterLook bytes (look.Figures n figures) = HasLook bytes (look.Figures n figures)
+IsRegisterLook bytes (look.NoRegister n f) = ⊥
+IsRegisterLook bytes (look.Unread f) = ⊥
+IsRegisterLook bytes (look.NoShelf p) = (p ≡ problem.NotShelf) × ((x : Content) → ReadsAs bytes x → ⊥)
 
--- what each file has, in their order
-abbrev pub AreLooks : List (Option SourceState) → List (Option SourceState) → List Look → Type 0
-AreLooks [] [] [] = Unit {0}
-AreLooks [] [] (l ∷ ls) = ⊥
-AreLooks [] (n ∷ ns) ls = ⊥
-AreLooks (o ∷ os) [] ls = ⊥
-AreLooks (o ∷ os) (n ∷ ns) [] = ⊥
-AreLooks (o ∷ os) (n ∷ ns) (l ∷ ls) = LooksAt o n l × AreLooks os ns ls
+-- ---- opened or not
+
+abbrev pub itself : {T : Type 0} → T → T
+itself it = it
+
+-- what a contract sees of one, opened or not
+abbrev pub opened_state : {S T : Type 0} → (S → T) → Opened S → Option T
+opened_state state (opened.Source source) = Some (state source)
+opened_state state opened.NotOpened = None
+
+-- what it has; one that was not opened has this look
+abbrev pub LooksAt : {T : Type 0} → (T → T → Look → Type 0) → Look → Option T → Option T → Look → Type 0
+LooksAt Is unopened None None l = l ≡ unopened
+LooksAt Is unopened None (Some new) l = ⊥
+LooksAt Is unopened (Some old) None l = ⊥
+LooksAt Is unopened (Some old) (Some new) l = Is old new l
+
+abbrev pub FileLooksAt : Option SourceState → Option SourceState → Look → Type 0
+FileLooksAt = LooksAt IsLook (look.Unread file.NotOpened)
+
+abbrev pub ShelfLooksAt : {D : Type 0} → Disks D → Option D → Option D → Look → Type 0
+ShelfLooksAt d = LooksAt (IsShelfLook d) (look.NoShelf problem.NotOpened)
+
+-- what each has, in their order
+abbrev pub AreLooks : {T : Type 0} → (T → T → Look → Type 0) → List T → List T → List Look → Type 0
+AreLooks At [] [] [] = Unit {0}
+AreLooks At [] [] (l ∷ ls) = ⊥
+AreLooks At [] (n ∷ ns) ls = ⊥
+AreLooks At (o ∷ os) [] ls = ⊥
+AreLooks At (o ∷ os) (n ∷ ns) [] = ⊥
+AreLooks At (o ∷ os) (n ∷ ns) (l ∷ ls) = At o n l × AreLooks At os ns ls
+
+abbrev pub AreFileLooks : List (Option SourceState) → List (Option SourceState) → List Look → Type 0
+AreFileLooks old new looks = AreLooks FileLooksAt old new looks
+
+abbrev pub AreShelfLooks : {D : Type 0} → Disks D → List (Option D) → List (Option D) → List Look → Type 0
+AreShelfLooks d old new looks = AreLooks (ShelfLooksAt d) old new looks

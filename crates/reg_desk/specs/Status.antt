@@ -4,11 +4,10 @@ use Rattle.std.specs.List.{list_any}
 use Rattle.csv.specs.Writing.{row_text, default_writer}
 use Rattle.csv.specs.Records.{fields_of, partial_of}
 use Rattle.csv.specs.declared.record.ByteRecord.{ByteRecord}
-use Rattle.byte_io.specs.Device.{SourceState, SinkState}
+use Rattle.byte_io.specs.Device.{SinkState}
 use Rattle.byte_io.specs.Whole.{WritesAll, IsCutAt}
 use Rattle.reg_op.specs.Contents.{Content}
 use Rattle.reg_office.specs.Lines.{sheet_of}
-use Rattle.reg_engine.specs.declared.fault.InputFault.{InputFault}
 use Rattle.reg_engine.specs.declared.fault.Refusal.TheVariants as refusal
 use Rattle.reg_engine.specs.declared.fault.OutFault.TheVariants as out
 use Rattle.reg_engine.specs.declared.fault.CliFault.{CliFault}
@@ -18,7 +17,6 @@ use Rattle.reg_status.specs.declared.office.OfficeFigures.{OfficeFigures}
 use Rattle.reg_status.specs.Offices.{offices_header, office_fields, AreOffices}
 use Rattle.reg_desk.specs.declared.look.Look.{Look}
 use Rattle.reg_desk.specs.declared.look.Look.TheVariants as look
-use Rattle.reg_desk.specs.Look.{AreLooks}
 
 -- ---- offices
 
@@ -48,6 +46,7 @@ abbrev pub IsStatusLine : List ℕ → Look → List (List ℕ) → Type 0
 IsStatusLine name (look.Figures n f) fields = fields ≡ name ∷ decimal n ∷ [] ∷ figure_fields f
 IsStatusLine name (look.NoRegister n f) fields = (words : List ℕ) × (fields ≡ name ∷ decimal n ∷ words ∷ no_figures)
 IsStatusLine name (look.Unread f) fields = (words : List ℕ) × (fields ≡ name ∷ [] ∷ words ∷ no_figures)
+IsStatusLine name (look.NoShelf p) fields = (words : List ℕ) × (fields ≡ name ∷ [] ∷ words ∷ no_figures)
 
 -- a line for each name and what the file of this name has
 abbrev pub AreStatusLines : List (List ℕ) → List Look → List ℕ → Type 0
@@ -62,26 +61,34 @@ IsStatusText names looks text = (lines : List ℕ) × AreStatusLines names looks
 
 -- ---- what is answered
 
-abbrev pub fault_of : Look → Option InputFault
-fault_of (look.Figures n f) = None
-fault_of (look.NoRegister n f) = Some f
-fault_of (look.Unread f) = Some f
+-- what is reported of the file of this number, or of a shelf
+abbrev pub fault_at : ℕ → Look → Option CliFault
+fault_at k (look.Figures n f) = None
+fault_at k (look.NoRegister n f) = Some (cli.File k f)
+fault_at k (look.Unread f) = Some (cli.File k f)
+fault_at k (look.NoShelf p) = Some (cli.Shelf p)
 
--- each is a register's
+-- it is a register's
+abbrev pub IsGood : Look → Type 0
+IsGood (look.Figures n f) = Unit {0}
+IsGood (look.NoRegister n f) = ⊥
+IsGood (look.Unread f) = ⊥
+IsGood (look.NoShelf p) = ⊥
+
 abbrev pub AreGood : List Look → Type 0
-AreGood looks = All (λ l. fault_of l ≡ None) looks
+AreGood looks = All IsGood looks
 
--- the first that is not is the one of this number, from 1, and has this fault
+-- this is reported of the first that is not; numbers are from 1
 abbrev pub IsFirstBad : List Look → CliFault → Type 0
-IsFirstBad looks (cli.File k f) = (before : List Look) × (l : Look) × (after : List Look) × (looks ≡ before ++ l ∷ after) × AreGood before
-    × (fault_of l ≡ Some f) × (k ≡ length before + 1)
-IsFirstBad looks fault = ⊥
+IsFirstBad looks fault = (before : List Look) × (l : Look) × (after : List Look) × (looks ≡ before ++ l ∷ after) × AreGood before
+    × (fault_at (length before + 1) l ≡ Some fault)
 
 -- it has keys in conflict, awaited ids or gaps
 abbrev pub is_unsettled : Look → Bool
 is_unsettled (look.Figures n f) = nat_lt 0 f.conflicts || (nat_lt 0 f.awaited || nat_lt 0 f.gaps)
 is_unsettled (look.NoRegister n f) = false
 is_unsettled (look.Unread f) = false
+is_unsettled (look.NoShelf p) = false
 
 -- where it is asked, none has
 abbrev pub IsSettled : Bool → List Look → Type 0
@@ -90,24 +97,25 @@ IsSettled settled looks = settled ≡ true → list_any is_unsettled looks ≡ f
 -- why a list of files is not answered by nothing
 abbrev pub IsVerdict : Bool → List Look → CliFault → Type 0
 IsVerdict settled looks (cli.File k f) = IsFirstBad looks (cli.File k f)
+IsVerdict settled looks (cli.Shelf p) = IsFirstBad looks (cli.Shelf p)
 IsVerdict settled looks (cli.Refused refusal.Unsettled) = (settled ≡ true) × AreGood looks × (list_any is_unsettled looks ≡ true)
 IsVerdict settled looks fault = ⊥
 
 -- ---- the command
 
--- the files have these looks, and their lines went out
-abbrev pub Tells : List (List ℕ) → List (Option SourceState) → List (Option SourceState) → SinkState → SinkState → List Look → Type 0
-Tells names old new before after looks = AreLooks old new looks × ((text : List ℕ) × IsStatusText names looks text × WritesAll text before after)
+-- there are such looks, and their lines went out
+abbrev pub Tells : List (List ℕ) → (List Look → Type 0) → SinkState → SinkState → List Look → Type 0
+Tells names Are before after looks = Are looks × ((text : List ℕ) × IsStatusText names looks text × WritesAll text before after)
 
-abbrev pub IsTold : Bool → List (List ℕ) → List (Option SourceState) → List (Option SourceState) → SinkState → SinkState → Type 0
-IsTold settled names old new before after = (looks : List Look) × Tells names old new before after looks × AreGood looks × IsSettled settled looks
+abbrev pub IsTold : Bool → List (List ℕ) → (List Look → Type 0) → SinkState → SinkState → Type 0
+IsTold settled names Are before after = (looks : List Look) × Tells names Are before after looks × AreGood looks × IsSettled settled looks
 
 -- what was done instead, by the fault
-abbrev pub IsUntold : Bool → List (List ℕ) → List (Option SourceState) → List (Option SourceState) → SinkState → SinkState → CliFault → Type 0
-IsUntold settled names old new before after (cli.Refused r) = (looks : List Look) × Tells names old new before after looks × IsVerdict settled looks (cli.Refused r)
-IsUntold settled names old new before after (cli.File k f) = (looks : List Look) × Tells names old new before after looks × IsVerdict settled looks (cli.File k f)
-IsUntold settled names old new before after (cli.Out (out.WriteFailed n)) = (looks : List Look) × AreLooks old new looks
+abbrev pub IsUntold : Bool → List (List ℕ) → (List Look → Type 0) → SinkState → SinkState → CliFault → Type 0
+IsUntold settled names Are before after (cli.Refused r) = (looks : List Look) × Tells names Are before after looks × IsVerdict settled looks (cli.Refused r)
+IsUntold settled names Are before after (cli.File k f) = (looks : List Look) × Tells names Are before after looks × IsVerdict settled looks (cli.File k f)
+IsUntold settled names Are before after (cli.Out (out.WriteFailed n)) = (looks : List Look) × Are looks
     × ((text : List ℕ) × IsStatusText names looks text × IsCutAt n text before after)
-IsUntold settled names old new before after (cli.Out f) = ⊥
-IsUntold settled names old new before after cli.Memory = after ≡ before
-IsUntold settled names old new before after (cli.Shelf p) = ⊥
+IsUntold settled names Are before after (cli.Out f) = ⊥
+IsUntold settled names Are before after cli.Memory = after ≡ before
+IsUntold settled names Are before after (cli.Shelf p) = (looks : List Look) × Tells names Are before after looks × IsVerdict settled looks (cli.Shelf p)

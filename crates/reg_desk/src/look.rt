@@ -2,10 +2,10 @@
 
 ghost use Rattle.std.specs.Prelude.{◌≡◌, IfOk, OnErr};
 ghost use Rattle.reg_engine.specs.Inputs.{NeverFails};
-ghost use Rattle.reg_desk.specs.Look.{HasLook, IsLook, IsLookOf, LooksAt, file_state};
+ghost use Rattle.reg_desk.specs.Look.{HasLook, IsLook, IsLookOf, FileLooksAt, opened_state};
 
 use byte_io::{InFault, Source, read_up_to};
-use reg_engine::InputFault;
+use reg_engine::{InputFault, ShelfProblem};
 use reg_file::{ReadFileFault, read_bytes};
 use reg_state::Register;
 use reg_status::{Figures, figures_of};
@@ -14,22 +14,24 @@ use std::alloc::{AllocError, Global};
 /// The most bytes of a file.
 const MOST: usize = 67_108_864;
 
-/// A file, opened or not.
+/// A file or a shelf, opened or not.
 #[derive(Drop)]
 pub enum Opened<S> {
     Source(S),
     NotOpened,
 }
 
-/// What a file has, or what is wrong with it.
+/// What a file or a shelf has, or what is wrong with it.
 #[derive(Clone, Copy)]
 pub enum Look {
-    /// The file of a register, of so many bytes.
+    /// The file of a register, of so many bytes; by itself or on a shelf.
     Figures { bytes: usize, figures: Figures },
     /// It was read whole, and so many bytes are no register's.
     NoRegister { bytes: usize, fault: InputFault },
     /// It was not read whole.
     Unread(InputFault),
+    /// No register was restored from the shelf.
+    NoShelf(ShelfProblem),
 }
 
 /// Looks at a source's bytes, of which all are read first.
@@ -46,8 +48,8 @@ fn look_at<S: Source>(alloc: Global, source: &mut S) -> Result<Look, AllocError>
     Ok(look)
 }
 
-// What the bytes have.
-fn look_in(alloc: Global, bytes: &[u8]) -> Result<Look, AllocError>
+/// What the bytes have.
+pub(crate) fn look_in(alloc: Global, bytes: &[u8]) -> Result<Look, AllocError>
     ensures { IfOk result (HasLook bytes.now) }
 {
     let register = match read_bytes(alloc, bytes) {
@@ -78,7 +80,7 @@ pub(crate) fn look_into<S: Source>(
     alloc: Global,
     opened: &mut Opened<S>,
 ) -> Result<Look, AllocError>
-    ensures { IfOk result (LooksAt (file_state S.state opened.old) (file_state S.state opened.new)) }
+    ensures { IfOk result (FileLooksAt (opened_state S.state opened.old) (opened_state S.state opened.new)) }
 {
     match opened {
         Opened::Source(source) => look_at(alloc, source),

@@ -2,18 +2,18 @@
 
 ghost use Rattle.std.specs.Prelude.{◌≡◌, map, IfOk, OnOk, IfErr};
 ghost use Rattle.std.specs.List.{list_any};
-ghost use Rattle.reg_desk.specs.Look.{file_state, AreLooks};
-ghost use Rattle.reg_desk.specs.Status.{fault_of, is_unsettled, AreGood, IsFirstBad, IsSettled, IsTold, IsUntold, IsVerdict};
+ghost use Rattle.reg_desk.specs.Look.{opened_state, AreFileLooks};
+ghost use Rattle.reg_desk.specs.Status.{fault_at, is_unsettled, AreGood, IsFirstBad, IsSettled, IsTold, IsUntold, IsVerdict};
 
 use crate::look::{Look, Opened, look_into};
 use crate::status_lines::status_text;
 use byte_io::{Sink, Source, write_all};
-use reg_engine::{CliFault, InputFault, OutFault, Refusal};
+use reg_engine::{CliFault, OutFault, Refusal};
 use std::alloc::{AllocError, Global};
 
 // What each file has, in their order.
 fn looks_of<S: Source>(alloc: Global, files: &mut [Opened<S>]) -> Result<Vec<Look>, AllocError>
-    ensures { IfOk result (λ looks. AreLooks (map (file_state S.state) files.old) (map (file_state S.state) files.new) looks.items) }
+    ensures { IfOk result (λ looks. AreFileLooks (map (opened_state S.state) files.old) (map (opened_state S.state) files.new) looks.items) }
 {
     let mut looks = Vec::new(alloc);
     for i in 0..files.len() {
@@ -23,13 +23,21 @@ fn looks_of<S: Source>(alloc: Global, files: &mut [Opened<S>]) -> Result<Vec<Loo
     Ok(looks)
 }
 
-fn fault_of(look: &Look) -> Option<InputFault>
-    ensures { result ≡ fault_of look.now }
+// What is reported of the file of this number, or of a shelf.
+fn fault_at(number: usize, look: &Look) -> Option<CliFault>
+    ensures { result ≡ fault_at number look.now }
 {
     match look {
         Look::Figures { .. } => None,
-        Look::NoRegister { bytes: _, fault } => Some(*fault),
-        Look::Unread(fault) => Some(*fault),
+        Look::NoRegister { bytes: _, fault } => {
+            let fault = *fault;
+            Some(CliFault::File { number, fault })
+        }
+        Look::Unread(fault) => {
+            let fault = *fault;
+            Some(CliFault::File { number, fault })
+        }
+        Look::NoShelf(problem) => Some(CliFault::Shelf(*problem)),
     }
 }
 
@@ -42,19 +50,20 @@ fn is_unsettled(look: &Look) -> bool
         }
         Look::NoRegister { .. } => false,
         Look::Unread(_) => false,
+        Look::NoShelf(_) => false,
     }
 }
 
-// That each file is a register's.
+// That each is a register's.
 fn all_good(looks: &[Look]) -> Result<(), CliFault>
     ensures good { OnOk result (AreGood looks.now) }
     ensures fault { IfErr result (IsFirstBad looks.now) }
 {
     let mut rest = looks;
     while let Some((look, others)) = rest.split_first() {
-        if let Some(fault) = fault_of(look) {
-            let number = looks.len() - others.len();
-            return Err(CliFault::File { number, fault });
+        let number = looks.len() - others.len();
+        if let Some(fault) = fault_at(number, look) {
+            return Err(fault);
         }
         rest = others;
     }
@@ -67,8 +76,8 @@ fn any_unsettled(looks: &[Look]) -> bool
     looks.iter().any(|look| is_unsettled(look))
 }
 
-// That each is a register's, and settled where that is asked.
-fn verdict(looks: &[Look], settled: bool) -> Result<(), CliFault>
+/// That each is a register's, and settled where that is asked.
+pub(crate) fn verdict(looks: &[Look], settled: bool) -> Result<(), CliFault>
     ensures good { OnOk result (AreGood looks.now × IsSettled settled looks.now) }
     ensures fault { IfErr result (IsVerdict settled looks.now) }
 {
@@ -94,9 +103,9 @@ pub fn run_status<S: Source, K: Sink>(
     settled: bool,
     sink: &mut K,
 ) -> Result<(), CliFault>
-    ensures told { OnOk result (IsTold settled (map (λ n. n.now) names.now) (map (file_state S.state) files.old) (map (file_state S.state) files.new)
+    ensures told { OnOk result (IsTold settled (map (λ n. n.now) names.now) (AreFileLooks (map (opened_state S.state) files.old) (map (opened_state S.state) files.new))
         (K.state sink.old) (K.state sink.new)) }
-    ensures fault { IfErr result (IsUntold settled (map (λ n. n.now) names.now) (map (file_state S.state) files.old) (map (file_state S.state) files.new)
+    ensures fault { IfErr result (IsUntold settled (map (λ n. n.now) names.now) (AreFileLooks (map (opened_state S.state) files.old) (map (opened_state S.state) files.new))
         (K.state sink.old) (K.state sink.new)) }
 {
     let Ok(looks) = looks_of(alloc, files) else {

@@ -7,7 +7,7 @@ ghost use Rattle.reg_desk.specs.Status.{status_header, figure_fields, no_figures
 
 use crate::look::Look;
 use csv::{ByteRecord, Writer};
-use reg_engine::InputFault;
+use reg_engine::{InputFault, ShelfProblem};
 use reg_status::Figures;
 use std::alloc::{AllocError, Global};
 
@@ -68,6 +68,21 @@ fn push_fault(alloc: Global, row: &mut ByteRecord, fault: InputFault) -> Result<
     Ok(())
 }
 
+// The same of what is wrong with a shelf.
+fn push_problem(
+    alloc: Global,
+    row: &mut ByteRecord,
+    problem: ShelfProblem,
+) -> Result<(), AllocError>
+    requires { partial_of row.old ≡ [] }
+    ensures { OnOk result ((words : List ℕ) × Adds row.old row.new (words ∷ no_figures)) }
+{
+    let words = format!(in alloc; "{problem}")?;
+    push_text(row, words.as_bytes())?;
+    push_nothing(row)?;
+    Ok(())
+}
+
 fn row_of(alloc: Global, name: &[u8], look: &Look) -> Result<ByteRecord, AllocError>
     ensures { IfOk result (λ row. IsStatusLine name.now look.now (fields_of row)) }
 {
@@ -86,6 +101,10 @@ fn row_of(alloc: Global, name: &[u8], look: &Look) -> Result<ByteRecord, AllocEr
         Look::Unread(fault) => {
             push_text(&mut row, b"")?;
             push_fault(alloc, &mut row, *fault)?;
+        }
+        Look::NoShelf(problem) => {
+            push_text(&mut row, b"")?;
+            push_problem(alloc, &mut row, *problem)?;
         }
     }
     Ok(row)
@@ -134,7 +153,7 @@ fn write_line(
     Ok(())
 }
 
-/// A header, and a line for each name and what the file of this name has.
+/// A header, and a line for each name and what the file or the shelf of this name has.
 pub(crate) fn status_text(
     alloc: Global,
     names: &[&[u8]],

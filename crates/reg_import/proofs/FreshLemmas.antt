@@ -158,7 +158,7 @@ all_once d ops before at r n (reading.Defined text key ∷ texts) f =
 
 -- ---- before the command
 
-not_retired : (s : Ops) (e : Id) → enters s e ≡ true → not (is_retired (status s e)) ≡ true → retires s e ≡ false
+pub not_retired : (s : Ops) (e : Id) → enters s e ≡ true → not (is_retired (status s e)) ≡ true → retires s e ≡ false
 not_retired s e h k = told (enters s e) (retires s e) (supersedes s e) h k
   where
     told : (a r u : Bool) → a ≡ true → not (is_retired (cond a (Some (cond r Retired (cond u Superseded Valid))) None)) ≡ true → r ≡ false

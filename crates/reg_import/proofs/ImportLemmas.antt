@@ -47,6 +47,7 @@ module _ (x : Content) (r note : List ℕ) (d : Differs) (texts : List Reading) 
         are_steps = p.1;
         told = p.2.told;
         passes = passed.0;
+        none_spent = passed.1;
         ids = map (λ (o : Op). o.id) ops;
         does = record {
           ops = ops;

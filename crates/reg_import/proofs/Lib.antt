@@ -7,3 +7,9 @@ pub mod OnceLemmas
 pub mod FreshLemmas
 pub mod ImportLemmas
 pub mod LineLemmas
+pub mod TextLemmas
+pub mod AgainLemmas
+pub mod StandingLemmas
+pub mod LastLemmas
+pub mod LawLemmas
+pub mod AheadLemmas

@@ -3,4 +3,5 @@ pub mod Readings
 pub mod Imports
 pub mod Index
 pub mod Plans
+pub mod Again
 pub mod Lines

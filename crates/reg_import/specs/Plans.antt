@@ -72,12 +72,14 @@ IsRefusedPlan keep_going ts refusal.Memory = ⊥
 abbrev pub IsPassedPlan : Bool → List Told → Type 0
 IsPassedPlan keep_going ts = PassesAll keep_going ts × NoneSpent ts
 
--- the texts are imported: the operations that the steps list have joined the content, and this is what came of each text
+-- the texts are imported: the operations that the steps list have joined the content, and this is what came of each text, for
+-- each of which there were numbers
 pub record Imports (x : Content) (replica note : List ℕ) (differs : Differs) (keep_going : Bool) (readings : List Reading) (new : Content) (ts : List Told) : Type 0 where
   pub steps : List Step
   pub are_steps : AreSteps x replica differs readings steps
   pub told : ts ≡ tolds steps
   pub passes : PassesAll keep_going ts
+  pub none_spent : NoneSpent ts
   pub ids : List Id
   pub does : Does x replica note (effects steps) new ids
 

@@ -4,6 +4,7 @@
 mod import;
 mod index;
 mod known;
+pub mod laws;
 mod least;
 mod lines;
 mod making;

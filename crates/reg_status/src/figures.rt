@@ -1,14 +1,14 @@
 //! How much a register has of what its reports list.
 
-ghost use Rattle.std.specs.Prelude.{◌≡◌, List, length, map, IfOk};
+ghost use Rattle.std.specs.Prelude.{◌≡◌, ◌++◌, true, Some, length, map, IfOk, OnOk};
 ghost use Rattle.std.specs.List.{count_by};
 ghost use Rattle.reg_op.specs.Set as set;
-ghost use Rattle.reg_op.specs.Rows.{Row as RowOf, rows, awaited};
-ghost use Rattle.reg_office.specs.Seen.{row_seen};
-ghost use Rattle.reg_status.specs.Figures.{is_status, has_status, AreCounts, AreFigures, CountsConflicts, CountsGaps};
+ghost use Rattle.reg_op.specs.Status.{enters, status};
+ghost use Rattle.reg_op.specs.Rows.{rows_at, rows, awaited};
+ghost use Rattle.reg_status.specs.Figures.{is_status, status_in, CountStatuses, AreCounts, AreFigures, CountsConflicts, CountsGaps};
 
-use reg_office::{Row, awaited, conflicts, gaps, rows};
-use reg_op::Status;
+use reg_office::{awaited, conflicts, gaps};
+use reg_op::{Op, OpBody, OpId, Status};
 use reg_state::Register;
 use std::alloc::{AllocError, Global};
 
@@ -61,32 +61,71 @@ pub(crate) struct Counts {
 fn counts_of(alloc: Global, register: &Register) -> Result<Counts, AllocError>
     ensures { IfOk result (AreCounts (rows register.now.ops)) }
 {
-    let rows = rows(alloc, register)?;
-    let counts = counts_in(&rows);
+    let statuses = statuses_of(alloc, register)?;
+    let counts = counts_in(&statuses);
     Ok(counts)
 }
 
-fn counts_in(rows: &[Row]) -> Counts
-    ensures { AreCounts (map row_seen rows.now) result }
+// The status of each entry, by id.
+fn statuses_of(alloc: Global, register: &Register) -> Result<Vec<Status>, AllocError>
+    ensures { IfOk result (λ made. map (λ t. Some t) made.items ≡ map status_in (rows register.now.ops)) }
+{
+    let ops = register.ops().as_slice();
+    let mut made = Vec::new(alloc);
+    for op in ops {
+        push_status(&mut made, register, op)?;
+    }
+    Ok(made)
+}
+
+// Puts the status of an entry at the end, where the operation enters one.
+fn push_status(statuses: &mut Vec<Status>, register: &Register, op: &Op) -> Result<(), AllocError>
+    requires { set.contains register.now.ops op.now ≡ true }
+    ensures { OnOk result (map (λ t. Some t) statuses.new.items ≡ map (λ t. Some t) statuses.old.items ++ map status_in (rows_at register.now.ops op.now.id op.now.body)) }
+{
+    match op.body() {
+        OpBody::Enter(_) => {}
+        OpBody::Supersede { old: _, newer: _ } => return Ok(()),
+        OpBody::Retire { entry: _ } => return Ok(()),
+    }
+    statuses.push(status_of(register, op.id()))?;
+    Ok(())
+}
+
+fn status_of(register: &Register, entry: OpId) -> Status
+    requires { enters register.now.ops entry ≡ true }
+    ensures { Some result ≡ status register.now.ops entry }
+{
+    let Some(status) = register.status(entry) else {
+        unreachable!();
+    };
+    status
+}
+
+fn counts_in(statuses: &[Status]) -> Counts
+    ensures { CountStatuses (map (λ t. Some t) statuses.now) result }
 {
     Counts {
-        entries: rows.len(),
-        valid: count_status(rows, Status::Valid),
-        superseded: count_status(rows, Status::Superseded),
-        retired: count_status(rows, Status::Retired),
+        entries: statuses.len(),
+        valid: count_status(statuses, Status::Valid),
+        superseded: count_status(statuses, Status::Superseded),
+        retired: count_status(statuses, Status::Retired),
     }
 }
 
-fn count_status(rows: &[Row], status: Status) -> usize
-    ensures { result ≡ count_by (has_status status) (map row_seen rows.now) }
+fn count_status(statuses: &[Status], wanted: Status) -> usize
+    ensures { result ≡ count_by (is_status wanted) (map (λ t. Some t) statuses.now) }
 {
-    rows.iter().filter(|row| has_status(row, status)).count()
+    statuses
+        .iter()
+        .filter(|status| is_status(**status, wanted))
+        .count()
 }
 
-fn has_status(row: &Row, status: Status) -> bool
-    ensures { result ≡ has_status status (row_seen row.now) }
+fn is_status(status: Status, wanted: Status) -> bool
+    ensures { result ≡ is_status wanted (Some status) }
 {
-    row.status == status
+    status == wanted
 }
 
 fn count_conflicts(alloc: Global, register: &Register) -> Result<usize, AllocError>

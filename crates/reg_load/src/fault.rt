@@ -1,7 +1,11 @@
 //! Why texts were not imported, or not all of them.
 
+ghost use Rattle.std.specs.Prelude.{◌≡◌, []};
+ghost use Rattle.reg_load.specs.declared.fault.ImportFault.TheVariants as import;
+
 use reg_engine::{CliFault, Refusal};
 use reg_import::Problem;
+use std::alloc::Global;
 use std::fmt::{self, Display};
 use wkt_crs::{DefinitionFault, SlotFault, Unspelled};
 
@@ -15,6 +19,26 @@ pub enum ImportFault {
         place: usize,
         file: usize,
     },
+}
+
+/// Why texts were not imported, or not all of them, and what is said of those that were refused.
+#[derive(Drop)]
+pub struct Unimported {
+    pub fault: ImportFault,
+    pub notes: Vec<u8>,
+}
+
+impl Unimported {
+    /// A fault of which no more is said.
+    pub fn plain(alloc: Global, fault: CliFault) -> Unimported
+        ensures fault { result.fault ≡ import.Cli fault }
+        ensures notes { result.notes.items ≡ [] }
+    {
+        Unimported {
+            fault: ImportFault::Cli(fault),
+            notes: Vec::new(alloc),
+        }
+    }
 }
 
 impl ImportFault {

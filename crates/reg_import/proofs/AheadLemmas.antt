@@ -1,0 +1,165 @@
+-- No office has retired an entry of its own that it has still to enter.
+use Rattle.std.proofs.Common.{◌≡◌, ℕ, ◌+◌, ◌<◌, ◌≤◌, Bool, true, false, not, ◌&&◌, ◌||◌, cond, List, [], ◌∷◌, ◌++◌, length, length-append, Option, Some, None, Ok, refl, sym, ap, ◌∙◌, subst, inl, inr, ◌⊎◌, arith}
+use Rattle.std.proofs.lemmas.Bool.{true≢false, or_cases, or_left, or_right, and_parts, false_from_ne_true}
+use Rattle.std.specs.Cmp.{tied_itself}
+use Rattle.std.specs.Ordering.{is_eq, eq_by_cmp}
+use Rattle.reg_op.specs.Set as set
+use Rattle.reg_op.specs.Set.{contains, contains-from_list, contains-empty, union}
+use Rattle.reg_op.specs.Ids.{Id, is_same}
+use Rattle.reg_op.specs.Lists.{has}
+use Rattle.reg_op.specs.Operations.{Op, Ops, op_cmp, one, kept}
+use Rattle.reg_op.specs.declared.operation.OpBody.{OpBody as Body}
+use Rattle.reg_op.specs.declared.operation.OpBody.TheVariants.{Enter, Supersede, Retire}
+use Rattle.reg_op.specs.Contents.{Content, state}
+use Rattle.reg_op.specs.Status.{enters, retires, is_enter, is_retirement}
+use Rattle.reg_op.proofs.OpLemmas.{op_total, op_exact, is_same_exact}
+use Rattle.reg_op.proofs.FiniteLemmas.{any-union, member_from_any}
+use Rattle.reg_op.proofs.ContentLemmas.{kept_is_within, union_right, ids_has}
+use Rattle.reg_op.proofs.OneLemmas.{one_is}
+use Rattle.reg_op.proofs.StatusLemmas.{enters-kept}
+use Rattle.reg_seen.specs.Runs.{id_at}
+use Rattle.reg_office.specs.declared.fault.OfficeFault.{OfficeFault}
+use Rattle.reg_office.specs.declared.fault.OfficeFault.TheVariants as fault
+use Rattle.reg_office.specs.Making.{greatest, numbered, objection, objections, with_op, else_next, note_fault, is_spent, made_unless, made}
+use Rattle.reg_office.specs.World.{World, start, Event, Make, Send, SendSeen, SendPiece, Take, TakeOne, Restart, Stop, Happens, Leads, IsWorld}
+use Rattle.reg_office.specs.Reached.{Reaches, IsMadeBy}
+use Rattle.reg_office.proofs.EffectLemmas.{nothing_against}
+use Rattle.reg_office.proofs.LawLemmas.{made_are}
+use Rattle.reg_office.proofs.NumberLemmas.{op_cases, count-greatest}
+use Rattle.reg_office.proofs.WorldCommands.{made_on}
+use Rattle.reg_office.proofs.WorldInvariant.{Invariant, Grows}
+use Rattle.reg_office.proofs.WorldComes.{comes_good}
+use Rattle.reg_office.proofs.WorldLemmas.{starts, after_keeps, reached}
+use Rattle.reg_office.proofs.WorldSteps.{made_reaches}
+use Rattle.reg_office.proofs.WorldStops.{stop_is_all_or_nothing}
+use Rattle.reg_office.proofs.WorldMade.{known_or_made}
+use Rattle.reg_import.specs.Again.{RetiresNoneAhead}
+
+-- ---- what a command retires was entered, or is entered by it
+
+is_entered : (e : Id) (a r : Bool) → cond (not a) (Some (fault.UnknownEntry e)) (cond r (Some (fault.AlreadyRetired e)) None) ≡ None → a ≡ true
+is_entered e true r h = refl
+is_entered e false r h = absurd cc
+
+entered_by : (x : Content) (q : Op) (e : Id) → enters (with_op x q).ops e ≡ true → (enters x.ops e ≡ true) ⊎ (q.id ≡ e)
+entered_by x q e h =
+    let t : Op → Bool = λ o. is_same e o.id && is_enter o.body in
+    elim (or_cases (enters x.ops e) (enters (kept (one q)) e) (sym (any-union op_total op_exact t x.ops (kept (one q))) ∙ sym (enters-kept (union x.ops (kept (one q))) e) ∙ h)) [
+      | inl a ↦ inl a
+      | inr b ↦
+          let m = member_from_any op_total op_exact t (one q) (sym (enters-kept (one q) e) ∙ b) in
+          inr (sym (is_same_exact e q.id (and_parts _ _ (subst (λ (p : Op). (is_same e p.id && is_enter p.body) ≡ true) (one_is q m.0 m.1) m.2)).0))
+    ]
+
+entered_or_made : (x : Content) (os : List Op) (o : Op) (e : Id) → objections x os ≡ None → has os o ≡ true → o.body ≡ Retire e → (enters x.ops e ≡ true) ⊎ ((p : Op) × (has os p ≡ true) × (p.id ≡ e))
+entered_or_made x [] o e none h is = absurd (true≢false (sym h))
+entered_or_made x (q ∷ os) o e none h is =
+    let n = nothing_against (objection x.ops q.body) (objections (with_op x q) os) none in
+    elim (op_cases o q os h) [
+      | inl same ↦ inl (is_entered e (enters x.ops e) (retires x.ops e) (subst (λ b. objection x.ops b ≡ None) (sym (ap (λ (p : Op). p.body) same) ∙ is) n.0))
+      | inr later ↦ elim (entered_or_made (with_op x q) os o e n.1 later is) [
+        | inl there ↦ elim (entered_by x q e there) [
+          | inl a ↦ inl a
+          | inr b ↦ inr (q, or_left _ (has os q) (ap is_eq (tied_itself op_total q)), b)
+        ]
+        | inr m ↦ inr (m.0, or_right (eq_by_cmp op_cmp m.0 q) _ m.1, m.2)
+      ]
+    ]
+
+not_refused : (f : Option OfficeFault) (spent : Bool) (os ps : List Op) → made_unless f spent os ≡ Ok ps → f ≡ None
+not_refused None spent os ps h = refl
+not_refused (Some f) spent os ps h = absurd cc
+
+none_against : (x : Content) (r note : List ℕ) (bs : List Body) (os : List Op) → made x r note bs ≡ Ok os → objections x os ≡ None
+none_against x r note bs os h =
+    let ps : List Op = numbered r (greatest r x.seen + 1) note bs in
+    let all = not_refused (else_next (note_fault note) (objections x ps)) (is_spent (greatest r x.seen) (length bs)) ps os h in
+    ap (objections x) (made_are x r note bs os h) ∙ (nothing_against (note_fault note) (objections x ps) all).1
+
+-- ---- in a world
+
+-- the office whose entry it is has reached the operation of that id
+record IsGiven (w : World) (e : Id) : Type 0 where
+  op : Op
+  is : op.id ≡ e
+  there : contains (w.offices e.replica).reached op ≡ true
+
+grown : (w v : World) → Grows w v → (e : Id) → IsGiven w e → IsGiven v e
+grown w v g e h = record { op = h.op; is = h.is; there = g e.replica h.op h.there }
+
+-- each entry that is retired by what was made is given
+abbrev AllGiven : (w : World) → Invariant w → Type 0
+AllGiven w inv = (o : Op) → contains inv.all o ≡ true → (e : Id) → o.body ≡ Retire e → IsGiven w e
+
+made_given : (w : World) (inv : Invariant w) (u : World) (i : List ℕ) (bs : List Body) (note : List ℕ) (os : List Op) (o : Op) (e : Id) → made (w.offices i).content i note bs ≡ Ok os → Happens w (Make i bs note) u → Grows w u
+    → has os o ≡ true → o.body ≡ Retire e → IsGiven u e
+made_given w inv u i bs note os o e is_made h g there body =
+    let x : Content = (w.offices i).content in
+    elim (entered_or_made x os o e (none_against x i note bs os is_made) there body) [
+      | inl entered ↦
+          let m = member_from_any op_total op_exact (λ (p : Op). is_same e p.id && is_enter p.body) x.ops entered in
+          let same : m.0.id ≡ e = sym (is_same_exact e m.0.id (and_parts _ _ m.2).0) in
+          let known : contains (w.offices i).reached m.0 ≡ true = kept_is_within (w.offices i).reached m.0 (subst (λ (y : Content). contains y.ops m.0 ≡ true) (inv.content i) m.1) in
+          grown w u g e (record { op = m.0; is = same; there = subst (λ (j : Id). contains (w.offices j.replica).reached m.0 ≡ true) same (inv.own m.0 (inv.within i m.0 known)) })
+      | inr new ↦
+          let r = made_reaches w inv i bs note os u is_made h in
+          let own : i ≡ e.replica = sym (made_on x i note bs os is_made new.0 new.1) ∙ ap (λ (j : Id). j.replica) new.2 in
+          let now : contains (u.offices i).reached new.0 ≡ true = subst (λ s. contains s new.0 ≡ true) (sym r.reached)
+          (union_right (w.offices i).reached (set.from_list {R = op_cmp} os) new.0 (contains-from_list op_total os new.0 ∙ new.1)) in
+          record { op = new.0; is = new.2; there = subst (λ j. contains (u.offices j).reached new.0 ≡ true) own now }
+    ]
+
+by_event : (w : World) (inv : Invariant w) (u : World) (v : Event) (o : Op) (e : Id) → IsMadeBy w v o → Happens w v u → Grows w u → o.body ≡ Retire e → IsGiven u e ⊎ (u ≡ w)
+by_event w inv u (Make i bs note) o e m h g body = inl (made_given w inv u i bs note m.0 o e m.1 h g m.2 body)
+by_event w inv u (Send i) o e m h g body = absurd m
+by_event w inv u (SendSeen i) o e m h g body = absurd m
+by_event w inv u (SendPiece i place) o e m h g body = absurd m
+by_event w inv u (Take i place) o e m h g body = absurd m
+by_event w inv u (TakeOne i place id) o e m h g body = absurd m
+by_event w inv u (Restart i) o e m h g body = absurd m
+by_event w inv u (Stop v left) o e m h g body = elim (stop_is_all_or_nothing w u inv v left h) [
+  | inl now ↦ by_event w inv u v o e m.0 now g body
+  | inr same ↦ inr same
+]
+
+-- a list of one event has it first
+single : (w : World) (v : Event) (before : List Event) (e : Event) (after : List Event) (u : World) → v ∷ [] ≡ before ++ e ∷ after → Leads w before u → (e ≡ v) × (u ≡ w)
+single w v [] e after u h l = let same : e ≡ v = cc in (same, l)
+single w v (c ∷ cs) e after u h l = absurd (omega (arith, ap length h, length-append cs (e ∷ after)))
+
+step_given : (w : World) (inv : Invariant w) (v : Event) (u : World) → AllGiven w inv → Happens w v u → Grows w u → (k : List ℕ) (o : Op) → contains (u.offices k).reached o ≡ true → (e : Id) → o.body ≡ Retire e → IsGiven u e
+step_given w inv v u all h g k o now e body = elim (known_or_made (v ∷ []) w inv u (u, h, refl) k o now) [
+  | inl old ↦ grown w u g e (all o old e body)
+  | inr m ↦
+      let one = single w v m.before m.event m.after m.world m.are_all m.leads in
+      let by : IsMadeBy w v o = subst (λ f. IsMadeBy w f o) one.0 (subst (λ z. IsMadeBy z m.event o) one.1 m.is_made) in
+      elim (by_event w inv u v o e by h g body) [
+        | inl given ↦ given
+        | inr same ↦ grown w u g e (all o (inv.within k o (subst (λ (z : World). contains (z.offices k).reached o ≡ true) same now)) e body)
+      ]
+]
+
+all_given : (events : List Event) (w : World) (inv : Invariant w) (v : World) → AllGiven w inv → Leads w events v → (k : List ℕ) (o : Op) → contains (v.offices k).reached o ≡ true → (e : Id) → o.body ≡ Retire e → IsGiven v e
+all_given [] w inv v all h k o now e body = subst (λ z. IsGiven z e) (sym h) (all o (inv.within k o (subst (λ (z : World). contains (z.offices k).reached o ≡ true) h now)) e body)
+all_given (event ∷ events) w inv v all h k o now e body =
+    let u = h.0 in
+    let step = after_keeps w inv h.1.1.0 (comes_good w inv event h.1.0 h.1.1.0 h.1.1.1) u h.1.1.2 in
+    all_given events u step.0 v (λ p there f is. step_given w inv event u all h.1 step.1 p.id.replica p (step.0.own p there) f is) h.2 k o now e body
+
+retires_body : (e : Id) (b : Body) → is_retirement e b ≡ true → b ≡ Retire e
+retires_body e (Enter text) h = absurd (true≢false (sym h))
+retires_body e (Supersede old newer) h = absurd (true≢false (sym h))
+retires_body e (Retire f) h = ap Retire (sym (is_same_exact e f h))
+
+pub none_ahead : (w : World) → IsWorld w → (i : List ℕ) → RetiresNoneAhead (w.offices i).content i
+none_ahead w is i count h =
+    let inv = reached w is in
+    let x : Content = (w.offices i).content in
+    let e : Id = id_at i count in
+    false_from_ne_true _ (λ r.
+    let m = member_from_any op_total op_exact (λ (o : Op). is_retirement e o.body) x.ops r in
+    let known : contains (w.offices i).reached m.0 ≡ true = kept_is_within (w.offices i).reached m.0 (subst (λ (y : Content). contains y.ops m.0 ≡ true) (inv.content i) m.1) in
+    let given = all_given is.0 start starts w (λ o there f body. absurd (true≢false (sym (starts.own o there) ∙ contains-empty op_cmp o))) is.1 i m.0 known e (retires_body e m.0.body m.2) in
+    let seen : contains x.seen e ≡ true = subst (λ (y : Content). contains y.seen e ≡ true) (sym (inv.content i)) (subst (λ j. contains (state (w.offices i).reached).seen j ≡ true) given.is (ids_has (w.offices i).reached given.op given.there)) in
+    let most = count-greatest i x.seen e seen refl in
+    absurd (omega arith))

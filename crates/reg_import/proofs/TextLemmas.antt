@@ -1,0 +1,259 @@
+-- What comes of a text, by whether an entry of its key has it.
+use Rattle.std.proofs.Common.{◌≡◌, ℕ, ◌+◌, nat_eq, nat_le, Bool, true, false, cond, List, [], ◌∷◌, ◌++◌, length, Option, Some, None, refl, sym, ap, ◌∙◌, subst, inl, inr, ◌⊎◌}
+use Rattle.std.specs.Prelude.{option_map, Contains}
+use Rattle.std.specs.Option.{unwrap_or}
+use Rattle.std.specs.Cmp.Lexicographic.{pointwise}
+use Rattle.std.proofs.lemmas.Bool.{true≢false, and_parts, true_from_ne_false}
+use Rattle.std.proofs.lemmas.List.Elements.{Contains-append_left, Contains-append_right}
+use Rattle.crs_value.specs.declared.key.Key.{Key}
+use Rattle.wkt_crs.proofs.Defining.{same_bytes, not_same}
+use Rattle.reg_op.specs.Ids.{Id}
+use Rattle.reg_office.proofs.ConflictLemmas.{none_in, in_cons, in_head, in_tail}
+use Rattle.reg_import.specs.declared.known.Known.{Known}
+use Rattle.reg_import.specs.declared.told.Differs.{Differs}
+use Rattle.reg_import.specs.declared.told.Differs.TheVariants as differs
+use Rattle.reg_import.specs.declared.told.Problem.TheVariants as problem
+use Rattle.reg_import.specs.declared.told.Told.{Told}
+use Rattle.reg_import.specs.declared.told.Told.TheVariants as told
+use Rattle.reg_import.specs.Known.{OfKey}
+use Rattle.reg_import.specs.Imports.{has_text, has_text_and_is_valid, any_entry, sooner, least, unless_spent, told_of_new, told_of, bodies_of, entered, then_of, is_refused, is_spent}
+use Rattle.reg_import.specs.Again.{is_there}
+use Rattle.reg_import.proofs.ToldLemmas.{told_has}
+
+-- an entry has the text
+abbrev pub HasText : List Known → List ℕ → Type 0
+HasText es text = (e : Known) × Contains es e × (e.definition ≡ text)
+
+-- ---- the least of some entries
+
+least_some : (passes : Known → Bool) (es : List Known) (i : Id) → least passes es ≡ Some i → (e : Known) × Contains es e × (passes e ≡ true)
+least_some passes [] i h = absurd cc
+least_some passes (e ∷ es) i h = elim (passes e) as (λ b. passes e ≡ b → cond b (Some (sooner e.entry (least passes es))) (least passes es) ≡ Some i → (f : Known) × Contains (e ∷ es) f × (passes f ≡ true)) [
+  | true ↦ λ t _. (e, in_head e es, t)
+  | false ↦ λ _ g. let m = least_some passes es i g in (m.0, in_tail m.0 e es m.1, m.2)
+] refl h
+
+least_none : (passes : Known → Bool) (es : List Known) → least passes es ≡ None → (e : Known) → Contains es e → passes e ≡ true → ⊥
+least_none passes [] h e c t = none_in e c
+least_none passes (f ∷ es) h e c t = elim (passes f) as (λ b. passes f ≡ b → cond b (Some (sooner f.entry (least passes es))) (least passes es) ≡ None → ⊥) [
+  | true ↦ λ _ g. cc
+  | false ↦ λ n g. elim (in_cons e f es c) [
+    | inl same ↦ true≢false (sym t ∙ ap passes same ∙ n)
+    | inr later ↦ least_none passes es g e later t
+  ]
+] refl h
+
+text_itself : (text other : List ℕ) → other ≡ text → pointwise nat_eq other text ≡ true
+text_itself text other e = true_from_ne_false _ (λ n. not_same other text n e)
+
+-- ---- what is told where an entry has the text, and where the text is refused
+
+pub there_then : (t : Told) (key : Key) (text : List ℕ) (there : OfKey) → is_there t ≡ true → then_of t key text there ≡ record { known = there.known; ours = true }
+there_then (told.Same i) key text there h = refl
+there_then (told.Superseded i) key text there h = refl
+there_then (told.Entered i) key text there h = absurd (true≢false (sym h))
+there_then (told.Beside i) key text there h = absurd (true≢false (sym h))
+there_then (told.Revised i) key text there h = absurd (true≢false (sym h))
+there_then (told.Refused p) key text there h = absurd (true≢false (sym h))
+there_then told.Spent key text there h = absurd (true≢false (sym h))
+
+pub there_makes_nothing : (t : Told) (text : List ℕ) (es : List Known) → is_there t ≡ true → bodies_of t text es ≡ []
+there_makes_nothing (told.Same i) text es h = refl
+there_makes_nothing (told.Superseded i) text es h = refl
+there_makes_nothing (told.Entered i) text es h = absurd (true≢false (sym h))
+there_makes_nothing (told.Beside i) text es h = absurd (true≢false (sym h))
+there_makes_nothing (told.Revised i) text es h = absurd (true≢false (sym h))
+there_makes_nothing (told.Refused p) text es h = absurd (true≢false (sym h))
+there_makes_nothing told.Spent text es h = absurd (true≢false (sym h))
+
+pub there_not_refused : (t : Told) → is_there t ≡ true → is_refused t ≡ false
+there_not_refused (told.Same i) h = refl
+there_not_refused (told.Superseded i) h = refl
+there_not_refused (told.Entered i) h = refl
+there_not_refused (told.Beside i) h = refl
+there_not_refused (told.Revised i) h = refl
+there_not_refused (told.Refused p) h = absurd (true≢false (sym h))
+there_not_refused told.Spent h = refl
+
+pub refused_then : (t : Told) (key : Key) (text : List ℕ) (there : OfKey) → is_refused t ≡ true → then_of t key text there ≡ there
+refused_then (told.Same i) key text there h = absurd (true≢false (sym h))
+refused_then (told.Superseded i) key text there h = absurd (true≢false (sym h))
+refused_then (told.Entered i) key text there h = absurd (true≢false (sym h))
+refused_then (told.Beside i) key text there h = absurd (true≢false (sym h))
+refused_then (told.Revised i) key text there h = absurd (true≢false (sym h))
+refused_then (told.Refused p) key text there h = refl
+refused_then told.Spent key text there h = absurd (true≢false (sym h))
+
+pub refused_makes_nothing : (t : Told) (text : List ℕ) (es : List Known) → is_refused t ≡ true → bodies_of t text es ≡ []
+refused_makes_nothing (told.Same i) text es h = absurd (true≢false (sym h))
+refused_makes_nothing (told.Superseded i) text es h = absurd (true≢false (sym h))
+refused_makes_nothing (told.Entered i) text es h = absurd (true≢false (sym h))
+refused_makes_nothing (told.Beside i) text es h = absurd (true≢false (sym h))
+refused_makes_nothing (told.Revised i) text es h = absurd (true≢false (sym h))
+refused_makes_nothing (told.Refused p) text es h = refl
+refused_makes_nothing told.Spent text es h = absurd (true≢false (sym h))
+
+pub refused_not_there : (t : Told) → is_refused t ≡ true → is_there t ≡ false
+refused_not_there (told.Same i) h = absurd (true≢false (sym h))
+refused_not_there (told.Superseded i) h = absurd (true≢false (sym h))
+refused_not_there (told.Entered i) h = refl
+refused_not_there (told.Beside i) h = refl
+refused_not_there (told.Revised i) h = refl
+refused_not_there (told.Refused p) h = refl
+refused_not_there told.Spent h = refl
+
+-- ---- a text that no entry has
+
+-- another text of the key is against it, where the least entry of the key is this one, and whether it is ours is this
+abbrev pub blocks : Option Id → Differs → Bool → Bool
+blocks None d ours = false
+blocks (Some i) differs.Refuse ours = true
+blocks (Some i) differs.Beside ours = false
+blocks (Some i) differs.Revise ours = ours
+
+blocks_ours : (o : Option Id) (d : Differs) (ours : Bool) → blocks o d ours ≡ true → blocks o d true ≡ true
+blocks_ours None d ours h = absurd (true≢false (sym h))
+blocks_ours (Some i) differs.Refuse ours h = refl
+blocks_ours (Some i) differs.Beside ours h = absurd (true≢false (sym h))
+blocks_ours (Some i) differs.Revise ours h = refl
+
+pub blocks_more : (o : Option Id) (j : Id) (d : Differs) (ours more : Bool) → blocks o d ours ≡ true → (ours ≡ true → more ≡ true) → blocks (Some j) d more ≡ true
+blocks_more None j d ours more h k = absurd (true≢false (sym h))
+blocks_more (Some i) j differs.Refuse ours more h k = refl
+blocks_more (Some i) j differs.Beside ours more h k = absurd (true≢false (sym h))
+blocks_more (Some i) j differs.Revise ours more h k = k h
+
+some_blocks : (o : Option Id) (d : Differs) (ours : Bool) → blocks o d ours ≡ true → (i : Id) × (o ≡ Some i)
+some_blocks None d ours h = absurd (true≢false (sym h))
+some_blocks (Some i) d ours h = (i, refl)
+
+unless_not : (p : Told → Bool) (last : ℕ) (t : Told) → p t ≡ false → p told.Spent ≡ false → p (unless_spent last t) ≡ false
+unless_not p last t h k = elim (nat_le last 4294967295) as (λ b. p (cond b t told.Spent) ≡ false) [ true ↦ h | false ↦ k ]
+
+new_refused : (o : Option Id) (d : Differs) (new : Id) (there : OfKey) → is_refused (told_of_new o d new there) ≡ blocks o d there.ours
+new_refused None d new there = unless_not is_refused new.count (told.Entered new) refl refl
+new_refused (Some other) differs.Refuse new there = refl
+new_refused (Some other) differs.Beside new there = unless_not is_refused new.count (told.Beside new) refl refl
+new_refused (Some other) differs.Revise new there =
+    elim there.ours as (λ b. is_refused (cond b (told.Refused (problem.KeyTaken other)) (unless_spent (new.count + length there.known) (told.Revised new))) ≡ b) [
+      | true ↦ refl
+      | false ↦ unless_not is_refused (new.count + length there.known) (told.Revised new) refl refl
+    ]
+
+new_not_there : (o : Option Id) (d : Differs) (new : Id) (there : OfKey) → is_there (told_of_new o d new there) ≡ false
+new_not_there None d new there = unless_not is_there new.count (told.Entered new) refl refl
+new_not_there (Some other) differs.Refuse new there = refl
+new_not_there (Some other) differs.Beside new there = unless_not is_there new.count (told.Beside new) refl refl
+new_not_there (Some other) differs.Revise new there =
+    elim there.ours as (λ b. is_there (cond b (told.Refused (problem.KeyTaken other)) (unless_spent (new.count + length there.known) (told.Revised new))) ≡ false) [
+      | true ↦ refl
+      | false ↦ unless_not is_there (new.count + length there.known) (told.Revised new) refl refl
+    ]
+
+-- ---- one text
+
+module _ (d : Differs) (new : Id) (there : OfKey) (text : List ℕ) where
+  abbrev its : Told
+  its = told_of d new there text
+
+  abbrev otherwise : Told
+  otherwise = told_of_new (least any_entry there.known) d new there
+
+  -- whether an entry of its key has it
+  abbrev AsThere : Told → Type 0
+  AsThere t = ((is_there t ≡ true) × HasText there.known text) ⊎ ((HasText there.known text → ⊥) × (t ≡ otherwise))
+
+  by_entries : (v a : Option Id) → least (has_text_and_is_valid text) there.known ≡ v → least (has_text text) there.known ≡ a → AsThere (unwrap_or (option_map told.Same v) (unwrap_or (option_map told.Superseded a) otherwise))
+  by_entries (Some i) a e f = let m = least_some (has_text_and_is_valid text) there.known i e in inl (refl, (m.0, m.1, same_bytes m.0.definition text (and_parts _ _ m.2).0))
+  by_entries None (Some i) e f = let m = least_some (has_text text) there.known i f in inl (refl, (m.0, m.1, same_bytes m.0.definition text m.2))
+  by_entries None None e f = inr (λ h. least_none (has_text text) there.known f h.0 h.1 (text_itself text h.0.definition h.2), refl)
+
+  told_cases : AsThere its
+  told_cases = by_entries (least (has_text_and_is_valid text) there.known) (least (has_text text) there.known) refl refl
+
+  pub text_of_there : is_there its ≡ true → HasText there.known text
+  text_of_there h = elim told_cases [
+    | inl a ↦ a.1
+    | inr b ↦ absurd (true≢false (sym h ∙ ap is_there b.1 ∙ new_not_there (least any_entry there.known) d new there))
+  ]
+
+  pub there_of_text : HasText there.known text → is_there its ≡ true
+  there_of_text h = elim told_cases [ inl a ↦ a.0 | inr b ↦ absurd (b.0 h) ]
+
+  pub not_of_refused : is_refused its ≡ true → HasText there.known text → ⊥
+  not_of_refused h has = true≢false (sym h ∙ there_not_refused its (there_of_text has))
+
+  pub blocks_of_refused : is_refused its ≡ true → blocks (least any_entry there.known) d there.ours ≡ true
+  blocks_of_refused h = elim told_cases [
+    | inl a ↦ absurd (true≢false (sym h ∙ there_not_refused its a.0))
+    | inr b ↦ sym (new_refused (least any_entry there.known) d new there) ∙ ap is_refused (sym b.1) ∙ h
+  ]
+
+  pub refused_of_blocks : (HasText there.known text → ⊥) → blocks (least any_entry there.known) d there.ours ≡ true → is_refused its ≡ true
+  refused_of_blocks n h = elim told_cases [
+    | inl a ↦ absurd (n a.1)
+    | inr b ↦ ap is_refused b.1 ∙ new_refused (least any_entry there.known) d new there ∙ h
+  ]
+
+  abbrev Closed : OfKey → Type 0
+  Closed o = (o.known ≡ there.known) × (blocks (least any_entry o.known) d o.ours ≡ true)
+
+  -- where another text is against texts of the key, its entries stay
+  pub closed_on : (key : Key) → blocks (least any_entry there.known) d there.ours ≡ true
+      → ((then_of its key text there).known ≡ there.known) × (blocks (least any_entry (then_of its key text there).known) d (then_of its key text there).ours ≡ true)
+  closed_on key h = elim told_cases [
+    | inl a ↦ subst Closed (sym (there_then its key text there a.0)) (refl, blocks_ours (least any_entry there.known) d there.ours h)
+    | inr b ↦ subst Closed (sym (refused_then its key text there (ap is_refused b.1 ∙ new_refused (least any_entry there.known) d new there ∙ h))) (refl, h)
+  ]
+
+  abbrev Comes : Key → Told → Type 0
+  Comes key t = is_refused t ≡ false → is_spent t ≡ false → (is_there t ≡ true → HasText there.known text) → HasText (then_of t key text there).known text × ((then_of t key text there).ours ≡ true)
+
+  -- a text that is neither refused nor spent has an entry then, which is ours
+  pub comes_ours : (key : Key) → is_refused its ≡ false → is_spent its ≡ false → HasText (then_of its key text there).known text × ((then_of its key text there).ours ≡ true)
+  comes_ours key r s = told_has (Comes key) d new there text (record {
+    same = λ i a b h. (h refl, refl);
+    superseded = λ i a b h. (h refl, refl);
+    entered = λ l a b h. (behind, refl);
+    beside = λ l a b h. (behind, refl);
+    revised = λ o l a b h. ((entered new key text, in_head (entered new key text) [], refl), refl);
+    taken = λ i a b h. absurd (true≢false a);
+    spent = λ a b h. absurd (true≢false b);
+  }) r s text_of_there
+    where
+      behind : HasText (there.known ++ entered new key text ∷ []) text
+      behind = (entered new key text, Contains-append_right there.known (entered new key text ∷ []) (entered new key text) (in_head (entered new key text) []), refl)
+
+  -- an entry of a key that is ours stays
+  pub ours_on : (key : Key) (e : Known) → there.ours ≡ true → Contains there.known e → Contains (then_of its key text there).known e × ((then_of its key text there).ours ≡ true)
+  ours_on key e o c = told_has (λ t. Contains (then_of t key text there).known e × ((then_of t key text there).ours ≡ true)) d new there text (record {
+    same = λ i. (c, refl);
+    superseded = λ i. (c, refl);
+    entered = λ l. (Contains-append_left there.known (entered new key text ∷ []) e c, refl);
+    beside = λ l. (Contains-append_left there.known (entered new key text ∷ []) e c, refl);
+    revised = λ free l. absurd (true≢false (sym o ∙ free));
+    taken = λ i. (c, o);
+    spent = (c, o);
+  })
+
+-- where an entry has the key, another text is against those that no entry has, as before or more
+pub blocks_on : (d : Differs) (es fs : List Known) (ours more : Bool) → blocks (least any_entry es) d ours ≡ true → ((text : List ℕ) → HasText es text → HasText fs text) → (ours ≡ true → more ≡ true) → blocks (least any_entry fs) d more ≡ true
+blocks_on d es fs ours more h within k =
+    let some = some_blocks (least any_entry es) d ours h in
+    let e = least_some any_entry es some.0 some.1 in
+    let f = within e.0.definition (e.0, e.1, refl) in
+    elim (least any_entry fs) as (λ o. least any_entry fs ≡ o → blocks o d more ≡ true) [
+      | Some j ↦ λ _. blocks_more (least any_entry es) j d ours more h k
+      | None ↦ λ n. absurd (least_none any_entry fs n f.0 f.1 refl)
+    ] refl
+
+-- beside others none is refused
+pub refused_of_beside : (new : Id) (there : OfKey) (text : List ℕ) → is_refused (told_of differs.Beside new there text) ≡ false
+refused_of_beside new there text = elim (told_cases differs.Beside new there text) [
+  | inl a ↦ there_not_refused (told_of differs.Beside new there text) a.0
+  | inr b ↦ ap is_refused b.1 ∙ new_refused (least any_entry there.known) differs.Beside new there ∙ never (least any_entry there.known)
+]
+  where
+    never : (o : Option Id) → blocks o differs.Beside there.ours ≡ false
+    never None = refl
+    never (Some i) = refl

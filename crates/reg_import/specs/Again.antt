@@ -1,0 +1,49 @@
+-- What stands in a content, and what is told where nothing is new.
+use Rattle.std.specs.Prelude.{◌≡◌, ℕ, ◌<◌, Bool, true, false, not, List, [], ◌∷◌, Contains, map, filter}
+use Rattle.reg_op.specs.Operations.{Ops}
+use Rattle.reg_op.specs.Contents.{Content}
+use Rattle.reg_op.specs.Rows.{Row, rows}
+use Rattle.reg_op.specs.Status.{retires}
+use Rattle.reg_seen.specs.Runs.{id_at}
+use Rattle.reg_office.specs.Making.{greatest}
+use Rattle.reg_import.specs.declared.reading.Reading.{Reading}
+use Rattle.reg_import.specs.declared.told.Told.{Told}
+use Rattle.reg_import.specs.declared.told.Told.TheVariants as told
+use Rattle.reg_import.specs.Known.{stands}
+use Rattle.reg_import.specs.Readings.{IsReading}
+use Rattle.reg_import.specs.Imports.{is_refused}
+
+-- an entry that is not retired has this text
+pub record HasStanding (s : Ops) (text : List ℕ) : Type 0 where
+  pub row : Row
+  pub there : Contains (rows s) row
+  pub definition : row.definition ≡ text
+  pub stands : stands row ≡ true
+
+-- the texts of all entries that are not retired, by id
+abbrev pub standing_texts : Ops → List (List ℕ)
+standing_texts s = map (λ (r : Row). r.definition) (filter stands (rows s))
+
+-- each text is read so
+abbrev pub AreReadings : List (List ℕ) → List Reading → Type 0
+AreReadings [] readings = readings ≡ []
+AreReadings (text ∷ texts) readings = (reading : Reading) × (rest : List Reading) × IsReading text reading × AreReadings texts rest × (readings ≡ reading ∷ rest)
+
+-- no entry that the replica has still to number is retired already
+abbrev pub RetiresNoneAhead : Content → List ℕ → Type 0
+RetiresNoneAhead x replica = (count : ℕ) → greatest replica x.seen < count → retires x.ops (id_at replica count) ≡ false
+
+-- an entry had the text already
+abbrev pub is_there : Told → Bool
+is_there (told.Same i) = true
+is_there (told.Superseded i) = true
+is_there (told.Entered i) = false
+is_there (told.Beside i) = false
+is_there (told.Revised i) = false
+is_there (told.Refused p) = false
+is_there told.Spent = false
+
+-- the texts that were refused are refused again, and of all others an entry has the text
+pub record IsToldAgain (ts us : List Told) : Type 0 where
+  pub refused : map is_refused us ≡ map is_refused ts
+  pub others : map is_there us ≡ map (λ t. not (is_refused t)) ts

@@ -1,0 +1,49 @@
+//! What holds of imports. A call does nothing: its contract is the law.
+
+ghost use Rattle.std.specs.Prelude.{◌≡◌, ◌⊎◌, ◌↔◌, ℕ, Bool, List, map};
+ghost use Rattle.wkt_tree.specs.Tree.{Piece};
+ghost use Rattle.wkt_texts.specs.Texts.{IsCutInto};
+ghost use Rattle.wkt_texts.specs.Printed.{AreFound};
+ghost use Rattle.reg_op.specs.Contents.{Content, IsContent, nothing};
+ghost use Rattle.reg_office.specs.Exports.{export};
+ghost use Rattle.reg_office.specs.World.{World, IsWorld};
+ghost use Rattle.reg_import.specs.declared.reading.Reading.{Reading};
+ghost use Rattle.reg_import.specs.declared.told.Differs.{Differs};
+ghost use Rattle.reg_import.specs.declared.told.Differs.TheVariants.{Beside};
+ghost use Rattle.reg_import.specs.declared.told.Problem.{Problem};
+ghost use Rattle.reg_import.specs.declared.told.Told.{Told};
+ghost use Rattle.reg_import.specs.declared.import.ImportRefusal.{ImportRefusal};
+ghost use Rattle.reg_import.specs.declared.import.ImportRefusal.TheVariants as refusal;
+ghost use Rattle.reg_import.specs.Plans.{Imports, IsImportRefusal};
+ghost use Rattle.reg_import.specs.Again.{HasStanding, standing_texts, AreReadings, RetiresNoneAhead, IsToldAgain};
+
+/// The same texts imported again, in the same mode, make nothing: the content stays as it is, and of each text that was not refused
+/// an entry is told that has it. Nor are they refused, but for a long note or memory.
+pub fn importing_again_makes_nothing()
+    ensures nothing { (x y z : Content) (replica note again noted : List ℕ) (differs : Differs) (keep_going : Bool) (texts : List (List ℕ)) (readings : List Reading) (ts us : List Told)
+        → IsContent x → RetiresNoneAhead x replica → AreReadings texts readings
+        → Imports x replica note differs keep_going readings y ts → Imports y again noted differs keep_going readings z us
+        → (z ≡ y) × IsToldAgain ts us }
+    ensures passes { (x y : Content) (replica note again noted : List ℕ) (differs : Differs) (keep_going : Bool) (texts : List (List ℕ)) (readings : List Reading) (ts : List Told) (f : ImportRefusal)
+        → IsContent x → RetiresNoneAhead x replica → AreReadings texts readings
+        → Imports x replica note differs keep_going readings y ts → IsImportRefusal y again noted differs keep_going readings f
+        → (f ≡ refusal.NoteTooLong) ⊎ (f ≡ refusal.Memory) }
+{}
+
+/// What is exported of a register is found again, text by text; and imported beside one another into an empty register, which refuses
+/// none of the texts, it makes one in which the same texts stand.
+pub fn exported_texts_are_imported()
+    ensures found { (x : Content) → IsContent x → AreFound (export x.ops) (standing_texts x.ops) }
+    ensures passes { (x : Content) (replica note : List ℕ) (keep_going : Bool) (cuts : List Piece) (readings : List Reading) (at : ℕ) (problem : Problem)
+        → IsContent x → IsCutInto (export x.ops) cuts → AreReadings (map (λ c. c.bytes) cuts) readings
+        → ¬ (IsImportRefusal nothing replica note Beside keep_going readings (refusal.Refused at problem)) }
+    ensures same { (x y : Content) (replica note : List ℕ) (keep_going : Bool) (cuts : List Piece) (readings : List Reading) (ts : List Told)
+        → IsContent x → IsCutInto (export x.ops) cuts → AreReadings (map (λ c. c.bytes) cuts) readings
+        → Imports nothing replica note Beside keep_going readings y ts
+        → (text : List ℕ) → HasStanding y.ops text ↔ HasStanding x.ops text }
+{}
+
+/// In every world, an office's register retires no entry that the office has still to enter. So what is imported again makes nothing.
+pub fn no_office_retires_ahead()
+    ensures { (w : World) → IsWorld w → (office : List ℕ) → RetiresNoneAhead (w.offices office).content office }
+{}

@@ -1,0 +1,60 @@
+-- Files of texts: the bytes that each gave, or why one did not.
+use Rattle.std.specs.Prelude.{◌≡◌, ◌⊎◌, ◌≤◌, ◌<◌, ◌+◌, ℕ, List, [], ◌∷◌, length, map}
+use Rattle.std.specs.declared.vec.Vec.{Vec}
+use Rattle.byte_io.specs.Device.{SourceState}
+use Rattle.byte_io.specs.Whole.{FailsAfter}
+use Rattle.reg_file.specs.Files.{most, ReadsBytes}
+use Rattle.reg_engine.specs.declared.fault.InputFault.{InputFault}
+use Rattle.reg_engine.specs.declared.fault.InputFault.TheVariants as file
+use Rattle.reg_engine.specs.declared.fault.CliFault.{CliFault}
+use Rattle.reg_engine.specs.declared.fault.CliFault.TheVariants as cli
+use Rattle.reg_engine.specs.Inputs.{NeverFails, NoneFails}
+
+-- the source gave all its bytes, no more than a file may have
+abbrev pub Gives : SourceState → SourceState → List ℕ → Type 0
+Gives old new bytes = ReadsBytes old new bytes × (length bytes ≤ most)
+
+-- or it did not, for this reason
+abbrev pub IsFileFault : InputFault → SourceState → SourceState → Type 0
+IsFileFault file.NotOpened old new = ⊥
+IsFileFault (file.ReadFailed n) old new = FailsAfter n (most + 1) old new
+IsFileFault file.TooLarge old new = (bytes : List ℕ) × ReadsBytes old new bytes × (most < length bytes)
+IsFileFault (file.BadFile f place) old new = ⊥
+
+-- what was done to the file of this number, of which no bytes are had
+abbrev pub IsUnread : ℕ → SourceState → SourceState → CliFault → Type 0
+IsUnread number old new (cli.Refused r) = ⊥
+IsUnread number old new (cli.File k f) = (k ≡ number) × IsFileFault f old new
+IsUnread number old new (cli.Out f) = ⊥
+IsUnread number old new cli.Memory = NeverFails old new
+IsUnread number old new (cli.Shelf p) = ⊥
+
+-- ---- a list of files
+
+abbrev pub bytes_of : List (Vec ℕ) → List (List ℕ)
+bytes_of files = map (λ f. f.items) files
+
+-- each gave these bytes
+abbrev pub GiveAll : List SourceState → List SourceState → List (List ℕ) → Type 0
+GiveAll [] [] [] = Unit {0}
+GiveAll [] [] (b ∷ bs) = ⊥
+GiveAll [] (n ∷ ns) bs = ⊥
+GiveAll (o ∷ os) [] bs = ⊥
+GiveAll (o ∷ os) (n ∷ ns) [] = ⊥
+GiveAll (o ∷ os) (n ∷ ns) (b ∷ bs) = Gives o n b × GiveAll os ns bs
+
+-- the first has this number, and the others one more each: that of number k has the fault, each before it gave its bytes,
+-- and those after it gave nothing
+abbrev pub StopsAt : ℕ → ℕ → InputFault → List SourceState → List SourceState → Type 0
+StopsAt number k f [] new = ⊥
+StopsAt number k f (o ∷ os) [] = ⊥
+StopsAt number k f (o ∷ os) (n ∷ ns) = ((k ≡ number) × IsFileFault f o n × (ns ≡ os))
+    ⊎ (((bytes : List ℕ) × Gives o n bytes) × StopsAt (number + 1) k f os ns)
+
+-- what was done to them before it was given up
+abbrev pub AreUnread : ℕ → List SourceState → List SourceState → CliFault → Type 0
+AreUnread number old new (cli.Refused r) = ⊥
+AreUnread number old new (cli.File k f) = StopsAt number k f old new
+AreUnread number old new (cli.Out f) = ⊥
+AreUnread number old new cli.Memory = NoneFails old new
+AreUnread number old new (cli.Shelf p) = ⊥
