@@ -1,5 +1,5 @@
 -- What is read of the bytes of tokens.
-use Rattle.std.proofs.Common.{◌≡◌, ℕ, suc, ◌+◌, ◌-◌, ◌<◌, ◌==◌, ◌||◌, Bool, true, false, cond, Some, List, [], ◌∷◌, ◌++◌, length, refl, ap, sym, ◌∙◌, subst, arith, append_assoc, ◌⊎◌, inl, inr, filter}
+use Rattle.std.proofs.Common.{◌≡◌, ℕ, suc, ◌-◌, ◌<◌, ◌==◌, ◌||◌, Bool, true, false, cond, Some, List, [], ◌∷◌, ◌++◌, length, refl, ap, sym, ◌∙◌, subst, arith, append_assoc, ◌⊎◌, inl, inr, filter}
 use Rattle.std.specs.List.{AllPass, flat_map}
 use Rattle.std.specs.Char.{is_ascii_alphabetic}
 use Rattle.std.proofs.lemmas.Bool.Decides.{nat_tests}
@@ -10,11 +10,11 @@ use Rattle.wkt_tree.specs.declared.token.TokenKind.TheVariants.{Word, Quoted, Nu
 use Rattle.wkt_tree.specs.Bytes.{is_blank, is_word_byte, is_number_byte, begins_number, begun_by}
 use Rattle.wkt_tree.specs.Tree.{Tok, tok, Item, Items, node, tokens, all_tokens, Begins}
 use Rattle.wkt_tree.specs.Tree as tree
-use Rattle.wkt_tree.specs.Tokens.{doubled, opening, closing, Follow, Front, Cut, end_of}
+use Rattle.wkt_tree.specs.Tokens.{doubled, Follow, Front, Cut, end_of}
 use Rattle.wkt_tree.proofs.Lexemes.{by_mark}
 use Rattle.wkt_tree.proofs.Sound.{word_begins, number_begins, quoted_begins, comma_begins, open_begins, close_begins}
 use Rattle.wkt_explain.specs.declared.path.Piece.TheVariants.{Mark, Opens, Closes, InWord, Blank, Other}
-use Rattle.wkt_explain.specs.Path.{Read, start as fresh, piece_of, outside, inside, takes, reads_on, is_named, path_at}
+use Rattle.wkt_explain.specs.Path.{Read, start as fresh, piece_of, outside, takes, reads_on, is_named, path_at}
 use Rattle.wkt_explain.specs.Opened.{behind, opened_by, opened_by_all}
 
 -- outside quotation marks, and inside them

@@ -105,7 +105,8 @@ fn is_extent(word: &[u8]) -> bool
 fn is_base(word: &[u8]) -> bool
     ensures { result ≡ is_base word.now }
 {
-    same_word(Keyword::BaseGeographicCrs.spelling(), word) || same_word(Keyword::BaseGeodeticCrs.spelling(), word)
+    same_word(Keyword::BaseGeographicCrs.spelling(), word)
+        || same_word(Keyword::BaseGeodeticCrs.spelling(), word)
 }
 
 // Of a word that cannot stand in this node.
