@@ -1,5 +1,5 @@
 -- No register of an office has retired or superseded an entry that the office has still to enter.
-use Rattle.std.proofs.Common.{◌≡◌, ℕ, ◌+◌, ◌<◌, ◌≤◌, Bool, true, false, not, ◌&&◌, ◌||◌, cond, List, [], ◌∷◌, ◌++◌, length, length-append, Option, Some, None, Ok, refl, sym, ap, ◌∙◌, subst, inl, inr, ◌⊎◌, arith}
+use Rattle.std.proofs.Common.{◌≡◌, ℕ, ◌+◌, ◌<◌, Bool, true, false, not, ◌&&◌, cond, List, [], ◌∷◌, ◌++◌, length, length-append, Option, Some, None, Ok, refl, sym, ap, ◌∙◌, subst, inl, inr, ◌⊎◌, arith}
 use Rattle.std.proofs.lemmas.Bool.{true≢false, or_cases, or_left, or_right, and_parts, false_from_ne_true}
 use Rattle.std.specs.Cmp.{tied_itself}
 use Rattle.std.specs.Ordering.{is_eq, eq_by_cmp}
@@ -23,7 +23,7 @@ use Rattle.reg_office.specs.declared.fault.OfficeFault.{OfficeFault}
 use Rattle.reg_office.specs.declared.fault.OfficeFault.TheVariants as fault
 use Rattle.reg_office.specs.Making.{greatest, numbered, objection, objections, with_op, else_next, note_fault, is_spent, made_unless, made}
 use Rattle.reg_office.specs.World.{World, start, Event, Make, Send, SendSeen, SendPiece, Take, TakeOne, Restart, Stop, Happens, Leads, IsWorld}
-use Rattle.reg_office.specs.Reached.{Reaches, IsMadeBy}
+use Rattle.reg_office.specs.Reached.{IsMadeBy}
 use Rattle.reg_office.proofs.EffectLemmas.{nothing_against}
 use Rattle.reg_office.proofs.LawLemmas.{made_are}
 use Rattle.reg_office.proofs.NumberLemmas.{op_cases, count-greatest}

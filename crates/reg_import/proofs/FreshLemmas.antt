@@ -1,5 +1,5 @@
 -- Each entry that an import retires is one of the register, not retired before, and retired once.
-use Rattle.std.proofs.Common.{◌≡◌, ◌≢◌, ℕ, ◌+◌, Bool, true, false, not, ◌&&◌, ◌||◌, cond, List, [], ◌∷◌, ◌++◌, map, filter, length, Option, Some, None, refl, sym, ap, ◌∙◌, subst, inl, inr, ◌⊎◌}
+use Rattle.std.proofs.Common.{◌≡◌, ℕ, ◌+◌, Bool, true, false, not, cond, List, [], ◌∷◌, ◌++◌, filter, length, Some, None, refl, sym, ap, ◌∙◌, subst, inl, inr, ◌⊎◌}
 use Rattle.std.proofs.lemmas.Bool.{true≢false, or_cases, or_left, or_right, false_from_ne_true}
 use Rattle.std.specs.List.{list_any, flat_map}
 use Rattle.std.specs.Cmp.{tied_itself}
@@ -12,7 +12,7 @@ use Rattle.reg_op.specs.Lists.{has, AllAfter, ById}
 use Rattle.reg_op.specs.Operations.{Op, Ops}
 use Rattle.reg_op.specs.declared.operation.OpBody.{OpBody as Body}
 use Rattle.reg_op.specs.declared.operation.OpBody.TheVariants.{Enter, Supersede, Retire}
-use Rattle.reg_op.specs.Rows.{Row, rows, rows_at, newer_of}
+use Rattle.reg_op.specs.Rows.{Row, rows_at, newer_of}
 use Rattle.reg_op.specs.Status.{enters, retires, supersedes, status}
 use Rattle.reg_op.specs.declared.status.Status.TheVariants.{Retired, Superseded, Valid}
 use Rattle.reg_op.proofs.OpLemmas.{id_total, op_total, is_same_exact}
@@ -26,9 +26,8 @@ use Rattle.reg_import.specs.declared.reading.Reading.{Reading}
 use Rattle.reg_import.specs.declared.reading.Reading.TheVariants as reading
 use Rattle.reg_import.specs.declared.told.Differs.{Differs}
 use Rattle.reg_import.specs.declared.told.Told.{Told}
-use Rattle.reg_import.specs.declared.told.Told.TheVariants as told
-use Rattle.reg_import.specs.Known.{IsKnown, AreKnown, AreStanding, stands, OfKey, At, is_key, key_of, by_key, with_key}
-use Rattle.reg_import.specs.Imports.{told_of, bodies_of, then_of, told_at, bodies_at, then_at, imports, effects}
+use Rattle.reg_import.specs.Known.{AreKnown, AreStanding, stands, OfKey, At, is_key, key_of, by_key, with_key}
+use Rattle.reg_import.specs.Imports.{told_of, bodies_of, then_of, imports, effects}
 use Rattle.reg_import.specs.Plans.{retired}
 use Rattle.reg_import.proofs.KnownLemmas.{same_key, key_itself}
 use Rattle.reg_import.proofs.ToldLemmas.{told_has}

@@ -4,20 +4,19 @@ use Rattle.std.proofs.lemmas.Bool.Decides.{nat_tests}
 use Rattle.reg_op.specs.Set as set
 use Rattle.reg_op.specs.Lists.{ById}
 use Rattle.reg_op.specs.Operations.{Op, op_cmp}
-use Rattle.reg_op.specs.declared.operation.OpBody.{OpBody as Body}
 use Rattle.reg_op.specs.Contents.{Content, IsContent, nothing, state, joined}
 use Rattle.reg_op.proofs.ContentLemmas.{state-empty, joined_comm, joined_nothing}
 use Rattle.reg_state.specs.Tables.{first_dropped}
 use Rattle.reg_office.specs.declared.fault.OfficeFault.TheVariants as fault
-use Rattle.reg_office.specs.Making.{greatest, numbered, note_fault}
+use Rattle.reg_office.specs.Making.{greatest, note_fault}
 use Rattle.reg_office.proofs.NumberLemmas.{made_ok}
 use Rattle.reg_import.specs.declared.reading.Reading.{Reading}
 use Rattle.reg_import.specs.declared.told.Differs.{Differs}
 use Rattle.reg_import.specs.declared.told.Told.{Told}
 use Rattle.reg_import.specs.declared.import.ImportRefusal.{ImportRefusal}
 use Rattle.reg_import.specs.declared.import.ImportRefusal.TheVariants as refusal
-use Rattle.reg_import.specs.Imports.{Step, tolds, effects}
-use Rattle.reg_import.specs.Plans.{AreSteps, Plans, AreNumbered, PassesAll, IsRefusedPlan, IsPassedPlan, Imports, IsImportRefusal}
+use Rattle.reg_import.specs.Imports.{Step, effects}
+use Rattle.reg_import.specs.Plans.{AreSteps, Plans, AreNumbered, IsRefusedPlan, IsPassedPlan, Imports, IsImportRefusal}
 use Rattle.reg_import.proofs.NumberedLemmas.{length_numbered}
 use Rattle.reg_import.proofs.OnceLemmas.{Once, nothing_against, none_dropped}
 use Rattle.reg_import.proofs.FreshLemmas.{imports_once}

@@ -1,17 +1,16 @@
 -- The entries of rows, by key.
-use Rattle.std.proofs.Common.{◌≡◌, ℕ, Bool, true, false, cond, List, [], ◌∷◌, ◌++◌, append_assoc, append-nil, map, filter, length, refl, sym, ap, ◌∙◌, subst, arith}
+use Rattle.std.proofs.Common.{◌≡◌, Bool, true, false, cond, List, [], ◌∷◌, ◌++◌, append_assoc, append-nil, map, filter, length, refl, sym, ap, ◌∙◌, subst, arith}
 use Rattle.std.proofs.lemmas.Bool.{true≢false}
 use Rattle.std.proofs.lemmas.List.Elements.{filter-append}
 use Rattle.std.specs.Cmp.{tied_itself, Equal-is}
 use Rattle.std.specs.Ordering.{is_eq}
-use Rattle.reg_op.specs.Rows.{Row}
 use Rattle.reg_office.specs.declared.row.Row.{Row as MadeRow}
 use Rattle.reg_office.specs.Seen.{row_seen}
 use Rattle.reg_office.specs.Conflicts.{KeyBytes, key_cmp}
 use Rattle.reg_office.proofs.ConflictLemmas.{key_total, key_exact}
 use Rattle.reg_import.specs.declared.known.Known.{Known}
 use Rattle.reg_import.specs.Known.{IsKnown, AreKnown, stands, OfKey, At, is_key, key_of, by_key, with_key}
-use Rattle.reg_import.specs.Index.{nothing_there, with_entry}
+use Rattle.reg_import.specs.Index.{with_entry}
 
 pub same_key : (a b : KeyBytes) → is_key a b ≡ true → a ≡ b
 same_key a b h = key_exact a b ((Equal-is (key_cmp a b)).0 h)

@@ -1,5 +1,5 @@
 -- The least of some entries, from the last of them on.
-use Rattle.std.proofs.Common.{◌≡◌, Bool, true, false, cond, List, [], ◌∷◌, ◌++◌, append_assoc, append-nil, length, Option, Some, None, refl, sym, ap, ◌∙◌, subst, arith}
+use Rattle.std.proofs.Common.{◌≡◌, Bool, true, false, cond, List, [], ◌∷◌, ◌++◌, append_assoc, append-nil, length, Option, Some, None, refl, sym, ap, ◌∙◌, arith}
 use Rattle.reg_op.specs.Ids.{Id}
 use Rattle.reg_import.specs.declared.known.Known.{Known}
 use Rattle.reg_import.specs.Imports.{least, sooner}

@@ -4,7 +4,7 @@ use Rattle.csv.specs.Writing.{row_text, default_writer}
 use Rattle.reg_office.specs.Lines.{AreLines, IsSheet}
 use Rattle.reg_import.specs.declared.reading.FileText.{FileText}
 use Rattle.reg_import.specs.declared.told.Told.{Told}
-use Rattle.reg_import.specs.Lines.{Line, lines_of, IsImportLine, import_header}
+use Rattle.reg_import.specs.Lines.{lines_of, IsImportLine, import_header}
 
 -- what is still to come completes the lines
 abbrev pub Completes : List (List ℕ) → List FileText → List Told → List FileText → List Told → List ℕ → Type 0

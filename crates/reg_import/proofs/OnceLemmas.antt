@@ -1,7 +1,7 @@
 -- Entries that are retired once: nothing is against that, and none of the operations replaces another.
-use Rattle.std.proofs.Common.{◌≡◌, ℕ, ◌+◌, Bool, true, false, not, ◌&&◌, ◌||◌, cond, List, [], ◌∷◌, ◌++◌, map, filter, Some, None, refl, sym, ap, ◌∙◌, subst, inl, inr, ◌⊎◌, find}
+use Rattle.std.proofs.Common.{◌≡◌, ℕ, ◌+◌, Bool, true, false, not, ◌&&◌, ◌||◌, cond, List, [], ◌∷◌, ◌++◌, Some, None, refl, sym, ap, ◌∙◌, subst, inl, inr}
 use Rattle.std.specs.Prelude.{option_map}
-use Rattle.std.proofs.lemmas.Bool.{true≢false, or_cases, or_left, or_right, and_parts, false_from_ne_true}
+use Rattle.std.proofs.lemmas.Bool.{true≢false, or_left, and_parts, false_from_ne_true}
 use Rattle.std.specs.List.{list_any}
 use Rattle.std.specs.Cmp.{tied_itself}
 use Rattle.std.specs.Ordering.{is_eq}
@@ -26,8 +26,6 @@ use Rattle.reg_state.specs.Tables.{first_dropped}
 use Rattle.reg_office.specs.declared.fault.OfficeFault.TheVariants as fault
 use Rattle.reg_office.specs.Making.{numbered, with_op, else_next, objections}
 use Rattle.reg_office.proofs.NumberLemmas.{op_cases}
-use Rattle.reg_import.specs.declared.known.Known.{Known}
-use Rattle.reg_import.specs.Plans.{retired}
 
 -- entries are entered by the effects, or retired that were entered, each once, and none of those before
 abbrev pub Once : Ops → List Id → List Body → Type 0

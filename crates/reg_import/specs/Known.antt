@@ -1,8 +1,7 @@
 -- The entries that are not retired, and what there is of each key.
-use Rattle.std.specs.Prelude.{◌≡◌, ℕ, Bool, true, false, not, List, [], ◌∷◌, ◌++◌, filter, Option, Some, None, if◌then◌else◌}
+use Rattle.std.specs.Prelude.{◌≡◌, Bool, true, false, not, List, [], ◌∷◌, filter, Option, Some, None, if◌then◌else◌}
 use Rattle.std.specs.Ordering.{is_eq}
 use Rattle.wkt_crs.specs.Definition.{IsKeyIn}
-use Rattle.reg_op.specs.Ids.{Id}
 use Rattle.reg_op.specs.Operations.{Ops}
 use Rattle.reg_op.specs.Rows.{Row, rows}
 use Rattle.reg_op.specs.declared.status.Status.{Status}

@@ -3,7 +3,6 @@ use Rattle.std.specs.Prelude.{◌≡◌, ◌≢◌, ℕ, ◌+◌, List, map}
 use Rattle.std.specs.Option.{unwrap_or}
 use Rattle.wkt_crs.specs.Spells.{SpellsCanon}
 use Rattle.wkt_crs.specs.Definition.{IsDefinition, IsKeyIn, IsTextFault, fault_place}
-use Rattle.wkt_crs.specs.declared.definition.DefinitionFault.{DefinitionFault}
 use Rattle.wkt_crs.specs.declared.definition.DefinitionFault.TheVariants.{Memory}
 use Rattle.reg_import.specs.declared.reading.FileText.{FileText}
 use Rattle.reg_import.specs.declared.reading.Reading.{Reading}

@@ -1,6 +1,6 @@
 use Rattle.std.proofs.Common.{◌≡◌, ◌+◌, ◌-◌, ◌<◌, Err, sym, ap, ◌∙◌, subst, length}
 use Rattle.reg_op.specs.Set as set
-use Rattle.reg_op.specs.Operations.{Op as Operation, op_cmp}
+use Rattle.reg_op.specs.Operations.{op_cmp}
 use Rattle.reg_op.specs.Contents.{joined}
 use Rattle.reg_op.specs.Lists.{ById}
 use Rattle.reg_state.proofs.TableLemmas.{ok_not_err}
