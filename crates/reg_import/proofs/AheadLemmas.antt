@@ -1,4 +1,4 @@
--- No office has retired an entry of its own that it has still to enter.
+-- No register of an office has retired or superseded an entry that the office has still to enter.
 use Rattle.std.proofs.Common.{◌≡◌, ℕ, ◌+◌, ◌<◌, ◌≤◌, Bool, true, false, not, ◌&&◌, ◌||◌, cond, List, [], ◌∷◌, ◌++◌, length, length-append, Option, Some, None, Ok, refl, sym, ap, ◌∙◌, subst, inl, inr, ◌⊎◌, arith}
 use Rattle.std.proofs.lemmas.Bool.{true≢false, or_cases, or_left, or_right, and_parts, false_from_ne_true}
 use Rattle.std.specs.Cmp.{tied_itself}
@@ -6,12 +6,13 @@ use Rattle.std.specs.Ordering.{is_eq, eq_by_cmp}
 use Rattle.reg_op.specs.Set as set
 use Rattle.reg_op.specs.Set.{contains, contains-from_list, contains-empty, union}
 use Rattle.reg_op.specs.Ids.{Id, is_same}
+use Rattle.reg_op.specs.Finite.{any}
 use Rattle.reg_op.specs.Lists.{has}
 use Rattle.reg_op.specs.Operations.{Op, Ops, op_cmp, one, kept}
 use Rattle.reg_op.specs.declared.operation.OpBody.{OpBody as Body}
 use Rattle.reg_op.specs.declared.operation.OpBody.TheVariants.{Enter, Supersede, Retire}
 use Rattle.reg_op.specs.Contents.{Content, state}
-use Rattle.reg_op.specs.Status.{enters, retires, is_enter, is_retirement}
+use Rattle.reg_op.specs.Status.{enters, retires, supersedes, is_enter, is_retirement, is_supersession}
 use Rattle.reg_op.proofs.OpLemmas.{op_total, op_exact, is_same_exact}
 use Rattle.reg_op.proofs.FiniteLemmas.{any-union, member_from_any}
 use Rattle.reg_op.proofs.ContentLemmas.{kept_is_within, union_right, ids_has}
@@ -33,13 +34,23 @@ use Rattle.reg_office.proofs.WorldLemmas.{starts, after_keeps, reached}
 use Rattle.reg_office.proofs.WorldSteps.{made_reaches}
 use Rattle.reg_office.proofs.WorldStops.{stop_is_all_or_nothing}
 use Rattle.reg_office.proofs.WorldMade.{known_or_made}
-use Rattle.reg_import.specs.Again.{RetiresNoneAhead}
 
--- ---- what a command retires was entered, or is entered by it
+-- ---- what a command retires or supersedes was entered, or is entered by it
 
-is_entered : (e : Id) (a r : Bool) → cond (not a) (Some (fault.UnknownEntry e)) (cond r (Some (fault.AlreadyRetired e)) None) ≡ None → a ≡ true
-is_entered e true r h = refl
-is_entered e false r h = absurd cc
+-- the effect retires the entry, or supersedes it
+abbrev Ends : Id → Body → Type 0
+Ends e (Enter text) = ⊥
+Ends e (Supersede old newer) = e ≡ old
+Ends e (Retire entry) = e ≡ entry
+
+first_none : (a : Bool) (f : OfficeFault) (rest : Option OfficeFault) → cond (not a) (Some f) rest ≡ None → a ≡ true
+first_none true f rest h = refl
+first_none false f rest h = absurd cc
+
+is_entered : (ops : Ops) (e : Id) (b : Body) → objection ops b ≡ None → Ends e b → enters ops e ≡ true
+is_entered ops e (Enter text) h is = absurd is
+is_entered ops e (Supersede old newer) h is = ap (enters ops) is ∙ first_none (enters ops old) (fault.UnknownEntry old) _ h
+is_entered ops e (Retire entry) h is = ap (enters ops) is ∙ first_none (enters ops entry) (fault.UnknownEntry entry) _ h
 
 entered_by : (x : Content) (q : Op) (e : Id) → enters (with_op x q).ops e ≡ true → (enters x.ops e ≡ true) ⊎ (q.id ≡ e)
 entered_by x q e h =
@@ -51,12 +62,12 @@ entered_by x q e h =
           inr (sym (is_same_exact e q.id (and_parts _ _ (subst (λ (p : Op). (is_same e p.id && is_enter p.body) ≡ true) (one_is q m.0 m.1) m.2)).0))
     ]
 
-entered_or_made : (x : Content) (os : List Op) (o : Op) (e : Id) → objections x os ≡ None → has os o ≡ true → o.body ≡ Retire e → (enters x.ops e ≡ true) ⊎ ((p : Op) × (has os p ≡ true) × (p.id ≡ e))
+entered_or_made : (x : Content) (os : List Op) (o : Op) (e : Id) → objections x os ≡ None → has os o ≡ true → Ends e o.body → (enters x.ops e ≡ true) ⊎ ((p : Op) × (has os p ≡ true) × (p.id ≡ e))
 entered_or_made x [] o e none h is = absurd (true≢false (sym h))
 entered_or_made x (q ∷ os) o e none h is =
     let n = nothing_against (objection x.ops q.body) (objections (with_op x q) os) none in
     elim (op_cases o q os h) [
-      | inl same ↦ inl (is_entered e (enters x.ops e) (retires x.ops e) (subst (λ b. objection x.ops b ≡ None) (sym (ap (λ (p : Op). p.body) same) ∙ is) n.0))
+      | inl same ↦ inl (is_entered x.ops e q.body n.0 (subst (λ (p : Op). Ends e p.body) same is))
       | inr later ↦ elim (entered_or_made (with_op x q) os o e n.1 later is) [
         | inl there ↦ elim (entered_by x q e there) [
           | inl a ↦ inl a
@@ -87,12 +98,12 @@ record IsGiven (w : World) (e : Id) : Type 0 where
 grown : (w v : World) → Grows w v → (e : Id) → IsGiven w e → IsGiven v e
 grown w v g e h = record { op = h.op; is = h.is; there = g e.replica h.op h.there }
 
--- each entry that is retired by what was made is given
+-- each entry that is retired or superseded by what was made is given
 abbrev AllGiven : (w : World) → Invariant w → Type 0
-AllGiven w inv = (o : Op) → contains inv.all o ≡ true → (e : Id) → o.body ≡ Retire e → IsGiven w e
+AllGiven w inv = (o : Op) → contains inv.all o ≡ true → (e : Id) → Ends e o.body → IsGiven w e
 
 made_given : (w : World) (inv : Invariant w) (u : World) (i : List ℕ) (bs : List Body) (note : List ℕ) (os : List Op) (o : Op) (e : Id) → made (w.offices i).content i note bs ≡ Ok os → Happens w (Make i bs note) u → Grows w u
-    → has os o ≡ true → o.body ≡ Retire e → IsGiven u e
+    → has os o ≡ true → Ends e o.body → IsGiven u e
 made_given w inv u i bs note os o e is_made h g there body =
     let x : Content = (w.offices i).content in
     elim (entered_or_made x os o e (none_against x i note bs os is_made) there body) [
@@ -109,7 +120,7 @@ made_given w inv u i bs note os o e is_made h g there body =
           record { op = new.0; is = new.2; there = subst (λ j. contains (u.offices j).reached new.0 ≡ true) own now }
     ]
 
-by_event : (w : World) (inv : Invariant w) (u : World) (v : Event) (o : Op) (e : Id) → IsMadeBy w v o → Happens w v u → Grows w u → o.body ≡ Retire e → IsGiven u e ⊎ (u ≡ w)
+by_event : (w : World) (inv : Invariant w) (u : World) (v : Event) (o : Op) (e : Id) → IsMadeBy w v o → Happens w v u → Grows w u → Ends e o.body → IsGiven u e ⊎ (u ≡ w)
 by_event w inv u (Make i bs note) o e m h g body = inl (made_given w inv u i bs note m.0 o e m.1 h g m.2 body)
 by_event w inv u (Send i) o e m h g body = absurd m
 by_event w inv u (SendSeen i) o e m h g body = absurd m
@@ -127,7 +138,7 @@ single : (w : World) (v : Event) (before : List Event) (e : Event) (after : List
 single w v [] e after u h l = let same : e ≡ v = cc in (same, l)
 single w v (c ∷ cs) e after u h l = absurd (omega (arith, ap length h, length-append cs (e ∷ after)))
 
-step_given : (w : World) (inv : Invariant w) (v : Event) (u : World) → AllGiven w inv → Happens w v u → Grows w u → (k : List ℕ) (o : Op) → contains (u.offices k).reached o ≡ true → (e : Id) → o.body ≡ Retire e → IsGiven u e
+step_given : (w : World) (inv : Invariant w) (v : Event) (u : World) → AllGiven w inv → Happens w v u → Grows w u → (k : List ℕ) (o : Op) → contains (u.offices k).reached o ≡ true → (e : Id) → Ends e o.body → IsGiven u e
 step_given w inv v u all h g k o now e body = elim (known_or_made (v ∷ []) w inv u (u, h, refl) k o now) [
   | inl old ↦ grown w u g e (all o old e body)
   | inr m ↦
@@ -139,27 +150,38 @@ step_given w inv v u all h g k o now e body = elim (known_or_made (v ∷ []) w i
       ]
 ]
 
-all_given : (events : List Event) (w : World) (inv : Invariant w) (v : World) → AllGiven w inv → Leads w events v → (k : List ℕ) (o : Op) → contains (v.offices k).reached o ≡ true → (e : Id) → o.body ≡ Retire e → IsGiven v e
+all_given : (events : List Event) (w : World) (inv : Invariant w) (v : World) → AllGiven w inv → Leads w events v → (k : List ℕ) (o : Op) → contains (v.offices k).reached o ≡ true → (e : Id) → Ends e o.body → IsGiven v e
 all_given [] w inv v all h k o now e body = subst (λ z. IsGiven z e) (sym h) (all o (inv.within k o (subst (λ (z : World). contains (z.offices k).reached o ≡ true) h now)) e body)
 all_given (event ∷ events) w inv v all h k o now e body =
     let u = h.0 in
     let step = after_keeps w inv h.1.1.0 (comes_good w inv event h.1.0 h.1.1.0 h.1.1.1) u h.1.1.2 in
     all_given events u step.0 v (λ p there f is. step_given w inv event u all h.1 step.1 p.id.replica p (step.0.own p there) f is) h.2 k o now e body
 
-retires_body : (e : Id) (b : Body) → is_retirement e b ≡ true → b ≡ Retire e
-retires_body e (Enter text) h = absurd (true≢false (sym h))
-retires_body e (Supersede old newer) h = absurd (true≢false (sym h))
-retires_body e (Retire f) h = ap Retire (sym (is_same_exact e f h))
+module _ (w : World) (is : IsWorld w) (i : List ℕ) (count : ℕ) (ahead : greatest i (w.offices i).content.seen < count) where
+  -- no effect there ends an entry that is still to be numbered
+  none_ends : (t : Body → Bool) → ((b : Body) → t b ≡ true → Ends (id_at i count) b) → any (λ o. t o.body) (w.offices i).content.ops ≡ false
+  none_ends t ends =
+      let inv = reached w is in
+      let x : Content = (w.offices i).content in
+      let e : Id = id_at i count in
+      false_from_ne_true _ (λ h.
+      let m = member_from_any op_total op_exact (λ (o : Op). t o.body) x.ops h in
+      let known : contains (w.offices i).reached m.0 ≡ true = kept_is_within (w.offices i).reached m.0 (subst (λ (y : Content). contains y.ops m.0 ≡ true) (inv.content i) m.1) in
+      let given = all_given is.0 start starts w (λ o there f body. absurd (true≢false (sym (starts.own o there) ∙ contains-empty op_cmp o))) is.1 i m.0 known e (ends m.0.body m.2) in
+      let seen : contains x.seen e ≡ true = subst (λ (y : Content). contains y.seen e ≡ true) (sym (inv.content i)) (subst (λ j. contains (state (w.offices i).reached).seen j ≡ true) given.is (ids_has (w.offices i).reached given.op given.there)) in
+      let most = count-greatest i x.seen e seen refl in
+      absurd (omega arith))
 
-pub none_ahead : (w : World) → IsWorld w → (i : List ℕ) → RetiresNoneAhead (w.offices i).content i
-none_ahead w is i count h =
-    let inv = reached w is in
-    let x : Content = (w.offices i).content in
-    let e : Id = id_at i count in
-    false_from_ne_true _ (λ r.
-    let m = member_from_any op_total op_exact (λ (o : Op). is_retirement e o.body) x.ops r in
-    let known : contains (w.offices i).reached m.0 ≡ true = kept_is_within (w.offices i).reached m.0 (subst (λ (y : Content). contains y.ops m.0 ≡ true) (inv.content i) m.1) in
-    let given = all_given is.0 start starts w (λ o there f body. absurd (true≢false (sym (starts.own o there) ∙ contains-empty op_cmp o))) is.1 i m.0 known e (retires_body e m.0.body m.2) in
-    let seen : contains x.seen e ≡ true = subst (λ (y : Content). contains y.seen e ≡ true) (sym (inv.content i)) (subst (λ j. contains (state (w.offices i).reached).seen j ≡ true) given.is (ids_has (w.offices i).reached given.op given.there)) in
-    let most = count-greatest i x.seen e seen refl in
-    absurd (omega arith))
+  retirement_ends : (b : Body) → is_retirement (id_at i count) b ≡ true → Ends (id_at i count) b
+  retirement_ends (Retire entry) h = is_same_exact (id_at i count) entry h
+  retirement_ends b h = absurd cc
+
+  supersession_ends : (b : Body) → is_supersession (id_at i count) (λ n. true) b ≡ true → Ends (id_at i count) b
+  supersession_ends (Supersede old newer) h = is_same_exact (id_at i count) old (and_parts _ _ h).0
+  supersession_ends b h = absurd cc
+
+  pub none_retired : retires (w.offices i).content.ops (id_at i count) ≡ false
+  none_retired = none_ends (is_retirement (id_at i count)) retirement_ends
+
+  pub none_superseded : supersedes (w.offices i).content.ops (id_at i count) ≡ false
+  none_superseded = none_ends (is_supersession (id_at i count) (λ n. true)) supersession_ends

@@ -78,13 +78,8 @@ retired_gone (f ∷ es) e c = elim (in_cons e f es c) [
 ]
 
 gone_of : (t : Told) (text : List ℕ) (es : List Known) (i : Id) → gone i (bodies_of t text es) ≡ true → (e : Known) × Contains es e × (i ≡ e.entry)
-gone_of (told.Same j) text es i h = absurd (true≢false (sym h))
-gone_of (told.Superseded j) text es i h = absurd (true≢false (sym h))
-gone_of (told.Entered j) text es i h = absurd (true≢false (sym h))
-gone_of (told.Beside j) text es i h = absurd (true≢false (sym h))
 gone_of (told.Revised j) text es i h = gone_retired i es h
-gone_of (told.Refused p) text es i h = absurd (true≢false (sym h))
-gone_of told.Spent text es i h = absurd (true≢false (sym h))
+gone_of t text es i h = absurd cc
 
 -- an entry that is not retired stays
 stays_of : (t : Told) (key : Key) (text : List ℕ) (there : OfKey) (e : Known) → Contains there.known e → gone e.entry (bodies_of t text there.known) ≡ false → Contains (then_of t key text there).known e

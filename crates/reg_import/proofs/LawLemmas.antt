@@ -121,13 +121,8 @@ passes_at (u ∷ us) zero t h r = let same : u ≡ t = cc in ap (λ v. is_refuse
 passes_at (u ∷ us) (suc at) t h r = or_right (is_refused u) _ (passes_at us at t h r)
 
 not_spent : (t : Told) → is_there t ≡ not (is_refused t) → is_spent t ≡ false
-not_spent (told.Same i) h = refl
-not_spent (told.Superseded i) h = refl
-not_spent (told.Entered i) h = refl
-not_spent (told.Beside i) h = refl
-not_spent (told.Revised i) h = refl
-not_spent (told.Refused p) h = refl
-not_spent told.Spent h = absurd (true≢false (sym h))
+not_spent told.Spent h = absurd cc
+not_spent t h = refl
 
 none_spent_again : (us : List Told) → map is_there us ≡ map (λ u. not (is_refused u)) us → NoneSpent us
 none_spent_again [] h = refl

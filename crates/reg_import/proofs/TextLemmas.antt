@@ -51,56 +51,29 @@ text_itself text other e = true_from_ne_false _ (λ n. not_same other text n e)
 pub there_then : (t : Told) (key : Key) (text : List ℕ) (there : OfKey) → is_there t ≡ true → then_of t key text there ≡ record { known = there.known; ours = true }
 there_then (told.Same i) key text there h = refl
 there_then (told.Superseded i) key text there h = refl
-there_then (told.Entered i) key text there h = absurd (true≢false (sym h))
-there_then (told.Beside i) key text there h = absurd (true≢false (sym h))
-there_then (told.Revised i) key text there h = absurd (true≢false (sym h))
-there_then (told.Refused p) key text there h = absurd (true≢false (sym h))
-there_then told.Spent key text there h = absurd (true≢false (sym h))
+there_then t key text there h = absurd cc
 
 pub there_makes_nothing : (t : Told) (text : List ℕ) (es : List Known) → is_there t ≡ true → bodies_of t text es ≡ []
 there_makes_nothing (told.Same i) text es h = refl
 there_makes_nothing (told.Superseded i) text es h = refl
-there_makes_nothing (told.Entered i) text es h = absurd (true≢false (sym h))
-there_makes_nothing (told.Beside i) text es h = absurd (true≢false (sym h))
-there_makes_nothing (told.Revised i) text es h = absurd (true≢false (sym h))
-there_makes_nothing (told.Refused p) text es h = absurd (true≢false (sym h))
-there_makes_nothing told.Spent text es h = absurd (true≢false (sym h))
+there_makes_nothing t text es h = absurd cc
 
 pub there_not_refused : (t : Told) → is_there t ≡ true → is_refused t ≡ false
 there_not_refused (told.Same i) h = refl
 there_not_refused (told.Superseded i) h = refl
-there_not_refused (told.Entered i) h = refl
-there_not_refused (told.Beside i) h = refl
-there_not_refused (told.Revised i) h = refl
-there_not_refused (told.Refused p) h = absurd (true≢false (sym h))
-there_not_refused told.Spent h = refl
+there_not_refused t h = absurd cc
 
 pub refused_then : (t : Told) (key : Key) (text : List ℕ) (there : OfKey) → is_refused t ≡ true → then_of t key text there ≡ there
-refused_then (told.Same i) key text there h = absurd (true≢false (sym h))
-refused_then (told.Superseded i) key text there h = absurd (true≢false (sym h))
-refused_then (told.Entered i) key text there h = absurd (true≢false (sym h))
-refused_then (told.Beside i) key text there h = absurd (true≢false (sym h))
-refused_then (told.Revised i) key text there h = absurd (true≢false (sym h))
 refused_then (told.Refused p) key text there h = refl
-refused_then told.Spent key text there h = absurd (true≢false (sym h))
+refused_then t key text there h = absurd cc
 
 pub refused_makes_nothing : (t : Told) (text : List ℕ) (es : List Known) → is_refused t ≡ true → bodies_of t text es ≡ []
-refused_makes_nothing (told.Same i) text es h = absurd (true≢false (sym h))
-refused_makes_nothing (told.Superseded i) text es h = absurd (true≢false (sym h))
-refused_makes_nothing (told.Entered i) text es h = absurd (true≢false (sym h))
-refused_makes_nothing (told.Beside i) text es h = absurd (true≢false (sym h))
-refused_makes_nothing (told.Revised i) text es h = absurd (true≢false (sym h))
 refused_makes_nothing (told.Refused p) text es h = refl
-refused_makes_nothing told.Spent text es h = absurd (true≢false (sym h))
+refused_makes_nothing t text es h = absurd cc
 
 pub refused_not_there : (t : Told) → is_refused t ≡ true → is_there t ≡ false
-refused_not_there (told.Same i) h = absurd (true≢false (sym h))
-refused_not_there (told.Superseded i) h = absurd (true≢false (sym h))
-refused_not_there (told.Entered i) h = refl
-refused_not_there (told.Beside i) h = refl
-refused_not_there (told.Revised i) h = refl
 refused_not_there (told.Refused p) h = refl
-refused_not_there told.Spent h = refl
+refused_not_there t h = absurd cc
 
 -- ---- a text that no entry has
 

@@ -3,7 +3,7 @@ use Rattle.std.specs.Prelude.{◌≡◌, ℕ, ◌<◌, Bool, true, false, not, L
 use Rattle.reg_op.specs.Operations.{Ops}
 use Rattle.reg_op.specs.Contents.{Content}
 use Rattle.reg_op.specs.Rows.{Row, rows}
-use Rattle.reg_op.specs.Status.{retires}
+use Rattle.reg_op.specs.Status.{retires, supersedes}
 use Rattle.reg_seen.specs.Runs.{id_at}
 use Rattle.reg_office.specs.Making.{greatest}
 use Rattle.reg_import.specs.declared.reading.Reading.{Reading}
@@ -32,6 +32,10 @@ AreReadings (text ∷ texts) readings = (reading : Reading) × (rest : List Read
 -- no entry that the replica has still to number is retired already
 abbrev pub RetiresNoneAhead : Content → List ℕ → Type 0
 RetiresNoneAhead x replica = (count : ℕ) → greatest replica x.seen < count → retires x.ops (id_at replica count) ≡ false
+
+-- nor superseded
+abbrev pub SupersedesNoneAhead : Content → List ℕ → Type 0
+SupersedesNoneAhead x replica = (count : ℕ) → greatest replica x.seen < count → supersedes x.ops (id_at replica count) ≡ false
 
 -- an entry had the text already
 abbrev pub is_there : Told → Bool

@@ -15,7 +15,7 @@ ghost use Rattle.reg_import.specs.declared.told.Told.{Told};
 ghost use Rattle.reg_import.specs.declared.import.ImportRefusal.{ImportRefusal};
 ghost use Rattle.reg_import.specs.declared.import.ImportRefusal.TheVariants as refusal;
 ghost use Rattle.reg_import.specs.Plans.{Imports, IsImportRefusal};
-ghost use Rattle.reg_import.specs.Again.{HasStanding, standing_texts, AreReadings, RetiresNoneAhead, IsToldAgain};
+ghost use Rattle.reg_import.specs.Again.{HasStanding, standing_texts, AreReadings, RetiresNoneAhead, SupersedesNoneAhead, IsToldAgain};
 
 /// The same texts imported again, in the same mode, make nothing: the content stays as it is, and of each text that was not refused
 /// an entry is told that has it. Nor are they refused, but for a long note or memory.
@@ -43,7 +43,9 @@ pub fn exported_texts_are_imported()
         → (text : List ℕ) → HasStanding y.ops text ↔ HasStanding x.ops text }
 {}
 
-/// In every world, an office's register retires no entry that the office has still to enter. So what is imported again makes nothing.
-pub fn no_office_retires_ahead()
-    ensures { (w : World) → IsWorld w → (office : List ℕ) → RetiresNoneAhead (w.offices office).content office }
+/// In every world, no entry is retired or superseded in an office's register that the office has still to enter. So every register of
+/// a world meets the premise of the first law.
+pub fn no_register_is_ahead()
+    ensures retired { (w : World) → IsWorld w → (office : List ℕ) → RetiresNoneAhead (w.offices office).content office }
+    ensures superseded { (w : World) → IsWorld w → (office : List ℕ) → SupersedesNoneAhead (w.offices office).content office }
 {}
