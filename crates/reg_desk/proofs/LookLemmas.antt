@@ -1,14 +1,20 @@
 -- One more of the files or shelves, when those before it are looked at.
 use Rattle.std.proofs.Common.{◌≡◌, ◌∷◌, ◌++◌, [], List, ℕ, ◌+◌, ◌<◌, ◌≤◌, zero, suc, length, map, take, drop, get_or, slice_set, refl, sym, ap, subst, ◌∙◌, arith}
+use Rattle.std.specs.Prelude.{IsTrue}
 use Rattle.std.proofs.lemmas.List.{take_all, length-map}
 use Rattle.byte_io.specs.Device.{SourceState}
 use Rattle.reg_op.specs.Contents.{Content}
 use Rattle.reg_file.specs.Files.{ReadsAs, ReadsBytes}
 use Rattle.reg_engine.specs.declared.fault.InputFault.{InputFault}
+use Rattle.reg_engine.specs.declared.fault.ShelfProblem.{ShelfProblem}
+use Rattle.reg_engine.specs.declared.fault.CliFault.TheVariants as cli
 use Rattle.reg_engine.specs.Inputs.{NeverFails}
+use Rattle.reg_engine.specs.Shelf.{Disks, StaysOn, IsUnrestored}
+use Rattle.byte_shelf.specs.Shelf as slots
+use Rattle.reg_shelf.proofs.Contents.{none_by_bytes}
 use Rattle.reg_desk.specs.declared.look.Look.{Look}
 use Rattle.reg_desk.specs.declared.look.Look.TheVariants as look
-use Rattle.reg_desk.specs.Look.{IsLookOf, HasLook, IsLook, AreLooks}
+use Rattle.reg_desk.specs.Look.{IsLookOf, HasLook, IsLook, IsShelfLook, IsRegisterLook, AreLooks}
 
 abbrev head_of : {A : Type 0} → A → List A → A
 head_of d [] = d
@@ -80,3 +86,18 @@ looked old new bytes (look.Unread f) r h = subst (λ (g : InputFault). IsLook ol
 
 pub gave : (old new : SourceState) (bytes : List ℕ) → ReadsBytes old new bytes → NeverFails old new
 gave old new bytes r = (bytes, r.given, r.front, r.bounded, r.quiet)
+
+-- ---- one shelf
+
+pub register_looked : (bytes : List ℕ) (x : Content) (n : ℕ) (l : Look) → n ≡ length bytes → ReadsAs bytes x → IsLookOf x n l → IsRegisterLook bytes l
+register_looked bytes x n (look.Figures m f) e r h = (h.0 ∙ e, (x, r, h.1))
+register_looked bytes x n (look.NoRegister m f) e r h = absurd h
+register_looked bytes x n (look.Unread f) e r h = absurd h
+register_looked bytes x n (look.NoShelf p) e r h = absurd h
+
+pub shelf_looked : {D : Type 0} (d : Disks D) (old new : D) (bytes : List ℕ) (l : Look) → (IsTrue (d.tells old) → slots.IsShelf (d.seen old) bytes) → StaysOn d old new → IsRegisterLook bytes l → IsShelfLook d old new l
+shelf_looked d old new bytes (look.Figures n f) found stays (e, x, held, figures) = (x, λ told. (record { bytes = bytes; shelf = found told; held = held }, e), figures, stays)
+shelf_looked d old new bytes (look.NoRegister n f) found stays h = absurd h
+shelf_looked d old new bytes (look.Unread f) found stays h = absurd h
+shelf_looked d old new bytes (look.NoShelf p) found stays (e, none) =
+    subst (λ (k : ShelfProblem). IsUnrestored d old new (cli.Shelf k)) (sym e) (λ told. none_by_bytes (d.seen old) bytes (found told) none, stays)

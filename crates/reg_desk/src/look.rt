@@ -48,8 +48,8 @@ fn look_at<S: Source>(alloc: Global, source: &mut S) -> Result<Look, AllocError>
     Ok(look)
 }
 
-/// What the bytes have.
-pub(crate) fn look_in(alloc: Global, bytes: &[u8]) -> Result<Look, AllocError>
+// What the bytes have.
+fn look_in(alloc: Global, bytes: &[u8]) -> Result<Look, AllocError>
     ensures { IfOk result (HasLook bytes.now) }
 {
     let register = match read_bytes(alloc, bytes) {
@@ -68,7 +68,8 @@ pub(crate) fn look_in(alloc: Global, bytes: &[u8]) -> Result<Look, AllocError>
     Ok(look)
 }
 
-fn look_of(alloc: Global, register: &Register, bytes: usize) -> Result<Look, AllocError>
+/// The look of a register that so many bytes hold.
+pub(crate) fn look_of(alloc: Global, register: &Register, bytes: usize) -> Result<Look, AllocError>
     ensures { IfOk result (IsLookOf register.now bytes) }
 {
     let figures = figures_of(alloc, register)?;

@@ -1,30 +1,31 @@
 //! The command `status` on shelves.
 
-ghost use Rattle.std.specs.Prelude.{◌≡◌, ◌⊎◌, map, IsTrue, length, IfOk, OnOk, IfErr};
-ghost use Rattle.reg_file.specs.Files.{ReadsAs};
-ghost use Rattle.reg_status.specs.Figures.{AreFigures};
+ghost use Rattle.std.specs.Prelude.{map, IfOk, OnOk, IfErr};
 ghost use Rattle.reg_engine.specs.Shelf.{disks};
 ghost use Rattle.reg_desk.specs.Look.{opened_state, itself, IsShelfLook, ShelfLooksAt, AreShelfLooks, IsRegisterLook};
 ghost use Rattle.reg_desk.specs.Status.{IsTold, IsUntold};
 
-use crate::look::{Look, Opened, look_in};
+use crate::look::{Look, Opened, look_of};
 use crate::status::verdict;
 use crate::status_lines::status_text;
 use byte_disk::Disk;
 use byte_io::{Sink, write_all};
 use byte_shelf::{ShelfFault, restore};
 use reg_engine::{CliFault, OutFault, ShelfProblem};
+use reg_file::{ReadFileFault, read_bytes};
 use std::alloc::{AllocError, Global};
 
 // What the bytes of a shelf have, which are a register's or none.
 fn register_look(alloc: Global, bytes: &[u8]) -> Result<Look, AllocError>
     ensures { IfOk result (IsRegisterLook bytes.now) }
 {
-    let look = look_in(alloc, bytes)?;
-    match look {
-        Look::Figures { .. } => Ok(look),
-        _ => Ok(Look::NoShelf(ShelfProblem::NotShelf)),
-    }
+    let register = match read_bytes(alloc, bytes) {
+        Ok(register) => register,
+        Err(ReadFileFault::Memory) => return Err(AllocError),
+        Err(_) => return Ok(Look::NoShelf(ShelfProblem::NotShelf)),
+    };
+    let look = look_of(alloc, &register, bytes.len())?;
+    Ok(look)
 }
 
 // Looks at the register of a shelf.

@@ -38,6 +38,18 @@ module _ {F : Type 0} (st : F → SourceState) where
   others : (w n : F) (ws ns : List F) → map st (n ∷ ns) ≡ map st (w ∷ ws) → map st ns ≡ map st ws
   others w n ws ns e = ap tail_of e
 
+  behind_suc : (was now : List F) (i : ℕ) (s : F) → length now ≡ length was → drop i (map st now) ≡ drop i (map st was)
+      → drop (suc i) (map st (slice_set now i s)) ≡ drop (suc i) (map st was)
+  behind_suc [] [] i s size back = refl
+  behind_suc [] (n ∷ ns) i s size back = absurd (omega arith)
+  behind_suc (w ∷ ws) [] i s size back = absurd (omega arith)
+  behind_suc (w ∷ ws) (n ∷ ns) zero s size back = others w n ws ns back
+  behind_suc (w ∷ ws) (n ∷ ns) (suc i) s size back = behind_suc ws ns i s (omega arith) back
+
+  pub behind : (was now : List F) (i : ℕ) (s : F) → length now ≡ length was → drop i (map st now) ≡ drop i (map st was)
+      → drop (i + 1) (map st (slice_set now i s)) ≡ drop (i + 1) (map st was)
+  behind was now i s size back = subst (λ j. drop j (map st (slice_set now i s)) ≡ drop j (map st was)) (next i) (behind_suc was now i s size back)
+
   gave_suc : (was now : List F) (i : ℕ) (o s : F) (bs : List (List ℕ)) (b : List ℕ) → i < length was → length now ≡ length was
       → GiveAll (take i (map st was)) (take i (map st now)) bs → drop i (map st now) ≡ drop i (map st was) → Gives (st (get_or now i o)) (st s) b
       → GiveAll (take (suc i) (map st was)) (take (suc i) (map st (slice_set now i s))) (bs ++ b ∷ [])

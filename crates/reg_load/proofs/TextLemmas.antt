@@ -1,12 +1,15 @@
 -- One more file that is cut, one more text that is read, one more of which something is said.
-use Rattle.std.proofs.Common.{◌≡◌, ◌∷◌, ◌++◌, [], List, ℕ, ◌+◌, ◌<◌, ◌≤◌, length, map, drop, append_assoc, append-nil, refl, ap, sym, subst, arith, ◌∙◌}
+use Rattle.std.proofs.Common.{◌≡◌, ◌∷◌, ◌++◌, [], List, ℕ, ◌+◌, ◌<◌, ◌≤◌, min, length, length-drop, map, drop, append_assoc, append-nil, refl, ap, sym, subst, arith, inl, inr, ◌∙◌}
+use Rattle.std.proofs.lemmas.Bool.{cases_lt}
+use Rattle.std.proofs.lemmas.List.{length-map}
 use Rattle.wkt_tree.specs.Tree.{Piece}
 use Rattle.wkt_texts.specs.Texts.{IsCutInto}
 use Rattle.reg_import.specs.declared.reading.FileText.{FileText}
 use Rattle.reg_import.specs.declared.told.Told.{Told}
 use Rattle.reg_import.specs.Readings.{IsFileText}
-use Rattle.reg_load.specs.Texts.{TextAt, in_file, AreCuts, AreRead}
-use Rattle.reg_load.specs.Notes.{note_of, notes_of}
+use Rattle.reg_load.specs.declared.texts.FileCut.{FileCut}
+use Rattle.reg_load.specs.Texts.{TextAt, text_at, in_file, AreCuts, AreRead}
+use Rattle.reg_load.specs.Notes.{notes_of}
 
 -- ---- files
 
@@ -51,16 +54,20 @@ no_notes : (names files : List (List ℕ)) (cuts : List TextAt) → notes_of nam
 no_notes names files [] = refl
 no_notes names files (c ∷ cs) = refl
 
-pub no_text_left : (names files : List (List ℕ)) (cuts : List TextAt) (ts : List Told) → length cuts ≡ 0 → notes_of names files cuts ts ≡ []
+no_text_left : (names files : List (List ℕ)) (cuts : List TextAt) (ts : List Told) → length cuts ≡ 0 → notes_of names files cuts ts ≡ []
 no_text_left names files [] ts h = refl
 no_text_left names files (c ∷ cs) ts h = absurd (omega arith)
 
-pub nothing_told : (names files : List (List ℕ)) (cuts : List TextAt) (ts : List Told) → length ts ≡ 0 → notes_of names files cuts ts ≡ []
+nothing_told : (names files : List (List ℕ)) (cuts : List TextAt) (ts : List Told) → length ts ≡ 0 → notes_of names files cuts ts ≡ []
 nothing_told names files cuts [] h = no_notes names files cuts
 nothing_told names files cuts (t ∷ ts) h = absurd (omega arith)
 
-pub notes_more : (names files : List (List ℕ)) (cuts others : List TextAt) (told later : List Told) (c : TextAt) (t : Told) (old new whole : List ℕ) → cuts ≡ c ∷ others → told ≡ t ∷ later
-    → new ≡ old ++ note_of names files c t → old ++ notes_of names files cuts told ≡ whole → new ++ notes_of names files others later ≡ whole
-notes_more names files cuts others told later c t old new whole e f pushed is =
-    ap (λ n. n ++ notes_of names files others later) pushed ∙ append_assoc old (note_of names files c t) (notes_of names files others later)
-    ∙ ap (λ n. old ++ n) (λ j. notes_of names files (sym e j) (sym f j)) ∙ is
+-- none is left of one of the lists
+pub none_left : (names files : List (List ℕ)) (cuts : List FileCut) (ts : List Told) (i : ℕ) → min (length cuts) (length ts) ≤ i → notes_of names files (map text_at (drop i cuts)) (drop i ts) ≡ []
+none_left names files cuts ts i past = elim (cases_lt (length cuts) (length ts)) [
+  | inl l ↦ no_text_left names files (map text_at (drop i cuts)) (drop i ts) (length-map (drop i cuts) text_at ∙ length-drop i cuts ∙ omega (arith, l, past))
+  | inr l ↦ nothing_told names files (map text_at (drop i cuts)) (drop i ts) (length-drop i ts ∙ omega (arith, l, past))
+]
+
+pub notes_done : (text rest whole : List ℕ) → rest ≡ [] → text ++ rest ≡ whole → text ≡ whole
+notes_done text rest whole none is = sym (append-nil text) ∙ ap (λ n. text ++ n) (sym none) ∙ is

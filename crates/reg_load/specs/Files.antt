@@ -31,7 +31,7 @@ IsUnread number old new (cli.Shelf p) = ⊥
 
 -- ---- a list of files
 
-abbrev pub bytes_of : List (Vec ℕ) → List (List ℕ)
+abbrev pub bytes_of : {A : Type 0} → List (Vec ℕ A) → List (List ℕ)
 bytes_of files = map (λ f. f.items) files
 
 -- each gave these bytes

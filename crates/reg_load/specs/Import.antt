@@ -17,6 +17,7 @@ use Rattle.reg_import.specs.Imports.{NoneRefused}
 use Rattle.reg_import.specs.Plans.{IsFirstRefused, Imports, IsImportRefusal}
 use Rattle.reg_import.specs.Lines.{import_header, lines_of, IsImportLine}
 use Rattle.reg_engine.specs.declared.fault.Refusal.TheVariants as refusal
+use Rattle.reg_engine.specs.Fault.{status_of}
 use Rattle.reg_engine.specs.declared.fault.CliFault.{CliFault}
 use Rattle.reg_engine.specs.declared.fault.CliFault.TheVariants as cli
 use Rattle.reg_load.specs.declared.order.Order.{Order}
@@ -31,6 +32,10 @@ abbrev pub names_of : Order → List (List ℕ)
 names_of o = map string_bytes o.names.now
 
 -- ---- answers
+
+abbrev pub exit_status : ImportFault → ℕ
+exit_status (import.Cli f) = status_of f
+exit_status (import.Refused p place file) = 1
 
 -- a fault of the command line, of which no more is said
 abbrev pub IsPlainFault : (CliFault → Type 0) → ImportFault → List ℕ → Type 0

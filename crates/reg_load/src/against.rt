@@ -13,8 +13,8 @@ use reg_import::{FileText, Problem, Refused, Told, first_refused};
 use std::alloc::{AllocError, Global};
 
 // What is against a text, where the file with number 0 among those that were given has this number among those that are read.
-fn fault_of(first: usize, texts: &[FileText], refused: Refused) -> Option<ImportFault>
-    ensures { IfSome result (IsAgainst first texts.now refused.at refused.problem) }
+fn fault_of(first: usize, texts: &[FileText], refused: &Refused) -> Option<ImportFault>
+    ensures { IfSome result (IsAgainst first texts.now refused.now.at refused.now.problem) }
 {
     let text = texts.get(refused.at)?;
     let file = first.checked_add(text.file)?;
@@ -31,9 +31,9 @@ fn note_at(
     order: &Order<'_>,
     files: &[Vec<u8>],
     cuts: &[FileCut<'_>],
-    refused: Refused,
+    refused: &Refused,
 ) -> Result<Vec<u8>, AllocError>
-    ensures { IfOk result (λ note. note.items ≡ if_explained order.now (note_at order.now (bytes_of files.now) (map text_at cuts.now) refused.at refused.problem)) }
+    ensures { IfOk result (λ note. note.items ≡ if_explained order.now (note_at order.now (bytes_of files.now) (map text_at cuts.now) refused.now.at refused.now.problem)) }
 {
     if !order.explain {
         return Ok(Vec::new(alloc));
@@ -43,7 +43,7 @@ fn note_at(
             alloc,
             order.names,
             files,
-            *cut,
+            cut,
             Told::Refused(refused.problem),
         ),
         None => Ok(Vec::new(alloc)),
@@ -58,9 +58,9 @@ pub fn refused_here(
     files: &[Vec<u8>],
     cuts: &[FileCut<'_>],
     texts: &[FileText],
-    refused: Refused,
+    refused: &Refused,
 ) -> Result<Unimported, AllocError>
-    ensures { IfOk result (λ u. IsRefusedAt order.now first (bytes_of files.now) (map text_at cuts.now) texts.now refused.at refused.problem u) }
+    ensures { IfOk result (λ u. IsRefusedAt order.now first (bytes_of files.now) (map text_at cuts.now) texts.now refused.now.at refused.now.problem u) }
 {
     let Some(fault) = fault_of(first, texts, refused) else {
         return Err(AllocError);
@@ -102,7 +102,7 @@ pub fn passed_over(
     let Some(refused) = first_refused(told) else {
         return Ok(None);
     };
-    let Some(fault) = fault_of(first, texts, refused) else {
+    let Some(fault) = fault_of(first, texts, &refused) else {
         return Err(AllocError);
     };
     match all_notes(alloc, order, files, cuts, told) {

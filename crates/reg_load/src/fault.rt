@@ -2,6 +2,7 @@
 
 ghost use Rattle.std.specs.Prelude.{◌≡◌, []};
 ghost use Rattle.reg_load.specs.declared.fault.ImportFault.TheVariants as import;
+ghost use Rattle.reg_load.specs.Import.{exit_status};
 
 use reg_engine::{CliFault, Refusal};
 use reg_import::Problem;
@@ -30,7 +31,7 @@ pub struct Unimported {
 
 impl Unimported {
     /// A fault of which no more is said.
-    pub fn plain(alloc: Global, fault: CliFault) -> Unimported
+    pub(crate) fn plain(alloc: Global, fault: CliFault) -> Unimported
         ensures fault { result.fault ≡ import.Cli fault }
         ensures notes { result.notes.items ≡ [] }
     {
@@ -43,7 +44,9 @@ impl Unimported {
 
 impl ImportFault {
     /// The exit status of the program: that of the fault, and 1 for a refused text.
-    pub fn status(&self) -> u8 {
+    pub fn status(&self) -> u8
+        ensures { result ≡ exit_status self.now }
+    {
         match self {
             ImportFault::Cli(fault) => fault.status(),
             ImportFault::Refused { .. } => 1,

@@ -35,10 +35,10 @@ fn explained(
     alloc: Global,
     names: &[String],
     files: &[Vec<u8>],
-    cut: FileCut<'_>,
+    cut: &FileCut<'_>,
     fault: DefinitionFault,
 ) -> Result<Vec<u8>, AllocError>
-    ensures { IfOk result (λ note. note.items ≡ note_of (map string_bytes names.now) (bytes_of files.now) (text_at cut) (Told.Refused (Problem.Unread fault))) }
+    ensures { IfOk result (λ note. note.items ≡ note_of (map string_bytes names.now) (bytes_of files.now) (text_at cut.now) (Told.Refused (Problem.Unread fault))) }
 {
     // No place is so great, since files are in memory.
     let Some(end) = cut.place.checked_add(cut.bytes.len()) else {
@@ -60,10 +60,10 @@ pub fn note_of(
     alloc: Global,
     names: &[String],
     files: &[Vec<u8>],
-    cut: FileCut<'_>,
+    cut: &FileCut<'_>,
     told: Told,
 ) -> Result<Vec<u8>, AllocError>
-    ensures { IfOk result (λ note. note.items ≡ note_of (map string_bytes names.now) (bytes_of files.now) (text_at cut) told) }
+    ensures { IfOk result (λ note. note.items ≡ note_of (map string_bytes names.now) (bytes_of files.now) (text_at cut.now) told) }
 {
     match told {
         Told::Refused(Problem::Unread(fault)) => explained(alloc, names, files, cut, fault),
@@ -82,16 +82,9 @@ pub fn notes_of(
     ensures { IfOk result (λ notes. notes.items ≡ notes_of (map string_bytes names.now) (bytes_of files.now) (map text_at cuts.now) told.now) }
 {
     let mut notes = Vec::new(alloc);
-    let mut cuts = cuts;
-    let mut told = told;
-    while let (Some((cut, others)), Some((this, later))) = (
-        cuts.split_first(),
-        told.split_first(),
-    ) {
-        let note = note_of(alloc, names, files, *cut, *this)?;
+    for i in 0..cuts.len().min(told.len()) {
+        let note = note_of(alloc, names, files, &cuts[i], told[i])?;
         notes.extend_from_slice(&note)?;
-        cuts = others;
-        told = later;
     }
     Ok(notes)
 }

@@ -53,7 +53,7 @@ fn refusal_of(
         ImportRefusal::Memory => Unimported::plain(alloc, CliFault::Memory),
         ImportRefusal::Refused { at, problem } => {
             let refused = Refused { at, problem };
-            match refused_here(alloc, first, order, files, cuts, texts, refused) {
+            match refused_here(alloc, first, order, files, cuts, texts, &refused) {
                 Ok(why) => why,
                 Err(_) => Unimported::plain(alloc, CliFault::Memory),
             }

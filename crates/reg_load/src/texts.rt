@@ -49,11 +49,9 @@ pub fn read_cuts(alloc: Global, cuts: &[FileCut<'_>]) -> Result<Vec<FileText>, A
     ensures { IfOk result (λ texts. AreRead (map text_at cuts.now) texts.items) }
 {
     let mut read = Vec::new(alloc);
-    let mut rest = cuts;
-    while let Some((cut, others)) = rest.split_first() {
+    for cut in cuts {
         let text = read_at(alloc, cut.file, cut.place, cut.bytes)?;
         read.push(text)?;
-        rest = others;
     }
     Ok(read)
 }

@@ -1,0 +1,17 @@
+use Rattle.std.proofs.Common.{List, ℕ, refl, subst}
+use Rattle.reg_engine.specs.Shelf.{disks}
+use Rattle.reg_shelf.proofs.Contents.{none_by_slots}
+use Rattle.reg_desk.specs.Look.{IsRegisterLook}
+use Rattle.reg_desk.proofs.LookLemmas.{shelf_looked}
+use Rattle.reg_desk.proofs.status_on.look_on.Goals as goal
+
+pub returns-in-Ok-register_look : goal.returns-in-Ok-register_look
+returns-in-Ok-register_look g c =
+    let d = disks g.D.Disk.tells g.D.Disk.seen g.D.Disk.images g.D.Disk.moment g.D.Disk.images_since g.D.Disk.failures in
+    shelf_looked d c.args.disk.now c.restore.new.disk c.in-Ok.bytes.items c.in-Ok-register_look.look c.in-Ok.ensures.found (record { quiet = c.in-Ok.ensures.counts; nothing = c.in-Ok.ensures.nothing })
+    (subst (λ (b : List ℕ). IsRegisterLook b c.in-Ok-register_look.look) c.deref.ensures.value c.in-Ok-register_look.ensures)
+
+pub returns-in-Err-NotShelf : goal.returns-in-Err-NotShelf
+returns-in-Err-NotShelf g c =
+    let is = c.in-Err-NotShelf.ensures in
+    (λ told. none_by_slots (g.D.Disk.seen c.args.disk.now) (is.not_shelf told refl), record { quiet = is.counts; nothing = is.nothing })
