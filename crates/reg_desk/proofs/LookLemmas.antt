@@ -1,17 +1,22 @@
 -- One more of the files or shelves, when those before it are looked at.
 use Rattle.std.proofs.Common.{◌≡◌, ◌∷◌, ◌++◌, [], List, ℕ, ◌+◌, ◌<◌, ◌≤◌, zero, suc, length, map, take, drop, get_or, slice_set, refl, sym, ap, subst, ◌∙◌, arith}
-use Rattle.std.specs.Prelude.{IsTrue}
+use Rattle.std.specs.Prelude.{IsTrue, Err, IsErrOf}
+use Rattle.std.specs.declared.result.Result.{Result}
 use Rattle.std.proofs.lemmas.List.{take_all, length-map}
 use Rattle.byte_io.specs.Device.{SourceState}
 use Rattle.reg_op.specs.Contents.{Content}
 use Rattle.reg_file.specs.Files.{ReadsAs, ReadsBytes}
 use Rattle.reg_engine.specs.declared.fault.InputFault.{InputFault}
 use Rattle.reg_engine.specs.declared.fault.ShelfProblem.{ShelfProblem}
+use Rattle.reg_engine.specs.declared.fault.ShelfProblem.TheVariants as problem
 use Rattle.reg_engine.specs.declared.fault.CliFault.TheVariants as cli
 use Rattle.reg_engine.specs.Inputs.{NeverFails}
-use Rattle.reg_engine.specs.Shelf.{Disks, StaysOn, IsUnrestored}
+use Rattle.reg_engine.specs.Shelf.{Disks, AddsNothingTo, StaysOn, IsUnrestored}
 use Rattle.byte_shelf.specs.Shelf as slots
-use Rattle.reg_shelf.proofs.Contents.{none_by_bytes}
+use Rattle.byte_shelf.specs.Keep.{CountsFault}
+use Rattle.byte_shelf.specs.declared.fault.ShelfFault.{ShelfFault}
+use Rattle.byte_shelf.specs.declared.fault.ShelfFault.TheVariants as shelf
+use Rattle.reg_shelf.proofs.Contents.{none_by_slots, none_by_bytes}
 use Rattle.reg_desk.specs.declared.look.Look.{Look}
 use Rattle.reg_desk.specs.declared.look.Look.TheVariants as look
 use Rattle.reg_desk.specs.Look.{IsLookOf, HasLook, IsLook, IsShelfLook, IsRegisterLook, AreLooks}
@@ -96,8 +101,17 @@ register_looked bytes x n (look.Unread f) e r h = absurd h
 register_looked bytes x n (look.NoShelf p) e r h = absurd h
 
 pub shelf_looked : {D : Type 0} (d : Disks D) (old new : D) (bytes : List ℕ) (l : Look) → (IsTrue (d.tells old) → slots.IsShelf (d.seen old) bytes) → StaysOn d old new → IsRegisterLook bytes l → IsShelfLook d old new l
-shelf_looked d old new bytes (look.Figures n f) found stays (e, x, held, figures) = (x, λ told. (record { bytes = bytes; shelf = found told; held = held }, e), figures, stays)
+shelf_looked d old new bytes (look.Figures n f) found stays h = (h.1.0, λ told. (record { bytes = bytes; shelf = found told; held = h.1.1 }, h.0), h.1.2, stays)
 shelf_looked d old new bytes (look.NoRegister n f) found stays h = absurd h
 shelf_looked d old new bytes (look.Unread f) found stays h = absurd h
-shelf_looked d old new bytes (look.NoShelf p) found stays (e, none) =
-    subst (λ (k : ShelfProblem). IsUnrestored d old new (cli.Shelf k)) (sym e) (λ told. none_by_bytes (d.seen old) bytes (found told) none, stays)
+shelf_looked d old new bytes (look.NoShelf p) found stays h =
+    subst (λ (k : ShelfProblem). IsUnrestored d old new (cli.Shelf k)) (sym h.0) (λ told. none_by_bytes (d.seen old) bytes (found told) h.1, stays)
+
+abbrev again : {T E : Type 0} → E → Result T E
+again e = Err e
+
+pub not_shelf_looked : {D T : Type 0} (d : Disks D) (old new : D) (f : ShelfFault) → f ≡ shelf.NotShelf → CountsFault {T = T} (Err f) (d.failures old) (d.failures new)
+    → (IsTrue (d.tells old) → IsErrOf {T = T} (Err f) shelf.NotShelf → slots.IsNoShelf (d.seen old)) → AddsNothingTo d old new → IsUnrestored d old new (cli.Shelf problem.NotShelf)
+not_shelf_looked {T = T} d old new f e counts none nothing =
+    let quiet : d.failures new ≡ d.failures old = subst (λ (k : ShelfFault). CountsFault {T = T} (Err k) (d.failures old) (d.failures new)) e counts in
+    (λ told. none_by_slots (d.seen old) (none told (ap (λ (k : ShelfFault). again {T = T} k) e)), record { quiet = quiet; nothing = nothing })

@@ -1,5 +1,5 @@
 -- What an import comes to, by its steps.
-use Rattle.std.proofs.Common.{◌≡◌, ◌⊎◌, [], ℕ, List, sym, subst, inl, inr}
+use Rattle.std.proofs.Common.{◌≡◌, [], ℕ, List, sym, subst, inl, inr}
 use Rattle.std.specs.declared.option.Option.{Option}
 use Rattle.byte_io.specs.Device.{SinkState}
 use Rattle.byte_io.specs.Whole.{WritesAll}

@@ -1,5 +1,5 @@
 -- One more file that is cut, one more text that is read, one more of which something is said.
-use Rattle.std.proofs.Common.{◌≡◌, ◌∷◌, ◌++◌, [], List, ℕ, ◌+◌, ◌<◌, ◌≤◌, min, length, length-drop, map, drop, append_assoc, append-nil, refl, ap, sym, subst, arith, inl, inr, ◌∙◌}
+use Rattle.std.proofs.Common.{◌≡◌, ◌∷◌, ◌++◌, [], List, ℕ, ◌+◌, ◌≤◌, min, length, length-drop, map, drop, append_assoc, append-nil, refl, ap, sym, subst, arith, inl, inr, ◌∙◌}
 use Rattle.std.proofs.lemmas.Bool.{cases_lt}
 use Rattle.std.proofs.lemmas.List.{length-map}
 use Rattle.wkt_tree.specs.Tree.{Piece}

@@ -1,8 +1,7 @@
-use Rattle.std.proofs.Common.{List, ℕ, refl, subst}
+use Rattle.std.proofs.Common.{List, ℕ, subst}
 use Rattle.reg_engine.specs.Shelf.{disks}
-use Rattle.reg_shelf.proofs.Contents.{none_by_slots}
 use Rattle.reg_desk.specs.Look.{IsRegisterLook}
-use Rattle.reg_desk.proofs.LookLemmas.{shelf_looked}
+use Rattle.reg_desk.proofs.LookLemmas.{shelf_looked, not_shelf_looked}
 use Rattle.reg_desk.proofs.status_on.look_on.Goals as goal
 
 pub returns-in-Ok-register_look : goal.returns-in-Ok-register_look
@@ -13,5 +12,6 @@ returns-in-Ok-register_look g c =
 
 pub returns-in-Err-NotShelf : goal.returns-in-Err-NotShelf
 returns-in-Err-NotShelf g c =
+    let d = disks g.D.Disk.tells g.D.Disk.seen g.D.Disk.images g.D.Disk.moment g.D.Disk.images_since g.D.Disk.failures in
     let is = c.in-Err-NotShelf.ensures in
-    (λ told. none_by_slots (g.D.Disk.seen c.args.disk.now) (is.not_shelf told refl), record { quiet = is.counts; nothing = is.nothing })
+    not_shelf_looked d c.args.disk.now c.restore.new.disk c.in-Err-NotShelf.field-0 c.in-Err-NotShelf.field-0-is is.counts is.not_shelf is.nothing

@@ -1,6 +1,5 @@
-use Rattle.std.proofs.Common.{◌≡◌, ◌+◌, List, ℕ, refl, rules, map, ap, ◌∙◌}
+use Rattle.std.proofs.Common.{◌≡◌, ◌+◌, rules, ap, ◌∙◌}
 use Rattle.std.proofs.lemmas.List.{map_push}
-use Rattle.std.specs.declared.vec.Vec.{Vec}
 use Rattle.reg_load.specs.Files.{bytes_of}
 use Rattle.reg_load.proofs.FileLemmas.{gave_some, gave_next, none_fails_next, none_fails_yet, unread_next, behind}
 use Rattle.reg_load.proofs.files.read_files.Goals as goal

@@ -1,4 +1,4 @@
-use Rattle.std.proofs.Common.{List, ℕ, None, refl, subst, map, inl, inr}
+use Rattle.std.proofs.Common.{List, ℕ, refl, subst, map, inl, inr}
 use Rattle.std.specs.declared.option.Option.{Option}
 use Rattle.byte_io.specs.Whole.{WritesAll}
 use Rattle.reg_load.specs.declared.fault.Unimported.{Unimported}
@@ -10,16 +10,20 @@ use Rattle.reg_load.proofs.import.run_import.Goals as goal
 pub returns-in-Err-publish_register-clause-fault : goal.returns-in-Err-publish_register-clause-fault
 returns-in-Err-publish_register-clause-fault g c =
     let a = into_place (desk (g.S.Source.state c.args.source.now) (g.P.Place.state c.args.place.now) (g.K.Sink.state c.args.sink.now))
-        (desk (g.S.Source.state c.read_file.new.source) (g.P.Place.state c.publish_register.new.place) (g.K.Sink.state c.args.sink.now)) in
+    (desk (g.S.Source.state c.read_file.new.source) (g.P.Place.state c.publish_register.new.place) (g.K.Sink.state c.args.sink.now)) in
     let made = c.in-Ok-make_ready.ready in
     let u = c.plain-in-Err-publish_register in
-    inr (c.in-Ok.register, c.in-Ok.ensures.found, inr (
-      made.register,
-      made.lines.items,
-      made.passed,
-      c.in-Ok-make_ready.ensures.ready,
-      inr (plain_is (a.failed c.in-Ok.register made.register made.lines.items) u.result c.in-Err-publish_register.fault u.ensures.fault u.ensures.notes (inl (c.in-Err-publish_register.ensures.fault, refl))),
-    ))
+    inr (
+      c.in-Ok.register,
+      c.in-Ok.ensures.found,
+      inr (
+        made.register,
+        made.lines.items,
+        made.passed,
+        c.in-Ok-make_ready.ensures.ready,
+        inr (plain_is (a.failed c.in-Ok.register made.register made.lines.items) u.result c.in-Err-publish_register.fault u.ensures.fault u.ensures.notes (inl (c.in-Err-publish_register.ensures.fault, refl))),
+      ),
+    )
 
 pub returns-in-Ok-tell-clause-imported : goal.returns-in-Ok-tell-clause-imported
 returns-in-Ok-tell-clause-imported g c =
@@ -41,14 +45,18 @@ returns-clause-fault g c =
     let after = g.K.Sink.state c.tell.new.sink in
     let a = into_place (desk (g.S.Source.state c.args.source.now) (g.P.Place.state c.args.place.now) before) (desk (g.S.Source.state c.read_file.new.source) (g.P.Place.state c.publish_register.new.place) after) in
     let made = c.in-Ok-make_ready.ready in
-    inr (c.in-Ok.register, c.in-Ok.ensures.found, inr (
-      made.register,
-      made.lines.items,
-      made.passed,
-      c.in-Ok-make_ready.ensures.ready,
-      answer_of a c.in-Ok.register made.register made.lines.items made.passed c.in-Err-tell.why before after (λ all. (c.in_default.ensures.published, all)) (λ f cut. inr (c.in_default.ensures.published, cut))
-          (subst (λ (l : List ℕ). IsUntold l made.passed before after c.in-Err-tell.why) c.deref.ensures.value c.in-Err-tell.ensures.fault),
-    ))
+    inr (
+      c.in-Ok.register,
+      c.in-Ok.ensures.found,
+      inr (
+        made.register,
+        made.lines.items,
+        made.passed,
+        c.in-Ok-make_ready.ensures.ready,
+        answer_of a c.in-Ok.register made.register made.lines.items made.passed c.in-Err-tell.why before after (λ all. (c.in_default.ensures.published, all)) (λ f cut. inr (c.in_default.ensures.published, cut))
+            (subst (λ (l : List ℕ). IsUntold l made.passed before after c.in-Err-tell.why) c.deref.ensures.value c.in-Err-tell.ensures.fault),
+      ),
+    )
 
 pub returns-in-Err-make_ready-clause-fault : goal.returns-in-Err-make_ready-clause-fault
 returns-in-Err-make_ready-clause-fault g c = inr (c.in-Ok.register, c.in-Ok.ensures.found, inl (c.in-Err-make_ready.ensures.fault, (refl, refl)))

@@ -30,11 +30,15 @@ returns-clause-fault g c =
     let after = g.K.Sink.state c.tell.new.sink in
     let a = of_file (g.S.Source.state c.args.source.now) (g.S.Source.state c.read_file.new.source) before after in
     let made = c.in-Ok-make_ready.ready in
-    inr (c.in-Ok.register, c.in-Ok.ensures.found, inr (
-      made.register,
-      made.lines.items,
-      made.passed,
-      c.in-Ok-make_ready.ensures.ready,
-      answer_of a c.in-Ok.register made.register made.lines.items made.passed c.in-Err-tell.why before after (λ all. all) (λ f cut. cut)
-          (subst (λ (l : List ℕ). IsUntold l made.passed before after c.in-Err-tell.why) c.deref.ensures.value c.in-Err-tell.ensures.fault),
-    ))
+    inr (
+      c.in-Ok.register,
+      c.in-Ok.ensures.found,
+      inr (
+        made.register,
+        made.lines.items,
+        made.passed,
+        c.in-Ok-make_ready.ensures.ready,
+        answer_of a c.in-Ok.register made.register made.lines.items made.passed c.in-Err-tell.why before after (λ all. all) (λ f cut. cut)
+            (subst (λ (l : List ℕ). IsUntold l made.passed before after c.in-Err-tell.why) c.deref.ensures.value c.in-Err-tell.ensures.fault),
+      ),
+    )

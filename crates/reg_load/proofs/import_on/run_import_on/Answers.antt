@@ -15,17 +15,21 @@ returns-in-Err-keep_on-clause-fault g c =
     let a = onto_shelf d c.args.disk.now c.keep_on.new.disk before before in
     let made = c.in-Ok-make_ready.ready in
     let u = c.plain-in-Err-keep_on in
-    inr (c.in-Ok.register, c.in-Ok.ensures.found, inr (
-      made.register,
-      made.lines.items,
-      made.passed,
-      c.in-Ok-make_ready.ensures.ready,
-      inr (plain_is (a.failed c.in-Ok.register made.register made.lines.items) u.result c.in-Err-keep_on.fault u.ensures.fault u.ensures.notes (inl (
-        unkept_then d c.args.disk.now c.restore_from.new.disk c.keep_on.new.disk c.in-Ok.ensures.tells c.in-Ok.ensures.stays c.in-Ok.ensures.sure c.in-Ok.register made.register c.in-Ok.ensures.found
-            c.in-Err-keep_on.fault c.in-Err-keep_on.ensures.fault,
-        refl,
-      ))),
-    ))
+    inr (
+      c.in-Ok.register,
+      c.in-Ok.ensures.found,
+      inr (
+        made.register,
+        made.lines.items,
+        made.passed,
+        c.in-Ok-make_ready.ensures.ready,
+        inr (plain_is (a.failed c.in-Ok.register made.register made.lines.items) u.result c.in-Err-keep_on.fault u.ensures.fault u.ensures.notes (inl (
+          unkept_then d c.args.disk.now c.restore_from.new.disk c.keep_on.new.disk c.in-Ok.ensures.tells c.in-Ok.ensures.stays c.in-Ok.ensures.sure c.in-Ok.register made.register c.in-Ok.ensures.found
+              c.in-Err-keep_on.fault c.in-Err-keep_on.ensures.fault,
+          refl,
+        ))),
+      ),
+    )
 
 pub returns-in-Ok-tell-clause-imported : goal.returns-in-Ok-tell-clause-imported
 returns-in-Ok-tell-clause-imported g c =
@@ -53,14 +57,18 @@ returns-clause-fault g c =
     let a = onto_shelf d c.args.disk.now c.keep_on.new.disk before after in
     let made = c.in-Ok-make_ready.ready in
     let kept = kept_then d c.args.disk.now c.restore_from.new.disk c.keep_on.new.disk c.in-Ok.ensures.tells c.in-Ok.ensures.stays c.in-Ok.ensures.sure c.in-Ok.register made.register c.in-Ok.ensures.found c.in_default.ensures.kept in
-    inr (c.in-Ok.register, c.in-Ok.ensures.found, inr (
-      made.register,
-      made.lines.items,
-      made.passed,
-      c.in-Ok-make_ready.ensures.ready,
-      answer_of a c.in-Ok.register made.register made.lines.items made.passed c.in-Err-tell.why before after (λ all. (kept, all)) (λ f cut. inr (kept, cut))
-          (subst (λ (l : List ℕ). IsUntold l made.passed before after c.in-Err-tell.why) c.deref.ensures.value c.in-Err-tell.ensures.fault),
-    ))
+    inr (
+      c.in-Ok.register,
+      c.in-Ok.ensures.found,
+      inr (
+        made.register,
+        made.lines.items,
+        made.passed,
+        c.in-Ok-make_ready.ensures.ready,
+        answer_of a c.in-Ok.register made.register made.lines.items made.passed c.in-Err-tell.why before after (λ all. (kept, all)) (λ f cut. inr (kept, cut))
+            (subst (λ (l : List ℕ). IsUntold l made.passed before after c.in-Err-tell.why) c.deref.ensures.value c.in-Err-tell.ensures.fault),
+      ),
+    )
 
 pub returns-in-Err-make_ready-clause-fault : goal.returns-in-Err-make_ready-clause-fault
 returns-in-Err-make_ready-clause-fault g c = inr (c.in-Ok.register, c.in-Ok.ensures.found, inl (c.in-Err-make_ready.ensures.fault, (c.in-Ok.ensures.stays, refl)))

@@ -29,14 +29,18 @@ returns-clause-fault g c =
     let after = g.K.Sink.state c.tell.new.sink in
     let a = of_shelf d c.args.disk.now c.restore_from.new.disk before after in
     let made = c.in-Ok-make_ready.ready in
-    inr (c.in-Ok.register, c.in-Ok.ensures.found, inr (
-      made.register,
-      made.lines.items,
-      made.passed,
-      c.in-Ok-make_ready.ensures.ready,
-      answer_of a c.in-Ok.register made.register made.lines.items made.passed c.in-Err-tell.why before after (λ all. (c.in-Ok.ensures.stays, all)) (λ f cut. (c.in-Ok.ensures.stays, cut))
-          (subst (λ (l : List ℕ). IsUntold l made.passed before after c.in-Err-tell.why) c.deref.ensures.value c.in-Err-tell.ensures.fault),
-    ))
+    inr (
+      c.in-Ok.register,
+      c.in-Ok.ensures.found,
+      inr (
+        made.register,
+        made.lines.items,
+        made.passed,
+        c.in-Ok-make_ready.ensures.ready,
+        answer_of a c.in-Ok.register made.register made.lines.items made.passed c.in-Err-tell.why before after (λ all. (c.in-Ok.ensures.stays, all)) (λ f cut. (c.in-Ok.ensures.stays, cut))
+            (subst (λ (l : List ℕ). IsUntold l made.passed before after c.in-Err-tell.why) c.deref.ensures.value c.in-Err-tell.ensures.fault),
+      ),
+    )
 
 pub returns-in-Err-make_ready-clause-fault : goal.returns-in-Err-make_ready-clause-fault
 returns-in-Err-make_ready-clause-fault g c = inr (c.in-Ok.register, c.in-Ok.ensures.found, inl (c.in-Err-make_ready.ensures.fault, (c.in-Ok.ensures.stays, refl)))

@@ -1,4 +1,4 @@
-use Rattle.std.proofs.Common.{◌≤◌, min, length, map, drop, arith}
+use Rattle.std.proofs.Common.{◌≤◌, min, length, map, arith}
 use Rattle.std.specs.String.{string_bytes}
 use Rattle.reg_load.specs.Files.{bytes_of}
 use Rattle.reg_load.proofs.TextLemmas.{none_left, notes_done}
