@@ -10,7 +10,7 @@ use clap::{Arg, Command};
 use std::alloc::{AllocError, Global};
 
 /// The newest heading of CHANGES.md.
-const VERSION: &str = "0.5";
+const VERSION: &str = "0.6";
 
 /// The commands and their words. The office is that of the environment, if it names one: what `--as` is where it is left out.
 pub fn command_line<'a>(alloc: Global, office: Option<&'a str>) -> Result<Command<'a>, AllocError> {
