@@ -114,14 +114,19 @@ fn open_texts<R: Files>(
     Ok(sources)
 }
 
-// What the office of this replica tells an import of files of these names.
-fn order_of<'a>(replica: Uuid, matches: &ArgMatches<'a>, names: &'a [String]) -> Order<'a> {
+// What the office of this replica tells an import, with this note, of files of these names.
+fn order_of<'a>(
+    replica: Uuid,
+    matches: &ArgMatches<'_>,
+    note: &'a str,
+    names: &'a [String],
+) -> Order<'a> {
     Order {
         replica,
         differs: differs(word(matches, "differs")),
         keep_going: matches.get_flag("keep-going"),
         explain: matches.get_flag("explain"),
-        note: word(matches, "note"),
+        note,
         names,
     }
 }
@@ -147,7 +152,7 @@ pub fn import(rt: &HostRuntime, matches: &ArgMatches<'_>) -> Outcome {
         Ok(files) => files,
         Err(fault) => return Outcome::Fault(fault),
     };
-    let order = order_of(replica, matches, &names);
+    let order = order_of(replica, matches, word(matches, "note"), &names);
     let mut sink = Writing::new(io::writer(rt));
     if matches.get_flag("dry-run") {
         let answer = try_import(rt.alloc(), &mut source, &mut files, &order, &mut sink);
@@ -189,7 +194,7 @@ pub fn import_on(rt: &HostRuntime, matches: &ArgMatches<'_>) -> Outcome {
         Ok(files) => files,
         Err(fault) => return Outcome::Fault(fault),
     };
-    let order = order_of(replica, matches, &names);
+    let order = order_of(replica, matches, word(matches, "note"), &names);
     let mut sink = Writing::new(io::writer(rt));
     let answer = if matches.get_flag("dry-run") {
         try_import_on(rt.alloc(), &mut disk, &mut files, &order, &mut sink)
