@@ -35,7 +35,9 @@ fn rows_of(alloc: Global, register: &Register, entry: OpId) -> Result<Vec<Row>, 
     Ok(rows)
 }
 
-fn entry_report(alloc: Global, register: &Register, entry: OpId) -> Result<Vec<u8>, AllocError>
+/// The line of one entry as the report of entries has it, after that report's header. Where the register has no such
+/// entry, the header stands alone.
+pub fn entry_text(alloc: Global, register: &Register, entry: OpId) -> Result<Vec<u8>, AllocError>
     ensures { IfOk result (λ text. IsEntryReport entry register.now text.items) }
 {
     let rows = rows_of(alloc, register, entry)?;
@@ -43,8 +45,7 @@ fn entry_report(alloc: Global, register: &Register, entry: OpId) -> Result<Vec<u
     Ok(text)
 }
 
-/// Writes the line of one entry as the report of entries has it, after that report's header. Where the register has
-/// no such entry, the header stands alone.
+/// Writes that text.
 pub fn report_entry<K: Sink>(
     alloc: Global,
     register: &Register,
@@ -54,7 +55,7 @@ pub fn report_entry<K: Sink>(
     ensures ok { OnOk result (Reports (IsEntryReport entry register.now) (K.state sink.old) (K.state sink.new)) }
     ensures fault { IfErr result (IsReportFault (IsEntryReport entry register.now) (K.state sink.old) (K.state sink.new)) }
 {
-    let text = match entry_report(alloc, register, entry) {
+    let text = match entry_text(alloc, register, entry) {
         Ok(text) => text,
         Err(_) => return Err(ReportFault::Memory),
     };

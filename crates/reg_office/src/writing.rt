@@ -99,7 +99,12 @@ fn gaps_report(alloc: Global, register: &Register) -> Result<Vec<u8>, AllocError
     Ok(text)
 }
 
-fn text_of(alloc: Global, register: &Register, kind: ReportKind) -> Result<Vec<u8>, AllocError>
+/// A report as comma-separated text.
+pub fn report_text(
+    alloc: Global,
+    register: &Register,
+    kind: ReportKind,
+) -> Result<Vec<u8>, AllocError>
     ensures { IfOk result (λ text. IsReport kind register.now text.items) }
 {
     match kind {
@@ -120,7 +125,7 @@ pub fn report<K: Sink>(
     ensures ok { OnOk result (Reports (IsReport kind register.now) (K.state sink.old) (K.state sink.new)) }
     ensures fault { IfErr result (IsReportFault (IsReport kind register.now) (K.state sink.old) (K.state sink.new)) }
 {
-    let text = match text_of(alloc, register, kind) {
+    let text = match report_text(alloc, register, kind) {
         Ok(text) => text,
         Err(_) => return Err(ReportFault::Memory),
     };
