@@ -11,6 +11,7 @@ pub mod Export
 pub mod Change
 pub mod Report
 pub mod Shelf
+pub mod Store
 pub mod ChangeOn
 pub mod MergeOn
 pub mod ReadOn

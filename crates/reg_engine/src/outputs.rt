@@ -18,7 +18,7 @@ use reg_state::{Piece, Register, Seen};
 use std::alloc::{AllocError, Global};
 
 // Puts the file that was made in the place.
-fn publish_bytes<P: Place>(bytes: &[u8], place: &mut P) -> Result<(), CliFault>
+pub(crate) fn publish_bytes<P: Place>(bytes: &[u8], place: &mut P) -> Result<(), CliFault>
     ensures published { OnOk result (Replaces bytes.now (P.state place.old) (P.state place.new)) }
     ensures fault { IfErr result (IsUnpublishedOf bytes.now (P.state place.old) (P.state place.new)) }
 {

@@ -1,0 +1,93 @@
+-- Where a command finds its register, and where it leaves the one that it makes.
+use Rattle.std.specs.Prelude.{◌≡◌, ◌⊎◌, ℕ, List}
+use Rattle.byte_io.specs.Device.{SourceState, SinkState}
+use Rattle.byte_io.specs.Whole.{WritesAll, IsCutAt}
+use Rattle.byte_out.specs.Place.{PlaceState}
+use Rattle.byte_out.specs.Replace.{Replaces}
+use Rattle.reg_op.specs.Contents.{Content}
+use Rattle.reg_file.specs.Files.{Finds}
+use Rattle.reg_engine.specs.declared.fault.OutFault.TheVariants as out
+use Rattle.reg_engine.specs.declared.fault.CliFault.{CliFault}
+use Rattle.reg_engine.specs.declared.fault.CliFault.TheVariants as cli
+use Rattle.reg_engine.specs.Inputs.{IsUnread}
+use Rattle.reg_engine.specs.Outputs.{PublishesFile, IsUnpublished, IsUnpublishedOf}
+use Rattle.reg_engine.specs.Shelf.{Disks, Has, IsSure, StaysOn, KeepsOn, IsUnrestored, IsUnkept}
+
+-- what happened to a store between two moments
+pub record Around : Type 1 where
+  -- it gave this register, and nothing else was done to it
+  pub came : Content → Type 0
+  -- it gave none, for this reason, and nothing else was done to it
+  pub none : CliFault → Type 0
+  -- it gave the first register, and has the second one now
+  pub left : Content → Content → Type 0
+  -- it gave the first register, and does not have the second one, for this reason
+  pub unleft : Content → Content → CliFault → Type 0
+
+-- a register's file, which is file 1, and the place of the next one
+abbrev pub in_file : SourceState → PlaceState → SourceState → PlaceState → Around
+in_file source place next after = record {
+  came = λ x. Finds source next x × (after ≡ place);
+  none = λ f. IsUnread 1 source next f × (after ≡ place);
+  left = λ x y. Finds source next x × PublishesFile y place after;
+  unleft = λ x y f. Finds source next x × IsUnpublished y place after f;
+}
+
+-- a register's file that is only read
+abbrev pub of_file : SourceState → SourceState → Around
+of_file source next = record {
+  came = λ x. Finds source next x;
+  none = λ f. IsUnread 1 source next f;
+  left = λ x y. Finds source next x;
+  unleft = λ x y f. ⊥;
+}
+
+-- a shelf
+abbrev pub on_shelf : {D : Type 0} → Disks D → D → D → Around
+on_shelf d old new = record {
+  came = λ x. Has d old x × StaysOn d old new × IsSure d new;
+  none = λ f. IsUnrestored d old new f;
+  left = λ x y. Has d old x × KeepsOn d x y old new;
+  unleft = λ x y f. Has d old x × IsUnkept d x y old new f;
+}
+
+-- ---- a command that prints something of a register
+
+-- exactly the first bytes of the text went out
+abbrev pub AreCut : List ℕ → SinkState → SinkState → CliFault → Type 0
+AreCut text before after (cli.Out (out.WriteFailed n)) = IsCutAt n text before after
+AreCut text before after f = ⊥
+
+-- a register came in, and a text of it went out
+abbrev pub IsPrinted : Around → (Content → List ℕ → Type 0) → SinkState → SinkState → Type 0
+IsPrinted a Prints before after = (x : Content) × a.came x × ((text : List ℕ) × Prints x text × WritesAll text before after)
+
+-- none came in; or there is no text of it; or not all of the text went out
+abbrev pub IsUnprinted : Around → (Content → List ℕ → Type 0) → (Content → CliFault → Type 0) → SinkState → SinkState → CliFault → Type 0
+IsUnprinted a Prints Refuses before after f = (a.none f × (after ≡ before))
+    ⊎ ((x : Content) × a.came x × ((Refuses x f × (after ≡ before)) ⊎ ((text : List ℕ) × Prints x text × AreCut text before after f)))
+
+-- ---- a command that writes a file of a register
+
+-- a register came in, and a file of it stands at the place
+abbrev pub IsGiven : Around → (Content → List ℕ → Type 0) → PlaceState → PlaceState → Type 0
+IsGiven a Gives before after = (x : Content) × a.came x × ((bytes : List ℕ) × Gives x bytes × Replaces bytes before after)
+
+-- none came in, and nothing else was read; or there is no file of it; or the file does not stand there
+abbrev pub IsUngiven : Around → (Content → List ℕ → Type 0) → (Content → CliFault → Type 0) → Type 0 → PlaceState → PlaceState → CliFault → Type 0
+IsUngiven a Gives Refuses Unread before after f = (a.none f × Unread × (after ≡ before))
+    ⊎ ((x : Content) × a.came x × ((Refuses x f × (after ≡ before)) ⊎ ((bytes : List ℕ) × Gives x bytes × IsUnpublishedOf bytes before after f)))
+
+-- ---- a command that changes a register
+
+-- a register came in; the one that is made of it is left, and then the lines went out
+abbrev pub IsChanged : Around → (Content → Content → List ℕ → Type 0) → SinkState → SinkState → Type 0
+IsChanged a Makes before after = (x : Content) × (y : Content) × (lines : List ℕ) × Makes x y lines × a.left x y × WritesAll lines before after
+
+-- none came in, and nothing else was read; or none is made of it; or the one that is made is not left; or it is, and not
+-- all of the lines went out
+abbrev pub IsUnchanged : Around → (Content → Content → List ℕ → Type 0) → (Content → CliFault → Type 0) → Type 0 → SinkState → SinkState → CliFault → Type 0
+IsUnchanged a Makes Refuses Unread before after f = (a.none f × Unread × (after ≡ before))
+    ⊎ (((x : Content) × a.came x × Refuses x f × (after ≡ before))
+    ⊎ (((x : Content) × (y : Content) × (lines : List ℕ) × Makes x y lines × a.unleft x y f × (after ≡ before))
+    ⊎ ((x : Content) × (y : Content) × (lines : List ℕ) × Makes x y lines × a.left x y × AreCut lines before after f)))

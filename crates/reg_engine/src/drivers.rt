@@ -1,0 +1,166 @@
+//! The steps of a command, wherever its register is: it prints something of the register, writes a file of it, or changes it.
+
+ghost use Rattle.std.specs.Prelude.{◌≡◌, OnOk, IfErr};
+ghost use Rattle.reg_engine.specs.Store.{IsPrinted, IsUnprinted, IsGiven, IsUngiven, IsChanged, IsUnchanged};
+
+use crate::fault::{CliFault, OutFault};
+use crate::outputs::publish_bytes;
+use crate::store::{Keep, Store};
+use byte_io::{Sink, write_all};
+use byte_out::Place;
+use reg_state::Register;
+use std::alloc::Global;
+
+/// What a command prints of a register.
+pub trait Print {
+    ghost use Rattle.std.specs.Prelude.{ℕ, List, IfOk, IfErr};
+    ghost use Rattle.reg_op.specs.Contents.{Content};
+    ghost use Rattle.reg_engine.specs.declared.fault.CliFault.{CliFault};
+
+    /// This is the text for the register.
+    ghost prints: { Self → Content → List ℕ → Type 0 };
+
+    /// There is none, for this reason.
+    ghost refuses: { Self → Content → CliFault → Type 0 };
+
+    fn text(&self, alloc: Global, register: &Register) -> Result<Vec<u8>, CliFault>
+        ensures prints { IfOk result (λ text. prints self.now register.now text.items) }
+        ensures refuses { IfErr result (refuses self.now register.now) };
+}
+
+/// Loads the register, and writes the command's text of it to the sink.
+pub fn print<T: Store, C: Print, K: Sink>(
+    alloc: Global,
+    store: &mut T,
+    command: &C,
+    sink: &mut K,
+) -> Result<(), CliFault>
+    ensures same { T.same store.old store.new }
+    ensures printed { OnOk result (IsPrinted (T.around store.old store.new) (C.prints command.now) (K.state sink.old) (K.state sink.new)) }
+    ensures fault { IfErr result (IsUnprinted (T.around store.old store.new) (C.prints command.now) (C.refuses command.now) (K.state sink.old) (K.state sink.new)) }
+{
+    let register = match store.load(alloc) {
+        Ok(register) => register,
+        Err(fault) => return Err(fault),
+    };
+    let text = match command.text(alloc, &register) {
+        Ok(text) => text,
+        Err(fault) => return Err(fault),
+    };
+    match write_all(sink, &text) {
+        Ok(()) => Ok(()),
+        Err(fault) => Err(CliFault::Out(OutFault::WriteFailed(fault.written))),
+    }
+}
+
+/// What file a command writes of a register, and of what else it reads.
+pub trait Give {
+    ghost use Rattle.std.specs.Prelude.{ℕ, List, IfOk, IfErr};
+    ghost use Rattle.reg_op.specs.Contents.{Content};
+    ghost use Rattle.reg_engine.specs.declared.fault.CliFault.{CliFault};
+
+    /// These are the bytes of the file, where the command's own files have the numbers from this one on.
+    ghost gives: { Self → Self → ℕ → Content → List ℕ → Type 0 };
+
+    /// There is no file, for this reason.
+    ghost refuses: { Self → Self → ℕ → Content → CliFault → Type 0 };
+
+    /// It stands for the same devices.
+    ghost same: { Self → Self → Type 0 };
+
+    fn file(&mut self, alloc: Global, next: usize, register: &Register) -> Result<Vec<u8>, CliFault>
+        ensures same { same self.old self.new }
+        ensures gives { IfOk result (λ bytes. gives self.old self.new next register.now bytes.items) }
+        ensures refuses { IfErr result (refuses self.old self.new next register.now) };
+
+    /// Which is so as well where nothing was done.
+    ghost itself: { (a : Self) → same a a };
+}
+
+/// Loads the register, and puts the command's file of it in the place.
+pub fn give<T: Store, C: Give, P: Place>(
+    alloc: Global,
+    store: &mut T,
+    command: &mut C,
+    place: &mut P,
+) -> Result<(), CliFault>
+    ensures same { T.same store.old store.new × C.same command.old command.new }
+    ensures given { OnOk result (IsGiven (T.around store.old store.new) (C.gives command.old command.new (T.next store.old)) (P.state place.old) (P.state place.new)) }
+    ensures fault { IfErr result (IsUngiven (T.around store.old store.new) (C.gives command.old command.new (T.next store.old))
+        (C.refuses command.old command.new (T.next store.old)) (command.new ≡ command.old) (P.state place.old) (P.state place.new)) }
+{
+    let next = store.next();
+    let register = match store.load(alloc) {
+        Ok(register) => register,
+        Err(fault) => return Err(fault),
+    };
+    let bytes = match command.file(alloc, next, &register) {
+        Ok(bytes) => bytes,
+        Err(fault) => return Err(fault),
+    };
+    match publish_bytes(&bytes, place) {
+        Ok(()) => Ok(()),
+        Err(fault) => Err(fault),
+    }
+}
+
+/// The register that a command makes, and the lines that it prints once that is kept.
+#[derive(Drop)]
+pub struct Made {
+    pub register: Register,
+    pub lines: Vec<u8>,
+}
+
+/// What a command makes of a register, and of what else it reads.
+pub trait Change {
+    ghost use Rattle.std.specs.Prelude.{ℕ, List, IfOk, IfErr};
+    ghost use Rattle.reg_op.specs.Contents.{Content};
+    ghost use Rattle.reg_engine.specs.declared.fault.CliFault.{CliFault};
+
+    /// Of the first register it makes the second one and these lines, where its own files have the numbers from this one on.
+    ghost makes: { Self → Self → ℕ → Content → Content → List ℕ → Type 0 };
+
+    /// It makes nothing, for this reason.
+    ghost refuses: { Self → Self → ℕ → Content → CliFault → Type 0 };
+
+    /// It stands for the same devices.
+    ghost same: { Self → Self → Type 0 };
+
+    fn make(&mut self, alloc: Global, next: usize, register: Register) -> Result<Made, CliFault>
+        ensures same { same self.old self.new }
+        ensures makes { IfOk result (λ made. makes self.old self.new next register made.register made.lines.items) }
+        ensures refuses { IfErr result (refuses self.old self.new next register) };
+
+    /// Which is so as well where nothing was done.
+    ghost itself: { (a : Self) → same a a };
+}
+
+/// Loads the register, keeps the one that the command makes of it, and then writes the command's lines to the sink.
+pub fn change<T: Keep, C: Change, K: Sink>(
+    alloc: Global,
+    store: &mut T,
+    command: &mut C,
+    sink: &mut K,
+) -> Result<(), CliFault>
+    ensures same { T.same store.old store.new × C.same command.old command.new }
+    ensures changed { OnOk result (IsChanged (T.around store.old store.new) (C.makes command.old command.new (T.next store.old)) (K.state sink.old) (K.state sink.new)) }
+    ensures fault { IfErr result (IsUnchanged (T.around store.old store.new) (C.makes command.old command.new (T.next store.old))
+        (C.refuses command.old command.new (T.next store.old)) (command.new ≡ command.old) (K.state sink.old) (K.state sink.new)) }
+{
+    let next = store.next();
+    let register = match store.load(alloc) {
+        Ok(register) => register,
+        Err(fault) => return Err(fault),
+    };
+    let Made { register, lines } = match command.make(alloc, next, register) {
+        Ok(made) => made,
+        Err(fault) => return Err(fault),
+    };
+    if let Err(fault) = store.keep(alloc, &register) {
+        return Err(fault);
+    }
+    match write_all(sink, &lines) {
+        Ok(()) => Ok(()),
+        Err(fault) => Err(CliFault::Out(OutFault::WriteFailed(fault.written))),
+    }
+}

@@ -1,0 +1,164 @@
+//! Where a command finds its register, and where it leaves the one that it makes: a file and its place, or a shelf.
+
+use crate::fault::CliFault;
+use crate::inputs::read_file;
+use crate::outputs::publish_register;
+use crate::shelf_steps::{keep_on, restore_from};
+use byte_disk::Disk;
+use byte_io::Source;
+use byte_out::Place;
+use reg_state::Register;
+use std::alloc::Global;
+
+/// Gives the register that a command reads.
+pub trait Store {
+    ghost use Rattle.std.specs.Prelude.{◌≡◌, ℕ, IfOk, IfErr};
+    ghost use Rattle.reg_engine.specs.Store.{Around};
+
+    /// What happened to it between two moments.
+    ghost around: { Self → Self → Around };
+
+    /// The number of the first file that a command reads beside it.
+    ghost next: { Self → ℕ };
+
+    /// It stands for the same devices.
+    ghost same: { Self → Self → Type 0 };
+
+    fn next(&self) -> usize
+        ensures { result ≡ next self.now };
+
+    fn load(&mut self, alloc: Global) -> Result<Register, CliFault>
+        ensures same { same self.old self.new }
+        ensures came { IfOk result (λ r. (around self.old self.new).came r) }
+        ensures none { IfErr result (λ f. (around self.old self.new).none f) };
+
+    /// Which is so as well after a second step.
+    ghost still: { (a b c : Self) → same a b → same b c → same a c };
+}
+
+/// Gives the register that a command reads, and takes the one that it makes.
+pub trait Keep: Store {
+    ghost use Rattle.std.specs.Prelude.{OnOk, IfErr};
+    ghost use Rattle.reg_op.specs.Contents.{Content};
+
+    /// Leaves the register in the place of the one that was loaded.
+    fn keep(&mut self, alloc: Global, register: &Register) -> Result<(), CliFault>
+        ensures same { Self.same self.old self.new }
+        ensures left { (first : Self) (was : Content) → (Self.around first self.old).came was
+            → OnOk result ((Self.around first self.new).left was register.now) }
+        ensures unleft { (first : Self) (was : Content) → (Self.around first self.old).came was
+            → IfErr result (λ f. (Self.around first self.new).unleft was register.now f) };
+}
+
+/// A register's file, which is file 1, and the place of the next one.
+#[derive(Drop)]
+pub struct InFile<'a, S, P> {
+    pub source: &'a mut S,
+    pub place: &'a mut P,
+}
+
+impl<S: Source, P: Place> Store for InFile<'_, S, P> {
+    ghost use Rattle.std.specs.Prelude.{◌≡◌};
+    ghost use Rattle.std.proofs.Common.{◌∙◌};
+    ghost use Rattle.reg_engine.specs.Store.{in_file};
+
+    ghost around = { λ old. λ new. in_file (S.state old.source.now) (P.state old.place.now) (S.state new.source.now) (P.state new.place.now) };
+
+    ghost next = { λ s. 2 };
+
+    ghost same = { λ old. λ new. (new.source.ghost_name ≡ old.source.ghost_name) × (new.place.ghost_name ≡ old.place.ghost_name) };
+
+    ghost still = { λ a b c e f. (f.0 ∙ e.0, f.1 ∙ e.1) };
+
+    fn next(&self) -> usize {
+        2
+    }
+
+    fn load(&mut self, alloc: Global) -> Result<Register, CliFault> {
+        match read_file(alloc, 1, self.source) {
+            Ok(register) => Ok(register),
+            Err(fault) => Err(fault),
+        }
+    }
+}
+
+impl<S: Source, P: Place> Keep for InFile<'_, S, P> {
+    fn keep(&mut self, alloc: Global, register: &Register) -> Result<(), CliFault> {
+        match publish_register(alloc, register, self.place) {
+            Ok(()) => Ok(()),
+            Err(fault) => Err(fault),
+        }
+    }
+}
+
+/// A register's file, which is file 1 and is only read.
+#[derive(Drop)]
+pub struct OfFile<'a, S> {
+    pub source: &'a mut S,
+}
+
+impl<S: Source> Store for OfFile<'_, S> {
+    ghost use Rattle.std.specs.Prelude.{◌≡◌};
+    ghost use Rattle.std.proofs.Common.{◌∙◌};
+    ghost use Rattle.reg_engine.specs.Store.{of_file};
+
+    ghost around = { λ old. λ new. of_file (S.state old.source.now) (S.state new.source.now) };
+
+    ghost next = { λ s. 2 };
+
+    ghost same = { λ old. λ new. new.source.ghost_name ≡ old.source.ghost_name };
+
+    ghost still = { λ a b c e f. f ∙ e };
+
+    fn next(&self) -> usize {
+        2
+    }
+
+    fn load(&mut self, alloc: Global) -> Result<Register, CliFault> {
+        match read_file(alloc, 1, self.source) {
+            Ok(register) => Ok(register),
+            Err(fault) => Err(fault),
+        }
+    }
+}
+
+/// A shelf.
+#[derive(Drop)]
+pub struct OnShelf<'a, D> {
+    pub disk: &'a mut D,
+}
+
+impl<D: Disk> Store for OnShelf<'_, D> {
+    ghost use Rattle.std.specs.Prelude.{◌≡◌};
+    ghost use Rattle.std.proofs.Common.{◌∙◌};
+    ghost use Rattle.reg_engine.specs.Shelf.{disks};
+    ghost use Rattle.reg_engine.specs.Store.{on_shelf};
+
+    ghost around = { λ old. λ new. on_shelf (disks D.tells D.seen D.images D.moment D.images_since D.failures) old.disk.now new.disk.now };
+
+    ghost next = { λ s. 1 };
+
+    ghost same = { λ old. λ new. (new.disk.ghost_name ≡ old.disk.ghost_name) × (D.tells new.disk.now ≡ D.tells old.disk.now) };
+
+    ghost still = { λ a b c e f. (f.0 ∙ e.0, f.1 ∙ e.1) };
+
+    fn next(&self) -> usize {
+        1
+    }
+
+    fn load(&mut self, alloc: Global) -> Result<Register, CliFault> {
+        match restore_from(alloc, self.disk) {
+            Ok(register) => Ok(register),
+            Err(fault) => Err(fault),
+        }
+    }
+}
+
+impl<D: Disk> Keep for OnShelf<'_, D> {
+    fn keep(&mut self, alloc: Global, register: &Register) -> Result<(), CliFault> {
+        match keep_on(alloc, self.disk, register) {
+            Ok(()) => Ok(()),
+            Err(fault) => Err(fault),
+        }
+    }
+}
