@@ -3,8 +3,6 @@ use Rattle.std.proofs.Common.{◌≡◌, ◌⊎◌, ◌+◌, ◌<◌, ◌≤◌,
 use Rattle.std.specs.Int.{w32, to_be_bytes, from_be_bytes}
 use Rattle.std.proofs.lemmas.Nat.{from_be_bytes-to_be_bytes_4}
 use Rattle.std.specs.Prelude.{IsTrue, Err, IsErrOf}
-use Rattle.byte_io.specs.Device.{SinkState}
-use Rattle.byte_out.specs.Place.{PlaceState}
 use Rattle.byte_disk.specs.Disk.{Only, LeavesOnly}
 use Rattle.byte_disk.proofs.Moments.{weaker, joined}
 use Rattle.byte_shelf.specs.Shelf.{StandAt, HasHead, HasNoHead, IsSize}
@@ -12,16 +10,13 @@ use Rattle.byte_shelf.specs.Keep.{AddsNothing, CountsFault}
 use Rattle.byte_shelf.specs.declared.fault.ShelfFault.{ShelfFault}
 use Rattle.byte_shelf.specs.declared.fault.ShelfFault.TheVariants as shelf
 use Rattle.reg_op.specs.Contents.{Content}
-use Rattle.reg_op.specs.Ids.{Id}
 use Rattle.reg_shelf.specs.Shelf.{IsShelf, IsNoShelf, HasFile}
 use Rattle.reg_shelf.specs.Keep.{IsTooLarge, IsRestoreFault}
-use Rattle.reg_engine.specs.declared.fault.OutFault.TheVariants as out
 use Rattle.reg_engine.specs.declared.fault.ShelfProblem.TheVariants as problem
 use Rattle.reg_engine.specs.declared.fault.CliFault.{CliFault}
 use Rattle.reg_engine.specs.declared.fault.CliFault.TheVariants as cli
 use Rattle.reg_engine.specs.Fault.{shelf_fault}
-use Rattle.reg_engine.specs.Outputs.{IsUnpublished}
-use Rattle.reg_engine.specs.Shelf.{Disks, Has, HasNoContent, IsSure, AddsNothingTo, StaysOn, PassesOn, KeepsOn, HasNoRoom, IsUnrestored, IsUnkept, KeepsAndTells, IsUntold, IsUnshelfFault}
+use Rattle.reg_engine.specs.Shelf.{Disks, Has, HasNoContent, IsSure, AddsNothingTo, StaysOn, PassesOn, KeepsOn, HasNoRoom, IsUnrestored, IsUnkept}
 
 -- ---- faults
 
@@ -67,14 +62,6 @@ unkept d old new x y shelf.NotShelf has good counts head large refused passes =
     (λ told. no_head (d.seen old) x (head told refl) (has told), record { quiet = counts; nothing = λ told. refused told counts })
 unkept d old new x y shelf.Memory has good counts head large refused passes = record { quiet = counts; nothing = λ told. refused told counts }
 unkept d old new x y shelf.DiskFailed has good counts head large refused passes = (counts, passes)
-
-pub untold : {D : Type 0} (d : Disks D) (old new : D) (x y : Content) (ids : List Id) (before after : SinkState) → after ≡ before
-    → (f : CliFault) → IsUnkept d x y old new f → IsUntold d x y ids old new before after f
-untold d old new x y ids before after same (cli.Refused r) h = absurd h
-untold d old new x y ids before after same (cli.File k f) h = absurd h
-untold d old new x y ids before after same (cli.Out f) h = absurd h
-untold d old new x y ids before after same cli.Memory h = (h, same)
-untold d old new x y ids before after same (cli.Shelf p) h = (h, same)
 
 -- ---- what a stop leaves where nothing but a shelf was sure
 
@@ -142,16 +129,6 @@ module _ {D : Type 0} (d : Disks D) (old mid new : D) (tells : d.tells mid ≡ d
   then_unkept x y (cli.Shelf problem.TooLarge) h = (room_before y h.0, then_stays h.1)
   then_unkept x y (cli.Shelf problem.DiskFailed) h = (h.0 ∙ ap (λ (n : ℕ). n + 1) stays.quiet, then_passes x y h.1)
 
-  pub then_untold : (x y : Content) (ids : List Id) (before after : SinkState) (f : CliFault) → IsUntold d x y ids mid new before after f → IsUntold d x y ids old new before after f
-  then_untold x y ids before after (cli.Refused r) h = h
-  then_untold x y ids before after (cli.File k f) h = h
-  then_untold x y ids before after (cli.Out out.NotOpened) h = h
-  then_untold x y ids before after (cli.Out out.NewExists) h = h
-  then_untold x y ids before after (cli.Out out.TooLarge) h = h
-  then_untold x y ids before after (cli.Out (out.WriteFailed n)) h = (then_keeps x y h.0, h.1)
-  then_untold x y ids before after cli.Memory h = (then_stays h.0, h.1)
-  then_untold x y ids before after (cli.Shelf p) h = (then_unkept x y (cli.Shelf p) h.0, h.1)
-
 -- a content that was restored, and another of equal value that is kept then
 module _ {D : Type 0} (d : Disks D) (old mid new : D) (tells : d.tells mid ≡ d.tells old) (stays : StaysOn d old mid) (sure : IsSure d mid) (x : Content) (has : Has d old x) where
   pub kept_then : (y : Content) → ((was : Content) → Has d mid was → IsSure d mid → KeepsOn d was y mid new) → KeepsOn d x y old new
@@ -159,25 +136,3 @@ module _ {D : Type 0} (d : Disks D) (old mid new : D) (tells : d.tells mid ≡ d
 
   pub unkept_then : (y : Content) (f : CliFault) → ((was : Content) → Has d mid was → IsSure d mid → IsUnkept d was y mid new f) → IsUnkept d x y old new f
   unkept_then y f fault = then_unkept d old mid new tells stays x y f (fault x (then_has d old mid new tells stays x has) sure)
-
-  pub told_then : (y z : Content) (is js : List Id) (before after : SinkState) → y ≡ z → is ≡ js
-      → ((was : Content) → Has d mid was → IsSure d mid → KeepsAndTells d was y is mid new before after) → KeepsAndTells d x z js old new before after
-  told_then y z is js before after e f told =
-      let both = subst (λ k. KeepsAndTells d x k js mid new before after) e (subst (λ k. KeepsAndTells d x y k mid new before after) f (told x (then_has d old mid new tells stays x has) sure)) in
-      (then_keeps d old mid new tells stays x z both.0, both.1)
-
-  pub untold_then : (y z : Content) (is js : List Id) (before after : SinkState) (f : CliFault) → y ≡ z → is ≡ js
-      → ((was : Content) → Has d mid was → IsSure d mid → IsUntold d was y is mid new before after f) → IsUntold d x z js old new before after f
-  untold_then y z is js before after f e g fault =
-      then_untold d old mid new tells stays x z js before after f
-      (subst (λ k. IsUntold d x k js mid new before after f) e (subst (λ k. IsUntold d x y k mid new before after f) g (fault x (then_has d old mid new tells stays x has) sure)))
-
--- ---- a command that reads a shelf alone
-
-pub unpublished_on : {D : Type 0} (d : Disks D) (old new : D) (before after : PlaceState) (x : Content) → Has d old x → StaysOn d old new
-    → (f : CliFault) → IsUnpublished x before after f → IsUnshelfFault d old new before after f
-unpublished_on d old new before after x has stays (cli.Refused r) h = absurd h
-unpublished_on d old new before after x has stays (cli.File k f) h = absurd h
-unpublished_on d old new before after x has stays (cli.Out f) h = (x, has, h, stays)
-unpublished_on d old new before after x has stays cli.Memory h = (stays, h)
-unpublished_on d old new before after x has stays (cli.Shelf p) h = absurd h

@@ -1,17 +1,13 @@
 pub mod Fault
 pub mod Names
-pub mod Devices
 pub mod Check
 pub mod Inputs
 pub mod Outputs
 pub mod Merge
 pub mod Exchange
-pub mod Downgrade
 pub mod Export
 pub mod Change
 pub mod Report
 pub mod Shelf
 pub mod Store
-pub mod ChangeOn
 pub mod MergeOn
-pub mod ReadOn

@@ -1,16 +1,13 @@
 -- A file, put in a place once all of it is made; and ids, to a sink.
-use Rattle.std.specs.Prelude.{◌≡◌, ◌++◌, ◌∷◌, ◌⊎◌, [], List, ℕ}
+use Rattle.std.specs.Prelude.{◌≡◌, ◌++◌, ◌∷◌, [], List, ℕ}
 use Rattle.std.specs.List.{flat_map}
-use Rattle.byte_io.specs.Device.{SinkState}
-use Rattle.byte_io.specs.Whole.{WritesAll, IsCutAt}
 use Rattle.byte_out.specs.Place.{PlaceState}
 use Rattle.byte_out.specs.Replace.{Replaces, IsReplaceFault}
 use Rattle.byte_out.specs.declared.fault.ReplaceFault.TheVariants as replaced
 use Rattle.reg_op.specs.Contents.{Content}
-use Rattle.reg_op.specs.Ids.{Id, Ids}
-use Rattle.reg_op.specs.Pieces.{Piece}
+use Rattle.reg_op.specs.Ids.{Id}
 use Rattle.reg_op.specs.Text.{printed}
-use Rattle.reg_file.specs.Files.{Holds, IsTooLarge, HoldsSeen, IsSeenTooLarge, HoldsPiece, IsPieceTooLarge}
+use Rattle.reg_file.specs.Files.{Holds, IsTooLarge}
 use Rattle.reg_engine.specs.declared.fault.OutFault.{OutFault}
 use Rattle.reg_engine.specs.declared.fault.OutFault.TheVariants as out
 use Rattle.reg_engine.specs.declared.fault.CliFault.{CliFault}
@@ -46,54 +43,18 @@ IsUnpublishedOf bytes old new (cli.Out (out.WriteFailed n)) = IsReplaceFault byt
 IsUnpublishedOf bytes old new cli.Memory = ⊥
 IsUnpublishedOf bytes old new (cli.Shelf p) = ⊥
 
--- the same of the file of a content; of the ids that were seen; of a piece
+-- the same of the file of a content
 abbrev pub PublishesFile : Content → PlaceState → PlaceState → Type 0
 PublishesFile x old new = PublishesBy (λ bytes. Holds bytes x) old new
-
-abbrev pub IsOutFault : Content → PlaceState → PlaceState → OutFault → Type 0
-IsOutFault x old new f = IsOutFaultBy (λ bytes. Holds bytes x) (IsTooLarge x) old new f
 
 abbrev pub IsUnpublished : Content → PlaceState → PlaceState → CliFault → Type 0
 IsUnpublished x old new f = IsUnpublishedBy (λ bytes. Holds bytes x) (IsTooLarge x) old new f
 
-abbrev pub PublishesSeen : Ids → PlaceState → PlaceState → Type 0
-PublishesSeen ids old new = PublishesBy (λ bytes. HoldsSeen bytes ids) old new
-
-abbrev pub IsUnpublishedSeen : Ids → PlaceState → PlaceState → CliFault → Type 0
-IsUnpublishedSeen ids old new f = IsUnpublishedBy (λ bytes. HoldsSeen bytes ids) (IsSeenTooLarge ids) old new f
-
-abbrev pub PublishesPiece : Piece → PlaceState → PlaceState → Type 0
-PublishesPiece p old new = PublishesBy (λ bytes. HoldsPiece bytes p) old new
-
-abbrev pub IsUnpublishedPiece : Piece → PlaceState → PlaceState → CliFault → Type 0
-IsUnpublishedPiece p old new f = IsUnpublishedBy (λ bytes. HoldsPiece bytes p) (IsPieceTooLarge p) old new f
+abbrev pub IsOutFault : Content → PlaceState → PlaceState → OutFault → Type 0
+IsOutFault x old new f = IsOutFaultBy (λ bytes. Holds bytes x) (IsTooLarge x) old new f
 
 -- ---- and ids
 
 -- a line for each id
 abbrev pub id_lines : List Id → List ℕ
 id_lines ids = flat_map (λ i. printed i ++ 10 ∷ []) ids
-
--- what a command that makes operations sees of its outputs: where the register goes, and where the ids
-pub record Outputs : Type 0 where
-  pub place : PlaceState
-  pub ids : SinkState
-
-abbrev pub outputs : PlaceState → SinkState → Outputs
-outputs place ids = record { place = place; ids = ids }
-
--- the content's file went out whole, and so did the lines of the ids
-abbrev pub GivesOut : Content → List Id → Outputs → Outputs → Type 0
-GivesOut x ids old new = PublishesFile x old.place new.place × WritesAll (id_lines ids) old.ids new.ids
-
--- what did not go out, by the fault: something of the file, and no id; or the file did, and exactly n bytes of the lines
-abbrev pub IsUngiven : Content → List Id → Outputs → Outputs → CliFault → Type 0
-IsUngiven x ids old new (cli.Refused r) = ⊥
-IsUngiven x ids old new (cli.File k f) = ⊥
-IsUngiven x ids old new (cli.Out out.TooLarge) = IsOutFault x old.place new.place out.TooLarge × (new.ids ≡ old.ids)
-IsUngiven x ids old new (cli.Out out.NotOpened) = IsOutFault x old.place new.place out.NotOpened × (new.ids ≡ old.ids)
-IsUngiven x ids old new (cli.Out out.NewExists) = IsOutFault x old.place new.place out.NewExists × (new.ids ≡ old.ids)
-IsUngiven x ids old new (cli.Out (out.WriteFailed n)) = (IsOutFault x old.place new.place (out.WriteFailed n) × (new.ids ≡ old.ids))
-    ⊎ (PublishesFile x old.place new.place × IsCutAt n (id_lines ids) old.ids new.ids)
-IsUngiven x ids old new cli.Memory = new ≡ old
-IsUngiven x ids old new (cli.Shelf p) = ⊥

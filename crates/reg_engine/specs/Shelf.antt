@@ -1,8 +1,5 @@
 -- What becomes of the disk of a shelf, and commands that make a shelf, or write out what one has.
 use Rattle.std.specs.Prelude.{◌≡◌, ◌⊎◌, ◌+◌, Bool, IsTrue, List, ℕ}
-use Rattle.byte_io.specs.Device.{SinkState}
-use Rattle.byte_io.specs.Whole.{WritesAll, IsCutAt}
-use Rattle.byte_out.specs.Place.{PlaceState}
 use Rattle.byte_disk.specs.Disk.{Only, SameImages, LeavesOnly}
 use Rattle.byte_shelf.specs.Shelf.{IsSize}
 use Rattle.byte_shelf.specs.Keep.{AddsNothing}
@@ -18,7 +15,6 @@ use Rattle.reg_engine.specs.declared.fault.ShelfProblem.{ShelfProblem}
 use Rattle.reg_engine.specs.declared.fault.ShelfProblem.TheVariants as problem
 use Rattle.reg_engine.specs.declared.fault.CliFault.{CliFault}
 use Rattle.reg_engine.specs.declared.fault.CliFault.TheVariants as cli
-use Rattle.reg_engine.specs.Outputs.{id_lines, PublishesFile, IsOutFault}
 
 -- what a contract sees of the disks of a type
 pub record Disks (D : Type 0) : Type 1 where
@@ -100,21 +96,6 @@ IsUnkept d x y old new (cli.Shelf problem.NotShelf) = (IsTrue (d.tells old) → 
 IsUnkept d x y old new (cli.Shelf problem.TooLarge) = HasNoRoom d old y × StaysOn d old new
 IsUnkept d x y old new (cli.Shelf problem.DiskFailed) = Fails d old new × PassesOn d x y old new
 
--- it was kept, and then the lines of the ids went out
-abbrev pub KeepsAndTells : {D : Type 0} → Disks D → Content → Content → List Id → D → D → SinkState → SinkState → Type 0
-KeepsAndTells d x y ids old new before after = KeepsOn d x y old new × WritesAll (id_lines ids) before after
-
--- or it was not kept, and no line went out; or it was, and exactly n bytes of the lines
-abbrev pub IsUntold : {D : Type 0} → Disks D → Content → Content → List Id → D → D → SinkState → SinkState → CliFault → Type 0
-IsUntold d x y ids old new before after (cli.Refused r) = ⊥
-IsUntold d x y ids old new before after (cli.File k f) = ⊥
-IsUntold d x y ids old new before after (cli.Out out.NotOpened) = ⊥
-IsUntold d x y ids old new before after (cli.Out out.NewExists) = ⊥
-IsUntold d x y ids old new before after (cli.Out out.TooLarge) = ⊥
-IsUntold d x y ids old new before after (cli.Out (out.WriteFailed n)) = KeepsOn d x y old new × IsCutAt n (id_lines ids) before after
-IsUntold d x y ids old new before after cli.Memory = StaysOn d old new × (after ≡ before)
-IsUntold d x y ids old new before after (cli.Shelf p) = IsUnkept d x y old new (cli.Shelf p) × (after ≡ before)
-
 -- ---- a command that makes one content of another
 
 -- what is wrong with the shelf: it was not read, and nor was anything else; or it was, and what was made is not kept
@@ -143,28 +124,3 @@ IsUnformatted d openings size old new (cli.Shelf problem.NotOpened) = IsSize siz
 IsUnformatted d openings size old new (cli.Shelf problem.NotShelf) = ⊥
 IsUnformatted d openings size old new (cli.Shelf problem.TooLarge) = ⊥
 IsUnformatted d openings size old new (cli.Shelf problem.DiskFailed) = IsSize size × Fails d old new
-
--- ---- a command that reads a shelf alone
-
--- the shelf had a content, of which this went out, and it has it still
-abbrev pub ReadsOn : {D : Type 0} → Disks D → D → D → (Content → Type 0) → Type 0
-ReadsOn d old new Gives = (x : Content) × Has d old x × Gives x × StaysOn d old new
-
--- what was done instead: the register is refused; or not all went out; or no register was restored, and nothing went out
-abbrev pub IsUnreadOn : {D : Type 0} → Disks D → D → D → (Content → Refusal → Type 0) → (Content → OutFault → Type 0) → Type 0 → CliFault → Type 0
-IsUnreadOn d old new Refuses FailsOut Unopened (cli.Refused r) = (x : Content) × Has d old x × Refuses x r × StaysOn d old new × Unopened
-IsUnreadOn d old new Refuses FailsOut Unopened (cli.File k f) = ⊥
-IsUnreadOn d old new Refuses FailsOut Unopened (cli.Out f) = (x : Content) × Has d old x × FailsOut x f × StaysOn d old new
-IsUnreadOn d old new Refuses FailsOut Unopened cli.Memory = StaysOn d old new × Unopened
-IsUnreadOn d old new Refuses FailsOut Unopened (cli.Shelf p) = IsUnrestored d old new (cli.Shelf p) × Unopened
-
--- no register is refused
-abbrev pub Never : Content → Refusal → Type 0
-Never x r = ⊥
-
--- the register's file went out
-abbrev pub IsUnshelved : {D : Type 0} → Disks D → D → D → PlaceState → PlaceState → Type 0
-IsUnshelved d old new before after = ReadsOn d old new (λ x. PublishesFile x before after)
-
-abbrev pub IsUnshelfFault : {D : Type 0} → Disks D → D → D → PlaceState → PlaceState → CliFault → Type 0
-IsUnshelfFault d old new before after f = IsUnreadOn d old new Never (λ x f. IsOutFault x before after f) (after ≡ before) f

@@ -1,20 +1,146 @@
-//! Commands that an office is given on a register's file.
+//! Commands of an office: entries are entered, superseded and retired, in a register's file or on a shelf.
 
-ghost use Rattle.std.specs.Prelude.{OnOk, IfErr};
+ghost use Rattle.std.specs.Prelude.{◌≡◌, IfOk, OnOk, IfErr};
 ghost use Rattle.reg_office.specs.Commands.{retirements, supersessions};
-ghost use Rattle.reg_engine.specs.Outputs.{outputs};
-ghost use Rattle.reg_engine.specs.Change.{desk, IsChanged, IsChangeFault, entry_desk, IsEntered, IsEnterFault};
+ghost use Rattle.reg_engine.specs.Outputs.{id_lines};
+ghost use Rattle.reg_engine.specs.Shelf.{disks};
+ghost use Rattle.reg_engine.specs.Store.{in_file, on_shelf, IsChanged, IsUnchanged};
+ghost use Rattle.reg_engine.specs.Change.{Makes, CannotMake, Enters, CannotEnter};
 
+use crate::drivers::{Change, Made, change};
 use crate::fault::CliFault;
-use crate::inputs::read_file;
-use crate::outputs::give_out;
+use crate::outputs::id_lines;
+use crate::store::{InFile, OnShelf};
+use byte_disk::Disk;
 use byte_io::{Sink, Source};
 use byte_out::Place;
 use reg_office::Office;
 use reg_op::OpId;
+use reg_state::Register;
 use std::alloc::Global;
 use uuid::Uuid;
 use wkt_crs::define_from;
+
+/// Retires entries as the replica, with the note.
+#[derive(Drop)]
+pub struct Retire<'a> {
+    pub replica: Uuid,
+    pub entries: &'a [OpId],
+    pub note: &'a str,
+}
+
+impl Change for Retire<'_> {
+    ghost use Rattle.std.proofs.Common.{tt};
+    ghost use Rattle.reg_office.specs.Commands.{retirements};
+    ghost use Rattle.reg_engine.specs.Change.{Makes, CannotMake};
+
+    ghost makes = { λ old. λ new. λ next. λ x. λ y. λ lines. Makes old.replica old.note.now (retirements old.entries.now) x y lines };
+
+    ghost refuses = { λ old. λ new. λ next. λ x. λ f. CannotMake old.replica old.note.now (retirements old.entries.now) x f };
+
+    ghost same = { λ old. λ new. Unit {0} };
+
+    ghost itself = { λ a. tt };
+
+    fn make(&mut self, alloc: Global, _next: usize, register: Register) -> Result<Made, CliFault> {
+        let mut office = Office::new(self.replica, register);
+        let ids = match office.retire(alloc, self.entries, self.note) {
+            Ok(ids) => ids,
+            Err(fault) => return Err(CliFault::of_office(fault)),
+        };
+        match made_by(alloc, office, &ids) {
+            Ok(made) => Ok(made),
+            Err(fault) => Err(fault),
+        }
+    }
+}
+
+/// Supersedes an old entry by newer ones as the replica, with the note.
+#[derive(Drop)]
+pub struct Supersede<'a> {
+    pub replica: Uuid,
+    pub old: OpId,
+    pub newer: &'a [OpId],
+    pub note: &'a str,
+}
+
+impl Change for Supersede<'_> {
+    ghost use Rattle.std.proofs.Common.{tt};
+    ghost use Rattle.reg_office.specs.Commands.{supersessions};
+    ghost use Rattle.reg_engine.specs.Change.{Makes, CannotMake};
+
+    ghost makes = { λ old. λ new. λ next. λ x. λ y. λ lines. Makes old.replica old.note.now (supersessions old.old old.newer.now) x y lines };
+
+    ghost refuses = { λ old. λ new. λ next. λ x. λ f. CannotMake old.replica old.note.now (supersessions old.old old.newer.now) x f };
+
+    ghost same = { λ old. λ new. Unit {0} };
+
+    ghost itself = { λ a. tt };
+
+    fn make(&mut self, alloc: Global, _next: usize, register: Register) -> Result<Made, CliFault> {
+        let mut office = Office::new(self.replica, register);
+        let ids = match office.supersede(alloc, self.old, self.newer, self.note) {
+            Ok(ids) => ids,
+            Err(fault) => return Err(CliFault::of_office(fault)),
+        };
+        match made_by(alloc, office, &ids) {
+            Ok(made) => Ok(made),
+            Err(fault) => Err(fault),
+        }
+    }
+}
+
+/// Reads a text after the register, and enters its value as the replica, with the note.
+#[derive(Drop)]
+pub struct Enter<'a, X> {
+    pub replica: Uuid,
+    pub text: &'a mut X,
+    pub note: &'a str,
+}
+
+impl<X: Source> Change for Enter<'_, X> {
+    ghost use Rattle.std.specs.Prelude.{◌≡◌};
+    ghost use Rattle.std.proofs.Common.{refl};
+    ghost use Rattle.reg_engine.specs.Change.{Enters, CannotEnter};
+
+    ghost makes = { λ old. λ new. λ next. λ x. λ y. λ lines. Enters old.replica old.note.now (X.state old.text.now) (X.state new.text.now) x y lines };
+
+    ghost refuses = { λ old. λ new. λ next. λ x. λ f. CannotEnter old.replica old.note.now next (X.state old.text.now) (X.state new.text.now) x f };
+
+    ghost same = { λ old. λ new. new.text.ghost_name ≡ old.text.ghost_name };
+
+    ghost itself = { λ a. refl };
+
+    fn make(&mut self, alloc: Global, next: usize, register: Register) -> Result<Made, CliFault> {
+        let definition = match define_from(alloc, self.text) {
+            Ok(definition) => definition,
+            Err(fault) => return Err(CliFault::of_definition(next, fault)),
+        };
+        let mut office = Office::new(self.replica, register);
+        let id = match office.enter(definition, self.note) {
+            Ok(id) => id,
+            Err(fault) => return Err(CliFault::of_office(fault)),
+        };
+        match made_by(alloc, office, &[id]) {
+            Ok(made) => Ok(made),
+            Err(fault) => Err(fault),
+        }
+    }
+}
+
+// The office's register, and the lines of the new ids.
+fn made_by(alloc: Global, office: Office, ids: &[OpId]) -> Result<Made, CliFault>
+    ensures made { IfOk result (λ made. (made.register ≡ office.register) × (made.lines.items ≡ id_lines ids.now)) }
+    ensures fault { IfErr result (λ f. f ≡ CliFault.Memory) }
+{
+    match id_lines(alloc, ids) {
+        Ok(lines) => Ok(Made {
+            register: office.into_register(),
+            lines,
+        }),
+        Err(_) => Err(CliFault::Memory),
+    }
+}
 
 /// Reads the register of the source, which is file 1, retires entries of it as the replica, with the note, puts the
 /// register's file in the place, and writes the new ids to the sink, each with a newline.
@@ -27,23 +153,17 @@ pub fn run_retire<S: Source, P: Place, K: Sink>(
     place: &mut P,
     sink: &mut K,
 ) -> Result<(), CliFault>
-    ensures changed { OnOk result (IsChanged replica note.now (retirements entries.now)
-        (desk (S.state source.old) (outputs (P.state place.old) (K.state sink.old)))
-        (desk (S.state source.new) (outputs (P.state place.new) (K.state sink.new)))) }
-    ensures fault { IfErr result (IsChangeFault replica note.now (retirements entries.now)
-        (desk (S.state source.old) (outputs (P.state place.old) (K.state sink.old)))
-        (desk (S.state source.new) (outputs (P.state place.new) (K.state sink.new)))) }
+    ensures changed { OnOk result (IsChanged (in_file (S.state source.old) (P.state place.old) (S.state source.new) (P.state place.new))
+        (Makes replica note.now (retirements entries.now)) (K.state sink.old) (K.state sink.new)) }
+    ensures fault { IfErr result (IsUnchanged (in_file (S.state source.old) (P.state place.old) (S.state source.new) (P.state place.new))
+        (Makes replica note.now (retirements entries.now)) (CannotMake replica note.now (retirements entries.now)) (Unit {0}) (K.state sink.old) (K.state sink.new)) }
 {
-    let register = match read_file(alloc, 1, source) {
-        Ok(register) => register,
-        Err(fault) => return Err(fault),
+    let mut command = Retire {
+        replica,
+        entries,
+        note,
     };
-    let mut office = Office::new(replica, register);
-    let ids = match office.retire(alloc, entries, note) {
-        Ok(ids) => ids,
-        Err(fault) => return Err(CliFault::of_office(fault)),
-    };
-    match give_out(alloc, office.register(), &ids, place, sink) {
+    match change(alloc, &mut InFile { source, place }, &mut command, sink) {
         Ok(()) => Ok(()),
         Err(fault) => Err(fault),
     }
@@ -61,23 +181,18 @@ pub fn run_supersede<S: Source, P: Place, K: Sink>(
     place: &mut P,
     sink: &mut K,
 ) -> Result<(), CliFault>
-    ensures changed { OnOk result (IsChanged replica note.now (supersessions old newer.now)
-        (desk (S.state source.old) (outputs (P.state place.old) (K.state sink.old)))
-        (desk (S.state source.new) (outputs (P.state place.new) (K.state sink.new)))) }
-    ensures fault { IfErr result (IsChangeFault replica note.now (supersessions old newer.now)
-        (desk (S.state source.old) (outputs (P.state place.old) (K.state sink.old)))
-        (desk (S.state source.new) (outputs (P.state place.new) (K.state sink.new)))) }
+    ensures changed { OnOk result (IsChanged (in_file (S.state source.old) (P.state place.old) (S.state source.new) (P.state place.new))
+        (Makes replica note.now (supersessions old newer.now)) (K.state sink.old) (K.state sink.new)) }
+    ensures fault { IfErr result (IsUnchanged (in_file (S.state source.old) (P.state place.old) (S.state source.new) (P.state place.new))
+        (Makes replica note.now (supersessions old newer.now)) (CannotMake replica note.now (supersessions old newer.now)) (Unit {0}) (K.state sink.old) (K.state sink.new)) }
 {
-    let register = match read_file(alloc, 1, source) {
-        Ok(register) => register,
-        Err(fault) => return Err(fault),
+    let mut command = Supersede {
+        replica,
+        old,
+        newer,
+        note,
     };
-    let mut office = Office::new(replica, register);
-    let ids = match office.supersede(alloc, old, newer, note) {
-        Ok(ids) => ids,
-        Err(fault) => return Err(CliFault::of_office(fault)),
-    };
-    match give_out(alloc, office.register(), &ids, place, sink) {
+    match change(alloc, &mut InFile { source, place }, &mut command, sink) {
         Ok(()) => Ok(()),
         Err(fault) => Err(fault),
     }
@@ -95,27 +210,102 @@ pub fn run_enter<S: Source, X: Source, P: Place, K: Sink>(
     place: &mut P,
     sink: &mut K,
 ) -> Result<(), CliFault>
-    ensures entered { OnOk result (IsEntered replica note.now
-        (entry_desk (S.state source.old) (X.state text.old) (outputs (P.state place.old) (K.state sink.old)))
-        (entry_desk (S.state source.new) (X.state text.new) (outputs (P.state place.new) (K.state sink.new)))) }
-    ensures fault { IfErr result (IsEnterFault replica note.now
-        (entry_desk (S.state source.old) (X.state text.old) (outputs (P.state place.old) (K.state sink.old)))
-        (entry_desk (S.state source.new) (X.state text.new) (outputs (P.state place.new) (K.state sink.new)))) }
+    ensures entered { OnOk result (IsChanged (in_file (S.state source.old) (P.state place.old) (S.state source.new) (P.state place.new))
+        (Enters replica note.now (X.state text.old) (X.state text.new)) (K.state sink.old) (K.state sink.new)) }
+    ensures fault { IfErr result (IsUnchanged (in_file (S.state source.old) (P.state place.old) (S.state source.new) (P.state place.new))
+        (Enters replica note.now (X.state text.old) (X.state text.new)) (CannotEnter replica note.now 2 (X.state text.old) (X.state text.new))
+        (X.state text.new ≡ X.state text.old) (K.state sink.old) (K.state sink.new)) }
 {
-    let register = match read_file(alloc, 1, source) {
-        Ok(register) => register,
-        Err(fault) => return Err(fault),
+    let mut command = Enter {
+        replica,
+        text,
+        note,
     };
-    let definition = match define_from(alloc, text) {
-        Ok(definition) => definition,
-        Err(fault) => return Err(CliFault::of_definition(2, fault)),
+    match change(alloc, &mut InFile { source, place }, &mut command, sink) {
+        Ok(()) => Ok(()),
+        Err(fault) => Err(fault),
+    }
+}
+
+/// Restores the register of the shelf, retires entries of it as the replica, with the note, keeps the register, and then
+/// writes the new ids to the sink, each with a newline.
+pub fn run_retire_on<D: Disk, K: Sink>(
+    alloc: Global,
+    disk: &mut D,
+    replica: Uuid,
+    entries: &[OpId],
+    note: &str,
+    sink: &mut K,
+) -> Result<(), CliFault>
+    ensures changed { OnOk result (IsChanged (on_shelf (disks D.tells D.seen D.images D.moment D.images_since D.failures) disk.old disk.new)
+        (Makes replica note.now (retirements entries.now)) (K.state sink.old) (K.state sink.new)) }
+    ensures fault { IfErr result (IsUnchanged (on_shelf (disks D.tells D.seen D.images D.moment D.images_since D.failures) disk.old disk.new)
+        (Makes replica note.now (retirements entries.now)) (CannotMake replica note.now (retirements entries.now)) (Unit {0}) (K.state sink.old) (K.state sink.new)) }
+    ensures tells { D.tells disk.new ≡ D.tells disk.old }
+{
+    let mut command = Retire {
+        replica,
+        entries,
+        note,
     };
-    let mut office = Office::new(replica, register);
-    let id = match office.enter(definition, note) {
-        Ok(id) => id,
-        Err(fault) => return Err(CliFault::of_office(fault)),
+    match change(alloc, &mut OnShelf { disk }, &mut command, sink) {
+        Ok(()) => Ok(()),
+        Err(fault) => Err(fault),
+    }
+}
+
+/// Restores the register of the shelf, supersedes an old entry of it by newer ones as the replica, with the note, keeps the
+/// register, and then writes the new ids to the sink, each with a newline.
+pub fn run_supersede_on<D: Disk, K: Sink>(
+    alloc: Global,
+    disk: &mut D,
+    replica: Uuid,
+    old: OpId,
+    newer: &[OpId],
+    note: &str,
+    sink: &mut K,
+) -> Result<(), CliFault>
+    ensures changed { OnOk result (IsChanged (on_shelf (disks D.tells D.seen D.images D.moment D.images_since D.failures) disk.old disk.new)
+        (Makes replica note.now (supersessions old newer.now)) (K.state sink.old) (K.state sink.new)) }
+    ensures fault { IfErr result (IsUnchanged (on_shelf (disks D.tells D.seen D.images D.moment D.images_since D.failures) disk.old disk.new)
+        (Makes replica note.now (supersessions old newer.now)) (CannotMake replica note.now (supersessions old newer.now)) (Unit {0}) (K.state sink.old) (K.state sink.new)) }
+    ensures tells { D.tells disk.new ≡ D.tells disk.old }
+{
+    let mut command = Supersede {
+        replica,
+        old,
+        newer,
+        note,
     };
-    match give_out(alloc, office.register(), &[id], place, sink) {
+    match change(alloc, &mut OnShelf { disk }, &mut command, sink) {
+        Ok(()) => Ok(()),
+        Err(fault) => Err(fault),
+    }
+}
+
+/// Restores the register of the shelf, and then reads a text, which is file 1; enters the text's value as the replica, with
+/// the note; keeps the register, and then writes the new id to the sink, with a newline.
+pub fn run_enter_on<D: Disk, X: Source, K: Sink>(
+    alloc: Global,
+    disk: &mut D,
+    replica: Uuid,
+    text: &mut X,
+    note: &str,
+    sink: &mut K,
+) -> Result<(), CliFault>
+    ensures entered { OnOk result (IsChanged (on_shelf (disks D.tells D.seen D.images D.moment D.images_since D.failures) disk.old disk.new)
+        (Enters replica note.now (X.state text.old) (X.state text.new)) (K.state sink.old) (K.state sink.new)) }
+    ensures fault { IfErr result (IsUnchanged (on_shelf (disks D.tells D.seen D.images D.moment D.images_since D.failures) disk.old disk.new)
+        (Enters replica note.now (X.state text.old) (X.state text.new)) (CannotEnter replica note.now 1 (X.state text.old) (X.state text.new))
+        (X.state text.new ≡ X.state text.old) (K.state sink.old) (K.state sink.new)) }
+    ensures tells { D.tells disk.new ≡ D.tells disk.old }
+{
+    let mut command = Enter {
+        replica,
+        text,
+        note,
+    };
+    match change(alloc, &mut OnShelf { disk }, &mut command, sink) {
         Ok(()) => Ok(()),
         Err(fault) => Err(fault),
     }

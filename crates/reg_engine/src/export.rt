@@ -1,17 +1,39 @@
 //! The command `export`.
 
 ghost use Rattle.std.specs.Prelude.{◌≡◌, ◌++◌, IfOk, OnOk, IfErr};
-ghost use Rattle.reg_engine.specs.Devices.{devices};
-ghost use Rattle.reg_engine.specs.Export.{op_line, IsExported, IsExportFault};
+ghost use Rattle.reg_engine.specs.Store.{of_file, IsPrinted, IsUnprinted};
+ghost use Rattle.reg_engine.specs.Report.{Never};
+ghost use Rattle.reg_engine.specs.Export.{op_line, IsExport};
 ghost use Rattle.reg_office.specs.Exports.{export, is_retired};
 ghost use Rattle.reg_op.specs.Status.{status};
 
-use crate::fault::{CliFault, OutFault};
-use crate::inputs::read_file;
-use byte_io::{Sink, Source, write_all};
+use crate::drivers::{Print, print};
+use crate::fault::CliFault;
+use crate::store::OfFile;
+use byte_io::{Sink, Source};
 use reg_op::{Op, OpBody, Status};
 use reg_state::Register;
 use std::alloc::{AllocError, Global};
+
+/// Prints the canonical text of each entry that is not retired, by id, each with a newline.
+#[derive(Drop)]
+pub struct Export;
+
+impl Print for Export {
+    ghost use Rattle.reg_engine.specs.Export.{IsExport};
+    ghost use Rattle.reg_engine.specs.Report.{Never};
+
+    ghost prints = { λ c. λ x. λ text. IsExport x text };
+
+    ghost refuses = { λ c. λ x. λ f. Never x f };
+
+    fn text(&self, alloc: Global, register: &Register) -> Result<Vec<u8>, CliFault> {
+        match lines_of(alloc, register) {
+            Ok(lines) => Ok(lines),
+            Err(_) => Err(CliFault::Memory),
+        }
+    }
+}
 
 /// Reads the register of the source, which is file 1, and writes the canonical text of each entry that is not retired,
 /// by id, each with a newline.
@@ -20,28 +42,17 @@ pub fn run_export<S: Source, K: Sink>(
     source: &mut S,
     sink: &mut K,
 ) -> Result<(), CliFault>
-    ensures exported { OnOk result (IsExported
-        (devices (S.state source.old) (K.state sink.old))
-        (devices (S.state source.new) (K.state sink.new))) }
-    ensures fault { IfErr result (IsExportFault
-        (devices (S.state source.old) (K.state sink.old))
-        (devices (S.state source.new) (K.state sink.new))) }
+    ensures exported { OnOk result (IsPrinted (of_file (S.state source.old) (S.state source.new)) IsExport (K.state sink.old) (K.state sink.new)) }
+    ensures fault { IfErr result (IsUnprinted (of_file (S.state source.old) (S.state source.new)) IsExport Never (K.state sink.old) (K.state sink.new)) }
 {
-    let register = match read_file(alloc, 1, source) {
-        Ok(register) => register,
-        Err(fault) => return Err(fault),
-    };
-    let Ok(lines) = lines_of(alloc, &register) else {
-        return Err(CliFault::Memory);
-    };
-    match write_all(sink, &lines) {
+    match print(alloc, &mut OfFile { source }, &Export, sink) {
         Ok(()) => Ok(()),
-        Err(fault) => Err(CliFault::Out(OutFault::WriteFailed(fault.written))),
+        Err(fault) => Err(fault),
     }
 }
 
 /// The lines of all entries that are not retired.
-pub(crate) fn lines_of(alloc: Global, register: &Register) -> Result<Vec<u8>, AllocError>
+fn lines_of(alloc: Global, register: &Register) -> Result<Vec<u8>, AllocError>
     ensures { IfOk result (λ lines. lines.items ≡ export register.now.ops) }
 {
     let ops = register.ops().as_slice();

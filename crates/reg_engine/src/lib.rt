@@ -3,12 +3,9 @@
 
 mod causes;
 mod change;
-mod change_on;
 mod check;
-mod downgrade;
 mod drivers;
 mod exchange;
-mod exchange_on;
 mod export;
 mod fault;
 mod inputs;
@@ -17,30 +14,26 @@ mod merge;
 mod merge_on;
 mod outputs;
 mod reports;
-mod reports_on;
 mod shelf_steps;
 mod shelves;
 mod store;
-mod texts_on;
 mod wkt;
 
-pub use change::{run_enter, run_retire, run_supersede};
-pub use change_on::{run_enter_on, run_retire_on, run_supersede_on};
+pub use change::{
+    Enter, Retire, Supersede, run_enter, run_enter_on, run_retire, run_retire_on, run_supersede,
+    run_supersede_on,
+};
 pub use check::run_check;
-pub use downgrade::{run_downgrade, run_downgrade_on};
 pub use drivers::{Change, Give, Made, Print, change, give, print};
-pub use exchange::{run_piece, run_seen};
-pub use exchange_on::{run_piece_on, run_seen_on};
-pub use export::run_export;
+pub use exchange::{FirstVersion, PieceFor, Summary, Whole, run_piece, run_seen, run_unshelf};
+pub use export::{Export, run_export};
 pub use fault::{CliFault, InputFault, OutFault, Refusal, ShelfProblem};
 pub use inputs::{Parts, parts_of, read_file, read_parts, read_parts_after};
 pub use merge::{join_pieces, join_registers, run_merge, run_new};
 pub use merge_on::run_merge_on;
-pub use outputs::{give_out, id_lines, publish_register};
-pub use reports::{run_ops, run_report, run_show};
-pub use reports_on::{run_ops_on, run_report_on, run_show_on};
-pub use shelf_steps::{keep_and_tell, keep_on, restore_from};
-pub use shelves::{run_shelf, run_unshelf};
+pub use outputs::{id_lines, publish_register};
+pub use reports::{Ops, Report, Show, run_ops, run_report, run_show};
+pub use shelf_steps::{keep_on, restore_from};
+pub use shelves::run_shelf;
 pub use store::{InFile, Keep, OfFile, OnShelf, Store};
-pub use texts_on::{run_export_on, run_wkt_on};
-pub use wkt::{Form, run_wkt};
+pub use wkt::{Form, Wkt, run_wkt};

@@ -1,16 +1,84 @@
-//! Reports on a register's file.
+//! Reports: of all entries, of what is open, of operations, of one entry.
 
-ghost use Rattle.std.specs.Prelude.{◌≡◌, OnOk, IfErr};
+ghost use Rattle.std.specs.Prelude.{OnOk, IfErr};
 ghost use Rattle.reg_office.specs.Reports.{IsReport, IsOpsReport};
-ghost use Rattle.reg_engine.specs.Devices.{devices};
-ghost use Rattle.reg_engine.specs.Report.{IsReported, IsUnreported, IsRowReported, IsRowUnreported};
+ghost use Rattle.reg_engine.specs.Store.{of_file, IsPrinted, IsUnprinted};
+ghost use Rattle.reg_engine.specs.Report.{IsRowOf, Never, Lacks};
 
-use crate::fault::{CliFault, OutFault, Refusal};
-use crate::inputs::read_file;
+use crate::drivers::{Print, print};
+use crate::fault::{CliFault, Refusal};
+use crate::store::OfFile;
 use byte_io::{Sink, Source};
-use reg_office::{OfficeFault, ReportFault, ReportKind, report, report_entry, report_ops};
+use reg_office::{OfficeFault, ReportKind, entry_text, ops_text, report_text};
 use reg_op::OpId;
+use reg_state::Register;
 use std::alloc::Global;
+
+/// Prints a report of the register.
+#[derive(Drop)]
+pub struct Report {
+    pub kind: ReportKind,
+}
+
+impl Print for Report {
+    ghost use Rattle.reg_office.specs.Reports.{IsReport};
+    ghost use Rattle.reg_engine.specs.Report.{Never};
+
+    ghost prints = { λ c. λ x. λ text. IsReport c.kind x text };
+
+    ghost refuses = { λ c. λ x. λ f. Never x f };
+
+    fn text(&self, alloc: Global, register: &Register) -> Result<Vec<u8>, CliFault> {
+        match report_text(alloc, register, self.kind) {
+            Ok(text) => Ok(text),
+            Err(_) => Err(CliFault::Memory),
+        }
+    }
+}
+
+/// Prints a line for each operation that the register keeps.
+#[derive(Drop)]
+pub struct Ops;
+
+impl Print for Ops {
+    ghost use Rattle.reg_office.specs.Reports.{IsOpsReport};
+    ghost use Rattle.reg_engine.specs.Report.{Never};
+
+    ghost prints = { λ c. λ x. λ text. IsOpsReport x text };
+
+    ghost refuses = { λ c. λ x. λ f. Never x f };
+
+    fn text(&self, alloc: Global, register: &Register) -> Result<Vec<u8>, CliFault> {
+        match ops_text(alloc, register.ops().as_slice()) {
+            Ok(text) => Ok(text),
+            Err(_) => Err(CliFault::Memory),
+        }
+    }
+}
+
+/// Prints the line of one entry as the report of entries has it, after that report's header.
+#[derive(Drop)]
+pub struct Show {
+    pub entry: OpId,
+}
+
+impl Print for Show {
+    ghost use Rattle.reg_engine.specs.Report.{IsRowOf, Lacks};
+
+    ghost prints = { λ c. λ x. λ text. IsRowOf c.entry x text };
+
+    ghost refuses = { λ c. λ x. λ f. Lacks c.entry x f };
+
+    fn text(&self, alloc: Global, register: &Register) -> Result<Vec<u8>, CliFault> {
+        let Some(_) = register.definition(self.entry) else {
+            return Err(CliFault::Refused(Refusal::Office(OfficeFault::UnknownEntry(self.entry))));
+        };
+        match entry_text(alloc, register, self.entry) {
+            Ok(text) => Ok(text),
+            Err(_) => Err(CliFault::Memory),
+        }
+    }
+}
 
 /// Reads the register of the source, which is file 1, and writes a report of it.
 pub fn run_report<S: Source, K: Sink>(
@@ -19,21 +87,12 @@ pub fn run_report<S: Source, K: Sink>(
     kind: ReportKind,
     sink: &mut K,
 ) -> Result<(), CliFault>
-    ensures reported { OnOk result (IsReported (IsReport kind)
-        (devices (S.state source.old) (K.state sink.old))
-        (devices (S.state source.new) (K.state sink.new))) }
-    ensures fault { IfErr result (IsUnreported (IsReport kind)
-        (devices (S.state source.old) (K.state sink.old))
-        (devices (S.state source.new) (K.state sink.new))) }
+    ensures reported { OnOk result (IsPrinted (of_file (S.state source.old) (S.state source.new)) (IsReport kind) (K.state sink.old) (K.state sink.new)) }
+    ensures fault { IfErr result (IsUnprinted (of_file (S.state source.old) (S.state source.new)) (IsReport kind) Never (K.state sink.old) (K.state sink.new)) }
 {
-    let register = match read_file(alloc, 1, source) {
-        Ok(register) => register,
-        Err(fault) => return Err(fault),
-    };
-    match report(alloc, &register, kind, sink) {
+    match print(alloc, &mut OfFile { source }, &Report { kind }, sink) {
         Ok(()) => Ok(()),
-        Err(ReportFault::WriteFailed(n)) => Err(CliFault::Out(OutFault::WriteFailed(n))),
-        Err(ReportFault::Memory) => Err(CliFault::Memory),
+        Err(fault) => Err(fault),
     }
 }
 
@@ -43,21 +102,12 @@ pub fn run_ops<S: Source, K: Sink>(
     source: &mut S,
     sink: &mut K,
 ) -> Result<(), CliFault>
-    ensures reported { OnOk result (IsReported IsOpsReport
-        (devices (S.state source.old) (K.state sink.old))
-        (devices (S.state source.new) (K.state sink.new))) }
-    ensures fault { IfErr result (IsUnreported IsOpsReport
-        (devices (S.state source.old) (K.state sink.old))
-        (devices (S.state source.new) (K.state sink.new))) }
+    ensures reported { OnOk result (IsPrinted (of_file (S.state source.old) (S.state source.new)) IsOpsReport (K.state sink.old) (K.state sink.new)) }
+    ensures fault { IfErr result (IsUnprinted (of_file (S.state source.old) (S.state source.new)) IsOpsReport Never (K.state sink.old) (K.state sink.new)) }
 {
-    let register = match read_file(alloc, 1, source) {
-        Ok(register) => register,
-        Err(fault) => return Err(fault),
-    };
-    match report_ops(alloc, &register, sink) {
+    match print(alloc, &mut OfFile { source }, &Ops, sink) {
         Ok(()) => Ok(()),
-        Err(ReportFault::WriteFailed(n)) => Err(CliFault::Out(OutFault::WriteFailed(n))),
-        Err(ReportFault::Memory) => Err(CliFault::Memory),
+        Err(fault) => Err(fault),
     }
 }
 
@@ -68,23 +118,11 @@ pub fn run_show<S: Source, K: Sink>(
     entry: OpId,
     sink: &mut K,
 ) -> Result<(), CliFault>
-    ensures reported { OnOk result (IsRowReported entry
-        (devices (S.state source.old) (K.state sink.old))
-        (devices (S.state source.new) (K.state sink.new))) }
-    ensures fault { IfErr result (IsRowUnreported entry
-        (devices (S.state source.old) (K.state sink.old))
-        (devices (S.state source.new) (K.state sink.new))) }
+    ensures reported { OnOk result (IsPrinted (of_file (S.state source.old) (S.state source.new)) (IsRowOf entry) (K.state sink.old) (K.state sink.new)) }
+    ensures fault { IfErr result (IsUnprinted (of_file (S.state source.old) (S.state source.new)) (IsRowOf entry) (Lacks entry) (K.state sink.old) (K.state sink.new)) }
 {
-    let register = match read_file(alloc, 1, source) {
-        Ok(register) => register,
-        Err(fault) => return Err(fault),
-    };
-    let Some(_) = register.definition(entry) else {
-        return Err(CliFault::Refused(Refusal::Office(OfficeFault::UnknownEntry(entry))));
-    };
-    match report_entry(alloc, &register, entry, sink) {
+    match print(alloc, &mut OfFile { source }, &Show { entry }, sink) {
         Ok(()) => Ok(()),
-        Err(ReportFault::WriteFailed(n)) => Err(CliFault::Out(OutFault::WriteFailed(n))),
-        Err(ReportFault::Memory) => Err(CliFault::Memory),
+        Err(fault) => Err(fault),
     }
 }

@@ -1,14 +1,11 @@
-//! The commands `shelf` and `unshelf`.
+//! The command `shelf`.
 
 ghost use Rattle.std.specs.Prelude.{◌≡◌, ◌↔◌, Err, OnOk, IfErr};
 ghost use Rattle.byte_shelf.specs.Shelf.{IsSize};
-ghost use Rattle.reg_engine.specs.Shelf.{disks, IsNewShelf, IsUnformatted, IsUnshelved, IsUnshelfFault};
+ghost use Rattle.reg_engine.specs.Shelf.{disks, IsNewShelf, IsUnformatted};
 
 use crate::fault::{CliFault, Refusal, ShelfProblem};
-use crate::outputs::publish_register;
-use crate::shelf_steps::restore_from;
-use byte_disk::{Disk, NewDisk};
-use byte_out::Place;
+use byte_disk::NewDisk;
 use reg_shelf::{format, is_size};
 use std::alloc::Global;
 
@@ -28,27 +25,5 @@ pub fn run_shelf<D: NewDisk>(alloc: Global, disk: &mut D, size: u32) -> Result<(
     match format(alloc, disk, size) {
         Ok(()) => Ok(()),
         Err(fault) => Err(CliFault::of_shelf(fault)),
-    }
-}
-
-/// Writes the file of the register that stands on the shelf.
-pub fn run_unshelf<D: Disk, P: Place>(
-    alloc: Global,
-    disk: &mut D,
-    place: &mut P,
-) -> Result<(), CliFault>
-    ensures written { OnOk result (IsUnshelved (disks D.tells D.seen D.images D.moment D.images_since D.failures) disk.old disk.new
-        (P.state place.old) (P.state place.new)) }
-    ensures fault { IfErr result (IsUnshelfFault (disks D.tells D.seen D.images D.moment D.images_since D.failures) disk.old disk.new
-        (P.state place.old) (P.state place.new)) }
-    ensures tells { D.tells disk.new ≡ D.tells disk.old }
-{
-    let register = match restore_from(alloc, disk) {
-        Ok(register) => register,
-        Err(fault) => return Err(fault),
-    };
-    match publish_register(alloc, &register, place) {
-        Ok(()) => Ok(()),
-        Err(fault) => Err(fault),
     }
 }

@@ -1,14 +1,17 @@
 //! The command `wkt`.
 
 ghost use Rattle.std.specs.Prelude.{IfOk, OnOk, IfErr};
-ghost use Rattle.reg_engine.specs.Devices.{devices};
-ghost use Rattle.reg_engine.specs.Export.{IsDefinitionText, IsDefinitionLine, IsShown, IsShowFault};
+ghost use Rattle.reg_engine.specs.Store.{of_file, IsPrinted, IsUnprinted};
+ghost use Rattle.reg_engine.specs.Report.{Lacks};
+ghost use Rattle.reg_engine.specs.Export.{IsDefinitionText, IsDefinitionLine, IsLineOf};
 
-use crate::fault::{CliFault, OutFault, Refusal};
-use crate::inputs::read_file;
-use byte_io::{Sink, Source, write_all};
+use crate::drivers::{Print, print};
+use crate::fault::{CliFault, Refusal};
+use crate::store::OfFile;
+use byte_io::{Sink, Source};
 use reg_office::OfficeFault;
 use reg_op::OpId;
+use reg_state::Register;
 use std::alloc::{AllocError, Global};
 use wkt_crs::{Definition, write_pretty};
 
@@ -19,6 +22,32 @@ pub enum Form {
     Indented,
 }
 
+/// Prints the text of the entry and a newline.
+#[derive(Drop)]
+pub struct Wkt {
+    pub entry: OpId,
+    pub form: Form,
+}
+
+impl Print for Wkt {
+    ghost use Rattle.reg_engine.specs.Report.{Lacks};
+    ghost use Rattle.reg_engine.specs.Export.{IsLineOf};
+
+    ghost prints = { λ c. λ x. λ text. IsLineOf c.form x c.entry text };
+
+    ghost refuses = { λ c. λ x. λ f. Lacks c.entry x f };
+
+    fn text(&self, alloc: Global, register: &Register) -> Result<Vec<u8>, CliFault> {
+        let Some(definition) = register.definition(self.entry) else {
+            return Err(CliFault::Refused(Refusal::Office(OfficeFault::UnknownEntry(self.entry))));
+        };
+        match line_in(alloc, self.form, definition) {
+            Ok(line) => Ok(line),
+            Err(_) => Err(CliFault::Memory),
+        }
+    }
+}
+
 /// Reads the register of the source, which is file 1, and writes the text of the entry and a newline.
 pub fn run_wkt<S: Source, K: Sink>(
     alloc: Global,
@@ -27,35 +56,17 @@ pub fn run_wkt<S: Source, K: Sink>(
     form: Form,
     sink: &mut K,
 ) -> Result<(), CliFault>
-    ensures shown { OnOk result (IsShown form entry
-        (devices (S.state source.old) (K.state sink.old))
-        (devices (S.state source.new) (K.state sink.new))) }
-    ensures fault { IfErr result (IsShowFault form entry
-        (devices (S.state source.old) (K.state sink.old))
-        (devices (S.state source.new) (K.state sink.new))) }
+    ensures shown { OnOk result (IsPrinted (of_file (S.state source.old) (S.state source.new)) (λ x. IsLineOf form x entry) (K.state sink.old) (K.state sink.new)) }
+    ensures fault { IfErr result (IsUnprinted (of_file (S.state source.old) (S.state source.new)) (λ x. IsLineOf form x entry) (Lacks entry) (K.state sink.old) (K.state sink.new)) }
 {
-    let register = match read_file(alloc, 1, source) {
-        Ok(register) => register,
-        Err(fault) => return Err(fault),
-    };
-    let Some(definition) = register.definition(entry) else {
-        return Err(CliFault::Refused(Refusal::Office(OfficeFault::UnknownEntry(entry))));
-    };
-    let Ok(line) = line_in(alloc, form, definition) else {
-        return Err(CliFault::Memory);
-    };
-    match write_all(sink, &line) {
+    match print(alloc, &mut OfFile { source }, &Wkt { entry, form }, sink) {
         Ok(()) => Ok(()),
-        Err(fault) => Err(CliFault::Out(OutFault::WriteFailed(fault.written))),
+        Err(fault) => Err(fault),
     }
 }
 
 /// The text of the definition in this form, and a newline.
-pub(crate) fn line_in(
-    alloc: Global,
-    form: Form,
-    definition: &Definition,
-) -> Result<Vec<u8>, AllocError>
+fn line_in(alloc: Global, form: Form, definition: &Definition) -> Result<Vec<u8>, AllocError>
     ensures { IfOk result (λ line. IsDefinitionLine form definition.now line.items) }
 {
     let mut line = text_in(alloc, form, definition)?;
