@@ -5,7 +5,7 @@ use byte_io::{Reading, Writing};
 use clap::ArgMatches;
 use reg_desk::{Opened, run_diff, run_find, run_find_ids, run_offices, run_status};
 use reg_engine::CliFault;
-use reg_view::{Query, Wanted};
+use reg_query::{Query, Wanted};
 use std::alloc::{AllocError, Global};
 use std::rt::Files;
 use std::{fs, io};
