@@ -37,3 +37,16 @@ pub use shelf_steps::{keep_on, restore_from};
 pub use shelves::run_shelf;
 pub use store::{InFile, Keep, OfFile, OnShelf, Store};
 pub use wkt::{Form, Wkt, run_wkt};
+
+// The crates that its contracts speak of, whole, so that tests name this one alone.
+pub use byte_disk as disks;
+pub use byte_io as streams;
+pub use byte_out as places;
+pub use byte_shelf as slots;
+pub use reg_file as files;
+pub use reg_office as offices;
+pub use reg_op as operations;
+pub use reg_shelf as shelf;
+pub use reg_state as registers;
+pub use uuid as uuids;
+pub use wkt_crs as texts;
