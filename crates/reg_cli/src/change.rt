@@ -1,8 +1,7 @@
 //! Commands that change a register in a file.
 use crate::words::{entries, entry, open, place, replica, word};
-use byte_io::Writing;
 use clap::ArgMatches;
-use reg_engine::{CliFault, run_enter, run_retire, run_supersede};
+use reg_desk::{CliFault, Writing, run_enter, run_retire, run_supersede};
 use std::io;
 
 /// `enter`. The replica and the entries are read from the words, and then the files are opened.

@@ -10,7 +10,7 @@ use crate::show::{check, export, ops, report, show, wkt};
 use clap::ArgMatches;
 use clap::error::ErrorKind;
 use cli_words::command_line;
-use reg_engine::CliFault;
+use reg_desk::CliFault;
 use std::env::{self, VarError};
 use std::io;
 

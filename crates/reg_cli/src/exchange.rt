@@ -1,9 +1,8 @@
 //! Commands that make registers, and by which offices exchange what they have.
 use crate::words::{open, open_all, open_to_read, place, word};
-use byte_disk::NewFile;
 use clap::ArgMatches;
-use reg_engine::{
-    CliFault, Refusal, run_downgrade, run_merge, run_new, run_piece, run_seen, run_shelf,
+use reg_desk::{
+    CliFault, NewFile, Refusal, run_downgrade, run_merge, run_new, run_piece, run_seen, run_shelf,
     run_unshelf,
 };
 

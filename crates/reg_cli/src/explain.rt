@@ -1,12 +1,11 @@
 //! Commands that say more of why a text is refused.
 use crate::outcome::Outcome;
 use crate::words::{open, open_shelf, place, replica, word};
-use byte_io::{Reading, Writing};
 use clap::ArgMatches;
-use reg_desk::{explained_fault, run_check_explained};
-use reg_engine::{run_enter, run_enter_on};
+use reg_desk::{
+    Kept, Reading, Writing, explained_fault, run_check_explained, run_enter, run_enter_on,
+};
 use std::io;
-use wkt_explain::Kept;
 
 /// What standard input is called.
 const STANDARD_INPUT: &str = "-";

@@ -15,7 +15,7 @@ mod show;
 mod words;
 
 pub use command::{answer, run};
-pub use reg_engine::{
+pub use reg_desk::{
     CliFault, Form, InputFault, OutFault, Refusal, ShelfProblem, run_check, run_downgrade,
     run_downgrade_on, run_enter, run_enter_on, run_export, run_export_on, run_merge, run_merge_on,
     run_new, run_ops, run_ops_on, run_piece, run_piece_on, run_report, run_report_on, run_retire,

@@ -1,11 +1,11 @@
 //! Commands that find entries, and that say how registers in files stand and differ.
 use crate::outcome::Outcome;
 use crate::words::{open, open_all, word};
-use byte_io::{Reading, Writing};
 use clap::ArgMatches;
-use reg_desk::{Opened, run_diff, run_find, run_find_ids, run_offices, run_status};
-use reg_engine::CliFault;
-use reg_view::{Query, Wanted};
+use reg_desk::{
+    CliFault, Opened, Query, Reading, Wanted, Writing, run_diff, run_find, run_find_ids,
+    run_offices, run_status,
+};
 use std::alloc::{AllocError, Global};
 use std::rt::Files;
 use std::{fs, io};

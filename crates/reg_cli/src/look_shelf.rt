@@ -2,11 +2,11 @@
 use crate::look::{names_of, query, told};
 use crate::outcome::Outcome;
 use crate::words::{open_all, open_to_read, word};
-use byte_disk::FileDisk;
-use byte_io::Writing;
 use clap::ArgMatches;
-use reg_desk::{Opened, run_diff_on, run_find_ids_on, run_find_on, run_offices_on, run_status_on};
-use reg_engine::CliFault;
+use reg_desk::{
+    CliFault, FileDisk, Opened, Writing, run_diff_on, run_find_ids_on, run_find_on, run_offices_on,
+    run_status_on,
+};
 use std::alloc::{AllocError, Global};
 use std::io;
 use std::rt::Files;

@@ -1,12 +1,11 @@
 //! Commands that change a register by many texts, or by the keys of entries.
 use crate::outcome::Outcome;
 use crate::words::{entries, open, open_shelf, place, replica, word};
-use byte_io::{Reading, Writing};
 use clap::ArgMatches;
-use reg_desk::{run_settle, run_settle_equal, run_settle_equal_on, run_settle_on};
-use reg_engine::CliFault;
-use reg_import::Differs;
-use reg_load::{Order, run_import, run_import_on, try_import, try_import_on};
+use reg_desk::{
+    CliFault, Differs, Order, Reading, Writing, run_import, run_import_on, run_settle,
+    run_settle_equal, run_settle_equal_on, run_settle_on, try_import, try_import_on,
+};
 use std::alloc::{AllocError, Global};
 use std::io;
 use std::rt::Files;

@@ -1,8 +1,5 @@
 //! How a command ended: what is told of it, and the exit status.
-use byte_io::{Writing, write_all};
-use reg_desk::Explained;
-use reg_engine::{CliFault, OutFault};
-use reg_load::Unimported;
+use reg_desk::{CliFault, Explained, OutFault, Unimported, Writing, write_all};
 use std::{fmt, io, str};
 
 /// The exit status where the command line is wrong.

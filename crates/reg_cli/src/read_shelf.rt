@@ -2,10 +2,9 @@
 use crate::look_shelf::look_on;
 use crate::outcome::Outcome;
 use crate::words::{entry, form, kind, open, open_to_read, place, word};
-use byte_io::Writing;
 use clap::ArgMatches;
-use reg_engine::{
-    CliFault, run_downgrade_on, run_export_on, run_ops_on, run_piece_on, run_report_on,
+use reg_desk::{
+    CliFault, Writing, run_downgrade_on, run_export_on, run_ops_on, run_piece_on, run_report_on,
     run_seen_on, run_show_on, run_wkt_on,
 };
 use std::io;

@@ -4,9 +4,8 @@ use crate::many::{import_on, settle_on};
 use crate::outcome::Outcome;
 use crate::read_shelf::show_on;
 use crate::words::{entries, entry, open, open_all, open_shelf, replica, word};
-use byte_io::Writing;
 use clap::ArgMatches;
-use reg_engine::{CliFault, run_enter_on, run_merge_on, run_retire_on, run_supersede_on};
+use reg_desk::{CliFault, Writing, run_enter_on, run_merge_on, run_retire_on, run_supersede_on};
 use std::io;
 
 /// What the command did on a shelf, which is opened before the files.

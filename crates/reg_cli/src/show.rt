@@ -1,8 +1,9 @@
 //! Commands that show something of a text, or of a register in a file.
 use crate::words::{entry, form, kind, open, word};
-use byte_io::{Reading, Writing};
 use clap::ArgMatches;
-use reg_engine::{CliFault, run_check, run_export, run_ops, run_report, run_show, run_wkt};
+use reg_desk::{
+    CliFault, Reading, Writing, run_check, run_export, run_ops, run_report, run_show, run_wkt,
+};
 use std::io;
 
 /// `check`.

@@ -1,11 +1,9 @@
 //! What the words of a command name: replicas, entries, files.
-use byte_disk::FileDisk;
-use byte_io::Reading;
-use byte_out::FilePlace;
 use clap::ArgMatches;
-use reg_engine::{CliFault, Form, InputFault, Refusal, ShelfProblem};
-use reg_office::ReportKind;
-use reg_op::OpId;
+use reg_desk::{
+    CliFault, FileDisk, FilePlace, Form, InputFault, OpId, Reading, Refusal, ReportKind,
+    ShelfProblem,
+};
 use std::alloc::Global;
 use std::fs::{self, OpenOptions};
 use std::rt::Files;

@@ -4,7 +4,7 @@ use Rattle.reg_file.specs.Files.{Finds}
 use Rattle.reg_join.specs.Joining.{all_joined}
 use Rattle.reg_op.specs.Contents.{Content, nothing, joined}
 use Rattle.reg_op.specs.Pieces.{Piece}
-use Rattle.reg_diff.specs.Lines.{IsDiff}
+use Rattle.reg_query.specs.DiffLines.{IsDiff}
 use Rattle.reg_engine.specs.declared.fault.CliFault.{CliFault}
 use Rattle.reg_engine.specs.declared.fault.CliFault.TheVariants as cli
 use Rattle.reg_engine.specs.Inputs.{IsUnread, NoneFails, GivePartsAfter, registers}

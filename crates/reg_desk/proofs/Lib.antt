@@ -5,3 +5,6 @@ pub mod FindLemmas
 pub mod LookLemmas
 pub mod StatusLemmas
 mod SettleLemmas
+pub mod ImportFileLemmas
+pub mod ImportTextLemmas
+pub mod ImportEngineLemmas

@@ -6,7 +6,7 @@ use Rattle.reg_file.specs.Files.{Finds}
 use Rattle.reg_file.specs.declared.parts.Part.{Part}
 use Rattle.reg_file.specs.declared.parts.Part.TheVariants as part
 use Rattle.reg_office.specs.Reports.{Reports}
-use Rattle.reg_diff.specs.Lines.{IsDiff, Differ}
+use Rattle.reg_query.specs.DiffLines.{IsDiff, Differ}
 use Rattle.reg_engine.specs.declared.fault.InputFault.{InputFault}
 use Rattle.reg_engine.specs.declared.fault.CliFault.{CliFault}
 use Rattle.reg_engine.specs.declared.fault.CliFault.TheVariants as cli

@@ -10,8 +10,8 @@ use Rattle.reg_engine.specs.declared.fault.CliFault.TheVariants as cli
 use Rattle.reg_engine.specs.Devices.{Devices}
 use Rattle.reg_engine.specs.Outputs.{id_lines}
 use Rattle.reg_engine.specs.Report.{IsUnreported}
-use Rattle.reg_view.specs.declared.query.Query.{Query}
-use Rattle.reg_view.specs.Found.{AreFoundIds}
+use Rattle.reg_query.specs.declared.find.query.Query.{Query}
+use Rattle.reg_query.specs.Found.{AreFoundIds}
 
 -- the ids of the entries that have all that is asked, of which there are some, a line each
 abbrev pub AreFoundLines : Query → Content → List ℕ → Type 0

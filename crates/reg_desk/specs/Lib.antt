@@ -4,3 +4,8 @@ pub mod Look
 pub mod Status
 pub mod Explained
 pub mod Settle
+pub mod ImportFiles
+pub mod ImportTexts
+pub mod ImportNotes
+pub mod Import
+pub mod ImportEngines

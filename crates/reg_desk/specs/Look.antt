@@ -11,7 +11,7 @@ use Rattle.reg_engine.specs.declared.fault.CliFault.TheVariants as cli
 use Rattle.reg_engine.specs.Inputs.{IsFileFault}
 use Rattle.reg_engine.specs.Shelf.{Disks, StaysOn, IsUnrestored}
 use Rattle.reg_shelf.specs.Shelf.{IsShelf}
-use Rattle.reg_status.specs.Figures.{AreFigures}
+use Rattle.reg_query.specs.Figures.{AreFigures}
 use Rattle.reg_desk.specs.declared.look.Look.{Look}
 use Rattle.reg_desk.specs.declared.look.Look.TheVariants as look
 use Rattle.reg_desk.specs.declared.look.Opened.{Opened}

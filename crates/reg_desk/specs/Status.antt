@@ -12,9 +12,9 @@ use Rattle.reg_engine.specs.declared.fault.Refusal.TheVariants as refusal
 use Rattle.reg_engine.specs.declared.fault.OutFault.TheVariants as out
 use Rattle.reg_engine.specs.declared.fault.CliFault.{CliFault}
 use Rattle.reg_engine.specs.declared.fault.CliFault.TheVariants as cli
-use Rattle.reg_status.specs.declared.figures.Figures.{Figures}
-use Rattle.reg_status.specs.declared.office.OfficeFigures.{OfficeFigures}
-use Rattle.reg_status.specs.Offices.{offices_header, office_fields, AreOffices}
+use Rattle.reg_query.specs.declared.figures.register.Figures.{Figures}
+use Rattle.reg_query.specs.declared.figures.office.OfficeFigures.{OfficeFigures}
+use Rattle.reg_query.specs.Offices.{offices_header, office_fields, AreOffices}
 use Rattle.reg_desk.specs.declared.look.Look.{Look}
 use Rattle.reg_desk.specs.declared.look.Look.TheVariants as look
 

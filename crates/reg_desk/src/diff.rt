@@ -4,16 +4,16 @@ ghost use Rattle.std.specs.Prelude.{◌≡◌, ◌↔◌, ◌+◌, ◌^◌, ◌<
 ghost use Rattle.reg_join.specs.Joining.{all_joined};
 ghost use Rattle.reg_op.specs.Contents.{nothing, joined};
 ghost use Rattle.reg_office.specs.Reports.{Reports};
-ghost use Rattle.reg_diff.specs.Lines.{IsDiff, Differ};
+ghost use Rattle.reg_query.specs.DiffLines.{IsDiff, Differ};
 ghost use Rattle.reg_engine.specs.Inputs.{GivePartsAfter};
 ghost use Rattle.reg_engine.specs.Merge.{begun, with_pieces, IsUnjoined};
 ghost use Rattle.reg_desk.specs.Diff.{diff_desk, IsCompared, IsDiffFault, IsFew, one_later, AreUnreadLater, IsUntold};
 
 use byte_io::{Sink, Source, write_all};
-use reg_diff::compare;
 use reg_engine::{
     CliFault, OutFault, Parts, join_pieces, join_registers, parts_of, read_file, read_parts_after,
 };
+use reg_query::compare;
 use reg_state::{Piece, Register};
 use std::alloc::Global;
 

@@ -1,14 +1,14 @@
 //! The command `find`.
 
 ghost use Rattle.std.specs.Prelude.{◌≡◌, OnOk, IfErr};
-ghost use Rattle.reg_view.specs.Found.{IsFoundText};
+ghost use Rattle.reg_query.specs.Found.{IsFoundText};
 ghost use Rattle.reg_engine.specs.Devices.{devices};
 ghost use Rattle.reg_engine.specs.Report.{IsReported, IsUnreported};
 ghost use Rattle.reg_desk.specs.Find.{AreFoundLines, AreIdsUnfound};
 
 use byte_io::{Sink, Source, write_all};
 use reg_engine::{CliFault, OutFault, Refusal, id_lines, read_file};
-use reg_view::{Query, found_ids, found_text};
+use reg_query::{Query, found_ids, found_text};
 use std::alloc::Global;
 
 /// Reads the register of the source, which is file 1, and writes the rows of the report of entries that have all that is

@@ -1,7 +1,7 @@
 //! The command `find` on the register of a shelf.
 
 ghost use Rattle.std.specs.Prelude.{◌≡◌, OnOk, IfErr};
-ghost use Rattle.reg_view.specs.Found.{IsFoundText};
+ghost use Rattle.reg_query.specs.Found.{IsFoundText};
 ghost use Rattle.reg_engine.specs.Shelf.{disks, Never};
 ghost use Rattle.reg_engine.specs.ReadOn.{IsReportedOn, IsUnreportedOn};
 ghost use Rattle.reg_desk.specs.Find.{AreFoundLines, FindsNone};
@@ -9,7 +9,7 @@ ghost use Rattle.reg_desk.specs.Find.{AreFoundLines, FindsNone};
 use byte_disk::Disk;
 use byte_io::{Sink, write_all};
 use reg_engine::{CliFault, OutFault, Refusal, id_lines, restore_from};
-use reg_view::{Query, found_ids, found_text};
+use reg_query::{Query, found_ids, found_text};
 use std::alloc::Global;
 
 /// Restores the register of the shelf, and writes the rows of the report of entries that have all that is asked, after that

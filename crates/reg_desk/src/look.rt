@@ -7,8 +7,8 @@ ghost use Rattle.reg_desk.specs.Look.{HasLook, IsLook, IsLookOf, FileLooksAt, op
 use byte_io::{InFault, Source, read_up_to};
 use reg_engine::{InputFault, ShelfProblem};
 use reg_file::{ReadFileFault, read_bytes};
+use reg_query::{Figures, figures_of};
 use reg_state::Register;
-use reg_status::{Figures, figures_of};
 use std::alloc::{AllocError, Global};
 
 /// The most bytes of a file.

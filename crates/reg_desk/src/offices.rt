@@ -10,8 +10,8 @@ ghost use Rattle.reg_desk.specs.Status.{IsOfficesText};
 use byte_disk::Disk;
 use byte_io::{Sink, Source, write_all};
 use reg_engine::{CliFault, OutFault, read_file, restore_from};
+use reg_query::{offices, offices_text};
 use reg_state::Register;
-use reg_status::{offices, offices_text};
 use std::alloc::{AllocError, Global};
 
 fn text_of(alloc: Global, register: &Register) -> Result<Vec<u8>, AllocError>

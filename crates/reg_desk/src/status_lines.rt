@@ -8,7 +8,7 @@ ghost use Rattle.reg_desk.specs.Status.{status_header, figure_fields, no_figures
 use crate::look::Look;
 use csv::{ByteRecord, Writer};
 use reg_engine::{InputFault, ShelfProblem};
-use reg_status::Figures;
+use reg_query::Figures;
 use std::alloc::{AllocError, Global};
 
 fn push_text(row: &mut ByteRecord, text: &[u8]) -> Result<(), AllocError>

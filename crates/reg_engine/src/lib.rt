@@ -40,3 +40,16 @@ pub use shelf_steps::{keep_and_tell, keep_on, restore_from};
 pub use shelves::{run_shelf, run_unshelf};
 pub use texts_on::{run_export_on, run_wkt_on};
 pub use wkt::{Form, run_wkt};
+
+// The crates that its contracts speak of, whole, so that tests name this one alone.
+pub use byte_disk as disks;
+pub use byte_io as streams;
+pub use byte_out as places;
+pub use byte_shelf as slots;
+pub use reg_file as files;
+pub use reg_office as offices;
+pub use reg_op as operations;
+pub use reg_shelf as shelf;
+pub use reg_state as registers;
+pub use uuid as uuids;
+pub use wkt_crs as texts;

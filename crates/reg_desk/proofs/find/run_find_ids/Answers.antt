@@ -2,7 +2,7 @@ use Rattle.std.proofs.Common.{◌≡◌, Bool, List, length, eqb, rules, refl, a
 use Rattle.byte_io.specs.Whole.{WritesAll, IsCutAt}
 use Rattle.reg_op.specs.Ids.{Id}
 use Rattle.reg_engine.specs.Outputs.{id_lines}
-use Rattle.reg_view.specs.Found.{AreFoundIds}
+use Rattle.reg_query.specs.Found.{AreFoundIds}
 use Rattle.reg_desk.proofs.FindLemmas.{there_are, there_are_none}
 use Rattle.reg_desk.proofs.find.run_find_ids.Goals as goal
 

@@ -1,0 +1,62 @@
+use Rattle.std.proofs.Common.{List, ℕ, refl, subst, map, inl, inr}
+use Rattle.std.specs.declared.option.Option.{Option}
+use Rattle.byte_io.specs.Whole.{WritesAll}
+use Rattle.reg_desk.specs.declared.import.fault.Unimported.{Unimported}
+use Rattle.reg_desk.specs.Import.{IsReady}
+use Rattle.reg_desk.specs.ImportEngines.{IsUntold, desk, into_place}
+use Rattle.reg_desk.proofs.ImportEngineLemmas.{plain_is, answer_of}
+use Rattle.reg_desk.proofs.import.engine.run_import.Goals as goal
+
+pub returns-in-Err-publish_register-clause-fault : goal.returns-in-Err-publish_register-clause-fault
+returns-in-Err-publish_register-clause-fault g c =
+    let a = into_place (desk (g.S.Source.state c.args.source.now) (g.P.Place.state c.args.place.now) (g.K.Sink.state c.args.sink.now))
+    (desk (g.S.Source.state c.read_file.new.source) (g.P.Place.state c.publish_register.new.place) (g.K.Sink.state c.args.sink.now)) in
+    let made = c.in-Ok-make_ready.ready in
+    let u = c.plain-in-Err-publish_register in
+    inr (
+      c.in-Ok.register,
+      c.in-Ok.ensures.found,
+      inr (
+        made.register,
+        made.lines.items,
+        made.passed,
+        c.in-Ok-make_ready.ensures.ready,
+        inr (plain_is (a.failed c.in-Ok.register made.register made.lines.items) u.result c.in-Err-publish_register.fault u.ensures.fault u.ensures.notes (inl (c.in-Err-publish_register.ensures.fault, refl))),
+      ),
+    )
+
+pub returns-in-Ok-tell-clause-imported : goal.returns-in-Ok-tell-clause-imported
+returns-in-Ok-tell-clause-imported g c =
+    let made = c.in-Ok-make_ready.ready in
+    let told = c.in-Ok-tell.ensures.told in (
+      c.in-Ok.register,
+      c.in-Ok.ensures.found,
+      (
+        made.register,
+        made.lines.items,
+        subst (λ (p : Option Unimported). IsReady c.args.order.now 2 c.in-Ok.register (map g.F.Source.state c.args.files.now) (map g.F.Source.state c.make_ready.new.files) made.register made.lines.items p) told.0 c.in-Ok-make_ready.ensures.ready,
+        (c.in_default.ensures.published, subst (λ (l : List ℕ). WritesAll l (g.K.Sink.state c.args.sink.now) (g.K.Sink.state c.tell.new.sink)) c.deref.ensures.value told.1),
+      ),
+    )
+
+pub returns-clause-fault : goal.returns-clause-fault
+returns-clause-fault g c =
+    let before = g.K.Sink.state c.args.sink.now in
+    let after = g.K.Sink.state c.tell.new.sink in
+    let a = into_place (desk (g.S.Source.state c.args.source.now) (g.P.Place.state c.args.place.now) before) (desk (g.S.Source.state c.read_file.new.source) (g.P.Place.state c.publish_register.new.place) after) in
+    let made = c.in-Ok-make_ready.ready in
+    inr (
+      c.in-Ok.register,
+      c.in-Ok.ensures.found,
+      inr (
+        made.register,
+        made.lines.items,
+        made.passed,
+        c.in-Ok-make_ready.ensures.ready,
+        answer_of a c.in-Ok.register made.register made.lines.items made.passed c.in-Err-tell.why before after (λ all. (c.in_default.ensures.published, all)) (λ f cut. inr (c.in_default.ensures.published, cut))
+            (subst (λ (l : List ℕ). IsUntold l made.passed before after c.in-Err-tell.why) c.deref.ensures.value c.in-Err-tell.ensures.fault),
+      ),
+    )
+
+pub returns-in-Err-make_ready-clause-fault : goal.returns-in-Err-make_ready-clause-fault
+returns-in-Err-make_ready-clause-fault g c = inr (c.in-Ok.register, c.in-Ok.ensures.found, inl (c.in-Err-make_ready.ensures.fault, (refl, refl)))

@@ -1,0 +1,119 @@
+-- What an import makes of files of texts, before anything goes out, and why it makes nothing.
+use Rattle.std.specs.Prelude.{◌≡◌, ◌⊎◌, ◌+◌, ℕ, List, [], map, slice_get, Option, Some, None, option_map, if◌then◌else◌}
+use Rattle.std.specs.Option.{unwrap_or}
+use Rattle.std.specs.String.{string_bytes}
+use Rattle.byte_io.specs.Device.{SourceState}
+use Rattle.reg_op.specs.Contents.{Content}
+use Rattle.reg_office.specs.declared.fault.OfficeFault.TheVariants as office
+use Rattle.reg_office.specs.Lines.{IsSheet}
+use Rattle.reg_import.specs.declared.reading.FileText.{FileText}
+use Rattle.reg_import.specs.declared.told.Problem.{Problem}
+use Rattle.reg_import.specs.declared.told.Told.{Told}
+use Rattle.reg_import.specs.declared.told.Told.TheVariants as told
+use Rattle.reg_import.specs.declared.import.ImportRefusal.{ImportRefusal}
+use Rattle.reg_import.specs.declared.import.ImportRefusal.TheVariants as refused
+use Rattle.reg_import.specs.Readings.{readings}
+use Rattle.reg_import.specs.Imports.{NoneRefused}
+use Rattle.reg_import.specs.Plans.{IsFirstRefused, Imports, IsImportRefusal}
+use Rattle.reg_import.specs.Lines.{import_header, lines_of, IsImportLine}
+use Rattle.reg_engine.specs.declared.fault.Refusal.TheVariants as refusal
+use Rattle.reg_engine.specs.Fault.{status_of}
+use Rattle.reg_engine.specs.declared.fault.CliFault.{CliFault}
+use Rattle.reg_engine.specs.declared.fault.CliFault.TheVariants as cli
+use Rattle.reg_desk.specs.declared.import.order.Order.{Order}
+use Rattle.reg_desk.specs.declared.import.fault.ImportFault.{ImportFault}
+use Rattle.reg_desk.specs.declared.import.fault.ImportFault.TheVariants as import
+use Rattle.reg_desk.specs.declared.import.fault.Unimported.{Unimported}
+use Rattle.reg_desk.specs.ImportFiles.{GiveAll, AreUnread}
+use Rattle.reg_desk.specs.ImportTexts.{TextAt, HaveTexts}
+use Rattle.reg_desk.specs.ImportNotes.{note_of, notes_of}
+
+abbrev pub names_of : Order → List (List ℕ)
+names_of o = map string_bytes o.names.now
+
+-- ---- answers
+
+abbrev pub exit_status : ImportFault → ℕ
+exit_status (import.Cli f) = status_of f
+exit_status (import.Refused p place file) = 1
+
+-- a fault of the command line, of which no more is said
+abbrev pub IsPlainFault : (CliFault → Type 0) → ImportFault → List ℕ → Type 0
+IsPlainFault Is (import.Cli f) notes = Is f × (notes ≡ [])
+IsPlainFault Is (import.Refused p place file) notes = ⊥
+
+abbrev pub IsPlain : (CliFault → Type 0) → Unimported → Type 0
+IsPlain Is u = IsPlainFault Is u.fault u.notes.items
+
+-- the text at this place of all is refused for this reason: its place in its file, and the number of that, where the first
+-- of the files has this one
+abbrev pub IsAgainst : ℕ → List FileText → ℕ → Problem → ImportFault → Type 0
+IsAgainst first texts at p (import.Cli f) = ⊥
+IsAgainst first texts at p (import.Refused q place file) = (text : FileText) × (slice_get texts at ≡ Some text) × (q ≡ p) × (place ≡ text.at) × (file ≡ first + text.file)
+
+abbrev pub if_explained : Order → List ℕ → List ℕ
+if_explained o note = if o.explain then note else []
+
+-- what is said of the text at this place, which is refused for this reason
+abbrev pub note_at : Order → List (List ℕ) → List TextAt → ℕ → Problem → List ℕ
+note_at o files cuts at p = unwrap_or (option_map (λ c. note_of (names_of o) files c (told.Refused p)) (slice_get cuts at)) []
+
+abbrev pub all_notes : Order → List (List ℕ) → List TextAt → List Told → List ℕ
+all_notes o files cuts ts = notes_of (names_of o) files cuts ts
+
+-- the answer is that this text is refused, and what is said of it
+abbrev pub IsRefusedAt : Order → ℕ → List (List ℕ) → List TextAt → List FileText → ℕ → Problem → Unimported → Type 0
+IsRefusedAt o first files cuts texts at p u = IsAgainst first texts at p u.fault × (u.notes.items ≡ if_explained o (note_at o files cuts at p))
+
+-- the answer is that the first refused text is, and what is said of all that are; where none is, there is no such answer
+abbrev pub IsPassed : Order → ℕ → List (List ℕ) → List TextAt → List FileText → List Told → Option Unimported → Type 0
+IsPassed o first files cuts texts ts None = NoneRefused ts
+IsPassed o first files cuts texts ts (Some u) = (at : ℕ) × (p : Problem) × IsFirstRefused ts at p × IsAgainst first texts at p u.fault
+    × (u.notes.items ≡ if_explained o (all_notes o files cuts ts))
+
+-- ---- texts that were read
+
+-- the lines are a header and a line for each text, with what came of it
+abbrev pub AreLines : Order → List FileText → List Told → List ℕ → Type 0
+AreLines o texts ts lines = IsSheet import_header (IsImportLine (names_of o)) (lines_of texts ts) lines
+
+-- the texts are imported into the content, which gives the second one and these lines; and this is to be answered of those
+-- that were passed over
+abbrev pub MakesOf : Order → ℕ → Content → List (List ℕ) → List TextAt → List FileText → Content → List ℕ → Option Unimported → Type 0
+MakesOf o first x files cuts texts y lines passed = (ts : List Told) × Imports x o.replica o.note.now o.differs o.keep_going (readings texts) y ts
+    × AreLines o texts ts lines × IsPassed o first files cuts texts ts passed
+
+-- they are refused for this reason
+abbrev pub Refuses : Order → Content → List FileText → ImportRefusal → Type 0
+Refuses o x texts r = IsImportRefusal x o.replica o.note.now o.differs o.keep_going (readings texts) r
+
+-- what is answered where this is why
+abbrev pub IsRefusedBy : Order → ℕ → List (List ℕ) → List TextAt → List FileText → ImportRefusal → Unimported → Type 0
+IsRefusedBy o first files cuts texts refused.NoteTooLong u = IsPlain (λ f. f ≡ cli.Refused (refusal.Office office.NoteTooLong)) u
+IsRefusedBy o first files cuts texts (refused.Refused at p) u = IsRefusedAt o first files cuts texts at p u ⊎ IsPlain (λ f. f ≡ cli.Memory) u
+IsRefusedBy o first files cuts texts refused.CountSpent u = IsPlain (λ f. f ≡ cli.Refused (refusal.Office office.CountSpent)) u
+IsRefusedBy o first files cuts texts refused.Memory u = IsPlain (λ f. f ≡ cli.Memory) u
+
+-- why they are not imported
+abbrev pub IsUnmadeOf : Order → ℕ → Content → List (List ℕ) → List TextAt → List FileText → Unimported → Type 0
+IsUnmadeOf o first x files cuts texts u = (r : ImportRefusal) × Refuses o x texts r × IsRefusedBy o first files cuts texts r u
+
+-- ---- files of these bytes
+
+abbrev pub Makes : Order → ℕ → Content → List (List ℕ) → Content → List ℕ → Option Unimported → Type 0
+Makes o first x files y lines passed = (cuts : List TextAt) × (texts : List FileText) × HaveTexts files cuts texts × MakesOf o first x files cuts texts y lines passed
+
+-- out of memory before they were read, or not imported
+abbrev pub IsUnmade : Order → ℕ → Content → List (List ℕ) → Unimported → Type 0
+IsUnmade o first x files u = IsPlain (λ f. f ≡ cli.Memory) u
+    ⊎ ((cuts : List TextAt) × (texts : List FileText) × HaveTexts files cuts texts × IsUnmadeOf o first x files cuts texts u)
+
+-- ---- files
+
+-- the files gave bytes, of which this is made
+abbrev pub IsReady : Order → ℕ → Content → List SourceState → List SourceState → Content → List ℕ → Option Unimported → Type 0
+IsReady o first x old new y lines passed = (files : List (List ℕ)) × GiveAll old new files × Makes o first x files y lines passed
+
+-- a file was not read, or nothing is made
+abbrev pub IsUnready : Order → ℕ → Content → List SourceState → List SourceState → Unimported → Type 0
+IsUnready o first x old new u = IsPlain (AreUnread first old new) u ⊎ ((files : List (List ℕ)) × GiveAll old new files × IsUnmade o first x files u)

@@ -1,0 +1,32 @@
+-- What is said of refused texts, below the line of the fault.
+use Rattle.std.specs.Prelude.{◌+◌, ◌++◌, ℕ, List, [], ◌∷◌, length, slice_get}
+use Rattle.std.specs.Option.{unwrap_or}
+use Rattle.wkt_explain.specs.Explains.{explanation}
+use Rattle.reg_import.specs.declared.told.Problem.TheVariants as problem
+use Rattle.reg_import.specs.declared.told.Told.{Told}
+use Rattle.reg_import.specs.declared.told.Told.TheVariants as told
+use Rattle.reg_desk.specs.ImportTexts.{TextAt}
+
+-- what the file of this number is called, and its bytes
+abbrev pub name_of : List (List ℕ) → ℕ → List ℕ
+name_of names file = unwrap_or (slice_get names file) []
+
+abbrev pub content_of : List (List ℕ) → ℕ → List ℕ
+content_of files file = unwrap_or (slice_get files file) []
+
+-- of a text that was not read, the explanation of what is wrong with it, in its file
+abbrev pub note_of : List (List ℕ) → List (List ℕ) → TextAt → Told → List ℕ
+note_of names files c (told.Refused (problem.Unread f)) = explanation (name_of names c.file) (content_of files c.file) c.place (c.place + length c.bytes) f
+note_of names files c (told.Refused (problem.KeyTaken i)) = []
+note_of names files c (told.Same i) = []
+note_of names files c (told.Superseded i) = []
+note_of names files c (told.Entered i) = []
+note_of names files c (told.Beside i) = []
+note_of names files c (told.Revised i) = []
+note_of names files c told.Spent = []
+
+-- of each text, one after another
+abbrev pub notes_of : List (List ℕ) → List (List ℕ) → List TextAt → List Told → List ℕ
+notes_of names files [] ts = []
+notes_of names files (c ∷ cs) [] = []
+notes_of names files (c ∷ cs) (t ∷ ts) = note_of names files c t ++ notes_of names files cs ts

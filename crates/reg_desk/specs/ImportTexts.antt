@@ -1,0 +1,37 @@
+-- The texts of files: where each stands, and what it is read as.
+use Rattle.std.specs.Prelude.{◌≡◌, ◌+◌, ◌++◌, ℕ, List, [], ◌∷◌, map}
+use Rattle.wkt_tree.specs.Tree.{Piece}
+use Rattle.wkt_texts.specs.Texts.{IsCutInto}
+use Rattle.reg_import.specs.declared.reading.FileText.{FileText}
+use Rattle.reg_import.specs.Readings.{IsFileText}
+use Rattle.reg_desk.specs.declared.import.texts.FileCut.{FileCut}
+
+-- a text: its file among those that were given, from 0, the place of its first byte there, and its bytes
+pub record TextAt : Type 0 where
+  pub file : ℕ
+  pub place : ℕ
+  pub bytes : List ℕ
+
+abbrev pub text_at : FileCut → TextAt
+text_at c = record { file = c.file; place = c.place; bytes = c.bytes.now }
+
+abbrev pub in_file : ℕ → Piece → TextAt
+in_file file p = record { file = file; place = p.place; bytes = p.bytes }
+
+-- files of these bytes, from this number on, are cut into these texts, in their order
+abbrev pub AreCuts : ℕ → List (List ℕ) → List TextAt → Type 0
+AreCuts file [] cuts = cuts ≡ []
+AreCuts file (bytes ∷ others) cuts = (these : List Piece) × (rest : List TextAt) × IsCutInto bytes these × AreCuts (file + 1) others rest
+    × (cuts ≡ map (in_file file) these ++ rest)
+
+-- each is read as it should
+abbrev pub AreRead : List TextAt → List FileText → Type 0
+AreRead [] [] = Unit {0}
+AreRead [] (t ∷ ts) = ⊥
+AreRead (c ∷ cs) [] = ⊥
+AreRead (c ∷ cs) (t ∷ ts) = IsFileText c.file c.place c.bytes t × AreRead cs ts
+
+-- files of these bytes have these texts, which are read as these
+pub record HaveTexts (files : List (List ℕ)) (cuts : List TextAt) (texts : List FileText) : Type 0 where
+  pub cut : AreCuts 0 files cuts
+  pub read : AreRead cuts texts

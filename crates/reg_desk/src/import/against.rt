@@ -1,0 +1,112 @@
+//! The faults of refused texts.
+
+ghost use Rattle.std.specs.Prelude.{◌≡◌, map, IfOk, IfSome};
+ghost use Rattle.reg_desk.specs.ImportFiles.{bytes_of};
+ghost use Rattle.reg_desk.specs.ImportTexts.{text_at};
+ghost use Rattle.reg_desk.specs.Import.{IsAgainst, if_explained, note_at, all_notes, IsRefusedAt, IsPassed};
+
+use crate::import::fault::{ImportFault, Unimported};
+use crate::import::notes::{note_of, notes_of};
+use crate::import::order::Order;
+use crate::import::texts::FileCut;
+use reg_import::{FileText, Problem, Refused, Told, first_refused};
+use std::alloc::{AllocError, Global};
+
+// What is against a text, where the file with number 0 among those that were given has this number among those that are read.
+fn fault_of(first: usize, texts: &[FileText], refused: &Refused) -> Option<ImportFault>
+    ensures { IfSome result (IsAgainst first texts.now refused.now.at refused.now.problem) }
+{
+    let text = texts.get(refused.at)?;
+    let file = first.checked_add(text.file)?;
+    Some(ImportFault::Refused {
+        problem: refused.problem,
+        place: text.at,
+        file,
+    })
+}
+
+// What is said of the refused text alone, if that is asked.
+fn note_at(
+    alloc: Global,
+    order: &Order<'_>,
+    files: &[Vec<u8>],
+    cuts: &[FileCut<'_>],
+    refused: &Refused,
+) -> Result<Vec<u8>, AllocError>
+    ensures { IfOk result (λ note. note.items ≡ if_explained order.now (note_at order.now (bytes_of files.now) (map text_at cuts.now) refused.now.at refused.now.problem)) }
+{
+    if !order.explain {
+        return Ok(Vec::new(alloc));
+    }
+    match cuts.get(refused.at) {
+        Some(cut) => note_of(
+            alloc,
+            order.names,
+            files,
+            cut,
+            Told::Refused(refused.problem),
+        ),
+        None => Ok(Vec::new(alloc)),
+    }
+}
+
+/// Why the texts of these files are not imported, where this one of them is refused.
+pub fn refused_here(
+    alloc: Global,
+    first: usize,
+    order: &Order<'_>,
+    files: &[Vec<u8>],
+    cuts: &[FileCut<'_>],
+    texts: &[FileText],
+    refused: &Refused,
+) -> Result<Unimported, AllocError>
+    ensures { IfOk result (λ u. IsRefusedAt order.now first (bytes_of files.now) (map text_at cuts.now) texts.now refused.now.at refused.now.problem u) }
+{
+    let Some(fault) = fault_of(first, texts, refused) else {
+        return Err(AllocError);
+    };
+    match note_at(alloc, order, files, cuts, refused) {
+        Ok(notes) => Ok(Unimported { fault, notes }),
+        Err(_) => Err(AllocError),
+    }
+}
+
+// What is said of all refused texts, if that is asked.
+fn all_notes(
+    alloc: Global,
+    order: &Order<'_>,
+    files: &[Vec<u8>],
+    cuts: &[FileCut<'_>],
+    told: &[Told],
+) -> Result<Vec<u8>, AllocError>
+    ensures { IfOk result (λ notes. notes.items ≡ if_explained order.now (all_notes order.now (bytes_of files.now) (map text_at cuts.now) told.now)) }
+{
+    if !order.explain {
+        return Ok(Vec::new(alloc));
+    }
+    notes_of(alloc, order.names, files, cuts, told)
+}
+
+/// The first text that was passed over, with what is said of all.
+pub fn passed_over(
+    alloc: Global,
+    first: usize,
+    order: &Order<'_>,
+    files: &[Vec<u8>],
+    cuts: &[FileCut<'_>],
+    texts: &[FileText],
+    told: &[Told],
+) -> Result<Option<Unimported>, AllocError>
+    ensures { IfOk result (IsPassed order.now first (bytes_of files.now) (map text_at cuts.now) texts.now told.now) }
+{
+    let Some(refused) = first_refused(told) else {
+        return Ok(None);
+    };
+    let Some(fault) = fault_of(first, texts, &refused) else {
+        return Err(AllocError);
+    };
+    match all_notes(alloc, order, files, cuts, told) {
+        Ok(notes) => Ok(Some(Unimported { fault, notes })),
+        Err(_) => Err(AllocError),
+    }
+}

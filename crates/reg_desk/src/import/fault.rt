@@ -1,0 +1,94 @@
+//! Why texts were not imported, or not all of them.
+
+ghost use Rattle.std.specs.Prelude.{◌≡◌, []};
+ghost use Rattle.reg_desk.specs.declared.import.fault.ImportFault.TheVariants as import;
+ghost use Rattle.reg_desk.specs.Import.{exit_status};
+
+use reg_engine::{CliFault, Refusal};
+use reg_import::Problem;
+use std::alloc::Global;
+use std::fmt::{self, Display};
+use wkt_crs::{DefinitionFault, SlotFault, Unspelled};
+
+/// Why texts were not imported, or not all of them. It prints as one line.
+#[derive(Clone, Copy, Debug, PartialEq, Eq)]
+pub enum ImportFault {
+    Cli(CliFault),
+    /// This is against a text of the file of this number, and this is the place in that.
+    Refused {
+        problem: Problem,
+        place: usize,
+        file: usize,
+    },
+}
+
+/// Why texts were not imported, or not all of them, and what is said of those that were refused.
+#[derive(Drop)]
+pub struct Unimported {
+    pub fault: ImportFault,
+    pub notes: Vec<u8>,
+}
+
+impl Unimported {
+    /// A fault of which no more is said.
+    pub(crate) fn plain(alloc: Global, fault: CliFault) -> Unimported
+        ensures fault { result.fault ≡ import.Cli fault }
+        ensures notes { result.notes.items ≡ [] }
+    {
+        Unimported {
+            fault: ImportFault::Cli(fault),
+            notes: Vec::new(alloc),
+        }
+    }
+}
+
+impl ImportFault {
+    /// The exit status of the program: that of the fault, and 1 for a refused text.
+    pub fn status(&self) -> u8
+        ensures { result ≡ exit_status self.now }
+    {
+        match self {
+            ImportFault::Cli(fault) => fault.status(),
+            ImportFault::Refused { .. } => 1,
+        }
+    }
+}
+
+impl fmt::Display for ImportFault {
+    fn fmt<W: fmt::Write>(&self, f: &mut fmt::Formatter<W>) -> fmt::Result {
+        match self {
+            ImportFault::Cli(fault) => fault.fmt(f),
+            ImportFault::Refused {
+                problem,
+                place,
+                file,
+            } => {
+                f.write_str("refused: ")?;
+                write_problem(f, problem)?;
+                write!(f, " at {place} of file {file}")
+            }
+        }
+    }
+}
+
+fn write_problem<W: fmt::Write>(f: &mut fmt::Formatter<W>, problem: &Problem) -> fmt::Result {
+    match problem {
+        Problem::KeyTaken(id) => Refusal::KeyTaken(*id).fmt(f),
+        Problem::Unread(fault) => write_fault(f, fault),
+    }
+}
+
+// What a fault is called, and what it names.
+fn write_fault<W: fmt::Write>(f: &mut fmt::Formatter<W>, fault: &DefinitionFault) -> fmt::Result {
+    match fault {
+        DefinitionFault::Read(Unspelled::Slot(SlotFault::Missing(slot, _))) => {
+            let slot = slot.name();
+            write!(f, "Missing {slot}")
+        }
+        DefinitionFault::Read(Unspelled::Broken { condition, .. }) => {
+            let condition = condition.name();
+            write!(f, "Broken {condition}")
+        }
+        fault => f.write_str(fault.name()),
+    }
+}

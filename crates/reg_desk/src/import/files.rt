@@ -1,0 +1,59 @@
+//! The bytes of files of texts.
+
+ghost use Rattle.std.specs.Prelude.{◌≡◌, ◌++◌, ◌∷◌, [], map, IfOk, OnOk, IfErr};
+ghost use Rattle.reg_desk.specs.ImportFiles.{Gives, IsUnread, bytes_of, GiveAll, AreUnread};
+
+use byte_io::{InFault, Source, read_up_to};
+use reg_engine::{CliFault, InputFault};
+use std::alloc::Global;
+
+/// The most bytes of a file of texts.
+const MOST: usize = 67_108_864;
+
+// The bytes of the file of this number.
+fn read_one<F: Source>(alloc: Global, number: usize, file: &mut F) -> Result<Vec<u8>, CliFault>
+    ensures gives { IfOk result (λ bytes. Gives (F.state file.old) (F.state file.new) bytes.items) }
+    ensures fault { IfErr result (IsUnread number (F.state file.old) (F.state file.new)) }
+{
+    match read_up_to(alloc, file, MOST + 1) {
+        Ok(bytes) => {
+            if bytes.len() > MOST {
+                return Err(CliFault::File {
+                    number,
+                    fault: InputFault::TooLarge,
+                });
+            }
+            Ok(bytes)
+        }
+        Err(InFault::ReadFailed(n)) => Err(CliFault::File {
+            number,
+            fault: InputFault::ReadFailed(n),
+        }),
+        Err(InFault::Memory) => Err(CliFault::Memory),
+    }
+}
+
+/// The bytes of each file, in their order; the first file has this number.
+pub fn read_files<F: Source>(
+    alloc: Global,
+    first: usize,
+    files: &mut [F],
+) -> Result<Vec<Vec<u8>>, CliFault>
+    ensures give { IfOk result (λ all. GiveAll (map F.state files.old) (map F.state files.new) (bytes_of all.items)) }
+    ensures fault { IfErr result (AreUnread first (map F.state files.old) (map F.state files.new)) }
+{
+    let mut all = Vec::new(alloc);
+    for i in 0..files.len() {
+        let Some(number) = first.checked_add(i) else {
+            return Err(CliFault::Memory);
+        };
+        let bytes = match read_one(alloc, number, &mut files[i]) {
+            Ok(bytes) => bytes,
+            Err(fault) => return Err(fault),
+        };
+        if let Err(_) = all.push(bytes) {
+            return Err(CliFault::Memory);
+        }
+    }
+    Ok(all)
+}

@@ -1,0 +1,147 @@
+//! What an import makes, before anything goes out.
+
+ghost use Rattle.std.specs.Prelude.{map, IfOk, IfErr};
+ghost use Rattle.reg_desk.specs.ImportFiles.{bytes_of};
+ghost use Rattle.reg_desk.specs.ImportTexts.{text_at};
+ghost use Rattle.reg_desk.specs.Import.{IsRefusedBy, MakesOf, IsUnmadeOf, Makes, IsUnmade, IsReady, IsUnready};
+
+use crate::import::against::{passed_over, refused_here};
+use crate::import::fault::Unimported;
+use crate::import::files::read_files;
+use crate::import::order::Order;
+use crate::import::texts::{FileCut, cut_files, read_cuts};
+use byte_io::Source;
+use reg_engine::{CliFault, Refusal};
+use reg_import::{FileText, ImportRefusal, Refused, import_texts, lines_text};
+use reg_office::OfficeFault;
+use reg_state::Register;
+use std::alloc::Global;
+
+/// What an import gives out: the register, the lines, and what is answered of texts that were passed over.
+#[derive(Drop)]
+pub struct Ready {
+    pub register: Register,
+    pub lines: Vec<u8>,
+    pub passed: Option<Unimported>,
+}
+
+// Why no text is imported.
+fn refusal_of(
+    alloc: Global,
+    first: usize,
+    order: &Order<'_>,
+    files: &[Vec<u8>],
+    cuts: &[FileCut<'_>],
+    texts: &[FileText],
+    refusal: ImportRefusal,
+) -> Unimported
+    ensures { IsRefusedBy order.now first (bytes_of files.now) (map text_at cuts.now) texts.now refusal result }
+{
+    match refusal {
+        ImportRefusal::NoteTooLong => {
+            Unimported::plain(
+                alloc,
+                CliFault::Refused(Refusal::Office(OfficeFault::NoteTooLong)),
+            )
+        }
+        ImportRefusal::CountSpent => {
+            Unimported::plain(
+                alloc,
+                CliFault::Refused(Refusal::Office(OfficeFault::CountSpent)),
+            )
+        }
+        ImportRefusal::Memory => Unimported::plain(alloc, CliFault::Memory),
+        ImportRefusal::Refused { at, problem } => {
+            let refused = Refused { at, problem };
+            match refused_here(alloc, first, order, files, cuts, texts, &refused) {
+                Ok(why) => why,
+                Err(_) => Unimported::plain(alloc, CliFault::Memory),
+            }
+        }
+    }
+}
+
+// Imports texts, and makes the lines.
+fn made_of(
+    alloc: Global,
+    register: Register,
+    first: usize,
+    order: &Order<'_>,
+    files: &[Vec<u8>],
+    cuts: &[FileCut<'_>],
+    texts: &[FileText],
+) -> Result<Ready, Unimported>
+    ensures made { IfOk result (λ r. MakesOf order.now first register (bytes_of files.now) (map text_at cuts.now) texts.now r.register r.lines.items r.passed) }
+    ensures fault { IfErr result (IsUnmadeOf order.now first register (bytes_of files.now) (map text_at cuts.now) texts.now) }
+{
+    let imported = match import_texts(
+        alloc,
+        register,
+        order.replica,
+        order.note,
+        order.differs,
+        order.keep_going,
+        texts,
+    ) {
+        Ok(imported) => imported,
+        Err(refusal) => {
+            return Err(refusal_of(alloc, first, order, files, cuts, texts, refusal));
+        }
+    };
+    let Ok(passed) = passed_over(alloc, first, order, files, cuts, texts, &imported.told) else {
+        return Err(Unimported::plain(alloc, CliFault::Memory));
+    };
+    match lines_text(alloc, order.names, texts, &imported.told) {
+        Ok(lines) => Ok(Ready {
+            register: imported.register,
+            lines,
+            passed,
+        }),
+        Err(_) => Err(Unimported::plain(alloc, CliFault::Memory)),
+    }
+}
+
+// Imports the texts of files of these bytes.
+fn made(
+    alloc: Global,
+    register: Register,
+    first: usize,
+    order: &Order<'_>,
+    files: &[Vec<u8>],
+) -> Result<Ready, Unimported>
+    ensures made { IfOk result (λ r. Makes order.now first register (bytes_of files.now) r.register r.lines.items r.passed) }
+    ensures fault { IfErr result (IsUnmade order.now first register (bytes_of files.now)) }
+{
+    let Ok(cuts) = cut_files(alloc, files) else {
+        return Err(Unimported::plain(alloc, CliFault::Memory));
+    };
+    let Ok(texts) = read_cuts(alloc, &cuts) else {
+        return Err(Unimported::plain(alloc, CliFault::Memory));
+    };
+    match made_of(alloc, register, first, order, files, &cuts, &texts) {
+        Ok(ready) => Ok(ready),
+        Err(why) => Err(why),
+    }
+}
+
+/// Reads the files of texts, the first of which has this number among all that are read, and imports their texts into the
+/// register.
+pub fn make_ready<F: Source>(
+    alloc: Global,
+    register: Register,
+    first: usize,
+    order: &Order<'_>,
+    files: &mut [F],
+) -> Result<Ready, Unimported>
+    ensures ready { IfOk result (λ r. IsReady order.now first register (map F.state files.old) (map F.state files.new) r.register r.lines.items r.passed) }
+    ensures fault { IfErr result (IsUnready order.now first register (map F.state files.old) (map F.state files.new)) }
+{
+    let bytes = match read_files(alloc, first, files) {
+        Ok(bytes) => bytes,
+        Err(fault) => return Err(Unimported::plain(alloc, fault)),
+    };
+    match made(alloc, register, first, order, &bytes) {
+        Ok(ready) => Ok(ready),
+        Err(why) => Err(why),
+    }
+}

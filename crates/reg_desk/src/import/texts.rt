@@ -1,0 +1,57 @@
+//! The texts of files: where each stands, and what it is read as.
+
+ghost use Rattle.std.specs.Prelude.{◌≡◌, ◌++◌, map, IfOk, OnOk};
+ghost use Rattle.wkt_texts.specs.Texts.{piece_of};
+ghost use Rattle.reg_desk.specs.ImportFiles.{bytes_of};
+ghost use Rattle.reg_desk.specs.ImportTexts.{in_file, text_at, AreCuts, AreRead};
+
+use reg_import::{FileText, read_at};
+use std::alloc::{AllocError, Global};
+use wkt_texts::{Cut, texts};
+
+/// A text: the number of its file among those that were given, from 0, the place of its first byte there, and its bytes.
+#[derive(Clone, Copy)]
+pub struct FileCut<'a> {
+    pub file: usize,
+    pub place: usize,
+    pub bytes: &'a [u8],
+}
+
+// Puts the texts of a file at the end.
+fn push_cuts<'a>(
+    all: &mut Vec<FileCut<'a>>,
+    file: usize,
+    cuts: &[Cut<'a>],
+) -> Result<(), AllocError>
+    ensures { OnOk result (map text_at all.new.items ≡ map text_at all.old.items ++ map (in_file file) (map piece_of cuts.now)) }
+{
+    for cut in cuts {
+        let Cut { place, bytes } = *cut;
+        all.push(FileCut { file, place, bytes })?;
+    }
+    Ok(())
+}
+
+/// Where the texts of the files stand, in their order.
+pub fn cut_files<'a>(alloc: Global, files: &'a [Vec<u8>]) -> Result<Vec<FileCut<'a>>, AllocError>
+    ensures { IfOk result (λ cuts. AreCuts 0 (bytes_of files.now) (map text_at cuts.items)) }
+{
+    let mut all = Vec::new(alloc);
+    for (file, bytes) in files.iter().enumerate() {
+        let cuts = texts(alloc, bytes)?;
+        push_cuts(&mut all, file, &cuts)?;
+    }
+    Ok(all)
+}
+
+/// What each of them is read as.
+pub fn read_cuts(alloc: Global, cuts: &[FileCut<'_>]) -> Result<Vec<FileText>, AllocError>
+    ensures { IfOk result (λ texts. AreRead (map text_at cuts.now) texts.items) }
+{
+    let mut read = Vec::new(alloc);
+    for cut in cuts {
+        let text = read_at(alloc, cut.file, cut.place, cut.bytes)?;
+        read.push(text)?;
+    }
+    Ok(read)
+}

@@ -1,5 +1,0 @@
-use Rattle.reg_diff.proofs.LawLemmas.{empty_where_equal}
-use Rattle.reg_diff.proofs.laws.diff_is_empty_where_equal.Goals as goal
-
-pub returns : goal.returns
-returns c = empty_where_equal

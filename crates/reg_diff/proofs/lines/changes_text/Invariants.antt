@@ -1,7 +1,0 @@
-use Rattle.std.proofs.Common.{drop}
-use Rattle.reg_office.specs.Lines.{sheet_text, IsReady}
-use Rattle.reg_diff.proofs.SheetLemmas.{Completes}
-use Rattle.reg_diff.proofs.lines.changes_text.Given as goal
-
-abbrev pub invariant-loop-change : goal.invariant-loop-change
-invariant-loop-change l = IsReady l.wtr × Completes l.changes (drop l.change-index l.changes) (sheet_text l.wtr)

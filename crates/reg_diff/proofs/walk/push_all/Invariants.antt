@@ -1,8 +1,0 @@
-use Rattle.std.proofs.Common.{◌≡◌, ◌++◌, map, take}
-use Rattle.reg_office.specs.Seen.{row_seen}
-use Rattle.reg_diff.specs.Changes.{signed}
-use Rattle.reg_diff.specs.Seen.{change_seen}
-use Rattle.reg_diff.proofs.walk.push_all.Given as goal
-
-abbrev pub invariant-loop-row : goal.invariant-loop-row
-invariant-loop-row l = map change_seen l.made.items ≡ map change_seen l.initial.made.items ++ map (λ r. signed l.sign (row_seen r)) (take l.row-index l.rows)

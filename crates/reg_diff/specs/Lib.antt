@@ -1,4 +1,0 @@
-pub mod Changes
-pub mod Lines
-pub mod Seen
-pub mod Walk

@@ -1,7 +1,0 @@
--- What changes are seen as.
-use Rattle.reg_office.specs.Seen.{row_seen}
-use Rattle.reg_diff.specs.declared.change.Change.{Change as Declared}
-use Rattle.reg_diff.specs.Changes.{Change}
-
-abbrev pub change_seen : Declared → Change
-change_seen c = record { sign = c.sign; row = row_seen c.row.now }

@@ -1,5 +1,0 @@
-pub mod Files
-pub mod Texts
-pub mod Notes
-pub mod Import
-pub mod Engines

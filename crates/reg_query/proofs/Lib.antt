@@ -1,0 +1,13 @@
+pub mod TextLemmas
+pub mod FoundLemmas
+pub mod PartLemmas
+pub mod SeenLemmas
+pub mod OpsLemmas
+pub mod OfficeLemmas
+pub mod FigureLemmas
+pub mod OrderLemmas
+pub mod StepLemmas
+pub mod WalkLemmas
+pub mod RowLemmas
+pub mod SheetLemmas
+pub mod LawLemmas

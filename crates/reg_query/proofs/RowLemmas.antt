@@ -1,0 +1,142 @@
+-- The rows of a content ascend by entry, and rows are the same or not.
+use Rattle.std.proofs.Common.{◌≡◌, ℕ, Bool, true, List, [], ◌∷◌, ◌++◌, ◌⊎◌, Option, None, Some, zero, suc, IsTrue, ◌↔◌, refl, sym, ap, ◌∙◌, subst, inl, inr}
+use Rattle.std.proofs.lemmas.Bool.{true≢false}
+use Rattle.std.proofs.lemmas.List.Elements.{Contains-append_cases}
+use Rattle.std.proofs.lemmas.Cmp.{nat_list_cmp_total, lists_total}
+use Rattle.std.specs.List.{Contains, flat_map}
+use Rattle.std.specs.Cmp.{IsTotalOrder, Equal-is, tied_itself, then_total, on_total, nat_cmp_total}
+use Rattle.std.specs.Cmp.Lexicographic.{slice_cmp}
+use Rattle.std.specs.Ordering.{nat_cmp, is_eq, ordering_then}
+use Rattle.std.specs.declared.cmp.Ordering.{Ordering}
+use Rattle.std.specs.declared.cmp.Ordering.TheVariants.{Less, Equal, Greater}
+use Rattle.reg_op.specs.Set as set
+use Rattle.reg_op.specs.Set.{Ascends, IsAntisymmetric, nat_cmp-IsAntisymmetric, slice_cmp-IsAntisymmetric}
+use Rattle.reg_op.specs.Ids.{Id, id_cmp, is_same}
+use Rattle.reg_op.specs.Lists.{AllAfter, ById}
+use Rattle.reg_op.specs.Operations.{Op, Ops}
+use Rattle.reg_op.specs.declared.operation.OpBody.{OpBody as Body}
+use Rattle.reg_op.specs.declared.operation.OpBody.TheVariants.{Enter, Supersede, Retire}
+use Rattle.reg_op.specs.Status.{status}
+use Rattle.reg_op.specs.declared.status.Status.{Status}
+use Rattle.reg_op.specs.declared.status.Status.TheVariants.{Valid, Superseded, Retired}
+use Rattle.reg_op.specs.Contents.{Content, IsContent}
+use Rattle.reg_op.specs.Rows.{Row, newer_of, rows_at, rows}
+use Rattle.reg_op.proofs.OpLemmas.{id_total, id_exact, bytes_exact, is_same_exact}
+use Rattle.reg_op.proofs.SetLemmas.{less}
+use Rattle.reg_file.proofs.KeptLemmas.{items_by_id}
+use Rattle.reg_office.proofs.ConflictLemmas.{none_in, in_cons, in_head, in_tail}
+use Rattle.reg_query.specs.Changes.{row_cmp}
+use Rattle.reg_query.proofs.OrderLemmas.{put_before}
+use Rattle.reg_query.proofs.StepLemmas.{row_total}
+
+-- ---- by entry
+
+entry_of : (s : Ops) (i : Id) (b : Body) (r : Row) → Contains (rows_at s i b) r → r.entry ≡ i
+entry_of s i (Enter text) r h = elim (in_cons r _ [] h) [ inl e ↦ ap (λ (q : Row). q.entry) e | inr d ↦ absurd (none_in r d) ]
+entry_of s i (Supersede old newer) r h = absurd (none_in r h)
+entry_of s i (Retire entry) r h = absurd (none_in r h)
+
+abbrev rows_in : Ops → List Op → List Row
+rows_in s os = flat_map (λ (o : Op). rows_at s o.id o.body) os
+
+rows_after : (s : Ops) (i : Id) (os : List Op) → AllAfter i os → (r : Row) → Contains (rows_in s os) r → id_cmp i r.entry ≡ Less
+rows_after s i [] up r h = absurd (none_in r h)
+rows_after s i (o ∷ os) up r h = elim (Contains-append_cases (rows_at s o.id o.body) (rows_in s os) r h) [
+  | inl here ↦ subst (λ k. id_cmp i k ≡ Less) (sym (entry_of s o.id o.body r here)) (less _ up.0)
+  | inr later ↦ rows_after s i os up.1 r later
+]
+
+rows_ascend_in : (s : Ops) (os : List Op) → ById os → Ascends row_cmp (rows_in s os)
+rows_ascend_in s [] up = tt
+rows_ascend_in s (o ∷ os) up = by_body o.body (rows_ascend_in s os up.1)
+  where
+    by_body : (b : Body) → Ascends row_cmp (rows_in s os) → Ascends row_cmp (rows_at s o.id b ++ rows_in s os)
+    by_body (Enter text) rest = put_before row_total (record { entry = o.id; definition = text; status = status s o.id; newer = set.items (newer_of s o.id) }) (rows_in s os) (rows_after s o.id os up.0) rest
+    by_body (Supersede old newer) rest = rest
+    by_body (Retire entry) rest = rest
+
+pub rows_ascend : (x : Content) → IsContent x → Ascends row_cmp (rows x.ops)
+rows_ascend x is = rows_ascend_in x.ops (set.items x.ops) (items_by_id x.ops is.one_body)
+
+-- ---- the same or not
+
+number : Option Status → ℕ
+number None = 0
+number (Some Valid) = 1
+number (Some Superseded) = 2
+number (Some Retired) = 3
+
+numbered : ℕ → Option Status
+numbered zero = None
+numbered (suc zero) = Some Valid
+numbered (suc (suc zero)) = Some Superseded
+numbered (suc (suc (suc n))) = Some Retired
+
+status_again : (s : Option Status) → numbered (number s) ≡ s
+unfolding number numbered
+status_again None = refl
+status_again (Some Valid) = refl
+status_again (Some Superseded) = refl
+status_again (Some Retired) = refl
+
+abbrev whole_cmp : Row → Row → Ordering
+whole_cmp a b =
+    ordering_then (id_cmp a.entry b.entry)
+    (ordering_then (slice_cmp nat_cmp a.definition b.definition)
+    (ordering_then (nat_cmp (number a.status) (number b.status)) (slice_cmp id_cmp a.newer b.newer)))
+
+whole_total : IsTotalOrder whole_cmp
+whole_total =
+    then_total (on_total (λ (r : Row). r.entry) id_total)
+    (then_total (on_total (λ (r : Row). r.definition) nat_list_cmp_total)
+    (then_total (on_total (λ (r : Row). number r.status) nat_cmp_total) (on_total (λ (r : Row). r.newer) (lists_total id_total))))
+
+both_equal : (r t : Ordering) → ordering_then r t ≡ Equal → (r ≡ Equal) × (t ≡ Equal)
+both_equal Less t e = cc
+both_equal Equal t e = (refl, e)
+both_equal Greater t e = cc
+
+whole_exact : (a b : Row) → whole_cmp a b ≡ Equal → a ≡ b
+whole_exact a b e =
+    let i = both_equal (id_cmp a.entry b.entry) _ e in
+    let d = both_equal (slice_cmp nat_cmp a.definition b.definition) _ i.1 in
+    let s = both_equal (nat_cmp (number a.status) (number b.status)) _ d.1 in
+    let entry : a.entry ≡ b.entry = id_exact _ _ i.0 in
+    let definition : a.definition ≡ b.definition = bytes_exact _ _ d.0 in
+    let status : a.status ≡ b.status = sym (status_again a.status) ∙ ap numbered (nat_cmp-IsAntisymmetric _ _ s.0) ∙ status_again b.status in
+    let newer : a.newer ≡ b.newer = slice_cmp-IsAntisymmetric id_exact _ _ s.1 in
+    λ j. record { entry = entry j; definition = definition j; status = status j; newer = newer j }
+
+pub same_or_not : (a b : Row) → (a ≡ b) ⊎ (a ≡ b → ⊥)
+same_or_not a b =
+    elim (whole_cmp a b) as (λ r. whole_cmp a b ≡ r → (a ≡ b) ⊎ (a ≡ b → ⊥)) [
+      | Less ↦ λ e. inr (other Less e (λ h. true≢false (sym h)))
+      | Equal ↦ λ e. inl (whole_exact a b e)
+      | Greater ↦ λ e. inr (other Greater e (λ h. true≢false (sym h)))
+    ] refl
+  where
+    other : (r : Ordering) → whole_cmp a b ≡ r → (is_eq r ≡ true → ⊥) → a ≡ b → ⊥
+    other r e never same = never (sym (ap is_eq (subst (λ k. whole_cmp a k ≡ r) (sym same) e)) ∙ ap is_eq (tied_itself whole_total a))
+
+pub has_or_not : (rs : List Row) (r : Row) → Contains rs r ⊎ (Contains rs r → ⊥)
+has_or_not [] r = inr (none_in r)
+has_or_not (q ∷ rs) r = by_first (same_or_not r q) (has_or_not rs r)
+  where
+    by_first : (r ≡ q) ⊎ (r ≡ q → ⊥) → Contains rs r ⊎ (Contains rs r → ⊥) → Contains (q ∷ rs) r ⊎ (Contains (q ∷ rs) r → ⊥)
+    by_first (inl e) later = inl (subst (Contains (q ∷ rs)) (sym e) (in_head q rs))
+    by_first (inr other) (inl k) = inl (in_tail r q rs k)
+    by_first (inr other) (inr lacks) = inr (λ h. elim (in_cons r q rs h) [ inl e ↦ other e | inr d ↦ lacks d ])
+
+-- ---- the newer entries of two rows
+
+pub same_ids : (is js : List Id) (b : Bool) → b ≡ is_eq (slice_cmp id_cmp is js) → IsTrue b ↔ (is ≡ js)
+same_ids is js b e = (
+  λ h. slice_cmp-IsAntisymmetric id_exact is js ((Equal-is (slice_cmp id_cmp is js)).0 (sym e ∙ h)),
+  λ same. e ∙ ap is_eq (ap (slice_cmp id_cmp is) (sym same) ∙ tied_itself (lists_total id_total) is),
+)
+
+pub same_id : (i j : Id) (b : Bool) → b ≡ is_same i j → IsTrue b ↔ (i ≡ j)
+same_id i j b e = (
+  λ h. is_same_exact i j (sym e ∙ h),
+  λ same. e ∙ subst (λ k. is_same i k ≡ true) same (ap is_eq (tied_itself id_total i)),
+)

@@ -1,0 +1,7 @@
+-- What changes are seen as.
+use Rattle.reg_office.specs.Seen.{row_seen}
+use Rattle.reg_query.specs.declared.diff.change.Change.{Change as Declared}
+use Rattle.reg_query.specs.Changes.{Change}
+
+abbrev pub change_seen : Declared → Change
+change_seen c = record { sign = c.sign; row = row_seen c.row.now }

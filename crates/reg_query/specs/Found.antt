@@ -1,0 +1,34 @@
+-- The entries that have all that is asked.
+use Rattle.std.specs.Prelude.{◌≡◌, ◌↔◌, ℕ, Bool, IsTrue, List, [], ◌∷◌, map, if◌then◌else◌}
+use Rattle.crs_part.specs.Slots.{name_of}
+use Rattle.crs_value.specs.declared.crs.Crs.{Crs}
+use Rattle.crs_value.specs.declared.key.Key.{Key}
+use Rattle.wkt_crs.specs.Definition.{IsCrsOf, IsKeyIn}
+use Rattle.reg_op.specs.Contents.{Content}
+use Rattle.reg_op.specs.Ids.{Id}
+use Rattle.reg_op.specs.Rows.{Row, rows}
+use Rattle.reg_office.specs.Conflicts.{bytes_of}
+use Rattle.reg_office.specs.Lines.{entries_header, IsEntryLine, IsSheet}
+use Rattle.reg_query.specs.declared.find.query.Query.{Query}
+use Rattle.reg_query.specs.Queries.{Meets}
+
+-- whether an entry has all that is asked, by the key, the name and the status that it has
+pub record IsMet (q : Query) (r : Row) (met : Bool) : Type 0 where
+  pub key : Key
+  pub crs : Crs
+  pub keyed : IsKeyIn key r.definition
+  pub spelled : IsCrsOf crs r.definition
+  pub told : IsTrue met ↔ Meets q (bytes_of key) (name_of crs.parts).bytes r.status
+
+-- of some rows those that have it, in their order
+abbrev pub AreFound : Query → List Row → List Row → Type 0
+AreFound q [] found = found ≡ []
+AreFound q (r ∷ rs) found = (met : Bool) × (rest : List Row) × IsMet q r met × AreFound q rs rest × (found ≡ (if met then r ∷ rest else rest))
+
+-- the ids of the entries of a content that have it
+abbrev pub AreFoundIds : Query → Content → List Id → Type 0
+AreFoundIds q x ids = (found : List Row) × AreFound q (rows x.ops) found × (ids ≡ map (λ r. r.entry) found)
+
+-- the report's header, and the lines of these entries
+abbrev pub IsFoundText : Query → Content → List ℕ → Type 0
+IsFoundText q x text = (found : List Row) × AreFound q (rows x.ops) found × IsSheet entries_header IsEntryLine found text

@@ -1,0 +1,11 @@
+//! What the rows of two registers do not share.
+
+mod change;
+mod comparing;
+mod lines;
+mod walk;
+
+pub use change::{Change, Sign};
+pub use comparing::{Comparison, compare};
+pub use lines::changes_text;
+pub use walk::changes;

@@ -1,0 +1,82 @@
+//! A row that one register has and the other has not, and when two rows are one.
+
+ghost use Rattle.std.specs.Prelude.{◌≡◌, ◌↔◌, IsTrue};
+ghost use Rattle.reg_office.specs.Seen.{row_seen};
+ghost use Rattle.reg_query.specs.Changes.{row_cmp, sign_text};
+
+use reg_office::Row;
+use reg_op::OpId;
+use std::cmp::Ordering;
+use wkt_crs::Definition;
+
+/// Which of the two registers has the row.
+#[derive(Clone, Copy, Debug, PartialEq, Eq)]
+pub enum Sign {
+    /// The older one alone.
+    Gone,
+    /// The newer one alone.
+    Come,
+}
+
+/// A row that one register has and the other has not.
+#[derive(Drop)]
+pub struct Change<'a> {
+    pub sign: Sign,
+    pub row: &'a Row,
+}
+
+/// How a sign is written.
+pub fn sign_text(sign: Sign) -> &'static [u8]
+    ensures { result.now ≡ sign_text sign }
+{
+    match sign {
+        Sign::Gone => b"-",
+        Sign::Come => b"+",
+    }
+}
+
+/// The order of their entries.
+pub fn order(left: &Row, right: &Row) -> Ordering
+    ensures { result ≡ row_cmp (row_seen left.now) (row_seen right.now) }
+{
+    left.entry.cmp(&right.entry)
+}
+
+fn is_same_id(left: &OpId, right: &OpId) -> bool
+    ensures { IsTrue result ↔ (left.now ≡ right.now) }
+{
+    left.is_same(right)
+}
+
+fn are_same_ids(left: &[OpId], right: &[OpId]) -> bool
+    ensures { IsTrue result ↔ (left.now ≡ right.now) }
+{
+    left.cmp(right).is_eq()
+}
+
+fn is_same_text(left: &Definition, right: &Definition) -> bool
+    ensures { IsTrue result ↔ (left.now ≡ right.now) }
+{
+    left.as_bytes() == right.as_bytes()
+}
+
+// Whether they enter one text under one id.
+fn enter_the_same(left: &Row, right: &Row) -> bool
+    ensures { IsTrue result ↔ ((left.now.entry ≡ right.now.entry) × (left.now.definition ≡ right.now.definition)) }
+{
+    is_same_id(&left.entry, &right.entry) && is_same_text(&left.definition, &right.definition)
+}
+
+// Whether they are of one status, and superseded by the same.
+fn stand_the_same(left: &Row, right: &Row) -> bool
+    ensures { IsTrue result ↔ ((left.now.status ≡ right.now.status) × (left.now.newer.items ≡ right.now.newer.items)) }
+{
+    left.status == right.status && are_same_ids(&left.newer, &right.newer)
+}
+
+/// Whether they are one row: entry, text, status and newer entries.
+pub fn is_same(left: &Row, right: &Row) -> bool
+    ensures { IsTrue result ↔ (row_seen left.now ≡ row_seen right.now) }
+{
+    enter_the_same(left, right) && stand_the_same(left, right)
+}

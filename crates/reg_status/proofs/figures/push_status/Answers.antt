@@ -1,5 +1,0 @@
-use Rattle.reg_office.proofs.PairLemmas.{it_enters}
-use Rattle.reg_status.proofs.figures.push_status.Goals as goal
-
-pub status_of-requires : goal.status_of-requires
-status_of-requires c = it_enters c.args.register.now.ops c.args.op.now c.id.result c.in-Enter.field-0 c.body.result.now c.requires c.body.ensures c.in-Enter.is c.id.ensures.value

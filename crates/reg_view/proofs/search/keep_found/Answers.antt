@@ -1,6 +1,0 @@
-use Rattle.std.proofs.Common.{rules}
-use Rattle.reg_view.proofs.FoundLemmas.{are_left}
-use Rattle.reg_view.proofs.search.keep_found.Goals as goal
-
-pub returns : goal.returns
-returns c = are_left c.args.query.now _ _ (λ x b f' k. search rules) _ _ c.retain.ensures.filtered

@@ -1,3 +1,0 @@
-pub mod Texts
-pub mod Queries
-pub mod Found
