@@ -54,10 +54,10 @@ def done(program, words, folder):
 def can_trace(program, folder):
     """Whether strace can stop a program here; else a line says that it is skipped."""
     if shutil.which("strace") is None:
-        print("skipped: stops at each system call: there is no strace here")
+        print("skipped: stops at each system call: needs strace")
         return False
     if run(program, "--version", folder, trace="trace").returncode:
-        print("skipped: stops at each system call: strace may not trace here")
+        print("skipped: stops at each system call: the system lets no program be traced")
         return False
     return True
 
@@ -75,7 +75,7 @@ def small_file_system(size):
     with TemporaryDirectory() as name:
         mounted = subprocess.run(["mount", "-t", "tmpfs", "-o", f"size={size}", "tmpfs", name], capture_output=True, check=False)
         if mounted.returncode:
-            print("skipped: a full file system: none can be mounted here")
+            print("skipped: a full file system: the system lets none be mounted")
             yield None
             return
         try:
