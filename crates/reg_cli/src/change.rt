@@ -1,25 +1,45 @@
-//! Commands that change a register in a file.
-use crate::words::{entries, entry, open, place, replica, word};
+//! Commands that change a register.
+use crate::outcome::Outcome;
+use crate::stores::{Opened, change_of, next_file, open_to_change};
+use crate::words::{differs, entries, entry, is_twice, open, open_texts, place, replica, word};
 use clap::ArgMatches;
-use reg_desk::{CliFault, Writing, run_enter, run_retire, run_supersede};
-use std::io;
+use reg_desk::{
+    CliFault, Enter, InFile, Kept, OfFile, OnShelf, Order, Reading, Retire, Settle, SettleEqual,
+    Supersede, Unimported, Writing, explained_fault, run_import, try_import,
+};
+use std::alloc::{AllocError, Global};
+use std::fs::OpenFile;
+use std::io::{self, Read, Seek, Write};
 
-/// `enter`. The replica and the entries are read from the words, and then the files are opened.
-pub fn enter(rt: &HostRuntime, matches: &ArgMatches<'_>) -> Result<(), CliFault> {
-    let replica = replica(word(matches, "as"))?;
-    let mut source = open(rt, 1, word(matches, "REG"))?;
-    let mut text = open(rt, 2, word(matches, "text"))?;
-    let mut place = place(rt, rt.alloc(), word(matches, "out"))?;
-    let mut sink = Writing::new(io::writer(rt));
-    run_enter(
-        rt.alloc(),
-        &mut source,
+const TWICE: &str = "error: standard input, -, is named twice";
+
+/// `enter`. The replica is read from the words, and then the files are opened.
+pub fn enter(rt: &HostRuntime, matches: &ArgMatches<'_>) -> Outcome {
+    let path = word(matches, "text");
+    let replica = match replica(word(matches, "as")) {
+        Ok(replica) => replica,
+        Err(fault) => return Outcome::Fault(fault),
+    };
+    let mut register = match open_to_change(rt, matches) {
+        Ok(register) => register,
+        Err(fault) => return Outcome::Fault(fault),
+    };
+    let mut text = match open(rt, next_file(&register), path) {
+        Ok(file) => Kept::new(rt.alloc(), file),
+        Err(fault) => return Outcome::Fault(fault),
+    };
+    let mut command = Enter {
         replica,
-        &mut text,
-        word(matches, "note"),
-        &mut place,
-        &mut sink,
-    )
+        text: &mut text,
+        note: word(matches, "note"),
+    };
+    match change_of(rt, matches, &mut register, &mut command) {
+        Ok(()) => Outcome::Done,
+        Err(fault) if matches.get_flag("explain") => {
+            Outcome::Explained(explained_fault(rt.alloc(), path, &text, fault))
+        }
+        Err(fault) => Outcome::Fault(fault),
+    }
 }
 
 /// `supersede`.
@@ -27,35 +47,134 @@ pub fn supersede(rt: &HostRuntime, matches: &ArgMatches<'_>) -> Result<(), CliFa
     let replica = replica(word(matches, "as"))?;
     let old = entry(word(matches, "OLD"))?;
     let newer = entries(rt.alloc(), matches, "BY")?;
-    let mut source = open(rt, 1, word(matches, "REG"))?;
-    let mut place = place(rt, rt.alloc(), word(matches, "out"))?;
-    let mut sink = Writing::new(io::writer(rt));
-    run_supersede(
-        rt.alloc(),
-        &mut source,
+    let mut register = open_to_change(rt, matches)?;
+    let mut command = Supersede {
         replica,
         old,
-        &newer,
-        word(matches, "note"),
-        &mut place,
-        &mut sink,
-    )
+        newer: &newer,
+        note: word(matches, "note"),
+    };
+    change_of(rt, matches, &mut register, &mut command)
 }
 
 /// `retire`.
 pub fn retire(rt: &HostRuntime, matches: &ArgMatches<'_>) -> Result<(), CliFault> {
     let replica = replica(word(matches, "as"))?;
     let entries = entries(rt.alloc(), matches, "ENTRY")?;
-    let mut source = open(rt, 1, word(matches, "REG"))?;
-    let mut place = place(rt, rt.alloc(), word(matches, "out"))?;
-    let mut sink = Writing::new(io::writer(rt));
-    run_retire(
-        rt.alloc(),
-        &mut source,
+    let mut register = open_to_change(rt, matches)?;
+    let mut command = Retire {
         replica,
-        &entries,
-        word(matches, "note"),
-        &mut place,
-        &mut sink,
-    )
+        entries: &entries,
+        note: word(matches, "note"),
+    };
+    change_of(rt, matches, &mut register, &mut command)
+}
+
+/// `settle`.
+pub fn settle(rt: &HostRuntime, matches: &ArgMatches<'_>) -> Result<(), CliFault> {
+    let replica = replica(word(matches, "as"))?;
+    let keeps = entries(rt.alloc(), matches, "KEEP")?;
+    let note = word(matches, "note");
+    let mut register = open_to_change(rt, matches)?;
+    if matches.get_flag("equal") {
+        let mut command = SettleEqual { replica, note };
+        return change_of(rt, matches, &mut register, &mut command);
+    }
+    let mut command = Settle {
+        replica,
+        keeps: &keeps,
+        note,
+    };
+    change_of(rt, matches, &mut register, &mut command)
+}
+
+/// `import`.
+pub fn import(rt: &HostRuntime, matches: &ArgMatches<'_>) -> Outcome {
+    let paths = matches.get_strs("FILE").unwrap_or(&[]);
+    if is_twice(paths) {
+        return Outcome::Misuse(TWICE);
+    }
+    let replica = match replica(word(matches, "as")) {
+        Ok(replica) => replica,
+        Err(fault) => return Outcome::Fault(fault),
+    };
+    let Ok(names) = names_of(rt.alloc(), paths) else {
+        return Outcome::Fault(CliFault::Memory);
+    };
+    let mut register = match open_to_change(rt, matches) {
+        Ok(register) => register,
+        Err(fault) => return Outcome::Fault(fault),
+    };
+    let mut files = match open_texts(rt, rt.alloc(), next_file(&register), paths) {
+        Ok(files) => files,
+        Err(fault) => return Outcome::Fault(fault),
+    };
+    let order = Order {
+        replica,
+        differs: differs(word(matches, "differs")),
+        keep_going: matches.get_flag("keep-going"),
+        explain: matches.get_flag("explain"),
+        note: word(matches, "note"),
+        names: &names,
+    };
+    if matches.get_flag("dry-run") {
+        return Outcome::of_import(import_tried(rt, &mut register, &mut files, &order));
+    }
+    match &mut register {
+        Opened::File(source) => import_into(rt, matches, source, &mut files, &order),
+        Opened::Shelf(disk) => {
+            let mut store = OnShelf { disk };
+            let mut sink = Writing::new(io::writer(rt));
+            let answer = run_import(rt.alloc(), &mut store, &mut files, &order, &mut sink);
+            Outcome::of_import(answer)
+        }
+    }
+}
+
+fn names_of(alloc: Global, paths: &[&str]) -> Result<Vec<String>, AllocError> {
+    let mut names = Vec::new(alloc);
+    for path in paths {
+        names.push(String::from_str(alloc, path)?)?;
+    }
+    Ok(names)
+}
+
+// `import --dry-run`, which opens no OUT.
+fn import_tried<F: Read + Write + Seek + OpenFile>(
+    rt: &HostRuntime,
+    register: &mut Opened<F>,
+    files: &mut [Reading<F>],
+    order: &Order<'_>,
+) -> Result<(), Unimported> {
+    let mut sink = Writing::new(io::writer(rt));
+    match register {
+        Opened::File(source) => {
+            let mut store = OfFile { source };
+            try_import(rt.alloc(), &mut store, files, order, &mut sink)
+        }
+        Opened::Shelf(disk) => {
+            let mut store = OnShelf { disk };
+            try_import(rt.alloc(), &mut store, files, order, &mut sink)
+        }
+    }
+}
+
+// `import` into the file OUT.
+fn import_into<F: Read + Write + Seek + OpenFile>(
+    rt: &HostRuntime,
+    matches: &ArgMatches<'_>,
+    source: &mut Reading<F>,
+    files: &mut [Reading<F>],
+    order: &Order<'_>,
+) -> Outcome {
+    let mut place = match place(rt, rt.alloc(), word(matches, "out")) {
+        Ok(place) => place,
+        Err(fault) => return Outcome::Fault(fault),
+    };
+    let mut store = InFile {
+        source,
+        place: &mut place,
+    };
+    let mut sink = Writing::new(io::writer(rt));
+    Outcome::of_import(run_import(rt.alloc(), &mut store, files, order, &mut sink))
 }

@@ -1,12 +1,8 @@
 //! From the words of the command line to an engine, and from its answer to the exit status.
-use crate::change::{enter, retire, supersede};
+use crate::change::{enter, import, retire, settle, supersede};
 use crate::exchange::{downgrade, merge, new, piece, seen, shelf, unshelf};
-use crate::explain;
-use crate::look::{diff, find, offices, status as figures};
-use crate::many::{import, settle};
+use crate::look::{check, diff, export, find, offices, ops, report, show, status as figures, wkt};
 use crate::outcome::{MISUSE, Outcome, complain, failed, print, status};
-use crate::shelf::perform_on;
-use crate::show::{check, export, ops, report, show, wkt};
 use clap::ArgMatches;
 use clap::error::ErrorKind;
 use cli_words::command_line;
@@ -80,54 +76,30 @@ fn answer_as(rt: &HostRuntime, words: &[String], office: Option<&str>) -> u8 {
 // What the command did. clap lets no word through that is no command.
 fn perform(rt: &HostRuntime, matches: &ArgMatches<'_>) -> Option<Outcome> {
     let (name, inner) = matches.subcommand()?;
-    if inner.get_flag("shelf") {
-        return perform_on(rt, name, inner);
-    }
-    if inner.get_flag("explain") {
-        return perform_explained(rt, name, inner);
-    }
     let outcome = match name {
-        "new" => new(rt, inner),
+        "check" => check(rt, inner),
+        "new" => Outcome::of(new(rt, inner)),
         "enter" => enter(rt, inner),
-        "supersede" => supersede(rt, inner),
-        "retire" => retire(rt, inner),
-        "import" => return Some(import(rt, inner)),
-        "settle" => settle(rt, inner),
-        "merge" => merge(rt, inner),
-        "seen" => seen(rt, inner),
-        "piece" => piece(rt, inner),
-        "downgrade" => downgrade(rt, inner),
-        "shelf" => shelf(rt, inner),
-        "unshelf" => unshelf(rt, inner),
-        _ => return show_any(rt, name, inner),
-    };
-    Some(Outcome::of(outcome))
-}
-
-// What the command did that was to say more.
-fn perform_explained(rt: &HostRuntime, name: &str, matches: &ArgMatches<'_>) -> Option<Outcome> {
-    match name {
-        "check" => Some(explain::check(rt, matches)),
-        "enter" => Some(explain::enter(rt, matches)),
-        "import" => Some(import(rt, matches)),
-        _ => None,
-    }
-}
-
-// What shows something, and changes no register.
-fn show_any(rt: &HostRuntime, name: &str, matches: &ArgMatches<'_>) -> Option<Outcome> {
-    let outcome = match name {
-        "check" => check(rt, matches),
-        "show" => show(rt, matches),
-        "wkt" => wkt(rt, matches),
-        "export" => export(rt, matches),
-        "ops" => ops(rt, matches),
-        "report" => report(rt, matches)?,
-        "find" => find(rt, matches),
-        "status" => figures(rt, matches),
-        "offices" => offices(rt, matches),
-        "diff" => return Some(diff(rt, matches)),
+        "import" => import(rt, inner),
+        "supersede" => Outcome::of(supersede(rt, inner)),
+        "retire" => Outcome::of(retire(rt, inner)),
+        "settle" => Outcome::of(settle(rt, inner)),
+        "find" => Outcome::of(find(rt, inner)),
+        "show" => Outcome::of(show(rt, inner)),
+        "wkt" => Outcome::of(wkt(rt, inner)),
+        "export" => Outcome::of(export(rt, inner)),
+        "ops" => Outcome::of(ops(rt, inner)),
+        "report" => Outcome::of(report(rt, inner)?),
+        "status" => Outcome::of(figures(rt, inner)),
+        "offices" => Outcome::of(offices(rt, inner)),
+        "diff" => diff(rt, inner),
+        "merge" => Outcome::of(merge(rt, inner)),
+        "seen" => Outcome::of(seen(rt, inner)),
+        "piece" => Outcome::of(piece(rt, inner)),
+        "downgrade" => Outcome::of(downgrade(rt, inner)),
+        "shelf" => Outcome::of(shelf(rt, inner)),
+        "unshelf" => Outcome::of(unshelf(rt, inner)),
         _ => return None,
     };
-    Some(Outcome::of(outcome))
+    Some(outcome)
 }

@@ -1,9 +1,10 @@
 //! Commands that make registers, and by which offices exchange what they have.
-use crate::words::{open, open_all, open_to_read, place, word};
+use crate::stores::{give_of, next_file, open_register};
+use crate::words::{open, open_all, open_shelf, open_to_read, place, word};
 use clap::ArgMatches;
 use reg_desk::{
-    CliFault, NewFile, Refusal, run_downgrade, run_merge, run_new, run_piece, run_seen, run_shelf,
-    run_unshelf,
+    CliFault, FirstVersion, NewFile, PieceFor, Refusal, Summary, run_merge, run_merge_on, run_new,
+    run_shelf, run_unshelf,
 };
 
 /// `new`.
@@ -17,6 +18,11 @@ pub fn new(rt: &HostRuntime, matches: &ArgMatches<'_>) -> Result<(), CliFault> {
 /// `merge`.
 pub fn merge(rt: &HostRuntime, matches: &ArgMatches<'_>) -> Result<(), CliFault> {
     let paths = matches.get_strs("FILE").unwrap_or(&[]);
+    if matches.get_flag("shelf") {
+        let mut disk = open_shelf(rt, word(matches, "OUT"))?;
+        let mut sources = open_all(rt, rt.alloc(), 1, paths)?;
+        return run_merge_on(rt.alloc(), &mut disk, &mut sources);
+    }
     let mut sources = open_all(rt, rt.alloc(), 1, paths)?;
     let mut place = place(rt, rt.alloc(), word(matches, "OUT"))?;
     run_merge(rt.alloc(), &mut sources, &mut place)
@@ -24,24 +30,24 @@ pub fn merge(rt: &HostRuntime, matches: &ArgMatches<'_>) -> Result<(), CliFault>
 
 /// `seen`.
 pub fn seen(rt: &HostRuntime, matches: &ArgMatches<'_>) -> Result<(), CliFault> {
-    let mut source = open(rt, 1, word(matches, "REG"))?;
-    let mut place = place(rt, rt.alloc(), word(matches, "OUT"))?;
-    run_seen(rt.alloc(), &mut source, &mut place)
+    let mut register = open_register(rt, matches, "REG")?;
+    give_of(rt, matches, &mut register, &mut Summary)
 }
 
 /// `piece`.
 pub fn piece(rt: &HostRuntime, matches: &ArgMatches<'_>) -> Result<(), CliFault> {
-    let mut source = open(rt, 1, word(matches, "REG"))?;
-    let mut summary = open(rt, 2, word(matches, "SEEN"))?;
-    let mut place = place(rt, rt.alloc(), word(matches, "OUT"))?;
-    run_piece(rt.alloc(), &mut source, &mut summary, &mut place)
+    let mut register = open_register(rt, matches, "REG")?;
+    let mut summary = open(rt, next_file(&register), word(matches, "SEEN"))?;
+    let mut command = PieceFor {
+        summary: &mut summary,
+    };
+    give_of(rt, matches, &mut register, &mut command)
 }
 
 /// `downgrade`.
 pub fn downgrade(rt: &HostRuntime, matches: &ArgMatches<'_>) -> Result<(), CliFault> {
-    let mut source = open(rt, 1, word(matches, "REG"))?;
-    let mut place = place(rt, rt.alloc(), word(matches, "OUT"))?;
-    run_downgrade(rt.alloc(), &mut source, &mut place)
+    let mut register = open_register(rt, matches, "REG")?;
+    give_of(rt, matches, &mut register, &mut FirstVersion)
 }
 
 /// `shelf`. A size that is no number is one that no shelf has.

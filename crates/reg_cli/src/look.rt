@@ -1,17 +1,71 @@
-//! Commands that find entries, and that say how registers in files stand and differ.
+//! Commands that print something of a text, of a register, or of several.
 use crate::outcome::Outcome;
-use crate::words::{open, open_all, word};
+use crate::stores::{Opened as Register, next_file, open_register, print_of};
+use crate::words::{STANDARD_INPUT, entry, form, kind, open, open_all, open_to_read, word};
 use clap::ArgMatches;
 use reg_desk::{
-    CliFault, Opened, Query, Reading, Wanted, Writing, run_diff, run_find, run_find_ids,
-    run_offices, run_status,
+    CliFault, Explained, Export, FileDisk, Find, FindIds, Kept, OfFile, Offices, OnShelf, Opened,
+    Ops, Query, Reading, Report, Show, Wanted, Wkt, Writing, run_check_explained, run_diff,
+    run_status, run_status_on,
 };
 use std::alloc::{AllocError, Global};
 use std::rt::Files;
 use std::{fs, io};
 
-/// What is asked of an entry.
-pub fn query<'a>(matches: &ArgMatches<'a>) -> Query<'a> {
+/// `check`.
+pub fn check(rt: &HostRuntime, matches: &ArgMatches<'_>) -> Outcome {
+    let answer = match matches.get_str("TEXT") {
+        None => {
+            let mut text = Kept::new(rt.alloc(), Reading::new(rt.reader()));
+            let mut sink = Writing::new(io::writer(rt));
+            run_check_explained(rt.alloc(), STANDARD_INPUT, &mut text, &mut sink)
+        }
+        Some(path) => match open(rt, 1, path) {
+            Ok(file) => {
+                let mut text = Kept::new(rt.alloc(), file);
+                let mut sink = Writing::new(io::writer(rt));
+                run_check_explained(rt.alloc(), path, &mut text, &mut sink)
+            }
+            Err(fault) => return Outcome::Fault(fault),
+        },
+    };
+    match answer {
+        Err(Explained { fault, .. }) if !matches.get_flag("explain") => Outcome::Fault(fault),
+        answer => Outcome::of_explained(answer),
+    }
+}
+
+/// `show`.
+pub fn show(rt: &HostRuntime, matches: &ArgMatches<'_>) -> Result<(), CliFault> {
+    let entry = entry(word(matches, "ENTRY"))?;
+    print_of(rt, matches, &Show { entry })
+}
+
+/// `wkt`.
+pub fn wkt(rt: &HostRuntime, matches: &ArgMatches<'_>) -> Result<(), CliFault> {
+    let entry = entry(word(matches, "ENTRY"))?;
+    let form = form(matches);
+    print_of(rt, matches, &Wkt { entry, form })
+}
+
+/// `export`.
+pub fn export(rt: &HostRuntime, matches: &ArgMatches<'_>) -> Result<(), CliFault> {
+    print_of(rt, matches, &Export)
+}
+
+/// `ops`.
+pub fn ops(rt: &HostRuntime, matches: &ArgMatches<'_>) -> Result<(), CliFault> {
+    print_of(rt, matches, &Ops)
+}
+
+/// `report`, if there is one of the kind.
+pub fn report(rt: &HostRuntime, matches: &ArgMatches<'_>) -> Option<Result<(), CliFault>> {
+    let kind = kind(word(matches, "KIND"))?;
+    Some(print_of(rt, matches, &Report { kind }))
+}
+
+// What is asked of an entry.
+fn query<'a>(matches: &ArgMatches<'a>) -> Query<'a> {
     Query {
         key: matches.get_str("key"),
         authority: matches.get_str("authority"),
@@ -34,36 +88,40 @@ fn wanted(word: &str) -> Option<Wanted> {
 
 /// `find`.
 pub fn find(rt: &HostRuntime, matches: &ArgMatches<'_>) -> Result<(), CliFault> {
-    let mut source = open(rt, 1, word(matches, "REG"))?;
-    let mut sink = Writing::new(io::writer(rt));
+    let query = query(matches);
     if matches.get_flag("ids") {
-        return run_find_ids(rt.alloc(), &mut source, &query(matches), &mut sink);
+        return print_of(rt, matches, &FindIds { query: &query });
     }
-    run_find(rt.alloc(), &mut source, &query(matches), &mut sink)
+    print_of(rt, matches, &Find { query: &query })
 }
 
 /// `offices`.
 pub fn offices(rt: &HostRuntime, matches: &ArgMatches<'_>) -> Result<(), CliFault> {
-    let mut source = open(rt, 1, word(matches, "REG"))?;
-    run_offices(rt.alloc(), &mut source, &mut Writing::new(io::writer(rt)))
+    print_of(rt, matches, &Offices)
 }
 
-/// `status`. A file that does not open has its line.
+/// `status`. A file or a shelf that does not open has its line.
 pub fn status(rt: &HostRuntime, matches: &ArgMatches<'_>) -> Result<(), CliFault> {
     let paths = matches.get_strs("FILE").unwrap_or(&[]);
     let settled = matches.get_flag("settled");
     let Ok(names) = names_of(rt.alloc(), paths) else {
         return Err(CliFault::Memory);
     };
+    let mut sink = Writing::new(io::writer(rt));
+    if matches.get_flag("shelf") {
+        let Ok(mut shelves) = opened_shelves(rt, rt.alloc(), paths) else {
+            return Err(CliFault::Memory);
+        };
+        return run_status_on(rt.alloc(), &names, &mut shelves, settled, &mut sink);
+    }
     let Ok(mut files) = opened_files(rt, rt.alloc(), paths) else {
         return Err(CliFault::Memory);
     };
-    let mut sink = Writing::new(io::writer(rt));
     run_status(rt.alloc(), &names, &mut files, settled, &mut sink)
 }
 
-/// What files are called.
-pub fn names_of<'a>(alloc: Global, paths: &[&'a str]) -> Result<Vec<&'a [u8]>, AllocError> {
+// What files are called.
+fn names_of<'a>(alloc: Global, paths: &[&'a str]) -> Result<Vec<&'a [u8]>, AllocError> {
     let mut names = Vec::new(alloc);
     for path in paths {
         names.push(path.as_bytes())?;
@@ -88,28 +146,48 @@ fn opened_files<R: Files>(
     Ok(files)
 }
 
+// Opens all shelves that can be opened.
+fn opened_shelves<R: Files>(
+    rt: &R,
+    alloc: Global,
+    paths: &[&str],
+) -> Result<Vec<Opened<FileDisk<R::File>>>, AllocError> {
+    let mut shelves = Vec::new(alloc);
+    for path in paths {
+        let shelf = match open_to_read(rt, *path) {
+            Ok(disk) => Opened::Source(disk),
+            Err(_) => Opened::NotOpened,
+        };
+        shelves.push(shelf)?;
+    }
+    Ok(shelves)
+}
+
 /// `diff`.
 pub fn diff(rt: &HostRuntime, matches: &ArgMatches<'_>) -> Outcome {
-    let exit_code = matches.get_flag("exit-code");
     match compare(rt, matches) {
-        Ok(differ) => told(differ, exit_code),
+        Ok(true) if matches.get_flag("exit-code") => Outcome::Differs,
+        Ok(_) => Outcome::Done,
         Err(fault) => Outcome::Fault(fault),
     }
 }
 
-/// How a comparison ends.
-pub fn told(differ: bool, exit_code: bool) -> Outcome {
-    if differ && exit_code {
-        Outcome::Differs
-    } else {
-        Outcome::Done
-    }
-}
-
+// A shelf is compared with what a merge of the files into it would make.
 fn compare(rt: &HostRuntime, matches: &ArgMatches<'_>) -> Result<bool, CliFault> {
-    let mut source = open(rt, 1, word(matches, "OLD"))?;
+    let register = open_register(rt, matches, "OLD")?;
     let paths = matches.get_strs("NEW").unwrap_or(&[]);
-    let mut others = open_all(rt, rt.alloc(), 2, paths)?;
+    let mut others = open_all(rt, rt.alloc(), next_file(&register), paths)?;
     let mut sink = Writing::new(io::writer(rt));
-    run_diff(rt.alloc(), &mut source, &mut others, &mut sink)
+    match register {
+        Register::File(mut source) => {
+            let mut store = OfFile {
+                source: &mut source,
+            };
+            run_diff(rt.alloc(), &mut store, &mut others, false, &mut sink)
+        }
+        Register::Shelf(mut disk) => {
+            let mut store = OnShelf { disk: &mut disk };
+            run_diff(rt.alloc(), &mut store, &mut others, true, &mut sink)
+        }
+    }
 }

@@ -1,13 +1,18 @@
 //! What the words of a command name: replicas, entries, files.
 use clap::ArgMatches;
 use reg_desk::{
-    CliFault, FileDisk, FilePlace, Form, InputFault, OpId, Reading, Refusal, ReportKind,
+    CliFault, Differs, FileDisk, FilePlace, Form, InputFault, OpId, Reading, Refusal, ReportKind,
     ShelfProblem,
 };
 use std::alloc::Global;
 use std::fs::{self, OpenOptions};
 use std::rt::Files;
 use uuid::Uuid;
+
+/// What standard input is called on the command line, and where the system has it.
+pub const STANDARD_INPUT: &str = "-";
+
+const STANDARD_INPUT_PATH: &str = "/dev/stdin";
 
 /// A word, or nothing where it is left out, as a note may be.
 pub fn word<'a>(matches: &ArgMatches<'a>, name: &str) -> &'a str {
@@ -31,6 +36,15 @@ pub fn kind(word: &str) -> Option<ReportKind> {
         "awaited" => Some(ReportKind::Awaited),
         "gaps" => Some(ReportKind::Gaps),
         _ => None,
+    }
+}
+
+/// What is done where a key has another text. clap lets no other word through.
+pub fn differs(word: &str) -> Differs {
+    match word {
+        "beside" => Differs::Beside,
+        "revise" => Differs::Revise,
+        _ => Differs::Refuse,
     }
 }
 
@@ -84,6 +98,42 @@ pub fn open_all<R: Files>(
         }
     }
     Ok(sources)
+}
+
+/// Opens all files of texts likewise; `-` is standard input.
+pub fn open_texts<R: Files>(
+    rt: &R,
+    alloc: Global,
+    number: usize,
+    paths: &[&str],
+) -> Result<Vec<Reading<R::File>>, CliFault> {
+    let mut sources = Vec::new(alloc);
+    for (i, path) in paths.iter().enumerate() {
+        let path = if *path == STANDARD_INPUT {
+            STANDARD_INPUT_PATH
+        } else {
+            *path
+        };
+        let source = open(rt, i.saturating_add(number), path)?;
+        if sources.push(source).is_err() {
+            return Err(CliFault::Memory);
+        }
+    }
+    Ok(sources)
+}
+
+/// Whether standard input is named more than once.
+pub fn is_twice(paths: &[&str]) -> bool {
+    let mut is_named = false;
+    for path in paths {
+        if *path == STANDARD_INPUT {
+            if is_named {
+                return true;
+            }
+            is_named = true;
+        }
+    }
+    false
 }
 
 /// Opens a shelf that is changed.

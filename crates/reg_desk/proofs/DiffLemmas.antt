@@ -1,65 +1,56 @@
--- What a comparison of files comes to, by its steps.
-use Rattle.std.proofs.Common.{◌≡◌, ◌∷◌, [], List, Ok, inl, inr, sym, subst, ◌∙◌}
-use Rattle.reg_file.specs.Files.{Finds}
+-- What a comparison comes to, by its steps.
+use Rattle.std.proofs.Common.{◌≡◌, ◌∷◌, [], Bool, true, false, List, ℕ, Ok, refl, ap, sym, subst, ◌∙◌}
+use Rattle.byte_io.specs.Device.{SourceState, SinkState}
+use Rattle.reg_file.specs.declared.parts.Part.{Part}
 use Rattle.reg_join.specs.Joining.{all_joined}
 use Rattle.reg_op.specs.Contents.{Content, nothing, joined}
 use Rattle.reg_op.specs.Pieces.{Piece}
 use Rattle.reg_query.specs.DiffLines.{IsDiff}
 use Rattle.reg_engine.specs.declared.fault.CliFault.{CliFault}
 use Rattle.reg_engine.specs.declared.fault.CliFault.TheVariants as cli
-use Rattle.reg_engine.specs.Inputs.{IsUnread, NoneFails, GivePartsAfter, registers}
-use Rattle.reg_engine.specs.Merge.{begun, with_pieces, IsUnjoined}
-use Rattle.reg_desk.specs.Diff.{AreUnreadLater, IsUntold, DiffDesk, Compares, IsDiffFault}
-use Rattle.reg_desk.proofs.PartLemmas.{found_gives, none_given, none_failed, of_parts, first_is, later_are}
+use Rattle.reg_engine.specs.Inputs.{AreUnread, GivePartsAfter, registers, pieces}
+use Rattle.reg_engine.specs.Merge.{begun, with_pieces, join_of, IsUnjoined}
+use Rattle.reg_desk.specs.Diff.{joined_parts, joined_ones, IsUntold, Compares, CannotCompare}
+use Rattle.reg_desk.proofs.PartLemmas.{none_failed, of_parts}
 
--- the older file was not read
-pub old_unread : (old new : DiffDesk) → new.others ≡ old.others → new.sink ≡ old.sink → (f : CliFault) → IsUnread 1 old.source new.source f → IsDiffFault old new f
-old_unread old new others same (cli.Refused r) h = absurd h
-old_unread old new others same (cli.File k f) (number, fault) = (inl (number, fault, others), same)
-old_unread old new others same (cli.Out f) h = absurd h
-old_unread old new others same cli.Memory h = (h, subst (λ os. NoneFails old.others os) (sym others) (none_given old.others), same)
-old_unread old new others same (cli.Shelf p) h = absurd h
+ones_of : (joins : Bool) (x : Content) (ps : List Part) → joined_ones joins (x ∷ registers ps) ≡ registers (joined_parts joins x ps)
+ones_of true x ps = refl
+ones_of false x ps = refl
 
--- one of the others was not read
-pub others_unread : (old new : DiffDesk) (x : Content) → Finds old.source new.source x → new.sink ≡ old.sink → (f : CliFault) → AreUnreadLater old.others new.others f → IsDiffFault old new f
-others_unread old new x found same (cli.Refused r) h = absurd h
-others_unread old new x found same (cli.File k f) h = (inr ((x, found), h), same)
-others_unread old new x found same (cli.Out f) h = absurd h
-others_unread old new x found same cli.Memory h = (found_gives old.source new.source x found, h, same)
-others_unread old new x found same (cli.Shelf p) h = absurd h
+pieces_of : (joins : Bool) (x : Content) (ps : List Part) → pieces ps ≡ pieces (joined_parts joins x ps)
+pieces_of true x ps = refl
+pieces_of false x ps = refl
 
-module _ (old new : DiffDesk) (x first : Content) (xs later : List Content) (qs : List Piece) (found : Finds old.source new.source x)
-    (given : GivePartsAfter (x ∷ []) [] old.others new.others xs qs) (are : xs ≡ first ∷ later) where
-  -- they do not join
-  pub unjoined : new.sink ≡ old.sink → (f : CliFault) → IsUnjoined (with_pieces (begun (all_joined joined (Ok nothing) later)) qs) f → IsDiffFault old new f
-  unjoined same f h = by_fault f h
-    where
-      by_fault : (f : CliFault) → IsUnjoined (with_pieces (begun (all_joined joined (Ok nothing) later)) qs) f → IsDiffFault old new f
-      by_fault (cli.Refused r) h = (
-        (x, found),
-        (
-          given.0,
-          given.1,
-          subst (λ j. IsUnjoined j (cli.Refused r)) (sym (of_parts given.0 later qs (later_are x first xs (registers given.0) later given.2 are) given.3)) h,
-        ),
-        same,
-      )
-      by_fault (cli.File k f) h = absurd h
-      by_fault (cli.Out f) h = absurd h
-      by_fault cli.Memory h = (found_gives old.source new.source x found, none_failed old.others new.others given.0 given.1, same)
-      by_fault (cli.Shelf p) h = absurd h
+module _ (joins : Bool) (next : ℕ) (x : Content) (old new : List SourceState) where
+  -- a file was not read
+  pub unread : (before after : SinkState) → after ≡ before → (f : CliFault) → AreUnread next old new f → CannotCompare joins next x old new before after f
+  unread before after same (cli.Refused r) h = absurd h
+  unread before after same (cli.File k f) h = (h, same)
+  unread before after same (cli.Out f) h = absurd h
+  unread before after same cli.Memory h = (h, same)
+  unread before after same (cli.Shelf p) h = absurd h
 
-  -- they join to a content
-  pub compares : (y : Content) → with_pieces (begun (all_joined joined (Ok nothing) later)) qs ≡ Ok y → Compares old new first y
-  compares y is = (
-    subst (Finds old.source new.source) (sym (first_is x first xs (registers given.0) later given.2 are)) found,
-    (given.0, given.1, of_parts given.0 later qs (later_are x first xs (registers given.0) later given.2 are) given.3 ∙ is),
-  )
+  module _ (xs : List Content) (qs : List Piece) (given : GivePartsAfter (x ∷ []) [] old new xs qs) where
+    is_join : join_of (joined_parts joins x given.0) ≡ with_pieces (begun (all_joined joined (Ok nothing) (joined_ones joins xs))) qs
+    is_join = of_parts (joined_parts joins x given.0) (joined_ones joins xs) qs (ap (joined_ones joins) given.2 ∙ ones_of joins x given.0) (given.3 ∙ pieces_of joins x given.0)
 
--- not all of the text went out
-pub untold : (old new : DiffDesk) (x y : Content) → Compares old new x y → (f : CliFault) → IsUntold (IsDiff x y) old.sink new.sink f → IsDiffFault old new f
-untold old new x y both (cli.Refused r) h = absurd h
-untold old new x y both (cli.File k f) h = absurd h
-untold old new x y both (cli.Out f) h = (x, y, both, h)
-untold old new x y both cli.Memory h = (found_gives old.source new.source x both.0, none_failed old.others new.others both.1.0 both.1.1, h)
-untold old new x y both (cli.Shelf p) h = absurd h
+    -- they do not join
+    pub unjoined : (before after : SinkState) → after ≡ before → (f : CliFault)
+        → IsUnjoined (with_pieces (begun (all_joined joined (Ok nothing) (joined_ones joins xs))) qs) f → CannotCompare joins next x old new before after f
+    unjoined before after same (cli.Refused r) h = ((given.0, given.1, subst (λ j. IsUnjoined j (cli.Refused r)) (sym is_join) h), same)
+    unjoined before after same (cli.File k f) h = absurd h
+    unjoined before after same (cli.Out f) h = absurd h
+    unjoined before after same cli.Memory h = (none_failed old new given.0 given.1, same)
+    unjoined before after same (cli.Shelf p) h = absurd h
+
+    -- they join to a content
+    pub compares : (y : Content) → with_pieces (begun (all_joined joined (Ok nothing) (joined_ones joins xs))) qs ≡ Ok y → Compares joins old new x y
+    compares y is = (given.0, given.1, is_join ∙ is)
+
+  -- not all of the text went out
+  pub untold : (y : Content) (before after : SinkState) → Compares joins old new x y → (f : CliFault) → IsUntold (IsDiff x y) before after f → CannotCompare joins next x old new before after f
+  untold y before after both (cli.Refused r) h = absurd h
+  untold y before after both (cli.File k f) h = absurd h
+  untold y before after both (cli.Out f) h = (y, both, h)
+  untold y before after both cli.Memory h = (none_failed old new both.0 both.1, h)
+  untold y before after both (cli.Shelf p) h = absurd h

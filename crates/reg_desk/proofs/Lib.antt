@@ -1,6 +1,5 @@
 pub mod DiffLemmas
-pub mod DiffOnLemmas
-pub mod PartLemmas
+pub pub mod PartLemmas
 pub mod FindLemmas
 pub mod LookLemmas
 pub mod StatusLemmas

@@ -10,13 +10,11 @@ use Rattle.reg_file.specs.declared.parts.Part.TheVariants as part
 use Rattle.reg_join.specs.Joining.{all_joined}
 use Rattle.reg_op.specs.Contents.{Content, nothing, joined}
 use Rattle.reg_op.specs.Pieces.{Piece, PieceRefusal}
-use Rattle.reg_engine.specs.declared.fault.InputFault.{InputFault}
 use Rattle.reg_engine.specs.declared.fault.Refusal.TheVariants as refusal
 use Rattle.reg_engine.specs.declared.fault.CliFault.{CliFault}
 use Rattle.reg_engine.specs.declared.fault.CliFault.TheVariants as cli
-use Rattle.reg_engine.specs.Inputs.{NeverFails, HoldAll, StopsAt, NoneFails, AreUnread, GivePartsAfter, registers, pieces}
+use Rattle.reg_engine.specs.Inputs.{NeverFails, HoldAll, NoneFails, GivePartsAfter, registers, pieces}
 use Rattle.reg_engine.specs.Merge.{begun, with_pieces, join_of, IsUnjoined}
-use Rattle.reg_desk.specs.Diff.{one_later, IsFew, AreUnreadLater}
 
 -- ---- what was read
 
@@ -41,29 +39,6 @@ none_failed [] (n ∷ ns) ps h = absurd h
 none_failed (o ∷ os) [] ps h = absurd h
 none_failed (o ∷ os) (n ∷ ns) [] h = absurd h
 none_failed (o ∷ os) (n ∷ ns) (p ∷ ps) h = (part_gives o n p h.0, none_failed os ns ps h.1)
-
--- ---- numbers of files
-
-stops_within : (k : ℕ) (f : InputFault) (old new : List SourceState) → StopsAt k f old new → k ≤ length old
-stops_within zero f old new h = absurd h
-stops_within (suc k) f [] new h = absurd h
-stops_within (suc k) f (o ∷ os) [] h = absurd h
-stops_within (suc zero) f (o ∷ os) (n ∷ ns) h = omega arith
-stops_within (suc (suc k)) f (o ∷ os) (n ∷ ns) h = let within : suc k ≤ length os = stops_within (suc k) f os ns h.1 in omega arith
-
-pub few : (old new : List SourceState) (f : CliFault) → AreUnread old new f → length old + 1 < 2 ^ 64 → IsFew f
-few old new (cli.Refused r) h size = tt
-few old new (cli.File k f) h size = let within : k ≤ length old = stops_within k f old new h in omega arith
-few old new (cli.Out f) h size = tt
-few old new cli.Memory h size = tt
-few old new (cli.Shelf p) h size = tt
-
-pub unread_later : (old new : List SourceState) (f : CliFault) → AreUnread old new f → AreUnreadLater old new (one_later f)
-unread_later old new (cli.Refused r) h = absurd h
-unread_later old new (cli.File k f) h = (k, refl, h)
-unread_later old new (cli.Out f) h = absurd h
-unread_later old new cli.Memory h = h
-unread_later old new (cli.Shelf p) h = absurd h
 
 -- ---- the join
 

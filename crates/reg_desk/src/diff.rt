@@ -1,51 +1,51 @@
-//! The command `diff` on files.
+//! The command `diff`.
 
-ghost use Rattle.std.specs.Prelude.{◌≡◌, ◌↔◌, ◌+◌, ◌^◌, ◌<◌, ◌∷◌, [], map, length, IsTrue, Ok, IfOk, IfErr};
+ghost use Rattle.std.specs.Prelude.{◌≡◌, ◌↔◌, ◌∷◌, [], map, IsTrue, Ok, IfOk, IfErr};
 ghost use Rattle.reg_join.specs.Joining.{all_joined};
 ghost use Rattle.reg_op.specs.Contents.{nothing, joined};
 ghost use Rattle.reg_office.specs.Reports.{Reports};
 ghost use Rattle.reg_query.specs.DiffLines.{IsDiff, Differ};
-ghost use Rattle.reg_engine.specs.Inputs.{GivePartsAfter};
+ghost use Rattle.reg_engine.specs.Inputs.{AreUnread, GivePartsAfter};
 ghost use Rattle.reg_engine.specs.Merge.{begun, with_pieces, IsUnjoined};
-ghost use Rattle.reg_desk.specs.Diff.{diff_desk, IsCompared, IsDiffFault, IsFew, one_later, AreUnreadLater, IsUntold};
+ghost use Rattle.reg_desk.specs.Diff.{joined_ones, IsCompared, IsUncompared, IsUntold};
 
 use byte_io::{Sink, Source, write_all};
 use reg_engine::{
-    CliFault, OutFault, Parts, join_pieces, join_registers, parts_of, read_file, read_parts_after,
+    CliFault, OutFault, Parts, Store, join_pieces, join_registers, parts_of, read_parts_after,
 };
 use reg_query::compare;
 use reg_state::{Piece, Register};
 use std::alloc::Global;
 
-/// Reads the register of the source, which is file 1, and then a register or a piece from each other source, whose numbers
-/// go on from 2. Writes the rows that the first register and the join of the others do not share, and answers whether there
-/// are any.
-pub fn run_diff<S: Source, K: Sink>(
+/// Loads the older register, and then reads a register or a piece from each source. Writes the rows that the older register
+/// and the join of the others do not share, and answers whether there are any. Where `joins`, the older register is among
+/// those that are joined.
+pub fn run_diff<T: Store, S: Source, K: Sink>(
     alloc: Global,
-    source: &mut S,
+    store: &mut T,
     others: &mut [S],
+    joins: bool,
     sink: &mut K,
 ) -> Result<bool, CliFault>
-    requires { length others.old + 1 < 2 ^ 64 }
-    ensures compared { IfOk result (IsCompared
-        (diff_desk (S.state source.old) (map S.state others.old) (K.state sink.old))
-        (diff_desk (S.state source.new) (map S.state others.new) (K.state sink.new))) }
-    ensures fault { IfErr result (IsDiffFault
-        (diff_desk (S.state source.old) (map S.state others.old) (K.state sink.old))
-        (diff_desk (S.state source.new) (map S.state others.new) (K.state sink.new))) }
+    ensures same { T.same store.old store.new }
+    ensures compared { IfOk result (IsCompared (T.around store.old store.new) joins
+        (map S.state others.old) (map S.state others.new) (K.state sink.old) (K.state sink.new)) }
+    ensures fault { IfErr result (IsUncompared (T.around store.old store.new) joins (T.next store.old)
+        (map S.state others.old) (map S.state others.new) (K.state sink.old) (K.state sink.new)) }
 {
-    let old = match read_file(alloc, 1, source) {
+    let next = store.next();
+    let old = match store.load(alloc) {
         Ok(old) => old,
         Err(fault) => return Err(fault),
     };
-    let Parts { registers, pieces } = match read_others(alloc, old, others) {
+    let Parts { registers, pieces } = match read_others(alloc, old, next, others) {
         Ok(parts) => parts,
         Err(fault) => return Err(fault),
     };
-    let Some((first, later)) = registers.split_first() else {
+    let Some((first, _later)) = registers.split_first() else {
         unreachable!();
     };
-    let new = match join_parts(alloc, later, &pieces) {
+    let new = match join_some(alloc, &registers, &pieces, joins) {
         Ok(new) => new,
         Err(fault) => return Err(fault),
     };
@@ -55,45 +55,47 @@ pub fn run_diff<S: Source, K: Sink>(
     }
 }
 
-// Reads the files after the first, of which the register is known: what it has is not read again.
+// Reads the files, beside a register that is known: what it has is not read again.
 fn read_others<S: Source>(
     alloc: Global,
     first: Register,
+    next: usize,
     others: &mut [S],
 ) -> Result<Parts, CliFault>
-    requires { length others.old + 1 < 2 ^ 64 }
     ensures found { IfOk result (λ parts. GivePartsAfter (first ∷ []) []
         (map S.state others.old) (map S.state others.new) parts.registers.items parts.pieces.items) }
-    ensures fault { IfErr result (AreUnreadLater (map S.state others.old) (map S.state others.new)) }
+    ensures fault { IfErr result (AreUnread next (map S.state others.old) (map S.state others.new)) }
 {
     let Ok(known) = parts_of(alloc, first) else {
         return Err(CliFault::Memory);
     };
-    match read_parts_after(alloc, known, others) {
+    match read_parts_after(alloc, known, next, others) {
         Ok(parts) => Ok(parts),
-        Err(fault) => Err(one_later(fault)),
+        Err(fault) => Err(fault),
     }
 }
 
-// The fault of a file before which another stands.
-fn one_later(fault: CliFault) -> CliFault
-    requires { IsFew fault }
-    ensures { result ≡ one_later fault }
+// All registers joined, the first of them where that is asked, and then all pieces.
+fn join_some(
+    alloc: Global,
+    registers: &[Register],
+    pieces: &[Piece],
+    joins: bool,
+) -> Result<Register, CliFault>
+    ensures ok { IfOk result (λ r. with_pieces (begun (all_joined joined (Ok nothing) (joined_ones joins registers.now))) pieces.now ≡ Ok r) }
+    ensures err { IfErr result (IsUnjoined (with_pieces (begun (all_joined joined (Ok nothing) (joined_ones joins registers.now))) pieces.now)) }
 {
-    match fault {
-        CliFault::Refused(refusal) => CliFault::Refused(refusal),
-        CliFault::File { number, fault } => CliFault::File {
-            number: number + 1,
-            fault,
-        },
-        CliFault::Out(fault) => CliFault::Out(fault),
-        CliFault::Memory => CliFault::Memory,
-        CliFault::Shelf(problem) => CliFault::Shelf(problem),
+    if joins {
+        return join_parts(alloc, registers, pieces);
+    }
+    match registers.split_first() {
+        Some((_first, later)) => join_parts(alloc, later, pieces),
+        None => join_parts(alloc, registers, pieces),
     }
 }
 
-/// All registers joined, and then all pieces.
-pub(crate) fn join_parts(
+// All registers joined, and then all pieces.
+fn join_parts(
     alloc: Global,
     registers: &[Register],
     pieces: &[Piece],
@@ -111,8 +113,8 @@ pub(crate) fn join_parts(
     }
 }
 
-/// Writes the rows that the two do not share, and answers whether there are any.
-pub(crate) fn write_diff<K: Sink>(
+// Writes the rows that the two do not share, and answers whether there are any.
+fn write_diff<K: Sink>(
     alloc: Global,
     old: &Register,
     new: &Register,

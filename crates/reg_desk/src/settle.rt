@@ -1,77 +1,117 @@
-//! Settling a register's file.
+//! The command `settle`: entries are retired so that others are kept, or so that each text is entered once.
 
-ghost use Rattle.std.specs.Prelude.{OnOk, IfErr};
-ghost use Rattle.reg_engine.specs.Outputs.{outputs};
-ghost use Rattle.reg_engine.specs.Change.{desk};
-ghost use Rattle.reg_desk.specs.Settle.{SettlesFor, CannotKeep, SettlesEqual, NeverRefuses, IsSettling, IsSettlingFault};
+ghost use Rattle.std.specs.Prelude.{◌≡◌, IfOk, IfErr};
+ghost use Rattle.reg_office.specs.Commands.{retirements};
+ghost use Rattle.reg_engine.specs.Change.{Makes, CannotMake};
+ghost use Rattle.reg_desk.specs.Settle.{settle_fault};
 
-use crate::retired::{settled, settled_equal};
-use byte_io::{Sink, Source};
-use byte_out::Place;
-use reg_engine::{CliFault, give_out, read_file};
+use reg_engine::{Change, CliFault, Made, Refusal, Retire};
+use reg_office::OfficeFault;
 use reg_op::OpId;
+use reg_settle::{SettleFault, doubles, to_retire};
+use reg_state::Register;
 use std::alloc::Global;
 use uuid::Uuid;
 
-/// Reads the register of the source, which is file 1; retires as the replica, with the note, the other entries of the keys of
-/// those that are to be kept; puts the register's file in the place, and writes the new ids to the sink, each with a newline.
-pub fn run_settle<S: Source, P: Place, K: Sink>(
+/// How many bytes a note has at most.
+const MAX_NOTE: usize = 200;
+
+/// Retires as the replica, with the note, the other entries of the keys of those that are to be kept.
+#[derive(Drop)]
+pub struct Settle<'a> {
+    pub replica: Uuid,
+    pub keeps: &'a [OpId],
+    pub note: &'a str,
+}
+
+impl Change for Settle<'_> {
+    ghost use Rattle.std.proofs.Common.{tt};
+    ghost use Rattle.reg_desk.specs.Settle.{SettlesFor, CannotKeep, Retires, IsUnretired};
+
+    ghost makes = { λ old. λ new. λ next. λ x. λ y. λ lines. Retires (SettlesFor old.keeps.now) old.replica old.note.now x y lines };
+    ghost refuses = { λ old. λ new. λ next. λ x. λ f. IsUnretired (SettlesFor old.keeps.now) (CannotKeep old.keeps.now) old.replica old.note.now x f };
+    ghost same = { λ old. λ new. Unit {0} };
+    ghost itself = { λ a. tt };
+
+    fn make(&mut self, alloc: Global, _next: usize, register: Register) -> Result<Made, CliFault> {
+        if self.note.len() > MAX_NOTE {
+            return Err(CliFault::Refused(Refusal::Office(OfficeFault::NoteTooLong)));
+        }
+        let entries = match to_retire(alloc, &register, self.keeps) {
+            Ok(entries) => entries,
+            Err(fault) => return Err(fault_of(fault)),
+        };
+        match retire_all(alloc, register, self.replica, &entries, self.note) {
+            Ok(made) => Ok(made),
+            Err(fault) => Err(fault),
+        }
+    }
+}
+
+/// Retires as the replica, with the note, all doubles.
+#[derive(Drop)]
+pub struct SettleEqual<'a> {
+    pub replica: Uuid,
+    pub note: &'a str,
+}
+
+impl Change for SettleEqual<'_> {
+    ghost use Rattle.std.proofs.Common.{tt};
+    ghost use Rattle.reg_desk.specs.Settle.{SettlesEqual, NeverRefuses, Retires, IsUnretired};
+
+    ghost makes = { λ old. λ new. λ next. λ x. λ y. λ lines. Retires SettlesEqual old.replica old.note.now x y lines };
+    ghost refuses = { λ old. λ new. λ next. λ x. λ f. IsUnretired SettlesEqual NeverRefuses old.replica old.note.now x f };
+    ghost same = { λ old. λ new. Unit {0} };
+    ghost itself = { λ a. tt };
+
+    fn make(&mut self, alloc: Global, _next: usize, register: Register) -> Result<Made, CliFault> {
+        if self.note.len() > MAX_NOTE {
+            return Err(CliFault::Refused(Refusal::Office(OfficeFault::NoteTooLong)));
+        }
+        let entries = match doubles(alloc, &register) {
+            Ok(entries) => entries,
+            Err(_) => return Err(CliFault::Memory),
+        };
+        match retire_all(alloc, register, self.replica, &entries, self.note) {
+            Ok(made) => Ok(made),
+            Err(fault) => Err(fault),
+        }
+    }
+}
+
+// Retires the entries as the replica, with the note.
+fn retire_all(
     alloc: Global,
-    source: &mut S,
+    register: Register,
     replica: Uuid,
-    keeps: &[OpId],
+    entries: &[OpId],
     note: &str,
-    place: &mut P,
-    sink: &mut K,
-) -> Result<(), CliFault>
-    ensures settled { OnOk result (IsSettling (SettlesFor keeps.now) replica note.now
-        (desk (S.state source.old) (outputs (P.state place.old) (K.state sink.old)))
-        (desk (S.state source.new) (outputs (P.state place.new) (K.state sink.new)))) }
-    ensures fault { IfErr result (IsSettlingFault (SettlesFor keeps.now) (CannotKeep keeps.now) replica note.now
-        (desk (S.state source.old) (outputs (P.state place.old) (K.state sink.old)))
-        (desk (S.state source.new) (outputs (P.state place.new) (K.state sink.new)))) }
+) -> Result<Made, CliFault>
+    ensures made { IfOk result (λ made. Makes replica note.now (retirements entries.now) register made.register made.lines.items) }
+    ensures fault { IfErr result (CannotMake replica note.now (retirements entries.now) register) }
 {
-    let register = match read_file(alloc, 1, source) {
-        Ok(register) => register,
-        Err(fault) => return Err(fault),
+    let mut command = Retire {
+        replica,
+        entries,
+        note,
     };
-    let made = match settled(alloc, register, replica, keeps, note) {
-        Ok(made) => made,
-        Err(fault) => return Err(fault),
-    };
-    match give_out(alloc, &made.register, &made.ids, place, sink) {
-        Ok(()) => Ok(()),
+    match command.make(alloc, 0, register) {
+        Ok(made) => Ok(made),
         Err(fault) => Err(fault),
     }
 }
 
-/// Reads the register of the source, which is file 1; retires as the replica, with the note, all doubles; puts the register's
-/// file in the place, and writes the new ids to the sink, each with a newline.
-pub fn run_settle_equal<S: Source, P: Place, K: Sink>(
-    alloc: Global,
-    source: &mut S,
-    replica: Uuid,
-    note: &str,
-    place: &mut P,
-    sink: &mut K,
-) -> Result<(), CliFault>
-    ensures settled { OnOk result (IsSettling SettlesEqual replica note.now
-        (desk (S.state source.old) (outputs (P.state place.old) (K.state sink.old)))
-        (desk (S.state source.new) (outputs (P.state place.new) (K.state sink.new)))) }
-    ensures fault { IfErr result (IsSettlingFault SettlesEqual NeverRefuses replica note.now
-        (desk (S.state source.old) (outputs (P.state place.old) (K.state sink.old)))
-        (desk (S.state source.new) (outputs (P.state place.new) (K.state sink.new)))) }
+fn fault_of(fault: SettleFault) -> CliFault
+    ensures { result ≡ settle_fault fault }
 {
-    let register = match read_file(alloc, 1, source) {
-        Ok(register) => register,
-        Err(fault) => return Err(fault),
-    };
-    let made = match settled_equal(alloc, register, replica, note) {
-        Ok(made) => made,
-        Err(fault) => return Err(fault),
-    };
-    match give_out(alloc, &made.register, &made.ids, place, sink) {
-        Ok(()) => Ok(()),
-        Err(fault) => Err(fault),
+    match fault {
+        SettleFault::UnknownEntry(id) => CliFault::Refused(Refusal::Office(
+            OfficeFault::UnknownEntry(id),
+        )),
+        SettleFault::AlreadyRetired(id) => CliFault::Refused(Refusal::Office(
+            OfficeFault::AlreadyRetired(id),
+        )),
+        SettleFault::KeyTaken(id) => CliFault::Refused(Refusal::KeyTaken(id)),
+        SettleFault::Memory => CliFault::Memory,
     }
 }

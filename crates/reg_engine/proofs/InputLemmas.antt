@@ -13,7 +13,7 @@ use Rattle.reg_op.specs.Pieces.{Piece}
 use Rattle.reg_engine.specs.declared.fault.InputFault.{InputFault}
 use Rattle.reg_engine.specs.declared.fault.CliFault.{CliFault}
 use Rattle.reg_engine.specs.declared.fault.CliFault.TheVariants as cli
-use Rattle.reg_engine.specs.Inputs.{IsPartFault, NeverFails, IsPartUnread, HoldAll, StopsAt, NoneFails, AreUnread, registers, pieces, GivePartsAfter}
+use Rattle.reg_engine.specs.Inputs.{IsPartFault, NeverFails, IsPartUnread, HoldAll, StopsAt, StopsFrom, NoneFails, AreUnread, registers, pieces, GivePartsAfter}
 
 abbrev head_of : {A : Type 0} → A → List A → A
 head_of d [] = d
@@ -47,6 +47,10 @@ none_failed [] (n ∷ ns) xs h = absurd h
 none_failed (o ∷ os) [] xs h = absurd h
 none_failed (o ∷ os) (n ∷ ns) [] h = absurd h
 none_failed (o ∷ os) (n ∷ ns) (x ∷ xs) h = (part_gives o n x h.0, none_failed os ns xs h.1)
+
+-- where the first is file 1, the number is the place in the list
+pub stops_first : (k : ℕ) (f : InputFault) (old new : List SourceState) → StopsFrom 1 k f old new → StopsAt k f old new
+stops_first k f old new (n, number, stops) = subst (λ j. StopsAt j f old new) (omega (arith, number)) stops
 
 registers_next : (ps : List Part) (p : Part) → registers (ps ++ p ∷ []) ≡ registers ps ++ registers (p ∷ [])
 registers_next [] p = refl
@@ -122,15 +126,23 @@ module _ {S : Type 0} (st : S → SourceState) where
       subst (λ j. StopsAt j f (map st was) (map st (slice_set now i s))) (next i) (stops_suc was now i o s xs f within size front back fault)
 
   -- what stops the reading of one stops that of all
-  pub unread_next : (was now : List S) (i : ℕ) (o s : S) (xs : List Part) → i < length was → length now ≡ length was
-      → HoldAll (take i (map st was)) (take i (map st now)) xs → drop i (map st now) ≡ drop i (map st was)
-      → (f : CliFault) → IsPartUnread (i + 1) (st (get_or now i o)) (st s) f → AreUnread (map st was) (map st (slice_set now i s)) f
-  unread_next was now i o s xs within size front back (cli.Refused r) h = absurd h
-  unread_next was now i o s xs within size front back (cli.File k f) (number, fault) =
-      subst (λ j. StopsAt j f (map st was) (map st (slice_set now i s))) (sym number) (stops_next was now i o s xs f within size front back fault)
-  unread_next was now i o s xs within size front back (cli.Out f) h = absurd h
-  unread_next was now i o s xs within size front back cli.Memory h = none_fails_next was now i o s xs within size front back h
-  unread_next was now i o s xs within size front back (cli.Shelf p) h = absurd h
+  pub unread_next : (was now : List S) (next i number : ℕ) (o s : S) (xs : List Part) → i < length was → length now ≡ length was
+      → HoldAll (take i (map st was)) (take i (map st now)) xs → drop i (map st now) ≡ drop i (map st was) → number ≡ next + i
+      → (f : CliFault) → IsPartUnread number (st (get_or now i o)) (st s) f → AreUnread next (map st was) (map st (slice_set now i s)) f
+  unread_next was now next i number o s xs within size front back at (cli.Refused r) h = absurd h
+  unread_next was now next i number o s xs within size front back at (cli.File k f) (is, fault) = (i + 1, omega (arith, at, is), stops_next was now i o s xs f within size front back fault)
+  unread_next was now next i number o s xs within size front back at (cli.Out f) h = absurd h
+  unread_next was now next i number o s xs within size front back at cli.Memory h = none_fails_next was now i o s xs within size front back h
+  unread_next was now next i number o s xs within size front back at (cli.Shelf p) h = absurd h
+
+  -- there is no next number
+  pub none_fails_yet : (was now : List S) (i : ℕ) (xs : List Part) → i < length was → length now ≡ length was
+      → HoldAll (take i (map st was)) (take i (map st now)) xs → drop i (map st now) ≡ drop i (map st was) → NoneFails (map st was) (map st now)
+  none_fails_yet was [] i xs within size front back = absurd (omega arith)
+  none_fails_yet [] (n ∷ ns) i xs within size front back = absurd (omega arith)
+  none_fails_yet (w ∷ ws) (n ∷ ns) zero xs within size front back = subst (λ k. NoneFails (map st (w ∷ ws)) k) (sym back) (none_given (map st (w ∷ ws)))
+  none_fails_yet (w ∷ ws) (n ∷ ns) (suc i) [] within size front back = absurd front
+  none_fails_yet (w ∷ ws) (n ∷ ns) (suc i) (y ∷ ys) within size front back = (part_gives _ _ y front.0, none_fails_yet ws ns i ys (omega arith) (omega arith) front.1 back)
 
   pub gives_next : (some : List Content) (few : List Piece) (was now : List S) (i : ℕ) (o s : S) (xs xs' : List Content) (qs qs' : List Piece) (p : Part) → i < length was → length now ≡ length was
       → GivePartsAfter some few (take i (map st was)) (take i (map st now)) xs qs → drop i (map st now) ≡ drop i (map st was) → FindsPart (st (get_or now i o)) (st s) p

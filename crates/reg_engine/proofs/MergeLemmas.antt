@@ -24,10 +24,10 @@ use Rattle.std.specs.Prelude.{◌↔◌}
 use Rattle.reg_state.specs.declared.piece.PieceFault.{PieceFault}
 use Rattle.reg_state.specs.declared.piece.PieceFault.TheVariants as piece
 use Rattle.reg_engine.specs.Fault.{piece_fault}
-use Rattle.reg_engine.specs.Inputs.{HoldAll, registers, pieces, GiveParts}
+use Rattle.reg_engine.specs.Inputs.{HoldAll, AreUnread, registers, pieces, GiveParts}
 use Rattle.reg_engine.specs.Outputs.{IsUnpublished}
 use Rattle.reg_engine.specs.Merge.{begun, with_pieces, join_of, IsUnjoined, brought, IsMergeOf, JoinTo, Ends, IsMergeFault}
-use Rattle.reg_engine.proofs.InputLemmas.{none_failed}
+use Rattle.reg_engine.proofs.InputLemmas.{none_failed, stops_first}
 
 abbrev content_or : {E : Type 0} → Content → Result Content E → Content
 content_or d (Ok x) = x
@@ -206,3 +206,11 @@ fault_or d (Err f) = f
 
 pub never_too_large : (old new : PlaceState) (f : CliFault) → IsUnpublished nothing old new f → ◌≡◌ {A = Result (Unit {0}) CliFault} (Err f) (Err (cli.Out out.TooLarge)) → ⊥
 never_too_large old new f h e = nothing_is_small (subst (λ k. IsUnpublished nothing old new k) (ap (fault_or f) e) h).0
+
+-- a file was not read
+pub unread : (old new : Ends) → new.place ≡ old.place → (f : CliFault) → AreUnread 1 old.sources new.sources f → IsMergeFault old new f
+unread old new same (cli.Refused r) h = absurd h
+unread old new same (cli.File k f) h = (stops_first k f old.sources new.sources h, same)
+unread old new same (cli.Out f) h = absurd h
+unread old new same cli.Memory h = (h, same)
+unread old new same (cli.Shelf p) h = absurd h

@@ -13,7 +13,7 @@ use Rattle.reg_engine.specs.Inputs.{HoldAll, GivePartsAfter, AreUnread, NoneFail
 use Rattle.reg_engine.specs.Merge.{begun, with_pieces, join_of, IsUnjoined, JoinTo}
 use Rattle.reg_engine.specs.Shelf.{Disks, Has, StaysOn, IsUnrestored, IsUnkept}
 use Rattle.reg_engine.specs.MergeOn.{ShelfEnds, shelf_ends, MergesTo, IsMergeFaultOn}
-use Rattle.reg_engine.proofs.InputLemmas.{none_failed, none_given}
+use Rattle.reg_engine.proofs.InputLemmas.{stops_first, none_failed, none_given}
 use Rattle.reg_engine.proofs.MergeLemmas.{Ways, ways, of_parts, refusal_stays}
 
 pub merge_unrestored : {D : Type 0} (d : Disks D) (sources : List SourceState) (old new : D) (f : CliFault) → IsUnrestored d old new f
@@ -25,9 +25,9 @@ merge_unrestored d sources old new cli.Memory h = (none_given sources, h)
 merge_unrestored d sources old new (cli.Shelf p) h = inl (h, refl)
 
 pub merge_unread : {D : Type 0} (d : Disks D) (old new : ShelfEnds D) (x : Content) → Has d old.disk x → StaysOn d old.disk new.disk
-    → (f : CliFault) → AreUnread old.sources new.sources f → IsMergeFaultOn d old new f
+    → (f : CliFault) → AreUnread 1 old.sources new.sources f → IsMergeFaultOn d old new f
 merge_unread d old new x has stays (cli.Refused r) h = absurd h
-merge_unread d old new x has stays (cli.File k f) h = ((x, has), h, stays)
+merge_unread d old new x has stays (cli.File k f) h = ((x, has), stops_first k f old.sources new.sources h, stays)
 merge_unread d old new x has stays (cli.Out f) h = absurd h
 merge_unread d old new x has stays cli.Memory h = (h, stays)
 merge_unread d old new x has stays (cli.Shelf p) h = absurd h

@@ -90,13 +90,17 @@ NoneFails [] (n ∷ ns) = ⊥
 NoneFails (o ∷ os) [] = ⊥
 NoneFails (o ∷ os) (n ∷ ns) = NeverFails o n × NoneFails os ns
 
--- what a command did to its files before it gave up
-abbrev pub AreUnread : List SourceState → List SourceState → CliFault → Type 0
-AreUnread old new (cli.Refused r) = ⊥
-AreUnread old new (cli.File k f) = StopsAt k f old new
-AreUnread old new (cli.Out f) = ⊥
-AreUnread old new cli.Memory = NoneFails old new
-AreUnread old new (cli.Shelf p) = ⊥
+-- the first has the number `next`, and the others go on from there: number k has the fault
+abbrev pub StopsFrom : ℕ → ℕ → InputFault → List SourceState → List SourceState → Type 0
+StopsFrom next k f old new = (n : ℕ) × (k + 1 ≡ next + n) × StopsAt n f old new
+
+-- what a command did to its files, the first of which has the number `next`, before it gave up
+abbrev pub AreUnread : ℕ → List SourceState → List SourceState → CliFault → Type 0
+AreUnread next old new (cli.Refused r) = ⊥
+AreUnread next old new (cli.File k f) = StopsFrom next k f old new
+AreUnread next old new (cli.Out f) = ⊥
+AreUnread next old new cli.Memory = NoneFails old new
+AreUnread next old new (cli.Shelf p) = ⊥
 
 -- ---- what is joined
 

@@ -1,6 +1,7 @@
 pub mod Fault
 pub mod Names
 pub mod Check
+pub mod Devices
 pub mod Inputs
 pub mod Outputs
 pub mod Merge

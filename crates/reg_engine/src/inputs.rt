@@ -91,31 +91,37 @@ pub fn parts_of(alloc: Global, register: Register) -> Result<Parts, AllocError>
     })
 }
 
-/// Reads a register or a piece from each source, in their order, and stops at the first that has none.
+/// Reads a register or a piece from each source, in their order, and stops at the first that has none. The first source is
+/// file 1.
 pub fn read_parts<S: Source>(alloc: Global, sources: &mut [S]) -> Result<Parts, CliFault>
     ensures found { IfOk result (λ parts. GiveParts (map S.state sources.old) (map S.state sources.new) parts.registers.items parts.pieces.items) }
-    ensures fault { IfErr result (AreUnread (map S.state sources.old) (map S.state sources.new)) }
+    ensures fault { IfErr result (AreUnread 1 (map S.state sources.old) (map S.state sources.new)) }
 {
     let none = Parts {
         registers: Vec::new(alloc),
         pieces: Vec::new(alloc),
     };
-    read_parts_after(alloc, none, sources)
+    read_parts_after(alloc, none, 1, sources)
 }
 
-/// Reads them likewise, after those that are known. What a known register has is not read again.
+/// Reads them likewise, after those that are known: the first source has this number among all files. What a known register
+/// has is not read again.
 pub fn read_parts_after<S: Source>(
     alloc: Global,
     known: Parts,
+    next: usize,
     sources: &mut [S],
 ) -> Result<Parts, CliFault>
     ensures found { IfOk result (λ parts. GivePartsAfter known.registers.items known.pieces.items
         (map S.state sources.old) (map S.state sources.new) parts.registers.items parts.pieces.items) }
-    ensures fault { IfErr result (AreUnread (map S.state sources.old) (map S.state sources.new)) }
+    ensures fault { IfErr result (AreUnread next (map S.state sources.old) (map S.state sources.new)) }
 {
     let mut parts = known;
     for i in 0..sources.len() {
-        let part = match read_next(alloc, &parts.registers, i + 1, &mut sources[i]) {
+        let Some(number) = next.checked_add(i) else {
+            return Err(CliFault::Memory);
+        };
+        let part = match read_next(alloc, &parts.registers, number, &mut sources[i]) {
             Ok(part) => part,
             Err(fault) => return Err(fault),
         };

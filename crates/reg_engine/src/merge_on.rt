@@ -34,7 +34,7 @@ pub fn run_merge_on<D: Disk, S: Source>(
     let Ok(known) = parts_of(alloc, first) else {
         return Err(CliFault::Memory);
     };
-    let Parts { registers, pieces } = match read_parts_after(alloc, known, sources) {
+    let Parts { registers, pieces } = match read_parts_after(alloc, known, 1, sources) {
         Ok(parts) => parts,
         Err(fault) => return Err(fault),
     };

@@ -1,18 +1,17 @@
-//! The command `import` on a register's file.
+//! The command `import` on a register, wherever that is.
 
 ghost use Rattle.std.specs.Prelude.{map, OnOk, IfErr};
-ghost use Rattle.reg_desk.specs.ImportEngines.{IsTold, IsUntold, desk, into_place, of_file, IsImported, IsUnimported};
+ghost use Rattle.reg_desk.specs.ImportEngines.{IsTold, IsUntold, kept_in, only_read, IsImported, IsUnimported};
 
-use crate::import::fault::Unimported;
-use crate::import::order::Order;
-use crate::import::ready::{Ready, make_ready};
+use super::fault::Unimported;
+use super::order::Order;
+use super::ready::{Ready, make_ready};
 use byte_io::{Sink, Source, write_all};
-use byte_out::Place;
-use reg_engine::{CliFault, OutFault, publish_register, read_file};
+use reg_engine::{CliFault, Keep, OutFault, Store};
 use std::alloc::Global;
 
-/// Writes the lines, and answers what is said of texts that were passed over.
-pub fn tell<K: Sink>(
+// Writes the lines, and answers what is reported of texts that were passed over.
+fn tell<K: Sink>(
     alloc: Global,
     lines: &[u8],
     passed: Option<Unimported>,
@@ -31,27 +30,23 @@ pub fn tell<K: Sink>(
     }
 }
 
-/// Reads the register of the source, which is file 1, and then the files of texts, the first of which is file 2; imports
-/// the texts; puts the register's file in the place, and then writes a line for each text to the sink. Where texts were
-/// passed over, the first of them is answered then.
-pub fn run_import<S: Source, F: Source, P: Place, K: Sink>(
+/// Loads the register, and then reads the files of texts; imports the texts; keeps the register, and then writes a line for
+/// each text to the sink. Where texts were passed over, the first of them is answered then.
+pub fn run_import<T: Keep, F: Source, K: Sink>(
     alloc: Global,
-    source: &mut S,
+    store: &mut T,
     files: &mut [F],
     order: &Order<'_>,
-    place: &mut P,
     sink: &mut K,
 ) -> Result<(), Unimported>
-    ensures imported { OnOk result (IsImported (into_place
-        (desk (S.state source.old) (P.state place.old) (K.state sink.old))
-        (desk (S.state source.new) (P.state place.new) (K.state sink.new)))
-        order.now 2 (map F.state files.old) (map F.state files.new)) }
-    ensures fault { IfErr result (IsUnimported (into_place
-        (desk (S.state source.old) (P.state place.old) (K.state sink.old))
-        (desk (S.state source.new) (P.state place.new) (K.state sink.new)))
-        order.now 2 (map F.state files.old) (map F.state files.new)) }
+    ensures same { T.same store.old store.new }
+    ensures imported { OnOk result (IsImported (kept_in (T.around store.old store.new) (K.state sink.old) (K.state sink.new))
+        order.now (T.next store.old) (map F.state files.old) (map F.state files.new)) }
+    ensures fault { IfErr result (IsUnimported (kept_in (T.around store.old store.new) (K.state sink.old) (K.state sink.new))
+        order.now (T.next store.old) (map F.state files.old) (map F.state files.new)) }
 {
-    let register = match read_file(alloc, 1, source) {
+    let next = store.next();
+    let register = match store.load(alloc) {
         Ok(register) => register,
         Err(fault) => return Err(Unimported::plain(alloc, fault)),
     };
@@ -59,11 +54,11 @@ pub fn run_import<S: Source, F: Source, P: Place, K: Sink>(
         register,
         lines,
         passed,
-    } = match make_ready(alloc, register, 2, order, files) {
+    } = match make_ready(alloc, register, next, order, files) {
         Ok(ready) => ready,
         Err(why) => return Err(why),
     };
-    if let Err(fault) = publish_register(alloc, &register, place) {
+    if let Err(fault) = store.keep(alloc, &register) {
         return Err(Unimported::plain(alloc, fault));
     }
     match tell(alloc, &lines, passed, sink) {
@@ -72,22 +67,22 @@ pub fn run_import<S: Source, F: Source, P: Place, K: Sink>(
     }
 }
 
-/// The same, without the place: the lines say what would be made.
-pub fn try_import<S: Source, F: Source, K: Sink>(
+/// The same, and the register is not kept: the lines say what would be made.
+pub fn try_import<T: Store, F: Source, K: Sink>(
     alloc: Global,
-    source: &mut S,
+    store: &mut T,
     files: &mut [F],
     order: &Order<'_>,
     sink: &mut K,
 ) -> Result<(), Unimported>
-    ensures imported { OnOk result (IsImported
-        (of_file (S.state source.old) (S.state source.new) (K.state sink.old) (K.state sink.new))
-        order.now 2 (map F.state files.old) (map F.state files.new)) }
-    ensures fault { IfErr result (IsUnimported
-        (of_file (S.state source.old) (S.state source.new) (K.state sink.old) (K.state sink.new))
-        order.now 2 (map F.state files.old) (map F.state files.new)) }
+    ensures same { T.same store.old store.new }
+    ensures imported { OnOk result (IsImported (only_read (T.around store.old store.new) (K.state sink.old) (K.state sink.new))
+        order.now (T.next store.old) (map F.state files.old) (map F.state files.new)) }
+    ensures fault { IfErr result (IsUnimported (only_read (T.around store.old store.new) (K.state sink.old) (K.state sink.new))
+        order.now (T.next store.old) (map F.state files.old) (map F.state files.new)) }
 {
-    let register = match read_file(alloc, 1, source) {
+    let next = store.next();
+    let register = match store.load(alloc) {
         Ok(register) => register,
         Err(fault) => return Err(Unimported::plain(alloc, fault)),
     };
@@ -95,7 +90,7 @@ pub fn try_import<S: Source, F: Source, K: Sink>(
         register: _,
         lines,
         passed,
-    } = match make_ready(alloc, register, 2, order, files) {
+    } = match make_ready(alloc, register, next, order, files) {
         Ok(ready) => ready,
         Err(why) => return Err(why),
     };

@@ -1,12 +1,18 @@
-use Rattle.std.proofs.Common.{refl, rules, subst, sym, take, map, slice_set, ◌+◌}
-use Rattle.reg_engine.proofs.InputLemmas.{gives_next, gives_all, none_given_yet, behind, unread_next, none_fails_next, part_gives}
+use Rattle.std.proofs.Common.{◌≡◌, refl, rules, subst, sym, take, map, slice_set, ◌+◌}
+use Rattle.reg_engine.proofs.InputLemmas.{gives_next, gives_all, none_given_yet, behind, unread_next, none_fails_yet, none_fails_next, part_gives}
 use Rattle.reg_engine.proofs.inputs.read_parts_after.Goals as goal
+
+pub returns-in_default-clause-fault : goal.returns-in_default-clause-fault
+returns-in_default-clause-fault g c =
+    let was = c.loop-i.invariant in
+    none_fails_yet g.S.Source.state c.args.sources.now c.loop-i.sources c.loop-i.i was.front.0 c.loop-i-test.true was.size was.front.1 was.back
 
 pub returns-in-Err-clause-fault : goal.returns-in-Err-clause-fault
 returns-in-Err-clause-fault g c =
     let was = c.loop-i.invariant in
-    unread_next g.S.Source.state c.args.sources.now c.loop-i.sources c.loop-i.i c.index-sources-i.result c.read_next.new.source was.front.0
-    c.loop-i-test.true was.size was.front.1 was.back c.in-Err.fault c.in-Err.ensures.fault
+    let at : c.in-Some.number ≡ c.args.next + c.loop-i.i = search rules in
+    unread_next g.S.Source.state c.args.sources.now c.loop-i.sources c.args.next c.loop-i.i c.in-Some.number c.index-sources-i.result c.read_next.new.source was.front.0
+    c.loop-i-test.true was.size was.front.1 was.back at c.in-Err.fault c.in-Err.ensures.fault
 
 pub returns-in-Err-push-clause-fault : goal.returns-in-Err-push-clause-fault
 returns-in-Err-push-clause-fault g c =

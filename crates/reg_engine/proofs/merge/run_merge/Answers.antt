@@ -4,8 +4,13 @@ use Rattle.reg_op.specs.Pieces.{Piece}
 use Rattle.reg_join.specs.Joining.{all_joined}
 use Rattle.reg_engine.specs.Merge.{ends, begun, with_pieces, IsUnjoined}
 use Rattle.reg_engine.proofs.InputLemmas.{none_failed}
-use Rattle.reg_engine.proofs.MergeLemmas.{unmerged, unjoined_first, unjoined_then, joins_to}
+use Rattle.reg_engine.proofs.MergeLemmas.{unread, unmerged, unjoined_first, unjoined_then, joins_to}
 use Rattle.reg_engine.proofs.merge.run_merge.Goals as goal
+
+pub returns-in-Err-clause-fault : goal.returns-in-Err-clause-fault
+returns-in-Err-clause-fault g c =
+    unread (ends (map g.S.Source.state c.args.sources.now) (g.P.Place.state c.args.place.now)) (ends (map g.S.Source.state c.read_parts.new.sources) (g.P.Place.state c.args.place.now))
+    refl c.in-Err.fault c.in-Err.ensures.fault
 
 pub returns-in-Err-join_registers-clause-fault : goal.returns-in-Err-join_registers-clause-fault
 returns-in-Err-join_registers-clause-fault g c =
