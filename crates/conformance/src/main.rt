@@ -4,8 +4,6 @@
 
 mod script;
 mod table;
-#[cfg(test)]
-mod words;
 
 use std::{env, fs, io};
 

@@ -1,8 +1,10 @@
-//! Tests of operations, ids and registers through their public calls.
+//! Tests of operations, ids, registers and their files through their public calls.
 #![tactic(auto)]
 
 #[cfg(test)]
 mod faults;
+#[cfg(test)]
+mod files;
 #[cfg(test)]
 mod marks;
 #[cfg(test)]

@@ -1,5 +1,7 @@
-//! Tests of registers on shelves through the public calls of `reg_shelf` and `reg_engine`.
+//! Tests of disks and shelves, and of registers on them, through their public calls.
 #![tactic(auto)]
 
+#[cfg(test)]
+mod disks;
 #[cfg(test)]
 mod shelves;

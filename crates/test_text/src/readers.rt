@@ -2,14 +2,12 @@
 
 mod canonical;
 mod definitions;
-mod extents;
 mod growth;
 mod printed;
-mod refused;
 
 use std::alloc::Global;
 use std::process::Abort;
-use wkt_crs::{Condition, Crs, ReadFault, read_crs, write_crs, write_pretty};
+use wkt_crs::{Crs, read_crs, write_crs, write_pretty};
 
 /// A vertical system, canonical.
 const HEIGHT: &[u8] =
@@ -43,22 +41,6 @@ fn has_text(rt: &impl Abort, alloc: Global, crs: &Crs, text: &[u8]) -> bool {
     written.as_slice() == text
 }
 
-fn refusal(alloc: Global, text: &[u8]) -> Option<ReadFault> {
-    read_crs(alloc, text).err()
-}
-
-fn is_refused(alloc: Global, text: &[u8], fault: ReadFault) -> bool {
-    refusal(alloc, text) == Some(fault)
-}
-
-#[test]
-fn canonical_texts_give_themselves(rt: HostRuntime) {
-    let alloc = rt.alloc();
-    for text in [HEIGHT, COMPOUND, POLAR] {
-        assert!(rt; has_text(&rt, alloc, &read(&rt, alloc, text), text));
-    }
-}
-
 #[test]
 fn every_spelling_gives_the_canonical_text(rt: HostRuntime) {
     let alloc = rt.alloc();
@@ -68,15 +50,4 @@ fn every_spelling_gives_the_canonical_text(rt: HostRuntime) {
     drop(crs);
     let again = read(&rt, alloc, &pretty);
     assert!(rt; has_text(&rt, alloc, &again, HEIGHT));
-}
-
-#[test]
-fn conditions_are_told_of_the_component(rt: HostRuntime) {
-    let text =
-        b"COMPOUNDCRS[\"C\",GEOGCRS[\"G\",DATUM[\"D\",ELLIPSOID[\"S\",6371000,0]],CS[ellipsoidal,2],AXIS[\"(Lat)\",north],AXIS[\"(Lon)\",east],ANGLEUNIT[\"degree\",0.0174532925199433]],VERTCRS[\"H\",VDATUM[\"D\"],CS[vertical,1],AXIS[\"height (H)\",up]],ID[\"X\",9]]";
-    let broken = ReadFault::Broken {
-        condition: Condition::C3,
-        place: 161,
-    };
-    assert!(rt; is_refused(rt.alloc(), text, broken));
 }

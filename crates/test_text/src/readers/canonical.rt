@@ -1,10 +1,9 @@
 //! Canonical texts that are seen to be so.
 
-use super::{COMPOUND, HEIGHT, LISTED, POLAR, SPELLED, refusal};
+use super::{COMPOUND, HEIGHT, LISTED, POLAR, SPELLED};
 use byte_io::{Pieces, Reading, Then};
-use std::alloc::Global;
 use wkt_canonical::{is_canonical, recognize};
-use wkt_crs::{ReadFromFault, canonical_text, canonical_text_from};
+use wkt_crs::{ReadFromFault, canonical_text_from};
 
 /// A geocentric system.
 const GEOCENTRIC: &[u8] =
@@ -13,9 +12,6 @@ const GEOCENTRIC: &[u8] =
 const PLANE_AND_HEIGHT: &[u8] =
     b"COMPOUNDCRS[\"C\",GEOGCRS[\"G\",DATUM[\"D\",ELLIPSOID[\"S\",6371000,0]],CS[ellipsoidal,2],AXIS[\"(Lat)\",north,ANGLEUNIT[\"degree\",0.0174532925199433]],AXIS[\"(Lon)\",east,ANGLEUNIT[\"degree\",0.0174532925199433]]],VERTCRS[\"H\",VDATUM[\"D\",ANCHOR[\"A\"]],CS[vertical,1],AXIS[\"height (H)\",up,LENGTHUNIT[\"metre\",1]]],ID[\"X\",9]]";
 
-const GEOCENTRIC_AND_HEIGHT: &[u8] =
-    b"COMPOUNDCRS[\"C\",GEODCRS[\"G\",DATUM[\"D\",ELLIPSOID[\"S\",6371000,0]],CS[Cartesian,3],AXIS[\"(X)\",geocentricX,LENGTHUNIT[\"metre\",1]],AXIS[\"(Y)\",geocentricY,LENGTHUNIT[\"metre\",1]],AXIS[\"(Z)\",geocentricZ,LENGTHUNIT[\"metre\",1]]],VERTCRS[\"H\",VDATUM[\"D\"],CS[vertical,1],AXIS[\"height (H)\",up,LENGTHUNIT[\"metre\",1]]],ID[\"X\",9]]";
-
 /// A vertical system with geoid models, and with vertical extents in its usages.
 const MODELLED: &[u8] =
     b"VERTCRS[\"H\",VDATUM[\"D\"],CS[vertical,1],AXIS[\"height (H)\",up],LENGTHUNIT[\"metre\",1],GEOIDMODEL[\"M\",ID[\"X\",8]],GEOIDMODEL[\"N\"],USAGE[SCOPE[\"s\"],AREA[\"A\"],BBOX[-1.92,2.66,6.38,8.49],VERTICALEXTENT[-10,20,LENGTHUNIT[\"metre\",1]]],USAGE[SCOPE[\"t\"],VERTICALEXTENT[-0.5,2]],ID[\"X\",7]]";
@@ -23,10 +19,6 @@ const MODELLED: &[u8] =
 /// A compound whose own usage has a vertical extent.
 const EXTENDED: &[u8] =
     b"COMPOUNDCRS[\"C\",GEOGCRS[\"G\",DATUM[\"D\",ELLIPSOID[\"S\",6371000,0]],CS[ellipsoidal,2],AXIS[\"(Lat)\",north],AXIS[\"(Lon)\",east],ANGLEUNIT[\"degree\",0.0174532925199433]],VERTCRS[\"H\",VDATUM[\"D\"],CS[vertical,1],AXIS[\"height (H)\",up],LENGTHUNIT[\"metre\",1]],USAGE[SCOPE[\"s\"],VERTICALEXTENT[0,9,UNIT[\"metre\",1]]],ID[\"X\",9]]";
-
-/// The same with a factor of 0.
-const FLAT: &[u8] =
-    b"COMPOUNDCRS[\"C\",GEOGCRS[\"G\",DATUM[\"D\",ELLIPSOID[\"S\",6371000,0]],CS[ellipsoidal,2],AXIS[\"(Lat)\",north],AXIS[\"(Lon)\",east],ANGLEUNIT[\"degree\",0.0174532925199433]],VERTCRS[\"H\",VDATUM[\"D\"],CS[vertical,1],AXIS[\"height (H)\",up],LENGTHUNIT[\"metre\",1]],USAGE[SCOPE[\"s\"],VERTICALEXTENT[0,9,UNIT[\"metre\",0]]],ID[\"X\",9]]";
 
 #[test]
 fn canonical_texts_are_seen(rt: HostRuntime) {
@@ -43,8 +35,6 @@ fn canonical_texts_are_seen(rt: HostRuntime) {
         assert!(rt; is_canonical(text));
     }
     assert!(rt; !is_canonical(SPELLED));
-    assert!(rt; !is_canonical(GEOCENTRIC_AND_HEIGHT));
-    assert!(rt; !is_canonical(FLAT));
 }
 
 #[test]
@@ -54,21 +44,6 @@ fn a_name_and_an_identifier_are_seen(rt: HostRuntime) {
     let identifier = seen.identifier.expect(&rt, "an identifier");
     assert!(rt; identifier.authority == b"X".as_slice());
     assert!(rt; identifier.code == b"9".as_slice());
-}
-
-#[test]
-fn each_text_has_one_canonical_text(rt: HostRuntime) {
-    for (text, canonical) in [
-        (LISTED, LISTED),
-        (PLANE_AND_HEIGHT, PLANE_AND_HEIGHT),
-        (COMPOUND, COMPOUND),
-        (MODELLED, MODELLED),
-        (EXTENDED, EXTENDED),
-        (SPELLED, HEIGHT),
-    ] {
-        let found = canonical_text(rt.alloc(), text).expect(&rt, "a text of a system");
-        assert!(rt; found.as_slice() == canonical);
-    }
 }
 
 #[test]
@@ -83,17 +58,4 @@ fn a_source_has_the_canonical_text_of_its_text(rt: HostRuntime) {
     let mut failing = Pieces::new(HEIGHT, 10, Then::Fails);
     let fault = canonical_text_from(rt.alloc(), &mut failing).err();
     assert!(rt; fault == Some(ReadFromFault::ReadFailed(93)));
-}
-
-// Whether a text has no canonical text, for the reason that it is not read.
-fn is_refused_alike(alloc: Global, text: &[u8]) -> bool {
-    let fault = canonical_text(alloc, text).err();
-    fault.is_some() && fault == refusal(alloc, text)
-}
-
-#[test]
-fn a_text_with_a_fault_has_no_canonical_text(rt: HostRuntime) {
-    for text in [b"VERTCRS[".as_slice(), b"VERTCRS[1]", GEOCENTRIC_AND_HEIGHT] {
-        assert!(rt; is_refused_alike(rt.alloc(), text));
-    }
 }

@@ -1,5 +1,5 @@
 use Rattle.std.proofs.Common.{◌≡◌, take}
-use Rattle.bench_registers.proofs.work.all_of.Given as goal
+use Rattle.bench.proofs.work.all_of.Given as goal
 
 abbrev pub invariant-loop-op : goal.invariant-loop-op
 invariant-loop-op l = l.made.items ≡ take l.op-index l.ops

@@ -1,10 +1,8 @@
-//! Reads each text of a file, one a line, and writes it again, as often as asked: `bench_texts FILE TIMES [WORK]`, where
-//! WORK is how far it goes: `scan`, `slots`, `read`, `write`, `canonical`, `pretty` or `define`. It prints counts alone: the
-//! time is taken from outside.
-#![tactic(auto)]
+//! Texts that are read, and written again: FILE has one a line.
 
+use crate::number;
 use std::alloc::{AllocError, Global};
-use std::{env, fs, io};
+use std::{fs, io};
 use wkt_crs::{
     Definition, DefinitionFault, ReadFault, canonical_text, read_crs, write_crs, write_pretty,
 };
@@ -67,23 +65,24 @@ struct Task<'a> {
 }
 
 fn asked(words: &[String]) -> Option<Task<'_>> {
-    let file = words.get(1)?.as_str();
-    let times = words.get(2)?.as_str().parse::<u32>().ok()?;
-    let work = match words.get(3) {
+    let file = words.get(2)?.as_str();
+    let work = match words.get(4) {
         Some(word) => Work::of_word(word.as_str())?,
         None => Work::Canonical,
     };
-    Some(Task { file, times, work })
+    Some(Task {
+        file,
+        times: number(words, 3, 2),
+        work,
+    })
 }
 
-fn main(rt: HostRuntime) -> io::Result<()> {
-    let words: Vec<String> = env::args(&rt)?.collect(rt.alloc())?;
-    let Some(Task { file, times, work }) = asked(&words) else {
-        return println!(rt;
-            "bench_texts FILE TIMES [scan|slots|read|write|canonical|pretty|define]"
-        );
+/// Goes over the texts of a file, and prints how many are written and refused.
+pub fn run(rt: &HostRuntime, words: &[String]) -> io::Result<()> {
+    let Some(Task { file, times, work }) = asked(words) else {
+        return println!(rt; "texts FILE TIMES [scan|slots|read|write|canonical|pretty|define]");
     };
-    let file = fs::read(&rt, file)?;
+    let file = fs::read(rt, file)?;
     let texts = lines_of(rt.alloc(), &file)?;
     let mut counts = NONE;
     for _ in 0..times {

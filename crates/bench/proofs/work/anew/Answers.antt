@@ -1,7 +1,7 @@
 use Rattle.std.proofs.Common.{sym, ap, ◌∙◌}
 use Rattle.reg_op.specs.Set.{contains, contains-items}
 use Rattle.reg_op.specs.Lists.{has}
-use Rattle.bench_registers.proofs.work.anew.Goals as goal
+use Rattle.bench.proofs.work.anew.Goals as goal
 
 pub from_content-requires-clause-are_seen : goal.from_content-requires-clause-are_seen
 from_content-requires-clause-are_seen c = λ o h.

@@ -1,4 +1,4 @@
-use Rattle.bench_registers.proofs.files.+made.Given as goal
+use Rattle.bench.proofs.files.+made.Given as goal
 
 abbrev pub decreases-made : goal.decreases-made
 decreases-made l = l.count

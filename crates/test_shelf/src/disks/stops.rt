@@ -1,6 +1,6 @@
 //! Stops and failures at each call of a disk.
 
-use crate::shelves::disk_of;
+use super::shelves::disk_of;
 use byte_disk::{Disk, DiskFault, MemDisk, Pending};
 use byte_shelf::{ShelfFault, format, keep, restore};
 use std::alloc::{AllocError, Global};
