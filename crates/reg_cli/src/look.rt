@@ -4,9 +4,9 @@ use crate::stores::{Opened as Register, next_file, open_register, print_of};
 use crate::words::{STANDARD_INPUT, entry, form, kind, open, open_all, open_to_read, word};
 use clap::ArgMatches;
 use reg_desk::{
-    CliFault, Explained, Export, FileDisk, Find, FindIds, Kept, OfFile, Offices, OnShelf, Opened,
-    Ops, Query, Reading, Report, Show, Wanted, Wkt, Writing, run_check_explained, run_diff,
-    run_status, run_status_on,
+    CliFault, Explained, Export, FileAt, FileDisk, Find, FindIds, Kept, OfFile, Offices, OnShelf,
+    Opened, Ops, Query, Reading, Report, ShelfAt, Show, Wanted, Wkt, Writing, run_check_explained,
+    run_diff, run_status,
 };
 use std::alloc::{AllocError, Global};
 use std::rt::Files;
@@ -112,7 +112,7 @@ pub fn status(rt: &HostRuntime, matches: &ArgMatches<'_>) -> Result<(), CliFault
         let Ok(mut shelves) = opened_shelves(rt, rt.alloc(), paths) else {
             return Err(CliFault::Memory);
         };
-        return run_status_on(rt.alloc(), &names, &mut shelves, settled, &mut sink);
+        return run_status(rt.alloc(), &names, &mut shelves, settled, &mut sink);
     }
     let Ok(mut files) = opened_files(rt, rt.alloc(), paths) else {
         return Err(CliFault::Memory);
@@ -134,14 +134,14 @@ fn opened_files<R: Files>(
     rt: &R,
     alloc: Global,
     paths: &[&str],
-) -> Result<Vec<Opened<Reading<R::File>>>, AllocError> {
+) -> Result<Vec<FileAt<Reading<R::File>>>, AllocError> {
     let mut files = Vec::new(alloc);
     for path in paths {
         let file = match fs::open(rt, *path) {
             Ok(file) => Opened::Source(Reading::new(file)),
             Err(_) => Opened::NotOpened,
         };
-        files.push(file)?;
+        files.push(FileAt { opened: file })?;
     }
     Ok(files)
 }
@@ -151,14 +151,14 @@ fn opened_shelves<R: Files>(
     rt: &R,
     alloc: Global,
     paths: &[&str],
-) -> Result<Vec<Opened<FileDisk<R::File>>>, AllocError> {
+) -> Result<Vec<ShelfAt<FileDisk<R::File>>>, AllocError> {
     let mut shelves = Vec::new(alloc);
     for path in paths {
         let shelf = match open_to_read(rt, *path) {
             Ok(disk) => Opened::Source(disk),
             Err(_) => Opened::NotOpened,
         };
-        shelves.push(shelf)?;
+        shelves.push(ShelfAt { opened: shelf })?;
     }
     Ok(shelves)
 }

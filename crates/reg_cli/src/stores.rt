@@ -2,8 +2,8 @@
 use crate::words::{open, open_shelf, open_to_read, place, word};
 use clap::ArgMatches;
 use reg_desk::{
-    Change, CliFault, FileDisk, Give, InFile, OfFile, OnShelf, Print, Reading, Writing, change,
-    give, print,
+    Change, CliFault, FileDisk, Give, InFile, OfFile, OnShelf, Print, Reading, Writing, run_change,
+    run_give, run_print,
 };
 use std::fs::OpenFile;
 use std::io::{self, Read, Seek, Write};
@@ -65,11 +65,11 @@ pub fn print_of<C: Print>(
             let mut store = OfFile {
                 source: &mut source,
             };
-            print(rt.alloc(), &mut store, command, &mut sink)
+            run_print(rt.alloc(), &mut store, command, &mut sink)
         }
         Opened::Shelf(mut disk) => {
             let mut store = OnShelf { disk: &mut disk };
-            print(rt.alloc(), &mut store, command, &mut sink)
+            run_print(rt.alloc(), &mut store, command, &mut sink)
         }
     }
 }
@@ -85,11 +85,11 @@ pub fn give_of<F: Read + Write + Seek + OpenFile, C: Give>(
     match register {
         Opened::File(source) => {
             let mut store = OfFile { source };
-            give(rt.alloc(), &mut store, command, &mut place)
+            run_give(rt.alloc(), &mut store, command, &mut place)
         }
         Opened::Shelf(disk) => {
             let mut store = OnShelf { disk };
-            give(rt.alloc(), &mut store, command, &mut place)
+            run_give(rt.alloc(), &mut store, command, &mut place)
         }
     }
 }
@@ -109,11 +109,11 @@ pub fn change_of<F: Read + Write + Seek + OpenFile, C: Change>(
                 source,
                 place: &mut place,
             };
-            change(rt.alloc(), &mut store, command, &mut sink)
+            run_change(rt.alloc(), &mut store, command, &mut sink)
         }
         Opened::Shelf(disk) => {
             let mut store = OnShelf { disk };
-            change(rt.alloc(), &mut store, command, &mut sink)
+            run_change(rt.alloc(), &mut store, command, &mut sink)
         }
     }
 }

@@ -1,5 +1,5 @@
 pub mod DiffLemmas
-pub pub mod PartLemmas
+pub mod PartLemmas
 pub mod FindLemmas
 pub mod LookLemmas
 pub mod StatusLemmas

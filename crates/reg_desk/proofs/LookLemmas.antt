@@ -1,8 +1,8 @@
 -- One more of the files or shelves, when those before it are looked at.
-use Rattle.std.proofs.Common.{◌≡◌, ◌∷◌, ◌++◌, [], List, ℕ, ◌+◌, ◌<◌, ◌≤◌, zero, suc, length, map, take, drop, get_or, slice_set, refl, sym, ap, subst, ◌∙◌, arith}
+use Rattle.std.proofs.Common.{◌≡◌, ◌⊎◌, inl, inr, ◌∷◌, ◌++◌, [], List, ℕ, ◌+◌, ◌<◌, ◌≤◌, zero, suc, length, take, drop, get_or, slice_set, refl, sym, ap, subst, ◌∙◌, arith}
 use Rattle.std.specs.Prelude.{IsTrue, Err, IsErrOf}
 use Rattle.std.specs.declared.result.Result.{Result}
-use Rattle.std.proofs.lemmas.List.{take_all, length-map}
+use Rattle.std.proofs.lemmas.List.{take_all}
 use Rattle.byte_io.specs.Device.{SourceState}
 use Rattle.reg_op.specs.Contents.{Content}
 use Rattle.reg_file.specs.Files.{ReadsAs, ReadsBytes}
@@ -19,7 +19,7 @@ use Rattle.byte_shelf.specs.declared.fault.ShelfFault.TheVariants as shelf
 use Rattle.reg_shelf.proofs.Contents.{none_by_slots, none_by_bytes}
 use Rattle.reg_desk.specs.declared.look.Look.{Look}
 use Rattle.reg_desk.specs.declared.look.Look.TheVariants as look
-use Rattle.reg_desk.specs.Look.{IsLookOf, HasLook, IsLook, IsShelfLook, IsRegisterLook, AreLooks}
+use Rattle.reg_desk.specs.Look.{IsLookOf, HasLook, IsLook, IsShelfLook, IsRegisterLook, AreLooks, AreLeft}
 
 abbrev head_of : {A : Type 0} → A → List A → A
 head_of d [] = d
@@ -32,48 +32,58 @@ tail_of (x ∷ xs) = xs
 next : (i : ℕ) → suc i ≡ i + 1
 next i = omega arith
 
-module _ {F T : Type 0} (st : F → T) (At : T → T → Look → Type 0) where
-  first : (w n : F) (ws ns : List F) → map st (n ∷ ns) ≡ map st (w ∷ ws) → st n ≡ st w
-  first w n ws ns e = ap (head_of (st n)) e
-
-  others : (w n : F) (ws ns : List F) → map st (n ∷ ns) ≡ map st (w ∷ ws) → map st ns ≡ map st ws
-  others w n ws ns e = ap tail_of e
-
-  behind_suc : (was now : List F) (i : ℕ) (s : F) → length now ≡ length was → drop i (map st now) ≡ drop i (map st was)
-      → drop (suc i) (map st (slice_set now i s)) ≡ drop (suc i) (map st was)
+module _ {T : Type 0} (At : T → T → Look → Type 0) (Stays : T → T → Type 0) where
+  behind_suc : (was now : List T) (i : ℕ) (s : T) → length now ≡ length was → drop i now ≡ drop i was → drop (suc i) (slice_set now i s) ≡ drop (suc i) was
   behind_suc [] [] i s size back = refl
   behind_suc [] (n ∷ ns) i s size back = absurd (omega arith)
   behind_suc (w ∷ ws) [] i s size back = absurd (omega arith)
-  behind_suc (w ∷ ws) (n ∷ ns) zero s size back = others w n ws ns back
+  behind_suc (w ∷ ws) (n ∷ ns) zero s size back = ap tail_of back
   behind_suc (w ∷ ws) (n ∷ ns) (suc i) s size back = behind_suc ws ns i s (omega arith) back
 
-  pub behind : (was now : List F) (i : ℕ) (s : F) → length now ≡ length was → drop i (map st now) ≡ drop i (map st was)
-      → drop (i + 1) (map st (slice_set now i s)) ≡ drop (i + 1) (map st was)
-  behind was now i s size back = subst (λ j. drop j (map st (slice_set now i s)) ≡ drop j (map st was)) (next i) (behind_suc was now i s size back)
+  pub behind : (was now : List T) (i : ℕ) (s : T) → length now ≡ length was → drop i now ≡ drop i was → drop (i + 1) (slice_set now i s) ≡ drop (i + 1) was
+  behind was now i s size back = subst (λ j. drop j (slice_set now i s) ≡ drop j was) (next i) (behind_suc was now i s size back)
 
-  looks_suc : (was now : List F) (i : ℕ) (o s : F) (ls : List Look) (l : Look) → i < length was → length now ≡ length was
-      → AreLooks At (take i (map st was)) (take i (map st now)) ls → drop i (map st now) ≡ drop i (map st was) → At (st (get_or now i o)) (st s) l
-      → AreLooks At (take (suc i) (map st was)) (take (suc i) (map st (slice_set now i s))) (ls ++ l ∷ [])
+  looks_suc : (was now : List T) (i : ℕ) (o s : T) (ls : List Look) (l : Look) → i < length was → length now ≡ length was
+      → AreLooks At (take i was) (take i now) ls → drop i now ≡ drop i was → At (get_or now i o) s l → AreLooks At (take (suc i) was) (take (suc i) (slice_set now i s)) (ls ++ l ∷ [])
   looks_suc was [] i o s ls l within size front back is = absurd (omega arith)
   looks_suc [] (n ∷ ns) i o s ls l within size front back is = absurd (omega arith)
-  looks_suc (w ∷ ws) (n ∷ ns) zero o s [] l within size front back is = (subst (λ k. At k (st s) l) (first w n ws ns back) is, tt)
+  looks_suc (w ∷ ws) (n ∷ ns) zero o s [] l within size front back is = (subst (λ k. At k s l) (ap (head_of n) back) is, tt)
   looks_suc (w ∷ ws) (n ∷ ns) zero o s (k ∷ ks) l within size front back is = absurd front
   looks_suc (w ∷ ws) (n ∷ ns) (suc i) o s [] l within size front back is = absurd front
   looks_suc (w ∷ ws) (n ∷ ns) (suc i) o s (k ∷ ks) l within size front back is = (front.0, looks_suc ws ns i o s ks l (omega arith) (omega arith) front.1 back is)
 
-  pub looks_next : (was now : List F) (i : ℕ) (o s : F) (ls ms : List Look) (l : Look) → i < length was → length now ≡ length was
-      → AreLooks At (take i (map st was)) (take i (map st now)) ls → drop i (map st now) ≡ drop i (map st was) → At (st (get_or now i o)) (st s) l → ms ≡ ls ++ l ∷ []
-      → AreLooks At (take (i + 1) (map st was)) (take (i + 1) (map st (slice_set now i s))) ms
+  pub looks_next : (was now : List T) (i : ℕ) (o s : T) (ls ms : List Look) (l : Look) → i < length was → length now ≡ length was
+      → AreLooks At (take i was) (take i now) ls → drop i now ≡ drop i was → At (get_or now i o) s l → ms ≡ ls ++ l ∷ [] → AreLooks At (take (i + 1) was) (take (i + 1) (slice_set now i s)) ms
   looks_next was now i o s ls ms l within size front back is pushed =
-      subst (λ j. AreLooks At (take j (map st was)) (take j (map st (slice_set now i s))) ms) (next i)
-      (subst (λ ks. AreLooks At (take (suc i) (map st was)) (take (suc i) (map st (slice_set now i s))) ks) (sym pushed) (looks_suc was now i o s ls l within size front back is))
+      subst (λ j. AreLooks At (take j was) (take j (slice_set now i s)) ms) (next i)
+      (subst (λ ks. AreLooks At (take (suc i) was) (take (suc i) (slice_set now i s)) ks) (sym pushed) (looks_suc was now i o s ls l within size front back is))
 
   -- after the last
-  pub looks_all : (was now : List F) (i : ℕ) (ls : List Look) → length was ≤ i → length now ≡ length was
-      → AreLooks At (take i (map st was)) (take i (map st now)) ls → AreLooks At (map st was) (map st now) ls
+  pub looks_all : (was now : List T) (i : ℕ) (ls : List Look) → length was ≤ i → length now ≡ length was → AreLooks At (take i was) (take i now) ls → AreLooks At was now ls
   looks_all was now i ls past size h =
-      subst (λ os. AreLooks At os (map st now) ls) (take_all i (map st was) (omega (arith, length-map was st, past)))
-      (subst (λ ns. AreLooks At (take i (map st was)) ns ls) (take_all i (map st now) (omega (arith, length-map now st, size, past))) h)
+      subst (λ os. AreLooks At os now ls) (take_all i was past) (subst (λ ns. AreLooks At (take i was) ns ls) (take_all i now (omega (arith, size, past))) h)
+
+  untouched : (os : List T) → AreLeft At Stays os os
+  untouched [] = refl
+  untouched (o ∷ os) = inr (inl refl, refl)
+
+  pub all_left : (was now : List T) (ls : List Look) → AreLooks At was now ls → AreLeft At Stays was now
+  all_left [] [] ls h = refl
+  all_left [] (n ∷ ns) ls h = absurd h
+  all_left (o ∷ os) [] ls h = absurd h
+  all_left (o ∷ os) (n ∷ ns) [] h = absurd h
+  all_left (o ∷ os) (n ∷ ns) (l ∷ ls) h = inl ((l, h.0), all_left os ns ls h.1)
+
+  -- one more was looked at, or stays
+  pub left_at : (was now : List T) (i : ℕ) (o s : T) (ls : List Look) → i < length was → length now ≡ length was
+      → AreLooks At (take i was) (take i now) ls → drop i now ≡ drop i was → ((l : Look) × At (get_or now i o) s l) ⊎ Stays (get_or now i o) s → AreLeft At Stays was (slice_set now i s)
+  left_at was [] i o s ls within size front back is = absurd (omega arith)
+  left_at [] (n ∷ ns) i o s ls within size front back is = absurd (omega arith)
+  left_at (w ∷ ws) (n ∷ ns) zero o s ls within size front back (inl is) =
+      inl ((is.0, subst (λ k. At k s is.0) (ap (head_of n) back) is.1), subst (λ k. AreLeft At Stays ws k) (sym (ap tail_of back)) (untouched ws))
+  left_at (w ∷ ws) (n ∷ ns) zero o s ls within size front back (inr is) = inr (inr (subst (λ k. Stays k s) (ap (head_of n) back) is), ap tail_of back)
+  left_at (w ∷ ws) (n ∷ ns) (suc i) o s [] within size front back is = absurd front
+  left_at (w ∷ ws) (n ∷ ns) (suc i) o s (k ∷ ks) within size front back is = inl ((k, front.0), left_at ws ns i o s ks (omega arith) (omega arith) front.1 back is)
 
 -- ---- one file
 

@@ -1,5 +1,5 @@
 -- Files and shelves that are looked at: what each has, or what is wrong with it.
-use Rattle.std.specs.Prelude.{◌≡◌, ℕ, ◌≤◌, ◌<◌, IsTrue, List, [], ◌∷◌, length, Option, Some, None}
+use Rattle.std.specs.Prelude.{◌≡◌, ◌⊎◌, ℕ, ◌≤◌, ◌<◌, IsTrue, List, [], ◌∷◌, length, Option, Some, None}
 use Rattle.byte_io.specs.Device.{SourceState}
 use Rattle.reg_op.specs.Contents.{Content}
 use Rattle.reg_file.specs.Files.{most, ReadsAs, ReadsBytes}
@@ -82,6 +82,13 @@ FileLooksAt = LooksAt IsLook (look.Unread file.NotOpened)
 abbrev pub ShelfLooksAt : {D : Type 0} → Disks D → Option D → Option D → Look → Type 0
 ShelfLooksAt d = LooksAt (IsShelfLook d) (look.NoShelf problem.NotOpened)
 
+-- one that was opened stays
+abbrev pub StaysAt : {T : Type 0} → (T → T → Type 0) → Option T → Option T → Type 0
+StaysAt Stays None None = Unit {0}
+StaysAt Stays None (Some new) = ⊥
+StaysAt Stays (Some old) None = ⊥
+StaysAt Stays (Some old) (Some new) = Stays old new
+
 -- what each has, in their order
 abbrev pub AreLooks : {T : Type 0} → (T → T → Look → Type 0) → List T → List T → List Look → Type 0
 AreLooks At [] [] [] = Unit {0}
@@ -91,8 +98,8 @@ AreLooks At (o ∷ os) [] ls = ⊥
 AreLooks At (o ∷ os) (n ∷ ns) [] = ⊥
 AreLooks At (o ∷ os) (n ∷ ns) (l ∷ ls) = At o n l × AreLooks At os ns ls
 
-abbrev pub AreFileLooks : List (Option SourceState) → List (Option SourceState) → List Look → Type 0
-AreFileLooks old new looks = AreLooks FileLooksAt old new looks
-
-abbrev pub AreShelfLooks : {D : Type 0} → Disks D → List (Option D) → List (Option D) → List Look → Type 0
-AreShelfLooks d old new looks = AreLooks (ShelfLooksAt d) old new looks
+-- each was looked at, up to one where memory ran out, which stays or was not touched, as are those after it
+abbrev pub AreLeft : {T : Type 0} → (T → T → Look → Type 0) → (T → T → Type 0) → List T → List T → Type 0
+AreLeft At Stays [] new = new ≡ []
+AreLeft At Stays (o ∷ os) [] = ⊥
+AreLeft At Stays (o ∷ os) (n ∷ ns) = (((l : Look) × At o n l) × AreLeft At Stays os ns) ⊎ (((n ≡ o) ⊎ Stays o n) × (ns ≡ os))

@@ -111,11 +111,11 @@ abbrev pub IsTold : Bool → List (List ℕ) → (List Look → Type 0) → Sink
 IsTold settled names Are before after = (looks : List Look) × Tells names Are before after looks × AreGood looks × IsSettled settled looks
 
 -- what was done instead, by the fault
-abbrev pub IsUntold : Bool → List (List ℕ) → (List Look → Type 0) → SinkState → SinkState → CliFault → Type 0
-IsUntold settled names Are before after (cli.Refused r) = (looks : List Look) × Tells names Are before after looks × IsVerdict settled looks (cli.Refused r)
-IsUntold settled names Are before after (cli.File k f) = (looks : List Look) × Tells names Are before after looks × IsVerdict settled looks (cli.File k f)
-IsUntold settled names Are before after (cli.Out (out.WriteFailed n)) = (looks : List Look) × Are looks
+abbrev pub IsUntold : Bool → List (List ℕ) → (List Look → Type 0) → Type 0 → SinkState → SinkState → CliFault → Type 0
+IsUntold settled names Are Left before after (cli.Refused r) = (looks : List Look) × Tells names Are before after looks × IsVerdict settled looks (cli.Refused r)
+IsUntold settled names Are Left before after (cli.File k f) = (looks : List Look) × Tells names Are before after looks × IsVerdict settled looks (cli.File k f)
+IsUntold settled names Are Left before after (cli.Out (out.WriteFailed n)) = (looks : List Look) × Are looks
     × ((text : List ℕ) × IsStatusText names looks text × IsCutAt n text before after)
-IsUntold settled names Are before after (cli.Out f) = ⊥
-IsUntold settled names Are before after cli.Memory = after ≡ before
-IsUntold settled names Are before after (cli.Shelf p) = (looks : List Look) × Tells names Are before after looks × IsVerdict settled looks (cli.Shelf p)
+IsUntold settled names Are Left before after (cli.Out f) = ⊥
+IsUntold settled names Are Left before after cli.Memory = Left × (after ≡ before)
+IsUntold settled names Are Left before after (cli.Shelf p) = (looks : List Look) × Tells names Are before after looks × IsVerdict settled looks (cli.Shelf p)

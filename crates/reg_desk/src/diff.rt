@@ -95,11 +95,7 @@ fn join_some(
 }
 
 // All registers joined, and then all pieces.
-fn join_parts(
-    alloc: Global,
-    registers: &[Register],
-    pieces: &[Piece],
-) -> Result<Register, CliFault>
+fn join_parts(alloc: Global, registers: &[Register], pieces: &[Piece]) -> Result<Register, CliFault>
     ensures ok { IfOk result (λ r. with_pieces (begun (all_joined joined (Ok nothing) registers.now)) pieces.now ≡ Ok r) }
     ensures err { IfErr result (IsUnjoined (with_pieces (begun (all_joined joined (Ok nothing) registers.now)) pieces.now)) }
 {

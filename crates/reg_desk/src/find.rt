@@ -16,6 +16,7 @@ impl Print for Find<'_> {
     ghost use Rattle.reg_query.specs.Found.{IsFoundText};
 
     ghost prints = { λ c. λ x. λ text. IsFoundText c.query.now x text };
+
     ghost refuses = { λ c. λ x. λ f. Never x f };
 
     fn text(&self, alloc: Global, register: &Register) -> Result<Vec<u8>, CliFault> {
@@ -36,6 +37,7 @@ impl Print for FindIds<'_> {
     ghost use Rattle.reg_desk.specs.Find.{AreFoundLines, FindsNone};
 
     ghost prints = { λ c. λ x. λ text. AreFoundLines c.query.now x text };
+
     ghost refuses = { λ c. λ x. λ f. FindsNone c.query.now x f };
 
     fn text(&self, alloc: Global, register: &Register) -> Result<Vec<u8>, CliFault> {

@@ -10,17 +10,15 @@ mod offices;
 mod settle;
 mod status;
 mod status_lines;
-mod status_on;
 
 pub use diff::run_diff;
 pub use explained::{Explained, explained_fault, problem_of, run_check_explained};
 pub use find::{Find, FindIds};
 pub use import::{ImportFault, Order, Unimported, run_import, try_import};
-pub use look::{Look, Opened};
+pub use look::{FileAt, Inspect, Look, Opened, ShelfAt};
 pub use offices::Offices;
 pub use settle::{Settle, SettleEqual};
 pub use status::run_status;
-pub use status_on::run_status_on;
 
 // What a command line names beside these: engines, faults, words of the orders, and devices.
 pub use byte_disk::{FileDisk, NewFile};
@@ -29,10 +27,10 @@ pub use byte_out::FilePlace;
 pub use reg_engine::{
     Change, CliFault, Enter, Export, FirstVersion, Form, Give, InFile, InputFault, Keep, OfFile,
     OnShelf, Ops, OutFault, PieceFor, Print, Refusal, Report, Retire, ShelfProblem, Show, Store,
-    Summary, Supersede, Whole, Wkt, change, give, print, run_check, run_enter, run_enter_on,
-    run_export, run_merge, run_merge_on, run_new, run_ops, run_piece, run_report, run_retire,
-    run_retire_on, run_seen, run_shelf, run_show, run_supersede, run_supersede_on, run_unshelf,
-    run_wkt,
+    Summary, Supersede, Whole, Wkt, run_change, run_check, run_enter, run_enter_on, run_export,
+    run_give, run_merge, run_merge_on, run_new, run_ops, run_piece, run_print, run_report,
+    run_retire, run_retire_on, run_seen, run_shelf, run_show, run_supersede, run_supersede_on,
+    run_unshelf, run_wkt,
 };
 pub use reg_import::Differs;
 pub use reg_office::ReportKind;

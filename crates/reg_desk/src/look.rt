@@ -1,10 +1,13 @@
-//! Files that are looked at: what each has, or what is wrong with it.
+//! Files and shelves in which a register is looked for: what each has, or what is wrong with it.
 
 ghost use Rattle.std.specs.Prelude.{◌≡◌, IfOk, OnErr};
 ghost use Rattle.reg_engine.specs.Inputs.{NeverFails};
-ghost use Rattle.reg_desk.specs.Look.{HasLook, IsLook, IsLookOf, FileLooksAt, opened_state};
+ghost use Rattle.reg_engine.specs.Shelf.{disks, StaysOn};
+ghost use Rattle.reg_desk.specs.Look.{HasLook, IsLook, IsLookOf, IsShelfLook, IsRegisterLook};
 
+use byte_disk::Disk;
 use byte_io::{InFault, Source, read_up_to};
+use byte_shelf::{ShelfFault, restore};
 use reg_engine::{InputFault, ShelfProblem};
 use reg_file::{ReadFileFault, read_bytes};
 use reg_query::{Figures, figures_of};
@@ -13,13 +16,6 @@ use std::alloc::{AllocError, Global};
 
 /// The most bytes of a file.
 const MOST: usize = 67_108_864;
-
-/// A file or a shelf, opened or not.
-#[derive(Drop)]
-pub enum Opened<S> {
-    Source(S),
-    NotOpened,
-}
 
 /// What a file or a shelf has, or what is wrong with it.
 #[derive(Clone, Copy)]
@@ -34,7 +30,74 @@ pub enum Look {
     NoShelf(ShelfProblem),
 }
 
-/// Looks at a source's bytes, of which all are read first.
+/// A device that was opened, or not.
+#[derive(Drop)]
+pub enum Opened<S> {
+    Source(S),
+    NotOpened,
+}
+
+/// A file or a shelf in which a register is looked for.
+pub trait Inspect {
+    ghost use Rattle.std.specs.Prelude.{IfOk, OnErr};
+    ghost use Rattle.reg_desk.specs.declared.look.Look.{Look};
+
+    /// It has this look.
+    ghost looks: { Self → Self → Look → Type 0 };
+
+    /// It did not fail, and has what it had.
+    ghost stays: { Self → Self → Type 0 };
+
+    fn look(&mut self, alloc: Global) -> Result<Look, AllocError>
+        ensures looks { IfOk result (looks self.old self.new) }
+        ensures stays { OnErr result (stays self.old self.new) };
+}
+
+/// A file, opened or not.
+#[derive(Drop)]
+pub struct FileAt<S> {
+    pub opened: Opened<S>,
+}
+
+impl<S: Source> Inspect for FileAt<S> {
+    ghost use Rattle.reg_engine.specs.Inputs.{NeverFails};
+    ghost use Rattle.reg_desk.specs.Look.{opened_state, FileLooksAt, StaysAt};
+
+    ghost looks = { λ old. λ new. λ l. FileLooksAt (opened_state S.state old.opened) (opened_state S.state new.opened) l };
+
+    ghost stays = { λ old. λ new. StaysAt NeverFails (opened_state S.state old.opened) (opened_state S.state new.opened) };
+
+    fn look(&mut self, alloc: Global) -> Result<Look, AllocError> {
+        match &mut self.opened {
+            Opened::Source(source) => look_at(alloc, source),
+            Opened::NotOpened => Ok(Look::Unread(InputFault::NotOpened)),
+        }
+    }
+}
+
+/// A shelf, opened or not.
+#[derive(Drop)]
+pub struct ShelfAt<D> {
+    pub opened: Opened<D>,
+}
+
+impl<D: Disk> Inspect for ShelfAt<D> {
+    ghost use Rattle.reg_engine.specs.Shelf.{disks, StaysOn};
+    ghost use Rattle.reg_desk.specs.Look.{opened_state, itself, ShelfLooksAt, StaysAt};
+
+    ghost looks = { λ old. λ new. λ l. ShelfLooksAt (disks D.tells D.seen D.images D.moment D.images_since D.failures) (opened_state itself old.opened) (opened_state itself new.opened) l };
+
+    ghost stays = { λ old. λ new. StaysAt (StaysOn (disks D.tells D.seen D.images D.moment D.images_since D.failures)) (opened_state itself old.opened) (opened_state itself new.opened) };
+
+    fn look(&mut self, alloc: Global) -> Result<Look, AllocError> {
+        match &mut self.opened {
+            Opened::Source(disk) => look_on(alloc, disk),
+            Opened::NotOpened => Ok(Look::NoShelf(ShelfProblem::NotOpened)),
+        }
+    }
+}
+
+// Looks at a source's bytes, of which all are read first.
 fn look_at<S: Source>(alloc: Global, source: &mut S) -> Result<Look, AllocError>
     ensures look { IfOk result (IsLook (S.state source.old) (S.state source.new)) }
     ensures memory { OnErr result (NeverFails (S.state source.old) (S.state source.new)) }
@@ -68,23 +131,42 @@ fn look_in(alloc: Global, bytes: &[u8]) -> Result<Look, AllocError>
     Ok(look)
 }
 
-/// The look of a register that so many bytes hold.
-pub(crate) fn look_of(alloc: Global, register: &Register, bytes: usize) -> Result<Look, AllocError>
+// The look of a register that so many bytes hold.
+fn look_of(alloc: Global, register: &Register, bytes: usize) -> Result<Look, AllocError>
     ensures { IfOk result (IsLookOf register.now bytes) }
 {
     let figures = figures_of(alloc, register)?;
     Ok(Look::Figures { bytes, figures })
 }
 
-/// Looks at a file, opened or not.
-pub(crate) fn look_into<S: Source>(
-    alloc: Global,
-    opened: &mut Opened<S>,
-) -> Result<Look, AllocError>
-    ensures { IfOk result (FileLooksAt (opened_state S.state opened.old) (opened_state S.state opened.new)) }
+// What the bytes of a shelf have, which are a register's or none.
+fn register_look(alloc: Global, bytes: &[u8]) -> Result<Look, AllocError>
+    ensures { IfOk result (IsRegisterLook bytes.now) }
 {
-    match opened {
-        Opened::Source(source) => look_at(alloc, source),
-        Opened::NotOpened => Ok(Look::Unread(InputFault::NotOpened)),
+    let register = match read_bytes(alloc, bytes) {
+        Ok(register) => register,
+        Err(ReadFileFault::Memory) => return Err(AllocError),
+        Err(_) => return Ok(Look::NoShelf(ShelfProblem::NotShelf)),
+    };
+    let look = look_of(alloc, &register, bytes.len())?;
+    Ok(look)
+}
+
+// Looks at the register of a shelf.
+fn look_on<D: Disk>(alloc: Global, disk: &mut D) -> Result<Look, AllocError>
+    ensures look { IfOk result (IsShelfLook (disks D.tells D.seen D.images D.moment D.images_since D.failures) disk.old disk.new) }
+    ensures stays { OnErr result (StaysOn (disks D.tells D.seen D.images D.moment D.images_since D.failures) disk.old disk.new) }
+{
+    let bytes = match restore(alloc, disk) {
+        Ok(bytes) => bytes,
+        Err(ShelfFault::NotShelf) => return Ok(Look::NoShelf(ShelfProblem::NotShelf)),
+        Err(ShelfFault::DiskFailed) => return Ok(Look::NoShelf(ShelfProblem::DiskFailed)),
+        Err(ShelfFault::BadSize) => unreachable!(),
+        Err(ShelfFault::TooLarge) => unreachable!(),
+        Err(ShelfFault::Memory) => return Err(AllocError),
+    };
+    match register_look(alloc, &bytes) {
+        Ok(look) => Ok(look),
+        Err(_) => Err(AllocError),
     }
 }

@@ -14,6 +14,7 @@ impl Print for Offices {
     ghost use Rattle.reg_desk.specs.Status.{IsOfficesText};
 
     ghost prints = { λ c. λ x. λ text. IsOfficesText x text };
+
     ghost refuses = { λ c. λ x. λ f. Never x f };
 
     fn text(&self, alloc: Global, register: &Register) -> Result<Vec<u8>, CliFault> {

@@ -29,8 +29,11 @@ impl Change for Settle<'_> {
     ghost use Rattle.reg_desk.specs.Settle.{SettlesFor, CannotKeep, Retires, IsUnretired};
 
     ghost makes = { λ old. λ new. λ next. λ x. λ y. λ lines. Retires (SettlesFor old.keeps.now) old.replica old.note.now x y lines };
+
     ghost refuses = { λ old. λ new. λ next. λ x. λ f. IsUnretired (SettlesFor old.keeps.now) (CannotKeep old.keeps.now) old.replica old.note.now x f };
+
     ghost same = { λ old. λ new. Unit {0} };
+
     ghost itself = { λ a. tt };
 
     fn make(&mut self, alloc: Global, _next: usize, register: Register) -> Result<Made, CliFault> {
@@ -60,8 +63,11 @@ impl Change for SettleEqual<'_> {
     ghost use Rattle.reg_desk.specs.Settle.{SettlesEqual, NeverRefuses, Retires, IsUnretired};
 
     ghost makes = { λ old. λ new. λ next. λ x. λ y. λ lines. Retires SettlesEqual old.replica old.note.now x y lines };
+
     ghost refuses = { λ old. λ new. λ next. λ x. λ f. IsUnretired SettlesEqual NeverRefuses old.replica old.note.now x f };
+
     ghost same = { λ old. λ new. Unit {0} };
+
     ghost itself = { λ a. tt };
 
     fn make(&mut self, alloc: Global, _next: usize, register: Register) -> Result<Made, CliFault> {

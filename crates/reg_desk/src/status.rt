@@ -1,24 +1,30 @@
 //! The command `status`.
 
-ghost use Rattle.std.specs.Prelude.{◌≡◌, map, IfOk, OnOk, IfErr};
+ghost use Rattle.std.specs.Prelude.{◌≡◌, map, IfOk, OnOk, IfErr, OnErr};
 ghost use Rattle.std.specs.List.{list_any};
-ghost use Rattle.reg_desk.specs.Look.{opened_state, AreFileLooks};
+ghost use Rattle.reg_desk.specs.Look.{AreLooks, AreLeft};
 ghost use Rattle.reg_desk.specs.Status.{fault_at, is_unsettled, AreGood, IsFirstBad, IsSettled, IsTold, IsUntold, IsVerdict};
 
-use crate::look::{Look, Opened, look_into};
+use crate::look::{Inspect, Look};
 use crate::status_lines::status_text;
-use byte_io::{Sink, Source, write_all};
+use byte_io::{Sink, write_all};
 use reg_engine::{CliFault, OutFault, Refusal};
 use std::alloc::{AllocError, Global};
 
-// What each file has, in their order.
-fn looks_of<S: Source>(alloc: Global, files: &mut [Opened<S>]) -> Result<Vec<Look>, AllocError>
-    ensures { IfOk result (λ looks. AreFileLooks (map (opened_state S.state) files.old) (map (opened_state S.state) files.new) looks.items) }
+// What each file or shelf has, in their order.
+fn looks_of<T: Inspect>(alloc: Global, files: &mut [T]) -> Result<Vec<Look>, AllocError>
+    ensures looks { IfOk result (λ looks. AreLooks T.looks files.old files.new looks.items) }
+    ensures stays { OnErr result (AreLeft T.looks T.stays files.old files.new) }
 {
     let mut looks = Vec::new(alloc);
     for i in 0..files.len() {
-        let look = look_into(alloc, &mut files[i])?;
-        looks.push(look)?;
+        let look = match files[i].look(alloc) {
+            Ok(look) => look,
+            Err(_) => return Err(AllocError),
+        };
+        if let Err(_) = looks.push(look) {
+            return Err(AllocError);
+        }
     }
     Ok(looks)
 }
@@ -76,8 +82,8 @@ fn any_unsettled(looks: &[Look]) -> bool
     looks.iter().any(|look| is_unsettled(look))
 }
 
-/// That each is a register's, and settled where that is asked.
-pub(crate) fn verdict(looks: &[Look], settled: bool) -> Result<(), CliFault>
+// That each is a register's, and settled where that is asked.
+fn verdict(looks: &[Look], settled: bool) -> Result<(), CliFault>
     ensures good { OnOk result (AreGood looks.now × IsSettled settled looks.now) }
     ensures fault { IfErr result (IsVerdict settled looks.now) }
 {
@@ -93,19 +99,18 @@ pub(crate) fn verdict(looks: &[Look], settled: bool) -> Result<(), CliFault>
     Ok(())
 }
 
-/// Looks at each file, and writes a line for each, under its name. There are as many names as files. Then the fault of the
-/// first that is no register's is the answer; else, where it is asked that they are settled, one that has keys in conflict,
+/// Looks at each file or shelf, and writes a line for each, under its name. There are as many names as files. Then the fault of
+/// the first that has no register is the answer; else, where it is asked that they are settled, one that has keys in conflict,
 /// awaited ids or gaps is refused.
-pub fn run_status<S: Source, K: Sink>(
+pub fn run_status<T: Inspect, K: Sink>(
     alloc: Global,
     names: &[&[u8]],
-    files: &mut [Opened<S>],
+    files: &mut [T],
     settled: bool,
     sink: &mut K,
 ) -> Result<(), CliFault>
-    ensures told { OnOk result (IsTold settled (map (λ n. n.now) names.now) (AreFileLooks (map (opened_state S.state) files.old) (map (opened_state S.state) files.new))
-        (K.state sink.old) (K.state sink.new)) }
-    ensures fault { IfErr result (IsUntold settled (map (λ n. n.now) names.now) (AreFileLooks (map (opened_state S.state) files.old) (map (opened_state S.state) files.new))
+    ensures told { OnOk result (IsTold settled (map (λ n. n.now) names.now) (AreLooks T.looks files.old files.new) (K.state sink.old) (K.state sink.new)) }
+    ensures fault { IfErr result (IsUntold settled (map (λ n. n.now) names.now) (AreLooks T.looks files.old files.new) (AreLeft T.looks T.stays files.old files.new)
         (K.state sink.old) (K.state sink.new)) }
 {
     let Ok(looks) = looks_of(alloc, files) else {

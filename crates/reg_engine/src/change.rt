@@ -7,7 +7,7 @@ ghost use Rattle.reg_engine.specs.Shelf.{disks};
 ghost use Rattle.reg_engine.specs.Store.{in_file, on_shelf, IsChanged, IsUnchanged};
 ghost use Rattle.reg_engine.specs.Change.{Makes, CannotMake, Enters, CannotEnter};
 
-use crate::drivers::{Change, Made, change};
+use crate::drivers::{Change, Made, run_change};
 use crate::fault::CliFault;
 use crate::outputs::id_lines;
 use crate::store::{InFile, OnShelf};
@@ -163,7 +163,7 @@ pub fn run_retire<S: Source, P: Place, K: Sink>(
         entries,
         note,
     };
-    match change(alloc, &mut InFile { source, place }, &mut command, sink) {
+    match run_change(alloc, &mut InFile { source, place }, &mut command, sink) {
         Ok(()) => Ok(()),
         Err(fault) => Err(fault),
     }
@@ -192,7 +192,7 @@ pub fn run_supersede<S: Source, P: Place, K: Sink>(
         newer,
         note,
     };
-    match change(alloc, &mut InFile { source, place }, &mut command, sink) {
+    match run_change(alloc, &mut InFile { source, place }, &mut command, sink) {
         Ok(()) => Ok(()),
         Err(fault) => Err(fault),
     }
@@ -221,7 +221,7 @@ pub fn run_enter<S: Source, X: Source, P: Place, K: Sink>(
         text,
         note,
     };
-    match change(alloc, &mut InFile { source, place }, &mut command, sink) {
+    match run_change(alloc, &mut InFile { source, place }, &mut command, sink) {
         Ok(()) => Ok(()),
         Err(fault) => Err(fault),
     }
@@ -248,7 +248,7 @@ pub fn run_retire_on<D: Disk, K: Sink>(
         entries,
         note,
     };
-    match change(alloc, &mut OnShelf { disk }, &mut command, sink) {
+    match run_change(alloc, &mut OnShelf { disk }, &mut command, sink) {
         Ok(()) => Ok(()),
         Err(fault) => Err(fault),
     }
@@ -277,7 +277,7 @@ pub fn run_supersede_on<D: Disk, K: Sink>(
         newer,
         note,
     };
-    match change(alloc, &mut OnShelf { disk }, &mut command, sink) {
+    match run_change(alloc, &mut OnShelf { disk }, &mut command, sink) {
         Ok(()) => Ok(()),
         Err(fault) => Err(fault),
     }
@@ -305,7 +305,7 @@ pub fn run_enter_on<D: Disk, X: Source, K: Sink>(
         text,
         note,
     };
-    match change(alloc, &mut OnShelf { disk }, &mut command, sink) {
+    match run_change(alloc, &mut OnShelf { disk }, &mut command, sink) {
         Ok(()) => Ok(()),
         Err(fault) => Err(fault),
     }

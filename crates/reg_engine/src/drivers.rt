@@ -29,7 +29,7 @@ pub trait Print {
 }
 
 /// Loads the register, and writes the command's text of it to the sink.
-pub fn print<T: Store, C: Print, K: Sink>(
+pub fn run_print<T: Store, C: Print, K: Sink>(
     alloc: Global,
     store: &mut T,
     command: &C,
@@ -78,7 +78,7 @@ pub trait Give {
 }
 
 /// Loads the register, and puts the command's file of it in the place.
-pub fn give<T: Store, C: Give, P: Place>(
+pub fn run_give<T: Store, C: Give, P: Place>(
     alloc: Global,
     store: &mut T,
     command: &mut C,
@@ -136,7 +136,7 @@ pub trait Change {
 }
 
 /// Loads the register, keeps the one that the command makes of it, and then writes the command's lines to the sink.
-pub fn change<T: Keep, C: Change, K: Sink>(
+pub fn run_change<T: Keep, C: Change, K: Sink>(
     alloc: Global,
     store: &mut T,
     command: &mut C,

@@ -5,7 +5,7 @@ ghost use Rattle.reg_engine.specs.Shelf.{disks};
 ghost use Rattle.reg_engine.specs.Store.{of_file, on_shelf, IsGiven, IsUngiven};
 ghost use Rattle.reg_engine.specs.Exchange.{IsFileOf, HasNoFile, IsSummary, HasNoSummary, IsPieceFile, HasNoPiece};
 
-use crate::drivers::{Give, give};
+use crate::drivers::{Give, run_give};
 use crate::fault::{CliFault, OutFault};
 use crate::inputs::read_summary;
 use crate::store::{OfFile, OnShelf};
@@ -156,7 +156,7 @@ pub fn run_seen<S: Source, P: Place>(
     ensures summed { OnOk result (IsGiven (of_file (S.state source.old) (S.state source.new)) IsSummary (P.state place.old) (P.state place.new)) }
     ensures fault { IfErr result (IsUngiven (of_file (S.state source.old) (S.state source.new)) IsSummary HasNoSummary (Unit {0}) (P.state place.old) (P.state place.new)) }
 {
-    match give(alloc, &mut OfFile { source }, &mut Summary, place) {
+    match run_give(alloc, &mut OfFile { source }, &mut Summary, place) {
         Ok(()) => Ok(()),
         Err(fault) => Err(fault),
     }
@@ -176,7 +176,7 @@ pub fn run_piece<S: Source, U: Source, P: Place>(
         (IsPieceFile (U.state summary.old) (U.state summary.new)) (HasNoPiece 2 (U.state summary.old) (U.state summary.new))
         (U.state summary.new ≡ U.state summary.old) (P.state place.old) (P.state place.new)) }
 {
-    match give(
+    match run_give(
         alloc,
         &mut OfFile { source },
         &mut PieceFor { summary },
@@ -199,7 +199,7 @@ pub fn run_unshelf<D: Disk, P: Place>(
         IsFileOf HasNoFile (Unit {0}) (P.state place.old) (P.state place.new)) }
     ensures tells { D.tells disk.new ≡ D.tells disk.old }
 {
-    match give(alloc, &mut OnShelf { disk }, &mut Whole, place) {
+    match run_give(alloc, &mut OnShelf { disk }, &mut Whole, place) {
         Ok(()) => Ok(()),
         Err(fault) => Err(fault),
     }

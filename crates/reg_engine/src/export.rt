@@ -7,7 +7,7 @@ ghost use Rattle.reg_engine.specs.Export.{op_line, IsExport};
 ghost use Rattle.reg_office.specs.Exports.{export, is_retired};
 ghost use Rattle.reg_op.specs.Status.{status};
 
-use crate::drivers::{Print, print};
+use crate::drivers::{Print, run_print};
 use crate::fault::CliFault;
 use crate::store::OfFile;
 use byte_io::{Sink, Source};
@@ -45,7 +45,7 @@ pub fn run_export<S: Source, K: Sink>(
     ensures exported { OnOk result (IsPrinted (of_file (S.state source.old) (S.state source.new)) IsExport (K.state sink.old) (K.state sink.new)) }
     ensures fault { IfErr result (IsUnprinted (of_file (S.state source.old) (S.state source.new)) IsExport Never (K.state sink.old) (K.state sink.new)) }
 {
-    match print(alloc, &mut OfFile { source }, &Export, sink) {
+    match run_print(alloc, &mut OfFile { source }, &Export, sink) {
         Ok(()) => Ok(()),
         Err(fault) => Err(fault),
     }

@@ -24,7 +24,7 @@ pub use change::{
     run_supersede_on,
 };
 pub use check::run_check;
-pub use drivers::{Change, Give, Made, Print, change, give, print};
+pub use drivers::{Change, Give, Made, Print, run_change, run_give, run_print};
 pub use exchange::{FirstVersion, PieceFor, Summary, Whole, run_piece, run_seen, run_unshelf};
 pub use export::{Export, run_export};
 pub use fault::{CliFault, InputFault, OutFault, Refusal, ShelfProblem};

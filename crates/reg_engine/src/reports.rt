@@ -5,7 +5,7 @@ ghost use Rattle.reg_office.specs.Reports.{IsReport, IsOpsReport};
 ghost use Rattle.reg_engine.specs.Store.{of_file, IsPrinted, IsUnprinted};
 ghost use Rattle.reg_engine.specs.Report.{IsRowOf, Never, Lacks};
 
-use crate::drivers::{Print, print};
+use crate::drivers::{Print, run_print};
 use crate::fault::{CliFault, Refusal};
 use crate::store::OfFile;
 use byte_io::{Sink, Source};
@@ -90,7 +90,7 @@ pub fn run_report<S: Source, K: Sink>(
     ensures reported { OnOk result (IsPrinted (of_file (S.state source.old) (S.state source.new)) (IsReport kind) (K.state sink.old) (K.state sink.new)) }
     ensures fault { IfErr result (IsUnprinted (of_file (S.state source.old) (S.state source.new)) (IsReport kind) Never (K.state sink.old) (K.state sink.new)) }
 {
-    match print(alloc, &mut OfFile { source }, &Report { kind }, sink) {
+    match run_print(alloc, &mut OfFile { source }, &Report { kind }, sink) {
         Ok(()) => Ok(()),
         Err(fault) => Err(fault),
     }
@@ -105,7 +105,7 @@ pub fn run_ops<S: Source, K: Sink>(
     ensures reported { OnOk result (IsPrinted (of_file (S.state source.old) (S.state source.new)) IsOpsReport (K.state sink.old) (K.state sink.new)) }
     ensures fault { IfErr result (IsUnprinted (of_file (S.state source.old) (S.state source.new)) IsOpsReport Never (K.state sink.old) (K.state sink.new)) }
 {
-    match print(alloc, &mut OfFile { source }, &Ops, sink) {
+    match run_print(alloc, &mut OfFile { source }, &Ops, sink) {
         Ok(()) => Ok(()),
         Err(fault) => Err(fault),
     }
@@ -121,7 +121,7 @@ pub fn run_show<S: Source, K: Sink>(
     ensures reported { OnOk result (IsPrinted (of_file (S.state source.old) (S.state source.new)) (IsRowOf entry) (K.state sink.old) (K.state sink.new)) }
     ensures fault { IfErr result (IsUnprinted (of_file (S.state source.old) (S.state source.new)) (IsRowOf entry) (Lacks entry) (K.state sink.old) (K.state sink.new)) }
 {
-    match print(alloc, &mut OfFile { source }, &Show { entry }, sink) {
+    match run_print(alloc, &mut OfFile { source }, &Show { entry }, sink) {
         Ok(()) => Ok(()),
         Err(fault) => Err(fault),
     }

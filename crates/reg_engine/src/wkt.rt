@@ -5,7 +5,7 @@ ghost use Rattle.reg_engine.specs.Store.{of_file, IsPrinted, IsUnprinted};
 ghost use Rattle.reg_engine.specs.Report.{Lacks};
 ghost use Rattle.reg_engine.specs.Export.{IsDefinitionText, IsDefinitionLine, IsLineOf};
 
-use crate::drivers::{Print, print};
+use crate::drivers::{Print, run_print};
 use crate::fault::{CliFault, Refusal};
 use crate::store::OfFile;
 use byte_io::{Sink, Source};
@@ -59,7 +59,7 @@ pub fn run_wkt<S: Source, K: Sink>(
     ensures shown { OnOk result (IsPrinted (of_file (S.state source.old) (S.state source.new)) (λ x. IsLineOf form x entry) (K.state sink.old) (K.state sink.new)) }
     ensures fault { IfErr result (IsUnprinted (of_file (S.state source.old) (S.state source.new)) (λ x. IsLineOf form x entry) (Lacks entry) (K.state sink.old) (K.state sink.new)) }
 {
-    match print(alloc, &mut OfFile { source }, &Wkt { entry, form }, sink) {
+    match run_print(alloc, &mut OfFile { source }, &Wkt { entry, form }, sink) {
         Ok(()) => Ok(()),
         Err(fault) => Err(fault),
     }

@@ -2,7 +2,7 @@ use Rattle.std.proofs.Common.{List, ℕ, subst}
 use Rattle.reg_engine.specs.Shelf.{disks}
 use Rattle.reg_desk.specs.Look.{IsRegisterLook}
 use Rattle.reg_desk.proofs.LookLemmas.{shelf_looked, not_shelf_looked}
-use Rattle.reg_desk.proofs.status_on.look_on.Goals as goal
+use Rattle.reg_desk.proofs.look.look_on.Goals as goal
 
 pub returns-in-Ok-register_look : goal.returns-in-Ok-register_look
 returns-in-Ok-register_look g c =
