@@ -25,7 +25,6 @@ pub struct Settle<'a> {
 }
 
 impl Change for Settle<'_> {
-    ghost use Rattle.std.proofs.Common.{tt};
     ghost use Rattle.reg_desk.specs.Settle.{SettlesFor, CannotKeep, Retires, IsUnretired};
 
     ghost makes = { λ old. λ new. λ next. λ x. λ y. λ lines. Retires (SettlesFor old.keeps.now) old.replica old.note.now x y lines };
@@ -35,6 +34,10 @@ impl Change for Settle<'_> {
     ghost same = { λ old. λ new. Unit {0} };
 
     ghost itself = { λ a. tt };
+
+    ghost unread = { λ old. λ new. Unit {0} };
+
+    ghost rests = { λ a. tt };
 
     fn make(&mut self, alloc: Global, _next: usize, register: Register) -> Result<Made, CliFault> {
         if self.note.len() > MAX_NOTE {
@@ -59,7 +62,6 @@ pub struct SettleEqual<'a> {
 }
 
 impl Change for SettleEqual<'_> {
-    ghost use Rattle.std.proofs.Common.{tt};
     ghost use Rattle.reg_desk.specs.Settle.{SettlesEqual, NeverRefuses, Retires, IsUnretired};
 
     ghost makes = { λ old. λ new. λ next. λ x. λ y. λ lines. Retires SettlesEqual old.replica old.note.now x y lines };
@@ -69,6 +71,10 @@ impl Change for SettleEqual<'_> {
     ghost same = { λ old. λ new. Unit {0} };
 
     ghost itself = { λ a. tt };
+
+    ghost unread = { λ old. λ new. Unit {0} };
+
+    ghost rests = { λ a. tt };
 
     fn make(&mut self, alloc: Global, _next: usize, register: Register) -> Result<Made, CliFault> {
         if self.note.len() > MAX_NOTE {

@@ -1,5 +1,5 @@
 -- What the commands of an office make of a register, and why they make nothing.
-use Rattle.std.specs.Prelude.{◌≡◌, ◌<◌, ¬◌, [], ◌∷◌, ℕ, List, length, Err}
+use Rattle.std.specs.Prelude.{◌≡◌, ◌<◌, [], ◌∷◌, ℕ, List, length, Err}
 use Rattle.byte_io.specs.Device.{SourceState}
 use Rattle.crs_value.specs.declared.crs.Crs.{Crs}
 use Rattle.wkt_crs.specs.declared.fault.ReadFault.TheVariants as read

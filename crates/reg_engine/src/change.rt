@@ -30,7 +30,6 @@ pub struct Retire<'a> {
 }
 
 impl Change for Retire<'_> {
-    ghost use Rattle.std.proofs.Common.{tt};
     ghost use Rattle.reg_office.specs.Commands.{retirements};
     ghost use Rattle.reg_engine.specs.Change.{Makes, CannotMake};
 
@@ -41,6 +40,10 @@ impl Change for Retire<'_> {
     ghost same = { λ old. λ new. Unit {0} };
 
     ghost itself = { λ a. tt };
+
+    ghost unread = { λ old. λ new. Unit {0} };
+
+    ghost rests = { λ a. tt };
 
     fn make(&mut self, alloc: Global, _next: usize, register: Register) -> Result<Made, CliFault> {
         let mut office = Office::new(self.replica, register);
@@ -65,7 +68,6 @@ pub struct Supersede<'a> {
 }
 
 impl Change for Supersede<'_> {
-    ghost use Rattle.std.proofs.Common.{tt};
     ghost use Rattle.reg_office.specs.Commands.{supersessions};
     ghost use Rattle.reg_engine.specs.Change.{Makes, CannotMake};
 
@@ -76,6 +78,10 @@ impl Change for Supersede<'_> {
     ghost same = { λ old. λ new. Unit {0} };
 
     ghost itself = { λ a. tt };
+
+    ghost unread = { λ old. λ new. Unit {0} };
+
+    ghost rests = { λ a. tt };
 
     fn make(&mut self, alloc: Global, _next: usize, register: Register) -> Result<Made, CliFault> {
         let mut office = Office::new(self.replica, register);
@@ -110,6 +116,10 @@ impl<X: Source> Change for Enter<'_, X> {
     ghost same = { λ old. λ new. new.text.ghost_name ≡ old.text.ghost_name };
 
     ghost itself = { λ a. refl };
+
+    ghost unread = { λ old. λ new. X.state new.text.now ≡ X.state old.text.now };
+
+    ghost rests = { λ a. refl };
 
     fn make(&mut self, alloc: Global, next: usize, register: Register) -> Result<Made, CliFault> {
         let definition = match define_from(alloc, self.text) {

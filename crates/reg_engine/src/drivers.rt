@@ -65,6 +65,9 @@ pub trait Give {
     /// There is no file, for this reason.
     ghost refuses: { Self → Self → ℕ → Content → CliFault → Type 0 };
 
+    /// Its own files were not read.
+    ghost unread: { Self → Self → Type 0 };
+
     /// It stands for the same devices.
     ghost same: { Self → Self → Type 0 };
 
@@ -73,8 +76,10 @@ pub trait Give {
         ensures gives { IfOk result (λ bytes. gives self.old self.new next register.now bytes.items) }
         ensures refuses { IfErr result (refuses self.old self.new next register.now) };
 
-    /// Which is so as well where nothing was done.
+    /// Both hold where nothing was done.
     ghost itself: { (a : Self) → same a a };
+
+    ghost rests: { (a : Self) → unread a a };
 }
 
 /// Loads the register, and puts the command's file of it in the place.
@@ -87,7 +92,7 @@ pub fn run_give<T: Store, C: Give, P: Place>(
     ensures same { T.same store.old store.new × C.same command.old command.new }
     ensures given { OnOk result (IsGiven (T.around store.old store.new) (C.gives command.old command.new (T.next store.old)) (P.state place.old) (P.state place.new)) }
     ensures fault { IfErr result (IsUngiven (T.around store.old store.new) (C.gives command.old command.new (T.next store.old))
-        (C.refuses command.old command.new (T.next store.old)) (command.new ≡ command.old) (P.state place.old) (P.state place.new)) }
+        (C.refuses command.old command.new (T.next store.old)) (C.unread command.old command.new) (P.state place.old) (P.state place.new)) }
 {
     let next = store.next();
     let register = match store.load(alloc) {
@@ -123,6 +128,9 @@ pub trait Change {
     /// It makes nothing, for this reason.
     ghost refuses: { Self → Self → ℕ → Content → CliFault → Type 0 };
 
+    /// Its own files were not read.
+    ghost unread: { Self → Self → Type 0 };
+
     /// It stands for the same devices.
     ghost same: { Self → Self → Type 0 };
 
@@ -131,8 +139,10 @@ pub trait Change {
         ensures makes { IfOk result (λ made. makes self.old self.new next register made.register made.lines.items) }
         ensures refuses { IfErr result (refuses self.old self.new next register) };
 
-    /// Which is so as well where nothing was done.
+    /// Both hold where nothing was done.
     ghost itself: { (a : Self) → same a a };
+
+    ghost rests: { (a : Self) → unread a a };
 }
 
 /// Loads the register, keeps the one that the command makes of it, and then writes the command's lines to the sink.
@@ -145,7 +155,7 @@ pub fn run_change<T: Keep, C: Change, K: Sink>(
     ensures same { T.same store.old store.new × C.same command.old command.new }
     ensures changed { OnOk result (IsChanged (T.around store.old store.new) (C.makes command.old command.new (T.next store.old)) (K.state sink.old) (K.state sink.new)) }
     ensures fault { IfErr result (IsUnchanged (T.around store.old store.new) (C.makes command.old command.new (T.next store.old))
-        (C.refuses command.old command.new (T.next store.old)) (command.new ≡ command.old) (K.state sink.old) (K.state sink.new)) }
+        (C.refuses command.old command.new (T.next store.old)) (C.unread command.old command.new) (K.state sink.old) (K.state sink.new)) }
 {
     let next = store.next();
     let register = match store.load(alloc) {

@@ -23,7 +23,6 @@ use std::alloc::Global;
 pub struct Whole;
 
 impl Give for Whole {
-    ghost use Rattle.std.proofs.Common.{tt};
     ghost use Rattle.reg_engine.specs.Exchange.{IsFileOf, HasNoFile};
 
     ghost gives = { λ old. λ new. λ next. λ x. λ bytes. IsFileOf x bytes };
@@ -33,6 +32,10 @@ impl Give for Whole {
     ghost same = { λ old. λ new. Unit {0} };
 
     ghost itself = { λ a. tt };
+
+    ghost unread = { λ old. λ new. Unit {0} };
+
+    ghost rests = { λ a. tt };
 
     fn file(
         &mut self,
@@ -53,7 +56,6 @@ impl Give for Whole {
 pub struct Summary;
 
 impl Give for Summary {
-    ghost use Rattle.std.proofs.Common.{tt};
     ghost use Rattle.reg_engine.specs.Exchange.{IsSummary, HasNoSummary};
 
     ghost gives = { λ old. λ new. λ next. λ x. λ bytes. IsSummary x bytes };
@@ -63,6 +65,10 @@ impl Give for Summary {
     ghost same = { λ old. λ new. Unit {0} };
 
     ghost itself = { λ a. tt };
+
+    ghost unread = { λ old. λ new. Unit {0} };
+
+    ghost rests = { λ a. tt };
 
     fn file(
         &mut self,
@@ -97,6 +103,10 @@ impl<U: Source> Give for PieceFor<'_, U> {
 
     ghost itself = { λ a. refl };
 
+    ghost unread = { λ old. λ new. U.state new.summary.now ≡ U.state old.summary.now };
+
+    ghost rests = { λ a. refl };
+
     fn file(
         &mut self,
         alloc: Global,
@@ -123,7 +133,6 @@ impl<U: Source> Give for PieceFor<'_, U> {
 pub struct FirstVersion;
 
 impl Give for FirstVersion {
-    ghost use Rattle.std.proofs.Common.{tt};
     ghost use Rattle.reg_engine.specs.Exchange.{IsFirstFile, HasNoFirst};
 
     ghost gives = { λ old. λ new. λ next. λ x. λ bytes. IsFirstFile x bytes };
@@ -133,6 +142,10 @@ impl Give for FirstVersion {
     ghost same = { λ old. λ new. Unit {0} };
 
     ghost itself = { λ a. tt };
+
+    ghost unread = { λ old. λ new. Unit {0} };
+
+    ghost rests = { λ a. tt };
 
     fn file(
         &mut self,

@@ -44,9 +44,9 @@ pub trait Keep: Store {
     /// Leaves the register in the place of the one that was loaded.
     fn keep(&mut self, alloc: Global, register: &Register) -> Result<(), CliFault>
         ensures same { Self.same self.old self.new }
-        ensures left { (first : Self) (was : Content) → (Self.around first self.old).came was
+        ensures left { (first : Self) (was : Content) → Self.same first self.old → (Self.around first self.old).came was
             → OnOk result ((Self.around first self.new).left was register.now) }
-        ensures unleft { (first : Self) (was : Content) → (Self.around first self.old).came was
+        ensures unleft { (first : Self) (was : Content) → Self.same first self.old → (Self.around first self.old).came was
             → IfErr result (λ f. (Self.around first self.new).unleft was register.now f) };
 }
 

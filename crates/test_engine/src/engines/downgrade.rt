@@ -5,7 +5,7 @@ use super::merge::merged;
 use super::notes::{noted_file, old_entry_file};
 use super::{EMPTY, HEIGHT, OTHER_HEIGHT, entry_file};
 use byte_io::{MemoryTarget, Pieces, Then};
-use reg_engine::{CliFault, InputFault, OutFault, Refusal, run_downgrade};
+use reg_engine::{CliFault, FirstVersion, InputFault, OfFile, OutFault, Refusal, run_give};
 use reg_file::FileFault;
 use std::alloc::Global;
 use std::process::Abort;
@@ -14,7 +14,14 @@ use std::process::Abort;
 fn downgraded(rt: &impl Abort, alloc: Global, file: &[u8]) -> Result<Vec<u8>, CliFault> {
     let mut source = Pieces::new(file, 7, Then::Ends);
     let mut target = MemoryTarget::new(alloc, true);
-    match run_downgrade(alloc, &mut source, &mut target) {
+    match run_give(
+        alloc,
+        &mut OfFile {
+            source: &mut source,
+        },
+        &mut FirstVersion,
+        &mut target,
+    ) {
         Ok(()) => Ok(Vec::from_slice(alloc, target.taken()).expect(rt, "room for a file")),
         Err(fault) => {
             assert!(rt; target.taken().is_empty());
@@ -100,13 +107,29 @@ fn what_is_no_register_or_is_not_written_is_told(rt: HostRuntime) {
     let has_note = refused(Refusal::HasNote(id(&rt, OFFICE_A, 1)));
     let mut source = Pieces::new(&noted, 7, Then::Ends);
     assert_eq!(rt;
-        run_downgrade(alloc, &mut source, &mut closed).err(),
+        run_give(
+            alloc,
+            &mut OfFile {
+                source: &mut source
+            },
+            &mut FirstVersion,
+            &mut closed
+        )
+        .err(),
         has_note
     );
     let mut source = Pieces::new(EMPTY, 7, Then::Ends);
     let not_opened = Some(CliFault::Out(OutFault::NotOpened));
     assert_eq!(rt;
-        run_downgrade(alloc, &mut source, &mut closed).err(),
+        run_give(
+            alloc,
+            &mut OfFile {
+                source: &mut source
+            },
+            &mut FirstVersion,
+            &mut closed
+        )
+        .err(),
         not_opened
     );
 }

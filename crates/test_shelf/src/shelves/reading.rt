@@ -1,11 +1,11 @@
-//! The engines that only read a shelf.
+//! Commands that only read a shelf.
 
 use super::{HEIGHT, disk_of, entry_file, id, joined, register_of, shelf_of};
 use byte_disk::MemDisk;
 use byte_io::{Full, MemoryTarget, Pieces, Room, Then};
 use reg_engine::{
-    CliFault, Form, InputFault, OutFault, Refusal, ShelfProblem, run_export_on, run_ops_on,
-    run_piece_on, run_report_on, run_seen_on, run_show_on, run_wkt_on,
+    CliFault, Export, Form, InputFault, OnShelf, Ops, OutFault, PieceFor, Refusal, Report,
+    ShelfProblem, Show, Summary, Wkt, run_give, run_print,
 };
 use reg_file::FileFault;
 use reg_office::{OfficeFault, ReportKind};
@@ -37,18 +37,48 @@ fn texts_go_out(rt: HostRuntime) {
     let want = joined(alloc, &[HEIGHT, b"\n"]).expect(&rt, "a line");
     let mut disk = entry_shelf(&rt, alloc);
     let mut sink = Room::new(alloc, 7, 1000, Full::Fails);
-    assert_eq!(rt; run_export_on(alloc, &mut disk, &mut sink).err(), None);
+    assert_eq!(rt;
+        run_print(alloc, &mut OnShelf { disk: &mut disk }, &Export, &mut sink).err(),
+        None
+    );
     assert!(rt; sink.taken() == want.as_slice());
     let first = id(&rt, 1);
     let mut sink = Room::new(alloc, 7, 1000, Full::Fails);
-    let fault = run_wkt_on(alloc, &mut disk, first, Form::Canonical, &mut sink).err();
+    let fault = run_print(
+        alloc,
+        &mut OnShelf { disk: &mut disk },
+        &Wkt {
+            entry: first,
+            form: Form::Canonical,
+        },
+        &mut sink,
+    )
+    .err();
     assert_eq!(rt; fault, None);
     assert!(rt; sink.taken() == want.as_slice());
     let mut sink = Room::new(alloc, 7, 9, Full::Fails);
-    let fault = run_wkt_on(alloc, &mut disk, first, Form::Indented, &mut sink).err();
+    let fault = run_print(
+        alloc,
+        &mut OnShelf { disk: &mut disk },
+        &Wkt {
+            entry: first,
+            form: Form::Indented,
+        },
+        &mut sink,
+    )
+    .err();
     assert_eq!(rt; fault, Some(CliFault::Out(OutFault::WriteFailed(9))));
     let none = id(&rt, 2);
-    let fault = run_wkt_on(alloc, &mut disk, none, Form::Canonical, &mut sink).err();
+    let fault = run_print(
+        alloc,
+        &mut OnShelf { disk: &mut disk },
+        &Wkt {
+            entry: none,
+            form: Form::Canonical,
+        },
+        &mut sink,
+    )
+    .err();
     assert_eq!(rt;
         fault,
         Some(CliFault::Refused(Refusal::Office(OfficeFault::UnknownEntry(none))))
@@ -62,25 +92,49 @@ fn reports_go_out(rt: HostRuntime) {
     let mut sink = Room::new(alloc, 7, 1000, Full::Fails);
     let kind = ReportKind::Entries;
     assert_eq!(rt;
-        run_report_on(alloc, &mut disk, kind, &mut sink).err(),
+        run_print(
+            alloc,
+            &mut OnShelf { disk: &mut disk },
+            &Report { kind },
+            &mut sink
+        )
+        .err(),
         None
     );
     assert!(rt; sink.taken() == ENTRIES);
     let mut sink = Room::new(alloc, 7, 1000, Full::Fails);
     let first = id(&rt, 1);
-    assert_eq!(rt; run_show_on(alloc, &mut disk, first, &mut sink).err(), None);
+    assert_eq!(rt;
+        run_print(
+            alloc,
+            &mut OnShelf { disk: &mut disk },
+            &Show { entry: first },
+            &mut sink
+        )
+        .err(),
+        None
+    );
     assert!(rt; sink.taken() == ENTRIES);
     let none = id(&rt, 2);
-    let fault = run_show_on(alloc, &mut disk, none, &mut sink).err();
+    let fault = run_print(
+        alloc,
+        &mut OnShelf { disk: &mut disk },
+        &Show { entry: none },
+        &mut sink,
+    )
+    .err();
     assert_eq!(rt;
         fault,
         Some(CliFault::Refused(Refusal::Office(OfficeFault::UnknownEntry(none))))
     );
     let mut sink = Room::new(alloc, 7, 1000, Full::Fails);
-    assert_eq!(rt; run_ops_on(alloc, &mut disk, &mut sink).err(), None);
+    assert_eq!(rt;
+        run_print(alloc, &mut OnShelf { disk: &mut disk }, &Ops, &mut sink).err(),
+        None
+    );
     assert!(rt; sink.taken().starts_with(OPERATIONS));
     let mut none = disk_of(&rt, alloc, b"no shelf");
-    let fault = run_ops_on(alloc, &mut none, &mut sink).err();
+    let fault = run_print(alloc, &mut OnShelf { disk: &mut none }, &Ops, &mut sink).err();
     assert_eq!(rt; fault, Some(CliFault::Shelf(ShelfProblem::NotShelf)));
 }
 
@@ -89,17 +143,42 @@ fn summaries_and_pieces_go_out(rt: HostRuntime) {
     let alloc = rt.alloc();
     let mut disk = entry_shelf(&rt, alloc);
     let mut target = MemoryTarget::new(alloc, true);
-    assert_eq!(rt; run_seen_on(alloc, &mut disk, &mut target).err(), None);
+    assert_eq!(rt;
+        run_give(
+            alloc,
+            &mut OnShelf { disk: &mut disk },
+            &mut Summary,
+            &mut target
+        )
+        .err(),
+        None
+    );
     assert_eq!(rt; target.taken().len(), 38);
     // The piece for one who has seen nothing: the ids that were seen, and the operation.
     let mut summary = Pieces::new(NONE_SEEN, 7, Then::Ends);
     let mut target = MemoryTarget::new(alloc, true);
-    let fault = run_piece_on(alloc, &mut disk, &mut summary, &mut target).err();
+    let fault = run_give(
+        alloc,
+        &mut OnShelf { disk: &mut disk },
+        &mut PieceFor {
+            summary: &mut summary,
+        },
+        &mut target,
+    )
+    .err();
     assert_eq!(rt; fault, None);
     assert_eq!(rt; target.taken().len(), 165);
     let mut summary = Pieces::new(b"CRSR\x02\x01", 7, Then::Ends);
     let mut target = MemoryTarget::new(alloc, true);
-    let fault = run_piece_on(alloc, &mut disk, &mut summary, &mut target).err();
+    let fault = run_give(
+        alloc,
+        &mut OnShelf { disk: &mut disk },
+        &mut PieceFor {
+            summary: &mut summary,
+        },
+        &mut target,
+    )
+    .err();
     let kind = InputFault::BadFile {
         fault: FileFault::Kind,
         place: 5,

@@ -24,7 +24,7 @@ pub loop-i-preserved : goal.loop-i-preserved
 loop-i-preserved g c =
     let was = c.loop-i.invariant in record {
       front = gives_next g.S.Source.state c.args.known.registers.items c.args.known.pieces.items c.args.sources.now c.loop-i.sources c.loop-i.i c.index-sources-i.result c.read_next.new.source _ _ _ _
-          c.in-Ok.part c.loop-i-test.true was.size was.front was.back c.in-Ok.ensures.found c.in_default.ensures.registers c.in_default.ensures.pieces;
+          c.in-Ok.part c.loop-i-test.true was.size was.front was.back c.in-Ok.ensures.found c.in_default-push.ensures.registers c.in_default-push.ensures.pieces;
       back = behind g.S.Source.state c.args.sources.now c.loop-i.sources c.loop-i.i c.read_next.new.source was.size was.back;
       size = search rules;
     }
