@@ -4,9 +4,9 @@ use crate::stores::{Opened as Register, next_file, open_register, print_of};
 use crate::words::{STANDARD_INPUT, entry, form, kind, open, open_all, open_to_read, word};
 use clap::ArgMatches;
 use reg_desk::{
-    CliFault, Explained, Export, FileAt, FileDisk, Find, FindIds, Kept, OfFile, Offices, OnShelf,
-    Opened, Ops, Query, Reading, Report, ShelfAt, Show, Wanted, Wkt, Writing, run_check_explained,
-    run_diff, run_status,
+    CliFault, Export, FileAt, FileDisk, Find, FindIds, Kept, OfFile, Offices, OnShelf, Opened, Ops,
+    Query, Reading, Report, ShelfAt, Show, Source, Wanted, Wkt, Writing, run_check,
+    run_check_explained, run_diff, run_status,
 };
 use std::alloc::{AllocError, Global};
 use std::rt::Files;
@@ -14,25 +14,29 @@ use std::{fs, io};
 
 /// `check`.
 pub fn check(rt: &HostRuntime, matches: &ArgMatches<'_>) -> Outcome {
-    let answer = match matches.get_str("TEXT") {
-        None => {
-            let mut text = Kept::new(rt.alloc(), Reading::new(rt.reader()));
-            let mut sink = Writing::new(io::writer(rt));
-            run_check_explained(rt.alloc(), STANDARD_INPUT, &mut text, &mut sink)
-        }
+    match matches.get_str("TEXT") {
+        None => check_from(rt, matches, STANDARD_INPUT, Reading::new(rt.reader())),
         Some(path) => match open(rt, 1, path) {
-            Ok(file) => {
-                let mut text = Kept::new(rt.alloc(), file);
-                let mut sink = Writing::new(io::writer(rt));
-                run_check_explained(rt.alloc(), path, &mut text, &mut sink)
-            }
-            Err(fault) => return Outcome::Fault(fault),
+            Ok(file) => check_from(rt, matches, path, file),
+            Err(fault) => Outcome::Fault(fault),
         },
-    };
-    match answer {
-        Err(Explained { fault, .. }) if !matches.get_flag("explain") => Outcome::Fault(fault),
-        answer => Outcome::of_explained(answer),
     }
+}
+
+// Checks the text of a source that has this name.
+fn check_from<S: Source + Drop>(
+    rt: &HostRuntime,
+    matches: &ArgMatches<'_>,
+    name: &str,
+    source: S,
+) -> Outcome {
+    let mut text = Kept::new(rt.alloc(), source);
+    let mut sink = Writing::new(io::writer(rt));
+    if matches.get_flag("explain") {
+        let answer = run_check_explained(rt.alloc(), name, &mut text, &mut sink);
+        return Outcome::of_explained(answer);
+    }
+    Outcome::of(run_check(rt.alloc(), &mut text, &mut sink))
 }
 
 /// `show`.

@@ -22,7 +22,7 @@ pub use status::run_status;
 
 // What a command line names beside these: engines, faults, words of the orders, and devices.
 pub use byte_disk::{FileDisk, NewFile};
-pub use byte_io::{Reading, Writing, write_all};
+pub use byte_io::{Reading, Source, Writing, write_all};
 pub use byte_out::FilePlace;
 pub use reg_engine::{
     Change, CliFault, Enter, Export, FirstVersion, Form, Give, InFile, InputFault, Keep, OfFile,
