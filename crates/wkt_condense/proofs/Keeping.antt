@@ -112,6 +112,11 @@ shuts_after : (xs ys : List ℕ) → AllPass is_blank xs → Shuts ys → Shuts 
 shuts_after [] ys a s = s
 shuts_after (x ∷ xs) ys a s = inr (All-head (λ z. is_blank z ≡ true) x xs a, shuts_after xs ys (All-tail (λ z. is_blank z ≡ true) x xs a) s)
 
+pub shuts_past : (bytes others : List ℕ) (n : ℕ) → n ≡ prefix_len is_blank bytes → others ≡ drop n bytes → Shuts others → Shuts bytes
+shuts_past bytes others n is back s =
+    subst (λ (l : List ℕ). Shuts l) (take-append-drop n bytes)
+    (shuts_after (take n bytes) (drop n bytes) (subst (λ m. AllPass is_blank (take m bytes)) (sym is) (front_passes is_blank bytes)) (subst (λ (l : List ℕ). Shuts l) back s))
+
 go_before : (xs ys c : List ℕ) → AllPass is_blank xs → Shuts ys → Condenses other ys c → Condenses other (xs ++ ys) c
 go_before [] ys c a s h = h
 go_before (x ∷ xs) ys c a s h =

@@ -87,6 +87,15 @@ pub(crate) fn blank_len(bytes: &[u8]) -> usize
     bytes.iter().take_while(|b| is_blank(**b)).count()
 }
 
+/// Whether a delimiter or the end comes after blanks.
+#[inline(always)]
+pub(crate) fn shuts_after_blanks(bytes: &[u8]) -> bool
+    ensures { result ≡ true → Shuts bytes.now }
+{
+    let (_, others) = bytes.split_at(blank_len(bytes));
+    shuts(others)
+}
+
 /// Whether a delimiter or the end comes.
 #[inline(always)]
 pub(crate) fn shuts(bytes: &[u8]) -> bool

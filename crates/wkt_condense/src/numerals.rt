@@ -3,22 +3,38 @@
 ghost use Rattle.std.specs.Prelude.{◌≡◌, ◌≤◌, true, length, IfSome};
 ghost use Rattle.wkt_condense.specs.Pieces.{IsNumeralFront, IsSpelledAnew};
 
-use crate::bytes::shuts;
+use crate::bytes::shuts_after_blanks;
 use crs_number::Decimal;
 
+/// A digit, a period or a sign.
 #[inline(always)]
-fn is_number_byte(b: u8) -> bool {
-    b.is_ascii_digit() || b == b'.' || b == b'-' || b == b'+' || b == b'e' || b == b'E'
+fn is_decimal_byte(b: u8) -> bool {
+    b.is_ascii_digit() || b == b'.' || b == b'-' || b == b'+'
 }
 
 #[inline(always)]
-fn number_len(bytes: &[u8]) -> usize
+fn decimal_len(bytes: &[u8]) -> usize
     ensures { result ≤ length bytes.now }
 {
-    bytes.iter().take_while(|b| is_number_byte(**b)).count()
+    bytes.iter().take_while(|b| is_decimal_byte(**b)).count()
 }
 
-/// Whether the bytes are seen to be no canonical numeral. What they are is read later.
+/// How many bytes there are of `E` or `e`, and of what follows it.
+#[inline(always)]
+fn exponent_len(bytes: &[u8]) -> usize
+    ensures { result ≤ length bytes.now }
+{
+    let Some((first, others)) = bytes.split_first() else {
+        return 0;
+    };
+    if *first == b'e' || *first == b'E' {
+        1 + decimal_len(others)
+    } else {
+        0
+    }
+}
+
+/// Whether a numeral without an exponent is seen to be no canonical one. What it spells is read later.
 #[inline(always)]
 fn is_odd(numeral: &[u8]) -> bool {
     let Some((first, others)) = numeral.split_first() else {
@@ -33,15 +49,7 @@ fn is_odd(numeral: &[u8]) -> bool {
     if *first == b'0' && others[0] != b'.' {
         return true;
     }
-    if *last == b'0' && others.contains(&b'.') {
-        return true;
-    }
-    others.iter().any(|b| *b == b'e' || *b == b'E')
-}
-
-#[inline(always)]
-fn may_begin(b: u8) -> bool {
-    b'+' <= b && b <= b'9' && b != b','
+    *last == b'0' && others.contains(&b'.')
 }
 
 /// How many bytes of a numeral that is not canonical come, after a delimiter and before one.
@@ -49,19 +57,15 @@ fn may_begin(b: u8) -> bool {
 pub(crate) fn odd_len(shut: bool, bytes: &[u8]) -> Option<usize>
     ensures { IfSome result (λ len. IsNumeralFront shut bytes.now len) }
 {
-    let Some(first) = bytes.first() else {
-        return None;
-    };
-    if !shut || !may_begin(*first) {
+    let decimal = if shut { decimal_len(bytes) } else { 0 };
+    if decimal == 0 {
         return None;
     }
-    let len = number_len(bytes);
-    if len == 0 {
-        return None;
-    }
-    let (numeral, others) = bytes.split_at(len);
-    if is_odd(numeral) && shuts(others) {
-        return Some(len);
+    let (numeral, others) = bytes.split_at(decimal);
+    let exponent = exponent_len(others);
+    let (_, behind) = others.split_at(exponent);
+    if (exponent > 0 || is_odd(numeral)) && shuts_after_blanks(behind) {
+        return Some(decimal + exponent);
     }
     None
 }
