@@ -40,10 +40,10 @@ pub record Stays (old new : Files) : Type 0 where
   pub same_file : new.stands ≡ old.stands
   pub same_torn : new.torn ≡ old.torn
 
--- an empty file was made beside, where none was; or nothing changed
+-- an empty file was made beside, where none was; or nothing changed: none was beside and none could be made, or one was
 abbrev pub IsMade : {T : Type 0} → Result T MakeFault → Files → Files → Type 0
 IsMade (Ok t) old new = Stays old new × (old.beside ≡ None) × (new.beside ≡ Some []) × (new.stuck ≡ old.stuck)
-IsMade (Err make.NotOpened) old new = new ≡ old
+IsMade (Err make.NotOpened) old new = (new ≡ old) × (old.beside ≡ None)
 IsMade (Err make.Exists) old new = (new ≡ old) × IsSome old.beside
 
 -- the new file grew by all these bytes; or it has some of them

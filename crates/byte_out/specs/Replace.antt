@@ -34,9 +34,9 @@ Replaces bytes old new = Publishes bytes old.sink new.sink × Told (IsReplaced b
 
 -- what was done instead. In each case what stood at the name stands there
 abbrev pub IsReplaceFault : List ℕ → PlaceState → PlaceState → ReplaceFault → Type 0
--- nothing was made; or the new file was whole, and did not get to its name
-IsReplaceFault bytes old new replace.NotOpened = (IsPublishFault bytes old.sink new.sink publish.NotOpened × Told (λ f g. g ≡ f) old.files new.files)
-    ⊎ (FailsWhole bytes old.sink new.sink × Told IsKept old.files new.files)
+-- nothing was beside, and nothing was made; or the new file was whole, and did not get to its name
+IsReplaceFault bytes old new replace.NotOpened = (IsPublishFault bytes old.sink new.sink publish.NotOpened × Told (λ f g. (g ≡ f) × (f.beside ≡ None)) old.files new.files)
+    ⊎ (FailsWhole bytes old.sink new.sink × Told (λ f g. IsKept f g × (f.beside ≡ None)) old.files new.files)
 -- something was beside
 IsReplaceFault bytes old new replace.NewExists = IsPublishFault bytes old.sink new.sink publish.NotOpened × Told (λ f g. (g ≡ f) × IsSome f.beside) old.files new.files
 -- exactly the first n bytes went out, not all; or all did, and no sync made sure of them

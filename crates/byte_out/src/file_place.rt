@@ -6,19 +6,21 @@ ghost use Rattle.byte_out.specs.Place.{untold};
 
 use crate::fault::MakeFault;
 use crate::place::Place;
+use crate::way::{Put, linked_file, open_for, put_beside};
 use byte_io::{DeviceFault, Log, NotOpened, Sink, Tally, WriteFault, write_all};
 use std::alloc::{AllocError, Global};
-use std::fs::{self, OpenFile, OpenOptions, Permissions};
-use std::io::{self, ErrorKind, Write};
-use std::os::unix::fs::{MetadataExt, OpenOptionsExt, PermissionsExt};
+use std::fs::{self, OpenFile};
+use std::io::Write;
+use std::os::fd::AsFd;
 use std::rt::Files;
 
-/// The place of a path. The new file has the path's name and `.new`; where none can be made, the file of the path itself
-/// is written.
+/// The place of a path, or of the plain file that it leads to as a link. The new file has the name of that and `.new`; where none
+/// can be made, or put there, the file itself is written.
 #[derive(Drop)]
 pub struct FilePlace<'a, R: Files> {
     rt: &'a R,
     path: &'a str,
+    real: String,
     beside: String,
     file: Option<R::File>,
     is_beside: bool,
@@ -29,17 +31,26 @@ pub struct FilePlace<'a, R: Files> {
     ghost counted: { IsSome file → 0 < openings.count },
 }
 
-impl<'a, R: Files> FilePlace<'a, R> {
-    /// The place of a path. Nothing is made yet.
+impl<'a, R: Files> FilePlace<'a, R>
+where
+    R::File: AsFd,
+{
+    /// The place of a path. Nothing is made yet, nor opened.
     pub fn new(alloc: Global, rt: &'a R, path: &'a str) -> Result<FilePlace<'a, R>, AllocError>
         ensures path { IfOk result (λ p. p.path ≡ path.entry) }
         ensures untold { IfOk result
             (λ p. ⟦<FilePlace<'a, R> as Place>⟧.state p ≡ untold (target_of None)) }
     {
+        let real = match linked_file(alloc, rt, path)? {
+            Some(real) => real,
+            None => format!(in alloc; "{path}")?,
+        };
+        let beside = format!(in alloc; "{real}.new")?;
         Ok(FilePlace {
             rt,
             path,
-            beside: format!(in alloc; "{path}.new")?,
+            real,
+            beside,
             file: None,
             is_beside: false,
             taken: Log::empty(),
@@ -48,96 +59,6 @@ impl<'a, R: Files> FilePlace<'a, R> {
             openings: Tally::none(),
         })
     }
-}
-
-// The file that the bytes go to, and whether it is a new one beside.
-fn open_for<R: Files>(rt: &R, path: &str, beside: &str) -> Result<(R::File, bool), MakeFault> {
-    let made = match way_to(rt, path)? {
-        Way::Beside(mode) => make_beside(rt, beside, mode)?,
-        Way::Within => None,
-    };
-    if let Some(file) = made {
-        return Ok((file, true));
-    }
-    match fs::create(rt, path) {
-        Ok(file) => Ok((file, false)),
-        Err(_) => Err(MakeFault::NotOpened),
-    }
-}
-
-// How the bytes get to a path.
-enum Way {
-    /// By a new file beside, with the mode of the old one, where there is one.
-    Beside(Option<u32>),
-    /// By a write of what is there.
-    Within,
-}
-
-// A folder, a device, a pipe or a link is not replaced. A file has to open for writing, as if it were written itself.
-fn way_to<R: Files>(rt: &R, path: &str) -> Result<Way, MakeFault> {
-    match fs::symlink_metadata(rt, path) {
-        Ok(there) if there.is_file() => match OpenOptions::new().write(true).open(rt, path) {
-            Ok(_) => Ok(Way::Beside(Some(there.mode() & 0o7777))),
-            Err(_) => Err(MakeFault::NotOpened),
-        },
-        Err(error) if error.kind() == ErrorKind::NotFound && !path.is_empty() => {
-            Ok(Way::Beside(None))
-        }
-        _ => Ok(Way::Within),
-    }
-}
-
-// None where the folder gives no leave, or the name would be too long.
-fn make_beside<R: Files>(
-    rt: &R,
-    beside: &str,
-    mode: Option<u32>,
-) -> Result<Option<R::File>, MakeFault> {
-    let made = OpenOptions::new()
-        .write(true)
-        .create_new(true)
-        .mode(mode.unwrap_or(0o666))
-        .open(rt, beside);
-    match made {
-        Ok(file) => with_mode(rt, beside, file, mode),
-        Err(error) => match error.kind() {
-            ErrorKind::AlreadyExists => Err(MakeFault::Exists),
-            ErrorKind::PermissionDenied
-            | ErrorKind::ReadOnlyFilesystem
-            | ErrorKind::InvalidFilename => Ok(None),
-            _ => Err(MakeFault::NotOpened),
-        },
-    }
-}
-
-// What the process's mask took from the mode is given back before a byte is in the file.
-fn with_mode<R: Files>(
-    rt: &R,
-    beside: &str,
-    file: R::File,
-    mode: Option<u32>,
-) -> Result<Option<R::File>, MakeFault> {
-    if let Some(mode) = mode {
-        if file.set_permissions(Permissions::from_mode(mode)).is_err() {
-            let _ = fs::remove_file(rt, beside);
-            return Err(MakeFault::NotOpened);
-        }
-    }
-    Ok(Some(file))
-}
-
-// The folder in which the file of a path is.
-fn folder(path: &str) -> &str {
-    match path.rsplit_once('/') {
-        Some(("", _)) => "/",
-        Some((folder, _)) => folder,
-        None => ".",
-    }
-}
-
-// Without this a stop could leave the old file at the name. Not every system can do it.
-fn sync_folder<R: Files>(rt: &R, path: &str) -> io::Result<()> {
-    fs::open(rt, folder(path))?.sync_all()
 }
 
 impl<R: Files> Sink for FilePlace<'_, R> {
@@ -170,7 +91,10 @@ impl<R: Files> Sink for FilePlace<'_, R> {
     }
 }
 
-impl<R: Files> Place for FilePlace<'_, R> {
+impl<R: Files> Place for FilePlace<'_, R>
+where
+    R::File: AsFd,
+{
     ghost state = { λ s. record {
       sink = record {
         written = None;
@@ -183,7 +107,7 @@ impl<R: Files> Place for FilePlace<'_, R> {
     } };
 
     fn make(&mut self) -> Result<(), MakeFault> {
-        match open_for(self.rt, self.path, &self.beside) {
+        match open_for(self.rt, &self.real, &self.beside) {
             Ok((file, is_beside)) => {
                 self.is_beside = is_beside;
                 self.openings = Tally::after(&self.openings);
@@ -212,14 +136,17 @@ impl<R: Files> Place for FilePlace<'_, R> {
     }
 
     fn put(&mut self) -> Result<(), NotOpened> {
-        if self.is_beside {
-            if fs::rename(self.rt, &self.beside, self.path).is_err() {
-                self.failures = Tally::after(&self.failures);
-                return Err(NotOpened);
-            }
-            let _ = sync_folder(self.rt, self.path);
+        if !self.is_beside {
+            return Ok(());
         }
-        Ok(())
+        match put_beside(self.rt, &self.beside, &self.real) {
+            Put::Done => return Ok(()),
+            Put::Not => {}
+            // What is beside may be all that is whole, and stays.
+            Put::Partly => self.is_beside = false,
+        }
+        self.failures = Tally::after(&self.failures);
+        Err(NotOpened)
     }
 
     fn remove(&mut self) {

@@ -7,6 +7,7 @@ mod mem_place;
 mod memory_target;
 mod place;
 mod replacing;
+mod way;
 
 pub use fault::{MakeFault, ReplaceFault};
 pub use file_place::FilePlace;

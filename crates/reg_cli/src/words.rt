@@ -6,6 +6,7 @@ use reg_desk::{
 };
 use std::alloc::Global;
 use std::fs::{self, OpenOptions};
+use std::os::fd::AsFd;
 use std::rt::Files;
 use uuid::Uuid;
 
@@ -157,7 +158,10 @@ pub fn place<'a, R: Files>(
     rt: &'a R,
     alloc: Global,
     path: &'a str,
-) -> Result<FilePlace<'a, R>, CliFault> {
+) -> Result<FilePlace<'a, R>, CliFault>
+where
+    R::File: AsFd,
+{
     match FilePlace::new(alloc, rt, path) {
         Ok(place) => Ok(place),
         Err(_) => Err(CliFault::Memory),

@@ -1,5 +1,8 @@
-mod Alike
-mod Walks
 mod Steps
 pub mod After
 pub mod Settled
+mod Windows
+mod Ordered
+mod Candidates
+mod Kept
+mod Repeated

@@ -42,7 +42,7 @@ picked_are P (x ∷ xs) ids i (inr h) c = let r = picked_are P xs ids i h.1 c in
 
 -- ---- what is kept
 
-is_in : (ids : List Id) (i : Id) → Contains ids i ⊎ (¬ (Contains ids i))
+pub is_in : (ids : List Id) (i : Id) → Contains ids i ⊎ (¬ (Contains ids i))
 is_in ids i = by (list_any (is_same i) ids) refl
   where
     by : (t : Bool) → list_any (is_same i) ids ≡ t → Contains ids i ⊎ (¬ (Contains ids i))
@@ -54,7 +54,7 @@ stays rs keeps [] before retired all i h c = subst (λ l. Contains l i) (sym h) 
 stays rs keeps (k ∷ ks) before retired all i h c = stays rs keeps ks (before ++ k ∷ []) (retired ++ h.2.0) all i h.2.2 (Contains-append_left retired h.2.0 i c)
 
 -- an entry has one row
-abbrev OneRow : List Row → Type 0
+abbrev pub OneRow : List Row → Type 0
 OneRow rs = (a b : Row) → Contains rs a → Contains rs b → a.entry ≡ b.entry → a ≡ b
 
 -- all of a key that is kept are kept or retired

@@ -1,12 +1,23 @@
 -- Picking, settling and refusing, step by step.
 use Rattle.std.specs.Prelude.{◌↔◌, IsTrue, if◌then◌else◌}
-use Rattle.std.proofs.Common.{◌≡◌, ℕ, suc, ◌+◌, ◌<◌, length, take, drop, get_or, arith, Bool, true, false, List, [], ◌∷◌, ◌++◌, sym, ap, ◌∙◌, subst, inl, inr, append_assoc, append-nil, refl}
+use Rattle.std.proofs.Common.{◌≡◌, ℕ, suc, ◌+◌, ◌<◌, ◌≤◌, length, take, drop, get_or, map, arith, Bool, true, false, List, [], ◌∷◌, ◌++◌, sym, ap, ◌∙◌, subst, inl, inr, append_assoc, append-nil, refl}
 use Rattle.std.proofs.Math.Seq.{drop-cons}
-use Rattle.std.proofs.lemmas.List.{take_more}
+use Rattle.std.proofs.lemmas.List.{take_more, drop_all}
 use Rattle.reg_op.specs.Ids.{Id}
 use Rattle.reg_op.specs.Rows.{Row}
 use Rattle.reg_settle.specs.declared.fault.SettleFault.{SettleFault}
 use Rattle.reg_settle.specs.Settling.{Picks, IsKept, IsRival, Settles, IsObjection, Refuses}
+
+-- ---- nothing more
+
+pub none_left : {X Y : Type 0} (f : X → Y) (xs : List X) → length xs ≡ 0 → map f xs ≡ []
+none_left f [] e = refl
+none_left f (x ∷ xs) e = absurd (omega (arith, e))
+
+pub not_both : (t : Bool) → t ≡ true → t ≡ false → ⊥
+not_both t e f = let no : true ≡ false = sym e ∙ f in absurd cc
+
+-- ---- picking
 
 -- what is picked of the rows that are left completes what was picked of all
 abbrev pub Completes : (Row → Type 0) → List Row → List Row → List Id → Type 0
@@ -28,6 +39,8 @@ picks_step P all rest others x made new false e is pushed c =
 
 pub picks_all : (P : Row → Type 0) (all rest : List Row) (made : List Id) → rest ≡ [] → Completes P all rest made → Picks P all made
 picks_all P all rest made e c = subst (λ l. Picks P all l) (append-nil made) (c [] (subst (λ l. Picks P l []) (sym e) refl))
+
+-- ---- settling
 
 -- what settles the entries that are left settles all; what refuses them refuses all
 pub record Goes (rs : List Row) (keeps before rest retired : List Id) : Type 0 where
@@ -56,3 +69,12 @@ goes_next rs keeps retired retired' mine at k keep l is r kept picks g =
     goes_on rs keeps (take at keeps) (take (at + 1) keeps) (drop at keeps) (drop (at + 1) keeps) retired retired' mine k keep
     (drop-cons keeps at k l ∙ (ap (λ x. x ∷ drop (suc at) keeps) (sym is) ∙ ap (λ n. k ∷ drop n keeps) up))
     (take_more keeps at k l ∙ ap (λ x. take at keeps ++ x ∷ []) (sym is)) r kept picks g
+
+pub goes_refused : (rs : List Row) (keeps retired : List Id) (at : ℕ) (k : Id) (f : SettleFault) → at < length keeps → k ≡ get_or keeps at k → IsObjection rs (take at keeps) k f → Goes rs keeps (take at keeps) (drop at keeps) retired → Refuses rs [] keeps f
+goes_refused rs keeps retired at k f l is o g = goes_wrong rs keeps (take at keeps) (drop at keeps) (drop (suc at) keeps) retired k f (drop-cons keeps at k l ∙ ap (λ x. x ∷ drop (suc at) keeps) (sym is)) o g
+
+pub goes_through : (rs : List Row) (keeps retired : List Id) (at : ℕ) → length keeps ≤ at → Goes rs keeps (take at keeps) (drop at keeps) retired → Settles rs keeps [] keeps [] retired
+goes_through rs keeps retired at h g = goes_home rs keeps (take at keeps) (drop at keeps) retired (drop_all at keeps h) g
+
+pub nothing_gone : (rs : List Row) (keeps ids : List Id) → ids ≡ [] → Goes rs keeps [] keeps ids
+nothing_gone rs keeps ids e = subst (λ l. Goes rs keeps [] keeps l) (sym e) (record { settles = λ all s. s; refuses = λ f s. s })

@@ -1,3 +1,6 @@
 pub mod Settling
 pub mod Doubles
 pub mod Names
+pub mod ByEntry
+pub mod Keeping
+pub mod Texts

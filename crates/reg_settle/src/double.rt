@@ -1,62 +1,64 @@
 //! Entries of one text, of which one is enough.
 
-ghost use Rattle.std.specs.Prelude.{◌≡◌, ◌↔◌, map, IsTrue, IfOk};
-ghost use Rattle.reg_op.specs.Rows.{rows};
+ghost use Rattle.std.specs.Prelude.{◌≡◌, ◌≢◌, ◌↔◌, ◌++◌, ◌∷◌, [], List, map, IsTrue, IfOk, OnOk, Some, if◌then◌else◌};
+ghost use Rattle.reg_op.specs.Rows.{Row as OneRow, rows};
+ghost use Rattle.reg_op.specs.declared.status.Status.TheVariants.{Retired};
 ghost use Rattle.reg_office.specs.Seen.{row_seen};
-ghost use Rattle.reg_settle.specs.Settling.{Picks};
-ghost use Rattle.reg_settle.specs.Doubles.{IsLesser, HasLesser, IsDouble, AreDoubles};
+ghost use Rattle.reg_settle.specs.Doubles.{AreDoubles};
+ghost use Rattle.reg_settle.specs.ByEntry.{ByEntry};
+ghost use Rattle.reg_settle.specs.Texts.{HasText, HasTexts};
 
-use crate::same::{push_where, shares_text, stands};
-use reg_office::{Row, rows};
+use crate::row::{rows_by_entry, stands};
+use reg_office::Row;
 use reg_op::OpId;
 use reg_state::Register;
 use std::alloc::{AllocError, Global};
+use std::collections::BTreeSet;
 
 /// The entries to retire so that each text of a key is entered once: of those that are not retired and have one text, all
 /// but the least.
 pub fn doubles(alloc: Global, register: &Register) -> Result<Vec<OpId>, AllocError>
     ensures { IfOk result (λ ids. AreDoubles (rows register.now.ops) ids.items) }
 {
-    let rows = rows(alloc, register)?;
+    let rows = rows_by_entry(alloc, register)?;
     let ids = doubles_among(alloc, &rows)?;
     Ok(ids)
 }
 
-// Whether the other comes before the row, has its text, and is not retired.
-fn is_lesser(row: &Row, lesser: &Row) -> bool
-    ensures { IsTrue result ↔ IsLesser (row_seen row.now) (row_seen lesser.now) }
-{
-    shares_text(lesser, row) && lesser.entry.is_before(&row.entry) && stands(lesser)
-}
-
-fn has_lesser(rows: &[Row], row: &Row) -> bool
-    ensures { IsTrue result ↔ HasLesser (map row_seen rows.now) (row_seen row.now) }
-{
-    let mut rest = rows;
-    while let Some((lesser, others)) = rest.split_first() {
-        if is_lesser(row, lesser) {
-            return true;
-        }
-        rest = others;
-    }
-    false
-}
-
-fn is_double(rows: &[Row], row: &Row) -> bool
-    ensures { IsTrue result ↔ IsDouble (map row_seen rows.now) (row_seen row.now) }
-{
-    stands(row) && has_lesser(rows, row)
-}
-
+// A row is a double if an earlier row has its text.
 fn doubles_among(alloc: Global, rows: &[Row]) -> Result<Vec<OpId>, AllocError>
+    requires { ByEntry (map row_seen rows.now) }
     ensures { IfOk result (λ ids. AreDoubles (map row_seen rows.now) ids.items) }
 {
     let mut ids = Vec::new(alloc);
+    let mut texts = BTreeSet::new(alloc);
     let mut rest = rows;
     while let Some((row, others)) = rest.split_first() {
-        let picked = is_double(rows, row);
+        let picked = is_again(&mut texts, row)?;
         push_where(picked, &mut ids, row.entry)?;
         rest = others;
     }
     Ok(ids)
+}
+
+// Whether an earlier row has the row's text, where neither is retired. Adds the text of a row that is not retired.
+fn is_again<'a>(texts: &mut BTreeSet<&'a [u8]>, row: &'a Row) -> Result<bool, AllocError>
+    ensures again { (done : List OneRow) → HasTexts texts.old done → IfOk result (λ again. IsTrue again ↔ (((row_seen row.now).status ≢ Some Retired) × HasText done (row_seen row.now).definition)) }
+    ensures texts { (done : List OneRow) → HasTexts texts.old done → OnOk result (HasTexts texts.new (done ++ row_seen row.now ∷ [])) }
+{
+    if !stands(row) {
+        return Ok(false);
+    }
+    let added = texts.insert(row.definition.as_bytes())?;
+    Ok(!added)
+}
+
+// Appends the entry if it is picked.
+fn push_where(picked: bool, ids: &mut Vec<OpId>, entry: OpId) -> Result<(), AllocError>
+    ensures { OnOk result (ids.new.items ≡ ids.old.items ++ (if picked then entry ∷ [] else [])) }
+{
+    if picked {
+        ids.push(entry)?;
+    }
+    Ok(())
 }

@@ -3,8 +3,10 @@
 
 mod double;
 mod fault;
+mod key;
 pub mod laws;
-mod same;
+mod rival;
+mod row;
 mod settling;
 
 pub use double::doubles;

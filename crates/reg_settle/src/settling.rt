@@ -1,18 +1,25 @@
 //! What is retired so that some entries are kept.
 
-ghost use Rattle.std.specs.Prelude.{◌≡◌, ◌⊎◌, ◌↔◌, ◌++◌, List, map, IsTrue, IfOk, OnOk, IfErr, IfSome, IfNone};
+ghost use Rattle.std.specs.Prelude.{◌≡◌, ◌≢◌, ◌⊎◌, List, map, filter, IfOk, OnOk, IfErr, Some};
+ghost use Rattle.std.specs.List.Sorted.{IsSorted};
 ghost use Rattle.reg_op.specs.Ids.{Id};
-ghost use Rattle.reg_op.specs.Rows.{Row as OneRow, rows};
+ghost use Rattle.reg_op.specs.Rows.{rows};
+ghost use Rattle.reg_op.specs.declared.status.Status.TheVariants.{Retired};
 ghost use Rattle.reg_office.specs.Seen.{row_seen};
 ghost use Rattle.reg_settle.specs.declared.fault.SettleFault.TheVariants as fault;
-ghost use Rattle.reg_settle.specs.Settling.{Picks, IsKept, IsRival, IsSettled, Takes, IsTaken, HasRow, IsObjection, IsUnsettled};
+ghost use Rattle.reg_settle.specs.Settling.{IsSettled, HasRow, IsObjection, IsUnsettled};
+ghost use Rattle.reg_settle.specs.ByEntry.{ByEntry};
+ghost use Rattle.reg_settle.specs.Keeping.{key_bytes, At, Holds, with_row, rival_cmp, is_of_key, Retires, IsOther};
 
 use crate::fault::SettleFault;
-use crate::same::{differs, is_among, is_of, push_where, shares_key, stands};
-use reg_office::{Row, rows};
+use crate::key::{KeyText, keep, key_of};
+use crate::rival::{Rival, push_rivals, rivals_by_key};
+use crate::row::{find_row, rows_by_entry, shares_text, stands};
+use reg_office::Row;
 use reg_op::OpId;
 use reg_state::Register;
-use std::alloc::{AllocError, Global};
+use std::alloc::Global;
+use std::collections::BTreeMap;
 
 /// The entries to retire so that these are kept: for each in its order, the other entries of its key that are not retired,
 /// by id, each once.
@@ -24,7 +31,7 @@ pub fn to_retire(
     ensures ok { IfOk result (λ ids. IsSettled (rows register.now.ops) keeps.now ids.items) }
     ensures fault { IfErr result (λ f. IsUnsettled (rows register.now.ops) keeps.now f ⊎ (f ≡ fault.Memory)) }
 {
-    let rows = match rows(alloc, register) {
+    let rows = match rows_by_entry(alloc, register) {
         Ok(rows) => rows,
         Err(_) => return Err(SettleFault::Memory),
     };
@@ -35,120 +42,73 @@ pub fn to_retire(
 }
 
 fn settled(alloc: Global, rows: &[Row], keeps: &[OpId]) -> Result<Vec<OpId>, SettleFault>
+    requires { ByEntry (map row_seen rows.now) }
     ensures ok { IfOk result (λ ids. IsSettled (map row_seen rows.now) keeps.now ids.items) }
     ensures fault { IfErr result (λ f. IsUnsettled (map row_seen rows.now) keeps.now f ⊎ (f ≡ fault.Memory)) }
 {
+    let rivals = match rivals_by_key(alloc, rows, keeps) {
+        Ok(rivals) => rivals,
+        Err(_) => return Err(SettleFault::Memory),
+    };
+    let mut kept = BTreeMap::new(alloc);
     let mut ids = Vec::new(alloc);
-    for (at, keep) in keeps.iter().enumerate() {
-        let row = match kept_row(rows, &keeps[..at], *keep) {
+    for entry in keeps {
+        let row = match standing_row(rows, *entry) {
             Ok(row) => row,
             Err(fault) => return Err(fault),
         };
-        if let Err(_) = push_rivals(alloc, rows, keeps, &mut ids, row) {
-            return Err(SettleFault::Memory);
+        let key = key_of(row);
+        if let Err(fault) = keep_row(&mut kept, &rivals, &mut ids, key, row) {
+            return Err(fault);
         }
     }
     Ok(ids)
 }
 
-// The row of an entry that is kept after others.
-fn kept_row<'a>(rows: &'a [Row], before: &[OpId], keep: OpId) -> Result<&'a Row, SettleFault>
-    ensures ok { IfOk result (λ row. IsKept (map row_seen rows.now) before.now keep (row_seen row.now)) }
-    ensures fault { IfErr result (IsObjection (map row_seen rows.now) before.now keep) }
+// The row of an entry that is not retired.
+fn standing_row<'a>(rows: &'a [Row], entry: OpId) -> Result<&'a Row, SettleFault>
+    requires { ByEntry (map row_seen rows.now) }
+    ensures ok { IfOk result (λ row. HasRow (map row_seen rows.now) entry (row_seen row.now) × ((row_seen row.now).status ≢ Some Retired)) }
+    ensures fault { (before : List Id) → IfErr result (IsObjection (map row_seen rows.now) before entry) }
 {
-    let Some(row) = find_row(rows, keep) else {
-        return Err(SettleFault::UnknownEntry(keep));
+    let Some(row) = find_row(rows, entry) else {
+        return Err(SettleFault::UnknownEntry(entry));
     };
     if !stands(row) {
-        return Err(SettleFault::AlreadyRetired(keep));
-    }
-    if is_taken(rows, before, row) {
-        return Err(SettleFault::KeyTaken(keep));
+        return Err(SettleFault::AlreadyRetired(entry));
     }
     Ok(row)
 }
 
-fn find_row<'a>(rows: &'a [Row], entry: OpId) -> Option<&'a Row>
-    ensures some { IfSome result (λ row. HasRow (map row_seen rows.now) entry (row_seen row.now)) }
-    ensures none { IfNone result ((r : OneRow) → ¬ (HasRow (map row_seen rows.now) entry r)) }
+// Keeps a row of the key. The first kept row of a key retires the rivals of the key.
+fn keep_row<'a>(
+    kept: &mut BTreeMap<KeyText<'a>, &'a Row>,
+    rivals: &[Rival],
+    ids: &mut Vec<OpId>,
+    key: KeyText<'a>,
+    row: &'a Row,
+) -> Result<(), SettleFault>
+    requires { IsSorted rival_cmp rivals.now }
+    ensures ids { (at : At) → Holds kept.old at → OnOk result (Retires (at (key_bytes key.entry)) (row_seen row.now) (filter (is_of_key (key_bytes key.entry)) rivals.now) ids.old.items ids.new.items) }
+    ensures kept { (at : At) → Holds kept.old at → OnOk result (Holds kept.new (with_row (key_bytes key.entry) (row_seen row.now) at)) }
+    ensures fault { (at : At) → Holds kept.old at → IfErr result (λ f. (IsOther (at (key_bytes key.entry)) (row_seen row.now) × (f ≡ fault.KeyTaken row.now.entry)) ⊎ (f ≡ fault.Memory)) }
 {
-    let mut rest = rows;
-    while let Some((row, others)) = rest.split_first() {
-        if is_of(row, entry) {
-            return Some(row);
+    let before = match keep(kept, key, row) {
+        Ok(before) => before,
+        Err(_) => return Err(SettleFault::Memory),
+    };
+    match before {
+        Some(other) => {
+            if !shares_text(other, row) {
+                return Err(SettleFault::KeyTaken(row.entry));
+            }
+            Ok(())
         }
-        rest = others;
-    }
-    None
-}
-
-// Whether the row is kept before, and has the key and another text.
-fn takes(row: &Row, before: &[OpId], keep: &Row) -> bool
-    ensures { IsTrue result ↔ Takes before.now (row_seen keep.now) (row_seen row.now) }
-{
-    differs(row, keep) && is_among(before, row.entry)
-}
-
-// Whether an entry that is kept before has the key and another text.
-fn is_taken(rows: &[Row], before: &[OpId], keep: &Row) -> bool
-    ensures { IsTrue result ↔ IsTaken (map row_seen rows.now) before.now (row_seen keep.now) }
-{
-    let mut rest = rows;
-    while let Some((row, others)) = rest.split_first() {
-        if takes(row, before, keep) {
-            return true;
+        None => {
+            if let Err(_) = push_rivals(ids, rivals, &key) {
+                return Err(SettleFault::Memory);
+            }
+            Ok(())
         }
-        rest = others;
     }
-    false
-}
-
-fn is_rival(row: &Row, keeps: &[OpId], retired: &[OpId], keep: &Row) -> bool
-    ensures { IsTrue result ↔ IsRival keeps.now retired.now (row_seen keep.now) (row_seen row.now) }
-{
-    if !shares_key(keep, row) {
-        return false;
-    }
-    if !stands(row) {
-        return false;
-    }
-    if is_among(keeps, row.entry) {
-        return false;
-    }
-    !is_among(retired, row.entry)
-}
-
-// The entries that are retired beside a row that is kept.
-fn rivals(
-    alloc: Global,
-    rows: &[Row],
-    keeps: &[OpId],
-    retired: &[OpId],
-    keep: &Row,
-) -> Result<Vec<OpId>, AllocError>
-    ensures { IfOk result (λ mine. Picks (IsRival keeps.now retired.now (row_seen keep.now)) (map row_seen rows.now) mine.items) }
-{
-    let mut mine = Vec::new(alloc);
-    let mut rest = rows;
-    while let Some((row, others)) = rest.split_first() {
-        let picked = is_rival(row, keeps, retired, keep);
-        push_where(picked, &mut mine, row.entry)?;
-        rest = others;
-    }
-    Ok(mine)
-}
-
-// Puts them at the end of those that are retired already.
-fn push_rivals(
-    alloc: Global,
-    rows: &[Row],
-    keeps: &[OpId],
-    retired: &mut Vec<OpId>,
-    keep: &Row,
-) -> Result<(), AllocError>
-    ensures { OnOk result ((mine : List Id) × Picks (IsRival keeps.now retired.old.items (row_seen keep.now)) (map row_seen rows.now) mine × (retired.new.items ≡ retired.old.items ++ mine)) }
-{
-    let mine = rivals(alloc, rows, keeps, retired, keep)?;
-    retired.extend_from_slice(&mine)?;
-    Ok(())
 }

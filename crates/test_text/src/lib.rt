@@ -2,6 +2,8 @@
 #![tactic(auto)]
 
 #[cfg(test)]
+mod condensing;
+#[cfg(test)]
 mod counts;
 #[cfg(test)]
 mod devices;

@@ -11,6 +11,8 @@ use Rattle.wkt_crs.specs.declared.definition.DefinitionFault.TheVariants as faul
 use Rattle.wkt_crs.specs.Spells.{Spells, SpellsCanon, canon}
 use Rattle.wkt_crs.specs.Faults.{FirstFault}
 use Rattle.wkt_crs.specs.Definition.{IsDefinition, IsNewFault, IsCanonicalFault, IsSeenFault, IsTextFault, of_read}
+use Rattle.wkt_condense.specs.Law.{IsReadAs}
+use Rattle.wkt_crs.proofs.Condensed.{spells_as, canon_as}
 use Rattle.wkt_crs.proofs.Texts.{one_value}
 use Rattle.wkt_crs.proofs.Defining.{of_definition}
 use Rattle.wkt_crs.proofs.Recognized.{crs_seen, seen_spells}
@@ -51,15 +53,33 @@ own (short, r) = record { value = crs_seen r; spells = seen_spells r short; is =
 is_canon : (text bytes : List ℕ) (v : Crs) → SpellsCanon text bytes → Spells text v → bytes ≡ canon v
 is_canon text bytes v c s = c.is ∙ ap canon (one_value text c.value v c.spells s)
 
-pub seen_found : (r : Given) (text : List ℕ) → SpellsCanon text text → IfOk r (λ d. d ≡ text) → IfOk r (SpellsCanon text)
-seen_found (Ok d) text c e = subst (SpellsCanon text) (sym e) c
-seen_found (Err f) text c e = tt
+pub seen_found : (r : Given) (text bytes : List ℕ) → SpellsCanon text bytes → IfOk r (λ d. d ≡ bytes) → IfOk r (SpellsCanon text)
+seen_found (Ok d) text bytes c e = subst (SpellsCanon text) (sym e) c
+seen_found (Err f) text bytes c e = tt
 
-pub seen_text_only : (r : Given) (text : List ℕ) (v : Crs) → SpellsCanon text text → IfOk r (λ d. d ≡ text) → IfErr r (IsSeenFault text) → Spells text v → IsDefinition (canon v)
+pub seen_text_only : (r : Given) (text bytes : List ℕ) (v : Crs) → SpellsCanon text bytes → IfOk r (λ d. d ≡ bytes) → IfErr r (IsSeenFault bytes) → Spells text v → IsDefinition (canon v)
     → (r ≡ Ok (canon v)) ⊎ (r ≡ Err fault.Memory)
-seen_text_only r text v c e h s d =
-    let same = is_canon text text v c s in
-    subst (λ t. (r ≡ Ok t) ⊎ (r ≡ Err fault.Memory)) same (seen_only r text e h (subst (λ t. IsDefinition t) (sym same) d))
+seen_text_only r text bytes v c e h s d =
+    let same = is_canon text bytes v c s in
+    subst (λ t. (r ≡ Ok t) ⊎ (r ≡ Err fault.Memory)) same (seen_only r bytes e h (subst (λ t. IsDefinition t) (sym same) d))
+
+-- a text is condensed to such bytes
+
+condensed_fault : (text bytes : List ℕ) (f : DefinitionFault) → IsReadAs text bytes → IsSeenFault bytes f → IsTextFault text f
+condensed_fault text bytes (fault.Read f) r h = absurd h
+condensed_fault text bytes fault.NoIdentifier r (crs, spells, none) = (crs, spells_as text bytes crs r spells, none)
+condensed_fault text bytes fault.CanonicalTooLong r h = absurd h
+condensed_fault text bytes fault.NotCanonical r h = absurd h
+condensed_fault text bytes fault.Memory r h = tt
+
+-- which is read as two slices of it
+pub condensed_canon : (text bytes a b : List ℕ) (seen : Seen) → a ≡ bytes → b ≡ bytes → IsReadAs text bytes → (length a ≤ 65536) × IsCanonicalOf seen a → SpellsCanon text b
+condensed_canon text bytes a b seen e g r s =
+    canon_as text b b (subst (IsReadAs text) (sym g) r) (own (subst (λ l. (length l ≤ 65536) × IsCanonicalOf seen l) (e ∙ sym g) s))
+
+pub seen_text_fault : (r : Given) (text bytes : List ℕ) → IsReadAs text bytes → IfErr r (IsSeenFault bytes) → IfErr r (IsTextFault text)
+seen_text_fault (Ok d) text bytes read h = tt
+seen_text_fault (Err f) text bytes read h = condensed_fault text bytes f read h
 
 -- ---- of the value that a text spells
 

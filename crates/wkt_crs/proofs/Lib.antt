@@ -1,3 +1,4 @@
+pub mod Condensed
 pub mod Defining
 pub mod EachText
 pub mod Editions

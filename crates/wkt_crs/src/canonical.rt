@@ -1,6 +1,6 @@
 //! The canonical text of what a text spells.
 
-ghost use Rattle.std.specs.Prelude.{◌≡◌, ◌≤◌, true, length, IfOk, IfErr};
+ghost use Rattle.std.specs.Prelude.{◌≡◌, ◌≤◌, true, length, IfOk, IfErr, IfSome};
 ghost use Rattle.crs_value.specs.declared.crs.Crs.{Crs};
 ghost use Rattle.wkt_tree.specs.declared.fault.TextFault.{TextFault};
 ghost use Rattle.wkt_tree.specs.Faults as tree;
@@ -14,12 +14,13 @@ use crate::reading::read_crs;
 use crate::writing::write_crs;
 use std::alloc::Global;
 use wkt_canonical::is_canonical;
+use wkt_condense::condense;
 
 /// The most bytes of a text.
 const MOST: usize = 1_048_576;
 
-/// The canonical text of what the text spells, or the first fault of the text. Most canonical texts are seen to be so, and
-/// no value is made of them.
+/// The canonical text of what the text spells, or the first fault of the text. Most canonical texts are seen to be so, most
+/// others once they are condensed, and no value is made of them.
 pub fn canonical_text(alloc: Global, text: &[u8]) -> Result<Vec<u8>, ReadFault>
     ensures found { IfOk result (λ canonical. SpellsCanon text.now canonical.items) }
     ensures only { (v : Crs) → Spells text.now v → IfErr result (λ f. f ≡ fault.Memory) }
@@ -37,7 +38,8 @@ pub fn canonical_text(alloc: Global, text: &[u8]) -> Result<Vec<u8>, ReadFault>
     rewritten(alloc, text)
 }
 
-/// The same, for a text that is not seen to be canonical: its value is read and written.
+/// The same, for a text that is not seen to be canonical. Where it is not seen of the condensed text either, the value is
+/// read and written.
 pub(crate) fn rewritten(alloc: Global, text: &[u8]) -> Result<Vec<u8>, ReadFault>
     ensures found { IfOk result (λ canonical. SpellsCanon text.now canonical.items) }
     ensures only { (v : Crs) → Spells text.now v → IfErr result (λ f. f ≡ fault.Memory) }
@@ -45,6 +47,9 @@ pub(crate) fn rewritten(alloc: Global, text: &[u8]) -> Result<Vec<u8>, ReadFault
     ensures text { (f : TextFault) → tree.FirstFault text.now f → IfErr result (λ g. g ≡ fault.Text f) }
     ensures slot { (f : SlotFault) → FirstSlot text.now f → IfErr result (λ g. g ≡ fault.Slot f) }
 {
+    if let Some(canonical) = condensed(alloc, text) {
+        return Ok(canonical);
+    }
     let crs = match read_crs(alloc, text) {
         Ok(crs) => crs,
         Err(fault) => return Err(fault),
@@ -52,6 +57,18 @@ pub(crate) fn rewritten(alloc: Global, text: &[u8]) -> Result<Vec<u8>, ReadFault
     match write_crs(alloc, &crs) {
         Ok(canonical) => Ok(canonical),
         Err(_) => Err(ReadFault::Memory),
+    }
+}
+
+/// The condensed text, where that is seen to be canonical.
+fn condensed(alloc: Global, text: &[u8]) -> Option<Vec<u8>>
+    ensures { IfSome result (λ canonical. SpellsCanon text.now canonical.items) }
+{
+    let condensed = condense(alloc, text)?;
+    if is_seen(&condensed) {
+        Some(condensed)
+    } else {
+        None
     }
 }
 

@@ -23,6 +23,7 @@ use std::fmt;
 use std::marker::Model;
 use std::rc::Rc;
 use wkt_canonical::{Identifier, Seen, recognize};
+use wkt_condense::condense;
 
 /// The most bytes of a definition's canonical text.
 const MOST: usize = 65_536;
@@ -157,7 +158,8 @@ impl Definition {
         of_seen(alloc, bytes, seen)
     }
 
-    /// The definition of what the text spells. Most canonical texts are seen to be so, and no value is made of them.
+    /// The definition of what the text spells. Most canonical texts are seen to be so, most others once they are condensed, and
+    /// no value is made of them.
     pub fn from_text(alloc: Global, text: &[u8]) -> Result<Definition, DefinitionFault>
         ensures ok { IfOk result (SpellsCanon text.now) }
         ensures is { IfOk result IsDefinition }
@@ -169,6 +171,11 @@ impl Definition {
     {
         if let Some(seen) = seen_in(text) {
             return of_seen(alloc, text, seen);
+        }
+        if let Some(condensed) = condense(alloc, text) {
+            if let Some(seen) = seen_in(&condensed) {
+                return of_seen(alloc, &condensed, seen);
+            }
         }
         match read_crs(alloc, text) {
             Ok(crs) => Definition::new(alloc, crs),

@@ -1,31 +1,23 @@
 -- The explanation of a refusal.
-use Rattle.std.specs.Prelude.{◌≡◌, ℕ, ◌+◌, List, [], ◌∷◌, ◌++◌, length, take, drop, min, codes, decimal, Option, Some, None, unwrap_or}
+use Rattle.std.specs.Prelude.{ℕ, ◌+◌, List, [], ◌∷◌, ◌++◌, length, take, drop, min, codes, decimal, Option, Some, None, unwrap_or}
 use Rattle.std.specs.List.{flat_map}
 use Rattle.wkt_crs.specs.declared.definition.DefinitionFault.{DefinitionFault}
 use Rattle.wkt_crs.specs.Definition.{fault_place}
 use Rattle.wkt_explain.specs.declared.hints.Hint.{Hint}
 use Rattle.wkt_explain.specs.Characters.{chars}
-use Rattle.wkt_explain.specs.Position.{first_line, last_line, line_number, column}
+use Rattle.wkt_explain.specs.Position.{first_line, last_line, line_number, column, text_in}
 use Rattle.wkt_explain.specs.Path.{path_at}
 use Rattle.wkt_explain.specs.Shown.{shown_lines}
 use Rattle.wkt_explain.specs.Sentences.{sentence}
 use Rattle.wkt_explain.specs.Hints.{hint_of, hint_text}
 
--- the text from one place in a file up to another
-abbrev pub text_in : List ℕ → ℕ → ℕ → List ℕ
-text_in file start end = drop start (take end file)
-
 -- where in a text a fault is told: at its front, where it has no place
 abbrev pub told_at : List ℕ → DefinitionFault → ℕ
 told_at text f = min (unwrap_or (fault_place f) 0) (length text)
 
--- what stands before a place and from it on
-abbrev pub IsParted : List ℕ → ℕ → List ℕ → List ℕ → Type 0
-IsParted file place before after = (before ≡ take place file) × (after ≡ drop place file)
-
 -- the name of a file, a line and a column of it
-abbrev pub place_words : List ℕ → List ℕ → List ℕ
-place_words name before = name ++ 58 ∷ [] ++ decimal (line_number before) ++ 58 ∷ [] ++ decimal (column before) ++ codes ": "
+abbrev pub place_words : List ℕ → ℕ → ℕ → List ℕ
+place_words name line column = name ++ 58 ∷ [] ++ decimal line ++ 58 ∷ [] ++ decimal column ++ codes ": "
 
 abbrev pub step_words : List ℕ → List ℕ
 step_words word = codes " > " ++ word
@@ -40,20 +32,19 @@ abbrev pub last_of : List ℕ → List (List ℕ) → List ℕ
 last_of word [] = word
 last_of word (k ∷ ks) = last_of k ks
 
--- where it is, in which nodes, and what is wrong
-abbrev pub head_line : List ℕ → List ℕ → List (List ℕ) → DefinitionFault → List ℕ
-head_line name before path f = place_words name before ++ path_words path ++ sentence f ++ 10 ∷ []
-
 abbrev pub hint_line : Option Hint → List ℕ
 hint_line None = []
 hint_line (Some h) = codes "hint: " ++ hint_text h ++ 10 ∷ []
 
+-- where it is, in which nodes, and what is wrong; the lines that are shown; the hint
+abbrev pub said : List ℕ → ℕ → ℕ → List (List ℕ) → List ℕ → List ℕ → DefinitionFault → List ℕ
+said name line column path lines text f =
+    place_words name line column ++ path_words path ++ sentence f ++ 10 ∷ [] ++ lines ++ hint_line (hint_of text (last_of [] path) f)
+
 -- of a fault of a text, told at this place of it, which stands in a file behind and before this
 abbrev pub explained : List ℕ → List ℕ → ℕ → List ℕ → List ℕ → DefinitionFault → List ℕ
 explained name text at before after f =
-    head_line name before (path_at (take at text)) f
-    ++ shown_lines (chars (last_line before)) (chars (first_line after))
-    ++ hint_line (hint_of text (last_of [] (path_at (take at text))) f)
+    said name (line_number before) (column before) (path_at (take at text)) (shown_lines (chars (last_line before)) (chars (first_line after))) text f
 
 -- of a text in a file
 abbrev pub explanation : List ℕ → List ℕ → ℕ → ℕ → DefinitionFault → List ℕ

@@ -4,6 +4,7 @@ pub mod Path
 pub mod Shown
 pub mod Sentences
 pub mod Hints
+pub mod Walk
 pub mod Explains
 pub mod Kept
 pub mod Opened

@@ -3,6 +3,10 @@ use Rattle.std.specs.Prelude.{ℕ, ◌+◌, ◌-◌, ◌==◌, Bool, not, List, 
 use Rattle.std.specs.List.{prefix_len, suffix_len}
 use Rattle.wkt_explain.specs.Characters.{chars}
 
+-- the bytes of a file from one place up to another
+abbrev pub text_in : List ℕ → ℕ → ℕ → List ℕ
+text_in file start end = drop start (take end file)
+
 -- the byte ends no line
 abbrev pub goes_on : ℕ → Bool
 goes_on b = not (b == 10)
@@ -15,9 +19,13 @@ first_line bytes = take (prefix_len goes_on bytes) bytes
 abbrev pub last_line : List ℕ → List ℕ
 last_line bytes = drop (length bytes - suffix_len goes_on bytes) bytes
 
+-- how many line feeds they have
+abbrev pub feeds : List ℕ → ℕ
+feeds bytes = count_by (λ b. b == 10) bytes
+
 -- the number of the line that these bytes lead to, from 1
 abbrev pub line_number : List ℕ → ℕ
-line_number bytes = count_by (λ b. b == 10) bytes + 1
+line_number bytes = feeds bytes + 1
 
 -- the column that they lead to, from 1
 abbrev pub column : List ℕ → ℕ

@@ -66,10 +66,10 @@ abbrev pub condition_sentence : Condition → List ℕ
 condition_sentence condition.C1 = codes "there are not as many axes as the dimension says"
 condition_sentence condition.C2 = codes "this system cannot have a coordinate system of this kind and dimension"
 condition_sentence condition.C3 = codes "an axis has no unit, and there is no unit for all axes"
-condition_sentence condition.C4 = codes "either no axis has an ORDER, or each has a number of its own, from 1"
+condition_sentence condition.C4 = codes "either no axis has an ORDER, or the first has ORDER[1], the second ORDER[2], and so on"
 condition_sentence condition.C5 = codes "a unit does not fit its axis"
 condition_sentence condition.C6 = codes "a compound has a horizontal system of 2 axes, and then a vertical one"
-condition_sentence condition.C7 = codes "a semi-major axis or a conversion factor is not above 0, a flattening is negative, or a part of a compound has a USAGE of its own"
+condition_sentence condition.C7 = codes "a semi-major axis or a conversion factor is not above 0, or an inverse flattening is negative"
 condition_sentence condition.C8 = codes "a MERIDIAN stands only after north or south"
 
 -- of a text that spells no reference system

@@ -1,16 +1,30 @@
 -- How a line is shown, with a caret under a place of it.
-use Rattle.std.specs.Prelude.{ℕ, zero, suc, ◌-◌, ◌==◌, ◌||◌, List, [], ◌∷◌, ◌++◌, length, take, drop, min, max, nat_lt, if◌then◌else◌}
+use Rattle.std.specs.Prelude.{ℕ, zero, suc, ◌+◌, ◌-◌, ◌*◌, ◌%◌, ◌==◌, ◌||◌, ◌&&◌, Bool, List, [], ◌∷◌, ◌++◌, length, take, drop, min, max, nat_le, nat_lt, if◌then◌else◌}
 use Rattle.std.specs.List.{flat_map}
 
 -- a tab is shown as a blank, and what can't be shown as a question mark
 abbrev pub shown_byte : ℕ → ℕ
 shown_byte b = if b == 9 then 32 else (if nat_lt b 32 || nat_lt 126 b then 63 else b)
 
--- a character of several bytes is shown as it stands
+-- the code of a character of two or three bytes
+abbrev pub code_of : List ℕ → ℕ
+code_of (b ∷ c ∷ []) = b % 32 * 64 + c % 64
+code_of (b ∷ c ∷ d ∷ []) = b % 16 * 4096 + c % 64 * 64 + d % 64
+code_of _ = 0
+
+abbrev pub is_within : ℕ → ℕ → ℕ → Bool
+is_within code first last = nat_le first code && nat_le code last
+
+-- the codes U+0080 to U+009F, U+200B to U+200F, U+2028 to U+202E, U+2066 to U+2069: controls of terminals, characters without
+-- a width, ends of lines, and marks that turn the direction of a text
+abbrev pub is_hidden : ℕ → Bool
+is_hidden code = is_within code 128 159 || is_within code 8203 8207 || is_within code 8232 8238 || is_within code 8294 8297
+
+-- a character of several bytes is shown as it stands, and as a question mark where it would hide or move others
 abbrev pub shown_char : List ℕ → List ℕ
 shown_char [] = []
 shown_char (b ∷ []) = shown_byte b ∷ []
-shown_char (b ∷ c ∷ cs) = b ∷ c ∷ cs
+shown_char (b ∷ c ∷ cs) = if is_hidden (code_of (b ∷ c ∷ cs)) then 63 ∷ [] else b ∷ c ∷ cs
 
 abbrev pub shown : List (List ℕ) → List ℕ
 shown cs = flat_map shown_char cs

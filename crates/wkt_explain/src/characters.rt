@@ -27,7 +27,7 @@ fn is_wide(bytes: &[u8], count: usize) -> bool
 
 // How many bytes the first character has.
 #[tactic(auto, unfolding(crate::specs::Characters::first_len))]
-fn first_len(bytes: &[u8]) -> usize
+pub(crate) fn first_len(bytes: &[u8]) -> usize
     requires { 0 < length bytes.now }
     ensures { result ≡ first_len bytes.now }
 {

@@ -2,37 +2,26 @@
 
 ghost use Rattle.std.specs.Prelude.{◌≡◌, ◌++◌, ◌+◌, ◌∷◌, [], ℕ, List, drop, length, map, min, codes, decimal, Option, IfOk, OnOk};
 ghost use Rattle.std.specs.List.{flat_map};
-ghost use Rattle.wkt_explain.specs.Explains.{explanation, head_line, hint_line, last_of, path_words, place_words, step_words, text_in, told_at, IsParted};
+ghost use Rattle.wkt_explain.specs.Characters.{chars};
+ghost use Rattle.wkt_explain.specs.Sentences.{sentence};
+ghost use Rattle.wkt_explain.specs.Shown.{shown_lines};
+ghost use Rattle.wkt_explain.specs.Explains.{explanation, hint_line, last_of, path_words, place_words, said, step_words, told_at};
 
 use crate::hints::{Hint, hint_of};
 use crate::path::path_at;
-use crate::position::{column, first_line, last_line, line_number};
+use crate::position::text_in;
 use crate::sentences::sentence;
 use crate::shown::push_lines;
+use crate::walk::{Spot, Walk};
 use std::alloc::{AllocError, Global};
+use std::marker::Model;
 use wkt_crs::DefinitionFault;
-
-// The text from one place in a file up to another.
-fn text_in(file: &[u8], start: usize, end: usize) -> &[u8]
-    ensures { result.now ≡ text_in file.now start end }
-{
-    let (upto, _) = file.split_at(end.min(file.len()));
-    let (_, text) = upto.split_at(start.min(upto.len()));
-    text
-}
 
 // Where in the text the fault is told: at its front, where it has no place.
 fn told_at(text: &[u8], fault: DefinitionFault) -> usize
     ensures { result ≡ told_at text.now fault }
 {
     fault.place().unwrap_or(0).min(text.len())
-}
-
-// What stands in a file before a place in the text that starts there, and from it on.
-fn parted(file: &[u8], start: usize, at: usize) -> (&[u8], &[u8])
-    ensures { IsParted file.now (start + at) result.0.now result.1.now }
-{
-    file.split_at(start.saturating_add(at).min(file.len()))
 }
 
 fn push_number(alloc: Global, out: &mut Vec<u8>, number: usize) -> Result<(), AllocError>
@@ -42,14 +31,20 @@ fn push_number(alloc: Global, out: &mut Vec<u8>, number: usize) -> Result<(), Al
     out.extend_from_slice(digits.as_bytes())
 }
 
-fn push_place(alloc: Global, out: &mut Vec<u8>, name: &str, before: &[u8]) -> Result<(), AllocError>
-    ensures { OnOk result (out.new.items ≡ out.old.items ++ place_words name.now before.now) }
+fn push_place(
+    alloc: Global,
+    out: &mut Vec<u8>,
+    name: &str,
+    line: usize,
+    column: usize,
+) -> Result<(), AllocError>
+    ensures { OnOk result (out.new.items ≡ out.old.items ++ place_words name.now line column) }
 {
     out.extend_from_slice(name.as_bytes())?;
     out.push(b':')?;
-    push_number(alloc, out, line_number(before))?;
+    push_number(alloc, out, line)?;
     out.push(b':')?;
-    push_number(alloc, out, column(before))?;
+    push_number(alloc, out, column)?;
     out.extend_from_slice(b": ")?;
     Ok(())
 }
@@ -92,17 +87,10 @@ fn last_of(words: &[Vec<u8>]) -> &[u8]
     last
 }
 
-fn push_head(
-    alloc: Global,
-    out: &mut Vec<u8>,
-    name: &str,
-    before: &[u8],
-    path: &[Vec<u8>],
-    fault: DefinitionFault,
-) -> Result<(), AllocError>
-    ensures { OnOk result (out.new.items ≡ out.old.items ++ head_line name.now before.now (map (λ w. w.items) path.now) fault) }
+// What is wrong, and in which nodes.
+fn push_fault(out: &mut Vec<u8>, path: &[Vec<u8>], fault: DefinitionFault) -> Result<(), AllocError>
+    ensures { OnOk result (out.new.items ≡ out.old.items ++ path_words (map (λ w. w.items) path.now) ++ sentence fault ++ 10 ∷ []) }
 {
-    push_place(alloc, out, name, before)?;
     push_path(out, path)?;
     out.extend_from_slice(sentence(fault).as_bytes())?;
     out.push(b'\n')?;
@@ -121,8 +109,81 @@ fn push_hint(out: &mut Vec<u8>, hint: Option<Hint>) -> Result<(), AllocError>
     Ok(())
 }
 
-/// The explanation of the fault of a text that stands from one place up to another in the file of this name: where it
-/// is, the keywords of the nodes that it stands in, what is wrong; the line, with a caret; and a hint, where there is one.
+// What is said of a fault of this text, at a place of its file, in these nodes.
+fn said(
+    alloc: Global,
+    name: &str,
+    spot: Spot<'_>,
+    path: &[Vec<u8>],
+    text: &[u8],
+    fault: DefinitionFault,
+) -> Result<Vec<u8>, AllocError>
+    ensures { IfOk result (λ note. note.items ≡ said name.now spot.entry.line spot.entry.column (map (λ w. w.items) path.now)
+        (shown_lines (chars spot.entry.before.now) (chars spot.entry.after.now)) text.now fault) }
+{
+    let mut note = Vec::new(alloc);
+    push_place(alloc, &mut note, name, spot.line, spot.column)?;
+    push_fault(&mut note, path, fault)?;
+    push_lines(&mut note, spot.before, spot.after)?;
+    push_hint(&mut note, hint_of(text, last_of(path), fault))?;
+    Ok(note)
+}
+
+/// Explains why texts of a file are refused. It goes on from one place of the file to the next, so that texts in their
+/// order cost one walk through the file, and a text that begins before the last one another.
+#[derive(Drop)]
+pub struct Explainer<'f> {
+    walk: Walk<'f>,
+}
+
+impl<'f> Model for Explainer<'f> {
+    ghost Value = { List ℕ };
+
+    ghost view = { λ e. e.walk.file.now };
+}
+
+impl<'f> Explainer<'f> {
+    /// One for a file of these bytes.
+    pub fn new(file: &'f [u8]) -> Explainer<'f>
+        ensures { result ≡ file.now }
+    {
+        Explainer {
+            walk: Walk::new(file),
+        }
+    }
+
+    // Where a place of a text is that starts at another: at the end of the file at most.
+    fn place(&self, start: usize, at: usize) -> usize
+        ensures { result ≡ min (start + at) (length self.now) }
+    {
+        start.saturating_add(at).min(self.walk.file.len())
+    }
+
+    /// The explanation of the fault of a text that stands from one place up to another in the file, whose name is this:
+    /// where it is, the keywords of the nodes that it stands in, what is wrong; the line, with a caret; and a hint, where
+    /// there is one.
+    pub fn explain(
+        &mut self,
+        alloc: Global,
+        name: &str,
+        start: usize,
+        end: usize,
+        fault: DefinitionFault,
+    ) -> Result<Vec<u8>, AllocError>
+        ensures note { IfOk result (λ note. note.items ≡ explanation name.now self.old start end fault) }
+        ensures file { self.new ≡ self.old }
+    {
+        let text = text_in(self.walk.file, start, end);
+        let at = told_at(text, fault);
+        let (read, _) = text.split_at(at);
+        let path = path_at(alloc, read)?;
+        let place = self.place(start, at);
+        let spot = self.walk.go(place);
+        said(alloc, name, spot, &path, text, fault)
+    }
+}
+
+/// The explanation of the fault of a text that stands from one place up to another in the file of this name.
 pub fn explain_within(
     alloc: Global,
     name: &str,
@@ -133,16 +194,7 @@ pub fn explain_within(
 ) -> Result<Vec<u8>, AllocError>
     ensures { IfOk result (λ note. note.items ≡ explanation name.now file.now start end fault) }
 {
-    let text = text_in(file, start, end);
-    let at = told_at(text, fault);
-    let (read, _) = text.split_at(at);
-    let path = path_at(alloc, read)?;
-    let (before, after) = parted(file, start, at);
-    let mut note = Vec::new(alloc);
-    push_head(alloc, &mut note, name, before, &path, fault)?;
-    push_lines(&mut note, last_line(before), first_line(after))?;
-    push_hint(&mut note, hint_of(text, last_of(&path), fault))?;
-    Ok(note)
+    Explainer::new(file).explain(alloc, name, start, end, fault)
 }
 
 /// The same of a text that is the whole file.

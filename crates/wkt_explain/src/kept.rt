@@ -16,12 +16,13 @@ pub struct Kept<S> {
 }
 
 impl<S: Source> Kept<S> {
-    ghost use Rattle.std.specs.Prelude.{◌≡◌, [], true, IfSome};
+    ghost use Rattle.std.specs.Prelude.{◌≡◌, [], true, IfSome, IsSome, IsTrue};
     ghost use Rattle.wkt_explain.specs.Kept.{anew};
 
     /// The source, of which nothing is kept yet.
     pub fn new(alloc: Global, source: S) -> Kept<S>
-        ensures { ⟦<Kept<S> as Source>⟧.state result ≡ anew (S.state source) }
+        ensures state { ⟦<Kept<S> as Source>⟧.state result ≡ anew (S.state source) }
+        ensures whole { IsTrue result.is_whole }
     {
         Kept {
             source,
@@ -33,7 +34,8 @@ impl<S: Source> Kept<S> {
 
     /// All that it gave, where there was memory for that.
     pub fn bytes(&self) -> Option<&[u8]>
-        ensures { IfSome result (λ bytes. bytes.now ≡ (⟦<Kept<S> as Source>⟧.state self.now).given) }
+        ensures whole { IsTrue self.now.is_whole → IsSome result }
+        ensures given { IfSome result (λ bytes. bytes.now ≡ (⟦<Kept<S> as Source>⟧.state self.now).given) }
     {
         if !self.is_whole {
             return None;

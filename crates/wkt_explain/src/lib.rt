@@ -10,7 +10,8 @@ mod path;
 mod position;
 mod sentences;
 mod shown;
+mod walk;
 
-pub use explain::{explain_text, explain_within};
+pub use explain::{Explainer, explain_text, explain_within};
 pub use hints::Hint;
 pub use kept::Kept;

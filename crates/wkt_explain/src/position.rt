@@ -1,10 +1,8 @@
 //! The line and the column of a place.
 
-ghost use Rattle.std.specs.Prelude.{◌≡◌, ◌+◌, ◌==◌, count_by, length};
+ghost use Rattle.std.specs.Prelude.{◌≡◌, ◌≤◌, length};
 ghost use Rattle.std.specs.List.{prefix_len, suffix_len};
-ghost use Rattle.wkt_explain.specs.Position.{goes_on, first_line, last_line, line_number, column};
-
-use crate::characters::count_chars;
+ghost use Rattle.wkt_explain.specs.Position.{goes_on, feeds, first_line, last_line, text_in};
 
 fn goes_on(b: u8) -> bool
     ensures { result ≡ goes_on b }
@@ -41,16 +39,19 @@ pub(crate) fn last_line(bytes: &[u8]) -> &[u8]
     line
 }
 
-/// The number of the line that these bytes lead to, from 1.
-pub(crate) fn line_number(bytes: &[u8]) -> usize
-    ensures { result ≡ line_number bytes.now }
+/// How many line feeds they have.
+pub(crate) fn feeds(bytes: &[u8]) -> usize
+    ensures count { result ≡ feeds bytes.now }
+    ensures within { result ≤ length bytes.now }
 {
-    bytes.iter().filter(|b| **b == b'\n').count() + 1
+    bytes.iter().filter(|b| **b == b'\n').count()
 }
 
-/// The column that they lead to, from 1.
-pub(crate) fn column(bytes: &[u8]) -> usize
-    ensures { result ≡ column bytes.now }
+/// The bytes of a file from one place up to another.
+pub(crate) fn text_in(file: &[u8], start: usize, end: usize) -> &[u8]
+    ensures { result.now ≡ text_in file.now start end }
 {
-    count_chars(last_line(bytes)) + 1
+    let (upto, _) = file.split_at(end.min(file.len()));
+    let (_, text) = upto.split_at(start.min(upto.len()));
+    text
 }

@@ -74,11 +74,12 @@ fn condition_sentence(condition: Condition) -> &'static str
         Condition::C1 => "there are not as many axes as the dimension says",
         Condition::C2 => "this system cannot have a coordinate system of this kind and dimension",
         Condition::C3 => "an axis has no unit, and there is no unit for all axes",
-        Condition::C4 => "either no axis has an ORDER, or each has a number of its own, from 1",
+        Condition::C4 =>
+            "either no axis has an ORDER, or the first has ORDER[1], the second ORDER[2], and so on",
         Condition::C5 => "a unit does not fit its axis",
         Condition::C6 => "a compound has a horizontal system of 2 axes, and then a vertical one",
         Condition::C7 =>
-            "a semi-major axis or a conversion factor is not above 0, a flattening is negative, or a part of a compound has a USAGE of its own",
+            "a semi-major axis or a conversion factor is not above 0, or an inverse flattening is negative",
         Condition::C8 => "a MERIDIAN stands only after north or south",
     }
 }

@@ -1,11 +1,11 @@
 //! What a failed allocation leaves. The allocations fail one by one under `rt try --test --fail-alloc N`; where none is,
 //! these tests see that each call succeeds.
 
-use super::{COMPOUND, HEIGHT, POLAR};
+use super::{COMPOUND, HEIGHT, POLAR, SPELLED};
 use std::alloc::Global;
 use wkt_crs::{
-    Crs, Definition, DefinitionFault, ReadFault, SlotFault, TextFault, read_crs, write_crs,
-    write_pretty,
+    Crs, Definition, DefinitionFault, ReadFault, SlotFault, TextFault, canonical_text, read_crs,
+    write_crs, write_pretty,
 };
 
 // What was read where memory was found.
@@ -48,10 +48,24 @@ fn a_text_is_a_definition_or_memory_is_wanting(rt: HostRuntime) {
 }
 
 #[test]
+fn a_text_has_its_canonical_text_or_memory_is_wanting(rt: HostRuntime) {
+    let indented =
+        b"VERTCRS[\"H\",\n    VDATUM[\"D\"],\n    CS[vertical,1],\n    AXIS[\"height (H)\",up],\n    LENGTHUNIT[\"metre\",1.0],\n    ID[\"X\",7]]\n".as_slice();
+    for text in [indented, SPELLED] {
+        match canonical_text(rt.alloc(), text) {
+            Ok(canonical) => assert!(rt; canonical.as_slice() == HEIGHT),
+            Err(fault) => assert!(rt; fault == ReadFault::Memory),
+        }
+    }
+}
+
+#[test]
 fn faults_of_texts_and_slots_need_no_memory(rt: HostRuntime) {
     let crossed = b"VERTCRS[\"H\",ID[\"X\",7],VDATUM[\"D\"),CS[vertical,1]]";
     let early = b"VERTCRS[\"H\",ID[\"X\",7],VDATUM[\"D\"],CS[vertical,1]]";
     let refused = read_crs(rt.alloc(), crossed).err();
+    assert!(rt; refused == Some(ReadFault::Text(TextFault::Unexpected(32))));
+    let refused = canonical_text(rt.alloc(), crossed).err();
     assert!(rt; refused == Some(ReadFault::Text(TextFault::Unexpected(32))));
     let refused = read_crs(rt.alloc(), early).err();
     assert!(rt; refused == Some(ReadFault::Slot(SlotFault::NotHere(12))));

@@ -1,0 +1,104 @@
+-- Rows by entry, and what a binary search finds.
+use Rattle.std.proofs.Common.{◌≡◌, ℕ, ◌+◌, ◌<◌, Bool, true, false, List, [], ◌∷◌, ◌++◌, map, length, get_or, zero, suc, Ok, Err, sym, ap, ◌∙◌, subst, inl, inr, arith}
+use Rattle.std.specs.Prelude.{◌↔◌, IsTrue, Contains, Result, is_ok}
+use Rattle.std.specs.List.{flat_map, HoldsAt}
+use Rattle.std.specs.List.Sorted.{IsSorted, IsSortedBy, IsPartitionPoint, IsBinarySearchResult, IsSearchInRange}
+use Rattle.std.specs.Cmp.{tied_itself}
+use Rattle.std.specs.Ordering.{is_lt}
+use Rattle.std.specs.declared.cmp.Ordering.{Ordering}
+use Rattle.std.specs.declared.cmp.Ordering.TheVariants.{Less, Equal, Greater}
+use Rattle.std.proofs.lemmas.Bool.{true≢false}
+use Rattle.std.proofs.lemmas.List.Elements.{Contains-append_cases}
+use Rattle.std.proofs.lemmas.List.Sorted.{ranks_by, searchable_from_sorted}
+use Rattle.reg_op.specs.Set as set
+use Rattle.reg_op.specs.Ids.{Id, id_cmp, is_before}
+use Rattle.reg_op.specs.Lists.{AllAfter, ById}
+use Rattle.reg_op.specs.Operations.{Op, Ops}
+use Rattle.reg_op.specs.declared.operation.OpBody.{OpBody as Body}
+use Rattle.reg_op.specs.declared.operation.OpBody.TheVariants.{Enter, Supersede, Retire}
+use Rattle.reg_op.specs.Rows.{Row, rows_at, rows}
+use Rattle.reg_op.proofs.OpLemmas.{id_total, id_exact, not_before_itself}
+use Rattle.reg_op.proofs.PointLemmas.{lt_or_ge}
+use Rattle.reg_office.specs.declared.row.Row.{Row as MadeRow}
+use Rattle.reg_office.specs.Seen.{row_seen}
+use Rattle.reg_office.proofs.ConflictLemmas.{none_in, in_cons, in_head, in_map, from_map}
+use Rattle.reg_settle.specs.ByEntry.{ByEntry}
+use Rattle.reg_settle.specs.Settling.{HasRow}
+
+-- ---- the rows of a content
+
+abbrev rows_in : Ops → List Op → List Row
+rows_in s os = flat_map (λ (o : Op). rows_at s o.id o.body) os
+
+entry_at : (s : Ops) (i : Id) (b : Body) (r : Row) → Contains (rows_at s i b) r → r.entry ≡ i
+entry_at s i (Enter text) r h = elim (in_cons r _ [] h) [ inl e ↦ ap (λ (q : Row). q.entry) e | inr d ↦ absurd (none_in r d) ]
+entry_at s i (Supersede old newer) r h = absurd (none_in r h)
+entry_at s i (Retire entry) r h = absurd (none_in r h)
+
+after : (s : Ops) (i : Id) (os : List Op) → AllAfter i os → (r : Row) → Contains (rows_in s os) r → is_before i r.entry ≡ true
+after s i [] up r h = absurd (none_in r h)
+after s i (o ∷ os) up r h = elim (Contains-append_cases (rows_at s o.id o.body) (rows_in s os) r h) [
+  | inl here ↦ subst (λ k. is_before i k ≡ true) (sym (entry_at s o.id o.body r here)) up.0
+  | inr later ↦ after s i os up.1 r later
+]
+
+by_entry_in : (s : Ops) (os : List Op) → ById os → ByEntry (rows_in s os)
+by_entry_in s [] up = tt
+by_entry_in s (o ∷ os) up = by_body o.body (by_entry_in s os up.1)
+  where
+    by_body : (b : Body) → ByEntry (rows_in s os) → ByEntry (rows_at s o.id b ++ rows_in s os)
+    by_body (Enter text) later = (after s o.id os up.0, later)
+    by_body (Supersede old newer) later = later
+    by_body (Retire entry) later = later
+
+pub are_by_entry : (s : Ops) (os : List Op) (made : List MadeRow) → os ≡ set.items s → ById os → map row_seen made ≡ rows s → ByEntry (map row_seen made)
+are_by_entry s os made e up h = subst ByEntry (sym h) (by_entry_in s (set.items s) (subst ById e up))
+
+-- an entry has one row
+pub one_by_entry : (rs : List Row) → ByEntry rs → (a b : Row) → Contains rs a → Contains rs b → a.entry ≡ b.entry → a ≡ b
+one_by_entry [] up a b h k e = absurd (none_in a h)
+one_by_entry (r ∷ rs) up a b h k e = elim (in_cons a r rs h) [
+  | inl a_is ↦ elim (in_cons b r rs k) [
+    | inl b_is ↦ a_is ∙ sym b_is
+    | inr b_later ↦ absurd (not_before_itself b.entry (subst (λ i. is_before i b.entry ≡ true) (sym (ap (λ (q : Row). q.entry) a_is) ∙ e) (up.0 b b_later)))
+  ]
+  | inr a_later ↦ elim (in_cons b r rs k) [
+    | inl b_is ↦ absurd (not_before_itself a.entry (subst (λ i. is_before i a.entry ≡ true) (sym (ap (λ (q : Row). q.entry) b_is) ∙ sym e) (up.0 a a_later)))
+    | inr b_later ↦ one_by_entry rs up.1 a b a_later b_later e
+  ]
+]
+
+-- ---- a binary search
+
+absent : {X : Type 0} (ord : X → Ordering) (xs : List X) (p : ℕ) → IsPartitionPoint (λ y. ord y ≡ Less) (λ y. ord y ≡ Greater) xs p → (x : X) → Contains xs x → ord x ≡ Equal → ⊥
+absent ord xs p point x h same = elim (lt_or_ge h.0 p) [
+  | inl below ↦ let no : Less ≡ Equal = sym (point.0 h.0 x (omega arith) below) ∙ ap ord h.2 ∙ same in absurd cc
+  | inr above ↦ let no : Greater ≡ Equal = sym (point.1 h.0 x above h.1) ∙ ap ord h.2 ∙ same in absurd cc
+]
+
+entries_sorted : (rs : List MadeRow) → ByEntry (map row_seen rs) → IsSortedBy (λ (a b : MadeRow). is_lt (id_cmp a.entry b.entry)) rs
+entries_sorted [] up k d low h = absurd (omega arith)
+entries_sorted (r ∷ []) up k d low h = absurd (omega arith)
+entries_sorted (r ∷ q ∷ rs) up zero d low h = (ranks_by id_total (λ (i : Id). i)).one_way r.entry q.entry (up.0 (row_seen q) (in_head (row_seen q) (map row_seen rs)))
+entries_sorted (r ∷ q ∷ rs) up (suc k) d low h =
+    let e : suc k + 1 ≡ suc (k + 1) = omega arith in
+    subst (λ m. is_lt (id_cmp (get_or (r ∷ q ∷ rs) m d).entry (get_or (q ∷ rs) k d).entry) ≡ false) (sym e) (entries_sorted (q ∷ rs) up.1 k d (omega arith) (omega arith))
+
+pub found_row : (rs : List MadeRow) (at : ℕ) (row : MadeRow) (e : Id) → at < length rs → row ≡ get_or rs at row → HoldsAt (λ (y : MadeRow). id_cmp y.entry e ≡ Equal) rs at → HasRow (map row_seen rs) e (row_seen row)
+found_row rs at row e h is equal = record {
+  there = in_map row_seen rs row (at, h, sym is);
+  is = id_exact row.entry e (ap (λ (y : MadeRow). id_cmp y.entry e) is ∙ equal row);
+}
+
+pub no_row : (rs : List MadeRow) (e : Id) (p : ℕ) → ByEntry (map row_seen rs) → IsBinarySearchResult (λ (y : MadeRow). id_cmp y.entry e) rs (Err p) → (q : Row) → ¬ (HasRow (map row_seen rs) e q)
+no_row rs e p up searched q has =
+    let m = from_map row_seen rs q has.there in
+    let point = searched (searchable_from_sorted id_total (λ (y : MadeRow). y.entry) rs e (entries_sorted rs up)) in
+    absent (λ (y : MadeRow). id_cmp y.entry e) rs p point m.0 m.1 (ap (λ i. id_cmp i e) (sym (ap (λ (x : Row). x.entry) m.2) ∙ has.is) ∙ tied_itself id_total e)
+
+pub among : (ids : List Id) (i : Id) (r : Result ℕ ℕ) (t : Bool) → t ≡ is_ok r → IsSorted id_cmp ids → IsSearchInRange r (length ids) → IsBinarySearchResult (λ y. id_cmp y i) ids r → IsTrue t ↔ Contains ids i
+among ids i (Ok at) t e up bound found = (λ _. (at, bound, id_exact _ i (found i)), λ _. e)
+among ids i (Err p) t e up bound point = (
+  λ (is : t ≡ true). absurd (true≢false (sym is ∙ e)),
+  λ (h : Contains ids i). absurd (absent (λ y. id_cmp y i) ids p (point (searchable_from_sorted id_total (λ (y : Id). y) ids i up)) i h (tied_itself id_total i)),
+)

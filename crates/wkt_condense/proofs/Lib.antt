@@ -1,0 +1,7 @@
+pub mod Utf8
+pub mod Fields
+pub mod Moving
+pub mod Keeping
+pub mod Cutting
+pub mod Rebuilding
+mod Classes

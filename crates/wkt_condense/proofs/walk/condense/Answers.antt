@@ -1,0 +1,13 @@
+use Rattle.std.proofs.Common.{ℕ, ◌≤◌, List, length, Vec, Global, Option, Some, None}
+use Rattle.std.specs.Prelude.{IfSome}
+use Rattle.wkt_condense.specs.Condensed.{IsCondensed}
+use Rattle.wkt_condense.specs.Law.{IsReadAs}
+use Rattle.wkt_condense.proofs.Rebuilding.{read_as}
+use Rattle.wkt_condense.proofs.walk.condense.Goals as goal
+
+some_written : (bytes : List ℕ) (r : Option (Vec ℕ Global)) → length bytes ≤ 1048576 → IfSome r (λ v. IsCondensed bytes v.items) → IfSome r (λ v. IsReadAs bytes v.items)
+some_written bytes None short h = h
+some_written bytes (Some v) short h = read_as bytes v.items short h
+
+pub returns-clause-reads : goal.returns-clause-reads
+returns-clause-reads c = some_written c.args.text.now c.go_over.result c.if-text-gt-MOST.false c.go_over.ensures

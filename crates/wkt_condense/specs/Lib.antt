@@ -1,0 +1,4 @@
+pub mod Alike
+pub mod Condensed
+pub mod Pieces
+pub mod Law

@@ -1,0 +1,76 @@
+//! The walk over a text.
+
+ghost use Rattle.std.specs.Prelude.{◌≡◌, ◌≤◌, true, length, IfSome};
+ghost use Rattle.wkt_condense.specs.Condensed.{IsCondensed};
+ghost use Rattle.wkt_condense.specs.Pieces.{IsCopied};
+ghost use Rattle.wkt_condense.specs.Law.{IsReadAs};
+
+use crate::numerals::{odd_len, respell};
+use crate::pieces::next_piece;
+use std::alloc::Global;
+
+/// The most bytes of a text.
+const MOST: usize = 1_048_576;
+
+/// The text without blanks beside delimiters, commas and its ends, and with each number in its canonical spelling; or none,
+/// where blanks or bytes that no text has stand elsewhere, or where memory runs out. Each value that it spells, the text spells.
+pub fn condense(alloc: Global, text: &[u8]) -> Option<Vec<u8>>
+    ensures is { IfSome result (λ condensed. IsCondensed text.now condensed.items) }
+    ensures reads { IfSome result (λ condensed. IsReadAs text.now condensed.items) }
+{
+    if text.len() > MOST {
+        return None;
+    }
+    go_over(alloc, text)
+}
+
+/// What is kept is copied once something else comes: the bytes from `from` up to `at` are still to be copied.
+fn go_over(alloc: Global, text: &[u8]) -> Option<Vec<u8>>
+    ensures { IfSome result (λ condensed. IsCondensed text.now condensed.items) }
+{
+    let mut condensed = Vec::with_capacity(alloc, text.len()).ok()?;
+    let mut shut = true;
+    let mut from = 0;
+    let mut at = 0;
+    while at < text.len() {
+        let (_, rest) = text.split_at(at);
+        if let Some(digits) = odd_len(shut, rest) {
+            let (numeral, _) = rest.split_at(digits);
+            if !copy(&mut condensed, text, from, at) || !respell(&mut condensed, numeral) {
+                return None;
+            }
+            shut = false;
+            at += digits;
+            from = at;
+        } else {
+            let piece = next_piece(shut, rest)?;
+            if piece.kept {
+                at += piece.len;
+            } else {
+                if !copy(&mut condensed, text, from, at) {
+                    return None;
+                }
+                at += piece.len;
+                from = at;
+            }
+            shut = piece.shut;
+        }
+    }
+    if copy(&mut condensed, text, from, at) {
+        Some(condensed)
+    } else {
+        None
+    }
+}
+
+/// Appends the bytes from one place up to another, or answers false.
+#[inline(always)]
+fn copy(condensed: &mut Vec<u8>, text: &[u8], from: usize, at: usize) -> bool
+    requires order { from ≤ at }
+    requires within { at ≤ length text.now }
+    ensures { result ≡ true → IsCopied condensed.old.items text.now from at condensed.new.items }
+{
+    let (_, rest) = text.split_at(from);
+    let (kept, _) = rest.split_at(at - from);
+    condensed.extend_from_slice(kept).is_ok()
+}
