@@ -15,7 +15,7 @@ pub record Torn (at n : ℕ) (old new : List ℕ) : Type 0 where
   pub no_shorter : length old ≤ length new
   pub no_longer : length new ≤ max (length old) (at + n)
 
--- after a write that was done: these bytes stand at this offset; what lies between the old end and them is open
+-- after a completed write: these bytes are at this offset; the bytes between the old end and them are unspecified
 pub record IsWritten (old : List ℕ) (at : ℕ) (bytes new : List ℕ) : Type 0 where
   pub here : take (length bytes) (drop at new) ≡ bytes
   pub torn : Torn at (length bytes) old new
@@ -32,7 +32,7 @@ Only file images = (c : List ℕ) → images c → c ≡ file
 abbrev pub SameImages : (List ℕ → Type 0) → (List ℕ → Type 0) → Type 0
 SameImages old new = (c : List ℕ) → old c ↔ new c
 
--- time goes on: a stop since t might have left what it might have left before, or what it may leave now
+-- time advances: a stop since t may have left what it could have left before, or what it may leave now
 pub record Elapses (before now : ℕ) (past since : ℕ → List ℕ → Type 0) (images : List ℕ → Type 0) : Type 0 where
   pub later : before < now
   pub nothing_else : (t : ℕ) (c : List ℕ) → t ≤ before → since t c → past t c ⊎ images c

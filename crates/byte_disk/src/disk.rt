@@ -6,7 +6,7 @@ ghost use Rattle.byte_disk.specs.Disk.{ReadsAt, IsWritten, Torn, Follows, Only, 
 
 use std::alloc::AllocError;
 
-/// A disk that failed. What it may have done before, its contract says.
+/// A failure of a disk. The contract says what it may have done before.
 #[derive(Clone, Copy, Debug, PartialEq, Eq)]
 pub struct DiskFault;
 
@@ -16,21 +16,21 @@ impl From<AllocError> for DiskFault {
     }
 }
 
-/// Bytes that stay over a stop, which may come at any moment, also during a call.
+/// Bytes that survive a stop, which may happen at any moment, also during a call.
 pub trait Disk {
-    /// Whether the other facts are told. A disk that tells none still counts its failures.
+    /// Whether the other members are known. A disk that tells nothing still counts its failures.
     ghost tells: { Self → Bool };
 
-    /// What it reads as.
+    /// The bytes that a read returns.
     ghost seen: { Self → List ℕ };
 
-    /// What a stop at this moment may leave.
+    /// The possible contents after a stop at this moment.
     ghost images: { Self → List ℕ → Type 0 };
 
-    /// The moment, which each call makes greater.
+    /// The moment, which each call advances.
     ghost moment: { Self → ℕ };
 
-    /// What a stop at some moment from that one on might have left, during a call or between two.
+    /// The possible contents after a stop at any moment from that one on, during a call or between calls.
     ghost images_since: { Self → ℕ → List ℕ → Type 0 };
 
     /// How often it has failed.
@@ -59,7 +59,7 @@ pub trait Disk {
         ensures failure { CountsFailure result (failures self.old) (failures self.new) }
         ensures tells { tells self.new ≡ tells self.old };
 
-    /// Makes sure of what was written.
+    /// Syncs what was written.
     fn sync(&mut self) -> Result<(), DiskFault>
         ensures durable { IsTrue (tells self.old)
             → OnOk result (Only (seen self.old) (images self.new)) }
@@ -73,7 +73,7 @@ pub trait Disk {
         ensures failure { CountsFailure result (failures self.old) (failures self.new) }
         ensures tells { tells self.new ≡ tells self.old };
 
-    /// What it reads as is one of the images.
+    /// What is read is one of the images.
     ghost seen_is_image: { (d : Self) → IsTrue (tells d) → images d (seen d) };
 
     /// This moment is one of those since an earlier one.

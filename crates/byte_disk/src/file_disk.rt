@@ -7,7 +7,7 @@ use byte_io::Tally;
 use std::fs::OpenFile;
 use std::io::{self, Read, Seek, SeekFrom, Write};
 
-/// An open file as a disk. What the system does with its bytes no contract tells.
+/// An open file as a disk. No contract says what the system does with its bytes.
 #[derive(Drop)]
 pub struct FileDisk<F> {
     file: F,
@@ -15,7 +15,7 @@ pub struct FileDisk<F> {
 }
 
 impl<F: Read + Write + Seek + OpenFile> FileDisk<F> {
-    /// The disk of a file that is open to be read and written.
+    /// The disk of a file that is open for reading and writing.
     pub fn new(file: F) -> FileDisk<F>
         ensures untold { ⟦<FileDisk<F> as Disk>⟧.tells result ≡ false }
         ensures failures { ⟦<FileDisk<F> as Disk>⟧.failures result ≡ 0 }

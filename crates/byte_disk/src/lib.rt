@@ -1,4 +1,4 @@
-//! Disks, and what a stop may leave of them.
+//! Disks, and what a stop may leave on them.
 #![tactic(auto)]
 
 mod disk;

@@ -1,4 +1,4 @@
-//! A disk in memory, for tests: it fails and stops where it is set to, and gives what a stop leaves.
+//! A disk in memory, for tests: it can be set to fail and to stop, and returns what a stop leaves.
 
 ghost use Rattle.std.specs.Prelude.{◌≡◌, ◌⊎◌, List, ℕ, true, IsTrue, IfOk};
 ghost use Rattle.std.proofs.Common.{inl, sym, subst};
@@ -15,7 +15,7 @@ use byte_io::{NotOpened, Tally};
 use std::alloc::{AllocError, Global};
 use std::mem;
 
-/// A disk in memory, which tells all.
+/// A disk in memory, which tells everything.
 #[derive(Drop)]
 pub struct MemDisk {
     alloc: Global,
@@ -99,7 +99,7 @@ impl MemDisk {
     ghost use Rattle.byte_disk.specs.MemDisk.{IsSameDisk};
     ghost use Rattle.byte_disk.specs.Pending.{left_by};
 
-    /// A disk with these bytes, all of them sure.
+    /// A disk with these bytes, all of them synced.
     pub fn new(alloc: Global, bytes: Vec<u8>) -> Result<MemDisk, AllocError>
         ensures tells { IfOk result (λ d. IsTrue (⟦<MemDisk as Disk>⟧.tells d)) }
         ensures seen { IfOk result (λ d. ⟦<MemDisk as Disk>⟧.seen d ≡ bytes.items) }
@@ -130,8 +130,8 @@ impl MemDisk {
         &self.bytes
     }
 
-    /// Sets that the call of this number fails, and each later one. The first has the number 0. A write that the stop
-    /// cuts short may be done in part; the later ones change nothing.
+    /// Makes the call with this number fail, and each later one. The first has the number 0. A write that the stop
+    /// cuts short may be partly done; later writes change nothing.
     pub fn stop_from(&mut self, call: u64)
         ensures set { self.new.script.stop ≡ Some call }
         ensures rest { IsSameDisk self.old self.new }
@@ -139,7 +139,7 @@ impl MemDisk {
         self.script.stop = Some(call);
     }
 
-    /// Sets that the call of this number fails. A write that fails may be done in part.
+    /// Makes the call with this number fail. A write that fails may be partly done.
     pub fn fail_at(&mut self, call: u64)
         ensures set { self.new.script.fail ≡ Some call }
         ensures rest { IsSameDisk self.old self.new }
@@ -147,7 +147,7 @@ impl MemDisk {
         self.script.fail = Some(call);
     }
 
-    /// Sets that it does not open.
+    /// Makes opening fail.
     pub fn refuse_to_open(&mut self)
         ensures set { self.new.opens ≡ false }
         ensures rest { IsSameDisk self.old self.new }
@@ -155,7 +155,7 @@ impl MemDisk {
         self.opens = false;
     }
 
-    /// What a stop now may leave, with the bytes that are not sure as told.
+    /// What a stop now may leave, with the unsynced bytes as given.
     pub fn left(&self, pending: Pending) -> Result<Vec<u8>, AllocError>
         ensures image { IfOk result (λ v. ⟦<MemDisk as Disk>⟧.images self.now v.items) }
         ensures value { IfOk result (λ v. v.items ≡ left_by pending

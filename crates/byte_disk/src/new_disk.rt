@@ -6,12 +6,12 @@ ghost use Rattle.byte_disk.specs.Disk.{CountsOpening, SameImages, Elapses};
 use crate::disk::Disk;
 use byte_io::NotOpened;
 
-/// A disk that is to be opened first, which empties it.
+/// A disk that has to be opened first, which empties it.
 pub trait NewDisk: Disk {
     /// How often it was opened.
     ghost openings: { Self → ℕ };
 
-    /// Opens it, empty. Nothing is sure before a sync: a stop may leave any bytes.
+    /// Opens it, empty. Before a sync a stop may leave any bytes.
     fn open(&mut self) -> Result<(), NotOpened>
         ensures empty { IsTrue (Self.tells self.old) → OnOk result (Self.seen self.new ≡ []) }
         ensures refused_seen { IsTrue (Self.tells self.old)

@@ -9,7 +9,7 @@ use byte_io::{NotOpened, Tally};
 use std::fs::{OpenFile, OpenOptions};
 use std::rt::Files;
 
-/// The file of a path as a disk, which opening makes anew. Before it is opened each call fails.
+/// The file of a path as a disk. Opening creates or truncates it; before that each call fails.
 #[derive(Drop)]
 pub struct NewFile<'a, R: Files> {
     rt: &'a R,

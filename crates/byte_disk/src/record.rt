@@ -1,4 +1,4 @@
-//! How the record of a disk in memory grows, and what it makes of bytes.
+//! The record of a disk in memory, and its effect on bytes.
 
 ghost use Rattle.std.specs.Prelude.{◌≡◌, List, ℕ, length, IfOk, OnOk, OnErr, true, false};
 ghost use Rattle.byte_disk.specs.Disk.{ReadsAt};
@@ -13,7 +13,7 @@ use byte_io::Tally;
 use std::alloc::{AllocError, Global};
 use std::mem;
 
-/// Copies the bytes from an offset on, and answers how many.
+/// Copies the bytes from an offset on, and returns their number.
 pub(crate) fn copy_out(from: &[u8], at: u64, buf: &mut [u8]) -> usize
     ensures { ReadsAt from.now at result buf.new }
 {
@@ -66,7 +66,7 @@ pub(crate) fn note_failed(alloc: Global, span: &mut Span, at: u64, bytes: &[u8])
     let _ = note(alloc, span, at, bytes, false);
 }
 
-/// Writes, where the call works, and records the write.
+/// Writes, if the call works, and records the write.
 pub(crate) fn record_write(
     alloc: Global,
     content: &mut Vec<u8>,
@@ -94,7 +94,7 @@ pub(crate) fn record_write(
     }
 }
 
-/// What a stop makes of the write over these bytes.
+/// The effect of a stop on the write over these bytes.
 pub(crate) fn cut_short(
     alloc: Global,
     content: Vec<u8>,

@@ -2,11 +2,11 @@
 
 ghost use Rattle.std.specs.Prelude.{◌≡◌, None};
 
-/// What becomes of a call.
+/// The outcome of a call.
 #[derive(Clone, Copy, Debug, PartialEq, Eq)]
 pub(crate) enum Fate {
     Works,
-    /// It fails, and a stop now may leave it done in part.
+    /// It fails, and a stop now may leave it partly done.
     Fails,
     /// It comes after the stop: it fails, and nothing changes.
     Stopped,
@@ -31,7 +31,7 @@ impl Script {
         }
     }
 
-    /// Counts a call, and tells what becomes of it.
+    /// Counts a call, and returns its outcome.
     pub(crate) fn next(&mut self) -> Fate {
         let call = self.calls;
         self.calls = self.calls.saturating_add(1);

@@ -1,4 +1,4 @@
-//! Writes that are made sure of.
+//! Writes that are synced.
 
 ghost use Rattle.std.specs.Prelude.{◌≡◌, IsTrue, OnOk, length};
 ghost use Rattle.byte_io.specs.Device.{CountsFailure};
@@ -6,14 +6,14 @@ ghost use Rattle.byte_disk.specs.Disk.{Only, Torn, IsWritten, LeavesOnly, InTwo,
 
 use crate::disk::{Disk, DiskFault};
 
-/// Writes the bytes and makes sure of them.
+/// Writes the bytes and syncs.
 pub fn write_through<D: Disk>(disk: &mut D, at: u64, bytes: &[u8]) -> Result<(), DiskFault>
     ensures done { IsTrue (D.tells disk.old)
         → OnOk result (Only (D.seen disk.new) (D.images disk.new)) }
     ensures written { IsTrue (D.tells disk.old)
         → OnOk result (IsWritten (D.seen disk.old) at bytes.now (D.seen disk.new)) }
 
-    // A stop at any moment of the call leaves what was there, with any bytes in the range.
+    // A stop at any moment of the call leaves the old bytes, with any bytes in the range.
     ensures any_moment { IsTrue (D.tells disk.old)
         → Only (D.seen disk.old) (D.images disk.old)
         → LeavesOnly D.moment D.images_since disk.old disk.new
@@ -25,7 +25,7 @@ pub fn write_through<D: Disk>(disk: &mut D, at: u64, bytes: &[u8]) -> Result<(),
     disk.sync()
 }
 
-/// Writes in two places, the second once the first is sure.
+/// Writes in two places, the second after the first is synced.
 pub fn replace_in_two<D: Disk>(
     disk: &mut D,
     at: u64,
@@ -39,7 +39,7 @@ pub fn replace_in_two<D: Disk>(
         → OnOk result (AreBothWritten at bytes.now gate_at gate.now
         (D.seen disk.old) (D.seen disk.new)) }
 
-    // A stop at any moment leaves the first write in part, or the first whole and the second in part.
+    // A stop at any moment leaves a part of the first write, or the first write and a part of the second.
     ensures any_moment { IsTrue (D.tells disk.old)
         → Only (D.seen disk.old) (D.images disk.old)
         → LeavesOnly D.moment D.images_since disk.old disk.new

@@ -3,14 +3,14 @@ use Rattle.std.specs.Prelude.{◌≡◌, ◌<◌, ◌+◌, ◌++◌, ℕ, List, 
 use Rattle.std.specs.declared.result.Result.{Result}
 use Rattle.std.specs.Io.KnownBytes.{Keeps}
 
--- a source: the bytes that it will give, where they are known, those that it gave, and how often it failed and ended
+-- a source: the bytes that it will give, if they are known, those that it gave, and how often it failed and ended
 pub record SourceState : Type 0 where
   pub left : Option (List ℕ)
   pub given : List ℕ
   pub failures : ℕ
   pub ends : ℕ
 
--- a sink: the bytes that it holds, where they are known, those that it took, and how often it failed, took none of some
+-- a sink: the bytes that it holds, if they are known, those that it took, and how often it failed, took none of some
 -- bytes, and was opened
 pub record SinkState : Type 0 where
   pub written : Option (List ℕ)
@@ -19,11 +19,11 @@ pub record SinkState : Type 0 where
   pub stalls : ℕ
   pub openings : ℕ
 
--- a source that has not failed and gave none yet; these bytes it will give, where they are known
+-- a source that has neither failed nor given bytes; it will give these bytes, if they are known
 abbrev pub source_of : Option (List ℕ) → SourceState
 source_of bytes = record { left = bytes; given = []; failures = 0; ends = 0 }
 
--- an open sink that has not failed and took none yet; these bytes it holds, where they are known
+-- an open sink that has neither failed nor taken bytes; it holds these bytes, if they are known
 abbrev pub sink_of : Option (List ℕ) → SinkState
 sink_of bytes = record { written = bytes; taken = []; failures = 0; stalls = 0; openings = 1 }
 
@@ -35,7 +35,7 @@ target_of bytes = record { written = bytes; taken = []; failures = 0; stalls = 0
 abbrev pub CountsFailure : {T E : Type 0} → Result T E → ℕ → ℕ → Type 0
 CountsFailure result old new = MatchResult result (λ _. new ≡ old) (λ _. new ≡ old + 1)
 
--- the count rises by one where some bytes could go and none went, and else stays
+-- the count increases by one if there were bytes and none was taken, and otherwise stays
 abbrev pub CountsNone : {E : Type 0} → Result ℕ E → ℕ → ℕ → ℕ → Type 0
 CountsNone result len old new = MatchResult result
     (λ n. (0 < n → new ≡ old) × (len ≡ 0 → new ≡ old) × (n ≡ 0 → 0 < len → new ≡ old + 1))

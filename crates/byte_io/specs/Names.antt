@@ -1,4 +1,4 @@
--- How faults are called, and where they are.
+-- The names and places of faults.
 use Rattle.std.specs.Prelude.{ℕ, List, Option, Some, None, codes}
 use Rattle.byte_io.specs.declared.fault.InFault.{InFault}
 use Rattle.byte_io.specs.declared.fault.InFault.TheVariants as read

@@ -1,4 +1,4 @@
--- What reading a source as far as asked and writing all of some bytes do.
+-- Reading a source up to a limit, and writing all of some bytes.
 use Rattle.std.specs.Prelude.{◌≡◌, ◌⊎◌, ◌≤◌, ◌<◌, ◌+◌, ◌++◌, ℕ, List, length, take, Ok, Err}
 use Rattle.std.specs.declared.result.Result.{Result}
 use Rattle.std.specs.Io.KnownBytes.{Consumes, IsAtEnd, Appends, Keeps}
@@ -6,7 +6,7 @@ use Rattle.byte_io.specs.Device.{SourceState, SinkState}
 use Rattle.byte_io.specs.declared.fault.InFault.{InFault}
 use Rattle.byte_io.specs.declared.fault.InFault.TheVariants as fault
 
--- the source gave just these bytes, the front of what is known of it: `most` of them, or fewer at its end
+-- the source gave exactly these bytes, a prefix of its known bytes: `most` of them, or fewer at its end
 pub record ReadsUpTo (most : ℕ) (old new : SourceState) (bytes : List ℕ) : Type 0 where
   pub given : new.given ≡ old.given ++ bytes
   pub front : Consumes old.left new.left bytes
@@ -30,7 +30,7 @@ abbrev pub IsInFault : ℕ → SourceState → SourceState → InFault → Type 
 IsInFault most old new (fault.ReadFailed n) = FailsAfter n most old new
 IsInFault most old new fault.Memory = GivesAtMost most old new
 
--- all these bytes went out, and the sink did not fail
+-- all these bytes were written, and the sink did not fail
 pub record WritesAll (bytes : List ℕ) (old new : SinkState) : Type 0 where
   pub taken : new.taken ≡ old.taken ++ bytes
   pub appended : Appends old.written new.written bytes
@@ -43,7 +43,7 @@ abbrev pub FailedOrTookNone : SinkState → SinkState → Type 0
 FailedOrTookNone old new = ((new.failures ≡ old.failures + 1) × (new.stalls ≡ old.stalls))
     ⊎ ((new.failures ≡ old.failures) × (new.stalls ≡ old.stalls + 1))
 
--- exactly the first n of these bytes went out, not all, and then the sink failed or took none
+-- exactly the first n of these bytes were written, not all, and then the sink failed or took none
 pub record IsCutAt (n : ℕ) (bytes : List ℕ) (old new : SinkState) : Type 0 where
   pub taken : new.taken ≡ old.taken ++ take n bytes
   pub appended : Appends old.written new.written (take n bytes)

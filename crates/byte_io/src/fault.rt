@@ -6,7 +6,7 @@ ghost use Rattle.byte_io.specs.declared.fault.InFault.TheVariants.{Memory};
 use std::alloc::AllocError;
 use std::fmt;
 
-/// A device that failed. Which bytes it moved before, its contract says.
+/// A failure of a device. The contract says which bytes it moved before.
 #[derive(Clone, Copy, Debug, PartialEq, Eq)]
 pub struct DeviceFault;
 
@@ -14,7 +14,7 @@ pub struct DeviceFault;
 #[derive(Clone, Copy, Debug, PartialEq, Eq)]
 pub struct NotOpened;
 
-/// Why a source could not be read as far as was asked.
+/// Why a source could not be read.
 #[derive(Clone, Copy, Debug, PartialEq, Eq)]
 pub enum InFault {
     /// The source failed, this many bytes after the start.
@@ -25,7 +25,7 @@ pub enum InFault {
 impl InFault {
     ghost use Rattle.byte_io.specs.Names.{in_name, in_place};
 
-    /// How it is printed.
+    /// The name that is printed.
     pub fn name(self) -> &'static str
         ensures { result.now ≡ in_name self }
     {
@@ -35,7 +35,7 @@ impl InFault {
         }
     }
 
-    /// How many bytes were read before it, where it has a place.
+    /// The number of bytes that were read before it, if it has a place.
     pub fn place(self) -> Option<usize>
         ensures { result ≡ in_place self }
     {
@@ -70,18 +70,18 @@ pub struct WriteFault {
     pub written: usize,
 }
 
-/// Why bytes did not go out whole to a target.
+/// Why bytes were not completely written to a target.
 #[derive(Clone, Copy, Debug, PartialEq, Eq)]
 pub enum PublishFault {
     NotOpened,
-    /// The first bytes went, as many as these.
+    /// Exactly this many bytes were written.
     WriteFailed(usize),
 }
 
 impl PublishFault {
     ghost use Rattle.byte_io.specs.Names.{publish_name, publish_place};
 
-    /// How it is printed.
+    /// The name that is printed.
     pub fn name(self) -> &'static str
         ensures { result.now ≡ publish_name self }
     {
@@ -91,7 +91,7 @@ impl PublishFault {
         }
     }
 
-    /// How many bytes went out before it, where it has a place.
+    /// The number of bytes that were written before it, if it has a place.
     pub fn place(self) -> Option<usize>
         ensures { result ≡ publish_place self }
     {

@@ -12,7 +12,7 @@ use std::fs;
 use std::io::Write;
 use std::rt::Files;
 
-/// The file of a path, which opening makes anew. What it takes goes to the system, of which no contract speaks.
+/// The file of a path. Opening creates or truncates it. No contract says what the system does with the bytes.
 #[derive(Drop)]
 pub struct FileTarget<'a, R: Files> {
     rt: &'a R,

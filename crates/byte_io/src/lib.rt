@@ -1,4 +1,4 @@
-//! Where bytes come from and where they go, in contracts that say when a device failed.
+//! Sources, sinks and targets of bytes, with contracts that say when a device failed.
 #![tactic(auto)]
 
 mod fault;

@@ -1,10 +1,10 @@
-//! A list of bytes that only proofs read. It takes no memory, so it has no last value.
+//! A list of bytes that only proofs read. It takes no memory, so its length has no limit.
 ghost use Rattle.std.specs.Prelude.{◌≡◌, ℕ, List, [], ◌++◌};
 ghost use Rattle.std.specs.Borrow.{ftrue};
 
 use std::marker::Model;
 
-/// The bytes that have gone by. A clause reads them as `bytes`.
+/// The bytes that were moved. A clause reads them as `bytes`.
 #[derive(Drop)]
 pub struct Log {
     pub ghost bytes: { List ℕ },
@@ -22,7 +22,7 @@ impl Log {
         Log {}
     }
 
-    /// These bytes go by.
+    /// Adds these bytes.
     pub fn note(&mut self, _bytes: &[u8])
         ensures { self.new.bytes ≡ self.old.bytes ++ _bytes.now }
     {}

@@ -1,4 +1,4 @@
-//! Devices in memory, for tests: they cut what goes through them into pieces, and fail where they are set to.
+//! Devices in memory, for tests: they split the data into pieces, and can be set to fail.
 ghost use Rattle.std.specs.Prelude.{◌≡◌, ◌<◌, ◌≤◌, [], Some, None, Ok, IfOk, length};
 ghost use Rattle.std.specs.Io.KnownBytes.{ReadConsumes};
 ghost use Rattle.byte_io.specs.Device.{CountsFailure, CountsNone, Moves, source_of, sink_of};
@@ -10,10 +10,10 @@ use crate::source::Source;
 use crate::tally::Tally;
 use std::alloc::Global;
 
-/// What a source in memory does once its bytes are given.
+/// What a source in memory does at its end.
 #[derive(Clone, Copy, Debug, PartialEq, Eq)]
 pub enum Then {
-    /// It is at its end: each further call gives nothing.
+    /// Each further call gives nothing.
     Ends,
     /// Each further call fails.
     Fails,
@@ -72,7 +72,7 @@ impl Source for Pieces<'_> {
     }
 }
 
-/// A source that gives one byte a call, the same for ever.
+/// A source that gives the same byte forever, one a call.
 #[derive(Drop)]
 pub struct Endless {
     byte: u8,
@@ -140,7 +140,7 @@ pub enum Full {
     Fails,
 }
 
-/// A sink in memory that takes at most `piece` bytes a call, and `room` in all.
+/// A sink in memory that takes at most `piece` bytes a call, and `room` in total.
 #[derive(Drop)]
 pub struct Room {
     held: Vec<u8>,
@@ -153,7 +153,7 @@ pub struct Room {
 }
 
 impl Room {
-    /// An empty sink, of `room` bytes in all.
+    /// An empty sink of `room` bytes in total.
     pub fn new(alloc: Global, piece: usize, room: usize, full: Full) -> Room
         ensures empty { ⟦<Room as Sink>⟧.state result ≡ sink_of (Some []) }
         ensures cut { (result.piece ≡ piece) × (result.room ≡ room) × (result.full ≡ full) }
@@ -169,7 +169,7 @@ impl Room {
         }
     }
 
-    /// What went out so far.
+    /// What was written so far.
     pub fn taken(&self) -> &[u8]
         ensures { Some result.now ≡ (⟦<Room as Sink>⟧.state self.now).written }
     {

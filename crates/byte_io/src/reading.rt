@@ -10,7 +10,7 @@ use std::alloc::Global;
 /// How many bytes are read at once.
 const CHUNK: usize = 16_384;
 
-/// Reads once, at most `room` bytes, by way of the chunk, and appends them. It gives none only at the end.
+/// Reads at most `room` bytes once, through the chunk, and appends them. It gives none only at the end.
 fn read_chunk<S: Source>(
     source: &mut S,
     chunk: &mut [u8; CHUNK],
@@ -31,7 +31,7 @@ fn read_chunk<S: Source>(
     }
 }
 
-/// The bytes of the source up to its end, or the first `most` of them, in whatever pieces it gives them.
+/// The bytes of the source up to its end, or its first `most` bytes, however they are split.
 pub fn read_up_to<S: Source>(alloc: Global, source: &mut S, most: usize) -> Result<Vec<u8>, InFault>
     ensures ok { IfOk result (λ v. ReadsUpTo most (S.state source.old) (S.state source.new) v.items) }
     ensures fault { IfErr result (IsInFault most (S.state source.old) (S.state source.new)) }

@@ -1,4 +1,4 @@
-//! What bytes go to.
+//! Sinks of bytes.
 
 ghost use Rattle.std.specs.Prelude.{◌≡◌, ◌≤◌, Ok, IfOk, length};
 ghost use Rattle.std.specs.Io.KnownBytes.{WriteAppends};
@@ -8,7 +8,7 @@ use crate::fault::DeviceFault;
 
 /// Takes bytes, some at a time. One that has never been opened takes none.
 pub trait Sink {
-    /// The bytes that it holds, where they are known, those that it took, and its counts.
+    /// The bytes that it holds, if they are known, those that it took, and its counts.
     ghost state: { Self → SinkState };
 
     fn write_some(&mut self, buf: &[u8]) -> Result<usize, DeviceFault>

@@ -1,4 +1,4 @@
-//! What bytes come from.
+//! Sources of bytes.
 
 ghost use Rattle.std.specs.Prelude.{◌≤◌, IfOk, length};
 ghost use Rattle.std.specs.Io.KnownBytes.{ReadConsumes};
@@ -8,7 +8,7 @@ use crate::fault::DeviceFault;
 
 /// Gives bytes, some at a time. At `Ok(0)`, with room for a byte, it is at its end.
 pub trait Source {
-    /// The bytes that it will give, where they are known, those that it gave, and its counts.
+    /// The bytes that it will give, if they are known, those that it gave, and its counts.
     ghost state: { Self → SourceState };
 
     fn read_some(&mut self, buf: &mut [u8]) -> Result<usize, DeviceFault>

@@ -20,7 +20,7 @@ pub struct Reading<R> {
 }
 
 impl<R: Read> Reading<R> {
-    /// The reader as a source, which has not failed.
+    /// The reader as a source without failures.
     pub fn new(reader: R) -> Reading<R>
         ensures { ⟦<Reading<R> as Source>⟧.state result ≡ source_of (R.remaining reader) }
     {
@@ -32,7 +32,7 @@ impl<R: Read> Reading<R> {
         }
     }
 
-    /// The reader, after what was read of it.
+    /// The reader in its current state.
     pub fn into_inner(self) -> R
         ensures { R.remaining result ≡ (⟦<Reading<R> as Source>⟧.state self).left }
     {
@@ -81,7 +81,7 @@ pub struct Writing<W> {
 }
 
 impl<W: Write> Writing<W> {
-    /// The writer as a sink, which has not failed.
+    /// The writer as a sink without failures.
     pub fn new(writer: W) -> Writing<W>
         ensures { ⟦<Writing<W> as Sink>⟧.state result ≡ sink_of (W.contents writer) }
     {
@@ -93,7 +93,7 @@ impl<W: Write> Writing<W> {
         }
     }
 
-    /// The writer, with what was written to it.
+    /// The writer in its current state.
     pub fn into_inner(self) -> W
         ensures { W.contents result ≡ (⟦<Writing<W> as Sink>⟧.state self).written }
     {

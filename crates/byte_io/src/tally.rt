@@ -1,4 +1,4 @@
-//! A count that only proofs read. It takes no memory, so it has no last value.
+//! A count that only proofs read. It takes no memory, so it has no limit.
 ghost use Rattle.std.specs.Prelude.{◌≡◌, ℕ, ◌+◌};
 ghost use Rattle.std.specs.Borrow.{ftrue};
 

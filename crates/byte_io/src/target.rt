@@ -1,4 +1,4 @@
-//! Sinks that are opened first, and what is published to them.
+//! Sinks that are opened first, and publishing to them.
 
 ghost use Rattle.std.specs.Prelude.{OnOk, IfErr};
 ghost use Rattle.byte_io.specs.Device.{Opens};
@@ -8,7 +8,7 @@ use crate::fault::{NotOpened, PublishFault};
 use crate::sink::Sink;
 use crate::writing::write_all;
 
-/// A sink that is to be opened first.
+/// A sink that has to be opened first.
 pub trait Target: Sink {
     fn open(&mut self) -> Result<(), NotOpened>
         ensures { Opens result (Self.state self.old) (Self.state self.new) };

@@ -7,9 +7,9 @@ use Rattle.byte_io.specs.declared.fault.WriteFault.{WriteFault}
 use Rattle.byte_out.specs.declared.fault.MakeFault.{MakeFault}
 use Rattle.byte_out.specs.declared.fault.MakeFault.TheVariants as make
 
--- what is at the name, and beside it
+-- the file with the name, and the new file
 pub record Files : Type 0 where
-  -- the file at the name, where there is one
+  -- the file with the name, if there is one
   pub stands : Option (List ℕ)
   -- the new file
   pub beside : Option (List ℕ)
@@ -20,16 +20,16 @@ pub record Files : Type 0 where
   -- how often the new file could not be removed
   pub stuck : ℕ
 
--- the counts of calls and the bytes that went to the new file; and what is there, where it is told
+-- the counts of calls and the bytes written to the new file; and the files, if they are told
 pub record PlaceState : Type 0 where
   pub sink : SinkState
   pub files : Option Files
 
--- nothing is told of what is there
+-- the files are not told
 abbrev pub untold : SinkState → PlaceState
 untold sink = record { sink = sink; files = None }
 
--- this became of what is there, where it is told
+-- the files changed in this way, if they are told
 abbrev pub Told : (Files → Files → Type 0) → Option Files → Option Files → Type 0
 Told P None new = ⊤
 Told P (Some old) None = ⊥
@@ -51,17 +51,17 @@ abbrev pub IsFilled : {T : Type 0} → Result T WriteFault → List ℕ → File
 IsFilled (Ok t) bytes old new = Stays old new × Appends old.beside new.beside bytes × (new.stuck ≡ old.stuck)
 IsFilled (Err e) bytes old new = Stays old new × (new.stuck ≡ old.stuck)
 
--- a stop leaves the new file whole; or nothing is sure
+-- the new file is synced; or nothing is known
 abbrev pub IsSynced : {T E : Type 0} → Result T E → Files → Files → Type 0
 IsSynced (Ok t) old new = Stays old new × (new.beside ≡ old.beside) × (new.sure ≡ true) × (new.stuck ≡ old.stuck)
 IsSynced (Err e) old new = Stays old new × (new.beside ≡ old.beside) × (new.stuck ≡ old.stuck)
 
--- the new file stands at the name; or the old one does. Where the new file is not sure, a stop leaves part of it
+-- the new file has the name, or the old one. If the new file is not synced, a stop leaves a part of it
 abbrev pub IsPut : {T E : Type 0} → Result T E → Files → Files → Type 0
 IsPut (Ok t) old new = (new.stands ≡ old.beside) × (new.beside ≡ None) × (new.torn ≡ (if old.sure then old.torn else true)) × (new.stuck ≡ old.stuck)
 IsPut (Err e) old new = (new.stands ≡ old.stands) × (new.beside ≡ old.beside) × (new.torn ≡ (if old.sure then old.torn else true)) × (new.stuck ≡ old.stuck)
 
--- nothing is beside; or it could not be removed, which is counted
+-- there is no new file; or it could not be removed, which is counted
 abbrev pub IsCleared : Files → Files → Type 0
 IsCleared old new = ((new.beside ≡ None) × (new.stuck ≡ old.stuck)) ⊎ (new.stuck ≡ old.stuck + 1)
 

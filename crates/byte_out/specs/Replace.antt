@@ -8,19 +8,19 @@ use Rattle.byte_out.specs.Place.{Files, PlaceState, Told, Stays, IsCleared}
 use Rattle.byte_out.specs.declared.fault.ReplaceFault.{ReplaceFault}
 use Rattle.byte_out.specs.declared.fault.ReplaceFault.TheVariants as replace
 
--- these bytes stand at the name, and nothing beside; no stop left part of them there
+-- a file with these bytes has the name, and there is no new file; no stop left a part of them under the name
 pub record IsReplaced (bytes : List ℕ) (old new : Files) : Type 0 where
   pub stands : new.stands ≡ Some bytes
   pub beside : new.beside ≡ None
   pub same_torn : new.torn ≡ old.torn
   pub same_stuck : new.stuck ≡ old.stuck
 
--- what stood at the name stands there, and nothing is left beside
+-- the old file still has the name, and there is no new file
 pub record IsKept (old new : Files) : Type 0 where
   pub stays : Stays old new
   pub cleared : IsCleared old new
 
--- it was opened once, all the bytes went out, and then it failed once
+-- it was opened once, all the bytes were written, and then it failed once
 pub record FailsWhole (bytes : List ℕ) (old new : SinkState) : Type 0 where
   pub taken : new.taken ≡ old.taken ++ bytes
   pub appended : Appends old.written new.written bytes
@@ -28,17 +28,17 @@ pub record FailsWhole (bytes : List ℕ) (old new : SinkState) : Type 0 where
   pub stalls : new.stalls ≡ old.stalls
   pub openings : new.openings ≡ old.openings + 1
 
--- all the bytes went out, and they stand at the name
+-- all the bytes were written, and the new file has the name
 abbrev pub Replaces : List ℕ → PlaceState → PlaceState → Type 0
 Replaces bytes old new = Publishes bytes old.sink new.sink × Told (IsReplaced bytes) old.files new.files
 
--- what was done instead. In each case what stood at the name stands there
+-- the outcome of each fault. In each case the old file still has the name
 abbrev pub IsReplaceFault : List ℕ → PlaceState → PlaceState → ReplaceFault → Type 0
 -- nothing was beside, and nothing was made; or the new file was whole, and did not get to its name
 IsReplaceFault bytes old new replace.NotOpened = (IsPublishFault bytes old.sink new.sink publish.NotOpened × Told (λ f g. (g ≡ f) × (f.beside ≡ None)) old.files new.files)
     ⊎ (FailsWhole bytes old.sink new.sink × Told (λ f g. IsKept f g × (f.beside ≡ None)) old.files new.files)
--- something was beside
+-- there was a new file
 IsReplaceFault bytes old new replace.NewExists = IsPublishFault bytes old.sink new.sink publish.NotOpened × Told (λ f g. (g ≡ f) × IsSome f.beside) old.files new.files
--- exactly the first n bytes went out, not all; or all did, and no sync made sure of them
+-- exactly the first n bytes were written, not all; or all were, and the sync failed
 IsReplaceFault bytes old new (replace.WriteFailed n) = (IsPublishFault bytes old.sink new.sink (publish.WriteFailed n) × Told IsKept old.files new.files)
     ⊎ ((n ≡ length bytes) × FailsWhole bytes old.sink new.sink × Told IsKept old.files new.files)

@@ -8,14 +8,14 @@ use std::fmt;
 #[derive(Clone, Copy, Debug, PartialEq, Eq)]
 pub enum MakeFault {
     NotOpened,
-    /// There is one of its name already.
+    /// A file with its name exists.
     Exists,
 }
 
 impl MakeFault {
     ghost use Rattle.byte_out.specs.Names.{make_name};
 
-    /// How it is printed.
+    /// The name that is printed.
     pub fn name(self) -> &'static str
         ensures { result.now ≡ make_name self }
     {
@@ -32,21 +32,21 @@ impl fmt::Display for MakeFault {
     }
 }
 
-/// Why the old file stands.
+/// Why the old file was not replaced.
 #[derive(Clone, Copy, Debug, PartialEq, Eq)]
 pub enum ReplaceFault {
-    /// No new file was made, or it could not be put in its place.
+    /// No new file was made, or it could not be renamed.
     NotOpened,
-    /// Something has the name of the new file already: another writer is at work, or one was stopped.
+    /// A file with the new file's name exists: of another writer, or of one that was killed.
     NewExists,
-    /// The first bytes went, as many as these. Where all did, no sync made sure of them.
+    /// Exactly this many bytes were written. If these are all, the sync failed.
     WriteFailed(usize),
 }
 
 impl ReplaceFault {
     ghost use Rattle.byte_out.specs.Names.{replace_name, replace_place};
 
-    /// How it is printed.
+    /// The name that is printed.
     pub fn name(self) -> &'static str
         ensures { result.now ≡ replace_name self }
     {
@@ -57,7 +57,7 @@ impl ReplaceFault {
         }
     }
 
-    /// How many bytes went out before it, where it has a place.
+    /// The number of bytes that were written before it, if it has a place.
     pub fn place(self) -> Option<usize>
         ensures { result ≡ replace_place self }
     {

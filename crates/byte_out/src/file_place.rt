@@ -1,4 +1,4 @@
-//! The place of a path in the file system, of which no contract speaks.
+//! The place of a path in the file system. No contract is about the file system.
 
 ghost use Rattle.std.specs.Prelude.{◌≡◌, ◌<◌, None, IsSome, IfOk};
 ghost use Rattle.byte_io.specs.Device.{target_of};

@@ -1,4 +1,4 @@
-//! Files that are replaced whole: a new file is made beside, made sure of, and put in the place of the old one.
+//! Files that are replaced as a whole: a new file is made, synced, and renamed to the old one.
 #![tactic(auto)]
 
 mod fault;

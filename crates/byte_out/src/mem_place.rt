@@ -1,4 +1,4 @@
-//! A place in memory, for tests: it tells what stands there, and fails where it is set to.
+//! A place in memory, for tests: it tells its files, and can be set to fail.
 
 ghost use Rattle.std.specs.Prelude.{◌≡◌, None, Some, false, option_map};
 ghost use Rattle.byte_io.specs.Device.{target_of};
@@ -35,7 +35,7 @@ pub struct MemPlace {
 }
 
 impl MemPlace {
-    /// A place with this file, or none, and beside it what another writer left, or nothing.
+    /// A place with this file, or none, and with a new file that another writer left, or none.
     pub fn new(
         alloc: Global,
         stands: Option<Vec<u8>>,
@@ -68,7 +68,7 @@ impl MemPlace {
         }
     }
 
-    /// Sets that this step fails.
+    /// Makes this step fail.
     pub fn fail_at(&mut self, step: Step)
         ensures set { self.new.fails ≡ Some step }
         ensures rest { ⟦<MemPlace as Place>⟧.state self.new ≡ ⟦<MemPlace as Place>⟧.state self.old }
@@ -76,7 +76,7 @@ impl MemPlace {
         self.fails = Some(step);
     }
 
-    /// What stands there.
+    /// The file with the name.
     pub fn stands(&self) -> Option<&[u8]>
         ensures { option_map (λ s. s.now) result ≡ option_map (λ v. v.items) self.now.stands }
     {
@@ -86,7 +86,7 @@ impl MemPlace {
         }
     }
 
-    /// What is beside it.
+    /// The new file.
     pub fn beside(&self) -> Option<&[u8]>
         ensures { option_map (λ s. s.now) result ≡ option_map (λ v. v.items) self.now.beside }
     {
@@ -96,7 +96,7 @@ impl MemPlace {
         }
     }
 
-    /// Whether a stop so far might have left part of a new file there.
+    /// Whether a stop so far might have left part of a new file under the name.
     pub fn is_torn(&self) -> bool
         ensures { result ≡ self.now.torn }
     {
@@ -169,7 +169,7 @@ impl Place for MemPlace {
     }
 
     fn put(&mut self) -> Result<(), NotOpened> {
-        // Cut short, it may be done or not.
+        // If it is cut short, it may be done or not.
         if !self.sure {
             self.torn = true;
         }

@@ -1,4 +1,4 @@
-//! A target in memory as a place, for tests: what it takes stands nowhere.
+//! A target in memory as a place, for tests: it tells no files.
 
 ghost use Rattle.byte_out.specs.Place.{untold};
 

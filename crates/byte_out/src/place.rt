@@ -1,4 +1,4 @@
-//! The place of a file, in contracts that say what stands there.
+//! Places of files, with contracts about the files.
 
 ghost use Rattle.std.specs.Prelude.{◌≡◌, OnOk, IfErr};
 ghost use Rattle.byte_io.specs.Device.{Opens};
@@ -8,9 +8,9 @@ ghost use Rattle.byte_out.specs.Place.{PlaceState, Told, IsMade, IsFilled, IsSyn
 use crate::fault::MakeFault;
 use byte_io::{DeviceFault, NotOpened, WriteFault};
 
-/// The name of a file, beside which a new file can be made and then put in the place of the old one.
+/// The name of a file. A new file can be made next to it, and then be renamed to it.
 pub trait Place {
-    /// What its calls did, and what is there, where that is told.
+    /// The effects of its calls, and its files, if it tells them.
     ghost state: { Self → PlaceState };
 
     /// Makes the new file, empty.
@@ -27,12 +27,12 @@ pub trait Place {
         ensures files { Told (IsFilled result bytes.now)
             (state self.old).files (state self.new).files };
 
-    /// Makes sure of the new file.
+    /// Syncs the new file.
     fn sync(&mut self) -> Result<(), DeviceFault>
         ensures calls { CountsOnly result (state self.old).sink (state self.new).sink }
         ensures files { Told (IsSynced result) (state self.old).files (state self.new).files };
 
-    /// Gives the new file the name of the old one, which is gone then.
+    /// Renames the new file to the old one, which it replaces.
     fn put(&mut self) -> Result<(), NotOpened>
         ensures calls { CountsOnly result (state self.old).sink (state self.new).sink }
         ensures files { Told (IsPut result) (state self.old).files (state self.new).files };

@@ -1,4 +1,4 @@
-//! A file is replaced whole, or stays.
+//! Replacing a file as a whole.
 
 ghost use Rattle.std.specs.Prelude.{OnOk, IfErr};
 ghost use Rattle.byte_out.specs.Replace.{Replaces, IsReplaceFault};
@@ -6,7 +6,7 @@ ghost use Rattle.byte_out.specs.Replace.{Replaces, IsReplaceFault};
 use crate::fault::{MakeFault, ReplaceFault};
 use crate::place::Place;
 
-/// Puts a file of these bytes in the place. Unless all is done, what stood there stands, and the new file is removed.
+/// Replaces the file by one with these bytes. On failure the old file stays, and the new one is removed.
 pub fn replace<P: Place>(place: &mut P, bytes: &[u8]) -> Result<(), ReplaceFault>
     ensures ok { OnOk result (Replaces bytes.now (P.state place.old) (P.state place.new)) }
     ensures fault { IfErr result
@@ -21,7 +21,7 @@ pub fn replace<P: Place>(place: &mut P, bytes: &[u8]) -> Result<(), ReplaceFault
         place.remove();
         return Err(ReplaceFault::WriteFailed(fault.written));
     }
-    // The bytes have to be sure before they have the name: a stop would leave part of them there.
+    // The bytes have to be synced before the rename: otherwise a stop could leave a part of them under the name.
     if place.sync().is_err() {
         place.remove();
         return Err(ReplaceFault::WriteFailed(bytes.len()));

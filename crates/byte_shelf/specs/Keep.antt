@@ -12,7 +12,7 @@ pub record AddsNothing {D : Type 0} (seen : D → List ℕ) (images : D → List
   pub fewer : (c : List ℕ) → images new c → images old c
   pub any_moment : LeavesOnly moment since old new (images old)
 
--- the disk failed once where that is the fault, and else not
+-- the disk failed once if that is the fault, and otherwise not
 abbrev pub CountsFault : {T : Type 0} → Result T ShelfFault → ℕ → ℕ → Type 0
 CountsFault (Ok x) old new = new ≡ old
 CountsFault (Err fault.BadSize) old new = new ≡ old

@@ -1,8 +1,8 @@
--- Two slots behind a gate, which says in its low bit which of them is in use.
+-- Two slots and a gate, whose low bit is the number of the slot in use.
 use Rattle.std.specs.Prelude.{◌≡◌, ◌⊎◌, ◌<◌, ◌≤◌, ◌+◌, ◌%◌, ◌^◌, ◌==◌, ◌++◌, ◌∷◌, [], ℕ, List, length, take, drop, if◌then◌else◌}
 use Rattle.std.specs.Int.{w32, to_be_bytes}
 
--- these bytes stand at this place
+-- these bytes are at this place
 abbrev pub StandAt : List ℕ → ℕ → List ℕ → Type 0
 StandAt image at bytes = take (length bytes) (drop at image) ≡ bytes
 

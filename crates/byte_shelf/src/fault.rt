@@ -1,16 +1,16 @@
-//! Why a shelf is not made, kept or read.
+//! Why a shelf is not made, written or read.
 
 ghost use Rattle.std.specs.Prelude.{◌≡◌};
 
 use std::fmt;
 
-/// Why a shelf is not made, kept or read.
+/// Why a shelf is not made, written or read.
 #[derive(Clone, Copy, Debug, PartialEq, Eq)]
 pub enum ShelfFault {
     /// The size is below 14 or above 67,108,864.
     BadSize,
     TooLarge,
-    /// The disk reads as no shelf.
+    /// The disk does not read as a shelf.
     NotShelf,
     Memory,
     DiskFailed,
@@ -19,7 +19,7 @@ pub enum ShelfFault {
 impl ShelfFault {
     ghost use Rattle.byte_shelf.specs.Names.{name_of};
 
-    /// How it is printed.
+    /// The name that is printed.
     pub fn name(self) -> &'static str
         ensures { result.now ≡ name_of self }
     {

@@ -23,7 +23,7 @@ fn image_of(alloc: Global, size: u32, bytes: &[u8]) -> Result<Vec<u8>, AllocErro
     Ok(image)
 }
 
-/// Makes a shelf of these bytes, for registers of up to `size` bytes. A stop inside the call leaves any bytes.
+/// Makes a shelf of these bytes, with slots of up to `size` bytes. A stop during the call may leave any bytes.
 pub fn format<D: Disk>(
     alloc: Global,
     disk: &mut D,

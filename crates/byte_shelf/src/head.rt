@@ -1,4 +1,4 @@
-//! The head of a shelf: the gate, which names the slot in use, and the size of a slot.
+//! The head of a shelf: the gate, which selects the slot in use, and the size of a slot.
 
 ghost use Rattle.std.specs.Prelude.{◌≡◌, ◌⊎◌, ◌-◌, ◌%◌, false, List, ℕ, IsTrue, IfOk, IfErr, IsErrOf, OnOk, length};
 ghost use Rattle.byte_disk.specs.Disk.{Only};
@@ -8,10 +8,10 @@ ghost use Rattle.byte_shelf.specs.Keep.{AddsNothing, CountsFault};
 use crate::fault::ShelfFault;
 use byte_disk::Disk;
 
-/// The least bytes that a slot may be made for, and the most.
+/// The limits of the size of a slot.
 pub const LEAST: u32 = 14;
 
-/// The most bytes that a slot may be made for.
+/// The greatest size of a slot.
 pub const MOST: u32 = 67_108_864;
 
 #[derive(Clone, Copy)]
@@ -65,7 +65,7 @@ pub(crate) fn read_head<D: Disk>(disk: &mut D) -> Result<Head, ShelfFault>
     Ok(head)
 }
 
-/// Makes sure of what the disk reads as.
+/// Syncs the disk.
 pub(crate) fn first_sync<D: Disk>(disk: &mut D) -> Result<(), ShelfFault>
     ensures only { IsTrue (D.tells disk.old)
         → OnOk result (Only (D.seen disk.new) (D.images disk.new)) }
@@ -81,7 +81,7 @@ pub(crate) fn first_sync<D: Disk>(disk: &mut D) -> Result<(), ShelfFault>
     Ok(())
 }
 
-/// Makes sure of what the disk reads as, and reads the head.
+/// Syncs the disk, and reads the head.
 pub(crate) fn open_shelf<D: Disk>(disk: &mut D) -> Result<Head, ShelfFault>
     ensures only { IsTrue (D.tells disk.old)
         → OnOk result (Only (D.seen disk.new) (D.images disk.new)) }
@@ -100,7 +100,7 @@ pub(crate) fn open_shelf<D: Disk>(disk: &mut D) -> Result<Head, ShelfFault>
     read_head(disk)
 }
 
-/// Where the slot that is not in use stands.
+/// The offset of the slot that is not in use.
 pub(crate) fn spare_place(head: &Head) -> u64
     ensures { result ≡ place head.now.size (1 - head.now.gate % 2) }
 {
@@ -111,7 +111,7 @@ pub(crate) fn spare_place(head: &Head) -> u64
     }
 }
 
-/// Where the slot in use stands.
+/// The offset of the slot in use.
 pub(crate) fn place_in_use(head: &Head) -> u64
     ensures { result ≡ place head.now.size (head.now.gate % 2) }
 {

@@ -21,9 +21,9 @@ pub(crate) fn frame_of(alloc: Global, bytes: &[u8]) -> Result<Vec<u8>, AllocErro
     Ok(frame)
 }
 
-/// Keeps the bytes on the shelf, in the place of those that it has.
+/// Keeps the bytes on the shelf, instead of those that it has.
 pub fn keep<D: Disk>(alloc: Global, disk: &mut D, bytes: &[u8]) -> Result<(), ShelfFault>
-    // A stop at any moment leaves what it might have left before, or a shelf of the bytes from before, or of these.
+    // A stop at any moment leaves what it could have left before, or a shelf of the old bytes or of these.
     ensures any_moment { IsTrue (D.tells disk.old) → (was : List ℕ) → IsShelf (D.seen disk.old) was
         → LeavesOnly D.moment D.images_since disk.old disk.new
         (λ c. D.images disk.old c ⊎ (IsShelf c was ⊎ IsShelf c bytes.now)) }

@@ -1,4 +1,4 @@
-//! What holds of all shelves. A call does nothing: its contract is the law.
+//! The laws of shelves. The functions do nothing: their contracts are the laws.
 
 ghost use Rattle.std.specs.Prelude.{◌≡◌, ℕ, List};
 ghost use Rattle.byte_shelf.specs.Shelf.{IsShelf};

@@ -1,4 +1,4 @@
-//! Bytes in two slots of a disk behind a gate, kept over stops.
+//! Bytes in two slots of a disk, which survive stops.
 #![tactic(auto)]
 
 mod fault;

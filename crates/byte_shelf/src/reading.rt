@@ -1,4 +1,4 @@
-//! Reads of many bytes, a chunk at a time, so that a length on the disk is never the size of an allocation.
+//! Reads many bytes, a chunk at a time, so that no allocation has a size that the disk states.
 
 ghost use Rattle.std.specs.Prelude.{◌≡◌, ◌⊎◌, ◌+◌, ◌<◌, ◌-◌, ◌^◌, ◌++◌, min, IsTrue, OnOk, IfOk, IsErrOf, length, take, drop};
 ghost use Rattle.byte_shelf.specs.Keep.{AddsNothing, CountsFault};
@@ -10,7 +10,7 @@ use std::alloc::Global;
 /// How many bytes are read at once.
 const CHUNK: usize = 4096;
 
-// Appends the bytes from an offset on, a chunk of them or so many.
+// Appends the bytes from an offset on, at most a chunk.
 fn read_more<D: Disk>(
     disk: &mut D,
     at: u64,
@@ -42,7 +42,7 @@ fn read_more<D: Disk>(
     Ok(())
 }
 
-/// So many bytes from an offset on.
+/// This many bytes from an offset on.
 pub(crate) fn read_bytes<D: Disk>(
     alloc: Global,
     disk: &mut D,

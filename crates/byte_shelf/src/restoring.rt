@@ -19,7 +19,7 @@ fn length_in(bytes: &[u8]) -> u32
     u32::from_be_bytes([bytes[0], bytes[1], bytes[2], bytes[3]])
 }
 
-// The length that stands at an offset.
+// The length at an offset.
 fn read_length<D: Disk>(disk: &mut D, at: u64) -> Result<u32, ShelfFault>
     ensures length { IsTrue (D.tells disk.old)
         → IfOk result (λ n. StandAt (D.seen disk.old) at (to_be_bytes w32 n)) }
@@ -78,7 +78,7 @@ fn read_slot<D: Disk>(
 pub fn restore<D: Disk>(alloc: Global, disk: &mut D) -> Result<Vec<u8>, ShelfFault>
     ensures found { IsTrue (D.tells disk.old)
         → IfOk result (λ v. IsShelf (D.seen disk.old) v.items) }
-    // What is read is sure.
+    // What is read is synced.
     ensures only { IsTrue (D.tells disk.old)
         → OnOk result (Only (D.seen disk.old) (D.images disk.new)) }
     ensures not_shelf { IsTrue (D.tells disk.old)

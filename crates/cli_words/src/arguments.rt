@@ -1,11 +1,11 @@
-//! The words that several commands take.
+//! The arguments that several commands take.
 use clap::{Arg, ArgAction};
 use std::alloc::{AllocError, Global};
 
-/// What `--shelf` says where the register is changed.
-pub const ON_SHELF: &str = "REG is a shelf, on which the register is kept";
+/// The help of `--shelf` if the register is changed.
+pub const ON_SHELF: &str = "REG is a shelf, and the new register is kept on it";
 
-/// What `--shelf` says where the register is read.
+/// The help of `--shelf` if the register is only read.
 pub const READ_SHELF: &str = "REG is a shelf";
 
 /// The file of a register.
@@ -22,19 +22,20 @@ pub fn entry<'a>(alloc: Global) -> Arg<'a> {
         .required(true)
 }
 
-/// Where a file goes.
+/// The output file.
 pub fn out<'a>(alloc: Global, help: &'a str) -> Arg<'a> {
     Arg::new(alloc, "OUT").help(help).required(true)
 }
 
 /// The note of a command.
 pub fn note<'a>(alloc: Global) -> Arg<'a> {
-    Arg::new(alloc, "note").long("note").value_name("TEXT").help(
-        "Why, in at most 200 bytes; it is kept with each operation that is made",
-    )
+    Arg::new(alloc, "note")
+        .long("note")
+        .value_name("TEXT")
+        .help("Who, when and why, in at most 200 bytes")
 }
 
-/// Whether the register stands on a shelf.
+/// Whether the register is on a shelf.
 pub fn on_shelf<'a>(alloc: Global, help: &'a str) -> Arg<'a> {
     Arg::new(alloc, "shelf")
         .long("shelf")
@@ -42,28 +43,29 @@ pub fn on_shelf<'a>(alloc: Global, help: &'a str) -> Arg<'a> {
         .action(ArgAction::SetTrue)
 }
 
-/// Where the register goes that is not kept on its shelf.
+/// The output of a register that is not on a shelf.
 pub fn changed<'a>(alloc: Global) -> Result<Arg<'a>, AllocError> {
     Arg::new(alloc, "out")
         .long("out")
         .value_name("OUT")
-        .help("The register file to write; it may be REG")
+        .help("The register file to write; can be REG")
         .required_unless_present("shelf")?
         .conflicts_with("shelf")
 }
 
-/// The office that gives a command: by the word, or as the environment names it.
+/// The office of a command: the argument, or that of the environment.
 pub fn replica<'a>(alloc: Global, office: Option<&'a str>) -> Arg<'a> {
-    let word = Arg::new(alloc, "as").long("as").value_name("UUID").help(
-        "The UUID of the office; no two offices share one. Else that of CRSREG_AS",
-    );
+    let word = Arg::new(alloc, "as")
+        .long("as")
+        .value_name("UUID")
+        .help("UUID of the office, unique to it (default: $CRSREG_AS)");
     match office {
         Some(office) => word.default_value(office).hide_default_value(true),
         None => word.required(true),
     }
 }
 
-/// A word that is there or not.
+/// A flag.
 pub fn flag<'a>(alloc: Global, name: &'a str, help: &'a str) -> Arg<'a> {
     Arg::new(alloc, name)
         .long(name)
@@ -71,7 +73,7 @@ pub fn flag<'a>(alloc: Global, name: &'a str, help: &'a str) -> Arg<'a> {
         .action(ArgAction::SetTrue)
 }
 
-/// A word with a value, which may be left out.
+/// An optional argument with a value.
 pub fn named<'a>(alloc: Global, name: &'a str, value: &'a str, help: &'a str) -> Arg<'a> {
     Arg::new(alloc, name)
         .long(name)
@@ -79,7 +81,7 @@ pub fn named<'a>(alloc: Global, name: &'a str, value: &'a str, help: &'a str) ->
         .help(help)
 }
 
-/// One or more words.
+/// One or more arguments.
 pub fn several<'a>(alloc: Global, name: &'a str, help: &'a str) -> Arg<'a> {
     Arg::new(alloc, name)
         .help(help)

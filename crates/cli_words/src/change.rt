@@ -1,4 +1,4 @@
-//! The commands that change a register by one text, or by entries that are named.
+//! The commands that change a register by one text or by entries.
 use crate::arguments::{ON_SHELF, changed, flag, note, on_shelf, register, replica, several};
 use crate::change_help::{ENTER_HELP, RETIRE_HELP, SUPERSEDE_HELP};
 use clap::{Arg, Command};
@@ -13,7 +13,7 @@ pub fn enter<'a>(alloc: Global, office: Option<&'a str>) -> Result<Command<'a>, 
         .arg(replica(alloc, office))?
         .arg(note(alloc))?
         .arg(text(alloc))?
-        .arg(flag(alloc, "explain", "Says more of why a text is refused"))?
+        .arg(flag(alloc, "explain", "Explains why a text is refused"))?
         .arg(on_shelf(alloc, ON_SHELF))?
         .arg(changed(alloc)?)
 }
@@ -21,7 +21,7 @@ pub fn enter<'a>(alloc: Global, office: Option<&'a str>) -> Result<Command<'a>, 
 /// `supersede`.
 pub fn supersede<'a>(alloc: Global, office: Option<&'a str>) -> Result<Command<'a>, AllocError> {
     Command::new(alloc, "supersede")
-        .about("Supersedes an entry of a register by others")
+        .about("Marks an entry as superseded by others")
         .after_help(SUPERSEDE_HELP)
         .arg(register(alloc))?
         .arg(old(alloc))?
@@ -55,6 +55,6 @@ fn text<'a>(alloc: Global) -> Arg<'a> {
 
 fn old<'a>(alloc: Global) -> Arg<'a> {
     Arg::new(alloc, "OLD")
-        .help("The id of the entry that is superseded, as UUID:NUMBER")
+        .help("The id of the superseded entry, as UUID:NUMBER")
         .required(true)
 }

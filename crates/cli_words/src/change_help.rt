@@ -1,32 +1,31 @@
-//! What help says of the commands that change a register, in lines of at most 80 columns.
+//! Help for the commands that change a register, in lines of at most 80 columns.
 
 pub const ENTER_HELP: &str = "\
 The text must spell a coordinate reference system with an identifier of its
-own, such as ID[\"EPSG\",7837]. It is kept in its canonical form. The new
-operation has the office's next number: one more than the greatest of its own
-that the register has seen. Its id names the entry from then on, and is printed
-once OUT was written.
+own, such as ID[\"EPSG\",7837]. The register stores its canonical form. The new
+operation gets the office's next number: the greatest one seen plus one. The id
+of the operation names the entry, and is printed after OUT is written.
 
-OUT may be REG. Nothing is written where the text is refused.
+OUT can be REG. If the text is refused, nothing is written.
 
-A note is kept with the operation for good, and listed by crsreg ops: such as
-who asked for it, and why. One of more than 200 bytes is refused as NoteTooLong.
+The note is stored with the operation for good, and printed by crsreg ops. A
+note of more than 200 bytes is refused as NoteTooLong.
 
 Example:
   crsreg enter office.crs --as 00000000-0000-4000-8000-00000000000a \\
       --text height.wkt --note 'levelling of 2026, file 17' --out office.crs";
 
 pub const SUPERSEDE_HELP: &str = "\
-Says of the entry OLD that each BY is to be used in its place. OLD stays in the
-register, and is exported. The new ids are printed, one for each BY, once OUT
-was written. OUT may be REG.
+Marks the entry OLD as superseded by each BY. OLD stays in the register and is
+still exported. The new ids are printed after OUT is written, one for each BY.
+OUT can be REG.
 
-Each of its operations has the note, if there is one. It is kept until a
-retirement of OLD makes the operation redundant.
+Each operation has the note, if any. It is kept until a retirement of OLD makes
+the operation redundant.
 
-It is refused, and nothing is written, as NoteTooLong where the note has more
-than 200 bytes; then as UnknownEntry ID, SameEntry, AlreadyRetired ID or
-AlreadySuperseded ID, for the first BY for which it is.
+Refused, with nothing written: NoteTooLong if the note has more than 200 bytes;
+then UnknownEntry ID, SameEntry, AlreadyRetired ID or AlreadySuperseded ID, for
+the first BY that is not possible.
 
 Example:
   crsreg supersede office.crs 00000000-0000-4000-8000-00000000000a:1 \\
@@ -34,16 +33,16 @@ Example:
       --as 00000000-0000-4000-8000-00000000000a --out office.crs";
 
 pub const RETIRE_HELP: &str = "\
-A retired entry is no longer exported, and stays retired for good, at every
-office that hears of it. The new ids are printed, one for each ENTRY, once OUT
-was written. OUT may be REG.
+A retired entry is no longer exported, and stays retired at every office that
+merges the operation. The new ids are printed after OUT is written, one for
+each ENTRY. OUT can be REG.
 
-Each of its operations has the note, if there is one. Where two offices retire
-one entry, the retirement of the lesser id is kept, with its note.
+Each operation has the note, if any. If two offices retire one entry, the
+retirement with the lesser id is kept, with its note.
 
-It is refused, and nothing is written, as NoteTooLong where the note has more
-than 200 bytes; then as UnknownEntry ID or AlreadyRetired ID, for the first
-ENTRY for which it is.
+Refused, with nothing written: NoteTooLong if the note has more than 200 bytes;
+then UnknownEntry ID or AlreadyRetired ID, for the first ENTRY that is not
+possible.
 
 Example:
   crsreg retire office.crs 00000000-0000-4000-8000-00000000000a:1 \\

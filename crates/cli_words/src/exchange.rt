@@ -1,4 +1,4 @@
-//! The commands that make registers, exchange what they have, and keep them on shelves.
+//! The commands that make and exchange registers, and keep them on shelves.
 use crate::arguments::{READ_SHELF, on_shelf, out, register, several};
 use crate::exchange_help::{
     DOWNGRADE_HELP, MERGE_HELP, NEW_HELP, PIECE_HELP, SEEN_HELP, SHELF_HELP, UNSHELF_HELP,
@@ -9,19 +9,19 @@ use std::alloc::{AllocError, Global};
 /// `new`.
 pub fn new<'a>(alloc: Global) -> Result<Command<'a>, AllocError> {
     Command::new(alloc, "new")
-        .about("Writes the file of an empty register")
+        .about("Writes an empty register")
         .after_help(NEW_HELP)
-        .arg(out(alloc, "The register file to write; it is made anew"))
+        .arg(out(alloc, "The register file to write"))
 }
 
 /// `merge`.
 pub fn merge<'a>(alloc: Global) -> Result<Command<'a>, AllocError> {
     Command::new(alloc, "merge")
-        .about("Joins registers and pieces and writes the file of all their operations")
+        .about("Merges registers and pieces")
         .after_help(MERGE_HELP)
-        .arg(on_shelf(alloc, "OUT is a shelf, whose register is joined first"))?
-        .arg(out(alloc, "The register file to write; it is made anew"))?
-        .arg(several(alloc, "FILE", "The files of registers and pieces to join"))
+        .arg(on_shelf(alloc, "OUT is a shelf, whose register is merged too"))?
+        .arg(out(alloc, "The register file to write"))?
+        .arg(several(alloc, "FILE", "The files of registers and pieces to merge"))
 }
 
 /// `seen`.
@@ -31,34 +31,34 @@ pub fn seen<'a>(alloc: Global) -> Result<Command<'a>, AllocError> {
         .after_help(SEEN_HELP)
         .arg(register(alloc))?
         .arg(on_shelf(alloc, READ_SHELF))?
-        .arg(out(alloc, "The summary file to write; it is made anew"))
+        .arg(out(alloc, "The summary file to write"))
 }
 
 /// `piece`.
 pub fn piece<'a>(alloc: Global) -> Result<Command<'a>, AllocError> {
     Command::new(alloc, "piece")
-        .about("Writes the piece of a register that another office lacks")
+        .about("Writes what another office lacks of a register")
         .after_help(PIECE_HELP)
         .arg(register(alloc))?
         .arg(on_shelf(alloc, READ_SHELF))?
         .arg(summary(alloc))?
-        .arg(out(alloc, "The piece file to write; it is made anew"))
+        .arg(out(alloc, "The piece file to write"))
 }
 
 /// `downgrade`.
 pub fn downgrade<'a>(alloc: Global) -> Result<Command<'a>, AllocError> {
     Command::new(alloc, "downgrade")
-        .about("Writes the file of a register for programs up to 0.3")
+        .about("Writes the register in file version 1, for crsreg 0.3 and older")
         .after_help(DOWNGRADE_HELP)
         .arg(register(alloc))?
         .arg(on_shelf(alloc, READ_SHELF))?
-        .arg(out(alloc, "The register file to write; it is made anew"))
+        .arg(out(alloc, "The register file to write"))
 }
 
 /// `shelf`.
 pub fn shelf<'a>(alloc: Global) -> Result<Command<'a>, AllocError> {
     Command::new(alloc, "shelf")
-        .about("Makes a shelf of an empty register, which stops do not harm")
+        .about("Creates a crash-safe file (a shelf) that holds an empty register")
         .after_help(SHELF_HELP)
         .arg(new_shelf(alloc))?
         .arg(size(alloc))
@@ -67,27 +67,27 @@ pub fn shelf<'a>(alloc: Global) -> Result<Command<'a>, AllocError> {
 /// `unshelf`.
 pub fn unshelf<'a>(alloc: Global) -> Result<Command<'a>, AllocError> {
     Command::new(alloc, "unshelf")
-        .about("Writes the file of the register that a shelf has")
+        .about("Writes the register on a shelf to a file")
         .after_help(UNSHELF_HELP)
         .arg(old_shelf(alloc))?
-        .arg(out(alloc, "The register file to write; it is made anew"))
+        .arg(out(alloc, "The register file to write"))
 }
 
 fn summary<'a>(alloc: Global) -> Arg<'a> {
     Arg::new(alloc, "SEEN")
-        .help("The summary file of the office that the piece is for")
+        .help("The summary file of the other office")
         .required(true)
 }
 
 fn new_shelf<'a>(alloc: Global) -> Arg<'a> {
     Arg::new(alloc, "NEW")
-        .help("The shelf to make; what was there is gone")
+        .help("The shelf to create; an existing file is overwritten")
         .required(true)
 }
 
 fn size<'a>(alloc: Global) -> Arg<'a> {
     Arg::new(alloc, "SIZE")
-        .help("The most bytes that the register's file may have, from 14 to 67108864")
+        .help("The limit for the register's file in bytes, from 14 to 67108864")
         .required(true)
 }
 

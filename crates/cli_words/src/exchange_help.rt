@@ -1,64 +1,63 @@
-//! What help says of the commands that make, exchange and keep files, in lines of at most 80 columns.
+//! Help for the commands that make, exchange and keep files, in lines of at most 80 columns.
 
 pub const NEW_HELP: &str = "\
-The file is that of a register that has seen no operation: what each office
-starts from.
+Every office starts from an empty register, which has seen no operation.
 
 Example:
   crsreg new office.crs";
 
 pub const MERGE_HELP: &str = "\
-All files are read, in the order given, before OUT is opened; so OUT may be one
-of them. What is written is the register of all their operations. The order of
-the registers does not matter to it, nor how often one is given. Pieces are
-joined after all registers, in the order given.
+Reads all files in the order given before OUT is opened, so OUT can be one of
+them. Writes the register of all their operations. The order of registers and
+repeats do not matter. Pieces are merged after all registers, in the order
+given.
 
-It is refused as Clash ID where two files have different operations of one id:
-then one replica's number was given twice; and as Basis ID where a piece was
-made for an office that had seen ID, and what was joined before it has not.
-Nothing is written then.
+Refused, with nothing written: Clash ID if two files have different operations
+under one id, so a number was given out twice; Basis ID if a piece was made for
+an office that had seen ID, and the registers before it have not.
 
 Example:
   crsreg merge office.crs office.crs north.crs south.crs";
 
 pub const SEEN_HELP: &str = "\
-The summary says which operations the register has seen, and no more. Sent to
-another office, it says what this one lacks: crsreg piece makes a file of that.
+The summary lists the ids of the operations that the register has seen. Send it
+to another office, which uses crsreg piece to make a file of what you lack.
 
 Example:
   crsreg seen south.crs south.seen";
 
 pub const PIECE_HELP: &str = "\
 The piece has what REG has and the office with the summary SEEN lacks. That
-office merges it like a register; so can any other that has seen as much.
+office merges it like a register. So can any other office that has seen at
+least as much.
 
 Example:
   crsreg piece north.crs south.seen south.piece";
 
 pub const DOWNGRADE_HELP: &str = "\
-For an office with a program up to 0.3: the file has the same register in
-version 1, without notes. The next change or merge of it by this program writes
+For an office with crsreg 0.3 or older: writes the same register in file
+version 1, without notes. The next change or merge by this program writes
 version 2 again.
 
-It is refused, and nothing is written, as HasNote ID where an operation of the
-register has a note: the least such ID.
+Refused, with nothing written: HasNote ID if an operation of the register has a
+note. ID is the least such operation.
 
 Example:
   crsreg downgrade office.crs for_the_old_office.crs";
 
 pub const SHELF_HELP: &str = "\
-A shelf is a file in which a register is kept so that a stop at any moment, as
-a loss of power, leaves the register from before or the new one. enter,
-supersede, retire and merge change it with --shelf. It takes about twice SIZE
-bytes once it was changed. Its first register is the empty one.
+A shelf is a file that holds a register. A crash or a power cut at any moment
+leaves the register from before a command or the one after it. Commands that
+change a register take --shelf. A shelf takes up to twice SIZE bytes. It begins
+with an empty register.
 
 Example:
   crsreg shelf office.shelf 1000000
   crsreg merge --shelf office.shelf office.crs";
 
 pub const UNSHELF_HELP: &str = "\
-Writes the file of the register that stands on the shelf, as other offices take
-it. The shelf stays as it is.
+Writes the register on the shelf to a file, for other offices. The shelf does
+not change.
 
 Example:
   crsreg unshelf office.shelf office.crs";

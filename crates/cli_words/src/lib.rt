@@ -1,4 +1,4 @@
-//! The words of the command line of `crsreg`, and what help says of them.
+//! The commands, options and help of `crsreg`.
 #![tactic(auto)]
 
 mod arguments;

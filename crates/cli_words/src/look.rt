@@ -1,4 +1,4 @@
-//! The commands that find entries, and that say how registers stand and differ.
+//! The commands that search, count and compare registers.
 use crate::arguments::{READ_SHELF, flag, named, on_shelf, register, several};
 use crate::look_help::{DIFF_HELP, FIND_HELP, OFFICES_HELP, STATUS_OF_HELP};
 use clap::{Arg, Command};
@@ -9,37 +9,41 @@ const STATUSES: [&str; 4] = ["valid", "superseded", "retired", "live"];
 /// `find`.
 pub fn find<'a>(alloc: Global) -> Result<Command<'a>, AllocError> {
     Command::new(alloc, "find")
-        .about("Prints the entries that meet all that is named")
+        .about("Prints the entries that match every option given")
         .after_help(FIND_HELP)
         .arg(register(alloc))?
         .arg(named(
             alloc,
             "key",
             "AUTH:CODE",
-            "Those of this authority and code",
+            "Only with this authority and code",
         ))?
-        .arg(named(alloc, "authority", "A", "Those of this authority"))?
-        .arg(named(alloc, "code", "C", "Those of this code"))?
-        .arg(named(alloc, "name", "PART", "Those whose name has this in it"))?
+        .arg(named(alloc, "authority", "A", "Only with this authority"))?
+        .arg(named(alloc, "code", "C", "Only with this code"))?
+        .arg(named(alloc, "name", "PART", "Only with this part in the name"))?
         .arg(wanted(alloc))?
-        .arg(flag(alloc, "ids", "Prints their ids alone, one a line"))?
+        .arg(flag(alloc, "ids", "Prints only the ids, one a line"))?
         .arg(on_shelf(alloc, READ_SHELF))
 }
 
 /// `status`.
 pub fn status<'a>(alloc: Global) -> Result<Command<'a>, AllocError> {
     Command::new(alloc, "status")
-        .about("Prints how much each register has, and what is open in it")
+        .about("Prints counts for each register, with conflicts and gaps")
         .after_help(STATUS_OF_HELP)
         .arg(several(alloc, "FILE", "The files of registers"))?
-        .arg(flag(alloc, "settled", "Refuses where something is open in one"))?
+        .arg(flag(
+            alloc,
+            "settled",
+            "Fails if a register has a conflict, an awaited id or a gap",
+        ))?
         .arg(on_shelf(alloc, "Each FILE is a shelf"))
 }
 
 /// `offices`.
 pub fn offices<'a>(alloc: Global) -> Result<Command<'a>, AllocError> {
     Command::new(alloc, "offices")
-        .about("Prints how much of each office a register has seen")
+        .about("Prints how many operations of each office a register has seen")
         .after_help(OFFICES_HELP)
         .arg(register(alloc))?
         .arg(on_shelf(alloc, READ_SHELF))
@@ -48,26 +52,19 @@ pub fn offices<'a>(alloc: Global) -> Result<Command<'a>, AllocError> {
 /// `diff`.
 pub fn diff<'a>(alloc: Global) -> Result<Command<'a>, AllocError> {
     Command::new(alloc, "diff")
-        .about("Prints in which entries a register and the join of others differ")
+        .about("Prints the entries that differ between a register and a merge of others")
         .after_help(DIFF_HELP)
         .arg(old(alloc))?
-        .arg(several(
-            alloc,
-            "NEW",
-            "The files of registers and pieces that are joined",
-        ))?
-        .arg(flag(alloc, "exit-code", "Ends with status 1 where they differ"))?
-        .arg(on_shelf(
-            alloc,
-            "OLD is a shelf, whose register is joined to the others",
-        ))
+        .arg(several(alloc, "NEW", "The files of registers and pieces to merge"))?
+        .arg(flag(alloc, "exit-code", "Exits with status 1 if they differ"))?
+        .arg(on_shelf(alloc, "OLD is a shelf, whose register is merged too"))
 }
 
 fn wanted<'a>(alloc: Global) -> Arg<'a> {
     Arg::new(alloc, "status")
         .long("status")
         .value_name("S")
-        .help("Those of this status; live: not retired")
+        .help("Only with this status; live: not retired")
         .value_parser(STATUSES.as_slice())
 }
 

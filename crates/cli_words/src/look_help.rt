@@ -1,44 +1,43 @@
-//! What help says of the commands that find and compare, in lines of at most 80 columns.
+//! Help for the commands that find and compare, in lines of at most 80 columns.
 
 pub const FIND_HELP: &str = "\
-Prints the lines of the report of entries that meet all that is named; all lines
-where nothing is. Keys, authorities and codes are compared byte for byte; in
-names the letters A to Z are alike in either case.
+Prints the lines of the report of entries that match every option given, or all
+lines without options. Keys, authorities and codes match byte for byte. In
+names, the letters A to Z match in either case.
 
-With --ids it prints the ids alone, and is refused as NoEntry where there is
-none: so $(crsreg find .. --ids) is safe in scripts.
+With --ids it prints only the ids. If no entry matches, it is refused as
+NoEntry, so $(crsreg find .. --ids) is safe in scripts.
 
 Example:
   crsreg find office.crs --name 'utm zone 32' --status live
   crsreg wkt office.crs $(crsreg find office.crs --key EPSG:25832 --ids)";
 
 pub const STATUS_OF_HELP: &str = "\
-Prints a line of comma-separated values for each FILE: its bytes; how many
-operations it keeps; how many entries it has, and of each status; how many keys
-are in conflict, ids awaited, ranges of ids not seen. A file that is no
-register's has its fault there. All lines are printed; the first such fault is
-told on standard error, and the status is 3.
+Prints a line of comma-separated values for each FILE: its size; the numbers of
+operations, of entries, and of entries of each status; the numbers of keys in
+conflict, of awaited ids, and of ranges of missing ids. The line of a file that
+is not a register shows its fault. The first such fault is also printed to
+standard error, with status 3.
 
-With --settled it is refused as Unsettled where a register has a conflict, an
-awaited id or a gap. With --shelf each FILE is a shelf; its bytes are those of
+With --settled it is refused as Unsettled if a register has a conflict, an
+awaited id or a gap. With --shelf each FILE is a shelf, and the size is that of
 the register's file on it.
 
 Example:
   crsreg status north.crs south.crs --settled";
 
 pub const OFFICES_HELP: &str = "\
-Prints comma-separated values: each office of which the register has seen an
-operation, the greatest number seen, how many below it were not seen, and how
-many of its operations are kept.
+Prints comma-separated values for each office with a seen operation: the
+greatest number seen, how many lower numbers were not seen, and how many of its
+operations are kept.
 
 Example:
   crsreg offices office.crs";
 
 pub const DIFF_HELP: &str = "\
-The files NEW are joined as crsreg merge does. Then the lines of the report of
-entries are printed that OLD has and the join has not (-), and those that the
-join has and OLD has not (+), by id. Only these lines are compared: not gaps,
-awaited ids or notes.
+Merges the files NEW like crsreg merge, and compares the reports of entries.
+Prints the lines that only OLD has (-) and those that only the merge has (+),
+ordered by id. Gaps, awaited ids and notes are not compared.
 
-What a merge would bring:
+What a merge would change:
   crsreg diff office.crs office.crs north.crs";

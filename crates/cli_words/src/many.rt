@@ -1,4 +1,4 @@
-//! The commands that change a register by many texts, and by the keys of entries.
+//! The commands `import` and `settle`.
 use crate::arguments::{ON_SHELF, changed, flag, note, on_shelf, register, replica, several};
 use crate::many_help::{IMPORT_HELP, SETTLE_HELP};
 use clap::{Arg, ArgAction, Command};
@@ -17,14 +17,14 @@ pub fn import<'a>(alloc: Global, office: Option<&'a str>) -> Result<Command<'a>,
         .arg(note(alloc))?;
     let whole = whole
         .arg(differs(alloc))?
-        .arg(flag(alloc, "keep-going", "Lists what is refused, and goes on"))?
+        .arg(flag(alloc, "keep-going", "Lists refused texts, and goes on"))?
         .arg(flag(
             alloc,
             "dry-run",
-            "Says what would be done, and writes nothing",
+            "Prints what would be done, and writes nothing",
         ))?;
     whole
-        .arg(flag(alloc, "explain", "Says more of why texts are refused"))?
+        .arg(flag(alloc, "explain", "Explains why texts are refused"))?
         .arg(on_shelf(alloc, ON_SHELF))?
         .arg(unless_dry(alloc)?)
 }
@@ -32,14 +32,14 @@ pub fn import<'a>(alloc: Global, office: Option<&'a str>) -> Result<Command<'a>,
 /// `settle`.
 pub fn settle<'a>(alloc: Global, office: Option<&'a str>) -> Result<Command<'a>, AllocError> {
     Command::new(alloc, "settle")
-        .about("Retires the other entries of the keys of those that are kept")
+        .about("Keeps entries, and retires all others with their authority and code")
         .after_help(SETTLE_HELP)
         .arg(register(alloc))?
         .arg(kept(alloc)?)?
         .arg(flag(
             alloc,
             "equal",
-            "Of entries of one key and text, keeps the least",
+            "Of entries with one key and text, keeps the least",
         ))?
         .arg(replica(alloc, office))?
         .arg(note(alloc))?
@@ -47,22 +47,22 @@ pub fn settle<'a>(alloc: Global, office: Option<&'a str>) -> Result<Command<'a>,
         .arg(changed(alloc)?)
 }
 
-// What is done where a key has another text.
+// What to do if the key has another text.
 fn differs<'a>(alloc: Global) -> Arg<'a> {
     Arg::new(alloc, "differs")
         .long("differs")
         .value_name("MODE")
-        .help("What is done where the key of a text has another one")
+        .help("What to do if an entry with this key has another text")
         .value_parser(MODES.as_slice())
         .default_value("refuse")
 }
 
-// Where the register goes, if anything is written.
+// The output, if anything is written.
 fn unless_dry<'a>(alloc: Global) -> Result<Arg<'a>, AllocError> {
     Arg::new(alloc, "out")
         .long("out")
         .value_name("OUT")
-        .help("The register file to write; it may be REG")
+        .help("The register file to write; can be REG")
         .required_unless_present("shelf")?
         .required_unless_present("dry-run")?
         .conflicts_with("shelf")
@@ -70,7 +70,7 @@ fn unless_dry<'a>(alloc: Global) -> Result<Arg<'a>, AllocError> {
 
 fn kept<'a>(alloc: Global) -> Result<Arg<'a>, AllocError> {
     Arg::new(alloc, "KEEP")
-        .help("The ids of the entries that are kept, as UUID:NUMBER")
+        .help("The ids of the entries to keep, as UUID:NUMBER")
         .action(ArgAction::Append)
         .num_args(1..)
         .required_unless_present("equal")?

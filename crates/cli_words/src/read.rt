@@ -61,7 +61,7 @@ pub fn report<'a>(alloc: Global) -> Result<Command<'a>, AllocError> {
 
 fn kind<'a>(alloc: Global) -> Arg<'a> {
     Arg::new(alloc, "KIND")
-        .help("What is listed")
+        .help("What to list")
         .value_parser(KINDS.as_slice())
         .required(true)
 }

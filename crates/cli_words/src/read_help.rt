@@ -1,40 +1,40 @@
-//! What help says of the commands that show what registers have, in lines of at most 80 columns.
+//! Help for the commands that show a register, in lines of at most 80 columns.
 
 pub const SHOW_HELP: &str = "\
-Prints the header of the report of entries, and the line of this one.
+Prints the header of the report of entries, and the line of this entry.
 
 Example:
   crsreg show office.crs 00000000-0000-4000-8000-00000000000a:1";
 
 pub const WKT_HELP: &str = "\
 An entry is named by the id of the operation that entered it: a replica's UUID,
-a colon and a number. It is printed whatever its status, on one line, or
+a colon and a number. Its text is printed whatever its status, on one line, or
 indented with --pretty.
 
 Example:
   crsreg wkt office.crs 00000000-0000-4000-8000-00000000000a:1";
 
 pub const EXPORT_HELP: &str = "\
-Each entry that is not retired is printed on a line, in its canonical text, by
-id; also one that is superseded. A line break inside quotation marks is kept.
+Prints the canonical text of each entry that is not retired, superseded ones
+included, one a line, ordered by id. Line breaks within quotation marks stay.
 
 Example:
   crsreg export office.crs > all.wkt";
 
 pub const OPS_HELP: &str = "\
-Prints, as comma-separated values, each operation that the register keeps, by
-id: what it did, to which entry, by which that is superseded, the definition
-that it entered, and its note. An operation that another one makes needless is
-not kept, nor is its note, though the register remembers that it has seen it.
+Prints, as comma-separated values, each operation that the register keeps,
+ordered by id: its effect, the entry, the superseding entry, the definition,
+and the note. Redundant operations are dropped with their notes; the register
+remembers that it has seen them.
 
 Example:
   crsreg ops office.crs";
 
 pub const REPORT_HELP: &str = "\
-Prints comma-separated values under a header:
+Prints comma-separated values with a header:
   entries    each entry: its key, name, status, and what supersedes it
-  conflicts  entries of one key, not retired, where their texts differ
-  awaited    ids that operations name, and that no operation has entered yet
+  conflicts  entries with one key and different texts that are not retired
+  awaited    ids that operations name and that no operation has entered
   gaps       operations not seen although a later one of the same office was
 
 Example:

@@ -1,4 +1,4 @@
-//! The commands together, and `check`.
+//! All commands, and `check`.
 use crate::arguments::flag;
 use crate::change::{enter, retire, supersede};
 use crate::exchange::{downgrade, merge, new, piece, seen, shelf, unshelf};
@@ -12,11 +12,11 @@ use std::alloc::{AllocError, Global};
 /// The newest heading of CHANGES.md.
 const VERSION: &str = "0.6";
 
-/// The commands and their words. The office is that of the environment, if it names one: what `--as` is where it is left out.
+/// All commands. The office is that of the environment, if it names one: the default of `--as`.
 pub fn command_line<'a>(alloc: Global, office: Option<&'a str>) -> Result<Command<'a>, AllocError> {
     let whole = Command::new(alloc, "crsreg")
         .version(VERSION)
-        .about("A register of coordinate reference systems in WKT 2, and checks of their texts")
+        .about("A replicated register of coordinate reference systems in WKT 2")
         .after_help(STATUS_HELP)
         .subcommand_required(true);
     let whole = and(whole, check(alloc))?;
@@ -40,7 +40,7 @@ fn with_changes<'a>(
     and(whole, settle(alloc, office))
 }
 
-// Those that show what registers have.
+// Those that show registers.
 fn with_readers<'a>(alloc: Global, whole: Command<'a>) -> Result<Command<'a>, AllocError> {
     let whole = and(whole, find(alloc))?;
     let whole = and(whole, show(alloc))?;
@@ -52,7 +52,7 @@ fn with_readers<'a>(alloc: Global, whole: Command<'a>) -> Result<Command<'a>, Al
     and(whole, offices(alloc))
 }
 
-// Those by which offices exchange what they have.
+// Those by which offices exchange registers.
 fn with_exchange<'a>(alloc: Global, whole: Command<'a>) -> Result<Command<'a>, AllocError> {
     let whole = and(whole, diff(alloc))?;
     let whole = and(whole, merge(alloc))?;
@@ -61,7 +61,7 @@ fn with_exchange<'a>(alloc: Global, whole: Command<'a>) -> Result<Command<'a>, A
     and(whole, downgrade(alloc))
 }
 
-// Those that make a shelf, and write out what one has.
+// Those that make a shelf, and write its register to a file.
 fn with_shelves<'a>(alloc: Global, whole: Command<'a>) -> Result<Command<'a>, AllocError> {
     let whole = and(whole, shelf(alloc))?;
     and(whole, unshelf(alloc))
@@ -76,12 +76,10 @@ fn and<'a>(
 }
 
 fn check<'a>(alloc: Global) -> Result<Command<'a>, AllocError> {
-    let text = Arg::new(alloc, "TEXT").help(
-        "The file with the text; standard input where it is left out",
-    );
+    let text = Arg::new(alloc, "TEXT").help("The file with the text (default: standard input)");
     Command::new(alloc, "check")
-        .about("Checks one text and prints it in its canonical form")
+        .about("Checks a text and prints its canonical form")
         .after_help(CHECK_HELP)
         .arg(text)?
-        .arg(flag(alloc, "explain", "Says more of why a text is refused"))
+        .arg(flag(alloc, "explain", "Explains why a text is refused"))
 }

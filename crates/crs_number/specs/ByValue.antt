@@ -60,7 +60,7 @@ units_once x y h = ⊎_elim
     (λ some_x. ⊎_elim (λ zero_y. absurd (zero_and_some y x zero_y some_x (sym h))) (λ some_y. both_some x y some_x some_y h) (cases_eq (unsigned_abs y.coefficient % 10) 0))
     (cases_eq (unsigned_abs x.coefficient % 10) 0)
 
--- `==` answers whether the values are equal
+-- `==` returns whether the values are equal
 pub eq_by_value : (x y : Decimal) → (int_eq x.coefficient y.coefficient && int_eq x.exponent y.exponent) ≡ is_eq (int_cmp (units x.coefficient x.exponent) (units y.coefficient y.exponent))
 eq_by_value x y =
     let u = units x.coefficient x.exponent in

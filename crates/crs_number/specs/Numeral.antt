@@ -54,7 +54,7 @@ abbrev pub signed : Bool → ℕ → ℤ
 signed false size = pos size
 signed true size = neg_ℤ (pos size)
 
--- n times ten to the x is c times ten to the e, where c is no multiple of ten; 0 is (0, 0)
+-- n times ten to the x is c times ten to the e, where c is not a multiple of ten; 0 is (0, 0)
 abbrev pub IsNormalForm : ℤ → ℤ → ℤ → ℤ → Type 0
 IsNormalForm n x c e =
     ((n ≡ pos 0) × (c ≡ pos 0) × (e ≡ pos 0))

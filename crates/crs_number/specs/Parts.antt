@@ -1,4 +1,4 @@
--- What a numeral of the program stands for.
+-- The meaning of the program's numerals.
 use Rattle.crs_number.specs.Numeral.{Parts}
 use Rattle.crs_number.specs.declared.numerals.Numeral.{Numeral}
 

@@ -4,7 +4,7 @@ use Rattle.std.specs.Char.{is_ascii_digit}
 use Rattle.std.specs.Str.Parse.{AllDigits}
 use Rattle.crs_number.specs.Numeral.{IsSign, IsFraction}
 
--- the first byte, where there is one, passes the test
+-- the first byte, if there is one, passes the test
 abbrev pub first_passes : (ℕ → Bool) → List ℕ → Bool
 first_passes p [] = false
 first_passes p (c ∷ text) = p c
@@ -35,7 +35,7 @@ pub record CutsDigits (text digits rest : List ℕ) : Type 0 where
   pub ends : first_passes is_ascii_digit rest ≡ false
   pub is_text : text ≡ digits ++ rest
 
--- where there is no period none may follow, and after one no further digit
+-- without a period none may follow, and after one no further digit
 abbrev pub EndsFraction : List ℕ → List ℕ → Type 0
 EndsFraction [] rest = first_passes is_period rest ≡ false
 EndsFraction (c ∷ text) rest = first_passes is_ascii_digit rest ≡ false

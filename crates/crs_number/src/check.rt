@@ -7,8 +7,7 @@ ghost use Rattle.crs_number.specs.Numeral.{HasForm, Spells};
 use crate::decimals::{Decimal, MAX_TEXT, NumberFault};
 use crate::numerals::Numeral;
 
-/// Tests whether the text spells a decimal. It is no part of the public surface: the crate that
-/// cuts texts into tokens needs the answer without the decimal.
+/// Tests whether the text spells a decimal. It is for the lexer, which needs no decimal.
 pub fn check_numeral(text: &[u8]) -> Result<(), NumberFault>
     ensures ok { IsOk result ↔ ((d : Decimal) × Spells text.now d.coefficient d.exponent) }
     ensures bad { IsErrOf result NumberFault.BadNumber ↔ ¬ HasForm text.now }
@@ -29,10 +28,10 @@ pub fn check_numeral(text: &[u8]) -> Result<(), NumberFault>
     }
 }
 
-/// A number of so many digits, with a period or without, is in range.
+/// A number of up to this many digits, with or without a period, is in range.
 const SAFE_DIGITS: usize = 34;
 
-/// Whether it has so few digits, and no power, that its value is in range.
+/// Whether it has no exponent and so few digits that its value is in range.
 fn is_small(numeral: &Numeral<'_>) -> bool
     ensures digits { IsTrue result → length numeral.now.whole.now + length numeral.now.fraction.now ≤ 34 }
     ensures power { IsTrue result → numeral.now.power.digits.now ≡ [] }

@@ -29,7 +29,7 @@ fn has_few_digits(text: &[u8]) -> bool
     rest.is_empty() && !digits.is_empty() && digits.len() <= 9
 }
 
-/// The law of counts: the test decides what a count is, and a text spells one.
+/// The law of counts: the test decides what a count is, and a text spells at most one.
 pub fn count_laws()
     ensures sound { (text : List ℕ) → is_count text ≡ true → IsCount text }
     ensures complete { (text : List ℕ) → IsCount text → is_count text ≡ true }

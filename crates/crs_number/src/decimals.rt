@@ -16,16 +16,16 @@ use std::fmt;
 /// A text that does not spell a decimal.
 #[derive(Clone, Copy, Debug, PartialEq, Eq)]
 pub enum NumberFault {
-    /// It has not the form of a numeral.
+    /// It does not have the form of a numeral.
     BadNumber,
-    /// It is too long, or its value is no decimal.
+    /// It is too long, or its value is out of range.
     NumberRange,
 }
 
 impl NumberFault {
     ghost use Rattle.crs_number.specs.Names.{name_of};
 
-    /// How it is printed.
+    /// The name that is printed.
     pub fn name(self) -> &'static str
         ensures { result.now ≡ name_of self }
     {
@@ -42,8 +42,7 @@ impl fmt::Display for NumberFault {
     }
 }
 
-/// A coefficient times a power of ten. The coefficient is no multiple of ten, and zero is 0 times
-/// ten to the 0.
+/// A coefficient times a power of ten. The coefficient is not a multiple of ten; zero is 0 times ten to the 0.
 #[derive(Clone, Copy, Debug, PartialEq, Eq)]
 pub struct Decimal {
     coefficient: i128,
@@ -93,7 +92,7 @@ impl Decimal {
         Decimal::from_parts(&numeral).ok_or(NumberFault::NumberRange)
     }
 
-    /// The number that at most 18 digits write, with a period before so many of the last: at most 100.
+    /// The number of at most 18 digits with this many decimal places, at most 100.
     pub fn from_digits(negative: bool, digits: u64, places: u32) -> Option<Decimal>
         ensures found { IfSome result
             (λ d. IsNormalForm (signed negative digits) (pos 0 -ℤ pos places) d.coefficient d.exponent) }
@@ -111,7 +110,7 @@ impl Decimal {
         )
     }
 
-    /// The count that this is, from 0 to 4,294,967,295.
+    /// The value as a count, from 0 to 4,294,967,295.
     pub fn as_count(&self) -> Option<u32>
         ensures found { IfSome result (λ n. IsWhole self.now.coefficient self.now.exponent (pos n)) }
         ensures only { (n : ℕ) → n < 2 ^ 32 → IsWhole self.now.coefficient self.now.exponent (pos n)

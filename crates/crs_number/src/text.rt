@@ -39,7 +39,7 @@ fn digits_of(buffer: &mut Buffer, number: u128) -> &[u8]
     }
 }
 
-/// Appends digits, and so many zeros.
+/// Appends digits, and this many zeros.
 fn push_whole(out: &mut Vec<u8>, digits: &[u8], zeros: usize) -> Result<(), AllocError>
     ensures ok { OnOk result (out.new.items ≡ out.old.items ++ (digits.now ++ replicate zeros 48)) }
     ensures err { OnErr result (Extends out.old.items out.new.items) }
@@ -50,7 +50,7 @@ fn push_whole(out: &mut Vec<u8>, digits: &[u8], zeros: usize) -> Result<(), Allo
     push_zeros(out, zeros)
 }
 
-/// Appends digits, with a period before so many of the last.
+/// Appends digits, with this many after a period.
 fn push_places(out: &mut Vec<u8>, digits: &[u8], places: usize) -> Result<(), AllocError>
     requires { places < length digits.now }
     ensures ok { let before = length digits.now - places
@@ -65,7 +65,7 @@ fn push_places(out: &mut Vec<u8>, digits: &[u8], places: usize) -> Result<(), Al
     out.extend_from_slice(fraction)
 }
 
-/// Appends a zero, a period, and so many places, which the digits end.
+/// Appends a zero, a period, and this many decimal places, which end with the digits.
 fn push_fraction(out: &mut Vec<u8>, digits: &[u8], places: usize) -> Result<(), AllocError>
     requires { length digits.now ≤ places }
     ensures ok { OnOk result

@@ -55,6 +55,6 @@ equal_is_equivalence coded = decided (equal coded) (equal_Decides coded)
 pub equal_is_partial_equivalence : {A : Type 0} (coded : Coded A) → IsPartialEquivalence (equal coded)
 equal_is_partial_equivalence coded = partial_equiv_from_equiv (equal_is_equivalence coded)
 
--- a comparison of two values answers as the test
+-- the result of a comparison is that of the test
 pub equal_is : {A : Type 0} (coded : Coded A) (x y : A) (answer : Bool) → (answer ≡ true → x ≡ y) → (x ≡ y → answer ≡ true) → answer ≡ equal coded x y
 equal_is coded x y answer sound complete = same_from_decides answer (equal coded x y) (sound, complete) (equal_Decides coded x y)

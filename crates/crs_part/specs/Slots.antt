@@ -32,7 +32,7 @@ axes_of (Geodetic crs) = items_of crs.axes
 axes_of (Projected crs) = items_of crs.axes
 axes_of (Vertical crs) = items_of crs.axes
 
--- the unit that stands once after the axes
+-- the common unit after the axes
 abbrev pub common_unit_of : Single → Option Unit
 common_unit_of (Geodetic crs) = crs.unit
 common_unit_of (Projected crs) = crs.unit

@@ -36,7 +36,7 @@ direction_word to.GeocentricZ = codes "geocentricZ"
 direction_word to.Up = codes "up"
 direction_word to.Down = codes "down"
 
--- whether two words are the same but for letter case
+-- whether two words are the same apart from letter case
 abbrev pub same_word : List ℕ → List ℕ → Bool
 same_word a b = bytes_eq (map to_ascii_lowercase a) (map to_ascii_lowercase b)
 

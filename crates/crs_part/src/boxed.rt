@@ -1,4 +1,4 @@
-//! Values that lie apart, of which contracts see the value alone.
+//! Boxed values, which contracts see as the value.
 
 ghost use Rattle.std.specs.Prelude.{◌≡◌, IfOk};
 
@@ -7,7 +7,7 @@ use crate::same::Same;
 use std::alloc::{AllocError, Global};
 use std::marker::Model;
 
-/// A value that is moved without its bytes.
+/// A boxed value: moving it does not move its bytes.
 pub struct Boxed<T> {
     inner: Box<T>,
 }
@@ -35,7 +35,7 @@ impl<T> Boxed<T> {
 }
 
 impl<T: Drop> Boxed<T> {
-    /// Puts a value into memory of its own. Where the allocation fails, the value is dropped.
+    /// Boxes a value. If the allocation fails, the value is dropped.
     pub fn new(alloc: Global, value: T) -> Result<Boxed<T>, AllocError>
         ensures { IfOk result (λ boxed. boxed ≡ value) }
     {

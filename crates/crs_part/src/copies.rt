@@ -5,7 +5,7 @@ ghost use Rattle.std.specs.Prelude.{◌≡◌, IfOk};
 use crs_number::Decimal;
 use std::alloc::{AllocError, Global};
 
-/// A value that may be copied where memory is found.
+/// A value that can be copied, if there is memory.
 pub trait TryClone {
     fn try_clone(&self, alloc: Global) -> Result<Self, AllocError>
         ensures { IfOk result (λ copy. copy ≡ self.now) };
@@ -26,8 +26,8 @@ impl TryClone for Decimal {
     }
 }
 
-// Copies of several values at once. Who copies a struct so holds no other copy while one may be refused: of what is held there
-// the prover goes through each form.
+// Copies several values at once. So no finished copy is held while another may fail, which would make the prover go through
+// its variants.
 
 pub(crate) fn two<A: TryClone + Drop, B: TryClone + Drop>(
     alloc: Global,

@@ -37,7 +37,7 @@ pub struct Datum {
     pub ids: Many<Ident>,
 }
 
-/// Geodetic datums that are alike but for the accuracy.
+/// Geodetic datums that differ only within the accuracy.
 #[derive(Drop)]
 pub struct GeodeticEnsemble {
     pub name: Text,
@@ -62,7 +62,7 @@ pub struct VerticalDatum {
     pub ids: Many<Ident>,
 }
 
-/// Vertical datums that are alike but for the accuracy.
+/// Vertical datums that differ only within the accuracy.
 #[derive(Drop)]
 pub struct VerticalEnsemble {
     pub name: Text,

@@ -1,4 +1,4 @@
-//! Identifiers, and what has a name and identifiers alone.
+//! Identifiers, and nodes with only a name and identifiers.
 
 use crate::copies::{TryClone, five, two};
 use crate::many::Many;

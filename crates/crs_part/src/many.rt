@@ -1,4 +1,4 @@
-//! Lists, of which contracts see the items alone.
+//! Lists, which contracts see as their items.
 
 ghost use Rattle.std.specs.Prelude.{◌≡◌, ◌++◌, ◌∷◌, [], List, IfOk, OnOk, OnErr, IfErr};
 
@@ -20,7 +20,7 @@ impl<T> Model for Many<T> {
 }
 
 impl<T> Many<T> {
-    /// No items, and no memory.
+    /// No items, without allocating.
     pub fn new(alloc: Global) -> Many<T>
         ensures { result ≡ [] }
     {
@@ -43,14 +43,14 @@ impl<T> Many<T> {
         self.items.as_slice()
     }
 
-    /// Finds room for this many more items.
+    /// Reserves room for this many more items.
     pub fn reserve(&mut self, additional: usize) -> Result<(), AllocError>
         ensures { self.new ≡ self.old }
     {
         self.items.reserve(additional)
     }
 
-    /// Appends an item. Where the allocation fails, the item is given back.
+    /// Appends an item. If the allocation fails, the item is returned.
     pub fn push(&mut self, item: T) -> Result<(), AllocFailed<T>>
         ensures ok { OnOk result (self.new ≡ self.old ++ item ∷ []) }
         ensures err { OnErr result (self.new ≡ self.old) }

@@ -4,7 +4,7 @@ ghost use Rattle.std.specs.Prelude.{◌≡◌, true};
 
 use crs_number::Decimal;
 
-/// A value whose equality is that of what contracts see.
+/// A value with equality, as contracts see it.
 pub trait Same {
     fn same(&self, other: &Self) -> bool
         ensures yes { result ≡ true → self.now ≡ other.now }

@@ -46,7 +46,7 @@ impl Single {
         }
     }
 
-    /// The unit of the axes that have none of their own.
+    /// The common unit, for axes without their own.
     pub fn common_unit(&self) -> &Option<Unit>
         ensures { result.now ≡ common_unit_of self.now }
     {

@@ -1,4 +1,4 @@
-//! What a reference system is used for, and where.
+//! The usages of a reference system.
 
 use crate::copies::{TryClone, three};
 use crate::same::Same;
@@ -7,7 +7,7 @@ use crate::units::LengthUnit;
 use crs_number::Decimal;
 use std::alloc::{AllocError, Global};
 
-/// The least area between two parallels and two meridians.
+/// The bounding box: two parallels and two meridians.
 #[derive(Clone, Copy, Debug, PartialEq, Eq)]
 pub struct BoundingBox {
     pub south: Decimal,
@@ -24,7 +24,7 @@ pub struct VerticalExtent {
     pub unit: Option<LengthUnit>,
 }
 
-/// A scope, and the extent that it holds for.
+/// A scope, and its extent.
 #[derive(Drop)]
 pub struct Usage {
     pub scope: Text,

@@ -17,7 +17,7 @@ pub trait Word: Copy {
         ensures { result.now ≡ spelled self };
 }
 
-/// Whether two words are the same but for letter case.
+/// Whether two words are the same apart from letter case.
 #[inline(always)]
 pub fn same_word(a: &[u8], b: &[u8]) -> bool
     ensures { result ≡ same_word a.now b.now }

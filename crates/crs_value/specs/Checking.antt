@@ -41,7 +41,7 @@ holds_of_compound crs C6 = may_be_first crs.first && may_be_second crs.second
 holds_of_compound crs C7 = has_own_sizes crs
 holds_of_compound crs _ = true
 
--- the condition holds of what it is about; where there are no components, every condition holds of them
+-- the condition holds for what it is about; without components, every condition holds for them
 abbrev pub holds_in : CrsParts → Whose → Condition → Bool
 holds_in (parts.Single crs) Whole condition = holds crs condition
 holds_in (parts.Single crs) _ condition = true

@@ -63,7 +63,7 @@ may_have_system (Geodetic crs) = may_be_of crs.kind crs.system.kind crs.system.d
 may_have_system (Projected crs) = may_be_projected crs.system.kind crs.system.dimension
 may_have_system (Vertical crs) = may_be_vertical crs.system.kind crs.system.dimension
 
--- C3: where an axis has no unit, there is a common unit
+-- C3: if an axis has no unit, there is a common unit
 abbrev pub has_units : List Axis → Option Unit → Bool
 has_units axes common = list_all (λ axis. is_some axis.unit || is_some common) axes
 
@@ -71,7 +71,7 @@ abbrev pub is_order : ℕ → Option Order → Bool
 is_order k None = false
 is_order k (Some order) = order.position == k + 1
 
--- C4: no axis has an order, or each axis has its own number from 1
+-- C4: no axis has an order, or the k-th axis has the order k, from 1
 abbrev pub has_orders : List Axis → Bool
 has_orders axes =
     list_all (λ axis. is_none axis.order) axes
@@ -161,6 +161,6 @@ is_north_or_south North = true
 is_north_or_south South = true
 is_north_or_south direction = false
 
--- C8: a meridian stands only after north or south
+-- C8: only the directions north and south have a meridian
 abbrev pub has_meridians : List Axis → Bool
 has_meridians axes = list_all (λ axis. is_none axis.meridian || is_north_or_south axis.direction) axes

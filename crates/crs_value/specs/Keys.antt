@@ -16,7 +16,7 @@ pub record IsKeyOf (id : Ident) (key : Key) : Type 0 where
   pub authority : key.authority.bytes ≡ id.authority.bytes
   pub code : key.code.bytes ≡ text_of id.code
 
--- the key of the first identifier, and none where there is no identifier
+-- the key of the first identifier, or none without an identifier
 abbrev pub IsFirstKey : List Ident → Option Key → Type 0
 IsFirstKey [] key = key ≡ None
 IsFirstKey (id ∷ others) key = IsSomeAnd key (IsKeyOf id)

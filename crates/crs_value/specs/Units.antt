@@ -1,4 +1,4 @@
--- The units that stand anywhere in a coordinate reference system. Identifiers have none, nor have geoid models.
+-- All units in a coordinate reference system. Identifiers and geoid models have none.
 use Rattle.std.specs.Prelude.{List, [], ◌∷◌, ◌++◌}
 use Rattle.std.specs.Option.{option_map_or}
 use Rattle.std.specs.List.{flat_map}

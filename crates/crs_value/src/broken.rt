@@ -1,4 +1,4 @@
-//! The conditions, and of which system one fails.
+//! The conditions, and the system that breaks one.
 
 ghost use Rattle.std.specs.Prelude.{◌≡◌};
 
@@ -29,7 +29,7 @@ pub enum Condition {
     C6,
     /// The ellipsoid has a size, and every conversion factor is above 0.
     C7,
-    /// A meridian stands only after north or south.
+    /// Only the directions north and south have a meridian.
     C8,
 }
 

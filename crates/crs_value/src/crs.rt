@@ -9,13 +9,13 @@ use crate::checking::first_broken;
 use crs_part::{CrsParts, Same, Text, TryClone};
 use std::alloc::{AllocError, Global};
 
-/// A coordinate reference system: parts of which all conditions hold.
+/// A coordinate reference system: parts that meet all conditions.
 pub struct Crs {
     parts: CrsParts,
     pub ghost conditions: { HasConditions parts },
 }
 
-// By hand, as the prover else goes through all forms of the parts wherever a reference system is dropped.
+// By hand: otherwise the prover goes through all variants of the parts wherever a reference system is dropped.
 impl Drop for Crs {
     fn drop(self) {
         let Crs { parts } = self;
@@ -44,21 +44,21 @@ impl Crs {
         }
     }
 
-    /// The parts, of which all conditions hold.
+    /// The parts, which meet all conditions.
     pub fn parts(&self) -> &CrsParts
         ensures { result.now ≡ self.now.parts }
     {
         &self.parts
     }
 
-    /// The name of the reference system, of a compound that of the whole.
+    /// The name of the reference system; for a compound, that of the whole.
     pub fn name(&self) -> &Text
         ensures { result.now ≡ name_of self.now.parts }
     {
         self.parts.name()
     }
 
-    /// A copy in memory of its own.
+    /// A copy with its own memory.
     pub fn try_clone(&self, alloc: Global) -> Result<Crs, AllocError>
         ensures { IfOk result (λ copy. copy ≡ self.now) }
     {

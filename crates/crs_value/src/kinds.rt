@@ -1,4 +1,4 @@
-//! The conditions on kinds of systems and of units, which ask nothing else of a value.
+//! The parts of conditions that are about kinds of systems and units.
 
 ghost use Rattle.std.specs.Prelude.{◌≡◌};
 ghost use Rattle.crs_value.specs.Conditions.{is_two_or_three, may_be_geographic, may_be_geodetic, may_be_of, may_be_projected, may_be_vertical, is_ellipsoidal_plane, is_cartesian_plane, takes_length, takes_angle, takes_unit, is_north_or_south};
@@ -80,7 +80,7 @@ pub fn is_cartesian_plane(system: SystemKind, dimension: u32) -> bool
     }
 }
 
-/// What a unit measures, where its keyword says so.
+/// What a unit measures, if its keyword says so.
 #[derive(Clone, Copy, Debug, PartialEq, Eq)]
 pub enum UnitKind {
     Length,

@@ -1,4 +1,4 @@
-//! Which coordinate system a reference system may have, and which components a compound.
+//! The coordinate systems of reference systems, and the components of compounds.
 
 ghost use Rattle.std.specs.Prelude.{◌≡◌};
 ghost use Rattle.crs_value.specs.Conditions.{may_have_system, may_be_first, may_be_second};

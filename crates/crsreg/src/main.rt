@@ -1,15 +1,15 @@
-//! The program: what it does stands in `reg_cli`.
+//! The program: `reg_cli` does the work.
 #![tactic(auto)]
 
 use std::fs;
 use std::process::ExitCode;
 
-// The folder that every system has: it opens, and reads and writes of it fail.
+// The folder that every system has: it can be opened, but not read or written.
 const FOLDER: &str = "/";
 
 fn main(rt: HostRuntime) -> ExitCode {
-    // The next file that is opened takes the number of a stream that is closed, and what is printed would go into
-    // that file. So a folder takes it first, and the stream fails.
+    // The next file that is opened gets the descriptor of a closed stream, and printed text would go into it. So a
+    // folder takes that descriptor first, and the stream fails.
     let _taken = [
         fs::open(&rt, FOLDER),
         fs::open(&rt, FOLDER),

@@ -1,4 +1,4 @@
-//! From the words of the command line to an engine, and from its answer to the exit status.
+//! From the command line to an engine, and from its result to the exit status.
 use crate::change::{enter, import, retire, settle, supersede};
 use crate::exchange::{downgrade, merge, new, piece, seen, shelf, unshelf};
 use crate::look::{check, diff, export, find, offices, ops, report, show, status as figures, wkt};
@@ -17,10 +17,10 @@ const NO_COMMAND: &str = "error: there is no such command";
 /// The environment variable with the UUID of the office.
 const OFFICE: &str = "CRSREG_AS";
 
-/// What no UUID is: the office of an environment that names one in no text.
+/// Not a UUID: the office of an environment variable that is not text.
 const NO_UUID: &str = "?";
 
-/// Runs the command that the process was started with. The answer is the exit status.
+/// Runs the command of the process, and returns the exit status.
 pub fn run(rt: &HostRuntime) -> u8 {
     let args = match env::args(rt) {
         Ok(args) => args,
@@ -35,7 +35,7 @@ pub fn run(rt: &HostRuntime) -> u8 {
     }
 }
 
-/// Runs the command of these words, of which the first is the program's name. The answer is the exit status.
+/// Runs the command of these arguments, the first of which is the program's name, and returns the exit status.
 pub fn answer(rt: &HostRuntime, words: &[String]) -> u8 {
     match env::var(rt, OFFICE) {
         Ok(office) => answer_as(rt, words, named(office.as_str())),
@@ -45,7 +45,7 @@ pub fn answer(rt: &HostRuntime, words: &[String]) -> u8 {
     }
 }
 
-// A variable that is set to nothing is not set.
+// An empty variable counts as unset.
 fn named(office: &str) -> Option<&str> {
     if office.is_empty() {
         None
@@ -73,7 +73,7 @@ fn answer_as(rt: &HostRuntime, words: &[String], office: Option<&str>) -> u8 {
     }
 }
 
-// What the command did. clap lets no word through that is no command.
+// Runs the command. clap rejects unknown commands.
 fn perform(rt: &HostRuntime, matches: &ArgMatches<'_>) -> Option<Outcome> {
     let (name, inner) = matches.subcommand()?;
     let outcome = match name {

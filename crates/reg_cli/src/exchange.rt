@@ -1,4 +1,4 @@
-//! Commands that make registers, and by which offices exchange what they have.
+//! Commands that make and exchange registers.
 use crate::stores::{give_of, next_file, open_register};
 use crate::words::{open, open_all, open_shelf, open_to_read, place, word};
 use clap::ArgMatches;
@@ -50,7 +50,7 @@ pub fn downgrade(rt: &HostRuntime, matches: &ArgMatches<'_>) -> Result<(), CliFa
     give_of(rt, matches, &mut register, &mut FirstVersion)
 }
 
-/// `shelf`. A size that is no number is one that no shelf has.
+/// `shelf`. A size that is not a number is refused like a size out of range.
 pub fn shelf(rt: &HostRuntime, matches: &ArgMatches<'_>) -> Result<(), CliFault> {
     let Ok(size) = word(matches, "SIZE").parse::<u32>() else {
         return Err(CliFault::Refused(Refusal::BadSize));

@@ -1,4 +1,4 @@
-//! The command line of `crsreg`: its words, the files and streams that they name, the engine of each command.
+//! The command line of `crsreg`: it opens files and streams, and calls the engine of each command.
 #![tactic(auto)]
 
 mod change;

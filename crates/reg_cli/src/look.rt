@@ -79,7 +79,7 @@ fn query<'a>(matches: &ArgMatches<'a>) -> Query<'a> {
     }
 }
 
-// The status that a word names. clap lets no other word through.
+// The status of the argument. clap rejects other words.
 fn wanted(word: &str) -> Option<Wanted> {
     match word {
         "valid" => Some(Wanted::Valid),

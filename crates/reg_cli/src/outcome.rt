@@ -1,8 +1,8 @@
-//! How a command ended: what is told of it, and the exit status.
+//! How a command ended: its messages and its exit status.
 use reg_desk::{CliFault, Explained, OutFault, Unimported, Writing, write_all};
 use std::{fmt, io, str};
 
-/// The exit status where the command line is wrong.
+/// The exit status for a wrong command line.
 pub const MISUSE: u8 = 2;
 
 const DIFFERS: u8 = 1;
@@ -11,19 +11,19 @@ const DIFFERS: u8 = 1;
 #[derive(Drop)]
 pub enum Outcome {
     Done,
-    /// It did its work, and was to tell by its status that two things differ.
+    /// Done, and `--exit-code` found a difference.
     Differs,
     Fault(CliFault),
-    /// More is said of the text that is refused.
+    /// Failed, with an explanation of the refused text.
     Explained(Explained),
     /// Texts were not imported, or not all of them.
     Import(Unimported),
-    /// The command line is wrong, for a reason that clap does not see.
+    /// The command line is wrong, for a reason that clap does not check.
     Misuse(&'static str),
 }
 
 impl Outcome {
-    /// How a command ended that is done or has a fault.
+    /// The outcome of a command that is done or has a fault.
     pub fn of(answer: Result<(), CliFault>) -> Outcome {
         match answer {
             Ok(()) => Outcome::Done,
@@ -31,7 +31,7 @@ impl Outcome {
         }
     }
 
-    /// How a command ended that says more of a text.
+    /// The outcome of a command with an explanation.
     pub fn of_explained(answer: Result<(), Explained>) -> Outcome {
         match answer {
             Ok(()) => Outcome::Done,
@@ -39,7 +39,7 @@ impl Outcome {
         }
     }
 
-    /// How an import ended.
+    /// The outcome of an import.
     pub fn of_import(answer: Result<(), Unimported>) -> Outcome {
         match answer {
             Ok(()) => Outcome::Done,
@@ -48,7 +48,7 @@ impl Outcome {
     }
 }
 
-/// Tells how a command ended, and answers its exit status.
+/// Reports how a command ended, and returns its exit status.
 pub fn status(rt: &HostRuntime, outcome: Outcome) -> u8 {
     match outcome {
         Outcome::Done => 0,
@@ -68,25 +68,25 @@ pub fn status(rt: &HostRuntime, outcome: Outcome) -> u8 {
     }
 }
 
-/// More on standard error, below the line of a fault. What is said of a text is UTF-8.
+/// Prints an explanation to standard error, below the line of the fault. It is UTF-8.
 pub fn add(rt: &HostRuntime, note: &[u8]) {
     if let Ok(note) = str::from_utf8(note) {
         let _ = eprint!(rt; "{note}");
     }
 }
 
-/// Tells the fault, and answers its exit status.
+/// Reports the fault, and returns its exit status.
 pub fn failed(rt: &HostRuntime, fault: &CliFault) -> u8 {
     complain(rt, fault, fault.status())
 }
 
-/// A line on standard error; where that fails too, the status is all there is.
+/// Prints a line to standard error; if that fails too, only the status remains.
 pub fn complain<D: fmt::Display>(rt: &HostRuntime, line: &D, status: u8) -> u8 {
     let _ = eprintln!(rt; "{line}");
     status
 }
 
-/// Prints what is made in memory first, so that what went out can be counted.
+/// Prints a text that is made in memory first, so that the bytes written can be counted.
 pub fn print<D: fmt::Display>(rt: &HostRuntime, text: &D) -> Result<(), CliFault> {
     let Ok(text) = format!(in rt.alloc(); "{text}") else {
         return Err(CliFault::Memory);

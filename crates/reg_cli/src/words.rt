@@ -1,4 +1,4 @@
-//! What the words of a command name: replicas, entries, files.
+//! The arguments of a command: replicas, entries, files.
 use clap::ArgMatches;
 use reg_desk::{
     CliFault, Differs, FileDisk, FilePlace, Form, InputFault, OpId, Reading, Refusal, ReportKind,
@@ -15,12 +15,12 @@ pub const STANDARD_INPUT: &str = "-";
 
 const STANDARD_INPUT_PATH: &str = "/dev/stdin";
 
-/// A word, or nothing where it is left out, as a note may be.
+/// An argument, or the empty text if it is absent, such as a note.
 pub fn word<'a>(matches: &ArgMatches<'a>, name: &str) -> &'a str {
     matches.get_str(name).unwrap_or("")
 }
 
-/// How a text is laid out that the words ask for.
+/// The requested layout of a text.
 pub fn form(matches: &ArgMatches<'_>) -> Form {
     if matches.get_flag("pretty") {
         Form::Indented
@@ -29,7 +29,7 @@ pub fn form(matches: &ArgMatches<'_>) -> Form {
     }
 }
 
-/// The report that a word names.
+/// The report of the argument.
 pub fn kind(word: &str) -> Option<ReportKind> {
     match word {
         "entries" => Some(ReportKind::Entries),
@@ -49,17 +49,17 @@ pub fn differs(word: &str) -> Differs {
     }
 }
 
-/// The replica that a word names.
+/// The replica of the argument.
 pub fn replica(word: &str) -> Result<Uuid, CliFault> {
     Uuid::parse_str(word).map_err(|_| CliFault::Refused(Refusal::BadReplica))
 }
 
-/// The entry that a word names.
+/// The entry of the argument.
 pub fn entry(word: &str) -> Result<OpId, CliFault> {
     OpId::parse(word.as_bytes()).ok_or(CliFault::Refused(Refusal::BadId))
 }
 
-/// The entries that words name.
+/// The entries of the arguments.
 pub fn entries(alloc: Global, matches: &ArgMatches<'_>, name: &str) -> Result<Vec<OpId>, CliFault> {
     let mut entries = Vec::new(alloc);
     let Some(words) = matches.get_strs(name) else {
@@ -73,7 +73,7 @@ pub fn entries(alloc: Global, matches: &ArgMatches<'_>, name: &str) -> Result<Ve
     Ok(entries)
 }
 
-/// Opens the file of this number.
+/// Opens the file with this number.
 pub fn open<R: Files>(rt: &R, number: usize, path: &str) -> Result<Reading<R::File>, CliFault> {
     match fs::open(rt, path) {
         Ok(file) => Ok(Reading::new(file)),
@@ -84,7 +84,7 @@ pub fn open<R: Files>(rt: &R, number: usize, path: &str) -> Result<Reading<R::Fi
     }
 }
 
-/// Opens all files, in their order, before the first is read. The first has this number.
+/// Opens all files, in order, before the first is read. The first has this number.
 pub fn open_all<R: Files>(
     rt: &R,
     alloc: Global,
@@ -137,7 +137,7 @@ pub fn is_twice(paths: &[&str]) -> bool {
     false
 }
 
-/// Opens a shelf that is changed.
+/// Opens a shelf for reading and writing.
 pub fn open_shelf<R: Files>(rt: &R, path: &str) -> Result<FileDisk<R::File>, CliFault> {
     match OpenOptions::new().read(true).write(true).open(rt, path) {
         Ok(file) => Ok(FileDisk::new(file)),
@@ -145,7 +145,7 @@ pub fn open_shelf<R: Files>(rt: &R, path: &str) -> Result<FileDisk<R::File>, Cli
     }
 }
 
-/// Opens a shelf that is read, which need not be one that may be written.
+/// Opens a shelf for reading.
 pub fn open_to_read<R: Files>(rt: &R, path: &str) -> Result<FileDisk<R::File>, CliFault> {
     match OpenOptions::new().read(true).open(rt, path) {
         Ok(file) => Ok(FileDisk::new(file)),
@@ -153,7 +153,7 @@ pub fn open_to_read<R: Files>(rt: &R, path: &str) -> Result<FileDisk<R::File>, C
     }
 }
 
-/// The place of a file that is written. Nothing is opened yet.
+/// The place of an output file, which is not open yet.
 pub fn place<'a, R: Files>(
     rt: &'a R,
     alloc: Global,

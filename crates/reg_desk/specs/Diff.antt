@@ -1,4 +1,4 @@
--- Comparisons of registers: what came in, and what went out.
+-- Comparisons of registers: what was read, and what was written.
 use Rattle.std.specs.Prelude.{◌≡◌, ◌⊎◌, ◌↔◌, ◌∷◌, [], Bool, true, false, IsTrue, List, ℕ}
 use Rattle.byte_io.specs.Device.{SourceState, SinkState}
 use Rattle.byte_io.specs.Whole.{IsCutAt}
@@ -39,7 +39,7 @@ abbrev pub IsCutOut : (List ℕ → Type 0) → SinkState → SinkState → OutF
 IsCutOut Is before after (out.WriteFailed n) = (text : List ℕ) × Is text × IsCutAt n text before after
 IsCutOut Is before after f = ⊥
 
--- why not all of such a text went out
+-- why such a text was not completely written
 abbrev pub IsUntold : (List ℕ → Type 0) → SinkState → SinkState → CliFault → Type 0
 IsUntold Is before after (cli.Refused r) = ⊥
 IsUntold Is before after (cli.File k f) = ⊥

@@ -1,4 +1,4 @@
--- What is said of a text beside the fault of a command that read it.
+-- Explanations of the faults of a command that read a text.
 use Rattle.std.specs.Prelude.{ℕ, List, [], length, Option, Some, None}
 use Rattle.wkt_crs.specs.declared.fault.Unspelled.TheVariants as refused
 use Rattle.wkt_crs.specs.declared.definition.DefinitionFault.{DefinitionFault}
@@ -9,7 +9,7 @@ use Rattle.reg_engine.specs.declared.fault.Refusal.TheVariants as refusal
 use Rattle.reg_engine.specs.declared.fault.CliFault.{CliFault}
 use Rattle.reg_engine.specs.declared.fault.CliFault.TheVariants as cli
 
--- what is wrong with the text, where that is why it is refused
+-- the fault of the text, if that is the reason of the refusal
 abbrev pub text_problem : Refusal → Option DefinitionFault
 text_problem (refusal.Text f) = Some (undefined.Read (refused.Text f))
 text_problem (refusal.Slot f) = Some (undefined.Read (refused.Slot f))

@@ -9,7 +9,7 @@ use Rattle.reg_engine.specs.Outputs.{id_lines}
 use Rattle.reg_query.specs.declared.find.query.Query.{Query}
 use Rattle.reg_query.specs.Found.{AreFoundIds}
 
--- the ids of the entries that have all that is asked, of which there are some, a line each
+-- the ids of the entries that match, at least one, one a line
 abbrev pub AreFoundLines : Query → Content → List ℕ → Type 0
 AreFoundLines q x text = (ids : List Id) × AreFoundIds q x ids × (ids ≢ []) × (text ≡ id_lines ids)
 

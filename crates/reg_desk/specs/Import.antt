@@ -1,4 +1,4 @@
--- What an import makes of files of texts, before anything goes out, and why it makes nothing.
+-- The result of an import, before anything is written, or why there is none.
 use Rattle.std.specs.Prelude.{◌≡◌, ◌⊎◌, ◌+◌, ℕ, List, [], map, slice_get, Option, Some, None, option_map, if◌then◌else◌}
 use Rattle.std.specs.Option.{unwrap_or}
 use Rattle.std.specs.String.{string_bytes}
@@ -31,13 +31,13 @@ use Rattle.reg_desk.specs.ImportNotes.{note_of, notes_of}
 abbrev pub names_of : Order → List (List ℕ)
 names_of o = map string_bytes o.names.now
 
--- ---- answers
+-- ---- faults
 
 abbrev pub exit_status : ImportFault → ℕ
 exit_status (import.Cli f) = status_of f
 exit_status (import.Refused p place file) = 1
 
--- a fault of the command line, of which no more is said
+-- a fault without explanation
 abbrev pub IsPlainFault : (CliFault → Type 0) → ImportFault → List ℕ → Type 0
 IsPlainFault Is (import.Cli f) notes = Is f × (notes ≡ [])
 IsPlainFault Is (import.Refused p place file) notes = ⊥
@@ -45,8 +45,8 @@ IsPlainFault Is (import.Refused p place file) notes = ⊥
 abbrev pub IsPlain : (CliFault → Type 0) → Unimported → Type 0
 IsPlain Is u = IsPlainFault Is u.fault u.notes.items
 
--- the text at this place of all is refused for this reason: its place in its file, and the number of that, where the first
--- of the files has this one
+-- the text at this index is refused for this reason, with its place in its file and the file's number, given the number of
+-- the first file
 abbrev pub IsAgainst : ℕ → List FileText → ℕ → Problem → ImportFault → Type 0
 IsAgainst first texts at p (import.Cli f) = ⊥
 IsAgainst first texts at p (import.Refused q place file) = (text : FileText) × (slice_get texts at ≡ Some text) × (q ≡ p) × (place ≡ text.at) × (file ≡ first + text.file)
@@ -54,18 +54,18 @@ IsAgainst first texts at p (import.Refused q place file) = (text : FileText) × 
 abbrev pub if_explained : Order → List ℕ → List ℕ
 if_explained o note = if o.explain then note else []
 
--- what is said of the text at this place, which is refused for this reason
+-- the explanation of the text at this index, which is refused for this reason
 abbrev pub note_at : Order → List (List ℕ) → List TextAt → ℕ → Problem → List ℕ
 note_at o files cuts at p = unwrap_or (option_map (λ c. note_of (names_of o) files c (told.Refused p)) (slice_get cuts at)) []
 
 abbrev pub all_notes : Order → List (List ℕ) → List TextAt → List Told → List ℕ
 all_notes o files cuts ts = notes_of (names_of o) files cuts ts
 
--- the answer is that this text is refused, and what is said of it
+-- the fault is that this text is refused, with its explanation
 abbrev pub IsRefusedAt : Order → ℕ → List (List ℕ) → List TextAt → List FileText → ℕ → Problem → Unimported → Type 0
 IsRefusedAt o first files cuts texts at p u = IsAgainst first texts at p u.fault × (u.notes.items ≡ if_explained o (note_at o files cuts at p))
 
--- the answer is that the first refused text is, and what is said of all that are; where none is, there is no such answer
+-- the fault is that of the first refused text, with the explanations of all; without a refused text there is no fault
 abbrev pub IsPassed : Order → ℕ → List (List ℕ) → List TextAt → List FileText → List Told → Option Unimported → Type 0
 IsPassed o first files cuts texts ts None = NoneRefused ts
 IsPassed o first files cuts texts ts (Some u) = (at : ℕ) × (p : Problem) × IsFirstRefused ts at p × IsAgainst first texts at p u.fault
@@ -73,12 +73,11 @@ IsPassed o first files cuts texts ts (Some u) = (at : ℕ) × (p : Problem) × I
 
 -- ---- texts that were read
 
--- the lines are a header and a line for each text, with what came of it
+-- the lines are a header and a line for each text, with its action
 abbrev pub AreLines : Order → List FileText → List Told → List ℕ → Type 0
 AreLines o texts ts lines = IsSheet import_header (IsImportLine (names_of o)) (lines_of texts ts) lines
 
--- the texts are imported into the content, which gives the second one and these lines; and this is to be answered of those
--- that were passed over
+-- importing the texts into the content gives the second one and these lines, and this fault of those that were passed over
 abbrev pub MakesOf : Order → ℕ → Content → List (List ℕ) → List TextAt → List FileText → Content → List ℕ → Option Unimported → Type 0
 MakesOf o first x files cuts texts y lines passed = (ts : List Told) × Imports x o.replica o.note.now o.differs o.keep_going (readings texts) y ts
     × AreLines o texts ts lines × IsPassed o first files cuts texts ts passed
@@ -87,7 +86,7 @@ MakesOf o first x files cuts texts y lines passed = (ts : List Told) × Imports 
 abbrev pub Refuses : Order → Content → List FileText → ImportRefusal → Type 0
 Refuses o x texts r = IsImportRefusal x o.replica o.note.now o.differs o.keep_going (readings texts) r
 
--- what is answered where this is why
+-- the fault for this reason
 abbrev pub IsRefusedBy : Order → ℕ → List (List ℕ) → List TextAt → List FileText → ImportRefusal → Unimported → Type 0
 IsRefusedBy o first files cuts texts refused.NoteTooLong u = IsPlain (λ f. f ≡ cli.Refused (refusal.Office office.NoteTooLong)) u
 IsRefusedBy o first files cuts texts (refused.Refused at p) u = IsRefusedAt o first files cuts texts at p u ⊎ IsPlain (λ f. f ≡ cli.Memory) u
@@ -110,7 +109,7 @@ IsUnmade o first x files u = IsPlain (λ f. f ≡ cli.Memory) u
 
 -- ---- files
 
--- the files gave bytes, of which this is made
+-- the files gave bytes, and this is the result
 abbrev pub IsReady : Order → ℕ → Content → List SourceState → List SourceState → Content → List ℕ → Option Unimported → Type 0
 IsReady o first x old new y lines passed = (files : List (List ℕ)) × GiveAll old new files × Makes o first x files y lines passed
 

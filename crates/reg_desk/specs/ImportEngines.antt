@@ -1,4 +1,4 @@
--- The engines of an import: what came in, and what went out.
+-- The engines of an import: what was read, and what was written.
 use Rattle.std.specs.Prelude.{◌≡◌, ◌⊎◌, ℕ, List, Option, Some, None}
 use Rattle.byte_io.specs.Device.{SourceState, SinkState}
 use Rattle.byte_io.specs.Whole.{WritesAll}
@@ -9,11 +9,11 @@ use Rattle.reg_desk.specs.declared.import.order.Order.{Order}
 use Rattle.reg_desk.specs.declared.import.fault.Unimported.{Unimported}
 use Rattle.reg_desk.specs.Import.{IsPlain, IsReady, IsUnready}
 
--- all lines went out, and there is nothing to answer
+-- all lines were written, and there is no fault
 abbrev pub IsTold : List ℕ → Option Unimported → SinkState → SinkState → Type 0
 IsTold lines passed before after = (passed ≡ None) × WritesAll lines before after
 
--- or there is; or not all went out
+-- or there is; or not all were written
 abbrev pub IsUntold : List ℕ → Option Unimported → SinkState → SinkState → Unimported → Type 0
 IsUntold lines passed before after u = ((passed ≡ Some u) × WritesAll lines before after) ⊎ IsPlain (AreCut lines before after) u
 
@@ -22,9 +22,9 @@ IsUntold lines passed before after u = ((passed ≡ Some u) × WritesAll lines b
 pub record Way : Type 1 where
   -- this register came in, and nothing went out
   pub came : Content → Type 0
-  -- none did, for this reason, and nothing went out
+  -- none was, for this reason, and nothing was written
   pub none : CliFault → Type 0
-  -- of the first content the second one was made, and it went out, and then these lines
+  -- the second content was made from the first, and was written, and then these lines
   pub gave : Content → Content → List ℕ → Type 0
   -- not all of that, for this reason
   pub failed : Content → Content → List ℕ → CliFault → Type 0
@@ -49,16 +49,16 @@ only_read a before after = record {
 
 -- ---- what an import did
 
--- a register and texts came in; the texts were imported, none was passed over, and what was made went out
+-- a register and texts were read; the texts were imported, none was passed over, and the result was written
 abbrev pub IsImported : Way → Order → ℕ → List SourceState → List SourceState → Type 0
 IsImported w o next old new = (x : Content) × (y : Content) × (lines : List ℕ) × IsReady o next x old new y lines None × w.gave x y lines
 
--- what is answered where something was made: all went out, and it is what is to be answered of texts that were passed over;
--- or not all went out
+-- the fault after an import: everything was written, and it is that of the texts that were passed over; or not everything
+-- was written
 abbrev pub IsAnswer : Way → Content → Content → List ℕ → Option Unimported → Unimported → Type 0
 IsAnswer w x y lines passed u = ((passed ≡ Some u) × w.gave x y lines) ⊎ IsPlain (w.failed x y lines) u
 
--- no register came in, and the files of texts were not read; or one did, and nothing was made of it, or this is the answer then
+-- no register was read, and no file of texts was; or one was, and there is no result, or this is the fault afterwards
 abbrev pub IsUnimported : Way → Order → ℕ → List SourceState → List SourceState → Unimported → Type 0
 IsUnimported w o next old new u = (IsPlain w.none u × (new ≡ old))
     ⊎ (((x : Content) × w.came x × IsUnready o next x old new u)

@@ -10,7 +10,7 @@ use Rattle.reg_engine.specs.declared.fault.CliFault.{CliFault}
 use Rattle.reg_engine.specs.declared.fault.CliFault.TheVariants as cli
 use Rattle.reg_engine.specs.Inputs.{NeverFails, NoneFails}
 
--- the source gave all its bytes, no more than a file may have
+-- the source gave all its bytes, within the limit of a file
 abbrev pub Gives : SourceState → SourceState → List ℕ → Type 0
 Gives old new bytes = ReadsBytes old new bytes × (length bytes ≤ most)
 
@@ -21,7 +21,7 @@ IsFileFault (file.ReadFailed n) old new = FailsAfter n (most + 1) old new
 IsFileFault file.TooLarge old new = (bytes : List ℕ) × ReadsBytes old new bytes × (most < length bytes)
 IsFileFault (file.BadFile f place) old new = ⊥
 
--- what was done to the file of this number, of which no bytes are had
+-- why the file with this number was not read
 abbrev pub IsUnread : ℕ → SourceState → SourceState → CliFault → Type 0
 IsUnread number old new (cli.Refused r) = ⊥
 IsUnread number old new (cli.File k f) = (k ≡ number) × IsFileFault f old new

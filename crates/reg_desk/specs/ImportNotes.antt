@@ -1,4 +1,4 @@
--- What is said of refused texts, below the line of the fault.
+-- Explanations of refused texts, below the line of the fault.
 use Rattle.std.specs.Prelude.{◌+◌, ◌++◌, ℕ, List, [], ◌∷◌, length, slice_get}
 use Rattle.std.specs.Option.{unwrap_or}
 use Rattle.wkt_explain.specs.Explains.{explanation}

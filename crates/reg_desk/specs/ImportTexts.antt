@@ -1,4 +1,4 @@
--- The texts of files: where each stands, and what it is read as.
+-- The texts of files: their places and readings.
 use Rattle.std.specs.Prelude.{◌≡◌, ◌+◌, ◌++◌, ℕ, List, [], ◌∷◌, map}
 use Rattle.wkt_tree.specs.Tree.{Piece}
 use Rattle.wkt_texts.specs.Texts.{IsCutInto}
@@ -18,13 +18,13 @@ text_at c = record { file = c.file; place = c.place; bytes = c.bytes.now }
 abbrev pub in_file : ℕ → Piece → TextAt
 in_file file p = record { file = file; place = p.place; bytes = p.bytes }
 
--- files of these bytes, from this number on, are cut into these texts, in their order
+-- files with these bytes, numbered from this one, are split into these texts, in order
 abbrev pub AreCuts : ℕ → List (List ℕ) → List TextAt → Type 0
 AreCuts file [] cuts = cuts ≡ []
 AreCuts file (bytes ∷ others) cuts = (these : List Piece) × (rest : List TextAt) × IsCutInto bytes these × AreCuts (file + 1) others rest
     × (cuts ≡ map (in_file file) these ++ rest)
 
--- each is read as it should
+-- each has its reading
 abbrev pub AreRead : List TextAt → List FileText → Type 0
 AreRead [] [] = Unit {0}
 AreRead [] (t ∷ ts) = ⊥

@@ -17,12 +17,12 @@ use Rattle.reg_desk.specs.declared.look.Look.TheVariants as look
 use Rattle.reg_desk.specs.declared.look.Opened.{Opened}
 use Rattle.reg_desk.specs.declared.look.Opened.TheVariants as opened
 
--- some bytes are no register's, and this is their first fault
+-- some bytes are not a register's file, and this is their first fault
 abbrev pub IsNoRegister : List ℕ → InputFault → Type 0
 IsNoRegister bytes (file.BadFile f place) = (length bytes ≤ most) × HasFault bytes f place
 IsNoRegister bytes f = ⊥
 
--- the look of a register that so many bytes hold
+-- the inspection of a register with this file size
 abbrev pub IsLookOf : Content → ℕ → Look → Type 0
 IsLookOf x n (look.Figures m figures) = (m ≡ n) × AreFigures x figures
 IsLookOf x n (look.NoRegister m f) = ⊥
@@ -44,7 +44,7 @@ IsLook old new (look.Unread (file.BadFile f place)) = ⊥
 IsLook old new (look.Unread f) = IsFileFault f old new
 IsLook old new (look.NoShelf p) = ⊥
 
--- the disk reads as a shelf of so many bytes, the file of a register with these figures, and stays as it was; or nothing was
+-- the disk reads as a shelf with a file of this size, of a register with these figures, and is unchanged; or nothing was
 -- restored, for this reason
 abbrev pub IsShelfLook : {D : Type 0} → Disks D → D → D → Look → Type 0
 IsShelfLook d old new (look.Figures n figures) = (x : Content) × (IsTrue (d.tells old) → (s : IsShelf (d.seen old) x) × (n ≡ length s.bytes)) × AreFigures x figures × StaysOn d old new
@@ -89,7 +89,7 @@ StaysAt Stays None (Some new) = ⊥
 StaysAt Stays (Some old) None = ⊥
 StaysAt Stays (Some old) (Some new) = Stays old new
 
--- what each has, in their order
+-- what each has, in order
 abbrev pub AreLooks : {T : Type 0} → (T → T → Look → Type 0) → List T → List T → List Look → Type 0
 AreLooks At [] [] [] = Unit {0}
 AreLooks At [] [] (l ∷ ls) = ⊥

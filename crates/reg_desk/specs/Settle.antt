@@ -1,4 +1,4 @@
--- Settling: what came in, and what went out.
+-- Settling: what was read, and what was written.
 use Rattle.std.specs.Prelude.{◌≡◌, ◌≤◌, ◌<◌, ◌⊎◌, ℕ, List, length}
 use Rattle.reg_op.specs.Ids.{Id}
 use Rattle.reg_op.specs.Contents.{Content}
@@ -15,7 +15,7 @@ use Rattle.reg_engine.specs.declared.fault.CliFault.{CliFault}
 use Rattle.reg_engine.specs.declared.fault.CliFault.TheVariants as cli
 use Rattle.reg_engine.specs.Change.{Makes, IsRefused}
 
--- the fault of a command that could not keep what it was told to keep
+-- the fault of an entry that cannot be kept
 abbrev pub settle_fault : SettleFault → CliFault
 settle_fault (settle.UnknownEntry id) = cli.Refused (refusal.Office (office.UnknownEntry id))
 settle_fault (settle.AlreadyRetired id) = cli.Refused (refusal.Office (office.AlreadyRetired id))

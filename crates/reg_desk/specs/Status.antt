@@ -1,4 +1,4 @@
--- The reports of offices and of files: what came in, and what went out.
+-- The reports of offices and of files: what was read, and what was written.
 use Rattle.std.specs.Prelude.{◌≡◌, ℕ, ◌+◌, nat_lt, Bool, true, false, ◌||◌, List, [], ◌∷◌, ◌++◌, All, length, codes, decimal, Option, Some, None}
 use Rattle.std.specs.List.{list_any}
 use Rattle.csv.specs.Writing.{row_text, default_writer}
@@ -36,12 +36,12 @@ figure_fields f = decimal f.operations ∷ decimal f.entries ∷ decimal f.valid
 abbrev pub no_figures : List (List ℕ)
 no_figures = [] ∷ [] ∷ [] ∷ [] ∷ [] ∷ [] ∷ [] ∷ [] ∷ []
 
--- fields were put behind those of a record
+-- fields were appended to those of a record
 pub record Adds (old new : ByteRecord) (fields : List (List ℕ)) : Type 0 where
   pub fields_are : fields_of new ≡ fields_of old ++ fields
   pub whole : partial_of new ≡ []
 
--- the name, the bytes where it was read whole, the fault's words where it has one, and the figures where it has none
+-- the name, the size if it was read completely, the words of its fault if it has one, and otherwise the figures
 abbrev pub IsStatusLine : List ℕ → Look → List (List ℕ) → Type 0
 IsStatusLine name (look.Figures n f) fields = fields ≡ name ∷ decimal n ∷ [] ∷ figure_fields f
 IsStatusLine name (look.NoRegister n f) fields = (words : List ℕ) × (fields ≡ name ∷ decimal n ∷ words ∷ no_figures)
@@ -59,7 +59,7 @@ AreStatusLines (n ∷ ns) (l ∷ ls) text = (fields : List (List ℕ)) × (rest 
 abbrev pub IsStatusText : List (List ℕ) → List Look → List ℕ → Type 0
 IsStatusText names looks text = (lines : List ℕ) × AreStatusLines names looks lines × (text ≡ row_text default_writer status_header ++ lines)
 
--- ---- what is answered
+-- ---- the result
 
 -- what is reported of the file of this number, or of a shelf
 abbrev pub fault_at : ℕ → Look → Option CliFault
@@ -90,11 +90,11 @@ is_unsettled (look.NoRegister n f) = false
 is_unsettled (look.Unread f) = false
 is_unsettled (look.NoShelf p) = false
 
--- where it is asked, none has
+-- if this is checked, none has
 abbrev pub IsSettled : Bool → List Look → Type 0
 IsSettled settled looks = settled ≡ true → list_any is_unsettled looks ≡ false
 
--- why a list of files is not answered by nothing
+-- the fault of a list of files
 abbrev pub IsVerdict : Bool → List Look → CliFault → Type 0
 IsVerdict settled looks (cli.File k f) = IsFirstBad looks (cli.File k f)
 IsVerdict settled looks (cli.Shelf p) = IsFirstBad looks (cli.Shelf p)
@@ -103,7 +103,7 @@ IsVerdict settled looks fault = ⊥
 
 -- ---- the command
 
--- there are such looks, and their lines went out
+-- there are such looks, and their lines were written
 abbrev pub Tells : List (List ℕ) → (List Look → Type 0) → SinkState → SinkState → List Look → Type 0
 Tells names Are before after looks = Are looks × ((text : List ℕ) × IsStatusText names looks text × WritesAll text before after)
 

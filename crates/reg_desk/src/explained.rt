@@ -1,4 +1,4 @@
-//! Explanations beside the faults of commands.
+//! Explanations of the faults of commands.
 
 ghost use Rattle.std.specs.Prelude.{◌≡◌, ◌⊎◌, IfOk, IfErr, OnOk, IsSome};
 ghost use Rattle.reg_engine.specs.Devices.{devices};
@@ -12,14 +12,14 @@ use std::alloc::{AllocError, Global};
 use wkt_crs::{DefinitionFault, Unspelled};
 use wkt_explain::{Kept, explain_text};
 
-/// Why a command did not do its work, and what is said of the text beside it, where that is the reason.
+/// Why a command failed, with an explanation if the text is the reason.
 #[derive(Drop)]
 pub struct Explained {
     pub fault: CliFault,
     pub note: Vec<u8>,
 }
 
-// What is wrong with a text, where that is why it is refused.
+// The fault of a text, if that is the reason of the refusal.
 fn text_problem(refusal: Refusal) -> Option<DefinitionFault>
     ensures { result ≡ text_problem refusal }
 {
@@ -35,7 +35,7 @@ fn text_problem(refusal: Refusal) -> Option<DefinitionFault>
     }
 }
 
-/// What is wrong with the text that a command read, where that is its fault.
+/// The fault of the text that a command read, if that is its fault.
 pub fn problem_of(fault: &CliFault) -> Option<DefinitionFault>
     ensures { result ≡ problem_of fault.now }
 {
@@ -59,8 +59,8 @@ fn note_of<S: Source>(
     explain_text(alloc, name, bytes, problem)
 }
 
-/// The fault of a command, with the explanation of the text that was read from the file of this name, where the text is
-/// the reason. Where there is no memory for that, the fault is `Memory`.
+/// The fault of a command, with an explanation of the text from the file with this name, if the text is the reason. If
+/// there is no memory for it, the fault is `Memory`.
 pub fn explained_fault<S: Source>(
     alloc: Global,
     name: &str,
@@ -85,7 +85,7 @@ pub fn explained_fault<S: Source>(
     }
 }
 
-/// `run_check`, which explains why a text is refused; its file has this name.
+/// `run_check` with an explanation of a refused text, whose file has this name.
 pub fn run_check_explained<S: Source, K: Sink>(
     alloc: Global,
     name: &str,

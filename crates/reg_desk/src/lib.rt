@@ -1,4 +1,4 @@
-//! Engines of the steward's desk: a function a command, beside those of `reg_engine`.
+//! Engines of the steward's desk, one function for each command.
 #![tactic(auto)]
 
 mod diff;
@@ -20,7 +20,7 @@ pub use offices::Offices;
 pub use settle::{Settle, SettleEqual};
 pub use status::run_status;
 
-// What a command line names beside these: engines, faults, words of the orders, and devices.
+// Items of lower crates for the command line: engines, faults, options, and devices.
 pub use byte_disk::{FileDisk, NewFile};
 pub use byte_io::{Reading, Source, Writing, write_all};
 pub use byte_out::FilePlace;

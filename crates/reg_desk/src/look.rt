@@ -17,14 +17,14 @@ use std::alloc::{AllocError, Global};
 /// The most bytes of a file.
 const MOST: usize = 67_108_864;
 
-/// What a file or a shelf has, or what is wrong with it.
+/// What a file or a shelf has, or its fault.
 #[derive(Clone, Copy)]
 pub enum Look {
-    /// The file of a register, of so many bytes; by itself or on a shelf.
+    /// A register with this file size, in a file or on a shelf.
     Figures { bytes: usize, figures: Figures },
-    /// It was read whole, and so many bytes are no register's.
+    /// It was read completely; it has this size and is not a register.
     NoRegister { bytes: usize, fault: InputFault },
-    /// It was not read whole.
+    /// It was not read completely.
     Unread(InputFault),
     /// No register was restored from the shelf.
     NoShelf(ShelfProblem),

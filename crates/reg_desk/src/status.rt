@@ -29,7 +29,7 @@ fn looks_of<T: Inspect>(alloc: Global, files: &mut [T]) -> Result<Vec<Look>, All
     Ok(looks)
 }
 
-// What is reported of the file of this number, or of a shelf.
+// The fault of the file with this number, or of a shelf.
 fn fault_at(number: usize, look: &Look) -> Option<CliFault>
     ensures { result ≡ fault_at number look.now }
 {
@@ -60,7 +60,7 @@ fn is_unsettled(look: &Look) -> bool
     }
 }
 
-// That each is a register's.
+// Checks that each is a register.
 fn all_good(looks: &[Look]) -> Result<(), CliFault>
     ensures good { OnOk result (AreGood looks.now) }
     ensures fault { IfErr result (IsFirstBad looks.now) }

@@ -41,7 +41,7 @@ fn push_figures(alloc: Global, row: &mut ByteRecord, figures: &Figures) -> Resul
     Ok(())
 }
 
-// Empty fields in the place of figures.
+// Empty fields instead of figures.
 fn push_nothing(row: &mut ByteRecord) -> Result<(), AllocError>
     requires { partial_of row.old ≡ [] }
     ensures { OnOk result (Adds row.old row.new no_figures) }
@@ -68,7 +68,7 @@ fn push_fault(alloc: Global, row: &mut ByteRecord, fault: InputFault) -> Result<
     Ok(())
 }
 
-// The same of what is wrong with a shelf.
+// The same for the fault of a shelf.
 fn push_problem(
     alloc: Global,
     row: &mut ByteRecord,
@@ -153,7 +153,7 @@ fn write_line(
     Ok(())
 }
 
-/// A header, and a line for each name and what the file or the shelf of this name has.
+/// A header, and a line for each name with what its file or shelf has.
 pub(crate) fn status_text(
     alloc: Global,
     names: &[&[u8]],

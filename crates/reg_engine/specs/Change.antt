@@ -48,7 +48,7 @@ ReadsDefinition v old new = Finds old new v × IsDefinition (canon v)
 abbrev pub Enters : List ℕ → List ℕ → SourceState → SourceState → Content → Content → List ℕ → Type 0
 Enters replica note old new x y lines = (v : Crs) × ReadsDefinition v old new × Makes replica note (Enter (canon v) ∷ []) x y lines
 
--- why a value is not entered, whatever the register
+-- why a value is not entered, in any register
 abbrev pub IsUndefined : Crs → Refusal → Type 0
 IsUndefined v refusal.NoIdentifier = HasNone v
 IsUndefined v refusal.CanonicalTooLong = (¬ (HasNone v)) × (65536 < length (canon v))

@@ -1,4 +1,4 @@
--- A check of a text: what came in, and what went out.
+-- A check of a text: what was read, and what was written.
 use Rattle.std.specs.Prelude.{◌≡◌, ◌++◌, ◌∷◌, [], ℕ, List}
 use Rattle.byte_io.specs.Whole.{WritesAll, IsCutAt}
 use Rattle.crs_value.specs.declared.crs.Crs.{Crs}
@@ -16,15 +16,15 @@ use Rattle.reg_engine.specs.Devices.{Devices}
 abbrev pub line_of : Crs → List ℕ
 line_of v = canon v ++ (10 ∷ [])
 
--- the source's text spells a value, and exactly that value's line went out
+-- the source's text spells a value, and exactly that value's line was written
 abbrev pub IsPrinted : Devices → Devices → Type 0
 IsPrinted old new = (v : Crs) × Finds old.source new.source v × WritesAll (line_of v) old.sink new.sink
 
--- the source's text spells a value, and exactly the first n bytes of its line went out, not all
+-- the source's text spells a value, and exactly the first n bytes of its line were written, not all
 abbrev pub IsCutShort : ℕ → Devices → Devices → Type 0
 IsCutShort n old new = (v : Crs) × Finds old.source new.source v × IsCutAt n (line_of v) old.sink new.sink
 
--- what a check did, by its fault; where the text is not printed, nothing went out
+-- the effect of a check, by its fault; if the text is not printed, nothing was written
 abbrev pub IsCheckFault : Devices → Devices → CliFault → Type 0
 IsCheckFault old new (cli.Refused (refusal.Text f)) = Refuses old.source new.source (read.Text f) × (new.sink ≡ old.sink)
 IsCheckFault old new (cli.Refused (refusal.Slot f)) = Refuses old.source new.source (read.Slot f) × (new.sink ≡ old.sink)

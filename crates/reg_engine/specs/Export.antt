@@ -1,4 +1,4 @@
--- The texts that a register gives out: all that stand, and that of one entry.
+-- Exported texts: those of all entries that are not retired, and that of one entry.
 use Rattle.std.specs.Prelude.{◌≡◌, ◌++◌, ◌∷◌, [], true, false, List, ℕ}
 use Rattle.std.specs.List.{flat_map}
 use Rattle.crs_value.specs.declared.crs.Crs.{Crs}

@@ -1,4 +1,4 @@
--- Registers, summaries and pieces from files: what one gave, and what a list of them gave.
+-- Registers, summaries and pieces from files.
 use Rattle.std.specs.Prelude.{◌≡◌, ◌++◌, ◌∷◌, [], List, ℕ, ◌+◌, zero, suc, Option, Some, None}
 use Rattle.byte_io.specs.Device.{SourceState}
 use Rattle.byte_io.specs.Whole.{GivesAtMost}
@@ -104,7 +104,7 @@ AreUnread next old new (cli.Shelf p) = ⊥
 
 -- ---- what is joined
 
--- the registers among parts, and the pieces, each in their order
+-- the registers among parts, and the pieces, each in order
 abbrev pub registers : List Part → List Content
 registers [] = []
 registers (part.Register x ∷ ps) = x ∷ registers ps

@@ -1,4 +1,4 @@
--- A merge of registers and pieces: what came in, and what went out.
+-- A merge of registers and pieces: what was read, and what was written.
 use Rattle.std.specs.Prelude.{◌≡◌, ◌++◌, ◌∷◌, [], List, ℕ, Result, Ok, Err, map}
 use Rattle.byte_io.specs.Device.{SourceState}
 use Rattle.byte_out.specs.Place.{PlaceState}
@@ -25,7 +25,7 @@ abbrev pub with_piece : Result Content PieceRefusal → Piece → Result Content
 with_piece (Ok x) p = joined_piece x p
 with_piece (Err r) p = Err r
 
--- pieces in their order, from the left: the refusal of the first step that has one
+-- pieces in order: the refusal of the first step that has one
 abbrev pub with_pieces : Result Content PieceRefusal → List Piece → Result Content PieceRefusal
 with_pieces r [] = r
 with_pieces r (p ∷ ps) = with_pieces (with_piece r p) ps
@@ -73,12 +73,12 @@ pub record Ends : Type 0 where
 abbrev pub ends : List SourceState → PlaceState → Ends
 ends sources place = record { sources = sources; place = place }
 
--- each source gave the file of a part, and the file of what they join to went out
+-- each source gave the file of a part, and the file of their join was written
 abbrev pub IsMerged : Ends → Ends → Type 0
 IsMerged old new = (ps : List Part) × HoldAll old.sources new.sources ps
     × ((x : Content) × JoinTo ps x × PublishesFile x old.place new.place)
 
--- what a merge did, by its fault; where it refuses, nothing was opened
+-- the effect of a merge, by its fault; after a refusal nothing was opened
 abbrev pub IsMergeFault : Ends → Ends → CliFault → Type 0
 IsMergeFault old new (cli.Refused (refusal.Clash id)) = (ps : List Part) × HoldAll old.sources new.sources ps × ClashAt ps id × (new.place ≡ old.place)
 IsMergeFault old new (cli.Refused (refusal.Basis id)) = (ps : List Part) × HoldAll old.sources new.sources ps × BasisAt ps id × (new.place ≡ old.place)

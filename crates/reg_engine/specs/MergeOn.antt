@@ -1,4 +1,4 @@
--- A merge into the register that stands on a shelf: it is joined first.
+-- A merge into the register of a shelf, which is joined first.
 use Rattle.std.specs.Prelude.{◌≡◌, ◌∷◌, List, ℕ}
 use Rattle.byte_io.specs.Device.{SourceState}
 use Rattle.reg_op.specs.Contents.{Content}

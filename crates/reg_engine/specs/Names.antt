@@ -34,7 +34,7 @@ refusal_name refusal.NoEntry = codes "NoEntry"
 refusal_name refusal.Unsettled = codes "Unsettled"
 refusal_name (refusal.KeyTaken id) = codes "KeyTaken"
 
--- where it is in a text, and the id that it names
+-- its place in a text, and the id that it names
 abbrev pub refusal_place : Refusal → Option ℕ
 refusal_place (refusal.Text f) = place_of (unspelled.Text f)
 refusal_place (refusal.Slot f) = place_of (unspelled.Slot f)

@@ -13,11 +13,12 @@ use Rattle.reg_engine.specs.declared.fault.OutFault.TheVariants as out
 use Rattle.reg_engine.specs.declared.fault.CliFault.{CliFault}
 use Rattle.reg_engine.specs.declared.fault.CliFault.TheVariants as cli
 
--- such a file went out whole, and stands at the place
+-- such a file was completely written, and has the name
 abbrev pub PublishesBy : (List ℕ → Type 0) → PlaceState → PlaceState → Type 0
 PublishesBy Are old new = (bytes : List ℕ) × Are bytes × Replaces bytes old new
 
--- the file would be too large, and the place is as it was; or what stood there stands, for this fault of replacing it
+-- the file would be too large, and the place is unchanged; or the old file is still there, for this fault of
+-- replacing it
 abbrev pub IsOutFaultBy : (List ℕ → Type 0) → Type 0 → PlaceState → PlaceState → OutFault → Type 0
 IsOutFaultBy Are Large old new out.TooLarge = Large × (new ≡ old)
 IsOutFaultBy Are Large old new out.NotOpened = (bytes : List ℕ) × Are bytes × IsReplaceFault bytes old new replaced.NotOpened

@@ -30,7 +30,7 @@ disks tells seen images moment since failures = record { tells = tells; seen = s
 
 -- ---- what a disk has
 
--- it reads as a shelf of the content, where it tells; as a shelf of none
+-- if it tells, it reads as a shelf of the content; as a shelf of none
 abbrev pub Has : {D : Type 0} → Disks D → D → Content → Type 0
 Has d old x = IsTrue (d.tells old) → IsShelf (d.seen old) x
 
@@ -85,7 +85,7 @@ IsUnrestored d old new (cli.Shelf problem.NotShelf) = HasNoContent d old × Stay
 IsUnrestored d old new (cli.Shelf problem.TooLarge) = ⊥
 IsUnrestored d old new (cli.Shelf problem.DiskFailed) = Fails d old new × AddsNothingTo d old new
 
--- why the second content was not kept; a disk that tells has been found to read as a shelf by then
+-- why the second content was not kept; a disk that tells is known to read as a shelf
 abbrev pub IsUnkept : {D : Type 0} → Disks D → Content → Content → D → D → CliFault → Type 0
 IsUnkept d x y old new (cli.Refused r) = ⊥
 IsUnkept d x y old new (cli.File k f) = ⊥

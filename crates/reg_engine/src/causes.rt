@@ -1,4 +1,4 @@
-//! Which fault of a command each fault of a library is.
+//! Maps faults of the libraries to faults of commands.
 
 ghost use Rattle.std.specs.Prelude.{◌≡◌};
 ghost use Rattle.reg_engine.specs.Fault.{text_fault, definition_fault, file_fault, first_fault, write_fault, replace_fault, office_fault, piece_fault, shelf_fault};
@@ -77,7 +77,7 @@ impl CliFault {
         CliFault::File { number, fault }
     }
 
-    /// The fault of a command that an office was given.
+    /// The fault of an office's command.
     pub fn of_office(fault: OfficeFault) -> CliFault
         ensures { result ≡ office_fault fault }
     {
@@ -108,7 +108,7 @@ impl CliFault {
         }
     }
 
-    /// The fault of putting a file in a place.
+    /// The fault of replacing a file.
     pub fn of_replace(fault: ReplaceFault) -> CliFault
         ensures { result ≡ replace_fault fault }
     {

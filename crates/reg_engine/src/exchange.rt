@@ -176,7 +176,7 @@ pub fn run_seen<S: Source, P: Place>(
 }
 
 /// Reads the register of the source, which is file 1, and then a summary, which is file 2; and writes the file of the
-/// register's piece for one who has seen the summary's ids.
+/// register's piece for the ids of the summary.
 pub fn run_piece<S: Source, U: Source, P: Place>(
     alloc: Global,
     source: &mut S,

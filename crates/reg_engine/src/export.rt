@@ -56,7 +56,7 @@ fn lines_of(alloc: Global, register: &Register) -> Result<Vec<u8>, AllocError>
     ensures { IfOk result (λ lines. lines.items ≡ export register.now.ops) }
 {
     let ops = register.ops().as_slice();
-    // At once, as lines that grow while they are made take up to three times their length.
+    // Reserved at once: lines that grow would take up to three times their length.
     let mut lines = Vec::with_capacity(alloc, room(ops))?;
     for op in ops {
         push_line(&mut lines, register, op)?;
@@ -64,7 +64,7 @@ fn lines_of(alloc: Global, register: &Register) -> Result<Vec<u8>, AllocError>
     Ok(lines)
 }
 
-// The bytes that the lines of all entries take.
+// The number of bytes in the lines of all entries.
 fn room(ops: &[Op]) -> usize {
     let mut room = 0usize;
     for op in ops {
@@ -76,7 +76,7 @@ fn room(ops: &[Op]) -> usize {
     room
 }
 
-// Appends the line of an entry that is not retired, where the operation entered one.
+// Appends the line of the entry, if the operation entered one that is not retired.
 fn push_line(lines: &mut Vec<u8>, register: &Register, op: &Op) -> Result<(), AllocError>
     ensures { OnOk result (lines.new.items ≡ lines.old.items ++ op_line register.now.ops op.now) }
 {

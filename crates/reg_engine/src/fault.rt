@@ -1,4 +1,4 @@
-//! What an engine reports: the fault, how it is called and prints, and its exit status.
+//! What an engine reports: the fault, its name and printed line, and its exit status.
 
 ghost use Rattle.std.specs.Prelude.{◌≡◌};
 ghost use Rattle.reg_engine.specs.Fault.{status_of};
@@ -15,27 +15,27 @@ use wkt_crs::{Condition, SlotFault, TextFault, Unspelled};
 pub enum Refusal {
     Text(TextFault),
     Slot(SlotFault),
-    /// A CRS fails a condition. Its keyword stands at the place.
+    /// A CRS breaks a condition. The place is that of its keyword.
     Broken { condition: Condition, place: usize },
-    /// A CRS that was to be entered has no identifier of its own.
+    /// The CRS to be entered has no identifier of its own.
     NoIdentifier,
-    /// The canonical text of a CRS that was to be entered has more than 65,536 bytes.
+    /// The canonical text of the CRS to be entered has more than 65,536 bytes.
     CanonicalTooLong,
-    /// The id has two bodies in what was to be joined.
+    /// The id has two bodies in the registers to be joined.
     Clash(OpId),
-    /// A piece that was to be joined is for one who has seen this id, and it was not seen.
+    /// The basis of a piece to be joined has this id, which was not seen.
     Basis(OpId),
-    /// The operation of this id has a note, for which a file of version 1 has no room.
+    /// The operation with this id has a note, which a file of version 1 cannot store.
     HasNote(OpId),
-    /// What an office has against a command. `Memory` is none of these: that is `CliFault::Memory`.
+    /// An office refuses the command. `Memory` is not among these: it is `CliFault::Memory`.
     Office(OfficeFault),
-    /// A word that is to be an entry is no id.
+    /// An argument for an entry is not an id.
     BadId,
-    /// A word that is to be a replica is no UUID.
+    /// An argument for a replica is not a UUID.
     BadReplica,
-    /// A shelf was to be made for files of up to so many bytes, and no shelf is; or the word is no number.
+    /// The size of a new shelf is out of range, or not a number.
     BadSize,
-    /// A search that was to print ids found no entry.
+    /// A search for ids found no entry.
     NoEntry,
     /// A register has keys in conflict, awaited ids or gaps.
     Unsettled,
@@ -46,7 +46,7 @@ pub enum Refusal {
 impl Refusal {
     ghost use Rattle.reg_engine.specs.Names.{refusal_name, refusal_place, refusal_id};
 
-    /// How it is printed.
+    /// The name that is printed.
     pub fn name(self) -> &'static str
         ensures { result.now ≡ refusal_name self }
     {
@@ -69,7 +69,7 @@ impl Refusal {
         }
     }
 
-    /// The offset in a text that it is reported at, from 0, where it has one.
+    /// The offset of the fault in a text, from 0, if it has one.
     pub fn place(self) -> Option<usize>
         ensures { result ≡ refusal_place self }
     {
@@ -81,7 +81,7 @@ impl Refusal {
         }
     }
 
-    /// The id that it names, where it names one.
+    /// The id that it names, if any.
     pub fn id(self) -> Option<OpId>
         ensures { result ≡ refusal_id self }
     {
@@ -126,16 +126,16 @@ pub enum InputFault {
     NotOpened,
     /// Reading failed after this many bytes.
     ReadFailed(usize),
-    /// There are more bytes than a file may have.
+    /// The file exceeds the limit.
     TooLarge,
-    /// The bytes are no file of the kind that is read, and this is their first fault.
+    /// The bytes are not a file of the kind that is read; this is their first fault.
     BadFile { fault: FileFault, place: usize },
 }
 
 impl InputFault {
     ghost use Rattle.reg_engine.specs.Names.{input_name, input_place};
 
-    /// How it is printed.
+    /// The name that is printed.
     pub fn name(self) -> &'static str
         ensures { result.now ≡ input_name self }
     {
@@ -147,7 +147,7 @@ impl InputFault {
         }
     }
 
-    /// The offset that it is reported at, from 0, where it has one.
+    /// The offset of the fault, from 0, if it has one.
     pub fn place(self) -> Option<usize>
         ensures { result ≡ input_place self }
     {
@@ -177,16 +177,16 @@ impl fmt::Display for InputFault {
 /// What went wrong with the output.
 #[derive(Clone, Copy, Debug, PartialEq, Eq, Error)]
 pub enum OutFault {
-    /// No file was made, or a whole one could not be given its name.
+    /// No file was made, or a complete one could not be renamed.
     #[error("NotOpened")]
     NotOpened,
-    /// Beside the output is a file that another writer makes, or left when it was stopped.
+    /// The new file exists: of another writer, or of one that was killed.
     #[error("NewExists")]
     NewExists,
-    /// The file would have too many bytes. The output was not opened.
+    /// The file would exceed the limit. The output was not opened.
     #[error("TooLarge")]
     TooLarge,
-    /// Exactly this many bytes went out.
+    /// Exactly this many bytes were written.
     #[error("WriteFailed at {0}")]
     WriteFailed(usize),
 }
@@ -194,7 +194,7 @@ pub enum OutFault {
 impl OutFault {
     ghost use Rattle.reg_engine.specs.Names.{out_name, out_place};
 
-    /// How it is printed.
+    /// The name that is printed.
     pub fn name(self) -> &'static str
         ensures { result.now ≡ out_name self }
     {
@@ -206,7 +206,7 @@ impl OutFault {
         }
     }
 
-    /// How many bytes went out before it, where it has a place.
+    /// The number of bytes that were written before it, if it has a place.
     pub fn place(self) -> Option<usize>
         ensures { result ≡ out_place self }
     {
@@ -222,13 +222,13 @@ impl OutFault {
 pub enum ShelfProblem {
     #[error("NotOpened")]
     NotOpened,
-    /// It reads as a shelf of no register.
+    /// It does not read as a shelf of a register.
     #[error("NotShelf")]
     NotShelf,
-    /// The register's file would have more bytes than the shelf takes. Nothing was kept.
+    /// The register's file exceeds the size of the shelf. Nothing was kept.
     #[error("TooLarge")]
     TooLarge,
-    /// What it has is the register from before, or the new one. Nothing was printed.
+    /// It has the old register or the new one. Nothing was printed.
     #[error("DiskFailed")]
     DiskFailed,
 }
@@ -236,7 +236,7 @@ pub enum ShelfProblem {
 impl ShelfProblem {
     ghost use Rattle.reg_engine.specs.Names.{problem_name};
 
-    /// How it is printed.
+    /// The name that is printed.
     pub fn name(self) -> &'static str
         ensures { result.now ≡ problem_name self }
     {
@@ -249,7 +249,7 @@ impl ShelfProblem {
     }
 }
 
-/// Why a command did not do its work. It prints as one line.
+/// Why a command failed. It prints as one line.
 #[derive(Clone, Copy, Debug, PartialEq, Eq, Error)]
 pub enum CliFault {
     #[error("refused: {0}")]
@@ -268,7 +268,7 @@ pub enum CliFault {
 impl CliFault {
     ghost use Rattle.reg_engine.specs.Names.{fault_name, fault_place, fault_id};
 
-    /// What it is of is called so, and is printed so.
+    /// The name of what failed, as it is printed.
     pub fn name(self) -> &'static str
         ensures { result.now ≡ fault_name self }
     {
@@ -281,7 +281,7 @@ impl CliFault {
         }
     }
 
-    /// The offset that it is reported at, from 0, where it has one.
+    /// The offset of the fault, from 0, if it has one.
     pub fn place(self) -> Option<usize>
         ensures { result ≡ fault_place self }
     {
@@ -293,7 +293,7 @@ impl CliFault {
         }
     }
 
-    /// The id that it names, where it names one.
+    /// The id that it names, if any.
     pub fn id(self) -> Option<OpId>
         ensures { result ≡ fault_id self }
     {
@@ -303,7 +303,7 @@ impl CliFault {
         }
     }
 
-    /// The exit status of the program: 1 for what is refused, 3 for a file, the output or a shelf, 4 for memory.
+    /// The exit status of the program: 1 for a refusal, 3 for a file, the output or a shelf, 4 for memory.
     pub fn status(&self) -> u8
         ensures { result ≡ status_of self.now }
     {

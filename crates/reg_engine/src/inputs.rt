@@ -41,8 +41,8 @@ pub(crate) fn read_summary<S: Source>(
     }
 }
 
-// Reads the register or the piece in the file of this number, where some registers are read already: what they have of it
-// is not read again.
+// Reads the register or the piece in the file with this number. Definitions of registers that were read before are not
+// read again.
 fn read_next<S: Source>(
     alloc: Global,
     known: &[Register],
@@ -78,7 +78,7 @@ impl Parts {
     }
 }
 
-/// A register alone.
+/// Only a register.
 pub fn parts_of(alloc: Global, register: Register) -> Result<Parts, AllocError>
     ensures registers { IfOk result (λ parts. parts.registers.items ≡ register ∷ []) }
     ensures pieces { IfOk result (λ parts. parts.pieces.items ≡ []) }

@@ -1,4 +1,4 @@
-//! What holds of all merges and of all exports. A call does nothing: its contract is the law.
+//! The laws of merges and exports. The functions do nothing: their contracts are the laws.
 
 ghost use Rattle.std.specs.Prelude.{◌≡◌, ℕ, List, map, Contains};
 ghost use Rattle.crs_value.specs.declared.crs.Crs.{Crs};
@@ -27,7 +27,7 @@ pub fn exported_is_read()
     ensures { (bytes : List ℕ) (x : Content) → ReadsAs bytes x → (r : Row) → Contains (rows x.ops) r → (v : Crs) × IsCrsOf v r.definition }
 {}
 
-/// The empty register's file is short enough.
+/// The file of the empty register is within the limit.
 pub fn nothing_is_small()
     ensures { IsTooLarge nothing → ⊥ }
 {}

@@ -1,4 +1,4 @@
-//! The engines of `crsreg`: a function a command, over any source, sink and place, and the faults that they answer.
+//! The engines of `crsreg`: one function for each command, over any source, sink and place, and their faults.
 #![tactic(auto)]
 
 mod causes;
@@ -38,7 +38,7 @@ pub use shelves::run_shelf;
 pub use store::{InFile, Keep, OfFile, OnShelf, Store};
 pub use wkt::{Form, Wkt, run_wkt};
 
-// The crates that its contracts speak of, whole, so that tests name this one alone.
+// The crates that its contracts cite, so that tests name only this one.
 pub use byte_disk as disks;
 pub use byte_io as streams;
 pub use byte_out as places;

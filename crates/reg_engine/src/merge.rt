@@ -28,7 +28,7 @@ pub fn run_new<P: Place>(alloc: Global, place: &mut P) -> Result<(), CliFault>
     }
 }
 
-/// All registers joined, as what pieces are joined to.
+/// The join of all registers, to which pieces are joined.
 pub fn join_registers(alloc: Global, registers: &[Register]) -> Result<Register, CliFault>
     ensures ok { IfOk result (λ r. begun (all_joined joined (Ok nothing) registers.now) ≡ Ok r) }
     ensures err { IfErr result (IsUnjoined (begun (all_joined joined (Ok nothing) registers.now))) }
@@ -71,8 +71,7 @@ pub fn join_pieces(
 }
 
 /// Reads a register or a piece from each source, and writes the file of their join: all registers, and then the pieces in
-/// their order. A source's number is its place in the list, from 1. Once the file is written, the memory of what was read
-/// is not given back.
+/// order. Sources are numbered from 1. After the file is written, the memory of what was read is not freed.
 pub fn run_merge<S: Source, P: Place>(
     alloc: Global,
     sources: &mut [S],
@@ -99,7 +98,7 @@ pub fn run_merge<S: Source, P: Place>(
     };
     match publish_register(alloc, &joined, place) {
         Ok(()) => {
-            // A program ends with its merge. Giving back each definition by itself would take a twelfth of its time.
+            // A program ends with its merge. Freeing each definition would take a twelfth of the time.
             forget(joined);
             forget(registers);
             forget(pieces);

@@ -1,4 +1,4 @@
-//! Files, put in places, and the ids that are printed then.
+//! Output files, and the ids that are printed afterwards.
 
 ghost use Rattle.std.specs.Prelude.{◌≡◌, ◌++◌, ◌∷◌, [], IfOk, OnOk, IfErr};
 ghost use Rattle.reg_op.specs.Text.{printed};
@@ -12,7 +12,7 @@ use reg_op::OpId;
 use reg_state::Register;
 use std::alloc::{AllocError, Global};
 
-// Puts the file that was made in the place.
+// Replaces the output by this file.
 pub(crate) fn publish_bytes<P: Place>(bytes: &[u8], place: &mut P) -> Result<(), CliFault>
     ensures published { OnOk result (Replaces bytes.now (P.state place.old) (P.state place.new)) }
     ensures fault { IfErr result (IsUnpublishedOf bytes.now (P.state place.old) (P.state place.new)) }
@@ -23,8 +23,7 @@ pub(crate) fn publish_bytes<P: Place>(bytes: &[u8], place: &mut P) -> Result<(),
     }
 }
 
-/// Puts the register's file in the place, of which nothing is made before all of the file is. What stood there stands
-/// unless all is done.
+/// Makes the file in memory, then replaces the output; on any failure the old file is kept.
 pub fn publish_register<P: Place>(
     alloc: Global,
     register: &Register,

@@ -1,4 +1,4 @@
-//! The steps of a command on a shelf: its register is restored, and another is kept.
+//! The steps of a command on a shelf: restore its register, and keep another.
 
 ghost use Rattle.std.specs.Prelude.{◌≡◌, OnOk, IfOk, IfErr};
 ghost use Rattle.reg_op.specs.Contents.{Content};

@@ -15,7 +15,7 @@ use reg_state::Register;
 use std::alloc::{AllocError, Global};
 use wkt_crs::{Definition, write_pretty};
 
-/// How a text is laid out.
+/// The layout of a text.
 #[derive(Clone, Copy, Debug, PartialEq, Eq)]
 pub enum Form {
     Canonical,
@@ -74,7 +74,7 @@ fn line_in(alloc: Global, form: Form, definition: &Definition) -> Result<Vec<u8>
     Ok(line)
 }
 
-// The text of the definition in this form. A value is read for the indented one alone.
+// The text of the definition in this form. Only the indented one needs the value.
 fn text_in(alloc: Global, form: Form, definition: &Definition) -> Result<Vec<u8>, AllocError>
     ensures { IfOk result (λ text. IsDefinitionText form definition.now text.items) }
 {

@@ -27,7 +27,7 @@ most = 67108864
 abbrev pub AreUnnoted : Ops → Type 0
 AreUnnoted s = (o : Op) → set.contains s o ≡ true → o.note ≡ []
 
--- ---- the files of a version, but for the number of their bytes
+-- ---- the files of a version, of any length
 
 -- these are the bytes of the content's file. Version 1 leaves the notes out
 pub record IsFileIn (version : ℕ) (x : Content) (bytes : List ℕ) : Type 0 where
@@ -93,7 +93,7 @@ HoldsSeen bytes ids = HoldsSeenIn 2 bytes ids
 abbrev pub HoldsPiece : List ℕ → Piece → Type 0
 HoldsPiece bytes p = HoldsPieceIn 2 bytes p
 
--- the bytes are the file of version 1, which tells all where there are no notes
+-- the bytes are the file of version 1, which is complete without notes
 abbrev pub HoldsFirst : List ℕ → Content → Type 0
 HoldsFirst bytes x = HoldsIn 1 bytes x × AreUnnoted x.ops
 
@@ -181,11 +181,11 @@ IsSeenTooLarge ids = (bytes : List ℕ) × IsSeenFileOf ids bytes × (most < len
 abbrev pub IsPieceTooLarge : Piece → Type 0
 IsPieceTooLarge p = (bytes : List ℕ) × IsPieceFileOf p bytes × (most < length bytes)
 
--- a file with such bytes went out whole
+-- a file with such bytes was completely written
 abbrev pub WritesBy : (List ℕ → Type 0) → SinkState → SinkState → Type 0
 WritesBy Are old new = (bytes : List ℕ) × Are bytes × WritesAll bytes old new
 
--- nothing went out; or the sink failed, or took none, after the first n bytes of such a file
+-- nothing was written; or the sink failed, or took none, after the first n bytes of such a file
 abbrev pub IsWriteFaultBy : (List ℕ → Type 0) → SinkState → SinkState → WriteFileFault → Type 0
 IsWriteFaultBy Are old new writing.TooLarge = new ≡ old
 IsWriteFaultBy Are old new writing.Memory = new ≡ old
@@ -227,7 +227,7 @@ abbrev pub IsFirstFault : Content → SinkState → SinkState → FirstFileFault
 IsFirstFault x old new (first.HasNote id) = new ≡ old
 IsFirstFault x old new (first.Write f) = IsWriteFaultBy (λ bytes. HoldsFirst bytes x) old new f
 
--- a fault of making its bytes alone
+-- a fault of making its bytes
 abbrev pub IsUnmade : FirstFileFault → Type 0
 IsUnmade (first.Write (writing.WriteFailed n)) = ⊥
 IsUnmade f = Unit {0}

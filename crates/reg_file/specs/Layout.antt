@@ -54,7 +54,7 @@ abbrev pub runs_of : List Group → List Run
 runs_of [] = []
 runs_of (g ∷ gs) = map (run_at g.replica) g.spans ++ runs_of gs
 
--- runs by replica: one goes to the first group, where that is its replica's
+-- runs by replica: a run joins the first group if that is its replica's
 abbrev pub put : Run → List Group → List Group
 put r [] = record { replica = r.replica; spans = span_of r ∷ [] } ∷ []
 put r (g ∷ gs) =

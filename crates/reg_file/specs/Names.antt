@@ -1,4 +1,4 @@
--- How faults are called, and where they are.
+-- The names and places of faults.
 use Rattle.std.specs.Prelude.{ℕ, List, Option, Some, None, codes}
 use Rattle.reg_op.specs.Ids.{Id}
 use Rattle.reg_file.specs.declared.fault.FileFault.{FileFault}
@@ -10,7 +10,7 @@ use Rattle.reg_file.specs.declared.fault.WriteFileFault.TheVariants as writing
 use Rattle.reg_file.specs.declared.fault.FirstFileFault.{FirstFileFault}
 use Rattle.reg_file.specs.declared.fault.FirstFileFault.TheVariants as first
 
--- bytes that are no file
+-- bytes that are not a file
 abbrev pub file_name : FileFault → List ℕ
 file_name file.Magic = codes "Magic"
 file_name file.Version = codes "Version"
@@ -30,7 +30,7 @@ file_name file.NotCanonical = codes "NotCanonical"
 file_name file.NotKept = codes "NotKept"
 file_name file.Trailing = codes "Trailing"
 
--- a file that was not read: the name of its first fault, where it has one
+-- a file that was not read: the name of its first fault, if it has one
 abbrev pub read_name : ReadFileFault → List ℕ
 read_name (reading.File f at) = file_name f
 read_name reading.TooLarge = codes "TooLarge"

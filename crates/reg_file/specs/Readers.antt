@@ -9,7 +9,7 @@ pub record Portion (A : Type 0) : Type 1 where
   pub Reads : List ℕ → A → List ℕ → Type 0
   pub Fails : List ℕ → Refused → Type 0
 
--- fields, of which the reading is computed
+-- fields whose reading is computed
 abbrev pub field : {A : Type 0} → (List ℕ → Result (A × List ℕ) Refused) → Portion A
 field read = record {
   Reads = λ bytes x rest. read bytes ≡ Ok (x, rest);
@@ -27,7 +27,7 @@ infixl 10 ◌behind◌
 abbrev pub ◌behind◌ : {A B : Type 0} → Portion A → (A → Portion B) → Portion (A × B)
 p behind q = record { Reads = ReadsBoth p q; Fails = FailsInOne p q }
 
--- items one after the other, where what one may be depends on those before it
+-- items in order, each of which may depend on those before it
 abbrev pub ReadsEach : {A S : Type 0} → (S → Portion A) → (S → A → S) → S → List ℕ → List A → List ℕ → Type 0
 ReadsEach item next s bytes [] rest = bytes ≡ rest
 ReadsEach item next s bytes (x ∷ xs) rest = (mid : List ℕ) × (item s).Reads bytes x mid × ReadsEach item next (next s x) mid xs rest

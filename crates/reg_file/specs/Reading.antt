@@ -62,7 +62,7 @@ IsOfText definition.NotCanonical = ⊥
 IsOfText definition.Memory = ⊥
 IsOfText f = Unit {0}
 
--- why a text is no definition
+-- why a text is not a definition
 abbrev pub IsTextFault : List ℕ → FileFault → Type 0
 IsTextFault text (fault.Definition f) = IsOfText f × IsCanonicalFault text f
 IsTextFault text fault.NotCanonical = IsCanonicalFault text definition.NotCanonical
@@ -168,11 +168,11 @@ FailsAt p bytes f place = (r : Refused) × p.Fails bytes r × (f ≡ r.fault) ×
 abbrev pub says_first : List ℕ → Bool
 says_first bytes = passes (λ version. version == 1) (slice_get bytes 4)
 
--- the version that bytes are read as: the first one where they say so, and else that which is written
+-- the version as which bytes are read: 1 if they say so, otherwise the current one
 abbrev pub version_in : List ℕ → ℕ
 version_in bytes = if says_first bytes then 1 else 2
 
--- the first fault of bytes that are no file of a register; of a summary; of a piece
+-- the first fault of bytes that are not a file of a register; of a summary; of a piece
 abbrev pub HasFault : List ℕ → FileFault → ℕ → Type 0
 HasFault bytes f place = FailsAt (register (version_in bytes)) bytes f place
 
@@ -190,6 +190,6 @@ abbrev pub FaultBy : Bool → List ℕ → FileFault → ℕ → Type 0
 FaultBy true bytes f place = HasPieceFault bytes f place
 FaultBy false bytes f place = HasFault bytes f place
 
--- the first fault of bytes that are neither a register's file nor a piece's: it is a piece's where they say so
+-- the first fault of bytes that are neither a register's file nor a piece's: that of a piece if they say so
 abbrev pub HasPartFault : List ℕ → FileFault → ℕ → Type 0
 HasPartFault bytes f place = FaultBy (says_piece bytes) bytes f place

@@ -24,7 +24,7 @@ use Rattle.reg_file.specs.Fields.{head_at}
 use Rattle.reg_file.specs.Readers.{ReadsEach, state_after}
 use Rattle.reg_file.specs.Reading.{IsUnfit, FailsAs, span, floor_after, spans, group, groups, replica_after, ranges, places_of, left_in, IsDropped, IsTrailing, seen_and_ops, seen_and_kept}
 
--- a text that is no definition, after a body that begins with so many bytes left
+-- a text that is not a definition; its body begins with this many bytes left
 abbrev pub StopsInText : List ℕ → ℕ → Stop → Type 0
 StopsInText text left stop.Memory = Unit {0}
 StopsInText text left (stop.Refused r) = IsUnfit (Enter text) left r
@@ -63,7 +63,7 @@ pub record AddsGroup (basis old new : Ids) (last : Option (List ℕ)) (bytes rep
   pub adds : new ≡ with_runs old (map (run_at one.replica) one.spans)
   pub up_to : IsUpTo new (Some replica)
 
--- so many replicas were read, and these are their ids
+-- this many replicas were read, and these are their ids
 pub record ReadsGroups (basis : Ids) (count : ℕ) (bytes : List ℕ) (seen : Ids) (rest : List ℕ) : Type 0 where
   pub all : List Group
   pub reads : (groups basis count).Reads bytes all rest
@@ -109,14 +109,14 @@ abbrev pub StopsAtEnd : List Op → List Place → List ℕ → Stop → Type 0
 StopsAtEnd os places rest stop.Memory = Unit {0}
 StopsAtEnd os places rest (stop.Refused r) = IsDropped os places r ⊎ IsTrailing os rest r
 
--- what is reported where a content is refused
+-- the fault of a refused content
 abbrev pub IsStopOf : ContentFault → List Place → Stop → Type 0
 IsStopOf (content.NotKept id) places s = s ≡ stop.Refused (record { fault = fault.NotKept; left = left_in places id })
 IsStopOf content.Memory places s = s ≡ stop.Memory
 
--- ---- behind the head
+-- ---- after the head
 
--- what was seen, without the basis, and operations that may stand after each other: by id, and each of them seen
+-- the seen ids, without the basis, and operations in order: ascending by id, and each of them seen
 pub record ReadsOps (version : ℕ) (basis : Ids) (bytes : List ℕ) (os : List Op) (places : List Place) (seen : Ids) (rest : List ℕ) : Type 0 where
   pub replicas : ℕ
   pub groups : List Group

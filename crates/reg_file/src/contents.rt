@@ -1,4 +1,4 @@
-//! What stands behind the head of a register's file, and behind the basis of a piece's: seen ids and operations.
+//! The part of a file after its head, or after the basis of a piece: seen ids and operations.
 
 ghost use Rattle.std.specs.Prelude.{◌≡◌, true, IfOk, IfErr};
 ghost use Rattle.reg_op.specs.Set as set;
@@ -17,7 +17,7 @@ use reg_op::Op;
 use reg_state::{ContentFault, Register, Seen};
 use std::alloc::Global;
 
-/// The ids that were seen, none of them in the basis, and the operations, with the place of each.
+/// The seen ids, none of them in the basis, and the operations with their places.
 pub fn seen_and_ops_of<'a>(
     alloc: Global,
     known: &[Register],
@@ -43,7 +43,7 @@ pub fn seen_and_ops_of<'a>(
     Ok((ops, places, seen, rest))
 }
 
-/// The fault of operations that are no content's, at the place of the one that it names.
+/// The fault of operations that are not a content, at the place of the one that it names.
 pub fn stop_of(fault: ContentFault, places: &[Place]) -> Stop
     ensures { IsStopOf fault places.now result }
 {
@@ -53,7 +53,7 @@ pub fn stop_of(fault: ContentFault, places: &[Place]) -> Stop
     }
 }
 
-// What is left when all operations are read: each is kept, and nothing follows.
+// After all operations: none is redundant, and nothing follows.
 fn register_of(
     alloc: Global,
     ops: Vec<Op>,
@@ -77,7 +77,7 @@ fn register_of(
     Ok(register)
 }
 
-/// The register of the ids that were seen, none of them in the basis, and of the operations. Nothing follows.
+/// The register of the seen ids, none of them in the basis, and of the operations. Nothing follows.
 pub fn kept_of(
     alloc: Global,
     known: &[Register],

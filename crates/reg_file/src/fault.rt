@@ -8,29 +8,29 @@ use std::alloc::{AllocError, AllocFailed};
 use std::fmt;
 use wkt_crs::DefinitionFault;
 
-/// Why bytes are no file.
+/// Why bytes are not a file.
 #[derive(Clone, Copy, Debug, PartialEq, Eq)]
 pub enum FileFault {
     Magic,
     Version,
     Kind,
-    /// The input ends where a field is to begin, or inside one.
+    /// The input ends before a field, or inside one.
     Truncated,
-    /// A replica has no range, or a range is empty, begins at 0, is not apart from the one before it, or meets the basis.
+    /// A replica has no range; or a range is empty, begins at 0, touches the previous one, or overlaps the basis.
     Ranges,
     ReplicaOrder,
     OpOrder,
     /// An id, its own or a named one, has the count 0.
     OpIdBad,
     OpKind,
-    /// A note has more than 200 bytes.
+    /// The note has more than 200 bytes.
     NoteTooLong,
     NoteNotUtf8,
     NotSeen,
     SameEntry,
     Definition(DefinitionFault),
     NotCanonical,
-    /// An operation stands there that the others leave no need of.
+    /// An operation is redundant.
     NotKept,
     Trailing,
 }
@@ -38,7 +38,7 @@ pub enum FileFault {
 impl FileFault {
     ghost use Rattle.reg_file.specs.Names.{file_name};
 
-    /// How it is printed.
+    /// The name that is printed.
     pub fn name(self) -> &'static str
         ensures { result.now ≡ file_name self }
     {
@@ -68,7 +68,7 @@ impl fmt::Display for FileFault {
     fn fmt<W: fmt::Write>(&self, f: &mut fmt::Formatter<W>) -> fmt::Result {
         match self {
             FileFault::Definition(fault) => {
-                // The name alone: what `Missing` and `Broken` name is left out.
+                // Only the name: the slot of `Missing` and the condition of `Broken` are omitted.
                 let name = fault.name();
                 write!(f, "Definition {name}")
             }
@@ -80,7 +80,7 @@ impl fmt::Display for FileFault {
 /// Why nothing could be read.
 #[derive(Clone, Copy, Debug, PartialEq, Eq)]
 pub enum ReadFileFault {
-    /// The first fault, and the place where it stands.
+    /// The first fault, and its place.
     File { fault: FileFault, place: usize },
     /// There are more than 67,108,864 bytes.
     TooLarge,
@@ -92,7 +92,7 @@ pub enum ReadFileFault {
 impl ReadFileFault {
     ghost use Rattle.reg_file.specs.Names.{read_name, read_place};
 
-    /// How it is printed: the name of the bytes' first fault, where that is the reason.
+    /// The name that is printed: that of the first fault, if the bytes are the reason.
     pub fn name(self) -> &'static str
         ensures { result.now ≡ read_name self }
     {
@@ -104,7 +104,7 @@ impl ReadFileFault {
         }
     }
 
-    /// The offset that it is reported at, from 0, where it has one.
+    /// The offset of the fault, from 0, if it has one.
     pub fn place(self) -> Option<usize>
         ensures { result ≡ read_place self }
     {
@@ -128,7 +128,7 @@ impl fmt::Display for ReadFileFault {
     }
 }
 
-/// Why nothing was written, or not all.
+/// Why a file was not written completely.
 #[derive(Clone, Copy, Debug, PartialEq, Eq)]
 pub enum WriteFileFault {
     /// The file would have more than 67,108,864 bytes.
@@ -141,7 +141,7 @@ pub enum WriteFileFault {
 impl WriteFileFault {
     ghost use Rattle.reg_file.specs.Names.{write_name, write_place};
 
-    /// How it is printed.
+    /// The name that is printed.
     pub fn name(self) -> &'static str
         ensures { result.now ≡ write_name self }
     {
@@ -152,7 +152,7 @@ impl WriteFileFault {
         }
     }
 
-    /// How many bytes went out before it, where it has a place.
+    /// The number of bytes that were written before it, if it has a place.
     pub fn place(self) -> Option<usize>
         ensures { result ≡ write_place self }
     {
@@ -180,7 +180,7 @@ impl fmt::Display for WriteFileFault {
 /// Why a file of version 1 was not written.
 #[derive(Clone, Copy, Debug, PartialEq, Eq)]
 pub enum FirstFileFault {
-    /// The least id of an operation with a note, for which that version has no room.
+    /// The least id of an operation with a note, which that version cannot store.
     HasNote(OpId),
     Write(WriteFileFault),
 }
@@ -188,7 +188,7 @@ pub enum FirstFileFault {
 impl FirstFileFault {
     ghost use Rattle.reg_file.specs.Names.{first_name, first_id, first_place};
 
-    /// How it is printed.
+    /// The name that is printed.
     pub fn name(self) -> &'static str
         ensures { result.now ≡ first_name self }
     {
@@ -198,7 +198,7 @@ impl FirstFileFault {
         }
     }
 
-    /// The id that it names, where it names one.
+    /// The id that it names, if any.
     pub fn id(self) -> Option<OpId>
         ensures { result ≡ first_id self }
     {
@@ -208,7 +208,7 @@ impl FirstFileFault {
         }
     }
 
-    /// How many bytes went out before it, where it has a place.
+    /// The number of bytes that were written before it, if it has a place.
     pub fn place(self) -> Option<usize>
         ensures { result ≡ first_place self }
     {
@@ -228,7 +228,7 @@ impl fmt::Display for FirstFileFault {
     }
 }
 
-/// A fault, and how many bytes there are from its place on.
+/// A fault, and the number of bytes from its place on.
 #[derive(Clone, Copy, Debug, PartialEq, Eq)]
 pub struct Refused {
     pub fault: FileFault,

@@ -1,4 +1,4 @@
-//! Fields, read from the front of a slice. A fault has the number of bytes from its place on.
+//! Fields, read from the front of a slice. A fault has the number of bytes from its place to the end.
 
 ghost use Rattle.std.specs.Prelude.{◌≡◌, ◌≤◌, ℕ, List, length};
 ghost use Rattle.std.specs.Int.{w32};
@@ -94,7 +94,7 @@ fn is_unfit(basis: &Seen, replica: Uuid, floor: u64, span: Span) -> bool
     u64::from(low) < floor || high < low || basis.meets(Run { replica, low, high })
 }
 
-/// A range of a replica that begins at the floor at least, and meets no id of the basis.
+/// A range of a replica that begins at or above the floor, and does not overlap the basis.
 #[tactic(auto, unfolding(crate::specs::Fields::span_at))]
 pub fn span_of<'a>(
     basis: &Seen,
@@ -177,7 +177,7 @@ fn op_kind_of(bytes: &[u8]) -> Result<(u8, &[u8]), Stop>
     Ok((kind, rest))
 }
 
-// The bytes of a note, whose number stands before them.
+// The bytes of a note, after their number.
 #[tactic(auto, unfolding(crate::specs::Fields::noted_at))]
 fn noted_of(bytes: &[u8]) -> Result<(&[u8], &[u8]), Stop>
     ensures { Gives (λ x. (x.0.now, x.1.now)) result (noted_at bytes.now) }
@@ -189,7 +189,7 @@ fn noted_of(bytes: &[u8]) -> Result<(&[u8], &[u8]), Stop>
     cut_of(usize::from(len), rest)
 }
 
-// An operation's note, for which the first version has no room.
+// An operation's note, which version 1 does not have.
 #[tactic(auto, unfolding(crate::specs::Fields::note_at))]
 fn note_of(alloc: Global, version: u8, bytes: &[u8]) -> Result<(Note, &[u8]), Stop>
     ensures { Gives (λ x. (x.0, x.1.now)) result (note_at version bytes.now) }
@@ -232,7 +232,7 @@ pub fn heading_of<'a>(
     Ok((((id, kind), note), rest))
 }
 
-/// A definition's text, whose length stands before it.
+/// A definition's text, after its length.
 #[tactic(auto, unfolding(crate::specs::Fields::text_at))]
 pub fn text_of(bytes: &[u8]) -> Result<(&[u8], &[u8]), Stop>
     ensures { Gives (λ x. (x.0.now, x.1.now)) result (text_at bytes.now) }
@@ -296,7 +296,7 @@ fn count_of(bytes: &[u8]) -> Result<(u32, &[u8]), Stop>
     Ok((count, rest))
 }
 
-/// A replica above the last one, and how many ranges it has.
+/// A replica above the last one, and the number of its ranges.
 #[tactic(auto, unfolding(crate::specs::Fields::group_at))]
 pub fn group_of<'a>(last: Option<Uuid>, bytes: &'a [u8]) -> Result<((Uuid, u32), &'a [u8]), Stop>
     ensures { Gives (λ x. (x.0, x.1.now)) result (group_at last bytes.now) }

@@ -1,4 +1,4 @@
-//! Files of version 1, for programs that read no other. Such a file has no notes.
+//! Files of version 1, for older programs. They have no notes.
 
 ghost use Rattle.std.specs.Prelude.{◌≡◌, ◌↔◌, Some, None, Err, OnOk, IfOk, IfErr};
 ghost use Rattle.reg_op.specs.Ids.{Id};

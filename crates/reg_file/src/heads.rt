@@ -1,4 +1,4 @@
-//! What all files have at their head, and how long one may be.
+//! The head of all files, and their greatest length.
 
 ghost use Rattle.std.specs.Prelude.{◌≡◌};
 ghost use Rattle.reg_file.specs.Reading.{says_first, version_in};
@@ -9,13 +9,13 @@ pub const MOST: usize = 67_108_864;
 /// The version that is written.
 pub const VERSION: u8 = 2;
 
-/// The version before it, which has no notes. It is read, and written where it is asked for.
+/// The previous version, which has no notes. It is read, and written on request.
 pub const FIRST_VERSION: u8 = 1;
 
 /// The kind of a register's file.
 pub const REGISTER: u8 = 1;
 
-/// The kind of the file of a seen summary.
+/// The kind of a summary's file.
 pub const SEEN: u8 = 2;
 
 /// The kind of a piece's file.
@@ -30,7 +30,7 @@ fn says_first(bytes: &[u8]) -> bool
     }
 }
 
-/// The version that bytes are read as: the first one where they say so, and else that which is written.
+/// The version as which bytes are read: 1 if they say so, otherwise the current one.
 pub fn version_in(bytes: &[u8]) -> u8
     ensures { result ≡ version_in bytes.now }
 {

@@ -1,4 +1,4 @@
-//! What holds of all files and of all that they hold. A call does nothing: its contract is the law.
+//! The laws of files and their contents. The functions do nothing: their contracts are the laws.
 
 ghost use Rattle.std.specs.Prelude.{◌≡◌, ℕ, List};
 ghost use Rattle.reg_op.specs.Ids.{Ids};
@@ -37,14 +37,14 @@ pub fn each_has_a_file()
     ensures piece { (version : ℕ) (p : Piece) → IsPiece p → (bytes : List ℕ) × IsPieceFileIn version p bytes }
 {}
 
-/// Bytes that are read as something of a kind have no fault of that kind.
+/// Bytes that are a file of a kind have no fault of that kind.
 pub fn held_or_fault()
     ensures register { (bytes : List ℕ) (x : Content) (f : FileFault) (place : ℕ) → ReadsAs bytes x → HasFault bytes f place → ⊥ }
     ensures seen { (bytes : List ℕ) (ids : Ids) (f : FileFault) (place : ℕ) → ReadsAsSeen bytes ids → HasSeenFault bytes f place → ⊥ }
     ensures piece { (bytes : List ℕ) (p : Piece) (f : FileFault) (place : ℕ) → ReadsAsPiece bytes p → HasPieceFault bytes f place → ⊥ }
 {}
 
-/// Bytes have one first fault of a kind, at one place.
+/// Bytes have at most one first fault of a kind, at one place.
 pub fn one_first_fault()
     ensures register { (bytes : List ℕ) (f g : FileFault) (m n : ℕ) → HasFault bytes f m → HasFault bytes g n → (f ≡ g) × (m ≡ n) }
     ensures seen { (bytes : List ℕ) (f g : FileFault) (m n : ℕ) → HasSeenFault bytes f m → HasSeenFault bytes g n → (f ≡ g) × (m ≡ n) }

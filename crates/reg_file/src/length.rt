@@ -1,4 +1,4 @@
-//! How long files are.
+//! The lengths of files.
 
 ghost use Rattle.std.specs.Prelude.{◌≡◌, ◌≤◌, ◌<◌, ◌+◌, length, IfSome, IfNone};
 ghost use Rattle.std.specs.List.{flat_map};
@@ -16,7 +16,7 @@ const HEAD: usize = 6;
 /// The bytes of a count.
 const COUNT: usize = 4;
 
-// How many bytes a note takes in a version.
+// The length of a note in a version.
 fn size_of_note(version: u8, note: &Note) -> usize
     ensures value { result ≡ length (note_bytes version note.now) }
     ensures bound { result ≤ 201 }
@@ -52,7 +52,7 @@ fn size_of(version: u8, op: &Op) -> usize
     21 + size_of_note(version, op.note()) + size_of_body(op.body())
 }
 
-// So many bytes and those of the operations, where they are not too many.
+// This many bytes and those of the operations, if they are within the limit.
 fn add_sizes(size: usize, version: u8, ops: &[Op]) -> Option<usize>
     requires { size ≤ MOST }
     ensures some { IfSome result (λ n. (n ≡ size + length (flat_map (op_bytes version) ops.now)) × (n ≤ MOST)) }
@@ -70,7 +70,7 @@ fn add_sizes(size: usize, version: u8, ops: &[Op]) -> Option<usize>
     Some(total)
 }
 
-// So many bytes and those of the ranges, where they are not too many.
+// This many bytes and those of the ranges, if they are within the limit.
 fn add_ranges(size: usize, runs: &[Run]) -> Option<usize>
     requires size { size ≤ MOST }
     requires runs { AreRuns runs.now }
@@ -88,7 +88,7 @@ fn add_ranges(size: usize, runs: &[Run]) -> Option<usize>
     Some(total)
 }
 
-/// How many bytes a register's file has, where they are not too many.
+/// The length of a register's file, if it is within the limit.
 pub fn length_of_register(version: u8, ops: &[Op], runs: &[Run]) -> Option<usize>
     requires runs { AreRuns runs.now }
     requires ids { EndInIds runs.now }
@@ -104,7 +104,7 @@ pub fn length_of_register(version: u8, ops: &[Op], runs: &[Run]) -> Option<usize
     }
 }
 
-/// How many bytes the file of the runs that were seen has, where they are not too many.
+/// The length of a summary's file, if it is within the limit.
 pub fn length_of_seen(runs: &[Run]) -> Option<usize>
     requires runs { AreRuns runs.now }
     requires ids { EndInIds runs.now }
@@ -117,7 +117,7 @@ pub fn length_of_seen(runs: &[Run]) -> Option<usize>
     }
 }
 
-/// How many bytes a piece's file has, where they are not too many.
+/// The length of a piece's file, if it is within the limit.
 pub fn length_of_piece(basis: &[Run], ops: &[Op], runs: &[Run]) -> Option<usize>
     requires basis { AreRuns basis.now × EndInIds basis.now }
     requires runs { AreRuns runs.now × EndInIds runs.now }

@@ -1,5 +1,4 @@
-//! Replica files, read exactly: the bytes of a register, of a seen summary or of a piece, and the first fault of other
-//! bytes, at its place.
+//! Files of registers, summaries and pieces, read exactly; other bytes have a first fault, with its place.
 #![tactic(auto)]
 
 mod contents;

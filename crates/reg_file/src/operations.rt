@@ -14,7 +14,7 @@ use reg_state::{Register, Seen};
 use std::alloc::Global;
 use wkt_crs::{Definition, DefinitionFault};
 
-/// The definition with this text that is known, where it has the text.
+/// The known definition, if it has this text.
 fn known_as(alloc: Global, known: Option<&Definition>, text: &[u8]) -> Option<Definition>
     ensures { IfSome result (λ d. d ≡ text.now) }
 {
@@ -110,7 +110,7 @@ fn body_of<'a>(
     retire_of(bytes)
 }
 
-/// What the id entered in the first of the registers that has it.
+/// The definition that the id entered, in the first register that has it.
 fn entered_in(known: &[Register], id: OpId) -> Option<&Definition> {
     known.iter().find_map(|register| register.definition(id))
 }
@@ -144,7 +144,7 @@ fn op_of<'a>(
     }
 }
 
-/// So many operations, each after the one before it, and where each was read.
+/// This many operations, ascending, and their places.
 pub fn ops_of<'a>(
     alloc: Global,
     known: &[Register],

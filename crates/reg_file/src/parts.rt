@@ -29,20 +29,20 @@ fn says_piece(bytes: &[u8]) -> bool
     }
 }
 
-/// Reads a register or a piece from all of a file's bytes: a piece where the byte of the kind says so.
+/// Reads a register or a piece from the bytes of a file: a piece if the kind byte says so.
 pub fn read_part_bytes(alloc: Global, bytes: &[u8]) -> Result<Part, ReadFileFault>
-    // What is read is what the bytes are a file of.
+    // The result is what the bytes are a file of.
     ensures found { IfOk result (λ part. ReadsAsPart bytes.now part) }
-    // A register's or a piece's file is read, unless memory runs out.
+    // The file of a register or a piece is read, unless memory runs out.
     ensures only { (part : PartValue) → ReadsAsPart bytes.now part → (result ≡ Ok part) ⊎ (result ≡ Err ReadFileFault.Memory) }
-    // Which fault it is: a piece's where the bytes say that they are one, and else a register's.
+    // The fault is that of a piece if the bytes say that they are one, otherwise that of a register.
     ensures fault { IfErr result (IsPartReadFault bytes.now) }
 {
     read_part_bytes_beside(alloc, &[], bytes)
 }
 
-/// The same, where some registers are known: a definition that an operation of the same id entered there is taken over
-/// where its text is the same, and not read again.
+/// The same with known registers: if one of them has the same definition under the same id, it is shared and not read
+/// again.
 fn read_part_bytes_beside(
     alloc: Global,
     known: &[Register],
@@ -64,8 +64,8 @@ fn read_part_bytes_beside(
     }
 }
 
-/// Reads a register or a piece from all that a source gives, however the reads are cut. No more is read once the file is
-/// too large.
+/// Reads a register or a piece from a source, however the reads are split. Reading stops when the file exceeds the
+/// limit.
 pub fn read_part<S: Source>(alloc: Global, source: &mut S) -> Result<Part, ReadFileFault>
     ensures found { IfOk result (FindsPart (S.state source.old) (S.state source.new)) }
     ensures fault { IfErr result (IsPartReadFromFault (S.state source.old) (S.state source.new)) }
@@ -73,8 +73,8 @@ pub fn read_part<S: Source>(alloc: Global, source: &mut S) -> Result<Part, ReadF
     read_part_beside(alloc, &[], source)
 }
 
-/// The same, where some registers are known: a definition that an operation of the same id entered there is taken over
-/// where its text is the same, and not read again.
+/// The same with known registers: if one of them has the same definition under the same id, it is shared and not read
+/// again.
 pub fn read_part_beside<S: Source>(
     alloc: Global,
     known: &[Register],

@@ -25,7 +25,7 @@ use reg_op::Op;
 use reg_state::{Piece, Register, Run, Seen};
 use std::alloc::{AllocError, Global};
 
-// What is left when all operations are read: each is kept, and nothing follows.
+// After all operations: none is redundant, and nothing follows.
 fn piece_of(
     alloc: Global,
     ops: Vec<Op>,
@@ -51,7 +51,7 @@ fn piece_of(
     Ok(piece)
 }
 
-// The basis, and what is without it. Nothing follows.
+// The basis, and the part outside it. Nothing follows.
 fn based_of(alloc: Global, known: &[Register], version: u8, bytes: &[u8]) -> Result<Piece, Stop>
     ensures ok { IfOk result (λ p. ReadsBased version bytes.now p) }
     ensures err { IfErr result (StopsIn (based version) bytes.now) }
@@ -84,7 +84,7 @@ fn read_in(alloc: Global, known: &[Register], version: u8, bytes: &[u8]) -> Resu
     }
 }
 
-// All of a file of the version that the bytes say.
+// A whole file, in the version that the bytes state.
 fn read_all(alloc: Global, known: &[Register], bytes: &[u8]) -> Result<Piece, Stop>
     ensures ok { IfOk result (λ p. ReadsPiece (version_in bytes.now) bytes.now p) }
     ensures err { IfErr result (StopsIn (piece (version_in bytes.now)) bytes.now) }
@@ -92,20 +92,20 @@ fn read_all(alloc: Global, known: &[Register], bytes: &[u8]) -> Result<Piece, St
     read_in(alloc, known, version_in(bytes), bytes)
 }
 
-/// Reads a piece from all of a file's bytes.
+/// Reads a piece from the bytes of a file.
 pub fn read_piece_bytes(alloc: Global, bytes: &[u8]) -> Result<Piece, ReadFileFault>
-    // What is read is what the bytes are a file of.
+    // The result is what the bytes are a file of.
     ensures found { IfOk result (λ p. ReadsAsPiece bytes.now p) }
     // A piece's file is read, unless memory runs out.
     ensures only { (p : PieceValue) → ReadsAsPiece bytes.now p → (result ≡ Ok p) ⊎ (result ≡ Err ReadFileFault.Memory) }
-    // Which fault it is.
+    // The fault is the first one.
     ensures fault { IfErr result (IsPieceReadFault bytes.now) }
 {
     read_piece_bytes_beside(alloc, &[], bytes)
 }
 
-/// The same, where some registers are known: a definition that an operation of the same id entered there is taken over
-/// where its text is the same, and not read again.
+/// The same with known registers: if one of them has the same definition under the same id, it is shared and not read
+/// again.
 pub fn read_piece_bytes_beside(
     alloc: Global,
     known: &[Register],
@@ -128,7 +128,7 @@ pub fn read_piece_bytes_beside(
     }
 }
 
-/// Reads a piece from all that a source gives, however the reads are cut. No more is read once the file is too large.
+/// Reads a piece from a source, however the reads are split. Reading stops when the file exceeds the limit.
 pub fn read_piece<S: Source>(alloc: Global, source: &mut S) -> Result<Piece, ReadFileFault>
     ensures found { IfOk result (FindsPiece (S.state source.old) (S.state source.new)) }
     ensures fault { IfErr result (IsPieceReadFromFault (S.state source.old) (S.state source.new)) }
@@ -136,8 +136,8 @@ pub fn read_piece<S: Source>(alloc: Global, source: &mut S) -> Result<Piece, Rea
     read_piece_beside(alloc, &[], source)
 }
 
-/// The same, where some registers are known: a definition that an operation of the same id entered there is taken over
-/// where its text is the same, and not read again.
+/// The same with known registers: if one of them has the same definition under the same id, it is shared and not read
+/// again.
 pub fn read_piece_beside<S: Source>(
     alloc: Global,
     known: &[Register],
@@ -157,7 +157,7 @@ pub fn read_piece_beside<S: Source>(
     }
 }
 
-// The file of a basis, and of operations and runs without it, in one allocation of its size.
+// The file of a basis, and of operations and runs outside it, in one allocation of its size.
 fn spell_piece(
     alloc: Global,
     basis: &[Run],
@@ -178,7 +178,7 @@ fn spell_piece(
     Ok(out)
 }
 
-/// The bytes of the piece's file. A file that would be too large is reported before anything is allocated.
+/// The bytes of the piece's file. A file that exceeds the limit is reported before anything is allocated.
 pub fn write_piece_bytes(alloc: Global, piece: &Piece) -> Result<Vec<u8>, WriteFileFault>
     ensures held { IfOk result (λ v. HoldsPiece v.items piece.now) }
     ensures large { (result ≡ Err WriteFileFault.TooLarge) ↔ IsPieceTooLarge piece.now }

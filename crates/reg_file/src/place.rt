@@ -2,7 +2,7 @@
 
 use reg_op::OpId;
 
-/// Where an operation was read: how many bytes there were from its id on.
+/// The place of an operation: the number of bytes from its id on.
 #[derive(Clone, Copy, Debug, PartialEq, Eq)]
 pub struct Place {
     pub id: OpId,

@@ -11,7 +11,7 @@ use reg_state::{Run, Seen};
 use std::alloc::Global;
 use uuid::Uuid;
 
-// So many ranges of a replica.
+// This many ranges of a replica.
 fn add_spans<'a>(
     basis: &Seen,
     seen: &mut Seen,
@@ -62,7 +62,7 @@ fn add_group<'a>(
     }
 }
 
-// So many replicas.
+// This many replicas.
 fn add_groups<'a>(
     alloc: Global,
     basis: &Seen,
@@ -86,7 +86,7 @@ fn add_groups<'a>(
     Ok((seen, rest))
 }
 
-/// The ids of some ranges, none of which meets the basis.
+/// The ids of some ranges, none of which overlaps the basis.
 pub fn seen_of<'a>(alloc: Global, basis: &Seen, bytes: &'a [u8]) -> Result<(Seen, &'a [u8]), Stop>
     ensures ok { IfOk result (λ x. ReadsSeen basis.now bytes.now x.0 x.1.now) }
     ensures err { IfErr result (StopsIn (ranges basis.now) bytes.now) }

@@ -29,7 +29,7 @@ fn read_in(alloc: Global, known: &[Register], version: u8, bytes: &[u8]) -> Resu
     }
 }
 
-// All of a file of the version that the bytes say.
+// A whole file, in the version that the bytes state.
 fn read_all(alloc: Global, known: &[Register], bytes: &[u8]) -> Result<Register, Stop>
     ensures ok { IfOk result (λ r. ReadsContent (version_in bytes.now) bytes.now r) }
     ensures err { IfErr result (StopsIn (register (version_in bytes.now)) bytes.now) }
@@ -37,20 +37,20 @@ fn read_all(alloc: Global, known: &[Register], bytes: &[u8]) -> Result<Register,
     read_in(alloc, known, version_in(bytes), bytes)
 }
 
-/// Reads a register from all of a file's bytes.
+/// Reads a register from the bytes of a file.
 pub fn read_bytes(alloc: Global, bytes: &[u8]) -> Result<Register, ReadFileFault>
-    // What is read is what the bytes are a file of.
+    // The result is what the bytes are a file of.
     ensures found { IfOk result (λ r. ReadsAs bytes.now r) }
-    // A content's file is read, unless memory runs out.
+    // The file of a content is read, unless memory runs out.
     ensures only { (x : Content) → ReadsAs bytes.now x → (result ≡ Ok x) ⊎ (result ≡ Err ReadFileFault.Memory) }
-    // Which fault it is.
+    // The fault is the first one.
     ensures fault { IfErr result (IsReadFault bytes.now) }
 {
     read_bytes_beside(alloc, &[], bytes)
 }
 
-/// The same, where some registers are known: a definition that an operation of the same id entered there is taken over
-/// where its text is the same, and not read again.
+/// The same with known registers: if one of them has the same definition under the same id, it is shared and not read
+/// again.
 pub fn read_bytes_beside(
     alloc: Global,
     known: &[Register],
@@ -73,8 +73,7 @@ pub fn read_bytes_beside(
     }
 }
 
-/// Reads a register from all that a source gives, however the reads are cut. No more is read once the file is too
-/// large.
+/// Reads a register from a source, however the reads are split. Reading stops when the file exceeds the limit.
 pub fn read_register<S: Source>(alloc: Global, source: &mut S) -> Result<Register, ReadFileFault>
     ensures found { IfOk result (Finds (S.state source.old) (S.state source.new)) }
     ensures fault { IfErr result (IsReadFromFault (S.state source.old) (S.state source.new)) }
@@ -82,8 +81,8 @@ pub fn read_register<S: Source>(alloc: Global, source: &mut S) -> Result<Registe
     read_register_beside(alloc, &[], source)
 }
 
-/// The same, where some registers are known: a definition that an operation of the same id entered there is taken over
-/// where its text is the same, and not read again.
+/// The same with known registers: if one of them has the same definition under the same id, it is shared and not read
+/// again.
 pub fn read_register_beside<S: Source>(
     alloc: Global,
     known: &[Register],

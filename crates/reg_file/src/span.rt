@@ -1,6 +1,6 @@
 //! Ranges of counts, as a file has them.
 
-/// Counts of one replica without a hole, both ends with it.
+/// Consecutive counts of one replica, both ends included.
 #[derive(Clone, Copy, Debug, PartialEq, Eq)]
 pub struct Span {
     pub low: u32,

@@ -53,7 +53,7 @@ fn kind_of(body: &OpBody) -> u8
     }
 }
 
-// A note after its length, for which the first version has no room.
+// A note after its length, which version 1 does not have.
 fn put_note(out: &mut Vec<u8>, version: u8, note: &Note) -> Result<(), AllocError>
     ensures { OnOk result (out.new.items ≡ out.old.items ++ note_bytes version note.now) }
 {
@@ -103,7 +103,7 @@ fn is_of_replica(replica: &Uuid, run: &Run) -> bool
     replica.cmp(&run.replica).is_eq()
 }
 
-// How many runs at the front are of a replica.
+// The number of leading runs of a replica.
 fn leading(replica: &Uuid, runs: &[Run]) -> usize
     ensures { result ≡ prefix_len (λ r. is_eq (replica_cmp replica.now r.replica)) runs.now }
 {
@@ -112,7 +112,7 @@ fn leading(replica: &Uuid, runs: &[Run]) -> usize
         .count()
 }
 
-/// How many replicas the runs have.
+/// The number of replicas of the runs.
 pub fn replicas_of(runs: &[Run]) -> usize
     ensures count { result ≡ length (grouped runs.now) }
     ensures bound { result ≤ length runs.now }
@@ -137,7 +137,7 @@ fn put_heading(out: &mut Vec<u8>, replica: &Uuid, runs: &[Run]) -> Result<(), Al
     put_number(out, count as u32)
 }
 
-// Each run, with its replica before the first one of it.
+// Each run, with the replica before its first run.
 fn put_runs(out: &mut Vec<u8>, runs: &[Run]) -> Result<(), AllocError>
     requires { length runs.now < 2 ^ 32 }
     ensures { OnOk result (out.new.items ≡ out.old.items ++ spelled None runs.now) }

@@ -1,4 +1,4 @@
-//! Files of seen summaries, read from slices and sources, and written to vectors and sinks.
+//! Files of summaries, read from slices and sources, and written to vectors and sinks.
 
 ghost use Rattle.std.specs.Prelude.{◌≡◌, ◌<◌, ◌^◌, ◌↔◌, ◌⊎◌, [], length, Ok, Err, OnOk, IfOk, IfErr};
 ghost use Rattle.reg_op.specs.Ids.{Ids};
@@ -50,7 +50,7 @@ fn read_in(alloc: Global, version: u8, bytes: &[u8]) -> Result<Seen, Stop>
     }
 }
 
-// All of a file of the version that the bytes say.
+// A whole file, in the version that the bytes state.
 fn read_all(alloc: Global, bytes: &[u8]) -> Result<Seen, Stop>
     ensures ok { IfOk result (λ seen. ReadsSummary (version_in bytes.now) bytes.now seen) }
     ensures err { IfErr result (StopsIn (summary (version_in bytes.now)) bytes.now) }
@@ -58,13 +58,13 @@ fn read_all(alloc: Global, bytes: &[u8]) -> Result<Seen, Stop>
     read_in(alloc, version_in(bytes), bytes)
 }
 
-/// Reads the ids that were seen from all of a seen summary's bytes.
+/// Reads the seen ids from the bytes of a summary.
 pub fn read_seen_bytes(alloc: Global, bytes: &[u8]) -> Result<Seen, ReadFileFault>
-    // What is read is what the bytes are a file of.
+    // The result is what the bytes are a file of.
     ensures found { IfOk result (λ seen. ReadsAsSeen bytes.now seen) }
     // A summary is read, unless memory runs out.
     ensures only { (ids : Ids) → ReadsAsSeen bytes.now ids → (result ≡ Ok ids) ⊎ (result ≡ Err ReadFileFault.Memory) }
-    // Which fault it is.
+    // The fault is the first one.
     ensures fault { IfErr result (IsSeenReadFault bytes.now) }
 {
     if bytes.len() > MOST {
@@ -80,8 +80,7 @@ pub fn read_seen_bytes(alloc: Global, bytes: &[u8]) -> Result<Seen, ReadFileFaul
     }
 }
 
-/// Reads the ids that were seen from all that a source gives, however the reads are cut. No more is read once the file
-/// is too large.
+/// Reads the seen ids from a source, however the reads are split. Reading stops when the file exceeds the limit.
 pub fn read_seen<S: Source>(alloc: Global, source: &mut S) -> Result<Seen, ReadFileFault>
     ensures found { IfOk result (FindsSeen (S.state source.old) (S.state source.new)) }
     ensures fault { IfErr result (IsSeenReadFromFault (S.state source.old) (S.state source.new)) }
@@ -97,7 +96,7 @@ pub fn read_seen<S: Source>(alloc: Global, source: &mut S) -> Result<Seen, ReadF
     }
 }
 
-// The file of the runs that were seen, in one allocation of its size.
+// The file of the seen runs, in one allocation of its size.
 fn spell_seen(alloc: Global, runs: &[Run], size: usize) -> Result<Vec<u8>, AllocError>
     requires { length runs.now < 2 ^ 32 }
     ensures { IfOk result (λ out. out.items ≡ seen_file 2 runs.now) }
@@ -108,8 +107,7 @@ fn spell_seen(alloc: Global, runs: &[Run], size: usize) -> Result<Vec<u8>, Alloc
     Ok(out)
 }
 
-/// The bytes of the file of the ids that were seen: a seen summary. One that would be too large is reported before
-/// anything is allocated.
+/// The bytes of the summary of the seen ids. A file that exceeds the limit is reported before anything is allocated.
 pub fn write_seen_bytes(alloc: Global, seen: &Seen) -> Result<Vec<u8>, WriteFileFault>
     ensures held { IfOk result (λ v. HoldsSeen v.items seen.now) }
     ensures large { (result ≡ Err WriteFileFault.TooLarge) ↔ IsSeenTooLarge seen.now }
@@ -126,7 +124,7 @@ pub fn write_seen_bytes(alloc: Global, seen: &Seen) -> Result<Vec<u8>, WriteFile
     }
 }
 
-/// Writes the file of the ids that were seen, and nothing else.
+/// Writes the summary of the seen ids, and nothing else.
 pub fn write_seen<K: Sink>(alloc: Global, seen: &Seen, sink: &mut K) -> Result<(), WriteFileFault>
     ensures ok { OnOk result (WritesSeen seen.now (K.state sink.old) (K.state sink.new)) }
     ensures large { (result ≡ Err WriteFileFault.TooLarge) ↔ IsSeenTooLarge seen.now }

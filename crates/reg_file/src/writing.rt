@@ -70,7 +70,7 @@ pub fn write_in<K: Sink>(
     }
 }
 
-/// The bytes of the register's file. A file that would be too large is reported before anything is allocated.
+/// The bytes of the register's file. A file that exceeds the limit is reported before anything is allocated.
 pub fn write_bytes(alloc: Global, register: &Register) -> Result<Vec<u8>, WriteFileFault>
     ensures held { IfOk result (λ v. Holds v.items register.now) }
     ensures large { (result ≡ Err WriteFileFault.TooLarge) ↔ IsTooLarge register.now }

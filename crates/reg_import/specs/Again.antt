@@ -1,4 +1,4 @@
--- What stands in a content, and what is told where nothing is new.
+-- The texts of a content, and the actions if nothing is new.
 use Rattle.std.specs.Prelude.{◌≡◌, ℕ, ◌<◌, Bool, true, false, not, List, [], ◌∷◌, Contains, map, filter}
 use Rattle.reg_op.specs.Operations.{Ops}
 use Rattle.reg_op.specs.Contents.{Content}

@@ -42,7 +42,7 @@ least passes (e ∷ es) = if passes e then Some (sooner e.entry (least passes es
 abbrev pub unless_spent : ℕ → Told → Told
 unless_spent last t = if nat_le last 4294967295 then t else told.Spent
 
--- of a text that no entry has: nothing has its key, or an entry has, the least of them this one
+-- the action for a text that no entry has: no entry has its key, or this is the least that has
 abbrev pub told_of_new : Option Id → Differs → Id → OfKey → Told
 told_of_new None d new there = unless_spent new.count (told.Entered new)
 told_of_new (Some other) differs.Refuse new there = told.Refused (problem.KeyTaken other)
@@ -79,7 +79,7 @@ then_of (told.Revised i) key text there = record { known = entered i key text �
 then_of (told.Refused p) key text there = there
 then_of told.Spent key text there = there
 
--- what comes of a text as it was read, over what there is of each key, where this is the number of the next operation
+-- the action for a reading, given the entries of each key and the number of the next operation
 abbrev pub told_at : Differs → List ℕ → ℕ → At → Reading → Told
 told_at d replica n at (reading.Unread f) = told.Refused (problem.Unread f)
 told_at d replica n at (reading.Defined text key) = told_of d (id_at replica n) (at (bytes_of key)) text
@@ -92,7 +92,7 @@ abbrev pub then_at : Told → At → Reading → At
 then_at t at (reading.Unread f) = at
 then_at t at (reading.Defined text key) = with_key (bytes_of key) (then_of t key text (at (bytes_of key))) at
 
--- what comes of a text, and its effects
+-- the action for a text, and its effects
 pub record Step : Type 0 where
   pub told : Told
   pub bodies : List Body
@@ -108,7 +108,7 @@ imports d replica n at (text ∷ texts) =
 abbrev pub tolds : List Step → List Told
 tolds steps = map (λ (s : Step). s.told) steps
 
--- all effects, in their order
+-- all effects, in order
 abbrev pub effects : List Step → List Body
 effects steps = flat_map (λ (s : Step). s.bodies) steps
 

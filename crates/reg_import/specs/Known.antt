@@ -35,7 +35,7 @@ stands r = not (is_retired r.status)
 abbrev pub AreStanding : Ops → List Known → Type 0
 AreStanding s es = AreKnown (filter stands (rows s)) es
 
--- what there is of a key: its entries that are not retired, and whether this command entered one of them, or found one the same
+-- the bucket of a key: its entries that are not retired, and whether this command entered or found one of them
 pub record OfKey : Type 0 where
   pub known : List Known
   pub ours : Bool

@@ -51,7 +51,7 @@ abbrev pub problem_words : Problem → List ℕ
 problem_words (problem.Unread f) = fault_words f
 problem_words (problem.KeyTaken i) = codes "KeyTaken" ++ 32 ∷ printed i
 
--- what is against a text, and where
+-- why a text is rejected, and where
 abbrev pub problem_text : Problem → ℕ → List ℕ
 problem_text p at = problem_words p ++ codes " at " ++ decimal at
 
@@ -64,17 +64,17 @@ fault_text (told.Revised i) at = []
 fault_text (told.Refused p) at = problem_text p at
 fault_text told.Spent at = []
 
--- the name of a file, as it was given
+-- the name of a file, as given
 abbrev pub name_at : List (List ℕ) → ℕ → List ℕ
 name_at names file = unwrap_or (slice_get names file) []
 
--- the fields of a text that has this authority, this code and this name: its file and place, what came of it, its entry, these,
--- and what is against it
+-- the fields of a text with this authority, code and name: its file and place, its action, its entry, these, and why it is
+-- rejected
 abbrev pub line_fields : List (List ℕ) → FileText → Told → List ℕ → List ℕ → List ℕ → List (List ℕ)
 line_fields names x t authority code name =
     name_at names x.file ∷ decimal x.place ∷ action_word t ∷ entry_text t ∷ authority ∷ code ∷ name ∷ fault_text t x.at ∷ []
 
--- a text, and what came of it
+-- a text, and its action
 pub record Line : Type 0 where
   pub text : FileText
   pub told : Told

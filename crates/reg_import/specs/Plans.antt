@@ -30,7 +30,7 @@ abbrev pub AreSteps : Content → List ℕ → Differs → List Reading → List
 AreSteps x replica differs readings steps =
     (es : List Known) × AreStanding x.ops es × (steps ≡ imports differs replica (greatest replica x.seen + 1) (by_key es) readings)
 
--- what came of each text, and the operations of all, with their note
+-- the actions, and the operations of all, with their note
 pub record Lists (replica : List ℕ) (first : ℕ) (note : List ℕ) (steps : List Step) (ts : List Told) (ops : List Op) : Type 0 where
   pub told : ts ≡ tolds steps
   pub made : ops ≡ numbered replica first note (effects steps)
@@ -39,13 +39,13 @@ abbrev pub Plans : Content → List ℕ → List ℕ → Differs → List Readin
 Plans x replica note differs readings ts ops =
     (steps : List Step) × AreSteps x replica differs readings steps × Lists replica (greatest replica x.seen + 1) note steps ts ops
 
--- one text has come: this is told of it, its operations stand behind others, and the index has what there is then
+-- one more text: this is its action, its operations are appended, and the index has the entries of its key afterwards
 pub record StepsOn (differs : Differs) (replica : List ℕ) (count : ℕ) (note : List ℕ) (text : Reading) (at : At) (m : BTreeMap KeyText Bucket) (old new : List Op) (t : Told) : Type 0 where
   pub told : t ≡ told_at differs replica count at text
   pub made : new ≡ old ++ numbered replica count note (bodies_at t at text)
   pub index : Indexes m (then_at t at text)
 
--- and that is told at the end
+-- and its action is appended
 abbrev pub StepTold : Differs → List ℕ → ℕ → List ℕ → Reading → At → BTreeMap KeyText Bucket → List Op → List Op → List Told → List Told → Type 0
 StepTold differs replica count note text at m old new before after = (t : Told) × StepsOn differs replica count note text at m old new t × (after ≡ before ++ t ∷ [])
 
@@ -72,8 +72,8 @@ IsRefusedPlan keep_going ts refusal.Memory = ⊥
 abbrev pub IsPassedPlan : Bool → List Told → Type 0
 IsPassedPlan keep_going ts = PassesAll keep_going ts × NoneSpent ts
 
--- the texts are imported: the operations that the steps list have joined the content, and this is what came of each text, for
--- each of which there were numbers
+-- the texts are imported: the operations of the steps have joined the content, these are the actions, and there were enough
+-- numbers
 pub record Imports (x : Content) (replica note : List ℕ) (differs : Differs) (keep_going : Bool) (readings : List Reading) (new : Content) (ts : List Told) : Type 0 where
   pub steps : List Step
   pub are_steps : AreSteps x replica differs readings steps

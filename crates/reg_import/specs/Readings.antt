@@ -13,12 +13,12 @@ abbrev pub IsReading : List ℕ → Reading → Type 0
 IsReading text (reading.Defined definition key) = SpellsCanon text definition × IsDefinition definition × IsKeyIn key definition
 IsReading text (reading.Unread f) = IsTextFault text f × (f ≢ Memory)
 
--- where in the text what is against it is told: its fault's place, or else its first byte
+-- the place in the text that is reported if it is rejected: that of its fault, or its first byte
 abbrev pub place_in : Reading → ℕ
 place_in (reading.Defined definition key) = 0
 place_in (reading.Unread f) = unwrap_or (fault_place f) 0
 
--- these bytes stand in the file of this number from this place on, and are read as they should
+-- these bytes are in the file with this number from this place on, and this is their reading
 pub record IsFileText (file place : ℕ) (bytes : List ℕ) (t : FileText) : Type 0 where
   pub in_file : t.file ≡ file
   pub begins : t.place ≡ place

@@ -1,4 +1,4 @@
-//! Many texts, imported at once.
+//! Importing many texts.
 
 ghost use Rattle.std.specs.Prelude.{◌≡◌, ◌+◌, ◌≤◌, length, IfOk, IfErr, IfSome, IfNone};
 ghost use Rattle.std.specs.List.{list_any};
@@ -20,7 +20,7 @@ use uuid::Uuid;
 
 const MAX_NOTE: usize = 200;
 
-/// A register that texts were imported into, and what came of each text.
+/// A register after an import, and the action for each text.
 #[derive(Drop)]
 pub struct Imported {
     pub register: Register,
@@ -30,16 +30,16 @@ pub struct Imported {
 /// Why nothing is imported.
 #[derive(Clone, Copy, Debug, PartialEq, Eq)]
 pub enum ImportRefusal {
-    /// A note has more than 200 bytes.
+    /// The note has more than 200 bytes.
     NoteTooLong,
-    /// The text at this place, from 0, is the first that is refused.
+    /// The text at this index, from 0, is the first that is refused.
     Refused { at: usize, problem: Problem },
-    /// A number would pass 4,294,967,295.
+    /// A number would exceed 4,294,967,295.
     CountSpent,
     Memory,
 }
 
-/// A refused text: its place among all, from 0, and what is against it.
+/// A refused text: its index, from 0, and why it is rejected.
 #[derive(Clone, Copy, Debug, PartialEq, Eq)]
 pub struct Refused {
     pub at: usize,
@@ -65,7 +65,7 @@ fn some_spent(told: &[Told]) -> bool
     told.iter().any(|this| this.is_spent())
 }
 
-// Why a plan is not made, where refused texts are passed over or not.
+// Why there is no plan, whether refused texts are passed over or not.
 fn refusal_of(told: &[Told], keep_going: bool) -> Option<ImportRefusal>
     ensures some { IfSome result (IsRefusedPlan keep_going told.now) }
     ensures none { IfNone result (IsPassedPlan keep_going told.now) }
@@ -113,8 +113,8 @@ fn planned(
     Ok(plan)
 }
 
-/// Imports texts into a register, as the replica, with the note. Texts that are refused are passed over, or else the first
-/// of them refuses all.
+/// Imports texts into a register, as the replica, with the note. Refused texts are passed over, or the first of them
+/// refuses the whole import.
 pub fn import_texts(
     alloc: Global,
     register: Register,

@@ -14,14 +14,14 @@ use reg_state::Register;
 use std::alloc::{AllocError, Global};
 use std::collections::BTreeMap;
 
-/// The bytes of a key's authority and of its code, by which keys are ordered.
+/// The bytes of a key's authority and code, which order keys.
 #[derive(PartialEq, Eq, PartialOrd, Ord, Drop)]
 pub struct KeyText {
     pub authority: Vec<u8>,
     pub code: Vec<u8>,
 }
 
-/// The entries of a key, and whether this command entered one of them, or found one the same.
+/// The entries of a key, and whether this command entered or found one of them.
 #[derive(Drop)]
 pub struct Bucket {
     pub known: Vec<Known>,
@@ -38,7 +38,7 @@ pub fn text_of(alloc: Global, key: &Key) -> Result<KeyText, AllocError>
     })
 }
 
-/// Takes out what there is of a key.
+/// Removes the bucket of a key.
 pub fn take(alloc: Global, index: &mut BTreeMap<KeyText, Bucket>, key: &KeyText) -> Bucket
     ensures found { (at : At) → Indexes index.old at → bucket_seen result ≡ at (key_bytes key.now) }
     ensures rest { (at : At) → Indexes index.old at → Indexes index.new (with_key (key_bytes key.now) nothing_there at) }
@@ -52,7 +52,7 @@ pub fn take(alloc: Global, index: &mut BTreeMap<KeyText, Bucket>, key: &KeyText)
     }
 }
 
-/// Puts in what there is of a key.
+/// Inserts the bucket of a key.
 pub fn put(
     index: &mut BTreeMap<KeyText, Bucket>,
     key: KeyText,
@@ -72,7 +72,7 @@ fn with_one(known: Vec<Known>, ours: bool, entry: Known) -> Result<Bucket, Alloc
     Ok(Bucket { known, ours })
 }
 
-// Puts in one entry more.
+// Inserts an entry.
 fn put_known(
     alloc: Global,
     index: &mut BTreeMap<KeyText, Bucket>,

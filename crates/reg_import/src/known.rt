@@ -13,7 +13,7 @@ use reg_state::Register;
 use std::alloc::{AllocError, Global};
 use wkt_crs::Definition;
 
-/// An entry that is not retired: its text, the key of that, and whether nothing supersedes it.
+/// An entry that is not retired: its text, its key, and whether it is valid.
 #[derive(Drop)]
 pub struct Known {
     pub entry: OpId,

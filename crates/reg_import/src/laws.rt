@@ -1,4 +1,4 @@
-//! What holds of imports. A call does nothing: its contract is the law.
+//! The laws of imports. The functions do nothing: their contracts are the laws.
 
 ghost use Rattle.std.specs.Prelude.{◌≡◌, ◌⊎◌, ◌↔◌, ℕ, Bool, List, map};
 ghost use Rattle.wkt_tree.specs.Tree.{Piece};
@@ -17,8 +17,8 @@ ghost use Rattle.reg_import.specs.declared.import.ImportRefusal.TheVariants as r
 ghost use Rattle.reg_import.specs.Plans.{Imports, IsImportRefusal};
 ghost use Rattle.reg_import.specs.Again.{HasStanding, standing_texts, AreReadings, RetiresNoneAhead, SupersedesNoneAhead, IsToldAgain};
 
-/// The same texts imported again, in the same mode, make nothing: the content stays as it is, and of each text that was not refused
-/// an entry is told that has it. Nor are they refused, but for a long note or memory.
+/// Importing the same readings again in the same mode makes nothing: the content is unchanged, and each text that was not
+/// refused is reported with an entry that has it. The second import is refused only for a long note or for memory.
 pub fn importing_again_makes_nothing()
     ensures nothing { (x y z : Content) (replica note again noted : List ℕ) (differs : Differs) (keep_going : Bool) (texts : List (List ℕ)) (readings : List Reading) (ts us : List Told)
         → IsContent x → RetiresNoneAhead x replica → AreReadings texts readings
@@ -30,8 +30,8 @@ pub fn importing_again_makes_nothing()
         → (f ≡ refusal.NoteTooLong) ⊎ (f ≡ refusal.Memory) }
 {}
 
-/// What is exported of a register is found again, text by text; and imported beside one another into an empty register, which refuses
-/// none of the texts, it makes one in which the same texts stand.
+/// Exported texts are found again in the file. Imported in mode `beside` into an empty register, none is refused, and the
+/// new register has the same texts.
 pub fn exported_texts_are_imported()
     ensures found { (x : Content) → IsContent x → AreFound (export x.ops) (standing_texts x.ops) }
     ensures passes { (x : Content) (replica note : List ℕ) (keep_going : Bool) (cuts : List Piece) (readings : List Reading) (at : ℕ) (problem : Problem)
@@ -43,8 +43,8 @@ pub fn exported_texts_are_imported()
         → (text : List ℕ) → HasStanding y.ops text ↔ HasStanding x.ops text }
 {}
 
-/// In every world, no entry is retired or superseded in an office's register that the office has still to enter. So every register of
-/// a world meets the premise of the first law.
+/// In every world, no entry is retired or superseded in an office's register before the office has entered it. So every
+/// register of a world meets the premise of the first law.
 pub fn no_register_is_ahead()
     ensures retired { (w : World) → IsWorld w → (office : List ℕ) → RetiresNoneAhead (w.offices office).content office }
     ensures superseded { (w : World) → IsWorld w → (office : List ℕ) → SupersedesNoneAhead (w.offices office).content office }

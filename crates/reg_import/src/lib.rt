@@ -1,4 +1,4 @@
-//! Many texts entered at once: what comes of each, over the register so far.
+//! Entering many texts: the action for each, given the register so far.
 #![tactic(auto)]
 
 mod import;

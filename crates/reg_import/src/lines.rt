@@ -1,4 +1,4 @@
-//! What is printed of an import, line by line.
+//! The lines that an import prints.
 
 ghost use Rattle.std.specs.Prelude.{◌≡◌, ◌++◌, [], ◌∷◌, ℕ, List, codes, decimal, map, IfOk, OnOk};
 ghost use Rattle.std.specs.String.{string_bytes};
@@ -72,7 +72,7 @@ fn key_taken(alloc: Global, entry: OpId) -> Result<Vec<u8>, AllocError>
     two_words(alloc, b"KeyTaken", &entry)
 }
 
-// What a fault is called, and what it names.
+// The name of a fault, and what it names.
 fn fault_words(alloc: Global, fault: &DefinitionFault) -> Result<Vec<u8>, AllocError>
     ensures { IfOk result (λ text. text.items ≡ fault_words fault.now) }
 {
@@ -90,7 +90,7 @@ fn fault_words(alloc: Global, fault: &DefinitionFault) -> Result<Vec<u8>, AllocE
     }
 }
 
-// What is against a text, without its place.
+// Why a text is rejected, without the place.
 fn problem_words(alloc: Global, problem: &Problem) -> Result<Vec<u8>, AllocError>
     ensures { IfOk result (λ text. text.items ≡ problem_words problem.now) }
 {
@@ -107,7 +107,7 @@ fn decimal(alloc: Global, number: usize) -> Result<Vec<u8>, AllocError>
     Vec::from_slice(alloc, text.as_bytes())
 }
 
-// What is against a text, and its place.
+// Why a text is rejected, with the place.
 fn problem_text(alloc: Global, problem: &Problem, at: usize) -> Result<Vec<u8>, AllocError>
     ensures { IfOk result (λ text. text.items ≡ problem_text problem.now at) }
 {
@@ -178,7 +178,7 @@ fn write_header(wtr: &mut Writer<Vec<u8>>) -> Result<(), AllocError>
     )
 }
 
-// A line of a text that has this authority, this code and this name.
+// The line of a text with this authority, code and name.
 fn write_named(
     alloc: Global,
     wtr: &mut Writer<Vec<u8>>,
@@ -231,7 +231,7 @@ fn write_line(
     }
 }
 
-/// A header, and a line for each text, of which the files have these names.
+/// A header, and a line for each text. The files have these names.
 pub fn lines_text(
     alloc: Global,
     names: &[String],

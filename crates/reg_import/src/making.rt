@@ -1,4 +1,4 @@
-//! The operations of a command, and the register that they join.
+//! The operations of a command, and the register after them.
 
 ghost use Rattle.std.specs.Prelude.{◌≡◌, ◌+◌, ◌<◌, ◌≤◌, ◌++◌, [], ◌∷◌, map, length, None, Ok, OnOk, IfOk};
 ghost use Rattle.reg_op.specs.Set as set;
@@ -117,7 +117,7 @@ pub fn push_ops(
     }
 }
 
-// The register of operations whose ids are a run's.
+// The register of operations with the ids of a run.
 fn register_of(alloc: Global, ops: Vec<Op>, run: Run) -> Result<Register, AllocError>
     requires run { IsRun run }
     requires by_id { ById ops.items }
@@ -137,14 +137,14 @@ fn register_of(alloc: Global, ops: Vec<Op>, run: Run) -> Result<Register, AllocE
     }
 }
 
-/// How many operations there are.
+/// The number of operations.
 pub fn count_of(ops: &[Op]) -> usize
     ensures { result ≡ length ops.now }
 {
     ops.len()
 }
 
-// The register that operations have joined, the first of which has this count.
+// The register after operations, the first of which has this count.
 fn joined(
     alloc: Global,
     register: &Register,
@@ -173,14 +173,14 @@ fn joined(
     }
 }
 
-/// The greatest own count that was seen.
+/// The greatest own count seen.
 pub fn last_count(seen: &Seen, replica: Uuid) -> u32
     ensures { result ≡ greatest replica seen.now }
 {
     seen.greatest(replica)
 }
 
-/// The register that the operations of a replica have joined, which are numbered on from the greatest own count seen.
+/// The register after the operations of a replica, which are numbered from the greatest own count seen plus one.
 pub fn join_ops(
     alloc: Global,
     register: Register,

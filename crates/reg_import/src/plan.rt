@@ -1,4 +1,4 @@
-//! What comes of each text, and the operations that are made of it.
+//! The action for each text, and its operations.
 
 ghost use Rattle.std.specs.Prelude.{◌≡◌, ◌+◌, ◌<◌, ◌≤◌, ◌++◌, ◌∷◌, [], true, length, IfOk, OnOk};
 ghost use Rattle.reg_office.specs.Making.{greatest};
@@ -22,14 +22,14 @@ use std::collections::BTreeMap;
 use uuid::Uuid;
 use wkt_crs::Definition;
 
-/// What came of each text, and the operations of all.
+/// The actions, and all operations.
 #[derive(Drop)]
 pub struct Plan {
     pub told: Vec<Told>,
     pub ops: Vec<Op>,
 }
 
-// These entries and a new one, which is ours.
+// These entries and a new one of this command.
 fn with_entered(
     alloc: Global,
     known: Vec<Known>,
@@ -51,7 +51,7 @@ fn with_entered(
     Ok(Bucket { known, ours: true })
 }
 
-// What there is of a text's key once this has come of it.
+// The bucket of a text's key after this action.
 fn then_of(
     alloc: Global,
     told: &Told,
@@ -73,7 +73,7 @@ fn then_of(
     }
 }
 
-// One text that is a definition.
+// A text that is a definition.
 fn step_defined(
     alloc: Global,
     index: &mut BTreeMap<KeyText, Bucket>,
@@ -99,7 +99,7 @@ fn step_defined(
     Ok(told)
 }
 
-// One text, and what is told of it at the end.
+// A text; its action is appended.
 fn step(
     alloc: Global,
     index: &mut BTreeMap<KeyText, Bucket>,
@@ -169,7 +169,7 @@ fn plan_over(
     Ok(Plan { told, ops })
 }
 
-/// What comes of each text over the register.
+/// The action for each text, given the register.
 pub fn plan_of(
     alloc: Global,
     register: &Register,

@@ -1,4 +1,4 @@
-//! Texts, as they are read.
+//! Readings of texts.
 
 ghost use Rattle.std.specs.Prelude.{◌≡◌, ◌+◌, IfOk, IfSome};
 ghost use Rattle.reg_import.specs.Readings.{IsReading, place_in, IsFileText};
@@ -8,17 +8,17 @@ use crs_value::Key;
 use std::alloc::{AllocError, Global};
 use wkt_crs::{Definition, DefinitionFault};
 
-/// What a text is read as.
+/// The reading of a text.
 #[derive(Drop)]
 pub enum Reading {
     /// A definition, and its key.
     Defined { definition: Definition, key: Key },
-    /// No definition, for this reason.
+    /// Not a definition, for this reason.
     Unread(DefinitionFault),
 }
 
-/// A text of a file: the number of the file among those that were given, from 0; the place of its first byte; the place that
-/// is told where something is against it; and what it is read as.
+/// A text of a file: the index of the file, from 0; the offset of its first byte; the offset that is reported if it is
+/// rejected; and its reading.
 #[derive(Drop)]
 pub struct FileText {
     pub file: usize,
@@ -27,7 +27,7 @@ pub struct FileText {
     pub reading: Reading,
 }
 
-// Where a text's fault is, or its first byte, in a file in which it begins at this place.
+// The place of a text's fault, or its first byte, in the file. The text begins at this place.
 fn told_at(place: usize, reading: &Reading) -> Option<usize>
     ensures { IfSome result (λ at. at ≡ place + place_in reading.now) }
 {
@@ -53,7 +53,7 @@ pub fn read_at(
     ensures { IfOk result (IsFileText file place text.now) }
 {
     let reading = read_text(alloc, text)?;
-    // No place is so great, since files are in memory.
+    // Places are smaller, since files are in memory.
     let Some(at) = told_at(place, &reading) else {
         return Err(AllocError);
     };

@@ -1,4 +1,4 @@
-//! What comes of a text, over the entries of its key.
+//! The action for a text, given the entries of its key.
 
 ghost use Rattle.std.specs.Prelude.{◌≡◌, ◌+◌, ◌<◌, ◌≤◌, ℕ, length, Some, IfSome, IfNone};
 ghost use Rattle.reg_seen.specs.Runs.{id_at};
@@ -10,32 +10,32 @@ use reg_op::OpId;
 use uuid::Uuid;
 use wkt_crs::DefinitionFault;
 
-/// What is done with a text whose key has another one.
+/// What to do with a text whose key has another text.
 #[derive(Clone, Copy, Debug, PartialEq, Eq)]
 pub enum Differs {
     /// It is refused.
     Refuse,
-    /// It is entered all the same.
+    /// It is entered anyway.
     Beside,
     /// It is entered, and the other entries of its key are retired.
     Revise,
 }
 
-/// What is against a text.
+/// Why a text is rejected.
 #[derive(Clone, Copy, Debug, PartialEq, Eq)]
 pub enum Problem {
-    /// It is read as no definition.
+    /// It is not a definition.
     Unread(DefinitionFault),
     /// This entry has its key, with another text.
     KeyTaken(OpId),
 }
 
-/// What comes of a text.
+/// The action for a text.
 #[derive(Clone, Copy, Debug, PartialEq, Eq)]
 pub enum Told {
     /// This entry has the text.
     Same(OpId),
-    /// This entry has the text, and all that have it are superseded.
+    /// This entry has the text, and all entries with it are superseded.
     Superseded(OpId),
     Entered(OpId),
     /// It is entered, and its key has another text.
@@ -43,7 +43,7 @@ pub enum Told {
     /// It is entered, and the other entries of its key are retired.
     Revised(OpId),
     Refused(Problem),
-    /// A number that it takes would pass 4,294,967,295, so that it makes nothing.
+    /// One of its numbers would exceed 4,294,967,295, so nothing is made.
     Spent,
 }
 
@@ -77,7 +77,7 @@ impl Told {
     }
 }
 
-// The id of this count, where there is one of a count so many further on.
+// The id with this count, if the count this many further on is in range.
 fn number(replica: Uuid, count: u64, more: usize) -> Option<OpId>
     requires { 0 < count }
     ensures some { IfSome result (λ id. (id ≡ id_at replica count) × (count + more ≤ 4294967295)) }
@@ -90,7 +90,7 @@ fn number(replica: Uuid, count: u64, more: usize) -> Option<OpId>
     OpId::new(replica, count as u32)
 }
 
-// What comes of a text that no entry has, where this entry has its key.
+// The action for a text that no entry has; this entry has its key.
 fn told_beside(
     differs: Differs,
     replica: Uuid,
@@ -130,7 +130,7 @@ fn told_new(replica: Uuid, count: u64) -> Told
     }
 }
 
-/// What comes of a text, where these entries have its key, and this is the count of a next operation.
+/// The action for a text. These entries have its key, and this is the count of the next operation.
 pub fn told_of(
     differs: Differs,
     replica: Uuid,

@@ -23,7 +23,7 @@ abbrev pub joined_with : {T C : Type 0} → (T → T → Result T C) → Result 
 joined_with joined (Ok x) y = joined x y
 joined_with joined (Err c) y = Err c
 
--- two joined, of which one may be a refusal already
+-- the join of two, where one may already be a refusal
 abbrev pub joined_both : {T C : Type 0} → (T → T → Result T C) → Result T C → Result T C → Result T C
 joined_both joined (Ok x) (Ok y) = joined x y
 joined_both joined (Ok x) (Err c) = Err c

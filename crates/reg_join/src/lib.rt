@@ -1,4 +1,4 @@
-//! Values that are joined: the laws, and the join of many, proved once from the laws.
+//! Values with a join: the laws, and the join of many, proved once from the laws.
 #![tactic(auto)]
 
 ghost use Rattle.std.specs.Prelude.{◌≡◌, ◌↔◌, List, [], ◌∷◌, Ok, Err, Result, IfOk};
@@ -10,7 +10,7 @@ use std::fmt;
 /// Why a join is refused.
 #[derive(Clone, Copy, Debug, PartialEq, Eq, Drop)]
 pub enum JoinFault<C> {
-    /// Two values that do not agree, and what they do not agree on.
+    /// Two values do not agree; this is where.
     Clash(C),
     /// An allocation failed.
     Memory,
@@ -19,7 +19,7 @@ pub enum JoinFault<C> {
 impl<C> JoinFault<C> {
     ghost use Rattle.reg_join.specs.Names.{name_of};
 
-    /// How it is printed.
+    /// The name that is printed.
     pub fn name(&self) -> &'static str
         ensures { result.now ≡ name_of self.now }
     {
@@ -48,19 +48,19 @@ pub trait Join: Sized + Drop {
 
     ghost joined: { Self → Self → Result Self Self.Clash };
 
-    /// What the join of two that agree is.
+    /// The join of two values that agree.
     ghost merged: { Self → Self → Self };
 
     /// They can be joined.
     ghost agree: { Self → Self → Type 0 };
 
-    /// The values that there are.
+    /// The set of values.
     ghost is_value: { Self → Type 0 };
 
     fn empty(alloc: Global) -> Self
         ensures { result ≡ nothing };
 
-    /// A clash is looked for before anything is allocated.
+    /// A clash is found before anything is allocated.
     fn join(&self, alloc: Global, other: &Self) -> Result<Self, JoinFault<Self::Clash>>
         ensures ok { IfOk result (λ r. joined self.now other.now ≡ Ok r) }
         ensures clash { (c : Self.Clash) → (result ≡ Err (JoinFault.Clash c)) ↔ (joined self.now other.now ≡ Err c) }
@@ -70,7 +70,7 @@ pub trait Join: Sized + Drop {
     ghost laws: { JoinLaws nothing joined merged agree is_value };
 }
 
-/// Joins all, from the left, starting with nothing. Two or more are joined without a copy of the first.
+/// Joins all values from left to right, starting with nothing, without a copy of the first if there are two or more.
 pub fn join_all<T: Join>(alloc: Global, xs: &[T]) -> Result<T, JoinFault<T::Clash>>
     ensures ok { IfOk result (λ r. all_joined T.joined (Ok T.nothing) xs.now ≡ Ok r) }
     ensures clash { (c : T.Clash) → result ≡ Err (JoinFault.Clash c) → all_joined T.joined (Ok T.nothing) xs.now ≡ Err c }
@@ -97,15 +97,15 @@ fn join_more<T: Join>(alloc: Global, first: T, xs: &[T]) -> Result<T, JoinFault<
     Ok(all)
 }
 
-/// Where each value of a list agrees with each, there is a join of them, and neither their order nor how often each
-/// stands there matters to it. The join of one is that one.
+/// If the values of a list agree pairwise, they have a join, which depends neither on their order nor on repeats. The
+/// join of one value is that value.
 pub fn order_is_free<T: Join>()
     ensures agreement { (xs : List T) → AllAgree T.agree xs → (r : T) × (all_joined T.joined (Ok T.nothing) xs ≡ Ok r) }
     ensures order { (xs ys : List T) → AllAgree T.agree xs → SameMembers xs ys → all_joined T.joined (Ok T.nothing) xs ≡ all_joined T.joined (Ok T.nothing) ys }
     ensures one { (x : T) → T.is_value x → all_joined T.joined (Ok T.nothing) (x ∷ []) ≡ Ok x }
 {}
 
-/// The join of three that agree, each with each, is one, whichever two are joined first.
+/// The join of three values that agree pairwise does not depend on which two are joined first.
 pub fn join_is_associative<T: Join>()
     ensures associative { (x y z : T) → T.agree x y → T.agree x z → T.agree y z → joined_both T.joined (T.joined x y) (Ok z) ≡ joined_both T.joined (Ok x) (T.joined y z) }
     ensures joined { (x y z : T) → T.agree x y → T.agree x z → T.agree y z → joined_both T.joined (T.joined x y) (Ok z) ≡ Ok (T.merged (T.merged x y) z) }

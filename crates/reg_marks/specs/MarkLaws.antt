@@ -1,4 +1,4 @@
--- Sets of least marks join by union, of which the least are kept.
+-- The join of two sets of least marks has the least marks of their union.
 use Rattle.std.proofs.Common.{◌≡◌, ◌&&◌, Bool, true, false, Option, Some, None, Result, Ok, refl, ap, sym, ◌∙◌, subst}
 use Rattle.std.proofs.lemmas.Bool.{true≢false, and_from, and_parts}
 use Rattle.std.specs.declared.cmp.Ordering.{Ordering}

@@ -1,4 +1,4 @@
--- Marks, and the least of them by what they are about.
+-- Marks, and the least mark of each target.
 use Rattle.std.specs.Prelude.{◌≡◌, Bool, true, false, ◌&&◌, List, [], ◌∷◌, Option, Some, None, if◌then◌else◌, refl}
 use Rattle.std.specs.List.{list_any}
 use Rattle.std.specs.List.Sorted.{IsSorted}
@@ -30,8 +30,8 @@ mark_code =
     code_by ((Id × Option Id) × Id) (coded× (coded× id_code (coded_option id_code)) id_code) (λ m. ((m.target.entry, m.target.by), m.id))
     (λ p. record { target = record { entry = p.0.0; by = p.0.1 }; id = p.1 }) (λ _. refl)
 
--- beside p there is no need of m: it retires the same entry, or supersedes it by the same one, and has a greater id, or it
--- supersedes an entry that p retires
+-- p makes m redundant: m retires the same entry, or supersedes it by the same one, and has a greater id; or m supersedes
+-- an entry that p retires
 abbrev pub lessens_by : Option Id → Option Id → Bool → Bool
 lessens_by None None before = before
 lessens_by None (Some n) before = true
@@ -41,7 +41,7 @@ lessens_by (Some n) (Some o) before = is_same n o && before
 abbrev pub lessens : Mark → Mark → Bool
 lessens p m = is_same p.target.entry m.target.entry && lessens_by p.target.by m.target.by (is_before p.id m.id)
 
--- what a mark at the target makes needless: a greater one there, and where it retires an entry, each supersession of it
+-- what a mark at the target makes redundant: a greater one there and, if it retires an entry, each supersession of it
 abbrev pub covers_by : Option Id → Option Id → Bool
 covers_by None by = true
 covers_by (Some n) None = false
@@ -50,7 +50,7 @@ covers_by (Some n) (Some o) = is_same n o
 abbrev pub covers : Target → Mark → Bool
 covers t m = is_same t.entry m.target.entry && covers_by t.by m.target.by
 
--- the least: those of which there is need beside all others
+-- the least: those that no other makes redundant
 abbrev pub least : MarkSet → MarkSet
 least s = topmost lessens s
 
@@ -71,7 +71,7 @@ pub record BeginsAt (target : Target) (t : Mark → Bool) : Type 0 where
   pub from : (m : Mark) → t m ≡ true → is_lt (target_cmp m.target target) ≡ false
   pub down : (m n : Mark) → is_lt (mark_cmp n m) ≡ false → is_lt (target_cmp m.target target) ≡ false → t n ≡ true → t m ≡ true
 
--- of sorted marks that follow one at a target, those that none before them covers
+-- of the sorted marks after a target's first, those not covered by an earlier one
 abbrev pub is_covered : Option Target → Mark → Bool
 is_covered None m = false
 is_covered (Some t) m = covers t m

@@ -1,4 +1,4 @@
-//! Marks: which entries are retired, and which pairs superseded, each by its least id.
+//! Marks: the retired entries and the superseded pairs, each with its least id.
 #![tactic(auto)]
 
 mod mark;

@@ -1,4 +1,4 @@
-//! Marks, and what they are about.
+//! Marks and their targets.
 
 ghost use Rattle.std.specs.Prelude.{◌≡◌};
 ghost use Rattle.std.specs.Ordering.{is_lt};
@@ -6,14 +6,14 @@ ghost use Rattle.reg_marks.specs.Marks.{covers, is_at, mark_cmp, target_cmp};
 
 use reg_op::OpId;
 
-/// What a mark is about: an entry that is retired, or superseded by another.
+/// The target of a mark: an entry that is retired, or superseded by another.
 #[derive(Clone, Copy, Debug, PartialEq, Eq, PartialOrd, Ord)]
 pub struct Target {
     pub entry: OpId,
     pub by: Option<OpId>,
 }
 
-/// That an operation retires or supersedes.
+/// A mark: an operation retires or supersedes its target.
 #[derive(Clone, Copy, Debug, PartialEq, Eq, PartialOrd, Ord)]
 pub struct Mark {
     pub target: Target,
@@ -32,7 +32,7 @@ pub(crate) fn is_below(mark: &Mark, target: &Target) -> bool
     mark.target.cmp(target).is_lt()
 }
 
-/// Whether a mark at the target makes the other needless, if it comes first.
+/// Whether a mark at the target makes the other redundant, if it comes first.
 pub(crate) fn covers(target: &Target, mark: &Mark) -> bool
     ensures { result ≡ covers target.now mark.now }
 {

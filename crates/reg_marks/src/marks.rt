@@ -18,7 +18,7 @@ use std::alloc::{AllocError, Global};
 use std::convert::Infallible;
 use std::marker::Model;
 
-/// The least mark of each entry that is retired, or else of each pair of which one supersedes the other. They are sorted.
+/// The least mark of each retired entry, or of each pair in which one supersedes the other. They are sorted.
 #[derive(Drop)]
 pub struct Marks {
     marks: Vec<Mark>,
@@ -38,7 +38,7 @@ impl Model for Marks {
 }
 
 impl Marks {
-    /// No marks, and no memory.
+    /// No marks, without allocating.
     pub fn new(alloc: Global) -> Marks
         ensures { result ≡ set.empty }
     {
@@ -80,7 +80,7 @@ impl Marks {
         }
     }
 
-    /// Whether beside some mark there is no need of this one.
+    /// Whether some mark makes this one redundant.
     pub fn lessens(&self, mark: &Mark) -> bool
         ensures { result ≡ any (λ p. lessens p mark.now) self.now }
     {
@@ -112,7 +112,7 @@ impl Marks {
         }
     }
 
-    /// Whether a mark at the target would make some mark needless, if it came first.
+    /// Whether a mark at the target would make some mark redundant, if it came first.
     pub fn has_covered(&self, target: &Target) -> bool
         ensures { result ≡ any (λ m. covers target.now m) self.now }
     {
@@ -122,7 +122,7 @@ impl Marks {
         }
     }
 
-    /// Takes one more mark, without those of which there is no need beside it. A needless one changes nothing.
+    /// Adds a mark and removes those that it makes redundant. A redundant mark changes nothing.
     pub fn insert(&mut self, mark: Mark) -> Result<(), AllocError>
         ensures ok { OnOk result (self.new ≡ least (set.insert self.old mark)) }
         ensures err { OnErr result (self.new ≡ self.old) }
@@ -136,7 +136,7 @@ impl Marks {
         Ok(())
     }
 
-    /// A copy in memory of its own.
+    /// A copy with its own memory.
     pub fn try_clone(&self, alloc: Global) -> Result<Marks, AllocError>
         ensures { IfOk result (λ copy. copy ≡ self.now) }
     {
@@ -158,7 +158,7 @@ fn first_from(marks: &[Mark], target: &Target) -> Option<Mark>
     None
 }
 
-// Removes what a mark at the target makes needless. There is seldom any.
+// Removes the marks that a mark at the target makes redundant. There are seldom any.
 fn remove_covered(marks: &mut Vec<Mark>, target: &Target)
     requires { IsSorted mark_cmp marks.old.items }
     ensures items { marks.new.items ≡ filter (λ m. not (covers target.now m)) marks.old.items }
@@ -173,7 +173,7 @@ fn remove_covered(marks: &mut Vec<Mark>, target: &Target)
     }
 }
 
-// Puts a mark before the first that is not below it. There is room.
+// Inserts a mark before the first that is not below it. There is room.
 fn put_in_place(marks: &mut Vec<Mark>, mark: Mark)
     requires sorted { IsSorted mark_cmp marks.old.items }
     requires room { vec_len marks.old < vec_capacity marks.old }

@@ -40,7 +40,7 @@ pub record Contested : Type 0 where
   pub key : KeyBytes
   pub entries : List Id
 
--- each key in conflict, in their order, with all its entries that are not retired, by id
+-- the keys in conflict, in order, each with all its entries that are not retired, ordered by id
 pub record AreConflicts (rs : List Row) (cs : List Contested) : Type 0 where
   pub ascend : Ascends key_cmp (map (λ c. c.key) cs)
   pub each : (k : KeyBytes) → Contains (map (λ c. c.key) cs) k ↔ IsInConflict HasKey rs k

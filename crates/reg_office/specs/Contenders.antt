@@ -41,7 +41,7 @@ pub record AreContenders (rs : List Row) (cs : List Contender) : Type 0 where
 abbrev pub Adds : Row → List Contender → List Contender → Type 0
 Adds r old new = ((r.status ≡ Some Retired) × (new ≡ old)) ⊎ ((r.status ≢ Some Retired) × ((c : Contender) × IsOfRow c r × (new ≡ old ++ c ∷ [])))
 
--- the key of the first, where the texts of those that follow are not all the same
+-- the key of the first, if the texts of the following ones are not all the same
 abbrev pub conflict_at : Contender → List Contender → List Contested
 conflict_at first others =
     if list_any (has_other_text first) others
@@ -65,7 +65,7 @@ pub record Enters (cs : List Contender) (k : KeyBytes) (i : Id) : Type 0 where
   pub key_of_one : key_of one ≡ k
   pub is : one.entry ≡ i
 
--- the keys of which two differ, in their order, each with all its entries
+-- the keys with different texts, in order, each with all its entries
 pub record Tells (cs : List Contender) (ks : List Contested) : Type 0 where
   pub ascend : Ascends key_cmp (map (λ c. c.key) ks)
   pub sound : (c : Contested) → Contains ks c → Differ cs c.key

@@ -14,7 +14,7 @@ abbrev pub effect_of : Command → Id → Body
 effect_of Retire named = Retiring named
 effect_of (Supersede old) named = Superseding old named
 
--- what there is against one effect, which may be made by the same command already
+-- the refusal of one effect, which the same command may have made already
 abbrev pub fault_of : Command → Ops → Bool → Id → Option OfficeFault
 fault_of Retire ops again entry =
     if not (enters ops entry) then Some (fault.UnknownEntry entry)

@@ -1,4 +1,4 @@
--- The texts that a register gives out: those of all entries that stand.
+-- Exported texts: those of all entries that are not retired.
 use Rattle.std.specs.Prelude.{◌++◌, ◌∷◌, [], true, false, Bool, List, ℕ, Option, Some, None, if◌then◌else◌}
 use Rattle.std.specs.List.{flat_map}
 use Rattle.reg_op.specs.Operations.{Ops}
@@ -12,7 +12,7 @@ is_retired (Some Retired) = true
 is_retired (Some Superseded) = false
 is_retired (Some Valid) = false
 
--- an entry's canonical text and a newline, where it is not retired
+-- an entry's canonical text and a newline, if it is not retired
 abbrev pub row_line : Row → List ℕ
 row_line r = if is_retired r.status then [] else r.definition ++ 10 ∷ []
 

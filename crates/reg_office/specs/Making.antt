@@ -1,4 +1,4 @@
--- What a command of an office makes of a content.
+-- The outcome of a command on a content.
 use Rattle.std.specs.Prelude.{ℕ, ◌+◌, max, nat_lt, not, ◌&&◌, Bool, List, [], ◌∷◌, length, Option, Some, None, Result, Ok, Err, if◌then◌else◌}
 use Rattle.std.specs.Ordering.{is_eq}
 use Rattle.reg_op.specs.Set as set
@@ -12,7 +12,7 @@ use Rattle.reg_seen.specs.Runs.{replica_cmp, id_at}
 use Rattle.reg_office.specs.declared.fault.OfficeFault.{OfficeFault}
 use Rattle.reg_office.specs.declared.fault.OfficeFault.TheVariants as fault
 
--- the greatest count of a replica among ids, or 0 where there is none
+-- the greatest count of a replica among ids, or 0 if there is none
 abbrev pub greatest_of : List ℕ → List Id → ℕ
 greatest_of replica [] = 0
 greatest_of replica (i ∷ is) = if is_eq (replica_cmp i.replica replica) then max i.count (greatest_of replica is) else greatest_of replica is
@@ -20,12 +20,12 @@ greatest_of replica (i ∷ is) = if is_eq (replica_cmp i.replica replica) then m
 abbrev pub greatest : List ℕ → Ids → ℕ
 greatest replica seen = greatest_of replica (set.items seen)
 
--- operations of a replica with one note, numbered on from a count
+-- operations of a replica with one note, numbered from a count
 abbrev pub numbered : List ℕ → ℕ → List ℕ → List Body → List Op
 numbered replica count note [] = []
 numbered replica count note (b ∷ bs) = record { id = id_at replica count; body = b; note = note } ∷ numbered replica (count + 1) note bs
 
--- what a content has against one more effect
+-- the refusal of one more effect on a content
 abbrev pub objection : Ops → Body → Option OfficeFault
 objection ops (Enter text) = None
 objection ops (Retire entry) =
@@ -47,7 +47,7 @@ abbrev pub else_next : Option OfficeFault → Option OfficeFault → Option Offi
 else_next (Some f) rest = Some f
 else_next None rest = rest
 
--- the first that it has against several, each counted as made for the next
+-- the first refusal among several effects, each as if the previous ones were made
 abbrev pub objections : Content → List Op → Option OfficeFault
 objections x [] = None
 objections x (o ∷ os) = else_next (objection x.ops o.body) (objections (with_op x o) os)
@@ -56,7 +56,7 @@ objections x (o ∷ os) = else_next (objection x.ops o.body) (objections (with_o
 abbrev pub note_fault : List ℕ → Option OfficeFault
 note_fault note = if nat_lt 200 (length note) then Some fault.NoteTooLong else None
 
--- the last of some numbers from a first one on would pass 4,294,967,295
+-- the last of some consecutive numbers would exceed 4,294,967,295
 abbrev pub is_spent : ℕ → ℕ → Bool
 is_spent greatest number = nat_lt 0 number && nat_lt 4294967295 (greatest + number)
 
@@ -64,8 +64,8 @@ abbrev pub made_unless : Option OfficeFault → Bool → List Op → Result (Lis
 made_unless (Some f) spent os = Err f
 made_unless None spent os = if spent then Err fault.CountSpent else Ok os
 
--- the operations of a command with their note: numbered on from the greatest own count seen, or refused. A long note is
--- refused first, also where no operation would have it
+-- the operations of a command with their note, numbered from the greatest own count seen plus one, or its refusal. A
+-- long note is refused first, even without operations
 abbrev pub made : Content → List ℕ → List ℕ → List Body → Result (List Op) OfficeFault
 made x replica note bodies =
     let os = numbered replica (greatest replica x.seen + 1) note bodies in

@@ -26,7 +26,7 @@ office_id (office.AlreadySuperseded id) = Some id
 office_id office.CountSpent = None
 office_id office.Memory = None
 
--- a report that did not go out whole
+-- a report that was not completely written
 abbrev pub report_name : ReportFault → List ℕ
 report_name (report.WriteFailed at) = codes "WriteFailed"
 report_name report.Memory = codes "Memory"

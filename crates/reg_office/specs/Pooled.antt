@@ -1,4 +1,4 @@
--- What files that were sent hold.
+-- The contents of sent files.
 use Rattle.std.specs.Prelude.{◌≡◌, ℕ, List}
 use Rattle.reg_op.specs.Set as set
 use Rattle.reg_op.specs.Ids.{Ids}
@@ -31,7 +31,7 @@ ops_in (OfRegister x) = x.ops
 ops_in (OfSeen seen) = set.empty
 ops_in (OfPiece piece) = piece.ops
 
--- it tells of one who had reached these operations: all, their ids, or what someone lacked of them
+-- the file of an office that had reached these operations: their state, their ids, or a piece
 abbrev pub TellsOf : Ops → Pooled → Type 0
 TellsOf reached (OfRegister x) = x ≡ state reached
 TellsOf reached (OfSeen seen) = seen ≡ ids reached

@@ -3,7 +3,7 @@ use Rattle.std.specs.Prelude.{◌≡◌, ℕ, ◌<◌, ◌≤◌, true, false, L
 use Rattle.std.specs.List.{list_any}
 use Rattle.reg_op.specs.Ids.{Id, is_same}
 
--- none of the entries before this place stands before itself; the one at it does, where there is one
+-- no entry before this index is a repeat; the one at it is, if there is one
 pub record IsFirstRepeat (named : List Id) (at : ℕ) : Type 0 where
   pub within : at ≤ length named
   pub fresh : (k : ℕ) (d : Id) → k < at → list_any (is_same (slice_index_or named k d)) (take k named) ≡ false

@@ -25,18 +25,18 @@ IsReport Gaps x text = (gaps : List Gap) × AreGaps x.seen gaps × (text ≡ she
 abbrev pub rows_of : Id → Content → List Row
 rows_of entry x = filter (λ (r : Row). is_same entry r.entry) (rows x.ops)
 
--- the lines of one entry alone, after the header
+-- the line of one entry, after the header
 abbrev pub IsEntryReport : Id → Content → List ℕ → Type 0
 IsEntryReport entry x text = IsSheet entries_header IsEntryLine (rows_of entry x) text
 
 abbrev pub IsOpsReport : Content → List ℕ → Type 0
 IsOpsReport x text = text ≡ sheet_of ops_header op_fields (set.items x.ops)
 
--- some text that is a report went out whole
+-- a text that is a report was completely written
 abbrev pub Reports : (List ℕ → Type 0) → SinkState → SinkState → Type 0
 Reports IsText old new = (text : List ℕ) × IsText text × WritesAll text old new
 
--- exactly the first n bytes of such a text went out, or nothing was written
+-- exactly the first n bytes of such a text were written, or nothing was
 abbrev pub IsReportFault : (List ℕ → Type 0) → SinkState → SinkState → ReportFault → Type 0
 IsReportFault IsText old new (fault.WriteFailed n) = (text : List ℕ) × IsText text × IsCutAt n text old new
 IsReportFault IsText old new fault.Memory = new ≡ old

@@ -1,4 +1,4 @@
--- Offices that exchange files, under any list of events.
+-- Offices that exchange files, after any list of events.
 use Rattle.std.specs.Prelude.{◌≡◌, ◌⊎◌, ℕ, ◌<◌, IsUtf8, List, [], ◌∷◌, All, length, Option, Some, None, Result, Ok, Err, find, slice_get, if◌then◌else◌}
 use Rattle.std.specs.Ordering.{is_eq}
 use Rattle.wkt_crs.specs.Definition.{IsDefinition}
@@ -33,14 +33,14 @@ pub record World : Type 0 where
   pub offices : List ℕ → Office
   pub pool : List Sent
 
--- nobody has anything: each last file is that of an empty register
+-- every office has an empty register, and its file as the last file
 abbrev pub start : World
 start = record { offices = λ i. record { content = nothing; last = file [] []; reached = set.empty }; pool = [] }
 
 -- an office makes the operations of one command, each with its note; sends its last file; sends a summary of what it has
 -- seen; sends the piece of its register for a summary at a place of the pool; takes a file from a place of the pool; takes
--- the operation of one id in such a file; begins again from its last file; or is stopped while it keeps what comes of an event,
--- and begins again from the bytes that are left
+-- the operation of one id in such a file; restarts from its last file; or is stopped while it keeps the result of an event,
+-- and restarts from the bytes that are left
 pub data Event : Type 0 where
   Make : (office : List ℕ) (effects : List Body) (note : List ℕ) → Event
   Send : (office : List ℕ) → Event
@@ -62,10 +62,10 @@ office_of (TakeOne i place id) = i
 office_of (Restart i) = i
 office_of (Stop e left) = office_of e
 
--- ---- what comes of an event
+-- ---- the outcome of an event
 
--- nothing, as of what is refused; a clash; a file that is sent; a file that is made and sent, by one who has reached this;
--- or an office's content, and what it has reached
+-- nothing, such as after a refusal; a clash; a file to be sent; a file to be made and sent, by an office that has reached
+-- this; or an office's content, and what it has reached
 pub data Outcome : Type 0 where
   Unchanged : Outcome
   Clashes : (id : Id) → Outcome
@@ -89,25 +89,25 @@ abbrev pub takes_one : World → List ℕ → Option Op → Outcome
 takes_one w i (Some o) = joins w i (state (one o)) (one o)
 takes_one w i None = Unchanged
 
--- an office joins a piece, or has not seen the basis
+-- an office joins a piece, unless it has not seen the basis
 abbrev pub gained_by_piece : List ℕ → Ops → Result Content PieceRefusal → Outcome
 gained_by_piece i reached (Ok x) = Gains i x reached
 gained_by_piece i reached (Err (Basis id)) = Unchanged
 gained_by_piece i reached (Err (Clash id)) = Clashes id
 
--- a summary is nothing to join
+-- a summary cannot be joined
 abbrev pub takes : World → List ℕ → Pooled → Ops → Outcome
 takes w i (OfRegister x) more = joins w i x more
 takes w i (OfSeen seen) more = Unchanged
 takes w i (OfPiece piece) more = gained_by_piece i (set.union (w.offices i).reached more) (joined_piece (w.offices i).content piece)
 
--- a piece is made for a summary alone
+-- a piece is only made for a summary
 abbrev pub sends_piece : World → List ℕ → Pooled → Outcome
 sends_piece w i (OfRegister x) = Unchanged
 sends_piece w i (OfSeen seen) = Writes (OfPiece (piece_for (w.offices i).content seen)) (w.offices i).reached
 sends_piece w i (OfPiece piece) = Unchanged
 
--- the file is read, and this comes of it
+-- the file is read, and this is the outcome
 abbrev pub Reads : (Pooled → Ops → Outcome) → Option Sent → Outcome → Type 0
 Reads next None out = out ≡ Unchanged
 Reads next (Some sent) out = (what : Pooled) × HoldsAny sent.bytes what × (out ≡ next what sent.reached)
@@ -118,7 +118,7 @@ picked id s = find (λ o. is_same o.id id) (set.items s)
 
 -- ---- what a stop leaves
 
--- the bytes are a shelf of the content that an office has by it
+-- the bytes are a shelf of the content of this outcome
 abbrev pub IsShelfAfter : List ℕ → Outcome → Type 0
 IsShelfAfter left (Gains i x reached) = IsShelf left x
 IsShelfAfter left out = ⊥
@@ -127,7 +127,8 @@ IsShelfAfter left out = ⊥
 abbrev pub stays : World → List ℕ → Outcome
 stays w i = Gains i (w.offices i).content (w.offices i).reached
 
--- the bytes are a shelf of what was to come, and it has come; or else of what there was, and that stays
+-- the bytes are a shelf of the new content, and the event happens; otherwise they are a shelf of the old one, which
+-- stays
 abbrev pub Leaves : (Outcome → Type 0) → Outcome → List ℕ → Outcome → Type 0
 Leaves Comes was left out = (Comes out × IsShelfAfter left out) ⊎ (IsShelfAfter left was × ((new : Outcome) → Comes new → ¬ (IsShelfAfter left new)) × (out ≡ was))
 
@@ -143,11 +144,11 @@ ComesOf w (TakeOne i place id) out = Reads (λ what reached. takes_one w i (pick
 ComesOf w (Restart i) out = (x : Content) × Holds (w.offices i).last x × (out ≡ Gains i x (w.offices i).reached)
 ComesOf w (Stop e left) out = Leaves (ComesOf w e) (stays w (office_of e)) left out
 
--- bytes that are left are a shelf of what was to come of the event
+-- the bytes that are left are a shelf of the event's new content
 abbrev pub LeavesNew : World → Event → List ℕ → Type 0
 LeavesNew w e left = (new : Outcome) × ComesOf w e new × IsShelfAfter left new
 
--- what an office makes or takes is kept
+-- the events whose result is kept: what an office makes or takes
 abbrev pub IsKept : Event → Type 0
 IsKept (Make i effects note) = Unit {0}
 IsKept (Take i place) = Unit {0}
@@ -160,8 +161,8 @@ IsEffect (Enter text) = IsDefinition text
 IsEffect (Supersede old newer) = IsId old × IsId newer
 IsEffect (Retire entry) = IsId entry
 
--- who commands has a UUID, and notes a text of UTF-8. A stop comes while something is kept, and leaves a
--- shelf of that or of what there was: at no moment of `keep` is any image of the disk anything else
+-- an office that makes operations has a UUID, and its note is UTF-8. A stop happens while something is kept, and
+-- leaves a shelf of that or of the old content: during `keep` the disk has no other image
 abbrev pub IsEvent : World → Event → Type 0
 IsEvent w (Make i effects note) = (length i ≡ 16) × All (λ b. b < 256) i × All IsEffect effects × IsUtf8 note
 IsEvent w (Stop e left) = IsKept e × IsEvent w e × (IsShelfAfter left (stays w (office_of e)) ⊎ LeavesNew w e left)
@@ -173,11 +174,11 @@ IsEvent w e = Unit {0}
 abbrev pub put : World → List ℕ → Office → World
 put w i office = record { offices = λ j. if is_eq (replica_cmp j i) then office else w.offices j; pool = w.pool }
 
--- a file has come into the pool, and nothing else has changed
+-- a file was added to the pool, and nothing else has changed
 abbrev pub pooled : World → Sent → World
 pooled w sent = record { offices = w.offices; pool = sent ∷ w.pool }
 
--- the last file of an office holds its content: no world comes after a content whose file is too large
+-- the last file of an office holds its content: if its file would be too large, there is no next world
 abbrev pub After : World → Outcome → World → Type 0
 After w Unchanged v = v ≡ w
 After w (Clashes id) v = v ≡ w

@@ -21,7 +21,7 @@ pub enum Command {
 }
 
 impl Command {
-    // Why there is no effect on an entry, which may have been named before.
+    // Why the command is refused for this entry (`again`: it was named before).
     fn fault(&self, register: &Register, again: bool, entry: OpId) -> Option<OfficeFault>
         ensures { result ≡ fault_of self.now register.now.ops again entry }
     {
@@ -59,7 +59,7 @@ impl Command {
         }
     }
 
-    /// Why the command is refused for the first of the entries for which it is.
+    /// The first refusal among the entries.
     pub fn first_fault(
         &self,
         alloc: Global,
@@ -86,7 +86,7 @@ impl Command {
         }
     }
 
-    /// An operation for each of the entries with one note, numbered on from a first count.
+    /// An operation for each entry, with one note, numbered from a first count.
     pub fn ops(
         &self,
         alloc: Global,

@@ -16,7 +16,7 @@ use reg_op::OpId;
 use reg_state::Register;
 use std::alloc::{AllocError, Global};
 
-/// A key of which two entries, neither of them retired, have different texts.
+/// A key with two entries, neither of them retired, that have different texts.
 #[derive(Drop)]
 pub struct Conflict {
     pub authority: Text,
@@ -25,7 +25,7 @@ pub struct Conflict {
     pub entries: Vec<OpId>,
 }
 
-/// The keys in conflict, by the bytes of the authority and then by those of the code.
+/// The keys in conflict, ordered by the bytes of the authority and then of the code.
 pub fn conflicts(alloc: Global, register: &Register) -> Result<Vec<Conflict>, AllocError>
     ensures { IfOk result (λ made. AreConflicts (rows register.now.ops) (map conflict_seen made.items)) }
 {
@@ -35,7 +35,7 @@ pub fn conflicts(alloc: Global, register: &Register) -> Result<Vec<Conflict>, Al
     Ok(made)
 }
 
-// The keys of which two differ.
+// The keys with different texts.
 fn conflicts_among(alloc: Global, contenders: &[Contender]) -> Result<Vec<Conflict>, AllocError>
     requires { IsSorted contender_cmp contenders.now }
     ensures { IfOk result (λ made. Tells contenders.now (map conflict_seen made.items)) }
@@ -50,7 +50,7 @@ fn conflicts_among(alloc: Global, contenders: &[Contender]) -> Result<Vec<Confli
     Ok(made)
 }
 
-// How many at the front have the key.
+// The number of leading contenders with the key.
 fn leading(first: &Contender, others: &[Contender]) -> usize
     ensures { result ≡ prefix_len (has_same_key first.now) others.now }
 {
@@ -67,7 +67,7 @@ fn differ(first: &Contender, others: &[Contender]) -> bool
     others.iter().any(|other| has_other_text(first, other))
 }
 
-// Puts the key of some contenders at the end, where their texts differ.
+// Appends the key of some contenders, if their texts differ.
 fn push_conflict(
     alloc: Global,
     conflicts: &mut Vec<Conflict>,

@@ -1,4 +1,4 @@
-//! Entries that are not retired, by key: those that may be in conflict.
+//! Entries that are not retired, ordered by key: those that may be in conflict.
 
 ghost use Rattle.std.specs.Prelude.{◌≡◌, ◌++◌, [], ◌∷◌, map, IfOk, OnOk};
 ghost use Rattle.std.specs.List.Sorted.{IsSorted};
@@ -46,7 +46,7 @@ pub fn has_other_text(left: &Contender, right: &Contender) -> bool
     left.definition.as_bytes() != right.definition.as_bytes()
 }
 
-// Puts an entry at the end, unless it is retired.
+// Appends an entry, unless it is retired.
 fn push_contender(
     alloc: Global,
     contenders: &mut Vec<Contender>,

@@ -1,4 +1,4 @@
-//! Ids in their order, each once.
+//! Ids in order, each once.
 
 ghost use Rattle.std.specs.Prelude.{◌≡◌};
 ghost use Rattle.reg_op.specs.Set as set;
@@ -6,7 +6,7 @@ ghost use Rattle.reg_op.specs.Ids.{id_cmp};
 
 use reg_op::OpId;
 
-/// The ids in their order, each once.
+/// The ids in order, each once.
 pub fn distinct(ids: Vec<OpId>) -> Vec<OpId>
     ensures { result.items ≡ set.items (set.from_list {R = id_cmp} ids.items) }
 {

@@ -11,7 +11,7 @@ use csv::Writer;
 use reg_op::{OpId, Status};
 use std::alloc::{AllocError, Global};
 
-/// How a report names a status.
+/// The word for a status in a report.
 pub fn status_word(status: Status) -> &'static [u8]
     ensures { result.now ≡ status_word (Some status) }
 {
@@ -34,7 +34,7 @@ fn spaced_after(text: &mut Vec<u8>, ids: &[OpId]) -> Result<(), AllocError>
     Ok(())
 }
 
-/// The ids with one space between.
+/// The ids, separated by spaces.
 pub fn spaced(alloc: Global, ids: &[OpId]) -> Result<Vec<u8>, AllocError>
     ensures { IfOk result (λ text. text.items ≡ spaced ids.now) }
 {

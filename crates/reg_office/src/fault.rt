@@ -8,16 +8,16 @@ use std::fmt;
 /// Why an office refuses a command. It prints as its name and the entry that it names.
 #[derive(Clone, Copy, Debug, PartialEq, Eq)]
 pub enum OfficeFault {
-    /// A note has more than 200 bytes.
+    /// The note has more than 200 bytes.
     NoteTooLong,
-    /// Nothing entered this id.
+    /// The register has no such entry.
     UnknownEntry(OpId),
-    /// An entry was to supersede itself.
+    /// An entry would supersede itself.
     SameEntry,
     AlreadyRetired(OpId),
-    /// The old entry is superseded by this one already.
+    /// The old entry is already superseded by this one.
     AlreadySuperseded(OpId),
-    /// A number would pass 4,294,967,295.
+    /// A number would exceed 4,294,967,295.
     CountSpent,
     Memory,
 }
@@ -25,7 +25,7 @@ pub enum OfficeFault {
 impl OfficeFault {
     ghost use Rattle.reg_office.specs.Names.{office_name, office_id};
 
-    /// How it is printed.
+    /// The name that is printed.
     pub fn name(self) -> &'static str
         ensures { result.now ≡ office_name self }
     {
@@ -40,7 +40,7 @@ impl OfficeFault {
         }
     }
 
-    /// The entry that it names, where it names one.
+    /// The entry that it names, if any.
     pub fn id(self) -> Option<OpId>
         ensures { result ≡ office_id self }
     {

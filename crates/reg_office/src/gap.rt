@@ -16,7 +16,7 @@ pub struct Gap {
     pub high: u32,
 }
 
-/// What is missing below each replica's greatest count, by replica and then by count.
+/// The missing counts below each replica's greatest, ordered by replica and then by count.
 pub fn gaps(alloc: Global, register: &Register) -> Result<Vec<Gap>, AllocError>
     ensures { IfOk result (λ gaps. AreGaps register.now.seen gaps.items) }
 {

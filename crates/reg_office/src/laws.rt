@@ -1,4 +1,4 @@
-//! The laws of what commands make, of reports, and of every world. A call does nothing: its contract is the law.
+//! The laws of commands, of reports, and of every world. The functions do nothing: their contracts are the laws.
 
 ghost use Rattle.std.specs.Prelude.{◌≡◌, ◌≢◌, ◌↔◌, ◌⊎◌, ◌+◌, ◌++◌, ◌<◌, ◌≤◌, ℕ, List, [], ◌∷◌, Contains, map, length, slice_get, true, false, None, Some, Ok, Err};
 ghost use Rattle.csv.specs.Writing.{row_text, default_writer};
@@ -34,8 +34,8 @@ ghost use Rattle.reg_office.specs.Pooled.{Pooled, HoldsAny, ops_in, TellsOf};
 ghost use Rattle.reg_office.specs.Reached.{Reaches, WasMade};
 ghost use Rattle.reg_office.specs.World.{World, start, Event, Make, Send, SendSeen, SendPiece, Take, TakeOne, Restart, Stop, office_of, Sent, Outcome, Clashes, IsEvent, IsTooMuch, IsWorld, ComesOf, After, pooled, Happens, Leads};
 
-/// New operations have the effects of the command in their order, numbered on without a hole from the greatest own
-/// count seen. None of their ids was seen before, and so they join the content without a clash.
+/// New operations have the effects of the command in order, numbered consecutively from the greatest own count seen
+/// plus one. None of their ids was seen before, and so they join the content without a clash.
 pub fn numbers_are_new()
     ensures greatest { (replica : List ℕ) (seen : Ids) → IsGreatest seen replica (greatest replica seen) }
     ensures bodies { (x : Content) (replica note : List ℕ) (bodies : List Body) (os : List Op) → made x replica note bodies ≡ Ok os → map (λ o. o.body) os ≡ bodies }
@@ -47,12 +47,12 @@ pub fn numbers_are_new()
         → joined x (state (set.from_list {R = op_cmp} os)) ≡ Ok (merged x (state (set.from_list {R = op_cmp} os))) }
 {}
 
-/// A note of more than 200 bytes is refused before anything else, also where the command names nothing.
+/// A note of more than 200 bytes is refused before anything else, even if the command names nothing.
 pub fn long_notes_are_refused_first()
     ensures { (x : Content) (replica note : List ℕ) (bodies : List Body) → (made x replica note bodies ≡ Err fault.NoteTooLong) ↔ (200 < length note) }
 {}
 
-/// A count is spent exactly where nothing else is against the command, and the number of its last operation would pass
+/// `CountSpent` is returned exactly if there is no other refusal, and the number of the last operation would exceed
 /// 4,294,967,295.
 pub fn counts_are_spent_last()
     ensures { (x : Content) (replica note : List ℕ) (bodies : List Body) → (made x replica note bodies ≡ Err fault.CountSpent)
@@ -69,13 +69,13 @@ pub fn effects_are_kept()
         → set.contains (merged x (state (set.from_list {R = op_cmp} os))).ops o ≡ true }
 {}
 
-/// The keys in conflict are over what is kept what they are over the whole set, and there is one list of them.
+/// Pruning does not change the keys in conflict, and there is one list of them.
 pub fn conflicts_of_kept()
     ensures conflicts { (s : Ops) (cs : List Contested) → AreConflicts (rows (kept s)) cs ↔ AreConflicts (rows s) cs }
     ensures one { (s : Ops) (cs ds : List Contested) → AreConflicts (rows s) cs → AreConflicts (rows s) ds → cs ≡ ds }
 {}
 
-/// A content has one report of each kind, and one of its operations.
+/// A content has at most one report of each kind, and one of its operations.
 pub fn one_report()
     ensures entries { (x : Content) (text other : List ℕ) → IsReport Entries x text → IsReport Entries x other → text ≡ other }
     ensures conflicts { (x : Content) (text other : List ℕ) → IsReport Conflicts x text → IsReport Conflicts x other → text ≡ other }
@@ -84,7 +84,7 @@ pub fn one_report()
     ensures operations { (x : Content) (text other : List ℕ) → IsOpsReport x text → IsOpsReport x other → text ≡ other }
 {}
 
-/// An entry has one row and so one line, any other id has none, and the report of one entry is one text.
+/// An entry has one row and one line, any other id has none, and there is at most one report of an entry.
 pub fn one_line()
     ensures row { (x : Content) (entry : Id) → IsContent x → enters x.ops entry ≡ true → (r : Row) × (rows_of entry x ≡ r ∷ []) × (r.entry ≡ entry) }
     ensures no_row { (x : Content) (entry : Id) → enters x.ops entry ≡ false → rows_of entry x ≡ [] }
@@ -93,44 +93,46 @@ pub fn one_line()
     ensures report { (x : Content) (entry : Id) (text other : List ℕ) → IsEntryReport entry x text → IsEntryReport entry x other → text ≡ other }
 {}
 
-/// The text of each row, which an export gives out where the entry is not retired, is the one that was entered. It is
-/// the canonical text of a value, and spells that value.
+/// The text of each row, which an export writes if the entry is not retired, is the one that was entered. It is the
+/// canonical text of a value, and spells that value.
 pub fn texts_are_read()
     ensures entered { (x : Content) (r : Row) → Contains (rows x.ops) r → (note : List ℕ) × (set.contains x.ops (entering r.entry r.definition note) ≡ true) }
     ensures spelled { (x : Content) (r : Row) → IsContent x → Contains (rows x.ops) r → (crs : Crs) × IsCrsOf crs r.definition }
 {}
 
-/// What holds in every world: any number of offices, each with a UUID of its own, after any list of events. Files are
-/// lost, late, repeated and out of order; offices restart from their last files, or from what a stop leaves of the shelves on
-/// which they keep what they make and take.
+/// The theorem on every world: any number of offices, each with its own UUID, after any list of events. Files are lost,
+/// late, repeated and out of order; offices restart from their last files, or from what a stop leaves on their shelves.
 pub fn every_world()
-    // What an office has is the state of all that it made and was sent, although marks were pruned on the way.
+    // ---- The promise.
+    // The content of an office is the state of all that it made and received, although operations were pruned on the
+    // way.
     ensures content { (w : World) → IsWorld w → (i : List ℕ) → (w.offices i).content ≡ state (w.offices i).reached }
-    // Its last file is the file of that.
+    // Its last file is the file of that content.
     ensures last { (w : World) → IsWorld w → (i : List ℕ) → Holds (w.offices i).last (state (w.offices i).reached) }
-    // Each file that was sent holds what its sender had reached, or the ids of that, or a piece of it.
+    // Each sent file holds the state of what its sender had reached, or its ids, or a piece of it.
     ensures pool { (w : World) → IsWorld w → (place : ℕ) (sent : Sent) → slice_get w.pool place ≡ Some sent
         → (what : Pooled) × HoldsAny sent.bytes what × TellsOf sent.reached what }
     // Offices that reached the same have the same content, and the same file, byte for byte.
     ensures same { (w : World) → IsWorld w → (i j : List ℕ) → (w.offices i).reached ≡ (w.offices j).reached
         → ((w.offices i).content ≡ (w.offices j).content) × ((w.offices i).last ≡ (w.offices j).last) }
-    // Reports and exports of theirs are the same too.
+    // Their reports and exports are the same too.
     ensures same_reports { (w : World) → IsWorld w → (i j : List ℕ) → (w.offices i).reached ≡ (w.offices j).reached → (kind : ReportKind) (text other : List ℕ)
         → IsReport kind (w.offices i).content text → IsReport kind (w.offices j).content other → text ≡ other }
     ensures same_ops_reports { (w : World) → IsWorld w → (i j : List ℕ) → (w.offices i).reached ≡ (w.offices j).reached → (text other : List ℕ)
         → IsOpsReport (w.offices i).content text → IsOpsReport (w.offices j).content other → text ≡ other }
     ensures same_exports { (w : World) → IsWorld w → (i j : List ℕ) → (w.offices i).reached ≡ (w.offices j).reached
         → export (w.offices i).content.ops ≡ export (w.offices j).content.ops }
-    // What an office makes, it has reached; a command that is refused changes nothing.
+    // ---- What offices reach, and what is sent.
+    // An office reaches what it makes; a refused command changes nothing.
     ensures made_is_reached { (w v : World) → IsWorld w → (i : List ℕ) (effects : List Body) (note : List ℕ) (os : List Op) → made (w.offices i).content i note effects ≡ Ok os
         → Happens w (Make i effects note) v → Reaches w i (set.from_list os) v }
     ensures refused_makes_nothing { (w v : World) (i : List ℕ) (effects : List Body) (note : List ℕ) (f : OfficeFault) → made (w.offices i).content i note effects ≡ Err f
         → Happens w (Make i effects note) v → v ≡ w }
-    // Its last file comes into the pool, and stays there.
+    // A sent last file is in the pool, and stays there.
     ensures sent_is_pooled { (w v : World) (i : List ℕ) → Happens w (Send i) v
         → v ≡ pooled w (record { bytes = (w.offices i).last; reached = (w.offices i).reached }) }
     ensures pool_stays { (w v : World) (later : List Event) → Leads w later v → (newer : List Sent) × (v.pool ≡ newer ++ w.pool) }
-    // So does a summary of what it has seen, and the piece that it makes for a summary; it makes none for another file.
+    // So is a summary of what the office has seen, and its piece for a summary; there is no piece for another file.
     ensures seen_is_pooled { (w v : World) → IsWorld w → (i : List ℕ) → Happens w (SendSeen i) v
         → (bytes : List ℕ) × HoldsSeen bytes (ids (w.offices i).reached) × (v ≡ pooled w (record { bytes = bytes; reached = (w.offices i).reached })) }
     ensures piece_is_pooled { (w v : World) → IsWorld w → (i : List ℕ) (place : ℕ) (sent : Sent) (seen : Ids) → slice_get w.pool place ≡ Some sent
@@ -138,56 +140,60 @@ pub fn every_world()
         → (bytes : List ℕ) × HoldsPiece bytes (piece_for (state (w.offices i).reached) seen) × (v ≡ pooled w (record { bytes = bytes; reached = (w.offices i).reached })) }
     ensures no_piece_is_pooled { (w v : World) → IsWorld w → (i : List ℕ) (place : ℕ) (sent : Sent) → slice_get w.pool place ≡ Some sent
         → ((seen : Ids) → ¬ (HoldsSeen sent.bytes seen)) → Happens w (SendPiece i place) v → v ≡ w }
-    // Of a register's file that it takes, it has reached all that the sender had.
+    // By taking a register's file, an office reaches all that the sender had reached.
     ensures taken_is_reached { (w v : World) → IsWorld w → (i : List ℕ) (place : ℕ) (sent : Sent) (x : Content) → slice_get w.pool place ≡ Some sent
         → Holds sent.bytes x → Happens w (Take i place) v → Reaches w i sent.reached v }
-    // So it has of a piece whose basis it has reached; another piece, and a summary, change nothing.
+    // The same for a piece whose basis it has reached; another piece, or a summary, changes nothing.
     ensures piece_is_reached { (w v : World) → IsWorld w → (i : List ℕ) (place : ℕ) (sent : Sent) (piece : Piece) → slice_get w.pool place ≡ Some sent
         → HoldsPiece sent.bytes piece → IsHeld piece.basis (ids (w.offices i).reached) → Happens w (Take i place) v → Reaches w i sent.reached v }
     ensures piece_is_refused { (w v : World) → IsWorld w → (i : List ℕ) (place : ℕ) (sent : Sent) (piece : Piece) → slice_get w.pool place ≡ Some sent
         → HoldsPiece sent.bytes piece → ¬ (IsHeld piece.basis (ids (w.offices i).reached)) → Happens w (Take i place) v → v ≡ w }
     ensures summary_is_refused { (w v : World) → IsWorld w → (i : List ℕ) (place : ℕ) (sent : Sent) (seen : Ids) → slice_get w.pool place ≡ Some sent
         → HoldsSeen sent.bytes seen → Happens w (Take i place) v → v ≡ w }
-    // Or the one operation that it takes, where it is in the file, and else nothing.
+    // By taking one operation, it reaches that operation if the file has it, and otherwise nothing.
     ensures one_is_reached { (w v : World) → IsWorld w → (i : List ℕ) (place : ℕ) (id : Id) (sent : Sent) (what : Pooled) (o : Op) → slice_get w.pool place ≡ Some sent
         → HoldsAny sent.bytes what → set.contains (ops_in what) o ≡ true → o.id ≡ id → Happens w (TakeOne i place id) v → Reaches w i (one o) v }
     ensures none_is_reached { (w v : World) → IsWorld w → (i : List ℕ) (place : ℕ) (id : Id) (sent : Sent) (what : Pooled) → slice_get w.pool place ≡ Some sent
         → HoldsAny sent.bytes what → ((o : Op) → set.contains (ops_in what) o ≡ true → o.id ≢ id) → Happens w (TakeOne i place id) v → v ≡ w }
-    // Where no file was sent, there is nothing to take, and nothing to answer.
+    // At a place without a file there is nothing to take, and nothing to answer.
     ensures nothing_to_take { (w v : World) (i : List ℕ) (place : ℕ) → slice_get w.pool place ≡ None → Happens w (Take i place) v → v ≡ w }
     ensures nothing_to_find { (w v : World) (i : List ℕ) (place : ℕ) (id : Id) → slice_get w.pool place ≡ None → Happens w (TakeOne i place id) v → v ≡ w }
     ensures nothing_to_answer { (w v : World) (i : List ℕ) (place : ℕ) → slice_get w.pool place ≡ None → Happens w (SendPiece i place) v → v ≡ w }
-    // An office that begins again has what it had.
+    // A restart changes nothing.
     ensures restart_keeps { (w v : World) → IsWorld w → (i : List ℕ) → Happens w (Restart i) v → v ≡ w }
-    // A stop leaves all of its event, or nothing of it, and the office begins again with the content of what was left: with the
-    // new one wherever that is it, so that what the event gives is reached; and else the event made nothing.
+    // ---- Stops.
+    // A stop leaves all of its event, or nothing of it, and the office starts again with the content of the bytes that are
+    // left. If they are a shelf of the new content, the event has happened; otherwise it made nothing.
     ensures stop_is_all_or_nothing { (w v : World) → IsWorld w → (e : Event) (left : List ℕ) → Happens w (Stop e left) v → Happens w e v ⊎ (v ≡ w) }
     ensures stop_leaves_a_shelf { (w v : World) → IsWorld w → (e : Event) (left : List ℕ) → Happens w (Stop e left) v
         → IsShelf left (v.offices (office_of e)).content }
     ensures stop_leaves_the_new { (w u v : World) → IsWorld w → (e : Event) (left : List ℕ) → Happens w (Stop e left) v → Happens w e u
         → IsShelf left (u.offices (office_of e)).content → v ≡ u }
-    // All that any office reached was made on the way.
+    // ---- Nothing is lost or made twice.
+    // Every operation that an office reached was made in an earlier event.
     ensures was_made { (w : World) (events : List Event) → Leads start events w → (i : List ℕ) (o : Op) → set.contains (w.offices i).reached o ≡ true → WasMade start events o }
-    // All that any offices reached has one body an id.
+    // The operations that offices reached have one body for each id.
     ensures one_body { (w : World) → IsWorld w → (offices : List (List ℕ)) → OneBody (all_of (map (λ i. (w.offices i).reached) offices)) }
-    // What an office makes has ids that nobody has reached, and that differ from one another.
+    // New operations have ids that no office has reached, and that differ from each other.
     ensures new_ids { (w : World) → IsWorld w → (i j : List ℕ) (effects : List Body) (note : List ℕ) (os : List Op) (o p : Op) → made (w.offices i).content i note effects ≡ Ok os
         → has os o ≡ true → set.contains (w.offices j).reached p ≡ true → p.id ≢ o.id }
     ensures own_ids { (w : World) → IsWorld w → (i : List ℕ) (effects : List Body) (note : List ℕ) (os : List Op) → made (w.offices i).content i note effects ≡ Ok os → ById os }
-    // What it has reached, it keeps: so no id is made twice.
+    // What an office has reached stays reached. So no id is made twice.
     ensures grows { (w v : World) (later : List Event) → IsWorld w → Leads w later v → (i : List ℕ) (o : Op)
         → set.contains (w.offices i).reached o ≡ true → set.contains (v.offices i).reached o ≡ true }
-    // Nothing that happens meets a clash.
+    // No event has a clash as its outcome.
     ensures no_clash { (w : World) → IsWorld w → (e : Event) (id : Id) → IsEvent w e → ¬ (ComesOf w e (Clashes id)) }
-    // Each event has an outcome, and a world comes after it unless a file would be too large.
+    // ---- Every event has one outcome.
+    // Each event has an outcome, and leads to a world unless a file would be too large.
     ensures goes_on { (w : World) → IsWorld w → (e : Event) → IsEvent w e
         → (out : Outcome) × ComesOf w e out × (((v : World) × After w out v) ⊎ IsTooMuch out) }
-    // It is one world.
+    // It leads to at most one world.
     ensures one_world { (w u v : World) (e : Event) → Happens w e u → Happens w e v → u ≡ v }
-    // What is retired at an office stays retired there.
+    // ---- Retired stays retired.
+    // An entry that is retired at an office stays retired there.
     ensures stays_retired { (w v : World) (later : List Event) → IsWorld w → Leads w later v → (i : List ℕ) (entry : Id)
         → status (w.offices i).content.ops entry ≡ Some Retired → status (v.offices i).content.ops entry ≡ Some Retired }
-    // Apart from worlds: it is retired in every join.
+    // Apart from worlds, it stays retired in every join.
     ensures retired_in_joins { (x y z : Content) (entry : Id) → (joined x y ≡ Ok z) ⊎ (joined y x ≡ Ok z)
         → status x.ops entry ≡ Some Retired → status z.ops entry ≡ Some Retired }
 {}

@@ -1,4 +1,4 @@
-//! Offices: what their commands make of a register.
+//! Offices: commands, reports, and the theorem on every world.
 #![tactic(auto)]
 
 mod command;

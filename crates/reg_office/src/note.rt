@@ -1,4 +1,4 @@
-//! The note of a command, which each of its operations gets.
+//! The note of a command, which all its operations have.
 
 ghost use Rattle.std.specs.Prelude.{◌≡◌, ◌≤◌, length, IfOk};
 ghost use Rattle.reg_office.specs.Making.{note_fault};

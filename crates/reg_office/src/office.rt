@@ -23,7 +23,7 @@ use std::alloc::{AllocError, Global};
 use uuid::Uuid;
 use wkt_crs::Definition;
 
-/// A replica at work: its UUID, and its register.
+/// An office: the UUID of a replica, and its register.
 #[derive(Drop)]
 pub struct Office {
     replica: Uuid,
@@ -31,7 +31,7 @@ pub struct Office {
 }
 
 impl Office {
-    /// The replica of this UUID at work on a register.
+    /// The office with this UUID and register.
     pub fn new(replica: Uuid, register: Register) -> Office
         ensures replica { result.replica ≡ replica }
         ensures register { result.register ≡ register }
@@ -46,7 +46,7 @@ impl Office {
         &self.register
     }
 
-    /// Gives the register back.
+    /// Returns the register.
     pub fn into_register(self) -> Register
         ensures { result ≡ self.register }
     {
@@ -155,7 +155,7 @@ impl Office {
         }
     }
 
-    // The register that a command's operations have joined, and their ids.
+    // The register after a command's operations, and their ids.
     fn joined(
         &self,
         alloc: Global,
@@ -201,7 +201,7 @@ fn ids_of(alloc: Global, ops: &[Op]) -> Result<Vec<OpId>, AllocError>
     Ok(ids)
 }
 
-// The register of operations whose ids are a run's.
+// The register of operations with the ids of a run.
 fn register_of(alloc: Global, ops: Vec<Op>, run: Run) -> Result<Register, AllocError>
     requires run { IsRun run }
     requires by_id { ById ops.items }
@@ -227,7 +227,7 @@ fn last_count(seen: &Seen, replica: Uuid) -> u32
     seen.greatest(replica)
 }
 
-// The count of the first of some new operations, where the last of them has one.
+// The count of the first new operation, if the last one is in range.
 fn next_count(seen: &Seen, replica: Uuid, number: usize) -> Option<u32>
     requires { 0 < number }
     ensures some { IfSome result (λ n. (n ≡ greatest replica seen.now + 1) × (greatest replica seen.now + number ≤ 4294967295)) }

@@ -26,7 +26,7 @@ fn keep_those_of(rows: &mut Vec<Row>, entry: OpId)
     rows.retain(|row| is_of(row, entry));
 }
 
-// The entry's row, where it has one.
+// The entry's row, if it has one.
 fn rows_of(alloc: Global, register: &Register, entry: OpId) -> Result<Vec<Row>, AllocError>
     ensures { IfOk result (λ made. map row_seen made.items ≡ filter (λ (r : RowOf). is_same entry r.entry) (rows register.now.ops)) }
 {
@@ -35,8 +35,7 @@ fn rows_of(alloc: Global, register: &Register, entry: OpId) -> Result<Vec<Row>, 
     Ok(rows)
 }
 
-/// The line of one entry as the report of entries has it, after that report's header. Where the register has no such
-/// entry, the header stands alone.
+/// The line of one entry in the report of entries, with the header. Without such an entry, only the header.
 pub fn entry_text(alloc: Global, register: &Register, entry: OpId) -> Result<Vec<u8>, AllocError>
     ensures { IfOk result (λ text. IsEntryReport entry register.now text.items) }
 {

@@ -9,13 +9,13 @@ use reg_op::OpId;
 use std::alloc::{AllocError, Global};
 use std::collections::BTreeSet;
 
-/// The first place at which an entry is named again, or how many are named.
+/// The first index at which an entry is named again, or the number of entries.
 pub fn first_repeat(alloc: Global, named: &[OpId]) -> usize
     ensures { IsFirstRepeat named.now result }
 {
     match repeat_by_set(alloc, named) {
         Ok(at) => at,
-        // A command is refused without memory too. The walk is slow, and finds the same.
+        // A refusal must not depend on memory. This walk is slow, and finds the same.
         Err(_) => repeat_by_walk(named),
     }
 }

@@ -18,7 +18,7 @@ use reg_state::Register;
 use std::alloc::{AllocError, Global};
 use wkt_crs::Definition;
 
-/// An entry with its status, and where that is superseded the newer entries. Its definition has the key and the name.
+/// An entry with its status and, if it is superseded, the newer entries. Its definition has the key and the name.
 #[derive(Drop)]
 pub struct Row {
     pub entry: OpId,
@@ -40,7 +40,7 @@ pub fn rows(alloc: Global, register: &Register) -> Result<Vec<Row>, AllocError>
     Ok(made)
 }
 
-// Puts the row of an entry at the end, where the operation enters one.
+// Appends the row of the entry, if the operation enters one.
 fn push_row(
     alloc: Global,
     rows: &mut Vec<Row>,

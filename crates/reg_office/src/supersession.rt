@@ -1,4 +1,4 @@
-//! Which entries are superseded, by which others.
+//! The superseded entries, with those that supersede them.
 
 ghost use Rattle.std.specs.Prelude.{◌≡◌, ◌++◌, ◌&&◌, Bool, not, map, IfOk, OnOk};
 ghost use Rattle.std.specs.List.{list_any, flat_map};
@@ -10,7 +10,7 @@ ghost use Rattle.reg_office.specs.Pairs.{pair_cmp, pairs_in};
 use reg_op::{Op, OpBody, OpId};
 use std::alloc::{AllocError, Global};
 
-/// That an entry is superseded by another.
+/// An entry and one that supersedes it.
 #[derive(Clone, Copy, PartialEq, Eq, PartialOrd, Ord)]
 pub struct Pair {
     pub old: OpId,

@@ -24,19 +24,19 @@ pub enum ReportKind {
     Gaps,
 }
 
-/// Why a report did not go out whole.
+/// Why a report was not completely written.
 #[derive(Clone, Copy, Debug, PartialEq, Eq)]
 pub enum ReportFault {
-    /// The first bytes went, as many as these.
+    /// Exactly this many bytes were written.
     WriteFailed(usize),
-    /// An allocation failed, and nothing went out.
+    /// An allocation failed, and nothing was written.
     Memory,
 }
 
 impl ReportFault {
     ghost use Rattle.reg_office.specs.Names.{report_name, report_place};
 
-    /// How it is printed.
+    /// The name that is printed.
     pub fn name(self) -> &'static str
         ensures { result.now ≡ report_name self }
     {
@@ -46,7 +46,7 @@ impl ReportFault {
         }
     }
 
-    /// How many bytes went out before it, where it has a place.
+    /// The number of bytes that were written before it, if it has a place.
     pub fn place(self) -> Option<usize>
         ensures { result ≡ report_place self }
     {

@@ -4,19 +4,19 @@ use Rattle.reg_op.specs.Set as set
 use Rattle.reg_op.specs.Ids.{Id, IsId, Ids}
 use Rattle.reg_op.specs.Operations.{Op, IsOperation, Ops, ids, OneBody, kept, first_clash}
 
--- what a register is seen as: the operations that it keeps, and the ids that it has seen
+-- the value of a register: the kept operations, and the seen ids
 pub record Content : Type 0 where
   pub ops : Ops
   pub seen : Ids
 
--- the content of one who took the operations of a set
+-- the content after taking the operations of a set
 abbrev pub state : Ops → Content
 state s = record { ops = kept s; seen = ids s }
 
 abbrev pub nothing : Content
 nothing = record { ops = set.empty; seen = set.empty }
 
--- what two contents make together, where no id has two bodies
+-- the join of two contents, if no id has two bodies
 abbrev pub merged : Content → Content → Content
 merged x y = record { ops = kept (set.union x.ops y.ops); seen = set.union x.seen y.seen }
 
@@ -31,7 +31,7 @@ joined_unless (Some id) x = Err id
 abbrev pub joined : Content → Content → Result Content Id
 joined x y = joined_unless (clash_of x y) (merged x y)
 
--- the join of two results, of which one may be a clash already
+-- the join of two results, one of which may already be a clash
 abbrev pub joined_both : Result Content Id → Result Content Id → Result Content Id
 joined_both (Ok x) (Ok y) = joined x y
 joined_both (Ok x) (Err id) = Err id

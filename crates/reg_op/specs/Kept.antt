@@ -1,4 +1,4 @@
--- Which operations are kept, which are dropped, and which id clashes: the least.
+-- Kept operations, the least dropped one, and the least clash.
 use Rattle.std.specs.Prelude.{◌≡◌, ℕ, true, false, List, Option, find, option_map}
 use Rattle.reg_op.specs.Set as set
 use Rattle.reg_op.specs.Finite.{any}
@@ -6,7 +6,7 @@ use Rattle.reg_op.specs.Ids.{Id, is_before}
 use Rattle.reg_op.specs.Operations.{Op, Enter, Supersede, Retire, Ops, replaces, kept, clashes}
 use Rattle.reg_op.specs.Status.{retires}
 
--- an effect under an id, with its note
+-- an effect with its id and note
 abbrev pub entering : Id → List ℕ → List ℕ → Op
 entering i text note = record { id = i; body = Enter text; note = note }
 
@@ -16,12 +16,12 @@ superseding i old newer note = record { id = i; body = Supersede old newer; note
 abbrev pub retiring : Id → Id → List ℕ → Op
 retiring i entry note = record { id = i; body = Retire entry; note = note }
 
--- the retirement of an entry that has the least id, whatever the others note
+-- the retirement of an entry with the least id, whatever the notes
 pub record IsLeastRetirement (s : Ops) (i entry : Id) (note : List ℕ) : Type 0 where
   pub there : set.contains s (retiring i entry note) ≡ true
   pub least : (j : Id) (other : List ℕ) → set.contains s (retiring j entry other) ≡ true → is_before j i ≡ false
 
--- the supersession of a pair that has the least id, whatever the others note, where the old entry is not retired
+-- the supersession of a pair with the least id, whatever the notes, if the old entry is not retired
 pub record IsLeastSupersession (s : Ops) (i old newer : Id) (note : List ℕ) : Type 0 where
   pub there : set.contains s (superseding i old newer note) ≡ true
   pub least : (j : Id) (other : List ℕ) → set.contains s (superseding j old newer other) ≡ true → is_before j i ≡ false

@@ -8,18 +8,18 @@ pub record IsNote (bytes : List ℕ) : Type 0 where
   pub utf8 : IsUtf8 bytes
   pub short : length bytes ≤ 200
 
--- the length is looked at first. An allocation can fail at a note alone
+-- the length is checked first. Only for a note can an allocation fail
 abbrev pub IsNoteFault : List ℕ → NoteFault → Type 0
 IsNoteFault bytes NoteTooLong = 200 < length bytes
 IsNoteFault bytes NoteNotUtf8 = (length bytes ≤ 200) × (¬ (IsUtf8 bytes))
 IsNoteFault bytes Memory = IsNote bytes
 
--- the bytes of what is there, and none where nothing is
+-- the bytes of a value, or none without a value
 abbrev pub bytes_in : {X : Type 0} → (X → List ℕ) → Option X → List ℕ
 bytes_in bytes None = []
 bytes_in bytes (Some x) = bytes x
 
--- what a fault is called
+-- the name of a fault
 abbrev pub fault_name : NoteFault → List ℕ
 fault_name NoteTooLong = codes "NoteTooLong"
 fault_name NoteNotUtf8 = codes "NoteNotUtf8"

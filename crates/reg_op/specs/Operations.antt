@@ -11,7 +11,7 @@ use Rattle.reg_op.specs.Notes.{IsNote}
 pub use Rattle.reg_op.specs.declared.operation.OpBody.{OpBody as Body}
 pub use Rattle.reg_op.specs.declared.operation.OpBody.TheVariants.{Enter, Supersede, Retire}
 
--- one effect, under an id of its own, and what is noted of it
+-- an effect with its own id and note
 pub record Op : Type 0 where
   pub id : Id
   pub body : Body
@@ -71,12 +71,12 @@ one o = set.insert set.empty o
 abbrev pub ids : Ops → Ids
 ids s = set.from_list (map (λ o. o.id) (set.items s))
 
--- no id has two bodies, nor two notes: the note is of the body
+-- no id has two bodies, nor two notes
 abbrev pub OneBody : Ops → Type 0
 OneBody s = (p o : Op) → set.contains s p ≡ true → set.contains s o ≡ true → p.id ≡ o.id → p ≡ o
 
--- beside p there is no need of o: p is a lesser retirement of the same entry, a lesser supersession of the same
--- pair, or a retirement of what o supersedes
+-- p makes o redundant: p is a lesser retirement of the same entry, a lesser supersession of the same pair, or a
+-- retirement of the entry that o supersedes
 abbrev pub replaces_body : Bool → Body → Body → Bool
 replaces_body before (Retire entry) (Retire other) = is_same entry other && before
 replaces_body before (Retire entry) (Supersede old newer) = is_same entry old
@@ -86,7 +86,7 @@ replaces_body before p o = false
 abbrev pub replaces : Op → Op → Bool
 replaces p o = replaces_body (is_before p.id o.id) p.body o.body
 
--- what a register keeps of a set: the operations that no other replaces
+-- the operations of a set that no other makes redundant
 abbrev pub kept : Ops → Ops
 kept s = topmost replaces s
 

@@ -1,11 +1,11 @@
--- Pieces of contents, and what a content joins a piece to.
+-- Pieces of contents, and the join of a content and a piece.
 use Rattle.std.specs.Prelude.{◌≡◌, true, false, not, Option, Some, None, Result, Ok, Err, find}
 use Rattle.reg_op.specs.Set as set
 use Rattle.reg_op.specs.Ids.{Id, IsId, Ids, is_before}
 use Rattle.reg_op.specs.Operations.{Ops}
 use Rattle.reg_op.specs.Contents.{Content, joined, IsContent}
 
--- what a piece is seen as: what one who has seen the basis lacks, and the basis
+-- the value of a piece: what a register that has seen the basis lacks, and the basis
 pub record Piece : Type 0 where
   pub ops : Ops
   pub basis : Ids
@@ -15,7 +15,7 @@ pub record Piece : Type 0 where
 abbrev pub part_of : Piece → Content
 part_of p = record { ops = p.ops; seen = p.seen }
 
--- the part of a content that has ids outside the basis
+-- the part of a content with ids outside the basis
 abbrev pub outside : Ids → Content → Content
 outside basis x = record { ops = set.retain x.ops (λ o. not (set.contains basis o.id)); seen = set.difference x.seen basis }
 
@@ -23,7 +23,7 @@ outside basis x = record { ops = set.retain x.ops (λ o. not (set.contains basis
 abbrev pub piece_for : Content → Ids → Piece
 piece_for x basis = record { ops = (outside basis x).ops; basis = basis; seen = (outside basis x).seen }
 
--- the pieces that there are: a content and a basis that have no id together
+-- valid pieces: a content and a basis without common ids
 pub record IsPiece (p : Piece) : Type 0 where
   pub content : IsContent (part_of p)
   pub are_ids : (i : Id) → set.contains p.basis i ≡ true → IsId i
@@ -52,6 +52,6 @@ joined_where (Some id) r = Err (Basis id)
 joined_where None (Ok x) = Ok x
 joined_where None (Err id) = Err (Clash id)
 
--- the basis is looked at before the bodies
+-- the basis is checked before the bodies
 abbrev pub joined_piece : Content → Piece → Result Content PieceRefusal
 joined_piece x p = joined_where (first_missing p.basis x.seen) (joined x (part_of p))

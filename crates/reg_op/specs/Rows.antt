@@ -1,4 +1,4 @@
--- The rows of a set of operations, the keys in conflict, and what is awaited.
+-- The rows of a set of operations, the keys in conflict, and the awaited ids.
 use Rattle.std.specs.Prelude.{◌≢◌, ℕ, not, List, [], ◌∷◌, Contains, Option, Some, if◌then◌else◌}
 use Rattle.std.specs.List.{flat_map}
 use Rattle.reg_op.specs.Set as set
@@ -18,7 +18,7 @@ newer_in e (Enter text) = []
 newer_in e (Supersede old newer) = if is_same e old then newer ∷ [] else []
 newer_in e (Retire entry) = []
 
--- what supersedes an entry that is not retired, by id
+-- the entries that supersede an entry that is not retired, ordered by id
 abbrev pub newer_of : Ops → Id → Ids
 newer_of s e = if retires s e then set.empty else set.from_list (flat_map (λ (o : Op). newer_in e o.body) (set.items s))
 
@@ -27,11 +27,11 @@ rows_at s e (Enter text) = record { entry = e; definition = text; status = statu
 rows_at s e (Supersede old newer) = []
 rows_at s e (Retire entry) = []
 
--- a row for each entry, by id
+-- a row for each entry, ordered by id
 abbrev pub rows : Ops → List Row
 rows s = flat_map (λ (o : Op). rows_at s o.id o.body) (set.items s)
 
--- two entries of the key, neither of them retired, differ. What a text's key is, is a parameter
+-- two entries with the key, neither of them retired, have different texts. The key of a text is a parameter
 pub record IsInConflict {Key : Type 0} (HasKey : List ℕ → Key → Type 0) (rs : List Row) (key : Key) : Type 0 where
   pub one : Row
   pub other : Row
@@ -43,6 +43,6 @@ pub record IsInConflict {Key : Type 0} (HasKey : List ℕ → Key → Type 0) (r
   pub key_of_other : HasKey other.definition key
   pub differ : one.definition ≢ other.definition
 
--- the ids that what is kept names, and that were not entered
+-- the ids that kept operations name, and that were not entered
 abbrev pub awaited : Ops → Ids
 awaited s = set.retain (set.from_list (flat_map (λ (o : Op). named_in o.body) (set.items (kept s)))) (λ i. not (enters s i))

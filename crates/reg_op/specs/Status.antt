@@ -1,4 +1,4 @@
--- What a set of operations says of an entry.
+-- The status of an entry in a set of operations.
 use Rattle.std.specs.Prelude.{Bool, true, false, not, ◌&&◌, Option, Some, None, if◌then◌else◌}
 use Rattle.reg_op.specs.Finite.{any}
 use Rattle.reg_op.specs.Ids.{Id, is_same}
@@ -16,7 +16,7 @@ is_retirement e (Enter text) = false
 is_retirement e (Supersede old newer) = false
 is_retirement e (Retire entry) = is_same e entry
 
--- of e, by a newer one that passes
+-- a supersession of e by a newer entry that passes
 abbrev pub is_supersession : Id → (Id → Bool) → Body → Bool
 is_supersession e by (Enter text) = false
 is_supersession e by (Supersede old newer) = is_same e old && by newer

@@ -1,4 +1,4 @@
-//! Operations of a register: their ids, what they do, and the laws on sets of them.
+//! Operations of a register, and the laws of sets of operations.
 #![tactic(auto)]
 
 mod count;

@@ -13,7 +13,7 @@ use std::rc::Rc;
 /// The most bytes of a note.
 const MOST: usize = 200;
 
-/// Why some bytes are no note.
+/// Why bytes are not a note.
 #[derive(Clone, Copy, Debug, PartialEq, Eq)]
 pub enum NoteFault {
     /// There are more than 200 bytes.
@@ -27,7 +27,7 @@ pub enum NoteFault {
 impl NoteFault {
     ghost use Rattle.reg_op.specs.Notes.{fault_name};
 
-    /// How it is printed.
+    /// The name that is printed.
     pub fn name(self) -> &'static str
         ensures { result.now ≡ fault_name self }
     {
@@ -55,8 +55,7 @@ struct Written {
     ghost short: { length bytes.items ≤ 200 },
 }
 
-/// What is noted of an operation: UTF-8 of at most 200 bytes, seen as these. Copies share it, and an empty note takes no
-/// memory.
+/// The note of an operation: UTF-8 of at most 200 bytes. Copies share it, and an empty note allocates nothing.
 #[derive(Drop)]
 pub struct Note {
     written: Option<Rc<Written>>,
@@ -84,7 +83,7 @@ impl Note {
         ensures ok { IfOk result (λ note. (note ≡ bytes.now) × IsNote bytes.now) }
         ensures fault { IfErr result (IsNoteFault bytes.now) }
         ensures only { IsNote bytes.now → (result ≡ Ok bytes.now) ⊎ (result ≡ Err fault.Memory) }
-        // These come without memory.
+        // These are reported without allocating.
         ensures long { 200 < length bytes.now → result ≡ Err fault.NoteTooLong }
         ensures bytes { length bytes.now ≤ 200 → ¬ (IsUtf8 bytes.now) → result ≡ Err fault.NoteNotUtf8 }
         ensures empty { bytes.now ≡ [] → result ≡ Ok [] }
@@ -133,7 +132,7 @@ impl Note {
         Ok(Note { written })
     }
 
-    /// Whether they say the same.
+    /// Whether the bytes are the same.
     pub fn is_same(&self, other: &Note) -> bool
         ensures { IsTrue result ↔ (self.now ≡ other.now) }
     {
@@ -141,7 +140,7 @@ impl Note {
     }
 }
 
-// The note of bytes that are one.
+// The note of valid bytes.
 fn copied(alloc: Global, bytes: &[u8]) -> Result<Note, AllocError>
     requires { IsNote bytes.now }
     ensures { IfOk result (λ note. note ≡ bytes.now) }

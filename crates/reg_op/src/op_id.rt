@@ -63,7 +63,7 @@ impl OpId {
         self.count
     }
 
-    /// Reads an id. It takes no memory.
+    /// Reads an id without allocating.
     pub fn parse(text: &[u8]) -> Option<OpId>
         ensures found { IfSome result (λ id. Spells text.now id) }
         ensures only { (id : Id) → Spells text.now id → result ≡ Some id }
@@ -112,7 +112,7 @@ impl OpId {
         self.cmp(other).is_lt()
     }
 
-    /// Whether they are one id.
+    /// Whether the ids are the same.
     pub fn is_same(&self, other: &OpId) -> bool
         ensures { result ≡ is_eq (id_cmp self.now other.now) }
     {

@@ -17,11 +17,11 @@ pub enum OpBody {
     Retire { entry: OpId },
 }
 
-/// An entry was to supersede itself.
+/// An entry would supersede itself.
 #[derive(Clone, Copy, Debug, PartialEq, Eq)]
 pub struct SameEntry;
 
-/// An operation: one effect, under an id of its own, and what is noted of it.
+/// An operation: an effect with its own id and note.
 #[derive(Drop)]
 pub struct Op {
     id: OpId,
@@ -43,7 +43,7 @@ impl Model for Op {
 }
 
 impl Op {
-    /// An operation of this id, unless it would supersede an entry by itself.
+    /// An operation with this id, unless an entry would supersede itself.
     pub fn new(id: OpId, body: OpBody, note: Note) -> Result<Op, SameEntry>
         ensures ok { IfOk result (λ op. op ≡ record { id = id; body = body; note = note }) }
         ensures same { IsErr result ↔ IsOfItself body }
@@ -71,14 +71,14 @@ impl Op {
         &self.body
     }
 
-    /// What is noted of it.
+    /// The note.
     pub fn note(&self) -> &Note
         ensures { result.now ≡ self.now.note }
     {
         &self.note
     }
 
-    /// Gives back what the operation was made of.
+    /// Returns the parts of the operation.
     pub fn into_parts(self) -> (OpId, OpBody, Note)
         ensures id { result.0 ≡ self.id }
         ensures body { result.1 ≡ self.body }
@@ -101,7 +101,7 @@ impl Op {
         })
     }
 
-    /// Whether they are one operation.
+    /// Whether the operations are the same.
     pub fn is_same(&self, other: &Op) -> bool
         ensures { result ≡ is_eq (op_cmp self.now other.now) }
     {
@@ -121,7 +121,7 @@ impl Op {
         self.id.is_same(&other.id) && !self.is_same(other)
     }
 
-    /// Whether there is no need of the other beside this one.
+    /// Whether this one makes the other redundant.
     pub fn replaces(&self, other: &Op) -> bool
         ensures { result ≡ replaces self.now other.now }
     {
@@ -179,7 +179,7 @@ impl OpBody {
         }
     }
 
-    /// Whether they do the same.
+    /// Whether the effects are the same.
     pub fn is_same(&self, other: &OpBody) -> bool
         ensures { IsTrue result ↔ (self.now ≡ other.now) }
     {

@@ -25,7 +25,7 @@ abbrev pub IsChange : Sign → List Row → List Row → Row → Type 0
 IsChange Gone old new r = Contains old r × ¬ (Contains new r)
 IsChange Come old new r = Contains new r × ¬ (Contains old r)
 
--- what is gone stands first
+-- `Gone` comes first
 abbrev pub rank : Sign → ℕ
 rank Gone = 0
 rank Come = 1
@@ -38,7 +38,7 @@ row_cmp a b = id_cmp a.entry b.entry
 abbrev pub change_cmp : Change → Change → Ordering
 change_cmp a b = ordering_then (row_cmp a.row b.row) (nat_cmp (rank a.sign) (rank b.sign))
 
--- exactly the changes, in their order
+-- exactly the changes, in order
 pub record AreChanges (old new : List Row) (cs : List Change) : Type 0 where
   pub ascend : Ascends change_cmp cs
   pub each : (c : Change) → Contains cs c ↔ IsChange c.sign old new c.row

@@ -8,7 +8,7 @@ use Rattle.reg_query.specs.Changes.{Change, sign_text, AreChanges}
 abbrev pub changes_header : List (List ℕ)
 changes_header = codes "change" ∷ entries_header
 
--- the sign, and then what the report of entries has of the row
+-- the sign, and then the fields of the report of entries
 abbrev pub IsChangeLine : Change → List (List ℕ) → Type 0
 IsChangeLine c fields = (rest : List (List ℕ)) × IsEntryLine c.row rest × (fields ≡ sign_text c.sign ∷ rest)
 
@@ -16,6 +16,6 @@ IsChangeLine c fields = (rest : List (List ℕ)) × IsEntryLine c.row rest × (f
 abbrev pub IsDiff : Content → Content → List ℕ → Type 0
 IsDiff x y text = (cs : List Change) × AreChanges (rows x.ops) (rows y.ops) cs × IsSheet changes_header IsChangeLine cs text
 
--- one of them has a row that the other has not
+-- their rows are not the same
 abbrev pub Differ : Content → Content → Type 0
 Differ x y = rows x.ops ≢ rows y.ops

@@ -39,11 +39,11 @@ pub record AreCounts (rs : List Row) (c : Counts) : Type 0 where
   pub superseded : c.superseded ≡ count_by (has_status Superseded) rs
   pub retired : c.retired ≡ count_by (has_status Retired) rs
 
--- so many keys are in conflict
+-- this many keys are in conflict
 abbrev pub CountsConflicts : List Row → ℕ → Type 0
 CountsConflicts rs n = (cs : List Contested) × AreConflicts rs cs × (n ≡ length cs)
 
--- so many ranges of counts are missing
+-- this many ranges of counts are missing
 abbrev pub CountsGaps : Ids → ℕ → Type 0
 CountsGaps seen n = (gs : List Gap) × AreGaps seen gs × (n ≡ length gs)
 

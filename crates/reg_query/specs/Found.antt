@@ -1,4 +1,4 @@
--- The entries that have all that is asked.
+-- The entries that meet a query.
 use Rattle.std.specs.Prelude.{◌≡◌, ◌↔◌, ℕ, Bool, IsTrue, List, [], ◌∷◌, map, if◌then◌else◌}
 use Rattle.crs_part.specs.Slots.{name_of}
 use Rattle.crs_value.specs.declared.crs.Crs.{Crs}
@@ -12,7 +12,7 @@ use Rattle.reg_office.specs.Lines.{entries_header, IsEntryLine, IsSheet}
 use Rattle.reg_query.specs.declared.find.query.Query.{Query}
 use Rattle.reg_query.specs.Queries.{Meets}
 
--- whether an entry has all that is asked, by the key, the name and the status that it has
+-- whether an entry meets the query, by its key, name and status
 pub record IsMet (q : Query) (r : Row) (met : Bool) : Type 0 where
   pub key : Key
   pub crs : Crs
@@ -20,7 +20,7 @@ pub record IsMet (q : Query) (r : Row) (met : Bool) : Type 0 where
   pub spelled : IsCrsOf crs r.definition
   pub told : IsTrue met ↔ Meets q (bytes_of key) (name_of crs.parts).bytes r.status
 
--- of some rows those that have it, in their order
+-- the rows among these that meet it, in order
 abbrev pub AreFound : Query → List Row → List Row → Type 0
 AreFound q [] found = found ≡ []
 AreFound q (r ∷ rs) found = (met : Bool) × (rest : List Row) × IsMet q r met × AreFound q rs rest × (found ≡ (if met then r ∷ rest else rest))

@@ -1,4 +1,4 @@
--- What is asked of an entry.
+-- Queries of a search.
 use Rattle.std.specs.Prelude.{◌≡◌, ◌≢◌, ◌++◌, ◌∷◌, ℕ, List, IfSome, Option, Some}
 use Rattle.reg_op.specs.declared.status.Status.{Status}
 use Rattle.reg_op.specs.declared.status.Status.TheVariants as status
@@ -14,7 +14,7 @@ IsWanted Superseded s = s ≡ Some status.Superseded
 IsWanted Retired s = s ≡ Some status.Retired
 IsWanted Live s = s ≢ Some status.Retired
 
--- an entry of this key, this name and this status has all that is asked; a key is written with a colon after the authority
+-- an entry with this key, name and status meets the query; a key is written with a colon after the authority
 pub record Meets (q : Query) (k : KeyBytes) (n : List ℕ) (s : Option Status) : Type 0 where
   pub key : IfSome q.key (λ asked. asked.now ≡ k.authority ++ 58 ∷ k.code)
   pub authority : IfSome q.authority (λ asked. asked.now ≡ k.authority)

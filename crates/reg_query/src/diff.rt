@@ -1,4 +1,4 @@
-//! What the rows of two registers do not share.
+//! The rows that only one of two registers has.
 
 mod change;
 mod comparing;

@@ -1,4 +1,4 @@
-//! Entries of a register that are looked for, by what is asked of them.
+//! Searching entries of a register.
 
 mod query;
 mod search;

@@ -1,4 +1,4 @@
-//! The laws of comparisons. A call does nothing: its contract is the law.
+//! The laws of comparisons. The functions do nothing: their contracts are the laws.
 
 ghost use Rattle.std.specs.Prelude.{◌≡◌, ◌↔◌, ℕ, List, []};
 ghost use Rattle.reg_op.specs.Contents.{Content, IsContent};
@@ -6,7 +6,7 @@ ghost use Rattle.reg_op.specs.Rows.{Row, rows};
 ghost use Rattle.reg_query.specs.Changes.{Change, AreChanges};
 ghost use Rattle.reg_query.specs.DiffLines.{IsDiff};
 
-/// The rows of two contents are the same exactly where there are no changes from the one to the other.
+/// The rows of two contents are the same exactly if there are no changes between them.
 pub fn diff_is_empty_where_equal()
     ensures { (x y : Content) → IsContent x → IsContent y → AreChanges (rows x.ops) (rows y.ops) [] ↔ (rows x.ops ≡ rows y.ops) }
 {}

@@ -1,5 +1,4 @@
-//! Questions about registers, one folder each: which entries have what is asked, how much a register has, and in which rows
-//! two registers differ.
+//! Queries on registers, one folder each: searching entries, counting, and comparing two registers.
 #![tactic(auto)]
 
 mod diff;

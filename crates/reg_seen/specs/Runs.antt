@@ -28,7 +28,7 @@ first_of r = id_at r.replica r.low
 abbrev pub last_of : Run → Id
 last_of r = id_at r.replica r.high
 
--- ids of a replica, so many from a count on
+-- this many ids of a replica, from a count on
 abbrev pub ids_from : List ℕ → ℕ → ℕ → List Id
 ids_from replica low zero = []
 ids_from replica low (suc n) = id_at replica low ∷ ids_from replica (low + 1) n
@@ -90,7 +90,7 @@ pub record AreSeen (rs : List Run) : Type 0 where
 abbrev pub AllIds : Ids → Type 0
 AllIds s = (i : Id) → set.contains s i ≡ true → IsId i
 
--- the greatest count of a replica in a set, or 0 where there is none
+-- the greatest count of a replica in a set, or 0 if there is none
 pub record IsGreatest (s : Ids) (replica : List ℕ) (n : ℕ) : Type 0 where
   pub there : 0 < n → set.contains s (id_at replica n) ≡ true
   pub bound : (count : ℕ) → set.contains s (id_at replica count) ≡ true → count ≤ n
@@ -128,7 +128,7 @@ abbrev pub NextBegins : List Run → List Run → Type 0
 NextBegins rs [] = Unit {0}
 NextBegins rs (s ∷ ss) = AllBegin rs s
 
--- in the midst of a walk: what went out, and what is left of two lists, cover what the lists do
+-- during a walk: the output and the rest of two lists cover what the lists do
 pub record IsJoining (out lefts rights left right : List Run) : Type 0 where
   pub out_runs : AreRuns out
   pub left_runs : AreRuns lefts

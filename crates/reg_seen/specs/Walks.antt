@@ -1,4 +1,4 @@
--- A walk along two lists of runs: what the first has and the second has not.
+-- A walk along two lists of runs: their difference.
 use Rattle.std.specs.Prelude.{◌≡◌, ℕ, ◌+◌, ◌-◌, ◌<◌, max, Bool, true, false, not, ◌&&◌, ◌||◌, List, [], ◌∷◌}
 use Rattle.reg_op.specs.Ids.{Id, IsId, is_before}
 use Rattle.reg_seen.specs.declared.run.Run.{Run}
@@ -13,7 +13,7 @@ is_outside ls rs i = is_in_runs i ls && not (is_in_runs i rs)
 abbrev pub from_count : ℕ → Run → Run
 from_count low r = record { replica = r.replica; low = max r.low low; high = r.high }
 
--- some runs, of which the first is from a count on
+-- some runs, the first of them from a count on
 abbrev pub runs_from : ℕ → List Run → List Run
 runs_from low [] = []
 runs_from low (r ∷ rs) = from_count low r ∷ rs

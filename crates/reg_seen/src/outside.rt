@@ -1,4 +1,4 @@
-//! What one list of runs has and another has not, run by run.
+//! The difference of two lists of runs, run by run.
 
 ghost use Rattle.std.specs.Prelude.{◌≡◌, IfOk, IfSome, IfNone, false};
 ghost use Rattle.reg_op.specs.Ids.{Id};
@@ -9,12 +9,12 @@ use crate::run::{Run, comes_before, from_count};
 use reg_op::OpId;
 use std::alloc::{AllocError, Global};
 
-/// Two lists of runs, of which the second takes ids away from the first.
+/// Two lists of runs; the ids of the second are removed from the first.
 #[derive(Clone, Copy)]
 pub(crate) struct Walk<'a> {
     lefts: &'a [Run],
     rights: &'a [Run],
-    // Of the first run on the left the ids from this count on are left.
+    // The first run on the left has only the ids from this count on.
     low: u32,
 }
 
@@ -42,7 +42,7 @@ impl<'a> Walk<'a> {
         Walk { lefts, rights, low }
     }
 
-    /// The first run that is outside, and what is left behind it.
+    /// The first run outside, and what remains after it.
     pub(crate) fn next_run(self) -> Option<(Run, Walk<'a>)>
         requires { IsWalk self }
         ensures none { IfNone result ((i : Id) → is_left self.entry i ≡ false) }
@@ -82,7 +82,7 @@ impl<'a> Walk<'a> {
     }
 }
 
-// The runs of what is on the left alone.
+// The runs that are only on the left.
 pub(crate) fn runs_outside(
     alloc: Global,
     left: &[Run],
@@ -104,7 +104,7 @@ pub(crate) fn runs_outside(
     Ok(out)
 }
 
-// The first id of what is on the left alone.
+// The first id that is only on the left.
 pub(crate) fn first_id_outside(left: &[Run], right: &[Run]) -> Option<OpId>
     requires left { AreRuns left.now }
     requires right { AreRuns right.now }

@@ -11,7 +11,7 @@ use reg_op::OpId;
 use std::cmp::Ordering;
 use uuid::Uuid;
 
-/// Ids of one replica without a hole.
+/// Consecutive ids of one replica.
 #[derive(Clone, Copy, Debug, PartialEq, Eq)]
 pub struct Run {
     pub replica: Uuid,

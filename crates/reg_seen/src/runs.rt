@@ -7,7 +7,7 @@ ghost use Rattle.reg_seen.specs.Runs.{is_in_run, is_in_runs, last_of, AreRuns, E
 use crate::run::{Run, begins_by};
 use std::alloc::{AllocError, Global};
 
-// Puts a run at the end, where it may join the last one.
+// Appends a run, which may join the last one.
 fn push_run(runs: &mut Vec<Run>, run: Run) -> Result<(), AllocError>
     requires runs { AreRuns runs.old.items }
     requires run { IsRun run }
@@ -35,7 +35,7 @@ fn push_run(runs: &mut Vec<Run>, run: Run) -> Result<(), AllocError>
     Ok(())
 }
 
-// Puts runs at the end, in their order.
+// Appends runs, in order.
 fn push_runs(out: &mut Vec<Run>, runs: &[Run]) -> Result<(), AllocError>
     requires out { AreRuns out.old.items }
     requires runs { AreRuns runs.now }

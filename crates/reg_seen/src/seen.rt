@@ -57,7 +57,7 @@ impl Seen {
         is_covered(&self.runs, &id)
     }
 
-    /// The greatest count of a replica, or 0 where none of its ids was seen.
+    /// The greatest count of a replica, or 0 if none of its ids was seen.
     pub fn greatest(&self, replica: Uuid) -> u32
         ensures { IsGreatest self.now replica result }
     {
@@ -71,14 +71,14 @@ impl Seen {
         is_met(&self.runs, &run)
     }
 
-    /// The least of the ids that were seen and that the other has not seen.
+    /// The least seen id that the other has not seen.
     pub fn first_outside(&self, other: &Seen) -> Option<OpId>
         ensures { result ≡ first_missing self.now other.now }
     {
         first_id_outside(&self.runs, &other.runs)
     }
 
-    /// The ids that were seen, and that the other has not seen.
+    /// The seen ids that the other has not seen.
     pub fn outside(&self, alloc: Global, other: &Seen) -> Result<Seen, AllocError>
         ensures { IfOk result (λ made. made ≡ set.difference self.now other.now) }
     {
@@ -86,7 +86,7 @@ impl Seen {
         Ok(Seen { runs })
     }
 
-    /// The run at a place, from 0, of the runs made as long as possible, by replica and then by count.
+    /// The run at an index, from 0. Runs are as long as possible, ordered by replica and then by count.
     pub fn run(&self, k: usize) -> Option<Run>
         ensures value { IsRunAt self.now k result }
         ensures ids { AllIds self.now }
@@ -103,7 +103,7 @@ impl Seen {
         self.runs.as_slice()
     }
 
-    /// Whether the run is one, is above all ids, and touches none: such a run can be added.
+    /// Whether the run is valid, above all ids, and touches none: such a run can be added.
     pub fn is_next(&self, run: &Run) -> bool
         ensures yes { OnTrue result (IsRun run.now × IsAbove self.now run.now) }
         ensures no { OnFalse result (¬ (IsRun run.now × IsAbove self.now run.now)) }
@@ -132,7 +132,7 @@ impl Seen {
         Ok(())
     }
 
-    /// A copy in memory of its own.
+    /// A copy with its own memory.
     pub fn try_clone(&self, alloc: Global) -> Result<Seen, AllocError>
         ensures { IfOk result (λ copy. copy ≡ self.now) }
     {
@@ -141,7 +141,7 @@ impl Seen {
     }
 }
 
-// Of runs that ascend the last alone can touch one above them.
+// Only the last of ascending runs can touch one above them.
 fn is_above(runs: &[Run], run: &Run) -> bool
     requires { AreRuns runs.now }
     ensures yes { OnTrue result (AllUnder runs.now run.now) }
@@ -153,7 +153,7 @@ fn is_above(runs: &[Run], run: &Run) -> bool
     }
 }
 
-// Of the runs that do not end before the id, the first alone can have it.
+// Only the first run that does not end before the id can contain it.
 fn is_covered(runs: &[Run], id: &OpId) -> bool
     requires { AreRuns runs.now }
     ensures { result ≡ is_in_runs id.now runs.now }
@@ -165,7 +165,7 @@ fn is_covered(runs: &[Run], id: &OpId) -> bool
     false
 }
 
-// Of the runs that do not end before the run begins, the first alone can meet it, or none does.
+// Only the first run that does not end before the run begins can overlap it.
 fn is_met(runs: &[Run], run: &Run) -> bool
     requires { AreRuns runs.now }
     ensures { result ≡ list_any (overlap run.now) runs.now }

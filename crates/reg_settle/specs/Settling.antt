@@ -18,7 +18,7 @@ pub record Differs (one other : Row) : Type 0 where
   pub shares : SharesKey one other
   pub differ : one.definition ≢ other.definition
 
--- the entries of the rows for which P holds, in their order
+-- the entries of the rows for which P holds, in order
 abbrev pub Picks : (Row → Type 0) → List Row → List Id → Type 0
 Picks P [] ids = ids ≡ []
 Picks P (r ∷ rs) ids = (P r × ((later : List Id) × Picks P rs later × (ids ≡ r.entry ∷ later))) ⊎ ((¬ (P r)) × Picks P rs ids)
@@ -41,14 +41,15 @@ pub record IsKept (rs : List Row) (before : List Id) (k : Id) (keep : Row) : Typ
   pub stands : keep.status ≢ Some Retired
   pub agrees : ¬ (IsTaken rs before keep)
 
--- beside the kept row this one is retired: it has the key, and is no entry that is kept, nor one that is retired already
+-- this row is retired for the kept one: it has the key, and is neither kept nor already retired
 pub record IsRival (keeps retired : List Id) (keep r : Row) : Type 0 where
   pub shares : SharesKey keep r
   pub stands : r.status ≢ Some Retired
   pub no_keep : ¬ (Contains keeps r.entry)
   pub left : ¬ (Contains retired r.entry)
 
--- for each of some entries in their order, after others, its rivals are retired by id, each once; which makes the list of all
+-- for each of some entries in order, after others, its rivals are retired, ordered by id, each once; this is the list
+-- of all
 abbrev pub Settles : List Row → List Id → List Id → List Id → List Id → List Id → Type 0
 Settles rs keeps before [] retired all = all ≡ retired
 Settles rs keeps before (k ∷ ks) retired all =

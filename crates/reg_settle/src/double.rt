@@ -1,4 +1,4 @@
-//! Entries of one text, of which one is enough.
+//! Duplicates: entries with one text.
 
 ghost use Rattle.std.specs.Prelude.{◌≡◌, ◌≢◌, ◌↔◌, ◌++◌, ◌∷◌, [], List, map, IsTrue, IfOk, OnOk, Some, if◌then◌else◌};
 ghost use Rattle.reg_op.specs.Rows.{Row as OneRow, rows};
@@ -15,8 +15,8 @@ use reg_state::Register;
 use std::alloc::{AllocError, Global};
 use std::collections::BTreeSet;
 
-/// The entries to retire so that each text of a key is entered once: of those that are not retired and have one text, all
-/// but the least.
+/// The entries to retire so that each text is in one entry: of those that are not retired and have one text, all except
+/// the least.
 pub fn doubles(alloc: Global, register: &Register) -> Result<Vec<OpId>, AllocError>
     ensures { IfOk result (λ ids. AreDoubles (rows register.now.ops) ids.items) }
 {

@@ -8,10 +8,10 @@ use std::fmt;
 /// Why nothing is settled. It prints as its name and the entry that it names.
 #[derive(Clone, Copy, Debug, PartialEq, Eq)]
 pub enum SettleFault {
-    /// Nothing entered this id.
+    /// The register has no such entry.
     UnknownEntry(OpId),
     AlreadyRetired(OpId),
-    /// An entry that is kept before this one has its key and another text.
+    /// An entry that is kept before this one has its key with another text.
     KeyTaken(OpId),
     Memory,
 }
@@ -19,7 +19,7 @@ pub enum SettleFault {
 impl SettleFault {
     ghost use Rattle.reg_settle.specs.Names.{name_of, id_of};
 
-    /// How it is printed.
+    /// The name that is printed.
     pub fn name(self) -> &'static str
         ensures { result.now ≡ name_of self }
     {
@@ -31,7 +31,7 @@ impl SettleFault {
         }
     }
 
-    /// The entry that it names, where it names one.
+    /// The entry that it names, if any.
     pub fn id(self) -> Option<OpId>
         ensures { result ≡ id_of self }
     {

@@ -1,4 +1,4 @@
-//! What settling leaves. A call does nothing: its contract is the law.
+//! The laws of settling. The functions do nothing: their contracts are the laws.
 
 ghost use Rattle.std.specs.Prelude.{◌≡◌, ◌≢◌, ℕ, List, Contains, Some};
 ghost use Rattle.reg_op.specs.Ids.{Id};
@@ -10,14 +10,14 @@ ghost use Rattle.reg_office.specs.Conflicts.{KeyBytes, HasKey};
 ghost use Rattle.reg_settle.specs.Settling.{IsSettled};
 ghost use Rattle.reg_settle.specs.Doubles.{AreDoubles};
 
-/// Once an office has retired what settling lists, no key of an entry that was to be kept is in conflict.
+/// After an office has retired what settling lists, no key of a kept entry is in conflict.
 pub fn kept_keys_are_settled()
     ensures { (x y : Content) (replica note : List ℕ) (keeps ids made : List Id) (keep : Row) (key : KeyBytes) → IsContent x
         → IsSettled (rows x.ops) keeps ids → Does x replica note (retirements ids) y made
         → Contains (rows x.ops) keep → Contains keeps keep.entry → HasKey keep.definition key → ¬ (IsInConflict HasKey (rows y.ops) key) }
 {}
 
-/// Once an office has retired all doubles, entries that are not retired and have one text are one entry.
+/// After an office has retired all doubles, no two entries that are not retired have the same text.
 pub fn texts_stand_once()
     ensures { (x y : Content) (replica note : List ℕ) (ids made : List Id) (one other : Row) → IsContent x
         → AreDoubles (rows x.ops) ids → Does x replica note (retirements ids) y made

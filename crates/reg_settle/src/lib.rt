@@ -1,4 +1,4 @@
-//! Settling: which entries are retired, so that others of their keys are kept.
+//! Settling: which entries are retired so that others with their keys are kept.
 #![tactic(auto)]
 
 mod double;

@@ -21,8 +21,8 @@ use reg_state::Register;
 use std::alloc::Global;
 use std::collections::BTreeMap;
 
-/// The entries to retire so that these are kept: for each in its order, the other entries of its key that are not retired,
-/// by id, each once.
+/// The entries to retire so that these are kept: for each, in order, the other entries with its key that are not retired,
+/// ordered by id, each once.
 pub fn to_retire(
     alloc: Global,
     register: &Register,

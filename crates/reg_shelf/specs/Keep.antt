@@ -10,6 +10,6 @@ use Rattle.reg_file.specs.Files.{IsFileOf}
 abbrev pub IsTooLarge : List ℕ → Content → Type 0
 IsTooLarge image x = (bytes : List ℕ) × IsFileOf x bytes × slots.IsTooLarge image bytes
 
--- a fault that comes where nothing is kept
+-- a fault with which nothing is kept
 abbrev pub IsRestoreFault : ShelfFault → Type 0
 IsRestoreFault f = (f ≡ fault.NotShelf) ⊎ (f ≡ fault.Memory) ⊎ (f ≡ fault.DiskFailed)

@@ -1,4 +1,4 @@
-//! The file that stands in a slot.
+//! The file in a slot.
 
 ghost use Rattle.std.specs.Prelude.{◌≡◌, ◌⊎◌, IfOk, IfErr, IsErrOf};
 ghost use Rattle.reg_op.specs.Contents.{Content};

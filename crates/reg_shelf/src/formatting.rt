@@ -14,15 +14,15 @@ use byte_shelf::ShelfFault;
 use reg_state::Register;
 use std::alloc::Global;
 
-/// Makes a shelf of the empty register, for files of up to `size` bytes. A stop inside the call leaves any bytes.
+/// Makes a shelf of the empty register, for files of up to `size` bytes. A stop during the call may leave any bytes.
 pub fn format<D: Disk>(alloc: Global, disk: &mut D, size: u32) -> Result<(), ShelfFault>
     ensures done { IsTrue (D.tells disk.old)
         → OnOk result (Only (D.seen disk.new) (D.images disk.new)
         × IsShelfOf (D.seen disk.new) size nothing) }
     ensures bad_size { IsErrOf result ShelfFault.BadSize ↔ (IsSize size → ⊥) }
-    // The empty register has a place in each slot, and what the disk reads as is no reason.
+    // The empty register fits in each slot, and the content of the disk does not matter.
     ensures faults { IsErrOf result ShelfFault.TooLarge ⊎ IsErrOf result ShelfFault.NotShelf → ⊥ }
-    // A refusal other than of the disk comes before anything is done.
+    // A refusal other than of the disk is returned before anything is done.
     ensures refused { D.failures disk.new ≡ D.failures disk.old → IsErr result
         → disk.new ≡ disk.old }
     ensures counts { CountsFault result (D.failures disk.old) (D.failures disk.new) }

@@ -14,10 +14,10 @@ use byte_shelf::ShelfFault;
 use reg_state::Register;
 use std::alloc::Global;
 
-/// Keeps the register on the shelf, in the place of the one that it has. After `DiskFailed`, as after a stop, the disk
-/// is restored before it is kept on again.
+/// Keeps the register on the shelf, instead of the one that it has. After `DiskFailed`, as after a stop, restore the
+/// disk before keeping on it again.
 pub fn keep<D: Disk>(alloc: Global, disk: &mut D, register: &Register) -> Result<(), ShelfFault>
-    // A stop at any moment leaves a shelf of the content from before, or of this one.
+    // A stop at any moment leaves a shelf of the old content, or of this one.
     ensures any_moment { IsTrue (D.tells disk.old) → (was : Content)
         → ((c : List ℕ) → D.images disk.old c → IsShelf c was)
         → LeavesOnly D.moment D.images_since disk.old disk.new
@@ -26,7 +26,7 @@ pub fn keep<D: Disk>(alloc: Global, disk: &mut D, register: &Register) -> Result
         → ((c : List ℕ) → D.images disk.old c → IsShelf c was)
         → OnOk result (Only (D.seen disk.new) (D.images disk.new)
         × IsShelf (D.seen disk.new) register.now) }
-    // Whatever the disk tells, what is kept has a file.
+    // For any disk, what is kept has a file.
     ensures file { OnOk result (HasFile register.now) }
     ensures not_shelf { IsTrue (D.tells disk.old)
         → IsErrOf result ShelfFault.NotShelf → HasNoHead (D.seen disk.old) }

@@ -1,4 +1,4 @@
-//! What holds of all shelves. A call does nothing: its contract is the law.
+//! The laws of shelves. The functions do nothing: their contracts are the laws.
 
 ghost use Rattle.std.specs.Prelude.{◌≡◌, List, ℕ};
 ghost use Rattle.reg_op.specs.Contents.{Content};

@@ -1,4 +1,4 @@
-//! A register on a disk, which a stop leaves as it was or as it is kept.
+//! A register on a disk: a stop leaves the old register or the new one.
 #![tactic(auto)]
 
 mod file;

@@ -5,7 +5,7 @@ ghost use Rattle.byte_shelf.specs.Shelf.{IsSize};
 
 use byte_shelf::{LEAST, MOST};
 
-/// Whether a shelf may have slots for files of up to so many bytes.
+/// Whether a shelf may have slots of this size.
 pub fn is_size(size: u32) -> bool
     ensures { (result ≡ true) ↔ IsSize size }
 {

@@ -12,7 +12,7 @@ abbrev pub target_body : Id → Option Id → Body
 target_body e None = Retire e
 target_body e (Some n) = Supersede e n
 
--- the operation that set a mark, but for its note, which nothing here looks at
+-- the operation that set a mark, without its note, which is not used here
 abbrev pub op_of : Mark → Op
 op_of m = record { id = m.id; body = target_body m.target.entry m.target.by; note = [] }
 

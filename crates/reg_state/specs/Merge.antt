@@ -31,7 +31,7 @@ Agree left right = (p o : Op) → has left p ≡ true → has right o ≡ true �
 abbrev pub clash_in : List Op → List Op → Option Id
 clash_in left right = option_map (λ o. o.id) (find (λ o. list_any (λ p. clashes p o) right) left)
 
--- in the midst of a walk: what went out, and what of two lists is left
+-- during a walk: the output, and the rest of two lists
 pub record IsMerging (keep : Op → Bool) (out lefts rights left right : List Op) : Type 0 where
   pub left_next : ById (out ++ lefts)
   pub right_next : ById (out ++ rights)

@@ -8,7 +8,7 @@ use Rattle.reg_state.specs.declared.register.TakeFault.TheVariants as taken
 use Rattle.reg_state.specs.declared.piece.PieceFault.{PieceFault}
 use Rattle.reg_state.specs.declared.piece.PieceFault.TheVariants as piece
 
--- operations that are no register's
+-- operations that are not a register's
 abbrev pub content_name : ContentFault → List ℕ
 content_name (content.NotKept id) = codes "NotKept"
 content_name content.Memory = codes "Memory"

@@ -10,7 +10,7 @@ use Rattle.reg_op.specs.Pieces.{Piece}
 abbrev pub piece_of : Ids → Content → Piece
 piece_of basis part = record { ops = part.ops; basis = basis; seen = part.seen }
 
--- the basis has ids alone, and none that the part has seen
+-- the basis has only ids, and none that the part has seen
 pub record IsBasisOf (basis : Ids) (part : Content) : Type 0 where
   pub are_ids : (i : Id) → set.contains basis i ≡ true → IsId i
   pub apart : (i : Id) → set.contains part.seen i ≡ true → set.contains basis i ≡ false

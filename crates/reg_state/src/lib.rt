@@ -1,4 +1,4 @@
-//! Registers that join: the operations that are kept, and the ids that were seen.
+//! Registers and their joins: the kept operations and the seen ids.
 #![tactic(auto)]
 
 pub mod laws;

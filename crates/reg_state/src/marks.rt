@@ -32,7 +32,7 @@ fn is_marked_before(marks: &Marks, target: &Target, id: OpId) -> bool
     }
 }
 
-/// Whether beside what is marked there is no need of the operation.
+/// Whether the marks make the operation redundant.
 pub fn is_replaced(marks: &Marks, op: &Op) -> bool
     ensures { result ≡ any (λ m. replaces (op_of m) op.now) marks.now }
 {
@@ -64,7 +64,7 @@ pub fn is_replaced(marks: &Marks, op: &Op) -> bool
     }
 }
 
-/// The mark that an operation sets, if it is no entry.
+/// The mark that an operation sets, unless it enters.
 pub fn mark_of(op: &Op) -> Option<Mark>
     ensures some { IfSome result (λ mark. marks_of_body op.now.id op.now.body ≡ mark ∷ []) }
     ensures none { IfNone result (is_enter op.now.body ≡ true) }
@@ -89,7 +89,7 @@ pub fn mark_of(op: &Op) -> Option<Mark>
     }
 }
 
-// Puts the mark that an operation sets at the end.
+// Appends the mark that an operation sets.
 fn push_mark(marks: &mut Vec<Mark>, op: &Op) -> Result<(), AllocError>
     ensures { OnOk result (marks.new.items ≡ marks.old.items ++ marks_of_body op.now.id op.now.body) }
 {

@@ -11,7 +11,7 @@ use reg_marks::Marks;
 use reg_op::Op;
 use std::alloc::{AllocError, Global};
 
-// Puts a copy of an operation at the end, unless it is replaced.
+// Appends a copy of an operation, unless it is redundant.
 fn push_kept(alloc: Global, out: &mut Vec<Op>, op: &Op, marks: &Marks) -> Result<(), AllocError>
     ensures { OnOk result (out.new.items ≡ out.old.items ++ filter (lasts marks.now) (op.now ∷ [])) }
 {
@@ -22,7 +22,7 @@ fn push_kept(alloc: Global, out: &mut Vec<Op>, op: &Op, marks: &Marks) -> Result
     Ok(())
 }
 
-// Puts copies of operations at the end, but of those that are replaced.
+// Appends copies of operations, except redundant ones.
 fn push_all_kept(
     alloc: Global,
     out: &mut Vec<Op>,
@@ -39,7 +39,7 @@ fn push_all_kept(
     Ok(())
 }
 
-/// Joins two lists by a walk along both, without what is replaced.
+/// Joins two lists by a walk along both, without redundant operations.
 pub fn join_ops(
     alloc: Global,
     left: &[Op],

@@ -7,7 +7,7 @@ use reg_op::Op;
 use reg_seen::Seen;
 use std::alloc::{AllocError, Global};
 
-// Puts a copy of an operation at the end, unless its id is in the basis.
+// Appends a copy of an operation, unless its id is in the basis.
 fn push_outside(alloc: Global, out: &mut Vec<Op>, op: &Op, basis: &Seen) -> Result<(), AllocError>
     ensures { OnOk result (out.new.items ≡ out.old.items ++ ops_outside basis.now (op.now ∷ [])) }
 {
@@ -18,7 +18,7 @@ fn push_outside(alloc: Global, out: &mut Vec<Op>, op: &Op, basis: &Seen) -> Resu
     Ok(())
 }
 
-/// Copies of the operations whose ids are outside a basis, in their order.
+/// Copies of the operations whose ids are outside a basis, in order.
 pub fn ops_outside(alloc: Global, ops: &[Op], basis: &Seen) -> Result<Vec<Op>, AllocError>
     ensures { IfOk result (λ out. out.items ≡ ops_outside basis.now ops.now) }
 {

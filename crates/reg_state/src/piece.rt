@@ -1,4 +1,4 @@
-//! Pieces: what a register has outside the ids that another has seen.
+//! Pieces: what a register has outside a basis.
 
 ghost use Rattle.std.specs.Prelude.{◌≡◌, ◌↔◌, true, false, Ok, Err, Some, None, OnOk, IfOk};
 ghost use Rattle.reg_op.specs.Set as set;
@@ -30,7 +30,7 @@ pub enum PieceFault {
 impl PieceFault {
     ghost use Rattle.reg_state.specs.Names.{piece_name, piece_id};
 
-    /// How it is printed.
+    /// The name that is printed.
     pub fn name(self) -> &'static str
         ensures { result.now ≡ piece_name self }
     {
@@ -41,7 +41,7 @@ impl PieceFault {
         }
     }
 
-    /// The id that it names, where it names one.
+    /// The id that it names, if any.
     pub fn id(self) -> Option<OpId>
         ensures { result ≡ piece_id self }
     {
@@ -63,7 +63,7 @@ impl fmt::Display for PieceFault {
     }
 }
 
-/// A piece: the operations and the seen ids that one lacks who has seen its basis.
+/// A piece: the operations and the seen ids that a register with the basis lacks.
 #[derive(Drop)]
 pub struct Piece {
     basis: Seen,
@@ -85,8 +85,7 @@ impl Model for Piece {
 }
 
 impl Piece {
-    /// A piece of operations by id, all of which are seen, and of which none replaces another. No id that is seen is in the
-    /// basis.
+    /// A piece of operations ordered by id, all of them seen and none redundant. No seen id is in the basis.
     pub fn from_parts(
         alloc: Global,
         ops: Vec<Op>,
@@ -105,7 +104,7 @@ impl Piece {
         Ok(Piece { basis, part })
     }
 
-    /// The ids that one who joins it has seen.
+    /// The ids that a register has to have seen to join it.
     pub fn basis(&self) -> &Seen
         ensures value { result.now ≡ self.now.basis }
         ensures piece { IsPiece self.now }
@@ -143,8 +142,8 @@ impl Register {
         Ok(Piece { basis, part })
     }
 
-    /// Joins a piece, where its basis was seen. What is missing of the basis, and then a clash, is looked for before
-    /// anything is allocated.
+    /// Joins a piece, if its basis was seen. A missing id of the basis, and then a clash, is found before anything is
+    /// allocated.
     pub fn join_piece(&self, alloc: Global, piece: &Piece) -> Result<Register, PieceFault>
         ensures ok { IfOk result (λ r. joined_piece self.now piece.now ≡ Ok r) }
         ensures basis { (id : Id) → (result ≡ Err (PieceFault.Basis id)) ↔ (joined_piece self.now piece.now ≡ Err (Basis id)) }

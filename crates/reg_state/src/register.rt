@@ -1,4 +1,4 @@
-//! The register: one operation taken, two registers joined.
+//! The register: taking an operation, joining two registers.
 
 ghost use Rattle.std.specs.Prelude.{◌≡◌, ◌↔◌, ℕ, true, false, List, [], ◌∷◌, Ok, Err, OnOk, OnErr, IfOk, IfSome, IfNone, Some, None};
 ghost use Rattle.reg_op.specs.Set as set;
@@ -29,7 +29,7 @@ use std::marker::Model;
 use std::{fmt, slice};
 use wkt_crs::Definition;
 
-/// Why operations are no register's.
+/// Why `from_content` rejects operations.
 #[derive(Clone, Copy, Debug, PartialEq, Eq)]
 pub enum ContentFault {
     /// The least id that is not kept.
@@ -40,7 +40,7 @@ pub enum ContentFault {
 impl ContentFault {
     ghost use Rattle.reg_state.specs.Names.{content_name, content_id};
 
-    /// How it is printed.
+    /// The name that is printed.
     pub fn name(self) -> &'static str
         ensures { result.now ≡ content_name self }
     {
@@ -50,7 +50,7 @@ impl ContentFault {
         }
     }
 
-    /// The id that it names, where it names one.
+    /// The id that it names, if any.
     pub fn id(self) -> Option<OpId>
         ensures { result ≡ content_id self }
     {
@@ -81,7 +81,7 @@ pub enum TakeFault {
 impl TakeFault {
     ghost use Rattle.reg_state.specs.Names.{take_name, take_id};
 
-    /// How it is printed.
+    /// The name that is printed.
     pub fn name(self) -> &'static str
         ensures { result.now ≡ take_name self }
     {
@@ -91,7 +91,7 @@ impl TakeFault {
         }
     }
 
-    /// The id that it names, where it names one.
+    /// The id that it names, if any.
     pub fn id(self) -> Option<OpId>
         ensures { result ≡ take_id self }
     {
@@ -135,7 +135,7 @@ impl Model for Register {
 }
 
 impl Register {
-    /// The register that has taken nothing.
+    /// The empty register.
     pub fn new(alloc: Global) -> Register
         ensures { result ≡ nothing }
     {
@@ -146,7 +146,7 @@ impl Register {
         }
     }
 
-    /// A register of operations by id, all of which are seen, and of which none replaces another.
+    /// A register of operations ordered by id, all of them seen and none redundant.
     pub fn from_content(alloc: Global, ops: Vec<Op>, seen: Seen) -> Result<Register, ContentFault>
         requires by_id { ById ops.items }
         requires are_seen { (o : Operation) → has ops.items o ≡ true → set.contains seen o.id ≡ true }
@@ -187,7 +187,7 @@ impl Register {
         &self.seen
     }
 
-    /// The status of an entry, of which other ids have none.
+    /// The status of an entry; other ids have none.
     pub fn status(&self, entry: OpId) -> Option<Status>
         ensures { result ≡ status self.now.ops entry }
     {
@@ -203,7 +203,7 @@ impl Register {
         Some(Status::Valid)
     }
 
-    /// Whether what is kept supersedes an entry by a newer one.
+    /// Whether a kept operation supersedes an entry by a newer one.
     pub fn is_superseded_by(&self, old: OpId, newer: OpId) -> bool
         ensures { result ≡ any (λ o. is_supersession old (is_same newer) o.body) self.now.ops }
     {
@@ -211,7 +211,7 @@ impl Register {
         is_marked(&self.marks, &Target { entry: old, by })
     }
 
-    /// The definition that an id entered, whatever was noted of it.
+    /// The definition that an id entered.
     pub fn definition(&self, entry: OpId) -> Option<&Definition>
         ensures found { IfSome result (λ d. (note : List ℕ) × (set.contains self.now.ops (entering entry d.now note) ≡ true)) }
         ensures none { IfNone result (enters self.now.ops entry ≡ false) }
@@ -219,7 +219,7 @@ impl Register {
         definition_in(&self.ops, entry)
     }
 
-    /// Joins one operation. A clash is looked for before anything is allocated.
+    /// Joins one operation. A clash is found before anything is allocated.
     pub fn take(&mut self, op: Op) -> Result<(), TakeFault>
         ensures ok { OnOk result (joined self.old (state (one op)) ≡ Ok self.new) }
         ensures clash { (id : Id) → (result ≡ Err (TakeFault.Clash id)) ↔ (joined self.old (state (one op)) ≡ Err id) }
@@ -245,7 +245,7 @@ impl Register {
         Ok(Register { ops, marks, seen })
     }
 
-    /// The register of what has ids outside a basis.
+    /// The part of the register with ids outside a basis.
     pub(crate) fn outside(&self, alloc: Global, basis: &Seen) -> Result<Register, AllocError>
         ensures { IfOk result (λ part. part ≡ outside basis.now self.now) }
     {
@@ -255,7 +255,7 @@ impl Register {
         Ok(Register { ops, marks, seen })
     }
 
-    // Joins one operation whose id has no other body. One that is there changes nothing.
+    // Joins one operation whose id has no other body. If it is there already, nothing changes.
     fn put(&mut self, alloc: Global, op: Op) -> Result<(), AllocError>
         requires { OneBody (set.union self.old.ops (one op)) }
         ensures ok { OnOk result (self.new ≡ merged self.old (state (one op))) }
@@ -271,7 +271,7 @@ impl Register {
         }
     }
 
-    // Puts in an entry, whose id no operation has.
+    // Inserts an entry, whose id no operation has.
     fn put_entry(&mut self, op: Op, seen: Seen) -> Result<(), AllocError>
         requires operation { IsOperation op }
         requires entry { is_enter op.body ≡ true }
@@ -286,8 +286,8 @@ impl Register {
         Ok(())
     }
 
-    // Puts in an operation that sets a mark, whose id no operation has, and removes what it replaces. One that is replaced
-    // is seen alone. All that can fail comes first.
+    // Inserts an operation that sets a mark, whose id no operation has, and removes what becomes redundant. If it is
+    // redundant itself, only its id is recorded. Everything that can fail comes first.
     fn put_mark(&mut self, op: Op, mark: Mark, seen: Seen) -> Result<(), AllocError>
         requires operation { IsOperation op }
         requires mark { marks_of_body op.id op.body ≡ mark ∷ [] }
@@ -350,7 +350,7 @@ fn with_id(alloc: Global, seen: &Seen, id: OpId) -> Result<Seen, AllocError>
     }
 }
 
-// Copies of operations, in their order.
+// Copies of operations, in order.
 fn copies(alloc: Global, ops: &[Op]) -> Result<Vec<Op>, AllocError>
     ensures { IfOk result (λ made. made.items ≡ ops.now) }
 {

@@ -28,7 +28,7 @@ pub fn comes_first(first: &Op, second: &Op) -> bool
     first.id().is_before(&second.id())
 }
 
-// What the operation enters, if the id is its own.
+// The definition that the operation enters, if it has this id.
 fn definition_of(op: &Op, id: OpId) -> Option<&Definition>
     ensures told { is_some result ≡ (is_same id op.now.id && is_enter op.now.body) }
     ensures found { IfSome result (λ d. op.now ≡ entering id d.now op.now.note) }
@@ -55,7 +55,7 @@ pub fn has_id(ops: &[Op], id: OpId) -> bool
     false
 }
 
-/// Puts an operation in its place, whose id no other has.
+/// Inserts an operation, whose id no other has.
 pub fn put_op(ops: &mut Vec<Op>, op: Op) -> Result<(), AllocError>
     requires by_id { ById ops.old.items }
     requires absent { (q : Operation) → has ops.old.items q ≡ true → is_same op.id q.id ≡ false }
@@ -68,7 +68,7 @@ pub fn put_op(ops: &mut Vec<Op>, op: Op) -> Result<(), AllocError>
     Ok(())
 }
 
-/// The same where there is room.
+/// The same if there is room.
 pub fn put_with_room(ops: &mut Vec<Op>, op: Op)
     requires by_id { ById ops.old.items }
     requires absent { (q : Operation) → has ops.old.items q ≡ true → is_same op.id q.id ≡ false }
@@ -84,7 +84,7 @@ pub fn put_with_room(ops: &mut Vec<Op>, op: Op)
     }
 }
 
-/// Removes what an operation replaces, unless it is known that there is none.
+/// Removes what an operation makes redundant, unless it is known that there is none.
 pub fn remove_replaced(ops: &mut Vec<Op>, op: &Op, some: bool)
     requires { some ≡ false → ops.old.items ≡ filter (λ o. not (replaces op.now o)) ops.old.items }
     ensures items { ops.new.items ≡ filter (λ o. not (replaces op.now o)) ops.old.items }
@@ -109,7 +109,7 @@ pub fn definition_in(ops: &[Op], id: OpId) -> Option<&Definition>
     None
 }
 
-/// The least id of what is replaced.
+/// The least id of a redundant operation.
 pub fn first_replaced(ops: &[Op], marks: &Marks) -> Option<OpId>
     ensures value { result ≡ first_off marks.now ops.now }
     ensures operations { IfNone result ((o : Operation) → has ops.now o ≡ true → IsOperation o) }

@@ -1,4 +1,4 @@
-//! Operations as a caller sees them, with their definitions and notes lent.
+//! Operations as callers see them, with borrowed definitions and notes.
 
 ghost use Rattle.std.specs.Prelude.{◌≡◌};
 ghost use Rattle.std.specs.Iterator.{YieldsFirstBy, item_count};
@@ -8,7 +8,7 @@ use reg_op::{Note, Op, OpBody, OpId};
 use std::marker::Model;
 use wkt_crs::Definition;
 
-/// What an operation does, with its definition lent.
+/// The effect of an operation, with a borrowed definition.
 #[derive(Clone, Copy)]
 pub enum BodyView<'a> {
     Enter(&'a Definition),
@@ -16,7 +16,7 @@ pub enum BodyView<'a> {
     Retire { entry: OpId },
 }
 
-/// An operation, with its definition and its note lent.
+/// An operation, with a borrowed definition and note.
 #[derive(Clone, Copy)]
 pub struct OpView<'a> {
     pub id: OpId,
@@ -40,7 +40,7 @@ fn view_of(op: &Op) -> OpView<'_>
     OpView { id, body, note }
 }
 
-/// The operations that a register keeps, by id: seen as the list of those that are left.
+/// The kept operations of a register, ordered by id, seen as the list of those that remain.
 #[derive(Drop)]
 pub struct Ops<'a> {
     rest: &'a [Op],
@@ -66,7 +66,7 @@ impl<'a> Ops<'a> {
         Ops { rest }
     }
 
-    /// The operations that are left.
+    /// The remaining operations.
     pub fn as_slice(&self) -> &'a [Op]
         ensures { result.now ≡ self.now }
     {

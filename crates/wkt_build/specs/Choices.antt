@@ -1,4 +1,4 @@
--- What the keyword that comes decides.
+-- What the next keyword decides.
 use Rattle.std.specs.Prelude.{Bool, true, false, List, [], ◌∷◌, Option, Some, None}
 use Rattle.crs_part.specs.declared.units.UnitDefinition.{UnitDefinition}
 use Rattle.crs_part.specs.declared.units.Unit as units

@@ -1,4 +1,4 @@
--- Which tokens come, in terms of the trees that they are, and what is built of them.
+-- The next tokens, as the trees that they are, and the values built from them.
 use Rattle.std.specs.Prelude.{◌≡◌, ℕ, Bool, false, ◌&&◌, List, [], ◌∷◌, ◌++◌, Result, IfOk, Option, Some, drop}
 use Rattle.wkt_tree.specs.declared.token.TokenKind.TheVariants.{Comma}
 use Rattle.wkt_tree.specs.Tree.{Piece, Tok, tok, Item, tokens}

@@ -27,7 +27,7 @@ pub record Ends (end rest : List Tok) : Type 0 where
   pub piece : Piece
   pub is : end ≡ tok (Close delimiter) piece ∷ rest
 
--- where what fits the rest of the row comes, this is what was built of it
+-- if the next arguments fit the rest of the row, this was built from them
 pub record Reads (row : List Slot) (fields : Fields) (old new : List Tok) : Type 0 where
   pub of : (xs : List Bare) (end rest : List Tok) → Cuts row xs → Behind xs old end → Ends end rest → Runs row fields xs × (new ≡ end)
 
@@ -105,11 +105,11 @@ base_ending_row =
 abbrev pub base_ending_fields : BaseEnding → Fields
 base_ending_fields v = Maybe DenotesPrimeMeridian v.prime_meridian & Maybe DenotesAngleUnit v.unit & Each DenotesIdent v.ids & nothing
 
--- where what fits the rest of the row comes, this is built of it
+-- if the next arguments fit the rest of the row, this is built from them
 abbrev pub BuildsRest : {A E : Type 0} → List Slot → (A → Fields) → List Tok → List Tok → Result A E → Type 0
 BuildsRest row F old new result = IfOk result (λ v. Reads row (F v) old new)
 
--- where the rest of a row is read as some value, it is read with these coordinates before it
+-- if the rest of a row is read as some value, it is read with these coordinates before it
 abbrev pub ReadsBefore : {A : Type 0} → List Slot → (A → Fields) → List Tok → List Tok → Coordinates → Type 0
 ReadsBefore row F old mid v = (w : _) (new : List Tok) → Reads row (F w) mid new → Reads (from_coordinates row) (coordinates_fields v (F w)) old new
 

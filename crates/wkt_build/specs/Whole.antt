@@ -8,7 +8,7 @@ use Rattle.wkt_grammar.specs.Slots.{IsClean}
 use Rattle.wkt_grammar.specs.Bare.{bare}
 use Rattle.wkt_meaning.specs.Denotes.{DenotesParts}
 
--- where the tokens are those of a tree without a slot fault in the second edition, the tree denotes what is built
+-- if the tokens are those of a tree without a slot fault in the second edition, the tree denotes what is built
 abbrev pub BuildsParts : {E : Type 0} → List Tok → Result CrsParts E → Type 0
 BuildsParts toks result = (k : Piece) (d : Delimiter) (o : Piece) (items : Items) (c : Piece)
     → toks ≡ tokens (node k d o items c) → IsClean editions.Second toks → IfOk result (DenotesParts (bare (node k d o items c)))

@@ -1,4 +1,4 @@
-//! Values that are built of the arguments that come.
+//! Building values from arguments.
 
 ghost use Rattle.std.specs.Prelude.{◌≡◌, ◌≤◌, length, false, true, List, drop, IfOk, OnOk, None, Ok};
 ghost use Rattle.wkt_grammar.specs.declared.table.Takes as declared;
@@ -10,7 +10,7 @@ use crs_part::{Many, NonEmpty};
 use std::alloc::{AllocError, Global};
 use wkt_grammar::Takes;
 
-/// An argument that is built as a value of `V`.
+/// An argument whose value is a `V`.
 pub(crate) trait Built<V> {
     /// The kind of slot that takes it.
     ghost slot_kind: { declared.Takes };
@@ -25,7 +25,7 @@ pub(crate) trait Built<V> {
         ensures shorter { length cursor.new ≤ length cursor.old };
 }
 
-/// Goes past the token that comes.
+/// Skips the next token.
 pub(crate) fn pass(cursor: &mut Reader<'_>)
     ensures left { cursor.new ≡ drop 1 cursor.old }
     ensures shorter { length cursor.new ≤ length cursor.old }
@@ -33,8 +33,8 @@ pub(crate) fn pass(cursor: &mut Reader<'_>)
     cursor.advance();
 }
 
-/// The value that is held, with the next one. A step that fails so holds no value of many forms, which its proof would go
-/// through one by one.
+/// The value so far, with the next one. So a failing step holds no value with many variants, which its proof would go
+/// through.
 pub(crate) fn with<V: Drop, W>(held: V, next: Result<W, AllocError>) -> Result<(V, W), AllocError>
     ensures { IfOk result (λ both. (both.0 ≡ held) × (next ≡ Ok both.1)) }
 {
@@ -44,7 +44,7 @@ pub(crate) fn with<V: Drop, W>(held: V, next: Result<W, AllocError>) -> Result<(
     }
 }
 
-/// The argument after the token that comes.
+/// The argument after the next token.
 pub(crate) fn take_one<N: Built<V>, V>(
     alloc: Global,
     cursor: &mut Reader<'_>,
@@ -56,7 +56,7 @@ pub(crate) fn take_one<N: Built<V>, V>(
     N::build(alloc, cursor)
 }
 
-/// The argument that comes, where it is of this kind.
+/// The next argument, if it is of this kind.
 pub(crate) fn take_maybe<N: Built<V>, V>(
     alloc: Global,
     cursor: &mut Reader<'_>,
@@ -73,7 +73,7 @@ pub(crate) fn take_maybe<N: Built<V>, V>(
     Ok(Some(value))
 }
 
-/// The arguments that come, as long as they are of this kind.
+/// The next arguments, as long as they are of this kind.
 pub(crate) fn take_each<N: Built<V>, V: Drop>(
     alloc: Global,
     cursor: &mut Reader<'_>,
@@ -91,7 +91,7 @@ pub(crate) fn take_each<N: Built<V>, V: Drop>(
     Ok(items)
 }
 
-/// The same items, with room for one where there is none: most lists have one item, and are kept.
+/// The same items, with room for one if there is none: most lists have one item.
 fn with_room<V: Drop>(alloc: Global, items: Many<V>) -> Result<Many<V>, AllocError>
     ensures { IfOk result (λ same. same ≡ items) }
 {

@@ -145,7 +145,7 @@ pub(crate) fn build_vertical(alloc: Global, cursor: &mut Reader<'_>) -> Result<V
     })
 }
 
-/// A reference system of one part, by the keyword that comes.
+/// A reference system of one part, by the next keyword.
 fn build_single(alloc: Global, cursor: &mut Reader<'_>) -> Result<Single, AllocError>
     ensures builds { BuildsSingle cursor.old cursor.new result }
     ensures shorter { length cursor.new ≤ length cursor.old }
@@ -177,7 +177,7 @@ impl Built<Single> for Single {
     }
 }
 
-// Apart, so that no other system pays for the size of two.
+// Separate, so that other systems do not pay for the size of two.
 #[inline(never)]
 pub(crate) fn build_compound(alloc: Global, cursor: &mut Reader<'_>) -> Result<Compound, AllocError>
     ensures builds { BuildsNode nodes.CompoundCrs compound_fields cursor.old cursor.new result }

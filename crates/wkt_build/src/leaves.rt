@@ -32,7 +32,7 @@ impl Built<Decimal> for Decimal {
     }
 }
 
-/// The number that comes.
+/// The next number.
 pub(crate) fn take_number(cursor: &mut Reader<'_>) -> Decimal
     ensures takes { TakesNumber cursor.old cursor.new result }
     ensures shorter { length cursor.new ≤ length cursor.old }
@@ -63,7 +63,7 @@ impl Built<u32> for u32 {
     }
 }
 
-/// The count that comes.
+/// The next count.
 fn take_count(cursor: &mut Reader<'_>) -> u32
     ensures takes { TakesCount cursor.old cursor.new result }
     ensures shorter { length cursor.new ≤ length cursor.old }
@@ -102,7 +102,7 @@ impl Built<Text> for Text {
     }
 }
 
-/// The text that comes.
+/// The next text.
 pub(crate) fn take_text(alloc: Global, cursor: &mut Reader<'_>) -> Result<Text, AllocError>
     ensures takes { IfOk result (TakesText cursor.old cursor.new) }
     ensures shorter { length cursor.new ≤ length cursor.old }
@@ -117,7 +117,7 @@ pub(crate) fn take_text(alloc: Global, cursor: &mut Reader<'_>) -> Result<Text, 
     }
 }
 
-/// The text that stands between the marks.
+/// The text between the marks.
 fn text_of(alloc: Global, bytes: &[u8]) -> Result<Text, AllocError>
     requires { IsQuoted bytes.now }
     ensures { IfOk result (λ text. text.bytes ≡ undoubled false (drop 1 bytes.now)) }
@@ -142,7 +142,7 @@ fn undoubled(alloc: Global, bytes: &[u8]) -> Result<Many<u8>, AllocError>
     }
 }
 
-/// What stands before the mark at the end, where it is the only one.
+/// The bytes before the closing mark, if there is no other mark.
 fn plain(bytes: &[u8]) -> Option<&[u8]>
     ensures { IfSome result (λ content. content.now ≡ undoubled false bytes.now) }
 {

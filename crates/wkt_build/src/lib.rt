@@ -1,4 +1,4 @@
-//! Makes values of the tokens of a text whose slots are filled well.
+//! Builds the value of a text that has passed the slot check.
 #![tactic(auto)]
 
 mod built;

@@ -1,4 +1,4 @@
-//! The tokens that come, and which argument follows a comma.
+//! The next tokens, and the argument after a comma.
 
 ghost use Rattle.std.specs.Prelude.{◌≡◌, drop, slice_get, IfSome};
 ghost use Rattle.std.specs.Bool.{OnTrue};
@@ -19,10 +19,10 @@ use wkt_grammar::{
 };
 use wkt_tree::{Cursor, Token, TokenKind};
 
-/// What follows a comma, where it was looked up ahead.
+/// What follows a comma, if it was looked up.
 #[derive(Clone, Copy)]
 pub(crate) enum Ahead {
-    /// No comma comes.
+    /// No comma follows.
     NoComma,
     /// A node with this keyword.
     Node(Keyword),
@@ -34,7 +34,7 @@ pub(crate) enum Ahead {
 #[derive(Drop)]
 pub(crate) struct Reader<'a> {
     cursor: Cursor<'a>,
-    /// The keyword that comes, where it was looked up ahead.
+    /// The next keyword, if it was looked up.
     keyword: Option<Keyword>,
     behind: Cursor<'a>,
     ahead: Ahead,
@@ -52,7 +52,7 @@ impl<'a> Model for Reader<'a> {
     ghost invariant = { λ r. IsAhead r.ahead r.behind r.cursor × IsKnown r.keyword r.cursor };
 }
 
-/// What the argument is that begins here, where it is a node. A word that begins none is not looked up.
+/// The kind of the argument that begins here, if it is a node. Other words are not looked up.
 #[inline(always)]
 fn told(behind: &Cursor<'_>) -> Ahead
     ensures { IsTold result behind.now }
@@ -80,7 +80,7 @@ fn is_word(kind: TokenKind) -> bool
     matches!(kind, TokenKind::Word)
 }
 
-/// Whether a slot of this kind takes the argument that comes.
+/// Whether a slot of this kind takes the next argument.
 #[inline(always)]
 fn is_taken(kind: Takes, cursor: &Cursor<'_>) -> bool
     ensures { result ≡ takes kind (coming cursor.now) }
@@ -90,7 +90,7 @@ fn is_taken(kind: Takes, cursor: &Cursor<'_>) -> bool
     };
     match token.kind {
         TokenKind::Quoted => takes(kind, Argument::Text),
-        // A slot that takes any number is not asked whether it is a count.
+        // For a slot that takes any number, it is not checked whether it is a count.
         TokenKind::Number => {
             takes(kind, Argument::Number) || takes(kind, Argument::Count) && is_count(token.bytes)
         }
@@ -122,7 +122,7 @@ impl<'a> Reader<'a> {
         }
     }
 
-    /// The token that comes.
+    /// The next token.
     #[inline(always)]
     pub(crate) fn peek(&self) -> Option<Token<'a>>
         ensures comes { option_map view result ≡ slice_get self.now 0 }
@@ -131,7 +131,7 @@ impl<'a> Reader<'a> {
         self.cursor.peek()
     }
 
-    /// What the token that comes means as a keyword.
+    /// The keyword of the next token.
     #[inline(always)]
     pub(crate) fn next_keyword(&self) -> Option<Keyword>
         ensures { result ≡ next_keyword self.now }
@@ -145,7 +145,7 @@ impl<'a> Reader<'a> {
         }
     }
 
-    /// Goes past the token that comes, where one does.
+    /// Skips the next token, if there is one.
     #[inline(always)]
     pub(crate) fn advance(&mut self)
         ensures { self.new ≡ drop 1 self.old }
@@ -168,7 +168,7 @@ impl<'a> Reader<'a> {
         }
     }
 
-    /// Whether a comma comes, and then an argument that a slot of this kind takes.
+    /// Whether a comma follows, and then an argument that a slot of this kind takes.
     #[inline(always)]
     pub(crate) fn comes(&self, kind: Takes) -> bool
         ensures { result ≡ comes kind self.now }

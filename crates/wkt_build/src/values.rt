@@ -1,4 +1,4 @@
-//! Nodes that hold a text alone.
+//! Nodes with a single text.
 
 ghost use Rattle.std.specs.Prelude.{◌≡◌, ◌≤◌, length, false, true, IfOk, OnOk, None};
 ghost use Rattle.wkt_grammar.specs.declared.table.Node.TheVariants as nodes;
@@ -22,7 +22,7 @@ fn build_value(alloc: Global, cursor: &mut Reader<'_>) -> Result<Text, AllocErro
     Ok(value)
 }
 
-/// The text of the node with this keyword, after the token that comes.
+/// The text of the node with this keyword, after the next token.
 pub(crate) fn take_value(
     alloc: Global,
     cursor: &mut Reader<'_>,
@@ -35,7 +35,7 @@ pub(crate) fn take_value(
     build_value(alloc, cursor)
 }
 
-/// The text of the node that comes, where it has this keyword.
+/// The text of the next node, if it has this keyword.
 pub(crate) fn take_maybe_value(
     alloc: Global,
     cursor: &mut Reader<'_>,

@@ -2,7 +2,7 @@
 use Rattle.std.specs.Prelude.{◌≡◌, ◌≢◌, ℕ, ◌<◌, List, ◌++◌, ◌∷◌, [], length}
 use Rattle.std.specs.Str.Parse.{AllDigits}
 
--- digits of which the last is not 0, and the rest after them
+-- digits, the last of them not 0, and the rest after them
 pub record ReadsFraction (text rest : List ℕ) : Type 0 where
   pub front : List ℕ
   pub last : ℕ

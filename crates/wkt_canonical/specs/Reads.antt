@@ -1,4 +1,4 @@
--- What stands at the front of a text: the canonical text of a value that passes a test, and the rest after it.
+-- The front of a text: the canonical text of a value that passes a test, and the rest after it.
 use Rattle.std.specs.Prelude.{◌≡◌, ℕ, ◌+◌, ◌<◌, Bool, true, false, not, ◌||◌, None, is_some, is_none, List, [], ◌∷◌, ◌++◌, map, Option}
 use Rattle.std.specs.Int.{is_positive, is_negative}
 use Rattle.std.specs.List.{list_all, flat_map}
@@ -86,11 +86,11 @@ pub record ReadsEach {A : Type 0} (test : A → Bool) (tree : A → Bare) (text 
   pub passes : list_all test values ≡ true
   pub is : text ≡ behind (map tree values) ++ rest
 
--- what passes where nothing is asked
+-- the test that everything passes
 abbrev pub any : {A : Type 0} → A → Bool
 any value = true
 
--- a node, of which the opening was read before
+-- a node, after its opening
 pub record ReadsInside {A : Type 0} (test : A → Bool) (tree : A → Bare) (keyword : Keyword) (text rest : List ℕ) : Type 0 where
   pub value : A
   pub passes : test value ≡ true
@@ -103,7 +103,7 @@ is_above_zero d = is_positive d.coefficient
 abbrev pub is_not_below_zero : Decimal → Bool
 is_not_below_zero d = not (is_negative d.coefficient)
 
--- a node of any keyword, of which the opening was read before
+-- a node with any keyword, after its opening
 pub record ReadsWithin {A : Type 0} (test : A → Bool) (tree : Keyword → A → Bare) (text rest : List ℕ) : Type 0 where
   pub value : A
   pub passes : test value ≡ true
@@ -156,7 +156,7 @@ pub record ReadsAxisUnit (system : SystemKind) (k : ℕ) (has_unit : Bool) (text
   pub without_unit : has_unit ≡ false → value ≡ None
   pub is : text ≡ behind (maybe unit_tree value) ++ rest
 
--- the common unit, which fits each of at most three axes where they have none
+-- the common unit, which fits each of at most three axes if they have none
 pub record ReadsCommonUnit (system : SystemKind) (dimension : ℕ) (has_unit : Bool) (text rest : List ℕ) : Type 0 where
   pub value : Option Unit
   pub passes : option_map_or unit_passes value true ≡ true
@@ -180,7 +180,7 @@ pub record ReadsAxes (system : SystemKind) (dimension : ℕ) (text rest : List �
 
 -- ---- identifiers
 
--- an identifier, of which the opening was read before
+-- an identifier, after its opening
 pub record ReadsIdentifier (seen : Identifier) (text rest : List ℕ) : Type 0 where
   pub value : Ident
   pub identifies : Identifies seen value
@@ -194,7 +194,7 @@ pub record ReadsIdentifiers (first : Option Identifier) (text rest : List ℕ) :
 
 -- ---- reference systems
 
--- a reference system of one part, of which all conditions hold
+-- a reference system of one part that meets all conditions
 pub record ReadsSingle (component : Component) (text rest : List ℕ) : Type 0 where
   pub value : Single
   pub holds : Holds value
@@ -203,7 +203,8 @@ pub record ReadsSingle (component : Component) (text rest : List ℕ) : Type 0 w
   pub seen : IsSeen component.seen (parts.Single value)
   pub is : text ≡ render (single_tree value) ++ rest
 
--- the usages, of which the units pass, the identifiers and the remark at the end of a reference system, and its closing delimiter
+-- the usages, whose units pass, the identifiers and the remark at the end of a reference system, and its closing
+-- delimiter
 pub record ReadsEnd (first : Option Identifier) (text rest : List ℕ) : Type 0 where
   pub usages : List Usage
   pub units_pass : all_positive (flat_map usage_units usages) ≡ true
@@ -212,21 +213,21 @@ pub record ReadsEnd (first : Option Identifier) (text rest : List ℕ) : Type 0 
   pub remark : Option Text
   pub is : text ≡ behind (joined (map usage_tree usages ∷ map ident_tree ids ∷ maybe (value_tree keywords.Remark) remark ∷ [])) ++ 93 ∷ rest
 
--- the parts of a reference system, of which all conditions hold
+-- the parts of a reference system, which meet all conditions
 pub record ReadsWhole (seen : Seen) (text rest : List ℕ) : Type 0 where
   pub value : CrsParts
   pub conditions : HasConditions value
   pub seen_of : IsSeen seen value
   pub is : text ≡ canon value ++ rest
 
--- the text is the canonical one of parts of which all conditions hold, and this is seen of them
+-- the text is the canonical text of parts that meet all conditions, and these are their name and identifier
 pub record IsCanonicalOf (seen : Seen) (text : List ℕ) : Type 0 where
   pub value : CrsParts
   pub conditions : HasConditions value
   pub seen_of : IsSeen seen value
   pub is : text ≡ canon value
 
--- the text is the canonical one of parts of which all conditions hold
+-- the text is the canonical text of parts that meet all conditions
 pub record IsCanonical (text : List ℕ) : Type 0 where
   pub value : CrsParts
   pub conditions : HasConditions value

@@ -12,7 +12,7 @@ pub record Identifies (seen : Identifier) (id : Ident) : Type 0 where
   pub authority : id.authority.bytes ≡ seen.authority.now
   pub code : text_of id.code ≡ seen.code.now
 
--- the first of these, and none where there is none
+-- the first of these, or none
 abbrev pub IsFirst : List Ident → Option Identifier → Type 0
 IsFirst [] seen = seen ≡ None
 IsFirst (id ∷ others) seen = IsSomeAnd seen (λ first. Identifies first id)

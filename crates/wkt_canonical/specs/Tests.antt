@@ -1,4 +1,4 @@
--- What is asked of a value on the way, so that all conditions hold of the whole.
+-- Tests of values on the way, which together are the conditions on the whole.
 use Rattle.std.specs.Prelude.{◌≡◌, ℕ, ◌<◌, Bool, true, false, ◌||◌, ◌&&◌, Option, None, is_some, is_none, List, length}
 use Rattle.std.specs.List.{list_all, flat_map}
 use Rattle.std.specs.Option.{option_map_or}

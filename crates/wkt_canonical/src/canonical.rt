@@ -5,9 +5,9 @@ ghost use Rattle.wkt_canonical.specs.Reads.{IsCanonical, IsCanonicalOf};
 
 use crate::crs::{Seen, whole};
 
-/// The name and the first identifier of a reference system of which all conditions hold, if the text is seen to be its
-/// canonical one. Nothing is allocated. Some canonical texts are not seen: those with marks in their texts, with units of some of
-/// their axes and none of others, or with long numbers.
+/// The name and the first identifier of a reference system that meets all conditions, if the text is recognized as its
+/// canonical text. Nothing is allocated. Some canonical texts are not recognized: those with marks inside a text, with
+/// units for some axes only, or with long numbers.
 pub fn recognize(bytes: &[u8]) -> Option<Seen<'_>>
     ensures { IfSome result (λ seen. IsCanonicalOf seen bytes.now) }
 {
@@ -18,7 +18,7 @@ pub fn recognize(bytes: &[u8]) -> Option<Seen<'_>>
     Some(seen)
 }
 
-/// Whether the text is seen to be the canonical one of a reference system of which all conditions hold.
+/// Whether the text is recognized as the canonical text of a reference system that meets all conditions.
 pub fn is_canonical(bytes: &[u8]) -> bool
     ensures { result ≡ true → IsCanonical bytes.now }
 {

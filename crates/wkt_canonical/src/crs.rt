@@ -21,7 +21,7 @@ use crs_value::{
 };
 use wkt_grammar::Keyword;
 
-/// The name of a reference system, as it stands between its marks, and its first identifier.
+/// The name of a reference system, without its marks, and its first identifier.
 #[derive(Clone, Copy)]
 pub struct Seen<'a> {
     pub name: &'a [u8],
@@ -36,7 +36,7 @@ struct Component<'a> {
     may_be_second: bool,
 }
 
-/// What is seen of a reference system of which all conditions hold, and the rest after its canonical text.
+/// The findings for a reference system that meets all conditions, and the rest after its canonical text.
 pub(crate) fn whole(bytes: &[u8]) -> Option<(Seen<'_>, &[u8])>
     ensures { IfSome result (λ found. ReadsWhole found.0 bytes.now found.1.now) }
 {

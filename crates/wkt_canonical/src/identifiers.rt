@@ -1,4 +1,4 @@
-//! Identifiers, and what has a name and identifiers alone.
+//! Identifiers, and nodes with only a name and identifiers.
 
 ghost use Rattle.std.specs.Prelude.{IfSome};
 ghost use Rattle.wkt_grammar.specs.declared.table.Keyword.TheVariants as keywords;
@@ -12,7 +12,7 @@ use crate::values::maybe_value;
 use crs_part::{Ident, Named};
 use wkt_grammar::Keyword;
 
-/// The authority and the code of an identifier, as they stand between their marks. A number counts as it is written.
+/// The authority and the code of an identifier, without their marks. A number counts as written.
 #[derive(Clone, Copy)]
 pub struct Identifier<'a> {
     pub authority: &'a [u8],
@@ -32,7 +32,7 @@ fn one_identifier(bytes: &[u8]) -> Option<(Identifier<'_>, &[u8])>
     Some((Identifier { authority, code }, rest))
 }
 
-/// The first of the identifiers that come, and the rest after them all.
+/// The first of the next identifiers, and the rest after all of them.
 pub(crate) fn identifiers(bytes: &[u8]) -> Option<(Option<Identifier<'_>>, &[u8])>
     ensures { IfSome result (λ found. ReadsIdentifiers found.0 bytes.now found.1.now) }
 {
@@ -61,7 +61,7 @@ impl Node for Ident {
     }
 }
 
-/// The rest after a version, if it comes.
+/// The rest after a version, if there is one.
 fn version(bytes: &[u8]) -> &[u8]
     ensures { ReadsMaybe any code_tree bytes.now result.now }
 {
@@ -108,7 +108,7 @@ pub(crate) fn method(bytes: &[u8]) -> Option<&[u8]>
     Some(rest)
 }
 
-/// The rest after the geoid models that come.
+/// The rest after the next geoid models.
 pub(crate) fn geoid_models(bytes: &[u8]) -> Option<&[u8]>
     ensures { IfSome result (λ rest. ReadsEach any (named_tree keywords.GeoidModel) bytes.now rest.now) }
 {

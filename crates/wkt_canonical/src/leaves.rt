@@ -11,7 +11,7 @@ use crate::numerals::number;
 use std::simd::prelude::*;
 use wkt_tree::first_mark;
 
-/// How many bytes are looked at together.
+/// The number of bytes that are compared at once.
 const LANES: usize = 16;
 
 /// A text between marks, and the rest after it.
@@ -36,7 +36,7 @@ pub(crate) fn text(bytes: &[u8]) -> Option<&[u8]>
     Some(rest)
 }
 
-/// Whether the first bytes are UTF-8. Most texts are short and of ASCII, which is seen at once.
+/// Whether the first bytes are UTF-8. Most texts are short ASCII, which is checked at once.
 #[inline(always)]
 fn begins_in_utf8(bytes: &[u8], len: usize) -> bool
     requires { len ≤ length bytes.now }

@@ -8,7 +8,7 @@ ghost use Rattle.wkt_canonical.specs.Reads.{ReadsOne, ReadsMaybe, ReadsEach, Rea
 use crate::front::opens;
 use wkt_grammar::Keyword;
 
-/// A value whose text is a node that is known by its keyword.
+/// A value whose text is a node with one keyword.
 pub(crate) trait Node {
     ghost tree: { Self → Bare };
 
@@ -25,7 +25,7 @@ pub(crate) trait Node {
         ensures { IfSome result (λ rest. ReadsInside test tree keyword text.now rest.now) };
 }
 
-/// The rest after the node, which has to come.
+/// The rest after a required node.
 pub(crate) fn one<T: Node>(text: &[u8]) -> Option<&[u8]>
     ensures { IfSome result (λ rest. ReadsOne T.test T.tree text.now rest.now) }
 {
@@ -34,7 +34,7 @@ pub(crate) fn one<T: Node>(text: &[u8]) -> Option<&[u8]>
     Some(rest)
 }
 
-/// The rest after the node, if it comes.
+/// The rest after the node, if it is there.
 pub(crate) fn maybe<T: Node>(text: &[u8]) -> Option<&[u8]>
     ensures { IfSome result (λ rest. ReadsMaybe T.test T.tree text.now rest.now) }
 {
@@ -45,7 +45,7 @@ pub(crate) fn maybe<T: Node>(text: &[u8]) -> Option<&[u8]>
     Some(rest)
 }
 
-/// The rest after the nodes that come.
+/// The rest after the next nodes of this kind.
 pub(crate) fn each<T: Node>(text: &[u8]) -> Option<&[u8]>
     ensures { IfSome result (λ rest. ReadsEach T.test T.tree text.now rest.now) }
 {
@@ -59,7 +59,7 @@ pub(crate) fn each<T: Node>(text: &[u8]) -> Option<&[u8]>
     None
 }
 
-/// The rest after the nodes that come, of which there has to be one.
+/// The rest after the next nodes of this kind, at least one.
 pub(crate) fn some<T: Node>(text: &[u8]) -> Option<&[u8]>
     ensures { IfSome result (λ rest. ReadsSome T.test T.tree text.now rest.now) }
 {

@@ -90,7 +90,8 @@ fn axis_unit(kind: SystemKind, k: usize, bytes: &[u8]) -> Option<(bool, &[u8])>
     Some((true, rest))
 }
 
-/// The rest after the unit that the axes have in common, if it comes. It has to where they have none, and fits each of them.
+/// The rest after the common unit of the axes, if there is one. If the axes have no units, it is required and fits
+/// each of them.
 fn common_unit(kind: SystemKind, dimension: u32, has_unit: bool, bytes: &[u8]) -> Option<&[u8]>
     ensures { IfSome result (λ rest. ReadsCommonUnit kind dimension has_unit bytes.now rest.now) }
 {

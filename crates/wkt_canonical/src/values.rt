@@ -1,4 +1,4 @@
-//! Nodes that hold a text alone.
+//! Nodes with a single text.
 
 ghost use Rattle.std.specs.Prelude.{IfSome};
 ghost use Rattle.wkt_meaning.specs.Trees.{value_tree};

@@ -74,7 +74,7 @@ IsTextFault text fault.CanonicalTooLong = (crs : Crs) × Spells text crs × (¬ 
 IsTextFault text fault.NotCanonical = ⊥
 IsTextFault text fault.Memory = Unit {0}
 
--- why a canonical text, which is not too long, is no definition
+-- why a canonical text, which is not too long, is not a definition
 abbrev pub IsSeenFault : List ℕ → DefinitionFault → Type 0
 IsSeenFault bytes (fault.Read f) = ⊥
 IsSeenFault bytes fault.NoIdentifier = (crs : Crs) × Spells bytes crs × HasNone crs
@@ -98,7 +98,7 @@ fault_name fault.CanonicalTooLong = codes "CanonicalTooLong"
 fault_name fault.NotCanonical = codes "NotCanonical"
 fault_name fault.Memory = codes "Memory"
 
--- where a fault is
+-- the place of a fault
 abbrev pub fault_place : DefinitionFault → Option ℕ
 fault_place (fault.Read f) = place_of f
 fault_place f = None

@@ -36,7 +36,7 @@ abbrev pub third_begin : Items → ℕ
 third_begin (last i) = 0
 third_begin (more i c rest) = second_begin rest
 
--- the first byte of the keyword of the system that a condition is about; a name stands before the components
+-- the first byte of the keyword of the system that a condition is about; a name comes before the components
 abbrev pub keyword_place : Item → Whose → ℕ
 keyword_place i Whole = begin i
 keyword_place (node k d o items c) First = second_begin items
@@ -48,7 +48,7 @@ keyword_place (number p) Second = 0
 keyword_place (word p) First = 0
 keyword_place (word p) Second = 0
 
--- the tree denotes parts of which this condition is the first that fails
+-- the tree denotes parts whose first failing condition is this one
 pub record FirstBroken (text : List ℕ) (condition : Condition) (at : ℕ) : Type 0 where
   pub item : Item
   pub outline : IsOutline text (tokens item)

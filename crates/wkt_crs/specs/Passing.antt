@@ -17,7 +17,7 @@ is_word Comma = false
 is_word (Open d) = false
 is_word (Close d) = false
 
--- from an item on: after it stands what followed it
+-- from an item on: the rest is what followed it
 abbrev pub PassesItem : List Tok → List Tok → Type 0
 PassesItem old new = (i : Item) (rest : List Tok) → old ≡ tokens i ++ rest → Follows rest → new ≡ rest
 

@@ -1,4 +1,4 @@
--- What reading a CRS, its canonical text or its definition from a source does to the source, and what it answers.
+-- Reading a CRS, its canonical text or its definition from a source.
 use Rattle.std.specs.Prelude.{◌<◌, ℕ, List, length}
 use Rattle.byte_io.specs.Device.{SourceState}
 use Rattle.byte_io.specs.Whole.{ReadsUpTo, FailsAfter, GivesAtMost}
@@ -23,7 +23,7 @@ ReadsText old new text = ReadsUpTo 1048577 old new text
 abbrev pub Finds : SourceState → SourceState → Crs → Type 0
 Finds old new v = (text : List ℕ) × ReadsText old new text × Spells text v
 
--- the source has a text that spells a value of which this is the canonical text
+-- the text of the source spells a value, and this is its canonical text
 abbrev pub FindsCanon : SourceState → SourceState → List ℕ → Type 0
 FindsCanon old new canonical = (text : List ℕ) × ReadsText old new text × SpellsCanon text canonical
 

@@ -8,7 +8,7 @@ use Rattle.wkt_meaning.specs.Denotes.{DenotesParts}
 use Rattle.wkt_meaning.specs.FirstEdition.{FirstDenotesParts}
 use Rattle.wkt_meaning.specs.Canon as meaning
 
--- the text is written with the tokens of a tree that denotes the value, of which all conditions hold
+-- the text is written with the tokens of a tree that denotes the value, which meets all conditions
 pub record Spells (text : List ℕ) (v : Crs) : Type 0 where
   pub item : Item
   pub outline : IsOutline text (tokens item)

@@ -1,4 +1,4 @@
--- What is wrong with a text, apart from want of memory: names, places, and what reading answers.
+-- The faults of a text, without out of memory: names, places, and the results of reading.
 use Rattle.std.specs.Prelude.{ℕ, List, Option, Some, None, codes}
 use Rattle.wkt_tree.specs.Names as tree
 use Rattle.wkt_grammar.specs.Faults.{fault_name}
@@ -8,7 +8,7 @@ use Rattle.wkt_crs.specs.declared.fault.Unspelled.TheVariants as refused
 use Rattle.wkt_crs.specs.declared.fault.ReadFault.{ReadFault}
 use Rattle.wkt_crs.specs.declared.fault.ReadFault.TheVariants as read
 
--- what a reader answers
+-- the result of a reader
 abbrev pub as_read : Unspelled → ReadFault
 as_read (refused.Text f) = read.Text f
 as_read (refused.Slot f) = read.Slot f
@@ -27,7 +27,7 @@ name_of (refused.Text f) = tree.name_of f
 name_of (refused.Slot f) = fault_name f
 name_of (refused.Broken condition at) = codes "Broken"
 
--- where a fault is
+-- the place of a fault
 abbrev pub place_of : Unspelled → Option ℕ
 place_of (refused.Text f) = tree.place_of f
 place_of (refused.Slot f) = Some (place f)

@@ -1,4 +1,4 @@
--- What is said of every text.
+-- The verdict on every text.
 use Rattle.std.specs.Prelude.{◌≡◌, ℕ, List, ◌⊎◌}
 use Rattle.crs_value.specs.declared.crs.Crs.{Crs}
 use Rattle.wkt_crs.specs.declared.fault.ReadFault.{ReadFault}

@@ -25,7 +25,7 @@ pub fn canonical_text(alloc: Global, text: &[u8]) -> Result<Vec<u8>, ReadFault>
     ensures found { IfOk result (λ canonical. SpellsCanon text.now canonical.items) }
     ensures only { (v : Crs) → Spells text.now v → IfErr result (λ f. f ≡ fault.Memory) }
     ensures fault { IfErr result (FirstFault text.now) }
-    // These come without memory.
+    // These are reported without allocating.
     ensures text { (f : TextFault) → tree.FirstFault text.now f → IfErr result (λ g. g ≡ fault.Text f) }
     ensures slot { (f : SlotFault) → FirstSlot text.now f → IfErr result (λ g. g ≡ fault.Slot f) }
 {
@@ -72,7 +72,7 @@ fn condensed(alloc: Global, text: &[u8]) -> Option<Vec<u8>>
     }
 }
 
-/// Whether the text is seen to be its own canonical text.
+/// Whether the text is recognized as its own canonical text.
 pub(crate) fn is_seen(text: &[u8]) -> bool
     ensures { result ≡ true → SpellsCanon text.now text.now }
 {

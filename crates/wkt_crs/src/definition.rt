@@ -1,4 +1,4 @@
-//! Definitions: what a register holds.
+//! Definitions, which a register holds.
 
 ghost use Rattle.std.specs.Prelude.{◌≡◌, ◌≤◌, ◌⊎◌, true, false, length, Some, Ok, Err, IfOk, IfErr, IfSome};
 ghost use Rattle.std.specs.Str.{is_utf8};
@@ -28,10 +28,10 @@ use wkt_condense::condense;
 /// The most bytes of a definition's canonical text.
 const MOST: usize = 65_536;
 
-/// Why a reference system, or a text, is no definition.
+/// Why a reference system, or a text, is not a definition.
 #[derive(Clone, Copy, Debug, PartialEq, Eq)]
 pub enum DefinitionFault {
-    /// The text spells no reference system, and this is its first fault.
+    /// The text spells no reference system; this is its first fault.
     Read(Unspelled),
     /// The reference system has no identifier of its own.
     NoIdentifier,
@@ -47,7 +47,7 @@ impl DefinitionFault {
     ghost use Rattle.std.specs.Prelude.{◌≡◌};
     ghost use Rattle.wkt_crs.specs.Definition.{fault_name, fault_place};
 
-    /// How it is printed.
+    /// The name that is printed.
     pub fn name(self) -> &'static str
         ensures { result.now ≡ fault_name self }
     {
@@ -60,7 +60,7 @@ impl DefinitionFault {
         }
     }
 
-    /// The offset in the text that it is reported at, from 0, where it has one.
+    /// The offset of the fault in the text, from 0, if it has one.
     pub fn place(self) -> Option<usize>
         ensures { result ≡ fault_place self }
     {
@@ -92,8 +92,8 @@ struct Body {
     ghost defined: { IsDefinedBy key name text.items },
 }
 
-/// A reference system with an identifier, seen as its canonical text. Its copies share that, and it keeps no value: a
-/// register of many definitions takes little more than their texts.
+/// A reference system with an identifier, seen as its canonical text. Copies share the text, and no value is kept: a
+/// register takes little more memory than its texts.
 #[derive(Drop)]
 pub struct Definition {
     body: Rc<Body>,
@@ -124,7 +124,7 @@ impl Definition {
         ensures is { IfOk result IsDefinition }
         ensures fault { IfErr result (IsNewFault crs) }
         ensures only { IsDefinition (canon crs) → (result ≡ Ok (canon crs)) ⊎ (result ≡ Err fault.Memory) }
-        // This comes without memory.
+        // This is reported without allocating.
         ensures none { HasNone crs → result ≡ Err fault.NoIdentifier }
     {
         if !has_identifier(&crs) {
@@ -144,7 +144,7 @@ impl Definition {
         ensures ok { IfOk result (λ d. d ≡ bytes.now) }
         ensures fault { IfErr result (IsCanonicalFault bytes.now) }
         ensures only { IsDefinition bytes.now → (result ≡ Ok bytes.now) ⊎ (result ≡ Err fault.Memory) }
-        // These always come: `Memory` never stands in their place.
+        // These are always reported: `Memory` never replaces them.
         ensures long { 65536 < length bytes.now → result ≡ Err fault.CanonicalTooLong }
         ensures text { (f : TextFault) → length bytes.now ≤ 65536 → tree.FirstFault bytes.now f → result ≡ Err (fault.Read (refused.Text f)) }
         ensures slot { (f : SlotFault) → length bytes.now ≤ 65536 → FirstSlot bytes.now f → result ≡ Err (fault.Read (refused.Slot f)) }
@@ -165,7 +165,7 @@ impl Definition {
         ensures is { IfOk result IsDefinition }
         ensures fault { IfErr result (IsTextFault text.now) }
         ensures only { (v : Crs) → Spells text.now v → IsDefinition (canon v) → (result ≡ Ok (canon v)) ⊎ (result ≡ Err fault.Memory) }
-        // These come without memory.
+        // These are reported without allocating.
         ensures text { (f : TextFault) → tree.FirstFault text.now f → result ≡ Err (fault.Read (refused.Text f)) }
         ensures slot { (f : SlotFault) → FirstSlot text.now f → result ≡ Err (fault.Read (refused.Slot f)) }
     {
@@ -223,7 +223,7 @@ impl Definition {
     pub fn try_clone(&self, alloc: Global) -> Result<Definition, AllocError>
         ensures { IfOk result (λ copy. copy ≡ self.now) }
     {
-        // The text is shared, so the copy needs no room.
+        // The text is shared, so the copy allocates nothing.
         let _ = alloc;
         let body = self.body.clone()?;
         Ok(Definition { body })
@@ -264,7 +264,7 @@ fn of_seen(alloc: Global, bytes: &[u8], seen: Seen<'_>) -> Result<Definition, De
     }
 }
 
-// The same, where this is the identifier: no value is made of the bytes.
+// The same with this identifier: no value is built.
 fn recognized(
     alloc: Global,
     bytes: &[u8],

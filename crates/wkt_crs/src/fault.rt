@@ -7,21 +7,21 @@ use std::fmt;
 use wkt_grammar::SlotFault;
 use wkt_tree::TextFault;
 
-/// What is wrong with a text: its first fault. It prints as its name, what it names, and its place.
+/// The first fault of a text. It prints as its name, what it names, and its place.
 #[derive(Clone, Copy, Debug, PartialEq, Eq)]
 pub enum Unspelled {
     /// A fault of the bytes, the tokens or the tree.
     Text(TextFault),
     /// A fault of a node's arguments.
     Slot(SlotFault),
-    /// A condition fails, of the system whose keyword begins at the place.
+    /// A condition fails for the system whose keyword is at the place.
     Broken { condition: Condition, place: usize },
 }
 
 impl Unspelled {
     ghost use Rattle.wkt_crs.specs.Unspelled.{name_of, place_of};
 
-    /// How it is printed.
+    /// The name that is printed.
     pub fn name(self) -> &'static str
         ensures { result.now ≡ name_of self }
     {
@@ -32,7 +32,7 @@ impl Unspelled {
         }
     }
 
-    /// The offset that it is reported at, from 0, where it has one.
+    /// The offset of the fault, from 0, if it has one.
     pub fn place(self) -> Option<usize>
         ensures { result ≡ place_of self }
     {
@@ -63,14 +63,14 @@ impl fmt::Display for Unspelled {
     }
 }
 
-/// Why a text was not read: its first fault, or `Memory`, which says nothing of it.
+/// Why a text was not read: its first fault, or `Memory`, which says nothing about it.
 #[derive(Clone, Copy, Debug, PartialEq, Eq)]
 pub enum ReadFault {
     /// A fault of the bytes, the tokens or the tree.
     Text(TextFault),
     /// A fault of a node's arguments.
     Slot(SlotFault),
-    /// A condition fails, of the system whose keyword begins at the place.
+    /// A condition fails for the system whose keyword is at the place.
     Broken { condition: Condition, place: usize },
     /// An allocation failed.
     Memory,
@@ -80,7 +80,7 @@ impl ReadFault {
     ghost use Rattle.std.specs.Prelude.{option_and_then};
     ghost use Rattle.wkt_crs.specs.Unspelled.{place_of, read_name, unspelled};
 
-    /// What is wrong with the text, where that is the reason.
+    /// The fault of the text, if that is the reason.
     pub fn unspelled(self) -> Option<Unspelled>
         ensures { result ≡ unspelled self }
     {
@@ -92,7 +92,7 @@ impl ReadFault {
         }
     }
 
-    /// How it is printed.
+    /// The name that is printed.
     pub fn name(self) -> &'static str
         ensures { result.now ≡ read_name self }
     {
@@ -102,7 +102,7 @@ impl ReadFault {
         }
     }
 
-    /// The offset that it is reported at, from 0, where it has one.
+    /// The offset of the fault, from 0, if it has one.
     pub fn place(self) -> Option<usize>
         ensures { result ≡ option_and_then place_of (unspelled self) }
     {

@@ -1,4 +1,4 @@
-//! What holds of all texts and all values.
+//! The laws of texts and values.
 
 ghost use Rattle.std.specs.Prelude.{◌≡◌, ◌≤◌, length, List, ℕ, Some};
 ghost use Rattle.crs_part.specs.declared.crs.CrsParts.{CrsParts};
@@ -22,7 +22,7 @@ ghost use Rattle.wkt_crs.specs.Verdict.{HasVerdict};
 use wkt_grammar::{Edition, check_slots};
 use wkt_tree::scan;
 
-/// A tree denotes a value where its leaves are tokens, and its arguments fit the rows everywhere.
+/// A tree denotes a value if its leaves are tokens, and its arguments fit the rows at every level.
 pub fn fitting_denotes()
     ensures { (depth : ℕ) (x : Bare) → WellFormed depth x → Fitting kinds.AnyCrs x → (v : CrsParts) × DenotesParts x v }
 {}
@@ -32,7 +32,8 @@ pub fn clean_text()
     ensures { (text : List ℕ) (toks : List Tok) → IsOutline text toks → IsClean editions.Second toks → HasVerdict text }
 {}
 
-/// Each text spells a value, or has a first fault. So `Memory` is never the only answer that the clauses of a reader leave.
+/// Each text spells a value, or has a first fault. So the clauses of a reader always leave a result other than
+/// `Memory`.
 pub fn each_text(text: &[u8])
     ensures { HasVerdict text.now }
 {
@@ -44,7 +45,7 @@ pub fn each_text(text: &[u8])
     }
 }
 
-/// A text spells one value at most.
+/// A text spells at most one value.
 pub fn one_value()
     ensures { (text : List ℕ) (v w : Crs) → Spells text v → Spells text w → v ≡ w }
 {}
@@ -59,14 +60,14 @@ pub fn one_first_fault()
     ensures { (text : List ℕ) (f g : ReadFault) → ¬ (f ≡ fault.Memory) → ¬ (g ≡ fault.Memory) → FirstFault text f → FirstFault text g → f ≡ g }
 {}
 
-/// What is written of a value is read back, where it is no longer than a text may be.
+/// The written texts of a value are read back, if they are within the limit of a text.
 pub fn written_is_read()
     ensures canonical { (v : Crs) → length (canon v) ≤ 1048576 → Spells (canon v) v }
     ensures indented { (v : Crs) → length (pretty v) ≤ 1048576 → Spells (pretty v) v }
 {}
 
-/// What a text spelled by the first edition of the grammar it spells still, and geoid models and vertical extents are
-/// empty in that value. A value with both empty was spelled by the first edition by each text that spells it.
+/// A text of the first edition of the grammar spells the same value in the second, without geoid models and vertical
+/// extents. A value without these is spelled by the same texts in both.
 pub fn editions()
     ensures still { (text : List ℕ) (v : Crs) → FirstSpells text v → Spells text v × NothingAdded v.parts }
     ensures before { (text : List ℕ) (v : Crs) → Spells text v → NothingAdded v.parts → FirstSpells text v }

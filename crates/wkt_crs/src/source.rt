@@ -11,7 +11,7 @@ use byte_io::{InFault, Source, read_up_to};
 use crs_value::Crs;
 use std::alloc::Global;
 
-/// The most bytes that are read of a text: one more than a text may have.
+/// The number of bytes that are read at most: one more than the limit of a text.
 const MOST: usize = 1_048_577;
 
 /// Why a source gave no CRS.
@@ -30,8 +30,8 @@ pub enum DefineFromFault {
     Refused(DefinitionFault),
 }
 
-/// The value that the text of the source spells, or its first fault, however the reads are cut. No more
-/// is read once the text is too long.
+/// The value that the text of the source spells, or its first fault, however the reads are split. Reading stops when
+/// the text is too long.
 pub fn read_crs_from<S: Source>(alloc: Global, source: &mut S) -> Result<Crs, ReadFromFault>
     ensures found { IfOk result (Finds (S.state source.old) (S.state source.new)) }
     ensures fault { IfErr result (IsReadFromFault (S.state source.old) (S.state source.new)) }
@@ -47,7 +47,7 @@ pub fn read_crs_from<S: Source>(alloc: Global, source: &mut S) -> Result<Crs, Re
 }
 
 /// The canonical text of what the text of the source spells, or its first fault, as `read_crs_from` reads it. A text that
-/// is seen to be canonical is itself the answer.
+/// is recognized as canonical is returned unchanged.
 pub fn canonical_text_from<S: Source>(
     alloc: Global,
     source: &mut S,

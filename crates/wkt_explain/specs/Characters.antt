@@ -2,7 +2,7 @@
 use Rattle.std.specs.Prelude.{ℕ, zero, suc, Bool, List, [], ◌∷◌, length, take, drop, if◌then◌else◌, nat_lt, nat_le, ◌&&◌}
 use Rattle.std.specs.Str.{is_utf8}
 
--- there are so many bytes, and the first of them are UTF-8
+-- there are this many bytes, and they are UTF-8
 abbrev pub is_wide : ℕ → List ℕ → Bool
 is_wide n bytes = nat_le n (length bytes) && is_utf8 (take n bytes)
 

@@ -11,7 +11,7 @@ use Rattle.wkt_explain.specs.Shown.{shown_lines}
 use Rattle.wkt_explain.specs.Sentences.{sentence}
 use Rattle.wkt_explain.specs.Hints.{hint_of, hint_text}
 
--- where in a text a fault is told: at its front, where it has no place
+-- the place of a fault in a text: the front, if it has none
 abbrev pub told_at : List ℕ → DefinitionFault → ℕ
 told_at text f = min (unwrap_or (fault_place f) 0) (length text)
 
@@ -27,7 +27,7 @@ abbrev pub path_words : List (List ℕ) → List ℕ
 path_words [] = []
 path_words (k ∷ ks) = codes "in " ++ k ++ flat_map step_words ks ++ codes ": "
 
--- the last of some words, or another one where there is none
+-- the last of some words, or another one without any
 abbrev pub last_of : List ℕ → List (List ℕ) → List ℕ
 last_of word [] = word
 last_of word (k ∷ ks) = last_of k ks
@@ -41,7 +41,7 @@ abbrev pub said : List ℕ → ℕ → ℕ → List (List ℕ) → List ℕ → 
 said name line column path lines text f =
     place_words name line column ++ path_words path ++ sentence f ++ 10 ∷ [] ++ lines ++ hint_line (hint_of text (last_of [] path) f)
 
--- of a fault of a text, told at this place of it, which stands in a file behind and before this
+-- the explanation of a fault at this place of a text, which is in a file after and before these bytes
 abbrev pub explained : List ℕ → List ℕ → ℕ → List ℕ → List ℕ → DefinitionFault → List ℕ
 explained name text at before after f =
     said name (line_number before) (column before) (path_at (take at text)) (shown_lines (chars (last_line before)) (chars (first_line after))) text f

@@ -53,7 +53,7 @@ is_extent word = same_word (spelling keywords.Scope) word || same_word (spelling
 abbrev pub is_base : List ℕ → Bool
 is_base word = same_word (spelling keywords.BaseGeographicCrs) word || same_word (spelling keywords.BaseGeodeticCrs) word
 
--- of a word that can't stand in a node
+-- for a word that a node does not take
 abbrev pub word_hint : List ℕ → List ℕ → Option Hint
 word_hint word node =
     if is_wkt1 word then Some hints.Wkt1
@@ -62,7 +62,7 @@ word_hint word node =
     else (if same_word (spelling keywords.PrimeMeridian) word && is_base node then Some hints.UnitFirst
     else None)))
 
--- of what stands at the front of a text that is not written with tokens
+-- for the front of a text without tokens
 abbrev pub front_hint : List ℕ → Option Hint
 front_hint text =
     if begins (239 ∷ 187 ∷ 191 ∷ []) text then Some hints.ByteOrderMark
@@ -71,7 +71,7 @@ front_hint text =
     else (if begins (codes "+proj=") (behind_blanks text) || begins (codes "+init=") (behind_blanks text) then Some hints.ProjString
     else None)))
 
--- of bytes that are no UTF-8
+-- for bytes that are not UTF-8
 abbrev pub encoding_hint : List ℕ → Hint
 encoding_hint text = if begins (255 ∷ 254 ∷ []) text || begins (254 ∷ 255 ∷ []) text then hints.Utf16 else hints.Latin
 
@@ -85,7 +85,7 @@ text_hint text (NotUtf8 at) = Some (encoding_hint text)
 text_hint text (After at) = after_hint (word_at text at)
 text_hint text _ = front_hint text
 
--- of a text with this fault, which stands in the node of this keyword
+-- for a text with this fault, in the node with this keyword
 abbrev pub hint_of : List ℕ → List ℕ → DefinitionFault → Option Hint
 hint_of text node (fault.Read (Text f)) = text_hint text f
 hint_of text node (fault.Read (Slot (NotHere at))) = word_hint (word_at text at) node

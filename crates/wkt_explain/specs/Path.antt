@@ -15,8 +15,8 @@ piece_of b =
     else (if b == 93 || b == 41 then Closes
     else Other))))
 
--- what was read up to some place: whether it stands in quotation marks, the word before it, whether that is whole, and the
--- words before the delimiters that are open, the outermost first
+-- the state at some place: whether it is in quotation marks, the word before it, whether that is complete, and the words
+-- before the open delimiters, the outermost first
 pub record Read : Type 0 where
   pub quoted : Bool
   pub whole : Bool
@@ -49,7 +49,7 @@ abbrev pub reads_on : Read → List ℕ → Read
 reads_on r [] = r
 reads_on r (b ∷ bs) = reads_on (takes r b) bs
 
--- the words before the delimiters that are open behind the text
+-- the words before the delimiters that are open after the text
 abbrev pub open_at : List ℕ → List (List ℕ)
 open_at text = (reads_on start text).opened
 
@@ -57,6 +57,6 @@ open_at text = (reads_on start text).opened
 abbrev pub is_named : List ℕ → Bool
 is_named word = not (length word == 0)
 
--- the keywords of the nodes that are open behind the text
+-- the keywords of the nodes that are open after the text
 abbrev pub path_at : List ℕ → List (List ℕ)
 path_at text = filter is_named (open_at text)

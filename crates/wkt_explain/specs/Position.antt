@@ -15,7 +15,7 @@ goes_on b = not (b == 10)
 abbrev pub first_line : List ℕ → List ℕ
 first_line bytes = take (prefix_len goes_on bytes) bytes
 
--- the bytes behind the last line feed, or all
+-- the bytes after the last line feed, or all
 abbrev pub last_line : List ℕ → List ℕ
 last_line bytes = drop (length bytes - suffix_len goes_on bytes) bytes
 

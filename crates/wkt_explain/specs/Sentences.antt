@@ -78,7 +78,7 @@ unspelled_sentence (refused.Text f) = text_sentence f
 unspelled_sentence (refused.Slot f) = slot_sentence f
 unspelled_sentence (refused.Broken c at) = condition_sentence c
 
--- of a text that is no definition
+-- for a text that is not a definition
 abbrev pub sentence : DefinitionFault → List ℕ
 sentence (fault.Read f) = unspelled_sentence f
 sentence fault.NoIdentifier = codes "the system has no ID of its own"

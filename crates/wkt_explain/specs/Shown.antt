@@ -33,8 +33,8 @@ abbrev pub blanks : ℕ → List ℕ
 blanks zero = []
 blanks (suc n) = 32 ∷ blanks n
 
--- how many of the characters before a place are shown, where so many stand before it and from it on: at most 80 are shown in
--- all, the place among them, and 40 from it on or more, where there are that many
+-- how many of the characters before a place are shown, given the numbers before it and from it on: at most 80 in total,
+-- including the place, and at least 40 from it on, if there are so many
 abbrev pub shown_before : ℕ → ℕ → ℕ
 shown_before before after = min before (80 - max (min after 40) 1)
 
@@ -42,6 +42,6 @@ shown_before before after = min before (80 - max (min after 40) 1)
 abbrev pub around : ℕ → List (List ℕ) → List (List ℕ) → List ℕ
 around n before after = shown (drop (length before - n) before) ++ shown (take (80 - n) after) ++ 10 ∷ [] ++ blanks n ++ 94 ∷ 10 ∷ []
 
--- the line of a place, from what stands in it before the place and from it on
+-- the line of a place, from its parts before the place and from it on
 abbrev pub shown_lines : List (List ℕ) → List (List ℕ) → List ℕ
 shown_lines before after = around (shown_before (length before) (length after)) before after

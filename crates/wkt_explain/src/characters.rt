@@ -15,7 +15,7 @@ fn is_text(bytes: &[u8]) -> bool
     }
 }
 
-// Whether the first bytes, as many as these, are UTF-8.
+// Whether this many leading bytes are UTF-8.
 fn is_wide(bytes: &[u8], count: usize) -> bool
     ensures { result ≡ is_wide count bytes.now }
 {
@@ -25,7 +25,7 @@ fn is_wide(bytes: &[u8], count: usize) -> bool
     is_text(&bytes[..count])
 }
 
-// How many bytes the first character has.
+// The number of bytes of the first character.
 #[tactic(auto, unfolding(crate::specs::Characters::first_len))]
 pub(crate) fn first_len(bytes: &[u8]) -> usize
     requires { 0 < length bytes.now }
@@ -46,7 +46,7 @@ pub(crate) fn first_len(bytes: &[u8]) -> usize
     1
 }
 
-/// The first character, and the bytes behind it.
+/// The first character, and the bytes after it.
 pub(crate) fn split_char(bytes: &[u8]) -> Option<(&[u8], &[u8])>
     ensures { MatchOption result (bytes.now ≡ []) (λ p. (chars bytes.now ≡ p.0.now ∷ chars p.1.now) × (length p.1.now < length bytes.now)) }
 {
@@ -57,7 +57,7 @@ pub(crate) fn split_char(bytes: &[u8]) -> Option<(&[u8], &[u8])>
     Some(bytes.split_at(len))
 }
 
-/// How many characters there are.
+/// The number of characters.
 pub(crate) fn count_chars(bytes: &[u8]) -> usize
     ensures count { result ≡ length (chars bytes.now) }
     ensures within { result ≤ length bytes.now }
@@ -71,7 +71,7 @@ pub(crate) fn count_chars(bytes: &[u8]) -> usize
     count
 }
 
-/// What stands behind the first characters, as many as these.
+/// The bytes after this many characters.
 pub(crate) fn after_chars(bytes: &[u8], most: usize) -> &[u8]
     ensures { chars result.now ≡ drop most (chars bytes.now) }
 {

@@ -17,7 +17,7 @@ use std::alloc::{AllocError, Global};
 use std::marker::Model;
 use wkt_crs::DefinitionFault;
 
-// Where in the text the fault is told: at its front, where it has no place.
+// The place of the fault in the text: the front, if it has none.
 fn told_at(text: &[u8], fault: DefinitionFault) -> usize
     ensures { result ≡ told_at text.now fault }
 {
@@ -197,7 +197,7 @@ pub fn explain_within(
     Explainer::new(file).explain(alloc, name, start, end, fault)
 }
 
-/// The same of a text that is the whole file.
+/// The same for a text that is the whole file.
 pub fn explain_text(
     alloc: Global,
     name: &str,

@@ -1,4 +1,4 @@
-//! Hints for what users really have.
+//! Hints for common mistakes.
 
 ghost use Rattle.std.specs.Prelude.{◌≡◌};
 ghost use Rattle.std.specs.List.{prefix_len};
@@ -10,7 +10,7 @@ use crs_part::same_word;
 use wkt_crs::{DefinitionFault, SlotFault, TextFault, Unspelled};
 use wkt_grammar::Keyword;
 
-/// What a text that is refused may be, or how it may be mended.
+/// What a refused text may be, or how to correct it.
 #[derive(Clone, Copy, Debug, PartialEq, Eq)]
 pub enum Hint {
     ByteOrderMark,
@@ -28,7 +28,7 @@ pub enum Hint {
 }
 
 impl Hint {
-    /// What it says.
+    /// The sentence.
     pub fn text(self) -> &'static str
         ensures { result.now ≡ hint_text self }
     {
@@ -72,7 +72,7 @@ fn behind_blanks(text: &[u8]) -> &[u8]
     rest
 }
 
-// The word that begins at the place.
+// The word at the place.
 fn word_at(text: &[u8], place: usize) -> &[u8]
     ensures { result.now ≡ word_at text.now place }
 {
@@ -109,7 +109,7 @@ fn is_base(word: &[u8]) -> bool
         || same_word(Keyword::BaseGeodeticCrs.spelling(), word)
 }
 
-// Of a word that cannot stand in this node.
+// For a word that this node does not take.
 fn word_hint(word: &[u8], node: &[u8]) -> Option<Hint>
     ensures { result ≡ word_hint word.now node.now }
 {
@@ -128,7 +128,7 @@ fn word_hint(word: &[u8], node: &[u8]) -> Option<Hint>
     None
 }
 
-// Of what stands at the front of a text that is not written with tokens.
+// For the front of a text without tokens.
 fn front_hint(text: &[u8]) -> Option<Hint>
     ensures { result ≡ front_hint text.now }
 {
@@ -148,7 +148,7 @@ fn front_hint(text: &[u8]) -> Option<Hint>
     None
 }
 
-// Of bytes that are no UTF-8.
+// For bytes that are not UTF-8.
 fn encoding_hint(text: &[u8]) -> Hint
     ensures { result ≡ encoding_hint text.now }
 {
@@ -168,7 +168,7 @@ fn text_hint(text: &[u8], fault: TextFault) -> Option<Hint>
     }
 }
 
-// Of what follows a text that is complete.
+// For what follows a complete text.
 fn after_hint(word: &[u8]) -> Option<Hint>
     ensures { result ≡ after_hint word.now }
 {
@@ -178,7 +178,7 @@ fn after_hint(word: &[u8]) -> Option<Hint>
     Some(Hint::TwoTexts)
 }
 
-/// The hint for the fault of a text, where there is one; `node` is the keyword of the node that it stands in.
+/// The hint for the fault of a text, if there is one; `node` is the keyword of the enclosing node.
 pub(crate) fn hint_of(text: &[u8], node: &[u8], fault: DefinitionFault) -> Option<Hint>
     ensures { result ≡ hint_of text.now node.now fault }
 {

@@ -1,4 +1,4 @@
-//! A source that keeps what it gave.
+//! A source that records what it gave.
 
 ghost use Rattle.std.specs.Prelude.{◌≡◌, true};
 
@@ -19,7 +19,7 @@ impl<S: Source> Kept<S> {
     ghost use Rattle.std.specs.Prelude.{◌≡◌, [], true, IfSome, IsSome, IsTrue};
     ghost use Rattle.wkt_explain.specs.Kept.{anew};
 
-    /// The source, of which nothing is kept yet.
+    /// The source, with an empty record.
     pub fn new(alloc: Global, source: S) -> Kept<S>
         ensures state { ⟦<Kept<S> as Source>⟧.state result ≡ anew (S.state source) }
         ensures whole { IsTrue result.is_whole }
@@ -32,7 +32,7 @@ impl<S: Source> Kept<S> {
         }
     }
 
-    /// All that it gave, where there was memory for that.
+    /// Everything that it gave, if there was memory for it.
     pub fn bytes(&self) -> Option<&[u8]>
         ensures whole { IsTrue self.now.is_whole → IsSome result }
         ensures given { IfSome result (λ bytes. bytes.now ≡ (⟦<Kept<S> as Source>⟧.state self.now).given) }

@@ -1,4 +1,4 @@
-//! Says in words where a text is refused, and why.
+//! Explains in words where and why a text is refused.
 #![tactic(auto)]
 
 mod characters;

@@ -7,7 +7,7 @@ ghost use Rattle.wkt_explain.specs.Path.{piece_of, trail_seen, start, outside, t
 use std::alloc::{AllocError, Global};
 use std::mem;
 
-/// What a byte outside quotation marks is.
+/// The kind of a byte outside quotation marks.
 #[derive(Clone, Copy, Debug, PartialEq, Eq)]
 pub(crate) enum Piece {
     Mark,
@@ -49,8 +49,8 @@ fn piece_of(b: u8) -> Piece
     }
 }
 
-/// What was read up to some place: whether it stands in quotation marks, the word before it, whether that is whole, and
-/// the words before the delimiters that are open, the outermost first.
+/// The state at some place: whether it is in quotation marks, the word before it, whether that is complete, and the
+/// words before the open delimiters, the outermost first.
 #[derive(Drop)]
 pub(crate) struct Trail {
     quoted: bool,
@@ -145,7 +145,7 @@ impl Trail {
     }
 }
 
-// The words before the delimiters that are open behind the text.
+// The words before the delimiters that are open after the text.
 fn open_at(alloc: Global, text: &[u8]) -> Result<Vec<Vec<u8>>, AllocError>
     ensures { IfOk result (λ words. map (λ w. w.items) words.items ≡ open_at text.now) }
 {
@@ -164,7 +164,7 @@ fn open_at(alloc: Global, text: &[u8]) -> Result<Vec<Vec<u8>>, AllocError>
     Ok(opened)
 }
 
-/// The keywords of the nodes that are open behind the text, the outermost first.
+/// The keywords of the nodes that are open after the text, the outermost first.
 pub(crate) fn path_at(alloc: Global, text: &[u8]) -> Result<Vec<Vec<u8>>, AllocError>
     ensures { IfOk result (λ path. map (λ w. w.items) path.items ≡ path_at text.now) }
 {

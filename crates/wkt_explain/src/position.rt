@@ -30,7 +30,7 @@ pub(crate) fn first_line(bytes: &[u8]) -> &[u8]
     line
 }
 
-/// The bytes behind the last line feed, or all.
+/// The bytes after the last line feed, or all.
 pub(crate) fn last_line(bytes: &[u8]) -> &[u8]
     ensures { result.now ≡ last_line bytes.now }
 {

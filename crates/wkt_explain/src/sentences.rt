@@ -1,4 +1,4 @@
-//! What is wrong, in a sentence for each fault.
+//! A sentence for each fault.
 
 ghost use Rattle.std.specs.Prelude.{◌≡◌};
 ghost use Rattle.wkt_explain.specs.Sentences.{condition_sentence, missing_sentence, sentence, slot_sentence, text_sentence, unspelled_sentence};
@@ -94,7 +94,7 @@ fn unspelled_sentence(fault: Unspelled) -> &'static str
     }
 }
 
-/// What is wrong, without an end mark.
+/// The sentence, without an end mark.
 pub fn sentence(fault: DefinitionFault) -> &'static str
     ensures { result.now ≡ sentence fault }
 {

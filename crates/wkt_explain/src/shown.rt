@@ -10,7 +10,7 @@ use std::alloc::AllocError;
 /// The most characters of a line that are shown.
 const WIDTH: usize = 80;
 
-/// So many of them from the place on are shown, where there are that many, before more of those before it.
+/// This many characters from the place on are shown, if there are so many, before more of those before it.
 const AHEAD: usize = 40;
 
 fn shown_byte(b: u8) -> u8
@@ -73,7 +73,7 @@ fn push_char(out: &mut Vec<u8>, char: &[u8]) -> Result<(), AllocError>
     out.extend_from_slice(char)
 }
 
-// Shows the first characters, at most as many as these.
+// Shows at most this many leading characters.
 fn push_shown(out: &mut Vec<u8>, bytes: &[u8], most: usize) -> Result<(), AllocError>
     ensures { OnOk result (out.new.items ≡ out.old.items ++ shown (take most (chars bytes.now))) }
 {
@@ -101,14 +101,14 @@ fn push_blanks(out: &mut Vec<u8>, count: usize) -> Result<(), AllocError>
     Ok(())
 }
 
-// How many of the characters before a place are shown, where so many stand before it and from it on.
+// The number of characters before a place that are shown, given the numbers before it and from it on.
 fn shown_before(before: usize, after: usize) -> usize
     ensures { result ≡ shown_before before after }
 {
     before.min(WIDTH - after.min(AHEAD).max(1))
 }
 
-/// Shows what stands in a line before a place and from it on, and a caret under it.
+/// Shows the parts of a line before and from a place, and a caret under it.
 pub(crate) fn push_lines(out: &mut Vec<u8>, before: &[u8], after: &[u8]) -> Result<(), AllocError>
     ensures { OnOk result (out.new.items ≡ out.old.items ++ shown_lines (chars before.now) (chars after.now)) }
 {

@@ -1,4 +1,4 @@
--- What the walk answers, by recursion on the tree.
+-- The result of the walk, by recursion on the tree.
 use Rattle.std.specs.Prelude.{◌≡◌, ℕ, Bool, true, false, ◌||◌, List, ◌∷◌, ◌++◌, drop, Option, Some, None, Result, Ok, Err, if◌then◌else◌, option_and_then}
 use Rattle.std.specs.Option.{option_map, is_some}
 use Rattle.wkt_tree.specs.declared.token.Delimiter.{Delimiter}
@@ -39,7 +39,7 @@ refusal left filled arguments.OtherNode at = NotHere at
 abbrev pub missing_fault : List Slot → ℕ → Option SlotFault
 missing_fault left end = option_map (λ name. Missing name end) (missing left true)
 
--- the former, where there is one
+-- the former, if there is one
 abbrev pub first : Option SlotFault → Option SlotFault → Option SlotFault
 first (Some f) o = Some f
 first None o = o

@@ -16,7 +16,7 @@ entered t k = option_and_then (enters t) k
 
 module _ (e : Edition) where
   abbrev mutual
-    -- where an argument of this row is a node with a row, its arguments fit that row, and so on inside
+    -- if an argument of this row is a node with a row, its arguments fit that row, at every level
     pub Inside : Node → Bare → Type 0
     Inside n (text b) = Unit {0}
     Inside n (number b) = Unit {0}
@@ -31,7 +31,7 @@ module _ (e : Edition) where
   abbrev pub Fitted : Node → Bares → Type 0
   Fitted n xs = Fits (row_of e n) (map shape (args xs)) × AllInside n xs
 
-  -- a slot of this kind takes the argument; where it is a node, its arguments fit, and so on inside
+  -- a slot of this kind takes the argument; if it is a node, its arguments fit, at every level
   abbrev pub IsSound : Takes → Bare → Type 0
   IsSound t (text b) = Unit {0}
   IsSound t (number b) = Unit {0}

@@ -56,7 +56,7 @@ row_of e nodes.VerticalExtent = VERTICAL_EXTENT
 row_of e nodes.Value = VALUE
 row_of e nodes.Identifier = IDENTIFIER
 
--- the row that a slot of this kind gives to a node with this keyword, where it takes it
+-- the row that a slot of this kind gives to a node with this keyword, if it takes the node
 abbrev pub enters : Takes → Keyword → Option Node
 enters kinds.Text _ = None
 enters kinds.Number _ = None

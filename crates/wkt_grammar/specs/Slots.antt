@@ -132,7 +132,7 @@ place (Missing slot at) = at
 place (NotCount at) = at
 place (WordUnknown at) = at
 
--- The root is the one argument of a row of its own, which ends after it.
+-- The root is the only argument of its own row, which ends after it.
 abbrev pub whole : Item → ℕ → Body
 whole tree end = body nodes.Root (tree ∷ []) end
 

@@ -45,11 +45,11 @@ may_begin (s ∷ row) a = takes s.takes a || (not (is_required s.often) && may_b
 abbrev pub all_arguments : List Argument
 all_arguments = arguments.Text ∷ arguments.Number ∷ arguments.Count ∷ arguments.CsKind ∷ arguments.Direction ∷ arguments.OtherWord ∷ arguments.OtherNode ∷ map (λ k. arguments.Node k) all_keywords
 
--- where a slot may be left while it still takes arguments, what it takes doesn't begin the rest
+-- if a slot can be left while it still takes arguments, the rest does not begin with what it takes
 abbrev pub is_clear : List Slot → Bool
 is_clear [] = true
 is_clear (s ∷ row) = list_all (λ a. not (not (is_required s.often && not (is_many s.often)) && (takes s.takes a && may_begin row a))) all_arguments && is_clear row
 
--- the place where the row of the node in the edition stands after these arguments
+-- the position in the row of the node in the edition after these arguments
 abbrev pub IsAt : Edition → Node → List Argument → Place → Type 0
 IsAt edition node args place = walk (row_of edition node) false args ≡ Some (drop place.slot (row_of edition node), place.filled)

@@ -1,4 +1,4 @@
-//! What an argument is, as far as the rows distinguish arguments.
+//! The kind of an argument, as far as rows distinguish it.
 
 ghost use Rattle.std.specs.Prelude.{◌≡◌, ◌≤◌, drop, length};
 ghost use Rattle.wkt_grammar.specs.Rows.{row_in, row_of};
@@ -35,7 +35,7 @@ fn node_argument(bytes: &[u8]) -> Argument
     }
 }
 
-/// What the argument is that begins with this token.
+/// The kind of the argument that begins with this token.
 pub fn argument_of(kind: TokenKind, bytes: &[u8], is_node: bool) -> Argument
     ensures { result ≡ argument_of kind bytes.now is_node }
 {
@@ -61,7 +61,7 @@ pub fn argument_of(kind: TokenKind, bytes: &[u8], is_node: bool) -> Argument
     }
 }
 
-/// Which fault an argument is that the row refuses here.
+/// The fault of an argument that the row refuses here.
 pub fn refusal(
     edition: Edition,
     node: Node,
@@ -95,7 +95,7 @@ pub fn refusal(
     }
 }
 
-/// The row that a node with this keyword has as an argument. It is found at once where the slot takes it.
+/// The row of a node with this keyword as an argument. It is found at once if the slot takes it.
 pub fn row_in(edition: Edition, node: Node, slot: usize, keyword: Keyword) -> Option<Node>
     ensures { result ≡ row_in (row_of edition node) keyword }
 {

@@ -1,11 +1,11 @@
-//! Which arguments a slot takes.
+//! The arguments that a slot takes.
 
 ghost use Rattle.std.specs.Prelude.{◌≡◌};
 ghost use Rattle.wkt_grammar.specs.Rows.{enters, takes};
 
 use crate::table::{Argument, Keyword, Node, Takes};
 
-/// The row that a slot of this kind gives to a node with this keyword, where it takes it.
+/// The row that a slot of this kind gives to a node with this keyword, if it takes the node.
 pub fn enters(kind: Takes, keyword: Keyword) -> Option<Node>
     ensures { result ≡ enters kind keyword }
 {

@@ -1,4 +1,4 @@
-//! What is wrong with the arguments of a node, and where.
+//! Faults of the arguments of a node, with their places.
 
 ghost use Rattle.std.specs.Prelude.{◌≡◌};
 
@@ -13,7 +13,7 @@ pub enum SlotFault {
     NotHere(usize),
     /// A required slot is empty.
     Missing(SlotName, usize),
-    /// A number that is no count, where only a count can come.
+    /// A number that is not a count, where only a count can come.
     NotCount(usize),
     /// A word that is not listed, where only a listed word can come.
     WordUnknown(usize),
@@ -23,7 +23,7 @@ impl SlotFault {
     ghost use Rattle.wkt_grammar.specs.Slots.{place};
     ghost use Rattle.wkt_grammar.specs.Faults.{fault_name};
 
-    /// The offset that it is reported at, from 0.
+    /// The offset of the fault, from 0.
     pub fn place(self) -> usize
         ensures { result ≡ place self }
     {
@@ -35,7 +35,7 @@ impl SlotFault {
         }
     }
 
-    /// How it is printed.
+    /// The name that is printed.
     pub fn name(self) -> &'static str
         ensures { result.now ≡ fault_name self }
     {

@@ -1,4 +1,4 @@
-//! What holds of the whole table, and between the editions.
+//! The laws of the table, and of its editions.
 
 ghost use Rattle.std.specs.Prelude.{◌≡◌, ◌<◌, ◌++◌, ◌∷◌, ◌↔◌, [], List, ℕ, true, false, length, get_or, Some};
 ghost use Rattle.wkt_grammar.specs.declared.table.Edition.{Edition};

@@ -1,4 +1,4 @@
-//! How slots are called.
+//! The names of slots.
 
 ghost use Rattle.std.specs.Prelude.{◌≡◌};
 ghost use Rattle.wkt_grammar.specs.Names.{slot_name};

@@ -1,4 +1,4 @@
-//! What rows are made of: keywords, arguments, slots and nodes.
+//! The elements of rows: keywords, arguments, slots and nodes.
 
 /// An edition of the grammar.
 #[derive(Clone, Copy, Debug, PartialEq, Eq)]
@@ -51,7 +51,7 @@ pub enum Keyword {
     Identifier,
 }
 
-/// What an argument is, as far as a row distinguishes arguments.
+/// The kind of an argument, as far as rows distinguish it.
 #[derive(Clone, Copy, Debug)]
 pub enum Argument {
     Text,
@@ -125,7 +125,7 @@ pub enum SlotName {
     Uri,
 }
 
-/// Which arguments a slot takes.
+/// The arguments that a slot takes.
 #[derive(Clone, Copy, Debug)]
 pub enum Takes {
     Text,
@@ -143,11 +143,11 @@ pub enum Takes {
     LengthUnit,
     AngleUnit,
     AnyUnit,
-    /// A node with this keyword alone, and the row that it has.
+    /// A node with only this keyword, and its row.
     Node(Keyword, Node),
 }
 
-/// One slot of a row: what it is called, which arguments it takes, and how many.
+/// One slot of a row: its name, the arguments that it takes, and how many.
 #[derive(Clone, Copy, Debug)]
 pub struct Slot {
     pub name: SlotName,

@@ -14,7 +14,7 @@ use crate::table::{Argument, Edition, Node};
 use crate::walk::{Place, first_missing, step};
 use wkt_tree::{Cursor, Outline, TokenKind};
 
-/// Whether an opening delimiter comes.
+/// Whether an opening delimiter follows.
 pub fn next_is_open(cursor: &Cursor<'_>) -> bool
     ensures { result ≡ next_is is_open cursor.now }
 {
@@ -27,7 +27,7 @@ pub fn next_is_open(cursor: &Cursor<'_>) -> bool
     }
 }
 
-/// Whether a comma comes.
+/// Whether a comma follows.
 pub fn next_is_comma(cursor: &Cursor<'_>) -> bool
     ensures { result ≡ next_is is_comma cursor.now }
 {
@@ -40,7 +40,7 @@ pub fn next_is_comma(cursor: &Cursor<'_>) -> bool
     }
 }
 
-/// What the argument is that begins with the token that comes.
+/// The kind of the argument that begins with the next token.
 pub fn coming(cursor: &Cursor<'_>) -> Argument
     ensures { result ≡ coming cursor.now }
 {
@@ -61,7 +61,7 @@ fn next_place(cursor: &Cursor<'_>) -> usize
     }
 }
 
-/// Goes over an argument, where the row of the node takes it and nothing inside it is wrong.
+/// Skips an argument, if the row of the node takes it and it has no fault inside.
 #[cycle(tier)]
 fn check_argument(
     edition: Edition,
@@ -94,7 +94,7 @@ fn check_argument(
     Ok(next)
 }
 
-/// Goes over the arguments of a node and its closing delimiter, where nothing in it is wrong.
+/// Skips the arguments of a node and its closing delimiter, if it has no fault.
 #[cycle(tier)]
 fn check_node(edition: Edition, cursor: &mut Cursor<'_>, node: Node) -> Result<(), SlotFault>
     ensures shorter { length cursor.new ≤ length cursor.old }

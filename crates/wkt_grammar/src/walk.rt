@@ -7,7 +7,7 @@ ghost use Rattle.wkt_grammar.specs.Walk.{is_many, missing, next};
 use crate::choice::takes;
 use crate::table::{Argument, Often, Slot, SlotName};
 
-/// How far a row is filled: the slot that comes, and whether it has an argument.
+/// How far a row is filled: the next slot, and whether it has an argument.
 #[derive(Clone, Copy, Debug)]
 pub struct Place {
     pub slot: usize,
@@ -26,7 +26,7 @@ fn is_many(often: Often) -> bool
     matches!(often, Often::Any | Often::AtLeastOnce)
 }
 
-/// Where the row stands once it took the argument.
+/// The position in the row after the argument.
 pub fn step(row: &[Slot], place: Place, argument: Argument) -> Option<Place>
     requires { place.slot ≤ length row.now }
     ensures { MatchOption result (next (drop place.slot row.now) place.filled argument ≡ None)

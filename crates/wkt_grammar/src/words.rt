@@ -1,4 +1,4 @@
-//! The keywords: how each is spelled, and what a spelling means.
+//! The keywords: their spellings, and the meaning of a spelling.
 
 ghost use Rattle.std.specs.Prelude.{◌≡◌, ◌<◌, length, map, Some, IfSome, IsTrue};
 ghost use Rattle.std.specs.List.{zip};
@@ -134,8 +134,8 @@ static ALTERNATES: [&[u8]; 11] = alternates!(spelling);
 
 static MEANINGS: [Keyword; 11] = alternates!(meaning);
 
-/// A keyword for each sum of `mixed`: the one whose spelling has it, of several the most frequent, and `Identifier` where no
-/// spelling has it. A wrong entry costs time alone.
+/// A keyword for each sum of `mixed`: the one whose spelling has it, the most frequent of several, and `Identifier` if no
+/// spelling has it. A wrong entry only costs time.
 static LIKELY: [Keyword; 64] = [
     Keyword::CoordinateSystem,
     Keyword::Identifier,

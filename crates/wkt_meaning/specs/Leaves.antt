@@ -8,13 +8,13 @@ use Rattle.crs_part.specs.declared.text.Text.{Text}
 use Rattle.wkt_tree.specs.Tokens.{quoted, is_mark}
 use Rattle.wkt_grammar.specs.Bare.{Bare, text, number, word}
 
--- what stands between the marks: of two marks the first is left out, and so is the one at the end
+-- the bytes between the marks: of two marks the first is dropped, and so is the closing one
 abbrev pub undoubled : Bool → List ℕ → List ℕ
 undoubled marked [] = []
 undoubled true (b ∷ bs) = b ∷ undoubled false bs
 undoubled false (b ∷ bs) = if is_mark b then undoubled true bs else b ∷ undoubled false bs
 
--- two words but for letter case
+-- two words are the same apart from letter case
 abbrev pub SameWord : List ℕ → List ℕ → Type 0
 SameWord a b = map to_ascii_lowercase a ≡ map to_ascii_lowercase b
 

@@ -24,7 +24,7 @@ abbrev pub new_line : ℕ → List ℕ
 new_line depth = 10 ∷ replicate (4 * depth) 32
 
 abbrev mutual
-  -- the same, with a new line before the keyword of each node that stands in this many others
+  -- the same, with a newline before the keyword of each node inside this many others
   pub indent : ℕ → Bare → List ℕ
   indent depth (text b) = b
   indent depth (number b) = b

@@ -11,17 +11,17 @@ use Rattle.wkt_grammar.specs.Rows.{takes, Times, row_of}
 use Rattle.wkt_grammar.specs.Words.{keyword_of}
 use Rattle.wkt_grammar.specs.Bare.{Bare, Bares, node, args, shape}
 
--- what is said of the run of each slot, in the order of the slots
+-- the meanings of the runs, in the order of the slots
 infixr 5 ◌&◌
 pub data Fields : Type 1 where
   nothing : Fields
   ◌&◌ : (List Bare → Type 0) → Fields → Fields
 
--- the slot takes these arguments, and as many
+-- the slot takes these arguments, and this many
 abbrev pub Meets : Slot → List Bare → Type 0
 Meets s run = AllPass (takes s.takes) (map shape run) × Times s.often (length run)
 
--- the arguments can be cut, in order, into runs that meet the slots and are as is said of them
+-- the arguments can be split, in order, into runs that fill the slots and have these meanings
 abbrev pub Runs : List Slot → Fields → List Bare → Type 0
 Runs [] nothing xs = xs ≡ []
 Runs [] (P & fields) xs = ⊥

@@ -1,4 +1,4 @@
-//! What holds of all trees and all values.
+//! The laws of trees and values.
 
 ghost use Rattle.std.specs.Prelude.{◌≡◌};
 ghost use Rattle.crs_part.specs.declared.crs.CrsParts.{CrsParts};
@@ -9,12 +9,12 @@ ghost use Rattle.wkt_meaning.specs.Denotes.{DenotesParts};
 ghost use Rattle.wkt_meaning.specs.FirstEdition.{FirstDenotesParts, NothingAdded};
 ghost use Rattle.wkt_meaning.specs.Trees.{parts_tree};
 
-/// A tree denotes one value at most.
+/// A tree denotes at most one value.
 pub fn one_value()
     ensures { (x : Bare) (v w : CrsParts) → DenotesParts x v → DenotesParts x w → v ≡ w }
 {}
 
-/// A tree that denotes a value has arguments that fit the rows of the second edition, everywhere.
+/// A tree that denotes a value has arguments that fit the rows of the second edition, at every level.
 pub fn denoted_fits()
     ensures { (x : Bare) (v : CrsParts) → DenotesParts x v → Fitting kinds.AnyCrs x }
 {}

@@ -1,4 +1,4 @@
-//! What the trees of coordinate reference systems denote, and the laws of it.
+//! The values that trees denote, and the laws about them.
 #![tactic(auto)]
 
 pub mod laws;

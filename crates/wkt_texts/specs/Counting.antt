@@ -3,18 +3,18 @@ use Rattle.std.specs.Prelude.{ℕ, suc, ◌+◌, ◌-◌, Bool, not, List, [], �
 use Rattle.wkt_tree.specs.Tokens.{is_mark}
 use Rattle.wkt_texts.specs.Texts.{is_opening, is_closing}
 
--- the count after a byte outside marks, or none where that byte ends the text
+-- the count after a byte outside marks, or none if that byte ends the text
 abbrev pub counted : ℕ → ℕ → Option ℕ
 counted count b =
     if is_opening b then Some (count + 1)
     else (if is_closing b then (if nat_le count 1 then None else Some (count - 1)) else Some count)
 
--- one byte, and those after it where the text goes on
+-- one byte, and those after it if the text goes on
 abbrev pub one_and : (ℕ → ℕ) → Option ℕ → ℕ
 one_and others None = 1
 one_and others (Some count) = suc (others count)
 
--- how many of the bytes belong to a text of which so many delimiters are open, and perhaps a mark
+-- the number of bytes that belong to a text with this many open delimiters, and perhaps an open mark
 abbrev pub text_len : ℕ → Bool → List ℕ → ℕ
 text_len count quoted [] = 0
 text_len count quoted (b ∷ bs) =

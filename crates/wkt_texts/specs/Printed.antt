@@ -14,6 +14,6 @@ IsCanonical text = (v : Crs) × (text ≡ canon v)
 abbrev pub printed : List (List ℕ) → List ℕ
 printed texts = flat_map (λ text. text ++ 10 ∷ []) texts
 
--- a file is cut into just these texts, wherever they stand
+-- a file is split into exactly these texts, at any places
 abbrev pub AreFound : List ℕ → List (List ℕ) → Type 0
 AreFound file texts = (cuts : List Piece) × IsCutInto file cuts × (map (λ c. c.bytes) cuts ≡ texts)

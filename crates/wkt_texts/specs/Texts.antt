@@ -19,12 +19,12 @@ abbrev pub outside : Bool → List ℕ → List ℕ
 outside quoted [] = []
 outside quoted (b ∷ bs) = if is_mark b then outside (not quoted) bs else (if quoted then outside quoted bs else b ∷ outside quoted bs)
 
--- outside marks a delimiter closes, and no more of them open than close
+-- outside marks there is a closing delimiter, and no more open than close
 pub record IsClosed (bytes : List ℕ) : Type 0 where
   pub closes : 0 < count_by is_closing (outside false bytes)
   pub enough : count_by is_opening (outside false bytes) ≤ count_by is_closing (outside false bytes)
 
--- the first text has so many bytes: the fewest that are closed, or all
+-- the length of the first text: the least that is closed, or all
 pub record IsFirstText (bytes : List ℕ) (n : ℕ) : Type 0 where
   pub within : n ≤ length bytes
   pub fewest : (k : ℕ) → k < n → ¬ (IsClosed (take k bytes))
@@ -48,7 +48,7 @@ AreTexts place bytes (cut ∷ cuts) = (rest : List ℕ) × IsNext place bytes cu
 abbrev pub order_mark : List ℕ
 order_mark = 239 ∷ 187 ∷ 191 ∷ []
 
--- where the texts of a file may begin: after a byte order mark
+-- the offset at which the texts of a file may begin: after a byte order mark
 abbrev pub begin : List ℕ → ℕ
 begin file = if starts_with nat_eq file order_mark then 3 else 0
 

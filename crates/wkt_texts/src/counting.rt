@@ -1,10 +1,10 @@
-//! The length of a text, by a count of what is open.
+//! The length of a text, by counting open delimiters.
 
 ghost use Rattle.std.specs.Prelude.{◌≡◌, ◌+◌, ◌<◌, ◌^◌, false};
 ghost use Rattle.wkt_texts.specs.Texts.{IsFirstText};
 ghost use Rattle.wkt_texts.specs.Counting.{counted, text_len};
 
-/// How many delimiters are open after a byte outside quotation marks, unless that byte ends the text.
+/// The number of open delimiters after a byte outside quotation marks, unless that byte ends the text.
 #[inline(always)]
 fn counted(count: usize, b: u8) -> Option<usize>
     requires { count + 1 < 2 ^ 64 }
@@ -38,7 +38,7 @@ fn closing_len(bytes: &[u8]) -> usize
     bytes.len()
 }
 
-/// How many bytes the first text has.
+/// The length of the first text.
 pub fn text_len(bytes: &[u8]) -> usize
     ensures { IsFirstText bytes.now result }
 {

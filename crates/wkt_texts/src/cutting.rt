@@ -29,7 +29,7 @@ fn blank_count(bytes: &[u8]) -> usize
     bytes.iter().take_while(|b| is_blank(**b)).count()
 }
 
-// How many blanks there are at the front.
+// The number of leading blanks.
 fn blank_len(bytes: &[u8]) -> usize
     ensures within { result ≤ length bytes.now }
     ensures blank { AllPass is_blank (take result bytes.now) }
@@ -38,7 +38,7 @@ fn blank_len(bytes: &[u8]) -> usize
     blank_count(bytes)
 }
 
-// Where the texts of a file may begin.
+// The offset at which the texts of a file may begin.
 fn begin(file: &[u8]) -> usize
     ensures is { result ≡ begin file.now }
     ensures within { result ≤ length file.now }
@@ -50,7 +50,7 @@ fn begin(file: &[u8]) -> usize
     }
 }
 
-// The first text of what stands in the file from a place on, and what follows it.
+// The first text from a place in the file on, and the rest.
 fn next_text<'a>(place: usize, bytes: &'a [u8]) -> Option<(Cut<'a>, &'a [u8])>
     requires { place + length bytes.now < 2 ^ 64 }
     ensures some { IfSome result (λ p. IsNext place bytes.now (piece_of p.0) p.1.now) }
@@ -69,7 +69,7 @@ fn next_text<'a>(place: usize, bytes: &'a [u8]) -> Option<(Cut<'a>, &'a [u8])>
     Some((cut, rest))
 }
 
-/// The texts of a file, in their order.
+/// The texts of a file, in order.
 pub fn texts<'a>(alloc: Global, file: &'a [u8]) -> Result<Vec<Cut<'a>>, AllocError>
     ensures { IfOk result (λ cuts. IsCutInto file.now (map piece_of cuts.items)) }
 {

@@ -1,11 +1,11 @@
-//! What holds of all files.
+//! The laws of texts in files.
 
 ghost use Rattle.std.specs.Prelude.{◌≡◌, List, ℕ, All};
 ghost use Rattle.wkt_tree.specs.Tree.{Piece};
 ghost use Rattle.wkt_texts.specs.Texts.{IsCutInto};
 ghost use Rattle.wkt_texts.specs.Printed.{IsCanonical, printed, AreFound};
 
-/// A file is cut into texts in one way.
+/// A file is split into texts in exactly one way.
 pub fn one_cut()
     ensures { (file : List ℕ) (texts others : List Piece) → IsCutInto file texts → IsCutInto file others → texts ≡ others }
 {}

@@ -1,4 +1,4 @@
-//! Where each text of a file begins and ends.
+//! Splits a file into texts.
 #![tactic(auto)]
 
 mod counting;

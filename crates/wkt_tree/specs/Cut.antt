@@ -8,7 +8,7 @@ use Rattle.wkt_tree.specs.Bytes.{is_blank, is_word_byte, is_number_byte, begun_b
 use Rattle.wkt_tree.specs.Tree.{Tok, tok}
 use Rattle.wkt_tree.specs.Tokens.{is_mark, end_of}
 
--- how many bytes there are up to the mark that closes a text, where one does; whether a mark came just before
+-- the number of bytes up to the mark that closes a text, if one does; whether a mark came just before
 abbrev pub text_len : Bool → List ℕ → Option ℕ
 text_len false [] = None
 text_len true [] = Some 0
@@ -41,12 +41,12 @@ first_token place bytes = token_behind (place + prefix_len is_blank bytes) (drop
 abbrev pub behind : List ℕ → Tok → List ℕ
 behind bytes t = drop (length t.piece.bytes) (drop (prefix_len is_blank bytes) bytes)
 
--- the first token, where there is one, and those after it
+-- the first token, if there is one, and those after it
 abbrev pub cut_from : List ℕ → (ℕ → List ℕ → List Tok) → Option Tok → List Tok
 cut_from bytes go None = []
 cut_from bytes go (Some t) = t ∷ go (end_of t) (behind bytes t)
 
--- at most so many tokens
+-- at most this many tokens
 abbrev pub cut_within : ℕ → ℕ → List ℕ → List Tok
 cut_within zero place bytes = []
 cut_within (suc n) place bytes = cut_from bytes (cut_within n) (first_token place bytes)

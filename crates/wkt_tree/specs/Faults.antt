@@ -12,11 +12,11 @@ use Rattle.wkt_tree.specs.Bytes.{is_blank, begun_by}
 use Rattle.wkt_tree.specs.Tree.{Tok, tok, IsTree, Begins}
 use Rattle.wkt_tree.specs.Tokens.{IsNumber, IsUnclosed, Lexeme, Blanks, Lexed, First, Front, Cut}
 
--- a token without where it lies in memory
+-- a token without its address
 abbrev pub view : Token → Tok
 view t = tok t.kind (record { place = t.place; bytes = t.bytes.now })
 
--- the byte is no blank and begins no token
+-- the byte is not a blank and begins no token
 abbrev pub NoToken : List ℕ → Type 0
 NoToken [] = ⊥
 NoToken (b ∷ bs) = (is_blank b ≡ false) × (begun_by b ≡ None)
@@ -50,7 +50,7 @@ Misread Comma bs place fault = ⊥
 Misread (Open d) bs place fault = ⊥
 Misread (Close d) bs place fault = ⊥
 
--- after blanks, something stands at this place
+-- after blanks, there is something at this place
 pub record After_blanks (place : ℕ) (bytes : List ℕ) (Is : List ℕ → Type 0) (place' : ℕ) : Type 0 where
   pub from : List ℕ
   pub blank : Blanks place bytes place' from
@@ -69,13 +69,13 @@ Unreadable place bytes (Depth at) = ⊥
 Unreadable place bytes (EndEarly at) = ⊥
 Unreadable place bytes (After at) = ⊥
 
--- what reading the first token answers
+-- the result of reading the first token
 abbrev pub Reads : ℕ → List ℕ → Result (Option Token) TextFault → Type 0
 Reads place bytes (Ok (Some t)) = (rest : List ℕ) × First place bytes (view t) rest
 Reads place bytes (Ok None) = AllPass is_blank bytes
 Reads place bytes (Err fault) = Unreadable place bytes fault
 
--- what the lexer answers of the first token, before a number is read
+-- the result of the lexer for the first token, before a number is read
 abbrev pub Lexes : ℕ → List ℕ → Result (Option Token) TextFault → Type 0
 Lexes place bytes (Ok (Some t)) = (rest : List ℕ) × Lexed place bytes (view t) rest
 Lexes place bytes (Ok None) = AllPass is_blank bytes

@@ -2,11 +2,11 @@
 use Rattle.std.specs.Prelude.{◌≡◌, ℕ, ◌+◌, ◌<◌, ◌≤◌, true, false, List, slice_index}
 use Rattle.wkt_tree.specs.Tokens.{is_mark}
 
--- no mark stands from one place up to another
+-- there is no mark from one place up to another
 abbrev pub IsPlain : List ℕ → ℕ → ℕ → Type 0
 IsPlain bytes from to = (k : ℕ) → from ≤ k → k < to → is_mark (slice_index bytes k) ≡ false
 
--- of so many bytes from a place on, how many come before the first mark
+-- the number of bytes before the first mark, among this many from a place on
 pub record IsPlainRun (bytes : List ℕ) (from most run : ℕ) : Type 0 where
   pub within : run ≤ most
   pub plain : IsPlain bytes from (from + run)

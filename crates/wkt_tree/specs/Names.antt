@@ -3,7 +3,7 @@ use Rattle.std.specs.Prelude.{ℕ, List, Option, Some, None, codes}
 use Rattle.wkt_tree.specs.declared.fault.TextFault.{TextFault}
 use Rattle.wkt_tree.specs.declared.fault.TextFault.TheVariants.{TooLong, NotUtf8, BadByte, TextOpen, BadNumber, NumberRange, Unexpected, Depth, EndEarly, After}
 
--- where a fault is
+-- the place of a fault
 abbrev pub place_of : TextFault → Option ℕ
 place_of TooLong = None
 place_of (NotUtf8 at) = Some at

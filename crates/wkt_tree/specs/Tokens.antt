@@ -28,7 +28,7 @@ Follow Comma bs = bs ≡ []
 Follow (Open d) bs = bs ≡ []
 Follow (Close d) bs = bs ≡ []
 
--- the first byte, where there is one, fails the test
+-- the first byte, if there is one, fails the test
 abbrev pub Stops : (ℕ → Bool) → List ℕ → Type 0
 Stops p [] = Unit {0}
 Stops p (b ∷ bs) = p b ≡ false

@@ -9,13 +9,13 @@ pub record Piece : Type 0 where
   pub place : ℕ
   pub bytes : List ℕ
 
--- a token, without where it lies in memory
+-- a token, without its address
 pub record Tok : Type 0 where
   pub kind : TokenKind
   pub piece : Piece
 
--- An item is a quoted text, a number, a word or a node. A node is a keyword, an opening delimiter,
--- the items, and the closing delimiter of the same kind. Between two items stands a comma.
+-- An item is a quoted text, a number, a word or a node. A node is a keyword, an opening delimiter, the items, and the
+-- closing delimiter of the same kind. A comma separates two items.
 mutual
   pub data Item : Type 0 where
     text : Piece → Item

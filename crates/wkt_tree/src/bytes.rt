@@ -1,8 +1,8 @@
-//! What each byte may be a part of.
+//! The tokens that each byte may be part of.
 
 use crate::token::{Delimiter, TokenKind};
 
-/// Which bytes are blanks.
+/// The blanks.
 pub static BLANKS: [bool; 256] = [
     false, false, false, false, false, false, false, false, false, true, true, false, false, true,
     false, false, false, false, false, false, false, false, false, false, false, false, false,
@@ -26,7 +26,7 @@ pub static BLANKS: [bool; 256] = [
     false, false, false, false, false, false, false, false,
 ];
 
-/// Which bytes may stand in a word.
+/// The bytes of words.
 pub static WORD_BYTES: [bool; 256] = [
     false, false, false, false, false, false, false, false, false, false, false, false, false,
     false, false, false, false, false, false, false, false, false, false, false, false, false,
@@ -49,7 +49,7 @@ pub static WORD_BYTES: [bool; 256] = [
     false, false, false, false, false, false, false, false, false, false,
 ];
 
-/// Which bytes may stand in a number.
+/// The bytes of numbers.
 pub static NUMBER_BYTES: [bool; 256] = [
     false, false, false, false, false, false, false, false, false, false, false, false, false,
     false, false, false, false, false, false, false, false, false, false, false, false, false,
@@ -73,7 +73,7 @@ pub static NUMBER_BYTES: [bool; 256] = [
     false, false, false, false, false, false,
 ];
 
-/// Which token a byte begins.
+/// The token that each byte begins.
 pub static BEGINNINGS: [Option<TokenKind>; 256] = [
     None,
     None,

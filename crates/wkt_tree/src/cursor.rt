@@ -32,7 +32,7 @@ impl<'a> Model for Cursor<'a> {
 }
 
 impl<'a> Cursor<'a> {
-    /// Before the first token from this place on.
+    /// A cursor before the first token from this place on.
     #[inline(always)]
     fn at(text: &'a [u8], place: usize) -> Cursor<'a>
         requires { IsSoundCut place text.now }
@@ -53,7 +53,7 @@ impl<'a> Cursor<'a> {
         }
     }
 
-    /// The token that comes.
+    /// The next token.
     #[inline(always)]
     pub fn peek(&self) -> Option<Token<'a>>
         ensures comes { option_map view result ≡ slice_get self.now 0 }
@@ -62,7 +62,7 @@ impl<'a> Cursor<'a> {
         self.token
     }
 
-    /// Another cursor before the same token.
+    /// Another cursor with the same next token.
     #[inline(always)]
     pub fn fork(&self) -> Cursor<'a>
         ensures { result ≡ self.now }
@@ -74,7 +74,7 @@ impl<'a> Cursor<'a> {
         }
     }
 
-    /// Goes past the token that comes, where one does.
+    /// Skips the next token, if there is one.
     #[inline(always)]
     pub fn advance(&mut self)
         ensures { self.new ≡ drop 1 self.old }
@@ -116,7 +116,7 @@ pub fn scan<'a>(text: &'a [u8]) -> Result<Outline<'a>, TextFault>
     ensures ok { IfOk result (λ outline. (outline ≡ text.now) × IsOutline text.now (cut 0 text.now)) }
     ensures err { IfErr result (FirstFault text.now) }
 
-    // A text with an outline is never refused, and its first fault is the answer.
+    // A text with an outline is never refused; otherwise the result is the first fault.
     ensures passes { (ts : List Tok) → IsOutline text.now ts → IsOk result }
     ensures fails { (fault : TextFault) → FirstFault text.now fault → result ≡ Err fault }
 {

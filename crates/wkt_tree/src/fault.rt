@@ -1,4 +1,4 @@
-//! What is wrong with a text, and where.
+//! Faults of a text, with their places.
 
 ghost use Rattle.std.specs.Prelude.{◌≡◌};
 ghost use Rattle.wkt_tree.specs.Names.{name_of, place_of};
@@ -12,17 +12,17 @@ pub enum TextFault {
     TooLong,
     /// It is not UTF-8, at its first invalid byte.
     NotUtf8(usize),
-    /// A byte that begins no token and is no blank.
+    /// A byte that neither begins a token nor is a blank.
     BadByte(usize),
     /// A quoted text that no mark closes, at the mark that opens it.
     TextOpen(usize),
-    /// A number that has not the form of a numeral.
+    /// A number that does not have the form of a numeral.
     BadNumber(usize),
     /// A numeral that spells no decimal.
     NumberRange(usize),
-    /// A token that cannot stand here.
+    /// A token that is not allowed here.
     Unexpected(usize),
-    /// A delimiter that opens while as many are open as may be.
+    /// An opening delimiter when the greatest number is open.
     Depth(usize),
     /// The text ends before its tree does.
     EndEarly(usize),

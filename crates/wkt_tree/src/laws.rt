@@ -1,4 +1,4 @@
-//! What holds of all texts.
+//! The laws of texts.
 
 ghost use Rattle.std.specs.Prelude.{◌≡◌, List, ℕ, All};
 ghost use Rattle.wkt_tree.specs.declared.fault.TextFault.{TextFault};
@@ -12,17 +12,17 @@ pub fn fault_or_outline()
     ensures { (text : List ℕ) (ts : List Tok) (fault : TextFault) → FirstFault text fault → IsOutline text ts → ⊥ }
 {}
 
-/// A text has one first fault.
+/// A text has at most one first fault.
 pub fn one_first_fault()
     ensures { (text : List ℕ) (one other : TextFault) → FirstFault text one → FirstFault text other → one ≡ other }
 {}
 
-/// A text is cut into tokens in one way.
+/// A text has one list of tokens.
 pub fn one_cut()
     ensures { (text : List ℕ) (ts us : List Tok) → Cut 0 text ts → Cut 0 text us → ts ≡ us }
 {}
 
-/// Tokens are those of one tree at most.
+/// Tokens are those of at most one tree.
 pub fn one_tree()
     ensures { (item other : Item) → tokens item ≡ tokens other → item ≡ other }
 {}

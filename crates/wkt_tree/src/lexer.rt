@@ -51,7 +51,7 @@ fn blank_count(bytes: &[u8]) -> usize
     bytes.iter().take_while(|b| is_blank(**b)).count()
 }
 
-/// How many blanks there are at the front.
+/// The number of leading blanks.
 #[inline(always)]
 fn blank_len(bytes: &[u8]) -> usize
     ensures within { result ≤ length bytes.now }
@@ -118,7 +118,7 @@ fn follow_len(kind: TokenKind, bytes: &[u8]) -> Option<usize>
     }
 }
 
-/// Whether the token can be read, where it is a number.
+/// Whether the token can be read, if it is a number.
 #[inline(always)]
 fn check_number(token: &Token<'_>) -> Result<(), TextFault>
     ensures ok { OnOk result (IsReadable token.now.kind token.now.bytes.now) }
@@ -146,7 +146,7 @@ fn check_numeral_at(token: &[u8], place: usize) -> Result<(), TextFault>
     }
 }
 
-/// The token that begins the bytes, which begin with no blank. A number need not be readable.
+/// The token at the front of the bytes, which do not begin with a blank. A number need not be readable.
 #[inline(always)]
 fn token_at<'a>(place: usize, bytes: &'a [u8]) -> Result<Option<Token<'a>>, TextFault>
     requires { Stops is_blank bytes.now }

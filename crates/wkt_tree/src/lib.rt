@@ -1,4 +1,4 @@
-//! Tokens of a text, and the test that they are those of one tree.
+//! Tokens of a text, and the check that they are those of one tree.
 #![tactic(auto)]
 
 mod bytes;

@@ -1,4 +1,4 @@
-//! Which token may come next, by the delimiters that are open.
+//! The tokens that may come next, by the open delimiters.
 
 ghost use Rattle.std.specs.Prelude.{◌≡◌, Some, None, IfOk, IfErr, OnErr, IfSome, IfNone};
 ghost use Rattle.wkt_tree.specs.Machine.{closed, comma, refusal, state, step_at};
@@ -7,18 +7,18 @@ use crate::fault::TextFault;
 use crate::stack::Stack;
 use crate::token::{Delimiter, TokenKind};
 
-/// What came last, as far as it decides what may come next.
+/// The last part read, as far as it decides what may come next.
 #[derive(Clone, Copy, Debug, PartialEq, Eq)]
 pub(crate) enum Phase {
     /// An item has to come.
     Begin,
     /// A word came, which an opening delimiter makes a keyword.
     Named,
-    /// An item came that is whole.
+    /// A complete item came.
     Past,
 }
 
-/// What follows the next token, where that can come.
+/// The state after the next token, if it is allowed.
 #[inline(always)]
 fn take(phase: Phase, stack: &mut Stack, kind: TokenKind) -> Option<Phase>
     ensures taken { IfSome result (λ next. step_at 16 phase stack.old kind ≡ Some (state next stack.new)) }
@@ -144,7 +144,7 @@ fn refusal(phase: Phase, stack: &Stack, kind: TokenKind, place: usize) -> TextFa
     }
 }
 
-/// Takes the next token, or says which fault it is.
+/// Takes the next token, or returns its fault.
 #[inline(always)]
 pub(crate) fn take_token(
     phase: Phase,

@@ -6,10 +6,10 @@ ghost use Rattle.wkt_tree.specs.Marks.{IsPlainRun};
 
 use std::simd::prelude::*;
 
-/// How many bytes are looked at together.
+/// The number of bytes that are compared at once.
 const LANES: usize = 16;
 
-/// How many of the bytes that are looked at together, from a place on, come before the first mark.
+/// The number of bytes before the first mark, among those compared at once from a place on.
 #[inline(always)]
 fn plain_run(bytes: &[u8], at: usize) -> usize
     requires { at + LANES ≤ length bytes.now }

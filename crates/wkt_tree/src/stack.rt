@@ -73,7 +73,7 @@ impl Stack {
         self.depth += 1;
     }
 
-    /// Takes the innermost off, where it is of this kind.
+    /// Removes the innermost, if it is of this kind.
     #[inline(always)]
     pub(crate) fn pop(&mut self, kind: Delimiter) -> bool
         ensures ends { closed kind self.old ≡ (if result then Some (state Phase.Past self.new) else None) }

@@ -5,7 +5,7 @@ use Rattle.wkt_meaning.specs.Render.{new_line}
 use Rattle.wkt_write.specs.declared.layout.Layout as layouts
 use Rattle.wkt_write.specs.declared.layout.Layout.TheVariants.{OneLine, Root, Inside}
 
--- what stands before the keyword of a node
+-- the newline and margin before the keyword of a node
 abbrev pub before : layouts.Layout → List ℕ
 before OneLine = []
 before Root = []

@@ -1,4 +1,4 @@
-//! Identifiers, and what has a name and identifiers alone.
+//! Identifiers, and nodes with only a name and identifiers.
 
 ghost use Rattle.std.specs.Prelude.{◌≡◌, ◌++◌, OnOk, map};
 ghost use Rattle.wkt_grammar.specs.declared.table.Keyword.TheVariants as keywords;

@@ -1,4 +1,4 @@
-//! What is a token, and that what is written is read back.
+//! The laws of tokens, and of reading back written texts.
 
 ghost use Rattle.std.specs.Prelude.{◌≡◌, ℕ, ◌<◌, ◌^◌, List, true, decimal};
 ghost use Rattle.crs_number.specs.Canonical.{canonical};

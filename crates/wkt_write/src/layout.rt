@@ -5,7 +5,7 @@ ghost use Rattle.wkt_write.specs.Layout.{before, inner};
 
 use std::alloc::AllocError;
 
-/// Where a node begins: all nodes on one line, or each node but the root on a line of its own.
+/// Where a node begins: all nodes on one line, or each node except the root on its own line.
 #[derive(Clone, Copy)]
 pub(crate) enum Layout {
     OneLine,
@@ -25,7 +25,7 @@ impl Layout {
             Layout::Root => Ok(Layout::Inside(1)),
             Layout::Inside(depth) => {
                 let Some(deeper) = depth.checked_add(1) else {
-                    // No memory holds so wide a margin.
+                    // No margin is that wide.
                     return Err(AllocError);
                 };
                 Ok(Layout::Inside(deeper))
@@ -33,7 +33,7 @@ impl Layout {
         }
     }
 
-    /// Appends what stands before a node's keyword.
+    /// Appends the newline and margin before a node's keyword.
     pub(crate) fn push_before(self, out: &mut Vec<u8>) -> Result<(), AllocError>
         ensures { OnOk result (out.new.items ≡ out.old.items ++ before self) }
     {

@@ -1,4 +1,4 @@
-//! What a reference system is used for, and where.
+//! The usages of a reference system.
 
 ghost use Rattle.wkt_meaning.specs.Trees.{bounding_box_tree, vertical_extent_tree, usage_tree};
 

@@ -18,7 +18,7 @@ pub fn write_crs(alloc: Global, parts: &CrsParts) -> Result<Vec<u8>, AllocError>
     write_crs_with_room(alloc, parts, COMMON_LENGTH)
 }
 
-/// The canonical text, with so many bytes reserved at once; a longer text reallocates.
+/// The canonical text, with this many bytes reserved at once; a longer text reallocates.
 pub fn write_crs_with_room(
     alloc: Global,
     parts: &CrsParts,

@@ -1,4 +1,4 @@
-//! What is written.
+//! Values that are written.
 
 ghost use Rattle.std.specs.Prelude.{◌≡◌, ◌++◌, OnOk};
 ghost use Rattle.wkt_grammar.specs.Bare.{Bare};

@@ -12,7 +12,7 @@ use crate::import::texts::FileCut;
 use reg_import::{FileText, Problem, Refused, Told, first_refused};
 use std::alloc::{AllocError, Global};
 
-// What is against a text, where the file with number 0 among those that were given has this number among those that are read.
+// Why a text is rejected. The file with index 0 has this number among the files that are read.
 fn fault_of(first: usize, texts: &[FileText], refused: &Refused) -> Option<ImportFault>
     ensures { IfSome result (IsAgainst first texts.now refused.now.at refused.now.problem) }
 {
@@ -25,7 +25,7 @@ fn fault_of(first: usize, texts: &[FileText], refused: &Refused) -> Option<Impor
     })
 }
 
-// What is said of the refused text alone, if that is asked.
+// The explanation of the refused text, if requested.
 fn note_at(
     alloc: Global,
     order: &Order<'_>,
@@ -50,7 +50,7 @@ fn note_at(
     }
 }
 
-/// Why the texts of these files are not imported, where this one of them is refused.
+/// Why the texts of these files are not imported, if this one is refused.
 pub fn refused_here(
     alloc: Global,
     first: usize,
@@ -71,7 +71,7 @@ pub fn refused_here(
     }
 }
 
-// What is said of all refused texts, if that is asked.
+// The explanations of all refused texts, if requested.
 fn all_notes(
     alloc: Global,
     order: &Order<'_>,
@@ -87,7 +87,7 @@ fn all_notes(
     notes_of(alloc, order.names, files, cuts, told)
 }
 
-/// The first text that was passed over, with what is said of all.
+/// The first text that was passed over, with the explanations of all.
 pub fn passed_over(
     alloc: Global,
     first: usize,

@@ -14,7 +14,7 @@ use wkt_crs::{DefinitionFault, SlotFault, Unspelled};
 #[derive(Clone, Copy, Debug, PartialEq, Eq)]
 pub enum ImportFault {
     Cli(CliFault),
-    /// This is against a text of the file of this number, and this is the place in that.
+    /// A text of the file with this number is rejected for this reason, at this place of the file.
     Refused {
         problem: Problem,
         place: usize,
@@ -22,7 +22,7 @@ pub enum ImportFault {
     },
 }
 
-/// Why texts were not imported, or not all of them, and what is said of those that were refused.
+/// Why texts were not imported, or not all of them, with explanations of those that were refused.
 #[derive(Drop)]
 pub struct Unimported {
     pub fault: ImportFault,
@@ -30,7 +30,7 @@ pub struct Unimported {
 }
 
 impl Unimported {
-    /// A fault of which no more is said.
+    /// A fault without explanation.
     pub(crate) fn plain(alloc: Global, fault: CliFault) -> Unimported
         ensures fault { result.fault ≡ import.Cli fault }
         ensures notes { result.notes.items ≡ [] }
@@ -78,7 +78,7 @@ fn write_problem<W: fmt::Write>(f: &mut fmt::Formatter<W>, problem: &Problem) ->
     }
 }
 
-// What a fault is called, and what it names.
+// The name of a fault, and what it names.
 fn write_fault<W: fmt::Write>(f: &mut fmt::Formatter<W>, fault: &DefinitionFault) -> fmt::Result {
     match fault {
         DefinitionFault::Read(Unspelled::Slot(SlotFault::Missing(slot, _))) => {

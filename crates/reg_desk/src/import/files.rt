@@ -33,7 +33,7 @@ fn read_one<F: Source>(alloc: Global, number: usize, file: &mut F) -> Result<Vec
     }
 }
 
-/// The bytes of each file, in their order; the first file has this number.
+/// The bytes of each file, in order; the first file has this number.
 pub fn read_files<F: Source>(
     alloc: Global,
     first: usize,

@@ -1,4 +1,4 @@
-//! What is said of texts that are refused.
+//! Explanations of refused texts.
 
 ghost use Rattle.std.specs.Prelude.{◌≡◌, ◌++◌, [], map, IfOk, OnOk};
 ghost use Rattle.std.specs.String.{string_bytes};
@@ -40,7 +40,7 @@ fn explained(
 ) -> Result<Vec<u8>, AllocError>
     ensures { IfOk result (λ note. note.items ≡ note_of (map string_bytes names.now) (bytes_of files.now) (text_at cut.now) (Told.Refused (Problem.Unread fault))) }
 {
-    // No place is so great, since files are in memory.
+    // Places are smaller, since files are in memory.
     let Some(end) = cut.place.checked_add(cut.bytes.len()) else {
         return Err(AllocError);
     };
@@ -55,7 +55,7 @@ fn explained(
     )
 }
 
-/// What is said of a text of which this came.
+/// The explanation for the outcome of a text.
 pub fn note_of(
     alloc: Global,
     names: &[String],
@@ -71,7 +71,7 @@ pub fn note_of(
     }
 }
 
-/// What is said of all, one after another.
+/// The explanations of all, in order.
 pub fn notes_of(
     alloc: Global,
     names: &[String],

@@ -1,10 +1,10 @@
-//! What an import is told.
+//! Options of an import.
 
 use reg_import::Differs;
 use uuid::Uuid;
 
-/// What an import is told: as which replica and how it enters texts, whether it explains why one is refused, the note of its
-/// operations, and what the files of texts are called.
+/// Options of an import: the replica, the conflict mode, whether refused texts are explained, the note, and the names of
+/// the files.
 #[derive(Clone, Copy)]
 pub struct Order<'a> {
     pub replica: Uuid,

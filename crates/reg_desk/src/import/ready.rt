@@ -1,4 +1,4 @@
-//! What an import makes, before anything goes out.
+//! The result of an import, before anything is written.
 
 ghost use Rattle.std.specs.Prelude.{map, IfOk, IfErr};
 ghost use Rattle.reg_desk.specs.ImportFiles.{bytes_of};
@@ -17,7 +17,7 @@ use reg_office::OfficeFault;
 use reg_state::Register;
 use std::alloc::Global;
 
-/// What an import gives out: the register, the lines, and what is answered of texts that were passed over.
+/// The result of an import: the register, the lines, and the fault of texts that were passed over.
 #[derive(Drop)]
 pub struct Ready {
     pub register: Register,

@@ -1,4 +1,4 @@
-//! The texts of files: where each stands, and what it is read as.
+//! The texts of files: their places and readings.
 
 ghost use Rattle.std.specs.Prelude.{◌≡◌, ◌++◌, map, IfOk, OnOk};
 ghost use Rattle.wkt_texts.specs.Texts.{piece_of};
@@ -9,7 +9,7 @@ use reg_import::{FileText, read_at};
 use std::alloc::{AllocError, Global};
 use wkt_texts::{Cut, texts};
 
-/// A text: the number of its file among those that were given, from 0, the place of its first byte there, and its bytes.
+/// A text: the index of its file, from 0, the offset of its first byte there, and its bytes.
 #[derive(Clone, Copy)]
 pub struct FileCut<'a> {
     pub file: usize,
@@ -32,7 +32,7 @@ fn push_cuts<'a>(
     Ok(())
 }
 
-/// Where the texts of the files stand, in their order.
+/// The places of the texts of the files, in order.
 pub fn cut_files<'a>(alloc: Global, files: &'a [Vec<u8>]) -> Result<Vec<FileCut<'a>>, AllocError>
     ensures { IfOk result (λ cuts. AreCuts 0 (bytes_of files.now) (map text_at cuts.items)) }
 {
@@ -44,7 +44,7 @@ pub fn cut_files<'a>(alloc: Global, files: &'a [Vec<u8>]) -> Result<Vec<FileCut<
     Ok(all)
 }
 
-/// What each of them is read as.
+/// The reading of each.
 pub fn read_cuts(alloc: Global, cuts: &[FileCut<'_>]) -> Result<Vec<FileText>, AllocError>
     ensures { IfOk result (λ texts. AreRead (map text_at cuts.now) texts.items) }
 {

@@ -1,4 +1,4 @@
-//! A row that one register has and the other has not, and when two rows are one.
+//! A row that only one of two registers has, and equality of rows.
 
 ghost use Rattle.std.specs.Prelude.{◌≡◌, ◌↔◌, IsTrue};
 ghost use Rattle.reg_office.specs.Seen.{row_seen};
@@ -12,20 +12,20 @@ use wkt_crs::Definition;
 /// Which of the two registers has the row.
 #[derive(Clone, Copy, Debug, PartialEq, Eq)]
 pub enum Sign {
-    /// The older one alone.
+    /// Only the older one.
     Gone,
-    /// The newer one alone.
+    /// Only the newer one.
     Come,
 }
 
-/// A row that one register has and the other has not.
+/// A row that only one of two registers has.
 #[derive(Drop)]
 pub struct Change<'a> {
     pub sign: Sign,
     pub row: &'a Row,
 }
 
-/// How a sign is written.
+/// The text of a sign.
 pub fn sign_text(sign: Sign) -> &'static [u8]
     ensures { result.now ≡ sign_text sign }
 {
@@ -74,7 +74,7 @@ fn stand_the_same(left: &Row, right: &Row) -> bool
     left.status == right.status && are_same_ids(&left.newer, &right.newer)
 }
 
-/// Whether they are one row: entry, text, status and newer entries.
+/// Whether the rows are equal: entry, text, status and newer entries.
 pub fn is_same(left: &Row, right: &Row) -> bool
     ensures { IsTrue result ↔ (row_seen left.now ≡ row_seen right.now) }
 {

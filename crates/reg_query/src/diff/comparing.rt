@@ -13,10 +13,10 @@ use reg_office::{Row, rows};
 use reg_state::Register;
 use std::alloc::{AllocError, Global};
 
-/// What two registers do not share.
+/// The comparison of two registers.
 #[derive(Drop)]
 pub struct Comparison {
-    /// A header, and a line for each row that one of them has and the other has not.
+    /// A header, and a line for each row that only one of them has.
     pub text: Vec<u8>,
     /// Whether there is such a row.
     pub differ: bool,

@@ -28,7 +28,7 @@ fn push_all<'a>(made: &mut Vec<Change<'a>>, sign: Sign, rows: &'a [Row]) -> Resu
     Ok(())
 }
 
-// Puts both at the end, unless they are one row.
+// Appends both, unless they are equal.
 fn push_unlike<'a>(
     made: &mut Vec<Change<'a>>,
     gone: &'a Row,
@@ -44,8 +44,7 @@ fn push_unlike<'a>(
     Ok(())
 }
 
-/// The rows that the older list has and the newer one has not, and the other way round: by entry, and for one entry what is
-/// gone before what came. Each list has its rows by entry.
+/// The rows that only one list has, ordered by entry, those of the older list first. Each list is ordered by entry.
 pub fn changes<'a>(
     alloc: Global,
     old: &'a [Row],

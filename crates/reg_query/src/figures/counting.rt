@@ -27,7 +27,7 @@ fn is_run_of(run: &Run, replica: Uuid) -> bool
     run.replica.cmp(&replica).is_eq()
 }
 
-// How many runs are of lesser replicas.
+// The number of runs of lesser replicas.
 fn runs_below(runs: &[Run], replica: Uuid) -> usize
     requires { AreRuns runs.now }
     ensures bound { result ≤ length runs.now }
@@ -36,7 +36,7 @@ fn runs_below(runs: &[Run], replica: Uuid) -> usize
     runs.partition_point(|run| is_run_below(run, replica))
 }
 
-// How many runs at the front are of the replica.
+// The number of leading runs of the replica.
 fn leading_runs(runs: &[Run], replica: Uuid) -> usize
     ensures { result ≡ prefix_len (λ (r : OneRun). is_same_replica r.replica replica) runs.now }
 {
@@ -56,14 +56,14 @@ fn runs_of(runs: &[Run], replica: Uuid) -> &[Run]
     &rest[..count]
 }
 
-// How many ids a run has.
+// The number of ids in a run.
 fn span(run: &Run) -> u64
     ensures { result ≡ run.now.high + 1 - run.now.low }
 {
     (u64::from(run.high) + 1).saturating_sub(u64::from(run.low))
 }
 
-// What is left of a number where as many are taken away as the runs have ids.
+// A number minus the number of ids in the runs.
 fn less(number: u32, runs: &[Run]) -> u64
     ensures { result ≡ number - spans_of runs.now }
 {
@@ -76,7 +76,7 @@ fn less(number: u32, runs: &[Run]) -> u64
     left
 }
 
-/// How many counts up to this one are in no run of the replica.
+/// The number of counts up to this one that are in no run of the replica.
 pub(crate) fn missing_of(runs: &[Run], replica: Uuid, greatest: u32) -> u32
     requires { AreRuns runs.now }
     ensures { result ≡ greatest - count_by (is_of replica) (ids_of_runs runs.now) }
@@ -96,7 +96,7 @@ fn is_op_of(op: &Op, replica: Uuid) -> bool
     op.id().replica().cmp(&replica).is_eq()
 }
 
-// How many operations are of lesser replicas.
+// The number of operations of lesser replicas.
 fn ops_below(ops: &[Op], replica: Uuid) -> usize
     requires { ById ops.now }
     ensures bound { result ≤ length ops.now }
@@ -105,14 +105,14 @@ fn ops_below(ops: &[Op], replica: Uuid) -> usize
     ops.partition_point(|op| is_op_below(op, replica))
 }
 
-// How many operations at the front are of the replica.
+// The number of leading operations of the replica.
 fn leading_ops(ops: &[Op], replica: Uuid) -> usize
     ensures { result ≡ prefix_len (is_op_of replica) ops.now }
 {
     ops.iter().take_while(|op| is_op_of(op, replica)).count()
 }
 
-/// How many operations are of the replica.
+/// The number of operations of the replica.
 pub(crate) fn count_of(ops: &[Op], replica: Uuid) -> usize
     requires { ById ops.now }
     ensures { result ≡ count_by (is_op_of replica) ops.now }

@@ -21,7 +21,7 @@ pub struct OfficeFigures {
     pub kept: usize,
 }
 
-/// The offices of which an id was seen, by replica.
+/// The offices with a seen id, ordered by replica.
 pub fn offices(alloc: Global, register: &Register) -> Result<Vec<OfficeFigures>, AllocError>
     ensures { IfOk result (λ made. AreOffices register.now made.items) }
 {

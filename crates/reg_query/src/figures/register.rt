@@ -23,7 +23,7 @@ pub struct Figures {
     pub retired: usize,
     /// Keys in conflict.
     pub conflicts: usize,
-    /// Ids that operations name, and that were not entered.
+    /// Awaited ids: named by operations, and not entered.
     pub awaited: usize,
     /// Ranges of missing counts.
     pub gaps: usize,
@@ -49,7 +49,7 @@ pub fn figures_of(alloc: Global, register: &Register) -> Result<Figures, AllocEr
     })
 }
 
-/// How many entries, and how many of each status.
+/// The numbers of entries, in all and of each status.
 #[derive(Clone, Copy)]
 pub(crate) struct Counts {
     entries: usize,
@@ -78,7 +78,7 @@ fn statuses_of(alloc: Global, register: &Register) -> Result<Vec<Status>, AllocE
     Ok(made)
 }
 
-// Puts the status of an entry at the end, where the operation enters one.
+// Appends the status of the entry, if the operation enters one.
 fn push_status(statuses: &mut Vec<Status>, register: &Register, op: &Op) -> Result<(), AllocError>
     requires { set.contains register.now.ops op.now ≡ true }
     ensures { OnOk result (map (λ t. Some t) statuses.new.items ≡ map (λ t. Some t) statuses.old.items ++ map status_in (rows_at register.now.ops op.now.id op.now.body)) }

@@ -9,7 +9,7 @@ use reg_seen::Run;
 use std::alloc::{AllocError, Global};
 use uuid::Uuid;
 
-// The replicas in their order, each once.
+// The replicas in order, each once.
 fn distinct(replicas: Vec<Uuid>) -> Vec<Uuid>
     ensures { result.items ≡ set.items (set.from_list {R = replica_cmp} replicas.items) }
 {
@@ -19,7 +19,7 @@ fn distinct(replicas: Vec<Uuid>) -> Vec<Uuid>
     made
 }
 
-/// The replicas of some runs in their order, each once.
+/// The replicas of some runs in order, each once.
 pub(crate) fn replicas_of(alloc: Global, runs: &[Run]) -> Result<Vec<Uuid>, AllocError>
     requires { AreRuns runs.now }
     ensures { IfOk result (λ replicas. replicas.items ≡ set.items (replicas_of (seen_of runs.now))) }

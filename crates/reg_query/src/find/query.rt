@@ -1,4 +1,4 @@
-//! What is asked of an entry.
+//! Queries of a search.
 
 ghost use Rattle.std.specs.Prelude.{◌≡◌, ◌↔◌, ◌++◌, ◌∷◌, IsTrue, IfSome, Some};
 ghost use Rattle.reg_office.specs.Conflicts.{bytes_of};
@@ -10,7 +10,7 @@ use crs_part::Text;
 use crs_value::Key;
 use reg_op::Status;
 
-/// The statuses that are asked for.
+/// The statuses of a query.
 #[derive(Clone, Copy, Debug, PartialEq, Eq)]
 pub enum Wanted {
     Valid,
@@ -20,19 +20,19 @@ pub enum Wanted {
     Live,
 }
 
-/// What is asked of an entry: all that is named.
+/// A query: an entry has to meet all criteria that are given.
 #[derive(Clone, Copy)]
 pub struct Query<'a> {
     /// The authority, a colon and the code.
     pub key: Option<&'a str>,
     pub authority: Option<&'a str>,
     pub code: Option<&'a str>,
-    /// A part of the name, letters A to Z alike in either case.
+    /// A part of the name; letters A to Z match in either case.
     pub name: Option<&'a str>,
     pub status: Option<Wanted>,
 }
 
-/// Whether an entry of this key, this name and this status has all that is asked.
+/// Whether an entry with this key, name and status meets the query.
 pub(crate) fn meets(query: &Query<'_>, key: &Key, name: &Text, status: Status) -> bool
     ensures { IsTrue result ↔ Meets query.now (bytes_of key.now) name.now.bytes (Some status) }
 {

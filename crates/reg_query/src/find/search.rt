@@ -1,4 +1,4 @@
-//! The entries that have all that is asked.
+//! The entries that meet a query.
 
 ghost use Rattle.std.specs.Prelude.{◌≡◌, map, IfOk};
 ghost use Rattle.reg_op.specs.Rows.{rows};
@@ -26,7 +26,7 @@ fn keep_found(rows: &mut Vec<Row>, query: &Query<'_>)
     rows.retain(|row| is_met(query, row));
 }
 
-/// The rows of the entries that have all that is asked, by id.
+/// The rows of the entries that meet the query, ordered by id.
 pub fn found(alloc: Global, register: &Register, query: &Query<'_>) -> Result<Vec<Row>, AllocError>
     ensures { IfOk result (λ made. AreFound query.now (rows register.now.ops) (map row_seen made.items)) }
 {
@@ -35,7 +35,7 @@ pub fn found(alloc: Global, register: &Register, query: &Query<'_>) -> Result<Ve
     Ok(rows)
 }
 
-/// The lines of these rows as the report of entries has them, after that report's header.
+/// The report of entries of these rows, with the header.
 pub fn found_text(
     alloc: Global,
     register: &Register,

@@ -1,4 +1,4 @@
-//! Texts, compared with what is asked of them.
+//! Comparisons of texts.
 
 ghost use Rattle.std.specs.Prelude.{◌≡◌, ◌↔◌, ◌++◌, ◌∷◌, IsTrue};
 ghost use Rattle.reg_query.specs.NameParts.{BeginsWith, HasPart};
@@ -16,7 +16,7 @@ pub(crate) fn is_key_text(asked: &[u8], authority: &[u8], code: &[u8]) -> bool
     rest == code
 }
 
-/// Whether the name has the part in it, letters A to Z alike in either case.
+/// Whether the name contains the part; letters A to Z match in either case.
 pub(crate) fn has_part(name: &[u8], part: &[u8]) -> bool
     ensures { IsTrue result ↔ HasPart part.now name.now }
 {
