@@ -1,5 +1,5 @@
 use Rattle.std.proofs.Common.{List, ℕ, refl, subst, map, inl, inr}
-use Rattle.std.specs.declared.option.Option.{Option, None}
+use Rattle.std.specs.declared.option.Option.{Option}
 use Rattle.byte_io.specs.Whole.{WritesAll}
 use Rattle.reg_desk.specs.declared.import.fault.Unimported.{Unimported}
 use Rattle.reg_desk.specs.Import.{IsReady, IsUnready}
