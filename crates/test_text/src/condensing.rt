@@ -53,6 +53,12 @@ fn numbers_get_their_canonical_spelling(rt: HostRuntime) {
 }
 
 #[test]
+fn numbers_that_take_much_more_room_end_it(rt: HostRuntime) {
+    assert!(rt; is_condensed(rt.alloc(), b"A[1e9,-1E-9]", b"A[1000000000,-0.000000001]"));
+    assert!(rt; condense(rt.alloc(), b"A[1e40,1e40,1e40,1e40,1e40]").is_none());
+}
+
+#[test]
 fn blanks_elsewhere_end_it(rt: HostRuntime) {
     for text in [
         b"A[\"b\" \"c\"]".as_slice(),

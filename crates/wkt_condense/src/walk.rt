@@ -12,8 +12,12 @@ use std::alloc::Global;
 /// The most bytes of a text.
 const MOST: usize = 1_048_576;
 
+/// By how many bytes the condensed text may be longer than the text.
+const SPARE: usize = 64;
+
 /// The text without blanks beside delimiters, commas and its ends, and with each number in its canonical spelling; or none,
-/// where blanks or bytes that no text has stand elsewhere, or where memory runs out. Each value that it spells, the text spells.
+/// where blanks stand elsewhere, where numbers make it much longer, or where memory runs out. Each value that it spells, the
+/// text spells.
 pub fn condense(alloc: Global, text: &[u8]) -> Option<Vec<u8>>
     ensures is { IfSome result (λ condensed. IsCondensed text.now condensed.items) }
     ensures reads { IfSome result (λ condensed. IsReadAs text.now condensed.items) }
@@ -28,7 +32,7 @@ pub fn condense(alloc: Global, text: &[u8]) -> Option<Vec<u8>>
 fn go_over(alloc: Global, text: &[u8]) -> Option<Vec<u8>>
     ensures { IfSome result (λ condensed. IsCondensed text.now condensed.items) }
 {
-    let mut condensed = Vec::with_capacity(alloc, text.len()).ok()?;
+    let mut condensed = Vec::with_capacity(alloc, room(text)).ok()?;
     let mut shut = true;
     let mut from = 0;
     let mut at = 0;
@@ -63,7 +67,13 @@ fn go_over(alloc: Global, text: &[u8]) -> Option<Vec<u8>>
     }
 }
 
-/// Appends the bytes from one place up to another, or answers false.
+/// The most bytes of the condensed text, but for its last number. A text of many `1e40` would take ten times its bytes.
+#[inline(always)]
+fn room(text: &[u8]) -> usize {
+    text.len().saturating_add(SPARE)
+}
+
+/// Appends the bytes from one place up to another, or answers false where there is no room for them.
 #[inline(always)]
 fn copy(condensed: &mut Vec<u8>, text: &[u8], from: usize, at: usize) -> bool
     requires order { from ≤ at }
@@ -72,5 +82,8 @@ fn copy(condensed: &mut Vec<u8>, text: &[u8], from: usize, at: usize) -> bool
 {
     let (_, rest) = text.split_at(from);
     let (kept, _) = rest.split_at(at - from);
+    if kept.len() > room(text).saturating_sub(condensed.len()) {
+        return false;
+    }
     condensed.extend_from_slice(kept).is_ok()
 }
