@@ -2,10 +2,11 @@
 use crate::outcome::Outcome;
 use crate::stores::{Opened, change_of, next_file, open_to_change};
 use crate::words::{differs, entries, entry, is_twice, open, open_texts, place, replica, word};
+use byte_out::Place;
 use clap::ArgMatches;
 use reg_desk::{
     CliFault, Enter, InFile, Kept, OfFile, OnShelf, Order, Reading, Retire, Settle, SettleEqual,
-    Supersede, Unimported, Writing, explained_fault, run_import, try_import,
+    Source, Supersede, Unimported, Writing, explained_fault, run_import, try_import,
 };
 use std::alloc::{AllocError, Global};
 use std::fs::OpenFile;
@@ -171,10 +172,20 @@ fn import_into<F: Read + Write + Seek + OpenFile>(
         Ok(place) => place,
         Err(fault) => return Outcome::Fault(fault),
     };
-    let mut store = InFile {
-        source,
-        place: &mut place,
-    };
     let mut sink = Writing::new(io::writer(rt));
-    Outcome::of_import(run_import(rt.alloc(), &mut store, files, order, &mut sink))
+    let answer = import_file(rt.alloc(), source, &mut place, files, order, &mut sink);
+    Outcome::of_import(answer)
+}
+
+// The file is read in one place and written in another.
+fn import_file<'a, S: Source, T: Source, P: Place, W: Write>(
+    alloc: Global,
+    source: &'a mut S,
+    place: &'a mut P,
+    files: &mut [T],
+    order: &Order<'_>,
+    sink: &mut Writing<W>,
+) -> Result<(), Unimported> {
+    let mut store = InFile { source, place };
+    run_import(alloc, &mut store, files, order, sink)
 }

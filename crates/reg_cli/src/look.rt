@@ -170,7 +170,7 @@ fn opened_shelves<R: Files>(
 /// `diff`.
 pub fn diff(rt: &HostRuntime, matches: &ArgMatches<'_>) -> Outcome {
     match compare(rt, matches) {
-        Ok(true) if matches.get_flag("exit-code") => Outcome::Differs,
+        Ok(differs) if differs && matches.get_flag("exit-code") => Outcome::Differs,
         Ok(_) => Outcome::Done,
         Err(fault) => Outcome::Fault(fault),
     }

@@ -1,10 +1,12 @@
 //! The register that a command names: opened in its file, or on its shelf with `--shelf`, and given to the command.
 use crate::words::{open, open_shelf, open_to_read, place, word};
+use byte_out::Place;
 use clap::ArgMatches;
 use reg_desk::{
-    Change, CliFault, FileDisk, Give, InFile, OfFile, OnShelf, Print, Reading, Writing, run_change,
-    run_give, run_print,
+    Change, CliFault, FileDisk, Give, InFile, OfFile, OnShelf, Print, Reading, Source, Writing,
+    run_change, run_give, run_print,
 };
+use std::alloc::Global;
 use std::fs::OpenFile;
 use std::io::{self, Read, Seek, Write};
 use std::rt::Files;
@@ -105,15 +107,23 @@ pub fn change_of<F: Read + Write + Seek + OpenFile, C: Change>(
     match register {
         Opened::File(source) => {
             let mut place = place(rt, rt.alloc(), word(matches, "out"))?;
-            let mut store = InFile {
-                source,
-                place: &mut place,
-            };
-            run_change(rt.alloc(), &mut store, command, &mut sink)
+            change_file(rt.alloc(), source, &mut place, command, &mut sink)
         }
         Opened::Shelf(disk) => {
             let mut store = OnShelf { disk };
             run_change(rt.alloc(), &mut store, command, &mut sink)
         }
     }
+}
+
+// The file is read in one place and written in another.
+fn change_file<'a, S: Source, P: Place, C: Change, W: Write>(
+    alloc: Global,
+    source: &'a mut S,
+    place: &'a mut P,
+    command: &mut C,
+    sink: &mut Writing<W>,
+) -> Result<(), CliFault> {
+    let mut store = InFile { source, place };
+    run_change(alloc, &mut store, command, sink)
 }
