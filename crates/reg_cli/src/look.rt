@@ -41,15 +41,19 @@ fn check_from<S: Source + Drop>(
 
 /// `show`.
 pub fn show(rt: &HostRuntime, matches: &ArgMatches<'_>) -> Result<(), CliFault> {
-    let entry = entry(word(matches, "ENTRY"))?;
-    print_of(rt, matches, &Show { entry })
+    match entry(word(matches, "ENTRY")) {
+        Ok(entry) => print_of(rt, matches, &Show { entry }),
+        Err(fault) => Err(fault),
+    }
 }
 
 /// `wkt`.
 pub fn wkt(rt: &HostRuntime, matches: &ArgMatches<'_>) -> Result<(), CliFault> {
-    let entry = entry(word(matches, "ENTRY"))?;
     let form = form(matches);
-    print_of(rt, matches, &Wkt { entry, form })
+    match entry(word(matches, "ENTRY")) {
+        Ok(entry) => print_of(rt, matches, &Wkt { entry, form }),
+        Err(fault) => Err(fault),
+    }
 }
 
 /// `export`.
