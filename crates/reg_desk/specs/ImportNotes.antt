@@ -14,16 +14,20 @@ name_of names file = unwrap_or (slice_get names file) []
 abbrev pub content_of : List (List ℕ) → ℕ → List ℕ
 content_of files file = unwrap_or (slice_get files file) []
 
--- of a text that was not read, the explanation of what is wrong with it, in its file
+-- of a text that was not read, the explanation of what is wrong with it, in the file of this name and these bytes
+abbrev pub note_in : List ℕ → List ℕ → TextAt → Told → List ℕ
+note_in name file c (told.Refused (problem.Unread f)) = explanation name file c.place (c.place + length c.bytes) f
+note_in name file c (told.Refused (problem.KeyTaken i)) = []
+note_in name file c (told.Same i) = []
+note_in name file c (told.Superseded i) = []
+note_in name file c (told.Entered i) = []
+note_in name file c (told.Beside i) = []
+note_in name file c (told.Revised i) = []
+note_in name file c told.Spent = []
+
+-- the same, in its file among those that were given
 abbrev pub note_of : List (List ℕ) → List (List ℕ) → TextAt → Told → List ℕ
-note_of names files c (told.Refused (problem.Unread f)) = explanation (name_of names c.file) (content_of files c.file) c.place (c.place + length c.bytes) f
-note_of names files c (told.Refused (problem.KeyTaken i)) = []
-note_of names files c (told.Same i) = []
-note_of names files c (told.Superseded i) = []
-note_of names files c (told.Entered i) = []
-note_of names files c (told.Beside i) = []
-note_of names files c (told.Revised i) = []
-note_of names files c told.Spent = []
+note_of names files c t = note_in (name_of names c.file) (content_of files c.file) c t
 
 -- of each text, one after another
 abbrev pub notes_of : List (List ℕ) → List (List ℕ) → List TextAt → List Told → List ℕ

@@ -4,13 +4,13 @@ ghost use Rattle.std.specs.Prelude.{◌≡◌, ◌++◌, [], map, IfOk, OnOk};
 ghost use Rattle.std.specs.String.{string_bytes};
 ghost use Rattle.reg_desk.specs.ImportFiles.{bytes_of};
 ghost use Rattle.reg_desk.specs.ImportTexts.{text_at};
-ghost use Rattle.reg_desk.specs.ImportNotes.{name_of, content_of, note_of, notes_of};
+ghost use Rattle.reg_desk.specs.ImportNotes.{name_of, content_of, note_in, note_of, notes_of};
 
 use crate::import::texts::FileCut;
 use reg_import::{Problem, Told};
 use std::alloc::{AllocError, Global};
 use wkt_crs::DefinitionFault;
-use wkt_explain::explain_within;
+use wkt_explain::Explainer;
 
 fn name_of(names: &[String], file: usize) -> &str
     ensures { result.now ≡ name_of (map string_bytes names.now) file }
@@ -30,29 +30,39 @@ fn content_of(files: &[Vec<u8>], file: usize) -> &[u8]
     }
 }
 
-// The explanation of the fault of a text, in its file.
+// The explanation of the fault of a text, by the explainer of its file.
 fn explained(
     alloc: Global,
-    names: &[String],
-    files: &[Vec<u8>],
+    name: &str,
+    explainer: &mut Explainer<'_>,
     cut: &FileCut<'_>,
     fault: DefinitionFault,
 ) -> Result<Vec<u8>, AllocError>
-    ensures { IfOk result (λ note. note.items ≡ note_of (map string_bytes names.now) (bytes_of files.now) (text_at cut.now) (Told.Refused (Problem.Unread fault))) }
+    ensures note { IfOk result (λ note. note.items ≡ note_in name.now explainer.old (text_at cut.now) (Told.Refused (Problem.Unread fault))) }
+    ensures file { explainer.new ≡ explainer.old }
 {
     // Places are smaller, since files are in memory.
     let Some(end) = cut.place.checked_add(cut.bytes.len()) else {
         return Err(AllocError);
     };
-    let name = name_of(names, cut.file);
-    explain_within(
-        alloc,
-        name,
-        content_of(files, cut.file),
-        cut.place,
-        end,
-        fault,
-    )
+    explainer.explain(alloc, name, cut.place, end, fault)
+}
+
+// The explanation for the outcome of a text, by the explainer of its file.
+fn note_by(
+    alloc: Global,
+    name: &str,
+    explainer: &mut Explainer<'_>,
+    cut: &FileCut<'_>,
+    told: Told,
+) -> Result<Vec<u8>, AllocError>
+    ensures note { IfOk result (λ note. note.items ≡ note_in name.now explainer.old (text_at cut.now) told) }
+    ensures file { explainer.new ≡ explainer.old }
+{
+    match told {
+        Told::Refused(Problem::Unread(fault)) => explained(alloc, name, explainer, cut, fault),
+        _ => Ok(Vec::new(alloc)),
+    }
 }
 
 /// The explanation for the outcome of a text.
@@ -65,13 +75,11 @@ pub fn note_of(
 ) -> Result<Vec<u8>, AllocError>
     ensures { IfOk result (λ note. note.items ≡ note_of (map string_bytes names.now) (bytes_of files.now) (text_at cut.now) told) }
 {
-    match told {
-        Told::Refused(Problem::Unread(fault)) => explained(alloc, names, files, cut, fault),
-        _ => Ok(Vec::new(alloc)),
-    }
+    let mut explainer = Explainer::new(content_of(files, cut.file));
+    note_by(alloc, name_of(names, cut.file), &mut explainer, cut, told)
 }
 
-/// The explanations of all, in order.
+/// The explanations of all texts, in order. Texts of one file are adjacent, so each file is read once.
 pub fn notes_of(
     alloc: Global,
     names: &[String],
@@ -82,8 +90,15 @@ pub fn notes_of(
     ensures { IfOk result (λ notes. notes.items ≡ notes_of (map string_bytes names.now) (bytes_of files.now) (map text_at cuts.now) told.now) }
 {
     let mut notes = Vec::new(alloc);
+    let mut file = 0;
+    let mut explainer = Explainer::new(content_of(files, 0));
     for i in 0..cuts.len().min(told.len()) {
-        let note = note_of(alloc, names, files, &cuts[i], told[i])?;
+        if cuts[i].file != file {
+            file = cuts[i].file;
+            explainer = Explainer::new(content_of(files, file));
+        }
+        let name = name_of(names, file);
+        let note = note_by(alloc, name, &mut explainer, &cuts[i], told[i])?;
         notes.extend_from_slice(&note)?;
     }
     Ok(notes)

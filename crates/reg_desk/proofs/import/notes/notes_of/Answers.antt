@@ -7,4 +7,4 @@ use Rattle.reg_desk.proofs.import.notes.notes_of.Goals as goal
 pub returns : goal.returns
 returns c =
     let past : min (length c.args.cuts.now) (length c.args.told.now) ≤ c.loop-i.i = omega (arith, c.loop-i-test.false, c.min-i-end.ensures) in
-    notes_done c.loop-i.notes.items _ _ (none_left (map string_bytes c.args.names.now) (bytes_of c.args.files.now) c.args.cuts.now c.args.told.now c.loop-i.i past) c.loop-i.invariant
+    notes_done c.loop-i.notes.items _ _ (none_left (map string_bytes c.args.names.now) (bytes_of c.args.files.now) c.args.cuts.now c.args.told.now c.loop-i.i past) c.loop-i.invariant.1
