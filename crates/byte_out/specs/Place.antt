@@ -20,7 +20,7 @@ pub record Files : Type 0 where
   -- how often the new file could not be removed
   pub stuck : ℕ
 
--- the counts of calls and the bytes written to the new file; and the files, if they are told
+-- the counts of calls and the bytes written to the new file; and the files, if the place reports them
 pub record PlaceState : Type 0 where
   pub sink : SinkState
   pub files : Option Files
@@ -29,7 +29,7 @@ pub record PlaceState : Type 0 where
 abbrev pub untold : SinkState → PlaceState
 untold sink = record { sink = sink; files = None }
 
--- the files changed in this way, if they are told
+-- the files changed in this way, if the place reports them
 abbrev pub Told : (Files → Files → Type 0) → Option Files → Option Files → Type 0
 Told P None new = ⊤
 Told P (Some old) None = ⊥

@@ -1,4 +1,4 @@
--- What is said of the arguments of a node is said of those that are alike.
+-- Arguments of a node that are alike denote the same.
 use Rattle.std.proofs.Common.{◌≡◌, ℕ, List, [], ◌∷◌, ◌++◌, length, map, Option, Some, None, Bool, true, false, refl, sym, ap, ◌∙◌, subst, arith}
 use Rattle.std.specs.List.{AllPass}
 use Rattle.crs_number.specs.Numeral.{Spells}
@@ -18,7 +18,7 @@ use Rattle.wkt_meaning.specs.Runs.{Fields, nothing, ◌&◌, Meets, Runs, IsNode
 use Rattle.wkt_meaning.specs.Leaves.{DenotesText, DenotesNumber, DenotesCount, DenotesWord}
 use Rattle.wkt_condense.specs.Alike.{SameNumber, Alike, AllAlike}
 
--- what is said of a tree and a value is said of a tree that is alike
+-- trees that are alike denote the same value
 abbrev pub Moves : {A : Type 0} → (Bare → A → Type 0) → Type 0
 Moves {A} D = (x y : Bare) (v : A) → Alike x y → D x v → D y v
 

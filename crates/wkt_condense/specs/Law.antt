@@ -1,4 +1,4 @@
--- What a condensed text tells of the text.
+-- Each reading of a condensed text is a reading of the text.
 use Rattle.std.specs.Prelude.{ℕ, List}
 use Rattle.wkt_tree.specs.Tree.{Item, tokens}
 use Rattle.wkt_tree.specs.Faults.{IsOutline}
@@ -13,7 +13,7 @@ pub record IsTreeAlike (text : List ℕ) (i : Item) : Type 0 where
   pub outline : IsOutline text (tokens item)
   pub same : Alike (bare i) (bare item)
 
--- with the tokens of whichever tree the other is written, the text is written with those of the same
+-- if the other text is written with the tokens of a tree, the text is written with those of a tree that is the same
 abbrev pub IsWrittenAs : List ℕ → List ℕ → Type 0
 IsWrittenAs text other = (i : Item) → IsOutline other (tokens i) → IsTreeAlike text i
 

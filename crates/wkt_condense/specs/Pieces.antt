@@ -17,11 +17,11 @@ is_plain b = not (is_blank b) && not (is_mark b)
 abbrev pub is_inner : ℕ → Bool
 is_inner b = is_plain b && not (is_delimiter b)
 
--- what stands before, outside quoted texts
+-- what precedes, outside quoted texts
 abbrev pub before : Bool → Before
 before shut = if shut then delimiter else other
 
--- where the rest is condensed to some bytes, all is condensed to these first and then those
+-- if the rest is condensed to some bytes, all is condensed to the first bytes followed by those
 abbrev pub Leads : Before → List ℕ → List ℕ → Before → List ℕ → Type 0
 Leads p bytes first q rest = (c : List ℕ) → Condenses q rest c → Condenses p bytes (first ++ c)
 

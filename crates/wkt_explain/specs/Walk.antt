@@ -1,4 +1,4 @@
--- How a walk through a file stands before a place.
+-- The state of a walk through a file, at a place.
 use Rattle.std.specs.Prelude.{◌≡◌, ◌⊎◌, ◌+◌, ◌≤◌, ◌++◌, ℕ, true, List, take, drop}
 use Rattle.std.specs.List.{list_all}
 use Rattle.wkt_explain.specs.Characters.{chars}
@@ -6,7 +6,7 @@ use Rattle.wkt_explain.specs.Position.{goes_on, first_line, last_line, line_numb
 use Rattle.wkt_explain.specs.Shown.{shown_lines}
 use Rattle.wkt_explain.specs.declared.walk.Spot.{Spot}
 
--- some bytes are whole characters, whatever part is taken of what stands behind them
+-- the bytes end at the end of a character, whatever prefix of the following bytes is added
 abbrev pub AreWhole : List ℕ → List ℕ → Type 0
 AreWhole bytes behind = (n : ℕ) → chars (bytes ++ take n behind) ≡ chars bytes ++ chars (take n behind)
 
@@ -14,7 +14,7 @@ AreWhole bytes behind = (n : ℕ) → chars (bytes ++ take n behind) ≡ chars b
 abbrev pub IsInLine : List ℕ → ℕ → ℕ → Type 0
 IsInLine file at place = (at ≤ place) × (list_all goes_on (text_in file at place) ≡ true)
 
--- nothing stands before the one place in its line, or the other is 320 bytes away or more
+-- no byte of the line was passed, or the place is at least 320 bytes further on
 abbrev pub IsFar : ℕ → ℕ → ℕ → Type 0
 IsFar passed at place = (passed ≡ 0) ⊎ (at + 320 ≤ place)
 
