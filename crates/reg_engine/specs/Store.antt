@@ -1,4 +1,4 @@
--- Where a command finds its register, and where it leaves the one that it makes.
+-- Where a command reads its register, and where it keeps the one that it makes.
 use Rattle.std.specs.Prelude.{◌≡◌, ◌⊎◌, ℕ, List}
 use Rattle.byte_io.specs.Device.{SourceState, SinkState}
 use Rattle.byte_io.specs.Whole.{WritesAll, IsCutAt}
@@ -33,12 +33,12 @@ in_file source place next after = record {
   unleft = λ x y f. Finds source next x × IsUnpublished y place after f;
 }
 
--- a register's file that is only read
+-- a register's file that is only read, so it never has another register
 abbrev pub of_file : SourceState → SourceState → Around
 of_file source next = record {
   came = λ x. Finds source next x;
   none = λ f. IsUnread 1 source next f;
-  left = λ x y. Finds source next x;
+  left = λ x y. ⊥;
   unleft = λ x y f. ⊥;
 }
 
@@ -53,39 +53,39 @@ on_shelf d old new = record {
 
 -- ---- a command that prints something of a register
 
--- exactly the first bytes of the text went out
+-- exactly the first bytes of the text were written
 abbrev pub AreCut : List ℕ → SinkState → SinkState → CliFault → Type 0
 AreCut text before after (cli.Out (out.WriteFailed n)) = IsCutAt n text before after
 AreCut text before after f = ⊥
 
--- a register came in, and a text of it went out
+-- a register was read, and a text of it was written
 abbrev pub IsPrinted : Around → (Content → List ℕ → Type 0) → SinkState → SinkState → Type 0
 IsPrinted a Prints before after = (x : Content) × a.came x × ((text : List ℕ) × Prints x text × WritesAll text before after)
 
--- none came in; or there is no text of it; or not all of the text went out
+-- none was read; or there is no text of it; or not all of the text was written
 abbrev pub IsUnprinted : Around → (Content → List ℕ → Type 0) → (Content → CliFault → Type 0) → SinkState → SinkState → CliFault → Type 0
 IsUnprinted a Prints Refuses before after f = (a.none f × (after ≡ before))
     ⊎ ((x : Content) × a.came x × ((Refuses x f × (after ≡ before)) ⊎ ((text : List ℕ) × Prints x text × AreCut text before after f)))
 
 -- ---- a command that writes a file of a register
 
--- a register came in, and a file of it stands at the place
+-- a register was read, and a file of it is in the place
 abbrev pub IsGiven : Around → (Content → List ℕ → Type 0) → PlaceState → PlaceState → Type 0
 IsGiven a Gives before after = (x : Content) × a.came x × ((bytes : List ℕ) × Gives x bytes × Replaces bytes before after)
 
--- none came in, and nothing else was read; or there is no file of it; or the file does not stand there
+-- none was read, and nothing else was; or there is no file of it; or the file is not in the place
 abbrev pub IsUngiven : Around → (Content → List ℕ → Type 0) → (Content → CliFault → Type 0) → Type 0 → PlaceState → PlaceState → CliFault → Type 0
 IsUngiven a Gives Refuses Unread before after f = (a.none f × Unread × (after ≡ before))
     ⊎ ((x : Content) × a.came x × ((Refuses x f × (after ≡ before)) ⊎ ((bytes : List ℕ) × Gives x bytes × IsUnpublishedOf bytes before after f)))
 
 -- ---- a command that changes a register
 
--- a register came in; the one that is made of it is left, and then the lines went out
+-- a register was read; the one that is made of it is kept, and then the lines were written
 abbrev pub IsChanged : Around → (Content → Content → List ℕ → Type 0) → SinkState → SinkState → Type 0
 IsChanged a Makes before after = (x : Content) × (y : Content) × (lines : List ℕ) × Makes x y lines × a.left x y × WritesAll lines before after
 
--- none came in, and nothing else was read; or none is made of it; or the one that is made is not left; or it is, and not
--- all of the lines went out
+-- none was read, and nothing else was; or none is made of it; or the one that is made is not kept; or it is, and not all
+-- of the lines were written
 abbrev pub IsUnchanged : Around → (Content → Content → List ℕ → Type 0) → (Content → CliFault → Type 0) → Type 0 → SinkState → SinkState → CliFault → Type 0
 IsUnchanged a Makes Refuses Unread before after f = (a.none f × Unread × (after ≡ before))
     ⊎ (((x : Content) × a.came x × Refuses x f × (after ≡ before))
