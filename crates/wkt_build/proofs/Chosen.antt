@@ -27,9 +27,9 @@ use Rattle.wkt_grammar.specs.declared.table.Takes.TheVariants as kinds
 use Rattle.wkt_grammar.specs.Rows.{enters}
 use Rattle.wkt_grammar.specs.Words.{keyword_of}
 use Rattle.wkt_grammar.specs.Bare.{Bare, Bares, text, number, word, node, bare}
-use Rattle.wkt_meaning.specs.SecondEdition.{Fitted, Fitting}
-use Rattle.wkt_meaning.specs.Runs.{Fields, IsNode}
-use Rattle.wkt_meaning.specs.Denotes.{unit_fields, DenotesUnit, DenotesLengthUnit, DenotesAngleUnit, datum_fields, geodetic_ensemble_fields, DenotesGeodeticFrame, vertical_datum_fields, vertical_ensemble_fields, DenotesVerticalFrame, base_fields, DenotesBase, geodetic_fields, projected_fields, vertical_fields, DenotesSingle, compound_fields, DenotesParts, base_keyword, geodetic_keyword}
+use Rattle.wkt_grammar.specs.SecondEdition.{Fitted, Fitting}
+use Rattle.wkt_grammar.specs.Runs.{Fields, IsNode}
+use Rattle.wkt_grammar.specs.Denotes.{unit_fields, DenotesUnit, DenotesLengthUnit, DenotesAngleUnit, datum_fields, geodetic_ensemble_fields, DenotesGeodeticFrame, vertical_datum_fields, vertical_ensemble_fields, DenotesVerticalFrame, base_fields, DenotesBase, geodetic_fields, projected_fields, vertical_fields, DenotesSingle, compound_fields, DenotesParts, base_keyword, geodetic_keyword}
 use Rattle.wkt_build.specs.Reads.{Next, BuildsNode}
 use Rattle.wkt_build.specs.Single.{IsSingle}
 use Rattle.wkt_build.specs.Choices.{next_keyword, unit_as, length_unit_as, angle_unit_as, geodetic_kind_of, is_ensemble, is_projected, is_vertical, is_compound}

@@ -8,10 +8,10 @@ use Rattle.wkt_grammar.specs.declared.table.Node.TheVariants as nodes
 use Rattle.wkt_grammar.specs.declared.table.Takes.TheVariants as kinds
 use Rattle.wkt_grammar.specs.declared.table.Often.TheVariants.{AtMostOnce, AtLeastOnce}
 use Rattle.wkt_grammar.specs.Walk.{is_clear}
-use Rattle.wkt_meaning.specs.Runs.{Fields}
-use Rattle.wkt_meaning.specs.Denotes.{DenotesSystem, DenotesAxis, DenotesUnit}
-use Rattle.wkt_meaning.proofs.Nodes.{axis_law, system_law, unit_law}
-use Rattle.wkt_meaning.proofs.Rows.{slot}
+use Rattle.wkt_grammar.specs.Runs.{Fields}
+use Rattle.wkt_grammar.specs.Denotes.{DenotesSystem, DenotesAxis, DenotesUnit}
+use Rattle.wkt_grammar.proofs.Nodes.{axis_law, system_law, unit_law}
+use Rattle.wkt_grammar.proofs.NodeRows.{slot}
 use Rattle.wkt_build.specs.Reads.{comes}
 use Rattle.wkt_build.specs.Rest.{Reads, coordinates_fields, from_coordinates}
 use Rattle.wkt_build.specs.declared.ending.Coordinates.{Coordinates}

@@ -26,11 +26,11 @@ use Rattle.wkt_grammar.specs.Rows.{takes}
 use Rattle.wkt_grammar.specs.Words.{keyword_of, is_cs_kind, is_direction}
 use Rattle.wkt_grammar.specs.Slots.{argument_by}
 use Rattle.wkt_grammar.specs.Bare.{Bare, text, bare, shape}
-use Rattle.wkt_meaning.specs.SecondEdition.{Fitting}
-use Rattle.wkt_meaning.specs.Leaves.{undoubled, DenotesText, DenotesNumber, DenotesCount, DenotesWord}
+use Rattle.wkt_grammar.specs.SecondEdition.{Fitting}
+use Rattle.wkt_grammar.specs.Leaves.{undoubled, DenotesText, DenotesNumber, DenotesCount, DenotesWord}
 use Rattle.crs_part.specs.Words.{system_word, direction_word, first_word, kinds_listed, directions_listed}
-use Rattle.wkt_meaning.specs.Denotes.{DenotesCode}
-use Rattle.wkt_meaning.proofs.Leaves.{undoubled-quoted}
+use Rattle.wkt_grammar.specs.Denotes.{DenotesCode}
+use Rattle.wkt_grammar.proofs.Leaves.{undoubled-quoted}
 use Rattle.wkt_build.specs.Reads.{Next}
 use Rattle.wkt_build.specs.Leaves.{TakesNumber, TakesText, TakesCount, TakesWord, next_is_number}
 

@@ -3,7 +3,7 @@ use Rattle.std.proofs.Common.{◌≡◌, ℕ, zero, suc, ◌+◌, ◌<◌, true,
 use Rattle.std.specs.Prelude.{position}
 use Rattle.std.proofs.lemmas.List.Quantifiers.{position-Some}
 use Rattle.wkt_tree.specs.Tokens.{is_mark}
-use Rattle.wkt_meaning.specs.Leaves.{undoubled}
+use Rattle.wkt_grammar.specs.Leaves.{undoubled}
 
 -- bytes that are no marks, and then the mark at the end
 ended : (xs : List ℕ) (i : ℕ) → i + 1 ≡ length xs → is_mark (get_or xs i 0) ≡ true → ((k : ℕ) → k < i → is_mark (get_or xs k 0) ≡ false) → take i xs ≡ undoubled false xs

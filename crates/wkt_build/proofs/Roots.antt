@@ -7,9 +7,9 @@ use Rattle.wkt_grammar.specs.declared.table.Edition.TheVariants as editions
 use Rattle.wkt_grammar.specs.declared.table.Takes.TheVariants as kinds
 use Rattle.wkt_grammar.specs.declared.table.Node.TheVariants as nodes
 use Rattle.wkt_grammar.specs.Bare.{Bare, bare, and, none}
-use Rattle.wkt_meaning.specs.SecondEdition.{Fitting, AllFitting}
+use Rattle.wkt_grammar.specs.SecondEdition.{Fitting, AllFitting}
 use Rattle.wkt_grammar.proofs.Fitting.{clean_fitted, fitted_cuts}
-use Rattle.wkt_meaning.specs.Denotes.{DenotesParts}
+use Rattle.wkt_grammar.specs.Denotes.{DenotesParts}
 use Rattle.wkt_build.specs.Reads.{Builds}
 use Rattle.wkt_build.specs.Whole.{BuildsParts}
 

@@ -27,11 +27,11 @@ use Rattle.wkt_grammar.specs.Next.{next_is, is_open, Follows}
 use Rattle.wkt_grammar.specs.Bare.{Bare, Bares, text, number, word, node, args, bare, all_bare, shape}
 use Rattle.wkt_grammar.specs.Fitted.{entered}
 use Rattle.wkt_grammar.proofs.Fitting.{fitted_cuts, cuts_fits, passes_of}
-use Rattle.wkt_meaning.specs.SecondEdition.{row_of, Fitted, Fitting, AllFitting, Cuts}
-use Rattle.wkt_meaning.specs.Runs.{Fields, nothing, ◌&◌, Runs, IsNode, One, Maybe, Each, AtLeastOne}
-use Rattle.wkt_meaning.specs.Leaves.{DenotesCount}
-use Rattle.wkt_meaning.proofs.Leaves.{DenotesSmall}
-use Rattle.wkt_meaning.proofs.Rows.{slot, Law}
+use Rattle.wkt_grammar.specs.SecondEdition.{row_of, Fitted, Fitting, AllFitting, Cuts}
+use Rattle.wkt_grammar.specs.Runs.{Fields, nothing, ◌&◌, Runs, IsNode, One, Maybe, Each, AtLeastOne}
+use Rattle.wkt_grammar.specs.Leaves.{DenotesCount}
+use Rattle.wkt_grammar.proofs.Leaves.{DenotesSmall}
+use Rattle.wkt_grammar.proofs.NodeRows.{slot, Law}
 use Rattle.wkt_build.specs.Rest.{Ends, Reads}
 use Rattle.wkt_build.specs.Reads.{Next, Behind, Come, comes, BuildsNode}
 use Rattle.wkt_build.proofs.Steps.{comes_next}

@@ -8,9 +8,9 @@ use Rattle.wkt_grammar.specs.Rows.{takes}
 use Rattle.wkt_grammar.specs.Slots.{argument}
 use Rattle.wkt_grammar.specs.Next.{coming, Follows}
 use Rattle.wkt_grammar.specs.Bare.{Bare, shape}
-use Rattle.wkt_meaning.specs.SecondEdition.{Fitting, AllFitting}
+use Rattle.wkt_grammar.specs.SecondEdition.{Fitting, AllFitting}
 use Rattle.wkt_grammar.proofs.Fitting.{shape-bare}
-use Rattle.wkt_meaning.specs.Runs.{Each}
+use Rattle.wkt_grammar.specs.Runs.{Each}
 use Rattle.wkt_build.specs.Reads.{Next, Behind, comes}
 
 -- ---- which argument comes

@@ -8,7 +8,7 @@ use Rattle.wkt_tree.specs.declared.token.TokenKind.{TokenKind}
 use Rattle.wkt_tree.specs.declared.token.TokenKind.TheVariants.{Word, Quoted, Number, Comma, Open, Close}
 use Rattle.wkt_tree.specs.Tree.{Tok}
 use Rattle.wkt_tree.specs.Tokens.{IsQuoted}
-use Rattle.wkt_meaning.specs.Leaves.{undoubled, SameWord}
+use Rattle.wkt_grammar.specs.Leaves.{undoubled, SameWord}
 
 -- if a number token is next, it spells the decimal, and the tokens after it remain
 abbrev pub TakesNumber : List Tok → List Tok → Decimal → Type 0

@@ -9,8 +9,8 @@ use Rattle.wkt_grammar.specs.Rows.{takes}
 use Rattle.wkt_grammar.specs.Words.{keyword_of}
 use Rattle.wkt_grammar.specs.Next.{next_is, is_comma, coming, Follows}
 use Rattle.wkt_grammar.specs.Bare.{Bare, Bares, node, bare}
-use Rattle.wkt_meaning.specs.SecondEdition.{Fitted, Fitting, AllFitting}
-use Rattle.wkt_meaning.specs.Runs.{Fields, IsNode, Each}
+use Rattle.wkt_grammar.specs.SecondEdition.{Fitted, Fitting, AllFitting}
+use Rattle.wkt_grammar.specs.Runs.{Fields, IsNode, Each}
 
 -- the tokens are those of an item that is x, and then the rest
 pub record Next (x : Bare) (toks rest : List Tok) : Type 0 where

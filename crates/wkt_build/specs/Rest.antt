@@ -10,9 +10,9 @@ use Rattle.wkt_grammar.specs.declared.table.Node.TheVariants as nodes
 use Rattle.wkt_grammar.specs.declared.table.Takes.TheVariants as kinds
 use Rattle.wkt_grammar.specs.declared.table.Keyword.TheVariants as keywords
 use Rattle.wkt_grammar.specs.Bare.{Bare}
-use Rattle.wkt_meaning.specs.SecondEdition.{Cuts}
-use Rattle.wkt_meaning.specs.Runs.{Fields, nothing, ◌&◌, Runs, One, Maybe, Each, AtLeastOne}
-use Rattle.wkt_meaning.specs.Denotes.{DenotesSystem, DenotesAxis, DenotesUnit, DenotesAngleUnit, DenotesPrimeMeridian, DenotesUsage, DenotesIdent, DenotesNamed, DenotesValue}
+use Rattle.wkt_grammar.specs.SecondEdition.{Cuts}
+use Rattle.wkt_grammar.specs.Runs.{Fields, nothing, ◌&◌, Runs, One, Maybe, Each, AtLeastOne}
+use Rattle.wkt_grammar.specs.Denotes.{DenotesSystem, DenotesAxis, DenotesUnit, DenotesAngleUnit, DenotesPrimeMeridian, DenotesUsage, DenotesIdent, DenotesNamed, DenotesValue}
 use Rattle.wkt_build.specs.Reads.{Behind}
 use Rattle.wkt_build.specs.declared.ending.Coordinates.{Coordinates}
 use Rattle.wkt_build.specs.declared.ending.Ending.{Ending}

@@ -9,8 +9,8 @@ use Rattle.wkt_grammar.specs.Rows.{enters}
 use Rattle.wkt_grammar.specs.Words.{keyword_of}
 use Rattle.std.specs.Prelude.{ℕ, Some}
 use Rattle.wkt_grammar.specs.Bare.{Bare, Bares, node}
-use Rattle.wkt_meaning.specs.SecondEdition.{Fitted}
-use Rattle.wkt_meaning.specs.Denotes.{DenotesSingle}
+use Rattle.wkt_grammar.specs.SecondEdition.{Fitted}
+use Rattle.wkt_grammar.specs.Denotes.{DenotesSingle}
 use Rattle.wkt_build.specs.Reads.{Next}
 use Rattle.wkt_build.specs.Choices.{next_keyword}
 

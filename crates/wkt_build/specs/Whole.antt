@@ -6,7 +6,7 @@ use Rattle.wkt_tree.specs.Tree.{Piece, Tok, Items, node, tokens}
 use Rattle.wkt_grammar.specs.declared.table.Edition.TheVariants as editions
 use Rattle.wkt_grammar.specs.Slots.{IsClean}
 use Rattle.wkt_grammar.specs.Bare.{bare}
-use Rattle.wkt_meaning.specs.Denotes.{DenotesParts}
+use Rattle.wkt_grammar.specs.Denotes.{DenotesParts}
 
 -- if the tokens are those of a tree without a slot fault in the second edition, the tree denotes what is built
 abbrev pub BuildsParts : {E : Type 0} → List Tok → Result CrsParts E → Type 0

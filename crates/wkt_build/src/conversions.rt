@@ -3,7 +3,7 @@
 ghost use Rattle.wkt_grammar.specs.declared.table.Keyword.TheVariants as keywords;
 ghost use Rattle.wkt_grammar.specs.declared.table.Node.TheVariants as nodes;
 ghost use Rattle.wkt_grammar.specs.declared.table.Takes.TheVariants as kinds;
-ghost use Rattle.wkt_meaning.specs.Denotes.{DenotesConversion, DenotesParameter};
+ghost use Rattle.wkt_grammar.specs.Denotes.{DenotesConversion, DenotesParameter};
 
 use crate::built::{Built, pass, take_each, take_maybe, take_one};
 use crate::identifiers::Method;

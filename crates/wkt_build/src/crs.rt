@@ -4,7 +4,7 @@ ghost use Rattle.std.specs.Prelude.{◌≡◌, ◌≤◌, length, IfOk};
 ghost use Rattle.wkt_build.specs.Single.{BuildsSingle};
 ghost use Rattle.wkt_grammar.specs.declared.table.Node.TheVariants as nodes;
 ghost use Rattle.wkt_grammar.specs.declared.table.Takes.TheVariants as kinds;
-ghost use Rattle.wkt_meaning.specs.Denotes.{DenotesBase, DenotesParts, DenotesSingle, base_fields, compound_fields, geodetic_fields, projected_fields, vertical_fields};
+ghost use Rattle.wkt_grammar.specs.Denotes.{DenotesBase, DenotesParts, DenotesSingle, base_fields, compound_fields, geodetic_fields, projected_fields, vertical_fields};
 ghost use Rattle.wkt_build.specs.Reads.{BuildsNode};
 
 use crate::built::{Built, pass, take_each, take_maybe, take_one, with};

@@ -4,7 +4,7 @@ ghost use Rattle.std.specs.Prelude.{◌≤◌, length};
 ghost use Rattle.wkt_grammar.specs.declared.table.Keyword.TheVariants as keywords;
 ghost use Rattle.wkt_grammar.specs.declared.table.Node.TheVariants as nodes;
 ghost use Rattle.wkt_grammar.specs.declared.table.Takes.TheVariants as kinds;
-ghost use Rattle.wkt_meaning.specs.Denotes.{DenotesIdent, DenotesNamed, named_fields};
+ghost use Rattle.wkt_grammar.specs.Denotes.{DenotesIdent, DenotesNamed, named_fields};
 ghost use Rattle.wkt_build.specs.Reads.{BuildsNode};
 
 use crate::built::{Built, pass, take_each, take_maybe, take_one};

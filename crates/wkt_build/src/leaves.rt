@@ -4,8 +4,8 @@ ghost use Rattle.std.specs.Prelude.{◌≡◌, ◌≤◌, length, false, drop, I
 ghost use Rattle.crs_number.specs.Numeral.{Spells};
 ghost use Rattle.wkt_tree.specs.Tokens.{IsQuoted, IsNumber};
 ghost use Rattle.wkt_grammar.specs.declared.table.Takes.TheVariants as kinds;
-ghost use Rattle.wkt_meaning.specs.Leaves.{DenotesCount, DenotesText, DenotesNumber, undoubled};
-ghost use Rattle.wkt_meaning.specs.Denotes.{DenotesCode};
+ghost use Rattle.wkt_grammar.specs.Leaves.{DenotesCount, DenotesText, DenotesNumber, undoubled};
+ghost use Rattle.wkt_grammar.specs.Denotes.{DenotesCode};
 ghost use Rattle.wkt_build.specs.Leaves.{TakesCount, TakesNumber, TakesText, next_is_number};
 
 use crate::built::Built;

@@ -3,7 +3,7 @@
 ghost use Rattle.std.specs.Prelude.{◌≤◌, length};
 ghost use Rattle.wkt_grammar.specs.declared.table.Node.TheVariants as nodes;
 ghost use Rattle.wkt_grammar.specs.declared.table.Takes.TheVariants as kinds;
-ghost use Rattle.wkt_meaning.specs.Denotes.{DenotesAngleUnit, DenotesLengthUnit, DenotesUnit, unit_fields};
+ghost use Rattle.wkt_grammar.specs.Denotes.{DenotesAngleUnit, DenotesLengthUnit, DenotesUnit, unit_fields};
 ghost use Rattle.wkt_build.specs.Reads.{BuildsNode};
 
 use crate::built::{Built, pass, take_each, take_one};

@@ -3,7 +3,7 @@
 ghost use Rattle.wkt_grammar.specs.declared.table.Keyword.TheVariants as keywords;
 ghost use Rattle.wkt_grammar.specs.declared.table.Node.TheVariants as nodes;
 ghost use Rattle.wkt_grammar.specs.declared.table.Takes.TheVariants as kinds;
-ghost use Rattle.wkt_meaning.specs.Denotes.{DenotesBoundingBox, DenotesUsage, DenotesVerticalExtent};
+ghost use Rattle.wkt_grammar.specs.Denotes.{DenotesBoundingBox, DenotesUsage, DenotesVerticalExtent};
 
 use crate::built::{Built, pass, take_maybe, take_one};
 use crate::reader::Reader;

@@ -3,7 +3,7 @@
 ghost use Rattle.std.specs.Prelude.{◌≡◌, ◌≤◌, length, false, true, IfOk, OnOk, None};
 ghost use Rattle.wkt_grammar.specs.declared.table.Node.TheVariants as nodes;
 ghost use Rattle.wkt_grammar.specs.declared.table.Takes.TheVariants as kinds;
-ghost use Rattle.wkt_meaning.specs.Denotes.{DenotesValue, value_fields};
+ghost use Rattle.wkt_grammar.specs.Denotes.{DenotesValue, value_fields};
 ghost use Rattle.wkt_build.specs.Reads.{BuildsNode, BuildsOne, BuildsSome, comes};
 
 use crate::built::{pass, take_one};

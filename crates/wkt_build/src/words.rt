@@ -4,7 +4,7 @@ ghost use Rattle.std.specs.Prelude.{◌≤◌, length};
 ghost use Rattle.crs_part.specs.Words.{direction_word, system_word};
 ghost use Rattle.wkt_grammar.specs.declared.table.Takes.TheVariants as kinds;
 ghost use Rattle.wkt_grammar.specs.Words.{is_cs_kind, is_direction};
-ghost use Rattle.wkt_meaning.specs.Leaves.{DenotesWord};
+ghost use Rattle.wkt_grammar.specs.Leaves.{DenotesWord};
 ghost use Rattle.wkt_build.specs.Leaves.{TakesWord};
 
 use crate::built::Built;

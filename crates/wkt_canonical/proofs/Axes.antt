@@ -14,8 +14,8 @@ use Rattle.crs_value.specs.Units.{any_units, meridian_units, axis_units}
 use Rattle.crs_part.specs.Words.{system_word, direction_word}
 use Rattle.crs_value.specs.Conditions.{takes_unit, axis_fits, unit_fits, is_order, is_north_or_south}
 use Rattle.wkt_grammar.specs.declared.table.Keyword.TheVariants as keywords
-use Rattle.wkt_meaning.specs.Render.{render}
-use Rattle.wkt_meaning.specs.Trees.{one, text_tree, number_tree, kind_tree, count_tree, direction_tree, ident_tree, angle_unit_tree, meridian_tree, axis_tree}
+use Rattle.wkt_grammar.specs.Render.{render}
+use Rattle.wkt_grammar.specs.Trees.{one, text_tree, number_tree, kind_tree, count_tree, direction_tree, ident_tree, angle_unit_tree, meridian_tree, axis_tree}
 use Rattle.crs_value.specs.declared.kinds.UnitKind.{UnitKind}
 use Rattle.wkt_canonical.specs.Reads.{ReadsFirst, ReadsOne, ReadsEach, ReadsInside, ReadsUnit, ReadsDigit, ReadsSystem, ReadsMeridian, ReadsOrder, ReadsAxisUnit, ReadsCommonUnit, ReadsAxis, ReadsAxes, any, opening}
 use Rattle.wkt_canonical.specs.Tests.{all_positive, angle_unit_passes, meridian_passes, FitsEach, IsAxis, AxesHold}

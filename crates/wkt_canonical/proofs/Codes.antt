@@ -4,8 +4,8 @@ use Rattle.std.proofs.Math.Seq.{take-append_seam}
 use Rattle.std.specs.Prelude.{Some, None}
 use Rattle.crs_part.specs.declared.identifiers.NumberOrText.TheVariants as code
 use Rattle.wkt_grammar.specs.declared.table.Keyword.TheVariants as keywords
-use Rattle.wkt_meaning.specs.Render.{render}
-use Rattle.wkt_meaning.specs.Trees.{one, text_tree, number_tree, code_tree, ident_tree, value_tree}
+use Rattle.wkt_grammar.specs.Render.{render}
+use Rattle.wkt_grammar.specs.Trees.{one, text_tree, number_tree, code_tree, ident_tree, value_tree}
 use Rattle.wkt_canonical.specs.declared.identifiers.Identifier.{Identifier}
 use Rattle.wkt_canonical.specs.Reads.{ReadsFirst, ReadsOne, ReadsMaybe, ReadsEach, ReadsInside, ReadsText, ReadsCode, ReadsIdentifier, ReadsIdentifiers, any, opening}
 use Rattle.wkt_canonical.proofs.Runs.{closed, also, whole, behind_comma_is, no_run, two_runs}

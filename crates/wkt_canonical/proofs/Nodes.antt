@@ -13,7 +13,7 @@ use Rattle.crs_part.specs.declared.datums.VerticalFrame.TheVariants as vertical_
 use Rattle.crs_value.specs.Conditions.{has_positive_factor}
 use Rattle.crs_value.specs.Units.{any_units, length_units, angle_units, extent_units, parameter_units}
 use Rattle.wkt_grammar.specs.declared.table.Keyword.TheVariants as keywords
-use Rattle.wkt_meaning.specs.Trees.{text_tree, number_tree, ident_tree, value_tree, named_tree, unit_of_tree, unit_tree, length_unit_tree, angle_unit_tree, bounding_box_tree, vertical_extent_tree, usage_tree, ellipsoid_tree, prime_meridian_tree, accuracy_tree, datum_tree, geodetic_ensemble_tree, vertical_datum_tree, vertical_ensemble_tree, geodetic_frame_tree, vertical_frame_tree, parameter_tree, conversion_tree}
+use Rattle.wkt_grammar.specs.Trees.{text_tree, number_tree, ident_tree, value_tree, named_tree, unit_of_tree, unit_tree, length_unit_tree, angle_unit_tree, bounding_box_tree, vertical_extent_tree, usage_tree, ellipsoid_tree, prime_meridian_tree, accuracy_tree, datum_tree, geodetic_ensemble_tree, vertical_datum_tree, vertical_ensemble_tree, geodetic_frame_tree, vertical_frame_tree, parameter_tree, conversion_tree}
 use Rattle.wkt_canonical.specs.Reads.{ReadsFirst, ReadsOne, ReadsMaybe, ReadsEach, ReadsSome, ReadsInside, ReadsWithin, any, is_above_zero, is_not_below_zero, opening, beginning}
 use Rattle.wkt_canonical.specs.Tests.{all_positive, unit_passes, length_unit_passes, angle_unit_passes, extent_passes, usage_passes, ellipsoid_passes, datum_passes, ensemble_passes, frame_passes, prime_meridian_passes, parameter_passes, conversion_passes}
 use Rattle.wkt_canonical.proofs.Runs.{closed, also, whole, first_within, and_both}

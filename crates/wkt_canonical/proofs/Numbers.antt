@@ -16,8 +16,8 @@ use Rattle.crs_number.specs.Reading.{CutsDigits}
 use Rattle.crs_number.specs.declared.decimals.Decimal.{Decimal}
 use Rattle.crs_number.proofs.Powers.{digit_is, value_append}
 use Rattle.wkt_grammar.specs.Bare.{Bare}
-use Rattle.wkt_meaning.specs.Trees.{number_tree}
-use Rattle.wkt_meaning.specs.Render.{render}
+use Rattle.wkt_grammar.specs.Trees.{number_tree}
+use Rattle.wkt_grammar.specs.Render.{render}
 use Rattle.wkt_canonical.specs.Reads.{ReadsFirst, ReadsOne, any, is_above_zero, is_not_below_zero, behind}
 use Rattle.wkt_canonical.specs.Digits.{ReadsFraction}
 

@@ -6,8 +6,8 @@ use Rattle.std.specs.List.{list_all}
 use Rattle.wkt_grammar.specs.Bare.{Bare, bares}
 use Rattle.wkt_grammar.specs.declared.table.Keyword.{Keyword}
 use Rattle.wkt_grammar.specs.Words.{spelling}
-use Rattle.wkt_meaning.specs.Render.{render, render_behind}
-use Rattle.wkt_meaning.specs.Trees.{one, joined, branch}
+use Rattle.wkt_grammar.specs.Render.{render, render_behind}
+use Rattle.wkt_grammar.specs.Trees.{one, joined, branch}
 use Rattle.wkt_canonical.specs.Reads.{beginning, opening, behind, ReadsFirst, ReadsOne, ReadsMaybe, ReadsEach, ReadsSome, ReadsInside, ReadsWithin}
 
 behind_append : (xs ys : List Bare) → render_behind (bares (xs ++ ys)) ≡ render_behind (bares xs) ++ render_behind (bares ys)

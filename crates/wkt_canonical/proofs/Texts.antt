@@ -6,7 +6,7 @@ use Rattle.std.specs.Str.{is_utf8}
 use Rattle.std.proofs.lemmas.List.Quantifiers.{position-Some}
 use Rattle.wkt_tree.specs.Tokens.{doubled, is_mark}
 use Rattle.wkt_tree.proofs.Lexemes.{by_mark, body-plain}
-use Rattle.wkt_meaning.specs.Trees.{text_tree}
+use Rattle.wkt_grammar.specs.Trees.{text_tree}
 use Rattle.wkt_canonical.specs.Reads.{ReadsFirst, ReadsText, any}
 
 mark_is : (x : ℕ) → x ≡ 34 → is_mark x ≡ false → ⊥

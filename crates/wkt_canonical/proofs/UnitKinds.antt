@@ -5,7 +5,7 @@ use Rattle.crs_part.specs.declared.units.LengthUnit.TheVariants as length_unit
 use Rattle.crs_part.specs.declared.units.AngleUnit.TheVariants as angle_unit
 use Rattle.crs_value.specs.Conditions.{has_positive_factor}
 use Rattle.wkt_grammar.specs.declared.table.Keyword.TheVariants as keywords
-use Rattle.wkt_meaning.specs.Trees.{unit_of_tree, unit_tree, length_unit_tree, angle_unit_tree}
+use Rattle.wkt_grammar.specs.Trees.{unit_of_tree, unit_tree, length_unit_tree, angle_unit_tree}
 use Rattle.crs_value.specs.declared.kinds.UnitKind.{UnitKind}
 use Rattle.crs_value.specs.declared.kinds.UnitKind.TheVariants as kind
 use Rattle.wkt_canonical.specs.Reads.{ReadsOne, ReadsWithin, ReadsUnit, opening}

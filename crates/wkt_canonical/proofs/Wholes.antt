@@ -24,10 +24,10 @@ use Rattle.crs_value.specs.declared.broken.Condition.TheVariants.{C1, C2, C3, C4
 use Rattle.crs_value.specs.declared.broken.Whose.TheVariants.{First, Second, Whole}
 use Rattle.crs_value.specs.Checking.{HasConditions}
 use Rattle.wkt_grammar.specs.declared.table.Keyword.TheVariants as keywords
-use Rattle.wkt_meaning.specs.Canon.{canon}
-use Rattle.wkt_meaning.specs.Denotes.{base_keyword, geodetic_keyword}
-use Rattle.wkt_meaning.specs.Runs.{listed}
-use Rattle.wkt_meaning.specs.Trees.{maybe, named_tree, text_tree, ident_tree, value_tree, usage_tree, angle_unit_tree, geodetic_frame_tree, vertical_frame_tree, prime_meridian_tree, conversion_tree, base_tree, single_tree}
+use Rattle.wkt_grammar.specs.Canon.{canon}
+use Rattle.wkt_grammar.specs.Denotes.{base_keyword, geodetic_keyword}
+use Rattle.wkt_grammar.specs.Runs.{listed}
+use Rattle.wkt_grammar.specs.Trees.{maybe, named_tree, text_tree, ident_tree, value_tree, usage_tree, angle_unit_tree, geodetic_frame_tree, vertical_frame_tree, prime_meridian_tree, conversion_tree, base_tree, single_tree}
 use Rattle.wkt_canonical.specs.declared.identifiers.Identifier.{Identifier}
 use Rattle.wkt_canonical.specs.declared.crs.Seen.{Seen}
 use Rattle.wkt_canonical.specs.declared.crs.Component.{Component}

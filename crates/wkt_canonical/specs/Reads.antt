@@ -25,7 +25,7 @@ use Rattle.crs_value.specs.Units.{usage_units}
 use Rattle.wkt_grammar.specs.declared.table.Keyword.{Keyword}
 use Rattle.wkt_grammar.specs.declared.table.Keyword.TheVariants as keywords
 use Rattle.wkt_grammar.specs.Words.{spelling}
-use Rattle.wkt_meaning.specs.Canon.{canon}
+use Rattle.wkt_grammar.specs.Canon.{canon}
 use Rattle.crs_part.specs.declared.units.Unit.{Unit}
 use Rattle.crs_value.specs.declared.kinds.UnitKind.{UnitKind}
 use Rattle.wkt_canonical.specs.declared.identifiers.Identifier.{Identifier}
@@ -34,9 +34,9 @@ use Rattle.wkt_canonical.specs.declared.crs.Component.{Component}
 use Rattle.wkt_canonical.specs.Seen.{Identifies, IsFirst, IsSeen}
 use Rattle.wkt_canonical.specs.Tests.{all_positive, unit_passes, meridian_passes, IsAxis, AxesHold, Holds}
 use Rattle.wkt_grammar.specs.Bare.{Bare, bares}
-use Rattle.wkt_meaning.specs.Render.{render, render_behind}
-use Rattle.wkt_meaning.specs.Runs.{listed}
-use Rattle.wkt_meaning.specs.Trees.{one, maybe, joined, unit_tree, system_tree, meridian_tree, order_tree, axis_tree, usage_tree, ident_tree, text_tree, code_tree, value_tree, single_tree}
+use Rattle.wkt_grammar.specs.Render.{render, render_behind}
+use Rattle.wkt_grammar.specs.Runs.{listed}
+use Rattle.wkt_grammar.specs.Trees.{one, maybe, joined, unit_tree, system_tree, meridian_tree, order_tree, axis_tree, usage_tree, ident_tree, text_tree, code_tree, value_tree, single_tree}
 
 -- the text of arguments after the first
 unfoldable pub behind : List Bare → List ℕ

@@ -2,8 +2,8 @@
 
 ghost use Rattle.std.specs.Prelude.{◌++◌, IfSome};
 ghost use Rattle.wkt_grammar.specs.declared.table.Keyword.TheVariants as keywords;
-ghost use Rattle.wkt_meaning.specs.Denotes.{base_keyword, geodetic_keyword};
-ghost use Rattle.wkt_meaning.specs.Trees.{base_tree};
+ghost use Rattle.wkt_grammar.specs.Denotes.{base_keyword, geodetic_keyword};
+ghost use Rattle.wkt_grammar.specs.Trees.{base_tree};
 ghost use Rattle.wkt_canonical.specs.Reads.{ReadsOne, ReadsInside, ReadsSingle, ReadsEnd, ReadsWhole, beginning};
 ghost use Rattle.wkt_canonical.specs.Tests.{base_passes};
 

@@ -2,7 +2,7 @@
 
 ghost use Rattle.std.specs.Prelude.{IfSome};
 ghost use Rattle.wkt_grammar.specs.declared.table.Keyword.TheVariants as keywords;
-ghost use Rattle.wkt_meaning.specs.Trees.{ellipsoid_tree, prime_meridian_tree, accuracy_tree, datum_tree, geodetic_ensemble_tree, vertical_datum_tree, vertical_ensemble_tree, geodetic_frame_tree, vertical_frame_tree};
+ghost use Rattle.wkt_grammar.specs.Trees.{ellipsoid_tree, prime_meridian_tree, accuracy_tree, datum_tree, geodetic_ensemble_tree, vertical_datum_tree, vertical_ensemble_tree, geodetic_frame_tree, vertical_frame_tree};
 ghost use Rattle.wkt_canonical.specs.Reads.{ReadsOne, ReadsInside, any};
 ghost use Rattle.wkt_canonical.specs.Tests.{ellipsoid_passes, datum_passes, ensemble_passes, frame_passes, prime_meridian_passes};
 

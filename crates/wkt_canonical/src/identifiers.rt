@@ -2,7 +2,7 @@
 
 ghost use Rattle.std.specs.Prelude.{IfSome};
 ghost use Rattle.wkt_grammar.specs.declared.table.Keyword.TheVariants as keywords;
-ghost use Rattle.wkt_meaning.specs.Trees.{ident_tree, named_tree, code_tree};
+ghost use Rattle.wkt_grammar.specs.Trees.{ident_tree, named_tree, code_tree};
 ghost use Rattle.wkt_canonical.specs.Reads.{ReadsEach, ReadsMaybe, ReadsOne, ReadsWithin, ReadsIdentifier, ReadsIdentifiers, any};
 
 use crate::front::{behind, opens};

@@ -3,7 +3,7 @@
 ghost use Rattle.std.specs.Prelude.{◌≡◌, ◌≤◌, true, length, take, IfSome, IsAscii};
 ghost use Rattle.std.specs.Bool.{OnTrue};
 ghost use Rattle.std.specs.Str.{is_utf8};
-ghost use Rattle.wkt_meaning.specs.Trees.{text_tree, code_tree};
+ghost use Rattle.wkt_grammar.specs.Trees.{text_tree, code_tree};
 ghost use Rattle.wkt_canonical.specs.Reads.{ReadsFirst, ReadsOne, ReadsText, ReadsCode, any};
 
 use crate::front::behind;

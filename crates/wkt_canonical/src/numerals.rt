@@ -3,7 +3,7 @@
 ghost use Rattle.std.specs.Prelude.{◌≡◌, ◌≢◌, ◌∷◌, IfSome, get_or};
 ghost use Rattle.std.specs.Char.{is_ascii_digit};
 ghost use Rattle.std.specs.List.{prefix_len};
-ghost use Rattle.wkt_meaning.specs.Trees.{number_tree};
+ghost use Rattle.wkt_grammar.specs.Trees.{number_tree};
 ghost use Rattle.crs_number.specs.Reading.{CutsDigits};
 ghost use Rattle.wkt_canonical.specs.Reads.{ReadsFirst, ReadsOne, any, is_above_zero, is_not_below_zero};
 ghost use Rattle.wkt_canonical.specs.Digits.{ReadsFraction};

@@ -2,7 +2,7 @@
 
 ghost use Rattle.std.specs.Prelude.{◌≡◌, ◌<◌, true, IfSome};
 ghost use Rattle.wkt_grammar.specs.declared.table.Keyword.TheVariants as keywords;
-ghost use Rattle.wkt_meaning.specs.Trees.{meridian_tree};
+ghost use Rattle.wkt_grammar.specs.Trees.{meridian_tree};
 ghost use Rattle.wkt_canonical.specs.Reads.{ReadsSystem, ReadsMeridian, ReadsOrder, ReadsAxisUnit, ReadsCommonUnit, ReadsAxis, ReadsAxes};
 ghost use Rattle.wkt_canonical.specs.Tests.{meridian_passes, FitsEach};
 

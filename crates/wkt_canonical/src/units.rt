@@ -1,7 +1,7 @@
 //! Units.
 
 ghost use Rattle.std.specs.Prelude.{IfSome};
-ghost use Rattle.wkt_meaning.specs.Trees.{unit_of_tree, unit_tree, length_unit_tree, angle_unit_tree};
+ghost use Rattle.wkt_grammar.specs.Trees.{unit_of_tree, unit_tree, length_unit_tree, angle_unit_tree};
 ghost use Rattle.crs_value.specs.Conditions.{has_positive_factor};
 ghost use Rattle.wkt_canonical.specs.Reads.{ReadsOne, ReadsMaybe, ReadsWithin, ReadsUnit};
 ghost use Rattle.wkt_canonical.specs.Tests.{unit_passes, length_unit_passes, angle_unit_passes};

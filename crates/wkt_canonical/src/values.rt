@@ -1,7 +1,7 @@
 //! Nodes with a single text.
 
 ghost use Rattle.std.specs.Prelude.{IfSome};
-ghost use Rattle.wkt_meaning.specs.Trees.{value_tree};
+ghost use Rattle.wkt_grammar.specs.Trees.{value_tree};
 ghost use Rattle.wkt_canonical.specs.Reads.{ReadsMaybe, ReadsWithin, any};
 
 use crate::front::{behind, opens};

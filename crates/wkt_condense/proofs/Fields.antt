@@ -14,8 +14,8 @@ use Rattle.wkt_grammar.specs.declared.table.Keyword.{Keyword}
 use Rattle.wkt_grammar.specs.declared.table.Edition.TheVariants as editions
 use Rattle.wkt_grammar.specs.Rows.{takes, Times, row_of}
 use Rattle.wkt_grammar.specs.Bare.{Bare, Bares, text, number, word, node, none, and, args, shape}
-use Rattle.wkt_meaning.specs.Runs.{Fields, nothing, ◌&◌, Meets, Runs, IsNode, One, Maybe, Each, AtLeastOne, listed}
-use Rattle.wkt_meaning.specs.Leaves.{DenotesText, DenotesNumber, DenotesCount, DenotesWord}
+use Rattle.wkt_grammar.specs.Runs.{Fields, nothing, ◌&◌, Meets, Runs, IsNode, One, Maybe, Each, AtLeastOne, listed}
+use Rattle.wkt_grammar.specs.Leaves.{DenotesText, DenotesNumber, DenotesCount, DenotesWord}
 use Rattle.wkt_condense.specs.Alike.{SameNumber, Alike, AllAlike}
 
 -- trees that are alike denote the same value

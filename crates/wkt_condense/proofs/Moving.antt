@@ -10,10 +10,10 @@ use Rattle.crs_part.specs.declared.crs.CrsParts.TheVariants as parts
 use Rattle.wkt_grammar.specs.declared.table.Keyword.{Keyword}
 use Rattle.wkt_grammar.specs.declared.table.Keyword.TheVariants as keywords
 use Rattle.wkt_grammar.specs.declared.table.Node.TheVariants as nodes
-use Rattle.wkt_meaning.specs.Leaves.{DenotesText, DenotesNumber, DenotesCount, DenotesWord}
+use Rattle.wkt_grammar.specs.Leaves.{DenotesText, DenotesNumber, DenotesCount, DenotesWord}
 use Rattle.crs_part.specs.Words.{system_word, direction_word}
-use Rattle.wkt_meaning.specs.Denotes.{DenotesValue, DenotesCode, DenotesIdent, DenotesNamed, DenotesUnitOf, DenotesUnit, DenotesLengthUnit, DenotesAngleUnit, DenotesBoundingBox, DenotesVerticalExtent, DenotesUsage, DenotesEllipsoid, DenotesPrimeMeridian, DenotesDatum, DenotesVerticalDatum, DenotesAccuracy, DenotesGeodeticEnsemble, DenotesVerticalEnsemble, DenotesGeodeticFrame, DenotesVerticalFrame, DenotesSystem, DenotesMeridian, DenotesOrder, DenotesAxis, DenotesParameter, DenotesConversion, DenotesBase, DenotesGeodetic, DenotesProjected, DenotesVertical, DenotesSingle, DenotesCompound, DenotesParts, geodetic_keyword, base_keyword}
-use Rattle.wkt_meaning.specs.Denotes.{accuracy_fields, axis_fields, base_fields, bounding_box_fields, compound_fields, conversion_fields, datum_fields, ellipsoid_fields, geodetic_ensemble_fields, geodetic_fields, ident_fields, meridian_fields, named_fields, order_fields, parameter_fields, prime_meridian_fields, projected_fields, system_fields, unit_fields, usage_fields, value_fields, vertical_datum_fields, vertical_ensemble_fields, vertical_extent_fields, vertical_fields}
+use Rattle.wkt_grammar.specs.Denotes.{DenotesValue, DenotesCode, DenotesIdent, DenotesNamed, DenotesUnitOf, DenotesUnit, DenotesLengthUnit, DenotesAngleUnit, DenotesBoundingBox, DenotesVerticalExtent, DenotesUsage, DenotesEllipsoid, DenotesPrimeMeridian, DenotesDatum, DenotesVerticalDatum, DenotesAccuracy, DenotesGeodeticEnsemble, DenotesVerticalEnsemble, DenotesGeodeticFrame, DenotesVerticalFrame, DenotesSystem, DenotesMeridian, DenotesOrder, DenotesAxis, DenotesParameter, DenotesConversion, DenotesBase, DenotesGeodetic, DenotesProjected, DenotesVertical, DenotesSingle, DenotesCompound, DenotesParts, geodetic_keyword, base_keyword}
+use Rattle.wkt_grammar.specs.Denotes.{accuracy_fields, axis_fields, base_fields, bounding_box_fields, compound_fields, conversion_fields, datum_fields, ellipsoid_fields, geodetic_ensemble_fields, geodetic_fields, ident_fields, meridian_fields, named_fields, order_fields, parameter_fields, prime_meridian_fields, projected_fields, system_fields, unit_fields, usage_fields, value_fields, vertical_datum_fields, vertical_ensemble_fields, vertical_extent_fields, vertical_fields}
 use Rattle.wkt_condense.proofs.Fields.{Moves, node_moves, one, maybe, each, some, text_moves, number_moves, count_moves, word_moves}
 
 pub value_moves : (keyword : Keyword) → Moves (DenotesValue keyword)

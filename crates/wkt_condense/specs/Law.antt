@@ -4,7 +4,7 @@ use Rattle.wkt_tree.specs.Tree.{Item, tokens}
 use Rattle.wkt_tree.specs.Faults.{IsOutline}
 use Rattle.wkt_grammar.specs.Bare.{bare}
 use Rattle.crs_part.specs.declared.crs.CrsParts.{CrsParts}
-use Rattle.wkt_meaning.specs.Denotes.{DenotesParts}
+use Rattle.wkt_grammar.specs.Denotes.{DenotesParts}
 use Rattle.wkt_condense.specs.Alike.{Alike}
 
 -- the text is written with the tokens of a tree that is the same but for places and the spelling of numerals

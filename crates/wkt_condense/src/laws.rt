@@ -3,7 +3,7 @@
 ghost use Rattle.std.specs.Prelude.{List, ℕ, ◌≤◌, length};
 ghost use Rattle.crs_part.specs.declared.crs.CrsParts.{CrsParts};
 ghost use Rattle.wkt_grammar.specs.Bare.{Bare};
-ghost use Rattle.wkt_meaning.specs.Denotes.{DenotesParts};
+ghost use Rattle.wkt_grammar.specs.Denotes.{DenotesParts};
 ghost use Rattle.wkt_condense.specs.Alike.{Alike};
 ghost use Rattle.wkt_condense.specs.Condensed.{IsCondensed};
 ghost use Rattle.wkt_condense.specs.Law.{IsWrittenAs, IsReadAs};

@@ -24,8 +24,8 @@ use Rattle.wkt_grammar.specs.Slots.{IsClean, IsFirst}
 use Rattle.wkt_grammar.specs.Bare.{Bare, bare, all_bare, none, and}
 use Rattle.wkt_grammar.proofs.Fitting.{clean_fitted, fitted_cuts}
 use Rattle.wkt_write.specs.WellFormed.{WellFormed, IsText}
-use Rattle.wkt_meaning.specs.SecondEdition.{Fitting, AllFitting}
-use Rattle.wkt_meaning.specs.Denotes.{DenotesParts}
+use Rattle.wkt_grammar.specs.SecondEdition.{Fitting, AllFitting}
+use Rattle.wkt_grammar.specs.Denotes.{DenotesParts}
 use Rattle.wkt_crs.specs.declared.fault.ReadFault.TheVariants as fault
 use Rattle.wkt_crs.specs.Faults.{FirstBroken, keyword_place}
 use Rattle.wkt_crs.specs.Verdict.{HasVerdict}

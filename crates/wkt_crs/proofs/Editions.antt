@@ -2,8 +2,8 @@
 use Rattle.std.proofs.Common.{ℕ, List}
 use Rattle.crs_value.specs.declared.crs.Crs.{Crs}
 use Rattle.wkt_grammar.specs.Bare.{bare}
-use Rattle.wkt_meaning.specs.FirstEdition.{NothingAdded}
-use Rattle.wkt_meaning.proofs.FirstEdition.{parts_still, parts_before}
+use Rattle.wkt_grammar.specs.FirstEdition.{NothingAdded}
+use Rattle.wkt_grammar.proofs.FirstEdition.{parts_still, parts_before}
 use Rattle.wkt_crs.specs.Spells.{FirstSpells, Spells}
 
 pub still_spells : (text : List ℕ) (v : Crs) → FirstSpells text v → Spells text v × NothingAdded v.parts

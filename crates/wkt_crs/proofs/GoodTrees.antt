@@ -21,11 +21,11 @@ use Rattle.wkt_grammar.specs.Words.{spelling}
 use Rattle.wkt_grammar.specs.Bare.{Bare, bares, node}
 use Rattle.wkt_write.specs.WellFormed.{WellFormed, AllWellFormed, is_name}
 use Rattle.wkt_write.proofs.Tokens.{word_token, text_is, number_token, count_token}
-use Rattle.wkt_meaning.specs.Runs.{listed}
+use Rattle.wkt_grammar.specs.Runs.{listed}
 use Rattle.crs_part.specs.Words.{system_word, direction_word}
-use Rattle.wkt_meaning.specs.Denotes.{geodetic_keyword, base_keyword}
-use Rattle.wkt_meaning.specs.Trees as trees
-use Rattle.wkt_meaning.proofs.Leaves.{Small}
+use Rattle.wkt_grammar.specs.Denotes.{geodetic_keyword, base_keyword}
+use Rattle.wkt_grammar.specs.Trees as trees
+use Rattle.wkt_grammar.proofs.Leaves.{Small}
 
 -- the trees of all values are good where this many delimiters may be open
 abbrev Goods : {A : Type 0} → ℕ → (A → Bare) → Type 0

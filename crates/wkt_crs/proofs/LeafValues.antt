@@ -18,11 +18,11 @@ use Rattle.wkt_grammar.specs.Words.{keyword_of, is_cs_kind, is_direction}
 use Rattle.wkt_grammar.specs.Bare.{Bare, text, number, word, node}
 use Rattle.wkt_grammar.specs.Slots.{argument_by}
 use Rattle.wkt_write.specs.WellFormed.{IsText}
-use Rattle.wkt_meaning.specs.SecondEdition.{Fitting}
-use Rattle.wkt_meaning.specs.Leaves.{DenotesText, DenotesNumber, DenotesWord}
+use Rattle.wkt_grammar.specs.SecondEdition.{Fitting}
+use Rattle.wkt_grammar.specs.Leaves.{DenotesText, DenotesNumber, DenotesWord}
 use Rattle.crs_part.specs.Words.{system_word, direction_word, first_word, kinds_listed, directions_listed}
-use Rattle.wkt_meaning.specs.Denotes.{DenotesCode}
-use Rattle.wkt_meaning.proofs.Leaves.{DenotesSmall, Small}
+use Rattle.wkt_grammar.specs.Denotes.{DenotesCode}
+use Rattle.wkt_grammar.proofs.Leaves.{DenotesSmall, Small}
 use Rattle.wkt_build.proofs.LeafLemmas.{letters, word_is, kind_listed, direction_listed}
 use Rattle.wkt_crs.proofs.Values.{IsRead, Has}
 

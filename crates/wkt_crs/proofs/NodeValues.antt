@@ -34,7 +34,7 @@ use Rattle.wkt_grammar.specs.declared.table.SlotName.TheVariants as slots
 use Rattle.wkt_grammar.specs.declared.table.Takes.TheVariants as kinds
 use Rattle.wkt_grammar.specs.Rows.{enters}
 use Rattle.wkt_grammar.specs.Bare.{Bare}
-use Rattle.wkt_meaning.specs.Denotes.{DenotesValue, DenotesIdent, DenotesNamed, DenotesUnitOf, DenotesUnit, DenotesLengthUnit, DenotesAngleUnit, DenotesBoundingBox, DenotesVerticalExtent, DenotesUsage, DenotesEllipsoid, DenotesPrimeMeridian, DenotesDatum, DenotesVerticalDatum, DenotesAccuracy, DenotesGeodeticEnsemble, DenotesVerticalEnsemble, DenotesGeodeticFrame, DenotesVerticalFrame, DenotesSystem, DenotesMeridian, DenotesOrder, DenotesAxis, DenotesParameter, DenotesConversion, geodetic_keyword, base_keyword, DenotesBase, DenotesGeodetic, DenotesProjected, DenotesVertical, DenotesSingle, DenotesCompound, DenotesParts}
+use Rattle.wkt_grammar.specs.Denotes.{DenotesValue, DenotesIdent, DenotesNamed, DenotesUnitOf, DenotesUnit, DenotesLengthUnit, DenotesAngleUnit, DenotesBoundingBox, DenotesVerticalExtent, DenotesUsage, DenotesEllipsoid, DenotesPrimeMeridian, DenotesDatum, DenotesVerticalDatum, DenotesAccuracy, DenotesGeodeticEnsemble, DenotesVerticalEnsemble, DenotesGeodeticFrame, DenotesVerticalFrame, DenotesSystem, DenotesMeridian, DenotesOrder, DenotesAxis, DenotesParameter, DenotesConversion, geodetic_keyword, base_keyword, DenotesBase, DenotesGeodetic, DenotesProjected, DenotesVertical, DenotesSingle, DenotesCompound, DenotesParts}
 use Rattle.wkt_crs.proofs.Values.{Has, Entered, one, maybe, each, some, done, ◌>>◌, node_has, by_keyword, alone}
 use Rattle.wkt_crs.proofs.LeafValues.{text_has, number_has, code_has, count_has, kind_has, direction_has}
 

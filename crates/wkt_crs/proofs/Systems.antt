@@ -14,9 +14,9 @@ use Rattle.wkt_tree.specs.declared.token.Delimiter.{Delimiter}
 use Rattle.wkt_tree.specs.Tree.{Piece, Item, Items, last, more, tokens}
 use Rattle.wkt_tree.specs.Tree as tree
 use Rattle.wkt_grammar.specs.Bare.{Bare, args, bare, all_bare}
-use Rattle.wkt_meaning.specs.Runs.{One}
-use Rattle.wkt_meaning.specs.Leaves.{DenotesText}
-use Rattle.wkt_meaning.specs.Denotes.{DenotesParts, DenotesSingle, DenotesCompound}
+use Rattle.wkt_grammar.specs.Runs.{One}
+use Rattle.wkt_grammar.specs.Leaves.{DenotesText}
+use Rattle.wkt_grammar.specs.Denotes.{DenotesParts, DenotesSingle, DenotesCompound}
 use Rattle.wkt_crs.specs.Faults.{keyword_place}
 use Rattle.wkt_crs.specs.Passing.{TellsPlace}
 use Rattle.wkt_crs.proofs.Passes.{item_start}

@@ -14,8 +14,8 @@ use Rattle.wkt_grammar.specs.declared.table.Edition.TheVariants as editions
 use Rattle.wkt_grammar.specs.declared.fault.SlotFault.{SlotFault}
 use Rattle.wkt_grammar.specs.Slots.{whole, HasFault, IsClean, IsFirst}
 use Rattle.wkt_grammar.specs.Bare.{bare}
-use Rattle.wkt_meaning.specs.Denotes.{DenotesParts}
-use Rattle.wkt_meaning.proofs.Nodes.{parts_law}
+use Rattle.wkt_grammar.specs.Denotes.{DenotesParts}
+use Rattle.wkt_grammar.proofs.Nodes.{parts_law}
 use Rattle.wkt_crs.specs.Spells.{Spells}
 use Rattle.wkt_crs.specs.Faults.{FirstSlot, FirstBroken}
 use Rattle.wkt_crs.specs.Passing.{TellsPlace}

@@ -16,9 +16,9 @@ use Rattle.wkt_grammar.specs.Bare.{Bare, Bares, text, number, word, node, none, 
 use Rattle.wkt_grammar.proofs.Fitting.{fitted_cuts, passes_of}
 use Rattle.wkt_grammar.proofs.Keywords.{node_only}
 use Rattle.wkt_write.specs.WellFormed.{WellFormed, AllWellFormed, SomeWellFormed, IsText}
-use Rattle.wkt_meaning.specs.SecondEdition.{row_of, Fitted, Fitting, AllFitting, Cuts}
-use Rattle.wkt_meaning.specs.Runs.{Fields, nothing, ◌&◌, Runs, IsNode, One, Maybe, Each, AtLeastOne}
-use Rattle.wkt_meaning.proofs.Rows.{slot}
+use Rattle.wkt_grammar.specs.SecondEdition.{row_of, Fitted, Fitting, AllFitting, Cuts}
+use Rattle.wkt_grammar.specs.Runs.{Fields, nothing, ◌&◌, Runs, IsNode, One, Maybe, Each, AtLeastOne}
+use Rattle.wkt_grammar.proofs.NodeRows.{slot}
 use Rattle.wkt_build.proofs.Rows.{takes_nodes, entered_of}
 
 -- ---- trees of which all texts and numbers can be read

@@ -9,8 +9,8 @@ use Rattle.crs_value.proofs.Checks.{none_broken}
 use Rattle.wkt_tree.proofs.Exclusion.{fault_no}
 use Rattle.wkt_tree.proofs.First as first
 use Rattle.wkt_grammar.specs.Bare.{bare}
-use Rattle.wkt_meaning.specs.Denotes.{DenotesParts}
-use Rattle.wkt_meaning.proofs.Nodes.{parts_law}
+use Rattle.wkt_grammar.specs.Denotes.{DenotesParts}
+use Rattle.wkt_grammar.proofs.Nodes.{parts_law}
 use Rattle.wkt_crs.specs.declared.fault.ReadFault.{ReadFault}
 use Rattle.wkt_crs.specs.declared.fault.ReadFault.TheVariants as fault
 use Rattle.wkt_crs.specs.Spells.{Spells}

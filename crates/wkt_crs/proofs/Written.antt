@@ -7,9 +7,9 @@ use Rattle.crs_value.specs.declared.crs.Crs.{Crs}
 use Rattle.wkt_tree.specs.Tree.{Item, IsTree, Within, tokens}
 use Rattle.wkt_tree.specs.Tree as tree
 use Rattle.wkt_grammar.specs.Bare.{Bare, Bares, node, bare}
-use Rattle.wkt_meaning.specs.Denotes.{DenotesParts}
-use Rattle.wkt_meaning.specs.Trees.{parts_tree}
-use Rattle.wkt_meaning.proofs.Nodes.{parts_law}
+use Rattle.wkt_grammar.specs.Denotes.{DenotesParts}
+use Rattle.wkt_grammar.specs.Trees.{parts_tree}
+use Rattle.wkt_grammar.proofs.Nodes.{parts_law}
 use Rattle.wkt_write.specs.Reads.{ReadsAs}
 use Rattle.wkt_write.proofs.Reading.{rendered, indented_reads}
 use Rattle.wkt_crs.specs.Spells.{Spells, canon, pretty}

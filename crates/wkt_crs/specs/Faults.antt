@@ -12,7 +12,7 @@ use Rattle.wkt_grammar.specs.declared.table.Edition.TheVariants as editions
 use Rattle.wkt_grammar.specs.declared.fault.SlotFault.{SlotFault}
 use Rattle.wkt_grammar.specs.Slots.{IsFirst, begin}
 use Rattle.wkt_grammar.specs.Bare.{bare}
-use Rattle.wkt_meaning.specs.Denotes.{DenotesParts}
+use Rattle.wkt_grammar.specs.Denotes.{DenotesParts}
 use Rattle.wkt_crs.specs.declared.fault.ReadFault.{ReadFault}
 use Rattle.wkt_crs.specs.declared.fault.ReadFault.TheVariants as fault
 

@@ -4,9 +4,9 @@ use Rattle.crs_value.specs.declared.crs.Crs.{Crs}
 use Rattle.wkt_tree.specs.Tree.{Item, tokens}
 use Rattle.wkt_tree.specs.Faults.{IsOutline}
 use Rattle.wkt_grammar.specs.Bare.{bare}
-use Rattle.wkt_meaning.specs.Denotes.{DenotesParts}
-use Rattle.wkt_meaning.specs.FirstEdition.{FirstDenotesParts}
-use Rattle.wkt_meaning.specs.Canon as meaning
+use Rattle.wkt_grammar.specs.Denotes.{DenotesParts}
+use Rattle.wkt_grammar.specs.FirstEdition.{FirstDenotesParts}
+use Rattle.wkt_grammar.specs.Canon as meaning
 
 -- the text is written with the tokens of a tree that denotes the value, which meets all conditions
 pub record Spells (text : List ℕ) (v : Crs) : Type 0 where

@@ -11,3 +11,7 @@ pub mod Fitting
 pub mod Clean
 pub mod StillClean
 mod Entered
+pub mod NodeRows
+pub mod Leaves
+pub mod Nodes
+pub mod FirstEdition

@@ -10,3 +10,11 @@ pub mod Next
 pub mod Bare
 pub mod Fitted
 pub mod Faults
+pub mod SecondEdition
+pub mod Runs
+pub mod Leaves
+pub mod Denotes
+pub mod FirstEdition
+pub mod Render
+pub mod Trees
+pub mod Canon

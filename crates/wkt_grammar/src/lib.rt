@@ -1,10 +1,11 @@
-//! The grammar: keywords, the rows of the nodes, and the first slot fault of a text that is a tree.
+//! The grammar: keywords, the rows of the nodes, the first slot fault of a text that is a tree, and what trees mean.
 #![tactic(auto)]
 
 mod argument;
 mod choice;
 mod fault;
 pub mod laws;
+pub mod meaning;
 mod names;
 mod rows;
 mod table;

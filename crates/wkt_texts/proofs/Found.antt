@@ -15,8 +15,8 @@ use Rattle.wkt_tree.proofs.Cuts.{begins_unblank}
 use Rattle.wkt_tree.proofs.Utf8.{begun_small}
 use Rattle.wkt_grammar.specs.Bare.{Bare, Bares, node}
 use Rattle.wkt_write.specs.WellFormed.{WellFormed}
-use Rattle.wkt_meaning.specs.Render.{render, render_all}
-use Rattle.wkt_meaning.specs.Trees.{parts_tree}
+use Rattle.wkt_grammar.specs.Render.{render, render_all}
+use Rattle.wkt_grammar.specs.Trees.{parts_tree}
 use Rattle.wkt_crs.proofs.GoodTrees.{canonical_good}
 use Rattle.wkt_texts.specs.Texts.{begin, IsFirstText, IsNext, AreTexts}
 use Rattle.wkt_texts.specs.Counting.{text_len}

@@ -11,7 +11,7 @@ use Rattle.wkt_tree.proofs.Lexemes.{by_mark, body, body-mark, body-plain}
 use Rattle.wkt_tree.proofs.Sound.{word_begins, number_begins}
 use Rattle.wkt_grammar.specs.Bare.{Bare, Bares, text, number, word, node, none, and}
 use Rattle.wkt_write.specs.WellFormed.{IsToken, IsText, WellFormed, SomeWellFormed, AllWellFormed}
-use Rattle.wkt_meaning.specs.Render.{render, render_all, render_behind}
+use Rattle.wkt_grammar.specs.Render.{render, render_all, render_behind}
 use Rattle.wkt_texts.specs.Texts.{is_opening, is_closing}
 use Rattle.wkt_texts.specs.Counting.{text_len}
 use Rattle.wkt_texts.proofs.Steps.{at_other, at_closing, at_last}

@@ -2,7 +2,7 @@
 use Rattle.std.proofs.Common.{◌≡◌, ℕ, suc, [], ◌∷◌, ◌++◌, refl, ap, ◌∙◌}
 use Rattle.std.proofs.Math.Numerals.{add-one}
 use Rattle.wkt_grammar.specs.Bare.{Bare, Bares, text, number, word, node, none, and}
-use Rattle.wkt_meaning.specs.Render.{render, render_all, render_behind, new_line, indent, indent_all, indent_behind, indented}
+use Rattle.wkt_grammar.specs.Render.{render, render_all, render_behind, new_line, indent, indent_all, indent_behind, indented}
 use Rattle.wkt_write.specs.declared.layout.Layout.TheVariants.{OneLine, Root, Inside}
 use Rattle.wkt_write.specs.Layout.{laid, laid_all, laid_behind}
 

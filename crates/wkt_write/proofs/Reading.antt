@@ -5,7 +5,7 @@ use Rattle.wkt_tree.specs.Tree.{tokens}
 use Rattle.wkt_tree.specs.Tokens.{Front}
 use Rattle.wkt_grammar.specs.Bare.{Bare}
 use Rattle.wkt_write.specs.WellFormed.{WellFormed}
-use Rattle.wkt_meaning.specs.Render.{render, indented}
+use Rattle.wkt_grammar.specs.Render.{render, indented}
 use Rattle.wkt_write.specs.declared.layout.Layout as layouts
 use Rattle.wkt_write.specs.declared.layout.Layout.TheVariants.{OneLine, Root}
 use Rattle.wkt_write.specs.Layout.{laid}

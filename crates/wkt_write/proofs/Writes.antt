@@ -2,7 +2,7 @@
 use Rattle.std.proofs.Common.{◌≡◌, ℕ, ◌+◌, ◌<◌, List, [], ◌∷◌, ◌++◌, length, take, get_or, map, Option, Some, None, refl, sym, ap, ◌∙◌, append_assoc, append-nil}
 use Rattle.std.proofs.lemmas.List.{take_more, map-append}
 use Rattle.wkt_grammar.specs.Bare.{Bare, Bares, node, none, and, bares}
-use Rattle.wkt_meaning.specs.Trees.{one, maybe}
+use Rattle.wkt_grammar.specs.Trees.{one, maybe}
 use Rattle.wkt_write.specs.declared.layout.Layout as layouts
 use Rattle.wkt_write.specs.Layout.{before, inner, laid, laid_all, laid_behind, behind}
 

@@ -1,7 +1,7 @@
 -- The text of a tree in a layout: on one line, or indented.
 use Rattle.std.specs.Prelude.{ℕ, ◌+◌, List, [], ◌∷◌, ◌++◌}
 use Rattle.wkt_grammar.specs.Bare.{Bare, Bares, text, number, word, node, none, and, bares}
-use Rattle.wkt_meaning.specs.Render.{new_line}
+use Rattle.wkt_grammar.specs.Render.{new_line}
 use Rattle.wkt_write.specs.declared.layout.Layout as layouts
 use Rattle.wkt_write.specs.declared.layout.Layout.TheVariants.{OneLine, Root, Inside}
 

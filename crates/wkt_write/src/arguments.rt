@@ -2,8 +2,8 @@
 
 ghost use Rattle.std.specs.Prelude.{◌≡◌, ◌++◌, ◌∷◌, [], List, ℕ, map, OnOk, IfOk};
 ghost use Rattle.wkt_grammar.specs.Words.{spelling};
-ghost use Rattle.wkt_meaning.specs.Runs.{listed};
-ghost use Rattle.wkt_meaning.specs.Trees.{one, maybe};
+ghost use Rattle.wkt_grammar.specs.Runs.{listed};
+ghost use Rattle.wkt_grammar.specs.Trees.{one, maybe};
 ghost use Rattle.wkt_write.specs.Layout.{before, inner, behind};
 
 use crate::layout::Layout;

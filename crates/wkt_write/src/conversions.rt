@@ -1,6 +1,6 @@
 //! Conversions.
 
-ghost use Rattle.wkt_meaning.specs.Trees.{parameter_tree, conversion_tree};
+ghost use Rattle.wkt_grammar.specs.Trees.{parameter_tree, conversion_tree};
 
 use crate::arguments::{push_close, push_each, push_maybe, push_one, push_open};
 use crate::identifiers::push_method;

@@ -1,8 +1,8 @@
 //! Coordinate reference systems.
 
 ghost use Rattle.std.specs.Prelude.{◌≡◌};
-ghost use Rattle.wkt_meaning.specs.Denotes.{base_keyword, geodetic_keyword};
-ghost use Rattle.wkt_meaning.specs.Trees.{base_tree, geodetic_tree, projected_tree, vertical_tree, single_tree, compound_tree, parts_tree};
+ghost use Rattle.wkt_grammar.specs.Denotes.{base_keyword, geodetic_keyword};
+ghost use Rattle.wkt_grammar.specs.Trees.{base_tree, geodetic_tree, projected_tree, vertical_tree, single_tree, compound_tree, parts_tree};
 
 use crate::arguments::{push_close, push_each, push_maybe, push_one, push_open, push_some};
 use crate::identifiers::push_geoid_models;

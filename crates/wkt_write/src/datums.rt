@@ -1,7 +1,7 @@
 //! Datums, and ensembles of them.
 
 ghost use Rattle.std.specs.Prelude.{◌≡◌, ◌++◌, OnOk};
-ghost use Rattle.wkt_meaning.specs.Trees.{one, accuracy_tree, ellipsoid_tree, prime_meridian_tree, datum_tree, vertical_datum_tree, geodetic_ensemble_tree, vertical_ensemble_tree, geodetic_frame_tree, vertical_frame_tree};
+ghost use Rattle.wkt_grammar.specs.Trees.{one, accuracy_tree, ellipsoid_tree, prime_meridian_tree, datum_tree, vertical_datum_tree, geodetic_ensemble_tree, vertical_ensemble_tree, geodetic_frame_tree, vertical_frame_tree};
 ghost use Rattle.wkt_write.specs.Layout.{laid, behind};
 
 use crate::arguments::{push_close, push_comma, push_each, push_maybe, push_one, push_open};

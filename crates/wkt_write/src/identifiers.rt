@@ -2,8 +2,8 @@
 
 ghost use Rattle.std.specs.Prelude.{◌≡◌, ◌++◌, OnOk, map};
 ghost use Rattle.wkt_grammar.specs.declared.table.Keyword.TheVariants as keywords;
-ghost use Rattle.wkt_meaning.specs.Runs.{listed};
-ghost use Rattle.wkt_meaning.specs.Trees.{one, ident_tree, named_tree};
+ghost use Rattle.wkt_grammar.specs.Runs.{listed};
+ghost use Rattle.wkt_grammar.specs.Trees.{one, ident_tree, named_tree};
 ghost use Rattle.wkt_write.specs.Layout.{laid, behind};
 
 use crate::arguments::{push_close, push_comma, push_each, push_maybe, push_one, push_open};

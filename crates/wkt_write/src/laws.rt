@@ -7,7 +7,7 @@ ghost use Rattle.crs_part.specs.declared.text.Text.{Text};
 ghost use Rattle.wkt_tree.specs.declared.token.TokenKind.TheVariants.{Word, Number};
 ghost use Rattle.wkt_tree.specs.Tokens.{quoted};
 ghost use Rattle.wkt_grammar.specs.Bare.{Bare};
-ghost use Rattle.wkt_meaning.specs.Render.{render, indented};
+ghost use Rattle.wkt_grammar.specs.Render.{render, indented};
 ghost use Rattle.wkt_write.specs.Reads.{ReadsAs};
 ghost use Rattle.wkt_write.specs.WellFormed.{IsToken, IsText, WellFormed, is_name};
 

@@ -3,7 +3,7 @@
 ghost use Rattle.std.specs.Prelude.{◌≡◌, ◌++◌, OnOk};
 ghost use Rattle.std.specs.List.{flat_map};
 ghost use Rattle.wkt_tree.specs.Tokens.{doubled};
-ghost use Rattle.wkt_meaning.specs.Trees.{text_tree, number_tree, count_tree, kind_tree, direction_tree, code_tree};
+ghost use Rattle.wkt_grammar.specs.Trees.{text_tree, number_tree, count_tree, kind_tree, direction_tree, code_tree};
 
 use crate::layout::Layout;
 use crate::written::Written;

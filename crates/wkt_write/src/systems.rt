@@ -1,6 +1,6 @@
 //! Coordinate systems and their axes.
 
-ghost use Rattle.wkt_meaning.specs.Trees.{system_tree, meridian_tree, order_tree, axis_tree};
+ghost use Rattle.wkt_grammar.specs.Trees.{system_tree, meridian_tree, order_tree, axis_tree};
 
 use crate::arguments::{push_close, push_each, push_maybe, push_one, push_open};
 use crate::layout::Layout;

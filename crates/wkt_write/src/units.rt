@@ -1,7 +1,7 @@
 //! Units.
 
 ghost use Rattle.std.specs.Prelude.{◌≡◌, ◌++◌, OnOk};
-ghost use Rattle.wkt_meaning.specs.Trees.{unit_of_tree, unit_tree, length_unit_tree, angle_unit_tree};
+ghost use Rattle.wkt_grammar.specs.Trees.{unit_of_tree, unit_tree, length_unit_tree, angle_unit_tree};
 ghost use Rattle.wkt_write.specs.Layout.{laid};
 
 use crate::arguments::{push_close, push_each, push_one, push_open};

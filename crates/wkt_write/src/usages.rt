@@ -1,6 +1,6 @@
 //! The usages of a reference system.
 
-ghost use Rattle.wkt_meaning.specs.Trees.{bounding_box_tree, vertical_extent_tree, usage_tree};
+ghost use Rattle.wkt_grammar.specs.Trees.{bounding_box_tree, vertical_extent_tree, usage_tree};
 
 use crate::arguments::{push_close, push_maybe, push_one, push_open};
 use crate::layout::Layout;

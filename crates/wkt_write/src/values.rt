@@ -2,7 +2,7 @@
 
 ghost use Rattle.std.specs.Prelude.{◌≡◌, ◌++◌, OnOk};
 ghost use Rattle.wkt_grammar.specs.declared.table.Keyword.TheVariants as keywords;
-ghost use Rattle.wkt_meaning.specs.Trees.{maybe, value_tree};
+ghost use Rattle.wkt_grammar.specs.Trees.{maybe, value_tree};
 ghost use Rattle.wkt_write.specs.Layout.{laid, behind};
 
 use crate::arguments::{push_close, push_comma, push_open};

@@ -1,7 +1,7 @@
 //! The texts of a value.
 
 ghost use Rattle.std.specs.Prelude.{◌≡◌, IfOk};
-ghost use Rattle.wkt_meaning.specs.Canon.{canon, pretty};
+ghost use Rattle.wkt_grammar.specs.Canon.{canon, pretty};
 
 use crate::layout::Layout;
 use crate::written::Written;

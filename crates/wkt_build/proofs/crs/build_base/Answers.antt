@@ -1,8 +1,8 @@
 use Rattle.wkt_grammar.specs.declared.table.Node.TheVariants as nodes
 use Rattle.wkt_grammar.specs.declared.table.SlotName.TheVariants as slots
-use Rattle.wkt_meaning.specs.Denotes.{base_fields}
-use Rattle.wkt_meaning.proofs.Leaves.{text_law}
-use Rattle.wkt_meaning.proofs.Nodes.{geodetic_frame_law}
+use Rattle.wkt_grammar.specs.Denotes.{base_fields}
+use Rattle.wkt_grammar.proofs.Leaves.{text_law}
+use Rattle.wkt_grammar.proofs.Nodes.{geodetic_frame_law}
 use Rattle.crs_part.specs.declared.crs.BaseCrs.{BaseCrs}
 use Rattle.wkt_build.proofs.Rows.{first_one, made_node, then_one}
 use Rattle.wkt_build.proofs.crs.build_base.Goals as goal

@@ -1,9 +1,9 @@
 use Rattle.std.proofs.Common.{refl}
 use Rattle.wkt_grammar.specs.declared.table.Node.TheVariants as nodes
 use Rattle.wkt_grammar.specs.declared.table.SlotName.TheVariants as slots
-use Rattle.wkt_meaning.specs.Denotes.{compound_fields}
-use Rattle.wkt_meaning.proofs.Leaves.{text_law}
-use Rattle.wkt_meaning.proofs.Nodes.{component_law, ident_law, remark_law, usage_law}
+use Rattle.wkt_grammar.specs.Denotes.{compound_fields}
+use Rattle.wkt_grammar.proofs.Leaves.{text_law}
+use Rattle.wkt_grammar.proofs.Nodes.{component_law, ident_law, remark_law, usage_law}
 use Rattle.crs_part.specs.declared.crs.Compound.{Compound}
 use Rattle.wkt_build.proofs.Rows.{done, first_one, made_node, then_each, then_maybe, then_one}
 use Rattle.wkt_build.proofs.crs.build_compound.Goals as goal

@@ -3,9 +3,9 @@ use Rattle.wkt_grammar.specs.declared.table.Node.TheVariants as nodes
 use Rattle.wkt_grammar.specs.declared.table.SlotName.TheVariants as slots
 use Rattle.wkt_grammar.specs.declared.table.Keyword.TheVariants as keywords
 use Rattle.wkt_grammar.specs.declared.table.Takes.TheVariants as kinds
-use Rattle.wkt_meaning.specs.Denotes.{geodetic_fields, DenotesGeodeticFrame, DenotesPrimeMeridian}
-use Rattle.wkt_meaning.proofs.Leaves.{text_law}
-use Rattle.wkt_meaning.proofs.Nodes.{geodetic_frame_law, prime_meridian_law}
+use Rattle.wkt_grammar.specs.Denotes.{geodetic_fields, DenotesGeodeticFrame, DenotesPrimeMeridian}
+use Rattle.wkt_grammar.proofs.Leaves.{text_law}
+use Rattle.wkt_grammar.proofs.Nodes.{geodetic_frame_law, prime_meridian_law}
 use Rattle.crs_part.specs.declared.crs.Geodetic.{Geodetic}
 use Rattle.wkt_build.specs.Reads.{BuildsSome}
 use Rattle.wkt_build.specs.Rest.{BuildsRest, ending_fields, ending_row}

@@ -3,9 +3,9 @@ use Rattle.wkt_grammar.specs.declared.table.Node.TheVariants as nodes
 use Rattle.wkt_grammar.specs.declared.table.SlotName.TheVariants as slots
 use Rattle.wkt_grammar.specs.declared.table.Keyword.TheVariants as keywords
 use Rattle.wkt_grammar.specs.declared.table.Takes.TheVariants as kinds
-use Rattle.wkt_meaning.specs.Denotes.{projected_fields, DenotesBase, DenotesConversion}
-use Rattle.wkt_meaning.proofs.Leaves.{text_law}
-use Rattle.wkt_meaning.proofs.Nodes.{base_law, conversion_law}
+use Rattle.wkt_grammar.specs.Denotes.{projected_fields, DenotesBase, DenotesConversion}
+use Rattle.wkt_grammar.proofs.Leaves.{text_law}
+use Rattle.wkt_grammar.proofs.Nodes.{base_law, conversion_law}
 use Rattle.crs_part.specs.declared.crs.Projected.{Projected}
 use Rattle.wkt_build.specs.Reads.{BuildsOne}
 use Rattle.wkt_build.specs.Rest.{BuildsRest, ending_fields, ending_row}

@@ -1,7 +1,7 @@
 use Rattle.wkt_grammar.specs.declared.table.Node.TheVariants as nodes
 use Rattle.wkt_grammar.specs.declared.table.SlotName.TheVariants as slots
-use Rattle.wkt_meaning.specs.Denotes.{accuracy_fields}
-use Rattle.wkt_meaning.proofs.Leaves.{number_law}
+use Rattle.wkt_grammar.specs.Denotes.{accuracy_fields}
+use Rattle.wkt_grammar.proofs.Leaves.{number_law}
 use Rattle.crs_number.specs.declared.decimals.Decimal.{Decimal}
 use Rattle.wkt_build.proofs.Rows.{done, first_one, made_node}
 use Rattle.wkt_build.proofs.datums.build_accuracy.Goals as goal

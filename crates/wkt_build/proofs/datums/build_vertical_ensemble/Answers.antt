@@ -1,9 +1,9 @@
 use Rattle.std.proofs.Common.{refl}
 use Rattle.wkt_grammar.specs.declared.table.Node.TheVariants as nodes
 use Rattle.wkt_grammar.specs.declared.table.SlotName.TheVariants as slots
-use Rattle.wkt_meaning.specs.Denotes.{vertical_ensemble_fields}
-use Rattle.wkt_meaning.proofs.Leaves.{text_law}
-use Rattle.wkt_meaning.proofs.Nodes.{accuracy_law, ident_law, member_law}
+use Rattle.wkt_grammar.specs.Denotes.{vertical_ensemble_fields}
+use Rattle.wkt_grammar.proofs.Leaves.{text_law}
+use Rattle.wkt_grammar.proofs.Nodes.{accuracy_law, ident_law, member_law}
 use Rattle.crs_part.specs.declared.datums.VerticalEnsemble.{VerticalEnsemble}
 use Rattle.wkt_build.proofs.Rows.{done, first_one, made_node, then_each, then_one, then_some}
 use Rattle.wkt_build.proofs.datums.build_vertical_ensemble.Goals as goal

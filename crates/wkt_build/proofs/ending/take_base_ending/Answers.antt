@@ -1,6 +1,6 @@
 use Rattle.std.proofs.Common.{refl}
 use Rattle.wkt_grammar.specs.declared.table.SlotName.TheVariants as slots
-use Rattle.wkt_meaning.proofs.Nodes.{angle_unit_law, ident_law, prime_meridian_law}
+use Rattle.wkt_grammar.proofs.Nodes.{angle_unit_law, ident_law, prime_meridian_law}
 use Rattle.wkt_build.proofs.Rows.{done, then_each, then_maybe}
 use Rattle.wkt_build.proofs.ending.take_base_ending.Goals as goal
 

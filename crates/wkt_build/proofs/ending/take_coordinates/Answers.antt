@@ -2,7 +2,7 @@ use Rattle.std.proofs.Common.{ap, ◌∙◌, None, OnOk, IfOk, ◌≡◌, refl, 
 use Rattle.wkt_grammar.specs.declared.table.Keyword.TheVariants as keywords
 use Rattle.wkt_grammar.specs.declared.table.Node.TheVariants as nodes
 use Rattle.wkt_grammar.specs.declared.table.Takes.TheVariants as kinds
-use Rattle.wkt_meaning.specs.Denotes.{DenotesAxis, DenotesUnit}
+use Rattle.wkt_grammar.specs.Denotes.{DenotesAxis, DenotesUnit}
 use Rattle.wkt_build.specs.Reads.{BuildsEach, BuildsSome}
 use Rattle.wkt_build.specs.Rest.{tail_fields, tail_row, vertical_tail_fields, vertical_tail_row}
 use Rattle.wkt_build.specs.declared.ending.Coordinates.{Coordinates}

@@ -1,6 +1,6 @@
 use Rattle.std.proofs.Common.{refl}
 use Rattle.wkt_grammar.specs.declared.table.SlotName.TheVariants as slots
-use Rattle.wkt_meaning.proofs.Nodes.{geoid_model_law}
+use Rattle.wkt_grammar.proofs.Nodes.{geoid_model_law}
 use Rattle.wkt_build.proofs.Rows.{then_each}
 use Rattle.wkt_build.proofs.ending.take_vertical_tail.Goals as goal
 

@@ -1,9 +1,9 @@
 use Rattle.std.proofs.Common.{refl}
 use Rattle.wkt_grammar.specs.declared.table.Node.TheVariants as nodes
 use Rattle.wkt_grammar.specs.declared.table.SlotName.TheVariants as slots
-use Rattle.wkt_meaning.specs.Denotes.{named_fields}
-use Rattle.wkt_meaning.proofs.Leaves.{text_law}
-use Rattle.wkt_meaning.proofs.Nodes.{ident_law}
+use Rattle.wkt_grammar.specs.Denotes.{named_fields}
+use Rattle.wkt_grammar.proofs.Leaves.{text_law}
+use Rattle.wkt_grammar.proofs.Nodes.{ident_law}
 use Rattle.crs_part.specs.declared.identifiers.Named.{Named}
 use Rattle.wkt_build.proofs.Rows.{done, first_one, made_node, then_each}
 use Rattle.wkt_build.proofs.identifiers.build_named.Goals as goal

@@ -1,7 +1,7 @@
 use Rattle.wkt_grammar.specs.declared.table.Node.TheVariants as nodes
 use Rattle.wkt_grammar.specs.declared.table.SlotName.TheVariants as slots
-use Rattle.wkt_meaning.specs.Denotes.{value_fields}
-use Rattle.wkt_meaning.proofs.Leaves.{text_law}
+use Rattle.wkt_grammar.specs.Denotes.{value_fields}
+use Rattle.wkt_grammar.proofs.Leaves.{text_law}
 use Rattle.crs_part.specs.declared.text.Text.{Text}
 use Rattle.wkt_build.proofs.Rows.{done, first_one, made_node}
 use Rattle.wkt_build.proofs.values.build_value.Goals as goal

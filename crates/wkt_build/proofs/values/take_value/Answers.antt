@@ -1,7 +1,7 @@
 use Rattle.std.proofs.Common.{List, drop, sym, ap, ◌∙◌, subst}
 use Rattle.wkt_tree.specs.Tree.{Tok}
 use Rattle.wkt_grammar.specs.declared.table.Node.TheVariants as nodes
-use Rattle.wkt_meaning.specs.Denotes.{value_fields}
+use Rattle.wkt_grammar.specs.Denotes.{value_fields}
 use Rattle.wkt_build.specs.Reads.{Next}
 use Rattle.wkt_build.proofs.Rows.{argument_result}
 use Rattle.wkt_build.proofs.values.take_value.Goals as goal

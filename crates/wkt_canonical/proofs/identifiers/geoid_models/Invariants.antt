@@ -1,5 +1,5 @@
 use Rattle.wkt_grammar.specs.declared.table.Keyword.TheVariants as keywords
-use Rattle.wkt_meaning.specs.Trees.{named_tree}
+use Rattle.wkt_grammar.specs.Trees.{named_tree}
 use Rattle.wkt_canonical.specs.Reads.{ReadsEach, any}
 use Rattle.wkt_canonical.proofs.identifiers.geoid_models.Given as goal
 

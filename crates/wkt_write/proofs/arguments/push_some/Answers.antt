@@ -1,6 +1,6 @@
 use Rattle.std.proofs.Common.{map}
 use Rattle.std.proofs.lemmas.Result.{on_ok_weaker}
-use Rattle.wkt_meaning.specs.Trees.{one}
+use Rattle.wkt_grammar.specs.Trees.{one}
 use Rattle.wkt_write.proofs.Writes.{runs}
 use Rattle.wkt_write.proofs.arguments.push_some.Goals as goal
 

@@ -1,4 +1,4 @@
-use Rattle.wkt_meaning.specs.Trees.{named_tree}
+use Rattle.wkt_grammar.specs.Trees.{named_tree}
 use Rattle.wkt_write.proofs.Writes.{nothing_more, one_more}
 use Rattle.wkt_write.proofs.identifiers.push_each_named.Goals as goal
 

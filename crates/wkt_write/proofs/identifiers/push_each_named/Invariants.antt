@@ -1,5 +1,5 @@
 use Rattle.std.proofs.Common.{◌≡◌, ◌++◌, map, take}
-use Rattle.wkt_meaning.specs.Trees.{named_tree}
+use Rattle.wkt_grammar.specs.Trees.{named_tree}
 use Rattle.wkt_write.specs.Layout.{behind}
 use Rattle.wkt_write.proofs.identifiers.push_each_named.Given as goal
 

@@ -1,7 +1,7 @@
 use Rattle.std.proofs.lemmas.Result.{on_ok_weaker}
 use Rattle.std.proofs.Common.{map}
 use Rattle.wkt_grammar.specs.declared.table.Keyword.TheVariants as keywords
-use Rattle.wkt_meaning.specs.Trees.{one, named_tree}
+use Rattle.wkt_grammar.specs.Trees.{one, named_tree}
 use Rattle.wkt_write.proofs.Writes.{runs}
 use Rattle.wkt_write.proofs.identifiers.push_members.Goals as goal
 

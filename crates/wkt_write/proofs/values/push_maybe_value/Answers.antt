@@ -1,5 +1,5 @@
 use Rattle.std.proofs.lemmas.Result.{on_ok_weaker}
-use Rattle.wkt_meaning.specs.Trees.{value_tree}
+use Rattle.wkt_grammar.specs.Trees.{value_tree}
 use Rattle.wkt_write.proofs.Writes.{argument, none_given, one_given}
 use Rattle.wkt_write.proofs.values.push_maybe_value.Goals as goal
 

@@ -1,5 +1,5 @@
 use Rattle.std.proofs.Common.{ℕ, List, ◌++◌, ap, ◌∙◌}
-use Rattle.wkt_meaning.specs.Trees.{parts_tree}
+use Rattle.wkt_grammar.specs.Trees.{parts_tree}
 use Rattle.wkt_write.specs.declared.layout.Layout.TheVariants.{Root}
 use Rattle.wkt_write.specs.Layout.{laid}
 use Rattle.wkt_write.proofs.Layouts.{at_the_root}

@@ -2,9 +2,9 @@ use Rattle.std.proofs.Common.{refl}
 use Rattle.wkt_grammar.specs.declared.table.Keyword.TheVariants as keywords
 use Rattle.wkt_grammar.specs.declared.table.Node.TheVariants as nodes
 use Rattle.wkt_grammar.specs.declared.table.SlotName.TheVariants as slots
-use Rattle.wkt_meaning.specs.Denotes.{conversion_fields}
-use Rattle.wkt_meaning.proofs.Leaves.{text_law}
-use Rattle.wkt_meaning.proofs.Nodes.{ident_law, method_law, parameter_law}
+use Rattle.wkt_grammar.specs.Denotes.{conversion_fields}
+use Rattle.wkt_grammar.proofs.Leaves.{text_law}
+use Rattle.wkt_grammar.proofs.Nodes.{ident_law, method_law, parameter_law}
 use Rattle.crs_part.specs.declared.conversions.Conversion.{Conversion}
 use Rattle.wkt_build.proofs.Rows.{done, first_one, made_argument, made_node, then_each, then_one}
 use Rattle.wkt_build.proofs.conversions.ConversionBuilt.build.Goals as goal

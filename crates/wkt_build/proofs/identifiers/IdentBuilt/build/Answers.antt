@@ -2,9 +2,9 @@ use Rattle.std.proofs.Common.{refl}
 use Rattle.wkt_grammar.specs.declared.table.Keyword.TheVariants as keywords
 use Rattle.wkt_grammar.specs.declared.table.Node.TheVariants as nodes
 use Rattle.wkt_grammar.specs.declared.table.SlotName.TheVariants as slots
-use Rattle.wkt_meaning.specs.Denotes.{ident_fields}
-use Rattle.wkt_meaning.proofs.Leaves.{code_law, text_law}
-use Rattle.wkt_meaning.proofs.Nodes.{citation_law, uri_law}
+use Rattle.wkt_grammar.specs.Denotes.{ident_fields}
+use Rattle.wkt_grammar.proofs.Leaves.{code_law, text_law}
+use Rattle.wkt_grammar.proofs.Nodes.{citation_law, uri_law}
 use Rattle.crs_part.specs.declared.identifiers.Ident.{Ident}
 use Rattle.wkt_build.proofs.Rows.{done, first_one, made_argument, made_node, then_maybe, then_one}
 use Rattle.wkt_build.proofs.identifiers.IdentBuilt.build.Goals as goal

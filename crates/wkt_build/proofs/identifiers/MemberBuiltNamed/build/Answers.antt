@@ -1,6 +1,6 @@
 use Rattle.wkt_grammar.specs.declared.table.Keyword.TheVariants as keywords
 use Rattle.wkt_grammar.specs.declared.table.Node.TheVariants as nodes
-use Rattle.wkt_meaning.specs.Denotes.{named_fields}
+use Rattle.wkt_grammar.specs.Denotes.{named_fields}
 use Rattle.wkt_build.proofs.Rows.{argument_result}
 use Rattle.wkt_build.proofs.identifiers.MemberBuiltNamed.build.Goals as goal
 

@@ -2,9 +2,9 @@ use Rattle.std.proofs.Common.{refl}
 use Rattle.wkt_grammar.specs.declared.table.Keyword.TheVariants as keywords
 use Rattle.wkt_grammar.specs.declared.table.Node.TheVariants as nodes
 use Rattle.wkt_grammar.specs.declared.table.SlotName.TheVariants as slots
-use Rattle.wkt_meaning.specs.Denotes.{system_fields}
-use Rattle.wkt_meaning.proofs.Leaves.{count_law, kind_law}
-use Rattle.wkt_meaning.proofs.Nodes.{ident_law}
+use Rattle.wkt_grammar.specs.Denotes.{system_fields}
+use Rattle.wkt_grammar.proofs.Leaves.{count_law, kind_law}
+use Rattle.wkt_grammar.proofs.Nodes.{ident_law}
 use Rattle.crs_part.specs.declared.systems.CoordSystem.{CoordSystem}
 use Rattle.wkt_build.proofs.Rows.{count_as, done, first_one, made_argument, made_node, then_each, then_one, made_as, each_as}
 use Rattle.wkt_build.proofs.systems.CoordSystemBuilt.build.Goals as goal

@@ -1,9 +1,9 @@
 use Rattle.wkt_grammar.specs.declared.table.Keyword.TheVariants as keywords
 use Rattle.wkt_grammar.specs.declared.table.Node.TheVariants as nodes
 use Rattle.wkt_grammar.specs.declared.table.SlotName.TheVariants as slots
-use Rattle.wkt_meaning.specs.Denotes.{meridian_fields}
-use Rattle.wkt_meaning.proofs.Leaves.{number_law}
-use Rattle.wkt_meaning.proofs.Nodes.{angle_unit_law}
+use Rattle.wkt_grammar.specs.Denotes.{meridian_fields}
+use Rattle.wkt_grammar.proofs.Leaves.{number_law}
+use Rattle.wkt_grammar.proofs.Nodes.{angle_unit_law}
 use Rattle.crs_part.specs.declared.systems.Meridian.{Meridian}
 use Rattle.wkt_build.proofs.Rows.{done, first_one, made_argument, made_node, then_one}
 use Rattle.wkt_build.proofs.systems.MeridianBuilt.build.Goals as goal

@@ -1,8 +1,8 @@
 use Rattle.wkt_grammar.specs.declared.table.Keyword.TheVariants as keywords
 use Rattle.wkt_grammar.specs.declared.table.Node.TheVariants as nodes
 use Rattle.wkt_grammar.specs.declared.table.SlotName.TheVariants as slots
-use Rattle.wkt_meaning.specs.Denotes.{order_fields}
-use Rattle.wkt_meaning.proofs.Leaves.{count_law}
+use Rattle.wkt_grammar.specs.Denotes.{order_fields}
+use Rattle.wkt_grammar.proofs.Leaves.{count_law}
 use Rattle.crs_part.specs.declared.systems.Order.{Order}
 use Rattle.wkt_build.proofs.Rows.{count_as, done, first_one, made_argument, made_node}
 use Rattle.wkt_build.proofs.systems.OrderBuilt.build.Goals as goal

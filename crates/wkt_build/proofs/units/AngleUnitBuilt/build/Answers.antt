@@ -1,4 +1,4 @@
-use Rattle.wkt_meaning.specs.Denotes.{DenotesAngleUnit}
+use Rattle.wkt_grammar.specs.Denotes.{DenotesAngleUnit}
 use Rattle.wkt_build.specs.Choices.{angle_unit_as}
 use Rattle.wkt_build.proofs.Chosen.{angle_unit_made, as_chosen}
 use Rattle.wkt_build.proofs.units.AngleUnitBuilt.build.Goals as goal

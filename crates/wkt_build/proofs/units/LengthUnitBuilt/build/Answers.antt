@@ -1,4 +1,4 @@
-use Rattle.wkt_meaning.specs.Denotes.{DenotesLengthUnit}
+use Rattle.wkt_grammar.specs.Denotes.{DenotesLengthUnit}
 use Rattle.wkt_build.specs.Choices.{length_unit_as}
 use Rattle.wkt_build.proofs.Chosen.{length_unit_made, as_chosen}
 use Rattle.wkt_build.proofs.units.LengthUnitBuilt.build.Goals as goal

@@ -1,4 +1,4 @@
-use Rattle.wkt_meaning.specs.Denotes.{DenotesUnit}
+use Rattle.wkt_grammar.specs.Denotes.{DenotesUnit}
 use Rattle.wkt_build.specs.Choices.{unit_as}
 use Rattle.wkt_build.proofs.Chosen.{unit_made, as_chosen}
 use Rattle.wkt_build.proofs.units.UnitBuilt.build.Goals as goal

@@ -1,8 +1,8 @@
 use Rattle.wkt_grammar.specs.declared.table.Keyword.TheVariants as keywords
 use Rattle.wkt_grammar.specs.declared.table.Node.TheVariants as nodes
 use Rattle.wkt_grammar.specs.declared.table.SlotName.TheVariants as slots
-use Rattle.wkt_meaning.specs.Denotes.{bounding_box_fields}
-use Rattle.wkt_meaning.proofs.Leaves.{number_law}
+use Rattle.wkt_grammar.specs.Denotes.{bounding_box_fields}
+use Rattle.wkt_grammar.proofs.Leaves.{number_law}
 use Rattle.crs_part.specs.declared.usages.BoundingBox.{BoundingBox}
 use Rattle.wkt_build.proofs.Rows.{done, first_one, made_argument, made_node, then_one}
 use Rattle.wkt_build.proofs.usages.BoundingBoxBuilt.build.Goals as goal

@@ -2,8 +2,8 @@ use Rattle.std.proofs.Common.{refl}
 use Rattle.wkt_grammar.specs.declared.table.Keyword.TheVariants as keywords
 use Rattle.wkt_grammar.specs.declared.table.Node.TheVariants as nodes
 use Rattle.wkt_grammar.specs.declared.table.SlotName.TheVariants as slots
-use Rattle.wkt_meaning.specs.Denotes.{usage_fields}
-use Rattle.wkt_meaning.proofs.Nodes.{area_law, bounding_box_law, scope_law, vertical_extent_law}
+use Rattle.wkt_grammar.specs.Denotes.{usage_fields}
+use Rattle.wkt_grammar.proofs.Nodes.{area_law, bounding_box_law, scope_law, vertical_extent_law}
 use Rattle.crs_part.specs.declared.usages.Usage.{Usage}
 use Rattle.wkt_build.proofs.Rows.{done, first_one, made_argument, made_node, then_maybe}
 use Rattle.wkt_build.proofs.usages.UsageBuilt.build.Goals as goal

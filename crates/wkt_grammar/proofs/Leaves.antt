@@ -33,12 +33,12 @@ use Rattle.wkt_grammar.specs.Rows.{takes}
 use Rattle.wkt_grammar.specs.Words.{is_cs_kind, is_direction}
 use Rattle.wkt_grammar.specs.Slots.{number_argument, word_argument}
 use Rattle.wkt_grammar.specs.Bare.{Bare, text, number, word}
-use Rattle.wkt_meaning.specs.SecondEdition.{Fitting}
-use Rattle.wkt_meaning.specs.Leaves.{undoubled, SameWord, DenotesText, DenotesNumber, DenotesCount, DenotesWord}
+use Rattle.wkt_grammar.specs.SecondEdition.{Fitting}
+use Rattle.wkt_grammar.specs.Leaves.{undoubled, SameWord, DenotesText, DenotesNumber, DenotesCount, DenotesWord}
 use Rattle.crs_part.specs.Words.{system_word, direction_word, first_word, kinds_listed, directions_listed}
-use Rattle.wkt_meaning.specs.Denotes.{DenotesCode}
-use Rattle.wkt_meaning.specs.Trees.{text_tree, number_tree, count_tree, kind_tree, direction_tree, code_tree}
-use Rattle.wkt_meaning.proofs.Rows.{Law}
+use Rattle.wkt_grammar.specs.Denotes.{DenotesCode}
+use Rattle.wkt_grammar.specs.Trees.{text_tree, number_tree, count_tree, kind_tree, direction_tree, code_tree}
+use Rattle.wkt_grammar.proofs.NodeRows.{Law}
 
 -- ---- texts
 

@@ -49,8 +49,8 @@ use Rattle.wkt_grammar.specs.declared.table.Keyword.{Keyword}
 use Rattle.wkt_grammar.specs.declared.table.Keyword.TheVariants as keywords
 use Rattle.wkt_grammar.specs.Words.{spelling}
 use Rattle.wkt_grammar.specs.Bare.{Bare, text, number, word, node, bares}
-use Rattle.wkt_meaning.specs.Denotes.{geodetic_keyword, base_keyword}
-use Rattle.wkt_meaning.specs.Runs.{listed}
+use Rattle.wkt_grammar.specs.Denotes.{geodetic_keyword, base_keyword}
+use Rattle.wkt_grammar.specs.Runs.{listed}
 use Rattle.crs_part.specs.Words.{system_word, direction_word}
 
 -- ---- runs of arguments

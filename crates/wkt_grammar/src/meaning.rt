@@ -4,10 +4,10 @@ ghost use Rattle.std.specs.Prelude.{◌≡◌};
 ghost use Rattle.crs_part.specs.declared.crs.CrsParts.{CrsParts};
 ghost use Rattle.wkt_grammar.specs.declared.table.Takes.TheVariants as kinds;
 ghost use Rattle.wkt_grammar.specs.Bare.{Bare};
-ghost use Rattle.wkt_meaning.specs.SecondEdition.{Fitting};
-ghost use Rattle.wkt_meaning.specs.Denotes.{DenotesParts};
-ghost use Rattle.wkt_meaning.specs.FirstEdition.{FirstDenotesParts, NothingAdded};
-ghost use Rattle.wkt_meaning.specs.Trees.{parts_tree};
+ghost use Rattle.wkt_grammar.specs.SecondEdition.{Fitting};
+ghost use Rattle.wkt_grammar.specs.Denotes.{DenotesParts};
+ghost use Rattle.wkt_grammar.specs.FirstEdition.{FirstDenotesParts, NothingAdded};
+ghost use Rattle.wkt_grammar.specs.Trees.{parts_tree};
 
 /// A tree denotes at most one value.
 pub fn one_value()

@@ -20,9 +20,9 @@ use Rattle.wkt_grammar.specs.declared.table.Keyword.TheVariants as keywords
 use Rattle.wkt_grammar.specs.declared.table.Argument.{Argument}
 use Rattle.wkt_grammar.specs.Rows.{takes, Times, row_of}
 use Rattle.wkt_grammar.specs.Bare.{Bare, args}
-use Rattle.wkt_meaning.specs.Runs.{Fields, nothing, ◌&◌, Runs, IsNodeIn, One, Maybe, Each}
-use Rattle.wkt_meaning.specs.Denotes.{DenotesVerticalExtent, DenotesNamed, usage_fields, DenotesUsage, geodetic_keyword, geodetic_fields, DenotesGeodetic, projected_fields, DenotesProjected, vertical_fields, DenotesVertical, DenotesSingle, compound_fields, DenotesCompound, DenotesParts}
-use Rattle.wkt_meaning.specs.FirstEdition.{first_usage_fields, FirstDenotesUsage, first_geodetic_fields, FirstDenotesGeodetic, first_projected_fields, FirstDenotesProjected, first_vertical_fields, FirstDenotesVertical, FirstDenotesSingle, first_compound_fields, FirstDenotesCompound, FirstDenotesParts, HasNoExtents, AddsNothing, NothingAdded}
+use Rattle.wkt_grammar.specs.Runs.{Fields, nothing, ◌&◌, Runs, IsNodeIn, One, Maybe, Each}
+use Rattle.wkt_grammar.specs.Denotes.{DenotesVerticalExtent, DenotesNamed, usage_fields, DenotesUsage, geodetic_keyword, geodetic_fields, DenotesGeodetic, projected_fields, DenotesProjected, vertical_fields, DenotesVertical, DenotesSingle, compound_fields, DenotesCompound, DenotesParts}
+use Rattle.wkt_grammar.specs.FirstEdition.{first_usage_fields, FirstDenotesUsage, first_geodetic_fields, FirstDenotesGeodetic, first_projected_fields, FirstDenotesProjected, first_vertical_fields, FirstDenotesVertical, FirstDenotesSingle, first_compound_fields, FirstDenotesCompound, FirstDenotesParts, HasNoExtents, AddsNothing, NothingAdded}
 
 -- ---- from one row to another, slot by slot
 

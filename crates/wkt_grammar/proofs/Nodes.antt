@@ -30,12 +30,12 @@ use Rattle.wkt_grammar.specs.declared.table.Takes.TheVariants as kinds
 use Rattle.wkt_grammar.specs.Rows.{enters}
 use Rattle.wkt_grammar.specs.declared.table.Node.{Node}
 use Rattle.wkt_grammar.specs.Bare.{Bare}
-use Rattle.wkt_meaning.specs.SecondEdition.{Fitting}
-use Rattle.wkt_meaning.specs.Runs.{Fields, IsNode}
-use Rattle.wkt_meaning.specs.Denotes.{DenotesValue, DenotesIdent, DenotesNamed, DenotesUnitOf, DenotesUnit, DenotesLengthUnit, DenotesAngleUnit, DenotesBoundingBox, DenotesVerticalExtent, DenotesUsage, DenotesEllipsoid, DenotesPrimeMeridian, DenotesDatum, DenotesVerticalDatum, DenotesAccuracy, DenotesGeodeticEnsemble, DenotesVerticalEnsemble, DenotesGeodeticFrame, DenotesVerticalFrame, DenotesSystem, DenotesMeridian, DenotesOrder, DenotesAxis, DenotesParameter, DenotesConversion, geodetic_keyword, base_keyword, DenotesBase, DenotesGeodetic, DenotesProjected, DenotesVertical, DenotesSingle, DenotesCompound, DenotesParts}
-use Rattle.wkt_meaning.specs.Trees.{value_tree, ident_tree, named_tree, unit_of_tree, unit_tree, length_unit_tree, angle_unit_tree, bounding_box_tree, vertical_extent_tree, usage_tree, ellipsoid_tree, prime_meridian_tree, datum_tree, vertical_datum_tree, accuracy_tree, geodetic_ensemble_tree, vertical_ensemble_tree, geodetic_frame_tree, vertical_frame_tree, system_tree, meridian_tree, order_tree, axis_tree, parameter_tree, conversion_tree, base_tree, geodetic_tree, projected_tree, vertical_tree, single_tree, compound_tree, parts_tree}
-use Rattle.wkt_meaning.proofs.Rows.{Law, done, one, maybe, each, some, ◌>>◌, node_law, same_keyword}
-use Rattle.wkt_meaning.proofs.Leaves.{text_law, number_law, code_law, kind_law, direction_law, count_law, Small}
+use Rattle.wkt_grammar.specs.SecondEdition.{Fitting}
+use Rattle.wkt_grammar.specs.Runs.{Fields, IsNode}
+use Rattle.wkt_grammar.specs.Denotes.{DenotesValue, DenotesIdent, DenotesNamed, DenotesUnitOf, DenotesUnit, DenotesLengthUnit, DenotesAngleUnit, DenotesBoundingBox, DenotesVerticalExtent, DenotesUsage, DenotesEllipsoid, DenotesPrimeMeridian, DenotesDatum, DenotesVerticalDatum, DenotesAccuracy, DenotesGeodeticEnsemble, DenotesVerticalEnsemble, DenotesGeodeticFrame, DenotesVerticalFrame, DenotesSystem, DenotesMeridian, DenotesOrder, DenotesAxis, DenotesParameter, DenotesConversion, geodetic_keyword, base_keyword, DenotesBase, DenotesGeodetic, DenotesProjected, DenotesVertical, DenotesSingle, DenotesCompound, DenotesParts}
+use Rattle.wkt_grammar.specs.Trees.{value_tree, ident_tree, named_tree, unit_of_tree, unit_tree, length_unit_tree, angle_unit_tree, bounding_box_tree, vertical_extent_tree, usage_tree, ellipsoid_tree, prime_meridian_tree, datum_tree, vertical_datum_tree, accuracy_tree, geodetic_ensemble_tree, vertical_ensemble_tree, geodetic_frame_tree, vertical_frame_tree, system_tree, meridian_tree, order_tree, axis_tree, parameter_tree, conversion_tree, base_tree, geodetic_tree, projected_tree, vertical_tree, single_tree, compound_tree, parts_tree}
+use Rattle.wkt_grammar.proofs.NodeRows.{Law, done, one, maybe, each, some, ◌>>◌, node_law, same_keyword}
+use Rattle.wkt_grammar.proofs.Leaves.{text_law, number_law, code_law, kind_law, direction_law, count_law, Small}
 
 -- ---- values, identifiers
 

@@ -16,9 +16,9 @@ use Rattle.wkt_grammar.specs.declared.table.Keyword.TheVariants as keywords
 use Rattle.wkt_grammar.specs.declared.table.Node.{Node}
 use Rattle.wkt_grammar.specs.declared.table.Node.TheVariants as nodes
 use Rattle.wkt_grammar.specs.Bare.{Bare}
-use Rattle.wkt_meaning.specs.Runs.{Fields, nothing, ◌&◌, IsNodeIn, One, Maybe, Each, AtLeastOne}
-use Rattle.wkt_meaning.specs.Leaves.{DenotesText}
-use Rattle.wkt_meaning.specs.Denotes.{DenotesValue, DenotesIdent, DenotesUnit, DenotesBoundingBox, DenotesPrimeMeridian, DenotesGeodeticFrame, DenotesVerticalFrame, DenotesSystem, DenotesAxis, DenotesConversion, DenotesBase, geodetic_keyword}
+use Rattle.wkt_grammar.specs.Runs.{Fields, nothing, ◌&◌, IsNodeIn, One, Maybe, Each, AtLeastOne}
+use Rattle.wkt_grammar.specs.Leaves.{DenotesText}
+use Rattle.wkt_grammar.specs.Denotes.{DenotesValue, DenotesIdent, DenotesUnit, DenotesBoundingBox, DenotesPrimeMeridian, DenotesGeodeticFrame, DenotesVerticalFrame, DenotesSystem, DenotesAxis, DenotesConversion, DenotesBase, geodetic_keyword}
 
 -- a node whose arguments are a row of the first edition with these fields
 abbrev pub IsFirstNode : Keyword → Node → Fields → Bare → Type 0

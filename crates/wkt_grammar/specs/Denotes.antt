@@ -46,8 +46,8 @@ use Rattle.wkt_grammar.specs.declared.table.Keyword.{Keyword}
 use Rattle.wkt_grammar.specs.declared.table.Keyword.TheVariants as keywords
 use Rattle.wkt_grammar.specs.declared.table.Node.TheVariants as nodes
 use Rattle.wkt_grammar.specs.Bare.{Bare}
-use Rattle.wkt_meaning.specs.Runs.{Fields, nothing, ◌&◌, IsNode, One, Maybe, Each, AtLeastOne}
-use Rattle.wkt_meaning.specs.Leaves.{DenotesText, DenotesNumber, DenotesCount, DenotesWord}
+use Rattle.wkt_grammar.specs.Runs.{Fields, nothing, ◌&◌, IsNode, One, Maybe, Each, AtLeastOne}
+use Rattle.wkt_grammar.specs.Leaves.{DenotesText, DenotesNumber, DenotesCount, DenotesWord}
 use Rattle.crs_part.specs.Words.{system_word, direction_word}
 
 -- SCOPE, AREA, ANCHOR, CITATION, URI, REMARK: a text

@@ -22,10 +22,10 @@ use Rattle.wkt_grammar.specs.Slots.{argument_by}
 use Rattle.wkt_grammar.specs.Bare.{Bare, Bares, node, args, bares, shape}
 use Rattle.wkt_grammar.specs.Fitted.{entered}
 use Rattle.wkt_grammar.proofs.Fitting.{cuts_fitted}
-use Rattle.wkt_meaning.specs.SecondEdition.{row_of, Fitted, Fitting, AllFitting, Cuts}
-use Rattle.wkt_meaning.specs.Runs.{Fields, nothing, ◌&◌, Runs, IsNode, One, Maybe, Each, listed, AtLeastOne}
+use Rattle.wkt_grammar.specs.SecondEdition.{row_of, Fitted, Fitting, AllFitting, Cuts}
+use Rattle.wkt_grammar.specs.Runs.{Fields, nothing, ◌&◌, Runs, IsNode, One, Maybe, Each, listed, AtLeastOne}
 use Rattle.crs_part.specs.declared.many.NonEmpty.{NonEmpty}
-use Rattle.wkt_meaning.specs.Trees as trees
+use Rattle.wkt_grammar.specs.Trees as trees
 
 -- ---- what fits
 

@@ -1,5 +1,5 @@
-use Rattle.wkt_meaning.proofs.FirstEdition.{parts_before, parts_still}
-use Rattle.wkt_meaning.proofs.laws.first_edition.Goals as goal
+use Rattle.wkt_grammar.proofs.FirstEdition.{parts_before, parts_still}
+use Rattle.wkt_grammar.proofs.meaning.first_edition.Goals as goal
 
 pub returns-clause-still : goal.returns-clause-still
 returns-clause-still c = parts_still

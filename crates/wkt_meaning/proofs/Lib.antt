@@ -1,4 +1,0 @@
-pub mod Rows
-pub mod Leaves
-pub mod Nodes
-pub mod FirstEdition

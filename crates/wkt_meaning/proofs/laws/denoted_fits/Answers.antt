@@ -1,5 +1,0 @@
-use Rattle.wkt_meaning.proofs.Nodes.{parts_law}
-use Rattle.wkt_meaning.proofs.laws.denoted_fits.Goals as goal
-
-pub returns : goal.returns
-returns c = parts_law.fits
