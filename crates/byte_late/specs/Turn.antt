@@ -1,0 +1,11 @@
+-- How far the turn of a file has come.
+use Rattle.std.specs.Prelude.{Bool, true, false}
+use Rattle.byte_late.specs.declared.file.Turn.{Turn}
+use Rattle.byte_late.specs.declared.file.Turn.TheVariants as turn
+
+-- it did not open
+abbrev pub is_shut : {F : Type 0} → Turn F → Bool
+is_shut turn.Waits = false
+is_shut (turn.Open file) = false
+is_shut turn.Closed = false
+is_shut turn.Shut = true

@@ -1,0 +1,106 @@
+//! A source that is the file of a path.
+
+ghost use Rattle.std.specs.Prelude.{◌≡◌, false, None};
+ghost use Rattle.byte_io.specs.Device.{source_of};
+
+use crate::source::LateSource;
+use byte_io::{DeviceFault, Log, Source, Tally};
+use std::fs;
+use std::io::Read;
+use std::rt::Files;
+
+// How far the turn of a file has come.
+#[derive(Drop)]
+enum Turn<F> {
+    Waits,
+    Open(F),
+    Closed,
+    Shut,
+}
+
+/// The file of a path, which is opened at its first read. No contract says what the system has there.
+#[derive(Drop)]
+pub struct LateFile<'a, R: Files> {
+    rt: &'a R,
+    path: &'a str,
+    turn: Turn<R::File>,
+    given: Log,
+    failures: Tally,
+    ends: Tally,
+}
+
+impl<'a, R: Files> LateFile<'a, R> {
+    /// The file of a path. Nothing is opened yet.
+    pub fn new(rt: &'a R, path: &'a str) -> LateFile<'a, R>
+        ensures path { result.path ≡ path.entry }
+        ensures fresh { ⟦<LateFile<'a, R> as Source>⟧.state result ≡ source_of None }
+        ensures waits { ⟦<LateFile<'a, R> as LateSource>⟧.shut result ≡ false }
+    {
+        LateFile {
+            rt,
+            path,
+            turn: Turn::Waits,
+            given: Log::empty(),
+            failures: Tally::none(),
+            ends: Tally::none(),
+        }
+    }
+}
+
+impl<R: Files> Source for LateFile<'_, R> {
+    ghost state = { λ s. record {
+      left = None;
+      given = s.given.bytes;
+      failures = s.failures.count;
+      ends = s.ends.count;
+    } };
+
+    fn read_some(&mut self, buf: &mut [u8]) -> Result<usize, DeviceFault> {
+        if matches!(&self.turn, Turn::Waits) {
+            self.turn = match fs::open(self.rt, self.path) {
+                Ok(file) => Turn::Open(file),
+                Err(_) => Turn::Shut,
+            };
+        }
+        let read = match &mut self.turn {
+            Turn::Open(file) => file.read(buf).map_err(|_| DeviceFault),
+            Turn::Closed => Ok(0),
+            Turn::Waits => Err(DeviceFault),
+            Turn::Shut => Err(DeviceFault),
+        };
+        match read {
+            Ok(n) => {
+                if n == 0 && !buf.is_empty() {
+                    self.ends = Tally::after(&self.ends);
+                }
+                self.given.note(&buf[..n]);
+                Ok(n)
+            }
+            Err(_) => {
+                self.failures = Tally::after(&self.failures);
+                Err(DeviceFault)
+            }
+        }
+    }
+}
+
+impl<R: Files> LateSource for LateFile<'_, R> {
+    ghost use Rattle.byte_late.specs.Turn.{is_shut};
+
+    ghost shut = { λ s. is_shut s.turn };
+
+    fn is_shut(&self) -> bool {
+        match &self.turn {
+            Turn::Shut => true,
+            Turn::Waits => false,
+            Turn::Open(_) => false,
+            Turn::Closed => false,
+        }
+    }
+
+    fn close(&mut self) {
+        if let Turn::Open(_) = &self.turn {
+            self.turn = Turn::Closed;
+        }
+    }
+}
