@@ -32,7 +32,7 @@ value_or_fault text v fault.Memory s h = refl
 
 -- a text that spells a value has no fault of its tokens or slots
 pub spelled_is_grammatical : (text : List ℕ) (v : Crs) → Spells text v → IsGrammatical text
-spelled_is_grammatical text v s = (λ f h. fault_no text f h s.outline, λ f h. no_slot_fault text v.parts f (of_spells text v s) h)
+spelled_is_grammatical text v s = (λ f h. fault_no text _ f h s.outline, λ f h. no_slot_fault text v.parts f (of_spells text v s) h)
 
 who_of : Option Broken → Whose → Whose
 who_of None who = who

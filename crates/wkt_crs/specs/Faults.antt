@@ -25,7 +25,7 @@ pub record FirstSlot (text : List ℕ) (f : SlotFault) : Type 0 where
 
 -- the text has no fault of its tokens, and none of its slots
 abbrev pub IsGrammatical : List ℕ → Type 0
-IsGrammatical text = ((f : TextFault) → ¬ (tree.FirstFault text f)) × ((f : SlotFault) → ¬ (FirstSlot text f))
+IsGrammatical bytes = ((f : TextFault) → ¬ (tree.FirstFault bytes f)) × ((f : SlotFault) → ¬ (FirstSlot bytes f))
 
 -- where the first of these items begins
 abbrev pub first_begin : Items → ℕ
