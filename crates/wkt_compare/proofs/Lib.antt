@@ -1,0 +1,3 @@
+pub mod LineLemmas
+mod StepLemmas
+mod HunkLemmas

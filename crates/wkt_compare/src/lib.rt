@@ -1,0 +1,13 @@
+//! Compares two texts line by line, and writes what differs as a unified diff.
+#![tactic(auto)]
+
+mod hunk;
+mod lines;
+mod near;
+mod steps;
+mod table;
+mod writing;
+
+pub use lines::lines_of;
+pub use steps::{Line, Side, compared};
+pub use writing::unified;
