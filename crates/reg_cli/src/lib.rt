@@ -6,6 +6,7 @@ mod command;
 mod exchange;
 mod look;
 mod outcome;
+mod shells;
 mod stores;
 mod words;
 

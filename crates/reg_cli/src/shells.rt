@@ -1,0 +1,18 @@
+//! `completions`.
+use crate::outcome::print;
+use crate::words::word;
+use clap::ArgMatches;
+use cli_words::{Shell, command_line, completion_script};
+use reg_desk::CliFault;
+
+/// `completions`, if there is a shell of the name.
+pub fn completions(rt: &HostRuntime, matches: &ArgMatches<'_>) -> Option<Result<(), CliFault>> {
+    let shell = Shell::named(word(matches, "SHELL"))?;
+    let Ok(whole) = command_line(rt.alloc(), None) else {
+        return Some(Err(CliFault::Memory));
+    };
+    match completion_script(rt.alloc(), &whole, shell) {
+        Ok(script) => Some(print(rt, &script)),
+        Err(_) => Some(Err(CliFault::Memory)),
+    }
+}
