@@ -1,0 +1,4 @@
+pub mod Shown
+pub mod Shape
+pub mod Templates
+pub mod Words

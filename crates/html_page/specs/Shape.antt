@@ -1,0 +1,60 @@
+-- The shape of what is shown: the same without the texts.
+use Rattle.std.specs.Prelude.{ℕ, List, [], map}
+use Rattle.html_page.specs.declared.head.Figures.{Figures}
+use Rattle.html_page.specs.Shown.{Link, Entered, Awaited, Event, SupersededBy, RetiredBy, Entry, Word, Side, Pair, Conflict, Gap, Shown}
+
+abbrev pub no_text : List ℕ → List ℕ
+no_text text = []
+
+abbrev pub figures_shape : Figures
+figures_shape = record { entries = 0; valid = 0; superseded = 0; retired = 0; conflicts = 0; awaited = 0; gaps = 0; operations = 0 }
+
+abbrev pub link_shape : Link → Link
+link_shape (Entered id authority code) = Entered [] [] []
+link_shape (Awaited id) = Awaited []
+
+abbrev pub event_shape : Event → Event
+event_shape (SupersededBy newer id note) = SupersededBy (link_shape newer) [] []
+event_shape (RetiredBy id note) = RetiredBy [] []
+
+-- what stays of an entry is how many areas, links and operations it has, and its status
+abbrev pub entry_shape : Entry → Entry
+entry_shape e = record {
+  id = [];
+  authority = [];
+  code = [];
+  name = [];
+  areas = map no_text e.areas;
+  kind = [];
+  standing = e.standing;
+  links = map link_shape e.links;
+  text = [];
+  note = [];
+  events = map event_shape e.events;
+}
+
+-- what stays of a word is whether it is marked
+abbrev pub word_shape : Word → Word
+word_shape w = record { differs = w.differs; text = [] }
+
+abbrev pub side_shape : Side → Side
+side_shape s = record { id = []; note = []; words = map word_shape s.words }
+
+abbrev pub pair_shape : Pair → Pair
+pair_shape p = record { first = side_shape p.first; second = side_shape p.second }
+
+abbrev pub conflict_shape : Conflict → Conflict
+conflict_shape c = record { authority = []; code = []; pairs = map pair_shape c.pairs }
+
+abbrev pub gap_shape : Gap → Gap
+gap_shape g = record { replica = []; low = 0; high = 0 }
+
+abbrev pub shape : Shown → Shown
+shape s = record {
+  title = [];
+  figures = figures_shape;
+  conflicts = map conflict_shape s.conflicts;
+  awaited = map no_text s.awaited;
+  gaps = map gap_shape s.gaps;
+  entries = map entry_shape s.entries;
+}

@@ -1,0 +1,60 @@
+-- What the page of a register shows. Ids, keys, names, areas and notes are texts.
+use Rattle.std.specs.Prelude.{ℕ, Bool, List}
+use Rattle.html_page.specs.declared.head.Figures.{Figures}
+use Rattle.html_page.specs.declared.standing.Standing.{Standing}
+
+-- an entry that another one names, with its key; or the id of one that was not entered
+pub data Link : Type 0 where
+  Entered : List ℕ → List ℕ → List ℕ → Link
+  Awaited : List ℕ → Link
+
+-- an operation on an entry, with its id and note: another entry supersedes it, or it is retired
+pub data Event : Type 0 where
+  SupersededBy : Link → List ℕ → List ℕ → Event
+  RetiredBy : List ℕ → List ℕ → Event
+
+pub record Entry : Type 0 where
+  pub id : List ℕ
+  pub authority : List ℕ
+  pub code : List ℕ
+  pub name : List ℕ
+  pub areas : List (List ℕ)
+  pub kind : List ℕ
+  pub standing : Standing
+  pub links : List Link
+  pub text : List ℕ
+  pub note : List ℕ
+  pub events : List Event
+
+-- a word of a text, and whether the other side has it
+pub record Word : Type 0 where
+  pub differs : Bool
+  pub text : List ℕ
+
+-- an entry of a key in conflict, with its note and its text in words
+pub record Side : Type 0 where
+  pub id : List ℕ
+  pub note : List ℕ
+  pub words : List Word
+
+pub record Pair : Type 0 where
+  pub first : Side
+  pub second : Side
+
+pub record Conflict : Type 0 where
+  pub authority : List ℕ
+  pub code : List ℕ
+  pub pairs : List Pair
+
+pub record Gap : Type 0 where
+  pub replica : List ℕ
+  pub low : ℕ
+  pub high : ℕ
+
+pub record Shown : Type 0 where
+  pub title : List ℕ
+  pub figures : Figures
+  pub conflicts : List Conflict
+  pub awaited : List (List ℕ)
+  pub gaps : List Gap
+  pub entries : List Entry

@@ -1,0 +1,138 @@
+-- The page: what is shown, as pieces.
+use Rattle.std.specs.Prelude.{ℕ, ◌==◌, List, [], ◌∷◌, ◌++◌, length, decimal, if◌then◌else◌}
+use Rattle.std.specs.List.{flat_map}
+use Rattle.html_text.specs.Pieces.{Piece, Markup, Text, Lines, Attribute}
+use Rattle.html_page.specs.declared.markup.TheConstants.{BEFORE_TITLE, BEFORE_STYLE, BEFORE_HEADING, BEFORE_FIGURES, COUNT, ENTRIES, OPERATIONS, VALID, SUPERSEDED, RETIRED, IN_CONFLICT, AWAITED, GAPS, AFTER_FIGURES, CONFLICTS_START, CONFLICT, COLON, AFTER_CONFLICT_KEY, PAIR, SIDE, BEFORE_SIDE_ID, BEFORE_SIDE_NOTE, BEFORE_SIDE_WORDS, AFTER_SIDE, AFTER_PAIR, CONFLICTS_END, WORD, AFTER_WORD, AWAITED_START, AWAITED_ITEM, AFTER_AWAITED_ITEM, AWAITED_END, GAPS_START, GAP, BEFORE_LOW, AFTER_LOW, BEFORE_HIGH, AFTER_GAP, GAPS_END, ENTRIES_START, ENTRY, BEFORE_ENTRY_LINK, BEFORE_ENTRY_KEY, BEFORE_NAME, BEFORE_TEXT, BEFORE_ENTRY_ID, BEFORE_ENTRY_NOTE, AFTER_ENTRY_NOTE, SUPERSEDED_BY, RETIRED_BY, BEFORE_OPERATION, BEFORE_NOTE, AFTER_NOTE, AFTER_HISTORY, AREA, AFTER_AREA, BEFORE_KIND, BEFORE_STANDING, VALID_CELL, SUPERSEDED_CELL, RETIRED_CELL, BY, AFTER_BY, AFTER_ENTRY, LINK, BEFORE_LINK_KEY, AFTER_LINK, MISSING, AFTER_MISSING, ENTRIES_END, PAGE_END}
+use Rattle.html_page.specs.declared.style.TheConstants.{STYLE}
+use Rattle.html_page.specs.declared.script.TheConstants.{SCRIPT}
+use Rattle.html_page.specs.declared.standing.Standing.{Standing}
+use Rattle.html_page.specs.declared.standing.Standing.TheVariants as standing
+use Rattle.html_page.specs.declared.head.Figures.{Figures}
+use Rattle.html_page.specs.Shown.{Link, Entered, Awaited, Event, SupersededBy, RetiredBy, Entry, Word, Side, Pair, Conflict, Gap, Shown}
+
+-- ---- the head, and how much there is
+
+abbrev pub head : List ℕ → List Piece
+head title =
+    Markup BEFORE_TITLE.now ∷ Text title ∷ Markup BEFORE_STYLE.now ∷ Markup STYLE.now ∷ Markup BEFORE_HEADING.now
+    ∷ Text title ∷ Markup BEFORE_FIGURES.now ∷ []
+
+abbrev pub number : List ℕ → ℕ → List ℕ → List Piece
+number before n after = Markup before ∷ Text (decimal n) ∷ Markup after ∷ []
+
+abbrev pub count : ℕ → List ℕ → List Piece
+count n label = number COUNT.now n label
+
+abbrev pub figures : Figures → List Piece
+figures f =
+    count f.entries ENTRIES.now ++ count f.valid VALID.now ++ count f.superseded SUPERSEDED.now
+    ++ count f.retired RETIRED.now ++ count f.conflicts IN_CONFLICT.now ++ count f.awaited AWAITED.now
+    ++ count f.gaps GAPS.now ++ count f.operations OPERATIONS.now
+
+-- ---- links to entries
+
+abbrev pub link : Link → List Piece
+link (Entered id authority code) =
+    Markup LINK.now ∷ Attribute id ∷ Markup BEFORE_LINK_KEY.now ∷ Text authority ∷ Markup COLON.now ∷ Text code
+    ∷ Markup AFTER_LINK.now ∷ []
+link (Awaited id) = Markup MISSING.now ∷ Text id ∷ Markup AFTER_MISSING.now ∷ []
+
+-- ---- conflicts
+
+abbrev pub word : Word → List Piece
+word w = if w.differs then Markup WORD.now ∷ Lines w.text ∷ Markup AFTER_WORD.now ∷ [] else Lines w.text ∷ []
+
+abbrev pub side_start : List ℕ → List ℕ → List Piece
+side_start id note =
+    Markup SIDE.now ∷ Attribute id ∷ Markup BEFORE_SIDE_ID.now ∷ Text id ∷ Markup BEFORE_SIDE_NOTE.now ∷ Text note
+    ∷ Markup BEFORE_SIDE_WORDS.now ∷ []
+
+abbrev pub side : Side → List Piece
+side s = side_start s.id s.note ++ flat_map word s.words ++ Markup AFTER_SIDE.now ∷ []
+
+abbrev pub pair : Pair → List Piece
+pair p = (Markup PAIR.now ∷ []) ++ side p.first ++ side p.second ++ Markup AFTER_PAIR.now ∷ []
+
+abbrev pub conflict_start : List ℕ → List ℕ → List Piece
+conflict_start authority code =
+    Markup CONFLICT.now ∷ Text authority ∷ Markup COLON.now ∷ Text code ∷ Markup AFTER_CONFLICT_KEY.now ∷ []
+
+abbrev pub conflict : Conflict → List Piece
+conflict c = conflict_start c.authority c.code ++ flat_map pair c.pairs
+
+-- a list between its start and its end, unless it is empty
+abbrev pub section : {T : Type 0} → List ℕ → (T → List Piece) → List ℕ → List T → List Piece
+section start item end xs = if length xs == 0 then [] else (Markup start ∷ []) ++ flat_map item xs ++ Markup end ∷ []
+
+-- ---- what is missing
+
+abbrev pub awaited : List ℕ → List Piece
+awaited id = Markup AWAITED_ITEM.now ∷ Text id ∷ Markup AFTER_AWAITED_ITEM.now ∷ []
+
+abbrev pub gap_start : List ℕ → List Piece
+gap_start replica = Markup GAP.now ∷ Text replica ∷ []
+
+abbrev pub gap_counts : ℕ → ℕ → List Piece
+gap_counts low high = number BEFORE_LOW.now low AFTER_LOW.now ++ number BEFORE_HIGH.now high AFTER_GAP.now
+
+abbrev pub gap : Gap → List Piece
+gap g = gap_start g.replica ++ gap_counts g.low g.high
+
+-- ---- entries
+
+abbrev pub entry_start : List ℕ → List ℕ → List ℕ → List ℕ → List Piece
+entry_start id authority code name =
+    Markup ENTRY.now ∷ Attribute id ∷ Markup BEFORE_ENTRY_LINK.now ∷ Attribute id ∷ Markup BEFORE_ENTRY_KEY.now
+    ∷ Text authority ∷ Markup COLON.now ∷ Text code ∷ Markup BEFORE_NAME.now ∷ Text name ∷ Markup BEFORE_TEXT.now ∷ []
+
+abbrev pub entry_text : List ℕ → List ℕ → List ℕ → List Piece
+entry_text text id note =
+    Lines text ∷ Markup BEFORE_ENTRY_ID.now ∷ Text id ∷ Markup BEFORE_ENTRY_NOTE.now ∷ Text note
+    ∷ Markup AFTER_ENTRY_NOTE.now ∷ []
+
+-- the id and the note of an operation
+abbrev pub operation_id : List ℕ → List Piece
+operation_id id = Markup BEFORE_OPERATION.now ∷ Text id ∷ []
+
+abbrev pub operation_note : List ℕ → List Piece
+operation_note note = Markup BEFORE_NOTE.now ∷ Text note ∷ Markup AFTER_NOTE.now ∷ []
+
+abbrev pub operation : List ℕ → List ℕ → List Piece
+operation id note = operation_id id ++ operation_note note
+
+abbrev pub event : Event → List Piece
+event (SupersededBy newer id note) = (Markup SUPERSEDED_BY.now ∷ []) ++ link newer ++ operation id note
+event (RetiredBy id note) = (Markup RETIRED_BY.now ∷ []) ++ operation id note
+
+abbrev pub area : List ℕ → List Piece
+area text = Markup AREA.now ∷ Text text ∷ Markup AFTER_AREA.now ∷ []
+
+abbrev pub standing_cell : Standing → List ℕ
+standing_cell standing.Valid = VALID_CELL.now
+standing_cell standing.Superseded = SUPERSEDED_CELL.now
+standing_cell standing.Retired = RETIRED_CELL.now
+
+abbrev pub kind_and_standing : List ℕ → Standing → List Piece
+kind_and_standing kind s = Markup BEFORE_KIND.now ∷ Text kind ∷ Markup BEFORE_STANDING.now ∷ Markup (standing_cell s) ∷ []
+
+abbrev pub by : Link → List Piece
+by newer = (Markup BY.now ∷ []) ++ link newer ++ Markup AFTER_BY.now ∷ []
+
+abbrev pub entry : Entry → List Piece
+entry e =
+    entry_start e.id e.authority e.code e.name ++ entry_text e.text e.id e.note ++ flat_map event e.events ++ (Markup AFTER_HISTORY.now ∷ []) ++ flat_map area e.areas
+    ++ kind_and_standing e.kind e.standing ++ flat_map by e.links ++ Markup AFTER_ENTRY.now ∷ []
+
+-- ---- the page
+
+abbrev pub end : List Piece
+end = Markup ENTRIES_END.now ∷ Markup SCRIPT.now ∷ Markup PAGE_END.now ∷ []
+
+abbrev pub page : Shown → List Piece
+page s =
+    head s.title ++ figures s.figures ++ (Markup AFTER_FIGURES.now ∷ [])
+    ++ section CONFLICTS_START.now conflict CONFLICTS_END.now s.conflicts
+    ++ section AWAITED_START.now awaited AWAITED_END.now s.awaited
+    ++ section GAPS_START.now gap GAPS_END.now s.gaps
+    ++ (Markup ENTRIES_START.now ∷ []) ++ flat_map entry s.entries
+    ++ end

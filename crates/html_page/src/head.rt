@@ -1,0 +1,96 @@
+//! The beginning and the end of the page.
+
+ghost use Rattle.std.specs.Prelude.{◌∷◌, [], OnOk};
+ghost use Rattle.html_text.specs.Pieces.{Markup as Constant, Appends};
+ghost use Rattle.html_page.specs.Templates.{number, head, figures, end};
+
+use crate::markup::{
+    AWAITED, BEFORE_FIGURES, BEFORE_HEADING, BEFORE_STYLE, BEFORE_TITLE, COUNT, ENTRIES,
+    ENTRIES_END, GAPS, IN_CONFLICT, OPERATIONS, PAGE_END, RETIRED, SUPERSEDED, VALID,
+};
+use crate::script::SCRIPT;
+use crate::style::STYLE;
+use html_text::Piece::{Markup, Text};
+use html_text::push_pieces;
+use std::alloc::{AllocError, Global};
+
+/// How much a register has.
+#[derive(Clone, Copy, Debug, PartialEq, Eq)]
+pub struct Figures {
+    pub entries: usize,
+    pub valid: usize,
+    pub superseded: usize,
+    pub retired: usize,
+    /// Keys in conflict.
+    pub conflicts: usize,
+    pub awaited: usize,
+    pub gaps: usize,
+    pub operations: usize,
+}
+
+/// Appends a constant alone.
+pub fn push_mark(page: &mut Vec<u8>, constant: &'static [u8]) -> Result<(), AllocError>
+    ensures { OnOk result (Appends page.old.items page.new.items (Constant constant.now ∷ [])) }
+{
+    push_pieces(page, &[Markup(constant)])
+}
+
+/// Appends everything up to the figures.
+pub fn push_head(page: &mut Vec<u8>, title: &[u8]) -> Result<(), AllocError>
+    ensures { OnOk result (Appends page.old.items page.new.items (head title.now)) }
+{
+    push_pieces(
+        page,
+        &[
+            Markup(BEFORE_TITLE),
+            Text(title),
+            Markup(BEFORE_STYLE),
+            Markup(STYLE),
+            Markup(BEFORE_HEADING),
+            Text(title),
+            Markup(BEFORE_FIGURES),
+        ],
+    )
+}
+
+/// Appends a number between two constants.
+pub fn push_number(
+    alloc: Global,
+    page: &mut Vec<u8>,
+    before: &'static [u8],
+    n: usize,
+    after: &'static [u8],
+) -> Result<(), AllocError>
+    ensures { OnOk result (Appends page.old.items page.new.items (number before.now n after.now)) }
+{
+    let digits = n.to_string(alloc)?;
+    push_pieces(
+        page,
+        &[Markup(before), Text(digits.as_bytes()), Markup(after)],
+    )
+}
+
+/// Appends the figures.
+pub fn push_figures(alloc: Global, page: &mut Vec<u8>, f: &Figures) -> Result<(), AllocError>
+    ensures { OnOk result (Appends page.old.items page.new.items (figures f.now)) }
+{
+    push_number(alloc, page, COUNT, f.entries, ENTRIES)?;
+    push_number(alloc, page, COUNT, f.valid, VALID)?;
+    push_number(alloc, page, COUNT, f.superseded, SUPERSEDED)?;
+    push_number(alloc, page, COUNT, f.retired, RETIRED)?;
+    push_number(alloc, page, COUNT, f.conflicts, IN_CONFLICT)?;
+    push_number(alloc, page, COUNT, f.awaited, AWAITED)?;
+    push_number(alloc, page, COUNT, f.gaps, GAPS)?;
+    push_number(alloc, page, COUNT, f.operations, OPERATIONS)?;
+    Ok(())
+}
+
+/// Appends what follows the entries.
+pub fn push_end(page: &mut Vec<u8>) -> Result<(), AllocError>
+    ensures { OnOk result (Appends page.old.items page.new.items end) }
+{
+    push_pieces(
+        page,
+        &[Markup(ENTRIES_END), Markup(SCRIPT), Markup(PAGE_END)],
+    )
+}

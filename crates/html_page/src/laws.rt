@@ -1,0 +1,22 @@
+//! The laws of the page. The functions do nothing: their contracts are the laws.
+
+ghost use Rattle.std.specs.Prelude.{◌≡◌, ℕ, List, Some};
+ghost use Rattle.std.specs.List.{flat_map};
+ghost use Rattle.html_text.specs.Pieces.{html};
+ghost use Rattle.html_text.specs.Places.{Content, tags, past_all};
+ghost use Rattle.html_page.specs.Shown.{Word, Shown};
+ghost use Rattle.html_page.specs.Shape.{shape};
+ghost use Rattle.html_page.specs.Templates.{page};
+ghost use Rattle.html_page.specs.Words.{compared};
+
+/// Each text stands between tags, or between the quotation marks of an attribute. So the tags of the page depend on
+/// the shape of what is shown alone, and on no text in it.
+pub fn no_text_leaves_its_place()
+    ensures places { (s : Shown) → past_all (Some Content) (page s) ≡ Some Content }
+    ensures tags { (s : Shown) → tags (html (page s)) ≡ tags (html (page (shape s))) }
+{}
+
+/// The words of a text without their marks are the text.
+pub fn words_are_the_text()
+    ensures { (text other : List ℕ) → flat_map (λ (w : Word). w.text) (compared text other) ≡ text }
+{}

@@ -1,0 +1,25 @@
+//! The page of a register in HTML: its markup, and what is shown in it.
+#![tactic(auto)]
+
+mod conflicts;
+mod entries;
+mod head;
+pub mod laws;
+mod links;
+pub mod markup;
+mod missing;
+mod script;
+mod standing;
+mod style;
+mod words;
+
+pub use conflicts::{push_conflict_start, push_side_start, push_word};
+pub use entries::{
+    push_area, push_entry_start, push_entry_text, push_operation_id, push_operation_note,
+    push_standing,
+};
+pub use head::{Figures, push_end, push_figures, push_head, push_mark, push_number};
+pub use links::{push_awaited_link, push_link};
+pub use missing::{push_awaited, push_gap_counts, push_gap_start};
+pub use standing::Standing;
+pub use words::push_compared;

@@ -1,0 +1,41 @@
+//! Links to entries.
+
+ghost use Rattle.std.specs.Prelude.{OnOk};
+ghost use Rattle.html_text.specs.Pieces.{Appends};
+ghost use Rattle.html_page.specs.Shown.{Entered, Awaited};
+ghost use Rattle.html_page.specs.Templates.{link};
+
+use crate::markup::{AFTER_LINK, AFTER_MISSING, BEFORE_LINK_KEY, COLON, LINK, MISSING};
+use html_text::Piece::{Attribute, Markup, Text};
+use html_text::push_pieces;
+use std::alloc::AllocError;
+
+/// Appends a link to an entry, which shows its key.
+pub fn push_link<'a>(
+    page: &mut Vec<u8>,
+    id: &'a [u8],
+    authority: &'a [u8],
+    code: &'a [u8],
+) -> Result<(), AllocError>
+    ensures { OnOk result (Appends page.old.items page.new.items (link (Entered id.now authority.now code.now))) }
+{
+    push_pieces(
+        page,
+        &[
+            Markup(LINK),
+            Attribute(id),
+            Markup(BEFORE_LINK_KEY),
+            Text(authority),
+            Markup(COLON),
+            Text(code),
+            Markup(AFTER_LINK),
+        ],
+    )
+}
+
+/// Appends the id of an entry that is not there.
+pub fn push_awaited_link(page: &mut Vec<u8>, id: &[u8]) -> Result<(), AllocError>
+    ensures { OnOk result (Appends page.old.items page.new.items (link (Awaited id.now))) }
+{
+    push_pieces(page, &[Markup(MISSING), Text(id), Markup(AFTER_MISSING)])
+}

@@ -1,0 +1,44 @@
+//! What a register lacks: awaited entries, and gaps.
+
+ghost use Rattle.std.specs.Prelude.{OnOk};
+ghost use Rattle.html_text.specs.Pieces.{Appends};
+ghost use Rattle.html_page.specs.Templates.{awaited, gap_start, gap_counts};
+
+use crate::head::push_number;
+use crate::markup::{
+    AFTER_AWAITED_ITEM, AFTER_GAP, AFTER_LOW, AWAITED_ITEM, BEFORE_HIGH, BEFORE_LOW, GAP,
+};
+use html_text::Piece::{Markup, Text};
+use html_text::push_pieces;
+use std::alloc::{AllocError, Global};
+
+/// Appends the id of an awaited entry.
+pub fn push_awaited(page: &mut Vec<u8>, id: &[u8]) -> Result<(), AllocError>
+    ensures { OnOk result (Appends page.old.items page.new.items (awaited id.now)) }
+{
+    push_pieces(
+        page,
+        &[Markup(AWAITED_ITEM), Text(id), Markup(AFTER_AWAITED_ITEM)],
+    )
+}
+
+/// Appends an office with missing operations.
+pub fn push_gap_start(page: &mut Vec<u8>, replica: &[u8]) -> Result<(), AllocError>
+    ensures { OnOk result (Appends page.old.items page.new.items (gap_start replica.now)) }
+{
+    push_pieces(page, &[Markup(GAP), Text(replica)])
+}
+
+/// Appends the counts that are missing, from one on and up to another.
+pub fn push_gap_counts(
+    alloc: Global,
+    page: &mut Vec<u8>,
+    low: u32,
+    high: u32,
+) -> Result<(), AllocError>
+    ensures { OnOk result (Appends page.old.items page.new.items (gap_counts low high)) }
+{
+    push_number(alloc, page, BEFORE_LOW, low as usize, AFTER_LOW)?;
+    push_number(alloc, page, BEFORE_HIGH, high as usize, AFTER_GAP)?;
+    Ok(())
+}

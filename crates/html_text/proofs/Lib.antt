@@ -1,0 +1,4 @@
+pub mod EscapedLemmas
+pub mod MarkLemmas
+pub mod PlaceLemmas
+pub mod JoinLemmas

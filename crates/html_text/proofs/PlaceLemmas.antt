@@ -1,0 +1,120 @@
+-- Tags of a page and of its pieces.
+use Rattle.std.proofs.Common.{◌≡◌, ℕ, ◌==◌, Bool, true, false, not, ◌&&◌, ◌||◌, List, [], ◌∷◌, ◌++◌, map, Some, None, is_some, if◌then◌else◌, refl, sym, ap, ◌∙◌, append_assoc}
+use Rattle.std.proofs.lemmas.Bool.Decides.{Decides-eqb}
+use Rattle.html_text.specs.Escaped.{escaped, reference, is_inert}
+use Rattle.html_text.specs.Pieces.{Piece, Markup, Text, Lines, Attribute, bytes_of, html, blank}
+use Rattle.html_text.specs.Places.{Place, Content, Tag, Quoted, step, after, tag_byte, tags_from, past, past_all}
+use Rattle.html_text.specs.declared.marks.Feeds.TheVariants.{Marked, Kept}
+use Rattle.html_text.specs.Marks.{marked}
+use Rattle.html_text.proofs.EscapedLemmas.{inert}
+
+after-append : (p : Place) (xs ys : List ℕ) → after p (xs ++ ys) ≡ after (after p xs) ys
+after-append p [] ys = refl
+after-append p (x ∷ xs) ys = after-append (step p x) xs ys
+
+tags-append : (p : Place) (xs ys : List ℕ) → tags_from p (xs ++ ys) ≡ tags_from p xs ++ tags_from (after p xs) ys
+tags-append p [] ys = refl
+tags-append p (x ∷ xs) ys = ap (λ ts. tag_byte p x ++ ts) (tags-append (step p x) xs ys) ∙ sym (append_assoc (tag_byte p x) _ _)
+
+-- bytes that stay in one place, and belong to no tag
+pub record Stays (p : Place) (xs : List ℕ) : Type 0 where
+  pub place : after p xs ≡ p
+  pub no_tag : tags_from p xs ≡ []
+
+both : (a b : Bool) → (a && b) ≡ true → (a ≡ true) × (b ≡ true)
+both true b e = (refl, e)
+both false b e = cc
+
+neither : (u v w x : Bool) → not (u || (v || (w || x))) ≡ true → (u ≡ false) × (w ≡ false)
+neither true v w x e = cc
+neither false true w x e = cc
+neither false false true x e = cc
+neither false false false x e = (refl, refl)
+
+inert_here : (b : ℕ) (rest : List ℕ) (t : Bool) → (b == 38) ≡ t → (if t then is_some (reference rest) else not ((b == 60) || ((b == 62) || ((b == 34) || (b == 39))))) ≡ true
+    → ((b == 60) ≡ false) × ((b == 34) ≡ false)
+inert_here b rest true t e = let is = (Decides-eqb b 38).0 t in (ap (λ c. c == 60) is, ap (λ c. c == 34) is)
+inert_here b rest false t e = neither _ _ _ _ e
+
+in_content : (xs : List ℕ) → is_inert xs ≡ true → Stays Content xs
+in_content [] e = record { place = refl; no_tag = refl }
+in_content (b ∷ bs) e =
+    let each = both _ _ e in
+    let here = inert_here b bs _ refl each.0 in
+    let rest = in_content bs each.1 in
+    record { place = rw here.0 rest.place; no_tag = rw here.0 rest.no_tag }
+
+in_quotes : (xs : List ℕ) → is_inert xs ≡ true → Stays Quoted xs
+in_quotes [] e = record { place = refl; no_tag = refl }
+in_quotes (b ∷ bs) e =
+    let each = both _ _ e in
+    let here = inert_here b bs _ refl each.0 in
+    let rest = in_quotes bs each.1 in
+    record { place = rw here.1 rest.place; no_tag = rw here.1 rest.no_tag }
+
+-- a piece leads from one place to another, with its text and without, and the tags are the same
+record Passes (here there : Place) (p : Piece) : Type 0 where
+  place : after here (bytes_of p) ≡ there
+  blank_place : after here (bytes_of (blank p)) ≡ there
+  tags : tags_from here (bytes_of p) ≡ tags_from here (bytes_of (blank p))
+
+text_passes : (text : List ℕ) (there : Place) → Some Content ≡ Some there → Passes Content there (Text text)
+unfolding bytes_of
+text_passes text there e =
+    let stays = in_content (escaped (marked Marked text)) (inert (marked Marked text)) in
+    record { place = stays.place ∙ cc; blank_place = cc; tags = stays.no_tag }
+
+lines_pass : (text : List ℕ) (there : Place) → Some Content ≡ Some there → Passes Content there (Lines text)
+unfolding bytes_of
+lines_pass text there e =
+    let stays = in_content (escaped (marked Kept text)) (inert (marked Kept text)) in
+    record { place = stays.place ∙ cc; blank_place = cc; tags = stays.no_tag }
+
+attribute_passes : (text : List ℕ) (there : Place) → Some Quoted ≡ Some there → Passes Quoted there (Attribute text)
+unfolding bytes_of
+attribute_passes text there e =
+    let stays = in_quotes (escaped (marked Marked text)) (inert (marked Marked text)) in
+    record { place = stays.place ∙ cc; blank_place = cc; tags = stays.no_tag }
+
+piece_passes : (here there : Place) (p : Piece) → past here p ≡ Some there → Passes here there p
+unfolding bytes_of
+piece_passes here there (Markup constant) e = record { place = cc; blank_place = cc; tags = refl }
+piece_passes Content there (Text text) e = text_passes text there e
+piece_passes Tag there (Text text) e = cc
+piece_passes Quoted there (Text text) e = cc
+piece_passes Content there (Lines text) e = lines_pass text there e
+piece_passes Tag there (Lines text) e = cc
+piece_passes Quoted there (Lines text) e = cc
+piece_passes Content there (Attribute text) e = cc
+piece_passes Tag there (Attribute text) e = cc
+piece_passes Quoted there (Attribute text) e = attribute_passes text there e
+
+pub past_none : (ps : List Piece) → past_all None ps ≡ None
+past_none [] = refl
+past_none (p ∷ ps) = refl
+
+abbrev SameTags : Place → Place → List Piece → Type 0
+SameTags here last ps = (tags_from here (html ps) ≡ tags_from here (html (map blank ps))) × (after here (html ps) ≡ last)
+
+-- a first piece, and the others
+joined : (here there last : Place) (p : Piece) (ps : List Piece) → Passes here there p → SameTags there last ps → SameTags here last (p ∷ ps)
+unfolding html
+joined here there last p ps first rest =
+    let whole = tags-append here (bytes_of p) (html ps) in
+    let bare = tags-append here (bytes_of (blank p)) (html (map blank ps)) in
+    let led = after-append here (bytes_of p) (html ps) in
+    let place = first.place in
+    let blank_place = first.blank_place in
+    let same : tags_from here (bytes_of p) ++ tags_from (after here (bytes_of p)) (html ps)
+    ≡ tags_from here (bytes_of (blank p)) ++ tags_from (after here (bytes_of (blank p))) (html (map blank ps)) = cc (place, blank_place, first.tags, rest.0) in
+    let end : after (after here (bytes_of p)) (html ps) ≡ last = cc (place, rest.1) in
+    (whole ∙ same ∙ sym bare, led ∙ end)
+
+pub same_tags : (ps : List Piece) (here last : Place) → past_all (Some here) ps ≡ Some last → SameTags here last ps
+unfolding html
+same_tags [] here last e = (refl, cc)
+same_tags (p ∷ ps) here last e =
+    elim (past here p) as (λ o. past here p ≡ o → past_all o ps ≡ Some last → SameTags here last (p ∷ ps)) [
+      | Some there ↦ λ is rest. joined here there last p ps (piece_passes here there p is) (same_tags ps there last rest)
+      | None ↦ λ is rest. let none = past_none ps in cc
+    ] refl e

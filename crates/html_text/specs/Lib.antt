@@ -1,0 +1,4 @@
+pub mod Escaped
+pub mod Marks
+pub mod Pieces
+pub mod Places
