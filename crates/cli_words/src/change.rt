@@ -25,7 +25,11 @@ pub fn supersede<'a>(alloc: Global, office: Option<&'a str>) -> Result<Command<'
         .after_help(SUPERSEDE_HELP)
         .arg(register(alloc))?
         .arg(old(alloc))?
-        .arg(several(alloc, "BY", "The ids of the entries that supersede it"))?
+        .arg(several(
+            alloc,
+            "BY",
+            "The ids of the entries that supersede it; - reads ids",
+        ))?
         .arg(replica(alloc, office))?
         .arg(note(alloc))?
         .arg(on_shelf(alloc, ON_SHELF))?
@@ -38,7 +42,11 @@ pub fn retire<'a>(alloc: Global, office: Option<&'a str>) -> Result<Command<'a>,
         .about("Retires entries of a register")
         .after_help(RETIRE_HELP)
         .arg(register(alloc))?
-        .arg(several(alloc, "ENTRY", "The ids of the entries, as UUID:NUMBER"))?
+        .arg(several(
+            alloc,
+            "ENTRY",
+            "The ids of the entries, as UUID:NUMBER; - reads ids",
+        ))?
         .arg(replica(alloc, office))?
         .arg(note(alloc))?
         .arg(on_shelf(alloc, ON_SHELF))?

@@ -21,7 +21,8 @@ still exported. The new ids are printed after OUT is written, one for each BY.
 OUT can be REG.
 
 Each operation has the note, if any. It is kept until a retirement of OLD makes
-the operation redundant.
+the operation redundant. With - for BY, the ids are read from standard input,
+one a line, as crsreg find --ids prints them.
 
 Refused, with nothing written: NoteTooLong if the note has more than 200 bytes;
 then UnknownEntry ID, SameEntry, AlreadyRetired ID or AlreadySuperseded ID, for
@@ -38,7 +39,8 @@ merges the operation. The new ids are printed after OUT is written, one for
 each ENTRY. OUT can be REG.
 
 Each operation has the note, if any. If two offices retire one entry, the
-retirement with the lesser id is kept, with its note.
+retirement with the lesser id is kept, with its note. With - for ENTRY, the ids
+are read from standard input, one a line, as crsreg find --ids prints them.
 
 Refused, with nothing written: NoteTooLong if the note has more than 200 bytes;
 then UnknownEntry ID or AlreadyRetired ID, for the first ENTRY that is not

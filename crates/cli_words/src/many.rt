@@ -70,7 +70,7 @@ fn unless_dry<'a>(alloc: Global) -> Result<Arg<'a>, AllocError> {
 
 fn kept<'a>(alloc: Global) -> Result<Arg<'a>, AllocError> {
     Arg::new(alloc, "KEEP")
-        .help("The ids of the entries to keep, as UUID:NUMBER")
+        .help("The ids of the entries to keep, as UUID:NUMBER; - reads ids")
         .action(ArgAction::Append)
         .num_args(1..)
         .required_unless_present("equal")?

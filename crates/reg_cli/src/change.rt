@@ -1,7 +1,9 @@
 //! Commands that change a register.
 use crate::outcome::Outcome;
 use crate::stores::{Opened, change_of, next_file, open_to_change};
-use crate::words::{differs, entries, entry, is_twice, open, open_texts, place, replica, word};
+use crate::words::{
+    differs, entries, entry, is_twice, listed, open, open_texts, place, replica, word,
+};
 use byte_out::Place;
 use clap::ArgMatches;
 use reg_desk::{
@@ -12,7 +14,8 @@ use std::alloc::{AllocError, Global};
 use std::fs::OpenFile;
 use std::io::{self, Read, Seek, Write};
 
-const TWICE: &str = "error: standard input, -, is named twice";
+/// The complaint where standard input is named twice.
+pub const TWICE: &str = "error: standard input, -, is named twice";
 
 /// `enter`. The replica is read from the words, and then the files are opened.
 pub fn enter(rt: &HostRuntime, matches: &ArgMatches<'_>) -> Outcome {
@@ -43,11 +46,12 @@ pub fn enter(rt: &HostRuntime, matches: &ArgMatches<'_>) -> Outcome {
     }
 }
 
-/// `supersede`.
+/// `supersede`. Ids that standard input lists are read before anything else.
 pub fn supersede(rt: &HostRuntime, matches: &ArgMatches<'_>) -> Result<(), CliFault> {
+    let listed = listed(rt, matches, "BY")?;
     let replica = replica(word(matches, "as"))?;
     let old = entry(word(matches, "OLD"))?;
-    let newer = entries(rt.alloc(), matches, "BY")?;
+    let newer = entries(rt.alloc(), matches, "BY", &listed)?;
     let mut register = open_to_change(rt, matches)?;
     let mut command = Supersede {
         replica,
@@ -60,8 +64,9 @@ pub fn supersede(rt: &HostRuntime, matches: &ArgMatches<'_>) -> Result<(), CliFa
 
 /// `retire`.
 pub fn retire(rt: &HostRuntime, matches: &ArgMatches<'_>) -> Result<(), CliFault> {
+    let listed = listed(rt, matches, "ENTRY")?;
     let replica = replica(word(matches, "as"))?;
-    let entries = entries(rt.alloc(), matches, "ENTRY")?;
+    let entries = entries(rt.alloc(), matches, "ENTRY", &listed)?;
     let mut register = open_to_change(rt, matches)?;
     let mut command = Retire {
         replica,
@@ -73,8 +78,9 @@ pub fn retire(rt: &HostRuntime, matches: &ArgMatches<'_>) -> Result<(), CliFault
 
 /// `settle`.
 pub fn settle(rt: &HostRuntime, matches: &ArgMatches<'_>) -> Result<(), CliFault> {
+    let listed = listed(rt, matches, "KEEP")?;
     let replica = replica(word(matches, "as"))?;
-    let keeps = entries(rt.alloc(), matches, "KEEP")?;
+    let keeps = entries(rt.alloc(), matches, "KEEP", &listed)?;
     let note = word(matches, "note");
     let mut register = open_to_change(rt, matches)?;
     if matches.get_flag("equal") {

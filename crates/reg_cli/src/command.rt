@@ -1,9 +1,10 @@
 //! From the command line to an engine, and from its result to the exit status.
-use crate::change::{enter, import, retire, settle, supersede};
+use crate::change::{TWICE, enter, import, retire, settle, supersede};
 use crate::exchange::{downgrade, merge, new, piece, seen, shelf, unshelf};
 use crate::look::{check, diff, export, find, offices, ops, report, show, status as figures, wkt};
 use crate::outcome::{MISUSE, Outcome, complain, failed, print, status};
 use crate::shells::completions;
+use crate::words::{is_twice, words};
 use clap::ArgMatches;
 use clap::error::ErrorKind;
 use cli_words::command_line;
@@ -74,6 +75,18 @@ fn answer_as(rt: &HostRuntime, words: &[String], office: Option<&str>) -> u8 {
     }
 }
 
+// The outcome of a command that takes ids, unless standard input is to list them twice.
+fn unless_twice<F: FnOnce() -> Result<(), CliFault>>(
+    matches: &ArgMatches<'_>,
+    name: &str,
+    command: F,
+) -> Outcome {
+    if is_twice(words(matches, name)) {
+        return Outcome::Misuse(TWICE);
+    }
+    Outcome::of(command())
+}
+
 // Runs the command. clap rejects unknown commands.
 fn perform(rt: &HostRuntime, matches: &ArgMatches<'_>) -> Option<Outcome> {
     let (name, inner) = matches.subcommand()?;
@@ -82,9 +95,9 @@ fn perform(rt: &HostRuntime, matches: &ArgMatches<'_>) -> Option<Outcome> {
         "new" => Outcome::of(new(rt, inner)),
         "enter" => enter(rt, inner),
         "import" => import(rt, inner),
-        "supersede" => Outcome::of(supersede(rt, inner)),
-        "retire" => Outcome::of(retire(rt, inner)),
-        "settle" => Outcome::of(settle(rt, inner)),
+        "supersede" => unless_twice(inner, "BY", || supersede(rt, inner)),
+        "retire" => unless_twice(inner, "ENTRY", || retire(rt, inner)),
+        "settle" => unless_twice(inner, "KEEP", || settle(rt, inner)),
         "find" => Outcome::of(find(rt, inner)),
         "show" => Outcome::of(show(rt, inner)),
         "wkt" => Outcome::of(wkt(rt, inner)),

@@ -1,4 +1,5 @@
 //! The arguments of a command: replicas, entries, files.
+use byte_io::{InFault, read_up_to};
 use clap::ArgMatches;
 use reg_desk::{
     CliFault, Differs, FileDisk, FilePlace, Form, InputFault, OpId, Reading, Refusal, ReportKind,
@@ -12,6 +13,9 @@ use uuid::Uuid;
 
 /// What standard input is called on the command line, and where the system has it.
 pub const STANDARD_INPUT: &str = "-";
+
+/// The most bytes that standard input may have.
+const MOST: usize = 67_108_864;
 
 const STANDARD_INPUT_PATH: &str = "/dev/stdin";
 
@@ -59,18 +63,59 @@ pub fn entry(word: &str) -> Result<OpId, CliFault> {
     OpId::parse(word.as_bytes()).ok_or(CliFault::Refused(Refusal::BadId))
 }
 
-/// The entries of the arguments.
-pub fn entries(alloc: Global, matches: &ArgMatches<'_>, name: &str) -> Result<Vec<OpId>, CliFault> {
-    let mut entries = Vec::new(alloc);
-    let Some(words) = matches.get_strs(name) else {
-        return Ok(entries);
+/// The ids that standard input has, one a line, if one of the arguments is `-`. It counts as the file after the register.
+pub fn listed(rt: &HostRuntime, matches: &ArgMatches<'_>, name: &str) -> Result<Vec<u8>, CliFault> {
+    let number = if matches.get_flag("shelf") { 1 } else { 2 };
+    if !words(matches, name).contains(&STANDARD_INPUT) {
+        return Ok(Vec::new(rt.alloc()));
+    }
+    let fault = match read_up_to(rt.alloc(), &mut Reading::new(rt.reader()), MOST + 1) {
+        Ok(bytes) if bytes.len() <= MOST => return Ok(bytes),
+        Ok(_) => InputFault::TooLarge,
+        Err(InFault::ReadFailed(n)) => InputFault::ReadFailed(n),
+        Err(InFault::Memory) => return Err(CliFault::Memory),
     };
-    for word in words {
-        if entries.push(entry(word)?).is_err() {
+    Err(CliFault::File { number, fault })
+}
+
+/// The arguments of this name.
+pub fn words<'a, 'b>(matches: &'b ArgMatches<'a>, name: &str) -> &'b [&'a str] {
+    matches.get_strs(name).unwrap_or(&[])
+}
+
+/// The entries of the arguments; `-` stands for those that are listed.
+pub fn entries(
+    alloc: Global,
+    matches: &ArgMatches<'_>,
+    name: &str,
+    listed: &[u8],
+) -> Result<Vec<OpId>, CliFault> {
+    let mut entries = Vec::new(alloc);
+    for word in words(matches, name) {
+        if *word == STANDARD_INPUT {
+            push_listed(&mut entries, listed)?;
+        } else if entries.push(entry(word)?).is_err() {
             return Err(CliFault::Memory);
         }
     }
     Ok(entries)
+}
+
+// Lines end at LF; the last one may have none.
+fn push_listed(entries: &mut Vec<OpId>, listed: &[u8]) -> Result<(), CliFault> {
+    let lines = listed.strip_suffix(b"\n").unwrap_or(listed);
+    if listed.is_empty() {
+        return Ok(());
+    }
+    for line in lines.split(|byte| *byte == b'\n') {
+        let Some(entry) = OpId::parse(line) else {
+            return Err(CliFault::Refused(Refusal::BadId));
+        };
+        if entries.push(entry).is_err() {
+            return Err(CliFault::Memory);
+        }
+    }
+    Ok(())
 }
 
 /// Opens the file with this number.

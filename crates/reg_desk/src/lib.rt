@@ -5,6 +5,7 @@ mod diff;
 mod explained;
 mod find;
 mod import;
+pub mod laws;
 mod look;
 mod offices;
 mod settle;
@@ -33,7 +34,7 @@ pub use reg_engine::{
     run_unshelf, run_wkt,
 };
 pub use reg_import::Differs;
-pub use reg_office::ReportKind;
 pub use reg_op::OpId;
 pub use reg_query::{Query, Wanted};
+pub use reg_report::ReportKind;
 pub use wkt_explain::Kept;

@@ -8,7 +8,7 @@ use Rattle.reg_op.specs.Ids.{Id, is_before}
 use Rattle.reg_op.specs.declared.operation.OpBody.{OpBody as Body}
 use Rattle.reg_op.specs.declared.operation.OpBody.TheVariants.{Enter, Retire}
 use Rattle.reg_seen.specs.Runs.{id_at}
-use Rattle.reg_office.specs.Conflicts.{bytes_of}
+use Rattle.reg_report.specs.Conflicts.{bytes_of}
 use Rattle.reg_import.specs.declared.known.Known.{Known}
 use Rattle.reg_import.specs.declared.reading.Reading.{Reading}
 use Rattle.reg_import.specs.declared.reading.Reading.TheVariants as reading

@@ -1,15 +1,15 @@
 //! The entries that are not retired, by key.
 
 ghost use Rattle.std.specs.Prelude.{◌≡◌, ◌++◌, ◌∷◌, [], List, map, IfOk, OnOk};
-ghost use Rattle.reg_office.specs.Conflicts.{bytes_of};
-ghost use Rattle.reg_office.specs.Seen.{row_seen};
+ghost use Rattle.reg_report.specs.Conflicts.{bytes_of};
+ghost use Rattle.reg_report.specs.Seen.{row_seen};
 ghost use Rattle.reg_import.specs.declared.known.Known.{Known};
 ghost use Rattle.reg_import.specs.Known.{At, AreKnown, AreStanding, with_key, by_key};
 ghost use Rattle.reg_import.specs.Index.{key_bytes, bucket_seen, nothing_there, with_entry, Indexes};
 
 use crate::known::{Known, known_of, standing};
 use crs_value::Key;
-use reg_office::Row;
+use reg_report::Row;
 use reg_state::Register;
 use std::alloc::{AllocError, Global};
 use std::collections::BTreeMap;

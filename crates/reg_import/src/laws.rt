@@ -5,7 +5,7 @@ ghost use Rattle.wkt_tree.specs.Tree.{Piece};
 ghost use Rattle.wkt_texts.specs.Texts.{IsCutInto};
 ghost use Rattle.wkt_texts.specs.Printed.{AreFound};
 ghost use Rattle.reg_op.specs.Contents.{Content, IsContent, nothing};
-ghost use Rattle.reg_office.specs.Exports.{export};
+ghost use Rattle.reg_report.specs.Exports.{export};
 ghost use Rattle.reg_office.specs.World.{World, IsWorld};
 ghost use Rattle.reg_import.specs.declared.reading.Reading.{Reading};
 ghost use Rattle.reg_import.specs.declared.told.Differs.{Differs};
