@@ -1,12 +1,12 @@
 //! Commands that change a register.
 use crate::outcome::Outcome;
 use crate::stores::{Opened, change_of, next_file, open_to_change};
-use crate::words::{differs, entries, entry, is_twice, open, open_texts, place, replica, word};
+use crate::words::{differs, entries, entry, is_twice, open, open_texts, printing_place, replica, word};
 use byte_out::Place;
 use clap::ArgMatches;
 use reg_desk::{
-    CliFault, Enter, InFile, Kept, OfFile, OnShelf, Order, Reading, Retire, Settle, SettleEqual,
-    Source, Supersede, Unimported, Writing, explained_fault, run_import, try_import,
+    CliFault, Enter, InFile, Input, InputOf, Kept, OfFile, OnShelf, Order, Reading, Retire, Settle,
+    SettleEqual, Source, Supersede, Unimported, Writing, explained_fault, run_import, try_import,
 };
 use std::alloc::{AllocError, Global};
 use std::fs::OpenFile;
@@ -21,7 +21,7 @@ pub fn enter(rt: &HostRuntime, matches: &ArgMatches<'_>) -> Outcome {
         Ok(replica) => replica,
         Err(fault) => return Outcome::Fault(fault),
     };
-    let mut register = match open_to_change(rt, matches) {
+    let mut register = match open_to_change(rt, rt.alloc(), matches) {
         Ok(register) => register,
         Err(fault) => return Outcome::Fault(fault),
     };
@@ -48,7 +48,7 @@ pub fn supersede(rt: &HostRuntime, matches: &ArgMatches<'_>) -> Result<(), CliFa
     let replica = replica(word(matches, "as"))?;
     let old = entry(word(matches, "OLD"))?;
     let newer = entries(rt.alloc(), matches, "BY")?;
-    let mut register = open_to_change(rt, matches)?;
+    let mut register = open_to_change(rt, rt.alloc(), matches)?;
     let mut command = Supersede {
         replica,
         old,
@@ -62,7 +62,7 @@ pub fn supersede(rt: &HostRuntime, matches: &ArgMatches<'_>) -> Result<(), CliFa
 pub fn retire(rt: &HostRuntime, matches: &ArgMatches<'_>) -> Result<(), CliFault> {
     let replica = replica(word(matches, "as"))?;
     let entries = entries(rt.alloc(), matches, "ENTRY")?;
-    let mut register = open_to_change(rt, matches)?;
+    let mut register = open_to_change(rt, rt.alloc(), matches)?;
     let mut command = Retire {
         replica,
         entries: &entries,
@@ -76,7 +76,7 @@ pub fn settle(rt: &HostRuntime, matches: &ArgMatches<'_>) -> Result<(), CliFault
     let replica = replica(word(matches, "as"))?;
     let keeps = entries(rt.alloc(), matches, "KEEP")?;
     let note = word(matches, "note");
-    let mut register = open_to_change(rt, matches)?;
+    let mut register = open_to_change(rt, rt.alloc(), matches)?;
     if matches.get_flag("equal") {
         let mut command = SettleEqual { replica, note };
         return change_of(rt, matches, &mut register, &mut command);
@@ -102,7 +102,7 @@ pub fn import(rt: &HostRuntime, matches: &ArgMatches<'_>) -> Outcome {
     let Ok(names) = names_of(rt.alloc(), paths) else {
         return Outcome::Fault(CliFault::Memory);
     };
-    let mut register = match open_to_change(rt, matches) {
+    let mut register = match open_to_change(rt, rt.alloc(), matches) {
         Ok(register) => register,
         Err(fault) => return Outcome::Fault(fault),
     };
@@ -164,11 +164,11 @@ fn import_tried<F: Read + Write + Seek + OpenFile>(
 fn import_into<F: Read + Write + Seek + OpenFile>(
     rt: &HostRuntime,
     matches: &ArgMatches<'_>,
-    source: &mut Reading<F>,
+    source: &mut InputOf<Reading<F>>,
     files: &mut [Reading<F>],
     order: &Order<'_>,
 ) -> Outcome {
-    let mut place = match place(rt, rt.alloc(), word(matches, "out")) {
+    let mut place = match printing_place(rt, rt.alloc(), word(matches, "out")) {
         Ok(place) => place,
         Err(fault) => return Outcome::Fault(fault),
     };
@@ -178,7 +178,7 @@ fn import_into<F: Read + Write + Seek + OpenFile>(
 }
 
 // The file is read in one place and written in another.
-fn import_file<'a, S: Source, T: Source, P: Place, W: Write>(
+fn import_file<'a, S: Input, T: Source, P: Place, W: Write>(
     alloc: Global,
     source: &'a mut S,
     place: &'a mut P,

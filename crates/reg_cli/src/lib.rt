@@ -4,6 +4,7 @@
 mod change;
 mod command;
 mod exchange;
+mod inputs;
 mod look;
 mod outcome;
 mod shells;

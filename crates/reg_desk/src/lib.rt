@@ -23,10 +23,10 @@ pub use status::run_status;
 // Items of lower crates for the command line: engines, faults, options, and devices.
 pub use byte_disk::{FileDisk, NewFile};
 pub use byte_io::{Reading, Source, Writing, write_all};
-pub use byte_out::FilePlace;
+pub use byte_out::{FileId, FilePlace, Input, InputOf, Lock, Lockable};
 pub use reg_engine::{
-    Change, CliFault, Enter, Export, FirstVersion, Form, Give, InFile, InputFault, Keep, OfFile,
-    OnShelf, Ops, OutFault, PieceFor, Print, Refusal, Report, Retire, ShelfProblem, Show, Store,
+    Base, Change, CliFault, Enter, Export, FirstVersion, Form, Give, InFile, InputFault, Keep, OfFile,
+    OnShelf, Ops, OutFault, PieceFor, Print, Refusal, RegisterFiles, Report, Retire, ShelfProblem, Show, Store,
     Summary, Supersede, Whole, Wkt, run_change, run_check, run_enter, run_enter_on, run_export,
     run_give, run_merge, run_merge_on, run_new, run_ops, run_piece, run_print, run_report,
     run_retire, run_retire_on, run_seen, run_shelf, run_show, run_supersede, run_supersede_on,

@@ -59,6 +59,13 @@ pub fn run_import<T: Keep, F: Source, K: Sink>(
         Err(why) => return Err(why),
     };
     if let Err(fault) = store.keep(alloc, &register) {
+        if !fault.is_after() {
+            return Err(Unimported::plain(alloc, fault));
+        }
+        if let Err(cut) = write_all(sink, &lines) {
+            let fault = CliFault::Out(OutFault::WriteFailed(cut.written));
+            return Err(Unimported::plain(alloc, fault));
+        }
         return Err(Unimported::plain(alloc, fault));
     }
     match tell(alloc, &lines, passed, sink) {
