@@ -32,7 +32,7 @@ impl fmt::Display for MakeFault {
     }
 }
 
-/// Why the old file was not replaced.
+/// Why the old file was not replaced, or not for sure.
 #[derive(Clone, Copy, Debug, PartialEq, Eq)]
 pub enum ReplaceFault {
     /// No new file was made, or it could not be renamed.
@@ -41,6 +41,10 @@ pub enum ReplaceFault {
     NewExists,
     /// Exactly this many bytes were written. If these are all, the sync failed.
     WriteFailed(usize),
+    /// The file is not the one that was read: another program replaced it.
+    Changed,
+    /// The new file has the name, but the sync of its folder failed: a power cut may leave the old one.
+    NotSynced,
 }
 
 impl ReplaceFault {
@@ -54,6 +58,8 @@ impl ReplaceFault {
             ReplaceFault::NotOpened => "NotOpened",
             ReplaceFault::NewExists => "NewExists",
             ReplaceFault::WriteFailed(_) => "WriteFailed",
+            ReplaceFault::Changed => "Changed",
+            ReplaceFault::NotSynced => "NotSynced",
         }
     }
 
@@ -65,6 +71,8 @@ impl ReplaceFault {
             ReplaceFault::NotOpened => None,
             ReplaceFault::NewExists => None,
             ReplaceFault::WriteFailed(place) => Some(place),
+            ReplaceFault::Changed => None,
+            ReplaceFault::NotSynced => None,
         }
     }
 }

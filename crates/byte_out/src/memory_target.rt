@@ -24,7 +24,15 @@ impl Place for MemoryTarget {
         Ok(())
     }
 
+    fn still_has(&mut self, _read: &[u8]) -> bool {
+        true
+    }
+
     fn put(&mut self) -> Result<(), NotOpened> {
+        Ok(())
+    }
+
+    fn land(&mut self) -> Result<(), DeviceFault> {
         Ok(())
     }
 

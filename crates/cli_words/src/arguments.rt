@@ -53,15 +53,36 @@ pub fn changed<'a>(alloc: Global) -> Result<Arg<'a>, AllocError> {
         .conflicts_with("shelf")
 }
 
-/// The office of a command: the argument, or that of the environment.
-pub fn replica<'a>(alloc: Global, office: Option<&'a str>) -> Arg<'a> {
+/// The offices of the environment: a UUID, and an office file.
+#[derive(Clone, Copy)]
+pub struct Offices<'a> {
+    pub replica: Option<&'a str>,
+    pub file: Option<&'a str>,
+}
+
+/// The office of a command, by its UUID: the argument, or that of the environment.
+pub fn replica<'a>(alloc: Global, offices: Offices<'a>) -> Result<Arg<'a>, AllocError> {
     let word = Arg::new(alloc, "as")
         .long("as")
         .value_name("UUID")
         .help("UUID of the office, unique to it (default: $CRSREG_AS)");
-    match office {
-        Some(office) => word.default_value(office).hide_default_value(true),
-        None => word.required(true),
+    match offices.replica {
+        Some(office) => Ok(word.default_value(office).hide_default_value(true)),
+        None if offices.file.is_some() => Ok(word),
+        None => word.required_unless_present("office"),
+    }
+}
+
+/// The office of a command, by its office file, likewise.
+pub fn office<'a>(alloc: Global, offices: Offices<'a>) -> Result<Arg<'a>, AllocError> {
+    let word = Arg::new(alloc, "office")
+        .long("office")
+        .value_name("FILE")
+        .help("The office file, instead of --as (default: $CRSREG_OFFICE)")
+        .conflicts_with("as")?;
+    match offices.file {
+        Some(file) => Ok(word.default_value(file).hide_default_value(true)),
+        None => Ok(word),
     }
 }
 

@@ -6,6 +6,23 @@ Every office starts from an empty register, which has seen no operation.
 Example:
   crsreg new office.crs";
 
+pub const OFFICE_HELP: &str = "\
+An office file has the UUID of an office, and the last number that the office
+gave. With --office FILE a command works as this office, and replaces the file
+before it writes OUT. So the office gives no number twice, even if REG is an old
+copy: then the command is refused as Behind UUID:NUMBER. Merge a register that
+has this number, or make a new office if none has it any more.
+
+Have one office file for each register. Never copy an office file, replace it by
+an older one, or put it under version control. While a command has FILE,
+FILE.new is there, and other commands with FILE end with file 1: Busy. A command
+that was killed leaves FILE.new: remove it when no crsreg runs.
+
+Example:
+  crsreg office north.office
+  crsreg enter office.crs --office north.office --text height.wkt \\
+      --out office.crs";
+
 pub const MERGE_HELP: &str = "\
 Reads all files in the order given before OUT is opened, so OUT can be one of
 them. Writes the register of all their operations. The order of registers and

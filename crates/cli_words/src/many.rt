@@ -1,5 +1,7 @@
 //! The commands `import` and `settle`.
-use crate::arguments::{ON_SHELF, changed, flag, note, on_shelf, register, replica, several};
+use crate::arguments::{
+    ON_SHELF, Offices, changed, flag, note, office, on_shelf, register, replica, several,
+};
 use crate::many_help::{IMPORT_HELP, SETTLE_HELP};
 use clap::{Arg, ArgAction, Command};
 use std::alloc::{AllocError, Global};
@@ -7,13 +9,14 @@ use std::alloc::{AllocError, Global};
 const MODES: [&str; 3] = ["refuse", "beside", "revise"];
 
 /// `import`.
-pub fn import<'a>(alloc: Global, office: Option<&'a str>) -> Result<Command<'a>, AllocError> {
+pub fn import<'a>(alloc: Global, offices: Offices<'a>) -> Result<Command<'a>, AllocError> {
     let whole = Command::new(alloc, "import")
         .about("Enters all texts of files into a register")
         .after_help(IMPORT_HELP)
         .arg(register(alloc))?
         .arg(several(alloc, "FILE", "The files with texts; - is standard input"))?
-        .arg(replica(alloc, office))?
+        .arg(replica(alloc, offices)?)?
+        .arg(office(alloc, offices)?)?
         .arg(note(alloc))?;
     let whole = whole
         .arg(differs(alloc))?
@@ -30,7 +33,7 @@ pub fn import<'a>(alloc: Global, office: Option<&'a str>) -> Result<Command<'a>,
 }
 
 /// `settle`.
-pub fn settle<'a>(alloc: Global, office: Option<&'a str>) -> Result<Command<'a>, AllocError> {
+pub fn settle<'a>(alloc: Global, offices: Offices<'a>) -> Result<Command<'a>, AllocError> {
     Command::new(alloc, "settle")
         .about("Keeps entries, and retires all others with their authority and code")
         .after_help(SETTLE_HELP)
@@ -41,7 +44,8 @@ pub fn settle<'a>(alloc: Global, office: Option<&'a str>) -> Result<Command<'a>,
             "equal",
             "Of entries with one key and text, keeps the least",
         ))?
-        .arg(replica(alloc, office))?
+        .arg(replica(alloc, offices)?)?
+        .arg(office(alloc, offices)?)?
         .arg(note(alloc))?
         .arg(on_shelf(alloc, ON_SHELF))?
         .arg(changed(alloc)?)

@@ -1,8 +1,8 @@
 //! All commands, and `check`.
-use crate::arguments::flag;
+use crate::arguments::{Offices, flag};
 use crate::change::{enter, retire, supersede};
 use crate::completions::SHELLS;
-use crate::exchange::{downgrade, merge, new, piece, seen, shelf, unshelf};
+use crate::exchange::{downgrade, merge, new, office, piece, seen, shelf, unshelf};
 use crate::look::{diff, find, offices, status};
 use crate::many::{import, settle};
 use crate::read::{export, ops, report, show, wkt};
@@ -13,15 +13,20 @@ use std::alloc::{AllocError, Global};
 /// The newest heading of CHANGES.md.
 const VERSION: &str = "0.6";
 
-/// All commands. The office is that of the environment, if it names one: the default of `--as`.
-pub fn command_line<'a>(alloc: Global, office: Option<&'a str>) -> Result<Command<'a>, AllocError> {
+/// All commands. The offices of the environment are the defaults of `--as` and `--office`.
+pub fn command_line<'a>(
+    alloc: Global,
+    replica: Option<&'a str>,
+    file: Option<&'a str>,
+) -> Result<Command<'a>, AllocError> {
+    let offices = Offices { replica, file };
     let whole = Command::new(alloc, "crsreg")
         .version(VERSION)
         .about("A replicated register of coordinate reference systems in WKT 2")
         .after_help(STATUS_HELP)
         .subcommand_required(true);
     let whole = and(whole, check(alloc))?;
-    let whole = with_changes(alloc, whole, office)?;
+    let whole = with_changes(alloc, whole, offices)?;
     let whole = with_readers(alloc, whole)?;
     let whole = with_exchange(alloc, whole)?;
     let whole = with_shelves(alloc, whole)?;
@@ -32,14 +37,15 @@ pub fn command_line<'a>(alloc: Global, office: Option<&'a str>) -> Result<Comman
 fn with_changes<'a>(
     alloc: Global,
     whole: Command<'a>,
-    office: Option<&'a str>,
+    offices: Offices<'a>,
 ) -> Result<Command<'a>, AllocError> {
     let whole = and(whole, new(alloc))?;
-    let whole = and(whole, enter(alloc, office))?;
-    let whole = and(whole, import(alloc, office))?;
-    let whole = and(whole, supersede(alloc, office))?;
-    let whole = and(whole, retire(alloc, office))?;
-    and(whole, settle(alloc, office))
+    let whole = and(whole, office(alloc))?;
+    let whole = and(whole, enter(alloc, offices))?;
+    let whole = and(whole, import(alloc, offices))?;
+    let whole = and(whole, supersede(alloc, offices))?;
+    let whole = and(whole, retire(alloc, offices))?;
+    and(whole, settle(alloc, offices))
 }
 
 // Those that show registers.

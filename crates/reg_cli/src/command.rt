@@ -2,6 +2,7 @@
 use crate::change::{enter, import, retire, settle, supersede};
 use crate::exchange::{downgrade, merge, new, piece, seen, shelf, unshelf};
 use crate::look::{check, diff, export, find, offices, ops, report, show, status as figures, wkt};
+use crate::office::office;
 use crate::outcome::{MISUSE, Outcome, complain, failed, print, status};
 use crate::shells::completions;
 use clap::ArgMatches;
@@ -13,10 +14,14 @@ use std::io;
 
 const NO_TEXT: &str = "error: a word of the command line is not UTF-8";
 
+const NO_FILE: &str = "error: CRSREG_OFFICE is not UTF-8";
+
 const NO_COMMAND: &str = "error: there is no such command";
 
-/// The environment variable with the UUID of the office.
+/// The environment variables with the UUID of the office, and with its office file.
 const OFFICE: &str = "CRSREG_AS";
+
+const FILE: &str = "CRSREG_OFFICE";
 
 /// Not a UUID: the office of an environment variable that is not text.
 const NO_UUID: &str = "?";
@@ -38,10 +43,20 @@ pub fn run(rt: &HostRuntime) -> u8 {
 
 /// Runs the command of these arguments, the first of which is the program's name, and returns the exit status.
 pub fn answer(rt: &HostRuntime, words: &[String]) -> u8 {
+    match env::var(rt, FILE) {
+        Ok(file) => answer_of(rt, words, named(file.as_str())),
+        Err(VarError::NotPresent) => answer_of(rt, words, None),
+        Err(VarError::NotUnicode) => complain(rt, &NO_FILE, MISUSE),
+        Err(VarError::OutOfMemory) => failed(rt, &CliFault::Memory),
+    }
+}
+
+// The office file is that of the environment, if it names one.
+fn answer_of(rt: &HostRuntime, words: &[String], file: Option<&str>) -> u8 {
     match env::var(rt, OFFICE) {
-        Ok(office) => answer_as(rt, words, named(office.as_str())),
-        Err(VarError::NotPresent) => answer_as(rt, words, None),
-        Err(VarError::NotUnicode) => answer_as(rt, words, Some(NO_UUID)),
+        Ok(office) => answer_as(rt, words, named(office.as_str()), file),
+        Err(VarError::NotPresent) => answer_as(rt, words, None, file),
+        Err(VarError::NotUnicode) => answer_as(rt, words, Some(NO_UUID), file),
         Err(VarError::OutOfMemory) => failed(rt, &CliFault::Memory),
     }
 }
@@ -56,8 +71,8 @@ fn named(office: &str) -> Option<&str> {
 }
 
 // The office is that of the environment, if it names one.
-fn answer_as(rt: &HostRuntime, words: &[String], office: Option<&str>) -> u8 {
-    let Ok(command) = command_line(rt.alloc(), office) else {
+fn answer_as(rt: &HostRuntime, words: &[String], office: Option<&str>, file: Option<&str>) -> u8 {
+    let Ok(command) = command_line(rt.alloc(), office, file) else {
         return failed(rt, &CliFault::Memory);
     };
     match command.try_get_matches_from(words) {
@@ -80,11 +95,12 @@ fn perform(rt: &HostRuntime, matches: &ArgMatches<'_>) -> Option<Outcome> {
     let outcome = match name {
         "check" => check(rt, inner),
         "new" => Outcome::of(new(rt, inner)),
-        "enter" => enter(rt, inner),
-        "import" => import(rt, inner),
-        "supersede" => Outcome::of(supersede(rt, inner)),
-        "retire" => Outcome::of(retire(rt, inner)),
-        "settle" => Outcome::of(settle(rt, inner)),
+        "office" => Outcome::of(office(rt, inner)),
+        "enter" => Outcome::of_change(enter(rt, inner)),
+        "import" => Outcome::of_change(import(rt, inner)),
+        "supersede" => Outcome::of_change(supersede(rt, inner)),
+        "retire" => Outcome::of_change(retire(rt, inner)),
+        "settle" => Outcome::of_change(settle(rt, inner)),
         "find" => Outcome::of(find(rt, inner)),
         "show" => Outcome::of(show(rt, inner)),
         "wkt" => Outcome::of(wkt(rt, inner)),

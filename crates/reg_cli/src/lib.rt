@@ -4,7 +4,9 @@
 mod change;
 mod command;
 mod exchange;
+mod inputs;
 mod look;
+mod office;
 mod outcome;
 mod shells;
 mod stores;

@@ -4,8 +4,8 @@ use crate::stores::{Opened as Register, next_file, open_register, print_of};
 use crate::words::{STANDARD_INPUT, entry, form, kind, open, open_all, open_to_read, word};
 use clap::ArgMatches;
 use reg_desk::{
-    CliFault, Export, FileAt, FileDisk, Find, FindIds, Kept, OfFile, Offices, OnShelf, Opened, Ops,
-    Query, Reading, Report, ShelfAt, Show, Source, Wanted, Wkt, Writing, run_check,
+    CliFault, Export, FileAt, FileDisk, Find, FindIds, Kept, Lockable, OfFile, Offices, OnShelf,
+    Opened, Ops, Query, Reading, Report, ShelfAt, Show, Source, Wanted, Wkt, Writing, run_check,
     run_check_explained, run_diff, run_status,
 };
 use std::alloc::{AllocError, Global};
@@ -159,7 +159,10 @@ fn opened_shelves<R: Files>(
     rt: &R,
     alloc: Global,
     paths: &[&str],
-) -> Result<Vec<ShelfAt<FileDisk<R::File>>>, AllocError> {
+) -> Result<Vec<ShelfAt<FileDisk<R::File>>>, AllocError>
+where
+    R::File: Lockable,
+{
     let mut shelves = Vec::new(alloc);
     for path in paths {
         let shelf = match open_to_read(rt, *path) {
@@ -182,7 +185,7 @@ pub fn diff(rt: &HostRuntime, matches: &ArgMatches<'_>) -> Outcome {
 
 // A shelf is compared with what a merge of the files into it would make.
 fn compare(rt: &HostRuntime, matches: &ArgMatches<'_>) -> Result<bool, CliFault> {
-    let register = open_register(rt, matches, "OLD")?;
+    let register = open_register(rt, rt.alloc(), matches, "OLD", &None)?;
     let paths = matches.get_strs("NEW").unwrap_or(&[]);
     let mut others = open_all(rt, rt.alloc(), next_file(&register), paths)?;
     let mut sink = Writing::new(io::writer(rt));

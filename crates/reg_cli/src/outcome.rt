@@ -1,5 +1,7 @@
 //! How a command ended: its messages and its exit status.
-use reg_desk::{CliFault, Explained, OutFault, Unimported, Writing, write_all};
+use reg_desk::{
+    CliFault, Explained, GuardFault, OutFault, Unguarded, Unimported, Writing, write_all,
+};
 use std::{fmt, io, str};
 
 /// The exit status for a wrong command line.
@@ -16,6 +18,8 @@ pub enum Outcome {
     Fault(CliFault),
     /// Failed, with an explanation of the refused text.
     Explained(Explained),
+    /// A command with an office file failed.
+    Guard(GuardFault),
     /// Texts were not imported, or not all of them.
     Import(Unimported),
     /// The command line is wrong, for a reason that clap does not check.
@@ -39,12 +43,35 @@ impl Outcome {
         }
     }
 
-    /// The outcome of an import.
-    pub fn of_import(answer: Result<(), Unimported>) -> Outcome {
+    /// The outcome of a command that changes a register.
+    pub fn of_change(answer: Result<(), Outcome>) -> Outcome {
         match answer {
             Ok(()) => Outcome::Done,
-            Err(why) => Outcome::Import(why),
+            Err(outcome) => outcome,
         }
+    }
+
+    /// The outcome of an import.
+    pub fn of_import(answer: Result<(), Unimported>) -> Result<(), Outcome> {
+        match answer {
+            Ok(()) => Ok(()),
+            Err(why) => Err(Outcome::Import(why)),
+        }
+    }
+
+    /// The outcome of an import with an office file.
+    pub fn of_guarded(answer: Result<(), Unguarded>) -> Result<(), Outcome> {
+        match answer {
+            Ok(()) => Ok(()),
+            Err(Unguarded::Import(why)) => Err(Outcome::Import(why)),
+            Err(Unguarded::Guard(fault)) => Err(Outcome::Guard(fault)),
+        }
+    }
+}
+
+impl From<CliFault> for Outcome {
+    fn from(fault: CliFault) -> Outcome {
+        Outcome::Fault(fault)
     }
 }
 
@@ -54,6 +81,7 @@ pub fn status(rt: &HostRuntime, outcome: Outcome) -> u8 {
         Outcome::Done => 0,
         Outcome::Differs => DIFFERS,
         Outcome::Fault(fault) => failed(rt, &fault),
+        Outcome::Guard(fault) => complain(rt, &fault, fault.status()),
         Outcome::Explained(explained) => {
             let status = failed(rt, &explained.fault);
             add(rt, &explained.note);

@@ -8,7 +8,7 @@ use reg_desk::CliFault;
 /// `completions`, if there is a shell of the name.
 pub fn completions(rt: &HostRuntime, matches: &ArgMatches<'_>) -> Option<Result<(), CliFault>> {
     let shell = Shell::named(word(matches, "SHELL"))?;
-    let Ok(whole) = command_line(rt.alloc(), None) else {
+    let Ok(whole) = command_line(rt.alloc(), None, None) else {
         return Some(Err(CliFault::Memory));
     };
     match completion_script(rt.alloc(), &whole, shell) {

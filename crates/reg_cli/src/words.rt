@@ -1,11 +1,12 @@
 //! The arguments of a command: replicas, entries, files.
 use clap::ArgMatches;
 use reg_desk::{
-    CliFault, Differs, FileDisk, FilePlace, Form, InputFault, OpId, Reading, Refusal, ReportKind,
-    ShelfProblem,
+    CliFault, Differs, FileDisk, FileId, FilePlace, Form, InputFault, Lock, Lockable, OpId,
+    Reading, Refusal, RegisterFiles, ReportKind, ShelfProblem,
 };
 use std::alloc::Global;
-use std::fs::{self, OpenOptions};
+use std::fs::{self, OpenFile, OpenOptions};
+use std::io::{Read, Seek, Write};
 use std::os::fd::AsFd;
 use std::rt::Files;
 use uuid::Uuid;
@@ -14,6 +15,11 @@ use uuid::Uuid;
 pub const STANDARD_INPUT: &str = "-";
 
 const STANDARD_INPUT_PATH: &str = "/dev/stdin";
+
+const STANDARD_OUTPUT_PATH: &str = "/dev/stdout";
+
+/// What a stopped command may have left beside OUT is used again, unless it is a whole register.
+static REGISTER_FILES: RegisterFiles = RegisterFiles;
 
 /// An argument, or the empty text if it is absent, such as a note.
 pub fn word<'a>(matches: &ArgMatches<'a>, name: &str) -> &'a str {
@@ -137,19 +143,36 @@ pub fn is_twice(paths: &[&str]) -> bool {
     false
 }
 
-/// Opens a shelf for reading and writing.
-pub fn open_shelf<R: Files>(rt: &R, path: &str) -> Result<FileDisk<R::File>, CliFault> {
+/// Opens a shelf for reading and writing. No other command may have it open.
+pub fn open_shelf<R: Files>(rt: &R, path: &str) -> Result<FileDisk<R::File>, CliFault>
+where
+    R::File: Lockable,
+{
     match OpenOptions::new().read(true).write(true).open(rt, path) {
-        Ok(file) => Ok(FileDisk::new(file)),
+        Ok(file) => disk_if(file.lock_alone(), file),
         Err(_) => Err(CliFault::Shelf(ShelfProblem::NotOpened)),
     }
 }
 
-/// Opens a shelf for reading.
-pub fn open_to_read<R: Files>(rt: &R, path: &str) -> Result<FileDisk<R::File>, CliFault> {
+/// Opens a shelf for reading. No command may have it open for writing.
+pub fn open_to_read<R: Files>(rt: &R, path: &str) -> Result<FileDisk<R::File>, CliFault>
+where
+    R::File: Lockable,
+{
     match OpenOptions::new().read(true).open(rt, path) {
-        Ok(file) => Ok(FileDisk::new(file)),
+        Ok(file) => disk_if(file.lock_shared(), file),
         Err(_) => Err(CliFault::Shelf(ShelfProblem::NotOpened)),
+    }
+}
+
+// The shelf in the file, unless another command has the lock.
+fn disk_if<F: Read + Write + Seek + OpenFile + Drop>(
+    lock: Lock,
+    file: F,
+) -> Result<FileDisk<F>, CliFault> {
+    match lock {
+        Lock::Held => Err(CliFault::Shelf(ShelfProblem::Busy)),
+        Lock::Taken | Lock::Missing => Ok(FileDisk::new(file)),
     }
 }
 
@@ -158,11 +181,35 @@ pub fn place<'a, R: Files>(
     rt: &'a R,
     alloc: Global,
     path: &'a str,
-) -> Result<FilePlace<'a, R>, CliFault>
+) -> Result<FilePlace<'a, R, RegisterFiles>, CliFault>
 where
-    R::File: AsFd,
+    R::File: AsFd + Lockable,
 {
-    match FilePlace::new(alloc, rt, path) {
+    place_beside(rt, alloc, path, None)
+}
+
+/// The place of the output file of a command that prints, too: it cannot be the file to which that goes.
+pub fn printing_place<'a, R: Files>(
+    rt: &'a R,
+    alloc: Global,
+    path: &'a str,
+) -> Result<FilePlace<'a, R, RegisterFiles>, CliFault>
+where
+    R::File: AsFd + Lockable,
+{
+    place_beside(rt, alloc, path, FileId::at(rt, STANDARD_OUTPUT_PATH))
+}
+
+fn place_beside<'a, R: Files>(
+    rt: &'a R,
+    alloc: Global,
+    path: &'a str,
+    printed: Option<FileId>,
+) -> Result<FilePlace<'a, R, RegisterFiles>, CliFault>
+where
+    R::File: AsFd + Lockable,
+{
+    match FilePlace::new(alloc, rt, path, &REGISTER_FILES, printed) {
         Ok(place) => Ok(place),
         Err(_) => Err(CliFault::Memory),
     }

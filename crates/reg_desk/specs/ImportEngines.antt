@@ -4,7 +4,8 @@ use Rattle.byte_io.specs.Device.{SourceState, SinkState}
 use Rattle.byte_io.specs.Whole.{WritesAll}
 use Rattle.reg_op.specs.Contents.{Content}
 use Rattle.reg_engine.specs.declared.fault.CliFault.{CliFault}
-use Rattle.reg_engine.specs.Store.{Around, AreCut}
+use Rattle.reg_engine.specs.Fault.{is_after}
+use Rattle.reg_engine.specs.Store.{Around, AreCut, WritesIf, IsKeptIn}
 use Rattle.reg_desk.specs.declared.import.order.Order.{Order}
 use Rattle.reg_desk.specs.declared.import.fault.Unimported.{Unimported}
 use Rattle.reg_desk.specs.Import.{IsPlain, IsReady, IsUnready}
@@ -35,7 +36,7 @@ kept_in a before after = record {
   came = λ x. a.came x × (after ≡ before);
   none = λ f. a.none f × (after ≡ before);
   gave = λ x y lines. a.left x y × WritesAll lines before after;
-  failed = λ x y lines f. (a.unleft x y f × (after ≡ before)) ⊎ (a.left x y × AreCut lines before after f);
+  failed = λ x y lines f. (a.unleft x y f × WritesIf (is_after f) lines before after) ⊎ (IsKeptIn a x y × AreCut lines before after f);
 }
 
 -- a store that is only read

@@ -4,6 +4,7 @@ mod against;
 mod engine;
 mod fault;
 mod files;
+mod guarded;
 mod notes;
 mod order;
 mod ready;
@@ -11,4 +12,5 @@ mod texts;
 
 pub use engine::{run_import, try_import};
 pub use fault::{ImportFault, Unimported};
+pub use guarded::{Unguarded, run_import_guarded, try_import_guarded};
 pub use order::Order;

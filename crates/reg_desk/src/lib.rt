@@ -14,7 +14,10 @@ mod status_lines;
 pub use diff::run_diff;
 pub use explained::{Explained, explained_fault, problem_of, run_check_explained};
 pub use find::{Find, FindIds};
-pub use import::{ImportFault, Order, Unimported, run_import, try_import};
+pub use import::{
+    ImportFault, Order, Unguarded, Unimported, run_import, run_import_guarded, try_import,
+    try_import_guarded,
+};
 pub use look::{FileAt, Inspect, Look, Opened, ShelfAt};
 pub use offices::Offices;
 pub use settle::{Settle, SettleEqual};
@@ -23,16 +26,21 @@ pub use status::run_status;
 // Items of lower crates for the command line: engines, faults, options, and devices.
 pub use byte_disk::{FileDisk, NewFile};
 pub use byte_io::{Reading, Source, Writing, write_all};
-pub use byte_out::FilePlace;
+pub use byte_out::{FileId, FilePlace, Input, InputOf, Lock, Lockable};
 pub use reg_engine::{
-    Change, CliFault, Enter, Export, FirstVersion, Form, Give, InFile, InputFault, Keep, OfFile,
-    OnShelf, Ops, OutFault, PieceFor, Print, Refusal, Report, Retire, ShelfProblem, Show, Store,
-    Summary, Supersede, Whole, Wkt, run_change, run_check, run_enter, run_enter_on, run_export,
-    run_give, run_merge, run_merge_on, run_new, run_ops, run_piece, run_print, run_report,
-    run_retire, run_retire_on, run_seen, run_shelf, run_show, run_supersede, run_supersede_on,
-    run_unshelf, run_wkt,
+    Base, Change, CliFault, Enter, Export, FirstVersion, Form, Give, InFile, InputFault, Keep,
+    OfFile, OnShelf, Ops, OutFault, PieceFor, Print, Refusal, RegisterFiles, Report, Retire,
+    ShelfProblem, Show, Store, Summary, Supersede, Whole, Wkt, run_change, run_check, run_enter,
+    run_enter_on, run_export, run_give, run_merge, run_merge_on, run_new, run_ops, run_piece,
+    run_print, run_report, run_retire, run_retire_on, run_seen, run_shelf, run_show, run_supersede,
+    run_supersede_on, run_unshelf, run_wkt,
+};
+pub use reg_guard::{
+    AnewPath, GuardFault, Hold, OfficeFault, OfficePath, last_of, open_office, run_guarded,
+    run_office,
 };
 pub use reg_import::Differs;
+pub use reg_number::LastNumber;
 pub use reg_office::ReportKind;
 pub use reg_op::OpId;
 pub use reg_query::{Query, Wanted};

@@ -183,7 +183,7 @@ joins_to ps xs qs y x e g first then-all = of_parts ps xs qs e g ∙ ap (λ r. w
 
 -- what the place met is what the merge met
 pub unmerged : (old new : Ends) (ps : List Part) (x : Content) → HoldAll old.sources new.sources ps → JoinTo ps x
-    → (f : CliFault) → IsUnpublished x old.place new.place f → IsMergeFault old new f
+    → (f : CliFault) → IsUnpublished x new.read old.place new.place f → IsMergeFault old new f
 unmerged old new ps x held join (cli.Refused r) h = absurd h
 unmerged old new ps x held join (cli.File k f) h = absurd h
 unmerged old new ps x held join (cli.Out f) h = (ps, held, (x, join, h))
@@ -204,8 +204,8 @@ abbrev fault_or : CliFault → Result (Unit {0}) CliFault → CliFault
 fault_or d (Ok x) = d
 fault_or d (Err f) = f
 
-pub never_too_large : (old new : PlaceState) (f : CliFault) → IsUnpublished nothing old new f → ◌≡◌ {A = Result (Unit {0}) CliFault} (Err f) (Err (cli.Out out.TooLarge)) → ⊥
-never_too_large old new f h e = nothing_is_small (subst (λ k. IsUnpublished nothing old new k) (ap (fault_or f) e) h).0
+pub never_too_large : (old new : PlaceState) (f : CliFault) → IsUnpublished nothing None old new f → ◌≡◌ {A = Result (Unit {0}) CliFault} (Err f) (Err (cli.Out out.TooLarge)) → ⊥
+never_too_large old new f h e = nothing_is_small (subst (λ k. IsUnpublished nothing None old new k) (ap (fault_or f) e) h).0
 
 -- a file was not read
 pub unread : (old new : Ends) → new.place ≡ old.place → (f : CliFault) → AreUnread 1 old.sources new.sources f → IsMergeFault old new f

@@ -1,5 +1,5 @@
 -- The faults of commands: their exit statuses, and where they come from.
-use Rattle.std.specs.Prelude.{ℕ}
+use Rattle.std.specs.Prelude.{ℕ, Bool, true, false}
 use Rattle.byte_out.specs.declared.fault.ReplaceFault.{ReplaceFault}
 use Rattle.byte_out.specs.declared.fault.ReplaceFault.TheVariants as replaced
 use Rattle.wkt_crs.specs.declared.fault.ReadFault.TheVariants as read
@@ -35,6 +35,11 @@ status_of (cli.File number f) = 3
 status_of (cli.Out f) = 3
 status_of cli.Memory = 4
 status_of (cli.Shelf p) = 3
+
+-- whether the fault comes after what was made is kept
+abbrev pub is_after : CliFault → Bool
+is_after (cli.Out out.NotSynced) = true
+is_after f = false
 
 -- the fault of a command that read its text from the file of this number
 abbrev pub text_fault : ℕ → ReadFromFault → CliFault
@@ -75,6 +80,8 @@ abbrev pub replace_fault : ReplaceFault → CliFault
 replace_fault replaced.NotOpened = cli.Out out.NotOpened
 replace_fault replaced.NewExists = cli.Out out.NewExists
 replace_fault (replaced.WriteFailed n) = cli.Out (out.WriteFailed n)
+replace_fault replaced.Changed = cli.Out out.Changed
+replace_fault replaced.NotSynced = cli.Out out.NotSynced
 
 -- the fault of a command that an office was given
 abbrev pub office_fault : OfficeFault → CliFault

@@ -1,5 +1,5 @@
 -- A merge of registers and pieces: what was read, and what was written.
-use Rattle.std.specs.Prelude.{◌≡◌, ◌++◌, ◌∷◌, [], List, ℕ, Result, Ok, Err, map}
+use Rattle.std.specs.Prelude.{◌≡◌, ◌++◌, ◌∷◌, [], List, ℕ, Option, Result, Ok, Err, map}
 use Rattle.byte_io.specs.Device.{SourceState}
 use Rattle.byte_out.specs.Place.{PlaceState}
 use Rattle.reg_op.specs.Contents.{Content, nothing, joined}
@@ -65,18 +65,19 @@ brought ps = registers ps ++ map part_of (pieces ps)
 
 -- ---- what the command does
 
--- what a merge sees of its sources and its place
+-- what a merge sees of its sources and its place, and what a source gave that is the file of the place
 pub record Ends : Type 0 where
   pub sources : List SourceState
+  pub read : Option (List ℕ)
   pub place : PlaceState
 
-abbrev pub ends : List SourceState → PlaceState → Ends
-ends sources place = record { sources = sources; place = place }
+abbrev pub ends : List SourceState → Option (List ℕ) → PlaceState → Ends
+ends sources read place = record { sources = sources; read = read; place = place }
 
 -- each source gave the file of a part, and the file of their join was written
 abbrev pub IsMerged : Ends → Ends → Type 0
 IsMerged old new = (ps : List Part) × HoldAll old.sources new.sources ps
-    × ((x : Content) × JoinTo ps x × PublishesFile x old.place new.place)
+    × ((x : Content) × JoinTo ps x × PublishesFile x new.read old.place new.place)
 
 -- the effect of a merge, by its fault; after a refusal nothing was opened
 abbrev pub IsMergeFault : Ends → Ends → CliFault → Type 0
@@ -85,6 +86,6 @@ IsMergeFault old new (cli.Refused (refusal.Basis id)) = (ps : List Part) × Hold
 IsMergeFault old new (cli.Refused r) = ⊥
 IsMergeFault old new (cli.File k f) = StopsAt k f old.sources new.sources × (new.place ≡ old.place)
 IsMergeFault old new (cli.Out f) = (ps : List Part) × HoldAll old.sources new.sources ps
-    × ((x : Content) × JoinTo ps x × IsOutFault x old.place new.place f)
+    × ((x : Content) × JoinTo ps x × IsOutFault x new.read old.place new.place f)
 IsMergeFault old new cli.Memory = NoneFails old.sources new.sources × (new.place ≡ old.place)
 IsMergeFault old new (cli.Shelf p) = ⊥

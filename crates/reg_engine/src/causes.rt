@@ -116,6 +116,8 @@ impl CliFault {
             ReplaceFault::NotOpened => CliFault::Out(OutFault::NotOpened),
             ReplaceFault::NewExists => CliFault::Out(OutFault::NewExists),
             ReplaceFault::WriteFailed(n) => CliFault::Out(OutFault::WriteFailed(n)),
+            ReplaceFault::Changed => CliFault::Out(OutFault::Changed),
+            ReplaceFault::NotSynced => CliFault::Out(OutFault::NotSynced),
         }
     }
 

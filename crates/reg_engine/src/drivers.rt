@@ -5,7 +5,7 @@ ghost use Rattle.reg_engine.specs.Store.{IsPrinted, IsUnprinted, IsGiven, IsUngi
 
 use crate::fault::{CliFault, OutFault};
 use crate::outputs::publish_bytes;
-use crate::store::{Keep, Store};
+use crate::store::{Base, Keep, Store};
 use byte_io::{Sink, write_all};
 use byte_out::Place;
 use reg_state::Register;
@@ -83,16 +83,17 @@ pub trait Give {
 }
 
 /// Loads the register, and puts the command's file of it in the place.
-pub fn run_give<T: Store, C: Give, P: Place>(
+pub fn run_give<T: Base, C: Give, P: Place>(
     alloc: Global,
     store: &mut T,
     command: &mut C,
     place: &mut P,
 ) -> Result<(), CliFault>
     ensures same { T.same store.old store.new × C.same command.old command.new }
-    ensures given { OnOk result (IsGiven (T.around store.old store.new) (C.gives command.old command.new (T.next store.old)) (P.state place.old) (P.state place.new)) }
+    ensures given { OnOk result (IsGiven (T.around store.old store.new) (C.gives command.old command.new (T.next store.old)) (T.kept store.new)
+        (P.state place.old) (P.state place.new)) }
     ensures fault { IfErr result (IsUngiven (T.around store.old store.new) (C.gives command.old command.new (T.next store.old))
-        (C.refuses command.old command.new (T.next store.old)) (C.unread command.old command.new) (P.state place.old) (P.state place.new)) }
+        (C.refuses command.old command.new (T.next store.old)) (C.unread command.old command.new) (T.kept store.new) (P.state place.old) (P.state place.new)) }
 {
     let next = store.next();
     let register = match store.load(alloc) {
@@ -103,7 +104,11 @@ pub fn run_give<T: Store, C: Give, P: Place>(
         Ok(bytes) => bytes,
         Err(fault) => return Err(fault),
     };
-    match publish_bytes(&bytes, place) {
+    let read = match store.kept() {
+        Ok(read) => read,
+        Err(fault) => return Err(fault),
+    };
+    match publish_bytes(&bytes, read, place) {
         Ok(()) => Ok(()),
         Err(fault) => Err(fault),
     }
@@ -145,7 +150,8 @@ pub trait Change {
     ghost rests: { (a : Self) → unread a a };
 }
 
-/// Loads the register, keeps the one that the command makes of it, and then writes the command's lines to the sink.
+/// Loads the register, keeps the one that the command makes of it, and then writes the command's lines to the sink; also if it is
+/// kept, but a power cut may undo that.
 pub fn run_change<T: Keep, C: Change, K: Sink>(
     alloc: Global,
     store: &mut T,
@@ -167,7 +173,13 @@ pub fn run_change<T: Keep, C: Change, K: Sink>(
         Err(fault) => return Err(fault),
     };
     if let Err(fault) = store.keep(alloc, &register) {
-        return Err(fault);
+        if !fault.is_after() {
+            return Err(fault);
+        }
+        return match write_all(sink, &lines) {
+            Ok(()) => Err(fault),
+            Err(cut) => Err(CliFault::Out(OutFault::WriteFailed(cut.written))),
+        };
     }
     match write_all(sink, &lines) {
         Ok(()) => Ok(()),

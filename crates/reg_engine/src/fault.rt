@@ -1,7 +1,7 @@
 //! What an engine reports: the fault, its name and printed line, and its exit status.
 
 ghost use Rattle.std.specs.Prelude.{◌≡◌};
-ghost use Rattle.reg_engine.specs.Fault.{status_of};
+ghost use Rattle.reg_engine.specs.Fault.{status_of, is_after};
 
 use reg_file::FileFault;
 use reg_office::OfficeFault;
@@ -189,6 +189,12 @@ pub enum OutFault {
     /// Exactly this many bytes were written.
     #[error("WriteFailed at {0}")]
     WriteFailed(usize),
+    /// Another program replaced the file after it was read.
+    #[error("Changed")]
+    Changed,
+    /// The new file is there, but a power cut may leave the old one: the sync of the folder failed.
+    #[error("NotSynced")]
+    NotSynced,
 }
 
 impl OutFault {
@@ -203,6 +209,8 @@ impl OutFault {
             OutFault::NewExists => "NewExists",
             OutFault::TooLarge => "TooLarge",
             OutFault::WriteFailed(_) => "WriteFailed",
+            OutFault::Changed => "Changed",
+            OutFault::NotSynced => "NotSynced",
         }
     }
 
@@ -222,6 +230,9 @@ impl OutFault {
 pub enum ShelfProblem {
     #[error("NotOpened")]
     NotOpened,
+    /// Another command has it.
+    #[error("Busy")]
+    Busy,
     /// It does not read as a shelf of a register.
     #[error("NotShelf")]
     NotShelf,
@@ -242,6 +253,7 @@ impl ShelfProblem {
     {
         match self {
             ShelfProblem::NotOpened => "NotOpened",
+            ShelfProblem::Busy => "Busy",
             ShelfProblem::NotShelf => "NotShelf",
             ShelfProblem::TooLarge => "TooLarge",
             ShelfProblem::DiskFailed => "DiskFailed",
@@ -300,6 +312,16 @@ impl CliFault {
         match self {
             CliFault::Refused(refusal) => refusal.id(),
             _ => None,
+        }
+    }
+
+    /// Whether it comes after what the command made is kept.
+    pub fn is_after(&self) -> bool
+        ensures { result ≡ is_after self.now }
+    {
+        match self {
+            CliFault::Out(OutFault::NotSynced) => true,
+            _ => false,
         }
     }
 

@@ -1,6 +1,7 @@
 //! The commands `new` and `merge`.
 
-ghost use Rattle.std.specs.Prelude.{◌≡◌, ◌≢◌, map, Ok, Err, IfOk, OnOk, IfErr};
+ghost use Rattle.std.specs.Prelude.{◌≡◌, ◌≢◌, map, None, Ok, Err, IfOk, OnOk, IfErr};
+ghost use Rattle.byte_out.specs.Input.{kept_of, first_kept};
 ghost use Rattle.reg_join.specs.Joining.{all_joined};
 ghost use Rattle.reg_op.specs.Contents.{nothing, joined};
 ghost use Rattle.reg_op.specs.Pieces.{joined_piece};
@@ -10,19 +11,18 @@ ghost use Rattle.reg_engine.specs.Merge.{ends, begun, with_pieces, IsUnjoined, I
 use crate::fault::{CliFault, OutFault, Refusal};
 use crate::inputs::{Parts, read_parts};
 use crate::outputs::publish_register;
-use byte_io::Source;
-use byte_out::Place;
+use byte_out::{Input, Place, first_kept};
 use reg_state::{JoinFault, Piece, Register, join_all};
 use std::alloc::Global;
 use std::mem::forget;
 
 /// Writes the file of the register that has seen nothing.
 pub fn run_new<P: Place>(alloc: Global, place: &mut P) -> Result<(), CliFault>
-    ensures published { OnOk result (PublishesFile nothing (P.state place.old) (P.state place.new)) }
-    ensures fault { IfErr result (IsUnpublished nothing (P.state place.old) (P.state place.new)) }
+    ensures published { OnOk result (PublishesFile nothing None (P.state place.old) (P.state place.new)) }
+    ensures fault { IfErr result (IsUnpublished nothing None (P.state place.old) (P.state place.new)) }
     ensures small { result ≢ Err (CliFault.Out OutFault.TooLarge) }
 {
-    match publish_register(alloc, &Register::new(alloc), place) {
+    match publish_register(alloc, &Register::new(alloc), None, place) {
         Ok(()) => Ok(()),
         Err(fault) => Err(fault),
     }
@@ -71,18 +71,19 @@ pub fn join_pieces(
 }
 
 /// Reads a register or a piece from each source, and writes the file of their join: all registers, and then the pieces in
-/// order. Sources are numbered from 1. After the file is written, the memory of what was read is not freed.
-pub fn run_merge<S: Source, P: Place>(
+/// order. Sources are numbered from 1. If one of them is the file that is replaced, it has to be the same still. After the file is
+/// written, the memory of what was read is not freed.
+pub fn run_merge<S: Input, P: Place>(
     alloc: Global,
     sources: &mut [S],
     place: &mut P,
 ) -> Result<(), CliFault>
     ensures merged { OnOk result (IsMerged
-        (ends (map S.state sources.old) (P.state place.old))
-        (ends (map S.state sources.new) (P.state place.new))) }
+        (ends (map S.state sources.old) None (P.state place.old))
+        (ends (map S.state sources.new) (first_kept (map (λ s. kept_of (S.keeps s) (S.state s)) sources.new)) (P.state place.new))) }
     ensures fault { IfErr result (IsMergeFault
-        (ends (map S.state sources.old) (P.state place.old))
-        (ends (map S.state sources.new) (P.state place.new))) }
+        (ends (map S.state sources.old) None (P.state place.old))
+        (ends (map S.state sources.new) (first_kept (map (λ s. kept_of (S.keeps s) (S.state s)) sources.new)) (P.state place.new))) }
 {
     let Parts { registers, pieces } = match read_parts(alloc, sources) {
         Ok(parts) => parts,
@@ -96,7 +97,10 @@ pub fn run_merge<S: Source, P: Place>(
         Ok(joined) => joined,
         Err(fault) => return Err(fault),
     };
-    match publish_register(alloc, &joined, place) {
+    let Ok(read) = first_kept(sources) else {
+        return Err(CliFault::Memory);
+    };
+    match publish_register(alloc, &joined, read, place) {
         Ok(()) => {
             // A program ends with its merge. Freeing each definition would take a twelfth of the time.
             forget(joined);

@@ -1,5 +1,5 @@
 -- Offices that work through their office files give no number twice.
-use Rattle.std.proofs.Common.{◌≡◌, ℕ, ◌+◌, ◌<◌, ◌≤◌, Bool, true, false, cond, List, [], ◌∷◌, ◌++◌, Option, Some, None, Result, Ok, Err, zero, suc, refl, sym, ap, ◌∙◌, subst, inl, inr, ◌⊎◌, arith, nat_lt, append_assoc}
+use Rattle.std.proofs.Common.{◌≡◌, ℕ, ◌+◌, ◌<◌, ◌≤◌, Bool, true, false, cond, List, [], ◌∷◌, ◌++◌, length, Option, Some, None, Result, Ok, Err, zero, suc, refl, sym, ap, ◌∙◌, subst, inl, inr, ◌⊎◌, arith, nat_lt, append_assoc}
 use Rattle.std.proofs.lemmas.Bool.{true≢false, or_cases}
 use Rattle.std.proofs.lemmas.Bool.Decides.{nat_tests}
 use Rattle.std.specs.Ordering.{is_eq}
@@ -9,18 +9,18 @@ use Rattle.reg_op.specs.Set.{contains, union}
 use Rattle.reg_op.specs.Ids.{Id, Ids}
 use Rattle.reg_op.specs.Operations.{Op, Ops, op_cmp, OneBody}
 use Rattle.reg_op.specs.declared.operation.OpBody.{OpBody as Body}
-use Rattle.reg_op.specs.Contents.{Content, state, joined}
+use Rattle.reg_op.specs.Contents.{Content, state, nothing, joined}
 use Rattle.reg_op.specs.Lists.{has}
 use Rattle.reg_op.proofs.OpLemmas.{op_total}
 use Rattle.reg_op.proofs.ContentLemmas.{contains_op-union, ids_has, OneBody-within, union_within, union_left, union_right, joined-state, state-empty}
 use Rattle.reg_seen.specs.Runs.{replica_cmp, id_at}
 use Rattle.reg_seen.proofs.RunLemmas.{same_replica, replica_itself}
 use Rattle.reg_office.specs.declared.fault.OfficeFault.{OfficeFault}
-use Rattle.reg_office.specs.Making.{greatest, made}
-use Rattle.reg_office.proofs.NumberLemmas.{numbered_on, count-greatest}
+use Rattle.reg_office.specs.Making.{greatest, numbered, made}
+use Rattle.reg_office.proofs.NumberLemmas.{numbered_on, numbered_once, count-greatest}
 use Rattle.reg_office.proofs.LawLemmas.{made_are, are_once, is_greatest}
 use Rattle.reg_writers.proofs.RegisterLemmas.{seen_left}
-use Rattle.reg_writers.specs.Copies.{Copy, World, Event, Makes, Stops, Joins, start, is_behind, at_office, noted, kept, joins, makes, stops, makes_at, stops_at, joins_at, happens, after}
+use Rattle.reg_writers.specs.Copies.{Copy, World, Event, Makes, Stops, Joins, start, is_behind, at_office, notes, keeps, noted, kept, joins, makes, stops, makes_at, stops_at, joins_at, happens, after}
 
 abbrev pub IsWithin : Ops → Ops → Type 0
 IsWithin s t = (o : Op) → contains s o ≡ true → contains t o ≡ true
@@ -97,7 +97,7 @@ module _ (w : World) (inv : Invariant w) (i note : List ℕ) (effects : List Bod
       let mine = own o h in
       let count : p.id.count ≡ o.id.count = ap (λ j. j.count) same in
       let low : p.id.count ≤ w.numbers i = subst (λ r. p.id.count ≤ w.numbers r) (ap (λ (j : Id). j.replica) same ∙ mine.0) (inv.below p k) in
-      absurd (omega arith)
+      omega arith
 
   in_new : (o : Op) → contains (new_ops os) o ≡ true → has os o ≡ true
   in_new o h = sym (set.contains-from_list op_total os o) ∙ h
@@ -244,11 +244,11 @@ noted_stays w i (Ok y) = ([], refl)
 noted_stays w i (Err f) = ([], refl)
 
 makes_stays : (w : World) (i : List ℕ) (c : Copy) (r : Result (List Op) OfficeFault) → Stays w (makes w i c r)
-makes_stays w i c (Ok os) = kept_stays w i (joined c.content (state (new_ops os))) (union c.reached (new_ops os))
+makes_stays w i c (Ok os) = kept_stays w i _ _
 makes_stays w i c (Err f) = ([], refl)
 
 stops_stays : (w : World) (i : List ℕ) (c : Copy) (r : Result (List Op) OfficeFault) → Stays w (stops w i c r)
-stops_stays w i c (Ok os) = noted_stays w i (joined c.content (state (new_ops os)))
+stops_stays w i c (Ok os) = noted_stays w i _
 stops_stays w i c (Err f) = ([], refl)
 
 behind_stays : (w v : World) (b : Bool) → Stays w v → Stays w (cond b w v)
@@ -257,11 +257,11 @@ behind_stays w v false s = s
 
 makes_at_stays : (w : World) (i : List ℕ) (effects : List Body) (note : List ℕ) (r : Option Copy) → Stays w (makes_at w i effects note r)
 makes_at_stays w i effects note None = ([], refl)
-makes_at_stays w i effects note (Some c) = behind_stays w (makes w i c (made c.content i note effects)) (is_behind w i c.content) (makes_stays w i c (made c.content i note effects))
+makes_at_stays w i effects note (Some c) = behind_stays w _ (is_behind w i c.content) (makes_stays w i c (made c.content i note effects))
 
 stops_at_stays : (w : World) (i : List ℕ) (effects : List Body) (note : List ℕ) (r : Option Copy) → Stays w (stops_at w i effects note r)
 stops_at_stays w i effects note None = ([], refl)
-stops_at_stays w i effects note (Some c) = behind_stays w (stops w i c (made c.content i note effects)) (is_behind w i c.content) (stops_stays w i c (made c.content i note effects))
+stops_at_stays w i effects note (Some c) = behind_stays w _ (is_behind w i c.content) (stops_stays w i c (made c.content i note effects))
 
 joins_stays : (w : World) (r : Result Content Id) (reached : Ops) → Stays w (joins w r reached)
 joins_stays w (Ok y) reached = (record { content = y; reached = reached } ∷ [], refl)
@@ -270,7 +270,7 @@ joins_stays w (Err f) reached = ([], refl)
 joins_at_stays : (w : World) (r s : Option Copy) → Stays w (joins_at w r s)
 joins_at_stays w None s = ([], refl)
 joins_at_stays w (Some c) None = ([], refl)
-joins_at_stays w (Some c) (Some d) = joins_stays w (joined c.content d.content) (union c.reached d.reached)
+joins_at_stays w (Some c) (Some d) = joins_stays w _ _
 
 happens_stays : (w : World) (e : Event) → Stays w (happens w e)
 happens_stays w (Makes i place effects note) = makes_at_stays w i effects note (slice_get w.copies place)

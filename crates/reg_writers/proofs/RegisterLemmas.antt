@@ -1,5 +1,5 @@
 -- Commands on the register of a file only add.
-use Rattle.std.proofs.Common.{◌≡◌, ℕ, ◌<◌, true, false, List, [], ◌∷◌, map, length, Some, None, Ok, Contains, zero, suc, sym, ap, ◌∙◌, subst, inl, inr, arith}
+use Rattle.std.proofs.Common.{◌≡◌, ℕ, ◌<◌, true, false, List, [], ◌∷◌, map, length, Option, Some, None, Ok, Contains, zero, suc, refl, sym, ap, ◌∙◌, subst, inl, inr, arith}
 use Rattle.std.proofs.lemmas.Bool.{or_left, or_right, true≢false}
 use Rattle.std.specs.Cmp.{tied_itself}
 use Rattle.std.specs.Ordering.{is_eq, eq_by_cmp}
@@ -14,8 +14,9 @@ use Rattle.reg_op.specs.Lists.{has}
 use Rattle.reg_op.proofs.OpLemmas.{id_total, op_total}
 use Rattle.reg_op.proofs.ContentLemmas.{ids_has}
 use Rattle.reg_op.proofs.JoinLemmas.{joined_ok}
-use Rattle.reg_file.specs.Files.{ReadsAs}
+use Rattle.reg_file.specs.Files.{Holds, ReadsAs}
 use Rattle.reg_file.proofs.HoldLemmas.{one_reading}
+use Rattle.reg_office.specs.Commands.{Does}
 use Rattle.reg_office.proofs.LawLemmas.{are_unseen}
 use Rattle.reg_writers.specs.Registers.{Command, Makes, Joins, Turns, IsTurned, Changes, AreChanges, HasSeen, Gives, HasGiven}
 
@@ -43,19 +44,16 @@ head_has p os = or_left _ (has os p) (ap is_eq (tied_itself op_total p))
 tail_has : (q p : Op) (os : List Op) → has os q ≡ true → has (p ∷ os) q ≡ true
 tail_has q p os h = or_right (eq_by_cmp op_cmp q p) _ h
 
-op_at : (os : List Op) (i : Id) (k : ℕ) → k < length (map (λ (o : Op). o.id) os) → slice_index_or (map (λ (o : Op). o.id) os) k i ≡ i → (o : Op) × (has os o ≡ true) × (o.id ≡ i)
-op_at [] i k below at = absurd (omega arith)
-op_at (p ∷ os) i zero below at = (p, head_has p os, at)
-op_at (p ∷ os) i (suc k) below at =
+pub op_of : (os : List Op) (i : Id) → Contains (map (λ (o : Op). o.id) os) i → (o : Op) × (has os o ≡ true) × (o.id ≡ i)
+op_of [] i (k, below, at) = absurd (omega arith)
+op_of (p ∷ os) i (zero, below, at) = (p, head_has p os, at)
+op_of (p ∷ os) i (suc k, below, at) =
     let within : k < length (map (λ (o : Op). o.id) os) = omega arith in
-    let rest = op_at os i k within at in
+    let rest = op_of os i (k, within, at) in
     (rest.0, tail_has rest.0 p os rest.1, rest.2)
 
-pub op_of : (os : List Op) (i : Id) → Contains (map (λ (o : Op). o.id) os) i → (o : Op) × (has os o ≡ true) × (o.id ≡ i)
-op_of os i h = op_at os i h.0 h.1 h.2
-
 none_in : (i : Id) → Contains {X = Id} [] i → ⊥
-none_in i h = let below : h.0 < 0 = h.1 in absurd (omega arith)
+none_in i (k, below, at) = absurd (omega arith)
 
 -- a given id was not seen, and is seen then
 pub given_is_new : (c : Command) (x y : Content) (given : List Id) (i : Id) → Turns c x y given → Contains given i → set.contains x.seen i ≡ false

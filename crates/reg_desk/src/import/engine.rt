@@ -59,7 +59,16 @@ pub fn run_import<T: Keep, F: Source, K: Sink>(
         Err(why) => return Err(why),
     };
     if let Err(fault) = store.keep(alloc, &register) {
-        return Err(Unimported::plain(alloc, fault));
+        if !fault.is_after() {
+            return Err(Unimported::plain(alloc, fault));
+        }
+        return match write_all(sink, &lines) {
+            Ok(()) => Err(Unimported::plain(alloc, fault)),
+            Err(cut) => {
+                let fault = CliFault::Out(OutFault::WriteFailed(cut.written));
+                Err(Unimported::plain(alloc, fault))
+            }
+        };
     }
     match tell(alloc, &lines, passed, sink) {
         Ok(()) => Ok(()),

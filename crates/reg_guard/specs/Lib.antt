@@ -1,0 +1,5 @@
+pub mod Behind
+pub mod Names
+pub mod Office
+pub mod Guard
+pub mod Holding
