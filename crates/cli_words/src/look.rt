@@ -1,6 +1,6 @@
 //! The commands that search, count and compare registers.
 use crate::arguments::{READ_SHELF, flag, named, on_shelf, register, several};
-use crate::look_help::{DIFF_HELP, FIND_HELP, OFFICES_HELP, STATUS_OF_HELP};
+use crate::look_help::{COMPARE_HELP, DIFF_HELP, FIND_HELP, OFFICES_HELP, STATUS_OF_HELP};
 use clap::{Arg, Command};
 use std::alloc::{AllocError, Global};
 
@@ -47,6 +47,28 @@ pub fn offices<'a>(alloc: Global) -> Result<Command<'a>, AllocError> {
         .after_help(OFFICES_HELP)
         .arg(register(alloc))?
         .arg(on_shelf(alloc, READ_SHELF))
+}
+
+/// `compare`.
+pub fn compare<'a>(alloc: Global) -> Result<Command<'a>, AllocError> {
+    Command::new(alloc, "compare")
+        .about("Prints what differs between the texts of entries, line by line")
+        .after_help(COMPARE_HELP)
+        .arg(register(alloc))?
+        .arg(first(alloc))?
+        .arg(other(alloc))?
+        .arg(flag(alloc, "exit-code", "Exits with status 1 if they differ"))?
+        .arg(on_shelf(alloc, READ_SHELF))
+}
+
+fn first<'a>(alloc: Global) -> Arg<'a> {
+    Arg::new(alloc, "ENTRY")
+        .help("The id of an entry; without OTHER a key, as AUTHORITY:CODE")
+        .required(true)
+}
+
+fn other<'a>(alloc: Global) -> Arg<'a> {
+    Arg::new(alloc, "OTHER").help("The id of the entry to compare it with")
 }
 
 /// `diff`.

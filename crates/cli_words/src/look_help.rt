@@ -34,6 +34,16 @@ operations are kept.
 Example:
   crsreg offices office.crs";
 
+pub const COMPARE_HELP: &str = "\
+Compares the indented texts of two entries line by line, and prints the lines
+that differ, with three lines around each, in the format of `diff -u`: `-` is
+before lines of the first text, `+` before those of the second. Nothing is
+printed if the texts are equal. With a key instead of two ids, each entry of the
+key that is not retired is compared with the one that has the least id.
+
+Example:
+  crsreg compare office.crs EPSG:7837";
+
 pub const DIFF_HELP: &str = "\
 Merges the files NEW like crsreg merge, and compares the reports of entries.
 Prints the lines that only OLD has (-) and those that only the merge has (+),

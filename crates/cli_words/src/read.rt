@@ -1,6 +1,6 @@
 //! The commands that show a register, or an entry of it.
 use crate::arguments::{READ_SHELF, entry, flag, on_shelf, register};
-use crate::read_help::{EXPORT_HELP, OPS_HELP, REPORT_HELP, SHOW_HELP, WKT_HELP};
+use crate::read_help::{EXPORT_HELP, OPS_HELP, REPORT_HELP, SHOW_HELP, TEXTS_HELP, WKT_HELP};
 use clap::{Arg, Command};
 use std::alloc::{AllocError, Global};
 
@@ -36,6 +36,15 @@ pub fn export<'a>(alloc: Global) -> Result<Command<'a>, AllocError> {
     Command::new(alloc, "export")
         .about("Prints the texts of all entries that are not retired")
         .after_help(EXPORT_HELP)
+        .arg(register(alloc))?
+        .arg(on_shelf(alloc, READ_SHELF))
+}
+
+/// `texts`.
+pub fn texts<'a>(alloc: Global) -> Result<Command<'a>, AllocError> {
+    Command::new(alloc, "texts")
+        .about("Prints the texts of a register by key, indented, with their statuses")
+        .after_help(TEXTS_HELP)
         .arg(register(alloc))?
         .arg(on_shelf(alloc, READ_SHELF))
 }

@@ -21,6 +21,16 @@ included, one a line, ordered by id. Line breaks within quotation marks stay.
 Example:
   crsreg export office.crs > all.wkt";
 
+pub const TEXTS_HELP: &str = "\
+Prints each text of an entry that is not retired, ordered by key: a line with
+the key and the status, the indented text, and an empty line. A superseded text
+is followed by the keys of its successors: `superseded by EPSG:4326`. There are
+no ids: a text that two entries have is printed once, as valid if one of them
+is. `git diff` compares registers by these lines; see share/gitconfig.
+
+Example:
+  crsreg texts office.crs";
+
 pub const OPS_HELP: &str = "\
 Prints, as comma-separated values, each operation that the register keeps,
 ordered by id: its effect, the entry, the superseding entry, the definition,

@@ -3,9 +3,9 @@ use crate::arguments::flag;
 use crate::change::{enter, retire, supersede};
 use crate::completions::SHELLS;
 use crate::exchange::{downgrade, merge, new, piece, seen, shelf, unshelf};
-use crate::look::{diff, find, offices, status};
+use crate::look::{compare, diff, find, offices, status};
 use crate::many::{import, settle};
-use crate::read::{export, ops, report, show, wkt};
+use crate::read::{export, ops, report, show, texts, wkt};
 use crate::whole_help::{CHECK_HELP, COMPLETIONS_HELP, STATUS_HELP};
 use clap::{Arg, Command};
 use std::alloc::{AllocError, Global};
@@ -48,8 +48,10 @@ fn with_readers<'a>(alloc: Global, whole: Command<'a>) -> Result<Command<'a>, Al
     let whole = and(whole, show(alloc))?;
     let whole = and(whole, wkt(alloc))?;
     let whole = and(whole, export(alloc))?;
+    let whole = and(whole, texts(alloc))?;
     let whole = and(whole, ops(alloc))?;
     let whole = and(whole, report(alloc))?;
+    let whole = and(whole, compare(alloc))?;
     let whole = and(whole, status(alloc))?;
     and(whole, offices(alloc))
 }

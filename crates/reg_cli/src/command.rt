@@ -1,7 +1,9 @@
 //! From the command line to an engine, and from its result to the exit status.
 use crate::change::{enter, import, retire, settle, supersede};
 use crate::exchange::{downgrade, merge, new, piece, seen, shelf, unshelf};
-use crate::look::{check, diff, export, find, offices, ops, report, show, status as figures, wkt};
+use crate::look::{
+    check, compare, diff, export, find, offices, ops, report, show, status as figures, texts, wkt,
+};
 use crate::outcome::{MISUSE, Outcome, complain, failed, print, status};
 use crate::shells::completions;
 use clap::ArgMatches;
@@ -89,10 +91,12 @@ fn perform(rt: &HostRuntime, matches: &ArgMatches<'_>) -> Option<Outcome> {
         "show" => Outcome::of(show(rt, inner)),
         "wkt" => Outcome::of(wkt(rt, inner)),
         "export" => Outcome::of(export(rt, inner)),
+        "texts" => Outcome::of(texts(rt, inner)),
         "ops" => Outcome::of(ops(rt, inner)),
         "report" => Outcome::of(report(rt, inner)?),
         "status" => Outcome::of(figures(rt, inner)),
         "offices" => Outcome::of(offices(rt, inner)),
+        "compare" => compare(rt, inner),
         "diff" => diff(rt, inner),
         "merge" => Outcome::of(merge(rt, inner)),
         "seen" => Outcome::of(seen(rt, inner)),

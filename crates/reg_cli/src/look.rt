@@ -1,12 +1,12 @@
 //! Commands that print something of a text, of a register, or of several.
 use crate::outcome::Outcome;
-use crate::stores::{Opened as Register, next_file, open_register, print_of};
+use crate::stores::{Opened as Register, next_file, open_register, print_of, told_of};
 use crate::words::{STANDARD_INPUT, entry, form, kind, open, open_all, open_to_read, word};
 use clap::ArgMatches;
 use reg_desk::{
-    CliFault, Export, FileAt, FileDisk, Find, FindIds, Kept, OfFile, Offices, OnShelf, Opened, Ops,
-    Query, Reading, Report, ShelfAt, Show, Source, Wanted, Wkt, Writing, run_check,
-    run_check_explained, run_diff, run_status,
+    CliFault, Compare, CompareKey, Export, FileAt, FileDisk, Find, FindIds, Kept, OfFile, Offices,
+    OnShelf, Opened, Ops, Query, Reading, Report, ShelfAt, Show, Source, Texts, Wanted, Wkt,
+    Writing, run_check, run_check_explained, run_diff, run_status,
 };
 use std::alloc::{AllocError, Global};
 use std::rt::Files;
@@ -59,6 +59,11 @@ pub fn wkt(rt: &HostRuntime, matches: &ArgMatches<'_>) -> Result<(), CliFault> {
 /// `export`.
 pub fn export(rt: &HostRuntime, matches: &ArgMatches<'_>) -> Result<(), CliFault> {
     print_of(rt, matches, &Export)
+}
+
+/// `texts`.
+pub fn texts(rt: &HostRuntime, matches: &ArgMatches<'_>) -> Result<(), CliFault> {
+    print_of(rt, matches, &Texts)
 }
 
 /// `ops`.
@@ -171,9 +176,28 @@ fn opened_shelves<R: Files>(
     Ok(shelves)
 }
 
+/// `compare`: two entries, or the entries of a key.
+pub fn compare(rt: &HostRuntime, matches: &ArgMatches<'_>) -> Outcome {
+    match compared(rt, matches) {
+        Ok(differs) if differs && matches.get_flag("exit-code") => Outcome::Differs,
+        Ok(_) => Outcome::Done,
+        Err(fault) => Outcome::Fault(fault),
+    }
+}
+
+fn compared(rt: &HostRuntime, matches: &ArgMatches<'_>) -> Result<bool, CliFault> {
+    let first = word(matches, "ENTRY");
+    let Some(second) = matches.get_str("OTHER") else {
+        return told_of(rt, matches, &CompareKey { key: first });
+    };
+    let one = entry(first)?;
+    let other = entry(second)?;
+    told_of(rt, matches, &Compare { one, other })
+}
+
 /// `diff`.
 pub fn diff(rt: &HostRuntime, matches: &ArgMatches<'_>) -> Outcome {
-    match compare(rt, matches) {
+    match changes(rt, matches) {
         Ok(differs) if differs && matches.get_flag("exit-code") => Outcome::Differs,
         Ok(_) => Outcome::Done,
         Err(fault) => Outcome::Fault(fault),
@@ -181,7 +205,7 @@ pub fn diff(rt: &HostRuntime, matches: &ArgMatches<'_>) -> Outcome {
 }
 
 // A shelf is compared with what a merge of the files into it would make.
-fn compare(rt: &HostRuntime, matches: &ArgMatches<'_>) -> Result<bool, CliFault> {
+fn changes(rt: &HostRuntime, matches: &ArgMatches<'_>) -> Result<bool, CliFault> {
     let register = open_register(rt, matches, "OLD")?;
     let paths = matches.get_strs("NEW").unwrap_or(&[]);
     let mut others = open_all(rt, rt.alloc(), next_file(&register), paths)?;

@@ -4,7 +4,7 @@ use byte_out::Place;
 use clap::ArgMatches;
 use reg_desk::{
     Change, CliFault, FileDisk, Give, InFile, OfFile, OnShelf, Print, Reading, Source, Writing,
-    run_change, run_give, run_print,
+    run_change, run_give, run_print, run_told,
 };
 use std::alloc::Global;
 use std::fs::OpenFile;
@@ -72,6 +72,27 @@ pub fn print_of<C: Print>(
         Opened::Shelf(mut disk) => {
             let mut store = OnShelf { disk: &mut disk };
             run_print(rt.alloc(), &mut store, command, &mut sink)
+        }
+    }
+}
+
+/// Opens the register, prints the command's text of it, and answers whether there was any.
+pub fn told_of<C: Print>(
+    rt: &HostRuntime,
+    matches: &ArgMatches<'_>,
+    command: &C,
+) -> Result<bool, CliFault> {
+    let mut sink = Writing::new(io::writer(rt));
+    match open_register(rt, matches, "REG")? {
+        Opened::File(mut source) => {
+            let mut store = OfFile {
+                source: &mut source,
+            };
+            run_told(rt.alloc(), &mut store, command, &mut sink)
+        }
+        Opened::Shelf(mut disk) => {
+            let mut store = OnShelf { disk: &mut disk };
+            run_told(rt.alloc(), &mut store, command, &mut sink)
         }
     }
 }

@@ -9,3 +9,4 @@ pub mod ImportTexts
 pub mod ImportNotes
 pub mod Import
 pub mod ImportEngines
+pub mod Compare

@@ -10,6 +10,8 @@ mod offices;
 mod settle;
 mod status;
 mod status_lines;
+mod texts;
+mod told;
 
 pub use diff::run_diff;
 pub use explained::{Explained, explained_fault, problem_of, run_check_explained};
@@ -19,6 +21,8 @@ pub use look::{FileAt, Inspect, Look, Opened, ShelfAt};
 pub use offices::Offices;
 pub use settle::{Settle, SettleEqual};
 pub use status::run_status;
+pub use texts::{Compare, CompareKey, Texts};
+pub use told::run_told;
 
 // Items of lower crates for the command line: engines, faults, options, and devices.
 pub use byte_disk::{FileDisk, NewFile};
