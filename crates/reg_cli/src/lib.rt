@@ -3,11 +3,13 @@
 
 mod change;
 mod command;
+mod environment;
 mod exchange;
 mod look;
 mod outcome;
 mod shells;
 mod stores;
+mod take;
 mod words;
 
 pub use command::{answer, run};

@@ -16,6 +16,8 @@ pub enum Outcome {
     Fault(CliFault),
     /// Failed, with an explanation of the refused text.
     Explained(Explained),
+    /// Done, but for files that were left out. Their lines are on standard error; this is the status.
+    LeftOut(u8),
     /// Texts were not imported, or not all of them.
     Import(Unimported),
     /// The command line is wrong, for a reason that clap does not check.
@@ -53,6 +55,7 @@ pub fn status(rt: &HostRuntime, outcome: Outcome) -> u8 {
     match outcome {
         Outcome::Done => 0,
         Outcome::Differs => DIFFERS,
+        Outcome::LeftOut(status) => status,
         Outcome::Fault(fault) => failed(rt, &fault),
         Outcome::Explained(explained) => {
             let status = failed(rt, &explained.fault);

@@ -1,0 +1,3 @@
+mod SameLemmas
+mod ArrivalLemmas
+mod TakeLemmas
