@@ -47,5 +47,5 @@ pub fault_further : (most room : ℕ) (old mid new : SourceState) (before after 
     → IsChunk room before after mid new (Err f) → IsInFault most old new f
 fault_further most room old mid new before after given front within quiet going (fault.ReadFailed n) r (e, same, kept, failed, goes) =
     (before, same ∙ given, Consumes-kept old.left mid.left new.left before front kept, sym e, omega arith, failed ∙ ap (λ k. k + 1) quiet, goes ∙ going)
-fault_further most room old mid new before after given front within quiet going fault.Memory r (more, gave, taken, fits, still, goes) =
-    (before ++ more, gave ∙ ap (λ zs. zs ++ more) given ∙ append_assoc old.given before more, Consumes-further old.left mid.left new.left before more front taken, omega (arith, length-append before more), still ∙ quiet, goes ∙ going)
+fault_further most room old mid new before after given front within quiet going fault.Memory r (more, gave, taken, fits, still) =
+    (before ++ more, gave ∙ ap (λ zs. zs ++ more) given ∙ append_assoc old.given before more, Consumes-further old.left mid.left new.left before more front taken, omega (arith, length-append before more), still ∙ quiet)

@@ -25,15 +25,10 @@ abbrev pub GivesAtMost : ℕ → SourceState → SourceState → Type 0
 GivesAtMost most old new = (bytes : List ℕ) × (new.given ≡ old.given ++ bytes) × Consumes old.left new.left bytes
     × (length bytes ≤ most) × (new.failures ≡ old.failures)
 
--- the source gave some bytes, at most `most`, did not fail, and was not seen to be at its end
-abbrev pub StopsEarly : ℕ → SourceState → SourceState → Type 0
-StopsEarly most old new = (bytes : List ℕ) × (new.given ≡ old.given ++ bytes) × Consumes old.left new.left bytes
-    × (length bytes ≤ most) × (new.failures ≡ old.failures) × (new.ends ≡ old.ends)
-
 -- what a read of up to `most` bytes did before it gave up
 abbrev pub IsInFault : ℕ → SourceState → SourceState → InFault → Type 0
 IsInFault most old new (fault.ReadFailed n) = FailsAfter n most old new
-IsInFault most old new fault.Memory = StopsEarly most old new
+IsInFault most old new fault.Memory = GivesAtMost most old new
 
 -- all these bytes were written, and the sink did not fail
 pub record WritesAll (bytes : List ℕ) (old new : SinkState) : Type 0 where
@@ -63,4 +58,4 @@ IsChunk room before after old new (Ok n) = (bytes : List ℕ) × (after ≡ befo
     × (n ≡ 0 → IsAtEnd new.left × (new.ends ≡ old.ends + 1)) × (0 < n → new.ends ≡ old.ends)
 IsChunk room before after old new (Err (fault.ReadFailed n)) = (n ≡ length before) × (new.given ≡ old.given) × Keeps old.left new.left
     × (new.failures ≡ old.failures + 1) × (new.ends ≡ old.ends)
-IsChunk room before after old new (Err fault.Memory) = StopsEarly room old new
+IsChunk room before after old new (Err fault.Memory) = GivesAtMost room old new

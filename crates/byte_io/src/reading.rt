@@ -23,7 +23,6 @@ fn read_chunk<S: Source>(
 {
     let want = room.min(CHUNK);
     match source.read_some(&mut chunk[..want]) {
-        Ok(0) => Ok(0),
         Ok(n) => {
             bytes.extend_from_slice(&chunk[..n])?;
             Ok(n)

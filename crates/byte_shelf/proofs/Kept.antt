@@ -1,9 +1,9 @@
 -- A whole run that keeps bytes.
-use Rattle.std.proofs.Common.{◌≡◌, ◌⊎◌, inl, inr, ℕ, ◌-◌, ◌%◌, ◌≤◌, List, [], ◌∷◌, length, subst, ◌∙◌}
+use Rattle.std.proofs.Common.{◌≡◌, ◌⊎◌, inl, inr, ℕ, ◌-◌, ◌%◌, ◌≤◌, List, [], ◌∷◌, length, subst}
 use Rattle.byte_disk.specs.Disk.{LeavesOnly, InTwo, AreBothWritten}
 use Rattle.byte_disk.proofs.Moments.{weaker, joined}
-use Rattle.byte_shelf.specs.Shelf.{HasHead, IsShelf, IsShelfOf, EndsWithin, place, framed}
-use Rattle.byte_shelf.proofs.Steps.{each_stop, whole, ends_within, one_size}
+use Rattle.byte_shelf.specs.Shelf.{HasHead, IsShelf, place, framed}
+use Rattle.byte_shelf.proofs.Steps.{each_stop, whole}
 
 pub moments_of : {D : Type 0} (moment : D → ℕ) (since : D → ℕ → List ℕ → Type 0) (images : List ℕ → Type 0) (old mid new : D) (s s' was bytes frame : List ℕ) (gate size at : ℕ)
     → LeavesOnly moment since old mid images → LeavesOnly moment since mid new (InTwo at frame 0 1 s')
@@ -17,24 +17,10 @@ moments_of moment since images old mid new s s' was bytes frame gate size at fir
     joined moment since old mid new P (weaker moment since old mid images P first (λ c may. inl may))
     (weaker moment since mid new (InTwo (place size (1 - gate % 2)) (framed bytes) 0 1 s) P of_frame (λ c left. inr (each_stop s was bytes gate size head shelf fits c left)))
 
--- where the two writes of a run are those of the bytes into the spare slot, and of its number
-written_of : (s s' new bytes frame : List ℕ) (gate size at : ℕ) → AreBothWritten at frame 0 ((1 - gate % 2) ∷ []) s' new
-    → s' ≡ s → at ≡ place size (1 - gate % 2) → frame ≡ framed bytes → AreBothWritten (place size (1 - gate % 2)) (framed bytes) 0 ((1 - gate % 2) ∷ []) s new
-written_of s s' new bytes frame gate size at both same at-is frame-is =
-    subst (λ (f : List ℕ). AreBothWritten (place size (1 - gate % 2)) f 0 ((1 - gate % 2) ∷ []) s new) frame-is
-    (subst (λ (a : ℕ). AreBothWritten a frame 0 ((1 - gate % 2) ∷ []) s new) at-is
-    (subst (λ (t : List ℕ). AreBothWritten at frame 0 ((1 - gate % 2) ∷ []) t new) same both))
-
 pub kept_of : (s s' new was bytes frame : List ℕ) (gate size at : ℕ) → AreBothWritten at frame 0 ((1 - gate % 2) ∷ []) s' new
     → s' ≡ s → at ≡ place size (1 - gate % 2) → frame ≡ framed bytes → HasHead s gate size → IsShelf s was → length bytes ≤ size → IsShelf new bytes
 kept_of s s' new was bytes frame gate size at both same at-is frame-is head shelf fits =
-    (whole s was bytes new gate size head shelf fits (written_of s s' new bytes frame gate size at both same at-is frame-is)).0
-
--- the shelf has the size that it had, and ends within it
-pub sized_of : (s s' new was bytes frame : List ℕ) (gate size at want : ℕ) → AreBothWritten at frame 0 ((1 - gate % 2) ∷ []) s' new
-    → s' ≡ s → at ≡ place size (1 - gate % 2) → frame ≡ framed bytes → HasHead s gate size → IsShelfOf s want was → length bytes ≤ size
-    → IsShelfOf new want bytes × EndsWithin want s new
-sized_of s s' new was bytes frame gate size at want both same at-is frame-is head (shelf, size-is) fits =
-    let writes = written_of s s' new bytes frame gate size at both same at-is frame-is in
-    let same_size : size ≡ want = one_size s size shelf.size head.size_fits shelf.head.size_fits head.size_stands shelf.head.size_stands ∙ size-is in
-    subst (λ (n : ℕ). IsShelfOf new n bytes × EndsWithin n s new) same_size (whole s was bytes new gate size head shelf fits writes, ends_within s bytes new gate size fits writes)
+    whole s was bytes new gate size head shelf fits
+    (subst (λ (f : List ℕ). AreBothWritten (place size (1 - gate % 2)) f 0 ((1 - gate % 2) ∷ []) s new) frame-is
+    (subst (λ (a : ℕ). AreBothWritten a frame 0 ((1 - gate % 2) ∷ []) s new) at-is
+    (subst (λ (t : List ℕ). AreBothWritten at frame 0 ((1 - gate % 2) ∷ []) t new) same both)))

@@ -1,11 +1,11 @@
 -- What a stop leaves of a shelf while the slot that is not in use, and then the gate, are written.
-use Rattle.std.proofs.Common.{◌≡◌, ◌⊎◌, inl, inr, ℕ, zero, suc, ◌+◌, ◌-◌, ◌%◌, ◌≤◌, ◌<◌, ◌^◌, List, [], ◌∷◌, length, get_or, take, drop, max, refl, sym, ap, subst, ◌∙◌, arith, length-append, length-take}
+use Rattle.std.proofs.Common.{◌≡◌, ◌⊎◌, inl, inr, ℕ, zero, suc, ◌+◌, ◌-◌, ◌%◌, ◌≤◌, ◌<◌, ◌^◌, List, [], ◌∷◌, length, get_or, take, drop, refl, sym, ap, subst, ◌∙◌, arith, length-append, length-take}
 use Rattle.std.specs.Int.{w32, to_be_bytes, from_be_bytes}
 use Rattle.std.proofs.lemmas.Nat.{from_be_bytes-to_be_bytes_4}
 use Rattle.std.proofs.lemmas.List.{drop_more, take-take, drop-take}
 use Rattle.std.proofs.lemmas.Bool.Decides.{nat_tests}
 use Rattle.byte_disk.specs.Disk.{ReadsAt, Torn, InTwo, AreBothWritten}
-use Rattle.byte_shelf.specs.Shelf.{StandAt, place, framed, HasHead, IsSize, IsShelf, IsShelfOf, EndsWithin}
+use Rattle.byte_shelf.specs.Shelf.{StandAt, place, framed, HasHead, IsSize, IsShelf}
 use Rattle.byte_shelf.proofs.Windows.{stays_before, stays_after}
 
 -- what was read of the head is what the shelf has
@@ -98,33 +98,19 @@ each_stop s was bytes gate size head shelf fits c (inr (d, holds, torn)) =
     second_write d c was bytes gate size left.0 left.1 (range_of s was gate size head shelf) fits holds.here torn
 
 pub whole : (s was bytes new : List ℕ) (gate size : ℕ) → HasHead s gate size → IsShelf s was → length bytes ≤ size
-    → AreBothWritten (place size (1 - gate % 2)) (framed bytes) 0 ((1 - gate % 2) ∷ []) s new → IsShelfOf new size bytes
+    → AreBothWritten (place size (1 - gate % 2)) (framed bytes) 0 ((1 - gate % 2) ∷ []) s new → IsShelf new bytes
 whole s was bytes new gate size head shelf fits (d, holds, turned) =
     let left = first_write s d was bytes gate size head (slot_of s was gate size head shelf) fits holds.torn in
     let torn = turned.torn in
-    let low : (1 - gate % 2) % 2 ≡ 1 - gate % 2 = omega arith in (
-      record {
-        gate = 1 - gate % 2;
-        size = size;
-        in_range = range_of s was gate size head shelf;
-        head = record { gate_stands = turned.here; size_stands = stays_after d new (to_be_bytes w32 size) 1 0 1 torn left.0.size_stands (omega arith); size_fits = left.0.size_fits };
-        within = fits;
-        slot = subst (λ (k : ℕ). StandAt new (place size k) (framed bytes)) (sym low) (stays_after d new (framed bytes) (place size (1 - gate % 2)) 0 1 torn holds.here (omega (arith, behind size (1 - gate % 2))));
-      },
-      refl,
-    )
-
--- the second slot ends at 13 and twice the size
-within_slots : (s d new at n size : ℕ) → at ≤ 9 + size → n ≤ 4 + size → d ≤ max s (at + n) → new ≤ max d 1 → (new ≤ s) ⊎ (new ≤ 13 + (size + size))
-within_slots s d new at n size p q h k = grind (arith, nat_tests)
-
-place_low : (size k : ℕ) → place size k ≤ 9 + size
-place_low size k = grind (arith, nat_tests)
-
-pub ends_within : (s bytes new : List ℕ) (gate size : ℕ) → length bytes ≤ size
-    → AreBothWritten (place size (1 - gate % 2)) (framed bytes) 0 ((1 - gate % 2) ∷ []) s new → EndsWithin size s new
-ends_within s bytes new gate size fits (d, holds, turned) =
-    within_slots (length s) (length d) (length new) (place size (1 - gate % 2)) (length (framed bytes)) size (place_low size (1 - gate % 2)) (omega (arith, long_frame bytes)) holds.torn.no_longer turned.torn.no_longer
+    let low : (1 - gate % 2) % 2 ≡ 1 - gate % 2 = omega arith in
+    record {
+      gate = 1 - gate % 2;
+      size = size;
+      in_range = range_of s was gate size head shelf;
+      head = record { gate_stands = turned.here; size_stands = stays_after d new (to_be_bytes w32 size) 1 0 1 torn left.0.size_stands (omega arith); size_fits = left.0.size_fits };
+      within = fits;
+      slot = subst (λ (k : ℕ). StandAt new (place size k) (framed bytes)) (sym low) (stays_after d new (framed bytes) (place size (1 - gate % 2)) 0 1 torn holds.here (omega (arith, behind size (1 - gate % 2))));
+    }
 
 -- a head that was read
 pub head_read : (s buf : List ℕ) (gate size : ℕ) → length buf ≡ 5 → ReadsAt s 0 5 buf → HasHead buf gate size → HasHead s gate size

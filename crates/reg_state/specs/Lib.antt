@@ -6,3 +6,4 @@ pub mod Pieces
 pub mod RegisterLaws
 pub mod Tables
 pub mod Views
+pub mod Agreeing

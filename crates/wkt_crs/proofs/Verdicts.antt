@@ -14,7 +14,7 @@ use Rattle.wkt_grammar.proofs.Nodes.{parts_law}
 use Rattle.wkt_crs.specs.declared.fault.ReadFault.{ReadFault}
 use Rattle.wkt_crs.specs.declared.fault.ReadFault.TheVariants as fault
 use Rattle.wkt_crs.specs.Spells.{Spells}
-use Rattle.wkt_crs.specs.Faults.{FirstFault, FirstBroken, IsGrammatical, keyword_place}
+use Rattle.wkt_crs.specs.Faults.{FirstFault, FirstBroken, keyword_place}
 use Rattle.wkt_crs.proofs.Texts.{Denoted, one_item, one_slot, no_slot_fault, of_spells, parts_of}
 
 of_broken : (text : List ℕ) (condition : Condition) (at : ℕ) (b : FirstBroken text condition at) → Denoted text b.value
@@ -29,10 +29,6 @@ value_or_fault text v (fault.Slot f) s h = absurd (no_slot_fault text v.parts f 
 value_or_fault text v (fault.Broken condition at) s h =
     absurd (some_none (first_broken v.parts) _ (ap first_broken (parts_of text h.value v (of_broken text condition at h) s) ∙ h.broken) (none_broken v.parts v.conditions))
 value_or_fault text v fault.Memory s h = refl
-
--- a text that spells a value has no fault of its tokens or slots
-pub spelled_is_grammatical : (text : List ℕ) (v : Crs) → Spells text v → IsGrammatical text
-spelled_is_grammatical text v s = (λ f h. fault_no text _ f h s.outline, λ f h. no_slot_fault text v.parts f (of_spells text v s) h)
 
 who_of : Option Broken → Whose → Whose
 who_of None who = who

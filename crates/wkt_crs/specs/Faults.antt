@@ -5,7 +5,6 @@ use Rattle.crs_value.specs.declared.broken.Condition.{Condition}
 use Rattle.crs_value.specs.declared.broken.Whose.{Whose}
 use Rattle.crs_value.specs.declared.broken.Whose.TheVariants.{First, Second, Whole}
 use Rattle.crs_value.specs.Checking.{first_broken}
-use Rattle.wkt_tree.specs.declared.fault.TextFault.{TextFault}
 use Rattle.wkt_tree.specs.Tree.{Tok, Item, Items, text, number, word, node, last, more, tokens}
 use Rattle.wkt_tree.specs.Faults.{IsOutline}
 use Rattle.wkt_tree.specs.Faults as tree
@@ -22,10 +21,6 @@ pub record FirstSlot (text : List ℕ) (f : SlotFault) : Type 0 where
   pub toks : List Tok
   pub outline : IsOutline text toks
   pub first : IsFirst editions.Second toks f
-
--- the text has no fault of its tokens, and none of its slots
-abbrev pub IsGrammatical : List ℕ → Type 0
-IsGrammatical bytes = ((f : TextFault) → ¬ (tree.FirstFault bytes f)) × ((f : SlotFault) → ¬ (FirstSlot bytes f))
 
 -- where the first of these items begins
 abbrev pub first_begin : Items → ℕ

@@ -1,7 +1,7 @@
 -- Reading a CRS, its canonical text or its definition from a source.
-use Rattle.std.specs.Prelude.{◌<◌, ◌⊎◌, ℕ, List, length}
+use Rattle.std.specs.Prelude.{◌<◌, ℕ, List, length}
 use Rattle.byte_io.specs.Device.{SourceState}
-use Rattle.byte_io.specs.Whole.{ReadsUpTo, FailsAfter, StopsEarly}
+use Rattle.byte_io.specs.Whole.{ReadsUpTo, FailsAfter, GivesAtMost}
 use Rattle.crs_value.specs.declared.crs.Crs.{Crs}
 use Rattle.wkt_crs.specs.declared.fault.ReadFault.{ReadFault}
 use Rattle.wkt_crs.specs.declared.fault.ReadFault.TheVariants as fault
@@ -11,7 +11,7 @@ use Rattle.wkt_crs.specs.declared.source.ReadFromFault.TheVariants as from
 use Rattle.wkt_crs.specs.declared.source.DefineFromFault.{DefineFromFault}
 use Rattle.wkt_crs.specs.declared.source.DefineFromFault.TheVariants as define
 use Rattle.wkt_crs.specs.Spells.{Spells, SpellsCanon, canon}
-use Rattle.wkt_crs.specs.Faults.{FirstFault, IsGrammatical}
+use Rattle.wkt_crs.specs.Faults.{FirstFault}
 use Rattle.wkt_crs.specs.Unspelled.{as_read}
 use Rattle.wkt_crs.specs.Definition.{HasNone, IsDefinition}
 
@@ -39,9 +39,9 @@ Refuses old new f = (text : List ℕ) × ReadsText old new text × FirstFault te
 abbrev pub FailsAt : ℕ → SourceState → SourceState → Type 0
 FailsAt n old new = FailsAfter n 1048577 old new
 
--- memory ran out before the end of the source was seen; or it was read to its end, and its text is grammatical
-abbrev pub RunsOut : SourceState → SourceState → Type 0
-RunsOut old new = StopsEarly 1048577 old new ⊎ ((text : List ℕ) × ReadsText old new text × IsGrammatical text)
+-- some bytes of the source's text were read, and it did not fail
+abbrev pub ReadsPart : SourceState → SourceState → Type 0
+ReadsPart old new = GivesAtMost 1048577 old new
 
 -- the source failed, or its text is refused, or memory ran out
 abbrev pub IsReadFromFault : SourceState → SourceState → ReadFromFault → Type 0
@@ -49,7 +49,7 @@ IsReadFromFault old new (from.ReadFailed n) = FailsAt n old new
 IsReadFromFault old new (from.Refused (fault.Text f)) = Refuses old new (fault.Text f)
 IsReadFromFault old new (from.Refused (fault.Slot f)) = Refuses old new (fault.Slot f)
 IsReadFromFault old new (from.Refused (fault.Broken c place)) = Refuses old new (fault.Broken c place)
-IsReadFromFault old new (from.Refused fault.Memory) = RunsOut old new
+IsReadFromFault old new (from.Refused fault.Memory) = ReadsPart old new
 
 -- the source failed, or its text is refused, or what it spells has no identifier or too long a canonical text, or memory ran out
 abbrev pub IsDefineFromFault : SourceState → SourceState → DefineFromFault → Type 0
@@ -58,4 +58,4 @@ IsDefineFromFault old new (define.Refused (undefined.Read f)) = Refuses old new 
 IsDefineFromFault old new (define.Refused undefined.NoIdentifier) = (v : Crs) × Finds old new v × HasNone v
 IsDefineFromFault old new (define.Refused undefined.CanonicalTooLong) = (v : Crs) × Finds old new v × (¬ (HasNone v)) × (65536 < length (canon v))
 IsDefineFromFault old new (define.Refused undefined.NotCanonical) = ⊥
-IsDefineFromFault old new (define.Refused undefined.Memory) = RunsOut old new
+IsDefineFromFault old new (define.Refused undefined.Memory) = ReadsPart old new

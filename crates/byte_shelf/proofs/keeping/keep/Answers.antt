@@ -1,5 +1,5 @@
 use Rattle.std.proofs.Common.{Bool, IsTrue, sym, subst, ◌∙◌, arith}
-use Rattle.byte_shelf.proofs.Kept.{moments_of, kept_of, sized_of}
+use Rattle.byte_shelf.proofs.Kept.{moments_of, kept_of}
 use Rattle.byte_shelf.proofs.Outcomes.{at_ok}
 use Rattle.byte_shelf.proofs.keeping.keep.Goals as goal
 
@@ -28,11 +28,3 @@ returns-clause-kept g c = λ told was shelf.
       kept_of (g.D.Disk.seen c.args.disk.now) (g.D.Disk.seen c.open_shelf.new.disk) (g.D.Disk.seen c.replace_in_two.new.disk) was c.args.bytes.now c.deref.result.now c.in-Ok-open_shelf.head.gate c.in-Ok-open_shelf.head.size c.spare_place.result
           (at_ok c.replace_in_two.result done (c.replace_in_two.ensures.written told')) quiet.same c.spare_place.ensures (c.deref.ensures.value ∙ c.in-Ok.ensures) (c.in-Ok-open_shelf.ensures.head told) shelf (omega (arith, c.if-bytes-head.false)),
     )
-
-pub returns-clause-sized : goal.returns-clause-sized
-returns-clause-sized g c = λ told was size shelf.
-    let told' = subst (λ (b : Bool). IsTrue b) (sym c.open_shelf.ensures.tells) told in
-    let quiet = c.open_shelf.ensures.nothing told in
-    let done = sym c.is_err.ensures.value ∙ c.if-is_err.false in
-    sized_of (g.D.Disk.seen c.args.disk.now) (g.D.Disk.seen c.open_shelf.new.disk) (g.D.Disk.seen c.replace_in_two.new.disk) was c.args.bytes.now c.deref.result.now c.in-Ok-open_shelf.head.gate c.in-Ok-open_shelf.head.size c.spare_place.result size
-    (at_ok c.replace_in_two.result done (c.replace_in_two.ensures.written told')) quiet.same c.spare_place.ensures (c.deref.ensures.value ∙ c.in-Ok.ensures) (c.in-Ok-open_shelf.ensures.head told) shelf (omega (arith, c.if-bytes-head.false))

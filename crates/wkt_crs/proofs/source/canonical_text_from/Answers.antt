@@ -7,6 +7,4 @@ pub returns-clause-fault : goal.returns-clause-fault
 returns-clause-fault g c =
     let old = g.S.Source.state c.args.source.now in
     let new = g.S.Source.state c.text_from.new.source in
-    let said = c.in-Err-rewritten.ensures in
-    read_told old new c.deref-2.result.now c.in-Err-rewritten.fault (subst (λ t. ReadsText old new t) (sym c.deref-2.ensures.value) c.in-Ok.ensures.found) said.fault
-    (λ e. (λ f h. let k = said.text f h in absurd cc, λ f h. let k = said.slot f h in absurd cc))
+    read_told old new c.deref-2.result.now c.in-Err-rewritten.fault (subst (λ t. ReadsText old new t) (sym c.deref-2.ensures.value) c.in-Ok.ensures.found) c.in-Err-rewritten.ensures.fault

@@ -7,6 +7,4 @@ pub returns-clause-fault : goal.returns-clause-fault
 returns-clause-fault g c =
     let old = g.S.Source.state c.args.source.now in
     let new = g.S.Source.state c.read_up_to.new.source in
-    let said = c.in-Err.ensures in
-    define_told old new c.deref.result.now c.in-Err.fault (subst (λ t. ReadsText old new t) (sym c.deref.ensures.value) c.in-Ok.ensures.ok) said.fault
-    (λ e. (λ f h. let k = said.text f h in absurd cc, λ f h. let k = said.slot f h in absurd cc))
+    define_told old new c.deref.result.now c.in-Err.fault (subst (λ t. ReadsText old new t) (sym c.deref.ensures.value) c.in-Ok.ensures.ok) c.in-Err.ensures.fault
