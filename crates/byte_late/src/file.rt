@@ -18,7 +18,7 @@ enum Turn<F> {
     Shut,
 }
 
-/// The file of a path, which is opened at its first read. No contract says what the system has there.
+/// The file of a path, which is opened at its first read and closed at its end. No contract says what the system has there.
 #[derive(Drop)]
 pub struct LateFile<'a, R: Files> {
     rt: &'a R,
@@ -72,6 +72,7 @@ impl<R: Files> Source for LateFile<'_, R> {
             Ok(n) => {
                 if n == 0 && !buf.is_empty() {
                     self.ends = Tally::after(&self.ends);
+                    self.turn = Turn::Closed;
                 }
                 self.given.note(&buf[..n]);
                 Ok(n)

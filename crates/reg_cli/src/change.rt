@@ -1,12 +1,13 @@
 //! Commands that change a register.
 use crate::outcome::Outcome;
 use crate::stores::{Opened, change_of, next_file, open_to_change};
-use crate::words::{differs, entries, entry, is_twice, open, open_texts, place, replica, word};
+use crate::words::{differs, entries, entry, is_twice, open, place, replica, texts, word};
 use byte_out::Place;
 use clap::ArgMatches;
 use reg_desk::{
-    CliFault, Enter, InFile, Kept, OfFile, OnShelf, Order, Reading, Retire, Settle, SettleEqual,
-    Source, Supersede, Unimported, Writing, explained_fault, run_import, try_import,
+    CliFault, Enter, InFile, Kept, LateFile, LateSource, OfFile, OnShelf, Order, Reading, Retire,
+    Settle, SettleEqual, Source, Supersede, Unimported, Writing, explained_fault, run_import,
+    try_import,
 };
 use std::alloc::{AllocError, Global};
 use std::fs::OpenFile;
@@ -106,7 +107,7 @@ pub fn import(rt: &HostRuntime, matches: &ArgMatches<'_>) -> Outcome {
         Ok(register) => register,
         Err(fault) => return Outcome::Fault(fault),
     };
-    let mut files = match open_texts(rt, rt.alloc(), next_file(&register), paths) {
+    let mut files = match texts(rt, rt.alloc(), paths) {
         Ok(files) => files,
         Err(fault) => return Outcome::Fault(fault),
     };
@@ -115,6 +116,7 @@ pub fn import(rt: &HostRuntime, matches: &ArgMatches<'_>) -> Outcome {
         differs: differs(word(matches, "differs")),
         keep_going: matches.get_flag("keep-going"),
         explain: matches.get_flag("explain"),
+        changes: matches.get_flag("changes"),
         note: word(matches, "note"),
         names: &names,
     };
@@ -144,7 +146,7 @@ fn names_of(alloc: Global, paths: &[&str]) -> Result<Vec<String>, AllocError> {
 fn import_tried<F: Read + Write + Seek + OpenFile>(
     rt: &HostRuntime,
     register: &mut Opened<F>,
-    files: &mut [Reading<F>],
+    files: &mut [LateFile<'_, HostRuntime>],
     order: &Order<'_>,
 ) -> Result<(), Unimported> {
     let mut sink = Writing::new(io::writer(rt));
@@ -165,7 +167,7 @@ fn import_into<F: Read + Write + Seek + OpenFile>(
     rt: &HostRuntime,
     matches: &ArgMatches<'_>,
     source: &mut Reading<F>,
-    files: &mut [Reading<F>],
+    files: &mut [LateFile<'_, HostRuntime>],
     order: &Order<'_>,
 ) -> Outcome {
     let mut place = match place(rt, rt.alloc(), word(matches, "out")) {
@@ -178,7 +180,7 @@ fn import_into<F: Read + Write + Seek + OpenFile>(
 }
 
 // The file is read in one place and written in another.
-fn import_file<'a, S: Source, T: Source, P: Place, W: Write>(
+fn import_file<'a, S: Source, T: LateSource, P: Place, W: Write>(
     alloc: Global,
     source: &'a mut S,
     place: &'a mut P,

@@ -1,8 +1,8 @@
 //! The arguments of a command: replicas, entries, files.
 use clap::ArgMatches;
 use reg_desk::{
-    CliFault, Differs, FileDisk, FilePlace, Form, InputFault, OpId, Reading, Refusal, ReportKind,
-    ShelfProblem,
+    CliFault, Differs, FileDisk, FilePlace, Form, InputFault, LateFile, OpId, Reading, Refusal,
+    ReportKind, ShelfProblem,
 };
 use std::alloc::Global;
 use std::fs::{self, OpenOptions};
@@ -101,26 +101,24 @@ pub fn open_all<R: Files>(
     Ok(sources)
 }
 
-/// Opens all files of texts likewise; `-` is standard input.
-pub fn open_texts<R: Files>(
-    rt: &R,
+/// The files of texts, none of which is opened yet; `-` is standard input.
+pub fn texts<'a, R: Files>(
+    rt: &'a R,
     alloc: Global,
-    number: usize,
-    paths: &[&str],
-) -> Result<Vec<Reading<R::File>>, CliFault> {
-    let mut sources = Vec::new(alloc);
-    for (i, path) in paths.iter().enumerate() {
+    paths: &[&'a str],
+) -> Result<Vec<LateFile<'a, R>>, CliFault> {
+    let mut files = Vec::new(alloc);
+    for path in paths {
         let path = if *path == STANDARD_INPUT {
             STANDARD_INPUT_PATH
         } else {
             *path
         };
-        let source = open(rt, i.saturating_add(number), path)?;
-        if sources.push(source).is_err() {
+        if files.push(LateFile::new(rt, path)).is_err() {
             return Err(CliFault::Memory);
         }
     }
-    Ok(sources)
+    Ok(files)
 }
 
 /// Whether standard input is named more than once.

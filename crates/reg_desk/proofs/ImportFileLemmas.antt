@@ -1,13 +1,12 @@
 -- One more of the files, when those before it are read.
 use Rattle.std.proofs.Common.{◌≡◌, ◌∷◌, ◌++◌, [], List, ℕ, ◌+◌, ◌<◌, ◌≤◌, zero, suc, length, map, take, drop, get_or, slice_set, refl, ap, sym, subst, arith, inl, inr, ◌∙◌}
 use Rattle.std.proofs.lemmas.List.{take_all, length-map}
-use Rattle.byte_io.specs.Device.{SourceState}
 use Rattle.reg_engine.specs.declared.fault.InputFault.{InputFault}
 use Rattle.reg_engine.specs.declared.fault.CliFault.{CliFault}
 use Rattle.reg_engine.specs.declared.fault.CliFault.TheVariants as cli
 use Rattle.reg_engine.specs.Inputs.{NeverFails, NoneFails}
 use Rattle.reg_engine.proofs.InputLemmas.{none_given}
-use Rattle.reg_desk.specs.ImportFiles.{Gives, IsFileFault, IsUnread, GiveAll, StopsAt, AreUnread}
+use Rattle.reg_desk.specs.ImportFiles.{FileState, sources, Gives, IsFileFault, IsUnread, GiveAll, StopsAt, AreUnread}
 
 abbrev head_of : {A : Type 0} → A → List A → A
 head_of d [] = d
@@ -17,10 +16,10 @@ abbrev tail_of : {A : Type 0} → List A → List A
 tail_of [] = []
 tail_of (x ∷ xs) = xs
 
-pub gave_some : (o n : SourceState) (b : List ℕ) → Gives o n b → NeverFails o n
+pub gave_some : (o n : FileState) (b : List ℕ) → Gives o n b → NeverFails o.source n.source
 gave_some o n b (read, short) = (b, read.given, read.front, read.bounded, read.quiet)
 
-pub all_gave : (os ns : List SourceState) (bs : List (List ℕ)) → GiveAll os ns bs → NoneFails os ns
+pub all_gave : (os ns : List FileState) (bs : List (List ℕ)) → GiveAll os ns bs → NoneFails (sources os) (sources ns)
 all_gave [] [] [] h = tt
 all_gave [] [] (b ∷ bs) h = absurd h
 all_gave [] (n ∷ ns) bs h = absurd h
@@ -31,7 +30,7 @@ all_gave (o ∷ os) (n ∷ ns) (b ∷ bs) h = (gave_some o n b h.0, all_gave os 
 next : (i : ℕ) → suc i ≡ i + 1
 next i = omega arith
 
-module _ {F : Type 0} (st : F → SourceState) where
+module _ {F : Type 0} (st : F → FileState) where
   first : (w n : F) (ws ns : List F) → map st (n ∷ ns) ≡ map st (w ∷ ws) → st n ≡ st w
   first w n ws ns e = ap (head_of (st n)) e
 
@@ -80,19 +79,19 @@ module _ {F : Type 0} (st : F → SourceState) where
 
   -- none failed, nor did the next one
   pub none_fails_next : (was now : List F) (i : ℕ) (o s : F) (bs : List (List ℕ)) → i < length was → length now ≡ length was
-      → GiveAll (take i (map st was)) (take i (map st now)) bs → drop i (map st now) ≡ drop i (map st was) → NeverFails (st (get_or now i o)) (st s)
-      → NoneFails (map st was) (map st (slice_set now i s))
+      → GiveAll (take i (map st was)) (take i (map st now)) bs → drop i (map st now) ≡ drop i (map st was) → NeverFails (st (get_or now i o)).source (st s).source
+      → NoneFails (sources (map st was)) (sources (map st (slice_set now i s)))
   none_fails_next was [] i o s bs within size front back gives = absurd (omega arith)
   none_fails_next [] (n ∷ ns) i o s bs within size front back gives = absurd (omega arith)
   none_fails_next (w ∷ ws) (n ∷ ns) zero o s bs within size front back gives =
-      (subst (λ k. NeverFails k (st s)) (first w n ws ns back) gives, subst (λ k. NoneFails (map st ws) k) (sym (others w n ws ns back)) (none_given (map st ws)))
+      (subst (λ k. NeverFails k.source (st s).source) (first w n ws ns back) gives, subst (λ k. NoneFails (sources (map st ws)) (sources k)) (sym (others w n ws ns back)) (none_given (sources (map st ws))))
   none_fails_next (w ∷ ws) (n ∷ ns) (suc i) o s [] within size front back gives = absurd front
   none_fails_next (w ∷ ws) (n ∷ ns) (suc i) o s (c ∷ cs) within size front back gives = (gave_some _ _ c front.0, none_fails_next ws ns i o s cs (omega arith) (omega arith) front.1 back gives)
 
   -- none failed so far
   pub none_fails_yet : (was now : List F) (i : ℕ) (bs : List (List ℕ)) → length now ≡ length was
-      → GiveAll (take i (map st was)) (take i (map st now)) bs → drop i (map st now) ≡ drop i (map st was) → NoneFails (map st was) (map st now)
-  none_fails_yet was now zero bs size front back = subst (λ k. NoneFails (map st was) k) (sym back) (none_given (map st was))
+      → GiveAll (take i (map st was)) (take i (map st now)) bs → drop i (map st now) ≡ drop i (map st was) → NoneFails (sources (map st was)) (sources (map st now))
+  none_fails_yet was now zero bs size front back = subst (λ k. NoneFails (sources (map st was)) (sources k)) (sym back) (none_given (sources (map st was)))
   none_fails_yet [] [] (suc i) bs size front back = tt
   none_fails_yet [] (n ∷ ns) (suc i) bs size front back = absurd (omega arith)
   none_fails_yet (w ∷ ws) [] (suc i) bs size front back = absurd (omega arith)

@@ -2,10 +2,8 @@
 use Rattle.std.specs.Prelude.{◌≡◌, ◌⊎◌, ◌+◌, ℕ, List, [], map, slice_get, Option, Some, None, option_map, if◌then◌else◌}
 use Rattle.std.specs.Option.{unwrap_or}
 use Rattle.std.specs.String.{string_bytes}
-use Rattle.byte_io.specs.Device.{SourceState}
 use Rattle.reg_op.specs.Contents.{Content}
 use Rattle.reg_office.specs.declared.fault.OfficeFault.TheVariants as office
-use Rattle.reg_office.specs.Lines.{IsSheet}
 use Rattle.reg_import.specs.declared.reading.FileText.{FileText}
 use Rattle.reg_import.specs.declared.told.Problem.{Problem}
 use Rattle.reg_import.specs.declared.told.Told.{Told}
@@ -15,7 +13,7 @@ use Rattle.reg_import.specs.declared.import.ImportRefusal.TheVariants as refused
 use Rattle.reg_import.specs.Readings.{readings}
 use Rattle.reg_import.specs.Imports.{NoneRefused}
 use Rattle.reg_import.specs.Plans.{IsFirstRefused, Imports, IsImportRefusal}
-use Rattle.reg_import.specs.Lines.{import_header, lines_of, IsImportLine}
+use Rattle.reg_import.specs.Lines.{lines_of, IsImportText}
 use Rattle.reg_engine.specs.declared.fault.Refusal.TheVariants as refusal
 use Rattle.reg_engine.specs.Fault.{status_of}
 use Rattle.reg_engine.specs.declared.fault.CliFault.{CliFault}
@@ -24,7 +22,7 @@ use Rattle.reg_desk.specs.declared.import.order.Order.{Order}
 use Rattle.reg_desk.specs.declared.import.fault.ImportFault.{ImportFault}
 use Rattle.reg_desk.specs.declared.import.fault.ImportFault.TheVariants as import
 use Rattle.reg_desk.specs.declared.import.fault.Unimported.{Unimported}
-use Rattle.reg_desk.specs.ImportFiles.{GiveAll, AreUnread}
+use Rattle.reg_desk.specs.ImportFiles.{FileState, GiveAll, AreUnread}
 use Rattle.reg_desk.specs.ImportTexts.{TextAt, HaveTexts}
 use Rattle.reg_desk.specs.ImportNotes.{note_of, notes_of}
 
@@ -73,9 +71,9 @@ IsPassed o first files cuts texts ts (Some u) = (at : ℕ) × (p : Problem) × I
 
 -- ---- texts that were read
 
--- the lines are a header and a line for each text, with its action
+-- the lines are a header and a line for each text, with its action, but for those that are left out
 abbrev pub AreLines : Order → List FileText → List Told → List ℕ → Type 0
-AreLines o texts ts lines = IsSheet import_header (IsImportLine (names_of o)) (lines_of texts ts) lines
+AreLines o texts ts lines = IsImportText (names_of o) o.changes (lines_of texts ts) lines
 
 -- importing the texts into the content gives the second one and these lines, and this fault of those that were passed over
 abbrev pub MakesOf : Order → ℕ → Content → List (List ℕ) → List TextAt → List FileText → Content → List ℕ → Option Unimported → Type 0
@@ -110,9 +108,9 @@ IsUnmade o first x files u = IsPlain (λ f. f ≡ cli.Memory) u
 -- ---- files
 
 -- the files gave bytes, and this is the result
-abbrev pub IsReady : Order → ℕ → Content → List SourceState → List SourceState → Content → List ℕ → Option Unimported → Type 0
+abbrev pub IsReady : Order → ℕ → Content → List FileState → List FileState → Content → List ℕ → Option Unimported → Type 0
 IsReady o first x old new y lines passed = (files : List (List ℕ)) × GiveAll old new files × Makes o first x files y lines passed
 
 -- a file was not read, or nothing is made
-abbrev pub IsUnready : Order → ℕ → Content → List SourceState → List SourceState → Unimported → Type 0
+abbrev pub IsUnready : Order → ℕ → Content → List FileState → List FileState → Unimported → Type 0
 IsUnready o first x old new u = IsPlain (AreUnread first old new) u ⊎ ((files : List (List ℕ)) × GiveAll old new files × IsUnmade o first x files u)

@@ -1,5 +1,5 @@
 -- Files of texts: the bytes that each gave, or why one did not.
-use Rattle.std.specs.Prelude.{◌≡◌, ◌⊎◌, ◌≤◌, ◌<◌, ◌+◌, ℕ, List, [], ◌∷◌, length, map}
+use Rattle.std.specs.Prelude.{◌≡◌, ◌⊎◌, ◌≤◌, ◌<◌, ◌+◌, ℕ, Bool, true, false, List, [], ◌∷◌, length, map, if◌then◌else◌}
 use Rattle.std.specs.declared.vec.Vec.{Vec}
 use Rattle.byte_io.specs.Device.{SourceState}
 use Rattle.byte_io.specs.Whole.{FailsAfter}
@@ -10,23 +10,38 @@ use Rattle.reg_engine.specs.declared.fault.CliFault.{CliFault}
 use Rattle.reg_engine.specs.declared.fault.CliFault.TheVariants as cli
 use Rattle.reg_engine.specs.Inputs.{NeverFails, NoneFails}
 
--- the source gave all its bytes, within the limit of a file
-abbrev pub Gives : SourceState → SourceState → List ℕ → Type 0
-Gives old new bytes = ReadsBytes old new bytes × (length bytes ≤ most)
+-- a file that is opened at its first read: the source that it is, and whether it did not open
+pub record FileState : Type 0 where
+  pub source : SourceState
+  pub shut : Bool
+
+abbrev pub seen_by : {F : Type 0} → (F → SourceState) → (F → Bool) → F → FileState
+seen_by state shut f = record { source = state f; shut = shut f }
+
+abbrev pub sources : List FileState → List SourceState
+sources files = map (λ (f : FileState). f.source) files
+
+-- the file gave all its bytes, within the limit of a file
+abbrev pub Gives : FileState → FileState → List ℕ → Type 0
+Gives old new bytes = ReadsBytes old.source new.source bytes × (length bytes ≤ most)
+
+-- the fault where a read failed after so many bytes
+abbrev pub failed_read : Bool → ℕ → InputFault
+failed_read shut n = if shut then file.NotOpened else file.ReadFailed n
 
 -- or it did not, for this reason
-abbrev pub IsFileFault : InputFault → SourceState → SourceState → Type 0
-IsFileFault file.NotOpened old new = ⊥
-IsFileFault (file.ReadFailed n) old new = FailsAfter n (most + 1) old new
-IsFileFault file.TooLarge old new = (bytes : List ℕ) × ReadsBytes old new bytes × (most < length bytes)
+abbrev pub IsFileFault : InputFault → FileState → FileState → Type 0
+IsFileFault file.NotOpened old new = (new.shut ≡ true) × ((n : ℕ) × FailsAfter n (most + 1) old.source new.source)
+IsFileFault (file.ReadFailed n) old new = (new.shut ≡ false) × FailsAfter n (most + 1) old.source new.source
+IsFileFault file.TooLarge old new = (bytes : List ℕ) × ReadsBytes old.source new.source bytes × (most < length bytes)
 IsFileFault (file.BadFile f place) old new = ⊥
 
 -- why the file with this number was not read
-abbrev pub IsUnread : ℕ → SourceState → SourceState → CliFault → Type 0
+abbrev pub IsUnread : ℕ → FileState → FileState → CliFault → Type 0
 IsUnread number old new (cli.Refused r) = ⊥
 IsUnread number old new (cli.File k f) = (k ≡ number) × IsFileFault f old new
 IsUnread number old new (cli.Out f) = ⊥
-IsUnread number old new cli.Memory = NeverFails old new
+IsUnread number old new cli.Memory = NeverFails old.source new.source
 IsUnread number old new (cli.Shelf p) = ⊥
 
 -- ---- a list of files
@@ -35,7 +50,7 @@ abbrev pub bytes_of : {A : Type 0} → List (Vec ℕ A) → List (List ℕ)
 bytes_of files = map (λ f. f.items) files
 
 -- each gave these bytes
-abbrev pub GiveAll : List SourceState → List SourceState → List (List ℕ) → Type 0
+abbrev pub GiveAll : List FileState → List FileState → List (List ℕ) → Type 0
 GiveAll [] [] [] = Unit {0}
 GiveAll [] [] (b ∷ bs) = ⊥
 GiveAll [] (n ∷ ns) bs = ⊥
@@ -45,16 +60,16 @@ GiveAll (o ∷ os) (n ∷ ns) (b ∷ bs) = Gives o n b × GiveAll os ns bs
 
 -- the first has this number, and the others one more each: that of number k has the fault, each before it gave its bytes,
 -- and those after it gave nothing
-abbrev pub StopsAt : ℕ → ℕ → InputFault → List SourceState → List SourceState → Type 0
+abbrev pub StopsAt : ℕ → ℕ → InputFault → List FileState → List FileState → Type 0
 StopsAt number k f [] new = ⊥
 StopsAt number k f (o ∷ os) [] = ⊥
 StopsAt number k f (o ∷ os) (n ∷ ns) = ((k ≡ number) × IsFileFault f o n × (ns ≡ os))
     ⊎ (((bytes : List ℕ) × Gives o n bytes) × StopsAt (number + 1) k f os ns)
 
 -- what was done to them before it was given up
-abbrev pub AreUnread : ℕ → List SourceState → List SourceState → CliFault → Type 0
+abbrev pub AreUnread : ℕ → List FileState → List FileState → CliFault → Type 0
 AreUnread number old new (cli.Refused r) = ⊥
 AreUnread number old new (cli.File k f) = StopsAt number k f old new
 AreUnread number old new (cli.Out f) = ⊥
-AreUnread number old new cli.Memory = NoneFails old new
+AreUnread number old new cli.Memory = NoneFails (sources old) (sources new)
 AreUnread number old new (cli.Shelf p) = ⊥

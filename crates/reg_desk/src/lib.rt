@@ -5,6 +5,7 @@ mod diff;
 mod explained;
 mod find;
 mod import;
+pub mod laws;
 mod look;
 mod offices;
 mod settle;
@@ -23,6 +24,7 @@ pub use status::run_status;
 // Items of lower crates for the command line: engines, faults, options, and devices.
 pub use byte_disk::{FileDisk, NewFile};
 pub use byte_io::{Reading, Source, Writing, write_all};
+pub use byte_late::{LateFile, LateSource};
 pub use byte_out::FilePlace;
 pub use reg_engine::{
     Change, CliFault, Enter, Export, FirstVersion, Form, Give, InFile, InputFault, Keep, OfFile,
@@ -33,7 +35,7 @@ pub use reg_engine::{
     run_unshelf, run_wkt,
 };
 pub use reg_import::Differs;
-pub use reg_office::ReportKind;
 pub use reg_op::OpId;
 pub use reg_query::{Query, Wanted};
+pub use reg_report::ReportKind;
 pub use wkt_explain::Kept;

@@ -1,5 +1,5 @@
 -- What is printed of an import.
-use Rattle.std.specs.Prelude.{◌≡◌, ℕ, List, [], ◌∷◌, ◌++◌, slice_get, codes, decimal}
+use Rattle.std.specs.Prelude.{◌≡◌, ℕ, Bool, true, false, not, ◌&&◌, List, [], ◌∷◌, ◌++◌, filter, slice_get, codes, decimal}
 use Rattle.std.specs.Option.{unwrap_or}
 use Rattle.crs_part.specs.Slots.{name_of}
 use Rattle.crs_value.specs.declared.crs.Crs.{Crs}
@@ -11,6 +11,7 @@ use Rattle.wkt_crs.specs.declared.definition.DefinitionFault.{DefinitionFault}
 use Rattle.wkt_crs.specs.declared.definition.DefinitionFault.TheVariants as fault
 use Rattle.wkt_crs.specs.Definition.{IsCrsOf, fault_name}
 use Rattle.reg_op.specs.Text.{printed}
+use Rattle.reg_report.specs.Lines.{IsSheet}
 use Rattle.reg_import.specs.declared.reading.FileText.{FileText}
 use Rattle.reg_import.specs.declared.reading.Reading.{Reading}
 use Rattle.reg_import.specs.declared.reading.Reading.TheVariants as reading
@@ -84,11 +85,30 @@ lines_of [] ts = []
 lines_of (x ∷ xs) [] = []
 lines_of (x ∷ xs) (t ∷ ts) = record { text = x; told = t } ∷ lines_of xs ts
 
--- they are the fields of such a line, with the key and the name of what was read
+-- they are the fields of such a line, with the key and the name of what was read; if that is no definition, with what stands
+-- first in quotation marks as the name
 abbrev pub IsLineOf : List (List ℕ) → FileText → Told → Reading → List (List ℕ) → Type 0
 IsLineOf names x t (reading.Defined definition key) fields =
     (crs : Crs) × IsCrsOf crs definition × (fields ≡ line_fields names x t key.authority.bytes key.code.bytes (name_of crs.parts).bytes)
-IsLineOf names x t (reading.Unread f) fields = fields ≡ line_fields names x t [] [] []
+IsLineOf names x t (reading.Unread f) fields = fields ≡ line_fields names x t [] [] x.quoted.items
 
 abbrev pub IsImportLine : List (List ℕ) → Line → List (List ℕ) → Type 0
 IsImportLine names l fields = IsLineOf names l.text l.told l.text.reading fields
+
+-- an entry had the text already, and it is not outdated
+abbrev pub is_same : Told → Bool
+is_same (told.Same i) = true
+is_same (told.Superseded i) = false
+is_same (told.Entered i) = false
+is_same (told.Beside i) = false
+is_same (told.Revised i) = false
+is_same (told.Refused p) = false
+is_same told.Spent = false
+
+-- a line is printed, unless only changes are, and its text is the same
+abbrev pub is_shown : Bool → Line → Bool
+is_shown changes l = not (changes && is_same l.told)
+
+-- a header, and the lines that are printed
+abbrev pub IsImportText : List (List ℕ) → Bool → List Line → List ℕ → Type 0
+IsImportText names changes lines text = IsSheet import_header (IsImportLine names) (filter (is_shown changes) lines) text

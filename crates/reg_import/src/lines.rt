@@ -3,13 +3,14 @@
 ghost use Rattle.std.specs.Prelude.{◌≡◌, ◌++◌, [], ◌∷◌, ℕ, List, codes, decimal, map, IfOk, OnOk};
 ghost use Rattle.std.specs.String.{string_bytes};
 ghost use Rattle.reg_op.specs.Text.{printed};
-ghost use Rattle.reg_office.specs.Lines.{IsSheet, IsReady, WritesRow};
-ghost use Rattle.reg_import.specs.Lines.{Line, lines_of, action_word, entry_text, fault_words, problem_words, problem_text, fault_text, name_at, import_header, line_fields, IsImportLine};
+ghost use Rattle.reg_report.specs.Lines.{IsReady, WritesRow};
+ghost use Rattle.reg_import.specs.Lines.{Line, lines_of, action_word, entry_text, fault_words, problem_words, problem_text, fault_text, name_at, import_header, line_fields, IsImportLine, IsImportText};
+ghost use Rattle.reg_import.specs.Sheets.{WritesShown};
 
 use crate::reading::{FileText, Reading};
 use crate::told::{Problem, Told};
 use csv::Writer;
-use reg_office::printed;
+use reg_report::printed;
 use reg_op::OpId;
 use std::alloc::{AllocError, Global};
 use wkt_crs::{DefinitionFault, SlotFault, Unspelled};
@@ -227,18 +228,41 @@ fn write_line(
             write_named(alloc, wtr, names, text, told, authority, code, name)?;
             Ok(())
         }
-        Reading::Unread(_) => write_named(alloc, wtr, names, text, told, b"", b"", b""),
+        Reading::Unread(_) => {
+            write_named(alloc, wtr, names, text, told, b"", b"", &text.quoted)?;
+            Ok(())
+        }
     }
 }
 
-/// A header, and a line for each text. The files have these names.
+// The line, if it is printed.
+fn write_shown(
+    alloc: Global,
+    wtr: &mut Writer<Vec<u8>>,
+    names: &[String],
+    changes: bool,
+    text: &FileText,
+    told: &Told,
+) -> Result<(), AllocError>
+    requires { IsReady wtr.old }
+    ensures { OnOk result (WritesShown (map string_bytes names.now) changes (record { text = text.now; told = told.now }) wtr.old wtr.new) }
+{
+    if changes && told.is_same() {
+        return Ok(());
+    }
+    write_line(alloc, wtr, names, text, told)?;
+    Ok(())
+}
+
+/// A header, and a line for each text, or for each that is not the same as before. The files have these names.
 pub fn lines_text(
     alloc: Global,
     names: &[String],
+    changes: bool,
     texts: &[FileText],
     told: &[Told],
 ) -> Result<Vec<u8>, AllocError>
-    ensures { IfOk result (λ text. IsSheet import_header (IsImportLine (map string_bytes names.now)) (lines_of texts.now told.now) text.items) }
+    ensures { IfOk result (λ text. IsImportText (map string_bytes names.now) changes (lines_of texts.now told.now) text.items) }
 {
     let mut wtr = Writer::from_writer(Vec::new(alloc));
     write_header(&mut wtr)?;
@@ -248,7 +272,7 @@ pub fn lines_text(
         texts.split_first(),
         told.split_first(),
     ) {
-        write_line(alloc, &mut wtr, names, text, this)?;
+        write_shown(alloc, &mut wtr, names, changes, text, this)?;
         texts = others;
         told = later;
     }

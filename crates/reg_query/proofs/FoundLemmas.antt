@@ -3,8 +3,8 @@ use Rattle.std.proofs.Common.{◌≡◌, Bool, true, false, List, [], ◌∷◌,
 use Rattle.std.specs.List.{items_where_true}
 use Rattle.std.specs.List.Retain.{ReturnsInTurn, IsFiltered}
 use Rattle.reg_op.specs.Rows.{Row as RowOf}
-use Rattle.reg_office.specs.declared.row.Row.{Row}
-use Rattle.reg_office.specs.Seen.{row_seen}
+use Rattle.reg_report.specs.declared.row.Row.{Row}
+use Rattle.reg_report.specs.Seen.{row_seen}
 use Rattle.reg_query.specs.declared.find.query.Query.{Query}
 use Rattle.reg_query.specs.Found.{IsMet, AreFound}
 

@@ -7,8 +7,8 @@ use Rattle.wkt_crs.specs.Definition.{IsCrsOf, IsKeyIn}
 use Rattle.reg_op.specs.Contents.{Content}
 use Rattle.reg_op.specs.Ids.{Id}
 use Rattle.reg_op.specs.Rows.{Row, rows}
-use Rattle.reg_office.specs.Conflicts.{bytes_of}
-use Rattle.reg_office.specs.Lines.{entries_header, IsEntryLine, IsSheet}
+use Rattle.reg_report.specs.Conflicts.{bytes_of}
+use Rattle.reg_report.specs.Lines.{entries_header, IsEntryLine, IsSheet}
 use Rattle.reg_query.specs.declared.find.query.Query.{Query}
 use Rattle.reg_query.specs.Queries.{Meets}
 

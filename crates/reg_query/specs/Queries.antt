@@ -2,7 +2,7 @@
 use Rattle.std.specs.Prelude.{◌≡◌, ◌≢◌, ◌++◌, ◌∷◌, ℕ, List, IfSome, Option, Some}
 use Rattle.reg_op.specs.declared.status.Status.{Status}
 use Rattle.reg_op.specs.declared.status.Status.TheVariants as status
-use Rattle.reg_office.specs.Conflicts.{KeyBytes}
+use Rattle.reg_report.specs.Conflicts.{KeyBytes}
 use Rattle.reg_query.specs.declared.find.query.Query.{Query}
 use Rattle.reg_query.specs.declared.find.query.Wanted.{Wanted}
 use Rattle.reg_query.specs.declared.find.query.Wanted.TheVariants.{Valid, Superseded, Retired, Live}

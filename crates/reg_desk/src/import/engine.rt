@@ -1,12 +1,14 @@
 //! The command `import` on a register, wherever that is.
 
 ghost use Rattle.std.specs.Prelude.{map, OnOk, IfErr};
+ghost use Rattle.reg_desk.specs.ImportFiles.{seen_by};
 ghost use Rattle.reg_desk.specs.ImportEngines.{IsTold, IsUntold, kept_in, only_read, IsImported, IsUnimported};
 
 use super::fault::Unimported;
 use super::order::Order;
 use super::ready::{Ready, make_ready};
-use byte_io::{Sink, Source, write_all};
+use byte_io::{Sink, write_all};
+use byte_late::LateSource;
 use reg_engine::{CliFault, Keep, OutFault, Store};
 use std::alloc::Global;
 
@@ -32,7 +34,7 @@ fn tell<K: Sink>(
 
 /// Loads the register, and then reads the files of texts; imports the texts; keeps the register, and then writes a line for
 /// each text to the sink. Where texts were passed over, the first of them is answered then.
-pub fn run_import<T: Keep, F: Source, K: Sink>(
+pub fn run_import<T: Keep, F: LateSource, K: Sink>(
     alloc: Global,
     store: &mut T,
     files: &mut [F],
@@ -41,9 +43,9 @@ pub fn run_import<T: Keep, F: Source, K: Sink>(
 ) -> Result<(), Unimported>
     ensures same { T.same store.old store.new }
     ensures imported { OnOk result (IsImported (kept_in (T.around store.old store.new) (K.state sink.old) (K.state sink.new))
-        order.now (T.next store.old) (map F.state files.old) (map F.state files.new)) }
+        order.now (T.next store.old) (map (seen_by F.state F.shut) files.old) (map (seen_by F.state F.shut) files.new)) }
     ensures fault { IfErr result (IsUnimported (kept_in (T.around store.old store.new) (K.state sink.old) (K.state sink.new))
-        order.now (T.next store.old) (map F.state files.old) (map F.state files.new)) }
+        order.now (T.next store.old) (map (seen_by F.state F.shut) files.old) (map (seen_by F.state F.shut) files.new)) }
 {
     let next = store.next();
     let register = match store.load(alloc) {
@@ -68,7 +70,7 @@ pub fn run_import<T: Keep, F: Source, K: Sink>(
 }
 
 /// The same, and the register is not kept: the lines say what would be made.
-pub fn try_import<T: Store, F: Source, K: Sink>(
+pub fn try_import<T: Store, F: LateSource, K: Sink>(
     alloc: Global,
     store: &mut T,
     files: &mut [F],
@@ -77,9 +79,9 @@ pub fn try_import<T: Store, F: Source, K: Sink>(
 ) -> Result<(), Unimported>
     ensures same { T.same store.old store.new }
     ensures imported { OnOk result (IsImported (only_read (T.around store.old store.new) (K.state sink.old) (K.state sink.new))
-        order.now (T.next store.old) (map F.state files.old) (map F.state files.new)) }
+        order.now (T.next store.old) (map (seen_by F.state F.shut) files.old) (map (seen_by F.state F.shut) files.new)) }
     ensures fault { IfErr result (IsUnimported (only_read (T.around store.old store.new) (K.state sink.old) (K.state sink.new))
-        order.now (T.next store.old) (map F.state files.old) (map F.state files.new)) }
+        order.now (T.next store.old) (map (seen_by F.state F.shut) files.old) (map (seen_by F.state F.shut) files.new)) }
 {
     let next = store.next();
     let register = match store.load(alloc) {

@@ -1,23 +1,32 @@
 //! The bytes of files of texts.
 
 ghost use Rattle.std.specs.Prelude.{◌≡◌, ◌++◌, ◌∷◌, [], map, IfOk, OnOk, IfErr};
-ghost use Rattle.reg_desk.specs.ImportFiles.{Gives, IsUnread, bytes_of, GiveAll, AreUnread};
+ghost use Rattle.reg_desk.specs.ImportFiles.{seen_by, failed_read, Gives, IsUnread, bytes_of, GiveAll, AreUnread};
 
-use byte_io::{InFault, Source, read_up_to};
+use byte_io::{InFault, read_up_to};
+use byte_late::LateSource;
 use reg_engine::{CliFault, InputFault};
+use reg_file::MAX_FILE;
 use std::alloc::Global;
 
-/// The most bytes of a file of texts.
-const MOST: usize = 67_108_864;
+// Why a file was not read, if a read failed after so many bytes.
+fn fault_of<F: LateSource>(file: &F, place: usize) -> InputFault
+    ensures { result ≡ failed_read (F.shut file.now) place }
+{
+    if file.is_shut() {
+        return InputFault::NotOpened;
+    }
+    InputFault::ReadFailed(place)
+}
 
 // The bytes of the file of this number.
-fn read_one<F: Source>(alloc: Global, number: usize, file: &mut F) -> Result<Vec<u8>, CliFault>
-    ensures gives { IfOk result (λ bytes. Gives (F.state file.old) (F.state file.new) bytes.items) }
-    ensures fault { IfErr result (IsUnread number (F.state file.old) (F.state file.new)) }
+fn read_one<F: LateSource>(alloc: Global, number: usize, file: &mut F) -> Result<Vec<u8>, CliFault>
+    ensures gives { IfOk result (λ bytes. Gives (seen_by F.state F.shut file.old) (seen_by F.state F.shut file.new) bytes.items) }
+    ensures fault { IfErr result (IsUnread number (seen_by F.state F.shut file.old) (seen_by F.state F.shut file.new)) }
 {
-    match read_up_to(alloc, file, MOST + 1) {
+    match read_up_to(alloc, file, MAX_FILE + 1) {
         Ok(bytes) => {
-            if bytes.len() > MOST {
+            if bytes.len() > MAX_FILE {
                 return Err(CliFault::File {
                     number,
                     fault: InputFault::TooLarge,
@@ -25,22 +34,22 @@ fn read_one<F: Source>(alloc: Global, number: usize, file: &mut F) -> Result<Vec
             }
             Ok(bytes)
         }
-        Err(InFault::ReadFailed(n)) => Err(CliFault::File {
-            number,
-            fault: InputFault::ReadFailed(n),
-        }),
+        Err(InFault::ReadFailed(n)) => {
+            let fault = fault_of(file, n);
+            Err(CliFault::File { number, fault })
+        }
         Err(InFault::Memory) => Err(CliFault::Memory),
     }
 }
 
 /// The bytes of each file, in order; the first file has this number.
-pub fn read_files<F: Source>(
+pub fn read_files<F: LateSource>(
     alloc: Global,
     first: usize,
     files: &mut [F],
 ) -> Result<Vec<Vec<u8>>, CliFault>
-    ensures give { IfOk result (λ all. GiveAll (map F.state files.old) (map F.state files.new) (bytes_of all.items)) }
-    ensures fault { IfErr result (AreUnread first (map F.state files.old) (map F.state files.new)) }
+    ensures give { IfOk result (λ all. GiveAll (map (seen_by F.state F.shut) files.old) (map (seen_by F.state F.shut) files.new) (bytes_of all.items)) }
+    ensures fault { IfErr result (AreUnread first (map (seen_by F.state F.shut) files.old) (map (seen_by F.state F.shut) files.new)) }
 {
     let mut all = Vec::new(alloc);
     for i in 0..files.len() {

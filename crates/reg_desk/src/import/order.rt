@@ -3,14 +3,15 @@
 use reg_import::Differs;
 use uuid::Uuid;
 
-/// Options of an import: the replica, the conflict mode, whether refused texts are explained, the note, and the names of
-/// the files.
+/// Options of an import: the replica, the conflict mode, whether refused texts are passed over and explained, whether lines of
+/// texts that change nothing are left out, the note, and the names of the files.
 #[derive(Clone, Copy)]
 pub struct Order<'a> {
     pub replica: Uuid,
     pub differs: Differs,
     pub keep_going: bool,
     pub explain: bool,
+    pub changes: bool,
     pub note: &'a str,
     pub names: &'a [String],
 }

@@ -1,7 +1,7 @@
 //! The result of an import, before anything is written.
 
 ghost use Rattle.std.specs.Prelude.{map, IfOk, IfErr};
-ghost use Rattle.reg_desk.specs.ImportFiles.{bytes_of};
+ghost use Rattle.reg_desk.specs.ImportFiles.{bytes_of, seen_by};
 ghost use Rattle.reg_desk.specs.ImportTexts.{text_at};
 ghost use Rattle.reg_desk.specs.Import.{IsRefusedBy, MakesOf, IsUnmadeOf, Makes, IsUnmade, IsReady, IsUnready};
 
@@ -10,7 +10,7 @@ use crate::import::fault::Unimported;
 use crate::import::files::read_files;
 use crate::import::order::Order;
 use crate::import::texts::{FileCut, cut_files, read_cuts};
-use byte_io::Source;
+use byte_late::LateSource;
 use reg_engine::{CliFault, Refusal};
 use reg_import::{FileText, ImportRefusal, Refused, import_texts, lines_text};
 use reg_office::OfficeFault;
@@ -91,7 +91,7 @@ fn made_of(
     let Ok(passed) = passed_over(alloc, first, order, files, cuts, texts, &imported.told) else {
         return Err(Unimported::plain(alloc, CliFault::Memory));
     };
-    match lines_text(alloc, order.names, texts, &imported.told) {
+    match lines_text(alloc, order.names, order.changes, texts, &imported.told) {
         Ok(lines) => Ok(Ready {
             register: imported.register,
             lines,
@@ -126,15 +126,15 @@ fn made(
 
 /// Reads the files of texts, the first of which has this number among all that are read, and imports their texts into the
 /// register.
-pub fn make_ready<F: Source>(
+pub fn make_ready<F: LateSource>(
     alloc: Global,
     register: Register,
     first: usize,
     order: &Order<'_>,
     files: &mut [F],
 ) -> Result<Ready, Unimported>
-    ensures ready { IfOk result (λ r. IsReady order.now first register (map F.state files.old) (map F.state files.new) r.register r.lines.items r.passed) }
-    ensures fault { IfErr result (IsUnready order.now first register (map F.state files.old) (map F.state files.new)) }
+    ensures ready { IfOk result (λ r. IsReady order.now first register (map (seen_by F.state F.shut) files.old) (map (seen_by F.state F.shut) files.new) r.register r.lines.items r.passed) }
+    ensures fault { IfErr result (IsUnready order.now first register (map (seen_by F.state F.shut) files.old) (map (seen_by F.state F.shut) files.new)) }
 {
     let bytes = match read_files(alloc, first, files) {
         Ok(bytes) => bytes,

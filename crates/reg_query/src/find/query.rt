@@ -1,7 +1,7 @@
 //! Queries of a search.
 
 ghost use Rattle.std.specs.Prelude.{◌≡◌, ◌↔◌, ◌++◌, ◌∷◌, IsTrue, IfSome, Some};
-ghost use Rattle.reg_office.specs.Conflicts.{bytes_of};
+ghost use Rattle.reg_report.specs.Conflicts.{bytes_of};
 ghost use Rattle.reg_query.specs.NameParts.{HasPart};
 ghost use Rattle.reg_query.specs.Queries.{IsWanted, Meets};
 

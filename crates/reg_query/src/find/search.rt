@@ -2,13 +2,13 @@
 
 ghost use Rattle.std.specs.Prelude.{◌≡◌, map, IfOk};
 ghost use Rattle.reg_op.specs.Rows.{rows};
-ghost use Rattle.reg_office.specs.declared.row.Row.{Row as OneRow};
-ghost use Rattle.reg_office.specs.Seen.{row_seen};
+ghost use Rattle.reg_report.specs.declared.row.Row.{Row as OneRow};
+ghost use Rattle.reg_report.specs.Seen.{row_seen};
 ghost use Rattle.reg_query.specs.Found.{IsMet, AreFound, AreFoundIds, IsFoundText};
 
 use crate::find::query::{Query, meets};
-use reg_office::{Row, entries_text, rows};
 use reg_op::OpId;
+use reg_report::{Row, entries_text, rows};
 use reg_state::Register;
 use std::alloc::{AllocError, Global};
 

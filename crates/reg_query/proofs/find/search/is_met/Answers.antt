@@ -1,5 +1,5 @@
 use Rattle.std.proofs.Common.{◌↔◌, ℕ, List, IsTrue, Some, subst}
-use Rattle.reg_office.specs.Conflicts.{bytes_of}
+use Rattle.reg_report.specs.Conflicts.{bytes_of}
 use Rattle.reg_query.specs.Queries.{Meets}
 use Rattle.reg_query.proofs.find.search.is_met.Goals as goal
 
