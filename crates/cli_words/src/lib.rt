@@ -4,7 +4,6 @@
 mod arguments;
 mod change;
 mod change_help;
-mod completions;
 mod exchange;
 mod exchange_help;
 mod look;
@@ -16,5 +15,4 @@ mod read_help;
 mod whole;
 mod whole_help;
 
-pub use completions::{Shell, completion_script};
 pub use whole::command_line;

@@ -24,6 +24,11 @@ pub fn import<'a>(alloc: Global, office: Option<&'a str>) -> Result<Command<'a>,
             "Prints what would be done, and writes nothing",
         ))?;
     whole
+        .arg(flag(
+            alloc,
+            "changes",
+            "Leaves out texts that are there already",
+        ))?
         .arg(flag(alloc, "explain", "Explains why texts are refused"))?
         .arg(on_shelf(alloc, ON_SHELF))?
         .arg(unless_dry(alloc)?)

@@ -12,7 +12,9 @@ text is compared with the register, including what this command has entered:
     has entered or found is not revised.
 
 After OUT is written, a line for each text is printed: the file, the offset of
-the text, the action, the entry, its authority, code and name.
+the text, the action, the entry, its authority, code and name. A text that
+cannot be read has as its name what stands first in quotation marks. With
+--changes, there is no line for a text with the action same.
 
 The first refused text ends the command, and nothing is written. With
 --keep-going it is listed with its fault, the others are entered, and the

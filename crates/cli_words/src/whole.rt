@@ -1,12 +1,11 @@
 //! All commands, and `check`.
 use crate::arguments::flag;
 use crate::change::{enter, retire, supersede};
-use crate::completions::SHELLS;
 use crate::exchange::{downgrade, merge, new, piece, seen, shelf, unshelf};
 use crate::look::{diff, find, offices, status};
 use crate::many::{import, settle};
 use crate::read::{export, ops, report, show, wkt};
-use crate::whole_help::{CHECK_HELP, COMPLETIONS_HELP, STATUS_HELP};
+use crate::whole_help::{CHECK_HELP, STATUS_HELP};
 use clap::{Arg, Command};
 use std::alloc::{AllocError, Global};
 
@@ -24,8 +23,7 @@ pub fn command_line<'a>(alloc: Global, office: Option<&'a str>) -> Result<Comman
     let whole = with_changes(alloc, whole, office)?;
     let whole = with_readers(alloc, whole)?;
     let whole = with_exchange(alloc, whole)?;
-    let whole = with_shelves(alloc, whole)?;
-    and(whole, shells(alloc))
+    with_shelves(alloc, whole)
 }
 
 // Those that make or change a register.
@@ -75,18 +73,6 @@ fn and<'a>(
     command: Result<Command<'a>, AllocError>,
 ) -> Result<Command<'a>, AllocError> {
     whole.subcommand(command?)
-}
-
-// `completions`.
-fn shells<'a>(alloc: Global) -> Result<Command<'a>, AllocError> {
-    let shell = Arg::new(alloc, "SHELL")
-        .help("The shell that runs the script")
-        .value_parser(SHELLS.as_slice())
-        .required(true);
-    Command::new(alloc, "completions")
-        .about("Prints a script that completes command lines in a shell")
-        .after_help(COMPLETIONS_HELP)
-        .arg(shell)
 }
 
 fn check<'a>(alloc: Global) -> Result<Command<'a>, AllocError> {

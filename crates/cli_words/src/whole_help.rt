@@ -23,12 +23,3 @@ error, with its offset in bytes, from 0.
 
 Example:
   crsreg check height.wkt";
-
-pub const COMPLETIONS_HELP: &str = "\
-Completes commands, options, the values that options such as --status take, and
-names of files.
-
-Examples:
-  crsreg completions bash > ~/.local/share/bash-completion/completions/crsreg
-  crsreg completions fish > ~/.config/fish/completions/crsreg.fish
-  crsreg completions zsh > ~/.zfunc/_crsreg";

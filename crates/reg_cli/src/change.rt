@@ -6,7 +6,7 @@ use byte_out::Place;
 use clap::ArgMatches;
 use reg_desk::{
     CliFault, Enter, InFile, Kept, OfFile, OnShelf, Order, Reading, Retire, Settle, SettleEqual,
-    Source, Supersede, Unimported, Writing, explained_fault, run_import, try_import,
+    Source, Supersede, Unimported, Way, Writing, explained_fault, run_import, try_import,
 };
 use std::alloc::{AllocError, Global};
 use std::fs::OpenFile;
@@ -111,11 +111,14 @@ pub fn import(rt: &HostRuntime, matches: &ArgMatches<'_>) -> Outcome {
         Err(fault) => return Outcome::Fault(fault),
     };
     let order = Order {
-        replica,
-        differs: differs(word(matches, "differs")),
-        keep_going: matches.get_flag("keep-going"),
+        way: Way {
+            replica,
+            note: word(matches, "note"),
+            differs: differs(word(matches, "differs")),
+            keep_going: matches.get_flag("keep-going"),
+        },
         explain: matches.get_flag("explain"),
-        note: word(matches, "note"),
+        changes: matches.get_flag("changes"),
         names: &names,
     };
     if matches.get_flag("dry-run") {

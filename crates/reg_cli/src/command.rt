@@ -3,7 +3,6 @@ use crate::change::{enter, import, retire, settle, supersede};
 use crate::exchange::{downgrade, merge, new, piece, seen, shelf, unshelf};
 use crate::look::{check, diff, export, find, offices, ops, report, show, status as figures, wkt};
 use crate::outcome::{MISUSE, Outcome, complain, failed, print, status};
-use crate::shells::completions;
 use clap::ArgMatches;
 use clap::error::ErrorKind;
 use cli_words::command_line;
@@ -100,7 +99,6 @@ fn perform(rt: &HostRuntime, matches: &ArgMatches<'_>) -> Option<Outcome> {
         "downgrade" => Outcome::of(downgrade(rt, inner)),
         "shelf" => Outcome::of(shelf(rt, inner)),
         "unshelf" => Outcome::of(unshelf(rt, inner)),
-        "completions" => Outcome::of(completions(rt, inner)?),
         _ => return None,
     };
     Some(outcome)

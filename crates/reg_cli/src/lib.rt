@@ -6,7 +6,6 @@ mod command;
 mod exchange;
 mod look;
 mod outcome;
-mod shells;
 mod stores;
 mod words;
 

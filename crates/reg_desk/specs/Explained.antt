@@ -1,5 +1,5 @@
 -- Explanations of the faults of a command that read a text.
-use Rattle.std.specs.Prelude.{◌≡◌, ◌⊎◌, ℕ, List, [], length, Option, Some, None, IsSome}
+use Rattle.std.specs.Prelude.{ℕ, List, [], length, Option, Some, None}
 use Rattle.wkt_crs.specs.declared.fault.Unspelled.TheVariants as refused
 use Rattle.wkt_crs.specs.declared.definition.DefinitionFault.{DefinitionFault}
 use Rattle.wkt_crs.specs.declared.definition.DefinitionFault.TheVariants as undefined
@@ -21,10 +21,6 @@ text_problem _ = None
 abbrev pub problem_of : CliFault → Option DefinitionFault
 problem_of (cli.Refused r) = text_problem r
 problem_of _ = None
-
--- the fault of a command, which is one of these; or memory ran out while its text was explained
-abbrev pub IsExplained : (CliFault → Type 0) → CliFault → Type 0
-IsExplained Is e = (f : CliFault) × Is f × ((e ≡ f) ⊎ ((e ≡ cli.Memory) × IsSome (problem_of f)))
 
 -- the explanation of what is wrong with a text, which is all of the file of this name; or nothing
 abbrev pub note_text : List ℕ → List ℕ → Option DefinitionFault → List ℕ

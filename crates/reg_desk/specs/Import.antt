@@ -5,17 +5,16 @@ use Rattle.std.specs.String.{string_bytes}
 use Rattle.byte_io.specs.Device.{SourceState}
 use Rattle.reg_op.specs.Contents.{Content}
 use Rattle.reg_office.specs.declared.fault.OfficeFault.TheVariants as office
-use Rattle.reg_office.specs.Lines.{IsSheet}
-use Rattle.reg_import.specs.declared.reading.FileText.{FileText}
+use Rattle.reg_import.specs.declared.plan.Line.{Line}
 use Rattle.reg_import.specs.declared.told.Problem.{Problem}
-use Rattle.reg_import.specs.declared.told.Told.{Told}
 use Rattle.reg_import.specs.declared.told.Told.TheVariants as told
 use Rattle.reg_import.specs.declared.import.ImportRefusal.{ImportRefusal}
 use Rattle.reg_import.specs.declared.import.ImportRefusal.TheVariants as refused
-use Rattle.reg_import.specs.Readings.{readings}
+use Rattle.reg_import.specs.Texts.{text_at}
 use Rattle.reg_import.specs.Imports.{NoneRefused}
-use Rattle.reg_import.specs.Plans.{IsFirstRefused, Imports, IsImportRefusal}
-use Rattle.reg_import.specs.Lines.{import_header, lines_of, IsImportLine}
+use Rattle.reg_import.specs.Plans.{IsFirstRefused}
+use Rattle.reg_import.specs.Lines.{tolds_in, IsImportText}
+use Rattle.reg_import.specs.Files.{IsImport, IsNoImport}
 use Rattle.reg_engine.specs.declared.fault.Refusal.TheVariants as refusal
 use Rattle.reg_engine.specs.Fault.{status_of}
 use Rattle.reg_engine.specs.declared.fault.CliFault.{CliFault}
@@ -25,7 +24,6 @@ use Rattle.reg_desk.specs.declared.import.fault.ImportFault.{ImportFault}
 use Rattle.reg_desk.specs.declared.import.fault.ImportFault.TheVariants as import
 use Rattle.reg_desk.specs.declared.import.fault.Unimported.{Unimported}
 use Rattle.reg_desk.specs.ImportFiles.{GiveAll, AreUnread}
-use Rattle.reg_desk.specs.ImportTexts.{TextAt, HaveTexts}
 use Rattle.reg_desk.specs.ImportNotes.{note_of, notes_of}
 
 abbrev pub names_of : Order → List (List ℕ)
@@ -45,67 +43,50 @@ IsPlainFault Is (import.Refused p place file) notes = ⊥
 abbrev pub IsPlain : (CliFault → Type 0) → Unimported → Type 0
 IsPlain Is u = IsPlainFault Is u.fault u.notes.items
 
--- the text at this index is refused for this reason, with its place in its file and the file's number, given the number of
--- the first file
-abbrev pub IsAgainst : ℕ → List FileText → ℕ → Problem → ImportFault → Type 0
-IsAgainst first texts at p (import.Cli f) = ⊥
-IsAgainst first texts at p (import.Refused q place file) = (text : FileText) × (slice_get texts at ≡ Some text) × (q ≡ p) × (place ≡ text.at) × (file ≡ first + text.file)
+-- the text of the line at this index is refused for this reason, with its place in its file and the file's number, given the
+-- number of the first file
+abbrev pub IsAgainst : ℕ → List Line → ℕ → Problem → ImportFault → Type 0
+IsAgainst first lines at p (import.Cli f) = ⊥
+IsAgainst first lines at p (import.Refused q place file) = (line : Line) × (slice_get lines at ≡ Some line) × (q ≡ p) × (place ≡ line.text.at) × (file ≡ first + line.text.cut.file)
 
 abbrev pub if_explained : Order → List ℕ → List ℕ
 if_explained o note = if o.explain then note else []
 
 -- the explanation of the text at this index, which is refused for this reason
-abbrev pub note_at : Order → List (List ℕ) → List TextAt → ℕ → Problem → List ℕ
-note_at o files cuts at p = unwrap_or (option_map (λ c. note_of (names_of o) files c (told.Refused p)) (slice_get cuts at)) []
+abbrev pub note_at : Order → List (List ℕ) → List Line → ℕ → Problem → List ℕ
+note_at o files lines at p = unwrap_or (option_map (λ (l : Line). note_of (names_of o) files (text_at l.text.cut) (told.Refused p)) (slice_get lines at)) []
 
-abbrev pub all_notes : Order → List (List ℕ) → List TextAt → List Told → List ℕ
-all_notes o files cuts ts = notes_of (names_of o) files cuts ts
+abbrev pub all_notes : Order → List (List ℕ) → List Line → List ℕ
+all_notes o files lines = notes_of (names_of o) files lines
 
 -- the fault is that this text is refused, with its explanation
-abbrev pub IsRefusedAt : Order → ℕ → List (List ℕ) → List TextAt → List FileText → ℕ → Problem → Unimported → Type 0
-IsRefusedAt o first files cuts texts at p u = IsAgainst first texts at p u.fault × (u.notes.items ≡ if_explained o (note_at o files cuts at p))
+abbrev pub IsRefusedAt : Order → ℕ → List (List ℕ) → List Line → ℕ → Problem → Unimported → Type 0
+IsRefusedAt o first files lines at p u = IsAgainst first lines at p u.fault × (u.notes.items ≡ if_explained o (note_at o files lines at p))
 
 -- the fault is that of the first refused text, with the explanations of all; without a refused text there is no fault
-abbrev pub IsPassed : Order → ℕ → List (List ℕ) → List TextAt → List FileText → List Told → Option Unimported → Type 0
-IsPassed o first files cuts texts ts None = NoneRefused ts
-IsPassed o first files cuts texts ts (Some u) = (at : ℕ) × (p : Problem) × IsFirstRefused ts at p × IsAgainst first texts at p u.fault
-    × (u.notes.items ≡ if_explained o (all_notes o files cuts ts))
+abbrev pub IsPassed : Order → ℕ → List (List ℕ) → List Line → Option Unimported → Type 0
+IsPassed o first files lines None = NoneRefused (tolds_in lines)
+IsPassed o first files lines (Some u) = (at : ℕ) × (p : Problem) × IsFirstRefused (tolds_in lines) at p × IsAgainst first lines at p u.fault
+    × (u.notes.items ≡ if_explained o (all_notes o files lines))
 
--- ---- texts that were read
-
--- the lines are a header and a line for each text, with its action
-abbrev pub AreLines : Order → List FileText → List Told → List ℕ → Type 0
-AreLines o texts ts lines = IsSheet import_header (IsImportLine (names_of o)) (lines_of texts ts) lines
-
--- importing the texts into the content gives the second one and these lines, and this fault of those that were passed over
-abbrev pub MakesOf : Order → ℕ → Content → List (List ℕ) → List TextAt → List FileText → Content → List ℕ → Option Unimported → Type 0
-MakesOf o first x files cuts texts y lines passed = (ts : List Told) × Imports x o.replica o.note.now o.differs o.keep_going (readings texts) y ts
-    × AreLines o texts ts lines × IsPassed o first files cuts texts ts passed
-
--- they are refused for this reason
-abbrev pub Refuses : Order → Content → List FileText → ImportRefusal → Type 0
-Refuses o x texts r = IsImportRefusal x o.replica o.note.now o.differs o.keep_going (readings texts) r
-
--- the fault for this reason
-abbrev pub IsRefusedBy : Order → ℕ → List (List ℕ) → List TextAt → List FileText → ImportRefusal → Unimported → Type 0
-IsRefusedBy o first files cuts texts refused.NoteTooLong u = IsPlain (λ f. f ≡ cli.Refused (refusal.Office office.NoteTooLong)) u
-IsRefusedBy o first files cuts texts (refused.Refused at p) u = IsRefusedAt o first files cuts texts at p u ⊎ IsPlain (λ f. f ≡ cli.Memory) u
-IsRefusedBy o first files cuts texts refused.CountSpent u = IsPlain (λ f. f ≡ cli.Refused (refusal.Office office.CountSpent)) u
-IsRefusedBy o first files cuts texts refused.Memory u = IsPlain (λ f. f ≡ cli.Memory) u
-
--- why they are not imported
-abbrev pub IsUnmadeOf : Order → ℕ → Content → List (List ℕ) → List TextAt → List FileText → Unimported → Type 0
-IsUnmadeOf o first x files cuts texts u = (r : ImportRefusal) × Refuses o x texts r × IsRefusedBy o first files cuts texts r u
+-- the fault for this reason, given the lines of the texts that were read
+abbrev pub IsRefusedBy : Order → ℕ → List (List ℕ) → List Line → ImportRefusal → Unimported → Type 0
+IsRefusedBy o first files lines refused.NoteTooLong u = IsPlain (λ f. f ≡ cli.Refused (refusal.Office office.NoteTooLong)) u
+IsRefusedBy o first files lines (refused.Refused at p) u = IsRefusedAt o first files lines at p u ⊎ IsPlain (λ f. f ≡ cli.Memory) u
+IsRefusedBy o first files lines refused.CountSpent u = IsPlain (λ f. f ≡ cli.Refused (refusal.Office office.CountSpent)) u
+IsRefusedBy o first files lines refused.Memory u = IsPlain (λ f. f ≡ cli.Memory) u
 
 -- ---- files of these bytes
 
+-- importing their texts into the content gives the second one, this is printed of the lines, and this is the fault of the texts
+-- that were passed over
 abbrev pub Makes : Order → ℕ → Content → List (List ℕ) → Content → List ℕ → Option Unimported → Type 0
-Makes o first x files y lines passed = (cuts : List TextAt) × (texts : List FileText) × HaveTexts files cuts texts × MakesOf o first x files cuts texts y lines passed
+Makes o first x files y text passed = (lines : List Line) × IsImport x o.way files lines y × IsImportText (names_of o) o.changes lines text × IsPassed o first files lines passed
 
--- out of memory before they were read, or not imported
+-- out of memory once they were imported, or not imported
 abbrev pub IsUnmade : Order → ℕ → Content → List (List ℕ) → Unimported → Type 0
 IsUnmade o first x files u = IsPlain (λ f. f ≡ cli.Memory) u
-    ⊎ ((cuts : List TextAt) × (texts : List FileText) × HaveTexts files cuts texts × IsUnmadeOf o first x files cuts texts u)
+    ⊎ ((lines : List Line) × (r : ImportRefusal) × IsNoImport x o.way files lines r × IsRefusedBy o first files lines r u)
 
 -- ---- files
 

@@ -1,6 +1,5 @@
 -- Files of texts: the bytes that each gave, or why one did not.
-use Rattle.std.specs.Prelude.{◌≡◌, ◌⊎◌, ◌≤◌, ◌<◌, ◌+◌, ℕ, List, [], ◌∷◌, length, map}
-use Rattle.std.specs.declared.vec.Vec.{Vec}
+use Rattle.std.specs.Prelude.{◌≡◌, ◌⊎◌, ◌≤◌, ◌<◌, ◌+◌, ℕ, List, [], ◌∷◌, length}
 use Rattle.byte_io.specs.Device.{SourceState}
 use Rattle.byte_io.specs.Whole.{FailsAfter}
 use Rattle.reg_file.specs.Files.{most, ReadsBytes}
@@ -30,9 +29,6 @@ IsUnread number old new cli.Memory = NeverFails old new
 IsUnread number old new (cli.Shelf p) = ⊥
 
 -- ---- a list of files
-
-abbrev pub bytes_of : {A : Type 0} → List (Vec ℕ A) → List (List ℕ)
-bytes_of files = map (λ f. f.items) files
 
 -- each gave these bytes
 abbrev pub GiveAll : List SourceState → List SourceState → List (List ℕ) → Type 0

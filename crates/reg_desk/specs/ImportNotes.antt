@@ -5,7 +5,8 @@ use Rattle.wkt_explain.specs.Explains.{explanation}
 use Rattle.reg_import.specs.declared.told.Problem.TheVariants as problem
 use Rattle.reg_import.specs.declared.told.Told.{Told}
 use Rattle.reg_import.specs.declared.told.Told.TheVariants as told
-use Rattle.reg_desk.specs.ImportTexts.{TextAt}
+use Rattle.reg_import.specs.declared.plan.Line.{Line}
+use Rattle.reg_import.specs.Texts.{TextAt, text_at}
 
 -- what the file of this number is called, and its bytes
 abbrev pub name_of : List (List ℕ) → ℕ → List ℕ
@@ -30,7 +31,6 @@ abbrev pub note_of : List (List ℕ) → List (List ℕ) → TextAt → Told →
 note_of names files c t = note_in (name_of names c.file) (content_of files c.file) c t
 
 -- of each text, one after another
-abbrev pub notes_of : List (List ℕ) → List (List ℕ) → List TextAt → List Told → List ℕ
-notes_of names files [] ts = []
-notes_of names files (c ∷ cs) [] = []
-notes_of names files (c ∷ cs) (t ∷ ts) = note_of names files c t ++ notes_of names files cs ts
+abbrev pub notes_of : List (List ℕ) → List (List ℕ) → List Line → List ℕ
+notes_of names files [] = []
+notes_of names files (l ∷ ls) = note_of names files (text_at l.text.cut) l.told ++ notes_of names files ls

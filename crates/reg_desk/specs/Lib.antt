@@ -5,7 +5,6 @@ pub mod Status
 pub mod Explained
 pub mod Settle
 pub mod ImportFiles
-pub mod ImportTexts
 pub mod ImportNotes
 pub mod Import
 pub mod ImportEngines

@@ -4,7 +4,7 @@ ghost use Rattle.std.specs.Prelude.{◌≡◌, ◌⊎◌, IfOk, IfErr, OnOk, IsS
 ghost use Rattle.reg_engine.specs.Devices.{devices};
 ghost use Rattle.reg_engine.specs.Check.{IsPrinted, IsCheckFault};
 ghost use Rattle.reg_engine.specs.declared.fault.CliFault.TheVariants as cli;
-ghost use Rattle.reg_desk.specs.Explained.{IsExplained, note_text, problem_of, text_problem};
+ghost use Rattle.reg_desk.specs.Explained.{note_text, problem_of, text_problem};
 
 use byte_io::{Sink, Source};
 use reg_engine::{CliFault, Refusal, run_check};
@@ -95,9 +95,9 @@ pub fn run_check_explained<S: Source, K: Sink>(
     ensures printed { OnOk result (IsPrinted
         (devices (⟦<Kept<S> as Source>⟧.state text.old) (K.state sink.old))
         (devices (⟦<Kept<S> as Source>⟧.state text.new) (K.state sink.new))) }
-    ensures fault { IfErr result (λ e. IsExplained (IsCheckFault
+    ensures fault { IfErr result (λ e. IsCheckFault
         (devices (⟦<Kept<S> as Source>⟧.state text.old) (K.state sink.old))
-        (devices (⟦<Kept<S> as Source>⟧.state text.new) (K.state sink.new))) e.fault) }
+        (devices (⟦<Kept<S> as Source>⟧.state text.new) (K.state sink.new)) e.fault) }
     ensures note { IfErr result (λ e. e.note.items ≡ note_text name.now (⟦<Kept<S> as Source>⟧.state text.new).given (problem_of e.fault)) }
 {
     match run_check(alloc, text, sink) {

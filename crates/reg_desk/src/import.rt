@@ -7,7 +7,6 @@ mod files;
 mod notes;
 mod order;
 mod ready;
-mod texts;
 
 pub use engine::{run_import, try_import};
 pub use fault::{ImportFault, Unimported};

@@ -32,7 +32,7 @@ pub use reg_engine::{
     run_retire, run_retire_on, run_seen, run_shelf, run_show, run_supersede, run_supersede_on,
     run_unshelf, run_wkt,
 };
-pub use reg_import::Differs;
+pub use reg_import::{Differs, Way};
 pub use reg_office::ReportKind;
 pub use reg_op::OpId;
 pub use reg_query::{Query, Wanted};

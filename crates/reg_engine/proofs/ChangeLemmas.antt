@@ -8,7 +8,7 @@ use Rattle.wkt_crs.specs.declared.source.DefineFromFault.TheVariants as define
 use Rattle.wkt_crs.specs.declared.fault.Unspelled.TheVariants as unspelled
 use Rattle.wkt_crs.specs.Spells.{canon}
 use Rattle.wkt_crs.specs.Definition.{IsDefinition}
-use Rattle.wkt_crs.specs.Source.{Finds, FindsCanon, FindsDefinition, IsDefineFromFault, RunsOut}
+use Rattle.wkt_crs.specs.Source.{Finds, FindsDefinition, IsDefineFromFault, RunsOut}
 use Rattle.wkt_crs.proofs.Verdicts.{spelled_is_grammatical}
 use Rattle.reg_op.specs.Ids.{Id}
 use Rattle.reg_op.specs.Contents.{Content}
@@ -59,10 +59,6 @@ cannot_make replica note bodies x f h = refused_for x replica note bodies f (ref
 -- where memory runs out over a text that spells a value, that is grammatical
 pub part_of_found : (o n : SourceState) (v : Crs) → Finds o n v → RunsOut o n
 part_of_found o n v (text, read, spells) = inr (text, read, spelled_is_grammatical text v spells)
-
--- the same where its canonical text was found
-pub part_of_canon : (o n : SourceState) (canonical : List ℕ) → FindsCanon o n canonical → RunsOut o n
-part_of_canon o n canonical (text, read, found) = part_of_found o n found.value (text, read, found.spells)
 
 -- the value that a definition is made of
 abbrev pub value_of : {o n : SourceState} {d : List ℕ} → FindsDefinition o n d → Crs

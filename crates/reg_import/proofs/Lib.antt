@@ -1,11 +1,15 @@
 pub mod NumberedLemmas
 pub mod KnownLemmas
 pub mod LeastLemmas
+pub mod SummaryLemmas
 pub mod ToldLemmas
+pub mod ReadLemmas
 pub mod StepLemmas
 pub mod OnceLemmas
 pub mod FreshLemmas
 pub mod ImportLemmas
+pub mod FileLemmas
+pub mod QuotedLemmas
 pub mod LineLemmas
 pub mod TextLemmas
 pub mod AgainLemmas

@@ -12,7 +12,7 @@ use Rattle.reg_office.specs.Making.{numbered}
 use Rattle.reg_office.proofs.NumberLemmas.{length_map}
 use Rattle.reg_import.specs.declared.known.Known.{Known}
 use Rattle.reg_import.specs.declared.index.KeyText.{KeyText}
-use Rattle.reg_import.specs.declared.index.Bucket.{Bucket}
+use Rattle.reg_import.specs.declared.bucket.Bucket.{Bucket}
 use Rattle.reg_import.specs.declared.reading.Reading.{Reading}
 use Rattle.reg_import.specs.declared.reading.Reading.TheVariants as reading
 use Rattle.reg_import.specs.declared.told.Differs.{Differs}
@@ -51,9 +51,6 @@ fits_at d r n at (reading.Defined text key) h = fits_told d r n (at (bytes_of ke
 
 -- ---- one text
 
-pub step_unread : (d : Differs) (r : List ℕ) (n : ℕ) (note : List ℕ) (f : DefinitionFault) (at : At) (m : BTreeMap KeyText Bucket) (old new : List Op) → new ≡ old → Indexes m at → StepsOn d r n note (reading.Unread f) at m old new (told.Refused (problem.Unread f))
-step_unread d r n note f at m old new e i = record { told = refl; made = e ∙ sym (append-nil old); index = i }
-
 module _ (d : Differs) (r : List ℕ) (n : ℕ) (note text : List ℕ) (key : Key) (at : At) (kt : KeyText) (b b' : Bucket) (m : BTreeMap KeyText Bucket) (old new : List Op) (t : Told) where
   pub step_is : key_bytes kt ≡ bytes_of key → bucket_seen b ≡ at (key_bytes kt) → t ≡ told_of d (id_at r n) (bucket_seen b) text → new ≡ old ++ numbered r n note (bodies_of t text b.known.items)
       → bucket_seen b' ≡ then_of t key text (bucket_seen b) → Indexes m (with_key (key_bytes kt) (bucket_seen b') (with_key (key_bytes kt) nothing_there at))
@@ -68,28 +65,27 @@ module _ (d : Differs) (r : List ℕ) (n : ℕ) (note text : List ℕ) (key : Ke
 -- ---- one after another
 
 -- what there is in the midst of it: with what is still to come it is what comes of all
-pub record Planned (d : Differs) (r : List ℕ) (first : ℕ) (note : List ℕ) (start : At) (all rest : List Reading) (m : BTreeMap KeyText Bucket) (ts : List Told) (ops : List Op) : Type 0 where
+pub record Planned (d : Differs) (r : List ℕ) (first : ℕ) (note : List ℕ) (start : At) (done : List Reading) (m : BTreeMap KeyText Bucket) (ts : List Told) (ops : List Op) : Type 0 where
   pub at : At
   pub index : Indexes m at
   pub fits : first + length ops ≤ 4294967296
-  pub told : ts ++ tolds (imports d r (first + length ops) at rest) ≡ tolds (imports d r first start all)
-  pub made : ops ++ numbered r (first + length ops) note (effects (imports d r (first + length ops) at rest)) ≡ numbered r first note (effects (imports d r first start all))
+  pub told : (more : List Reading) → ts ++ tolds (imports d r (first + length ops) at more) ≡ tolds (imports d r first start (done ++ more))
+  pub made : (more : List Reading) → ops ++ numbered r (first + length ops) note (effects (imports d r (first + length ops) at more)) ≡ numbered r first note (effects (imports d r first start (done ++ more)))
 
-pub planned_none : (d : Differs) (r : List ℕ) (first : ℕ) (note : List ℕ) (start : At) (all : List Reading) (m : BTreeMap KeyText Bucket) (ts : List Told) (ops : List Op) → ts ≡ [] → ops ≡ [] → first ≤ 4294967296 → Indexes m start → Planned d r first note start all all m ts ops
-planned_none d r first note start all m ts ops t0 o0 h i =
+pub planned_none : (d : Differs) (r : List ℕ) (first : ℕ) (note : List ℕ) (start : At) (m : BTreeMap KeyText Bucket) (ts : List Told) (ops : List Op) → ts ≡ [] → ops ≡ [] → first ≤ 4294967296 → Indexes m start → Planned d r first note start [] m ts ops
+planned_none d r first note start m ts ops t0 o0 h i =
     let e : first + length ops ≡ first = (λ j. first + length (o0 j)) ∙ add-zero first in record {
       at = start;
       index = i;
       fits = subst (λ n. n ≤ 4294967296) (sym e) h;
-      told = (λ j. t0 j ++ tolds (imports d r (e j) start all));
-      made = (λ j. o0 j ++ numbered r (e j) note (effects (imports d r (e j) start all)));
+      told = λ more. (λ j. t0 j ++ tolds (imports d r (e j) start more));
+      made = λ more. (λ j. o0 j ++ numbered r (e j) note (effects (imports d r (e j) start more)));
     }
 
-module _ (d : Differs) (r : List ℕ) (first : ℕ) (note : List ℕ) (start : At) (all rest others : List Reading) (text : Reading) (m m' : BTreeMap KeyText Bucket) (ts : List Told) (old new : List Op) (t : Told) (count : ℕ) (ts' : List Told) where
-  pub planned_more : rest ≡ text ∷ others → (p : Planned d r first note start all rest m ts old) → count ≡ first + length old → StepsOn d r count note text p.at m' old new t → ts' ≡ ts ++ t ∷ [] → Planned d r first note start all others m' ts' new
-  planned_more at_rest p same given told_then =
+module _ (d : Differs) (r : List ℕ) (first : ℕ) (note : List ℕ) (start : At) (done done' : List Reading) (text : Reading) (m m' : BTreeMap KeyText Bucket) (ts : List Told) (old new : List Op) (t : Told) (ts' : List Told) where
+  pub planned_more : done' ≡ done ++ text ∷ [] → (p : Planned d r first note start done m ts old) → StepsOn d r (first + length old) note text p.at m' old new t → ts' ≡ ts ++ t ∷ [] → Planned d r first note start done' m' ts' new
+  planned_more pushed p s told_then =
       let n : ℕ = first + length old in
-      let s : StepsOn d r n note text p.at m' old new t = subst (λ k. StepsOn d r k note text p.at m' old new t) same given in
       let t0 : Told = told_at d r n p.at text in
       let bs : List Body = bodies_at t0 p.at text in
       let now : At = then_at t0 p.at text in
@@ -97,27 +93,29 @@ module _ (d : Differs) (r : List ℕ) (first : ℕ) (note : List ℕ) (start : A
       let long : length new ≡ length old + length bs = ap length made_now ∙ length-append old (numbered r n note bs) ∙ ap (λ k. length old + k) (length_numbered r n note bs) in
       let next : first + length new ≡ n + length bs = omega arith in
       let fit : n + length bs ≤ 4294967296 = fits_at d r n p.at text p.fits in
-      let later : List Step = imports d r (n + length bs) now others in record {
+      let so_far : (more : List Reading) → done ++ (text ∷ more) ≡ done' ++ more = λ more. sym (ap (λ l. l ++ more) pushed ∙ append_assoc done (text ∷ []) more) in record {
         at = now;
         index = subst (λ u. Indexes m' (then_at u p.at text)) s.told s.index;
         fits = omega arith;
-        told =
-            (λ j. told_then j ++ tolds (imports d r (next j) now others))
-            ∙ (λ j. (ts ++ s.told j ∷ []) ++ tolds later)
-            ∙ append_assoc ts (t0 ∷ []) (tolds later)
-            ∙ sym (ap (λ l. ts ++ tolds (imports d r n p.at l)) at_rest)
-            ∙ p.told;
-        made =
-            (λ j. made_now j ++ numbered r (next j) note (effects (imports d r (next j) now others)))
-            ∙ append_assoc old (numbered r n note bs) (numbered r (n + length bs) note (effects later))
-            ∙ ap (λ l. old ++ l) (sym (numbered_append r n note bs (effects later)))
-            ∙ sym (ap (λ l. old ++ numbered r n note (effects (imports d r n p.at l))) at_rest)
-            ∙ p.made;
+        told = λ more.
+            (λ j. told_then j ++ tolds (imports d r (next j) now more))
+            ∙ (λ j. (ts ++ s.told j ∷ []) ++ tolds (imports d r (n + length bs) now more))
+            ∙ append_assoc ts (t0 ∷ []) (tolds (imports d r (n + length bs) now more))
+            ∙ p.told (text ∷ more)
+            ∙ ap (λ l. tolds (imports d r first start l)) (so_far more);
+        made = λ more.
+            (λ j. made_now j ++ numbered r (next j) note (effects (imports d r (next j) now more)))
+            ∙ append_assoc old (numbered r n note bs) (numbered r (n + length bs) note (effects (imports d r (n + length bs) now more)))
+            ∙ ap (λ l. old ++ l) (sym (numbered_append r n note bs (effects (imports d r (n + length bs) now more))))
+            ∙ p.made (text ∷ more)
+            ∙ ap (λ l. numbered r first note (effects (imports d r first start l))) (so_far more);
       }
 
-pub planned_all : (d : Differs) (r : List ℕ) (first : ℕ) (note : List ℕ) (start : At) (all rest : List Reading) (m : BTreeMap KeyText Bucket) (ts : List Told) (ops : List Op) → length rest ≡ 0 → Planned d r first note start all rest m ts ops → Lists r first note (imports d r first start all) ts ops
-planned_all d r first note start all [] m ts ops e p = record { told = sym (append-nil ts) ∙ p.told; made = sym (append-nil ops) ∙ p.made }
-planned_all d r first note start all (x ∷ rest) m ts ops e p = absurd (omega arith)
+pub planned_all : (d : Differs) (r : List ℕ) (first : ℕ) (note : List ℕ) (start : At) (done : List Reading) (m : BTreeMap KeyText Bucket) (ts : List Told) (ops : List Op) → Planned d r first note start done m ts ops → Lists r first note (imports d r first start done) ts ops
+planned_all d r first note start done m ts ops p = record {
+  told = sym (append-nil ts) ∙ p.told [] ∙ ap (λ l. tolds (imports d r first start l)) (append-nil done);
+  made = sym (append-nil ops) ∙ p.made [] ∙ ap (λ l. numbered r first note (effects (imports d r first start l))) (append-nil done);
+}
 
 -- the numbers of all operations fit
 pub imports_fit : (d : Differs) (r : List ℕ) (n : ℕ) (at : At) (texts : List Reading) → n ≤ 4294967296 → n + length (effects (imports d r n at texts)) ≤ 4294967296

@@ -38,6 +38,15 @@ abbrev pub least : (Known → Bool) → List Known → Option Id
 least passes [] = None
 least passes (e ∷ es) = if passes e then Some (sooner e.entry (least passes es)) else least passes es
 
+-- the lesser of an id and another one, if there is one
+abbrev pub lesser : Option Id → Id → Id
+lesser None j = j
+lesser (Some i) j = sooner i (Some j)
+
+-- the least id of the entries that pass, with one more entry
+abbrev pub and_least : Bool → Option Id → Id → Option Id
+and_least passes first i = if passes then Some (lesser first i) else first
+
 -- the last number that would be given is a number
 abbrev pub unless_spent : ℕ → Told → Told
 unless_spent last t = if nat_le last 4294967295 then t else told.Spent

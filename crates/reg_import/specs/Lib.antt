@@ -1,7 +1,12 @@
 pub mod Known
 pub mod Readings
+pub mod Texts
 pub mod Imports
+pub mod Summary
 pub mod Index
 pub mod Plans
 pub mod Again
+pub mod Quoted
 pub mod Lines
+pub mod Sheets
+pub mod Files

@@ -1,5 +1,5 @@
 -- What is printed of an import.
-use Rattle.std.specs.Prelude.{◌≡◌, ℕ, List, [], ◌∷◌, ◌++◌, slice_get, codes, decimal}
+use Rattle.std.specs.Prelude.{◌≡◌, ℕ, Bool, true, false, not, ◌&&◌, List, [], ◌∷◌, ◌++◌, map, filter, slice_get, codes, decimal}
 use Rattle.std.specs.Option.{unwrap_or}
 use Rattle.crs_part.specs.Slots.{name_of}
 use Rattle.crs_value.specs.declared.crs.Crs.{Crs}
@@ -11,7 +11,10 @@ use Rattle.wkt_crs.specs.declared.definition.DefinitionFault.{DefinitionFault}
 use Rattle.wkt_crs.specs.declared.definition.DefinitionFault.TheVariants as fault
 use Rattle.wkt_crs.specs.Definition.{IsCrsOf, fault_name}
 use Rattle.reg_op.specs.Text.{printed}
-use Rattle.reg_import.specs.declared.reading.FileText.{FileText}
+use Rattle.reg_office.specs.Lines.{IsSheet}
+use Rattle.reg_import.specs.Quoted.{first_quoted}
+use Rattle.reg_import.specs.declared.plan.Line.{Line}
+use Rattle.reg_import.specs.declared.text.FileText.{FileText}
 use Rattle.reg_import.specs.declared.reading.Reading.{Reading}
 use Rattle.reg_import.specs.declared.reading.Reading.TheVariants as reading
 use Rattle.reg_import.specs.declared.told.Problem.{Problem}
@@ -72,23 +75,38 @@ name_at names file = unwrap_or (slice_get names file) []
 -- rejected
 abbrev pub line_fields : List (List ℕ) → FileText → Told → List ℕ → List ℕ → List ℕ → List (List ℕ)
 line_fields names x t authority code name =
-    name_at names x.file ∷ decimal x.place ∷ action_word t ∷ entry_text t ∷ authority ∷ code ∷ name ∷ fault_text t x.at ∷ []
+    name_at names x.cut.file ∷ decimal x.cut.place ∷ action_word t ∷ entry_text t ∷ authority ∷ code ∷ name ∷ fault_text t x.at ∷ []
 
--- a text, and its action
-pub record Line : Type 0 where
-  pub text : FileText
-  pub told : Told
+abbrev pub texts_in : List Line → List FileText
+texts_in lines = map (λ (l : Line). l.text) lines
 
-abbrev pub lines_of : List FileText → List Told → List Line
-lines_of [] ts = []
-lines_of (x ∷ xs) [] = []
-lines_of (x ∷ xs) (t ∷ ts) = record { text = x; told = t } ∷ lines_of xs ts
+abbrev pub tolds_in : List Line → List Told
+tolds_in lines = map (λ (l : Line). l.told) lines
 
--- they are the fields of such a line, with the key and the name of what was read
+-- they are the fields of such a line, with the key and the name of what was read; of a text that is no definition, with the
+-- first text in quotation marks as its name
 abbrev pub IsLineOf : List (List ℕ) → FileText → Told → Reading → List (List ℕ) → Type 0
 IsLineOf names x t (reading.Defined definition key) fields =
     (crs : Crs) × IsCrsOf crs definition × (fields ≡ line_fields names x t key.authority.bytes key.code.bytes (name_of crs.parts).bytes)
-IsLineOf names x t (reading.Unread f) fields = fields ≡ line_fields names x t [] [] []
+IsLineOf names x t (reading.Unread f) fields = fields ≡ line_fields names x t [] [] (first_quoted x.cut.bytes.now)
 
 abbrev pub IsImportLine : List (List ℕ) → Line → List (List ℕ) → Type 0
 IsImportLine names l fields = IsLineOf names l.text l.told l.text.reading fields
+
+-- the text was there already, and is not outdated
+abbrev pub is_same : Told → Bool
+is_same (told.Same i) = true
+is_same (told.Superseded i) = false
+is_same (told.Entered i) = false
+is_same (told.Beside i) = false
+is_same (told.Revised i) = false
+is_same (told.Refused p) = false
+is_same told.Spent = false
+
+-- a line is printed, unless changes alone are
+abbrev pub is_shown : Bool → Line → Bool
+is_shown changes l = not (changes && is_same l.told)
+
+-- a header, and the lines that are shown
+abbrev pub IsImportText : List (List ℕ) → Bool → List Line → List ℕ → Type 0
+IsImportText names changes lines text = IsSheet import_header (IsImportLine names) (filter (is_shown changes) lines) text

@@ -17,7 +17,7 @@ use Rattle.reg_import.specs.declared.told.Told.TheVariants as told
 use Rattle.reg_import.specs.declared.import.ImportRefusal.{ImportRefusal}
 use Rattle.reg_import.specs.declared.import.ImportRefusal.TheVariants as refusal
 use Rattle.reg_import.specs.declared.index.KeyText.{KeyText}
-use Rattle.reg_import.specs.declared.index.Bucket.{Bucket}
+use Rattle.reg_import.specs.declared.bucket.Bucket.{Bucket}
 use Rattle.reg_import.specs.Known.{At, AreStanding, by_key}
 use Rattle.reg_import.specs.Index.{Indexes}
 use Rattle.reg_import.specs.Imports.{told_at, bodies_at, then_at, Step, imports, tolds, effects, NoneRefused, NoneSpent}
@@ -44,10 +44,6 @@ pub record StepsOn (differs : Differs) (replica : List ℕ) (count : ℕ) (note 
   pub told : t ≡ told_at differs replica count at text
   pub made : new ≡ old ++ numbered replica count note (bodies_at t at text)
   pub index : Indexes m (then_at t at text)
-
--- and its action is appended
-abbrev pub StepTold : Differs → List ℕ → ℕ → List ℕ → Reading → At → BTreeMap KeyText Bucket → List Op → List Op → List Told → List Told → Type 0
-StepTold differs replica count note text at m old new before after = (t : Told) × StepsOn differs replica count note text at m old new t × (after ≡ before ++ t ∷ [])
 
 -- the operations are numbered on from a count, with one note
 abbrev pub AreNumbered : List ℕ → ℕ → List Op → Type 0

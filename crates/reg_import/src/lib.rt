@@ -1,6 +1,7 @@
 //! Entering many texts: the action for each, given the register so far.
 #![tactic(auto)]
 
+mod bucket;
 mod import;
 mod index;
 mod known;
@@ -9,10 +10,19 @@ mod least;
 mod lines;
 mod making;
 mod plan;
+mod quoted;
 mod reading;
+mod summary;
+mod text;
 mod told;
+mod way;
 
-pub use import::{ImportRefusal, Imported, Refused, first_refused, import_texts};
+pub use import::{
+    ImportRefusal, Imported, Refused, Unmade, first_refused, import_files, import_texts,
+};
 pub use lines::lines_text;
-pub use reading::{FileText, Reading, read_at};
+pub use plan::Line;
+pub use reading::Reading;
+pub use text::{FileCut, FileText, Texts, read_files};
 pub use told::{Differs, Problem, Told};
+pub use way::Way;

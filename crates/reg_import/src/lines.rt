@@ -3,10 +3,13 @@
 ghost use Rattle.std.specs.Prelude.{◌≡◌, ◌++◌, [], ◌∷◌, ℕ, List, codes, decimal, map, IfOk, OnOk};
 ghost use Rattle.std.specs.String.{string_bytes};
 ghost use Rattle.reg_op.specs.Text.{printed};
-ghost use Rattle.reg_office.specs.Lines.{IsSheet, IsReady, WritesRow};
-ghost use Rattle.reg_import.specs.Lines.{Line, lines_of, action_word, entry_text, fault_words, problem_words, problem_text, fault_text, name_at, import_header, line_fields, IsImportLine};
+ghost use Rattle.reg_office.specs.Lines.{IsReady, WritesRow};
+ghost use Rattle.reg_import.specs.Lines.{action_word, entry_text, fault_words, problem_words, problem_text, fault_text, name_at, import_header, line_fields, is_shown, IsImportLine, IsImportText};
+ghost use Rattle.reg_import.specs.Sheets.{WritesShown};
 
-use crate::reading::{FileText, Reading};
+use crate::plan::Line;
+use crate::quoted::first_quoted;
+use crate::reading::Reading;
 use crate::told::{Problem, Told};
 use csv::Writer;
 use reg_office::printed;
@@ -183,23 +186,22 @@ fn write_named(
     alloc: Global,
     wtr: &mut Writer<Vec<u8>>,
     names: &[String],
-    text: &FileText,
-    told: &Told,
+    line: &Line<'_>,
     authority: &[u8],
     code: &[u8],
     name: &[u8],
 ) -> Result<(), AllocError>
     requires { IsReady wtr.old }
-    ensures { OnOk result (WritesRow wtr.old wtr.new (line_fields (map string_bytes names.now) text.now told.now authority.now code.now name.now)) }
+    ensures { OnOk result (WritesRow wtr.old wtr.new (line_fields (map string_bytes names.now) line.now.text line.now.told authority.now code.now name.now)) }
 {
-    let place = decimal(alloc, text.place)?;
-    let entry = entry_text(alloc, told)?;
-    let fault = fault_text(alloc, told, text.at)?;
+    let place = decimal(alloc, line.text.cut.place)?;
+    let entry = entry_text(alloc, &line.told)?;
+    let fault = fault_text(alloc, &line.told, line.text.at)?;
     write_eight(
         wtr,
-        name_at(names, text.file),
+        name_at(names, line.text.cut.file),
         &place,
-        action_word(told),
+        action_word(&line.told),
         &entry,
         authority,
         code,
@@ -213,44 +215,67 @@ fn write_line(
     alloc: Global,
     wtr: &mut Writer<Vec<u8>>,
     names: &[String],
-    text: &FileText,
-    told: &Told,
+    line: &Line<'_>,
 ) -> Result<(), AllocError>
     requires { IsReady wtr.old }
-    ensures { OnOk result ((fields : List (List ℕ)) × IsImportLine (map string_bytes names.now) (record { text = text.now; told = told.now }) fields × WritesRow wtr.old wtr.new fields) }
+    ensures { OnOk result ((fields : List (List ℕ)) × IsImportLine (map string_bytes names.now) line.now fields × WritesRow wtr.old wtr.new fields) }
 {
-    match &text.reading {
+    match &line.text.reading {
         Reading::Defined { definition, key } => {
             let authority = key.authority.as_bytes();
             let code = key.code.as_bytes();
             let name = definition.name().as_bytes();
-            write_named(alloc, wtr, names, text, told, authority, code, name)?;
+            write_named(alloc, wtr, names, line, authority, code, name)?;
             Ok(())
         }
-        Reading::Unread(_) => write_named(alloc, wtr, names, text, told, b"", b"", b""),
+        Reading::Unread(_) => {
+            let name = first_quoted(alloc, line.text.cut.bytes)?;
+            write_named(alloc, wtr, names, line, b"", b"", &name)?;
+            Ok(())
+        }
     }
 }
 
-/// A header, and a line for each text. The files have these names.
+// Whether a line is printed.
+fn is_shown(changes: bool, line: &Line<'_>) -> bool
+    ensures { result ≡ is_shown changes line.now }
+{
+    !(changes && line.told.is_same())
+}
+
+// The line, if it is printed.
+fn write_shown(
+    alloc: Global,
+    wtr: &mut Writer<Vec<u8>>,
+    names: &[String],
+    changes: bool,
+    line: &Line<'_>,
+) -> Result<(), AllocError>
+    requires { IsReady wtr.old }
+    ensures { OnOk result (WritesShown (map string_bytes names.now) changes line.now wtr.old wtr.new) }
+{
+    if !is_shown(changes, line) {
+        return Ok(());
+    }
+    write_line(alloc, wtr, names, line)?;
+    Ok(())
+}
+
+/// A header, and a line for each text, or for each that changes something or is refused. The files have these names.
 pub fn lines_text(
     alloc: Global,
     names: &[String],
-    texts: &[FileText],
-    told: &[Told],
+    changes: bool,
+    lines: &[Line<'_>],
 ) -> Result<Vec<u8>, AllocError>
-    ensures { IfOk result (λ text. IsSheet import_header (IsImportLine (map string_bytes names.now)) (lines_of texts.now told.now) text.items) }
+    ensures { IfOk result (λ text. IsImportText (map string_bytes names.now) changes lines.now text.items) }
 {
     let mut wtr = Writer::from_writer(Vec::new(alloc));
     write_header(&mut wtr)?;
-    let mut texts = texts;
-    let mut told = told;
-    while let (Some((text, others)), Some((this, later))) = (
-        texts.split_first(),
-        told.split_first(),
-    ) {
-        write_line(alloc, &mut wtr, names, text, this)?;
-        texts = others;
-        told = later;
+    let mut rest = lines;
+    while let Some((line, others)) = rest.split_first() {
+        write_shown(alloc, &mut wtr, names, changes, line)?;
+        rest = others;
     }
     match wtr.into_inner() {
         Ok(text) => Ok(text),

@@ -1,7 +1,7 @@
 //! Readings of texts.
 
-ghost use Rattle.std.specs.Prelude.{◌≡◌, ◌+◌, IfOk, IfSome};
-ghost use Rattle.reg_import.specs.Readings.{IsReading, place_in, IsFileText};
+ghost use Rattle.std.specs.Prelude.{IfOk};
+ghost use Rattle.reg_import.specs.Readings.{IsReading};
 
 use crs_part::TryClone;
 use crs_value::Key;
@@ -17,56 +17,8 @@ pub enum Reading {
     Unread(DefinitionFault),
 }
 
-/// A text of a file: the index of the file, from 0; the offset of its first byte; the offset that is reported if it is
-/// rejected; and its reading.
-#[derive(Drop)]
-pub struct FileText {
-    pub file: usize,
-    pub place: usize,
-    pub at: usize,
-    pub reading: Reading,
-}
-
-// The place of a text's fault, or its first byte, in the file. The text begins at this place.
-fn told_at(place: usize, reading: &Reading) -> Option<usize>
-    ensures { IfSome result (λ at. at ≡ place + place_in reading.now) }
-{
-    match reading {
-        Reading::Defined {
-            definition: _,
-            key: _,
-        } => Some(place),
-        Reading::Unread(fault) => match fault.place() {
-            Some(inner) => place.checked_add(inner),
-            None => Some(place),
-        },
-    }
-}
-
-/// Reads a text that begins at this place of the file.
-pub fn read_at(
-    alloc: Global,
-    file: usize,
-    place: usize,
-    text: &[u8],
-) -> Result<FileText, AllocError>
-    ensures { IfOk result (IsFileText file place text.now) }
-{
-    let reading = read_text(alloc, text)?;
-    // Places are smaller, since files are in memory.
-    let Some(at) = told_at(place, &reading) else {
-        return Err(AllocError);
-    };
-    Ok(FileText {
-        file,
-        place,
-        at,
-        reading,
-    })
-}
-
-// Reads a text.
-fn read_text(alloc: Global, text: &[u8]) -> Result<Reading, AllocError>
+/// Reads a text.
+pub fn read_text(alloc: Global, text: &[u8]) -> Result<Reading, AllocError>
     ensures { IfOk result (IsReading text.now) }
 {
     match Definition::from_text(alloc, text) {

@@ -1,6 +1,6 @@
 mod Steps
 mod Firsts
-mod Nexts
+pub mod Nexts
 pub mod OneCut
 mod Skips
 pub mod Found

@@ -56,6 +56,15 @@ begin file = if starts_with nat_eq file order_mark then 3 else 0
 abbrev pub IsCutInto : List ℕ → List Piece → Type 0
 IsCutInto file cuts = AreTexts (begin file) (drop (begin file) file) cuts
 
+-- from place on, the bytes begin with these texts
+abbrev pub BeginWith : ℕ → List ℕ → List Piece → Type 0
+BeginWith place bytes [] = Unit {0}
+BeginWith place bytes (cut ∷ cuts) = (rest : List ℕ) × IsNext place bytes cut rest × BeginWith (cut.place + length cut.bytes) rest cuts
+
+-- these are the first texts of a file, perhaps not all
+abbrev pub AreFirst : List ℕ → List Piece → Type 0
+AreFirst file cuts = BeginWith (begin file) (drop (begin file) file) cuts
+
 -- the place and the bytes of a text
 abbrev pub piece_of : Cut → Piece
 piece_of c = record { place = c.place; bytes = c.bytes.now }

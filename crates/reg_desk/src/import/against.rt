@@ -1,26 +1,24 @@
 //! The faults of refused texts.
 
-ghost use Rattle.std.specs.Prelude.{◌≡◌, map, IfOk, IfSome};
-ghost use Rattle.reg_desk.specs.ImportFiles.{bytes_of};
-ghost use Rattle.reg_desk.specs.ImportTexts.{text_at};
+ghost use Rattle.std.specs.Prelude.{◌≡◌, IfOk, IfSome};
+ghost use Rattle.reg_import.specs.Texts.{bytes_of};
 ghost use Rattle.reg_desk.specs.Import.{IsAgainst, if_explained, note_at, all_notes, IsRefusedAt, IsPassed};
 
 use crate::import::fault::{ImportFault, Unimported};
 use crate::import::notes::{note_of, notes_of};
 use crate::import::order::Order;
-use crate::import::texts::FileCut;
-use reg_import::{FileText, Problem, Refused, Told, first_refused};
+use reg_import::{Line, Refused, Told, first_refused};
 use std::alloc::{AllocError, Global};
 
 // Why a text is rejected. The file with index 0 has this number among the files that are read.
-fn fault_of(first: usize, texts: &[FileText], refused: &Refused) -> Option<ImportFault>
-    ensures { IfSome result (IsAgainst first texts.now refused.now.at refused.now.problem) }
+fn fault_of(first: usize, lines: &[Line<'_>], refused: &Refused) -> Option<ImportFault>
+    ensures { IfSome result (IsAgainst first lines.now refused.now.at refused.now.problem) }
 {
-    let text = texts.get(refused.at)?;
-    let file = first.checked_add(text.file)?;
+    let line = lines.get(refused.at)?;
+    let file = first.checked_add(line.text.cut.file)?;
     Some(ImportFault::Refused {
         problem: refused.problem,
-        place: text.at,
+        place: line.text.at,
         file,
     })
 }
@@ -30,20 +28,20 @@ fn note_at(
     alloc: Global,
     order: &Order<'_>,
     files: &[Vec<u8>],
-    cuts: &[FileCut<'_>],
+    lines: &[Line<'_>],
     refused: &Refused,
 ) -> Result<Vec<u8>, AllocError>
-    ensures { IfOk result (λ note. note.items ≡ if_explained order.now (note_at order.now (bytes_of files.now) (map text_at cuts.now) refused.now.at refused.now.problem)) }
+    ensures { IfOk result (λ note. note.items ≡ if_explained order.now (note_at order.now (bytes_of files.now) lines.now refused.now.at refused.now.problem)) }
 {
     if !order.explain {
         return Ok(Vec::new(alloc));
     }
-    match cuts.get(refused.at) {
-        Some(cut) => note_of(
+    match lines.get(refused.at) {
+        Some(line) => note_of(
             alloc,
             order.names,
             files,
-            cut,
+            &line.text.cut,
             Told::Refused(refused.problem),
         ),
         None => Ok(Vec::new(alloc)),
@@ -56,16 +54,15 @@ pub fn refused_here(
     first: usize,
     order: &Order<'_>,
     files: &[Vec<u8>],
-    cuts: &[FileCut<'_>],
-    texts: &[FileText],
+    lines: &[Line<'_>],
     refused: &Refused,
 ) -> Result<Unimported, AllocError>
-    ensures { IfOk result (λ u. IsRefusedAt order.now first (bytes_of files.now) (map text_at cuts.now) texts.now refused.now.at refused.now.problem u) }
+    ensures { IfOk result (λ u. IsRefusedAt order.now first (bytes_of files.now) lines.now refused.now.at refused.now.problem u) }
 {
-    let Some(fault) = fault_of(first, texts, refused) else {
+    let Some(fault) = fault_of(first, lines, refused) else {
         return Err(AllocError);
     };
-    match note_at(alloc, order, files, cuts, refused) {
+    match note_at(alloc, order, files, lines, refused) {
         Ok(notes) => Ok(Unimported { fault, notes }),
         Err(_) => Err(AllocError),
     }
@@ -76,15 +73,14 @@ fn all_notes(
     alloc: Global,
     order: &Order<'_>,
     files: &[Vec<u8>],
-    cuts: &[FileCut<'_>],
-    told: &[Told],
+    lines: &[Line<'_>],
 ) -> Result<Vec<u8>, AllocError>
-    ensures { IfOk result (λ notes. notes.items ≡ if_explained order.now (all_notes order.now (bytes_of files.now) (map text_at cuts.now) told.now)) }
+    ensures { IfOk result (λ notes. notes.items ≡ if_explained order.now (all_notes order.now (bytes_of files.now) lines.now)) }
 {
     if !order.explain {
         return Ok(Vec::new(alloc));
     }
-    notes_of(alloc, order.names, files, cuts, told)
+    notes_of(alloc, order.names, files, lines)
 }
 
 /// The first text that was passed over, with the explanations of all.
@@ -93,19 +89,17 @@ pub fn passed_over(
     first: usize,
     order: &Order<'_>,
     files: &[Vec<u8>],
-    cuts: &[FileCut<'_>],
-    texts: &[FileText],
-    told: &[Told],
+    lines: &[Line<'_>],
 ) -> Result<Option<Unimported>, AllocError>
-    ensures { IfOk result (IsPassed order.now first (bytes_of files.now) (map text_at cuts.now) texts.now told.now) }
+    ensures { IfOk result (IsPassed order.now first (bytes_of files.now) lines.now) }
 {
-    let Some(refused) = first_refused(told) else {
+    let Some(refused) = first_refused(lines) else {
         return Ok(None);
     };
-    let Some(fault) = fault_of(first, texts, &refused) else {
+    let Some(fault) = fault_of(first, lines, &refused) else {
         return Err(AllocError);
     };
-    match all_notes(alloc, order, files, cuts, told) {
+    match all_notes(alloc, order, files, lines) {
         Ok(notes) => Ok(Some(Unimported { fault, notes })),
         Err(_) => Err(AllocError),
     }

@@ -1,7 +1,8 @@
 //! The bytes of files of texts.
 
 ghost use Rattle.std.specs.Prelude.{◌≡◌, ◌++◌, ◌∷◌, [], map, IfOk, OnOk, IfErr};
-ghost use Rattle.reg_desk.specs.ImportFiles.{Gives, IsUnread, bytes_of, GiveAll, AreUnread};
+ghost use Rattle.reg_import.specs.Texts.{bytes_of};
+ghost use Rattle.reg_desk.specs.ImportFiles.{Gives, IsUnread, GiveAll, AreUnread};
 
 use byte_io::{InFault, Source, read_up_to};
 use reg_engine::{CliFault, InputFault};

@@ -2,12 +2,10 @@
 
 ghost use Rattle.std.specs.Prelude.{◌≡◌, ◌++◌, [], map, IfOk, OnOk};
 ghost use Rattle.std.specs.String.{string_bytes};
-ghost use Rattle.reg_desk.specs.ImportFiles.{bytes_of};
-ghost use Rattle.reg_desk.specs.ImportTexts.{text_at};
+ghost use Rattle.reg_import.specs.Texts.{bytes_of, text_at};
 ghost use Rattle.reg_desk.specs.ImportNotes.{name_of, content_of, note_in, note_of, notes_of};
 
-use crate::import::texts::FileCut;
-use reg_import::{Problem, Told};
+use reg_import::{FileCut, Line, Problem, Told};
 use std::alloc::{AllocError, Global};
 use wkt_crs::DefinitionFault;
 use wkt_explain::Explainer;
@@ -84,21 +82,21 @@ pub fn notes_of(
     alloc: Global,
     names: &[String],
     files: &[Vec<u8>],
-    cuts: &[FileCut<'_>],
-    told: &[Told],
+    lines: &[Line<'_>],
 ) -> Result<Vec<u8>, AllocError>
-    ensures { IfOk result (λ notes. notes.items ≡ notes_of (map string_bytes names.now) (bytes_of files.now) (map text_at cuts.now) told.now) }
+    ensures { IfOk result (λ notes. notes.items ≡ notes_of (map string_bytes names.now) (bytes_of files.now) lines.now) }
 {
     let mut notes = Vec::new(alloc);
     let mut file = 0;
     let mut explainer = Explainer::new(content_of(files, 0));
-    for i in 0..cuts.len().min(told.len()) {
-        if cuts[i].file != file {
-            file = cuts[i].file;
+    for i in 0..lines.len() {
+        let cut = &lines[i].text.cut;
+        if cut.file != file {
+            file = cut.file;
             explainer = Explainer::new(content_of(files, file));
         }
         let name = name_of(names, file);
-        let note = note_by(alloc, name, &mut explainer, &cuts[i], told[i])?;
+        let note = note_by(alloc, name, &mut explainer, cut, lines[i].told)?;
         notes.extend_from_slice(&note)?;
     }
     Ok(notes)

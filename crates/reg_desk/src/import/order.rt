@@ -1,16 +1,13 @@
 //! Options of an import.
 
-use reg_import::Differs;
-use uuid::Uuid;
+use reg_import::Way;
 
-/// Options of an import: the replica, the conflict mode, whether refused texts are explained, the note, and the names of
-/// the files.
+/// Options of an import: how texts are imported; whether refused texts are explained; whether lines of texts that change nothing
+/// are left out; and the names of the files.
 #[derive(Clone, Copy)]
 pub struct Order<'a> {
-    pub replica: Uuid,
-    pub differs: Differs,
-    pub keep_going: bool,
+    pub way: Way<'a>,
     pub explain: bool,
-    pub note: &'a str,
+    pub changes: bool,
     pub names: &'a [String],
 }

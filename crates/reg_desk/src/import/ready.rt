@@ -1,18 +1,16 @@
 //! The result of an import, before anything is written.
 
 ghost use Rattle.std.specs.Prelude.{map, IfOk, IfErr};
-ghost use Rattle.reg_desk.specs.ImportFiles.{bytes_of};
-ghost use Rattle.reg_desk.specs.ImportTexts.{text_at};
-ghost use Rattle.reg_desk.specs.Import.{IsRefusedBy, MakesOf, IsUnmadeOf, Makes, IsUnmade, IsReady, IsUnready};
+ghost use Rattle.reg_import.specs.Texts.{bytes_of};
+ghost use Rattle.reg_desk.specs.Import.{IsRefusedBy, Makes, IsUnmade, IsReady, IsUnready};
 
 use crate::import::against::{passed_over, refused_here};
 use crate::import::fault::Unimported;
 use crate::import::files::read_files;
 use crate::import::order::Order;
-use crate::import::texts::{FileCut, cut_files, read_cuts};
 use byte_io::Source;
 use reg_engine::{CliFault, Refusal};
-use reg_import::{FileText, ImportRefusal, Refused, import_texts, lines_text};
+use reg_import::{ImportRefusal, Line, Refused, Unmade, import_files, lines_text};
 use reg_office::OfficeFault;
 use reg_state::Register;
 use std::alloc::Global;
@@ -31,11 +29,10 @@ fn refusal_of(
     first: usize,
     order: &Order<'_>,
     files: &[Vec<u8>],
-    cuts: &[FileCut<'_>],
-    texts: &[FileText],
+    lines: &[Line<'_>],
     refusal: ImportRefusal,
 ) -> Unimported
-    ensures { IsRefusedBy order.now first (bytes_of files.now) (map text_at cuts.now) texts.now refusal result }
+    ensures { IsRefusedBy order.now first (bytes_of files.now) lines.now refusal result }
 {
     match refusal {
         ImportRefusal::NoteTooLong => {
@@ -53,7 +50,7 @@ fn refusal_of(
         ImportRefusal::Memory => Unimported::plain(alloc, CliFault::Memory),
         ImportRefusal::Refused { at, problem } => {
             let refused = Refused { at, problem };
-            match refused_here(alloc, first, order, files, cuts, texts, &refused) {
+            match refused_here(alloc, first, order, files, lines, &refused) {
                 Ok(why) => why,
                 Err(_) => Unimported::plain(alloc, CliFault::Memory),
             }
@@ -61,47 +58,7 @@ fn refusal_of(
     }
 }
 
-// Imports texts, and makes the lines.
-fn made_of(
-    alloc: Global,
-    register: Register,
-    first: usize,
-    order: &Order<'_>,
-    files: &[Vec<u8>],
-    cuts: &[FileCut<'_>],
-    texts: &[FileText],
-) -> Result<Ready, Unimported>
-    ensures made { IfOk result (λ r. MakesOf order.now first register (bytes_of files.now) (map text_at cuts.now) texts.now r.register r.lines.items r.passed) }
-    ensures fault { IfErr result (IsUnmadeOf order.now first register (bytes_of files.now) (map text_at cuts.now) texts.now) }
-{
-    let imported = match import_texts(
-        alloc,
-        register,
-        order.replica,
-        order.note,
-        order.differs,
-        order.keep_going,
-        texts,
-    ) {
-        Ok(imported) => imported,
-        Err(refusal) => {
-            return Err(refusal_of(alloc, first, order, files, cuts, texts, refusal));
-        }
-    };
-    let Ok(passed) = passed_over(alloc, first, order, files, cuts, texts, &imported.told) else {
-        return Err(Unimported::plain(alloc, CliFault::Memory));
-    };
-    match lines_text(alloc, order.names, texts, &imported.told) {
-        Ok(lines) => Ok(Ready {
-            register: imported.register,
-            lines,
-            passed,
-        }),
-        Err(_) => Err(Unimported::plain(alloc, CliFault::Memory)),
-    }
-}
-
-// Imports the texts of files of these bytes.
+// Imports the texts of files of these bytes, and makes the lines.
 fn made(
     alloc: Global,
     register: Register,
@@ -112,15 +69,22 @@ fn made(
     ensures made { IfOk result (λ r. Makes order.now first register (bytes_of files.now) r.register r.lines.items r.passed) }
     ensures fault { IfErr result (IsUnmade order.now first register (bytes_of files.now)) }
 {
-    let Ok(cuts) = cut_files(alloc, files) else {
+    let imported = match import_files(alloc, register, &order.way, files) {
+        Ok(imported) => imported,
+        Err(Unmade { refusal, lines }) => {
+            return Err(refusal_of(alloc, first, order, files, &lines, refusal));
+        }
+    };
+    let Ok(passed) = passed_over(alloc, first, order, files, &imported.lines) else {
         return Err(Unimported::plain(alloc, CliFault::Memory));
     };
-    let Ok(texts) = read_cuts(alloc, &cuts) else {
-        return Err(Unimported::plain(alloc, CliFault::Memory));
-    };
-    match made_of(alloc, register, first, order, files, &cuts, &texts) {
-        Ok(ready) => Ok(ready),
-        Err(why) => Err(why),
+    match lines_text(alloc, order.names, order.changes, &imported.lines) {
+        Ok(lines) => Ok(Ready {
+            register: imported.register,
+            lines,
+            passed,
+        }),
+        Err(_) => Err(Unimported::plain(alloc, CliFault::Memory)),
     }
 }
 

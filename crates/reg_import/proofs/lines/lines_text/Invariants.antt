@@ -4,8 +4,8 @@ use Rattle.reg_office.specs.Lines.{sheet_text, IsReady}
 use Rattle.reg_import.proofs.LineLemmas.{Completes}
 use Rattle.reg_import.proofs.lines.lines_text.Given as goal
 
-abbrev pub invariant-loop-text : goal.invariant-loop-text
-invariant-loop-text l = record { ready : IsReady l.wtr; completes : Completes (map string_bytes l.names) l.initial.texts l.initial.told l.texts l.told (sheet_text l.wtr) }
+abbrev pub invariant-loop-line : goal.invariant-loop-line
+invariant-loop-line l = record { ready : IsReady l.wtr; completes : Completes (map string_bytes l.names) l.changes l.lines l.rest (sheet_text l.wtr) }
 
-abbrev pub decreases-loop-text : goal.decreases-loop-text
-decreases-loop-text l = length l.texts
+abbrev pub decreases-loop-line : goal.decreases-loop-line
+decreases-loop-line l = length l.rest

@@ -1,6 +1,6 @@
 use Rattle.std.proofs.Common.{◌≡◌, ◌+◌, rules, ap, ◌∙◌}
 use Rattle.std.proofs.lemmas.List.{map_push}
-use Rattle.reg_desk.specs.ImportFiles.{bytes_of}
+use Rattle.reg_import.specs.Texts.{bytes_of}
 use Rattle.reg_desk.proofs.ImportFileLemmas.{gave_some, gave_next, none_fails_next, none_fails_yet, unread_next, behind}
 use Rattle.reg_desk.proofs.import.files.read_files.Goals as goal
 

@@ -1,5 +1,6 @@
 use Rattle.std.proofs.Common.{◌≡◌, take, drop, map, length}
-use Rattle.reg_desk.specs.ImportFiles.{bytes_of, GiveAll}
+use Rattle.reg_import.specs.Texts.{bytes_of}
+use Rattle.reg_desk.specs.ImportFiles.{GiveAll}
 use Rattle.reg_desk.proofs.import.files.read_files.Given as goal
 
 abbrev pub invariant-loop-i : goal.invariant-loop-i

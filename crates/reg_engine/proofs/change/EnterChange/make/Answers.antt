@@ -4,7 +4,7 @@ use Rattle.reg_office.specs.Commands.{Does}
 use Rattle.reg_office.specs.Making.{made}
 use Rattle.reg_office.specs.declared.fault.OfficeFault.TheVariants as office
 use Rattle.reg_engine.specs.Change.{CannotEnter}
-use Rattle.reg_engine.proofs.ChangeLemmas.{does_of, made_of, makes_of, value_of, defined_is, reads_definition, cannot_define, cannot_enter, part_of_found}
+use Rattle.reg_engine.proofs.ChangeLemmas.{does_of, made_of, makes_of, value_of, defined_is, reads_definition, cannot_define, cannot_enter}
 use Rattle.reg_engine.proofs.change.EnterChange.make.Goals as goal
 
 pub returns-in-Err-clause-refuses : goal.returns-in-Err-clause-refuses
@@ -36,11 +36,3 @@ returns-in-Ok-made_by-clause-makes g c =
       reads_definition old new c.in-Ok.definition found,
       makes_of _ c.args.register _ _ c.args.self.now.replica c.args.self.now.note.now _ (c.in-Ok-enter.id ∷ []) (c.in-Ok-enter.id ∷ []) _ _ c.new-office.ensures.register c.new-office.ensures.replica does made.0 made.1 refl,
     )
-
-pub returns-in-Err-made_by-clause-refuses : goal.returns-in-Err-made_by-clause-refuses
-returns-in-Err-made_by-clause-refuses g c =
-    let old = g.X.Source.state c.args.self.now.text.now in
-    let new = g.X.Source.state c.define_from.new.source in
-    let found = c.in-Ok.ensures.found in
-    subst (CannotEnter c.args.self.now.replica c.args.self.now.note.now c.args.next old new c.args.register) (sym c.in-Err-made_by.ensures.fault)
-    (part_of_found old new (value_of found) (found.0.0, found.0.1, found.0.2.spells))

@@ -1,2 +1,0 @@
-pub mod PageLemmas
-pub mod WordLemmas

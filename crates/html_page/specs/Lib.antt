@@ -1,4 +1,0 @@
-pub mod Shown
-pub mod Shape
-pub mod Templates
-pub mod Words

@@ -1,4 +1,0 @@
-pub mod EscapedLemmas
-pub mod MarkLemmas
-pub mod PlaceLemmas
-pub mod JoinLemmas

@@ -1,4 +1,0 @@
-pub mod Escaped
-pub mod Marks
-pub mod Pieces
-pub mod Places

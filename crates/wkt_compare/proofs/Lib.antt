@@ -1,3 +1,0 @@
-pub mod LineLemmas
-mod StepLemmas
-mod HunkLemmas
