@@ -102,17 +102,15 @@ pub whole : (s was bytes new : List ℕ) (gate size : ℕ) → HasHead s gate si
 whole s was bytes new gate size head shelf fits (d, holds, turned) =
     let left = first_write s d was bytes gate size head (slot_of s was gate size head shelf) fits holds.torn in
     let torn = turned.torn in
-    let low : (1 - gate % 2) % 2 ≡ 1 - gate % 2 = omega arith in (
-      record {
-        gate = 1 - gate % 2;
-        size = size;
-        in_range = range_of s was gate size head shelf;
-        head = record { gate_stands = turned.here; size_stands = stays_after d new (to_be_bytes w32 size) 1 0 1 torn left.0.size_stands (omega arith); size_fits = left.0.size_fits };
-        within = fits;
-        slot = subst (λ (k : ℕ). StandAt new (place size k) (framed bytes)) (sym low) (stays_after d new (framed bytes) (place size (1 - gate % 2)) 0 1 torn holds.here (omega (arith, behind size (1 - gate % 2))));
-      },
-      refl,
-    )
+    let low : (1 - gate % 2) % 2 ≡ 1 - gate % 2 = omega arith in
+    (record {
+      gate = 1 - gate % 2;
+      size = size;
+      in_range = range_of s was gate size head shelf;
+      head = record { gate_stands = turned.here; size_stands = stays_after d new (to_be_bytes w32 size) 1 0 1 torn left.0.size_stands (omega arith); size_fits = left.0.size_fits };
+      within = fits;
+      slot = subst (λ (k : ℕ). StandAt new (place size k) (framed bytes)) (sym low) (stays_after d new (framed bytes) (place size (1 - gate % 2)) 0 1 torn holds.here (omega (arith, behind size (1 - gate % 2))));
+    }, refl)
 
 -- the second slot ends at 13 and twice the size
 within_slots : (s d new at n size : ℕ) → at ≤ 9 + size → n ≤ 4 + size → d ≤ max s (at + n) → new ≤ max d 1 → (new ≤ s) ⊎ (new ≤ 13 + (size + size))

@@ -1,4 +1,5 @@
 //! The arguments that several commands take.
+use crate::defaults::Defaults;
 use clap::{Arg, ArgAction};
 use std::alloc::{AllocError, Global};
 
@@ -18,8 +19,23 @@ pub fn register<'a>(alloc: Global) -> Arg<'a> {
 /// An id of an entry.
 pub fn entry<'a>(alloc: Global) -> Arg<'a> {
     Arg::new(alloc, "ENTRY")
-        .help("The id of the entry, as UUID:NUMBER")
+        .help("The id of the entry, as UUID:NUMBER, or with -k its key")
         .required(true)
+}
+
+/// Whether keys are taken in the place of ids.
+pub fn keys<'a>(alloc: Global, defaults: &Defaults<'a>) -> Arg<'a> {
+    let flag = flag(
+        alloc,
+        "keys",
+        "Takes keys, as AUTHORITY:CODE, in the place of ids (default: $CRSREG_KEYS)",
+    )
+    .short('k');
+    if defaults.keys {
+        flag.default_value("true").hide_default_value(true)
+    } else {
+        flag
+    }
 }
 
 /// The output file.
@@ -27,12 +43,15 @@ pub fn out<'a>(alloc: Global, help: &'a str) -> Arg<'a> {
     Arg::new(alloc, "OUT").help(help).required(true)
 }
 
-/// The note of a command.
-pub fn note<'a>(alloc: Global) -> Arg<'a> {
-    Arg::new(alloc, "note")
-        .long("note")
-        .value_name("TEXT")
-        .help("Who, when and why, in at most 200 bytes")
+/// The note of a command: the argument, or that of the environment.
+pub fn note<'a>(alloc: Global, defaults: &Defaults<'a>) -> Arg<'a> {
+    let word = Arg::new(alloc, "note").long("note").value_name("TEXT").help(
+        "Who, when and why, in at most 200 bytes (default: $CRSREG_NOTE)",
+    );
+    match defaults.note {
+        Some(note) => word.default_value(note).hide_default_value(true),
+        None => word,
+    }
 }
 
 /// Whether the register is on a shelf.
@@ -54,12 +73,12 @@ pub fn changed<'a>(alloc: Global) -> Result<Arg<'a>, AllocError> {
 }
 
 /// The office of a command: the argument, or that of the environment.
-pub fn replica<'a>(alloc: Global, office: Option<&'a str>) -> Arg<'a> {
+pub fn replica<'a>(alloc: Global, defaults: &Defaults<'a>) -> Arg<'a> {
     let word = Arg::new(alloc, "as")
         .long("as")
         .value_name("UUID")
         .help("UUID of the office, unique to it (default: $CRSREG_AS)");
-    match office {
+    match defaults.office {
         Some(office) => word.default_value(office).hide_default_value(true),
         None => word.required(true),
     }

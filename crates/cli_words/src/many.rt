@@ -1,5 +1,6 @@
 //! The commands `import` and `settle`.
 use crate::arguments::{ON_SHELF, changed, flag, note, on_shelf, register, replica, several};
+use crate::defaults::Defaults;
 use crate::many_help::{IMPORT_HELP, SETTLE_HELP};
 use clap::{Arg, ArgAction, Command};
 use std::alloc::{AllocError, Global};
@@ -7,14 +8,14 @@ use std::alloc::{AllocError, Global};
 const MODES: [&str; 3] = ["refuse", "beside", "revise"];
 
 /// `import`.
-pub fn import<'a>(alloc: Global, office: Option<&'a str>) -> Result<Command<'a>, AllocError> {
+pub fn import<'a>(alloc: Global, defaults: &Defaults<'a>) -> Result<Command<'a>, AllocError> {
     let whole = Command::new(alloc, "import")
         .about("Enters all texts of files into a register")
         .after_help(IMPORT_HELP)
         .arg(register(alloc))?
         .arg(several(alloc, "FILE", "The files with texts; - is standard input"))?
-        .arg(replica(alloc, office))?
-        .arg(note(alloc))?;
+        .arg(replica(alloc, defaults))?
+        .arg(note(alloc, defaults))?;
     let whole = whole
         .arg(differs(alloc))?
         .arg(flag(alloc, "keep-going", "Lists refused texts, and goes on"))?
@@ -30,7 +31,7 @@ pub fn import<'a>(alloc: Global, office: Option<&'a str>) -> Result<Command<'a>,
 }
 
 /// `settle`.
-pub fn settle<'a>(alloc: Global, office: Option<&'a str>) -> Result<Command<'a>, AllocError> {
+pub fn settle<'a>(alloc: Global, defaults: &Defaults<'a>) -> Result<Command<'a>, AllocError> {
     Command::new(alloc, "settle")
         .about("Keeps entries, and retires all others with their authority and code")
         .after_help(SETTLE_HELP)
@@ -41,8 +42,8 @@ pub fn settle<'a>(alloc: Global, office: Option<&'a str>) -> Result<Command<'a>,
             "equal",
             "Of entries with one key and text, keeps the least",
         ))?
-        .arg(replica(alloc, office))?
-        .arg(note(alloc))?
+        .arg(replica(alloc, defaults))?
+        .arg(note(alloc, defaults))?
         .arg(on_shelf(alloc, ON_SHELF))?
         .arg(changed(alloc)?)
 }
@@ -70,7 +71,7 @@ fn unless_dry<'a>(alloc: Global) -> Result<Arg<'a>, AllocError> {
 
 fn kept<'a>(alloc: Global) -> Result<Arg<'a>, AllocError> {
     Arg::new(alloc, "KEEP")
-        .help("The ids of the entries to keep, as UUID:NUMBER")
+        .help("The ids of the entries to keep, as UUID:NUMBER; - reads ids")
         .action(ArgAction::Append)
         .num_args(1..)
         .required_unless_present("equal")?

@@ -27,6 +27,7 @@ pub const SETTLE_HELP: &str = "\
 For each KEEP, retires all other entries with its authority and code that are
 neither retired nor a KEEP. So its key is no longer in conflict. The new ids
 are printed after OUT is written; there are none if nothing is to be retired.
+With - for KEEP, the ids to keep are read from standard input, one a line.
 
 With --equal: of the entries with one key and one text that are not retired,
 keeps the one with the least id and retires the others. Several offices can do

@@ -3,7 +3,12 @@
 pub const SHOW_HELP: &str = "\
 Prints the header of the report of entries, and the line of this entry.
 
+With -k, or if CRSREG_KEYS is 1, a word that is not an id is a key, such as
+EPSG:7837, and stands for the one entry of that key that is not retired.
+Refused as NoEntry if there is none, and as Several ID if there are more.
+
 Example:
+  crsreg show -k office.crs EPSG:7837
   crsreg show office.crs 00000000-0000-4000-8000-00000000000a:1";
 
 pub const WKT_HELP: &str = "\
@@ -11,7 +16,12 @@ An entry is named by the id of the operation that entered it: a replica's UUID,
 a colon and a number. Its text is printed whatever its status, on one line, or
 indented with --pretty.
 
+With -k, or if CRSREG_KEYS is 1, a word that is not an id is a key, such as
+EPSG:7837, and stands for the one entry of that key that is not retired.
+Refused as NoEntry if there is none, and as Several ID if there are more.
+
 Example:
+  crsreg wkt -k office.crs EPSG:7837
   crsreg wkt office.crs 00000000-0000-4000-8000-00000000000a:1";
 
 pub const EXPORT_HELP: &str = "\
@@ -29,6 +39,19 @@ remembers that it has seen them.
 
 Example:
   crsreg ops office.crs";
+
+pub const LOG_HELP: &str = "\
+Prints, as comma-separated values, the operations that the register keeps on
+these entries, or on all: for each entry, by id, its enter, its supersessions
+and its retirement, with the notes. Operations that others made redundant are
+not kept.
+
+With -k, or if CRSREG_KEYS is 1, a word that is not an id is a key, such as
+EPSG:7837, and stands for all entries of that key, retired ones too. Refused as
+NoEntry if there is none; as UnknownEntry ID if no operation is about an id.
+
+Example:
+  crsreg log -k office.crs EPSG:7837";
 
 pub const REPORT_HELP: &str = "\
 Prints comma-separated values with a header:

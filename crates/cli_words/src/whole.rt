@@ -2,10 +2,11 @@
 use crate::arguments::flag;
 use crate::change::{enter, retire, supersede};
 use crate::completions::SHELLS;
+use crate::defaults::Defaults;
 use crate::exchange::{downgrade, merge, new, piece, seen, shelf, unshelf};
 use crate::look::{diff, find, offices, status};
 use crate::many::{import, settle};
-use crate::read::{export, ops, report, show, wkt};
+use crate::read::{export, log, ops, report, show, wkt};
 use crate::whole_help::{CHECK_HELP, COMPLETIONS_HELP, STATUS_HELP};
 use clap::{Arg, Command};
 use std::alloc::{AllocError, Global};
@@ -13,16 +14,16 @@ use std::alloc::{AllocError, Global};
 /// The newest heading of CHANGES.md.
 const VERSION: &str = "0.6";
 
-/// All commands. The office is that of the environment, if it names one: the default of `--as`.
-pub fn command_line<'a>(alloc: Global, office: Option<&'a str>) -> Result<Command<'a>, AllocError> {
+/// All commands, with the defaults of their options.
+pub fn command_line<'a>(alloc: Global, defaults: &Defaults<'a>) -> Result<Command<'a>, AllocError> {
     let whole = Command::new(alloc, "crsreg")
         .version(VERSION)
         .about("A replicated register of coordinate reference systems in WKT 2")
         .after_help(STATUS_HELP)
         .subcommand_required(true);
     let whole = and(whole, check(alloc))?;
-    let whole = with_changes(alloc, whole, office)?;
-    let whole = with_readers(alloc, whole)?;
+    let whole = with_changes(alloc, whole, defaults)?;
+    let whole = with_readers(alloc, whole, defaults)?;
     let whole = with_exchange(alloc, whole)?;
     let whole = with_shelves(alloc, whole)?;
     and(whole, shells(alloc))
@@ -32,23 +33,28 @@ pub fn command_line<'a>(alloc: Global, office: Option<&'a str>) -> Result<Comman
 fn with_changes<'a>(
     alloc: Global,
     whole: Command<'a>,
-    office: Option<&'a str>,
+    defaults: &Defaults<'a>,
 ) -> Result<Command<'a>, AllocError> {
     let whole = and(whole, new(alloc))?;
-    let whole = and(whole, enter(alloc, office))?;
-    let whole = and(whole, import(alloc, office))?;
-    let whole = and(whole, supersede(alloc, office))?;
-    let whole = and(whole, retire(alloc, office))?;
-    and(whole, settle(alloc, office))
+    let whole = and(whole, enter(alloc, defaults))?;
+    let whole = and(whole, import(alloc, defaults))?;
+    let whole = and(whole, supersede(alloc, defaults))?;
+    let whole = and(whole, retire(alloc, defaults))?;
+    and(whole, settle(alloc, defaults))
 }
 
 // Those that show registers.
-fn with_readers<'a>(alloc: Global, whole: Command<'a>) -> Result<Command<'a>, AllocError> {
+fn with_readers<'a>(
+    alloc: Global,
+    whole: Command<'a>,
+    defaults: &Defaults<'a>,
+) -> Result<Command<'a>, AllocError> {
     let whole = and(whole, find(alloc))?;
-    let whole = and(whole, show(alloc))?;
-    let whole = and(whole, wkt(alloc))?;
+    let whole = and(whole, show(alloc, defaults))?;
+    let whole = and(whole, wkt(alloc, defaults))?;
     let whole = and(whole, export(alloc))?;
     let whole = and(whole, ops(alloc))?;
+    let whole = and(whole, log(alloc, defaults))?;
     let whole = and(whole, report(alloc))?;
     let whole = and(whole, status(alloc))?;
     and(whole, offices(alloc))

@@ -1,18 +1,22 @@
 //! Commands that change a register.
 use crate::outcome::Outcome;
 use crate::stores::{Opened, change_of, next_file, open_to_change};
-use crate::words::{differs, entries, entry, is_twice, open, open_texts, place, replica, word};
+use crate::words::{
+    differs, entries, entry, is_twice, listed, open, open_texts, place, replica, word, words_of,
+};
 use byte_out::Place;
 use clap::ArgMatches;
 use reg_desk::{
-    CliFault, Enter, InFile, Kept, OfFile, OnShelf, Order, Reading, Retire, Settle, SettleEqual,
-    Source, Supersede, Unimported, Writing, explained_fault, run_import, try_import,
+    ByWords, ChangeOf, CliFault, Enter, InFile, Kept, OfFile, OnShelf, Order, Reading, Retire,
+    RetireOf, Settle, SettleEqual, Source, Supersede, SupersedeOf, Unimported, Writing,
+    explained_fault, run_import, try_import,
 };
 use std::alloc::{AllocError, Global};
 use std::fs::OpenFile;
 use std::io::{self, Read, Seek, Write};
 
-const TWICE: &str = "error: standard input, -, is named twice";
+/// The complaint where standard input is named twice.
+pub const TWICE: &str = "error: standard input, -, is named twice";
 
 /// `enter`. The replica is read from the words, and then the files are opened.
 pub fn enter(rt: &HostRuntime, matches: &ArgMatches<'_>) -> Outcome {
@@ -43,11 +47,22 @@ pub fn enter(rt: &HostRuntime, matches: &ArgMatches<'_>) -> Outcome {
     }
 }
 
-/// `supersede`.
+/// `supersede`. Ids that standard input lists are read before anything else.
 pub fn supersede(rt: &HostRuntime, matches: &ArgMatches<'_>) -> Result<(), CliFault> {
+    let listed = listed(rt, matches, "BY")?;
     let replica = replica(word(matches, "as"))?;
+    if matches.get_flag("keys") {
+        let note = word(matches, "note");
+        return change_by_words(
+            rt,
+            matches,
+            &["OLD", "BY"],
+            &listed,
+            &SupersedeOf { replica, note },
+        );
+    }
     let old = entry(word(matches, "OLD"))?;
-    let newer = entries(rt.alloc(), matches, "BY")?;
+    let newer = entries(rt.alloc(), matches, "BY", &listed)?;
     let mut register = open_to_change(rt, matches)?;
     let mut command = Supersede {
         replica,
@@ -60,8 +75,19 @@ pub fn supersede(rt: &HostRuntime, matches: &ArgMatches<'_>) -> Result<(), CliFa
 
 /// `retire`.
 pub fn retire(rt: &HostRuntime, matches: &ArgMatches<'_>) -> Result<(), CliFault> {
+    let listed = listed(rt, matches, "ENTRY")?;
     let replica = replica(word(matches, "as"))?;
-    let entries = entries(rt.alloc(), matches, "ENTRY")?;
+    if matches.get_flag("keys") {
+        let note = word(matches, "note");
+        return change_by_words(
+            rt,
+            matches,
+            &["ENTRY"],
+            &listed,
+            &RetireOf { replica, note },
+        );
+    }
+    let entries = entries(rt.alloc(), matches, "ENTRY", &listed)?;
     let mut register = open_to_change(rt, matches)?;
     let mut command = Retire {
         replica,
@@ -71,10 +97,30 @@ pub fn retire(rt: &HostRuntime, matches: &ArgMatches<'_>) -> Result<(), CliFault
     change_of(rt, matches, &mut register, &mut command)
 }
 
+// Changes the register by a command on the entries that the words of these arguments stand for.
+fn change_by_words<C: ChangeOf>(
+    rt: &HostRuntime,
+    matches: &ArgMatches<'_>,
+    names: &[&str],
+    listed: &[u8],
+    command: &C,
+) -> Result<(), CliFault> {
+    let Ok(words) = words_of(rt.alloc(), matches, names, listed) else {
+        return Err(CliFault::Memory);
+    };
+    let mut register = open_to_change(rt, matches)?;
+    let mut command = ByWords {
+        words: &words,
+        command,
+    };
+    change_of(rt, matches, &mut register, &mut command)
+}
+
 /// `settle`.
 pub fn settle(rt: &HostRuntime, matches: &ArgMatches<'_>) -> Result<(), CliFault> {
+    let listed = listed(rt, matches, "KEEP")?;
     let replica = replica(word(matches, "as"))?;
-    let keeps = entries(rt.alloc(), matches, "KEEP")?;
+    let keeps = entries(rt.alloc(), matches, "KEEP", &listed)?;
     let note = word(matches, "note");
     let mut register = open_to_change(rt, matches)?;
     if matches.get_flag("equal") {

@@ -1,25 +1,22 @@
 //! From the command line to an engine, and from its result to the exit status.
-use crate::change::{enter, import, retire, settle, supersede};
+use crate::change::{TWICE, enter, import, retire, settle, supersede};
+use crate::environment::Environment;
 use crate::exchange::{downgrade, merge, new, piece, seen, shelf, unshelf};
-use crate::look::{check, diff, export, find, offices, ops, report, show, status as figures, wkt};
+use crate::look::{
+    check, diff, export, find, log, offices, ops, report, show, status as figures, wkt,
+};
 use crate::outcome::{MISUSE, Outcome, complain, failed, print, status};
 use crate::shells::completions;
+use crate::words::{is_twice, words};
 use clap::ArgMatches;
 use clap::error::ErrorKind;
 use cli_words::command_line;
 use reg_desk::CliFault;
-use std::env::{self, VarError};
-use std::io;
+use std::{env, io};
 
 const NO_TEXT: &str = "error: a word of the command line is not UTF-8";
 
 const NO_COMMAND: &str = "error: there is no such command";
-
-/// The environment variable with the UUID of the office.
-const OFFICE: &str = "CRSREG_AS";
-
-/// Not a UUID: the office of an environment variable that is not text.
-const NO_UUID: &str = "?";
 
 /// Runs the command of the process, and returns the exit status.
 pub fn run(rt: &HostRuntime) -> u8 {
@@ -38,26 +35,11 @@ pub fn run(rt: &HostRuntime) -> u8 {
 
 /// Runs the command of these arguments, the first of which is the program's name, and returns the exit status.
 pub fn answer(rt: &HostRuntime, words: &[String]) -> u8 {
-    match env::var(rt, OFFICE) {
-        Ok(office) => answer_as(rt, words, named(office.as_str())),
-        Err(VarError::NotPresent) => answer_as(rt, words, None),
-        Err(VarError::NotUnicode) => answer_as(rt, words, Some(NO_UUID)),
-        Err(VarError::OutOfMemory) => failed(rt, &CliFault::Memory),
-    }
-}
-
-// An empty variable counts as unset.
-fn named(office: &str) -> Option<&str> {
-    if office.is_empty() {
-        None
-    } else {
-        Some(office)
-    }
-}
-
-// The office is that of the environment, if it names one.
-fn answer_as(rt: &HostRuntime, words: &[String], office: Option<&str>) -> u8 {
-    let Ok(command) = command_line(rt.alloc(), office) else {
+    let environment = match Environment::read(rt) {
+        Ok(environment) => environment,
+        Err(status) => return status,
+    };
+    let Ok(command) = command_line(rt.alloc(), &environment.defaults()) else {
         return failed(rt, &CliFault::Memory);
     };
     match command.try_get_matches_from(words) {
@@ -74,6 +56,18 @@ fn answer_as(rt: &HostRuntime, words: &[String], office: Option<&str>) -> u8 {
     }
 }
 
+// The outcome of a command that takes ids, unless standard input is to list them twice.
+fn unless_twice<F: FnOnce() -> Result<(), CliFault>>(
+    matches: &ArgMatches<'_>,
+    name: &str,
+    command: F,
+) -> Outcome {
+    if is_twice(words(matches, name)) {
+        return Outcome::Misuse(TWICE);
+    }
+    Outcome::of(command())
+}
+
 // Runs the command. clap rejects unknown commands.
 fn perform(rt: &HostRuntime, matches: &ArgMatches<'_>) -> Option<Outcome> {
     let (name, inner) = matches.subcommand()?;
@@ -82,14 +76,15 @@ fn perform(rt: &HostRuntime, matches: &ArgMatches<'_>) -> Option<Outcome> {
         "new" => Outcome::of(new(rt, inner)),
         "enter" => enter(rt, inner),
         "import" => import(rt, inner),
-        "supersede" => Outcome::of(supersede(rt, inner)),
-        "retire" => Outcome::of(retire(rt, inner)),
-        "settle" => Outcome::of(settle(rt, inner)),
-        "find" => Outcome::of(find(rt, inner)),
+        "supersede" => unless_twice(inner, "BY", || supersede(rt, inner)),
+        "retire" => unless_twice(inner, "ENTRY", || retire(rt, inner)),
+        "settle" => unless_twice(inner, "KEEP", || settle(rt, inner)),
+        "find" => find(rt, inner),
         "show" => Outcome::of(show(rt, inner)),
         "wkt" => Outcome::of(wkt(rt, inner)),
         "export" => Outcome::of(export(rt, inner)),
         "ops" => Outcome::of(ops(rt, inner)),
+        "log" => Outcome::of(log(rt, inner)),
         "report" => Outcome::of(report(rt, inner)?),
         "status" => Outcome::of(figures(rt, inner)),
         "offices" => Outcome::of(offices(rt, inner)),

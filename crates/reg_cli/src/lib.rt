@@ -3,6 +3,7 @@
 
 mod change;
 mod command;
+mod environment;
 mod exchange;
 mod look;
 mod outcome;

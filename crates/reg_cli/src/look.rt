@@ -1,16 +1,21 @@
 //! Commands that print something of a text, of a register, or of several.
 use crate::outcome::Outcome;
 use crate::stores::{Opened as Register, next_file, open_register, print_of};
-use crate::words::{STANDARD_INPUT, entry, form, kind, open, open_all, open_to_read, word};
+use crate::words::{
+    STANDARD_INPUT, entries, entry, form, kind, open, open_all, open_to_read, point, word, words_of,
+};
 use clap::ArgMatches;
 use reg_desk::{
-    CliFault, Export, FileAt, FileDisk, Find, FindIds, Kept, OfFile, Offices, OnShelf, Opened, Ops,
-    Query, Reading, Report, ShelfAt, Show, Source, Wanted, Wkt, Writing, run_check,
-    run_check_explained, run_diff, run_status,
+    ByWord, CliFault, Export, FileAt, FileDisk, Find, FindIds, Kept, Kind, LogAll, LogByWords,
+    LogOf, OfFile, Offices, OnShelf, Opened, Ops, PrintOf, Query, Reading, Report, ShelfAt, Show,
+    ShowOf, Source, Wanted, Wkt, WktOf, Writing, run_check, run_check_explained, run_diff,
+    run_status,
 };
 use std::alloc::{AllocError, Global};
 use std::rt::Files;
 use std::{fs, io};
+
+const NO_POINT: &str = "error: --at takes a latitude and a longitude, as 52.5,13.4";
 
 /// `check`.
 pub fn check(rt: &HostRuntime, matches: &ArgMatches<'_>) -> Outcome {
@@ -41,19 +46,34 @@ fn check_from<S: Source + Drop>(
 
 /// `show`.
 pub fn show(rt: &HostRuntime, matches: &ArgMatches<'_>) -> Result<(), CliFault> {
-    match entry(word(matches, "ENTRY")) {
-        Ok(entry) => print_of(rt, matches, &Show { entry }),
-        Err(fault) => Err(fault),
+    let word = word(matches, "ENTRY");
+    if matches.get_flag("keys") {
+        return print_by_word(rt, matches, word, &ShowOf);
     }
+    let entry = entry(word)?;
+    print_of(rt, matches, &Show { entry })
 }
 
 /// `wkt`.
 pub fn wkt(rt: &HostRuntime, matches: &ArgMatches<'_>) -> Result<(), CliFault> {
     let form = form(matches);
-    match entry(word(matches, "ENTRY")) {
-        Ok(entry) => print_of(rt, matches, &Wkt { entry, form }),
-        Err(fault) => Err(fault),
+    let word = word(matches, "ENTRY");
+    if matches.get_flag("keys") {
+        return print_by_word(rt, matches, word, &WktOf { form });
     }
+    let entry = entry(word)?;
+    print_of(rt, matches, &Wkt { entry, form })
+}
+
+// Prints something of the entry that a word stands for.
+fn print_by_word<C: PrintOf>(
+    rt: &HostRuntime,
+    matches: &ArgMatches<'_>,
+    word: &str,
+    command: &C,
+) -> Result<(), CliFault> {
+    let word = word.as_bytes();
+    print_of(rt, matches, &ByWord { word, command })
 }
 
 /// `export`.
@@ -66,20 +86,55 @@ pub fn ops(rt: &HostRuntime, matches: &ArgMatches<'_>) -> Result<(), CliFault> {
     print_of(rt, matches, &Ops)
 }
 
+/// `log`.
+pub fn log(rt: &HostRuntime, matches: &ArgMatches<'_>) -> Result<(), CliFault> {
+    if !matches.contains_id("ENTRY") {
+        return print_of(rt, matches, &LogAll);
+    }
+    if matches.get_flag("keys") {
+        let Ok(words) = words_of(rt.alloc(), matches, &["ENTRY"], &[]) else {
+            return Err(CliFault::Memory);
+        };
+        return print_of(rt, matches, &LogByWords { words: &words });
+    }
+    let entries = entries(rt.alloc(), matches, "ENTRY")?;
+    print_of(rt, matches, &LogOf { entries: &entries })
+}
+
 /// `report`, if there is one of the kind.
 pub fn report(rt: &HostRuntime, matches: &ArgMatches<'_>) -> Option<Result<(), CliFault>> {
     let kind = kind(word(matches, "KIND"))?;
     Some(print_of(rt, matches, &Report { kind }))
 }
 
-// What is asked of an entry.
-fn query<'a>(matches: &ArgMatches<'a>) -> Query<'a> {
-    Query {
+// What is asked of an entry, if the point is one.
+fn query<'a>(matches: &ArgMatches<'a>) -> Option<Query<'a>> {
+    let at = match matches.get_str("at") {
+        Some(word) => Some(point(word)?),
+        None => None,
+    };
+    Some(Query {
+        word: matches.get_str("WORD"),
         key: matches.get_str("key"),
         authority: matches.get_str("authority"),
         code: matches.get_str("code"),
         name: matches.get_str("name"),
+        area: matches.get_str("area"),
+        at,
+        kind: kind_of(word(matches, "kind")),
         status: wanted(word(matches, "status")),
+    })
+}
+
+// The kind of the argument. clap rejects other words.
+fn kind_of(word: &str) -> Option<Kind> {
+    match word {
+        "geographic" => Some(Kind::Geographic),
+        "geodetic" => Some(Kind::Geodetic),
+        "projected" => Some(Kind::Projected),
+        "vertical" => Some(Kind::Vertical),
+        "compound" => Some(Kind::Compound),
+        _ => None,
     }
 }
 
@@ -95,12 +150,14 @@ fn wanted(word: &str) -> Option<Wanted> {
 }
 
 /// `find`.
-pub fn find(rt: &HostRuntime, matches: &ArgMatches<'_>) -> Result<(), CliFault> {
-    let query = query(matches);
+pub fn find(rt: &HostRuntime, matches: &ArgMatches<'_>) -> Outcome {
+    let Some(query) = query(matches) else {
+        return Outcome::Misuse(NO_POINT);
+    };
     if matches.get_flag("ids") {
-        return print_of(rt, matches, &FindIds { query: &query });
+        return Outcome::of(print_of(rt, matches, &FindIds { query: &query }));
     }
-    print_of(rt, matches, &Find { query: &query })
+    Outcome::of(print_of(rt, matches, &Find { query: &query }))
 }
 
 /// `offices`.

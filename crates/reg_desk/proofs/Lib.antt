@@ -7,3 +7,5 @@ mod SettleLemmas
 pub mod ImportFileLemmas
 pub mod ImportTextLemmas
 pub mod ImportEngineLemmas
+pub mod AfterRetiring
+pub mod AfterSettling

@@ -5,7 +5,7 @@ use Rattle.byte_io.specs.Whole.{IsCutAt}
 use Rattle.reg_op.specs.Contents.{Content}
 use Rattle.reg_file.specs.declared.parts.Part.{Part}
 use Rattle.reg_file.specs.declared.parts.Part.TheVariants as part
-use Rattle.reg_office.specs.Reports.{Reports}
+use Rattle.reg_report.specs.Reports.{Reports}
 use Rattle.reg_query.specs.DiffLines.{IsDiff, Differ}
 use Rattle.reg_engine.specs.declared.fault.OutFault.{OutFault}
 use Rattle.reg_engine.specs.declared.fault.OutFault.TheVariants as out

@@ -5,7 +5,7 @@ use Rattle.std.specs.String.{string_bytes}
 use Rattle.byte_io.specs.Device.{SourceState}
 use Rattle.reg_op.specs.Contents.{Content}
 use Rattle.reg_office.specs.declared.fault.OfficeFault.TheVariants as office
-use Rattle.reg_office.specs.Lines.{IsSheet}
+use Rattle.reg_report.specs.Lines.{IsSheet}
 use Rattle.reg_import.specs.declared.reading.FileText.{FileText}
 use Rattle.reg_import.specs.declared.told.Problem.{Problem}
 use Rattle.reg_import.specs.declared.told.Told.{Told}

@@ -2,12 +2,10 @@
 use Rattle.std.specs.Prelude.{◌≡◌, ℕ, ◌+◌, nat_lt, Bool, true, false, ◌||◌, List, [], ◌∷◌, ◌++◌, All, length, codes, decimal, Option, Some, None}
 use Rattle.std.specs.List.{list_any}
 use Rattle.csv.specs.Writing.{row_text, default_writer}
-use Rattle.csv.specs.Records.{fields_of, partial_of}
-use Rattle.csv.specs.declared.record.ByteRecord.{ByteRecord}
 use Rattle.byte_io.specs.Device.{SinkState}
 use Rattle.byte_io.specs.Whole.{WritesAll, IsCutAt}
 use Rattle.reg_op.specs.Contents.{Content}
-use Rattle.reg_office.specs.Lines.{sheet_of}
+use Rattle.reg_report.specs.Lines.{sheet_of}
 use Rattle.reg_engine.specs.declared.fault.Refusal.TheVariants as refusal
 use Rattle.reg_engine.specs.declared.fault.OutFault.TheVariants as out
 use Rattle.reg_engine.specs.declared.fault.CliFault.{CliFault}
@@ -35,11 +33,6 @@ figure_fields f = decimal f.operations ∷ decimal f.entries ∷ decimal f.valid
 
 abbrev pub no_figures : List (List ℕ)
 no_figures = [] ∷ [] ∷ [] ∷ [] ∷ [] ∷ [] ∷ [] ∷ [] ∷ []
-
--- fields were appended to those of a record
-pub record Adds (old new : ByteRecord) (fields : List (List ℕ)) : Type 0 where
-  pub fields_are : fields_of new ≡ fields_of old ++ fields
-  pub whole : partial_of new ≡ []
 
 -- the name, the size if it was read completely, the words of its fault if it has one, and otherwise the figures
 abbrev pub IsStatusLine : List ℕ → Look → List (List ℕ) → Type 0

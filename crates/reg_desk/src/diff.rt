@@ -3,7 +3,7 @@
 ghost use Rattle.std.specs.Prelude.{◌≡◌, ◌↔◌, ◌∷◌, [], map, IsTrue, Ok, IfOk, IfErr};
 ghost use Rattle.reg_join.specs.Joining.{all_joined};
 ghost use Rattle.reg_op.specs.Contents.{nothing, joined};
-ghost use Rattle.reg_office.specs.Reports.{Reports};
+ghost use Rattle.reg_report.specs.Reports.{Reports};
 ghost use Rattle.reg_query.specs.DiffLines.{IsDiff, Differ};
 ghost use Rattle.reg_engine.specs.Inputs.{AreUnread, GivePartsAfter};
 ghost use Rattle.reg_engine.specs.Merge.{begun, with_pieces, IsUnjoined};

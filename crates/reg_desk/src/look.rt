@@ -9,13 +9,10 @@ use byte_disk::Disk;
 use byte_io::{InFault, Source, read_up_to};
 use byte_shelf::{ShelfFault, restore};
 use reg_engine::{InputFault, ShelfProblem};
-use reg_file::{ReadFileFault, read_bytes};
+use reg_file::{MAX_FILE, ReadFileFault, read_bytes};
 use reg_query::{Figures, figures_of};
 use reg_state::Register;
 use std::alloc::{AllocError, Global};
-
-/// The most bytes of a file.
-const MOST: usize = 67_108_864;
 
 /// What a file or a shelf has, or its fault.
 #[derive(Clone, Copy)]
@@ -102,7 +99,7 @@ fn look_at<S: Source>(alloc: Global, source: &mut S) -> Result<Look, AllocError>
     ensures look { IfOk result (IsLook (S.state source.old) (S.state source.new)) }
     ensures memory { OnErr result (NeverFails (S.state source.old) (S.state source.new)) }
 {
-    let bytes = match read_up_to(alloc, source, MOST + 1) {
+    let bytes = match read_up_to(alloc, source, MAX_FILE + 1) {
         Ok(bytes) => bytes,
         Err(InFault::ReadFailed(n)) => return Ok(Look::Unread(InputFault::ReadFailed(n))),
         Err(InFault::Memory) => return Err(AllocError),

@@ -7,14 +7,11 @@ ghost use Rattle.reg_desk.specs.Settle.{settle_fault};
 
 use reg_engine::{Change, CliFault, Made, Refusal, Retire};
 use reg_office::OfficeFault;
-use reg_op::OpId;
+use reg_op::{Note, OpId};
 use reg_settle::{SettleFault, doubles, to_retire};
 use reg_state::Register;
 use std::alloc::Global;
 use uuid::Uuid;
-
-/// How many bytes a note has at most.
-const MAX_NOTE: usize = 200;
 
 /// Retires as the replica, with the note, the other entries of the keys of those that are to be kept.
 #[derive(Drop)]
@@ -40,7 +37,7 @@ impl Change for Settle<'_> {
     ghost rests = { λ a. tt };
 
     fn make(&mut self, alloc: Global, _next: usize, register: Register) -> Result<Made, CliFault> {
-        if self.note.len() > MAX_NOTE {
+        if self.note.len() > Note::MAX {
             return Err(CliFault::Refused(Refusal::Office(OfficeFault::NoteTooLong)));
         }
         let entries = match to_retire(alloc, &register, self.keeps) {
@@ -77,7 +74,7 @@ impl Change for SettleEqual<'_> {
     ghost rests = { λ a. tt };
 
     fn make(&mut self, alloc: Global, _next: usize, register: Register) -> Result<Made, CliFault> {
-        if self.note.len() > MAX_NOTE {
+        if self.note.len() > Note::MAX {
             return Err(CliFault::Refused(Refusal::Office(OfficeFault::NoteTooLong)));
         }
         let entries = match doubles(alloc, &register) {

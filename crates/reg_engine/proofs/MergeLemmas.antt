@@ -9,7 +9,7 @@ use Rattle.reg_join.specs.Joining.{all_joined, joined_with}
 use Rattle.reg_file.specs.declared.parts.Part.{Part}
 use Rattle.reg_file.specs.declared.parts.Part.TheVariants as part
 use Rattle.reg_state.specs.ManyLaws.{all_ops, all_seen, all_of, merged_all}
-use Rattle.reg_state.proofs.ManyLemmas.{joined_all, states_all}
+use Rattle.reg_state.proofs.ManyLemmas.{joined_is, states_all}
 use Rattle.reg_op.specs.Set as set
 use Rattle.reg_op.proofs.OpLemmas.{op_total}
 use Rattle.reg_file.specs.Layout.{file}
@@ -69,19 +69,19 @@ all_joined-append r (x ∷ xs) ys = all_joined-append (joined_with joined r x) x
 joins_brought : (ps : List Part) (x : Content) → JoinTo ps x → all_joined joined (Ok nothing) (brought ps) ≡ Ok x
 joins_brought ps x e = all_joined-append (Ok nothing) (registers ps) (map part_of (pieces ps)) ∙ pieces_as_parts (all_joined joined (Ok nothing) (registers ps)) (pieces ps) x e
 
-is_merged_all : (ps : List Part) (x : Content) → OneBody (all_ops (brought ps)) → JoinTo ps x → x ≡ merged_all (brought ps)
-is_merged_all ps x one e = ap (content_or x) (sym (joins_brought ps x e) ∙ joined_all (brought ps) one)
+is_merged_all : (ps : List Part) (x : Content) → JoinTo ps x → x ≡ merged_all (brought ps)
+is_merged_all ps x e = joined_is (brought ps) x (joins_brought ps x e)
 
 -- ---- the order
 
 same_all : (xs ys : List Content) → all_ops xs ≡ all_ops ys → all_seen xs ≡ all_seen ys → merged_all xs ≡ merged_all ys
 same_all xs ys ops seen = ap (λ k. record { ops = kept k; seen = all_seen xs }) ops ∙ ap (λ v. record { ops = kept (all_ops ys); seen = v }) seen
 
-pub order : (ps qs : List Part) (bytes others : List ℕ) → OneBody (all_ops (brought ps)) → all_ops (brought ps) ≡ all_ops (brought qs) → all_seen (brought ps) ≡ all_seen (brought qs)
+pub order : (ps qs : List Part) (bytes others : List ℕ) → all_ops (brought ps) ≡ all_ops (brought qs) → all_seen (brought ps) ≡ all_seen (brought qs)
     → IsMergeOf ps bytes → IsMergeOf qs others → bytes ≡ others
-order ps qs bytes others one ops seen (x, to_x, hold_x) (y, to_y, hold_y) =
-    let of_x : x ≡ merged_all (brought ps) = is_merged_all ps x one to_x in
-    let of_y : y ≡ merged_all (brought qs) = is_merged_all qs y (subst OneBody ops one) to_y in
+order ps qs bytes others ops seen (x, to_x, hold_x) (y, to_y, hold_y) =
+    let of_x : x ≡ merged_all (brought ps) = is_merged_all ps x to_x in
+    let of_y : y ≡ merged_all (brought qs) = is_merged_all qs y to_y in
     let same : y ≡ x = of_y ∙ sym (same_all (brought ps) (brought qs) ops seen) ∙ sym of_x in
     one_file x bytes others hold_x.bytes_are (subst (λ z. Holds others z) same hold_y).bytes_are
 

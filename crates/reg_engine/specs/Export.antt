@@ -10,7 +10,7 @@ use Rattle.reg_op.specs.Operations.{Op, Ops}
 use Rattle.reg_op.specs.Kept.{entering}
 use Rattle.reg_op.specs.Rows.{rows_at}
 use Rattle.reg_op.specs.Contents.{Content}
-use Rattle.reg_office.specs.Exports.{row_line, export}
+use Rattle.reg_report.specs.Exports.{row_line, export}
 use Rattle.reg_engine.specs.declared.wkt.Form.{Form}
 use Rattle.reg_engine.specs.declared.wkt.Form.TheVariants.{Canonical, Indented}
 

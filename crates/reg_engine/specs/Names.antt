@@ -31,6 +31,7 @@ refusal_name refusal.BadId = codes "BadId"
 refusal_name refusal.BadReplica = codes "BadReplica"
 refusal_name refusal.BadSize = codes "BadSize"
 refusal_name refusal.NoEntry = codes "NoEntry"
+refusal_name (refusal.Several id) = codes "Several"
 refusal_name refusal.Unsettled = codes "Unsettled"
 refusal_name (refusal.KeyTaken id) = codes "KeyTaken"
 
@@ -46,6 +47,7 @@ refusal_id (refusal.Clash id) = Some id
 refusal_id (refusal.Basis id) = Some id
 refusal_id (refusal.HasNote id) = Some id
 refusal_id (refusal.Office f) = office_id f
+refusal_id (refusal.Several id) = Some id
 refusal_id (refusal.KeyTaken id) = Some id
 refusal_id r = None
 

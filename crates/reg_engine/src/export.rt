@@ -4,7 +4,7 @@ ghost use Rattle.std.specs.Prelude.{◌≡◌, ◌++◌, IfOk, OnOk, IfErr};
 ghost use Rattle.reg_engine.specs.Store.{of_file, IsPrinted, IsUnprinted};
 ghost use Rattle.reg_engine.specs.Report.{Never};
 ghost use Rattle.reg_engine.specs.Export.{op_line, IsExport};
-ghost use Rattle.reg_office.specs.Exports.{export, is_retired};
+ghost use Rattle.reg_report.specs.Exports.{export, is_retired};
 ghost use Rattle.reg_op.specs.Status.{status};
 
 use crate::drivers::{Print, run_print};

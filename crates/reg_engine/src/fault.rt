@@ -35,8 +35,10 @@ pub enum Refusal {
     BadReplica,
     /// The size of a new shelf is out of range, or not a number.
     BadSize,
-    /// A search for ids found no entry.
+    /// No entry is found, or answers a key.
     NoEntry,
+    /// Several entries answer a key. This is the second least of them.
+    Several(OpId),
     /// A register has keys in conflict, awaited ids or gaps.
     Unsettled,
     /// This entry has the key, with another text.
@@ -64,6 +66,7 @@ impl Refusal {
             Refusal::BadReplica => "BadReplica",
             Refusal::BadSize => "BadSize",
             Refusal::NoEntry => "NoEntry",
+            Refusal::Several(_) => "Several",
             Refusal::Unsettled => "Unsettled",
             Refusal::KeyTaken(_) => "KeyTaken",
         }
@@ -90,6 +93,7 @@ impl Refusal {
             Refusal::Basis(id) => Some(id),
             Refusal::HasNote(id) => Some(id),
             Refusal::Office(fault) => fault.id(),
+            Refusal::Several(id) => Some(id),
             Refusal::KeyTaken(id) => Some(id),
             _ => None,
         }

@@ -12,11 +12,11 @@ ghost use Rattle.reg_file.specs.declared.parts.Part.{Part};
 ghost use Rattle.reg_file.specs.declared.parts.Part.TheVariants as part;
 ghost use Rattle.reg_engine.specs.Merge.{IsMergeOf, brought};
 
-/// Where registers and pieces together have one body an id, lists that bring the same operations and the same ids merge
-/// to the same bytes, in any order and with any repeats, if each is merged: no basis is missed. Where all are registers of
-/// offices that took sets of operations, it is the file of one that took all.
+/// Two lists of registers and pieces that bring the same operations and the same ids merge to the same bytes if both are merged,
+/// in any order and with any repeats. Where all are registers of offices that took sets of operations with one body for each id, it
+/// is the file of one that took all.
 pub fn merge_of_many()
-    ensures order { (ps qs : List Part) (bytes others : List ℕ) → OneBody (all_ops (brought ps)) → all_ops (brought ps) ≡ all_ops (brought qs)
+    ensures order { (ps qs : List Part) (bytes others : List ℕ) → all_ops (brought ps) ≡ all_ops (brought qs)
         → all_seen (brought ps) ≡ all_seen (brought qs) → IsMergeOf ps bytes → IsMergeOf qs others → bytes ≡ others }
     ensures states { (ss : List Ops) (bytes : List ℕ) → OneBody (all_of ss) → IsMergeOf (map part.Register (map state ss)) bytes → Holds bytes (state (all_of ss)) }
 {}

@@ -1,7 +1,7 @@
 //! Reports: of all entries, of what is open, of operations, of one entry.
 
 ghost use Rattle.std.specs.Prelude.{OnOk, IfErr};
-ghost use Rattle.reg_office.specs.Reports.{IsReport, IsOpsReport};
+ghost use Rattle.reg_report.specs.Reports.{IsReport, IsOpsReport};
 ghost use Rattle.reg_engine.specs.Store.{of_file, IsPrinted, IsUnprinted};
 ghost use Rattle.reg_engine.specs.Report.{IsRowOf, Never, Lacks};
 
@@ -9,8 +9,9 @@ use crate::drivers::{Print, run_print};
 use crate::fault::{CliFault, Refusal};
 use crate::store::OfFile;
 use byte_io::{Sink, Source};
-use reg_office::{OfficeFault, ReportKind, entry_text, ops_text, report_text};
+use reg_office::OfficeFault;
 use reg_op::OpId;
+use reg_report::{ReportKind, entry_text, ops_text, report_text};
 use reg_state::Register;
 use std::alloc::Global;
 
@@ -21,7 +22,7 @@ pub struct Report {
 }
 
 impl Print for Report {
-    ghost use Rattle.reg_office.specs.Reports.{IsReport};
+    ghost use Rattle.reg_report.specs.Reports.{IsReport};
     ghost use Rattle.reg_engine.specs.Report.{Never};
 
     ghost prints = { λ c. λ x. λ text. IsReport c.kind x text };
@@ -41,7 +42,7 @@ impl Print for Report {
 pub struct Ops;
 
 impl Print for Ops {
-    ghost use Rattle.reg_office.specs.Reports.{IsOpsReport};
+    ghost use Rattle.reg_report.specs.Reports.{IsOpsReport};
     ghost use Rattle.reg_engine.specs.Report.{Never};
 
     ghost prints = { λ c. λ x. λ text. IsOpsReport x text };

@@ -4,7 +4,7 @@ ghost use Rattle.std.specs.Prelude.{◌≡◌};
 ghost use Rattle.reg_file.specs.Reading.{says_first, version_in};
 
 /// The most bytes of a file.
-pub const MOST: usize = 67_108_864;
+pub const MAX_FILE: usize = 67_108_864;
 
 /// The version that is written.
 pub const VERSION: u8 = 2;

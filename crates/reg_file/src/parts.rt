@@ -6,7 +6,7 @@ ghost use Rattle.reg_file.specs.Reading.{says_piece};
 ghost use Rattle.reg_file.specs.Parts.{FindsPart, IsPartReadFault, IsPartReadFromFault, ReadsAsPart};
 
 use crate::fault::ReadFileFault;
-use crate::heads::{MOST, PIECE};
+use crate::heads::{MAX_FILE, PIECE};
 use crate::pieces::read_piece_bytes_beside;
 use crate::reading::read_bytes_beside;
 use byte_io::{InFault, Source, read_up_to};
@@ -83,7 +83,7 @@ pub fn read_part_beside<S: Source>(
     ensures found { IfOk result (FindsPart (S.state source.old) (S.state source.new)) }
     ensures fault { IfErr result (IsPartReadFromFault (S.state source.old) (S.state source.new)) }
 {
-    let bytes = match read_up_to(alloc, source, MOST + 1) {
+    let bytes = match read_up_to(alloc, source, MAX_FILE + 1) {
         Ok(bytes) => bytes,
         Err(InFault::ReadFailed(n)) => return Err(ReadFileFault::ReadFailed(n)),
         Err(InFault::Memory) => return Err(ReadFileFault::Memory),

@@ -1,7 +1,7 @@
 -- Lines of texts, one after another.
 use Rattle.std.proofs.Common.{◌≡◌, ℕ, List, [], ◌∷◌, ◌++◌, append_assoc, append-nil, length, arith, refl, sym, ap, ◌∙◌, subst}
 use Rattle.csv.specs.Writing.{row_text, default_writer}
-use Rattle.reg_office.specs.Lines.{AreLines, IsSheet}
+use Rattle.reg_report.specs.Lines.{AreLines, IsSheet}
 use Rattle.reg_import.specs.declared.reading.FileText.{FileText}
 use Rattle.reg_import.specs.declared.told.Told.{Told}
 use Rattle.reg_import.specs.Lines.{lines_of, IsImportLine, import_header}

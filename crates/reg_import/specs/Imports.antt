@@ -8,7 +8,7 @@ use Rattle.reg_op.specs.Ids.{Id, is_before}
 use Rattle.reg_op.specs.declared.operation.OpBody.{OpBody as Body}
 use Rattle.reg_op.specs.declared.operation.OpBody.TheVariants.{Enter, Retire}
 use Rattle.reg_seen.specs.Runs.{id_at}
-use Rattle.reg_office.specs.Conflicts.{bytes_of}
+use Rattle.reg_report.specs.Conflicts.{bytes_of}
 use Rattle.reg_import.specs.declared.known.Known.{Known}
 use Rattle.reg_import.specs.declared.reading.Reading.{Reading}
 use Rattle.reg_import.specs.declared.reading.Reading.TheVariants as reading
@@ -37,6 +37,15 @@ sooner i (Some j) = if is_before j i then j else i
 abbrev pub least : (Known → Bool) → List Known → Option Id
 least passes [] = None
 least passes (e ∷ es) = if passes e then Some (sooner e.entry (least passes es)) else least passes es
+
+-- the lesser of an id and another one, if there is one
+abbrev pub lesser : Option Id → Id → Id
+lesser None j = j
+lesser (Some i) j = sooner i (Some j)
+
+-- the least id of the entries that pass, with one more entry
+abbrev pub and_least : Bool → Option Id → Id → Option Id
+and_least passes first i = if passes then Some (lesser first i) else first
 
 -- the last number that would be given is a number
 abbrev pub unless_spent : ℕ → Told → Told

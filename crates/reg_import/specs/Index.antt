@@ -2,10 +2,10 @@
 use Rattle.std.specs.Prelude.{◌≡◌, false, [], ◌∷◌, ◌++◌, Option, Some, None}
 use Rattle.std.specs.declared.cmp.Ordering.{Ordering}
 use Rattle.std.specs.BTreeMap.{BTreeMap, get}
-use Rattle.reg_office.specs.Conflicts.{KeyBytes, key_cmp}
+use Rattle.reg_report.specs.Conflicts.{KeyBytes, key_cmp}
 use Rattle.reg_import.specs.declared.known.Known.{Known}
 use Rattle.reg_import.specs.declared.index.KeyText.{KeyText}
-use Rattle.reg_import.specs.declared.index.Bucket.{Bucket}
+use Rattle.reg_import.specs.declared.bucket.Bucket.{Bucket}
 use Rattle.reg_import.specs.Known.{OfKey, At, key_of, with_key}
 
 abbrev pub key_bytes : KeyText → KeyBytes

@@ -6,8 +6,8 @@ use Rattle.reg_op.specs.Operations.{Ops}
 use Rattle.reg_op.specs.Rows.{Row, rows}
 use Rattle.reg_op.specs.declared.status.Status.{Status}
 use Rattle.reg_op.specs.declared.status.Status.TheVariants.{Valid, Superseded, Retired}
-use Rattle.reg_office.specs.Conflicts.{KeyBytes, bytes_of, key_cmp}
-use Rattle.reg_office.specs.Exports.{is_retired}
+use Rattle.reg_report.specs.Conflicts.{KeyBytes, bytes_of, key_cmp}
+use Rattle.reg_report.specs.Exports.{is_retired}
 use Rattle.reg_import.specs.declared.known.Known.{Known}
 
 abbrev pub is_valid : Option Status → Bool

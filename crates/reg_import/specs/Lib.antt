@@ -1,6 +1,8 @@
 pub mod Known
+pub mod Quoted
 pub mod Readings
 pub mod Imports
+pub mod Summary
 pub mod Index
 pub mod Plans
 pub mod Again

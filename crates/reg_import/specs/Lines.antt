@@ -84,11 +84,12 @@ lines_of [] ts = []
 lines_of (x ∷ xs) [] = []
 lines_of (x ∷ xs) (t ∷ ts) = record { text = x; told = t } ∷ lines_of xs ts
 
--- they are the fields of such a line, with the key and the name of what was read
+-- they are the fields of such a line, with the key and the name of what was read; if that is no definition, with what stands
+-- first in quotation marks as the name
 abbrev pub IsLineOf : List (List ℕ) → FileText → Told → Reading → List (List ℕ) → Type 0
 IsLineOf names x t (reading.Defined definition key) fields =
     (crs : Crs) × IsCrsOf crs definition × (fields ≡ line_fields names x t key.authority.bytes key.code.bytes (name_of crs.parts).bytes)
-IsLineOf names x t (reading.Unread f) fields = fields ≡ line_fields names x t [] [] []
+IsLineOf names x t (reading.Unread f) fields = fields ≡ line_fields names x t [] [] x.quoted.items
 
 abbrev pub IsImportLine : List (List ℕ) → Line → List (List ℕ) → Type 0
 IsImportLine names l fields = IsLineOf names l.text l.told l.text.reading fields

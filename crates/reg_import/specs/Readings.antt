@@ -1,9 +1,10 @@
 -- What texts are read as.
-use Rattle.std.specs.Prelude.{◌≡◌, ◌≢◌, ℕ, ◌+◌, List, map}
+use Rattle.std.specs.Prelude.{◌≡◌, ◌≢◌, ℕ, ◌+◌, List, [], map}
 use Rattle.std.specs.Option.{unwrap_or}
 use Rattle.wkt_crs.specs.Spells.{SpellsCanon}
 use Rattle.wkt_crs.specs.Definition.{IsDefinition, IsKeyIn, IsTextFault, fault_place}
 use Rattle.wkt_crs.specs.declared.definition.DefinitionFault.TheVariants.{Memory}
+use Rattle.reg_import.specs.Quoted.{first_quoted}
 use Rattle.reg_import.specs.declared.reading.FileText.{FileText}
 use Rattle.reg_import.specs.declared.reading.Reading.{Reading}
 use Rattle.reg_import.specs.declared.reading.Reading.TheVariants as reading
@@ -18,12 +19,18 @@ abbrev pub place_in : Reading → ℕ
 place_in (reading.Defined definition key) = 0
 place_in (reading.Unread f) = unwrap_or (fault_place f) 0
 
+-- what stands first in quotation marks, if it is no definition
+abbrev pub quoted_in : List ℕ → Reading → List ℕ
+quoted_in text (reading.Defined definition key) = []
+quoted_in text (reading.Unread f) = first_quoted text
+
 -- these bytes are in the file with this number from this place on, and this is their reading
 pub record IsFileText (file place : ℕ) (bytes : List ℕ) (t : FileText) : Type 0 where
   pub in_file : t.file ≡ file
   pub begins : t.place ≡ place
   pub told_at : t.at ≡ place + place_in t.reading
   pub reads : IsReading bytes t.reading
+  pub quotes : t.quoted.items ≡ quoted_in bytes t.reading
 
 abbrev pub readings : List FileText → List Reading
 readings texts = map (λ (t : FileText). t.reading) texts

@@ -5,7 +5,7 @@ ghost use Rattle.wkt_tree.specs.Tree.{Piece};
 ghost use Rattle.wkt_texts.specs.Texts.{IsCutInto};
 ghost use Rattle.wkt_texts.specs.Printed.{AreFound};
 ghost use Rattle.reg_op.specs.Contents.{Content, IsContent, nothing};
-ghost use Rattle.reg_office.specs.Exports.{export};
+ghost use Rattle.reg_report.specs.Exports.{export};
 ghost use Rattle.reg_office.specs.World.{World, IsWorld};
 ghost use Rattle.reg_import.specs.declared.reading.Reading.{Reading};
 ghost use Rattle.reg_import.specs.declared.told.Differs.{Differs};
@@ -14,8 +14,14 @@ ghost use Rattle.reg_import.specs.declared.told.Problem.{Problem};
 ghost use Rattle.reg_import.specs.declared.told.Told.{Told};
 ghost use Rattle.reg_import.specs.declared.import.ImportRefusal.{ImportRefusal};
 ghost use Rattle.reg_import.specs.declared.import.ImportRefusal.TheVariants as refusal;
+ghost use Rattle.reg_import.specs.Readings.{IsReading};
 ghost use Rattle.reg_import.specs.Plans.{Imports, IsImportRefusal};
-ghost use Rattle.reg_import.specs.Again.{HasStanding, standing_texts, AreReadings, RetiresNoneAhead, SupersedesNoneAhead, IsToldAgain};
+ghost use Rattle.reg_import.specs.Again.{HasStanding, standing_texts, IsSameReading, AreReadings, RetiresNoneAhead, SupersedesNoneAhead, IsToldAgain};
+
+/// A text has one reading: the same bytes are read as the same definition with the same key, or refused for the same reason.
+pub fn one_reading()
+    ensures { (text : List ℕ) (r s : Reading) → IsReading text r → IsReading text s → IsSameReading r s }
+{}
 
 /// Importing the same readings again in the same mode makes nothing: the content is unchanged, and each text that was not
 /// refused is reported with an entry that has it. The second import is refused only for a long note or for memory.

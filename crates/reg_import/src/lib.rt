@@ -1,6 +1,7 @@
 //! Entering many texts: the action for each, given the register so far.
 #![tactic(auto)]
 
+mod bucket;
 mod import;
 mod index;
 mod known;
@@ -9,7 +10,9 @@ mod least;
 mod lines;
 mod making;
 mod plan;
+mod quoted;
 mod reading;
+mod summary;
 mod told;
 
 pub use import::{ImportRefusal, Imported, Refused, first_refused, import_texts};

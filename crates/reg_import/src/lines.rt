@@ -3,13 +3,13 @@
 ghost use Rattle.std.specs.Prelude.{◌≡◌, ◌++◌, [], ◌∷◌, ℕ, List, codes, decimal, map, IfOk, OnOk};
 ghost use Rattle.std.specs.String.{string_bytes};
 ghost use Rattle.reg_op.specs.Text.{printed};
-ghost use Rattle.reg_office.specs.Lines.{IsSheet, IsReady, WritesRow};
+ghost use Rattle.reg_report.specs.Lines.{IsSheet, IsReady, WritesRow};
 ghost use Rattle.reg_import.specs.Lines.{Line, lines_of, action_word, entry_text, fault_words, problem_words, problem_text, fault_text, name_at, import_header, line_fields, IsImportLine};
 
 use crate::reading::{FileText, Reading};
 use crate::told::{Problem, Told};
 use csv::Writer;
-use reg_office::printed;
+use reg_report::printed;
 use reg_op::OpId;
 use std::alloc::{AllocError, Global};
 use wkt_crs::{DefinitionFault, SlotFault, Unspelled};
@@ -227,7 +227,10 @@ fn write_line(
             write_named(alloc, wtr, names, text, told, authority, code, name)?;
             Ok(())
         }
-        Reading::Unread(_) => write_named(alloc, wtr, names, text, told, b"", b"", b""),
+        Reading::Unread(_) => {
+            write_named(alloc, wtr, names, text, told, b"", b"", &text.quoted)?;
+            Ok(())
+        }
     }
 }
 

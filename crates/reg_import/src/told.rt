@@ -1,11 +1,13 @@
 //! The action for a text, given the entries of its key.
 
-ghost use Rattle.std.specs.Prelude.{◌≡◌, ◌+◌, ◌<◌, ◌≤◌, ℕ, length, Some, IfSome, IfNone};
+ghost use Rattle.std.specs.Prelude.{◌≡◌, ◌+◌, ◌<◌, ◌≤◌, ℕ, Some, IfSome, IfNone};
 ghost use Rattle.reg_seen.specs.Runs.{id_at};
 ghost use Rattle.reg_import.specs.Imports.{least, any_entry, told_of, told_of_new, unless_spent, is_refused, is_spent};
+ghost use Rattle.reg_import.specs.Index.{bucket_seen};
+ghost use Rattle.reg_import.specs.Summary.{told_by};
 
-use crate::known::Known;
-use crate::least::{least_of_all, least_same, least_valid};
+use crate::bucket::Bucket;
+use crate::summary::Found;
 use reg_op::OpId;
 use uuid::Uuid;
 use wkt_crs::DefinitionFault;
@@ -91,16 +93,9 @@ fn number(replica: Uuid, count: u64, more: usize) -> Option<OpId>
 }
 
 // The action for a text that no entry has; this entry has its key.
-fn told_beside(
-    differs: Differs,
-    replica: Uuid,
-    count: u64,
-    known: &[Known],
-    ours: bool,
-    other: OpId,
-) -> Told
+fn told_beside(differs: Differs, replica: Uuid, count: u64, bucket: &Bucket, other: OpId) -> Told
     requires { 0 < count }
-    ensures { result ≡ told_of_new (Some other) differs (id_at replica count) (record { known = known.now; ours = ours }) }
+    ensures { result ≡ told_of_new (Some other) differs (id_at replica count) (bucket_seen bucket.now) }
 {
     match differs {
         Differs::Refuse => Told::Refused(Problem::KeyTaken(other)),
@@ -109,10 +104,10 @@ fn told_beside(
             None => Told::Spent,
         },
         Differs::Revise => {
-            if ours {
+            if bucket.ours {
                 return Told::Refused(Problem::KeyTaken(other));
             }
-            match number(replica, count, known.len()) {
+            match number(replica, count, bucket.known.len()) {
                 Some(new) => Told::Revised(new),
                 None => Told::Spent,
             }
@@ -130,26 +125,28 @@ fn told_new(replica: Uuid, count: u64) -> Told
     }
 }
 
-/// The action for a text. These entries have its key, and this is the count of the next operation.
-pub fn told_of(
-    differs: Differs,
-    replica: Uuid,
-    count: u64,
-    known: &[Known],
-    ours: bool,
-    text: &[u8],
-) -> Told
+// The action for a text of which this is found among the entries of its key.
+fn told_found(differs: Differs, replica: Uuid, count: u64, bucket: &Bucket, found: Found) -> Told
     requires { 0 < count }
-    ensures { result ≡ told_of differs (id_at replica count) (record { known = known.now; ours = ours }) text.now }
+    ensures { result ≡ told_by found (least any_entry (bucket_seen bucket.now).known) differs (id_at replica count) (bucket_seen bucket.now) }
 {
-    if let Some(entry) = least_valid(known, text) {
+    if let Some(entry) = found.valid {
         return Told::Same(entry);
     }
-    if let Some(entry) = least_same(known, text) {
+    if let Some(entry) = found.any {
         return Told::Superseded(entry);
     }
-    match least_of_all(known) {
+    match bucket.least() {
         None => told_new(replica, count),
-        Some(other) => told_beside(differs, replica, count, known, ours, other),
+        Some(other) => told_beside(differs, replica, count, bucket, other),
     }
+}
+
+/// The action for a text. The bucket has the entries of its key, and this is the count of the next operation.
+pub fn told_of(differs: Differs, replica: Uuid, count: u64, bucket: &Bucket, text: &Vec<u8>) -> Told
+    requires { 0 < count }
+    ensures { result ≡ told_of differs (id_at replica count) (bucket_seen bucket.now) text.now.items }
+{
+    let found = bucket.find(text);
+    told_found(differs, replica, count, bucket, found)
 }

@@ -3,8 +3,6 @@ use Rattle.std.specs.Prelude.{ℕ, List, Option, Some, None, codes}
 use Rattle.reg_op.specs.Ids.{Id}
 use Rattle.reg_office.specs.declared.fault.OfficeFault.{OfficeFault}
 use Rattle.reg_office.specs.declared.fault.OfficeFault.TheVariants as office
-use Rattle.reg_office.specs.declared.writing.ReportFault.{ReportFault}
-use Rattle.reg_office.specs.declared.writing.ReportFault.TheVariants as report
 
 -- a command that an office refuses
 abbrev pub office_name : OfficeFault → List ℕ
@@ -25,12 +23,3 @@ office_id (office.AlreadyRetired id) = Some id
 office_id (office.AlreadySuperseded id) = Some id
 office_id office.CountSpent = None
 office_id office.Memory = None
-
--- a report that was not completely written
-abbrev pub report_name : ReportFault → List ℕ
-report_name (report.WriteFailed at) = codes "WriteFailed"
-report_name report.Memory = codes "Memory"
-
-abbrev pub report_place : ReportFault → Option ℕ
-report_place (report.WriteFailed at) = Some at
-report_place report.Memory = None

@@ -7,13 +7,11 @@ use crate::OfficeFault;
 use reg_op::{Note, NoteFault};
 use std::alloc::{AllocError, Global};
 
-const MAX_BYTES: usize = 200;
-
 /// Why a note is refused.
 pub fn note_fault(note: &str) -> Option<OfficeFault>
     ensures { result ≡ note_fault note.now }
 {
-    if note.len() > MAX_BYTES {
+    if note.len() > Note::MAX {
         return Some(OfficeFault::NoteTooLong);
     }
     None

@@ -10,9 +10,6 @@ use std::fmt;
 use std::marker::Model;
 use std::rc::Rc;
 
-/// The most bytes of a note.
-const MOST: usize = 200;
-
 /// Why bytes are not a note.
 #[derive(Clone, Copy, Debug, PartialEq, Eq)]
 pub enum NoteFault {
@@ -71,6 +68,9 @@ impl Model for Note {
 }
 
 impl Note {
+    /// The most bytes of a note.
+    pub const MAX: usize = 200;
+
     /// The note without bytes.
     pub fn empty() -> Note
         ensures { result ≡ [] }
@@ -88,7 +88,7 @@ impl Note {
         ensures bytes { length bytes.now ≤ 200 → ¬ (IsUtf8 bytes.now) → result ≡ Err fault.NoteNotUtf8 }
         ensures empty { bytes.now ≡ [] → result ≡ Ok [] }
     {
-        if bytes.len() > MOST {
+        if bytes.len() > Note::MAX {
             return Err(NoteFault::NoteTooLong);
         }
         if bytes.is_empty() {

@@ -7,9 +7,9 @@ use Rattle.reg_op.specs.Contents.{Content}
 use Rattle.reg_op.specs.Rows.{Row, rows, awaited}
 use Rattle.reg_op.specs.declared.status.Status.{Status}
 use Rattle.reg_op.specs.declared.status.Status.TheVariants.{Valid, Superseded, Retired}
-use Rattle.reg_office.specs.declared.gap.Gap.{Gap}
-use Rattle.reg_office.specs.Conflicts.{Contested, AreConflicts}
-use Rattle.reg_office.specs.Gaps.{AreGaps}
+use Rattle.reg_report.specs.declared.gap.Gap.{Gap}
+use Rattle.reg_report.specs.Conflicts.{Contested, AreConflicts}
+use Rattle.reg_report.specs.Gaps.{AreGaps}
 use Rattle.reg_query.specs.declared.figures.register.Counts.{Counts}
 use Rattle.reg_query.specs.declared.figures.register.Figures.{Figures}
 

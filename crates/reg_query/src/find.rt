@@ -2,7 +2,6 @@
 
 mod query;
 mod search;
-mod text;
 
 pub use query::{Query, Wanted};
 pub use search::{found, found_ids, found_text};

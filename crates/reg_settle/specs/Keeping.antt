@@ -8,9 +8,9 @@ use Rattle.std.specs.declared.cmp.Ordering.{Ordering}
 use Rattle.reg_op.specs.Ids.{Id}
 use Rattle.reg_op.specs.Rows.{Row}
 use Rattle.reg_op.specs.declared.status.Status.TheVariants.{Retired}
-use Rattle.reg_office.specs.declared.row.Row.{Row as MadeRow}
-use Rattle.reg_office.specs.Conflicts.{KeyBytes, key_cmp, HasKey}
-use Rattle.reg_office.specs.Seen.{row_seen}
+use Rattle.reg_report.specs.declared.row.Row.{Row as MadeRow}
+use Rattle.reg_report.specs.Conflicts.{KeyBytes, key_cmp, HasKey}
+use Rattle.reg_report.specs.Seen.{row_seen}
 use Rattle.reg_settle.specs.declared.key.KeyText.{KeyText}
 use Rattle.reg_settle.specs.declared.rival.Rival.{Rival}
 

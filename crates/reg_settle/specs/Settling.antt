@@ -3,7 +3,7 @@ use Rattle.std.specs.Prelude.{◌≡◌, ◌≢◌, ◌⊎◌, List, [], ◌∷�
 use Rattle.reg_op.specs.Ids.{Id}
 use Rattle.reg_op.specs.Rows.{Row}
 use Rattle.reg_op.specs.declared.status.Status.TheVariants.{Retired}
-use Rattle.reg_office.specs.Conflicts.{KeyBytes, HasKey}
+use Rattle.reg_report.specs.Conflicts.{KeyBytes, HasKey}
 use Rattle.reg_settle.specs.declared.fault.SettleFault.{SettleFault}
 use Rattle.reg_settle.specs.declared.fault.SettleFault.TheVariants as fault
 

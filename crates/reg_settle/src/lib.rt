@@ -4,7 +4,6 @@
 mod double;
 mod fault;
 mod key;
-pub mod laws;
 mod rival;
 mod row;
 mod settling;

@@ -5,13 +5,13 @@ ghost use Rattle.std.specs.List.Sorted.{IsSorted, IsPermutation};
 ghost use Rattle.std.specs.List.{Contains};
 ghost use Rattle.std.specs.Ordering.{is_lt};
 ghost use Rattle.reg_op.specs.Ids.{id_cmp};
-ghost use Rattle.reg_office.specs.Conflicts.{key_cmp};
-ghost use Rattle.reg_office.specs.Seen.{row_seen};
+ghost use Rattle.reg_report.specs.Conflicts.{key_cmp};
+ghost use Rattle.reg_report.specs.Seen.{row_seen};
 ghost use Rattle.reg_settle.specs.Keeping.{key_bytes, entry_of, rival_cmp, is_of_key, AddsRival, AreRivals, AreRivalsByKey};
 
 use crate::key::{KeyText, key_of};
 use crate::row::stands;
-use reg_office::Row;
+use reg_report::Row;
 use reg_op::OpId;
 use std::alloc::{AllocError, Global};
 

@@ -3,11 +3,11 @@
 ghost use Rattle.std.specs.Prelude.{◌≡◌, ◌≢◌, ◌↔◌, map, IsTrue, IfOk, IfSome, IfNone, Some};
 ghost use Rattle.reg_op.specs.Rows.{Row as OneRow, rows};
 ghost use Rattle.reg_op.specs.declared.status.Status.TheVariants.{Retired};
-ghost use Rattle.reg_office.specs.Seen.{row_seen};
+ghost use Rattle.reg_report.specs.Seen.{row_seen};
 ghost use Rattle.reg_settle.specs.Settling.{HasRow};
 ghost use Rattle.reg_settle.specs.ByEntry.{ByEntry};
 
-use reg_office::{Row, rows};
+use reg_report::{Row, rows};
 use reg_op::{OpId, Status};
 use reg_state::Register;
 use std::alloc::{AllocError, Global};

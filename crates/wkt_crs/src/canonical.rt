@@ -16,8 +16,8 @@ use std::alloc::Global;
 use wkt_canonical::is_canonical;
 use wkt_condense::condense;
 
-/// The most bytes of a text.
-const MOST: usize = 1_048_576;
+/// The most bytes of a text that is read.
+pub(crate) const MAX_TEXT: usize = 1_048_576;
 
 /// The canonical text of what the text spells, or the first fault of the text. Most canonical texts are seen to be so, most
 /// others once they are condensed, and no value is made of them.
@@ -76,7 +76,7 @@ fn condensed(alloc: Global, text: &[u8]) -> Option<Vec<u8>>
 pub(crate) fn is_seen(text: &[u8]) -> bool
     ensures { result ≡ true → SpellsCanon text.now text.now }
 {
-    if text.len() > MOST {
+    if text.len() > MAX_TEXT {
         return false;
     }
     is_canonical(text)

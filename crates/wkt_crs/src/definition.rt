@@ -25,9 +25,6 @@ use std::rc::Rc;
 use wkt_canonical::{Identifier, Seen, recognize};
 use wkt_condense::condense;
 
-/// The most bytes of a definition's canonical text.
-const MOST: usize = 65_536;
-
 /// Why a reference system, or a text, is not a definition.
 #[derive(Clone, Copy, Debug, PartialEq, Eq)]
 pub enum DefinitionFault {
@@ -118,6 +115,9 @@ impl Definition {
     ghost use Rattle.wkt_crs.specs.Spells.{Spells, SpellsCanon, canon};
     ghost use Rattle.wkt_crs.specs.Definition.{HasNone, IsDefinition, IsNewFault, IsCanonicalFault, IsTextFault, IsDefinedBy, IsCrsOf, IsNameIn, IsKeyIn};
 
+    /// The most bytes of a definition's canonical text.
+    pub const MAX: usize = 65_536;
+
     /// The definition of a reference system.
     pub fn new(alloc: Global, crs: Crs) -> Result<Definition, DefinitionFault>
         ensures ok { IfOk result (λ d. d ≡ canon crs) }
@@ -133,7 +133,7 @@ impl Definition {
         let Ok(text) = write_crs(alloc, &crs) else {
             return Err(DefinitionFault::Memory);
         };
-        if text.len() > MOST {
+        if text.len() > Definition::MAX {
             return Err(DefinitionFault::CanonicalTooLong);
         }
         defined(alloc, &crs, text)
@@ -149,7 +149,7 @@ impl Definition {
         ensures text { (f : TextFault) → length bytes.now ≤ 65536 → tree.FirstFault bytes.now f → result ≡ Err (fault.Read (refused.Text f)) }
         ensures slot { (f : SlotFault) → length bytes.now ≤ 65536 → FirstSlot bytes.now f → result ≡ Err (fault.Read (refused.Slot f)) }
     {
-        if bytes.len() > MOST {
+        if bytes.len() > Definition::MAX {
             return Err(DefinitionFault::CanonicalTooLong);
         }
         let Some(seen) = recognize(bytes) else {
@@ -242,7 +242,7 @@ fn has_identifier(crs: &Crs) -> bool
 fn seen_in(text: &[u8]) -> Option<Seen<'_>>
     ensures { IfSome result (λ seen. (length text.now ≤ 65536) × IsCanonicalOf seen text.now) }
 {
-    if text.len() > MOST {
+    if text.len() > Definition::MAX {
         return None;
     }
     recognize(text)

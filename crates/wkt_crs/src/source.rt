@@ -3,16 +3,13 @@
 ghost use Rattle.std.specs.Prelude.{IfOk, IfErr};
 ghost use Rattle.wkt_crs.specs.Source.{ReadsText, Finds, FindsCanon, FindsDefinition, IsReadFromFault, IsDefineFromFault};
 
-use crate::canonical::{is_seen, rewritten};
+use crate::canonical::{MAX_TEXT, is_seen, rewritten};
 use crate::definition::{Definition, DefinitionFault};
 use crate::fault::ReadFault;
 use crate::reading::read_crs;
 use byte_io::{InFault, Source, read_up_to};
 use crs_value::Crs;
 use std::alloc::Global;
-
-/// The number of bytes that are read at most: one more than the limit of a text.
-const MOST: usize = 1_048_577;
 
 /// Why a source gave no CRS.
 #[derive(Clone, Copy, Debug, PartialEq, Eq)]
@@ -73,7 +70,7 @@ pub fn define_from<S: Source>(alloc: Global, source: &mut S) -> Result<Definitio
     ensures found { IfOk result (FindsDefinition (S.state source.old) (S.state source.new)) }
     ensures fault { IfErr result (IsDefineFromFault (S.state source.old) (S.state source.new)) }
 {
-    let text = match read_up_to(alloc, source, MOST) {
+    let text = match read_up_to(alloc, source, MAX_TEXT + 1) {
         Ok(text) => text,
         Err(InFault::ReadFailed(n)) => return Err(DefineFromFault::ReadFailed(n)),
         Err(InFault::Memory) => return Err(DefineFromFault::Refused(DefinitionFault::Memory)),
@@ -89,7 +86,7 @@ fn text_from<S: Source>(alloc: Global, source: &mut S) -> Result<Vec<u8>, ReadFr
     ensures found { IfOk result (λ text. ReadsText (S.state source.old) (S.state source.new) text.items) }
     ensures fault { IfErr result (IsReadFromFault (S.state source.old) (S.state source.new)) }
 {
-    match read_up_to(alloc, source, MOST) {
+    match read_up_to(alloc, source, MAX_TEXT + 1) {
         Ok(text) => Ok(text),
         Err(InFault::ReadFailed(n)) => Err(ReadFromFault::ReadFailed(n)),
         Err(InFault::Memory) => Err(ReadFromFault::Refused(ReadFault::Memory)),

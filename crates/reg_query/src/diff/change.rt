@@ -1,11 +1,11 @@
 //! A row that only one of two registers has, and equality of rows.
 
 ghost use Rattle.std.specs.Prelude.{◌≡◌, ◌↔◌, IsTrue};
-ghost use Rattle.reg_office.specs.Seen.{row_seen};
+ghost use Rattle.reg_report.specs.Seen.{row_seen};
 ghost use Rattle.reg_query.specs.Changes.{row_cmp, sign_text};
 
-use reg_office::Row;
 use reg_op::OpId;
+use reg_report::Row;
 use std::cmp::Ordering;
 use wkt_crs::Definition;
 
@@ -26,8 +26,8 @@ pub struct Change<'a> {
 }
 
 /// The text of a sign.
-pub fn sign_text(sign: Sign) -> &'static [u8]
-    ensures { result.now ≡ sign_text sign }
+pub fn sign_text(sign: &Sign) -> &[u8]
+    ensures { result.now ≡ sign_text sign.now }
 {
     match sign {
         Sign::Gone => b"-",

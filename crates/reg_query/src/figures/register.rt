@@ -7,8 +7,8 @@ ghost use Rattle.reg_op.specs.Status.{enters, status};
 ghost use Rattle.reg_op.specs.Rows.{rows_at, rows, awaited};
 ghost use Rattle.reg_query.specs.Figures.{is_status, status_in, CountStatuses, AreCounts, AreFigures, CountsConflicts, CountsGaps};
 
-use reg_office::{awaited, conflicts, gaps};
 use reg_op::{Op, OpBody, OpId, Status};
+use reg_report::{awaited, conflicts, gaps};
 use reg_state::Register;
 use std::alloc::{AllocError, Global};
 

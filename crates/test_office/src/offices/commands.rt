@@ -192,5 +192,5 @@ fn laws_can_be_called() {
     reg_office::laws::long_notes_are_refused_first();
     reg_office::laws::counts_are_spent_last();
     reg_office::laws::effects_are_kept();
-    reg_office::laws::conflicts_of_kept();
+    reg_report::laws::conflicts_of_kept();
 }

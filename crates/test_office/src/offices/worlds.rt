@@ -258,7 +258,7 @@ fn a_restart_keeps_the_gap(rt: HostRuntime) {
 #[test]
 fn laws_of_worlds_can_be_called() {
     reg_office::laws::every_world();
-    reg_office::laws::one_report();
-    reg_office::laws::one_line();
-    reg_office::laws::texts_are_read();
+    reg_report::laws::one_report();
+    reg_report::laws::one_line();
+    reg_report::laws::texts_are_read();
 }

@@ -127,4 +127,5 @@ fn laws_can_be_called() {
     reg_file::laws::held_or_fault();
     reg_file::laws::one_first_fault();
     reg_file::laws::one_kind();
+    reg_file::laws::noted_is_least();
 }

@@ -1,5 +1,5 @@
 use Rattle.std.proofs.Common.{◌≡◌, []}
-use Rattle.reg_office.specs.Lines.{sheet_text}
+use Rattle.reg_report.specs.Lines.{sheet_text}
 use Rattle.reg_import.specs.Lines.{lines_of}
 use Rattle.reg_import.proofs.LineLemmas.{line_more, lines_done, no_texts, nothing_told}
 use Rattle.reg_import.proofs.lines.lines_text.Goals as goal

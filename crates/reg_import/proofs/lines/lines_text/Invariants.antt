@@ -1,6 +1,6 @@
 use Rattle.std.proofs.Common.{length, map}
 use Rattle.std.specs.String.{string_bytes}
-use Rattle.reg_office.specs.Lines.{sheet_text, IsReady}
+use Rattle.reg_report.specs.Lines.{sheet_text, IsReady}
 use Rattle.reg_import.proofs.LineLemmas.{Completes}
 use Rattle.reg_import.proofs.lines.lines_text.Given as goal
 

@@ -1,0 +1,14 @@
+//! What a search asks of a reference system: a part of a text, its kind, and a point in a bounding box.
+#![tactic(auto)]
+
+mod area;
+mod kind;
+mod part;
+mod point;
+mod usages;
+
+pub use area::is_in_area;
+pub use kind::{Kind, is_of_kind};
+pub use part::{has_part, is_alike};
+pub use point::{Point, has_point};
+pub use usages::usages_of;
