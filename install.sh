@@ -1,7 +1,7 @@
 #!/bin/sh
-# Installs crsreg: ./install.sh [PREFIX]. PREFIX is /usr/local unless named. With DESTDIR set, all files go below that folder, as
-# for a package. It installs the program that ./crsreg --which prints, or the one that CRSREG_PROGRAM names. To remove it:
-# ./install.sh --list [PREFIX] prints the path of each file that it installs.
+# Installs crsreg: ./install.sh [PREFIX]. The default of PREFIX is /usr/local. If DESTDIR is set, all files go below that folder, as for
+# a package. It installs the program in CRSREG_PROGRAM, or by default the one that ./crsreg --which prints. ./install.sh --list [PREFIX]
+# prints the path of each file that it installs: remove these to uninstall crsreg.
 set -eu
 root=$(cd "$(dirname "$0")" && pwd)
 
@@ -18,7 +18,7 @@ if [ $list = no ]; then
     for shell in bash fish zsh; do "$program" completions $shell >"$made/$shell"; done
 fi
 
-# put SOURCE PATH MODE: one file, below the prefix.
+# put SOURCE PATH MODE: installs one file below the prefix.
 put() {
     to=${DESTDIR-}$prefix/$2
     if [ $list = yes ]; then

@@ -1,8 +1,8 @@
 #!/usr/bin/env python3
 """Makes two register files, and two tables of the same rows: make_registers.py FOLDER OPERATIONS.
 
-Each register has so many operations, and half of them are in both. Nine of ten enter a projected system of 560 bytes or so,
-the others retire an entry that is only theirs. The files are laid out as docs/FORMATS.md says.
+Each register has OPERATIONS operations, and half of them are in both. Nine of ten enter a projected system of some 560 bytes, the
+others retire an entry of the same register. The layout of the files is that of docs/FORMATS.md.
 """
 import sqlite3
 import struct

@@ -1,5 +1,6 @@
-/* Makes one allocation of a program fail: the one whose number the variable REFUSE gives, counted from 1; with REFUSE_LATER,
-   also each later one. It then makes the file that REFUSED names. Built as a library that is loaded before the program's own: see refused_growths. */
+/* Makes one allocation of a program fail: the one with the number in the variable REFUSE, from 1; with REFUSE_LATER, also each later
+   one. Then it creates the file that REFUSED names. It is built as a library that is loaded before those of the program: see
+   refused_growths. */
 #define _GNU_SOURCE
 #include <dlfcn.h>
 #include <errno.h>

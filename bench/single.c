@@ -1,4 +1,4 @@
-/* Gives each read of a program no more than one byte, and writes the number of reads at its end. tests/hostile builds it. */
+/* Lets each read of a program return at most one byte, and prints the number of reads at the end. tests/hostile builds it. */
 #define _GNU_SOURCE
 #include <dlfcn.h>
 #include <stdio.h>

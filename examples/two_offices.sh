@@ -1,6 +1,6 @@
 #!/bin/sh
-# Two offices that work offline, one conflict, one merge: runs each line of a script in a new folder, and prints its output. To run
-# another script: sh examples/two_offices.sh three_offices.txt
+# Two offices that work offline, one conflict, one merge. This runs each line of a script in a new folder, and prints its output. To
+# run another script: sh examples/two_offices.sh three_offices.txt
 root=$(cd "$(dirname "$0")/.." && pwd)
 folder=$(mktemp -d) && cp "$root"/crates/conformance/data/* "$folder" && cd "$folder" || exit 1
 

@@ -1,7 +1,7 @@
-"""Texts that tests/hostile damages, and how it damages bytes."""
+"""Texts that tests/hostile damages, and the ways in which it damages bytes."""
 import re
 
-# A text with each node and each slot of the grammar, and the tokens that are put in the place of each of its own.
+# Texts with each node and each slot of the grammar, and the tokens that replace each of their tokens.
 UNIT = b'LENGTHUNIT["m",1,ID["U",1]]'
 GEODETIC = (
     b'GEODCRS["G",ENSEMBLE["E",MEMBER["M",ID["A",1]],ELLIPSOID["S",6378137,298.25,' + UNIT + b',ID["S",1]],ENSEMBLEACCURACY[2],ID["E",1]],'
@@ -25,7 +25,7 @@ HEIGHT = b'VERTCRS["H",VDATUM["D"],CS[vertical,1],AXIS["height (H)",up],LENGTHUN
 
 
 def damaged(data):
-    """Every front of the bytes, and every byte turned to 0, to 255 and to its neighbours."""
+    """The bytes truncated at each length, and with each byte set to 0, to 255 and to its neighbours."""
     for n in range(len(data)):
         yield data[:n]
     for at, byte in enumerate(data):
@@ -34,7 +34,7 @@ def damaged(data):
 
 
 def stretched(data):
-    """Every stretch of as many bytes as a field has, said twice, and left out; every two of them that follow each other, swapped."""
+    """The bytes with each run of the length of a field repeated, removed, and swapped with the next."""
     for width in (1, 4, 20):
         for at in range(len(data) - width + 1):
             yield data[:at + width] + data[at:]
@@ -44,14 +44,14 @@ def stretched(data):
 
 
 def large_counts(data):
-    """Every four bytes turned to the greatest count, and to one more than a file may have."""
+    """The bytes with each four of them set to the greatest count, and to one more than a file may have."""
     for at in range(len(data) - 3):
         for count in (b"\xff\xff\xff\xff", b"\x04\x00\x00\x01", b"\x00\x01\x00\x01"):
             yield data[:at] + count + data[at + 4:]
 
 
 def retold(text, others):
-    """Every token of a text left out, said twice, swapped with the next, and turned into each of the others."""
+    """A text with each token removed, repeated, swapped with the next, and replaced by each of the others."""
     tokens = re.findall(rb'"[^"]*"|[A-Za-z]\w*|[-+.\dEe]+|.', text, re.S)
     for at, token in enumerate(tokens):
         front, rest = b"".join(tokens[:at]), b"".join(tokens[at + 1:])

@@ -1,8 +1,8 @@
 #!/usr/bin/env python3
-"""Which program a script runs: the one that is named to it, else the one that ./crsreg runs.
+"""Finds the program that a script tests: its argument, or by default the one that ./crsreg runs.
 
-Scripts of the shell call this file: `tests/program.py [PROGRAM]` prints the program's path. Where there is none, a
-sentence on standard error says why, and the status is not 0.
+Shell scripts run this file: `tests/program.py [PROGRAM]` prints the program's path. If there is none, it prints the reason to
+standard error, and the status is not 0.
 """
 import os
 import subprocess
@@ -13,11 +13,11 @@ ROOT = Path(__file__).resolve().parent.parent
 
 
 def program_of(named=None):
-    """The path of the program that is named, or of the one that ./crsreg runs; without one, the script ends here."""
+    """The path of the named program, or of the one that ./crsreg runs. If there is none, the script ends."""
     if named:
         path = os.path.realpath(named)
         if not (os.path.isfile(path) and os.access(path, os.X_OK)):
-            sys.exit(f"{sys.argv[0]}: {named} is no program")
+            sys.exit(f"{sys.argv[0]}: {named} is not a program")
         return path
     asked = subprocess.run([ROOT / "crsreg", "--which"], stdout=subprocess.PIPE, text=True, check=False)
     if asked.returncode:

@@ -1,4 +1,4 @@
-"""What tests/stops and tests/outputs share: runs of the program in which strace stops it at a system call, or makes one fail."""
+"""Code of tests/stops and tests/outputs: runs in which strace kills the program at a system call, or makes a call fail."""
 import re
 import shutil
 import subprocess
@@ -11,12 +11,12 @@ from tempfile import TemporaryDirectory
 A, B = (f"00000000-0000-4000-8000-00000000000{it}" for it in "ab")
 HEIGHT = 'VERTCRS["%s",VDATUM["D"],CS[vertical,1],AXIS["height (H)",up],LENGTHUNIT["metre",1],ID["X",%d]]'
 
-# Where a process begins and ends: there is nothing to stop any more, or nothing yet.
+# The calls at which a process begins and ends: there is nothing to stop.
 EDGES = {"execve", "exit", "exit_group"}
 
 
 class Tally:
-    """How many tests passed, and how many failed, each of which is printed."""
+    """How many tests passed, and how many failed. Prints each failed one."""
 
     def __init__(self):
         self.passed = self.failed = 0
@@ -52,7 +52,7 @@ def done(program, words, folder):
 
 
 def can_trace(program, folder):
-    """Whether strace can stop a program here; else a line says that it is skipped."""
+    """Whether strace can stop a program here; otherwise prints a line that begins with `skipped:`."""
     if shutil.which("strace") is None:
         print("skipped: stops at each system call: needs strace")
         return False
@@ -71,7 +71,7 @@ def calls_of(program, folder, words):
 
 @contextmanager
 def small_file_system(size):
-    """A folder on a file system of so many bytes, or none where it cannot be mounted."""
+    """A folder on a file system of so many bytes, or None if it cannot be mounted."""
     with TemporaryDirectory() as name:
         mounted = subprocess.run(["mount", "-t", "tmpfs", "-o", f"size={size}", "tmpfs", name], capture_output=True, check=False)
         if mounted.returncode:
@@ -85,7 +85,7 @@ def small_file_system(size):
 
 
 def fill(folder):
-    """Takes all room that is left."""
+    """Fills the file system."""
     with open(folder / "filler", "wb", buffering=0) as filler:
         try:
             while filler.write(bytes(4096)):

@@ -1,4 +1,4 @@
-# Words of the command lines beside this file that the system does not have.
+# Variables and functions for the command lines in this folder.
 A=00000000-0000-4000-8000-00000000000a
 B=00000000-0000-4000-8000-00000000000b
 C=00000000-0000-4000-8000-00000000000c

@@ -1,4 +1,4 @@
-//! The file of a register, written and read.
+//! Writes and reads the file of a register.
 
 ghost use Rattle.std.specs.Prelude.{◌<◌, ◌+◌, ◌^◌};
 
@@ -17,7 +17,7 @@ const BEFORE: &[u8] =
 
 const BEHIND: &[u8] = b"]]";
 
-/// Makes a register, writes and reads its file, and prints how much it was.
+/// Makes a register, writes its file, reads it back, and prints the sizes.
 pub fn run(rt: &HostRuntime, words: &[String]) -> io::Result<()> {
     let alloc = rt.alloc();
     let entries = number(words, 2, 10);
@@ -43,7 +43,7 @@ pub fn run(rt: &HostRuntime, words: &[String]) -> io::Result<()> {
     println!(rt; "{} entries, {} bytes, {} read", entries, file.len(), kept)
 }
 
-// The register of so many entries from a number on, which differ in their code: two halves, joined.
+// A register of `count` entries with consecutive codes, as the join of two halves.
 fn made(alloc: Global, from: u32, count: u32) -> Option<Register>
     requires { from + count < 2 ^ 32 }
 {

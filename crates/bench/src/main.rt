@@ -1,12 +1,12 @@
-//! Does what is to be timed, as often as asked, and prints counts alone: the time is taken from outside.
+//! Repeats the work that is timed, and prints only counts: the caller takes the time.
 //!
-//! - `bench texts FILE TIMES [WORK]` reads each text of a file, one a line, and writes it again. WORK is how far it goes: `scan`,
-//!   `slots`, `read`, `write`, `canonical`, `pretty` or `define`.
-//! - `bench registers SIZE JOINS CONTENTS COPIES` makes two registers of SIZE operations each, half of them in both. Then it
-//!   joins them, makes the left one anew of its content, and copies it.
-//! - `bench takes ENTRIES SUPERSESSIONS RETIREMENTS` takes so many operations one at a time.
-//! - `bench files ENTRIES WRITES READS` makes a register of so many entries, writes its file, and reads it.
-//! - `bench all FILE` does all, a little.
+//! - `bench texts FILE TIMES [WORK]` reads each text of a file, one a line, and writes it again. WORK selects how far it goes:
+//!   `scan`, `slots`, `read`, `write`, `canonical`, `pretty` or `define`.
+//! - `bench registers SIZE JOINS CONTENTS COPIES` makes two registers of SIZE operations each, half of them shared. Then it
+//!   joins them, rebuilds the left one from its content, and copies it.
+//! - `bench takes ENTRIES SUPERSESSIONS RETIREMENTS` takes these numbers of operations, one operation at a time.
+//! - `bench files ENTRIES WRITES READS` makes a register of ENTRIES entries, writes its file, and reads it.
+//! - `bench all FILE` runs each of these briefly.
 #![tactic(auto)]
 
 mod files;
@@ -44,7 +44,7 @@ fn main(rt: HostRuntime) -> io::Result<()> {
     }
 }
 
-/// The number that a word is, or another one.
+/// The number in the word at this index, or `otherwise`.
 pub fn number(words: &[String], at: usize, otherwise: u32) -> u32 {
     match words.get(at) {
         Some(word) => word.as_str().parse::<u32>().unwrap_or(otherwise),

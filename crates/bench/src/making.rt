@@ -12,7 +12,7 @@ const TEXT: &[u8] =
 
 const REPLICAS: u32 = 21;
 
-/// What all entries of these registers enter.
+/// The definition that all entries of these registers share.
 pub fn shared_definition(alloc: Global) -> Result<Definition, Refused> {
     match Definition::from_canonical(alloc, TEXT) {
         Ok(definition) => Ok(definition),
@@ -20,7 +20,7 @@ pub fn shared_definition(alloc: Global) -> Result<Definition, Refused> {
     }
 }
 
-/// The operations of two thirds of the replicas: of those whose number, divided by three, doesn't leave this one.
+/// The operations of two thirds of the replicas: those whose number modulo three is not `left_out`.
 pub fn side(alloc: Global, size: u32, left_out: u32) -> Result<Register, Refused> {
     let definition = shared_definition(alloc)?;
     let own = size / 14;
@@ -38,7 +38,7 @@ pub fn side(alloc: Global, size: u32, left_out: u32) -> Result<Register, Refused
     Ok(all)
 }
 
-// The operations of a replica with some counts.
+// The operations of a replica with these counts.
 fn part_of(
     alloc: Global,
     definition: &Definition,
@@ -81,7 +81,7 @@ fn few(
     Ok(register)
 }
 
-// Of ten operations seven enter, two supersede, and one retires what was superseded first.
+// Of ten operations, seven enter, two supersede, and one retires the entry that was superseded first.
 fn op_of(alloc: Global, definition: &Definition, replica: Uuid, count: u32) -> Result<Op, Refused> {
     let block = count / 10 * 10;
     let entry = |k: u32| OpId::new(replica, block.saturating_add(k)).ok_or(Refused);

@@ -1,4 +1,4 @@
-//! Registers that are joined, made anew and copied.
+//! Joins, rebuilds and copies registers.
 
 use crate::making::side;
 use crate::work::{contents, copies, joins};
@@ -6,7 +6,7 @@ use crate::{Refused, count_of, number};
 use std::alloc::Global;
 use std::io;
 
-// How many operations are kept left, right, and in all that was made.
+// The numbers of operations in the left register, the right one, and all results.
 #[derive(Clone, Copy)]
 struct Counts {
     left: usize,
@@ -16,7 +16,7 @@ struct Counts {
     copied: u64,
 }
 
-/// Makes, joins and copies registers, and prints how many operations there were.
+/// Makes, joins and copies registers, and prints the numbers of operations.
 pub fn run(rt: &HostRuntime, words: &[String]) -> io::Result<()> {
     match counted(rt.alloc(), words) {
         Ok(counts) => print(rt, counts),

@@ -1,4 +1,4 @@
-//! Operations that are taken one at a time.
+//! Takes operations one at a time.
 
 use crate::making::shared_definition;
 use crate::{Refused, count_of, number};
@@ -8,7 +8,7 @@ use std::alloc::Global;
 use std::io;
 use uuid::Uuid;
 
-/// Takes entries, supersessions of them and retirements of them, and prints how many operations are kept.
+/// Takes entries, their supersessions and their retirements, and prints how many operations are kept.
 pub fn run(rt: &HostRuntime, words: &[String]) -> io::Result<()> {
     match kept(rt.alloc(), words) {
         Ok(count) => println!(rt; "{count} operations are kept of those that were taken"),

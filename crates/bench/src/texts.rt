@@ -1,4 +1,4 @@
-//! Texts that are read, and written again: FILE has one a line.
+//! Reads texts and writes them again. FILE has one text a line.
 
 use crate::number;
 use std::alloc::{AllocError, Global};
@@ -9,7 +9,7 @@ use wkt_crs::{
 use wkt_grammar::{Edition, check_slots};
 use wkt_tree::scan;
 
-/// What is done with a text.
+/// How far a text is processed.
 #[derive(Clone, Copy)]
 enum Work {
     /// Its tokens and brackets are tested.
@@ -18,7 +18,7 @@ enum Work {
     Slots,
     /// Its value is built, and the conditions are tested.
     Read,
-    /// It is read, and what is read is written.
+    /// It is read, and its value is written.
     Write,
     /// Its canonical text is made.
     Canonical,
@@ -56,7 +56,7 @@ const NONE: Counts = Counts {
     bytes: 0,
 };
 
-// What the words ask for.
+// The work that the words ask for.
 #[derive(Clone, Copy)]
 struct Task<'a> {
     file: &'a str,
@@ -77,7 +77,7 @@ fn asked(words: &[String]) -> Option<Task<'_>> {
     })
 }
 
-/// Goes over the texts of a file, and prints how many are written and refused.
+/// Processes the texts of a file, and prints how many were written and how many refused.
 pub fn run(rt: &HostRuntime, words: &[String]) -> io::Result<()> {
     let Some(Task { file, times, work }) = asked(words) else {
         return println!(rt; "texts FILE TIMES [scan|slots|read|write|canonical|pretty|define]");
@@ -94,7 +94,7 @@ pub fn run(rt: &HostRuntime, words: &[String]) -> io::Result<()> {
     )
 }
 
-// The lines that are not empty, found once, so that the time is that of the texts alone.
+// The non-empty lines. They are found once, so that only the texts are timed.
 fn lines_of<'a>(alloc: Global, file: &'a [u8]) -> Result<Vec<&'a [u8]>, AllocError> {
     let mut lines = Vec::new(alloc);
     for line in file.split(|byte| *byte == b'\n') {
@@ -119,7 +119,7 @@ fn do_all(alloc: Global, texts: &[&[u8]], work: Work) -> Result<Counts, AllocErr
     Ok(counts)
 }
 
-// How many bytes were made of the text, unless it is refused.
+// The number of bytes written for the text, or none if it is refused.
 fn written(alloc: Global, text: &[u8], work: Work) -> Result<Option<usize>, AllocError> {
     match work {
         Work::Scan => Ok(scan(text).ok().map(|_| 0)),

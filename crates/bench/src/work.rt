@@ -1,4 +1,4 @@
-//! What is timed.
+//! The work that is timed.
 
 ghost use Rattle.std.specs.Prelude.{◌≡◌, IfOk};
 
@@ -7,7 +7,7 @@ use reg_op::Op;
 use reg_state::{Join, Register};
 use std::alloc::{AllocError, Global};
 
-/// Joins two registers some times, and counts the operations of all joins.
+/// Joins two registers `times` times, and counts the operations of all joins.
 pub fn joins(alloc: Global, left: &Register, right: &Register, times: u32) -> Result<u64, Refused> {
     let mut count = 0u64;
     for _ in 0..times {
@@ -19,7 +19,7 @@ pub fn joins(alloc: Global, left: &Register, right: &Register, times: u32) -> Re
     Ok(count)
 }
 
-/// Makes a register of another one's content some times.
+/// Rebuilds a register from its content `times` times, and counts the operations.
 pub fn contents(alloc: Global, register: &Register, times: u32) -> Result<u64, Refused> {
     let mut count = 0u64;
     for _ in 0..times {
@@ -29,7 +29,7 @@ pub fn contents(alloc: Global, register: &Register, times: u32) -> Result<u64, R
     Ok(count)
 }
 
-/// Copies a register some times.
+/// Copies a register `times` times, and counts the operations.
 pub fn copies(alloc: Global, register: &Register, times: u32) -> Result<u64, Refused> {
     let mut count = 0u64;
     for _ in 0..times {
@@ -41,7 +41,7 @@ pub fn copies(alloc: Global, register: &Register, times: u32) -> Result<u64, Ref
     Ok(count)
 }
 
-// The register of the same content.
+// A register with the same content.
 fn anew(alloc: Global, register: &Register) -> Result<Register, Refused> {
     let Ok(ops) = all_of(alloc, register.ops().as_slice()) else {
         return Err(Refused);

@@ -1,4 +1,4 @@
--- What the calls of a disk do, and what a stop may leave.
+-- The effects of the calls of a disk, and the bytes that a stop may leave.
 use Rattle.std.specs.Prelude.{◌≡◌, ◌⊎◌, ◌↔◌, ◌≤◌, ◌<◌, ◌+◌, ◌-◌, ℕ, min, max, List, length, take, drop}
 use Rattle.std.specs.declared.result.Result.{Result}
 use Rattle.std.specs.Prelude.{MatchResult}

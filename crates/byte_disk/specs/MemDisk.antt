@@ -1,4 +1,4 @@
--- What a disk in memory shows.
+-- The state of a disk in memory, as its callers see it.
 use Rattle.std.specs.Prelude.{◌≡◌}
 use Rattle.byte_disk.specs.declared.mem_disk.MemDisk.{MemDisk}
 

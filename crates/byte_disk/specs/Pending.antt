@@ -1,4 +1,4 @@
--- What a stop leaves, by its effect on unsynced bytes.
+-- The bytes that a stop leaves, by its effect on unsynced bytes.
 use Rattle.std.specs.Prelude.{ℕ, List, [], ◌∷◌, length, replicate}
 use Rattle.byte_disk.specs.Record.{overlaid}
 use Rattle.byte_disk.specs.declared.span.Write.{Write}

@@ -1,4 +1,4 @@
--- What a disk in memory keeps of its calls, and what a stop may leave by it.
+-- The record that a disk in memory keeps of its calls, and the bytes that a stop may leave according to it.
 use Rattle.std.specs.Prelude.{◌≡◌, ◌⊎◌, ◌≤◌, ◌+◌, ◌-◌, ◌++◌, ◌∷◌, [], ◌&&◌, ℕ, Bool, true, List, length, take, drop, replicate, nat_lt, if◌then◌else◌}
 use Rattle.byte_disk.specs.Disk.{Torn}
 use Rattle.byte_disk.specs.declared.span.Write.{Write}
@@ -19,11 +19,11 @@ abbrev pub Reaches : List ℕ → List Write → List ℕ → Type 0
 Reaches base [] c = c ≡ base
 Reaches base (w ∷ writes) c = (d : List ℕ) × Torn w.at (length w.bytes.items) base d × Reaches d writes c
 
--- what a stop in a span may leave
+-- the bytes that a stop in a span may leave
 abbrev pub SpanLeaves : Span → List ℕ → Type 0
 SpanLeaves span c = Reaches span.base.items span.writes.items c
 
--- what a stop in one of the spans might have left, at the moment t or later
+-- the bytes that a stop in one of the spans might have left, at the moment t or later
 abbrev pub WasLeft : List Past → ℕ → List ℕ → Type 0
 WasLeft [] t c = ⊥
 WasLeft (p ∷ past) t c = ((t ≤ p.last.count) × SpanLeaves p.span c) ⊎ WasLeft past t c

@@ -54,7 +54,7 @@ torn_if : (done : Bool) (old : List ℕ) (at : ℕ) (bytes : List ℕ) → Torn 
 torn_if true old at bytes = (written_overlaid old at bytes).torn
 torn_if false old at bytes = torn_none at (length bytes) old
 
--- what the writes give, each done or not, is one of the things that a stop may leave
+-- the bytes after the writes, each done or not, are among those that a stop may leave
 pub reaches_applied : (base : List ℕ) (writes : List Write) → Reaches base writes (applied base writes)
 reaches_applied base [] = refl
 reaches_applied base (w ∷ writes) =

@@ -1,4 +1,4 @@
-//! A disk with stops, as its images and its clock.
+//! A model of a disk that can stop: its images and its clock.
 
 ghost use Rattle.std.specs.Prelude.{◌≡◌, ◌≤◌, List, ℕ, Bool, IsTrue, IfOk, OnOk, OnErr, length};
 ghost use Rattle.byte_io.specs.Device.{CountsFailure};
@@ -6,7 +6,7 @@ ghost use Rattle.byte_disk.specs.Disk.{ReadsAt, IsWritten, Torn, Follows, Only, 
 
 use std::alloc::AllocError;
 
-/// A failure of a disk. The contract says what it may have done before.
+/// A failure of a disk. The contract says what the call may have done before it failed.
 #[derive(Clone, Copy, Debug, PartialEq, Eq)]
 pub struct DiskFault;
 
@@ -48,7 +48,7 @@ pub trait Disk {
         ensures failure { CountsFailure result (failures self.old) (failures self.new) }
         ensures tells { tells self.new ≡ tells self.old };
 
-    /// Writes over what is there, and past the end. Until a sync a stop may leave any bytes in the range.
+    /// Overwrites bytes, and may extend past the end. Until a sync, a stop may leave any bytes in the range.
     fn write_at(&mut self, at: u64, bytes: &[u8]) -> Result<(), DiskFault>
         ensures written { IsTrue (tells self.old)
             → OnOk result (IsWritten (seen self.old) at bytes.now (seen self.new)) }
@@ -59,7 +59,7 @@ pub trait Disk {
         ensures failure { CountsFailure result (failures self.old) (failures self.new) }
         ensures tells { tells self.new ≡ tells self.old };
 
-    /// Syncs what was written.
+    /// Syncs all earlier writes.
     fn sync(&mut self) -> Result<(), DiskFault>
         ensures durable { IsTrue (tells self.old)
             → OnOk result (Only (seen self.old) (images self.new)) }
@@ -73,14 +73,14 @@ pub trait Disk {
         ensures failure { CountsFailure result (failures self.old) (failures self.new) }
         ensures tells { tells self.new ≡ tells self.old };
 
-    /// What is read is one of the images.
+    /// The bytes that a read returns are one of the images.
     ghost seen_is_image: { (d : Self) → IsTrue (tells d) → images d (seen d) };
 
-    /// This moment is one of those since an earlier one.
+    /// An image at this moment is an image since any earlier moment.
     ghost counts_now: { (d : Self) (t : ℕ) (c : List ℕ) → IsTrue (tells d)
         → t ≤ moment d → images d c → images_since d t c };
 
-    /// Since this moment there is no other.
+    /// The images since this moment are those at this moment.
     ghost only_now: { (d : Self) (c : List ℕ) → IsTrue (tells d)
         → images_since d (moment d) c → images d c };
 }

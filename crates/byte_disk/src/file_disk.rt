@@ -27,7 +27,7 @@ impl<F: Read + Write + Seek + OpenFile> FileDisk<F> {
     }
 }
 
-/// Reads until there is no room or the file ends.
+/// Reads until the buffer is full or the file ends.
 pub(crate) fn read_in<F: Read + Seek>(file: &mut F, at: u64, buf: &mut [u8]) -> io::Result<usize>
     ensures { IfOk result (λ n. n ≤ length buf.new) }
 {

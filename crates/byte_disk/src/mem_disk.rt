@@ -1,4 +1,4 @@
-//! A disk in memory, for tests: it can be set to fail and to stop, and returns what a stop leaves.
+//! A disk in memory, for tests. It can be set to fail and to stop, and returns the bytes that a stop leaves.
 
 ghost use Rattle.std.specs.Prelude.{◌≡◌, ◌⊎◌, List, ℕ, true, IsTrue, IfOk};
 ghost use Rattle.std.proofs.Common.{inl, sym, subst};
@@ -15,7 +15,7 @@ use byte_io::{NotOpened, Tally};
 use std::alloc::{AllocError, Global};
 use std::mem;
 
-/// A disk in memory, which tells everything.
+/// A disk in memory. All members of its model are known.
 #[derive(Drop)]
 pub struct MemDisk {
     alloc: Global,
@@ -123,7 +123,7 @@ impl MemDisk {
         })
     }
 
-    /// What it reads as.
+    /// The bytes that a read returns.
     pub fn bytes(&self) -> &[u8]
         ensures { result.now ≡ ⟦<MemDisk as Disk>⟧.seen self.now }
     {
@@ -155,7 +155,7 @@ impl MemDisk {
         self.opens = false;
     }
 
-    /// What a stop now may leave, with the unsynced bytes as given.
+    /// The bytes that a stop at this moment leaves, with the unsynced bytes as given.
     pub fn left(&self, pending: Pending) -> Result<Vec<u8>, AllocError>
         ensures image { IfOk result (λ v. ⟦<MemDisk as Disk>⟧.images self.now v.items) }
         ensures value { IfOk result (λ v. v.items ≡ left_by pending
@@ -168,7 +168,7 @@ impl MemDisk {
         Ok(content)
     }
 
-    /// How many calls there were.
+    /// The number of calls so far.
     pub fn calls(&self) -> u64
         ensures { result ≡ self.now.script.calls }
     {

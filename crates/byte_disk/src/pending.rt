@@ -1,6 +1,6 @@
-//! What a stop does to unsynced bytes.
+//! The effect of a stop on unsynced bytes.
 
-/// What a stop does to the bytes that were written since the last sync.
+/// The effect of a stop on the bytes that were written since the last sync.
 #[derive(Clone, Copy, Debug, PartialEq, Eq)]
 pub enum Pending {
     /// They are as before the writes.

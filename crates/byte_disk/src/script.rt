@@ -1,4 +1,4 @@
-//! Which calls of a disk in memory fail.
+//! The calls of a disk in memory that fail.
 
 ghost use Rattle.std.specs.Prelude.{◌≡◌, None};
 
@@ -12,7 +12,7 @@ pub(crate) enum Fate {
     Stopped,
 }
 
-/// How many calls there were, at which the disk stops, and which one fails.
+/// The number of calls so far, the call at which the disk stops, and the call that fails.
 #[derive(Clone, Copy, Debug, Drop)]
 pub(crate) struct Script {
     pub(crate) calls: u64,

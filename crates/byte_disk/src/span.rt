@@ -1,4 +1,4 @@
-//! What a disk in memory keeps of its calls.
+//! The calls that a disk in memory records.
 
 use byte_io::Tally;
 
@@ -10,7 +10,7 @@ pub(crate) struct Write {
     pub(crate) done: bool,
 }
 
-/// What the last sync left, and the writes since, the oldest first.
+/// The bytes after the last sync, and the writes since then, the oldest first.
 #[derive(Drop)]
 pub(crate) struct Span {
     pub(crate) base: Vec<u8>,

@@ -1,4 +1,4 @@
--- What a contract sees of a device, and what one call of it does.
+-- The state of a device as contracts see it, and the effect of one call.
 use Rattle.std.specs.Prelude.{◌≡◌, ◌<◌, ◌+◌, ◌++◌, ℕ, List, [], Option, MatchResult, take}
 use Rattle.std.specs.declared.result.Result.{Result}
 use Rattle.std.specs.Io.KnownBytes.{Keeps}

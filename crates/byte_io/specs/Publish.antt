@@ -1,4 +1,4 @@
--- What opening a target and writing all of some bytes to it do.
+-- The effect of opening a target and writing all of some bytes to it.
 use Rattle.std.specs.Prelude.{◌≡◌, ◌<◌, ◌+◌, ◌++◌, ℕ, List, length, take}
 use Rattle.std.specs.Io.KnownBytes.{Appends, Keeps}
 use Rattle.byte_io.specs.Device.{SinkState}

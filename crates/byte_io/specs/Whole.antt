@@ -30,7 +30,7 @@ abbrev pub StopsEarly : ℕ → SourceState → SourceState → Type 0
 StopsEarly most old new = (bytes : List ℕ) × (new.given ≡ old.given ++ bytes) × Consumes old.left new.left bytes
     × (length bytes ≤ most) × (new.failures ≡ old.failures) × (new.ends ≡ old.ends)
 
--- what a read of up to `most` bytes did before it gave up
+-- the effect of a failed read of up to `most` bytes
 abbrev pub IsInFault : ℕ → SourceState → SourceState → InFault → Type 0
 IsInFault most old new (fault.ReadFailed n) = FailsAfter n most old new
 IsInFault most old new fault.Memory = StopsEarly most old new
@@ -56,7 +56,7 @@ pub record IsCutAt (n : ℕ) (bytes : List ℕ) (old new : SinkState) : Type 0 w
   pub cause : FailedOrTookNone old new
   pub openings : new.openings ≡ old.openings
 
--- what one read after the bytes that are there gives
+-- the result of one more read, appended to the bytes so far
 abbrev pub IsChunk : ℕ → List ℕ → List ℕ → SourceState → SourceState → Result ℕ InFault → Type 0
 IsChunk room before after old new (Ok n) = (bytes : List ℕ) × (after ≡ before ++ bytes) × (length bytes ≡ n) × (n ≤ room)
     × (new.given ≡ old.given ++ bytes) × Consumes old.left new.left bytes × (new.failures ≡ old.failures)

@@ -4,7 +4,7 @@ ghost use Rattle.std.specs.Borrow.{ftrue};
 
 use std::marker::Model;
 
-/// The bytes that were moved. A clause reads them as `bytes`.
+/// The bytes that a device has moved. Clauses name them `bytes`.
 #[derive(Drop)]
 pub struct Log {
     pub ghost bytes: { List ℕ },

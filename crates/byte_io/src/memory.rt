@@ -10,7 +10,7 @@ use crate::source::Source;
 use crate::tally::Tally;
 use std::alloc::Global;
 
-/// What a source in memory does at its end.
+/// How a source in memory behaves at its end.
 #[derive(Clone, Copy, Debug, PartialEq, Eq)]
 pub enum Then {
     /// Each further call gives nothing.
@@ -97,7 +97,7 @@ impl Endless {
         }
     }
 
-    /// How many bytes it has given.
+    /// The number of bytes given so far.
     pub fn count(&self) -> u64
         ensures { result ≡ self.now.count }
     {
@@ -131,7 +131,7 @@ impl Source for Endless {
     }
 }
 
-/// What a sink in memory does once it is full.
+/// How a sink in memory behaves once it is full.
 #[derive(Clone, Copy, Debug, PartialEq, Eq)]
 pub enum Full {
     /// Each further call takes nothing.
@@ -169,7 +169,7 @@ impl Room {
         }
     }
 
-    /// What was written so far.
+    /// The bytes written so far.
     pub fn taken(&self) -> &[u8]
         ensures { Some result.now ≡ (⟦<Room as Sink>⟧.state self.now).written }
     {

@@ -40,7 +40,7 @@ impl MemoryTarget {
         }
     }
 
-    /// What was written so far.
+    /// The bytes written so far.
     pub fn taken(&self) -> &[u8]
         ensures { Some result.now ≡ (⟦<MemoryTarget as Sink>⟧.state self.now).written }
     {

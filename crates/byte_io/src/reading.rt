@@ -7,10 +7,10 @@ use crate::fault::InFault;
 use crate::source::Source;
 use std::alloc::Global;
 
-/// How many bytes are read at once.
+/// The number of bytes read at once.
 const CHUNK: usize = 16_384;
 
-/// Reads at most `room` bytes once, through the chunk, and appends them. It gives none only at the end.
+/// Reads at most `room` bytes once, through the chunk, and appends them. Only at the end it reads none.
 fn read_chunk<S: Source>(
     source: &mut S,
     chunk: &mut [u8; CHUNK],

@@ -6,7 +6,7 @@ ghost use Rattle.byte_io.specs.Device.{SinkState, CountsFailure, CountsNone, Mov
 
 use crate::fault::DeviceFault;
 
-/// Takes bytes, some at a time. One that has never been opened takes none.
+/// Takes bytes, some at a time. Before it is opened, it takes none.
 pub trait Sink {
     /// The bytes that it holds, if they are known, those that it took, and its counts.
     ghost state: { Self → SinkState };

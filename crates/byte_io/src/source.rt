@@ -6,7 +6,7 @@ ghost use Rattle.byte_io.specs.Device.{SourceState, CountsFailure, CountsNone, M
 
 use crate::fault::DeviceFault;
 
-/// Gives bytes, some at a time. At `Ok(0)`, with room for a byte, it is at its end.
+/// Gives bytes, some at a time. `Ok(0)` for a buffer that is not empty means the end.
 pub trait Source {
     /// The bytes that it will give, if they are known, those that it gave, and its counts.
     ghost state: { Self → SourceState };

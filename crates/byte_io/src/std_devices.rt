@@ -10,7 +10,7 @@ use crate::source::Source;
 use crate::tally::Tally;
 use std::io::{Read, Write};
 
-/// One of std's readers as a source. It makes one call of the reader for each of its own.
+/// One of std's readers as a source. Each call makes one call of the reader.
 #[derive(Drop)]
 pub struct Reading<R> {
     reader: R,
@@ -20,7 +20,7 @@ pub struct Reading<R> {
 }
 
 impl<R: Read> Reading<R> {
-    /// The reader as a source without failures.
+    /// The reader as a source that has not failed.
     pub fn new(reader: R) -> Reading<R>
         ensures { ⟦<Reading<R> as Source>⟧.state result ≡ source_of (R.remaining reader) }
     {
@@ -71,7 +71,7 @@ impl<R: Read> Source for Reading<R> {
     }
 }
 
-/// One of std's writers as a sink. It makes one call of the writer for each of its own.
+/// One of std's writers as a sink. Each call makes one call of the writer.
 #[derive(Drop)]
 pub struct Writing<W> {
     writer: W,
@@ -81,7 +81,7 @@ pub struct Writing<W> {
 }
 
 impl<W: Write> Writing<W> {
-    /// The writer as a sink without failures.
+    /// The writer as a sink that has not failed.
     pub fn new(writer: W) -> Writing<W>
         ensures { ⟦<Writing<W> as Sink>⟧.state result ≡ sink_of (W.contents writer) }
     {

@@ -4,7 +4,7 @@ ghost use Rattle.std.specs.Borrow.{ftrue};
 
 use std::marker::Model;
 
-/// How often something has happened. A clause reads the number as `count`.
+/// The number of times that something has happened. Clauses name it `count`.
 #[derive(Drop)]
 pub struct Tally {
     pub ghost count: { ℕ },
@@ -15,14 +15,14 @@ impl Model for Tally {
 }
 
 impl Tally {
-    /// It has not happened.
+    /// The count 0.
     pub fn none() -> Tally
         ensures { result.count ≡ 0 }
     {
         Tally {}
     }
 
-    /// It has happened once more.
+    /// The count after one more time.
     pub fn after(_before: &Tally) -> Tally
         ensures { result.count ≡ _before.now.count + 1 }
     {

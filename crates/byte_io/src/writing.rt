@@ -6,7 +6,7 @@ ghost use Rattle.byte_io.specs.Whole.{WritesAll, IsCutAt};
 use crate::fault::WriteFault;
 use crate::sink::Sink;
 
-/// Writes all the bytes, however the sink splits them. A write that takes none ends the call.
+/// Writes all the bytes, however the sink splits them. If a write takes none, the call fails.
 pub fn write_all<K: Sink>(sink: &mut K, bytes: &[u8]) -> Result<(), WriteFault>
     ensures ok { OnOk result (WritesAll bytes.now (K.state sink.old) (K.state sink.new)) }
     ensures fault { IfErr result (λ e. IsCutAt e.written bytes.now (K.state sink.old) (K.state sink.new)) }

@@ -1,4 +1,4 @@
--- How far the turn of a file has come.
+-- The state of a file that is opened at its first read.
 use Rattle.std.specs.Prelude.{Bool, true, false}
 use Rattle.byte_late.specs.declared.file.Turn.{Turn}
 use Rattle.byte_late.specs.declared.file.Turn.TheVariants as turn

@@ -9,7 +9,7 @@ use std::fs;
 use std::io::Read;
 use std::rt::Files;
 
-// How far the turn of a file has come.
+// The state of a file: not opened yet, open, closed, or failed to open.
 #[derive(Drop)]
 enum Turn<F> {
     Waits,
@@ -18,7 +18,7 @@ enum Turn<F> {
     Shut,
 }
 
-/// The file of a path, which is opened at its first read. No contract says what the system has there.
+/// The file of a path, which is opened at its first read. No contract describes the file system.
 #[derive(Drop)]
 pub struct LateFile<'a, R: Files> {
     rt: &'a R,

@@ -1,4 +1,4 @@
-//! Sources that are opened when their turn comes: at the first read, and closed before the next one is opened.
+//! Sources that are opened one after another: each at its first read, after the one before it is closed.
 #![tactic(auto)]
 
 mod file;

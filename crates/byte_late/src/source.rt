@@ -2,18 +2,18 @@
 
 use byte_io::Source;
 
-/// A source that is opened at its first read. One that does not open fails there, having given nothing.
+/// A source that is opened at its first read. If it does not open, that read fails.
 pub trait LateSource: Source {
     ghost use Rattle.std.specs.Prelude.{◌≡◌, Bool};
 
-    /// It was to be opened, and did not open.
+    /// Whether the first read failed to open it.
     ghost shut: { Self → Bool };
 
-    /// Whether it did not open.
+    /// Whether the first read failed to open it.
     fn is_shut(&self) -> bool
         ensures { result ≡ shut self.now };
 
-    /// Closes it, so that it takes up nothing of the system. What it gave is unchanged.
+    /// Closes it, and frees its descriptor. The bytes that it gave are unchanged.
     fn close(&mut self)
         ensures gave { Self.state self.new ≡ Self.state self.old }
         ensures shut { shut self.new ≡ shut self.old };

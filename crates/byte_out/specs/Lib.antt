@@ -1,3 +1,4 @@
+pub mod Input
 pub mod Place
 pub mod Replace
 pub mod Names

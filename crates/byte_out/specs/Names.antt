@@ -15,8 +15,12 @@ abbrev pub replace_name : ReplaceFault → List ℕ
 replace_name replaced.NotOpened = codes "NotOpened"
 replace_name replaced.NewExists = codes "NewExists"
 replace_name (replaced.WriteFailed at) = codes "WriteFailed"
+replace_name replaced.Changed = codes "Changed"
+replace_name replaced.NotSynced = codes "NotSynced"
 
 abbrev pub replace_place : ReplaceFault → Option ℕ
 replace_place replaced.NotOpened = None
 replace_place replaced.NewExists = None
 replace_place (replaced.WriteFailed at) = Some at
+replace_place replaced.Changed = None
+replace_place replaced.NotSynced = None

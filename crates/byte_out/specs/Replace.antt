@@ -1,5 +1,5 @@
--- What replacing a file by one of some bytes does.
-use Rattle.std.specs.Prelude.{◌≡◌, ◌⊎◌, ◌+◌, ◌++◌, ℕ, List, None, Some, IsSome, length}
+-- The effect of replacing a file by one with some bytes.
+use Rattle.std.specs.Prelude.{◌≡◌, ◌⊎◌, ◌+◌, ◌++◌, ℕ, List, Option, None, Some, IsSome, true, length}
 use Rattle.std.specs.Io.KnownBytes.{Appends}
 use Rattle.byte_io.specs.Device.{SinkState}
 use Rattle.byte_io.specs.Publish.{Publishes, IsPublishFault}
@@ -8,12 +8,35 @@ use Rattle.byte_out.specs.Place.{Files, PlaceState, Told, Stays, IsCleared}
 use Rattle.byte_out.specs.declared.fault.ReplaceFault.{ReplaceFault}
 use Rattle.byte_out.specs.declared.fault.ReplaceFault.TheVariants as replace
 
--- a file with these bytes has the name, and there is no new file; no stop left a part of them under the name
-pub record IsReplaced (bytes : List ℕ) (old new : Files) : Type 0 where
+-- the file with the name has exactly the bytes that were read from it; if it was not read, it may have any
+abbrev pub Has : Option (List ℕ) → Files → Type 0
+Has None f = Unit {0}
+Has (Some read) f = f.stands ≡ Some read
+
+-- that was found after the new file was made: from then on no other command can replace the file
+abbrev pub Found : Option (List ℕ) → Files → Type 0
+Found None f = Unit {0}
+Found (Some read) f = f.same ≡ true
+
+-- the new file has these bytes, and a stop leaves it whole; no file was beside, and the file with the name is the one that was read
+pub record IsPrepared (read : Option (List ℕ)) (bytes : List ℕ) (old new : Files) : Type 0 where
+  pub stays : Stays old new
+  pub was_free : old.beside ≡ None
+  pub beside : new.beside ≡ Some bytes
+  pub sure : new.sure ≡ true
+  pub same_stuck : new.stuck ≡ old.stuck
+  pub has : Has read old
+  pub found : Found read new
+
+-- a file with these bytes has the name, in place of the one that was read, and there is no new file; no stop left a part of
+-- them under the name
+pub record IsReplaced (read : Option (List ℕ)) (bytes : List ℕ) (old new : Files) : Type 0 where
   pub stands : new.stands ≡ Some bytes
   pub beside : new.beside ≡ None
   pub same_torn : new.torn ≡ old.torn
   pub same_stuck : new.stuck ≡ old.stuck
+  pub has : Has read old
+  pub found : Found read new
 
 -- the old file still has the name, and there is no new file
 pub record IsKept (old new : Files) : Type 0 where
@@ -28,17 +51,25 @@ pub record FailsWhole (bytes : List ℕ) (old new : SinkState) : Type 0 where
   pub stalls : new.stalls ≡ old.stalls
   pub openings : new.openings ≡ old.openings + 1
 
--- all the bytes were written, and the new file has the name
-abbrev pub Replaces : List ℕ → PlaceState → PlaceState → Type 0
-Replaces bytes old new = Publishes bytes old.sink new.sink × Told (IsReplaced bytes) old.files new.files
+-- all the bytes were written to the new file
+abbrev pub Prepares : Option (List ℕ) → List ℕ → PlaceState → PlaceState → Type 0
+Prepares read bytes old new = Publishes bytes old.sink new.sink × Told (IsPrepared read bytes) old.files new.files
 
--- the outcome of each fault. In each case the old file still has the name
-abbrev pub IsReplaceFault : List ℕ → PlaceState → PlaceState → ReplaceFault → Type 0
+-- all the bytes were written, and the new file has the name, in place of the one that was read; it has it after a stop, too
+abbrev pub Replaces : Option (List ℕ) → List ℕ → PlaceState → PlaceState → Type 0
+Replaces read bytes old new = Publishes bytes old.sink new.sink × Told (λ f g. IsReplaced read bytes f g × (g.landed ≡ true)) old.files new.files
+
+-- the outcome of each fault. In each case but the last one the old file still has the name
+abbrev pub IsReplaceFault : Option (List ℕ) → List ℕ → PlaceState → PlaceState → ReplaceFault → Type 0
 -- nothing was beside, and nothing was made; or the new file was whole, and did not get to its name
-IsReplaceFault bytes old new replace.NotOpened = (IsPublishFault bytes old.sink new.sink publish.NotOpened × Told (λ f g. (g ≡ f) × (f.beside ≡ None)) old.files new.files)
+IsReplaceFault read bytes old new replace.NotOpened = (IsPublishFault bytes old.sink new.sink publish.NotOpened × Told (λ f g. (g ≡ f) × (f.beside ≡ None)) old.files new.files)
     ⊎ (FailsWhole bytes old.sink new.sink × Told (λ f g. IsKept f g × (f.beside ≡ None)) old.files new.files)
 -- there was a new file
-IsReplaceFault bytes old new replace.NewExists = IsPublishFault bytes old.sink new.sink publish.NotOpened × Told (λ f g. (g ≡ f) × IsSome f.beside) old.files new.files
+IsReplaceFault read bytes old new replace.NewExists = IsPublishFault bytes old.sink new.sink publish.NotOpened × Told (λ f g. (g ≡ f) × IsSome f.beside) old.files new.files
 -- exactly the first n bytes were written, not all; or all were, and the sync failed
-IsReplaceFault bytes old new (replace.WriteFailed n) = (IsPublishFault bytes old.sink new.sink (publish.WriteFailed n) × Told IsKept old.files new.files)
+IsReplaceFault read bytes old new (replace.WriteFailed n) = (IsPublishFault bytes old.sink new.sink (publish.WriteFailed n) × Told IsKept old.files new.files)
     ⊎ ((n ≡ length bytes) × FailsWhole bytes old.sink new.sink × Told IsKept old.files new.files)
+-- the new file was whole, and the file with the name is not the one that was read
+IsReplaceFault read bytes old new replace.Changed = IsSome read × Publishes bytes old.sink new.sink × Told (λ f g. IsKept f g × (Has read f → ⊥)) old.files new.files
+-- the new file has the name; a stop may leave the old one
+IsReplaceFault read bytes old new replace.NotSynced = FailsWhole bytes old.sink new.sink × Told (IsReplaced read bytes) old.files new.files

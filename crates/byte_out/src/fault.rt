@@ -32,15 +32,19 @@ impl fmt::Display for MakeFault {
     }
 }
 
-/// Why the old file was not replaced.
+/// Why the old file was not replaced, or why that is not certain.
 #[derive(Clone, Copy, Debug, PartialEq, Eq)]
 pub enum ReplaceFault {
     /// No new file was made, or it could not be renamed.
     NotOpened,
-    /// A file with the new file's name exists: of another writer, or of one that was killed.
+    /// A file with the new file's name exists. Another writer made it, or one that was killed.
     NewExists,
-    /// Exactly this many bytes were written. If these are all, the sync failed.
+    /// Exactly this many bytes were written. If all bytes were written, the sync failed.
     WriteFailed(usize),
+    /// The file is not the one that was read: another program replaced it.
+    Changed,
+    /// The new file has the name, but the sync of its folder failed: a power cut may leave the old one.
+    NotSynced,
 }
 
 impl ReplaceFault {
@@ -54,6 +58,8 @@ impl ReplaceFault {
             ReplaceFault::NotOpened => "NotOpened",
             ReplaceFault::NewExists => "NewExists",
             ReplaceFault::WriteFailed(_) => "WriteFailed",
+            ReplaceFault::Changed => "Changed",
+            ReplaceFault::NotSynced => "NotSynced",
         }
     }
 
@@ -65,6 +71,8 @@ impl ReplaceFault {
             ReplaceFault::NotOpened => None,
             ReplaceFault::NewExists => None,
             ReplaceFault::WriteFailed(place) => Some(place),
+            ReplaceFault::Changed => None,
+            ReplaceFault::NotSynced => None,
         }
     }
 }

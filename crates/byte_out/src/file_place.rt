@@ -4,9 +4,11 @@ ghost use Rattle.std.specs.Prelude.{◌≡◌, ◌<◌, None, IsSome, IfOk};
 ghost use Rattle.byte_io.specs.Device.{target_of};
 ghost use Rattle.byte_out.specs.Place.{untold};
 
+use crate::beside::WholeFiles;
 use crate::fault::MakeFault;
+use crate::lock::Lockable;
 use crate::place::Place;
-use crate::way::{Put, linked_file, open_for, put_beside};
+use crate::way::{FileId, Put, has_bytes, linked_file, open_for, put_beside, sync_folder};
 use byte_io::{DeviceFault, Log, NotOpened, Sink, Tally, WriteFault, write_all};
 use std::alloc::{AllocError, Global};
 use std::fs::{self, OpenFile};
@@ -14,14 +16,17 @@ use std::io::Write;
 use std::os::fd::AsFd;
 use std::rt::Files;
 
-/// The place of a path, or of the plain file that it leads to as a link. The new file has the name of that and `.new`; where none
-/// can be made, or put there, the file itself is written.
+/// The place of a path; if the path is a link to a plain file, the place of that file. The new file has its name with `.new`.
+/// If it cannot be made or renamed, the file itself is overwritten.
 #[derive(Drop)]
-pub struct FilePlace<'a, R: Files> {
+pub struct FilePlace<'a, R: Files, W> {
+    alloc: Global,
     rt: &'a R,
     path: &'a str,
     real: String,
     beside: String,
+    whole: &'a W,
+    avoided: Option<FileId>,
     file: Option<R::File>,
     is_beside: bool,
     taken: Log,
@@ -31,15 +36,22 @@ pub struct FilePlace<'a, R: Files> {
     ghost counted: { IsSome file → 0 < openings.count },
 }
 
-impl<'a, R: Files> FilePlace<'a, R>
+impl<'a, R: Files, W: WholeFiles> FilePlace<'a, R, W>
 where
-    R::File: AsFd,
+    R::File: AsFd + Lockable,
 {
-    /// The place of a path. Nothing is made yet, nor opened.
-    pub fn new(alloc: Global, rt: &'a R, path: &'a str) -> Result<FilePlace<'a, R>, AllocError>
+    /// The place of a path. Nothing is made or opened yet. A new file left by a stopped command is reused if it is not whole.
+    /// If the place is `other`, which the command also writes, it does not open.
+    pub fn new(
+        alloc: Global,
+        rt: &'a R,
+        path: &'a str,
+        whole: &'a W,
+        avoided: Option<FileId>,
+    ) -> Result<FilePlace<'a, R, W>, AllocError>
         ensures path { IfOk result (λ p. p.path ≡ path.entry) }
         ensures untold { IfOk result
-            (λ p. ⟦<FilePlace<'a, R> as Place>⟧.state p ≡ untold (target_of None)) }
+            (λ p. ⟦<FilePlace<'a, R, W> as Place>⟧.state p ≡ untold (target_of None)) }
     {
         let real = match linked_file(alloc, rt, path)? {
             Some(real) => real,
@@ -47,10 +59,13 @@ where
         };
         let beside = format!(in alloc; "{real}.new")?;
         Ok(FilePlace {
+            alloc,
             rt,
             path,
             real,
             beside,
+            whole,
+            avoided,
             file: None,
             is_beside: false,
             taken: Log::empty(),
@@ -61,7 +76,7 @@ where
     }
 }
 
-impl<R: Files> Sink for FilePlace<'_, R> {
+impl<R: Files, W> Sink for FilePlace<'_, R, W> {
     ghost state = { λ s. record {
       written = None;
       taken = s.taken.bytes;
@@ -91,9 +106,9 @@ impl<R: Files> Sink for FilePlace<'_, R> {
     }
 }
 
-impl<R: Files> Place for FilePlace<'_, R>
+impl<R: Files, W: WholeFiles> Place for FilePlace<'_, R, W>
 where
-    R::File: AsFd,
+    R::File: AsFd + Lockable,
 {
     ghost state = { λ s. record {
       sink = record {
@@ -107,7 +122,11 @@ where
     } };
 
     fn make(&mut self) -> Result<(), MakeFault> {
-        match open_for(self.rt, &self.real, &self.beside) {
+        if self.avoided.is_some() && self.avoided == FileId::at(self.rt, &self.real) {
+            self.failures = Tally::after(&self.failures);
+            return Err(MakeFault::NotOpened);
+        }
+        match open_for(self.alloc, self.rt, &self.real, &self.beside, self.whole) {
             Ok((file, is_beside)) => {
                 self.is_beside = is_beside;
                 self.openings = Tally::after(&self.openings);
@@ -135,6 +154,11 @@ where
         Ok(())
     }
 
+    fn still_has(&mut self, read: &[u8]) -> bool {
+        // A file that is written in place is already overwritten.
+        !self.is_beside || has_bytes(self.rt, &self.real, read)
+    }
+
     fn put(&mut self) -> Result<(), NotOpened> {
         if !self.is_beside {
             return Ok(());
@@ -142,11 +166,19 @@ where
         match put_beside(self.rt, &self.beside, &self.real) {
             Put::Done => return Ok(()),
             Put::Not => {}
-            // What is beside may be all that is whole, and stays.
+            // The new file stays: it may be the only whole one.
             Put::Partly => self.is_beside = false,
         }
         self.failures = Tally::after(&self.failures);
         Err(NotOpened)
+    }
+
+    fn land(&mut self) -> Result<(), DeviceFault> {
+        if self.is_beside && sync_folder(self.rt, &self.real).is_err() {
+            self.failures = Tally::after(&self.failures);
+            return Err(DeviceFault);
+        }
+        Ok(())
     }
 
     fn remove(&mut self) {

@@ -1,16 +1,23 @@
 //! Files that are replaced as a whole: a new file is made, synced, and renamed to the old one.
 #![tactic(auto)]
 
+mod beside;
 mod fault;
 mod file_place;
+mod input;
+mod lock;
 mod mem_place;
 mod memory_target;
 mod place;
 mod replacing;
 mod way;
 
+pub use beside::WholeFiles;
 pub use fault::{MakeFault, ReplaceFault};
 pub use file_place::FilePlace;
+pub use input::{Input, InputOf, first_kept};
+pub use lock::{Lock, Lockable};
 pub use mem_place::{MemPlace, Step};
 pub use place::Place;
-pub use replacing::replace;
+pub use replacing::{prepare, replace};
+pub use way::FileId;

@@ -1,6 +1,6 @@
-//! A place in memory, for tests: it tells its files, and can be set to fail.
+//! A place in memory, for tests. Its files are known, and it can be set to fail.
 
-ghost use Rattle.std.specs.Prelude.{◌≡◌, None, Some, false, option_map};
+ghost use Rattle.std.specs.Prelude.{◌≡◌, ◌↔◌, None, Some, true, false, option_map, IsTrue};
 ghost use Rattle.byte_io.specs.Device.{target_of};
 
 use crate::fault::MakeFault;
@@ -14,6 +14,7 @@ pub enum Step {
     Make,
     Sync,
     Put,
+    Land,
     Remove,
 }
 
@@ -26,7 +27,9 @@ pub struct MemPlace {
     room: usize,
     fails: Option<Step>,
     sure: bool,
+    same: bool,
     torn: bool,
+    landed: bool,
     taken: Log,
     failures: Tally,
     stalls: Tally,
@@ -46,7 +49,9 @@ impl MemPlace {
           stands = option_map (λ v. v.items) stands;
           beside = option_map (λ v. v.items) beside;
           sure = false;
+          same = false;
           torn = false;
+          landed = true;
           stuck = 0;
         }) }
         ensures calls { (⟦<MemPlace as Place>⟧.state result).sink ≡ target_of None }
@@ -59,7 +64,9 @@ impl MemPlace {
             room,
             fails: None,
             sure: false,
+            same: false,
             torn: false,
+            landed: true,
             taken: Log::empty(),
             failures: Tally::none(),
             stalls: Tally::none(),
@@ -96,11 +103,28 @@ impl MemPlace {
         }
     }
 
+    /// Whether the file with the name survives a stop.
+    pub fn has_landed(&self) -> bool
+        ensures { result ≡ self.now.landed }
+    {
+        self.landed
+    }
+
     /// Whether a stop so far might have left part of a new file under the name.
     pub fn is_torn(&self) -> bool
         ensures { result ≡ self.now.torn }
     {
         self.torn
+    }
+}
+
+// Whether there is a file, and it has these bytes.
+fn is_file(file: &Option<Vec<u8>>, bytes: &[u8]) -> bool
+    ensures { IsTrue result ↔ (option_map (λ v. v.items) file.now ≡ Some bytes.now) }
+{
+    match file {
+        None => false,
+        Some(held) => held.as_slice() == bytes,
     }
 }
 
@@ -117,7 +141,9 @@ impl Place for MemPlace {
         stands = option_map (λ v. v.items) s.stands;
         beside = option_map (λ v. v.items) s.beside;
         sure = s.sure;
+        same = s.same;
         torn = s.torn;
+        landed = s.landed;
         stuck = s.stuck.count;
       });
     } };
@@ -134,6 +160,7 @@ impl Place for MemPlace {
         self.openings = Tally::after(&self.openings);
         self.beside = Some(Vec::new(self.alloc));
         self.sure = false;
+        self.same = false;
         Ok(())
     }
 
@@ -168,6 +195,11 @@ impl Place for MemPlace {
         Ok(())
     }
 
+    fn still_has(&mut self, read: &[u8]) -> bool {
+        self.same = is_file(&self.stands, read);
+        self.same
+    }
+
     fn put(&mut self) -> Result<(), NotOpened> {
         // If it is cut short, it may be done or not.
         if !self.sure {
@@ -178,6 +210,16 @@ impl Place for MemPlace {
             return Err(NotOpened);
         }
         self.stands = self.beside.take();
+        self.landed = false;
+        Ok(())
+    }
+
+    fn land(&mut self) -> Result<(), DeviceFault> {
+        if self.fails == Some(Step::Land) {
+            self.failures = Tally::after(&self.failures);
+            return Err(DeviceFault);
+        }
+        self.landed = true;
         Ok(())
     }
 

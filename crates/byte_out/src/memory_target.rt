@@ -1,4 +1,4 @@
-//! A target in memory as a place, for tests: it tells no files.
+//! A target in memory as a place, for tests. Its files are not known.
 
 ghost use Rattle.byte_out.specs.Place.{untold};
 
@@ -24,7 +24,15 @@ impl Place for MemoryTarget {
         Ok(())
     }
 
+    fn still_has(&mut self, _read: &[u8]) -> bool {
+        true
+    }
+
     fn put(&mut self) -> Result<(), NotOpened> {
+        Ok(())
+    }
+
+    fn land(&mut self) -> Result<(), DeviceFault> {
         Ok(())
     }
 

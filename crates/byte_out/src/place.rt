@@ -3,14 +3,14 @@
 ghost use Rattle.std.specs.Prelude.{◌≡◌, OnOk, IfErr};
 ghost use Rattle.byte_io.specs.Device.{Opens};
 ghost use Rattle.byte_io.specs.Whole.{WritesAll, IsCutAt};
-ghost use Rattle.byte_out.specs.Place.{PlaceState, Told, IsMade, IsFilled, IsSynced, IsPut, IsRemoved, CountsOnly};
+ghost use Rattle.byte_out.specs.Place.{PlaceState, Told, IsMade, IsFilled, IsSynced, IsCompared, IsPut, IsLanded, IsRemoved, CountsOnly};
 
 use crate::fault::MakeFault;
 use byte_io::{DeviceFault, NotOpened, WriteFault};
 
 /// The name of a file. A new file can be made next to it, and then be renamed to it.
 pub trait Place {
-    /// The effects of its calls, and its files, if it tells them.
+    /// The effects of its calls, and its files, if they are known.
     ghost state: { Self → PlaceState };
 
     /// Makes the new file, empty.
@@ -32,10 +32,20 @@ pub trait Place {
         ensures calls { CountsOnly result (state self.old).sink (state self.new).sink }
         ensures files { Told (IsSynced result) (state self.old).files (state self.new).files };
 
+    /// Whether the file with the name has exactly these bytes, which were read from it.
+    fn still_has(&mut self, read: &[u8]) -> bool
+        ensures calls { (state self.new).sink ≡ (state self.old).sink }
+        ensures files { Told (IsCompared result read.now) (state self.old).files (state self.new).files };
+
     /// Renames the new file to the old one, which it replaces.
     fn put(&mut self) -> Result<(), NotOpened>
         ensures calls { CountsOnly result (state self.old).sink (state self.new).sink }
         ensures files { Told (IsPut result) (state self.old).files (state self.new).files };
+
+    /// Makes sure that the renamed file keeps its name after a stop.
+    fn land(&mut self) -> Result<(), DeviceFault>
+        ensures calls { CountsOnly result (state self.old).sink (state self.new).sink }
+        ensures files { Told (IsLanded result) (state self.old).files (state self.new).files };
 
     /// Removes the new file, if it can.
     fn remove(&mut self)

@@ -1,16 +1,44 @@
 //! Replacing a file as a whole.
 
-ghost use Rattle.std.specs.Prelude.{OnOk, IfErr};
-ghost use Rattle.byte_out.specs.Replace.{Replaces, IsReplaceFault};
+ghost use Rattle.std.specs.Prelude.{OnOk, IfErr, option_map};
+ghost use Rattle.byte_out.specs.Replace.{Prepares, Replaces, IsReplaceFault};
 
 use crate::fault::{MakeFault, ReplaceFault};
 use crate::place::Place;
 
-/// Replaces the file by one with these bytes. On failure the old file stays, and the new one is removed.
-pub fn replace<P: Place>(place: &mut P, bytes: &[u8]) -> Result<(), ReplaceFault>
-    ensures ok { OnOk result (Replaces bytes.now (P.state place.old) (P.state place.new)) }
+/// Replaces the file by one with these bytes, if it still has the bytes that were read from it, or if it was not read. On
+/// failure the old file stays, and the new one is removed.
+pub fn replace<P: Place>(
+    place: &mut P,
+    read: Option<&[u8]>,
+    bytes: &[u8],
+) -> Result<(), ReplaceFault>
+    ensures ok { OnOk result (Replaces (option_map (λ s. s.now) read.entry) bytes.now (P.state place.old) (P.state place.new)) }
     ensures fault { IfErr result
-        (IsReplaceFault bytes.now (P.state place.old) (P.state place.new)) }
+        (IsReplaceFault (option_map (λ s. s.now) read.entry) bytes.now (P.state place.old) (P.state place.new)) }
+{
+    if let Err(fault) = prepare(place, read, bytes) {
+        return Err(fault);
+    }
+    if place.put().is_err() {
+        place.remove();
+        return Err(ReplaceFault::NotOpened);
+    }
+    if place.land().is_err() {
+        return Err(ReplaceFault::NotSynced);
+    }
+    Ok(())
+}
+
+/// Does everything but the rename.
+pub fn prepare<P: Place>(
+    place: &mut P,
+    read: Option<&[u8]>,
+    bytes: &[u8],
+) -> Result<(), ReplaceFault>
+    ensures ok { OnOk result (Prepares (option_map (λ s. s.now) read.entry) bytes.now (P.state place.old) (P.state place.new)) }
+    ensures fault { IfErr result
+        (IsReplaceFault (option_map (λ s. s.now) read.entry) bytes.now (P.state place.old) (P.state place.new)) }
 {
     match place.make() {
         Ok(()) => {}
@@ -26,9 +54,12 @@ pub fn replace<P: Place>(place: &mut P, bytes: &[u8]) -> Result<(), ReplaceFault
         place.remove();
         return Err(ReplaceFault::WriteFailed(bytes.len()));
     }
-    if place.put().is_err() {
-        place.remove();
-        return Err(ReplaceFault::NotOpened);
+    // Compare only now: before the new file exists, another command can make one and replace the old file.
+    if let Some(read) = read {
+        if !place.still_has(read) {
+            place.remove();
+            return Err(ReplaceFault::Changed);
+        }
     }
     Ok(())
 }

@@ -1,15 +1,50 @@
-//! How the bytes get to a path of the file system, of which no contract speaks.
+//! How a path of the file system is written. No contract describes the file system.
 
+use crate::beside::{WholeFiles, make_beside};
 use crate::fault::MakeFault;
+use crate::lock::{Lock, Lockable};
 use std::alloc::{AllocError, Global};
-use std::fs::{self, Metadata, OpenFile, OpenOptions, Permissions};
+use std::fs::{self, Metadata, OpenFile, OpenOptions};
 use std::io::{self, ErrorKind, Read, Write};
 use std::os::fd::AsFd;
-use std::os::unix::fs::{MetadataExt, OpenOptionsExt, PermissionsExt, fchown};
+use std::os::unix::fs::MetadataExt;
 use std::rt::Files;
 
-/// The path of the plain file that a link leads to, through any number of links; none where the path is no such link. What is
-/// below /dev and /proc is the system's own name of an open file.
+/// The identity of a file, whatever its names: the device and the inode.
+#[derive(Clone, Copy, Debug, PartialEq, Eq)]
+pub struct FileId {
+    device: u64,
+    inode: u64,
+}
+
+impl FileId {
+    /// The file with this metadata.
+    pub(crate) fn of(file: &Metadata) -> FileId {
+        FileId {
+            device: file.dev(),
+            inode: file.ino(),
+        }
+    }
+
+    /// The file that a path leads to, if there is one.
+    pub fn at<R: Files>(rt: &R, path: &str) -> Option<FileId> {
+        match fs::metadata(rt, path) {
+            Ok(file) => Some(FileId::of(&file)),
+            Err(_) => None,
+        }
+    }
+
+    /// Whether this is the open file.
+    pub fn is_of<F: OpenFile>(&self, file: &F) -> bool {
+        match file.metadata() {
+            Ok(open) => *self == FileId::of(&open),
+            Err(_) => false,
+        }
+    }
+}
+
+/// The path of the plain file that a link leads to, through any number of links; none if the path is no such link. Paths below
+/// /dev and /proc are the system's own names of open files.
 pub(crate) fn linked_file<R: Files>(
     alloc: Global,
     rt: &R,
@@ -35,27 +70,29 @@ fn is_link_to_file<R: Files>(rt: &R, path: &str) -> bool {
     }
 }
 
-// How the bytes get to a path.
+// How a path is written.
 enum Way {
-    /// By a new file beside, with the owner, the group and the mode of the old one, where there is one.
+    /// By a new file beside, with the owner, the group and the mode of the old one, if there is one.
     Beside(Option<Metadata>),
-    /// By a write of what is there, or leads there.
+    /// By writing to the file that the path leads to.
     Within(bool),
 }
 
-/// The file that the bytes go to, and whether it is a new one beside.
-pub(crate) fn open_for<R: Files>(
+/// The file to be written, and whether it is a new one beside.
+pub(crate) fn open_for<R: Files, W: WholeFiles>(
+    alloc: Global,
     rt: &R,
     path: &str,
     beside: &str,
+    whole: &W,
 ) -> Result<(R::File, bool), MakeFault>
 where
-    R::File: AsFd,
+    R::File: AsFd + Lockable,
 {
     let is_there = match way_to(rt, path)? {
         Way::Within(is_there) => is_there,
         Way::Beside(old) => {
-            if let Some(file) = make_beside(rt, beside, &old)? {
+            if let Some(file) = make_beside(alloc, rt, beside, &old, whole)? {
                 return Ok((file, true));
             }
             old.is_some()
@@ -67,16 +104,26 @@ where
     }
 }
 
-// What is there is not created: a folder may forbid that of another's file.
-fn open_within<R: Files>(rt: &R, path: &str, is_there: bool) -> io::Result<R::File> {
-    OpenOptions::new()
+// An existing file is opened without the flag to create it: a folder may forbid that for another user's file. A plain file is
+// locked, and then emptied.
+fn open_within<R: Files>(rt: &R, path: &str, is_there: bool) -> io::Result<R::File>
+where
+    R::File: Lockable,
+{
+    let file = OpenOptions::new()
         .write(true)
-        .truncate(true)
         .create(!is_there)
-        .open(rt, path)
+        .open(rt, path)?;
+    if file.metadata()?.is_file() {
+        if file.lock_alone() == Lock::Held {
+            return Err(io::Error::from(ErrorKind::WouldBlock));
+        }
+        file.set_len(0)?;
+    }
+    Ok(file)
 }
 
-// A folder, a device, a pipe or a link is not replaced. A file has to open for writing, as if it were written itself.
+// A folder, a device, a pipe or a link is not replaced. A file has to open for writing, as if it were overwritten.
 fn way_to<R: Files>(rt: &R, path: &str) -> Result<Way, MakeFault> {
     match fs::symlink_metadata(rt, path) {
         Ok(there) if there.is_file() => match OpenOptions::new().write(true).open(rt, path) {
@@ -91,90 +138,11 @@ fn way_to<R: Files>(rt: &R, path: &str) -> Result<Way, MakeFault> {
     }
 }
 
-// None where the folder gives no leave, the name would be too long, or the new file could not be open to the same people as
-// the old one. Until it is, nobody else can open it.
-fn make_beside<R: Files>(
-    rt: &R,
-    beside: &str,
-    old: &Option<Metadata>,
-) -> Result<Option<R::File>, MakeFault>
-where
-    R::File: AsFd,
-{
-    let made = OpenOptions::new()
-        .write(true)
-        .create_new(true)
-        .mode(if old.is_some() { 0o600 } else { 0o666 })
-        .open(rt, beside);
-    match made {
-        Ok(file) => match old {
-            Some(old) => kept_alike(rt, beside, file, old),
-            None => Ok(Some(file)),
-        },
-        Err(error) => match error.kind() {
-            ErrorKind::AlreadyExists => Err(MakeFault::Exists),
-            ErrorKind::PermissionDenied
-            | ErrorKind::ReadOnlyFilesystem
-            | ErrorKind::InvalidFilename => Ok(None),
-            _ => Err(MakeFault::NotOpened),
-        },
-    }
-}
-
-// The new file, as open as the old one, or removed.
-fn kept_alike<R: Files>(
-    rt: &R,
-    beside: &str,
-    file: R::File,
-    old: &Metadata,
-) -> Result<Option<R::File>, MakeFault>
-where
-    R::File: AsFd,
-{
-    let kept = match make_alike(&file, old) {
-        Ok(true) => return Ok(Some(file)),
-        Ok(false) => Ok(None),
-        Err(_) => Err(MakeFault::NotOpened),
-    };
-    let _ = fs::remove_file(rt, beside);
-    kept
-}
-
-// Gives the new file the owner, the group and the mode of the old one, as far as the system lets it: whether both are open to
-// the same people then.
-fn make_alike<F: OpenFile + AsFd>(file: &F, old: &Metadata) -> io::Result<bool> {
-    let made = file.metadata()?;
-    if made.uid() != old.uid() || made.gid() != old.gid() {
-        if fchown(file, Some(old.uid()), Some(old.gid())).is_err() {
-            let _ = fchown(file, None, Some(old.gid()));
-        }
-    }
-    let new = file.metadata()?;
-    if !is_as_open(&new, old) {
-        return Ok(false);
-    }
-    let is_same = new.uid() == old.uid() && new.gid() == old.gid();
-    let bits = if is_same { 0o7777 } else { 0o777 };
-    file.set_permissions(Permissions::from_mode(old.mode() & bits))?;
-    Ok(true)
-}
-
-// Whether a file of this owner and group, with the mode of the old one, can be opened by whoever could open that: its owner is
-// taken for a member of its group.
-fn is_as_open(new: &Metadata, old: &Metadata) -> bool {
-    let owner = old.mode() >> 6 & 7;
-    let group = old.mode() >> 3 & 7;
-    let other = old.mode() & 7;
-    let keeps_group = new.gid() == old.gid() || group == other;
-    let keeps_owner = new.uid() == old.uid() || owner & !group == 0;
-    keeps_group && keeps_owner
-}
-
-/// What became of a new file that was to stand at its name.
+/// The result of giving the new file the name.
 pub(crate) enum Put {
-    /// It stands there, or its bytes do.
+    /// The name has the new file, or the new bytes.
     Done,
-    /// The old file stands there.
+    /// The name has the old file.
     Not,
     /// The old file may have part of the bytes.
     Partly,
@@ -183,17 +151,14 @@ pub(crate) enum Put {
 /// Gives the new file its name, or writes its bytes into the old one, where that cannot be replaced.
 pub(crate) fn put_beside<R: Files>(rt: &R, beside: &str, path: &str) -> Put {
     match fs::rename(rt, beside, path) {
-        Ok(()) => {
-            let _ = sync_folder(rt, path);
-            Put::Done
-        }
+        Ok(()) => Put::Done,
         Err(error) if is_fixed(error.kind()) => write_over(rt, beside, path),
         Err(_) => Put::Not,
     }
 }
 
-// Whether a file that cannot be renamed over, for this reason, may be one that can be written: it is a mount of its own, or
-// another's in a folder where each may rename his own files alone.
+// Whether a file that a rename cannot replace for this reason may be writable: it is a mount of its own, or another user's file
+// in a folder where users can rename only their own files.
 fn is_fixed(error: ErrorKind) -> bool {
     match error {
         ErrorKind::ResourceBusy | ErrorKind::PermissionDenied | ErrorKind::CrossesDevices => true,
@@ -201,7 +166,7 @@ fn is_fixed(error: ErrorKind) -> bool {
     }
 }
 
-// Writes the new file's bytes into the old one, and removes the new one then.
+// Writes the new file's bytes into the old one, and then removes the new one.
 fn write_over<R: Files>(rt: &R, beside: &str, path: &str) -> Put {
     let Ok(mut from) = fs::open(rt, beside) else {
         return Put::Not;
@@ -218,14 +183,14 @@ fn write_over<R: Files>(rt: &R, beside: &str, path: &str) -> Put {
     }
 }
 
-// Writes all bytes of one file over those of another, and makes sure of them.
+// Overwrites a file with all bytes of another, and syncs it.
 fn copy_over<F: Read + Write + OpenFile>(from: &mut F, to: &mut F) -> io::Result<()> {
     let len = io::copy(from, to)?;
     to.set_len(len)?;
     to.sync_all()
 }
 
-// The folder in which the file of a path is.
+// The folder of the file at a path.
 fn folder(path: &str) -> &str {
     match path.rsplit_once('/') {
         Some(("", _)) => "/",
@@ -234,7 +199,40 @@ fn folder(path: &str) -> &str {
     }
 }
 
-// Makes sure of a new name: without this a stop could leave the old file there. Not every system can do it.
-fn sync_folder<R: Files>(rt: &R, path: &str) -> io::Result<()> {
-    fs::open(rt, folder(path))?.sync_all()
+/// Syncs the folder of a new name: otherwise a stop could leave the old file there. If a folder cannot be opened, the system has
+/// no way to sync it, which is not a failure.
+pub(crate) fn sync_folder<R: Files>(rt: &R, path: &str) -> io::Result<()> {
+    match fs::open(rt, folder(path)) {
+        Ok(folder) => folder.sync_all(),
+        Err(_) => Ok(()),
+    }
+}
+
+/// Whether the file at this path has exactly these bytes. A file that cannot be read counts as another one.
+pub(crate) fn has_bytes<R: Files>(rt: &R, path: &str, bytes: &[u8]) -> bool {
+    match fs::open(rt, path) {
+        Ok(mut file) => gives(&mut file, bytes).unwrap_or(false),
+        Err(_) => false,
+    }
+}
+
+// Whether the reader gives exactly these bytes, and ends.
+fn gives<F: Read>(reader: &mut F, bytes: &[u8]) -> io::Result<bool> {
+    let mut rest = bytes;
+    let mut chunk = [0; 16_384];
+    for _ in 0..u64::MAX {
+        let n = match reader.read(&mut chunk) {
+            Ok(n) => n,
+            Err(error) if error.kind() == ErrorKind::Interrupted => continue,
+            Err(error) => return Err(error),
+        };
+        if n == 0 {
+            return Ok(rest.is_empty());
+        }
+        if n > rest.len() || chunk[..n] != rest[..n] {
+            return Ok(false);
+        }
+        rest = &rest[n..];
+    }
+    Ok(false)
 }

@@ -2,7 +2,7 @@ mod Windows
 mod Steps
 mod Kept
 mod Outcomes
-mod Slots
+pub mod Slots
 mod Chunks
 mod Quiet
 pub mod OneShelf

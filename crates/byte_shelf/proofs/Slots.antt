@@ -9,7 +9,7 @@ use Rattle.byte_shelf.proofs.Windows.{within_length}
 use Rattle.byte_shelf.proofs.Steps.{long_frame, range_of, slot_of}
 
 -- a new shelf, and what may follow
-at_front : (size : ℕ) (bytes rest : List ℕ) → size < 2 ^ 32 → IsSize size → length bytes ≤ size → IsShelfOf (fresh size bytes ++ rest) size bytes
+pub at_front : (size : ℕ) (bytes rest : List ℕ) → size < 2 ^ 32 → IsSize size → length bytes ≤ size → IsShelfOf (fresh size bytes ++ rest) size bytes
 at_front size bytes rest fits range within =
     let slot : StandAt (fresh size bytes ++ rest) 5 (framed bytes) = ap (λ (t : List ℕ). to_be_bytes w32 (length bytes) ++ t) (take_at bytes rest (length bytes) refl) in
     let head : HasHead (fresh size bytes ++ rest) 0 size = record { gate_stands = refl; size_stands = refl; size_fits = fits } in

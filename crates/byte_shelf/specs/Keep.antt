@@ -1,4 +1,4 @@
--- What the calls of a shelf do to its disk.
+-- The effects of the calls of a shelf on its disk.
 use Rattle.std.specs.Prelude.{◌≡◌, ◌⊎◌, ◌<◌, ◌+◌, ℕ, List, length, Ok, Err}
 use Rattle.std.specs.declared.result.Result.{Result}
 use Rattle.byte_disk.specs.Disk.{LeavesOnly}

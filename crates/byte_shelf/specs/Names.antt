@@ -1,4 +1,4 @@
--- How faults are called.
+-- The names of faults.
 use Rattle.std.specs.Prelude.{ℕ, List, codes}
 use Rattle.byte_shelf.specs.declared.fault.ShelfFault.{ShelfFault}
 use Rattle.byte_shelf.specs.declared.fault.ShelfFault.TheVariants.{BadSize, TooLarge, NotShelf, Memory, DiskFailed}

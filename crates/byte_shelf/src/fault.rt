@@ -1,16 +1,16 @@
-//! Why a shelf is not made, written or read.
+//! Why making, writing or reading a shelf fails.
 
 ghost use Rattle.std.specs.Prelude.{◌≡◌};
 
 use std::fmt;
 
-/// Why a shelf is not made, written or read.
+/// Why making, writing or reading a shelf fails.
 #[derive(Clone, Copy, Debug, PartialEq, Eq)]
 pub enum ShelfFault {
     /// The size is below 14 or above 67,108,864.
     BadSize,
     TooLarge,
-    /// The disk does not read as a shelf.
+    /// The disk is not a shelf.
     NotShelf,
     Memory,
     DiskFailed,

@@ -1,4 +1,4 @@
-//! Keeps bytes in the slot that is not in use, and then turns the gate.
+//! Keeps bytes: writes the slot that is not in use, and then switches the gate.
 
 ghost use Rattle.std.specs.Prelude.{◌≡◌, ◌⊎◌, ◌<◌, ◌^◌, List, ℕ, IsTrue, OnOk, IfOk, IsErrOf, IsErr, length};
 ghost use Rattle.byte_disk.specs.Disk.{Only, LeavesOnly};
@@ -21,9 +21,9 @@ pub(crate) fn frame_of(alloc: Global, bytes: &[u8]) -> Result<Vec<u8>, AllocErro
     Ok(frame)
 }
 
-/// Keeps the bytes on the shelf, instead of those that it has.
+/// Replaces the bytes of the shelf by these.
 pub fn keep<D: Disk>(alloc: Global, disk: &mut D, bytes: &[u8]) -> Result<(), ShelfFault>
-    // A stop at any moment leaves what it could have left before, or a shelf of the old bytes or of these.
+    // A stop at any moment leaves an image from before the call, or a shelf of the old bytes or of these.
     ensures any_moment { IsTrue (D.tells disk.old) → (was : List ℕ) → IsShelf (D.seen disk.old) was
         → LeavesOnly D.moment D.images_since disk.old disk.new
         (λ c. D.images disk.old c ⊎ (IsShelf c was ⊎ IsShelf c bytes.now)) }

@@ -78,7 +78,7 @@ fn read_slot<D: Disk>(
 pub fn restore<D: Disk>(alloc: Global, disk: &mut D) -> Result<Vec<u8>, ShelfFault>
     ensures found { IsTrue (D.tells disk.old)
         → IfOk result (λ v. IsShelf (D.seen disk.old) v.items) }
-    // What is read is synced.
+    // The bytes that are read are synced.
     ensures only { IsTrue (D.tells disk.old)
         → OnOk result (Only (D.seen disk.old) (D.images disk.new)) }
     ensures not_shelf { IsTrue (D.tells disk.old)

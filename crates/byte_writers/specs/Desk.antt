@@ -29,7 +29,7 @@ numbers o = record {
   seen = λ x n. nat_le n (o.last x);
 }
 
--- the office file, and the registers, by number: all the registers that there are, old copies too
+-- the office file, and all registers by number, old copies included
 pub record Desk : Type 0 where
   pub office : World
   pub registers : ℕ → World

@@ -26,7 +26,7 @@ pub data Stage : Type 0 where
   IsSynced : (x : Content) → Stage
   -- it has read OUT again, and found the same content
   FoundSame : (x : Content) → Stage
-  -- in the other order: it has made OUT.new before it reads OUT; and it has read OUT, which nobody else replaces meanwhile
+  -- in the other order: it has made OUT.new before it reads OUT; and then it has read OUT, which nobody else replaces in between
   HasLocked : Stage
   Keeps : (x : Content) → Stage
   -- it still has to remove OUT.new, since OUT has changed, or a step failed
@@ -44,8 +44,8 @@ pub record World : Type 0 where
   pub stage : ℕ → Stage
 
 -- a command takes its next step; makes OUT.new before it reads OUT; writes the first bytes of OUT.new; fails at its next
--- step; is stopped, and takes no further step; or somebody removes what a stopped command has left: a person, or a command
--- that takes it over
+-- step; is stopped, and takes no further step; or somebody (a person, or a command that takes it over) removes the file that
+-- a stopped command left
 pub data Event : Type 0 where
   Goes : (k : ℕ) → Event
   Locks : (k : ℕ) → Event
@@ -65,7 +65,7 @@ at_stage stages k s j = if j == k then s else stages j
 abbrev pub comes_to : World → ℕ → Stage → World
 comes_to w k s = record { stands = w.stands; beside = w.beside; stage = at_stage w.stage k s }
 
--- OUT.new is made, unless it is there
+-- OUT.new is made, unless it exists
 abbrev pub makes : World → ℕ → Stage → Option NewFile → World
 makes w k s None = record { stands = w.stands; beside = Some (record { maker = k; bytes = [] }); stage = at_stage w.stage k s }
 makes w k s (Some n) = comes_to w k Ended

@@ -1,4 +1,4 @@
--- Commands that only add, and what is kept of them.
+-- Commands that only add, and the ids that stay.
 use Rattle.std.specs.Prelude.{◌≡◌, ℕ, Bool, true, false, List, [], ◌∷◌, Some}
 use Rattle.byte_writers.specs.Path.{Content, NewFile, Stage, Replaced, HasPrinted, FoundSame, Ended, World, Event, Goes, Clears}
 
@@ -29,12 +29,12 @@ pub record IsReplacedBy (change : ℕ → Content → List ℕ) (k : ℕ) (old n
   pub made : new.stands ≡ Some (change k old.stands)
   pub done : new.stage k ≡ Replaced old.stands
 
--- OUT.new is there, and its maker takes no further step
+-- OUT.new exists, and its maker takes no further step
 pub record IsLeft (w : World) (n : NewFile) : Type 0 where
   pub there : w.beside ≡ Some n
   pub ended : w.stage n.maker ≡ Ended
 
--- nobody removes what a stopped command left
+-- nobody removes the file that a stopped command left
 abbrev pub NoneClears : List Event → Type 0
 NoneClears [] = Unit {0}
 NoneClears (Clears ∷ es) = ⊥

@@ -1,4 +1,4 @@
-//! What is kept while any number of commands replace one file: a model, and its laws.
+//! A model of any number of commands that replace one file, and its laws.
 #![tactic(auto)]
 
 mod laws;

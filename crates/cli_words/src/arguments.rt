@@ -1,4 +1,5 @@
-//! The arguments that several commands take.
+//! The arguments that several commands share.
+use crate::defaults::Defaults;
 use clap::{Arg, ArgAction};
 use std::alloc::{AllocError, Global};
 
@@ -18,8 +19,48 @@ pub fn register<'a>(alloc: Global) -> Arg<'a> {
 /// An id of an entry.
 pub fn entry<'a>(alloc: Global) -> Arg<'a> {
     Arg::new(alloc, "ENTRY")
-        .help("The id of the entry, as UUID:NUMBER")
+        .help("The id of the entry, as UUID:NUMBER, or with -k its key")
         .required(true)
+}
+
+/// Whether keys are accepted instead of ids.
+pub fn keys<'a>(alloc: Global, defaults: &Defaults<'a>) -> Arg<'a> {
+    let flag = flag(
+        alloc,
+        "keys",
+        "Takes keys, as AUTHORITY:CODE, in the place of ids (default: $CRSREG_KEYS)",
+    )
+    .short('k');
+    set_if(defaults.keys, flag)
+}
+
+/// Whether refusals are explained.
+pub fn explain<'a>(alloc: Global, defaults: &Defaults<'a>) -> Arg<'a> {
+    let flag = flag(
+        alloc,
+        "explain",
+        "Explains a refusal in words (default: $CRSREG_EXPLAIN)",
+    );
+    set_if(defaults.explain, flag)
+}
+
+/// Whether rows are printed as a table.
+pub fn table<'a>(alloc: Global, defaults: &Defaults<'a>) -> Arg<'a> {
+    let flag = flag(
+        alloc,
+        "table",
+        "Prints an aligned table in the place of CSV (default: $CRSREG_TABLE)",
+    );
+    set_if(defaults.table, flag)
+}
+
+// The flag, with a default from the environment.
+fn set_if<'a>(is_set: bool, flag: Arg<'a>) -> Arg<'a> {
+    if is_set {
+        flag.default_value("true").hide_default_value(true)
+    } else {
+        flag
+    }
 }
 
 /// The output file.
@@ -27,12 +68,18 @@ pub fn out<'a>(alloc: Global, help: &'a str) -> Arg<'a> {
     Arg::new(alloc, "OUT").help(help).required(true)
 }
 
-/// The note of a command.
-pub fn note<'a>(alloc: Global) -> Arg<'a> {
-    Arg::new(alloc, "note")
-        .long("note")
-        .value_name("TEXT")
-        .help("Who, when and why, in at most 200 bytes")
+/// The note of a command: the argument, with a default from the environment.
+pub fn note<'a>(alloc: Global, defaults: &Defaults<'a>) -> Arg<'a> {
+    let word = named(
+        alloc,
+        "note",
+        "TEXT",
+        "Who, when and why, in at most 200 bytes (default: $CRSREG_NOTE)",
+    );
+    match defaults.note {
+        Some(note) => word.default_value(note).hide_default_value(true),
+        None => word,
+    }
 }
 
 /// Whether the register is on a shelf.
@@ -53,13 +100,13 @@ pub fn changed<'a>(alloc: Global) -> Result<Arg<'a>, AllocError> {
         .conflicts_with("shelf")
 }
 
-/// The office of a command: the argument, or that of the environment.
-pub fn replica<'a>(alloc: Global, office: Option<&'a str>) -> Arg<'a> {
+/// The office of a command: the argument, with a default from the environment.
+pub fn replica<'a>(alloc: Global, defaults: &Defaults<'a>) -> Arg<'a> {
     let word = Arg::new(alloc, "as")
         .long("as")
         .value_name("UUID")
         .help("UUID of the office, unique to it (default: $CRSREG_AS)");
-    match office {
+    match defaults.office {
         Some(office) => word.default_value(office).hide_default_value(true),
         None => word.required(true),
     }
@@ -79,6 +126,7 @@ pub fn named<'a>(alloc: Global, name: &'a str, value: &'a str, help: &'a str) ->
         .long(name)
         .value_name(value)
         .help(help)
+        .allow_hyphen_values(true)
 }
 
 /// One or more arguments.

@@ -1,46 +1,58 @@
-//! The commands that change a register by one text or by entries.
-use crate::arguments::{ON_SHELF, changed, flag, note, on_shelf, register, replica, several};
+//! The commands that enter one text, or change entries.
+use crate::arguments::{ON_SHELF, changed, flag, keys, note, on_shelf, register, replica, several};
 use crate::change_help::{ENTER_HELP, RETIRE_HELP, SUPERSEDE_HELP};
-use clap::{Arg, Command};
+use crate::defaults::Defaults;
+use clap::{Arg, ArgAction, Command};
 use std::alloc::{AllocError, Global};
 
 /// `enter`.
-pub fn enter<'a>(alloc: Global, office: Option<&'a str>) -> Result<Command<'a>, AllocError> {
+pub fn enter<'a>(alloc: Global, defaults: &Defaults<'a>) -> Result<Command<'a>, AllocError> {
     Command::new(alloc, "enter")
         .about("Enters a coordinate reference system into a register")
         .after_help(ENTER_HELP)
         .arg(register(alloc))?
-        .arg(replica(alloc, office))?
-        .arg(note(alloc))?
+        .arg(replica(alloc, defaults))?
+        .arg(note(alloc, defaults))?
         .arg(text(alloc))?
-        .arg(flag(alloc, "explain", "Explains why a text is refused"))?
         .arg(on_shelf(alloc, ON_SHELF))?
         .arg(changed(alloc)?)
 }
 
 /// `supersede`.
-pub fn supersede<'a>(alloc: Global, office: Option<&'a str>) -> Result<Command<'a>, AllocError> {
+pub fn supersede<'a>(alloc: Global, defaults: &Defaults<'a>) -> Result<Command<'a>, AllocError> {
     Command::new(alloc, "supersede")
         .about("Marks an entry as superseded by others")
         .after_help(SUPERSEDE_HELP)
         .arg(register(alloc))?
-        .arg(old(alloc))?
-        .arg(several(alloc, "BY", "The ids of the entries that supersede it"))?
-        .arg(replica(alloc, office))?
-        .arg(note(alloc))?
+        .arg(old(alloc)?)?
+        .arg(newer(alloc)?)?
+        .arg(from(alloc))?
+        .arg(keys(alloc, defaults))?
+        .arg(flag(
+            alloc,
+            "keep-going",
+            "With --from, leaves refused lines out, and goes on",
+        ))?
+        .arg(replica(alloc, defaults))?
+        .arg(note(alloc, defaults))?
         .arg(on_shelf(alloc, ON_SHELF))?
         .arg(changed(alloc)?)
 }
 
 /// `retire`.
-pub fn retire<'a>(alloc: Global, office: Option<&'a str>) -> Result<Command<'a>, AllocError> {
+pub fn retire<'a>(alloc: Global, defaults: &Defaults<'a>) -> Result<Command<'a>, AllocError> {
     Command::new(alloc, "retire")
         .about("Retires entries of a register")
         .after_help(RETIRE_HELP)
         .arg(register(alloc))?
-        .arg(several(alloc, "ENTRY", "The ids of the entries, as UUID:NUMBER"))?
-        .arg(replica(alloc, office))?
-        .arg(note(alloc))?
+        .arg(several(
+            alloc,
+            "ENTRY",
+            "The ids of the entries, as UUID:NUMBER, or with -k their keys; - reads ids",
+        ))?
+        .arg(keys(alloc, defaults))?
+        .arg(replica(alloc, defaults))?
+        .arg(note(alloc, defaults))?
         .arg(on_shelf(alloc, ON_SHELF))?
         .arg(changed(alloc)?)
 }
@@ -53,8 +65,24 @@ fn text<'a>(alloc: Global) -> Arg<'a> {
         .required(true)
 }
 
-fn old<'a>(alloc: Global) -> Arg<'a> {
+fn old<'a>(alloc: Global) -> Result<Arg<'a>, AllocError> {
     Arg::new(alloc, "OLD")
-        .help("The id of the superseded entry, as UUID:NUMBER")
-        .required(true)
+        .help("The id of the superseded entry, as UUID:NUMBER, or with -k its key")
+        .required_unless_present("from")?
+        .conflicts_with("from")
+}
+
+fn newer<'a>(alloc: Global) -> Result<Arg<'a>, AllocError> {
+    Arg::new(alloc, "BY")
+        .help("The ids or keys of the entries that supersede it; - reads ids")
+        .action(ArgAction::Append)
+        .num_args(1..)
+        .required_unless_present("from")?
+        .conflicts_with("from")
+}
+
+fn from<'a>(alloc: Global) -> Arg<'a> {
+    Arg::new(alloc, "from").long("from").value_name("FILE").help(
+        "A list with a line OLD BY.. for each entry; - is standard input",
+    )
 }

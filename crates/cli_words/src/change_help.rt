@@ -21,15 +21,27 @@ still exported. The new ids are printed after OUT is written, one for each BY.
 OUT can be REG.
 
 Each operation has the note, if any. It is kept until a retirement of OLD makes
-the operation redundant.
+the operation redundant. With - for BY, the ids are read from standard input,
+one a line, as crsreg find --ids prints them.
+
+With -k, or if CRSREG_KEYS is 1, an argument that is not an id is a key, such
+as EPSG:7837. It means the one entry with this key that is not retired. The
+command is refused as NoEntry if there is none, and as Several ID if there are
+more.
 
 Refused, with nothing written: NoteTooLong if the note has more than 200 bytes;
 then UnknownEntry ID, SameEntry, AlreadyRetired ID or AlreadySuperseded ID, for
 the first BY that is not possible.
 
+With --from, FILE is a list: each line is an OLD and its BYs, with blanks
+between. It has the result of one command for each line, in order, and all are
+done or none: the first line that is refused refuses the command, and its
+number follows, as in UnknownEntry ID at line 7. A line with one word is
+refused as BadId. With --keep-going, refused lines are left out, a line
+left out: REFUSAL at line N is printed for each, and the status is 1.
+
 Example:
-  crsreg supersede office.crs 00000000-0000-4000-8000-00000000000a:1 \\
-      00000000-0000-4000-8000-00000000000a:2 \\
+  crsreg supersede -k office.crs EPSG:5783 EPSG:7837 \\
       --as 00000000-0000-4000-8000-00000000000a --out office.crs";
 
 pub const RETIRE_HELP: &str = "\
@@ -38,13 +50,19 @@ merges the operation. The new ids are printed after OUT is written, one for
 each ENTRY. OUT can be REG.
 
 Each operation has the note, if any. If two offices retire one entry, the
-retirement with the lesser id is kept, with its note.
+retirement with the lesser id is kept, with its note. With - for ENTRY, the ids
+are read from standard input, one a line, as crsreg find --ids prints them.
+
+With -k, or if CRSREG_KEYS is 1, an argument that is not an id is a key, such
+as EPSG:7837. It means the one entry with this key that is not retired. The
+command is refused as NoEntry if there is none, and as Several ID if there are
+more.
 
 Refused, with nothing written: NoteTooLong if the note has more than 200 bytes;
 then UnknownEntry ID or AlreadyRetired ID, for the first ENTRY that is not
 possible.
 
 Example:
-  crsreg retire office.crs 00000000-0000-4000-8000-00000000000a:1 \\
+  crsreg retire -k office.crs EPSG:7837 \\
       --as 00000000-0000-4000-8000-00000000000a --note 'entered twice' \\
       --out office.crs";

@@ -11,7 +11,7 @@ pub enum Shell {
     Zsh,
 }
 
-/// The names of the shells, as the command line takes them.
+/// The names of the shells on the command line.
 pub const SHELLS: [&str; 3] = ["bash", "fish", "zsh"];
 
 impl Shell {
@@ -39,7 +39,7 @@ pub fn completion_script(
     }
 }
 
-// In bash, a word that begins with a dash is an option; other words are values that the table lists, else files.
+// In bash, a word that begins with a dash is an option. Other words are values from the table, or files.
 fn bash(alloc: Global, whole: &Command<'_>) -> Result<String, AllocError> {
     let mut script = String::from_str(alloc, BASH_HEAD)?;
     for command in whole.get_subcommands() {
@@ -170,7 +170,7 @@ fn zsh_argument(script: &mut String, argument: &Arg<'_>) -> Result<(), AllocErro
     script.push_str("'")
 }
 
-// The values that the argument may have, where the table lists them.
+// The values that the table lists for the argument, if any.
 fn values_of<'a>(argument: &Arg<'a>) -> Option<&'a [&'a str]> {
     match argument.get_value_parser() {
         ValueParser::Names(names) if takes_value(argument) => Some(names),

@@ -1,7 +1,8 @@
 //! The commands that make and exchange registers, and keep them on shelves.
-use crate::arguments::{READ_SHELF, on_shelf, out, register, several};
+use crate::arguments::{ON_SHELF, READ_SHELF, flag, on_shelf, out, register, several};
 use crate::exchange_help::{
-    DOWNGRADE_HELP, MERGE_HELP, NEW_HELP, PIECE_HELP, SEEN_HELP, SHELF_HELP, UNSHELF_HELP,
+    DOWNGRADE_HELP, MERGE_HELP, NEW_HELP, PIECE_HELP, SEEN_HELP, SHELF_HELP, TAKE_HELP,
+    UNSHELF_HELP,
 };
 use clap::{Arg, Command};
 use std::alloc::{AllocError, Global};
@@ -12,6 +13,26 @@ pub fn new<'a>(alloc: Global) -> Result<Command<'a>, AllocError> {
         .about("Writes an empty register")
         .after_help(NEW_HELP)
         .arg(out(alloc, "The register file to write"))
+}
+
+/// `take`.
+pub fn take<'a>(alloc: Global) -> Result<Command<'a>, AllocError> {
+    Command::new(alloc, "take")
+        .about("Joins registers and pieces of other offices to a register")
+        .after_help(TAKE_HELP)
+        .arg(own_register(alloc))?
+        .arg(several(alloc, "FILE", "The files of registers and pieces to join"))?
+        .arg(flag(
+            alloc,
+            "dry-run",
+            "Prints what would change, and writes nothing",
+        ))?
+        .arg(flag(
+            alloc,
+            "keep-going",
+            "Leaves out files that are refused, and joins the others",
+        ))?
+        .arg(on_shelf(alloc, ON_SHELF))
 }
 
 /// `merge`.
@@ -71,6 +92,12 @@ pub fn unshelf<'a>(alloc: Global) -> Result<Command<'a>, AllocError> {
         .after_help(UNSHELF_HELP)
         .arg(old_shelf(alloc))?
         .arg(out(alloc, "The register file to write"))
+}
+
+fn own_register<'a>(alloc: Global) -> Arg<'a> {
+    Arg::new(alloc, "REG")
+        .help("The register file to read and to change")
+        .required(true)
 }
 
 fn summary<'a>(alloc: Global) -> Arg<'a> {

@@ -1,12 +1,32 @@
 //! Help for the commands that make, exchange and keep files, in lines of at most 80 columns.
 
 pub const NEW_HELP: &str = "\
-Every office starts from an empty register, which has seen no operation.
+Every office starts from an empty register, which has seen no operation. What
+was at OUT before is replaced.
 
 Example:
   crsreg new office.crs";
 
+pub const TAKE_HELP: &str = "\
+Joins the registers and pieces of other offices to REG, as crsreg merge does,
+and prints the lines of crsreg diff between REG before (-) and after (+). REG
+keeps all that it had. If the files bring nothing new, REG is not written. The
+files are opened one after another, so there can be thousands.
+
+Refused, with REG unchanged: Clash ID if two files have different operations
+under one id, so a number was given out twice; Basis ID if a piece was made for
+an office that had seen ID, and the registers before it have not. With
+--keep-going such a file, or one that cannot be read, is left out: standard
+error has a line with its name and the reason. The others are joined, and the
+exit status is that of the first line.
+
+Example:
+  crsreg take office.crs north.crs south.piece";
+
 pub const MERGE_HELP: &str = "\
+Makes one register of several. What was at OUT is replaced, and is lost unless
+OUT is among the files; crsreg take joins the files of others to your register.
+
 Reads all files in the order given before OUT is opened, so OUT can be one of
 them. Writes the register of all their operations. The order of registers and
 repeats do not matter. Pieces are merged after all registers, in the order
@@ -17,7 +37,7 @@ under one id, so a number was given out twice; Basis ID if a piece was made for
 an office that had seen ID, and the registers before it have not.
 
 Example:
-  crsreg merge office.crs office.crs north.crs south.crs";
+  crsreg merge all.crs office.crs north.crs south.crs";
 
 pub const SEEN_HELP: &str = "\
 The summary lists the ids of the operations that the register has seen. Send it

@@ -5,6 +5,7 @@ mod arguments;
 mod change;
 mod change_help;
 mod completions;
+mod defaults;
 mod exchange;
 mod exchange_help;
 mod look;
@@ -17,4 +18,5 @@ mod whole;
 mod whole_help;
 
 pub use completions::{Shell, completion_script};
+pub use defaults::Defaults;
 pub use whole::command_line;

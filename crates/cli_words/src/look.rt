@@ -1,8 +1,16 @@
 //! The commands that search, count and compare registers.
 use crate::arguments::{READ_SHELF, flag, named, on_shelf, register, several};
-use crate::look_help::{DIFF_HELP, FIND_HELP, OFFICES_HELP, STATUS_OF_HELP};
+use crate::look_help::{DIFF_HELP, FIND_HELP, OFFICES_HELP, PAGE_HELP, STATUS_OF_HELP};
 use clap::{Arg, Command};
 use std::alloc::{AllocError, Global};
+
+const KINDS: [&str; 5] = [
+    "geographic",
+    "geodetic",
+    "projected",
+    "vertical",
+    "compound",
+];
 
 const STATUSES: [&str; 4] = ["valid", "superseded", "retired", "live"];
 
@@ -12,6 +20,7 @@ pub fn find<'a>(alloc: Global) -> Result<Command<'a>, AllocError> {
         .about("Prints the entries that match every option given")
         .after_help(FIND_HELP)
         .arg(register(alloc))?
+        .arg(sought(alloc))?
         .arg(named(
             alloc,
             "key",
@@ -21,9 +30,35 @@ pub fn find<'a>(alloc: Global) -> Result<Command<'a>, AllocError> {
         .arg(named(alloc, "authority", "A", "Only with this authority"))?
         .arg(named(alloc, "code", "C", "Only with this code"))?
         .arg(named(alloc, "name", "PART", "Only with this part in the name"))?
+        .arg(named(
+            alloc,
+            "area",
+            "PART",
+            "Only with this part in the area of use",
+        ))?
+        .arg(named(
+            alloc,
+            "at",
+            "LAT,LON",
+            "Only with this point in a bounding box",
+        ))?
+        .arg(of_kind(alloc))?
         .arg(wanted(alloc))?
         .arg(flag(alloc, "ids", "Prints only the ids, one a line"))?
         .arg(on_shelf(alloc, READ_SHELF))
+}
+
+// The word to search for.
+fn sought<'a>(alloc: Global) -> Arg<'a> {
+    Arg::new(alloc, "WORD").help("A key, as AUTHORITY:CODE, or else a part of the name")
+}
+
+fn of_kind<'a>(alloc: Global) -> Arg<'a> {
+    Arg::new(alloc, "kind")
+        .long("kind")
+        .value_name("KIND")
+        .help("Only of this kind")
+        .value_parser(KINDS.as_slice())
 }
 
 /// `status`.
@@ -46,6 +81,16 @@ pub fn offices<'a>(alloc: Global) -> Result<Command<'a>, AllocError> {
         .about("Prints how many operations of each office a register has seen")
         .after_help(OFFICES_HELP)
         .arg(register(alloc))?
+        .arg(on_shelf(alloc, READ_SHELF))
+}
+
+/// `page`.
+pub fn page<'a>(alloc: Global) -> Result<Command<'a>, AllocError> {
+    Command::new(alloc, "page")
+        .about("Prints a page of HTML with the entries, conflicts and gaps")
+        .after_help(PAGE_HELP)
+        .arg(register(alloc))?
+        .arg(named(alloc, "title", "T", "The title of the page"))?
         .arg(on_shelf(alloc, READ_SHELF))
 }
 

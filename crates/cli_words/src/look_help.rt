@@ -1,16 +1,19 @@
 //! Help for the commands that find and compare, in lines of at most 80 columns.
 
 pub const FIND_HELP: &str = "\
-Prints the lines of the report of entries that match every option given, or all
-lines without options. Keys, authorities and codes match byte for byte. In
-names, the letters A to Z match in either case.
+Prints the lines of the report of entries that match WORD and every option
+given, or all lines without these. WORD is a key if an entry has this key, and
+otherwise a part of the name. In authorities, names and areas, the letters A to
+Z match in either case; codes match byte for byte. A point on the border of a
+bounding box is in it. If west is greater than east, the box crosses the
+meridian of 180 degrees.
 
 With --ids it prints only the ids. If no entry matches, it is refused as
 NoEntry, so $(crsreg find .. --ids) is safe in scripts.
 
 Example:
-  crsreg find office.crs --name 'utm zone 32' --status live
-  crsreg wkt office.crs $(crsreg find office.crs --key EPSG:25832 --ids)";
+  crsreg find office.crs epsg:25832
+  crsreg find office.crs 'utm zone 32' --at 50.1,8.7 --status live";
 
 pub const STATUS_OF_HELP: &str = "\
 Prints a line of comma-separated values for each FILE: its size; the numbers of
@@ -33,6 +36,18 @@ operations are kept.
 
 Example:
   crsreg offices office.crs";
+
+pub const PAGE_HELP: &str = "\
+Prints one file of HTML for people without this tool: counts, keys in conflict
+with their texts side by side, awaited ids, gaps, and a row for each entry with
+its text and its history. The file needs no network and no other file. A browser
+can search and print it.
+
+Equal registers have equal pages: there is no date. Without --title the title is
+\"The register\".
+
+Example:
+  crsreg page office.crs --title 'National register' > register.html";
 
 pub const DIFF_HELP: &str = "\
 Merges the files NEW like crsreg merge, and compares the reports of entries.

@@ -1,5 +1,8 @@
 //! The commands `import` and `settle`.
-use crate::arguments::{ON_SHELF, changed, flag, note, on_shelf, register, replica, several};
+use crate::arguments::{
+    ON_SHELF, changed, flag, named, note, on_shelf, register, replica, several,
+};
+use crate::defaults::Defaults;
 use crate::many_help::{IMPORT_HELP, SETTLE_HELP};
 use clap::{Arg, ArgAction, Command};
 use std::alloc::{AllocError, Global};
@@ -7,14 +10,14 @@ use std::alloc::{AllocError, Global};
 const MODES: [&str; 3] = ["refuse", "beside", "revise"];
 
 /// `import`.
-pub fn import<'a>(alloc: Global, office: Option<&'a str>) -> Result<Command<'a>, AllocError> {
+pub fn import<'a>(alloc: Global, defaults: &Defaults<'a>) -> Result<Command<'a>, AllocError> {
     let whole = Command::new(alloc, "import")
         .about("Enters all texts of files into a register")
         .after_help(IMPORT_HELP)
         .arg(register(alloc))?
         .arg(several(alloc, "FILE", "The files with texts; - is standard input"))?
-        .arg(replica(alloc, office))?
-        .arg(note(alloc))?;
+        .arg(replica(alloc, defaults))?
+        .arg(note(alloc, defaults))?;
     let whole = whole
         .arg(differs(alloc))?
         .arg(flag(alloc, "keep-going", "Lists refused texts, and goes on"))?
@@ -23,14 +26,21 @@ pub fn import<'a>(alloc: Global, office: Option<&'a str>) -> Result<Command<'a>,
             "dry-run",
             "Prints what would be done, and writes nothing",
         ))?;
+    let whole = whole
+        .arg(flag(alloc, "changes", "Prints no lines with the action same"))?
+        .arg(named(
+            alloc,
+            "gone",
+            "AUTHORITY",
+            "Lists its entries whose keys no text has",
+        ))?;
     whole
-        .arg(flag(alloc, "explain", "Explains why texts are refused"))?
         .arg(on_shelf(alloc, ON_SHELF))?
         .arg(unless_dry(alloc)?)
 }
 
 /// `settle`.
-pub fn settle<'a>(alloc: Global, office: Option<&'a str>) -> Result<Command<'a>, AllocError> {
+pub fn settle<'a>(alloc: Global, defaults: &Defaults<'a>) -> Result<Command<'a>, AllocError> {
     Command::new(alloc, "settle")
         .about("Keeps entries, and retires all others with their authority and code")
         .after_help(SETTLE_HELP)
@@ -41,13 +51,14 @@ pub fn settle<'a>(alloc: Global, office: Option<&'a str>) -> Result<Command<'a>,
             "equal",
             "Of entries with one key and text, keeps the least",
         ))?
-        .arg(replica(alloc, office))?
-        .arg(note(alloc))?
+        .arg(flag(alloc, "quiet", "Prints no ids"))?
+        .arg(replica(alloc, defaults))?
+        .arg(note(alloc, defaults))?
         .arg(on_shelf(alloc, ON_SHELF))?
         .arg(changed(alloc)?)
 }
 
-// What to do if the key has another text.
+// The action if the key has another text.
 fn differs<'a>(alloc: Global) -> Arg<'a> {
     Arg::new(alloc, "differs")
         .long("differs")
@@ -70,7 +81,7 @@ fn unless_dry<'a>(alloc: Global) -> Result<Arg<'a>, AllocError> {
 
 fn kept<'a>(alloc: Global) -> Result<Arg<'a>, AllocError> {
     Arg::new(alloc, "KEEP")
-        .help("The ids of the entries to keep, as UUID:NUMBER")
+        .help("The ids of the entries to keep, as UUID:NUMBER; - reads ids")
         .action(ArgAction::Append)
         .num_args(1..)
         .required_unless_present("equal")?

@@ -6,13 +6,17 @@ text is compared with the register, including what this command has entered:
   - an entry that is not retired has the text: nothing is done (same, or
     superseded if no such entry is valid);
   - its key has no entry, or only retired ones: it is entered (entered);
-  - its key has another text: by --differs it is refused (refuse, the default),
-    entered anyway, which is a conflict (beside), or entered while the other
-    entries of the key are retired (revise; revised). A key that this command
-    has entered or found is not revised.
+  - its key has another text: --differs decides whether it is refused (refuse,
+    the default), entered anyway, which creates a conflict (beside), or entered
+    with the other entries of the key retired (revise; revised). A key that this
+    command has entered or found is not revised.
 
 After OUT is written, a line for each text is printed: the file, the offset of
-the text, the action, the entry, its authority, code and name.
+the text, the action, the entry, its authority, code and name. With --changes
+there is no line for a text with the action same. With --gone AUTHORITY, a line
+with the action gone follows for each entry of this authority that is not
+retired and whose key no text has; A to Z match in either case. Nothing is done
+to these entries.
 
 The first refused text ends the command, and nothing is written. With
 --keep-going it is listed with its fault, the others are entered, and the
@@ -26,7 +30,9 @@ Example:
 pub const SETTLE_HELP: &str = "\
 For each KEEP, retires all other entries with its authority and code that are
 neither retired nor a KEEP. So its key is no longer in conflict. The new ids
-are printed after OUT is written; there are none if nothing is to be retired.
+are printed after OUT is written, unless --quiet is given; there are none if
+nothing is to be retired. With - for KEEP, the ids to keep are read from
+standard input, one a line.
 
 With --equal: of the entries with one key and one text that are not retired,
 keeps the one with the least id and retires the others. Several offices can do

@@ -1,27 +1,32 @@
 //! The commands that show a register, or an entry of it.
-use crate::arguments::{READ_SHELF, entry, flag, on_shelf, register};
-use crate::read_help::{EXPORT_HELP, OPS_HELP, REPORT_HELP, SHOW_HELP, WKT_HELP};
-use clap::{Arg, Command};
+use crate::arguments::{READ_SHELF, entry, flag, keys, on_shelf, register};
+use crate::defaults::Defaults;
+use crate::read_help::{
+    COMPARE_HELP, EXPORT_HELP, LOG_HELP, OPS_HELP, REPORT_HELP, SHOW_HELP, TEXTS_HELP, WKT_HELP,
+};
+use clap::{Arg, ArgAction, Command};
 use std::alloc::{AllocError, Global};
 
 const KINDS: [&str; 4] = ["entries", "conflicts", "awaited", "gaps"];
 
 /// `show`.
-pub fn show<'a>(alloc: Global) -> Result<Command<'a>, AllocError> {
+pub fn show<'a>(alloc: Global, defaults: &Defaults<'a>) -> Result<Command<'a>, AllocError> {
     Command::new(alloc, "show")
         .about("Prints the key, the name and the status of one entry")
         .after_help(SHOW_HELP)
         .arg(register(alloc))?
+        .arg(keys(alloc, defaults))?
         .arg(on_shelf(alloc, READ_SHELF))?
         .arg(entry(alloc))
 }
 
 /// `wkt`.
-pub fn wkt<'a>(alloc: Global) -> Result<Command<'a>, AllocError> {
+pub fn wkt<'a>(alloc: Global, defaults: &Defaults<'a>) -> Result<Command<'a>, AllocError> {
     Command::new(alloc, "wkt")
         .about("Prints the text of one entry")
         .after_help(WKT_HELP)
         .arg(register(alloc))?
+        .arg(keys(alloc, defaults))?
         .arg(on_shelf(alloc, READ_SHELF))?
         .arg(entry(alloc))?
         .arg(flag(
@@ -29,6 +34,38 @@ pub fn wkt<'a>(alloc: Global) -> Result<Command<'a>, AllocError> {
             "pretty",
             "Indents the text, with a line for each node",
         ))
+}
+
+/// `texts`.
+pub fn texts<'a>(alloc: Global) -> Result<Command<'a>, AllocError> {
+    Command::new(alloc, "texts")
+        .about("Prints the indented texts of all entries that are not retired, by key")
+        .after_help(TEXTS_HELP)
+        .arg(register(alloc))?
+        .arg(on_shelf(alloc, READ_SHELF))
+}
+
+/// `compare`.
+pub fn compare<'a>(alloc: Global, defaults: &Defaults<'a>) -> Result<Command<'a>, AllocError> {
+    Command::new(alloc, "compare")
+        .about("Prints the lines that differ between the texts of entries")
+        .after_help(COMPARE_HELP)
+        .arg(register(alloc))?
+        .arg(compared(alloc))?
+        .arg(other(alloc))?
+        .arg(keys(alloc, defaults))?
+        .arg(flag(alloc, "exit-code", "Exits with status 1 if they differ"))?
+        .arg(on_shelf(alloc, READ_SHELF))
+}
+
+fn compared<'a>(alloc: Global) -> Arg<'a> {
+    Arg::new(alloc, "ENTRY")
+        .help("The id of an entry, or with -k its key; alone, a key with or without -k")
+        .required(true)
+}
+
+fn other<'a>(alloc: Global) -> Arg<'a> {
+    Arg::new(alloc, "OTHER").help("The id of another entry, or with -k its key")
 }
 
 /// `export`.
@@ -47,6 +84,24 @@ pub fn ops<'a>(alloc: Global) -> Result<Command<'a>, AllocError> {
         .after_help(OPS_HELP)
         .arg(register(alloc))?
         .arg(on_shelf(alloc, READ_SHELF))
+}
+
+/// `log`.
+pub fn log<'a>(alloc: Global, defaults: &Defaults<'a>) -> Result<Command<'a>, AllocError> {
+    Command::new(alloc, "log")
+        .about("Prints the operations on entries, entry by entry")
+        .after_help(LOG_HELP)
+        .arg(register(alloc))?
+        .arg(logged(alloc))?
+        .arg(keys(alloc, defaults))?
+        .arg(on_shelf(alloc, READ_SHELF))
+}
+
+fn logged<'a>(alloc: Global) -> Arg<'a> {
+    Arg::new(alloc, "ENTRY")
+        .help("The ids of the entries, or with -k their keys (default: all)")
+        .action(ArgAction::Append)
+        .num_args(1..)
 }
 
 /// `report`.

@@ -3,7 +3,13 @@
 pub const SHOW_HELP: &str = "\
 Prints the header of the report of entries, and the line of this entry.
 
+With -k, or if CRSREG_KEYS is 1, an argument that is not an id is a key, such
+as EPSG:7837. It means the one entry with this key that is not retired. The
+command is refused as NoEntry if there is none, and as Several ID if there are
+more.
+
 Example:
+  crsreg show -k office.crs EPSG:7837
   crsreg show office.crs 00000000-0000-4000-8000-00000000000a:1";
 
 pub const WKT_HELP: &str = "\
@@ -11,8 +17,46 @@ An entry is named by the id of the operation that entered it: a replica's UUID,
 a colon and a number. Its text is printed whatever its status, on one line, or
 indented with --pretty.
 
+With -k, or if CRSREG_KEYS is 1, an argument that is not an id is a key, such
+as EPSG:7837. It means the one entry with this key that is not retired. The
+command is refused as NoEntry if there is none, and as Several ID if there are
+more.
+
 Example:
+  crsreg wkt -k office.crs EPSG:7837
   crsreg wkt office.crs 00000000-0000-4000-8000-00000000000a:1";
+
+pub const TEXTS_HELP: &str = "\
+Prints each text of an entry that is not retired, ordered by key and then by
+text, each text of a key once: a line with the key and the status, the indented
+text, and an empty line. A superseded text is followed by the keys of what
+supersedes it, if that is not retired. A line break within a key is printed as
+a space.
+
+It prints no ids, so registers that say the same print the same. As git's
+textconv it shows the lines that changed.
+
+Example:
+  crsreg texts office.crs";
+
+pub const COMPARE_HELP: &str = "\
+Prints the lines that differ between the indented texts of two entries, as a
+unified diff, which the command patch applies: lines of the first text begin
+with -, lines of the second with +, lines of both with a space. If the texts are
+equal, it prints nothing.
+
+Without OTHER, ENTRY is a key. Of the entries with this key that are not
+retired, the least is compared with each other. The command is refused as
+NoEntry if there is none.
+
+With -k, or if CRSREG_KEYS is 1, an argument that is not an id is a key, such
+as EPSG:7837. It means the one entry with this key that is not retired. The
+command is refused as NoEntry if there is none, and as Several ID if there are
+more.
+
+Example:
+  crsreg compare office.crs EPSG:7837
+  crsreg compare -k office.crs EPSG:7837 EPSG:5783";
 
 pub const EXPORT_HELP: &str = "\
 Prints the canonical text of each entry that is not retired, superseded ones
@@ -29,6 +73,20 @@ remembers that it has seen them.
 
 Example:
   crsreg ops office.crs";
+
+pub const LOG_HELP: &str = "\
+Prints, as comma-separated values, the operations that the register keeps on
+these entries, or on all entries: for each entry, by id, its enter, its
+supersessions and its retirement, with their notes. Redundant operations are not
+kept.
+
+With -k, or if CRSREG_KEYS is 1, an argument that is not an id is a key, such
+as EPSG:7837. It means all entries with this key, retired ones too. The command
+is refused as NoEntry if there are none, and as UnknownEntry ID if the register
+keeps no operation on an id.
+
+Example:
+  crsreg log -k office.crs EPSG:7837";
 
 pub const REPORT_HELP: &str = "\
 Prints comma-separated values with a header:

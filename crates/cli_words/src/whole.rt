@@ -1,11 +1,12 @@
 //! All commands, and `check`.
-use crate::arguments::flag;
+use crate::arguments::{explain, table};
 use crate::change::{enter, retire, supersede};
 use crate::completions::SHELLS;
-use crate::exchange::{downgrade, merge, new, piece, seen, shelf, unshelf};
-use crate::look::{diff, find, offices, status};
+use crate::defaults::Defaults;
+use crate::exchange::{downgrade, merge, new, piece, seen, shelf, take, unshelf};
+use crate::look::{diff, find, offices, page, status};
 use crate::many::{import, settle};
-use crate::read::{export, ops, report, show, wkt};
+use crate::read::{compare, export, log, ops, report, show, texts, wkt};
 use crate::whole_help::{CHECK_HELP, COMPLETIONS_HELP, STATUS_HELP};
 use clap::{Arg, Command};
 use std::alloc::{AllocError, Global};
@@ -13,68 +14,105 @@ use std::alloc::{AllocError, Global};
 /// The newest heading of CHANGES.md.
 const VERSION: &str = "0.6";
 
-/// All commands. The office is that of the environment, if it names one: the default of `--as`.
-pub fn command_line<'a>(alloc: Global, office: Option<&'a str>) -> Result<Command<'a>, AllocError> {
+/// All commands, with the defaults of their options.
+pub fn command_line<'a>(alloc: Global, defaults: &Defaults<'a>) -> Result<Command<'a>, AllocError> {
     let whole = Command::new(alloc, "crsreg")
         .version(VERSION)
         .about("A replicated register of coordinate reference systems in WKT 2")
         .after_help(STATUS_HELP)
         .subcommand_required(true);
-    let whole = and(whole, check(alloc))?;
-    let whole = with_changes(alloc, whole, office)?;
-    let whole = with_readers(alloc, whole)?;
-    let whole = with_exchange(alloc, whole)?;
-    let whole = with_shelves(alloc, whole)?;
-    and(whole, shells(alloc))
+    let whole = and(alloc, whole, defaults, check(alloc))?;
+    let whole = with_changes(alloc, whole, defaults)?;
+    let whole = with_readers(alloc, whole, defaults)?;
+    let whole = with_exchange(alloc, whole, defaults)?;
+    let whole = with_shelves(alloc, whole, defaults)?;
+    whole.subcommand(shells(alloc)?)
 }
 
-// Those that make or change a register.
+// The commands that make or change a register.
 fn with_changes<'a>(
     alloc: Global,
     whole: Command<'a>,
-    office: Option<&'a str>,
+    defaults: &Defaults<'a>,
 ) -> Result<Command<'a>, AllocError> {
-    let whole = and(whole, new(alloc))?;
-    let whole = and(whole, enter(alloc, office))?;
-    let whole = and(whole, import(alloc, office))?;
-    let whole = and(whole, supersede(alloc, office))?;
-    let whole = and(whole, retire(alloc, office))?;
-    and(whole, settle(alloc, office))
+    let whole = and(alloc, whole, defaults, new(alloc))?;
+    let whole = and(alloc, whole, defaults, enter(alloc, defaults))?;
+    let whole = and_rows(alloc, whole, defaults, import(alloc, defaults))?;
+    let whole = and(alloc, whole, defaults, supersede(alloc, defaults))?;
+    let whole = and(alloc, whole, defaults, retire(alloc, defaults))?;
+    and(alloc, whole, defaults, settle(alloc, defaults))
 }
 
-// Those that show registers.
-fn with_readers<'a>(alloc: Global, whole: Command<'a>) -> Result<Command<'a>, AllocError> {
-    let whole = and(whole, find(alloc))?;
-    let whole = and(whole, show(alloc))?;
-    let whole = and(whole, wkt(alloc))?;
-    let whole = and(whole, export(alloc))?;
-    let whole = and(whole, ops(alloc))?;
-    let whole = and(whole, report(alloc))?;
-    let whole = and(whole, status(alloc))?;
-    and(whole, offices(alloc))
-}
-
-// Those by which offices exchange registers.
-fn with_exchange<'a>(alloc: Global, whole: Command<'a>) -> Result<Command<'a>, AllocError> {
-    let whole = and(whole, diff(alloc))?;
-    let whole = and(whole, merge(alloc))?;
-    let whole = and(whole, seen(alloc))?;
-    let whole = and(whole, piece(alloc))?;
-    and(whole, downgrade(alloc))
-}
-
-// Those that make a shelf, and write its register to a file.
-fn with_shelves<'a>(alloc: Global, whole: Command<'a>) -> Result<Command<'a>, AllocError> {
-    let whole = and(whole, shelf(alloc))?;
-    and(whole, unshelf(alloc))
-}
-
-// The commands so far and one more, if both could be made.
-fn and<'a>(
+// The commands that show registers.
+fn with_readers<'a>(
+    alloc: Global,
     whole: Command<'a>,
+    defaults: &Defaults<'a>,
+) -> Result<Command<'a>, AllocError> {
+    let whole = and_rows(alloc, whole, defaults, find(alloc))?;
+    let whole = and_rows(alloc, whole, defaults, show(alloc, defaults))?;
+    let whole = and(alloc, whole, defaults, wkt(alloc, defaults))?;
+    let whole = and(alloc, whole, defaults, texts(alloc))?;
+    let whole = and(alloc, whole, defaults, compare(alloc, defaults))?;
+    let whole = and(alloc, whole, defaults, export(alloc))?;
+    let whole = and_rows(alloc, whole, defaults, ops(alloc))?;
+    let whole = and_rows(alloc, whole, defaults, log(alloc, defaults))?;
+    let whole = and_rows(alloc, whole, defaults, report(alloc))?;
+    let whole = and_rows(alloc, whole, defaults, status(alloc))?;
+    let whole = and_rows(alloc, whole, defaults, offices(alloc))?;
+    and(alloc, whole, defaults, page(alloc))
+}
+
+// The commands with which offices exchange registers.
+fn with_exchange<'a>(
+    alloc: Global,
+    whole: Command<'a>,
+    defaults: &Defaults<'a>,
+) -> Result<Command<'a>, AllocError> {
+    let whole = and_rows(alloc, whole, defaults, diff(alloc))?;
+    let whole = and_rows(alloc, whole, defaults, take(alloc))?;
+    let whole = and(alloc, whole, defaults, merge(alloc))?;
+    let whole = and(alloc, whole, defaults, seen(alloc))?;
+    let whole = and(alloc, whole, defaults, piece(alloc))?;
+    and(alloc, whole, defaults, downgrade(alloc))
+}
+
+// The commands that make a shelf, and write its register to a file.
+fn with_shelves<'a>(
+    alloc: Global,
+    whole: Command<'a>,
+    defaults: &Defaults<'a>,
+) -> Result<Command<'a>, AllocError> {
+    let whole = and(alloc, whole, defaults, shelf(alloc))?;
+    and(alloc, whole, defaults, unshelf(alloc))
+}
+
+// The commands so far and one more, which explains refusals, if there was memory for both.
+fn and<'a>(
+    alloc: Global,
+    whole: Command<'a>,
+    defaults: &Defaults<'a>,
     command: Result<Command<'a>, AllocError>,
 ) -> Result<Command<'a>, AllocError> {
-    whole.subcommand(command?)
+    whole.subcommand(command?.arg(explain(alloc, defaults))?)
+}
+
+// The same of a command that prints rows.
+fn and_rows<'a>(
+    alloc: Global,
+    whole: Command<'a>,
+    defaults: &Defaults<'a>,
+    command: Result<Command<'a>, AllocError>,
+) -> Result<Command<'a>, AllocError> {
+    and(alloc, whole, defaults, with_table(alloc, defaults, command))
+}
+
+fn with_table<'a>(
+    alloc: Global,
+    defaults: &Defaults<'a>,
+    command: Result<Command<'a>, AllocError>,
+) -> Result<Command<'a>, AllocError> {
+    command?.arg(table(alloc, defaults))
 }
 
 // `completions`.
@@ -94,6 +132,5 @@ fn check<'a>(alloc: Global) -> Result<Command<'a>, AllocError> {
     Command::new(alloc, "check")
         .about("Checks a text and prints its canonical form")
         .after_help(CHECK_HELP)
-        .arg(text)?
-        .arg(flag(alloc, "explain", "Explains why a text is refused"))
+        .arg(text)
 }

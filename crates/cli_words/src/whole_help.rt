@@ -11,7 +11,8 @@ Exit status:
 
 A file is named by its number among those that the command reads, from 1:
 `file 2: Truncated at 0`. Lines with `out:` are about the output, lines with
-`shelf:` about the shelf, which has no number.
+`shelf:` about the shelf, which has no number. With --explain (or
+CRSREG_EXPLAIN=1) a sentence below the line says what is wrong.
 
 Example:
   crsreg check < height.wkt";

@@ -1,5 +1,5 @@
-//! Follows scripts of commands and compares tables of texts: `conformance FILE..`. A file whose name ends in `.csv` is a
-//! table, any other a script.
+//! Runs scripts of commands and compares tables of texts: `conformance FILE..`. A file whose name ends in `.csv` is a
+//! table, any other file a script.
 #![tactic(auto)]
 
 mod script;

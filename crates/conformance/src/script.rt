@@ -3,7 +3,7 @@
 
 use std::{fs, io};
 
-/// Follows each line of the script.
+/// Runs each line of the script.
 pub fn follow(rt: &HostRuntime, script: &str) -> io::Result<()> {
     for line in script.lines() {
         follow_line(rt, line)?;
@@ -50,7 +50,7 @@ fn word(words: &[String], k: usize) -> &str {
     }
 }
 
-// As `cmp` of the system, it says nothing of files that are equal.
+// Like the system's `cmp`, it prints nothing for equal files.
 fn compare(rt: &HostRuntime, one: &str, other: &str) -> io::Result<()> {
     if fs::read(rt, one)?.as_slice() == fs::read(rt, other)?.as_slice() {
         return Ok(());

@@ -1,5 +1,5 @@
-//! Tables: CSV files whose records are a name, a text, and the line that `check` prints for it. What differs is shown,
-//! and then the counts.
+//! Tables: CSV files whose records are a name, a text, and the line that `check` prints for it. Differences are
+//! printed, and then the counts.
 
 use byte_io::{Reading, Writing};
 use csv::{ByteRecord, Error, ReaderBuilder};
@@ -7,7 +7,7 @@ use reg_cli::run_check;
 use std::alloc::{AllocError, Global};
 use std::io;
 
-/// Runs `check` on each text of the table, and compares what it prints.
+/// Runs `check` on each text of the table, and compares its output.
 pub fn compare(rt: &HostRuntime, table: &[u8]) -> io::Result<()> {
     match records(rt.alloc(), table) {
         Ok(records) => compare_all(rt, &records),
@@ -44,7 +44,7 @@ fn compare_all(rt: &HostRuntime, records: &[ByteRecord]) -> io::Result<()> {
     println!(rt; "{} texts, {differ} differ", records.len())
 }
 
-// What `check` prints for the text, on standard output or standard error, without the newline.
+// The output of `check` for the text, on standard output or standard error, without the newline.
 fn printed(alloc: Global, text: &[u8]) -> Result<Vec<u8>, AllocError> {
     let mut sink = Writing::new(Vec::new(alloc));
     match run_check(alloc, &mut Reading::new(text), &mut sink) {

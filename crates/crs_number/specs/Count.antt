@@ -52,7 +52,7 @@ is_power (c ∷ text) =
     && (nat_lt 0 (length (digits_in (behind_sign text)))
     && length (behind_digits (behind_sign text)) == 0)
 
--- what follows the period and its digits
+-- the bytes after the period and its digits
 abbrev pub power_in : List ℕ → List ℕ
 power_in text = behind_fraction (behind_digits (behind_sign text))
 

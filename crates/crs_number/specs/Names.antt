@@ -1,4 +1,4 @@
--- How a fault of a numeral is called.
+-- The name of a fault of a numeral.
 use Rattle.std.specs.Prelude.{ℕ, List, codes}
 use Rattle.crs_number.specs.declared.decimals.NumberFault.{NumberFault}
 use Rattle.crs_number.specs.declared.decimals.NumberFault.TheVariants.{BadNumber, NumberRange}

@@ -1,4 +1,4 @@
--- What the steps of reading a numeral cut off the front of a text.
+-- The parts that the steps of reading a numeral cut off the front of a text.
 use Rattle.std.specs.Prelude.{◌≡◌, ℕ, Bool, false, ◌||◌, ◌==◌, List, [], ◌∷◌, ◌++◌, ⊤}
 use Rattle.std.specs.Char.{is_ascii_digit}
 use Rattle.std.specs.Str.Parse.{AllDigits}

@@ -7,7 +7,7 @@ ghost use Rattle.crs_number.specs.Numeral.{HasForm, Spells};
 use crate::decimals::{Decimal, MAX_TEXT, NumberFault};
 use crate::numerals::Numeral;
 
-/// Tests whether the text spells a decimal. It is for the lexer, which needs no decimal.
+/// Tests whether the text spells a decimal, for the lexer, which needs no decimal.
 pub fn check_numeral(text: &[u8]) -> Result<(), NumberFault>
     ensures ok { IsOk result ↔ ((d : Decimal) × Spells text.now d.coefficient d.exponent) }
     ensures bad { IsErrOf result NumberFault.BadNumber ↔ ¬ HasForm text.now }

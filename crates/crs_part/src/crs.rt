@@ -22,7 +22,7 @@ pub enum GeodeticKind {
     Geographic,
 }
 
-/// The geodetic reference system that a projected one is made of.
+/// The geodetic reference system on which a projected one is based.
 #[derive(Drop)]
 pub struct BaseCrs {
     pub kind: GeodeticKind,

@@ -47,7 +47,7 @@ pub struct GeodeticEnsemble {
     pub ids: Many<Ident>,
 }
 
-/// What a geodetic reference system refers to.
+/// The datum or the ensemble of a geodetic reference system.
 #[derive(Drop)]
 pub enum GeodeticFrame {
     Datum(Datum),
@@ -71,7 +71,7 @@ pub struct VerticalEnsemble {
     pub ids: Many<Ident>,
 }
 
-/// What a vertical reference system refers to.
+/// The datum or the ensemble of a vertical reference system.
 #[derive(Drop)]
 pub enum VerticalFrame {
     Datum(VerticalDatum),

@@ -29,7 +29,7 @@ pub struct CoordSystem {
     pub ghost count: { dimension < 2 ^ 32 },
 }
 
-/// Where an axis points to.
+/// The direction of an axis.
 #[derive(Clone, Copy, Debug, PartialEq, Eq)]
 pub enum Direction {
     North,
@@ -62,7 +62,7 @@ pub struct Meridian {
     pub unit: AngleUnit,
 }
 
-/// Which axis of its system an axis is, from 1.
+/// The number of an axis in its system, from 1.
 #[derive(Clone, Copy, Debug, PartialEq, Eq)]
 pub struct Order {
     pub position: u32,

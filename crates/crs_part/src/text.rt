@@ -62,7 +62,7 @@ impl Text {
 fn is_text(bytes: &[u8]) -> bool
     ensures { result ≡ is_utf8 bytes.now }
 {
-    // Most texts are of ASCII, which is seen sooner.
+    // Most texts are ASCII, which is tested faster.
     if bytes.is_ascii() {
         return true;
     }

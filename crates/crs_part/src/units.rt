@@ -8,7 +8,7 @@ use crate::text::Text;
 use crs_number::Decimal;
 use std::alloc::{AllocError, Global};
 
-/// What a unit is: its name, and the factor that converts it to the base unit.
+/// The definition of a unit: its name, and the factor that converts it to the base unit.
 #[derive(Drop)]
 pub struct UnitDefinition {
     pub name: Text,

@@ -28,7 +28,7 @@ pub fn same_word(a: &[u8], b: &[u8]) -> bool
     a.eq_ignore_ascii_case(b)
 }
 
-/// The first of the values whose word it is, in any letter case.
+/// The first of the values that has this word, in any letter case.
 pub fn first_of<T: Word>(values: &[T], bytes: &[u8]) -> Option<T>
     ensures { result ≡ first_word T.spelled values.now (map to_ascii_lowercase bytes.now) }
 {

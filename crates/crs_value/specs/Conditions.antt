@@ -1,4 +1,4 @@
--- What each condition says of a coordinate reference system. Axes are counted from 0.
+-- The meaning of each condition on a coordinate reference system. Axes are counted from 0.
 use Rattle.std.specs.Prelude.{ℕ, ◌+◌, ◌==◌, nat_lt, Bool, true, false, not, ◌&&◌, ◌||◌, List, length, Option, Some, None, is_some, is_none}
 use Rattle.std.specs.Int.{is_positive, is_negative}
 use Rattle.std.specs.List.{list_all, enumerate_from}
@@ -98,7 +98,7 @@ takes_unit system k measures.Angle = takes_angle system k
 takes_unit system k measures.Scale = false
 takes_unit system k measures.Generic = true
 
--- what a unit measures, where its keyword says so
+-- the quantity that a unit measures, if its keyword names one
 abbrev pub unit_kind : Unit → UnitKind
 unit_kind (Length unit) = measures.Length
 unit_kind (Angle unit) = measures.Angle

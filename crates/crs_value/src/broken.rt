@@ -4,7 +4,7 @@ ghost use Rattle.std.specs.Prelude.{◌≡◌};
 
 use std::fmt;
 
-/// Which reference system a condition is about: a component of a compound, or the whole.
+/// The reference system that a condition is about: a component of a compound, or the whole.
 #[derive(Clone, Copy, Debug, PartialEq, Eq)]
 pub enum Whose {
     First,
@@ -36,7 +36,7 @@ pub enum Condition {
 impl Condition {
     ghost use Rattle.crs_value.specs.Checking.{name_of};
 
-    /// How a fault prints it.
+    /// The word that a fault prints.
     pub fn name(self) -> &'static str
         ensures { result.now ≡ name_of self }
     {
@@ -59,7 +59,7 @@ impl fmt::Display for Condition {
     }
 }
 
-/// A condition that does not hold. It prints as the condition, and of which component.
+/// A condition that does not hold. It prints as the condition and the component.
 #[derive(Clone, Copy, Debug, PartialEq, Eq)]
 pub struct Broken {
     pub whose: Whose,

@@ -8,7 +8,7 @@ use crate::crs::Crs;
 use crs_part::{Ident, NumberOrText, Same, Text, TryClone};
 use std::alloc::{AllocError, Global};
 
-/// What identifies a reference system: an authority, and a code in its list.
+/// The key of a reference system: an authority, and a code in its list.
 #[derive(Drop)]
 pub struct Key {
     pub authority: Text,

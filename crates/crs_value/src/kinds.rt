@@ -80,7 +80,7 @@ pub fn is_cartesian_plane(system: SystemKind, dimension: u32) -> bool
     }
 }
 
-/// What a unit measures, if its keyword says so.
+/// The quantity that a unit measures, if its keyword names one.
 #[derive(Clone, Copy, Debug, PartialEq, Eq)]
 pub enum UnitKind {
     Length,

@@ -56,7 +56,7 @@ fn is_negative(number: Decimal) -> bool
     number.coefficient() < 0
 }
 
-/// What has units in it.
+/// A value that contains units.
 trait HasUnits {
     ghost units: { Self → List UnitDefinition };
 

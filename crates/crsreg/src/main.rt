@@ -4,12 +4,12 @@
 use std::fs;
 use std::process::ExitCode;
 
-// The folder that every system has: it can be opened, but not read or written.
+// Every system has this folder. It can be opened, but not read or written.
 const FOLDER: &str = "/";
 
 fn main(rt: HostRuntime) -> ExitCode {
-    // The next file that is opened gets the descriptor of a closed stream, and printed text would go into it. So a
-    // folder takes that descriptor first, and the stream fails.
+    // If a standard stream is closed, the next file that is opened gets its descriptor, and printed text would go into
+    // that file. So a folder takes the descriptor first, and writing to the stream fails.
     let _taken = [
         fs::open(&rt, FOLDER),
         fs::open(&rt, FOLDER),

@@ -1,4 +1,4 @@
--- The shape of what is shown: the same without the texts.
+-- The shape of a page: its contents without the texts.
 use Rattle.std.specs.Prelude.{ℕ, List, [], map}
 use Rattle.html_page.specs.declared.head.Figures.{Figures}
 use Rattle.html_page.specs.Shown.{Link, Entered, Awaited, Event, SupersededBy, RetiredBy, Entry, Word, Side, Pair, Conflict, Gap, Shown}
@@ -17,7 +17,7 @@ abbrev pub event_shape : Event → Event
 event_shape (SupersededBy newer id note) = SupersededBy (link_shape newer) [] []
 event_shape (RetiredBy id note) = RetiredBy [] []
 
--- what stays of an entry is how many areas, links and operations it has, and its status
+-- of an entry: the numbers of its areas, links and operations, and its status
 abbrev pub entry_shape : Entry → Entry
 entry_shape e = record {
   id = [];
@@ -33,7 +33,7 @@ entry_shape e = record {
   events = map event_shape e.events;
 }
 
--- what stays of a word is whether it is marked
+-- of a word: whether it is marked
 abbrev pub word_shape : Word → Word
 word_shape w = record { differs = w.differs; text = [] }
 

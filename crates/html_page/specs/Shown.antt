@@ -1,4 +1,4 @@
--- What the page of a register shows. Ids, keys, names, areas and notes are texts.
+-- The contents of the page of a register. Ids, keys, names, areas and notes are texts.
 use Rattle.std.specs.Prelude.{ℕ, Bool, List}
 use Rattle.html_page.specs.declared.head.Figures.{Figures}
 use Rattle.html_page.specs.declared.standing.Standing.{Standing}

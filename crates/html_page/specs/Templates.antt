@@ -1,4 +1,4 @@
--- The page: what is shown, as pieces.
+-- The page: its contents as a list of pieces.
 use Rattle.std.specs.Prelude.{ℕ, ◌==◌, List, [], ◌∷◌, ◌++◌, length, decimal, if◌then◌else◌}
 use Rattle.std.specs.List.{flat_map}
 use Rattle.html_text.specs.Pieces.{Piece, Markup, Text, Lines, Attribute}
@@ -10,7 +10,7 @@ use Rattle.html_page.specs.declared.standing.Standing.TheVariants as standing
 use Rattle.html_page.specs.declared.head.Figures.{Figures}
 use Rattle.html_page.specs.Shown.{Link, Entered, Awaited, Event, SupersededBy, RetiredBy, Entry, Word, Side, Pair, Conflict, Gap, Shown}
 
--- ---- the head, and how much there is
+-- ---- the head, and the counts
 
 abbrev pub head : List ℕ → List Piece
 head title =
@@ -64,7 +64,7 @@ conflict c = conflict_start c.authority c.code ++ flat_map pair c.pairs
 abbrev pub section : {T : Type 0} → List ℕ → (T → List Piece) → List ℕ → List T → List Piece
 section start item end xs = if length xs == 0 then [] else (Markup start ∷ []) ++ flat_map item xs ++ Markup end ∷ []
 
--- ---- what is missing
+-- ---- missing entries and operations
 
 abbrev pub awaited : List ℕ → List Piece
 awaited id = Markup AWAITED_ITEM.now ∷ Text id ∷ Markup AFTER_AWAITED_ITEM.now ∷ []

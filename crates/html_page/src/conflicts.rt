@@ -1,4 +1,4 @@
-//! Conflicts: the texts of a key, side by side.
+//! The conflicts: the texts of each key, side by side.
 
 ghost use Rattle.std.specs.Prelude.{OnOk};
 ghost use Rattle.html_text.specs.Pieces.{Appends};

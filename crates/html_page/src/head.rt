@@ -14,7 +14,7 @@ use html_text::Piece::{Markup, Text};
 use html_text::push_pieces;
 use std::alloc::{AllocError, Global};
 
-/// How much a register has.
+/// The counts of a register.
 #[derive(Clone, Copy, Debug, PartialEq, Eq)]
 pub struct Figures {
     pub entries: usize,
@@ -85,7 +85,7 @@ pub fn push_figures(alloc: Global, page: &mut Vec<u8>, f: &Figures) -> Result<()
     Ok(())
 }
 
-/// Appends what follows the entries.
+/// Appends everything after the entries.
 pub fn push_end(page: &mut Vec<u8>) -> Result<(), AllocError>
     ensures { OnOk result (Appends page.old.items page.new.items end) }
 {

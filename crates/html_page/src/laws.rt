@@ -9,8 +9,8 @@ ghost use Rattle.html_page.specs.Shape.{shape};
 ghost use Rattle.html_page.specs.Templates.{page};
 ghost use Rattle.html_page.specs.Words.{compared};
 
-/// Each text stands between tags, or between the quotation marks of an attribute. So the tags of the page depend on
-/// the shape of what is shown alone, and on no text in it.
+/// Each text is between tags, or between the quotation marks of an attribute. So the tags of the page depend only on
+/// the shape of the page, and on no text in it.
 pub fn no_text_leaves_its_place()
     ensures places { (s : Shown) → past_all (Some Content) (page s) ≡ Some Content }
     ensures tags { (s : Shown) → tags (html (page s)) ≡ tags (html (page (shape s))) }

@@ -1,4 +1,4 @@
-//! The page of a register in HTML: its markup, and what is shown in it.
+//! The page of a register in HTML: its markup and its contents.
 #![tactic(auto)]
 
 mod conflicts;

@@ -33,7 +33,7 @@ pub fn push_link<'a>(
     )
 }
 
-/// Appends the id of an entry that is not there.
+/// Appends the id of an entry that the register does not have.
 pub fn push_awaited_link(page: &mut Vec<u8>, id: &[u8]) -> Result<(), AllocError>
     ensures { OnOk result (Appends page.old.items page.new.items (link (Awaited id.now))) }
 {

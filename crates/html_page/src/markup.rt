@@ -1,4 +1,4 @@
-//! The constants of the page, in the order in which they stand there. `style.rt` and `script.rt` have the other two.
+//! The constants of the page, in their order on the page. `style.rt` and `script.rt` have the other two.
 
 /// The policy allows only this style and this script, by their digests.
 pub const BEFORE_TITLE: &[u8] = b"<!DOCTYPE html>
@@ -24,7 +24,7 @@ pub const BEFORE_FIGURES: &[u8] = b"</bdi></h1>
 <ul class=\"figures\">
 ";
 
-// ---- How much there is.
+// ---- Counts.
 
 pub const COUNT: &[u8] = b"<li><b>";
 
@@ -98,7 +98,7 @@ pub const AFTER_PAIR: &[u8] = b"</div>
 pub const CONFLICTS_END: &[u8] = b"</section>
 ";
 
-// ---- What is missing.
+// ---- Missing entries and operations.
 
 pub const AWAITED_START: &[u8] = b"<section aria-labelledby=\"awaited\">
 <h2 id=\"awaited\">Awaited</h2>

@@ -1,4 +1,4 @@
-//! What a register lacks: awaited entries, and gaps.
+//! The awaited entries and the gaps of a register.
 
 ghost use Rattle.std.specs.Prelude.{OnOk};
 ghost use Rattle.html_text.specs.Pieces.{Appends};
@@ -29,7 +29,7 @@ pub fn push_gap_start(page: &mut Vec<u8>, replica: &[u8]) -> Result<(), AllocErr
     push_pieces(page, &[Markup(GAP), Text(replica)])
 }
 
-/// Appends the counts that are missing, from one on and up to another.
+/// Appends a range of missing counts.
 pub fn push_gap_counts(
     alloc: Global,
     page: &mut Vec<u8>,

@@ -1,4 +1,4 @@
-//! The script of the page: a search among the rows, and links that unfold what they lead to. Without it all is there.
+//! The script of the page: a search in the rows, and links that unfold their targets. The page is complete without it.
 
 /// It has no `<`, so that no tag begins in it.
 pub const SCRIPT: &[u8] = b"

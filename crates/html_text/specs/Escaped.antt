@@ -1,4 +1,4 @@
--- Texts in HTML: references in the place of the characters that mean something there.
+-- Texts in HTML: character references for the characters that have a meaning there.
 use Rattle.std.specs.Prelude.{ℕ, zero, suc, Bool, true, false, not, ◌&&◌, ◌||◌, ◌==◌, List, [], ◌∷◌, codes, Option, Some, None, is_some, if◌then◌else◌}
 use Rattle.std.specs.List.{flat_map}
 
@@ -14,7 +14,7 @@ escaped_byte b =
 abbrev pub escaped : List ℕ → List ℕ
 escaped text = flat_map escaped_byte text
 
--- ---- what a browser reads
+-- ---- how a browser reads a text
 
 abbrev pub begins_with : List ℕ → List ℕ → Bool
 begins_with [] text = true
@@ -56,7 +56,7 @@ unescaped_after (suc more) (b ∷ rest) = unescaped_after more rest
 abbrev pub unescaped : List ℕ → List ℕ
 unescaped html = unescaped_after 0 html
 
--- ---- what an escaped text has not
+-- ---- bytes that no escaped text has
 
 -- `<`, `>` and quotation marks are in no text, and `&` begins a reference
 abbrev pub is_inert_at : ℕ → List ℕ → Bool

@@ -1,4 +1,4 @@
--- Characters that a reader cannot see, and marks in their places.
+-- Characters that a reader cannot see, and the marks that replace them.
 use Rattle.std.specs.Prelude.{ℕ, zero, suc, ◌+◌, ◌/◌, ◌%◌, Bool, true, false, ◌&&◌, ◌||◌, ◌==◌, nat_lt, List, [], ◌∷◌, ◌++◌, Option, Some, None, is_none, if◌then◌else◌}
 use Rattle.html_text.specs.declared.marks.Feeds.{Feeds}
 use Rattle.html_text.specs.declared.marks.Feeds.TheVariants.{Marked, Kept}

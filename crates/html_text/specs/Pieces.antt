@@ -36,7 +36,7 @@ blank (Text text) = Text []
 blank (Lines text) = Lines []
 blank (Attribute text) = Attribute []
 
--- what a piece of the program is seen as
+-- a piece of the program, as contracts see it
 abbrev pub seen : Declared → Piece
 seen (declared.Markup constant) = Markup constant.now
 seen (declared.Text text) = Text text.now

@@ -1,4 +1,4 @@
--- Where the bytes of a page stand.
+-- The positions of the bytes of a page: between tags, or inside them.
 use Rattle.std.specs.Prelude.{ℕ, ◌==◌, List, [], ◌∷◌, ◌++◌, Option, Some, None, if◌then◌else◌}
 use Rattle.html_text.specs.Pieces.{Piece, Markup, Text, Lines, Attribute}
 

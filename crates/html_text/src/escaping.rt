@@ -1,4 +1,4 @@
-//! References in the place of characters that mean something in HTML.
+//! Character references for the characters that have a meaning in HTML.
 
 ghost use Rattle.std.specs.Prelude.{◌≡◌, ◌++◌, OnOk};
 ghost use Rattle.html_text.specs.Escaped.{escaped_byte, escaped};

@@ -1,4 +1,4 @@
-//! Marks in the place of characters that a reader cannot see.
+//! Marks for characters that a reader cannot see.
 
 ghost use Rattle.std.specs.Prelude.{◌≡◌, ◌++◌, ◌%◌, drop, IfOk, OnOk};
 ghost use Rattle.html_text.specs.Escaped.{escaped};
@@ -7,7 +7,7 @@ ghost use Rattle.html_text.specs.Marks.{is_control, control_after, directional_a
 use crate::escaping::{push_byte, push_escaped};
 use std::alloc::AllocError;
 
-/// Whether line feeds are marked, as other control characters are, or kept.
+/// Whether line feeds are marked like other control characters, or kept.
 #[derive(Clone, Copy, Debug, PartialEq, Eq)]
 pub enum Feeds {
     Marked,
@@ -19,7 +19,7 @@ pub enum Feeds {
 pub struct Hidden {
     /// Its code point.
     pub number: u32,
-    /// How many bytes it has after the first.
+    /// The number of bytes after its first one.
     pub more: usize,
 }
 
@@ -48,7 +48,7 @@ fn control_after(rest: &[u8]) -> Option<Hidden>
     })
 }
 
-// The same for 226: a character that changes the direction of what follows it.
+// The same for 226: a character that changes the direction of the text after it.
 fn directional_after(rest: &[u8]) -> Option<Hidden>
     ensures { result ≡ directional_after rest.now }
 {
@@ -121,7 +121,7 @@ fn push_mark(page: &mut Vec<u8>, number: u32) -> Result<(), AllocError>
     push_escaped(page, &mark)
 }
 
-// Appends the character's mark, or the byte; the result is how many of the bytes after it belong to it.
+// Appends the character's mark, or the byte. Returns the number of bytes after it that belong to it.
 fn push_first(page: &mut Vec<u8>, byte: u8, hidden: Option<Hidden>) -> Result<usize, AllocError>
     ensures { IfOk result (λ more. (more ≡ more_of hidden) × (page.new.items ≡ page.old.items ++ escaped (shown byte hidden))) }
 {

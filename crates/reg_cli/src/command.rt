@@ -1,25 +1,24 @@
-//! From the command line to an engine, and from its result to the exit status.
+//! Runs a command: from the command line to an engine, and from its result to the exit status.
 use crate::change::{enter, import, retire, settle, supersede};
+use crate::environment::Environment;
 use crate::exchange::{downgrade, merge, new, piece, seen, shelf, unshelf};
-use crate::look::{check, diff, export, find, offices, ops, report, show, status as figures, wkt};
+use crate::look::{
+    check, compare, diff, export, find, log, offices, ops, page, report, show, status as figures,
+    texts, wkt,
+};
 use crate::outcome::{MISUSE, Outcome, complain, failed, print, status};
+use crate::paths::Named;
 use crate::shells::completions;
+use crate::take::take;
 use clap::ArgMatches;
 use clap::error::ErrorKind;
 use cli_words::command_line;
 use reg_desk::CliFault;
-use std::env::{self, VarError};
-use std::io;
+use std::{env, io};
 
 const NO_TEXT: &str = "error: a word of the command line is not UTF-8";
 
 const NO_COMMAND: &str = "error: there is no such command";
-
-/// The environment variable with the UUID of the office.
-const OFFICE: &str = "CRSREG_AS";
-
-/// Not a UUID: the office of an environment variable that is not text.
-const NO_UUID: &str = "?";
 
 /// Runs the command of the process, and returns the exit status.
 pub fn run(rt: &HostRuntime) -> u8 {
@@ -36,33 +35,18 @@ pub fn run(rt: &HostRuntime) -> u8 {
     }
 }
 
-/// Runs the command of these arguments, the first of which is the program's name, and returns the exit status.
+/// Runs the command with these arguments, the first of which is the program's name, and returns the exit status.
 pub fn answer(rt: &HostRuntime, words: &[String]) -> u8 {
-    match env::var(rt, OFFICE) {
-        Ok(office) => answer_as(rt, words, named(office.as_str())),
-        Err(VarError::NotPresent) => answer_as(rt, words, None),
-        Err(VarError::NotUnicode) => answer_as(rt, words, Some(NO_UUID)),
-        Err(VarError::OutOfMemory) => failed(rt, &CliFault::Memory),
-    }
-}
-
-// An empty variable counts as unset.
-fn named(office: &str) -> Option<&str> {
-    if office.is_empty() {
-        None
-    } else {
-        Some(office)
-    }
-}
-
-// The office is that of the environment, if it names one.
-fn answer_as(rt: &HostRuntime, words: &[String], office: Option<&str>) -> u8 {
-    let Ok(command) = command_line(rt.alloc(), office) else {
+    let environment = match Environment::read(rt) {
+        Ok(environment) => environment,
+        Err(status) => return status,
+    };
+    let Ok(command) = command_line(rt.alloc(), &environment.defaults()) else {
         return failed(rt, &CliFault::Memory);
     };
     match command.try_get_matches_from(words) {
         Ok(matches) => match perform(rt, &matches) {
-            Some(outcome) => status(rt, outcome),
+            Some(outcome) => status(rt, outcome, named(rt, &matches)),
             None => complain(rt, &NO_COMMAND, MISUSE),
         },
         Err(error) if error.kind() == ErrorKind::OutOfMemory => failed(rt, &CliFault::Memory),
@@ -70,8 +54,17 @@ fn answer_as(rt: &HostRuntime, words: &[String], office: Option<&str>) -> u8 {
             let _ = error.print(rt);
             MISUSE
         }
-        Err(help) => status(rt, Outcome::of(print(rt, &help))),
+        Err(help) => status(rt, Outcome::of(print(rt, &help)), None),
     }
+}
+
+// The files of the command, if a refusal is to be explained, and there is memory for their names.
+fn named<'a>(rt: &HostRuntime, matches: &ArgMatches<'a>) -> Option<Named<'a>> {
+    let (name, inner) = matches.subcommand()?;
+    if !inner.get_flag("explain") {
+        return None;
+    }
+    Named::of(rt.alloc(), name, inner).ok()
 }
 
 // Runs the command. clap rejects unknown commands.
@@ -82,18 +75,23 @@ fn perform(rt: &HostRuntime, matches: &ArgMatches<'_>) -> Option<Outcome> {
         "new" => Outcome::of(new(rt, inner)),
         "enter" => enter(rt, inner),
         "import" => import(rt, inner),
-        "supersede" => Outcome::of(supersede(rt, inner)),
-        "retire" => Outcome::of(retire(rt, inner)),
-        "settle" => Outcome::of(settle(rt, inner)),
-        "find" => Outcome::of(find(rt, inner)),
+        "supersede" => supersede(rt, inner),
+        "retire" => retire(rt, inner),
+        "settle" => settle(rt, inner),
+        "find" => find(rt, inner),
         "show" => Outcome::of(show(rt, inner)),
         "wkt" => Outcome::of(wkt(rt, inner)),
+        "texts" => Outcome::of(texts(rt, inner)),
+        "compare" => compare(rt, inner),
         "export" => Outcome::of(export(rt, inner)),
         "ops" => Outcome::of(ops(rt, inner)),
+        "log" => Outcome::of(log(rt, inner)),
         "report" => Outcome::of(report(rt, inner)?),
         "status" => Outcome::of(figures(rt, inner)),
         "offices" => Outcome::of(offices(rt, inner)),
+        "page" => Outcome::of(page(rt, inner)),
         "diff" => diff(rt, inner),
+        "take" => take(rt, inner),
         "merge" => Outcome::of(merge(rt, inner)),
         "seen" => Outcome::of(seen(rt, inner)),
         "piece" => Outcome::of(piece(rt, inner)),

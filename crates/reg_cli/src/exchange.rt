@@ -1,11 +1,13 @@
 //! Commands that make and exchange registers.
-use crate::stores::{give_of, next_file, open_register};
+use crate::inputs::{Replaced, open_inputs};
+use crate::stores::{Opened, give_of, next_file, open_register};
 use crate::words::{open, open_all, open_shelf, open_to_read, place, word};
 use clap::ArgMatches;
 use reg_desk::{
     CliFault, FirstVersion, NewFile, PieceFor, Refusal, Summary, run_merge, run_merge_on, run_new,
     run_shelf, run_unshelf,
 };
+use std::fs::File;
 
 /// `new`.
 pub fn new(rt: &HostRuntime, matches: &ArgMatches<'_>) -> Result<(), CliFault> {
@@ -23,20 +25,27 @@ pub fn merge(rt: &HostRuntime, matches: &ArgMatches<'_>) -> Result<(), CliFault>
         let mut sources = open_all(rt, rt.alloc(), 1, paths)?;
         return run_merge_on(rt.alloc(), &mut disk, &mut sources);
     }
-    let mut sources = open_all(rt, rt.alloc(), 1, paths)?;
+    let out = Some(Replaced::named(rt, rt.alloc(), matches, "OUT")?);
+    let mut sources = open_inputs(rt, rt.alloc(), paths, &out)?;
     let mut place = place(rt, rt.alloc(), word(matches, "OUT"))?;
     run_merge(rt.alloc(), &mut sources, &mut place)
 }
 
+// Opens the register whose file is written to OUT.
+fn open_to_give(rt: &HostRuntime, matches: &ArgMatches<'_>) -> Result<Opened<File>, CliFault> {
+    let out = Some(Replaced::named(rt, rt.alloc(), matches, "OUT")?);
+    open_register(rt, rt.alloc(), matches, "REG", &out)
+}
+
 /// `seen`.
 pub fn seen(rt: &HostRuntime, matches: &ArgMatches<'_>) -> Result<(), CliFault> {
-    let mut register = open_register(rt, matches, "REG")?;
+    let mut register = open_to_give(rt, matches)?;
     give_of(rt, matches, &mut register, &mut Summary)
 }
 
 /// `piece`.
 pub fn piece(rt: &HostRuntime, matches: &ArgMatches<'_>) -> Result<(), CliFault> {
-    let mut register = open_register(rt, matches, "REG")?;
+    let mut register = open_to_give(rt, matches)?;
     let mut summary = open(rt, next_file(&register), word(matches, "SEEN"))?;
     let mut command = PieceFor {
         summary: &mut summary,
@@ -46,7 +55,7 @@ pub fn piece(rt: &HostRuntime, matches: &ArgMatches<'_>) -> Result<(), CliFault>
 
 /// `downgrade`.
 pub fn downgrade(rt: &HostRuntime, matches: &ArgMatches<'_>) -> Result<(), CliFault> {
-    let mut register = open_register(rt, matches, "REG")?;
+    let mut register = open_to_give(rt, matches)?;
     give_of(rt, matches, &mut register, &mut FirstVersion)
 }
 

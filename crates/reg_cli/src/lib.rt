@@ -3,11 +3,16 @@
 
 mod change;
 mod command;
+mod environment;
 mod exchange;
+mod inputs;
 mod look;
 mod outcome;
+mod paths;
 mod shells;
 mod stores;
+mod table;
+mod take;
 mod words;
 
 pub use command::{answer, run};

@@ -1,16 +1,29 @@
-//! Commands that print something of a text, of a register, or of several.
+//! Commands that print something of a text, of a register, or of several registers.
 use crate::outcome::Outcome;
-use crate::stores::{Opened as Register, next_file, open_register, print_of};
-use crate::words::{STANDARD_INPUT, entry, form, kind, open, open_all, open_to_read, word};
+use crate::stores::{Opened as Register, differs_of, next_file, open_register, print_of};
+use crate::table::{Rows, print_table};
+use crate::words::{
+    STANDARD_INPUT, entries, entry, form, kind, open, open_all, open_to_read, point, push_words,
+    word,
+};
 use clap::ArgMatches;
+use desk_texts::{Compare, CompareKey, CompareWith, Texts};
 use reg_desk::{
-    CliFault, Export, FileAt, FileDisk, Find, FindIds, Kept, OfFile, Offices, OnShelf, Opened, Ops,
-    Query, Reading, Report, ShelfAt, Show, Source, Wanted, Wkt, Writing, run_check,
+    ByWord, CliFault, Export, FileAt, FileDisk, Find, FindIds, Kept, Kind, Lockable, LogAll,
+    LogByWords, LogOf, OfFile, Offices, OnShelf, OpId, Opened, Ops, PrintOf, Query, Reading,
+    Report, ShelfAt, Show, ShowOf, Source, Wanted, Wkt, WktOf, Writing, run_check,
     run_check_explained, run_diff, run_status,
 };
+use reg_page::Page;
 use std::alloc::{AllocError, Global};
+use std::fs;
+use std::io::{self, Write};
 use std::rt::Files;
-use std::{fs, io};
+
+/// The title of a page without one.
+const NO_TITLE: &str = "The register";
+
+const NO_POINT: &str = "error: --at takes a latitude and a longitude, as 52.5,13.4";
 
 /// `check`.
 pub fn check(rt: &HostRuntime, matches: &ArgMatches<'_>) -> Outcome {
@@ -23,7 +36,7 @@ pub fn check(rt: &HostRuntime, matches: &ArgMatches<'_>) -> Outcome {
     }
 }
 
-// Checks the text of a source that has this name.
+// Checks the text of the source with this name.
 fn check_from<S: Source + Drop>(
     rt: &HostRuntime,
     matches: &ArgMatches<'_>,
@@ -41,6 +54,13 @@ fn check_from<S: Source + Drop>(
 
 /// `show`.
 pub fn show(rt: &HostRuntime, matches: &ArgMatches<'_>) -> Result<(), CliFault> {
+    if matches.get_flag("keys") {
+        return print_by_word(rt, matches, &ShowOf);
+    }
+    show_entry(rt, matches)
+}
+
+fn show_entry(rt: &HostRuntime, matches: &ArgMatches<'_>) -> Result<(), CliFault> {
     match entry(word(matches, "ENTRY")) {
         Ok(entry) => print_of(rt, matches, &Show { entry }),
         Err(fault) => Err(fault),
@@ -49,11 +69,29 @@ pub fn show(rt: &HostRuntime, matches: &ArgMatches<'_>) -> Result<(), CliFault> 
 
 /// `wkt`.
 pub fn wkt(rt: &HostRuntime, matches: &ArgMatches<'_>) -> Result<(), CliFault> {
+    if matches.get_flag("keys") {
+        let form = form(matches);
+        return print_by_word(rt, matches, &WktOf { form });
+    }
+    wkt_entry(rt, matches)
+}
+
+fn wkt_entry(rt: &HostRuntime, matches: &ArgMatches<'_>) -> Result<(), CliFault> {
     let form = form(matches);
     match entry(word(matches, "ENTRY")) {
         Ok(entry) => print_of(rt, matches, &Wkt { entry, form }),
         Err(fault) => Err(fault),
     }
+}
+
+// Prints something of the entry that the word names.
+fn print_by_word<C: PrintOf>(
+    rt: &HostRuntime,
+    matches: &ArgMatches<'_>,
+    command: &C,
+) -> Result<(), CliFault> {
+    let word = word(matches, "ENTRY").as_bytes();
+    print_of(rt, matches, &ByWord { word, command })
 }
 
 /// `export`.
@@ -66,20 +104,104 @@ pub fn ops(rt: &HostRuntime, matches: &ArgMatches<'_>) -> Result<(), CliFault> {
     print_of(rt, matches, &Ops)
 }
 
+/// `log`.
+pub fn log(rt: &HostRuntime, matches: &ArgMatches<'_>) -> Result<(), CliFault> {
+    if !matches.contains_id("ENTRY") {
+        return print_of(rt, matches, &LogAll);
+    }
+    let mut given = Vec::new(rt.alloc());
+    push_words(&mut given, matches.get_strs("ENTRY").unwrap_or(&[]))?;
+    if matches.get_flag("keys") {
+        return print_of(rt, matches, &LogByWords { words: &given });
+    }
+    let entries = entries(rt.alloc(), &given)?;
+    print_of(rt, matches, &LogOf { entries: &entries })
+}
+
+/// `texts`.
+pub fn texts(rt: &HostRuntime, matches: &ArgMatches<'_>) -> Result<(), CliFault> {
+    print_of(rt, matches, &Texts)
+}
+
+/// `compare`.
+pub fn compare(rt: &HostRuntime, matches: &ArgMatches<'_>) -> Outcome {
+    told(matches, compared(rt, matches))
+}
+
+// Two entries, or those of a key.
+fn compared(rt: &HostRuntime, matches: &ArgMatches<'_>) -> Result<bool, CliFault> {
+    let one = word(matches, "ENTRY");
+    let Some(other) = matches.get_str("OTHER") else {
+        let key = one.as_bytes();
+        return differs_of(rt, matches, &CompareKey { key });
+    };
+    if matches.get_flag("keys") {
+        let command = CompareWith {
+            word: other.as_bytes(),
+        };
+        let word = one.as_bytes();
+        return differs_of(
+            rt,
+            matches,
+            &ByWord {
+                word,
+                command: &command,
+            },
+        );
+    }
+    match entry(one) {
+        Ok(one) => compared_to(rt, matches, one, other),
+        Err(fault) => Err(fault),
+    }
+}
+
+// An entry, and the one with this id.
+fn compared_to(
+    rt: &HostRuntime,
+    matches: &ArgMatches<'_>,
+    one: OpId,
+    other: &str,
+) -> Result<bool, CliFault> {
+    match entry(other) {
+        Ok(other) => differs_of(rt, matches, &Compare { one, other }),
+        Err(fault) => Err(fault),
+    }
+}
+
 /// `report`, if there is one of the kind.
 pub fn report(rt: &HostRuntime, matches: &ArgMatches<'_>) -> Option<Result<(), CliFault>> {
     let kind = kind(word(matches, "KIND"))?;
     Some(print_of(rt, matches, &Report { kind }))
 }
 
-// What is asked of an entry.
-fn query<'a>(matches: &ArgMatches<'a>) -> Query<'a> {
-    Query {
+// The query of the options, if the point is valid.
+fn query<'a>(matches: &ArgMatches<'a>) -> Option<Query<'a>> {
+    let at = match matches.get_str("at") {
+        Some(word) => Some(point(word)?),
+        None => None,
+    };
+    Some(Query {
+        word: matches.get_str("WORD"),
         key: matches.get_str("key"),
         authority: matches.get_str("authority"),
         code: matches.get_str("code"),
         name: matches.get_str("name"),
+        area: matches.get_str("area"),
+        at,
+        kind: kind_of(word(matches, "kind")),
         status: wanted(word(matches, "status")),
+    })
+}
+
+// The kind of the argument. clap rejects other words.
+fn kind_of(word: &str) -> Option<Kind> {
+    match word {
+        "geographic" => Some(Kind::Geographic),
+        "geodetic" => Some(Kind::Geodetic),
+        "projected" => Some(Kind::Projected),
+        "vertical" => Some(Kind::Vertical),
+        "compound" => Some(Kind::Compound),
+        _ => None,
     }
 }
 
@@ -95,12 +217,14 @@ fn wanted(word: &str) -> Option<Wanted> {
 }
 
 /// `find`.
-pub fn find(rt: &HostRuntime, matches: &ArgMatches<'_>) -> Result<(), CliFault> {
-    let query = query(matches);
+pub fn find(rt: &HostRuntime, matches: &ArgMatches<'_>) -> Outcome {
+    let Some(query) = query(matches) else {
+        return Outcome::Misuse(NO_POINT);
+    };
     if matches.get_flag("ids") {
-        return print_of(rt, matches, &FindIds { query: &query });
+        return Outcome::of(print_of(rt, matches, &FindIds { query: &query }));
     }
-    print_of(rt, matches, &Find { query: &query })
+    Outcome::of(print_of(rt, matches, &Find { query: &query }))
 }
 
 /// `offices`.
@@ -108,27 +232,47 @@ pub fn offices(rt: &HostRuntime, matches: &ArgMatches<'_>) -> Result<(), CliFaul
     print_of(rt, matches, &Offices)
 }
 
-/// `status`. A file or a shelf that does not open has its line.
+/// `page`.
+pub fn page(rt: &HostRuntime, matches: &ArgMatches<'_>) -> Result<(), CliFault> {
+    let title = matches.get_str("title").unwrap_or(NO_TITLE).as_bytes();
+    print_of(rt, matches, &Page { title })
+}
+
+/// `status`. A file or a shelf that does not open has a line, too.
 pub fn status(rt: &HostRuntime, matches: &ArgMatches<'_>) -> Result<(), CliFault> {
     let paths = matches.get_strs("FILE").unwrap_or(&[]);
-    let settled = matches.get_flag("settled");
     let Ok(names) = names_of(rt.alloc(), paths) else {
         return Err(CliFault::Memory);
     };
-    let mut sink = Writing::new(io::writer(rt));
+    let mut sink = Rows::sink(rt.alloc(), matches, io::writer(rt));
+    let answer = status_to(rt, matches, paths, &names, &mut sink);
+    match print_table(rt.alloc(), sink) {
+        Ok(()) => answer,
+        Err(fault) => Err(fault),
+    }
+}
+
+fn status_to<W: Write>(
+    rt: &HostRuntime,
+    matches: &ArgMatches<'_>,
+    paths: &[&str],
+    names: &[&[u8]],
+    sink: &mut Writing<W>,
+) -> Result<(), CliFault> {
+    let settled = matches.get_flag("settled");
     if matches.get_flag("shelf") {
         let Ok(mut shelves) = opened_shelves(rt, rt.alloc(), paths) else {
             return Err(CliFault::Memory);
         };
-        return run_status(rt.alloc(), &names, &mut shelves, settled, &mut sink);
+        return run_status(rt.alloc(), names, &mut shelves, settled, sink);
     }
     let Ok(mut files) = opened_files(rt, rt.alloc(), paths) else {
         return Err(CliFault::Memory);
     };
-    run_status(rt.alloc(), &names, &mut files, settled, &mut sink)
+    run_status(rt.alloc(), names, &mut files, settled, sink)
 }
 
-// What files are called.
+// The names of the files.
 fn names_of<'a>(alloc: Global, paths: &[&'a str]) -> Result<Vec<&'a [u8]>, AllocError> {
     let mut names = Vec::new(alloc);
     for path in paths {
@@ -159,7 +303,10 @@ fn opened_shelves<R: Files>(
     rt: &R,
     alloc: Global,
     paths: &[&str],
-) -> Result<Vec<ShelfAt<FileDisk<R::File>>>, AllocError> {
+) -> Result<Vec<ShelfAt<FileDisk<R::File>>>, AllocError>
+where
+    R::File: Lockable,
+{
     let mut shelves = Vec::new(alloc);
     for path in paths {
         let shelf = match open_to_read(rt, *path) {
@@ -173,29 +320,46 @@ fn opened_shelves<R: Files>(
 
 /// `diff`.
 pub fn diff(rt: &HostRuntime, matches: &ArgMatches<'_>) -> Outcome {
-    match compare(rt, matches) {
+    told(matches, merged(rt, matches))
+}
+
+// Whether something differs is an exit status, if that is asked for.
+fn told(matches: &ArgMatches<'_>, answer: Result<bool, CliFault>) -> Outcome {
+    match answer {
         Ok(differs) if differs && matches.get_flag("exit-code") => Outcome::Differs,
         Ok(_) => Outcome::Done,
         Err(fault) => Outcome::Fault(fault),
     }
 }
 
-// A shelf is compared with what a merge of the files into it would make.
-fn compare(rt: &HostRuntime, matches: &ArgMatches<'_>) -> Result<bool, CliFault> {
-    let register = open_register(rt, matches, "OLD")?;
+fn merged(rt: &HostRuntime, matches: &ArgMatches<'_>) -> Result<bool, CliFault> {
+    let mut sink = Rows::sink(rt.alloc(), matches, io::writer(rt));
+    let answer = merged_to(rt, matches, &mut sink);
+    match print_table(rt.alloc(), sink) {
+        Ok(()) => answer,
+        Err(fault) => Err(fault),
+    }
+}
+
+// A shelf is compared with the result of merging the files into it.
+fn merged_to<W: Write>(
+    rt: &HostRuntime,
+    matches: &ArgMatches<'_>,
+    sink: &mut Writing<W>,
+) -> Result<bool, CliFault> {
+    let register = open_register(rt, rt.alloc(), matches, "OLD", &None)?;
     let paths = matches.get_strs("NEW").unwrap_or(&[]);
     let mut others = open_all(rt, rt.alloc(), next_file(&register), paths)?;
-    let mut sink = Writing::new(io::writer(rt));
     match register {
         Register::File(mut source) => {
             let mut store = OfFile {
                 source: &mut source,
             };
-            run_diff(rt.alloc(), &mut store, &mut others, false, &mut sink)
+            run_diff(rt.alloc(), &mut store, &mut others, false, sink)
         }
         Register::Shelf(mut disk) => {
             let mut store = OnShelf { disk: &mut disk };
-            run_diff(rt.alloc(), &mut store, &mut others, true, &mut sink)
+            run_diff(rt.alloc(), &mut store, &mut others, true, sink)
         }
     }
 }

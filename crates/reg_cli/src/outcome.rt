@@ -1,23 +1,35 @@
-//! How a command ended: its messages and its exit status.
-use reg_desk::{CliFault, Explained, OutFault, Unimported, Writing, write_all};
-use std::{fmt, io, str};
+//! The outcome of a command: its messages and its exit status.
+use crate::paths::Named;
+use cli_sentences::{KeyTaken, Sentence};
+use reg_desk::{CliFault, Explained, ImportFault, OutFault, Unimported, Writing, write_all};
+use reg_supersede::RefusedLine;
+use std::io::{self, Write};
+use std::{fmt, str};
 
 /// The exit status for a wrong command line.
 pub const MISUSE: u8 = 2;
 
 const DIFFERS: u8 = 1;
 
-/// How a command ended.
+const REFUSED: u8 = 1;
+
+/// The outcome of a command.
 #[derive(Drop)]
 pub enum Outcome {
     Done,
     /// Done, and `--exit-code` found a difference.
     Differs,
+    /// Done, but for files that were left out and named on standard error. This is the exit status.
+    LeftOut(u8),
     Fault(CliFault),
     /// Failed, with an explanation of the refused text.
     Explained(Explained),
     /// Texts were not imported, or not all of them.
     Import(Unimported),
+    /// A line of a list refuses the command.
+    AtLine(RefusedLine),
+    /// These lines of a list were refused and left out; the others were done.
+    LeftLines(Vec<RefusedLine>),
     /// The command line is wrong, for a reason that clap does not check.
     Misuse(&'static str),
 }
@@ -48,30 +60,84 @@ impl Outcome {
     }
 }
 
-/// Reports how a command ended, and returns its exit status.
-pub fn status(rt: &HostRuntime, outcome: Outcome) -> u8 {
+/// Reports the outcome, with a sentence for the fault if the files are given, and returns the exit status.
+pub fn status(rt: &HostRuntime, outcome: Outcome, named: Option<Named<'_>>) -> u8 {
     match outcome {
         Outcome::Done => 0,
         Outcome::Differs => DIFFERS,
-        Outcome::Fault(fault) => failed(rt, &fault),
+        Outcome::LeftOut(status) => status,
+        Outcome::Fault(fault) => {
+            let status = failed(rt, &fault);
+            explain(rt, fault, &named);
+            status
+        }
         Outcome::Explained(explained) => {
             let status = failed(rt, &explained.fault);
+            if explained.note.is_empty() {
+                explain(rt, explained.fault, &named);
+            }
             add(rt, &explained.note);
             status
         }
         Outcome::Import(why) => {
             let status = complain(rt, &why.fault, why.fault.status());
+            explain_import(rt, why.fault, &named);
             add(rt, &why.notes);
             status
         }
+        Outcome::AtLine(line) => {
+            let _ = eprint!(rt; "refused: ");
+            at_line(rt, &line, &named)
+        }
+        Outcome::LeftLines(lines) => {
+            for line in &lines {
+                let _ = eprint!(rt; "left out: ");
+                at_line(rt, line, &named);
+            }
+            REFUSED
+        }
         Outcome::Misuse(line) => complain(rt, &line, MISUSE),
     }
+}
+
+// Reports a refused line of a list, with its sentence.
+fn at_line(rt: &HostRuntime, line: &RefusedLine, named: &Option<Named<'_>>) -> u8 {
+    let status = complain(rt, line, REFUSED);
+    explain(rt, line.cause(), named);
+    status
 }
 
 /// Prints an explanation to standard error, below the line of the fault. It is UTF-8.
 pub fn add(rt: &HostRuntime, note: &[u8]) {
     if let Ok(note) = str::from_utf8(note) {
         let _ = eprint!(rt; "{note}");
+    }
+}
+
+// Prints the sentence of a fault to standard error, below its line.
+fn explain(rt: &HostRuntime, fault: CliFault, named: &Option<Named<'_>>) {
+    if let Some(named) = named {
+        let sentence = Sentence {
+            fault,
+            paths: named.paths(),
+        };
+        let _ = eprint!(rt; "{sentence}");
+    }
+}
+
+// The same for an import.
+fn explain_import(rt: &HostRuntime, fault: ImportFault, named: &Option<Named<'_>>) {
+    match fault {
+        ImportFault::Cli(fault) => explain(rt, fault, named),
+        ImportFault::Refused { file, .. } => {
+            if let (Some(entry), Some(named)) = (fault.taken(), named) {
+                let sentence = KeyTaken {
+                    entry,
+                    file: named.paths().file(file),
+                };
+                let _ = eprint!(rt; "{sentence}");
+            }
+        }
     }
 }
 
@@ -91,7 +157,12 @@ pub fn print<D: fmt::Display>(rt: &HostRuntime, text: &D) -> Result<(), CliFault
     let Ok(text) = format!(in rt.alloc(); "{text}") else {
         return Err(CliFault::Memory);
     };
-    match write_all(&mut Writing::new(io::writer(rt)), text.as_bytes()) {
+    print_bytes(io::writer(rt), text.as_bytes())
+}
+
+/// Prints bytes to a writer that is not buffered.
+pub fn print_bytes<W: Write + Drop>(out: W, bytes: &[u8]) -> Result<(), CliFault> {
+    match write_all(&mut Writing::new(out), bytes) {
         Ok(()) => Ok(()),
         Err(fault) => Err(CliFault::Out(OutFault::WriteFailed(fault.written))),
     }

@@ -2,13 +2,13 @@
 use crate::outcome::print;
 use crate::words::word;
 use clap::ArgMatches;
-use cli_words::{Shell, command_line, completion_script};
+use cli_words::{Defaults, Shell, command_line, completion_script};
 use reg_desk::CliFault;
 
-/// `completions`, if there is a shell of the name.
+/// `completions`, if there is a shell with this name.
 pub fn completions(rt: &HostRuntime, matches: &ArgMatches<'_>) -> Option<Result<(), CliFault>> {
     let shell = Shell::named(word(matches, "SHELL"))?;
-    let Ok(whole) = command_line(rt.alloc(), None) else {
+    let Ok(whole) = command_line(rt.alloc(), &Defaults::none()) else {
         return Some(Err(CliFault::Memory));
     };
     match completion_script(rt.alloc(), &whole, shell) {

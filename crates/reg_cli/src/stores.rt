@@ -1,10 +1,13 @@
-//! The register that a command names: opened in its file, or on its shelf with `--shelf`, and given to the command.
-use crate::words::{open, open_shelf, open_to_read, place, word};
+//! Opens the register that a command names, in its file or (with `--shelf`) on its shelf, and runs the command on it.
+use crate::inputs::{Replaced, open_input};
+use crate::table::{Rows, print_table};
+use crate::words::{changed_place, open_shelf, open_to_read, place, word};
 use byte_out::Place;
 use clap::ArgMatches;
+use desk_texts::run_differs;
 use reg_desk::{
-    Change, CliFault, FileDisk, Give, InFile, OfFile, OnShelf, Print, Reading, Source, Writing,
-    run_change, run_give, run_print,
+    Change, CliFault, FileDisk, Give, InFile, Input, InputOf, Lockable, OfFile, OnShelf, Print,
+    Reading, Writing, run_change, run_give, run_print,
 };
 use std::alloc::Global;
 use std::fs::OpenFile;
@@ -14,11 +17,11 @@ use std::rt::Files;
 /// A register that was opened.
 #[derive(Drop)]
 pub enum Opened<F> {
-    File(Reading<F>),
+    File(InputOf<Reading<F>>),
     Shelf(FileDisk<F>),
 }
 
-/// How many files are numbered before those that are read beside the register: a shelf is not counted.
+/// The number of the first file that is read after the register: a shelf has no number.
 pub fn next_file<F>(register: &Opened<F>) -> usize {
     match register {
         Opened::File(_) => 2,
@@ -26,52 +29,96 @@ pub fn next_file<F>(register: &Opened<F>) -> usize {
     }
 }
 
-/// Opens the register that this word names, to read it.
+/// Opens the register that this word names, to read it. OUT may replace it.
 pub fn open_register<R: Files>(
     rt: &R,
+    alloc: Global,
     matches: &ArgMatches<'_>,
     name: &str,
-) -> Result<Opened<R::File>, CliFault> {
+    out: &Option<Replaced<'_>>,
+) -> Result<Opened<R::File>, CliFault>
+where
+    R::File: Lockable,
+{
     let path = word(matches, name);
     if matches.get_flag("shelf") {
         let disk = open_to_read(rt, path)?;
         return Ok(Opened::Shelf(disk));
     }
-    let source = open(rt, 1, path)?;
+    let source = open_input(rt, alloc, 1, path, out)?;
     Ok(Opened::File(source))
 }
 
 /// Opens the register that `REG` names, to change it: a shelf is written, a file is read.
 pub fn open_to_change<R: Files>(
     rt: &R,
+    alloc: Global,
     matches: &ArgMatches<'_>,
-) -> Result<Opened<R::File>, CliFault> {
+) -> Result<Opened<R::File>, CliFault>
+where
+    R::File: Lockable,
+{
     let path = word(matches, "REG");
     if matches.get_flag("shelf") {
         let disk = open_shelf(rt, path)?;
         return Ok(Opened::Shelf(disk));
     }
-    let source = open(rt, 1, path)?;
+    let out = Some(Replaced::named(rt, alloc, matches, "out")?);
+    let source = open_input(rt, alloc, 1, path, &out)?;
     Ok(Opened::File(source))
 }
 
-/// Opens the register and prints the command's text of it.
+/// Opens the register and prints the command's text of it, or with `--table` the table of its rows.
 pub fn print_of<C: Print>(
     rt: &HostRuntime,
     matches: &ArgMatches<'_>,
     command: &C,
 ) -> Result<(), CliFault> {
-    let mut sink = Writing::new(io::writer(rt));
-    match open_register(rt, matches, "REG")? {
+    let mut sink = Rows::sink(rt.alloc(), matches, io::writer(rt));
+    let answer = print_to(rt, matches, command, &mut sink);
+    match print_table(rt.alloc(), sink) {
+        Ok(()) => answer,
+        Err(fault) => Err(fault),
+    }
+}
+
+fn print_to<C: Print, W: Write>(
+    rt: &HostRuntime,
+    matches: &ArgMatches<'_>,
+    command: &C,
+    sink: &mut Writing<W>,
+) -> Result<(), CliFault> {
+    match open_register(rt, rt.alloc(), matches, "REG", &None)? {
         Opened::File(mut source) => {
             let mut store = OfFile {
                 source: &mut source,
             };
-            run_print(rt.alloc(), &mut store, command, &mut sink)
+            run_print(rt.alloc(), &mut store, command, sink)
         }
         Opened::Shelf(mut disk) => {
             let mut store = OnShelf { disk: &mut disk };
-            run_print(rt.alloc(), &mut store, command, &mut sink)
+            run_print(rt.alloc(), &mut store, command, sink)
+        }
+    }
+}
+
+/// The same of a command that prints what differs. Answers whether anything does.
+pub fn differs_of<C: Print>(
+    rt: &HostRuntime,
+    matches: &ArgMatches<'_>,
+    command: &C,
+) -> Result<bool, CliFault> {
+    let mut sink = Writing::new(io::writer(rt));
+    match open_register(rt, rt.alloc(), matches, "REG", &None)? {
+        Opened::File(mut source) => {
+            let mut store = OfFile {
+                source: &mut source,
+            };
+            run_differs(rt.alloc(), &mut store, command, &mut sink)
+        }
+        Opened::Shelf(mut disk) => {
+            let mut store = OnShelf { disk: &mut disk };
+            run_differs(rt.alloc(), &mut store, command, &mut sink)
         }
     }
 }
@@ -96,28 +143,43 @@ pub fn give_of<F: Read + Write + Seek + OpenFile, C: Give>(
     }
 }
 
-/// Changes the register, and prints the command's lines.
+/// Changes the register, and prints the command's lines, unless `--quiet` is given.
 pub fn change_of<F: Read + Write + Seek + OpenFile, C: Change>(
     rt: &HostRuntime,
     matches: &ArgMatches<'_>,
     register: &mut Opened<F>,
     command: &mut C,
 ) -> Result<(), CliFault> {
+    if matches.get_flag("quiet") {
+        let mut sink = Writing::new(io::sink());
+        return change_to(rt, matches, register, command, &mut sink);
+    }
     let mut sink = Writing::new(io::writer(rt));
+    change_to(rt, matches, register, command, &mut sink)
+}
+
+fn change_to<F: Read + Write + Seek + OpenFile, C: Change, W: Write>(
+    rt: &HostRuntime,
+    matches: &ArgMatches<'_>,
+    register: &mut Opened<F>,
+    command: &mut C,
+    sink: &mut Writing<W>,
+) -> Result<(), CliFault> {
     match register {
         Opened::File(source) => {
-            let mut place = place(rt, rt.alloc(), word(matches, "out"))?;
-            change_file(rt.alloc(), source, &mut place, command, &mut sink)
+            let is_quiet = matches.get_flag("quiet");
+            let mut place = changed_place(rt, rt.alloc(), word(matches, "out"), is_quiet)?;
+            change_file(rt.alloc(), source, &mut place, command, sink)
         }
         Opened::Shelf(disk) => {
             let mut store = OnShelf { disk };
-            run_change(rt.alloc(), &mut store, command, &mut sink)
+            run_change(rt.alloc(), &mut store, command, sink)
         }
     }
 }
 
 // The file is read in one place and written in another.
-fn change_file<'a, S: Source, P: Place, C: Change, W: Write>(
+fn change_file<'a, S: Input, P: Place, C: Change, W: Write>(
     alloc: Global,
     source: &'a mut S,
     place: &'a mut P,

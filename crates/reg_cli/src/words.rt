@@ -1,19 +1,26 @@
 //! The arguments of a command: replicas, entries, files.
+use byte_io::{InFault, read_up_to};
 use clap::ArgMatches;
 use reg_desk::{
-    CliFault, Differs, FileDisk, FilePlace, Form, InputFault, OpId, Reading, Refusal, ReportKind,
-    ShelfProblem,
+    CliFault, Decimal, Differs, FileDisk, FileId, FilePlace, Form, InputFault, Lock, Lockable,
+    MAX_FILE, OpId, Point, Reading, Refusal, RegisterFiles, ReportKind, ShelfProblem,
 };
-use std::alloc::Global;
-use std::fs::{self, OpenOptions};
+use std::alloc::{AllocError, Global};
+use std::fs::{self, OpenFile, OpenOptions};
+use std::io::{Read, Seek, Write};
 use std::os::fd::AsFd;
 use std::rt::Files;
 use uuid::Uuid;
 
-/// What standard input is called on the command line, and where the system has it.
+/// The name of standard input on the command line.
 pub const STANDARD_INPUT: &str = "-";
 
 const STANDARD_INPUT_PATH: &str = "/dev/stdin";
+
+const STANDARD_OUTPUT_PATH: &str = "/dev/stdout";
+
+/// A new file that a stopped command left beside OUT is reused, unless it is a whole register.
+static REGISTER_FILES: RegisterFiles = RegisterFiles;
 
 /// An argument, or the empty text if it is absent, such as a note.
 pub fn word<'a>(matches: &ArgMatches<'a>, name: &str) -> &'a str {
@@ -40,13 +47,22 @@ pub fn kind(word: &str) -> Option<ReportKind> {
     }
 }
 
-/// What is done where a key has another text. clap lets no other word through.
+/// The action for a text whose key has another text. clap rejects other words.
 pub fn differs(word: &str) -> Differs {
     match word {
         "beside" => Differs::Beside,
         "revise" => Differs::Revise,
         _ => Differs::Refuse,
     }
+}
+
+/// The point of the argument: a latitude, a comma and a longitude.
+pub fn point(word: &str) -> Option<Point> {
+    let (latitude, longitude) = word.split_once(',')?;
+    Some(Point {
+        latitude: Decimal::from_numeral(latitude.as_bytes()).ok()?,
+        longitude: Decimal::from_numeral(longitude.as_bytes()).ok()?,
+    })
 }
 
 /// The replica of the argument.
@@ -59,14 +75,73 @@ pub fn entry(word: &str) -> Result<OpId, CliFault> {
     OpId::parse(word.as_bytes()).ok_or(CliFault::Refused(Refusal::BadId))
 }
 
-/// The entries of the arguments.
-pub fn entries(alloc: Global, matches: &ArgMatches<'_>, name: &str) -> Result<Vec<OpId>, CliFault> {
-    let mut entries = Vec::new(alloc);
-    let Some(words) = matches.get_strs(name) else {
-        return Ok(entries);
+/// The ids on standard input, one a line, if one of the arguments is `-`. It is numbered as the file after the register.
+pub fn listed(rt: &HostRuntime, matches: &ArgMatches<'_>, name: &str) -> Result<Vec<u8>, CliFault> {
+    let number = if matches.get_flag("shelf") { 1 } else { 2 };
+    if !matches
+        .get_strs(name)
+        .unwrap_or(&[])
+        .contains(&STANDARD_INPUT)
+    {
+        return Ok(Vec::new(rt.alloc()));
+    }
+    let fault = match read_up_to(rt.alloc(), &mut Reading::new(rt.reader()), MAX_FILE + 1) {
+        Ok(bytes) if bytes.len() <= MAX_FILE => return Ok(bytes),
+        Ok(_) => InputFault::TooLarge,
+        Err(InFault::ReadFailed(n)) => InputFault::ReadFailed(n),
+        Err(InFault::Memory) => return Err(CliFault::Memory),
     };
+    Err(CliFault::File { number, fault })
+}
+
+/// Appends words as they are.
+pub fn push_words<'a>(found: &mut Vec<&'a [u8]>, words: &[&'a str]) -> Result<(), CliFault> {
     for word in words {
-        if entries.push(entry(word)?).is_err() {
+        if found.push(word.as_bytes()).is_err() {
+            return Err(CliFault::Memory);
+        }
+    }
+    Ok(())
+}
+
+/// Appends words, with the listed lines in the place of `-`.
+pub fn push_listed<'a>(
+    found: &mut Vec<&'a [u8]>,
+    words: &[&'a str],
+    listed: &'a [u8],
+) -> Result<(), CliFault> {
+    for word in words {
+        if *word == STANDARD_INPUT {
+            if push_lines(found, listed).is_err() {
+                return Err(CliFault::Memory);
+            }
+        } else {
+            push_words(found, &[*word])?;
+        }
+    }
+    Ok(())
+}
+
+// Lines end at LF; the last one may have none.
+fn push_lines<'a>(found: &mut Vec<&'a [u8]>, listed: &'a [u8]) -> Result<(), AllocError> {
+    let lines = listed.strip_suffix(b"\n").unwrap_or(listed);
+    if listed.is_empty() {
+        return Ok(());
+    }
+    for line in lines.split(|byte| *byte == b'\n') {
+        found.push(line)?;
+    }
+    Ok(())
+}
+
+/// The entries with these ids.
+pub fn entries(alloc: Global, words: &[&[u8]]) -> Result<Vec<OpId>, CliFault> {
+    let mut entries = Vec::new(alloc);
+    for word in words {
+        let Some(entry) = OpId::parse(word) else {
+            return Err(CliFault::Refused(Refusal::BadId));
+        };
+        if entries.push(entry).is_err() {
             return Err(CliFault::Memory);
         }
     }
@@ -101,7 +176,19 @@ pub fn open_all<R: Files>(
     Ok(sources)
 }
 
-/// Opens all files of texts likewise; `-` is standard input.
+/// Opens the file with this number; `-` is standard input.
+pub fn open_text<R: Files>(
+    rt: &R,
+    number: usize,
+    path: &str,
+) -> Result<Reading<R::File>, CliFault> {
+    if path == STANDARD_INPUT {
+        return open(rt, number, STANDARD_INPUT_PATH);
+    }
+    open(rt, number, path)
+}
+
+/// Opens all files of texts, in order, before the first is read. The first has this number.
 pub fn open_texts<R: Files>(
     rt: &R,
     alloc: Global,
@@ -110,12 +197,7 @@ pub fn open_texts<R: Files>(
 ) -> Result<Vec<Reading<R::File>>, CliFault> {
     let mut sources = Vec::new(alloc);
     for (i, path) in paths.iter().enumerate() {
-        let path = if *path == STANDARD_INPUT {
-            STANDARD_INPUT_PATH
-        } else {
-            *path
-        };
-        let source = open(rt, i.saturating_add(number), path)?;
+        let source = open_text(rt, i.saturating_add(number), path)?;
         if sources.push(source).is_err() {
             return Err(CliFault::Memory);
         }
@@ -137,19 +219,36 @@ pub fn is_twice(paths: &[&str]) -> bool {
     false
 }
 
-/// Opens a shelf for reading and writing.
-pub fn open_shelf<R: Files>(rt: &R, path: &str) -> Result<FileDisk<R::File>, CliFault> {
+/// Opens a shelf for reading and writing. No other command may have it open.
+pub fn open_shelf<R: Files>(rt: &R, path: &str) -> Result<FileDisk<R::File>, CliFault>
+where
+    R::File: Lockable,
+{
     match OpenOptions::new().read(true).write(true).open(rt, path) {
-        Ok(file) => Ok(FileDisk::new(file)),
+        Ok(file) => disk_if(file.lock_alone(), file),
         Err(_) => Err(CliFault::Shelf(ShelfProblem::NotOpened)),
     }
 }
 
-/// Opens a shelf for reading.
-pub fn open_to_read<R: Files>(rt: &R, path: &str) -> Result<FileDisk<R::File>, CliFault> {
+/// Opens a shelf for reading. No command may have it open for writing.
+pub fn open_to_read<R: Files>(rt: &R, path: &str) -> Result<FileDisk<R::File>, CliFault>
+where
+    R::File: Lockable,
+{
     match OpenOptions::new().read(true).open(rt, path) {
-        Ok(file) => Ok(FileDisk::new(file)),
+        Ok(file) => disk_if(file.lock_shared(), file),
         Err(_) => Err(CliFault::Shelf(ShelfProblem::NotOpened)),
+    }
+}
+
+// The shelf in the file, unless another command has the lock.
+fn disk_if<F: Read + Write + Seek + OpenFile + Drop>(
+    lock: Lock,
+    file: F,
+) -> Result<FileDisk<F>, CliFault> {
+    match lock {
+        Lock::Held => Err(CliFault::Shelf(ShelfProblem::Busy)),
+        Lock::Taken | Lock::Missing => Ok(FileDisk::new(file)),
     }
 }
 
@@ -158,11 +257,51 @@ pub fn place<'a, R: Files>(
     rt: &'a R,
     alloc: Global,
     path: &'a str,
-) -> Result<FilePlace<'a, R>, CliFault>
+) -> Result<FilePlace<'a, R, RegisterFiles>, CliFault>
 where
-    R::File: AsFd,
+    R::File: AsFd + Lockable,
 {
-    match FilePlace::new(alloc, rt, path) {
+    place_beside(rt, alloc, path, None)
+}
+
+/// The place of the output file of a command that also prints. It cannot be the file that standard output goes to.
+pub fn printing_place<'a, R: Files>(
+    rt: &'a R,
+    alloc: Global,
+    path: &'a str,
+) -> Result<FilePlace<'a, R, RegisterFiles>, CliFault>
+where
+    R::File: AsFd + Lockable,
+{
+    place_beside(rt, alloc, path, FileId::at(rt, STANDARD_OUTPUT_PATH))
+}
+
+/// OUT of a command that prints lines, unless it is quiet.
+pub fn changed_place<'a, R: Files>(
+    rt: &'a R,
+    alloc: Global,
+    path: &'a str,
+    is_quiet: bool,
+) -> Result<FilePlace<'a, R, RegisterFiles>, CliFault>
+where
+    R::File: AsFd + Lockable,
+{
+    if is_quiet {
+        return place(rt, alloc, path);
+    }
+    printing_place(rt, alloc, path)
+}
+
+fn place_beside<'a, R: Files>(
+    rt: &'a R,
+    alloc: Global,
+    path: &'a str,
+    printed: Option<FileId>,
+) -> Result<FilePlace<'a, R, RegisterFiles>, CliFault>
+where
+    R::File: AsFd + Lockable,
+{
+    match FilePlace::new(alloc, rt, path, &REGISTER_FILES, printed) {
         Ok(place) => Ok(place),
         Err(_) => Err(CliFault::Memory),
     }

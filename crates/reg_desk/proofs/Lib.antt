@@ -7,3 +7,6 @@ mod SettleLemmas
 pub mod ImportFileLemmas
 pub mod ImportTextLemmas
 pub mod ImportEngineLemmas
+pub mod AfterRetiring
+pub mod AfterSettling
+mod KeyedLemmas

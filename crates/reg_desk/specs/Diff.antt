@@ -1,11 +1,11 @@
--- Comparisons of registers: what was read, and what was written.
+-- Comparisons of registers: their input and output.
 use Rattle.std.specs.Prelude.{◌≡◌, ◌⊎◌, ◌↔◌, ◌∷◌, [], Bool, true, false, IsTrue, List, ℕ}
 use Rattle.byte_io.specs.Device.{SourceState, SinkState}
 use Rattle.byte_io.specs.Whole.{IsCutAt}
 use Rattle.reg_op.specs.Contents.{Content}
 use Rattle.reg_file.specs.declared.parts.Part.{Part}
 use Rattle.reg_file.specs.declared.parts.Part.TheVariants as part
-use Rattle.reg_office.specs.Reports.{Reports}
+use Rattle.reg_report.specs.Reports.{Reports}
 use Rattle.reg_query.specs.DiffLines.{IsDiff, Differ}
 use Rattle.reg_engine.specs.declared.fault.OutFault.{OutFault}
 use Rattle.reg_engine.specs.declared.fault.OutFault.TheVariants as out
@@ -15,7 +15,7 @@ use Rattle.reg_engine.specs.Inputs.{HoldAll, StopsFrom, NoneFails}
 use Rattle.reg_engine.specs.Merge.{JoinTo, join_of, IsUnjoined}
 use Rattle.reg_engine.specs.Store.{Around}
 
--- what is joined: the older register and the parts, or the parts alone
+-- the joined contents: the older register and the parts, or only the parts
 abbrev pub joined_parts : Bool → Content → List Part → List Part
 joined_parts true x ps = part.Register x ∷ ps
 joined_parts false x ps = ps
@@ -26,7 +26,7 @@ joined_ones true xs = xs
 joined_ones false [] = []
 joined_ones false (x ∷ xs) = xs
 
--- each source gave the file of a part, and what is joined gives the newer content
+-- each source gave the file of a part, and the join is the newer content
 abbrev pub Compares : Bool → List SourceState → List SourceState → Content → Content → Type 0
 Compares joins old new x y = (ps : List Part) × HoldAll old new ps × JoinTo (joined_parts joins x ps) y
 
@@ -34,7 +34,7 @@ Compares joins old new x y = (ps : List Part) × HoldAll old new ps × JoinTo (j
 abbrev pub IsCompared : Around → Bool → List SourceState → List SourceState → SinkState → SinkState → Bool → Type 0
 IsCompared a joins old new before after differ = (x : Content) × (y : Content) × a.came x × Compares joins old new x y × Reports (IsDiff x y) before after × (IsTrue differ ↔ Differ x y)
 
--- some text with this property went out, but for what follows the first n bytes
+-- exactly the first n bytes of a text with this property were written
 abbrev pub IsCutOut : (List ℕ → Type 0) → SinkState → SinkState → OutFault → Type 0
 IsCutOut Is before after (out.WriteFailed n) = (text : List ℕ) × Is text × IsCutAt n text before after
 IsCutOut Is before after f = ⊥
@@ -47,7 +47,7 @@ IsUntold Is before after (cli.Out f) = IsCutOut Is before after f
 IsUntold Is before after cli.Memory = after ≡ before
 IsUntold Is before after (cli.Shelf p) = ⊥
 
--- why nothing is compared with the older content, or not all of what differs went out
+-- why nothing was compared with the older content, or why not all differences were written
 abbrev pub CannotCompare : Bool → ℕ → Content → List SourceState → List SourceState → SinkState → SinkState → CliFault → Type 0
 CannotCompare joins next x old new before after (cli.Refused r) = ((ps : List Part) × HoldAll old new ps × IsUnjoined (join_of (joined_parts joins x ps)) (cli.Refused r)) × (after ≡ before)
 CannotCompare joins next x old new before after (cli.File k f) = StopsFrom next k f old new × (after ≡ before)

@@ -26,7 +26,7 @@ problem_of _ = None
 abbrev pub IsExplained : (CliFault → Type 0) → CliFault → Type 0
 IsExplained Is e = (f : CliFault) × Is f × ((e ≡ f) ⊎ ((e ≡ cli.Memory) × IsSome (problem_of f)))
 
--- the explanation of what is wrong with a text, which is all of the file of this name; or nothing
+-- the explanation of the fault of a text, which fills the file with this name; or nothing
 abbrev pub note_text : List ℕ → List ℕ → Option DefinitionFault → List ℕ
 note_text name text (Some f) = explanation name text 0 (length text) f
 note_text name text None = []

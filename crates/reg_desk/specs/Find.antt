@@ -1,4 +1,4 @@
--- Entries that are looked for.
+-- Searches for entries.
 use Rattle.std.specs.Prelude.{◌≡◌, ◌≢◌, ℕ, List, []}
 use Rattle.reg_op.specs.Ids.{Id}
 use Rattle.reg_op.specs.Contents.{Content}
@@ -13,7 +13,7 @@ use Rattle.reg_query.specs.Found.{AreFoundIds}
 abbrev pub AreFoundLines : Query → Content → List ℕ → Type 0
 AreFoundLines q x text = (ids : List Id) × AreFoundIds q x ids × (ids ≢ []) × (text ≡ id_lines ids)
 
--- there is none, which is refused; or there is no memory
+-- there is none, which is refused; or memory ran out
 abbrev pub FindsNone : Query → Content → CliFault → Type 0
 FindsNone q x (cli.Refused refusal.NoEntry) = AreFoundIds q x []
 FindsNone q x cli.Memory = Unit {0}

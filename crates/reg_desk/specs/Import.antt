@@ -3,11 +3,13 @@ use Rattle.std.specs.Prelude.{◌≡◌, ◌⊎◌, ◌+◌, ℕ, List, [], map,
 use Rattle.std.specs.Option.{unwrap_or}
 use Rattle.std.specs.String.{string_bytes}
 use Rattle.byte_io.specs.Device.{SourceState}
+use Rattle.reg_op.specs.Ids.{Id}
+use Rattle.reg_op.specs.Operations.{Ops}
 use Rattle.reg_op.specs.Contents.{Content}
 use Rattle.reg_office.specs.declared.fault.OfficeFault.TheVariants as office
-use Rattle.reg_office.specs.Lines.{IsSheet}
 use Rattle.reg_import.specs.declared.reading.FileText.{FileText}
 use Rattle.reg_import.specs.declared.told.Problem.{Problem}
+use Rattle.reg_import.specs.declared.told.Problem.TheVariants as problem
 use Rattle.reg_import.specs.declared.told.Told.{Told}
 use Rattle.reg_import.specs.declared.told.Told.TheVariants as told
 use Rattle.reg_import.specs.declared.import.ImportRefusal.{ImportRefusal}
@@ -15,7 +17,8 @@ use Rattle.reg_import.specs.declared.import.ImportRefusal.TheVariants as refused
 use Rattle.reg_import.specs.Readings.{readings}
 use Rattle.reg_import.specs.Imports.{NoneRefused}
 use Rattle.reg_import.specs.Plans.{IsFirstRefused, Imports, IsImportRefusal}
-use Rattle.reg_import.specs.Lines.{import_header, lines_of, IsImportLine}
+use Rattle.reg_import.specs.declared.listing.Listing.{Listing}
+use Rattle.reg_import.specs.Listing.{IsListing}
 use Rattle.reg_engine.specs.declared.fault.Refusal.TheVariants as refusal
 use Rattle.reg_engine.specs.Fault.{status_of}
 use Rattle.reg_engine.specs.declared.fault.CliFault.{CliFault}
@@ -36,6 +39,12 @@ names_of o = map string_bytes o.names.now
 abbrev pub exit_status : ImportFault → ℕ
 exit_status (import.Cli f) = status_of f
 exit_status (import.Refused p place file) = 1
+
+-- the entry that has the key of the refused text
+abbrev pub taken_by : ImportFault → Option Id
+taken_by (import.Cli f) = None
+taken_by (import.Refused (problem.KeyTaken id) place file) = Some id
+taken_by (import.Refused (problem.Unread f) place file) = None
 
 -- a fault without explanation
 abbrev pub IsPlainFault : (CliFault → Type 0) → ImportFault → List ℕ → Type 0
@@ -73,14 +82,19 @@ IsPassed o first files cuts texts ts (Some u) = (at : ℕ) × (p : Problem) × I
 
 -- ---- texts that were read
 
--- the lines are a header and a line for each text, with its action
-abbrev pub AreLines : Order → List FileText → List Told → List ℕ → Type 0
-AreLines o texts ts lines = IsSheet import_header (IsImportLine (names_of o)) (lines_of texts ts) lines
+-- the options of the output
+abbrev pub listing_of : Order → Listing
+listing_of o = record { names = o.names; changes = o.changes; gone = o.gone }
+
+-- the lines are a header, a line for each text with its action, and a line for each entry that is listed, where the new content
+-- has these operations
+abbrev pub AreLines : Order → Ops → List FileText → List Told → List ℕ → Type 0
+AreLines o s texts ts lines = IsListing (listing_of o) s texts ts lines
 
 -- importing the texts into the content gives the second one and these lines, and this fault of those that were passed over
 abbrev pub MakesOf : Order → ℕ → Content → List (List ℕ) → List TextAt → List FileText → Content → List ℕ → Option Unimported → Type 0
 MakesOf o first x files cuts texts y lines passed = (ts : List Told) × Imports x o.replica o.note.now o.differs o.keep_going (readings texts) y ts
-    × AreLines o texts ts lines × IsPassed o first files cuts texts ts passed
+    × AreLines o y.ops texts ts lines × IsPassed o first files cuts texts ts passed
 
 -- they are refused for this reason
 abbrev pub Refuses : Order → Content → List FileText → ImportRefusal → Type 0

@@ -1,10 +1,11 @@
--- The engines of an import: what was read, and what was written.
+-- The engines of an import: their input and output.
 use Rattle.std.specs.Prelude.{◌≡◌, ◌⊎◌, ℕ, List, Option, Some, None}
 use Rattle.byte_io.specs.Device.{SourceState, SinkState}
 use Rattle.byte_io.specs.Whole.{WritesAll}
 use Rattle.reg_op.specs.Contents.{Content}
 use Rattle.reg_engine.specs.declared.fault.CliFault.{CliFault}
-use Rattle.reg_engine.specs.Store.{Around, AreCut}
+use Rattle.reg_engine.specs.Fault.{is_after}
+use Rattle.reg_engine.specs.Store.{Around, AreCut, WritesIf, IsKeptIn}
 use Rattle.reg_desk.specs.declared.import.order.Order.{Order}
 use Rattle.reg_desk.specs.declared.import.fault.Unimported.{Unimported}
 use Rattle.reg_desk.specs.Import.{IsPlain, IsReady, IsUnready}
@@ -17,10 +18,10 @@ IsTold lines passed before after = (passed ≡ None) × WritesAll lines before a
 abbrev pub IsUntold : List ℕ → Option Unimported → SinkState → SinkState → Unimported → Type 0
 IsUntold lines passed before after u = ((passed ≡ Some u) × WritesAll lines before after) ⊎ IsPlain (AreCut lines before after) u
 
--- ---- a register that comes in, and where what is made of it goes
+-- ---- the register that is read, and the one that is written
 
 pub record Way : Type 1 where
-  -- this register came in, and nothing went out
+  -- this register was read, and nothing was written
   pub came : Content → Type 0
   -- none was, for this reason, and nothing was written
   pub none : CliFault → Type 0
@@ -35,7 +36,7 @@ kept_in a before after = record {
   came = λ x. a.came x × (after ≡ before);
   none = λ f. a.none f × (after ≡ before);
   gave = λ x y lines. a.left x y × WritesAll lines before after;
-  failed = λ x y lines f. (a.unleft x y f × (after ≡ before)) ⊎ (a.left x y × AreCut lines before after f);
+  failed = λ x y lines f. (a.unleft x y f × WritesIf (is_after f) lines before after) ⊎ (IsKeptIn a x y × AreCut lines before after f);
 }
 
 -- a store that is only read
@@ -47,7 +48,7 @@ only_read a before after = record {
   failed = λ x y lines f. a.came x × AreCut lines before after f;
 }
 
--- ---- what an import did
+-- ---- the effect of an import
 
 -- a register and texts were read; the texts were imported, none was passed over, and the result was written
 abbrev pub IsImported : Way → Order → ℕ → List SourceState → List SourceState → Type 0

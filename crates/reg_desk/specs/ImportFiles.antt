@@ -1,4 +1,4 @@
--- Files of texts: the bytes that each gave, or why one did not.
+-- Files of texts: the bytes that each gave, or why one gave none.
 use Rattle.std.specs.Prelude.{◌≡◌, ◌⊎◌, ◌≤◌, ◌<◌, ◌+◌, ℕ, List, [], ◌∷◌, length, map}
 use Rattle.std.specs.declared.vec.Vec.{Vec}
 use Rattle.byte_io.specs.Device.{SourceState}
@@ -51,7 +51,7 @@ StopsAt number k f (o ∷ os) [] = ⊥
 StopsAt number k f (o ∷ os) (n ∷ ns) = ((k ≡ number) × IsFileFault f o n × (ns ≡ os))
     ⊎ (((bytes : List ℕ) × Gives o n bytes) × StopsAt (number + 1) k f os ns)
 
--- what was done to them before it was given up
+-- the effect of a failed command on the files
 abbrev pub AreUnread : ℕ → List SourceState → List SourceState → CliFault → Type 0
 AreUnread number old new (cli.Refused r) = ⊥
 AreUnread number old new (cli.File k f) = StopsAt number k f old new

@@ -7,14 +7,14 @@ use Rattle.reg_import.specs.declared.told.Told.{Told}
 use Rattle.reg_import.specs.declared.told.Told.TheVariants as told
 use Rattle.reg_desk.specs.ImportTexts.{TextAt}
 
--- what the file of this number is called, and its bytes
+-- the name and the bytes of the file with this number
 abbrev pub name_of : List (List ℕ) → ℕ → List ℕ
 name_of names file = unwrap_or (slice_get names file) []
 
 abbrev pub content_of : List (List ℕ) → ℕ → List ℕ
 content_of files file = unwrap_or (slice_get files file) []
 
--- of a text that was not read, the explanation of what is wrong with it, in the file of this name and these bytes
+-- the explanation of a text that was not read, in the file with this name and these bytes
 abbrev pub note_in : List ℕ → List ℕ → TextAt → Told → List ℕ
 note_in name file c (told.Refused (problem.Unread f)) = explanation name file c.place (c.place + length c.bytes) f
 note_in name file c (told.Refused (problem.KeyTaken i)) = []

@@ -6,7 +6,7 @@ use Rattle.reg_import.specs.declared.reading.FileText.{FileText}
 use Rattle.reg_import.specs.Readings.{IsFileText}
 use Rattle.reg_desk.specs.declared.import.texts.FileCut.{FileCut}
 
--- a text: its file among those that were given, from 0, the place of its first byte there, and its bytes
+-- a text: the index of its file, from 0, the place of its first byte there, and its bytes
 pub record TextAt : Type 0 where
   pub file : ℕ
   pub place : ℕ

@@ -9,3 +9,5 @@ pub mod ImportTexts
 pub mod ImportNotes
 pub mod Import
 pub mod ImportEngines
+pub mod Keyed
+pub mod Logged

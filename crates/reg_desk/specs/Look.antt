@@ -1,4 +1,4 @@
--- Files and shelves that are looked at: what each has, or what is wrong with it.
+-- Files and shelves that are inspected: the register that each has, or its fault.
 use Rattle.std.specs.Prelude.{◌≡◌, ◌⊎◌, ℕ, ◌≤◌, ◌<◌, IsTrue, List, [], ◌∷◌, length, Option, Some, None}
 use Rattle.byte_io.specs.Device.{SourceState}
 use Rattle.reg_op.specs.Contents.{Content}
@@ -29,7 +29,7 @@ IsLookOf x n (look.NoRegister m f) = ⊥
 IsLookOf x n (look.Unread f) = ⊥
 IsLookOf x n (look.NoShelf p) = ⊥
 
--- what bytes have
+-- the result for some bytes
 abbrev pub HasLook : List ℕ → Look → Type 0
 HasLook bytes (look.Figures n figures) = (n ≡ length bytes) × ((x : Content) × ReadsAs bytes x × AreFigures x figures)
 HasLook bytes (look.NoRegister n f) = (n ≡ length bytes) × IsNoRegister bytes f
@@ -64,12 +64,12 @@ IsRegisterLook bytes (look.NoShelf p) = (p ≡ problem.NotShelf) × ((x : Conten
 abbrev pub itself : {T : Type 0} → T → T
 itself it = it
 
--- what a contract sees of one, opened or not
+-- the state of a device, opened or not
 abbrev pub opened_state : {S T : Type 0} → (S → T) → Opened S → Option T
 opened_state state (opened.Source source) = Some (state source)
 opened_state state opened.NotOpened = None
 
--- what it has; one that was not opened has this look
+-- the result for it; a device that was not opened has this result
 abbrev pub LooksAt : {T : Type 0} → (T → T → Look → Type 0) → Look → Option T → Option T → Look → Type 0
 LooksAt Is unopened None None l = l ≡ unopened
 LooksAt Is unopened None (Some new) l = ⊥
@@ -82,14 +82,14 @@ FileLooksAt = LooksAt IsLook (look.Unread file.NotOpened)
 abbrev pub ShelfLooksAt : {D : Type 0} → Disks D → Option D → Option D → Look → Type 0
 ShelfLooksAt d = LooksAt (IsShelfLook d) (look.NoShelf problem.NotOpened)
 
--- one that was opened stays
+-- a device that was opened is unchanged
 abbrev pub StaysAt : {T : Type 0} → (T → T → Type 0) → Option T → Option T → Type 0
 StaysAt Stays None None = Unit {0}
 StaysAt Stays None (Some new) = ⊥
 StaysAt Stays (Some old) None = ⊥
 StaysAt Stays (Some old) (Some new) = Stays old new
 
--- what each has, in order
+-- the result for each, in order
 abbrev pub AreLooks : {T : Type 0} → (T → T → Look → Type 0) → List T → List T → List Look → Type 0
 AreLooks At [] [] [] = Unit {0}
 AreLooks At [] [] (l ∷ ls) = ⊥

@@ -1,4 +1,4 @@
--- Settling: what was read, and what was written.
+-- Settling: its input and output.
 use Rattle.std.specs.Prelude.{◌≡◌, ◌≤◌, ◌<◌, ◌⊎◌, ℕ, List, length}
 use Rattle.reg_op.specs.Ids.{Id}
 use Rattle.reg_op.specs.Contents.{Content}
@@ -22,7 +22,7 @@ settle_fault (settle.AlreadyRetired id) = cli.Refused (refusal.Office (office.Al
 settle_fault (settle.KeyTaken id) = cli.Refused (refusal.KeyTaken id)
 settle_fault settle.Memory = cli.Memory
 
--- ---- which entries of a content are retired
+-- ---- the entries of a content that are retired
 
 -- so that these are kept
 abbrev pub SettlesFor : List Id → Content → List Id → Type 0
@@ -39,7 +39,7 @@ SettlesEqual x list = AreDoubles (rows x.ops) list
 abbrev pub NeverRefuses : Content → Refusal → Type 0
 NeverRefuses x r = ⊥
 
--- ---- what retiring them makes
+-- ---- the effect of retiring them
 
 -- the entries that are listed for the content are retired, by these operations
 abbrev pub Retires : (Content → List Id → Type 0) → List ℕ → List ℕ → Content → Content → List ℕ → Type 0

@@ -1,13 +1,11 @@
--- The reports of offices and of files: what was read, and what was written.
+-- The reports of offices and of files: their input and output.
 use Rattle.std.specs.Prelude.{◌≡◌, ℕ, ◌+◌, nat_lt, Bool, true, false, ◌||◌, List, [], ◌∷◌, ◌++◌, All, length, codes, decimal, Option, Some, None}
 use Rattle.std.specs.List.{list_any}
 use Rattle.csv.specs.Writing.{row_text, default_writer}
-use Rattle.csv.specs.Records.{fields_of, partial_of}
-use Rattle.csv.specs.declared.record.ByteRecord.{ByteRecord}
 use Rattle.byte_io.specs.Device.{SinkState}
 use Rattle.byte_io.specs.Whole.{WritesAll, IsCutAt}
 use Rattle.reg_op.specs.Contents.{Content}
-use Rattle.reg_office.specs.Lines.{sheet_of}
+use Rattle.reg_report.specs.Lines.{sheet_of}
 use Rattle.reg_engine.specs.declared.fault.Refusal.TheVariants as refusal
 use Rattle.reg_engine.specs.declared.fault.OutFault.TheVariants as out
 use Rattle.reg_engine.specs.declared.fault.CliFault.{CliFault}
@@ -36,11 +34,6 @@ figure_fields f = decimal f.operations ∷ decimal f.entries ∷ decimal f.valid
 abbrev pub no_figures : List (List ℕ)
 no_figures = [] ∷ [] ∷ [] ∷ [] ∷ [] ∷ [] ∷ [] ∷ [] ∷ []
 
--- fields were appended to those of a record
-pub record Adds (old new : ByteRecord) (fields : List (List ℕ)) : Type 0 where
-  pub fields_are : fields_of new ≡ fields_of old ++ fields
-  pub whole : partial_of new ≡ []
-
 -- the name, the size if it was read completely, the words of its fault if it has one, and otherwise the figures
 abbrev pub IsStatusLine : List ℕ → Look → List (List ℕ) → Type 0
 IsStatusLine name (look.Figures n f) fields = fields ≡ name ∷ decimal n ∷ [] ∷ figure_fields f
@@ -61,7 +54,7 @@ IsStatusText names looks text = (lines : List ℕ) × AreStatusLines names looks
 
 -- ---- the result
 
--- what is reported of the file of this number, or of a shelf
+-- the fault that is reported of the file with this number, or of a shelf
 abbrev pub fault_at : ℕ → Look → Option CliFault
 fault_at k (look.Figures n f) = None
 fault_at k (look.NoRegister n f) = Some (cli.File k f)
@@ -110,7 +103,7 @@ Tells names Are before after looks = Are looks × ((text : List ℕ) × IsStatus
 abbrev pub IsTold : Bool → List (List ℕ) → (List Look → Type 0) → SinkState → SinkState → Type 0
 IsTold settled names Are before after = (looks : List Look) × Tells names Are before after looks × AreGood looks × IsSettled settled looks
 
--- what was done instead, by the fault
+-- the effect for each fault
 abbrev pub IsUntold : Bool → List (List ℕ) → (List Look → Type 0) → Type 0 → SinkState → SinkState → CliFault → Type 0
 IsUntold settled names Are Left before after (cli.Refused r) = (looks : List Look) × Tells names Are before after looks × IsVerdict settled looks (cli.Refused r)
 IsUntold settled names Are Left before after (cli.File k f) = (looks : List Look) × Tells names Are before after looks × IsVerdict settled looks (cli.File k f)

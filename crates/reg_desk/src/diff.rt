@@ -3,7 +3,7 @@
 ghost use Rattle.std.specs.Prelude.{◌≡◌, ◌↔◌, ◌∷◌, [], map, IsTrue, Ok, IfOk, IfErr};
 ghost use Rattle.reg_join.specs.Joining.{all_joined};
 ghost use Rattle.reg_op.specs.Contents.{nothing, joined};
-ghost use Rattle.reg_office.specs.Reports.{Reports};
+ghost use Rattle.reg_report.specs.Reports.{Reports};
 ghost use Rattle.reg_query.specs.DiffLines.{IsDiff, Differ};
 ghost use Rattle.reg_engine.specs.Inputs.{AreUnread, GivePartsAfter};
 ghost use Rattle.reg_engine.specs.Merge.{begun, with_pieces, IsUnjoined};
@@ -17,9 +17,9 @@ use reg_query::compare;
 use reg_state::{Piece, Register};
 use std::alloc::Global;
 
-/// Loads the older register, and then reads a register or a piece from each source. Writes the rows that the older register
-/// and the join of the others do not share, and answers whether there are any. Where `joins`, the older register is among
-/// those that are joined.
+/// Loads the older register, and then reads a register or a piece from each source. Writes the rows that only one of the
+/// older register and the join of the others has, and returns whether there are any. If `joins`, the older register is part
+/// of the join.
 pub fn run_diff<T: Store, S: Source, K: Sink>(
     alloc: Global,
     store: &mut T,
@@ -55,7 +55,7 @@ pub fn run_diff<T: Store, S: Source, K: Sink>(
     }
 }
 
-// Reads the files, beside a register that is known: what it has is not read again.
+// Reads the files, with a known register, whose definitions are not read again.
 fn read_others<S: Source>(
     alloc: Global,
     first: Register,
@@ -75,7 +75,7 @@ fn read_others<S: Source>(
     }
 }
 
-// All registers joined, the first of them where that is asked, and then all pieces.
+// The join of all registers, of the first one only if asked, and then of all pieces.
 fn join_some(
     alloc: Global,
     registers: &[Register],
@@ -94,7 +94,7 @@ fn join_some(
     }
 }
 
-// All registers joined, and then all pieces.
+// The join of all registers, and then of all pieces.
 fn join_parts(alloc: Global, registers: &[Register], pieces: &[Piece]) -> Result<Register, CliFault>
     ensures ok { IfOk result (λ r. with_pieces (begun (all_joined joined (Ok nothing) registers.now)) pieces.now ≡ Ok r) }
     ensures err { IfErr result (IsUnjoined (with_pieces (begun (all_joined joined (Ok nothing) registers.now)) pieces.now)) }
@@ -109,7 +109,7 @@ fn join_parts(alloc: Global, registers: &[Register], pieces: &[Piece]) -> Result
     }
 }
 
-// Writes the rows that the two do not share, and answers whether there are any.
+// Writes the rows that only one of the two has, and returns whether there are any.
 fn write_diff<K: Sink>(
     alloc: Global,
     old: &Register,

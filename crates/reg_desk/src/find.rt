@@ -5,7 +5,7 @@ use reg_query::{Query, found_ids, found_text};
 use reg_state::Register;
 use std::alloc::Global;
 
-/// Prints the rows of the report of entries that have all that is asked, after that report's header.
+/// Prints the rows of the entries that match the query, after the header of the report of entries.
 #[derive(Drop)]
 pub struct Find<'a> {
     pub query: &'a Query<'a>,
@@ -27,7 +27,7 @@ impl Print for Find<'_> {
     }
 }
 
-/// Prints the ids of these entries alone, a line each. If there is none, the command is refused.
+/// Prints only the ids of these entries, one a line. If there is none, the command is refused.
 #[derive(Drop)]
 pub struct FindIds<'a> {
     pub query: &'a Query<'a>,

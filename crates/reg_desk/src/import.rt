@@ -1,4 +1,4 @@
-//! The command `import`: many texts of files at once.
+//! The command `import`: enters many texts of files at once.
 
 mod against;
 mod engine;

@@ -5,6 +5,9 @@ mod diff;
 mod explained;
 mod find;
 mod import;
+mod keyed;
+pub mod laws;
+mod logging;
 mod look;
 mod offices;
 mod settle;
@@ -15,6 +18,8 @@ pub use diff::run_diff;
 pub use explained::{Explained, explained_fault, problem_of, run_check_explained};
 pub use find::{Find, FindIds};
 pub use import::{ImportFault, Order, Unimported, run_import, try_import};
+pub use keyed::{ByWord, ByWords, ChangeOf, PrintOf, RetireOf, ShowOf, SupersedeOf, WktOf};
+pub use logging::{LogAll, LogByWords, LogOf};
 pub use look::{FileAt, Inspect, Look, Opened, ShelfAt};
 pub use offices::Offices;
 pub use settle::{Settle, SettleEqual};
@@ -23,17 +28,20 @@ pub use status::run_status;
 // Items of lower crates for the command line: engines, faults, options, and devices.
 pub use byte_disk::{FileDisk, NewFile};
 pub use byte_io::{Reading, Source, Writing, write_all};
-pub use byte_out::FilePlace;
+pub use byte_out::{FileId, FilePlace, Input, InputOf, Lock, Lockable};
+pub use crs_number::Decimal;
+pub use crs_search::{Kind, Point};
 pub use reg_engine::{
-    Change, CliFault, Enter, Export, FirstVersion, Form, Give, InFile, InputFault, Keep, OfFile,
-    OnShelf, Ops, OutFault, PieceFor, Print, Refusal, Report, Retire, ShelfProblem, Show, Store,
-    Summary, Supersede, Whole, Wkt, run_change, run_check, run_enter, run_enter_on, run_export,
-    run_give, run_merge, run_merge_on, run_new, run_ops, run_piece, run_print, run_report,
-    run_retire, run_retire_on, run_seen, run_shelf, run_show, run_supersede, run_supersede_on,
-    run_unshelf, run_wkt,
+    Base, Change, CliFault, Enter, Export, FirstVersion, Form, Give, InFile, InputFault, Keep,
+    OfFile, OnShelf, Ops, OutFault, PieceFor, Print, Refusal, RegisterFiles, Report, Retire,
+    ShelfProblem, Show, Store, Summary, Supersede, Whole, Wkt, run_change, run_check, run_enter,
+    run_enter_on, run_export, run_give, run_merge, run_merge_on, run_new, run_ops, run_piece,
+    run_print, run_report, run_retire, run_retire_on, run_seen, run_shelf, run_show, run_supersede,
+    run_supersede_on, run_unshelf, run_wkt,
 };
-pub use reg_import::Differs;
-pub use reg_office::ReportKind;
+pub use reg_file::MAX_FILE;
+pub use reg_import::{Differs, Problem};
 pub use reg_op::OpId;
 pub use reg_query::{Query, Wanted};
+pub use reg_report::ReportKind;
 pub use wkt_explain::Kept;

@@ -1,4 +1,4 @@
-//! Files and shelves in which a register is looked for: what each has, or what is wrong with it.
+//! Inspects files and shelves: the register that each has, or its fault.
 
 ghost use Rattle.std.specs.Prelude.{◌≡◌, IfOk, OnErr};
 ghost use Rattle.reg_engine.specs.Inputs.{NeverFails};
@@ -9,20 +9,17 @@ use byte_disk::Disk;
 use byte_io::{InFault, Source, read_up_to};
 use byte_shelf::{ShelfFault, restore};
 use reg_engine::{InputFault, ShelfProblem};
-use reg_file::{ReadFileFault, read_bytes};
+use reg_file::{MAX_FILE, ReadFileFault, read_bytes};
 use reg_query::{Figures, figures_of};
 use reg_state::Register;
 use std::alloc::{AllocError, Global};
 
-/// The most bytes of a file.
-const MOST: usize = 67_108_864;
-
-/// What a file or a shelf has, or its fault.
+/// The result of inspecting a file or a shelf.
 #[derive(Clone, Copy)]
 pub enum Look {
     /// A register with this file size, in a file or on a shelf.
     Figures { bytes: usize, figures: Figures },
-    /// It was read completely; it has this size and is not a register.
+    /// It was read completely. It has this size and is not a register.
     NoRegister { bytes: usize, fault: InputFault },
     /// It was not read completely.
     Unread(InputFault),
@@ -30,22 +27,22 @@ pub enum Look {
     NoShelf(ShelfProblem),
 }
 
-/// A device that was opened, or not.
+/// A device that was opened, or that could not be opened.
 #[derive(Drop)]
 pub enum Opened<S> {
     Source(S),
     NotOpened,
 }
 
-/// A file or a shelf in which a register is looked for.
+/// A file or a shelf to inspect.
 pub trait Inspect {
     ghost use Rattle.std.specs.Prelude.{IfOk, OnErr};
     ghost use Rattle.reg_desk.specs.declared.look.Look.{Look};
 
-    /// It has this look.
+    /// The result of inspecting it.
     ghost looks: { Self → Self → Look → Type 0 };
 
-    /// It did not fail, and has what it had.
+    /// It did not fail, and is unchanged.
     ghost stays: { Self → Self → Type 0 };
 
     fn look(&mut self, alloc: Global) -> Result<Look, AllocError>
@@ -97,12 +94,12 @@ impl<D: Disk> Inspect for ShelfAt<D> {
     }
 }
 
-// Looks at a source's bytes, of which all are read first.
+// Reads all bytes of a source, and inspects them.
 fn look_at<S: Source>(alloc: Global, source: &mut S) -> Result<Look, AllocError>
     ensures look { IfOk result (IsLook (S.state source.old) (S.state source.new)) }
     ensures memory { OnErr result (NeverFails (S.state source.old) (S.state source.new)) }
 {
-    let bytes = match read_up_to(alloc, source, MOST + 1) {
+    let bytes = match read_up_to(alloc, source, MAX_FILE + 1) {
         Ok(bytes) => bytes,
         Err(InFault::ReadFailed(n)) => return Ok(Look::Unread(InputFault::ReadFailed(n))),
         Err(InFault::Memory) => return Err(AllocError),
@@ -111,7 +108,7 @@ fn look_at<S: Source>(alloc: Global, source: &mut S) -> Result<Look, AllocError>
     Ok(look)
 }
 
-// What the bytes have.
+// The result for these bytes.
 fn look_in(alloc: Global, bytes: &[u8]) -> Result<Look, AllocError>
     ensures { IfOk result (HasLook bytes.now) }
 {
@@ -131,7 +128,7 @@ fn look_in(alloc: Global, bytes: &[u8]) -> Result<Look, AllocError>
     Ok(look)
 }
 
-// The look of a register that so many bytes hold.
+// The result for a register in a file with this many bytes.
 fn look_of(alloc: Global, register: &Register, bytes: usize) -> Result<Look, AllocError>
     ensures { IfOk result (IsLookOf register.now bytes) }
 {
@@ -139,7 +136,7 @@ fn look_of(alloc: Global, register: &Register, bytes: usize) -> Result<Look, All
     Ok(Look::Figures { bytes, figures })
 }
 
-// What the bytes of a shelf have, which are a register's or none.
+// The result for the bytes of a shelf, which hold a register or none.
 fn register_look(alloc: Global, bytes: &[u8]) -> Result<Look, AllocError>
     ensures { IfOk result (IsRegisterLook bytes.now) }
 {
@@ -152,7 +149,7 @@ fn register_look(alloc: Global, bytes: &[u8]) -> Result<Look, AllocError>
     Ok(look)
 }
 
-// Looks at the register of a shelf.
+// Inspects the register of a shelf.
 fn look_on<D: Disk>(alloc: Global, disk: &mut D) -> Result<Look, AllocError>
     ensures look { IfOk result (IsShelfLook (disks D.tells D.seen D.images D.moment D.images_since D.failures) disk.old disk.new) }
     ensures stays { OnErr result (StaysOn (disks D.tells D.seen D.images D.moment D.images_since D.failures) disk.old disk.new) }

@@ -5,7 +5,7 @@ use reg_query::{offices, offices_text};
 use reg_state::Register;
 use std::alloc::Global;
 
-/// Prints a line for each office of which the register has seen an id.
+/// Prints a line for each office with an id that the register has seen.
 #[derive(Drop)]
 pub struct Offices;
 

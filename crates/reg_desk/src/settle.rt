@@ -1,4 +1,4 @@
-//! The command `settle`: entries are retired so that others are kept, or so that each text is entered once.
+//! The command `settle`: retires entries so that others are kept, or so that each text is in one entry.
 
 ghost use Rattle.std.specs.Prelude.{◌≡◌, IfOk, IfErr};
 ghost use Rattle.reg_office.specs.Commands.{retirements};
@@ -7,16 +7,13 @@ ghost use Rattle.reg_desk.specs.Settle.{settle_fault};
 
 use reg_engine::{Change, CliFault, Made, Refusal, Retire};
 use reg_office::OfficeFault;
-use reg_op::OpId;
+use reg_op::{Note, OpId};
 use reg_settle::{SettleFault, doubles, to_retire};
 use reg_state::Register;
 use std::alloc::Global;
 use uuid::Uuid;
 
-/// How many bytes a note has at most.
-const MAX_NOTE: usize = 200;
-
-/// Retires as the replica, with the note, the other entries of the keys of those that are to be kept.
+/// Retires, as the replica and with the note, the other entries that have the keys of the entries to keep.
 #[derive(Drop)]
 pub struct Settle<'a> {
     pub replica: Uuid,
@@ -40,7 +37,7 @@ impl Change for Settle<'_> {
     ghost rests = { λ a. tt };
 
     fn make(&mut self, alloc: Global, _next: usize, register: Register) -> Result<Made, CliFault> {
-        if self.note.len() > MAX_NOTE {
+        if self.note.len() > Note::MAX {
             return Err(CliFault::Refused(Refusal::Office(OfficeFault::NoteTooLong)));
         }
         let entries = match to_retire(alloc, &register, self.keeps) {
@@ -54,7 +51,7 @@ impl Change for Settle<'_> {
     }
 }
 
-/// Retires as the replica, with the note, all doubles.
+/// Retires all doubles, as the replica and with the note.
 #[derive(Drop)]
 pub struct SettleEqual<'a> {
     pub replica: Uuid,
@@ -77,7 +74,7 @@ impl Change for SettleEqual<'_> {
     ghost rests = { λ a. tt };
 
     fn make(&mut self, alloc: Global, _next: usize, register: Register) -> Result<Made, CliFault> {
-        if self.note.len() > MAX_NOTE {
+        if self.note.len() > Note::MAX {
             return Err(CliFault::Refused(Refusal::Office(OfficeFault::NoteTooLong)));
         }
         let entries = match doubles(alloc, &register) {
@@ -91,7 +88,7 @@ impl Change for SettleEqual<'_> {
     }
 }
 
-// Retires the entries as the replica, with the note.
+// Retires the entries, as the replica and with the note.
 fn retire_all(
     alloc: Global,
     register: Register,

@@ -11,7 +11,7 @@ use byte_io::{Sink, write_all};
 use reg_engine::{CliFault, OutFault, Refusal};
 use std::alloc::{AllocError, Global};
 
-// What each file or shelf has, in their order.
+// The results of inspecting the files or shelves, in order.
 fn looks_of<T: Inspect>(alloc: Global, files: &mut [T]) -> Result<Vec<Look>, AllocError>
     ensures looks { IfOk result (λ looks. AreLooks T.looks files.old files.new looks.items) }
     ensures stays { OnErr result (AreLeft T.looks T.stays files.old files.new) }
@@ -60,7 +60,7 @@ fn is_unsettled(look: &Look) -> bool
     }
 }
 
-// Checks that each is a register.
+// Checks that each has a register.
 fn all_good(looks: &[Look]) -> Result<(), CliFault>
     ensures good { OnOk result (AreGood looks.now) }
     ensures fault { IfErr result (IsFirstBad looks.now) }
@@ -82,7 +82,7 @@ fn any_unsettled(looks: &[Look]) -> bool
     looks.iter().any(|look| is_unsettled(look))
 }
 
-// That each is a register's, and settled where that is asked.
+// Checks that each has a register and, if asked, that it is settled.
 fn verdict(looks: &[Look], settled: bool) -> Result<(), CliFault>
     ensures good { OnOk result (AreGood looks.now × IsSettled settled looks.now) }
     ensures fault { IfErr result (IsVerdict settled looks.now) }
@@ -99,9 +99,8 @@ fn verdict(looks: &[Look], settled: bool) -> Result<(), CliFault>
     Ok(())
 }
 
-/// Looks at each file or shelf, and writes a line for each, under its name. There are as many names as files. Then the fault of
-/// the first that has no register is the answer; else, where it is asked that they are settled, one that has keys in conflict,
-/// awaited ids or gaps is refused.
+/// Inspects each file or shelf, and writes a line for each, with its name. There are as many names as files. Then it returns
+/// the fault of the first that has no register. If `settled`, a register with keys in conflict, awaited ids or gaps is refused.
 pub fn run_status<T: Inspect, K: Sink>(
     alloc: Global,
     names: &[&[u8]],

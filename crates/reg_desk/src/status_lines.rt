@@ -1,142 +1,88 @@
 //! The report of files, line by line.
 
-ghost use Rattle.std.specs.Prelude.{◌≡◌, ◌++◌, [], ◌∷◌, List, ℕ, map, decimal, IfOk, OnOk};
-ghost use Rattle.csv.specs.Records.{fields_of, partial_of};
-ghost use Rattle.reg_office.specs.Lines.{IsReady, WritesRow};
-ghost use Rattle.reg_desk.specs.Status.{status_header, figure_fields, no_figures, Adds, IsStatusLine, IsStatusText};
+ghost use Rattle.std.specs.Prelude.{[], ◌∷◌, List, ℕ, map, decimal, IfOk, OnOk};
+ghost use Rattle.reg_report.specs.Lines.{IsReady, WritesRow};
+ghost use Rattle.reg_desk.specs.Status.{status_header, figure_fields, no_figures, IsStatusLine, IsStatusText};
 
 use crate::look::Look;
-use csv::{ByteRecord, Writer};
-use reg_engine::{InputFault, ShelfProblem};
+use csv::Writer;
 use reg_query::Figures;
+use reg_report::write_fields;
 use std::alloc::{AllocError, Global};
-
-fn push_text(row: &mut ByteRecord, text: &[u8]) -> Result<(), AllocError>
-    requires { partial_of row.old ≡ [] }
-    ensures { OnOk result (Adds row.old row.new (text.now ∷ [])) }
-{
-    row.push_field(text)
-}
-
-fn push_number(alloc: Global, row: &mut ByteRecord, number: usize) -> Result<(), AllocError>
-    requires { partial_of row.old ≡ [] }
-    ensures { OnOk result (Adds row.old row.new (decimal number ∷ [])) }
-{
-    let text = number.to_string(alloc)?;
-    row.push_field(text.as_bytes())
-}
-
-fn push_figures(alloc: Global, row: &mut ByteRecord, figures: &Figures) -> Result<(), AllocError>
-    requires { partial_of row.old ≡ [] }
-    ensures { OnOk result (Adds row.old row.new (figure_fields figures.now)) }
-{
-    push_number(alloc, row, figures.operations)?;
-    push_number(alloc, row, figures.entries)?;
-    push_number(alloc, row, figures.valid)?;
-    push_number(alloc, row, figures.superseded)?;
-    push_number(alloc, row, figures.retired)?;
-    push_number(alloc, row, figures.conflicts)?;
-    push_number(alloc, row, figures.awaited)?;
-    push_number(alloc, row, figures.gaps)?;
-    Ok(())
-}
-
-// Empty fields instead of figures.
-fn push_nothing(row: &mut ByteRecord) -> Result<(), AllocError>
-    requires { partial_of row.old ≡ [] }
-    ensures { OnOk result (Adds row.old row.new no_figures) }
-{
-    push_text(row, b"")?;
-    push_text(row, b"")?;
-    push_text(row, b"")?;
-    push_text(row, b"")?;
-    push_text(row, b"")?;
-    push_text(row, b"")?;
-    push_text(row, b"")?;
-    push_text(row, b"")?;
-    Ok(())
-}
-
-// The fault as it is printed, and no figures.
-fn push_fault(alloc: Global, row: &mut ByteRecord, fault: InputFault) -> Result<(), AllocError>
-    requires { partial_of row.old ≡ [] }
-    ensures { OnOk result ((words : List ℕ) × Adds row.old row.new (words ∷ no_figures)) }
-{
-    let words = format!(in alloc; "{fault}")?;
-    push_text(row, words.as_bytes())?;
-    push_nothing(row)?;
-    Ok(())
-}
-
-// The same for the fault of a shelf.
-fn push_problem(
-    alloc: Global,
-    row: &mut ByteRecord,
-    problem: ShelfProblem,
-) -> Result<(), AllocError>
-    requires { partial_of row.old ≡ [] }
-    ensures { OnOk result ((words : List ℕ) × Adds row.old row.new (words ∷ no_figures)) }
-{
-    let words = format!(in alloc; "{problem}")?;
-    push_text(row, words.as_bytes())?;
-    push_nothing(row)?;
-    Ok(())
-}
-
-fn row_of(alloc: Global, name: &[u8], look: &Look) -> Result<ByteRecord, AllocError>
-    ensures { IfOk result (λ row. IsStatusLine name.now look.now (fields_of row)) }
-{
-    let mut row = ByteRecord::new(alloc);
-    push_text(&mut row, name)?;
-    match look {
-        Look::Figures { bytes, figures } => {
-            push_number(alloc, &mut row, *bytes)?;
-            push_text(&mut row, b"")?;
-            push_figures(alloc, &mut row, figures)?;
-        }
-        Look::NoRegister { bytes, fault } => {
-            push_number(alloc, &mut row, *bytes)?;
-            push_fault(alloc, &mut row, *fault)?;
-        }
-        Look::Unread(fault) => {
-            push_text(&mut row, b"")?;
-            push_fault(alloc, &mut row, *fault)?;
-        }
-        Look::NoShelf(problem) => {
-            push_text(&mut row, b"")?;
-            push_problem(alloc, &mut row, *problem)?;
-        }
-    }
-    Ok(row)
-}
-
-fn write_fields(wtr: &mut Writer<Vec<u8>>, fields: &[&[u8]]) -> Result<(), AllocError>
-    requires { IsReady wtr.old }
-    ensures { OnOk result (WritesRow wtr.old wtr.new (map (λ f. f.now) fields.now)) }
-{
-    wtr.write_fields(fields).map_err(|_| AllocError)?;
-    Ok(())
-}
 
 fn write_header(wtr: &mut Writer<Vec<u8>>) -> Result<(), AllocError>
     requires { IsReady wtr.old }
     ensures { OnOk result (WritesRow wtr.old wtr.new status_header) }
 {
-    let fields = [
-        b"file".as_slice(),
-        b"bytes".as_slice(),
-        b"fault".as_slice(),
-        b"operations".as_slice(),
-        b"entries".as_slice(),
-        b"valid".as_slice(),
-        b"superseded".as_slice(),
-        b"retired".as_slice(),
-        b"conflicts".as_slice(),
-        b"awaited".as_slice(),
-        b"gaps".as_slice(),
-    ];
-    write_fields(wtr, &fields)?;
-    Ok(())
+    write_fields(
+        wtr,
+        &[
+            b"file",
+            b"bytes",
+            b"fault",
+            b"operations",
+            b"entries",
+            b"valid",
+            b"superseded",
+            b"retired",
+            b"conflicts",
+            b"awaited",
+            b"gaps",
+        ],
+    )
+}
+
+fn write_figures(
+    alloc: Global,
+    wtr: &mut Writer<Vec<u8>>,
+    name: &[u8],
+    bytes: usize,
+    figures: &Figures,
+) -> Result<(), AllocError>
+    requires { IsReady wtr.old }
+    ensures { OnOk result (WritesRow wtr.old wtr.new (name.now ∷ decimal bytes ∷ [] ∷ figure_fields figures.now)) }
+{
+    let bytes = bytes.to_string(alloc)?;
+    let operations = figures.operations.to_string(alloc)?;
+    let entries = figures.entries.to_string(alloc)?;
+    let valid = figures.valid.to_string(alloc)?;
+    let superseded = figures.superseded.to_string(alloc)?;
+    let retired = figures.retired.to_string(alloc)?;
+    let conflicts = figures.conflicts.to_string(alloc)?;
+    let awaited = figures.awaited.to_string(alloc)?;
+    let gaps = figures.gaps.to_string(alloc)?;
+    write_fields(
+        wtr,
+        &[
+            name,
+            bytes.as_bytes(),
+            b"",
+            operations.as_bytes(),
+            entries.as_bytes(),
+            valid.as_bytes(),
+            superseded.as_bytes(),
+            retired.as_bytes(),
+            conflicts.as_bytes(),
+            awaited.as_bytes(),
+            gaps.as_bytes(),
+        ],
+    )
+}
+
+// The size, if it is known, and the fault as it is printed, without figures.
+fn write_fault(
+    wtr: &mut Writer<Vec<u8>>,
+    name: &[u8],
+    bytes: &[u8],
+    fault: &[u8],
+) -> Result<(), AllocError>
+    requires { IsReady wtr.old }
+    ensures { OnOk result (WritesRow wtr.old wtr.new (name.now ∷ bytes.now ∷ fault.now ∷ no_figures)) }
+{
+    write_fields(
+        wtr,
+        &[name, bytes, fault, b"", b"", b"", b"", b"", b"", b"", b""],
+    )
 }
 
 fn write_line(
@@ -148,12 +94,25 @@ fn write_line(
     requires { IsReady wtr.old }
     ensures { OnOk result ((fields : List (List ℕ)) × IsStatusLine name.now look.now fields × WritesRow wtr.old wtr.new fields) }
 {
-    let row = row_of(alloc, name, look)?;
-    wtr.write_byte_record(&row).map_err(|_| AllocError)?;
-    Ok(())
+    match look {
+        Look::Figures { bytes, figures } => write_figures(alloc, wtr, name, *bytes, figures),
+        Look::NoRegister { bytes, fault } => {
+            let bytes = bytes.to_string(alloc)?;
+            let words = format!(in alloc; "{fault}")?;
+            write_fault(wtr, name, bytes.as_bytes(), words.as_bytes())
+        }
+        Look::Unread(fault) => {
+            let words = format!(in alloc; "{fault}")?;
+            write_fault(wtr, name, b"", words.as_bytes())
+        }
+        Look::NoShelf(problem) => {
+            let words = format!(in alloc; "{problem}")?;
+            write_fault(wtr, name, b"", words.as_bytes())
+        }
+    }
 }
 
-/// A header, and a line for each name with what its file or shelf has.
+/// A header, and a line for each name with the result for its file or shelf.
 pub(crate) fn status_text(
     alloc: Global,
     names: &[&[u8]],

@@ -25,7 +25,7 @@ use Rattle.reg_engine.specs.declared.fault.CliFault.{CliFault}
 use Rattle.reg_engine.specs.declared.fault.CliFault.TheVariants as cli
 use Rattle.reg_engine.specs.Fault.{office_fault, definition_fault}
 use Rattle.reg_engine.specs.Outputs.{id_lines}
-use Rattle.reg_engine.specs.Change.{Makes, IsRefused, CannotMake, ReadsDefinition, Enters, CannotEnter}
+use Rattle.reg_engine.specs.Change.{Makes, IsRefused, CannotMake, ReadsDefinition, CannotEnter}
 
 -- the same of equal contents and equal replicas
 pub does_of : (x y z : Content) (r s note : List ℕ) (bodies : List Body) (ids : List Id) → x ≡ y → r ≡ s → Does x r note bodies z ids → Does y s note bodies z ids

@@ -3,7 +3,7 @@ use Rattle.std.proofs.Common.{◌≡◌, ◌++◌, ◌∷◌, [], List, refl, sy
 use Rattle.std.specs.List.{flat_map}
 use Rattle.reg_op.specs.Operations.{Op, Ops}
 use Rattle.reg_op.specs.Rows.{Row, rows_at}
-use Rattle.reg_office.specs.Exports.{row_line}
+use Rattle.reg_report.specs.Exports.{row_line}
 use Rattle.reg_engine.specs.Export.{op_line}
 
 lines_of_both : (rs qs : List Row) → flat_map row_line (rs ++ qs) ≡ flat_map row_line rs ++ flat_map row_line qs

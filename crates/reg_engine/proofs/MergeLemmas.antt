@@ -9,7 +9,7 @@ use Rattle.reg_join.specs.Joining.{all_joined, joined_with}
 use Rattle.reg_file.specs.declared.parts.Part.{Part}
 use Rattle.reg_file.specs.declared.parts.Part.TheVariants as part
 use Rattle.reg_state.specs.ManyLaws.{all_ops, all_seen, all_of, merged_all}
-use Rattle.reg_state.proofs.ManyLemmas.{joined_all, states_all}
+use Rattle.reg_state.proofs.ManyLemmas.{joined_is, states_all}
 use Rattle.reg_op.specs.Set as set
 use Rattle.reg_op.proofs.OpLemmas.{op_total}
 use Rattle.reg_file.specs.Layout.{file}
@@ -20,7 +20,6 @@ use Rattle.reg_engine.specs.declared.fault.CliFault.TheVariants as cli
 use Rattle.reg_engine.specs.declared.fault.OutFault.TheVariants as out
 use Rattle.reg_engine.specs.declared.fault.Refusal.TheVariants as refusal
 use Rattle.byte_out.specs.Place.{PlaceState}
-use Rattle.std.specs.Prelude.{◌↔◌}
 use Rattle.reg_state.specs.declared.piece.PieceFault.{PieceFault}
 use Rattle.reg_state.specs.declared.piece.PieceFault.TheVariants as piece
 use Rattle.reg_engine.specs.Fault.{piece_fault}
@@ -69,19 +68,19 @@ all_joined-append r (x ∷ xs) ys = all_joined-append (joined_with joined r x) x
 joins_brought : (ps : List Part) (x : Content) → JoinTo ps x → all_joined joined (Ok nothing) (brought ps) ≡ Ok x
 joins_brought ps x e = all_joined-append (Ok nothing) (registers ps) (map part_of (pieces ps)) ∙ pieces_as_parts (all_joined joined (Ok nothing) (registers ps)) (pieces ps) x e
 
-is_merged_all : (ps : List Part) (x : Content) → OneBody (all_ops (brought ps)) → JoinTo ps x → x ≡ merged_all (brought ps)
-is_merged_all ps x one e = ap (content_or x) (sym (joins_brought ps x e) ∙ joined_all (brought ps) one)
+is_merged_all : (ps : List Part) (x : Content) → JoinTo ps x → x ≡ merged_all (brought ps)
+is_merged_all ps x e = joined_is (brought ps) x (joins_brought ps x e)
 
 -- ---- the order
 
 same_all : (xs ys : List Content) → all_ops xs ≡ all_ops ys → all_seen xs ≡ all_seen ys → merged_all xs ≡ merged_all ys
 same_all xs ys ops seen = ap (λ k. record { ops = kept k; seen = all_seen xs }) ops ∙ ap (λ v. record { ops = kept (all_ops ys); seen = v }) seen
 
-pub order : (ps qs : List Part) (bytes others : List ℕ) → OneBody (all_ops (brought ps)) → all_ops (brought ps) ≡ all_ops (brought qs) → all_seen (brought ps) ≡ all_seen (brought qs)
+pub order : (ps qs : List Part) (bytes others : List ℕ) → all_ops (brought ps) ≡ all_ops (brought qs) → all_seen (brought ps) ≡ all_seen (brought qs)
     → IsMergeOf ps bytes → IsMergeOf qs others → bytes ≡ others
-order ps qs bytes others one ops seen (x, to_x, hold_x) (y, to_y, hold_y) =
-    let of_x : x ≡ merged_all (brought ps) = is_merged_all ps x one to_x in
-    let of_y : y ≡ merged_all (brought qs) = is_merged_all qs y (subst OneBody ops one) to_y in
+order ps qs bytes others ops seen (x, to_x, hold_x) (y, to_y, hold_y) =
+    let of_x : x ≡ merged_all (brought ps) = is_merged_all ps x to_x in
+    let of_y : y ≡ merged_all (brought qs) = is_merged_all qs y to_y in
     let same : y ≡ x = of_y ∙ sym (same_all (brought ps) (brought qs) ops seen) ∙ sym of_x in
     one_file x bytes others hold_x.bytes_are (subst (λ z. Holds others z) same hold_y).bytes_are
 
@@ -133,6 +132,7 @@ ways r (cli.Refused refusal.BadId) h = absurd h
 ways r (cli.Refused refusal.BadReplica) h = absurd h
 ways r (cli.Refused refusal.BadSize) h = absurd h
 ways r (cli.Refused refusal.NoEntry) h = absurd h
+ways r (cli.Refused (refusal.Several id)) h = absurd h
 ways r (cli.Refused refusal.Unsettled) h = absurd h
 ways r (cli.Refused (refusal.KeyTaken id)) h = absurd h
 ways r (cli.File k f) h = absurd h
@@ -159,11 +159,11 @@ stays_by r qs f (inr (inr e)) = subst (λ k. IsUnjoined (with_pieces r qs) k) (s
 pub refusal_stays : (r : Result Content PieceRefusal) (qs : List Piece) (f : CliFault) → IsUnjoined r f → IsUnjoined (with_pieces r qs) f
 refusal_stays r qs f h = stays_by r qs f (ways r f h)
 
--- why a piece is not joined is why its content and it are not
-pub unjoined_by : (r : Result Content PieceFault) (q : Result Content PieceRefusal) → ((id : Id) → (r ≡ Err (piece.Basis id)) ↔ (q ≡ Err (Basis id)))
-    → ((id : Id) → (r ≡ Err (piece.Clash id)) ↔ (q ≡ Err (Clash id))) → (f : PieceFault) → r ≡ Err f → IsUnjoined q (piece_fault f)
-unjoined_by r q basis clash (piece.Basis id) is = (basis id).0 is
-unjoined_by r q basis clash (piece.Clash id) is = (clash id).0 is
+-- why pieces are not joined
+pub unjoined_by : (r : Result Content PieceFault) (q : Result Content PieceRefusal) → ((id : Id) → r ≡ Err (piece.Basis id) → q ≡ Err (Basis id))
+    → ((id : Id) → r ≡ Err (piece.Clash id) → q ≡ Err (Clash id)) → (f : PieceFault) → r ≡ Err f → IsUnjoined q (piece_fault f)
+unjoined_by r q basis clash (piece.Basis id) is = basis id is
+unjoined_by r q basis clash (piece.Clash id) is = clash id is
 unjoined_by r q basis clash piece.Memory is = tt
 
 pub unjoined_first : (old new : Ends) (xs : List Content) (qs : List Piece) → GiveParts old.sources new.sources xs qs → new.place ≡ old.place
@@ -183,7 +183,7 @@ joins_to ps xs qs y x e g first then-all = of_parts ps xs qs e g ∙ ap (λ r. w
 
 -- what the place met is what the merge met
 pub unmerged : (old new : Ends) (ps : List Part) (x : Content) → HoldAll old.sources new.sources ps → JoinTo ps x
-    → (f : CliFault) → IsUnpublished x old.place new.place f → IsMergeFault old new f
+    → (f : CliFault) → IsUnpublished x new.read old.place new.place f → IsMergeFault old new f
 unmerged old new ps x held join (cli.Refused r) h = absurd h
 unmerged old new ps x held join (cli.File k f) h = absurd h
 unmerged old new ps x held join (cli.Out f) h = (ps, held, (x, join, h))
@@ -204,8 +204,8 @@ abbrev fault_or : CliFault → Result (Unit {0}) CliFault → CliFault
 fault_or d (Ok x) = d
 fault_or d (Err f) = f
 
-pub never_too_large : (old new : PlaceState) (f : CliFault) → IsUnpublished nothing old new f → ◌≡◌ {A = Result (Unit {0}) CliFault} (Err f) (Err (cli.Out out.TooLarge)) → ⊥
-never_too_large old new f h e = nothing_is_small (subst (λ k. IsUnpublished nothing old new k) (ap (fault_or f) e) h).0
+pub never_too_large : (old new : PlaceState) (f : CliFault) → IsUnpublished nothing None old new f → ◌≡◌ {A = Result (Unit {0}) CliFault} (Err f) (Err (cli.Out out.TooLarge)) → ⊥
+never_too_large old new f h e = nothing_is_small (subst (λ k. IsUnpublished nothing None old new k) (ap (fault_or f) e) h).0
 
 -- a file was not read
 pub unread : (old new : Ends) → new.place ≡ old.place → (f : CliFault) → AreUnread 1 old.sources new.sources f → IsMergeFault old new f

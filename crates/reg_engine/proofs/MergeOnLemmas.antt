@@ -1,16 +1,15 @@
 -- What a merge comes to on a shelf, by its steps.
-use Rattle.std.proofs.Common.{◌≡◌, ◌++◌, ◌∷◌, [], List, Ok, Err, Result, inl, inr, refl, sym, ap, subst, ◌∙◌}
+use Rattle.std.proofs.Common.{◌≡◌, ◌∷◌, [], List, Ok, Result, inl, inr, refl, sym, ap, subst, ◌∙◌}
 use Rattle.byte_io.specs.Device.{SourceState}
 use Rattle.reg_op.specs.Contents.{Content, nothing, joined}
 use Rattle.reg_op.specs.Pieces.{Piece, PieceRefusal}
 use Rattle.reg_join.specs.Joining.{all_joined}
 use Rattle.reg_file.specs.declared.parts.Part.{Part}
 use Rattle.reg_file.specs.declared.parts.Part.TheVariants as part
-use Rattle.reg_engine.specs.declared.fault.Refusal.TheVariants as refusal
 use Rattle.reg_engine.specs.declared.fault.CliFault.{CliFault}
 use Rattle.reg_engine.specs.declared.fault.CliFault.TheVariants as cli
-use Rattle.reg_engine.specs.Inputs.{HoldAll, GivePartsAfter, AreUnread, NoneFails, registers, pieces}
-use Rattle.reg_engine.specs.Merge.{begun, with_pieces, join_of, IsUnjoined, JoinTo}
+use Rattle.reg_engine.specs.Inputs.{HoldAll, GivePartsAfter, AreUnread}
+use Rattle.reg_engine.specs.Merge.{begun, with_pieces, join_of, IsUnjoined}
 use Rattle.reg_engine.specs.Shelf.{Disks, Has, StaysOn, IsUnrestored, IsUnkept}
 use Rattle.reg_engine.specs.MergeOn.{ShelfEnds, shelf_ends, MergesTo, IsMergeFaultOn}
 use Rattle.reg_engine.proofs.InputLemmas.{stops_first, none_failed, none_given}

@@ -1,11 +1,11 @@
 -- A register that is restored from a shelf, and one that is kept there then.
-use Rattle.std.proofs.Common.{◌≡◌, ◌⊎◌, ◌+◌, ◌<◌, ◌≤◌, ◌^◌, inl, inr, ⊎_elim, Bool, ℕ, List, length, take, drop, refl, sym, ap, subst, ◌∙◌, arith, length-take, length-drop}
+use Rattle.std.proofs.Common.{◌≡◌, ◌⊎◌, ◌+◌, ◌<◌, ◌≤◌, ◌^◌, inl, inr, ⊎_elim, Bool, ℕ, List, length, drop, refl, sym, ap, subst, ◌∙◌, arith, length-take, length-drop}
 use Rattle.std.specs.Int.{w32, to_be_bytes, from_be_bytes}
 use Rattle.std.proofs.lemmas.Nat.{from_be_bytes-to_be_bytes_4}
 use Rattle.std.specs.Prelude.{IsTrue, Err, IsErrOf}
 use Rattle.byte_disk.specs.Disk.{Only, LeavesOnly}
 use Rattle.byte_disk.proofs.Moments.{weaker, joined}
-use Rattle.byte_shelf.specs.Shelf.{StandAt, HasHead, HasNoHead, IsSize}
+use Rattle.byte_shelf.specs.Shelf.{StandAt, HasNoHead, IsSize}
 use Rattle.byte_shelf.specs.Keep.{AddsNothing, CountsFault}
 use Rattle.byte_shelf.specs.declared.fault.ShelfFault.{ShelfFault}
 use Rattle.byte_shelf.specs.declared.fault.ShelfFault.TheVariants as shelf
@@ -16,7 +16,7 @@ use Rattle.reg_engine.specs.declared.fault.ShelfProblem.TheVariants as problem
 use Rattle.reg_engine.specs.declared.fault.CliFault.{CliFault}
 use Rattle.reg_engine.specs.declared.fault.CliFault.TheVariants as cli
 use Rattle.reg_engine.specs.Fault.{shelf_fault}
-use Rattle.reg_engine.specs.Shelf.{Disks, Has, HasNoContent, IsSure, AddsNothingTo, StaysOn, PassesOn, KeepsOn, HasNoRoom, IsUnrestored, IsUnkept}
+use Rattle.reg_engine.specs.Shelf.{Disks, Has, IsSure, AddsNothingTo, StaysOn, PassesOn, KeepsOn, HasNoRoom, IsUnrestored, IsUnkept}
 
 -- ---- faults
 
@@ -125,6 +125,7 @@ module _ {D : Type 0} (d : Disks D) (old mid new : D) (tells : d.tells mid ≡ d
   then_unkept x y (cli.Out f) h = h
   then_unkept x y cli.Memory h = then_stays h
   then_unkept x y (cli.Shelf problem.NotOpened) h = h
+  then_unkept x y (cli.Shelf problem.Busy) h = h
   then_unkept x y (cli.Shelf problem.NotShelf) h = (λ told. h.0 (then_told told), then_stays h.1)
   then_unkept x y (cli.Shelf problem.TooLarge) h = (room_before y h.0, then_stays h.1)
   then_unkept x y (cli.Shelf problem.DiskFailed) h = (h.0 ∙ ap (λ (n : ℕ). n + 1) stays.quiet, then_passes x y h.1)

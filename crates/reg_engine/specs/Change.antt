@@ -1,4 +1,4 @@
--- What the commands of an office make of a register, and why they make nothing.
+-- The registers that the commands of an office make, and why they make none.
 use Rattle.std.specs.Prelude.{◌≡◌, ◌<◌, [], ◌∷◌, ℕ, List, length, Err}
 use Rattle.byte_io.specs.Device.{SourceState}
 use Rattle.crs_value.specs.declared.crs.Crs.{Crs}
@@ -24,15 +24,15 @@ use Rattle.reg_engine.specs.Outputs.{id_lines}
 
 -- ---- operations with these bodies
 
--- of the first content the office makes the second one; the lines are those of the new ids
+-- from the first content the office makes the second one; the lines are those of the new ids
 abbrev pub Makes : List ℕ → List ℕ → List Body → Content → Content → List ℕ → Type 0
 Makes replica note bodies x y lines = (ids : List Id) × Does x replica note bodies y ids × (lines ≡ id_lines ids)
 
--- the office makes nothing of it, for this reason
+-- the office makes nothing, for this reason
 abbrev pub IsRefused : Content → List ℕ → List ℕ → List Body → Refusal → Type 0
 IsRefused x replica note bodies r = (f : OfficeFault) × (made x replica note bodies ≡ Err f) × (office_fault f ≡ cli.Refused r)
 
--- or there is no memory
+-- or memory ran out
 abbrev pub CannotMake : List ℕ → List ℕ → List Body → Content → CliFault → Type 0
 CannotMake replica note bodies x (cli.Refused r) = IsRefused x replica note bodies r
 CannotMake replica note bodies x cli.Memory = Unit {0}
@@ -40,7 +40,7 @@ CannotMake replica note bodies x f = ⊥
 
 -- ---- an entry
 
--- the text spells a value of which a definition can be made: it has an identifier, and its canonical text is not too long
+-- the text spells a value that can be a definition: it has an identifier, and its canonical text is not too long
 abbrev pub ReadsDefinition : Crs → SourceState → SourceState → Type 0
 ReadsDefinition v old new = Finds old new v × IsDefinition (canon v)
 
@@ -65,7 +65,7 @@ IsUnentered replica note old new x (refusal.Office office.CountSpent) = (v : Crs
     × IsRefused x replica note (Enter (canon v) ∷ []) (refusal.Office office.CountSpent)
 IsUnentered replica note old new x r = (v : Crs) × Finds old new v × IsUndefined v r
 
--- or the text's file, which has this number, was not read; or there is no memory
+-- or the text's file, which has this number, was not read; or memory ran out
 abbrev pub CannotEnter : List ℕ → List ℕ → ℕ → SourceState → SourceState → Content → CliFault → Type 0
 CannotEnter replica note number old new x (cli.Refused r) = IsUnentered replica note old new x r
 CannotEnter replica note number old new x (cli.File k (file.ReadFailed n)) = (k ≡ number) × FailsAt n old new

@@ -1,4 +1,4 @@
--- A check of a text: what was read, and what was written.
+-- A check of a text: its input and its output.
 use Rattle.std.specs.Prelude.{◌≡◌, ◌++◌, ◌∷◌, [], ℕ, List}
 use Rattle.byte_io.specs.Whole.{WritesAll, IsCutAt}
 use Rattle.crs_value.specs.declared.crs.Crs.{Crs}

@@ -1,4 +1,4 @@
--- What a command sees of its source and its sink.
+-- The states of a command's source and sink.
 use Rattle.byte_io.specs.Device.{SourceState, SinkState}
 
 -- at one moment

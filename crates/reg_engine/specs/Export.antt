@@ -1,5 +1,5 @@
 -- Exported texts: those of all entries that are not retired, and that of one entry.
-use Rattle.std.specs.Prelude.{◌≡◌, ◌++◌, ◌∷◌, [], true, false, List, ℕ}
+use Rattle.std.specs.Prelude.{◌≡◌, ◌++◌, ◌∷◌, [], true, List, ℕ}
 use Rattle.std.specs.List.{flat_map}
 use Rattle.crs_value.specs.declared.crs.Crs.{Crs}
 use Rattle.wkt_crs.specs.Spells.{canon, pretty}
@@ -10,7 +10,7 @@ use Rattle.reg_op.specs.Operations.{Op, Ops}
 use Rattle.reg_op.specs.Kept.{entering}
 use Rattle.reg_op.specs.Rows.{rows_at}
 use Rattle.reg_op.specs.Contents.{Content}
-use Rattle.reg_office.specs.Exports.{row_line, export}
+use Rattle.reg_report.specs.Exports.{row_line, export}
 use Rattle.reg_engine.specs.declared.wkt.Form.{Form}
 use Rattle.reg_engine.specs.declared.wkt.Form.TheVariants.{Canonical, Indented}
 
@@ -20,7 +20,7 @@ use Rattle.reg_engine.specs.declared.wkt.Form.TheVariants.{Canonical, Indented}
 abbrev pub op_line : Ops → Op → List ℕ
 op_line s o = flat_map row_line (rows_at s o.id o.body)
 
--- the text is the lines of a content
+-- the text has the lines of a content
 abbrev pub IsExport : Content → List ℕ → Type 0
 IsExport x text = text ≡ export x.ops
 

@@ -1,5 +1,5 @@
--- The faults of commands: their exit statuses, and where they come from.
-use Rattle.std.specs.Prelude.{ℕ}
+-- The faults of commands: their exit statuses, and the faults of libraries that they report.
+use Rattle.std.specs.Prelude.{ℕ, Bool, true, false}
 use Rattle.byte_out.specs.declared.fault.ReplaceFault.{ReplaceFault}
 use Rattle.byte_out.specs.declared.fault.ReplaceFault.TheVariants as replaced
 use Rattle.wkt_crs.specs.declared.fault.ReadFault.TheVariants as read
@@ -36,7 +36,12 @@ status_of (cli.Out f) = 3
 status_of cli.Memory = 4
 status_of (cli.Shelf p) = 3
 
--- the fault of a command that read its text from the file of this number
+-- whether the fault comes after the new register is kept
+abbrev pub is_after : CliFault → Bool
+is_after (cli.Out out.NotSynced) = true
+is_after f = false
+
+-- the fault of a command that read its text from the file with this number
 abbrev pub text_fault : ℕ → ReadFromFault → CliFault
 text_fault number (from.ReadFailed n) = cli.File number (file.ReadFailed n)
 text_fault number (from.Refused (read.Text f)) = cli.Refused (refusal.Text f)
@@ -44,7 +49,7 @@ text_fault number (from.Refused (read.Slot f)) = cli.Refused (refusal.Slot f)
 text_fault number (from.Refused (read.Broken c place)) = cli.Refused (refusal.Broken c place)
 text_fault number (from.Refused read.Memory) = cli.Memory
 
--- the fault of a command that made a definition of its text in the file of this number, which need not be canonical
+-- the fault of a command that made a definition from its text in the file with this number, which need not be canonical
 abbrev pub definition_fault : ℕ → DefineFromFault → CliFault
 definition_fault number (define.ReadFailed n) = text_fault number (from.ReadFailed n)
 definition_fault number (define.Refused (undefined.Read f)) = text_fault number (from.Refused (as_read f))
@@ -53,7 +58,7 @@ definition_fault number (define.Refused undefined.CanonicalTooLong) = cli.Refuse
 definition_fault number (define.Refused undefined.NotCanonical) = cli.Memory
 definition_fault number (define.Refused undefined.Memory) = cli.Memory
 
--- the fault of a command that read the file of this number
+-- the fault of a command that read the file with this number
 abbrev pub file_fault : ℕ → ReadFileFault → CliFault
 file_fault number (reading.File f place) = cli.File number (file.BadFile f place)
 file_fault number reading.TooLarge = cli.File number file.TooLarge
@@ -75,8 +80,10 @@ abbrev pub replace_fault : ReplaceFault → CliFault
 replace_fault replaced.NotOpened = cli.Out out.NotOpened
 replace_fault replaced.NewExists = cli.Out out.NewExists
 replace_fault (replaced.WriteFailed n) = cli.Out (out.WriteFailed n)
+replace_fault replaced.Changed = cli.Out out.Changed
+replace_fault replaced.NotSynced = cli.Out out.NotSynced
 
--- the fault of a command that an office was given
+-- the fault of a command of an office
 abbrev pub office_fault : OfficeFault → CliFault
 office_fault office.Memory = cli.Memory
 office_fault f = cli.Refused (refusal.Office f)

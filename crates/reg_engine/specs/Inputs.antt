@@ -40,7 +40,7 @@ IsPartFault f old new = IsFaultBy (IsPartReadFromFault old new) (reading_fault f
 abbrev pub NeverFails : SourceState → SourceState → Type 0
 NeverFails old new = GivesAtMost (most + 1) old new
 
--- what a command did to the file of this number before it gave up
+-- the effect of a failed command on the file with this number
 abbrev pub IsUnread : ℕ → SourceState → SourceState → CliFault → Type 0
 IsUnread number old new (cli.Refused r) = ⊥
 IsUnread number old new (cli.File k f) = (k ≡ number) × IsFileFault f old new
@@ -48,7 +48,7 @@ IsUnread number old new (cli.Out f) = ⊥
 IsUnread number old new cli.Memory = NeverFails old new
 IsUnread number old new (cli.Shelf p) = ⊥
 
--- what a command did to the summary in the file of this number before it gave up
+-- the effect of a failed command on the summary in the file with this number
 abbrev pub IsSummaryUnread : ℕ → SourceState → SourceState → CliFault → Type 0
 IsSummaryUnread number old new (cli.Refused r) = ⊥
 IsSummaryUnread number old new (cli.File k f) = (k ≡ number) × IsSummaryFault f old new
@@ -56,7 +56,7 @@ IsSummaryUnread number old new (cli.Out f) = ⊥
 IsSummaryUnread number old new cli.Memory = NeverFails old new
 IsSummaryUnread number old new (cli.Shelf p) = ⊥
 
--- what it did to the register or the piece there
+-- the effect on the register or the piece there
 abbrev pub IsPartUnread : ℕ → SourceState → SourceState → CliFault → Type 0
 IsPartUnread number old new (cli.Refused r) = ⊥
 IsPartUnread number old new (cli.File k f) = (k ≡ number) × IsPartFault f old new
@@ -94,7 +94,7 @@ NoneFails (o ∷ os) (n ∷ ns) = NeverFails o n × NoneFails os ns
 abbrev pub StopsFrom : ℕ → ℕ → InputFault → List SourceState → List SourceState → Type 0
 StopsFrom next k f old new = (n : ℕ) × (k + 1 ≡ next + n) × StopsAt n f old new
 
--- what a command did to its files, the first of which has the number `next`, before it gave up
+-- the effect of a failed command on its files, the first of which has the number `next`
 abbrev pub AreUnread : ℕ → List SourceState → List SourceState → CliFault → Type 0
 AreUnread next old new (cli.Refused r) = ⊥
 AreUnread next old new (cli.File k f) = StopsFrom next k f old new
@@ -102,7 +102,7 @@ AreUnread next old new (cli.Out f) = ⊥
 AreUnread next old new cli.Memory = NoneFails old new
 AreUnread next old new (cli.Shelf p) = ⊥
 
--- ---- what is joined
+-- ---- the registers and pieces that are joined
 
 -- the registers among parts, and the pieces, each in order
 abbrev pub registers : List Part → List Content

@@ -1,5 +1,5 @@
 -- A merge into the register of a shelf, which is joined first.
-use Rattle.std.specs.Prelude.{◌≡◌, ◌∷◌, List, ℕ}
+use Rattle.std.specs.Prelude.{◌≡◌, ◌∷◌, List}
 use Rattle.byte_io.specs.Device.{SourceState}
 use Rattle.reg_op.specs.Contents.{Content}
 use Rattle.reg_file.specs.declared.parts.Part.{Part}
@@ -11,7 +11,7 @@ use Rattle.reg_engine.specs.Inputs.{HoldAll, StopsAt, NoneFails}
 use Rattle.reg_engine.specs.Merge.{JoinTo, ClashAt, BasisAt}
 use Rattle.reg_engine.specs.Shelf.{Disks, Has, StaysOn, KeepsOn, IsShelfFault}
 
--- what a merge sees of its sources and of the disk
+-- the states of a merge's sources and disk
 pub record ShelfEnds (D : Type 0) : Type 0 where
   pub sources : List SourceState
   pub disk : D
@@ -23,11 +23,11 @@ shelf_ends sources disk = record { sources = sources; disk = disk }
 abbrev pub MergesTo : List SourceState → List SourceState → Content → Content → Type 0
 MergesTo old new x y = (ps : List Part) × HoldAll old new ps × JoinTo (part.Register x ∷ ps) y
 
--- the shelf had a content, and what it and the parts join to is kept
+-- the shelf had a content, and the join of it and the parts is kept
 abbrev pub IsMergedOn : {D : Type 0} → Disks D → ShelfEnds D → ShelfEnds D → Type 0
 IsMergedOn d old new = (x : Content) × Has d old.disk x × ((y : Content) × MergesTo old.sources new.sources x y × KeepsOn d x y old.disk new.disk)
 
--- what was done instead, by the fault; the files have their numbers from 1
+-- the effect for each fault; the files have numbers from 1
 abbrev pub IsMergeFaultOn : {D : Type 0} → Disks D → ShelfEnds D → ShelfEnds D → CliFault → Type 0
 IsMergeFaultOn d old new (cli.Refused (refusal.Clash id)) = (x : Content) × Has d old.disk x
     × ((ps : List Part) × HoldAll old.sources new.sources ps × ClashAt (part.Register x ∷ ps) id) × StaysOn d old.disk new.disk

@@ -1,4 +1,4 @@
--- How the faults of commands are called, and what each names.
+-- The names of the faults of commands, and the ids and places that they name.
 use Rattle.std.specs.Prelude.{ℕ, List, Option, Some, None, codes}
 use Rattle.wkt_crs.specs.declared.fault.Unspelled.TheVariants as unspelled
 use Rattle.wkt_crs.specs.Unspelled.{name_of, place_of}
@@ -16,7 +16,7 @@ use Rattle.reg_engine.specs.declared.fault.ShelfProblem.TheVariants as problem
 use Rattle.reg_engine.specs.declared.fault.CliFault.{CliFault}
 use Rattle.reg_engine.specs.declared.fault.CliFault.TheVariants as cli
 
--- what is refused
+-- a refusal
 abbrev pub refusal_name : Refusal → List ℕ
 refusal_name (refusal.Text f) = name_of (unspelled.Text f)
 refusal_name (refusal.Slot f) = name_of (unspelled.Slot f)
@@ -31,6 +31,7 @@ refusal_name refusal.BadId = codes "BadId"
 refusal_name refusal.BadReplica = codes "BadReplica"
 refusal_name refusal.BadSize = codes "BadSize"
 refusal_name refusal.NoEntry = codes "NoEntry"
+refusal_name (refusal.Several id) = codes "Several"
 refusal_name refusal.Unsettled = codes "Unsettled"
 refusal_name (refusal.KeyTaken id) = codes "KeyTaken"
 
@@ -46,6 +47,7 @@ refusal_id (refusal.Clash id) = Some id
 refusal_id (refusal.Basis id) = Some id
 refusal_id (refusal.HasNote id) = Some id
 refusal_id (refusal.Office f) = office_id f
+refusal_id (refusal.Several id) = Some id
 refusal_id (refusal.KeyTaken id) = Some id
 refusal_id r = None
 
@@ -67,6 +69,8 @@ out_name out.NotOpened = codes "NotOpened"
 out_name out.NewExists = codes "NewExists"
 out_name out.TooLarge = codes "TooLarge"
 out_name (out.WriteFailed at) = codes "WriteFailed"
+out_name out.Changed = codes "Changed"
+out_name out.NotSynced = codes "NotSynced"
 
 abbrev pub out_place : OutFault → Option ℕ
 out_place (out.WriteFailed at) = Some at
@@ -75,11 +79,12 @@ out_place f = None
 -- a shelf
 abbrev pub problem_name : ShelfProblem → List ℕ
 problem_name problem.NotOpened = codes "NotOpened"
+problem_name problem.Busy = codes "Busy"
 problem_name problem.NotShelf = codes "NotShelf"
 problem_name problem.TooLarge = codes "TooLarge"
 problem_name problem.DiskFailed = codes "DiskFailed"
 
--- a command: what its fault is of is called so
+-- a command: the name of its fault
 abbrev pub fault_name : CliFault → List ℕ
 fault_name (cli.Refused r) = refusal_name r
 fault_name (cli.File k f) = input_name f

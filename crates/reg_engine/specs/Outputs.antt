@@ -1,5 +1,5 @@
--- A file, put in a place once all of it is made; and ids, to a sink.
-use Rattle.std.specs.Prelude.{◌≡◌, ◌++◌, ◌∷◌, [], List, ℕ}
+-- A file, put in a place after it is completely made; and ids, written to a sink.
+use Rattle.std.specs.Prelude.{◌≡◌, ◌++◌, ◌∷◌, [], List, ℕ, Option}
 use Rattle.std.specs.List.{flat_map}
 use Rattle.byte_out.specs.Place.{PlaceState}
 use Rattle.byte_out.specs.Replace.{Replaces, IsReplaceFault}
@@ -13,46 +13,50 @@ use Rattle.reg_engine.specs.declared.fault.OutFault.TheVariants as out
 use Rattle.reg_engine.specs.declared.fault.CliFault.{CliFault}
 use Rattle.reg_engine.specs.declared.fault.CliFault.TheVariants as cli
 
--- such a file was completely written, and has the name
-abbrev pub PublishesBy : (List ℕ → Type 0) → PlaceState → PlaceState → Type 0
-PublishesBy Are old new = (bytes : List ℕ) × Are bytes × Replaces bytes old new
+-- such a file was completely written, and has the name, in place of the one that was read, if it was
+abbrev pub PublishesBy : (List ℕ → Type 0) → Option (List ℕ) → PlaceState → PlaceState → Type 0
+PublishesBy Are read old new = (bytes : List ℕ) × Are bytes × Replaces read bytes old new
 
 -- the file would be too large, and the place is unchanged; or the old file is still there, for this fault of
--- replacing it
-abbrev pub IsOutFaultBy : (List ℕ → Type 0) → Type 0 → PlaceState → PlaceState → OutFault → Type 0
-IsOutFaultBy Are Large old new out.TooLarge = Large × (new ≡ old)
-IsOutFaultBy Are Large old new out.NotOpened = (bytes : List ℕ) × Are bytes × IsReplaceFault bytes old new replaced.NotOpened
-IsOutFaultBy Are Large old new out.NewExists = (bytes : List ℕ) × Are bytes × IsReplaceFault bytes old new replaced.NewExists
-IsOutFaultBy Are Large old new (out.WriteFailed n) = (bytes : List ℕ) × Are bytes × IsReplaceFault bytes old new (replaced.WriteFailed n)
+-- replacing it; or, at the last one, the new file is there, and a stop may leave the old one
+abbrev pub IsOutFaultBy : (List ℕ → Type 0) → Type 0 → Option (List ℕ) → PlaceState → PlaceState → OutFault → Type 0
+IsOutFaultBy Are Large read old new out.TooLarge = Large × (new ≡ old)
+IsOutFaultBy Are Large read old new out.NotOpened = (bytes : List ℕ) × Are bytes × IsReplaceFault read bytes old new replaced.NotOpened
+IsOutFaultBy Are Large read old new out.NewExists = (bytes : List ℕ) × Are bytes × IsReplaceFault read bytes old new replaced.NewExists
+IsOutFaultBy Are Large read old new (out.WriteFailed n) = (bytes : List ℕ) × Are bytes × IsReplaceFault read bytes old new (replaced.WriteFailed n)
+IsOutFaultBy Are Large read old new out.Changed = (bytes : List ℕ) × Are bytes × IsReplaceFault read bytes old new replaced.Changed
+IsOutFaultBy Are Large read old new out.NotSynced = (bytes : List ℕ) × Are bytes × IsReplaceFault read bytes old new replaced.NotSynced
 
--- what a command did to its place, by its fault; out of memory, nothing
-abbrev pub IsUnpublishedBy : (List ℕ → Type 0) → Type 0 → PlaceState → PlaceState → CliFault → Type 0
-IsUnpublishedBy Are Large old new (cli.Refused r) = ⊥
-IsUnpublishedBy Are Large old new (cli.File k f) = ⊥
-IsUnpublishedBy Are Large old new (cli.Out f) = IsOutFaultBy Are Large old new f
-IsUnpublishedBy Are Large old new cli.Memory = new ≡ old
-IsUnpublishedBy Are Large old new (cli.Shelf p) = ⊥
+-- the effect of a command on its place, by its fault; out of memory, none
+abbrev pub IsUnpublishedBy : (List ℕ → Type 0) → Type 0 → Option (List ℕ) → PlaceState → PlaceState → CliFault → Type 0
+IsUnpublishedBy Are Large read old new (cli.Refused r) = ⊥
+IsUnpublishedBy Are Large read old new (cli.File k f) = ⊥
+IsUnpublishedBy Are Large read old new (cli.Out f) = IsOutFaultBy Are Large read old new f
+IsUnpublishedBy Are Large read old new cli.Memory = new ≡ old
+IsUnpublishedBy Are Large read old new (cli.Shelf p) = ⊥
 
--- the same, where just these bytes are the file
-abbrev pub IsUnpublishedOf : List ℕ → PlaceState → PlaceState → CliFault → Type 0
-IsUnpublishedOf bytes old new (cli.Refused r) = ⊥
-IsUnpublishedOf bytes old new (cli.File k f) = ⊥
-IsUnpublishedOf bytes old new (cli.Out out.TooLarge) = ⊥
-IsUnpublishedOf bytes old new (cli.Out out.NotOpened) = IsReplaceFault bytes old new replaced.NotOpened
-IsUnpublishedOf bytes old new (cli.Out out.NewExists) = IsReplaceFault bytes old new replaced.NewExists
-IsUnpublishedOf bytes old new (cli.Out (out.WriteFailed n)) = IsReplaceFault bytes old new (replaced.WriteFailed n)
-IsUnpublishedOf bytes old new cli.Memory = ⊥
-IsUnpublishedOf bytes old new (cli.Shelf p) = ⊥
+-- the same for a file with exactly these bytes
+abbrev pub IsUnpublishedOf : Option (List ℕ) → List ℕ → PlaceState → PlaceState → CliFault → Type 0
+IsUnpublishedOf read bytes old new (cli.Refused r) = ⊥
+IsUnpublishedOf read bytes old new (cli.File k f) = ⊥
+IsUnpublishedOf read bytes old new (cli.Out out.TooLarge) = ⊥
+IsUnpublishedOf read bytes old new (cli.Out out.NotOpened) = IsReplaceFault read bytes old new replaced.NotOpened
+IsUnpublishedOf read bytes old new (cli.Out out.NewExists) = IsReplaceFault read bytes old new replaced.NewExists
+IsUnpublishedOf read bytes old new (cli.Out (out.WriteFailed n)) = IsReplaceFault read bytes old new (replaced.WriteFailed n)
+IsUnpublishedOf read bytes old new (cli.Out out.Changed) = IsReplaceFault read bytes old new replaced.Changed
+IsUnpublishedOf read bytes old new (cli.Out out.NotSynced) = IsReplaceFault read bytes old new replaced.NotSynced
+IsUnpublishedOf read bytes old new cli.Memory = new ≡ old
+IsUnpublishedOf read bytes old new (cli.Shelf p) = ⊥
 
--- the same of the file of a content
-abbrev pub PublishesFile : Content → PlaceState → PlaceState → Type 0
-PublishesFile x old new = PublishesBy (λ bytes. Holds bytes x) old new
+-- the same for the file of a content
+abbrev pub PublishesFile : Content → Option (List ℕ) → PlaceState → PlaceState → Type 0
+PublishesFile x read old new = PublishesBy (λ bytes. Holds bytes x) read old new
 
-abbrev pub IsUnpublished : Content → PlaceState → PlaceState → CliFault → Type 0
-IsUnpublished x old new f = IsUnpublishedBy (λ bytes. Holds bytes x) (IsTooLarge x) old new f
+abbrev pub IsUnpublished : Content → Option (List ℕ) → PlaceState → PlaceState → CliFault → Type 0
+IsUnpublished x read old new f = IsUnpublishedBy (λ bytes. Holds bytes x) (IsTooLarge x) read old new f
 
-abbrev pub IsOutFault : Content → PlaceState → PlaceState → OutFault → Type 0
-IsOutFault x old new f = IsOutFaultBy (λ bytes. Holds bytes x) (IsTooLarge x) old new f
+abbrev pub IsOutFault : Content → Option (List ℕ) → PlaceState → PlaceState → OutFault → Type 0
+IsOutFault x read old new f = IsOutFaultBy (λ bytes. Holds bytes x) (IsTooLarge x) read old new f
 
 -- ---- and ids
 

@@ -1,22 +1,18 @@
--- What becomes of the disk of a shelf, and commands that make a shelf, or write out what one has.
+-- The effects of commands on the disk of a shelf, and the commands that make a shelf or write its register to a file.
 use Rattle.std.specs.Prelude.{◌≡◌, ◌⊎◌, ◌+◌, Bool, IsTrue, List, ℕ}
 use Rattle.byte_disk.specs.Disk.{Only, SameImages, LeavesOnly}
 use Rattle.byte_shelf.specs.Shelf.{IsSize}
 use Rattle.byte_shelf.specs.Keep.{AddsNothing}
-use Rattle.reg_op.specs.Ids.{Id}
 use Rattle.reg_op.specs.Contents.{Content, nothing}
 use Rattle.reg_shelf.specs.Shelf.{IsShelf, IsShelfOf, IsNoShelf, HasFile}
 use Rattle.reg_shelf.specs.Keep.{IsTooLarge}
-use Rattle.reg_engine.specs.declared.fault.Refusal.{Refusal}
 use Rattle.reg_engine.specs.declared.fault.Refusal.TheVariants as refusal
-use Rattle.reg_engine.specs.declared.fault.OutFault.{OutFault}
-use Rattle.reg_engine.specs.declared.fault.OutFault.TheVariants as out
 use Rattle.reg_engine.specs.declared.fault.ShelfProblem.{ShelfProblem}
 use Rattle.reg_engine.specs.declared.fault.ShelfProblem.TheVariants as problem
 use Rattle.reg_engine.specs.declared.fault.CliFault.{CliFault}
 use Rattle.reg_engine.specs.declared.fault.CliFault.TheVariants as cli
 
--- what a contract sees of the disks of a type
+-- the members of a disk of a type
 pub record Disks (D : Type 0) : Type 1 where
   pub tells : D → Bool
   pub seen : D → List ℕ
@@ -28,7 +24,7 @@ pub record Disks (D : Type 0) : Type 1 where
 abbrev pub disks : {D : Type 0} → (D → Bool) → (D → List ℕ) → (D → List ℕ → Type 0) → (D → ℕ) → (D → ℕ → List ℕ → Type 0) → (D → ℕ) → Disks D
 disks tells seen images moment since failures = record { tells = tells; seen = seen; images = images; moment = moment; since = since; failures = failures }
 
--- ---- what a disk has
+-- ---- the content of a disk
 
 -- if it tells, it reads as a shelf of the content; as a shelf of none
 abbrev pub Has : {D : Type 0} → Disks D → D → Content → Type 0
@@ -41,7 +37,7 @@ HasNoContent d old = IsTrue (d.tells old) → IsNoShelf (d.seen old)
 abbrev pub IsSure : {D : Type 0} → Disks D → D → Type 0
 IsSure d now = IsTrue (d.tells now) → Only (d.seen now) (d.images now)
 
--- ---- what a command did to it
+-- ---- the effect of a command on the disk
 
 -- it reads as before, and a stop leaves nothing that it might not have left before
 abbrev pub AddsNothingTo : {D : Type 0} → Disks D → D → D → Type 0
@@ -81,6 +77,7 @@ IsUnrestored d old new (cli.File k f) = ⊥
 IsUnrestored d old new (cli.Out f) = ⊥
 IsUnrestored d old new cli.Memory = StaysOn d old new
 IsUnrestored d old new (cli.Shelf problem.NotOpened) = ⊥
+IsUnrestored d old new (cli.Shelf problem.Busy) = ⊥
 IsUnrestored d old new (cli.Shelf problem.NotShelf) = HasNoContent d old × StaysOn d old new
 IsUnrestored d old new (cli.Shelf problem.TooLarge) = ⊥
 IsUnrestored d old new (cli.Shelf problem.DiskFailed) = Fails d old new × AddsNothingTo d old new
@@ -92,13 +89,14 @@ IsUnkept d x y old new (cli.File k f) = ⊥
 IsUnkept d x y old new (cli.Out f) = ⊥
 IsUnkept d x y old new cli.Memory = StaysOn d old new
 IsUnkept d x y old new (cli.Shelf problem.NotOpened) = ⊥
+IsUnkept d x y old new (cli.Shelf problem.Busy) = ⊥
 IsUnkept d x y old new (cli.Shelf problem.NotShelf) = (IsTrue (d.tells old) → ⊥) × StaysOn d old new
 IsUnkept d x y old new (cli.Shelf problem.TooLarge) = HasNoRoom d old y × StaysOn d old new
 IsUnkept d x y old new (cli.Shelf problem.DiskFailed) = Fails d old new × PassesOn d x y old new
 
 -- ---- a command that makes one content of another
 
--- what is wrong with the shelf: it was not read, and nor was anything else; or it was, and what was made is not kept
+-- the problem of the shelf: it was not read, and neither was anything else; or it was, and the new content is not kept
 abbrev pub IsShelfFault : {D : Type 0} → Disks D → Type 0 → (Content → Content → Type 0) → D → D → ShelfProblem → Type 0
 IsShelfFault d Unread Makes old new p = (IsUnrestored d old new (cli.Shelf p) × Unread)
     ⊎ ((x : Content) × (y : Content) × Has d old x × Makes x y × IsUnkept d x y old new (cli.Shelf p))
@@ -121,6 +119,7 @@ IsUnformatted d openings size old new (cli.Out f) = ⊥
 IsUnformatted d openings size old new cli.Memory = IsSize size × (d.failures new ≡ d.failures old) × (openings new ≡ openings old + 1)
 IsUnformatted d openings size old new (cli.Shelf problem.NotOpened) = IsSize size × Fails d old new × (openings new ≡ openings old)
     × (IsTrue (d.tells old) → (d.seen new ≡ d.seen old) × SameImages (d.images old) (d.images new))
+IsUnformatted d openings size old new (cli.Shelf problem.Busy) = ⊥
 IsUnformatted d openings size old new (cli.Shelf problem.NotShelf) = ⊥
 IsUnformatted d openings size old new (cli.Shelf problem.TooLarge) = ⊥
 IsUnformatted d openings size old new (cli.Shelf problem.DiskFailed) = IsSize size × Fails d old new

@@ -1,5 +1,5 @@
--- Where a command reads its register, and where it keeps the one that it makes.
-use Rattle.std.specs.Prelude.{◌≡◌, ◌⊎◌, ℕ, List}
+-- Stores: where a command reads its register, and where it keeps the new one.
+use Rattle.std.specs.Prelude.{◌≡◌, ◌⊎◌, ℕ, Bool, true, false, List, Option, IsTrue}
 use Rattle.byte_io.specs.Device.{SourceState, SinkState}
 use Rattle.byte_io.specs.Whole.{WritesAll, IsCutAt}
 use Rattle.byte_out.specs.Place.{PlaceState}
@@ -9,28 +9,29 @@ use Rattle.reg_file.specs.Files.{Finds}
 use Rattle.reg_engine.specs.declared.fault.OutFault.TheVariants as out
 use Rattle.reg_engine.specs.declared.fault.CliFault.{CliFault}
 use Rattle.reg_engine.specs.declared.fault.CliFault.TheVariants as cli
+use Rattle.reg_engine.specs.Fault.{is_after}
 use Rattle.reg_engine.specs.Inputs.{IsUnread}
 use Rattle.reg_engine.specs.Outputs.{PublishesFile, IsUnpublished, IsUnpublishedOf}
 use Rattle.reg_engine.specs.Shelf.{Disks, Has, IsSure, StaysOn, KeepsOn, IsUnrestored, IsUnkept}
 
--- what happened to a store between two moments
+-- the events at a store between two moments
 pub record Around : Type 1 where
-  -- it gave this register, and nothing else was done to it
+  -- it gave this register, and nothing else happened to it
   pub came : Content → Type 0
-  -- it gave none, for this reason, and nothing else was done to it
+  -- it gave none, for this reason, and nothing else happened to it
   pub none : CliFault → Type 0
   -- it gave the first register, and has the second one now
   pub left : Content → Content → Type 0
-  -- it gave the first register, and does not have the second one, for this reason
+  -- it gave the first register, and does not have the second one, or possibly does not, for this reason
   pub unleft : Content → Content → CliFault → Type 0
 
--- a register's file, which is file 1, and the place of the next one
-abbrev pub in_file : SourceState → PlaceState → SourceState → PlaceState → Around
-in_file source place next after = record {
+-- a register's file, which is file 1, and the place of the next one; and what the file gave, if it is that of the place
+abbrev pub in_file : SourceState → PlaceState → SourceState → Option (List ℕ) → PlaceState → Around
+in_file source place next read after = record {
   came = λ x. Finds source next x × (after ≡ place);
   none = λ f. IsUnread 1 source next f × (after ≡ place);
-  left = λ x y. Finds source next x × PublishesFile y place after;
-  unleft = λ x y f. Finds source next x × IsUnpublished y place after f;
+  left = λ x y. Finds source next x × PublishesFile y read place after;
+  unleft = λ x y f. Finds source next x × IsUnpublished y read place after f;
 }
 
 -- a register's file that is only read, so it never has another register
@@ -69,14 +70,14 @@ IsUnprinted a Prints Refuses before after f = (a.none f × (after ≡ before))
 
 -- ---- a command that writes a file of a register
 
--- a register was read, and a file of it is in the place
-abbrev pub IsGiven : Around → (Content → List ℕ → Type 0) → PlaceState → PlaceState → Type 0
-IsGiven a Gives before after = (x : Content) × a.came x × ((bytes : List ℕ) × Gives x bytes × Replaces bytes before after)
+-- a register was read, and a file of it is in the place; this was read from the file of the place, if it is the register's
+abbrev pub IsGiven : Around → (Content → List ℕ → Type 0) → Option (List ℕ) → PlaceState → PlaceState → Type 0
+IsGiven a Gives read before after = (x : Content) × a.came x × ((bytes : List ℕ) × Gives x bytes × Replaces read bytes before after)
 
 -- none was read, and nothing else was; or there is no file of it; or the file is not in the place
-abbrev pub IsUngiven : Around → (Content → List ℕ → Type 0) → (Content → CliFault → Type 0) → Type 0 → PlaceState → PlaceState → CliFault → Type 0
-IsUngiven a Gives Refuses Unread before after f = (a.none f × Unread × (after ≡ before))
-    ⊎ ((x : Content) × a.came x × ((Refuses x f × (after ≡ before)) ⊎ ((bytes : List ℕ) × Gives x bytes × IsUnpublishedOf bytes before after f)))
+abbrev pub IsUngiven : Around → (Content → List ℕ → Type 0) → (Content → CliFault → Type 0) → Type 0 → Option (List ℕ) → PlaceState → PlaceState → CliFault → Type 0
+IsUngiven a Gives Refuses Unread read before after f = (a.none f × Unread × (after ≡ before))
+    ⊎ ((x : Content) × a.came x × ((Refuses x f × (after ≡ before)) ⊎ ((bytes : List ℕ) × Gives x bytes × IsUnpublishedOf read bytes before after f)))
 
 -- ---- a command that changes a register
 
@@ -84,10 +85,19 @@ IsUngiven a Gives Refuses Unread before after f = (a.none f × Unread × (after 
 abbrev pub IsChanged : Around → (Content → Content → List ℕ → Type 0) → SinkState → SinkState → Type 0
 IsChanged a Makes before after = (x : Content) × (y : Content) × (lines : List ℕ) × Makes x y lines × a.left x y × WritesAll lines before after
 
--- none was read, and nothing else was; or none is made of it; or the one that is made is not kept; or it is, and not all
--- of the lines were written
+-- the lines were written, as what was made is kept; or nothing was
+abbrev pub WritesIf : Bool → List ℕ → SinkState → SinkState → Type 0
+WritesIf true lines before after = WritesAll lines before after
+WritesIf false lines before after = after ≡ before
+
+-- the store has the second register, certainly or not
+abbrev pub IsKeptIn : Around → Content → Content → Type 0
+IsKeptIn a x y = a.left x y ⊎ ((f : CliFault) × IsTrue (is_after f) × a.unleft x y f)
+
+-- none was read, and nothing else was; or none is made of it; or the one that is made is not kept, and nothing was written,
+-- or not for sure, and all lines were; or it is, and not all of the lines were written
 abbrev pub IsUnchanged : Around → (Content → Content → List ℕ → Type 0) → (Content → CliFault → Type 0) → Type 0 → SinkState → SinkState → CliFault → Type 0
 IsUnchanged a Makes Refuses Unread before after f = (a.none f × Unread × (after ≡ before))
     ⊎ (((x : Content) × a.came x × Refuses x f × (after ≡ before))
-    ⊎ (((x : Content) × (y : Content) × (lines : List ℕ) × Makes x y lines × a.unleft x y f × (after ≡ before))
-    ⊎ ((x : Content) × (y : Content) × (lines : List ℕ) × Makes x y lines × a.left x y × AreCut lines before after f)))
+    ⊎ (((x : Content) × (y : Content) × (lines : List ℕ) × Makes x y lines × a.unleft x y f × WritesIf (is_after f) lines before after)
+    ⊎ ((x : Content) × (y : Content) × (lines : List ℕ) × Makes x y lines × IsKeptIn a x y × AreCut lines before after f)))

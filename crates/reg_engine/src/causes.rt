@@ -12,7 +12,7 @@ use reg_state::PieceFault;
 use wkt_crs::{DefineFromFault, DefinitionFault, ReadFault, ReadFromFault, Unspelled};
 
 impl CliFault {
-    /// The fault of reading the text in the file of this number.
+    /// The fault of reading the text in the file with this number.
     pub fn of_text(number: usize, fault: ReadFromFault) -> CliFault
         ensures { result ≡ text_fault number fault }
     {
@@ -34,7 +34,7 @@ impl CliFault {
         }
     }
 
-    /// The fault of making a definition of the text in the file of this number.
+    /// The fault of making a definition from the text in the file with this number.
     pub fn of_definition(number: usize, fault: DefineFromFault) -> CliFault
         ensures { result ≡ definition_fault number fault }
     {
@@ -64,7 +64,7 @@ impl CliFault {
         }
     }
 
-    /// The fault of reading the file of this number.
+    /// The fault of reading the file with this number.
     pub fn of_file(number: usize, fault: ReadFileFault) -> CliFault
         ensures { result ≡ file_fault number fault }
     {
@@ -116,6 +116,8 @@ impl CliFault {
             ReplaceFault::NotOpened => CliFault::Out(OutFault::NotOpened),
             ReplaceFault::NewExists => CliFault::Out(OutFault::NewExists),
             ReplaceFault::WriteFailed(n) => CliFault::Out(OutFault::WriteFailed(n)),
+            ReplaceFault::Changed => CliFault::Out(OutFault::Changed),
+            ReplaceFault::NotSynced => CliFault::Out(OutFault::NotSynced),
         }
     }
 

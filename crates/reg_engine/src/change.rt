@@ -1,6 +1,7 @@
 //! Commands of an office: entries are entered, superseded and retired, in a register's file or on a shelf.
 
 ghost use Rattle.std.specs.Prelude.{◌≡◌, IfOk, OnOk, IfErr};
+ghost use Rattle.byte_out.specs.Input.{kept_of};
 ghost use Rattle.reg_office.specs.Commands.{retirements, supersessions};
 ghost use Rattle.reg_engine.specs.Outputs.{id_lines};
 ghost use Rattle.reg_engine.specs.Shelf.{disks};
@@ -13,7 +14,7 @@ use crate::outputs::id_lines;
 use crate::store::{InFile, OnShelf};
 use byte_disk::Disk;
 use byte_io::{Sink, Source};
-use byte_out::Place;
+use byte_out::{Input, Place};
 use reg_office::Office;
 use reg_op::OpId;
 use reg_state::Register;
@@ -152,9 +153,9 @@ fn made_by(alloc: Global, office: Office, ids: &[OpId]) -> Result<Made, CliFault
     }
 }
 
-/// Reads the register of the source, which is file 1, retires entries of it as the replica, with the note, puts the
-/// register's file in the place, and writes the new ids to the sink, each with a newline.
-pub fn run_retire<S: Source, P: Place, K: Sink>(
+/// Reads the register of the source (file 1), retires entries as the replica, with the note, puts the register's file in
+/// the place, and writes the new ids to the sink, each with a newline.
+pub fn run_retire<S: Input, P: Place, K: Sink>(
     alloc: Global,
     source: &mut S,
     replica: Uuid,
@@ -163,9 +164,11 @@ pub fn run_retire<S: Source, P: Place, K: Sink>(
     place: &mut P,
     sink: &mut K,
 ) -> Result<(), CliFault>
-    ensures changed { OnOk result (IsChanged (in_file (S.state source.old) (P.state place.old) (S.state source.new) (P.state place.new))
+    ensures changed { OnOk result (IsChanged (in_file (S.state source.old) (P.state place.old)
+        (S.state source.new) (kept_of (S.keeps source.new) (S.state source.new)) (P.state place.new))
         (Makes replica note.now (retirements entries.now)) (K.state sink.old) (K.state sink.new)) }
-    ensures fault { IfErr result (IsUnchanged (in_file (S.state source.old) (P.state place.old) (S.state source.new) (P.state place.new))
+    ensures fault { IfErr result (IsUnchanged (in_file (S.state source.old) (P.state place.old)
+        (S.state source.new) (kept_of (S.keeps source.new) (S.state source.new)) (P.state place.new))
         (Makes replica note.now (retirements entries.now)) (CannotMake replica note.now (retirements entries.now)) (Unit {0}) (K.state sink.old) (K.state sink.new)) }
 {
     let mut command = Retire {
@@ -179,9 +182,9 @@ pub fn run_retire<S: Source, P: Place, K: Sink>(
     }
 }
 
-/// Reads the register of the source, which is file 1, supersedes an old entry of it by newer ones as the replica, with the
-/// note, puts the register's file in the place, and writes the new ids to the sink, each with a newline.
-pub fn run_supersede<S: Source, P: Place, K: Sink>(
+/// Reads the register of the source (file 1), supersedes an old entry by newer ones as the replica, with the note, puts
+/// the register's file in the place, and writes the new ids to the sink, each with a newline.
+pub fn run_supersede<S: Input, P: Place, K: Sink>(
     alloc: Global,
     source: &mut S,
     replica: Uuid,
@@ -191,9 +194,11 @@ pub fn run_supersede<S: Source, P: Place, K: Sink>(
     place: &mut P,
     sink: &mut K,
 ) -> Result<(), CliFault>
-    ensures changed { OnOk result (IsChanged (in_file (S.state source.old) (P.state place.old) (S.state source.new) (P.state place.new))
+    ensures changed { OnOk result (IsChanged (in_file (S.state source.old) (P.state place.old)
+        (S.state source.new) (kept_of (S.keeps source.new) (S.state source.new)) (P.state place.new))
         (Makes replica note.now (supersessions old newer.now)) (K.state sink.old) (K.state sink.new)) }
-    ensures fault { IfErr result (IsUnchanged (in_file (S.state source.old) (P.state place.old) (S.state source.new) (P.state place.new))
+    ensures fault { IfErr result (IsUnchanged (in_file (S.state source.old) (P.state place.old)
+        (S.state source.new) (kept_of (S.keeps source.new) (S.state source.new)) (P.state place.new))
         (Makes replica note.now (supersessions old newer.now)) (CannotMake replica note.now (supersessions old newer.now)) (Unit {0}) (K.state sink.old) (K.state sink.new)) }
 {
     let mut command = Supersede {
@@ -208,10 +213,9 @@ pub fn run_supersede<S: Source, P: Place, K: Sink>(
     }
 }
 
-/// Reads the register of the source, which is file 1, and then the text of another, which is file 2; enters the text's
-/// value as the replica, with the note; puts the register's file in the place; and writes the new id to the sink, with a
-/// newline.
-pub fn run_enter<S: Source, X: Source, P: Place, K: Sink>(
+/// Reads the register of the source (file 1), and then the text of another (file 2); enters the text's value as the
+/// replica, with the note; puts the register's file in the place; and writes the new id to the sink, with a newline.
+pub fn run_enter<S: Input, X: Source, P: Place, K: Sink>(
     alloc: Global,
     source: &mut S,
     replica: Uuid,
@@ -220,9 +224,11 @@ pub fn run_enter<S: Source, X: Source, P: Place, K: Sink>(
     place: &mut P,
     sink: &mut K,
 ) -> Result<(), CliFault>
-    ensures entered { OnOk result (IsChanged (in_file (S.state source.old) (P.state place.old) (S.state source.new) (P.state place.new))
+    ensures entered { OnOk result (IsChanged (in_file (S.state source.old) (P.state place.old)
+        (S.state source.new) (kept_of (S.keeps source.new) (S.state source.new)) (P.state place.new))
         (Enters replica note.now (X.state text.old) (X.state text.new)) (K.state sink.old) (K.state sink.new)) }
-    ensures fault { IfErr result (IsUnchanged (in_file (S.state source.old) (P.state place.old) (S.state source.new) (P.state place.new))
+    ensures fault { IfErr result (IsUnchanged (in_file (S.state source.old) (P.state place.old)
+        (S.state source.new) (kept_of (S.keeps source.new) (S.state source.new)) (P.state place.new))
         (Enters replica note.now (X.state text.old) (X.state text.new)) (CannotEnter replica note.now 2 (X.state text.old) (X.state text.new))
         (X.state text.new ≡ X.state text.old) (K.state sink.old) (K.state sink.new)) }
 {
@@ -237,8 +243,8 @@ pub fn run_enter<S: Source, X: Source, P: Place, K: Sink>(
     }
 }
 
-/// Restores the register of the shelf, retires entries of it as the replica, with the note, keeps the register, and then
-/// writes the new ids to the sink, each with a newline.
+/// Restores the register of the shelf, retires entries as the replica, with the note, keeps the register, and then writes
+/// the new ids to the sink, each with a newline.
 pub fn run_retire_on<D: Disk, K: Sink>(
     alloc: Global,
     disk: &mut D,
@@ -264,7 +270,7 @@ pub fn run_retire_on<D: Disk, K: Sink>(
     }
 }
 
-/// Restores the register of the shelf, supersedes an old entry of it by newer ones as the replica, with the note, keeps the
+/// Restores the register of the shelf, supersedes an old entry by newer ones as the replica, with the note, keeps the
 /// register, and then writes the new ids to the sink, each with a newline.
 pub fn run_supersede_on<D: Disk, K: Sink>(
     alloc: Global,
@@ -293,8 +299,8 @@ pub fn run_supersede_on<D: Disk, K: Sink>(
     }
 }
 
-/// Restores the register of the shelf, and then reads a text, which is file 1; enters the text's value as the replica, with
-/// the note; keeps the register, and then writes the new id to the sink, with a newline.
+/// Restores the register of the shelf, and then reads a text (file 1); enters the text's value as the replica, with the
+/// note; keeps the register, and then writes the new id to the sink, with a newline.
 pub fn run_enter_on<D: Disk, X: Source, K: Sink>(
     alloc: Global,
     disk: &mut D,

@@ -9,8 +9,8 @@ use byte_io::{Sink, Source, write_all};
 use std::alloc::Global;
 use wkt_crs::canonical_text_from;
 
-/// Reads the text of the source, which is file 1, and writes its canonical text and a newline. A text that is recognized
-/// as canonical is written unchanged.
+/// Reads the text of the source (file 1), and writes its canonical text and a newline. A text that is recognized as
+/// canonical is written unchanged.
 pub fn run_check<S: Source, K: Sink>(
     alloc: Global,
     source: &mut S,

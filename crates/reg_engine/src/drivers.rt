@@ -1,26 +1,26 @@
-//! The steps of a command, wherever its register is: it prints something of the register, writes a file of it, or changes it.
+//! The steps of a command that prints something of a register, writes a file of it, or changes it, in a file or on a shelf.
 
 ghost use Rattle.std.specs.Prelude.{◌≡◌, OnOk, IfErr};
 ghost use Rattle.reg_engine.specs.Store.{IsPrinted, IsUnprinted, IsGiven, IsUngiven, IsChanged, IsUnchanged};
 
 use crate::fault::{CliFault, OutFault};
 use crate::outputs::publish_bytes;
-use crate::store::{Keep, Store};
+use crate::store::{Base, Keep, Store};
 use byte_io::{Sink, write_all};
 use byte_out::Place;
 use reg_state::Register;
 use std::alloc::Global;
 
-/// What a command prints of a register.
+/// A command that prints a text of a register.
 pub trait Print {
     ghost use Rattle.std.specs.Prelude.{ℕ, List, IfOk, IfErr};
     ghost use Rattle.reg_op.specs.Contents.{Content};
     ghost use Rattle.reg_engine.specs.declared.fault.CliFault.{CliFault};
 
-    /// This is the text for the register.
+    /// The text for the register.
     ghost prints: { Self → Content → List ℕ → Type 0 };
 
-    /// There is none, for this reason.
+    /// The reason why there is none.
     ghost refuses: { Self → Content → CliFault → Type 0 };
 
     fn text(&self, alloc: Global, register: &Register) -> Result<Vec<u8>, CliFault>
@@ -53,22 +53,22 @@ pub fn run_print<T: Store, C: Print, K: Sink>(
     }
 }
 
-/// What file a command writes of a register, and of what else it reads.
+/// A command that writes a file, made of a register and of other files that it reads.
 pub trait Give {
     ghost use Rattle.std.specs.Prelude.{ℕ, List, IfOk, IfErr};
     ghost use Rattle.reg_op.specs.Contents.{Content};
     ghost use Rattle.reg_engine.specs.declared.fault.CliFault.{CliFault};
 
-    /// These are the bytes of the file, where the command's own files have the numbers from this one on.
+    /// The bytes of the file. The other files are numbered from this number on.
     ghost gives: { Self → Self → ℕ → Content → List ℕ → Type 0 };
 
-    /// There is no file, for this reason.
+    /// The reason why there is no file.
     ghost refuses: { Self → Self → ℕ → Content → CliFault → Type 0 };
 
-    /// Its own files were not read.
+    /// The other files were not read.
     ghost unread: { Self → Self → Type 0 };
 
-    /// It stands for the same devices.
+    /// The command has the same devices.
     ghost same: { Self → Self → Type 0 };
 
     fn file(&mut self, alloc: Global, next: usize, register: &Register) -> Result<Vec<u8>, CliFault>
@@ -76,23 +76,24 @@ pub trait Give {
         ensures gives { IfOk result (λ bytes. gives self.old self.new next register.now bytes.items) }
         ensures refuses { IfErr result (refuses self.old self.new next register.now) };
 
-    /// Both hold where nothing was done.
+    /// Both are so if nothing was done.
     ghost itself: { (a : Self) → same a a };
 
     ghost rests: { (a : Self) → unread a a };
 }
 
-/// Loads the register, and puts the command's file of it in the place.
-pub fn run_give<T: Store, C: Give, P: Place>(
+/// Loads the register, and puts the command's file in the place.
+pub fn run_give<T: Base, C: Give, P: Place>(
     alloc: Global,
     store: &mut T,
     command: &mut C,
     place: &mut P,
 ) -> Result<(), CliFault>
     ensures same { T.same store.old store.new × C.same command.old command.new }
-    ensures given { OnOk result (IsGiven (T.around store.old store.new) (C.gives command.old command.new (T.next store.old)) (P.state place.old) (P.state place.new)) }
+    ensures given { OnOk result (IsGiven (T.around store.old store.new) (C.gives command.old command.new (T.next store.old)) (T.kept store.new)
+        (P.state place.old) (P.state place.new)) }
     ensures fault { IfErr result (IsUngiven (T.around store.old store.new) (C.gives command.old command.new (T.next store.old))
-        (C.refuses command.old command.new (T.next store.old)) (C.unread command.old command.new) (P.state place.old) (P.state place.new)) }
+        (C.refuses command.old command.new (T.next store.old)) (C.unread command.old command.new) (T.kept store.new) (P.state place.old) (P.state place.new)) }
 {
     let next = store.next();
     let register = match store.load(alloc) {
@@ -103,35 +104,39 @@ pub fn run_give<T: Store, C: Give, P: Place>(
         Ok(bytes) => bytes,
         Err(fault) => return Err(fault),
     };
-    match publish_bytes(&bytes, place) {
+    let read = match store.kept() {
+        Ok(read) => read,
+        Err(fault) => return Err(fault),
+    };
+    match publish_bytes(&bytes, read, place) {
         Ok(()) => Ok(()),
         Err(fault) => Err(fault),
     }
 }
 
-/// The register that a command makes, and the lines that it prints once that is kept.
+/// The register that a command makes, and the lines that it prints after that register is kept.
 #[derive(Drop)]
 pub struct Made {
     pub register: Register,
     pub lines: Vec<u8>,
 }
 
-/// What a command makes of a register, and of what else it reads.
+/// A command that makes a new register, from a register and from other files that it reads.
 pub trait Change {
     ghost use Rattle.std.specs.Prelude.{ℕ, List, IfOk, IfErr};
     ghost use Rattle.reg_op.specs.Contents.{Content};
     ghost use Rattle.reg_engine.specs.declared.fault.CliFault.{CliFault};
 
-    /// Of the first register it makes the second one and these lines, where its own files have the numbers from this one on.
+    /// From the first register it makes the second one and these lines. The other files are numbered from this number on.
     ghost makes: { Self → Self → ℕ → Content → Content → List ℕ → Type 0 };
 
-    /// It makes nothing, for this reason.
+    /// The reason why it makes nothing.
     ghost refuses: { Self → Self → ℕ → Content → CliFault → Type 0 };
 
-    /// Its own files were not read.
+    /// The other files were not read.
     ghost unread: { Self → Self → Type 0 };
 
-    /// It stands for the same devices.
+    /// The command has the same devices.
     ghost same: { Self → Self → Type 0 };
 
     fn make(&mut self, alloc: Global, next: usize, register: Register) -> Result<Made, CliFault>
@@ -139,13 +144,14 @@ pub trait Change {
         ensures makes { IfOk result (λ made. makes self.old self.new next register made.register made.lines.items) }
         ensures refuses { IfErr result (refuses self.old self.new next register) };
 
-    /// Both hold where nothing was done.
+    /// Both are so if nothing was done.
     ghost itself: { (a : Self) → same a a };
 
     ghost rests: { (a : Self) → unread a a };
 }
 
-/// Loads the register, keeps the one that the command makes of it, and then writes the command's lines to the sink.
+/// Loads the register, keeps the one that the command makes, and then writes the command's lines to the sink. It also writes
+/// them if the register is kept, but a power cut may undo that.
 pub fn run_change<T: Keep, C: Change, K: Sink>(
     alloc: Global,
     store: &mut T,
@@ -167,6 +173,12 @@ pub fn run_change<T: Keep, C: Change, K: Sink>(
         Err(fault) => return Err(fault),
     };
     if let Err(fault) = store.keep(alloc, &register) {
+        if !fault.is_after() {
+            return Err(fault);
+        }
+        if let Err(cut) = write_all(sink, &lines) {
+            return Err(CliFault::Out(OutFault::WriteFailed(cut.written)));
+        }
         return Err(fault);
     }
     match write_all(sink, &lines) {

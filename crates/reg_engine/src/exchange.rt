@@ -1,6 +1,7 @@
-//! What offices exchange: registers, summaries of seen ids, pieces, and registers in file version 1.
+//! The files that offices exchange: registers, summaries of seen ids, pieces, and registers in file version 1.
 
-ghost use Rattle.std.specs.Prelude.{◌≡◌, OnOk, IfErr};
+ghost use Rattle.std.specs.Prelude.{◌≡◌, None, OnOk, IfErr};
+ghost use Rattle.byte_out.specs.Input.{kept_of};
 ghost use Rattle.reg_engine.specs.Shelf.{disks};
 ghost use Rattle.reg_engine.specs.Store.{of_file, on_shelf, IsGiven, IsUngiven};
 ghost use Rattle.reg_engine.specs.Exchange.{IsFileOf, HasNoFile, IsSummary, HasNoSummary, IsPieceFile, HasNoPiece};
@@ -11,7 +12,7 @@ use crate::inputs::read_summary;
 use crate::store::{OfFile, OnShelf};
 use byte_disk::Disk;
 use byte_io::Source;
-use byte_out::Place;
+use byte_out::{Input, Place};
 use reg_file::{
     WriteFileFault, write_bytes, write_first_bytes, write_piece_bytes, write_seen_bytes,
 };
@@ -84,7 +85,7 @@ impl Give for Summary {
     }
 }
 
-/// The file of the register's piece for one who has seen the ids of a summary, which is read after the register.
+/// The file of the register's piece for the ids of a summary, which is read after the register.
 #[derive(Drop)]
 pub struct PieceFor<'a, U> {
     pub summary: &'a mut U,
@@ -128,7 +129,7 @@ impl<U: Source> Give for PieceFor<'_, U> {
     }
 }
 
-/// The register's file of version 1, where no operation has a note.
+/// The register's file of version 1, if no operation has a note.
 #[derive(Drop)]
 pub struct FirstVersion;
 
@@ -160,14 +161,16 @@ impl Give for FirstVersion {
     }
 }
 
-/// Reads the register of the source, which is file 1, and writes the file of the ids that it has seen.
-pub fn run_seen<S: Source, P: Place>(
+/// Reads the register of the source (file 1), and writes the file of the ids that it has seen.
+pub fn run_seen<S: Input, P: Place>(
     alloc: Global,
     source: &mut S,
     place: &mut P,
 ) -> Result<(), CliFault>
-    ensures summed { OnOk result (IsGiven (of_file (S.state source.old) (S.state source.new)) IsSummary (P.state place.old) (P.state place.new)) }
-    ensures fault { IfErr result (IsUngiven (of_file (S.state source.old) (S.state source.new)) IsSummary HasNoSummary (Unit {0}) (P.state place.old) (P.state place.new)) }
+    ensures summed { OnOk result (IsGiven (of_file (S.state source.old) (S.state source.new)) IsSummary
+        (kept_of (S.keeps source.new) (S.state source.new)) (P.state place.old) (P.state place.new)) }
+    ensures fault { IfErr result (IsUngiven (of_file (S.state source.old) (S.state source.new)) IsSummary HasNoSummary (Unit {0})
+        (kept_of (S.keeps source.new) (S.state source.new)) (P.state place.old) (P.state place.new)) }
 {
     match run_give(alloc, &mut OfFile { source }, &mut Summary, place) {
         Ok(()) => Ok(()),
@@ -175,19 +178,19 @@ pub fn run_seen<S: Source, P: Place>(
     }
 }
 
-/// Reads the register of the source, which is file 1, and then a summary, which is file 2; and writes the file of the
-/// register's piece for the ids of the summary.
-pub fn run_piece<S: Source, U: Source, P: Place>(
+/// Reads the register of the source (file 1), and then a summary (file 2), and writes the file of the register's piece
+/// for the ids of the summary.
+pub fn run_piece<S: Input, U: Source, P: Place>(
     alloc: Global,
     source: &mut S,
     summary: &mut U,
     place: &mut P,
 ) -> Result<(), CliFault>
     ensures made { OnOk result (IsGiven (of_file (S.state source.old) (S.state source.new))
-        (IsPieceFile (U.state summary.old) (U.state summary.new)) (P.state place.old) (P.state place.new)) }
+        (IsPieceFile (U.state summary.old) (U.state summary.new)) (kept_of (S.keeps source.new) (S.state source.new)) (P.state place.old) (P.state place.new)) }
     ensures fault { IfErr result (IsUngiven (of_file (S.state source.old) (S.state source.new))
         (IsPieceFile (U.state summary.old) (U.state summary.new)) (HasNoPiece 2 (U.state summary.old) (U.state summary.new))
-        (U.state summary.new ≡ U.state summary.old) (P.state place.old) (P.state place.new)) }
+        (U.state summary.new ≡ U.state summary.old) (kept_of (S.keeps source.new) (S.state source.new)) (P.state place.old) (P.state place.new)) }
 {
     match run_give(
         alloc,
@@ -200,16 +203,16 @@ pub fn run_piece<S: Source, U: Source, P: Place>(
     }
 }
 
-/// Writes the file of the register that is on the shelf.
+/// Writes the file of the register on the shelf.
 pub fn run_unshelf<D: Disk, P: Place>(
     alloc: Global,
     disk: &mut D,
     place: &mut P,
 ) -> Result<(), CliFault>
     ensures written { OnOk result (IsGiven (on_shelf (disks D.tells D.seen D.images D.moment D.images_since D.failures) disk.old disk.new)
-        IsFileOf (P.state place.old) (P.state place.new)) }
+        IsFileOf None (P.state place.old) (P.state place.new)) }
     ensures fault { IfErr result (IsUngiven (on_shelf (disks D.tells D.seen D.images D.moment D.images_since D.failures) disk.old disk.new)
-        IsFileOf HasNoFile (Unit {0}) (P.state place.old) (P.state place.new)) }
+        IsFileOf HasNoFile (Unit {0}) None (P.state place.old) (P.state place.new)) }
     ensures tells { D.tells disk.new ≡ D.tells disk.old }
 {
     match run_give(alloc, &mut OnShelf { disk }, &mut Whole, place) {

@@ -4,7 +4,7 @@ ghost use Rattle.std.specs.Prelude.{◌≡◌, ◌++◌, IfOk, OnOk, IfErr};
 ghost use Rattle.reg_engine.specs.Store.{of_file, IsPrinted, IsUnprinted};
 ghost use Rattle.reg_engine.specs.Report.{Never};
 ghost use Rattle.reg_engine.specs.Export.{op_line, IsExport};
-ghost use Rattle.reg_office.specs.Exports.{export, is_retired};
+ghost use Rattle.reg_report.specs.Exports.{export, is_retired};
 ghost use Rattle.reg_op.specs.Status.{status};
 
 use crate::drivers::{Print, run_print};
@@ -35,8 +35,8 @@ impl Print for Export {
     }
 }
 
-/// Reads the register of the source, which is file 1, and writes the canonical text of each entry that is not retired,
-/// by id, each with a newline.
+/// Reads the register of the source (file 1), and writes the canonical text of each entry that is not retired, by id,
+/// each with a newline.
 pub fn run_export<S: Source, K: Sink>(
     alloc: Global,
     source: &mut S,
@@ -56,7 +56,7 @@ fn lines_of(alloc: Global, register: &Register) -> Result<Vec<u8>, AllocError>
     ensures { IfOk result (λ lines. lines.items ≡ export register.now.ops) }
 {
     let ops = register.ops().as_slice();
-    // Reserved at once: lines that grow would take up to three times their length.
+    // All reserved at once: a growing vector would take up to three times the length of the lines.
     let mut lines = Vec::with_capacity(alloc, room(ops))?;
     for op in ops {
         push_line(&mut lines, register, op)?;

@@ -1,7 +1,7 @@
-//! What an engine reports: the fault, its name and printed line, and its exit status.
+//! The faults of engines: their names, printed lines and exit statuses.
 
 ghost use Rattle.std.specs.Prelude.{◌≡◌};
-ghost use Rattle.reg_engine.specs.Fault.{status_of};
+ghost use Rattle.reg_engine.specs.Fault.{status_of, is_after};
 
 use reg_file::FileFault;
 use reg_office::OfficeFault;
@@ -17,13 +17,13 @@ pub enum Refusal {
     Slot(SlotFault),
     /// A CRS breaks a condition. The place is that of its keyword.
     Broken { condition: Condition, place: usize },
-    /// The CRS to be entered has no identifier of its own.
+    /// The CRS to enter has no identifier of its own.
     NoIdentifier,
-    /// The canonical text of the CRS to be entered has more than 65,536 bytes.
+    /// The canonical text of the CRS to enter has more than 65,536 bytes.
     CanonicalTooLong,
-    /// The id has two bodies in the registers to be joined.
+    /// The id has two bodies in the registers to join.
     Clash(OpId),
-    /// The basis of a piece to be joined has this id, which was not seen.
+    /// The basis of a piece to join has this id, which was not seen.
     Basis(OpId),
     /// The operation with this id has a note, which a file of version 1 cannot store.
     HasNote(OpId),
@@ -35,8 +35,10 @@ pub enum Refusal {
     BadReplica,
     /// The size of a new shelf is out of range, or not a number.
     BadSize,
-    /// A search for ids found no entry.
+    /// No entry matches a search or a key.
     NoEntry,
+    /// Several entries match a key. This is the second least of them.
+    Several(OpId),
     /// A register has keys in conflict, awaited ids or gaps.
     Unsettled,
     /// This entry has the key, with another text.
@@ -64,6 +66,7 @@ impl Refusal {
             Refusal::BadReplica => "BadReplica",
             Refusal::BadSize => "BadSize",
             Refusal::NoEntry => "NoEntry",
+            Refusal::Several(_) => "Several",
             Refusal::Unsettled => "Unsettled",
             Refusal::KeyTaken(_) => "KeyTaken",
         }
@@ -90,6 +93,7 @@ impl Refusal {
             Refusal::Basis(id) => Some(id),
             Refusal::HasNote(id) => Some(id),
             Refusal::Office(fault) => fault.id(),
+            Refusal::Several(id) => Some(id),
             Refusal::KeyTaken(id) => Some(id),
             _ => None,
         }
@@ -120,7 +124,7 @@ impl fmt::Display for Refusal {
     }
 }
 
-/// What went wrong with an input file. It prints as the fault's name and its place.
+/// A problem of an input file. It prints as the fault's name and its place.
 #[derive(Clone, Copy, Debug, PartialEq, Eq)]
 pub enum InputFault {
     NotOpened,
@@ -174,13 +178,13 @@ impl fmt::Display for InputFault {
     }
 }
 
-/// What went wrong with the output.
+/// A problem of the output.
 #[derive(Clone, Copy, Debug, PartialEq, Eq, Error)]
 pub enum OutFault {
     /// No file was made, or a complete one could not be renamed.
     #[error("NotOpened")]
     NotOpened,
-    /// The new file exists: of another writer, or of one that was killed.
+    /// The new file exists: another writer made it, or one that was killed.
     #[error("NewExists")]
     NewExists,
     /// The file would exceed the limit. The output was not opened.
@@ -189,6 +193,12 @@ pub enum OutFault {
     /// Exactly this many bytes were written.
     #[error("WriteFailed at {0}")]
     WriteFailed(usize),
+    /// Another program replaced the file after it was read.
+    #[error("Changed")]
+    Changed,
+    /// The new file is there, but a power cut may leave the old one: the sync of the folder failed.
+    #[error("NotSynced")]
+    NotSynced,
 }
 
 impl OutFault {
@@ -203,6 +213,8 @@ impl OutFault {
             OutFault::NewExists => "NewExists",
             OutFault::TooLarge => "TooLarge",
             OutFault::WriteFailed(_) => "WriteFailed",
+            OutFault::Changed => "Changed",
+            OutFault::NotSynced => "NotSynced",
         }
     }
 
@@ -217,12 +229,15 @@ impl OutFault {
     }
 }
 
-/// What went wrong with a shelf.
+/// A problem of a shelf.
 #[derive(Clone, Copy, Debug, PartialEq, Eq, Error)]
 pub enum ShelfProblem {
     #[error("NotOpened")]
     NotOpened,
-    /// It does not read as a shelf of a register.
+    /// Another command has locked it.
+    #[error("Busy")]
+    Busy,
+    /// It is not a shelf with a register.
     #[error("NotShelf")]
     NotShelf,
     /// The register's file exceeds the size of the shelf. Nothing was kept.
@@ -242,6 +257,7 @@ impl ShelfProblem {
     {
         match self {
             ShelfProblem::NotOpened => "NotOpened",
+            ShelfProblem::Busy => "Busy",
             ShelfProblem::NotShelf => "NotShelf",
             ShelfProblem::TooLarge => "TooLarge",
             ShelfProblem::DiskFailed => "DiskFailed",
@@ -268,7 +284,7 @@ pub enum CliFault {
 impl CliFault {
     ghost use Rattle.reg_engine.specs.Names.{fault_name, fault_place, fault_id};
 
-    /// The name of what failed, as it is printed.
+    /// The name of the fault, as it is printed.
     pub fn name(self) -> &'static str
         ensures { result.now ≡ fault_name self }
     {
@@ -300,6 +316,16 @@ impl CliFault {
         match self {
             CliFault::Refused(refusal) => refusal.id(),
             _ => None,
+        }
+    }
+
+    /// Whether the fault comes after the new register is kept.
+    pub fn is_after(&self) -> bool
+        ensures { result ≡ is_after self.now }
+    {
+        match self {
+            CliFault::Out(OutFault::NotSynced) => true,
+            _ => false,
         }
     }
 

@@ -11,7 +11,7 @@ use reg_file::{Part, read_part_beside, read_register, read_seen};
 use reg_state::{Piece, Register, Seen};
 use std::alloc::{AllocError, Global};
 
-/// Reads the register in the file of this number.
+/// Reads the register in the file with this number.
 pub fn read_file<S: Source>(
     alloc: Global,
     number: usize,
@@ -26,7 +26,7 @@ pub fn read_file<S: Source>(
     }
 }
 
-/// Reads the summary in the file of this number.
+/// Reads the summary in the file with this number.
 pub(crate) fn read_summary<S: Source>(
     alloc: Global,
     number: usize,
@@ -41,8 +41,7 @@ pub(crate) fn read_summary<S: Source>(
     }
 }
 
-// Reads the register or the piece in the file with this number. Definitions of registers that were read before are not
-// read again.
+// Reads the register or the piece in the file with this number. Definitions that a known register has are not read again.
 fn read_next<S: Source>(
     alloc: Global,
     known: &[Register],
@@ -56,6 +55,15 @@ fn read_next<S: Source>(
         Ok(part) => Ok(part),
         Err(fault) => Err(CliFault::of_file(number, fault)),
     }
+}
+
+/// How many registers a file is compared with, so that definitions in both are read once.
+const MOST_KNOWN: usize = 4;
+
+// The registers that were read last.
+fn read_last(registers: &[Register]) -> &[Register] {
+    let start = registers.len().saturating_sub(MOST_KNOWN);
+    &registers[start..]
 }
 
 /// The registers of some files, and the pieces of others, each in the order of the files.
@@ -91,8 +99,7 @@ pub fn parts_of(alloc: Global, register: Register) -> Result<Parts, AllocError>
     })
 }
 
-/// Reads a register or a piece from each source, in their order, and stops at the first that has none. The first source is
-/// file 1.
+/// Reads a register or a piece from each source, in order, and stops at the first that fails. The first source is file 1.
 pub fn read_parts<S: Source>(alloc: Global, sources: &mut [S]) -> Result<Parts, CliFault>
     ensures found { IfOk result (λ parts. GiveParts (map S.state sources.old) (map S.state sources.new) parts.registers.items parts.pieces.items) }
     ensures fault { IfErr result (AreUnread 1 (map S.state sources.old) (map S.state sources.new)) }
@@ -104,8 +111,8 @@ pub fn read_parts<S: Source>(alloc: Global, sources: &mut [S]) -> Result<Parts, 
     read_parts_after(alloc, none, 1, sources)
 }
 
-/// Reads them likewise, after those that are known: the first source has this number among all files. What a known register
-/// has is not read again.
+/// The same with known registers: definitions that one of the last few has are not read again. The first source has this number
+/// among all files.
 pub fn read_parts_after<S: Source>(
     alloc: Global,
     known: Parts,
@@ -121,7 +128,7 @@ pub fn read_parts_after<S: Source>(
         let Some(number) = next.checked_add(i) else {
             return Err(CliFault::Memory);
         };
-        let part = match read_next(alloc, &parts.registers, number, &mut sources[i]) {
+        let part = match read_next(alloc, read_last(&parts.registers), number, &mut sources[i]) {
             Ok(part) => part,
             Err(fault) => return Err(fault),
         };

@@ -12,17 +12,17 @@ ghost use Rattle.reg_file.specs.declared.parts.Part.{Part};
 ghost use Rattle.reg_file.specs.declared.parts.Part.TheVariants as part;
 ghost use Rattle.reg_engine.specs.Merge.{IsMergeOf, brought};
 
-/// Where registers and pieces together have one body an id, lists that bring the same operations and the same ids merge
-/// to the same bytes, in any order and with any repeats, if each is merged: no basis is missed. Where all are registers of
-/// offices that took sets of operations, it is the file of one that took all.
+/// Two lists of registers and pieces that bring the same operations and the same ids merge to the same bytes if both can be
+/// merged, in any order and with any repeats. If all are registers of offices that took sets of operations with one body for
+/// each id, the result is the file of an office that took all operations.
 pub fn merge_of_many()
-    ensures order { (ps qs : List Part) (bytes others : List ℕ) → OneBody (all_ops (brought ps)) → all_ops (brought ps) ≡ all_ops (brought qs)
+    ensures order { (ps qs : List Part) (bytes others : List ℕ) → all_ops (brought ps) ≡ all_ops (brought qs)
         → all_seen (brought ps) ≡ all_seen (brought qs) → IsMergeOf ps bytes → IsMergeOf qs others → bytes ≡ others }
     ensures states { (ss : List Ops) (bytes : List ℕ) → OneBody (all_of ss) → IsMergeOf (map part.Register (map state ss)) bytes → Holds bytes (state (all_of ss)) }
 {}
 
-/// Each entry of a register that is read from a file has a definition that spells a value, and is its canonical text. So what
-/// an export of the file prints reads back as these values.
+/// Each entry of a register that is read from a file has a definition that is the canonical text of a value. So the texts
+/// that an export of the file prints are read back as these values.
 pub fn exported_is_read()
     ensures { (bytes : List ℕ) (x : Content) → ReadsAs bytes x → (r : Row) → Contains (rows x.ops) r → (v : Crs) × IsCrsOf v r.definition }
 {}

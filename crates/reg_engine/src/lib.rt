@@ -13,6 +13,7 @@ pub mod laws;
 mod merge;
 mod merge_on;
 mod outputs;
+mod register_files;
 mod reports;
 mod shelf_steps;
 mod shelves;
@@ -32,13 +33,14 @@ pub use inputs::{Parts, parts_of, read_file, read_parts, read_parts_after};
 pub use merge::{join_pieces, join_registers, run_merge, run_new};
 pub use merge_on::run_merge_on;
 pub use outputs::{id_lines, publish_register};
+pub use register_files::RegisterFiles;
 pub use reports::{Ops, Report, Show, run_ops, run_report, run_show};
 pub use shelf_steps::{keep_on, restore_from};
 pub use shelves::run_shelf;
-pub use store::{InFile, Keep, OfFile, OnShelf, Store};
+pub use store::{Base, InFile, Keep, OfFile, OnShelf, Store};
 pub use wkt::{Form, Wkt, run_wkt};
 
-// The crates that its contracts cite, so that tests name only this one.
+// The items of other crates that its contracts cite, so that callers need only this crate.
 pub use byte_disk as disks;
 pub use byte_io as streams;
 pub use byte_out as places;

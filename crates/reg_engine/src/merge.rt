@@ -1,28 +1,29 @@
 //! The commands `new` and `merge`.
 
-ghost use Rattle.std.specs.Prelude.{◌≡◌, ◌≢◌, map, Ok, Err, IfOk, OnOk, IfErr};
+ghost use Rattle.std.specs.Prelude.{◌≡◌, ◌≢◌, map, None, Ok, Err, IfOk, OnOk, IfErr};
+ghost use Rattle.byte_out.specs.Input.{kept_of, first_kept};
 ghost use Rattle.reg_join.specs.Joining.{all_joined};
 ghost use Rattle.reg_op.specs.Contents.{nothing, joined};
-ghost use Rattle.reg_op.specs.Pieces.{joined_piece};
+ghost use Rattle.reg_tree.specs.Chain.{with_pieces};
 ghost use Rattle.reg_engine.specs.Outputs.{PublishesFile, IsUnpublished};
-ghost use Rattle.reg_engine.specs.Merge.{ends, begun, with_pieces, IsUnjoined, IsMerged, IsMergeFault};
+ghost use Rattle.reg_engine.specs.Merge.{ends, begun, IsUnjoined, IsMerged, IsMergeFault};
 
 use crate::fault::{CliFault, OutFault, Refusal};
 use crate::inputs::{Parts, read_parts};
 use crate::outputs::publish_register;
-use byte_io::Source;
-use byte_out::Place;
-use reg_state::{JoinFault, Piece, Register, join_all};
+use byte_out::{Input, Place, first_kept};
+use reg_state::{JoinFault, Piece, Register};
+use reg_tree as tree;
 use std::alloc::Global;
 use std::mem::forget;
 
-/// Writes the file of the register that has seen nothing.
+/// Writes the file of the empty register.
 pub fn run_new<P: Place>(alloc: Global, place: &mut P) -> Result<(), CliFault>
-    ensures published { OnOk result (PublishesFile nothing (P.state place.old) (P.state place.new)) }
-    ensures fault { IfErr result (IsUnpublished nothing (P.state place.old) (P.state place.new)) }
+    ensures published { OnOk result (PublishesFile nothing None (P.state place.old) (P.state place.new)) }
+    ensures fault { IfErr result (IsUnpublished nothing None (P.state place.old) (P.state place.new)) }
     ensures small { result ≢ Err (CliFault.Out OutFault.TooLarge) }
 {
-    match publish_register(alloc, &Register::new(alloc), place) {
+    match publish_register(alloc, &Register::new(alloc), None, place) {
         Ok(()) => Ok(()),
         Err(fault) => Err(fault),
     }
@@ -33,21 +34,10 @@ pub fn join_registers(alloc: Global, registers: &[Register]) -> Result<Register,
     ensures ok { IfOk result (λ r. begun (all_joined joined (Ok nothing) registers.now) ≡ Ok r) }
     ensures err { IfErr result (IsUnjoined (begun (all_joined joined (Ok nothing) registers.now))) }
 {
-    match join_all(alloc, registers) {
+    match tree::join_registers(alloc, registers) {
         Ok(joined) => Ok(joined),
         Err(JoinFault::Clash(id)) => Err(CliFault::Refused(Refusal::Clash(id))),
         Err(JoinFault::Memory) => Err(CliFault::Memory),
-    }
-}
-
-// The piece joined to the register.
-fn join_one(alloc: Global, register: &Register, piece: &Piece) -> Result<Register, CliFault>
-    ensures ok { IfOk result (λ r. joined_piece register.now piece.now ≡ Ok r) }
-    ensures err { IfErr result (IsUnjoined (joined_piece register.now piece.now)) }
-{
-    match register.join_piece(alloc, piece) {
-        Ok(joined) => Ok(joined),
-        Err(fault) => Err(CliFault::of_piece(fault)),
     }
 }
 
@@ -60,29 +50,26 @@ pub fn join_pieces(
     ensures ok { IfOk result (λ r. with_pieces (Ok register) pieces.now ≡ Ok r) }
     ensures err { IfErr result (IsUnjoined (with_pieces (Ok register) pieces.now)) }
 {
-    let mut joined = register;
-    for piece in pieces {
-        joined = match join_one(alloc, &joined, piece) {
-            Ok(joined) => joined,
-            Err(fault) => return Err(fault),
-        };
+    match tree::join_pieces(alloc, register, pieces) {
+        Ok(joined) => Ok(joined),
+        Err(fault) => Err(CliFault::of_piece(fault)),
     }
-    Ok(joined)
 }
 
 /// Reads a register or a piece from each source, and writes the file of their join: all registers, and then the pieces in
-/// order. Sources are numbered from 1. After the file is written, the memory of what was read is not freed.
-pub fn run_merge<S: Source, P: Place>(
+/// order. Sources are numbered from 1. If one of them is the file that is replaced, that file must not have changed since it
+/// was read. The memory of the registers is not freed.
+pub fn run_merge<S: Input, P: Place>(
     alloc: Global,
     sources: &mut [S],
     place: &mut P,
 ) -> Result<(), CliFault>
     ensures merged { OnOk result (IsMerged
-        (ends (map S.state sources.old) (P.state place.old))
-        (ends (map S.state sources.new) (P.state place.new))) }
+        (ends (map S.state sources.old) None (P.state place.old))
+        (ends (map S.state sources.new) (first_kept (map (λ s. kept_of (S.keeps s) (S.state s)) sources.new)) (P.state place.new))) }
     ensures fault { IfErr result (IsMergeFault
-        (ends (map S.state sources.old) (P.state place.old))
-        (ends (map S.state sources.new) (P.state place.new))) }
+        (ends (map S.state sources.old) None (P.state place.old))
+        (ends (map S.state sources.new) (first_kept (map (λ s. kept_of (S.keeps s) (S.state s)) sources.new)) (P.state place.new))) }
 {
     let Parts { registers, pieces } = match read_parts(alloc, sources) {
         Ok(parts) => parts,
@@ -96,9 +83,12 @@ pub fn run_merge<S: Source, P: Place>(
         Ok(joined) => joined,
         Err(fault) => return Err(fault),
     };
-    match publish_register(alloc, &joined, place) {
+    let Ok(read) = first_kept(sources) else {
+        return Err(CliFault::Memory);
+    };
+    match publish_register(alloc, &joined, read, place) {
         Ok(()) => {
-            // A program ends with its merge. Freeing each definition would take a twelfth of the time.
+            // The program ends after a merge. Freeing each definition would take a twelfth of the time.
             forget(joined);
             forget(registers);
             forget(pieces);

@@ -14,8 +14,8 @@ use std::alloc::Global;
 use std::mem::forget;
 
 /// Restores the register of the shelf, then reads a register or a piece from each source, and keeps their join: the
-/// shelf's register, all others, and then the pieces in order. Sources are numbered from 1. After the join is kept, the
-/// memory of what was read is not freed.
+/// shelf's register, all others, and then the pieces in order. Sources are numbered from 1. The memory of the registers
+/// is not freed.
 pub fn run_merge_on<D: Disk, S: Source>(
     alloc: Global,
     disk: &mut D,
@@ -48,7 +48,7 @@ pub fn run_merge_on<D: Disk, S: Source>(
     };
     match keep_on(alloc, disk, &joined) {
         Ok(()) => {
-            // A program ends with its merge, as for a file.
+            // The program ends after a merge, as for a file.
             forget(joined);
             forget(registers);
             forget(pieces);

@@ -1,6 +1,6 @@
 //! Output files, and the ids that are printed afterwards.
 
-ghost use Rattle.std.specs.Prelude.{◌≡◌, ◌++◌, ◌∷◌, [], IfOk, OnOk, IfErr};
+ghost use Rattle.std.specs.Prelude.{◌≡◌, ◌++◌, ◌∷◌, [], IfOk, OnOk, IfErr, option_map};
 ghost use Rattle.reg_op.specs.Text.{printed};
 ghost use Rattle.byte_out.specs.Replace.{Replaces};
 ghost use Rattle.reg_engine.specs.Outputs.{IsUnpublishedOf, PublishesFile, IsUnpublished, id_lines};
@@ -12,28 +12,34 @@ use reg_op::OpId;
 use reg_state::Register;
 use std::alloc::{AllocError, Global};
 
-// Replaces the output by this file.
-pub(crate) fn publish_bytes<P: Place>(bytes: &[u8], place: &mut P) -> Result<(), CliFault>
-    ensures published { OnOk result (Replaces bytes.now (P.state place.old) (P.state place.new)) }
-    ensures fault { IfErr result (IsUnpublishedOf bytes.now (P.state place.old) (P.state place.new)) }
+// Replaces the output by this file, unless the output was read and has changed since.
+pub(crate) fn publish_bytes<P: Place>(
+    bytes: &[u8],
+    read: Option<&[u8]>,
+    place: &mut P,
+) -> Result<(), CliFault>
+    ensures published { OnOk result (Replaces (option_map (λ s. s.now) read.entry) bytes.now (P.state place.old) (P.state place.new)) }
+    ensures fault { IfErr result (IsUnpublishedOf (option_map (λ s. s.now) read.entry) bytes.now (P.state place.old) (P.state place.new)) }
 {
-    match replace(place, bytes) {
+    match replace(place, read, bytes) {
         Ok(()) => Ok(()),
         Err(fault) => Err(CliFault::of_replace(fault)),
     }
 }
 
-/// Makes the file in memory, then replaces the output; on any failure the old file is kept.
+/// Makes the file in memory, then replaces the output, unless the output was read and has changed since. On any failure
+/// except that of the last sync the old file is kept.
 pub fn publish_register<P: Place>(
     alloc: Global,
     register: &Register,
+    read: Option<&[u8]>,
     place: &mut P,
 ) -> Result<(), CliFault>
-    ensures published { OnOk result (PublishesFile register.now (P.state place.old) (P.state place.new)) }
-    ensures fault { IfErr result (IsUnpublished register.now (P.state place.old) (P.state place.new)) }
+    ensures published { OnOk result (PublishesFile register.now (option_map (λ s. s.now) read.entry) (P.state place.old) (P.state place.new)) }
+    ensures fault { IfErr result (IsUnpublished register.now (option_map (λ s. s.now) read.entry) (P.state place.old) (P.state place.new)) }
 {
     match write_bytes(alloc, register) {
-        Ok(bytes) => publish_bytes(&bytes, place),
+        Ok(bytes) => publish_bytes(&bytes, read, place),
         Err(WriteFileFault::TooLarge) => Err(CliFault::Out(OutFault::TooLarge)),
         Err(_) => Err(CliFault::Memory),
     }

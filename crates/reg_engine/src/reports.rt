@@ -1,7 +1,7 @@
-//! Reports: of all entries, of what is open, of operations, of one entry.
+//! Reports: of entries, conflicts, awaited ids and gaps; of operations; of one entry.
 
 ghost use Rattle.std.specs.Prelude.{OnOk, IfErr};
-ghost use Rattle.reg_office.specs.Reports.{IsReport, IsOpsReport};
+ghost use Rattle.reg_report.specs.Reports.{IsReport, IsOpsReport};
 ghost use Rattle.reg_engine.specs.Store.{of_file, IsPrinted, IsUnprinted};
 ghost use Rattle.reg_engine.specs.Report.{IsRowOf, Never, Lacks};
 
@@ -9,8 +9,9 @@ use crate::drivers::{Print, run_print};
 use crate::fault::{CliFault, Refusal};
 use crate::store::OfFile;
 use byte_io::{Sink, Source};
-use reg_office::{OfficeFault, ReportKind, entry_text, ops_text, report_text};
+use reg_office::OfficeFault;
 use reg_op::OpId;
+use reg_report::{ReportKind, entry_text, ops_text, report_text};
 use reg_state::Register;
 use std::alloc::Global;
 
@@ -21,7 +22,7 @@ pub struct Report {
 }
 
 impl Print for Report {
-    ghost use Rattle.reg_office.specs.Reports.{IsReport};
+    ghost use Rattle.reg_report.specs.Reports.{IsReport};
     ghost use Rattle.reg_engine.specs.Report.{Never};
 
     ghost prints = { λ c. λ x. λ text. IsReport c.kind x text };
@@ -41,7 +42,7 @@ impl Print for Report {
 pub struct Ops;
 
 impl Print for Ops {
-    ghost use Rattle.reg_office.specs.Reports.{IsOpsReport};
+    ghost use Rattle.reg_report.specs.Reports.{IsOpsReport};
     ghost use Rattle.reg_engine.specs.Report.{Never};
 
     ghost prints = { λ c. λ x. λ text. IsOpsReport x text };
@@ -56,7 +57,7 @@ impl Print for Ops {
     }
 }
 
-/// Prints the line of one entry as the report of entries has it, after that report's header.
+/// Prints the line of one entry in the report of entries, after the report's header.
 #[derive(Drop)]
 pub struct Show {
     pub entry: OpId,
@@ -80,7 +81,7 @@ impl Print for Show {
     }
 }
 
-/// Reads the register of the source, which is file 1, and writes a report of it.
+/// Reads the register of the source (file 1), and writes a report of it.
 pub fn run_report<S: Source, K: Sink>(
     alloc: Global,
     source: &mut S,
@@ -96,7 +97,7 @@ pub fn run_report<S: Source, K: Sink>(
     }
 }
 
-/// Reads the register of the source, which is file 1, and writes a line for each operation that it keeps.
+/// Reads the register of the source (file 1), and writes a line for each operation that it keeps.
 pub fn run_ops<S: Source, K: Sink>(
     alloc: Global,
     source: &mut S,
@@ -111,7 +112,7 @@ pub fn run_ops<S: Source, K: Sink>(
     }
 }
 
-/// Reads the register of the source, which is file 1, and writes the line of one entry after the header.
+/// Reads the register of the source (file 1), and writes the line of one entry after the header.
 pub fn run_show<S: Source, K: Sink>(
     alloc: Global,
     source: &mut S,

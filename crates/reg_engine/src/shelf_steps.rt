@@ -1,4 +1,4 @@
-//! The steps of a command on a shelf: restore its register, and keep another.
+//! The steps of a command on a shelf: it restores the register, and keeps another one.
 
 ghost use Rattle.std.specs.Prelude.{◌≡◌, OnOk, IfOk, IfErr};
 ghost use Rattle.reg_op.specs.Contents.{Content};
@@ -24,7 +24,7 @@ pub fn restore_from<D: Disk>(alloc: Global, disk: &mut D) -> Result<Register, Cl
     }
 }
 
-/// Keeps the register on the shelf, from which another was restored.
+/// Keeps the register on the shelf from which another one was restored.
 pub fn keep_on<D: Disk>(alloc: Global, disk: &mut D, register: &Register) -> Result<(), CliFault>
     ensures kept { (was : Content) → Has (disks D.tells D.seen D.images D.moment D.images_since D.failures) disk.old was
         → IsSure (disks D.tells D.seen D.images D.moment D.images_since D.failures) disk.old

@@ -9,7 +9,7 @@ use byte_disk::NewDisk;
 use reg_shelf::{format, is_size};
 use std::alloc::Global;
 
-/// Opens the disk, empty, and makes it a shelf of the empty register, for files of up to `size` bytes.
+/// Opens the disk, which empties it, and makes it a shelf with the empty register, for files of up to `size` bytes.
 pub fn run_shelf<D: NewDisk>(alloc: Global, disk: &mut D, size: u32) -> Result<(), CliFault>
     ensures made { OnOk result (IsNewShelf (disks D.tells D.seen D.images D.moment D.images_since D.failures) size disk.old disk.new) }
     ensures fault { IfErr result (IsUnformatted (disks D.tells D.seen D.images D.moment D.images_since D.failures) D.openings size disk.old disk.new) }

@@ -1,4 +1,4 @@
-//! Where a command finds its register, and where it leaves the one that it makes: a file and its place, or a shelf.
+//! Stores: where a command loads its register and keeps the new one, in a file and its place, or on a shelf.
 
 use crate::fault::CliFault;
 use crate::inputs::read_file;
@@ -6,22 +6,22 @@ use crate::outputs::publish_register;
 use crate::shelf_steps::{keep_on, restore_from};
 use byte_disk::Disk;
 use byte_io::Source;
-use byte_out::Place;
+use byte_out::{Input, Place};
 use reg_state::Register;
 use std::alloc::Global;
 
-/// Gives the register that a command reads.
+/// A store from which a command loads its register.
 pub trait Store {
     ghost use Rattle.std.specs.Prelude.{◌≡◌, ℕ, IfOk, IfErr};
     ghost use Rattle.reg_engine.specs.Store.{Around};
 
-    /// What happened to it between two moments.
+    /// The events at the store between two moments.
     ghost around: { Self → Self → Around };
 
     /// The number of the first file that a command reads beside it.
     ghost next: { Self → ℕ };
 
-    /// It stands for the same devices.
+    /// It has the same devices.
     ghost same: { Self → Self → Type 0 };
 
     fn next(&self) -> usize
@@ -32,22 +32,34 @@ pub trait Store {
         ensures came { IfOk result (λ r. (around self.old self.new).came r) }
         ensures none { IfErr result (λ f. (around self.old self.new).none f) };
 
-    /// Which is so as well after a second step.
+    /// This stays so after a further step.
     ghost still: { (a b c : Self) → same a b → same b c → same a c };
 }
 
-/// Gives the register that a command reads, and takes the one that it makes.
+/// A store that also keeps the register that a command makes.
 pub trait Keep: Store {
     ghost use Rattle.std.specs.Prelude.{OnOk, IfErr};
     ghost use Rattle.reg_op.specs.Contents.{Content};
 
-    /// Leaves the register in the place of the one that was loaded.
+    /// Replaces the register that was loaded by this one, if it has not changed since.
     fn keep(&mut self, alloc: Global, register: &Register) -> Result<(), CliFault>
         ensures same { Self.same self.old self.new }
         ensures left { (first : Self) (was : Content) → Self.same first self.old → (Self.around first self.old).came was
             → OnOk result ((Self.around first self.new).left was register.now) }
         ensures unleft { (first : Self) (was : Content) → Self.same first self.old → (Self.around first self.old).came was
             → IfErr result (λ f. (Self.around first self.new).unleft was register.now f) };
+}
+
+/// A store whose register a command writes to a file, which may be the store's own file.
+pub trait Base: Store {
+    ghost use Rattle.std.specs.Prelude.{◌≡◌, ℕ, List, Option, IfOk, IfErr, option_map};
+
+    /// The bytes of its file, if that is the file that is replaced.
+    ghost kept: { Self → Option (List ℕ) };
+
+    fn kept(&self) -> Result<Option<&[u8]>, CliFault>
+        ensures kept { IfOk result (λ b. option_map (λ s. s.now) b ≡ kept self.now) }
+        ensures fault { IfErr result (λ f. f ≡ CliFault.Memory) };
 }
 
 /// A register's file, which is file 1, and the place of the next one.
@@ -57,12 +69,14 @@ pub struct InFile<'a, S, P> {
     pub place: &'a mut P,
 }
 
-impl<S: Source, P: Place> Store for InFile<'_, S, P> {
+impl<S: Input, P: Place> Store for InFile<'_, S, P> {
     ghost use Rattle.std.specs.Prelude.{◌≡◌};
     ghost use Rattle.std.proofs.Common.{◌∙◌};
+    ghost use Rattle.byte_out.specs.Input.{kept_of};
     ghost use Rattle.reg_engine.specs.Store.{in_file};
 
-    ghost around = { λ old. λ new. in_file (S.state old.source.now) (P.state old.place.now) (S.state new.source.now) (P.state new.place.now) };
+    ghost around = { λ old. λ new. in_file (S.state old.source.now) (P.state old.place.now)
+        (S.state new.source.now) (kept_of (S.keeps new.source.now) (S.state new.source.now)) (P.state new.place.now) };
 
     ghost next = { λ s. 2 };
 
@@ -82,9 +96,12 @@ impl<S: Source, P: Place> Store for InFile<'_, S, P> {
     }
 }
 
-impl<S: Source, P: Place> Keep for InFile<'_, S, P> {
+impl<S: Input, P: Place> Keep for InFile<'_, S, P> {
     fn keep(&mut self, alloc: Global, register: &Register) -> Result<(), CliFault> {
-        match publish_register(alloc, register, self.place) {
+        let Ok(read) = self.source.kept() else {
+            return Err(CliFault::Memory);
+        };
+        match publish_register(alloc, register, read, self.place) {
             Ok(()) => Ok(()),
             Err(fault) => Err(fault),
         }
@@ -122,6 +139,19 @@ impl<S: Source> Store for OfFile<'_, S> {
     }
 }
 
+impl<S: Input> Base for OfFile<'_, S> {
+    ghost use Rattle.byte_out.specs.Input.{kept_of};
+
+    ghost kept = { λ s. kept_of (S.keeps s.source.now) (S.state s.source.now) };
+
+    fn kept(&self) -> Result<Option<&[u8]>, CliFault> {
+        match self.source.kept() {
+            Ok(kept) => Ok(kept),
+            Err(_) => Err(CliFault::Memory),
+        }
+    }
+}
+
 /// A shelf.
 #[derive(Drop)]
 pub struct OnShelf<'a, D> {
@@ -151,6 +181,16 @@ impl<D: Disk> Store for OnShelf<'_, D> {
             Ok(register) => Ok(register),
             Err(fault) => Err(fault),
         }
+    }
+}
+
+impl<D: Disk> Base for OnShelf<'_, D> {
+    ghost use Rattle.std.specs.Prelude.{None};
+
+    ghost kept = { λ s. None };
+
+    fn kept(&self) -> Result<Option<&[u8]>, CliFault> {
+        Ok(None)
     }
 }
 

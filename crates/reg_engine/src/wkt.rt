@@ -48,7 +48,7 @@ impl Print for Wkt {
     }
 }
 
-/// Reads the register of the source, which is file 1, and writes the text of the entry and a newline.
+/// Reads the register of the source (file 1), and writes the text of the entry and a newline.
 pub fn run_wkt<S: Source, K: Sink>(
     alloc: Global,
     source: &mut S,

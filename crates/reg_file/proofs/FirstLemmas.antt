@@ -18,11 +18,11 @@ use Rattle.reg_file.proofs.ListLemmas.{is_it}
 not_zero : (n : ℕ) → 0 < n → eqb n 0 ≡ false
 not_zero n e = grind arith
 
-some_bytes : (note : List ℕ) → (note ≡ [] → ⊥) → eqb (length note) 0 ≡ false
+pub some_bytes : (note : List ℕ) → (note ≡ [] → ⊥) → eqb (length note) 0 ≡ false
 some_bytes [] some = absurd (some refl)
 some_bytes (b ∷ note) some = not_zero (length (b ∷ note)) (omega arith)
 
-no_bytes : (note : List ℕ) → eqb (length note) 0 ≡ true → note ≡ []
+pub no_bytes : (note : List ℕ) → eqb (length note) 0 ≡ true → note ≡ []
 no_bytes [] h = refl
 no_bytes (b ∷ note) h = absurd (true≢false (sym h ∙ not_zero (length (b ∷ note)) (omega arith)))
 

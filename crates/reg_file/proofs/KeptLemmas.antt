@@ -1,22 +1,20 @@
 -- What stands behind the head of a register's file, or behind the basis of a piece's, is a content's exactly where it is read as it.
-use Rattle.std.proofs.Common.{◌≡◌, ℕ, ◌^◌, ◌<◌, Bool, true, false, not, ◌&&◌, List, [], ◌∷◌, ◌++◌, length, None, refl, sym, ap, subst, ◌∙◌, arith}
+use Rattle.std.proofs.Common.{◌≡◌, ℕ, ◌^◌, ◌<◌, true, not, ◌&&◌, List, [], ◌∷◌, ◌++◌, length, None, refl, sym, ap, subst, ◌∙◌, arith}
 use Rattle.std.proofs.lemmas.Bool.{true≢false, or_left, or_right, false_from_ne_true}
 use Rattle.std.proofs.lemmas.List.{append-nil}
 use Rattle.std.specs.List.{flat_map}
 use Rattle.std.specs.Option.{option_map}
-use Rattle.std.specs.Ordering.{is_lt, is_eq}
-use Rattle.std.specs.Cmp.{tied_itself}
 use Rattle.reg_op.specs.Set as set
 use Rattle.reg_op.specs.Set.{same_set, contains-items, contains-from_list}
-use Rattle.reg_op.specs.Ids.{Id, Ids, IsId, is_before}
-use Rattle.reg_op.specs.Operations.{Op, Ops, op_cmp, OneBody, replaces, kept}
+use Rattle.reg_op.specs.Ids.{Id, Ids, IsId}
+use Rattle.reg_op.specs.Operations.{Op, Ops, op_cmp, replaces, kept}
 use Rattle.reg_op.specs.Finite.{any}
 use Rattle.reg_op.specs.Kept.{first_dropped}
 use Rattle.reg_op.specs.Contents.{Content, IsContent}
-use Rattle.reg_op.specs.Lists.{has, AllAfter, ById, content_at}
+use Rattle.reg_op.specs.Lists.{has, ById, content_at}
 use Rattle.reg_op.proofs.OpLemmas.{op_total, op_exact}
-use Rattle.reg_op.proofs.SetLemmas.{AllAbove, Climbs, items_climb}
-use Rattle.reg_op.proofs.ClashLemmas.{NoneBefore, Rises, items_rise, items_are, same_id, find_none}
+use Rattle.reg_op.proofs.ClashLemmas.{items_are, find_none}
+use Rattle.reg_op.proofs.ItemLemmas.{items_by_id}
 use Rattle.reg_op.proofs.ContentLemmas.{contains-kept, same_content}
 use Rattle.reg_op.proofs.FiniteLemmas.{some_of}
 use Rattle.reg_seen.specs.declared.run.Run.{Run}
@@ -35,27 +33,6 @@ use Rattle.reg_file.proofs.LongLemmas.{grouped_long}
 use Rattle.reg_file.proofs.ExactLemmas.{ranges_exact, seen_and_kept_exact}
 
 -- ---- the items of a content
-
-after_items : (o : Op) (os : List Op) → AllAbove op_cmp o os → NoneBefore o.id os → ((p : Op) → has os p ≡ true → o.id ≡ p.id → o ≡ p) → AllAfter o.id os
-after_items o [] up none one = tt
-after_items o (p ∷ os) up none one =
-    (here (is_before o.id p.id) refl, after_items o os up.1 none.1 (λ q h. one q (or_right _ (has os q) h)))
-  where
-    here : (b : Bool) → is_before o.id p.id ≡ b → b ≡ true
-    here true e = refl
-    here false e =
-        let same : o ≡ p = one p (or_left _ (has os p) (ap is_eq (tied_itself op_total p))) (same_id o.id p.id e none.0) in
-        absurd (true≢false (sym (subst (λ q. is_lt (op_cmp o q) ≡ true) (sym same) up.0) ∙ ap is_lt (tied_itself op_total o)))
-
-by_id_items : (os : List Op) → Climbs op_cmp os → Rises os → ((p o : Op) → has os p ≡ true → has os o ≡ true → p.id ≡ o.id → p ≡ o) → ById os
-by_id_items [] up rise one = tt
-by_id_items (o ∷ os) up rise one = (
-  after_items o os up.0 rise.0 (λ p h e. one o p (or_left _ (has os o) (ap is_eq (tied_itself op_total o))) (or_right _ (has os p) h) e),
-  by_id_items os up.1 rise.1 (λ p q h k e. one p q (or_right _ (has os p) h) (or_right _ (has os q) k) e),
-)
-
-pub items_by_id : (s : Ops) → OneBody s → ById (set.items s)
-items_by_id s one = by_id_items (set.items s) (items_climb op_cmp s) (items_rise s) (λ p o h k e. one p o (contains-items s p ∙ h) (contains-items s o ∙ k) e)
 
 of_items : (s : Ops) → set.from_list {R = op_cmp} (set.items s) ≡ s
 of_items s = same_set op_total op_exact _ _ (λ q. contains-from_list op_total (set.items s) q ∙ sym (contains-items s q))

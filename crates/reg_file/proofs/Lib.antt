@@ -4,6 +4,7 @@ pub mod DefinitionLemmas
 pub mod ExactLemmas
 pub mod FieldLemmas
 pub mod FirstLemmas
+pub mod NotedLemmas
 pub mod GroupLemmas
 pub mod HoldLemmas
 pub mod KeptLemmas

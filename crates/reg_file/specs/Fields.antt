@@ -25,7 +25,7 @@ abbrev pub ◌>>=◌ : {A B : Type 0} → Result A Refused → (A → Result B R
 abbrev pub refused : {A : Type 0} → FileFault → ℕ → Result A Refused
 refused fault left = Err (record { fault = fault; left = left })
 
--- What a function returned, seen by view, is what reading gives, unless memory ran out.
+-- The result of a function, seen by view, is the result of reading, unless memory ran out.
 abbrev pub Fails : {Y : Type 0} → Stop → Result Y Refused → Type 0
 Fails stop.Memory read = Unit {0}
 Fails (stop.Refused r) read = read ≡ Err r

@@ -1,9 +1,9 @@
--- The files of contents, of summaries and of pieces, and what reading and writing one over a device do.
-use Rattle.std.specs.Prelude.{◌≡◌, ℕ, ◌+◌, ◌≤◌, ◌<◌, ◌⊎◌, ◌==◌, true, List, [], ◌∷◌, length, Option, Some, None, if◌then◌else◌}
+-- The files of contents, of summaries and of pieces, and the effects of reading and writing them over a device.
+use Rattle.std.specs.Prelude.{◌≡◌, ◌≢◌, ℕ, ◌+◌, ◌≤◌, ◌<◌, ◌⊎◌, ◌==◌, true, false, List, [], ◌∷◌, length, Option, Some, None, if◌then◌else◌}
 use Rattle.byte_io.specs.Device.{SourceState, SinkState}
 use Rattle.byte_io.specs.Whole.{ReadsUpTo, FailsAfter, GivesAtMost, WritesAll, IsCutAt}
 use Rattle.reg_op.specs.Set as set
-use Rattle.reg_op.specs.Ids.{Id, Ids}
+use Rattle.reg_op.specs.Ids.{Id, Ids, is_before}
 use Rattle.reg_op.specs.Operations.{Op, Ops}
 use Rattle.reg_op.specs.Contents.{Content, IsContent}
 use Rattle.reg_op.specs.Pieces.{Piece, IsPiece}
@@ -63,7 +63,7 @@ IsSeenFileOf ids bytes = IsSeenFileIn 2 ids bytes
 abbrev pub IsPieceFileOf : Piece → List ℕ → Type 0
 IsPieceFileOf p bytes = IsPieceFileIn 2 p bytes
 
--- ---- what bytes hold
+-- ---- the content of a file's bytes
 
 -- the bytes are the file of the content in a version
 pub record HoldsIn (version : ℕ) (bytes : List ℕ) (x : Content) : Type 0 where
@@ -219,6 +219,14 @@ first_in (o ∷ os) = if length o.note == 0 then first_in os else Some o.id
 -- the least id of an operation with a note: the items of a set ascend by id
 abbrev pub first_noted : Ops → Option Id
 first_noted s = first_in (set.items s)
+
+-- the id of an operation with a note; no operation with a note has a lesser one
+pub record IsLeastNoted (s : Ops) (i : Id) : Type 0 where
+  pub one : Op
+  pub there : set.contains s one ≡ true
+  pub noted : one.note ≢ []
+  pub at : one.id ≡ i
+  pub least : (o : Op) → set.contains s o ≡ true → o.note ≢ [] → is_before o.id i ≡ false
 
 abbrev pub WritesFirst : Content → SinkState → SinkState → Type 0
 WritesFirst x old new = WritesBy (λ bytes. HoldsFirst bytes x) old new

@@ -17,7 +17,7 @@ four n = to_be_bytes w32 n
 abbrev pub id_bytes : Id → List ℕ
 id_bytes i = i.replica ++ four i.count
 
--- what an operation does, and the fields that follow
+-- the kind of an operation, and the fields after it
 abbrev pub kind_byte : Body → ℕ
 kind_byte (Enter text) = 1
 kind_byte (Supersede old newer) = 2

@@ -1,4 +1,4 @@
--- What the files of registers and of pieces hold.
+-- The contents of files of registers and of pieces.
 use Rattle.std.specs.Prelude.{ℕ, List}
 use Rattle.byte_io.specs.Device.{SourceState}
 use Rattle.reg_file.specs.declared.fault.ReadFileFault.{ReadFileFault}

@@ -1,4 +1,4 @@
--- What reading a part of a file means: which values it gives, and which first faults it has.
+-- The meaning of reading a part of a file: its values, and its first faults.
 use Rattle.std.specs.Prelude.{◌≡◌, ℕ, ◌<◌, ◌⊎◌, List, [], ◌∷◌, length, Result, Ok, Err}
 use Rattle.reg_file.specs.declared.fault.Refused.{Refused}
 use Rattle.reg_file.specs.declared.fault.Stop.{Stop}
@@ -50,7 +50,7 @@ repeated item next s count = record {
   Fails = FailsAtOne item next s count;
 }
 
--- What a function returned is what the part is, unless memory ran out.
+-- The result of a function is the value or the fault of the part, unless memory ran out.
 abbrev pub StopsIn : {A : Type 0} → Portion A → List ℕ → Stop → Type 0
 StopsIn p bytes stop.Memory = Unit {0}
 StopsIn p bytes (stop.Refused r) = p.Fails bytes r

@@ -1,4 +1,4 @@
--- What is read of files of each kind, and the first fault of bytes that are none.
+-- The value that is read from files of each kind, and the first fault of other bytes.
 use Rattle.std.specs.Prelude.{◌≡◌, ℕ, ◌+◌, ◌-◌, ◌<◌, ◌⊎◌, ◌==◌, Bool, true, false, List, [], ◌∷◌, ◌++◌, length, slice_get, Option, Some, None, Result, Ok, Err, if◌then◌else◌}
 use Rattle.std.specs.List.{flat_map}
 use Rattle.std.specs.Int.{w32}
@@ -79,7 +79,7 @@ abbrev pub FailsAs : ℕ → Result (Body × List ℕ) Refused → Refused → T
 FailsAs left (Err e) r = e ≡ r
 FailsAs left (Ok x) r = IsUnfit x.0 left r
 
--- what an operation of a kind does
+-- the effect of an operation of a kind
 abbrev pub body : ℕ → Portion Body
 body kind = record {
   Reads = λ bytes b rest. (body_at kind bytes ≡ Ok (b, rest)) × IsBody b;
@@ -140,7 +140,7 @@ ended = record {
 
 -- ---- the files
 
--- what was seen, without the basis, and the operations
+-- the seen ids, without the basis, and the operations
 abbrev pub seen_and_ops : ℕ → Ids → Portion ((ℕ × List Group) × (ℕ × List Op))
 seen_and_ops version basis = ranges basis behind (λ gs. counted_operations version (seen_of (runs_of gs.1)))
 

@@ -1,4 +1,4 @@
--- What the steps of reading do.
+-- The effects of the steps of reading.
 use Rattle.std.specs.Prelude.{◌≡◌, ◌⊎◌, ◌+◌, ◌<◌, ◌≤◌, ℕ, true, false, map, Option, Some, None, List, [], ◌∷◌, length, Result, Ok}
 use Rattle.reg_op.specs.Set as set
 use Rattle.reg_op.specs.Ids.{Id, Ids}
@@ -76,7 +76,7 @@ pub record ReadsSeen (basis : Ids) (bytes : List ℕ) (seen : Ids) (rest : List 
   pub reads : (ranges basis).Reads bytes (count, all) rest
   pub ids : seen ≡ seen_of (runs_of all)
 
--- in the midst of a replica's ranges
+-- while a replica's ranges are read
 pub record IsAddingSpans (basis old now : Ids) (replica bytes rest : List ℕ) (floor n : ℕ) : Type 0 where
   pub all : List Span
   pub reads : ReadsEach (span basis replica) floor_after 1 bytes all rest
@@ -86,7 +86,7 @@ pub record IsAddingSpans (basis old now : Ids) (replica bytes rest : List ℕ) (
   pub under : IsUnder now replica floor
   pub positive : 1 ≤ floor
 
--- in the midst of the replicas
+-- while the replicas are read
 pub record IsAddingGroups (basis now : Ids) (bytes rest : List ℕ) (last : Option (List ℕ)) (n : ℕ) : Type 0 where
   pub all : List Group
   pub reads : ReadsEach (group basis) replica_after None bytes all rest

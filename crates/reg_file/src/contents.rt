@@ -1,4 +1,4 @@
-//! The part of a file after its head, or after the basis of a piece: seen ids and operations.
+//! The part of a file after the head or the basis of a piece: seen ids and operations.
 
 ghost use Rattle.std.specs.Prelude.{◌≡◌, true, IfOk, IfErr};
 ghost use Rattle.reg_op.specs.Set as set;

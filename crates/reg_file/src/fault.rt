@@ -1,4 +1,4 @@
-//! Why a file is not read or not written.
+//! Why reading or writing a file fails.
 
 ghost use Rattle.std.specs.Prelude.{◌≡◌};
 ghost use Rattle.reg_file.specs.declared.fault.Stop.TheVariants.{Memory};
@@ -8,7 +8,7 @@ use std::alloc::{AllocError, AllocFailed};
 use std::fmt;
 use wkt_crs::DefinitionFault;
 
-/// Why bytes are not a file.
+/// Why some bytes are not a file.
 #[derive(Clone, Copy, Debug, PartialEq, Eq)]
 pub enum FileFault {
     Magic,
@@ -92,7 +92,7 @@ pub enum ReadFileFault {
 impl ReadFileFault {
     ghost use Rattle.reg_file.specs.Names.{read_name, read_place};
 
-    /// The name that is printed: that of the first fault, if the bytes are the reason.
+    /// The name that is printed. If the bytes are the reason, it is that of the first fault.
     pub fn name(self) -> &'static str
         ensures { result.now ≡ read_name self }
     {

@@ -12,13 +12,7 @@ use reg_op::{Note, NoteFault, OpId};
 use reg_state::{Run, Seen};
 use std::alloc::Global;
 use uuid::Uuid;
-use wkt_crs::DefinitionFault;
-
-/// The most bytes of a definition's text.
-const MOST_TEXT: u32 = 65_536;
-
-/// The most bytes of a note.
-const MOST_NOTE: u8 = 200;
+use wkt_crs::{Definition, DefinitionFault};
 
 pub fn refused(fault: FileFault, left: usize) -> Stop
     ensures { result ≡ Stop.Refused (record { fault = fault; left = left }) }
@@ -165,7 +159,7 @@ fn is_after(last: Option<OpId>, id: OpId) -> bool
     }
 }
 
-// What an operation does: a byte from 1 to 3.
+// The kind of an operation: a byte from 1 to 3.
 #[tactic(auto, unfolding(crate::specs::Fields::op_kind_at))]
 fn op_kind_of(bytes: &[u8]) -> Result<(u8, &[u8]), Stop>
     ensures { Gives (λ x. (x.0, x.1.now)) result (op_kind_at bytes.now) }
@@ -183,10 +177,11 @@ fn noted_of(bytes: &[u8]) -> Result<(&[u8], &[u8]), Stop>
     ensures { Gives (λ x. (x.0.now, x.1.now)) result (noted_at bytes.now) }
 {
     let (len, rest) = byte_of(bytes)?;
-    if len > MOST_NOTE {
+    let len = usize::from(len);
+    if len > Note::MAX {
         return Err(refused(FileFault::NoteTooLong, bytes.len()));
     }
-    cut_of(usize::from(len), rest)
+    cut_of(len, rest)
 }
 
 // An operation's note, which version 1 does not have.
@@ -238,11 +233,12 @@ pub fn text_of(bytes: &[u8]) -> Result<(&[u8], &[u8]), Stop>
     ensures { Gives (λ x. (x.0.now, x.1.now)) result (text_at bytes.now) }
 {
     let (len, rest) = number_of(bytes)?;
-    if len > MOST_TEXT {
+    let len = len as usize;
+    if len > Definition::MAX {
         let fault = FileFault::Definition(DefinitionFault::CanonicalTooLong);
         return Err(refused(fault, bytes.len()));
     }
-    cut_of(len as usize, rest)
+    cut_of(len, rest)
 }
 
 /// The old id and the newer one of a supersession.

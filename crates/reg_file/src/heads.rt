@@ -1,12 +1,12 @@
-//! The head of all files, and their greatest length.
+//! The head of every file, and the greatest length.
 
 ghost use Rattle.std.specs.Prelude.{◌≡◌};
 ghost use Rattle.reg_file.specs.Reading.{says_first, version_in};
 
 /// The most bytes of a file.
-pub const MOST: usize = 67_108_864;
+pub const MAX_FILE: usize = 67_108_864;
 
-/// The version that is written.
+/// The current version, which is written.
 pub const VERSION: u8 = 2;
 
 /// The previous version, which has no notes. It is read, and written on request.
@@ -30,7 +30,7 @@ fn says_first(bytes: &[u8]) -> bool
     }
 }
 
-/// The version as which bytes are read: 1 if they say so, otherwise the current one.
+/// The version in which bytes are read: 1 if they say so, otherwise the current one.
 pub fn version_in(bytes: &[u8]) -> u8
     ensures { result ≡ version_in bytes.now }
 {

@@ -1,13 +1,14 @@
 //! The laws of files and their contents. The functions do nothing: their contracts are the laws.
 
-ghost use Rattle.std.specs.Prelude.{◌≡◌, ℕ, List};
-ghost use Rattle.reg_op.specs.Ids.{Ids};
+ghost use Rattle.std.specs.Prelude.{◌≡◌, ◌↔◌, ℕ, List, Some, None};
+ghost use Rattle.reg_op.specs.Ids.{Id, Ids};
+ghost use Rattle.reg_op.specs.Operations.{Ops};
 ghost use Rattle.reg_op.specs.Contents.{Content, IsContent};
 ghost use Rattle.reg_op.specs.Pieces.{Piece, IsPiece};
 ghost use Rattle.reg_seen.specs.Runs.{AllIds};
 ghost use Rattle.reg_file.specs.declared.fault.FileFault.{FileFault};
 ghost use Rattle.reg_file.specs.Reading.{HasFault, HasPartFault, HasPieceFault, HasSeenFault};
-ghost use Rattle.reg_file.specs.Files.{Holds, HoldsFirst, HoldsFirstPiece, HoldsFirstSeen, HoldsPiece, HoldsSeen, IsFileIn, IsPieceFileIn, IsSeenFileIn, ReadsAs, ReadsAsPiece, ReadsAsSeen};
+ghost use Rattle.reg_file.specs.Files.{AreUnnoted, Holds, HoldsFirst, HoldsFirstPiece, HoldsFirstSeen, HoldsPiece, HoldsSeen, IsFileIn, IsLeastNoted, IsPieceFileIn, IsSeenFileIn, ReadsAs, ReadsAsPiece, ReadsAsSeen, first_noted};
 
 /// A file of either version has one content, a summary one set of ids, and a piece's file one piece.
 pub fn one_content()
@@ -42,6 +43,9 @@ pub fn held_or_fault()
     ensures register { (bytes : List ℕ) (x : Content) (f : FileFault) (place : ℕ) → ReadsAs bytes x → HasFault bytes f place → ⊥ }
     ensures seen { (bytes : List ℕ) (ids : Ids) (f : FileFault) (place : ℕ) → ReadsAsSeen bytes ids → HasSeenFault bytes f place → ⊥ }
     ensures piece { (bytes : List ℕ) (p : Piece) (f : FileFault) (place : ℕ) → ReadsAsPiece bytes p → HasPieceFault bytes f place → ⊥ }
+    // Bytes that are read as a register or as a piece, whichever they are, have no fault as a part either.
+    ensures part_register { (bytes : List ℕ) (x : Content) (f : FileFault) (place : ℕ) → ReadsAs bytes x → HasPartFault bytes f place → ⊥ }
+    ensures part_piece { (bytes : List ℕ) (p : Piece) (f : FileFault) (place : ℕ) → ReadsAsPiece bytes p → HasPartFault bytes f place → ⊥ }
 {}
 
 /// Bytes have at most one first fault of a kind, at one place.
@@ -57,4 +61,10 @@ pub fn one_kind()
     ensures register_or_seen { (bytes : List ℕ) (x : Content) (ids : Ids) → ReadsAs bytes x → ReadsAsSeen bytes ids → ⊥ }
     ensures register_or_piece { (bytes : List ℕ) (x : Content) (p : Piece) → ReadsAs bytes x → ReadsAsPiece bytes p → ⊥ }
     ensures seen_or_piece { (bytes : List ℕ) (ids : Ids) (p : Piece) → ReadsAsSeen bytes ids → ReadsAsPiece bytes p → ⊥ }
+{}
+
+/// `first_noted` is the least id of an operation with a note. If there is none, no operation has a note.
+pub fn noted_is_least()
+    ensures least { (s : Ops) (i : Id) → (first_noted s ≡ Some i) ↔ IsLeastNoted s i }
+    ensures none { (s : Ops) → (first_noted s ≡ None) ↔ AreUnnoted s }
 {}

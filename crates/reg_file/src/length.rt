@@ -5,7 +5,7 @@ ghost use Rattle.std.specs.List.{flat_map};
 ghost use Rattle.reg_seen.specs.Runs.{AreRuns, EndInIds};
 ghost use Rattle.reg_file.specs.Layout.{body_bytes, grouped, note_bytes, op_bytes, piece_file, ranges_bytes, register_file, seen_file};
 
-use crate::heads::{FIRST_VERSION, MOST, VERSION};
+use crate::heads::{FIRST_VERSION, MAX_FILE, VERSION};
 use crate::spelling::replicas_of;
 use reg_op::{Note, Op, OpBody};
 use reg_state::Run;
@@ -52,17 +52,17 @@ fn size_of(version: u8, op: &Op) -> usize
     21 + size_of_note(version, op.note()) + size_of_body(op.body())
 }
 
-// This many bytes and those of the operations, if they are within the limit.
+// This length plus that of the operations, if the sum is within the limit.
 fn add_sizes(size: usize, version: u8, ops: &[Op]) -> Option<usize>
-    requires { size ≤ MOST }
-    ensures some { IfSome result (λ n. (n ≡ size + length (flat_map (op_bytes version) ops.now)) × (n ≤ MOST)) }
-    ensures none { IfNone result (MOST < size + length (flat_map (op_bytes version) ops.now)) }
+    requires { size ≤ MAX_FILE }
+    ensures some { IfSome result (λ n. (n ≡ size + length (flat_map (op_bytes version) ops.now)) × (n ≤ MAX_FILE)) }
+    ensures none { IfNone result (MAX_FILE < size + length (flat_map (op_bytes version) ops.now)) }
 {
     let mut total = size;
     let mut rest = ops;
     while let Some((op, others)) = rest.split_first() {
         total += size_of(version, op);
-        if total > MOST {
+        if total > MAX_FILE {
             return None;
         }
         rest = others;
@@ -70,19 +70,19 @@ fn add_sizes(size: usize, version: u8, ops: &[Op]) -> Option<usize>
     Some(total)
 }
 
-// This many bytes and those of the ranges, if they are within the limit.
+// This length plus that of the ranges, if the sum is within the limit.
 fn add_ranges(size: usize, runs: &[Run]) -> Option<usize>
-    requires size { size ≤ MOST }
+    requires size { size ≤ MAX_FILE }
     requires runs { AreRuns runs.now }
     requires ids { EndInIds runs.now }
-    ensures some { IfSome result (λ n. (n ≡ size + length (ranges_bytes (grouped runs.now))) × (n ≤ MOST)) }
-    ensures none { IfNone result (MOST < size + length (ranges_bytes (grouped runs.now))) }
+    ensures some { IfSome result (λ n. (n ≡ size + length (ranges_bytes (grouped runs.now))) × (n ≤ MAX_FILE)) }
+    ensures none { IfNone result (MAX_FILE < size + length (ranges_bytes (grouped runs.now))) }
 {
-    if runs.len() > MOST {
+    if runs.len() > MAX_FILE {
         return None;
     }
     let total = size + COUNT + 20 * replicas_of(runs) + 8 * runs.len();
-    if total > MOST {
+    if total > MAX_FILE {
         return None;
     }
     Some(total)
@@ -92,8 +92,8 @@ fn add_ranges(size: usize, runs: &[Run]) -> Option<usize>
 pub fn length_of_register(version: u8, ops: &[Op], runs: &[Run]) -> Option<usize>
     requires runs { AreRuns runs.now }
     requires ids { EndInIds runs.now }
-    ensures some { IfSome result (λ n. (n ≡ length (register_file version ops.now runs.now)) × (n ≤ MOST)) }
-    ensures none { IfNone result (MOST < length (register_file version ops.now runs.now)) }
+    ensures some { IfSome result (λ n. (n ≡ length (register_file version ops.now runs.now)) × (n ≤ MAX_FILE)) }
+    ensures none { IfNone result (MAX_FILE < length (register_file version ops.now runs.now)) }
 {
     let Some(size) = add_ranges(HEAD + COUNT, runs) else {
         return None;
@@ -108,8 +108,8 @@ pub fn length_of_register(version: u8, ops: &[Op], runs: &[Run]) -> Option<usize
 pub fn length_of_seen(runs: &[Run]) -> Option<usize>
     requires runs { AreRuns runs.now }
     requires ids { EndInIds runs.now }
-    ensures some { IfSome result (λ n. (n ≡ length (seen_file 2 runs.now)) × (n ≤ MOST)) }
-    ensures none { IfNone result (MOST < length (seen_file 2 runs.now)) }
+    ensures some { IfSome result (λ n. (n ≡ length (seen_file 2 runs.now)) × (n ≤ MAX_FILE)) }
+    ensures none { IfNone result (MAX_FILE < length (seen_file 2 runs.now)) }
 {
     match add_ranges(HEAD, runs) {
         Some(total) => Some(total),
@@ -121,8 +121,8 @@ pub fn length_of_seen(runs: &[Run]) -> Option<usize>
 pub fn length_of_piece(basis: &[Run], ops: &[Op], runs: &[Run]) -> Option<usize>
     requires basis { AreRuns basis.now × EndInIds basis.now }
     requires runs { AreRuns runs.now × EndInIds runs.now }
-    ensures some { IfSome result (λ n. (n ≡ length (piece_file 2 basis.now ops.now runs.now)) × (n ≤ MOST)) }
-    ensures none { IfNone result (MOST < length (piece_file 2 basis.now ops.now runs.now)) }
+    ensures some { IfSome result (λ n. (n ≡ length (piece_file 2 basis.now ops.now runs.now)) × (n ≤ MAX_FILE)) }
+    ensures none { IfNone result (MAX_FILE < length (piece_file 2 basis.now ops.now runs.now)) }
 {
     let Some(front) = add_ranges(HEAD + COUNT, basis) else {
         return None;

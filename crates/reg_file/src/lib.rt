@@ -21,6 +21,7 @@ mod writing;
 
 pub use fault::{FileFault, FirstFileFault, ReadFileFault, WriteFileFault};
 pub use first::{write_first_bytes, write_first_register};
+pub use heads::MAX_FILE;
 pub use parts::{Part, read_part, read_part_beside, read_part_bytes};
 pub use pieces::{read_piece, read_piece_beside, read_piece_bytes, write_piece, write_piece_bytes};
 pub use reading::{read_bytes, read_register, read_register_beside};

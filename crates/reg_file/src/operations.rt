@@ -1,4 +1,4 @@
-//! Operations, read one after the other.
+//! Reads operations one after the other.
 
 ghost use Rattle.std.specs.Prelude.{◌≡◌, ◌≤◌, length, IfOk, IfErr, IfSome};
 ghost use Rattle.reg_file.specs.Fields.{body_at};
@@ -144,7 +144,7 @@ fn op_of<'a>(
     }
 }
 
-/// This many operations, ascending, and their places.
+/// This many operations in ascending order, and their places.
 pub fn ops_of<'a>(
     alloc: Global,
     known: &[Register],

@@ -6,14 +6,14 @@ ghost use Rattle.reg_file.specs.Reading.{says_piece};
 ghost use Rattle.reg_file.specs.Parts.{FindsPart, IsPartReadFault, IsPartReadFromFault, ReadsAsPart};
 
 use crate::fault::ReadFileFault;
-use crate::heads::{MOST, PIECE};
+use crate::heads::{MAX_FILE, PIECE};
 use crate::pieces::read_piece_bytes_beside;
 use crate::reading::read_bytes_beside;
 use byte_io::{InFault, Source, read_up_to};
 use reg_state::{Piece, Register};
 use std::alloc::Global;
 
-/// What can be joined to a register: a register, or a piece of one.
+/// A register, or a piece of one: both can be joined to a register.
 #[derive(Drop)]
 pub enum Part {
     Register(Register),
@@ -31,7 +31,7 @@ fn says_piece(bytes: &[u8]) -> bool
 
 /// Reads a register or a piece from the bytes of a file: a piece if the kind byte says so.
 pub fn read_part_bytes(alloc: Global, bytes: &[u8]) -> Result<Part, ReadFileFault>
-    // The result is what the bytes are a file of.
+    // The bytes are a file of the result.
     ensures found { IfOk result (λ part. ReadsAsPart bytes.now part) }
     // The file of a register or a piece is read, unless memory runs out.
     ensures only { (part : PartValue) → ReadsAsPart bytes.now part → (result ≡ Ok part) ⊎ (result ≡ Err ReadFileFault.Memory) }
@@ -83,7 +83,7 @@ pub fn read_part_beside<S: Source>(
     ensures found { IfOk result (FindsPart (S.state source.old) (S.state source.new)) }
     ensures fault { IfErr result (IsPartReadFromFault (S.state source.old) (S.state source.new)) }
 {
-    let bytes = match read_up_to(alloc, source, MOST + 1) {
+    let bytes = match read_up_to(alloc, source, MAX_FILE + 1) {
         Ok(bytes) => bytes,
         Err(InFault::ReadFailed(n)) => return Err(ReadFileFault::ReadFailed(n)),
         Err(InFault::Memory) => return Err(ReadFileFault::Memory),

@@ -15,7 +15,7 @@ ghost use Rattle.reg_file.specs.Files.{FindsPiece, HoldsPiece, IsPieceReadFault,
 use crate::contents::{seen_and_ops_of, stop_of};
 use crate::fault::{FileFault, ReadFileFault, Stop, WriteFileFault};
 use crate::fields::{head_of, refused};
-use crate::heads::{MOST, PIECE, VERSION, version_in};
+use crate::heads::{MAX_FILE, PIECE, VERSION, version_in};
 use crate::length::length_of_piece;
 use crate::place::Place;
 use crate::ranges::seen_of;
@@ -94,7 +94,7 @@ fn read_all(alloc: Global, known: &[Register], bytes: &[u8]) -> Result<Piece, St
 
 /// Reads a piece from the bytes of a file.
 pub fn read_piece_bytes(alloc: Global, bytes: &[u8]) -> Result<Piece, ReadFileFault>
-    // The result is what the bytes are a file of.
+    // The bytes are a file of the result.
     ensures found { IfOk result (λ p. ReadsAsPiece bytes.now p) }
     // A piece's file is read, unless memory runs out.
     ensures only { (p : PieceValue) → ReadsAsPiece bytes.now p → (result ≡ Ok p) ⊎ (result ≡ Err ReadFileFault.Memory) }
@@ -115,7 +115,7 @@ pub fn read_piece_bytes_beside(
     ensures only { (p : PieceValue) → ReadsAsPiece bytes.now p → (result ≡ Ok p) ⊎ (result ≡ Err ReadFileFault.Memory) }
     ensures fault { IfErr result (IsPieceReadFault bytes.now) }
 {
-    if bytes.len() > MOST {
+    if bytes.len() > MAX_FILE {
         return Err(ReadFileFault::TooLarge);
     }
     match read_all(alloc, known, bytes) {
@@ -146,7 +146,7 @@ pub fn read_piece_beside<S: Source>(
     ensures found { IfOk result (FindsPiece (S.state source.old) (S.state source.new)) }
     ensures fault { IfErr result (IsPieceReadFromFault (S.state source.old) (S.state source.new)) }
 {
-    let bytes = match read_up_to(alloc, source, MOST + 1) {
+    let bytes = match read_up_to(alloc, source, MAX_FILE + 1) {
         Ok(bytes) => bytes,
         Err(InFault::ReadFailed(n)) => return Err(ReadFileFault::ReadFailed(n)),
         Err(InFault::Memory) => return Err(ReadFileFault::Memory),

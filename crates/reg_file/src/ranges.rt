@@ -86,7 +86,7 @@ fn add_groups<'a>(
     Ok((seen, rest))
 }
 
-/// The ids of some ranges, none of which overlaps the basis.
+/// The ids of some ranges. None of them overlaps the basis.
 pub fn seen_of<'a>(alloc: Global, basis: &Seen, bytes: &'a [u8]) -> Result<(Seen, &'a [u8]), Stop>
     ensures ok { IfOk result (λ x. ReadsSeen basis.now bytes.now x.0 x.1.now) }
     ensures err { IfErr result (StopsIn (ranges basis.now) bytes.now) }

@@ -10,7 +10,7 @@ ghost use Rattle.reg_file.specs.Files.{Finds, IsReadFault, IsReadFromFault, Read
 use crate::contents::kept_of;
 use crate::fault::{ReadFileFault, Stop};
 use crate::fields::head_of;
-use crate::heads::{MOST, REGISTER, version_in};
+use crate::heads::{MAX_FILE, REGISTER, version_in};
 use byte_io::{InFault, Source, read_up_to};
 use reg_state::{Register, Seen};
 use std::alloc::Global;
@@ -39,7 +39,7 @@ fn read_all(alloc: Global, known: &[Register], bytes: &[u8]) -> Result<Register,
 
 /// Reads a register from the bytes of a file.
 pub fn read_bytes(alloc: Global, bytes: &[u8]) -> Result<Register, ReadFileFault>
-    // The result is what the bytes are a file of.
+    // The bytes are a file of the result.
     ensures found { IfOk result (λ r. ReadsAs bytes.now r) }
     // The file of a content is read, unless memory runs out.
     ensures only { (x : Content) → ReadsAs bytes.now x → (result ≡ Ok x) ⊎ (result ≡ Err ReadFileFault.Memory) }
@@ -60,7 +60,7 @@ pub fn read_bytes_beside(
     ensures only { (x : Content) → ReadsAs bytes.now x → (result ≡ Ok x) ⊎ (result ≡ Err ReadFileFault.Memory) }
     ensures fault { IfErr result (IsReadFault bytes.now) }
 {
-    if bytes.len() > MOST {
+    if bytes.len() > MAX_FILE {
         return Err(ReadFileFault::TooLarge);
     }
     match read_all(alloc, known, bytes) {
@@ -91,7 +91,7 @@ pub fn read_register_beside<S: Source>(
     ensures found { IfOk result (Finds (S.state source.old) (S.state source.new)) }
     ensures fault { IfErr result (IsReadFromFault (S.state source.old) (S.state source.new)) }
 {
-    let bytes = match read_up_to(alloc, source, MOST + 1) {
+    let bytes = match read_up_to(alloc, source, MAX_FILE + 1) {
         Ok(bytes) => bytes,
         Err(InFault::ReadFailed(n)) => return Err(ReadFileFault::ReadFailed(n)),
         Err(InFault::Memory) => return Err(ReadFileFault::Memory),

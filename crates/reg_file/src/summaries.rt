@@ -10,7 +10,7 @@ ghost use Rattle.reg_file.specs.Files.{FindsSeen, HoldsSeen, IsSeenReadFault, Is
 
 use crate::fault::{FileFault, ReadFileFault, Stop, WriteFileFault};
 use crate::fields::{head_of, refused};
-use crate::heads::{MOST, SEEN, VERSION, version_in};
+use crate::heads::{MAX_FILE, SEEN, VERSION, version_in};
 use crate::length::length_of_seen;
 use crate::ranges::seen_of;
 use crate::spelling::{put_head, put_ranges};
@@ -60,14 +60,14 @@ fn read_all(alloc: Global, bytes: &[u8]) -> Result<Seen, Stop>
 
 /// Reads the seen ids from the bytes of a summary.
 pub fn read_seen_bytes(alloc: Global, bytes: &[u8]) -> Result<Seen, ReadFileFault>
-    // The result is what the bytes are a file of.
+    // The bytes are a file of the result.
     ensures found { IfOk result (λ seen. ReadsAsSeen bytes.now seen) }
     // A summary is read, unless memory runs out.
     ensures only { (ids : Ids) → ReadsAsSeen bytes.now ids → (result ≡ Ok ids) ⊎ (result ≡ Err ReadFileFault.Memory) }
     // The fault is the first one.
     ensures fault { IfErr result (IsSeenReadFault bytes.now) }
 {
-    if bytes.len() > MOST {
+    if bytes.len() > MAX_FILE {
         return Err(ReadFileFault::TooLarge);
     }
     match read_all(alloc, bytes) {
@@ -85,7 +85,7 @@ pub fn read_seen<S: Source>(alloc: Global, source: &mut S) -> Result<Seen, ReadF
     ensures found { IfOk result (FindsSeen (S.state source.old) (S.state source.new)) }
     ensures fault { IfErr result (IsSeenReadFromFault (S.state source.old) (S.state source.new)) }
 {
-    let bytes = match read_up_to(alloc, source, MOST + 1) {
+    let bytes = match read_up_to(alloc, source, MAX_FILE + 1) {
         Ok(bytes) => bytes,
         Err(InFault::ReadFailed(n)) => return Err(ReadFileFault::ReadFailed(n)),
         Err(InFault::Memory) => return Err(ReadFileFault::Memory),

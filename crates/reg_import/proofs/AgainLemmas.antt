@@ -7,7 +7,7 @@ use Rattle.crs_value.specs.declared.key.Key.{Key}
 use Rattle.reg_op.specs.Ids.{Id}
 use Rattle.reg_op.specs.declared.operation.OpBody.{OpBody as Body}
 use Rattle.reg_seen.specs.Runs.{id_at}
-use Rattle.reg_office.specs.Conflicts.{KeyBytes, bytes_of}
+use Rattle.reg_report.specs.Conflicts.{KeyBytes, bytes_of}
 use Rattle.reg_import.specs.declared.known.Known.{Known}
 use Rattle.reg_import.specs.declared.reading.Reading.{Reading}
 use Rattle.reg_import.specs.declared.reading.Reading.TheVariants as reading

@@ -17,10 +17,10 @@ use Rattle.reg_op.specs.Status.{enters, retires, supersedes, status}
 use Rattle.reg_op.specs.declared.status.Status.TheVariants.{Retired, Superseded, Valid}
 use Rattle.reg_op.proofs.OpLemmas.{id_total, op_total, is_same_exact}
 use Rattle.reg_seen.specs.Runs.{id_at}
-use Rattle.reg_office.specs.Conflicts.{KeyBytes, bytes_of}
-use Rattle.reg_office.specs.Exports.{is_retired}
+use Rattle.reg_report.specs.Conflicts.{KeyBytes, bytes_of}
+use Rattle.reg_report.specs.Exports.{is_retired}
 use Rattle.reg_office.proofs.NumberLemmas.{op_cases}
-use Rattle.reg_office.proofs.PairLemmas.{it_enters}
+use Rattle.reg_report.proofs.PairLemmas.{it_enters}
 use Rattle.reg_import.specs.declared.known.Known.{Known}
 use Rattle.reg_import.specs.declared.reading.Reading.{Reading}
 use Rattle.reg_import.specs.declared.reading.Reading.TheVariants as reading

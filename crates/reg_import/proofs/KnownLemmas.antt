@@ -4,10 +4,10 @@ use Rattle.std.proofs.lemmas.Bool.{true≢false}
 use Rattle.std.proofs.lemmas.List.Elements.{filter-append}
 use Rattle.std.specs.Cmp.{tied_itself, Equal-is}
 use Rattle.std.specs.Ordering.{is_eq}
-use Rattle.reg_office.specs.declared.row.Row.{Row as MadeRow}
-use Rattle.reg_office.specs.Seen.{row_seen}
-use Rattle.reg_office.specs.Conflicts.{KeyBytes, key_cmp}
-use Rattle.reg_office.proofs.ConflictLemmas.{key_total, key_exact}
+use Rattle.reg_report.specs.declared.row.Row.{Row as MadeRow}
+use Rattle.reg_report.specs.Seen.{row_seen}
+use Rattle.reg_report.specs.Conflicts.{KeyBytes, key_cmp}
+use Rattle.reg_report.proofs.ConflictLemmas.{key_total, key_exact}
 use Rattle.reg_import.specs.declared.known.Known.{Known}
 use Rattle.reg_import.specs.Known.{IsKnown, AreKnown, stands, OfKey, At, is_key, key_of, by_key, with_key}
 use Rattle.reg_import.specs.Index.{with_entry}

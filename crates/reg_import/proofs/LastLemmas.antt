@@ -19,12 +19,12 @@ use Rattle.reg_op.specs.Contents.{Content, IsContent}
 use Rattle.reg_op.specs.Status.{enters, is_enter, retires, is_retirement}
 use Rattle.reg_op.proofs.OpLemmas.{op_total, op_exact, id_total, is_same_exact}
 use Rattle.reg_op.proofs.FiniteLemmas.{member_from_any}
-use Rattle.reg_file.proofs.KeptLemmas.{items_by_id}
+use Rattle.reg_op.proofs.ItemLemmas.{items_by_id}
 use Rattle.reg_seen.specs.Runs.{id_at}
-use Rattle.reg_office.specs.Conflicts.{KeyBytes, bytes_of}
+use Rattle.reg_report.specs.Conflicts.{KeyBytes, bytes_of}
 use Rattle.reg_office.specs.Making.{greatest, numbered}
 use Rattle.reg_office.specs.Commands.{Does}
-use Rattle.reg_office.proofs.ConflictLemmas.{none_in, in_cons, in_head, in_tail}
+use Rattle.reg_report.proofs.ConflictLemmas.{none_in, in_cons, in_head, in_tail}
 use Rattle.reg_office.proofs.LawLemmas.{made_are, are_unseen}
 use Rattle.reg_office.proofs.NumberLemmas.{op_cases, numbered_on}
 use Rattle.reg_import.specs.declared.known.Known.{Known}

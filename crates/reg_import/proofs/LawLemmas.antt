@@ -28,12 +28,12 @@ use Rattle.reg_op.proofs.OpLemmas.{op_total, op_exact}
 use Rattle.reg_op.proofs.FiniteLemmas.{member_from_any}
 use Rattle.reg_op.proofs.ContentLemmas.{nothing_is_content}
 use Rattle.reg_seen.specs.Runs.{id_at}
-use Rattle.reg_office.specs.Conflicts.{bytes_of}
-use Rattle.reg_office.specs.Exports.{is_retired, row_line, export}
+use Rattle.reg_report.specs.Conflicts.{bytes_of}
+use Rattle.reg_report.specs.Exports.{is_retired, row_line, export}
 use Rattle.reg_office.specs.Making.{greatest}
 use Rattle.reg_office.specs.Commands.{Does}
-use Rattle.reg_office.proofs.ConflictLemmas.{none_in, in_cons, in_head, in_tail, in_map, from_map}
-use Rattle.reg_office.proofs.EntryLemmas.{row_is_entered}
+use Rattle.reg_report.proofs.ConflictLemmas.{none_in, in_cons, in_head, in_tail, in_map, from_map}
+use Rattle.reg_report.proofs.EntryLemmas.{row_is_entered}
 use Rattle.reg_import.specs.declared.known.Known.{Known}
 use Rattle.reg_import.specs.declared.reading.Reading.{Reading}
 use Rattle.reg_import.specs.declared.reading.Reading.TheVariants as reading

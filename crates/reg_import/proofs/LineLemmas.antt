@@ -1,36 +1,46 @@
--- Lines of texts, one after another.
-use Rattle.std.proofs.Common.{◌≡◌, ℕ, List, [], ◌∷◌, ◌++◌, append_assoc, append-nil, length, arith, refl, sym, ap, ◌∙◌, subst}
+-- Lines, one after another.
+use Rattle.std.proofs.Common.{◌≡◌, ℕ, Bool, true, false, not, ◌&&◌, cond, List, [], ◌∷◌, ◌++◌, append_assoc, append-nil, filter, length, arith, refl, sym, ap, ◌∙◌, subst}
+use Rattle.std.proofs.lemmas.List.Elements.{filter-append}
 use Rattle.csv.specs.Writing.{row_text, default_writer}
-use Rattle.reg_office.specs.Lines.{AreLines, IsSheet}
+use Rattle.reg_report.specs.Lines.{Sheet, sheet_text, IsReady, WritesRow, AreLines}
 use Rattle.reg_import.specs.declared.reading.FileText.{FileText}
 use Rattle.reg_import.specs.declared.told.Told.{Told}
-use Rattle.reg_import.specs.Lines.{lines_of, IsImportLine, import_header}
+use Rattle.reg_import.specs.Lines.{Line, lines_of, is_same, is_shown, IsImportLine}
+use Rattle.reg_import.specs.Listing.{WritesLines}
 
--- what is still to come completes the lines
-abbrev pub Completes : List (List ℕ) → List FileText → List Told → List FileText → List Told → List ℕ → Type 0
-Completes names all_texts all_told texts told text =
-    (more : List ℕ) → AreLines (IsImportLine names) (lines_of texts told) more → IsSheet import_header (IsImportLine names) (lines_of all_texts all_told) (text ++ more)
+-- ---- lines of some items
 
-pub line_more : (names : List (List ℕ)) (all_texts : List FileText) (all_told : List Told) (texts others : List FileText) (told later : List Told) (x : FileText) (t : Told) (old new : List ℕ) (fields : List (List ℕ)) → texts ≡ x ∷ others → told ≡ t ∷ later
-    → IsImportLine names (record { text = x; told = t }) fields → new ≡ old ++ row_text default_writer fields → Completes names all_texts all_told texts told old → Completes names all_texts all_told others later new
-line_more names all_texts all_told texts others told later x t old new fields e f is h done more lines =
-    subst (IsSheet import_header (IsImportLine names) (lines_of all_texts all_told)) (sym (append_assoc old (row_text default_writer fields) more) ∙ ap (λ r. r ++ more) (sym h))
-    (done (row_text default_writer fields ++ more)
-    (subst (λ l. AreLines (IsImportLine names) l (row_text default_writer fields ++ more)) (λ j. lines_of (sym e j) (sym f j)) (fields, more, is, lines, refl)))
+module _ {T : Type 0} (R : T → List (List ℕ) → Type 0) where
+  lines-append : (xs ys : List T) (a b : List ℕ) → AreLines R xs a → AreLines R ys b → AreLines R (xs ++ ys) (a ++ b)
+  lines-append [] ys a b e more = subst (AreLines R ys) (sym (ap (λ l. l ++ b) e)) more
+  lines-append (x ∷ xs) ys a b l more = (l.0, l.1 ++ b, l.2, lines-append xs ys l.1 b l.3 more, ap (λ t. t ++ b) l.4 ∙ append_assoc (row_text default_writer l.0) l.1 b)
 
-none_of : (texts : List FileText) → lines_of texts [] ≡ []
-none_of [] = refl
-none_of (x ∷ xs) = refl
+  pub one_line : (x : T) (fields : List (List ℕ)) (old new : Sheet) → R x fields → WritesRow old new fields → WritesLines R (x ∷ []) old new
+  one_line x fields old new is row = record { lines = row_text default_writer fields; are = (fields, [], is, refl, sym (append-nil (row_text default_writer fields))); text = row.text; ready = row.ready }
 
-pub no_texts : (texts : List FileText) (told : List Told) → length texts ≡ 0 → lines_of texts told ≡ []
-no_texts [] told h = refl
-no_texts (x ∷ xs) told h = absurd (omega arith)
+  pub then_lines : (xs ys : List T) (old now new : Sheet) → WritesLines R xs old now → WritesLines R ys now new → WritesLines R (xs ++ ys) old new
+  then_lines xs ys old now new one two = record {
+    lines = one.lines ++ two.lines;
+    are = lines-append xs ys one.lines two.lines one.are two.are;
+    text = two.text ∙ ap (λ t. t ++ two.lines) one.text ∙ append_assoc (sheet_text old) one.lines two.lines;
+    ready = two.ready;
+  }
 
-pub nothing_told : (texts : List FileText) (told : List Told) → length told ≡ 0 → lines_of texts told ≡ []
-nothing_told texts [] h = none_of texts
-nothing_told texts (t ∷ ts) h = absurd (omega arith)
+-- ---- one text after another
 
-pub lines_done : (names : List (List ℕ)) (all_texts : List FileText) (all_told : List Told) (texts : List FileText) (told : List Told) (text out : List ℕ) → lines_of texts told ≡ [] → out ≡ text → Completes names all_texts all_told texts told text
-    → IsSheet import_header (IsImportLine names) (lines_of all_texts all_told) out
-lines_done names all_texts all_told texts told text out none h done =
-    subst (IsSheet import_header (IsImportLine names) (lines_of all_texts all_told)) (append-nil text ∙ sym h) (done [] (subst (λ l. AreLines (IsImportLine names) l []) (sym none) refl))
+-- the lines of the texts so far were written, and these are left
+pub record SoFar (names : List (List ℕ)) (changes : Bool) (all : List Line) (texts : List FileText) (told : List Told) (old now : Sheet) : Type 0 where
+  pub done : List Line
+  pub split : all ≡ done ++ lines_of texts told
+  pub writes : WritesLines (IsImportLine names) (filter (is_shown changes) done) old now
+
+module _ (names : List (List ℕ)) (changes : Bool) (all : List Line) where
+  pub one_more : (texts others : List FileText) (told later : List Told) (x : FileText) (t : Told) (old now new : Sheet) → texts ≡ x ∷ others → told ≡ t ∷ later
+      → WritesLines (IsImportLine names) (filter (is_shown changes) (record { text = x; told = t } ∷ [])) now new → SoFar names changes all texts told old now → SoFar names changes all others later old new
+  one_more texts others told later x t old now new e f w s =
+      let line : Line = record { text = x; told = t } in record {
+        done = s.done ++ line ∷ [];
+        split = s.split ∙ (λ j. s.done ++ lines_of (e j) (f j)) ∙ sym (append_assoc s.done (line ∷ []) (lines_of others later));
+        writes = subst (λ l. WritesLines (IsImportLine names) l old new) (sym (filter-append (is_shown changes) s.done (line ∷ [])))
+            (then_lines (IsImportLine names) (filter (is_shown changes) s.done) (filter (is_shown changes) (line ∷ [])) old now new s.writes w);
+      }

@@ -28,15 +28,15 @@ use Rattle.reg_op.proofs.ContentLemmas.{contains_op-union, kept_is_within, kept-
 use Rattle.reg_op.proofs.OneLemmas.{kept_has, any-from_list}
 use Rattle.reg_op.proofs.StatusLemmas.{retires-kept}
 use Rattle.reg_op.proofs.JoinLemmas.{joined_ok}
-use Rattle.reg_office.specs.Conflicts.{bytes_of}
-use Rattle.reg_office.specs.Exports.{is_retired}
+use Rattle.reg_report.specs.Conflicts.{bytes_of}
+use Rattle.reg_report.specs.Exports.{is_retired}
 use Rattle.reg_office.specs.Making.{greatest, numbered}
 use Rattle.reg_office.specs.Commands.{Does}
-use Rattle.reg_office.proofs.ConflictLemmas.{none_in, in_cons, in_head, in_tail}
-use Rattle.reg_office.proofs.EntryLemmas.{row_is_entered}
+use Rattle.reg_report.proofs.ConflictLemmas.{none_in, in_cons, in_head, in_tail}
+use Rattle.reg_report.proofs.EntryLemmas.{row_is_entered}
 use Rattle.reg_office.proofs.LawLemmas.{made_are}
 use Rattle.reg_office.proofs.NumberLemmas.{op_cases}
-use Rattle.reg_office.proofs.PairLemmas.{it_enters}
+use Rattle.reg_report.proofs.PairLemmas.{it_enters}
 use Rattle.reg_import.specs.declared.known.Known.{Known}
 use Rattle.reg_import.specs.Known.{IsKnown, AreKnown, AreStanding, stands, key_of}
 use Rattle.reg_import.specs.Again.{HasStanding}

@@ -7,12 +7,12 @@ use Rattle.reg_op.specs.Operations.{Op}
 use Rattle.reg_op.specs.declared.operation.OpBody.{OpBody as Body}
 use Rattle.reg_op.specs.declared.operation.OpBody.TheVariants.{Retire}
 use Rattle.reg_seen.specs.Runs.{id_at}
-use Rattle.reg_office.specs.Conflicts.{bytes_of}
+use Rattle.reg_report.specs.Conflicts.{bytes_of}
 use Rattle.reg_office.specs.Making.{numbered}
 use Rattle.reg_office.proofs.NumberLemmas.{length_map}
 use Rattle.reg_import.specs.declared.known.Known.{Known}
 use Rattle.reg_import.specs.declared.index.KeyText.{KeyText}
-use Rattle.reg_import.specs.declared.index.Bucket.{Bucket}
+use Rattle.reg_import.specs.declared.bucket.Bucket.{Bucket}
 use Rattle.reg_import.specs.declared.reading.Reading.{Reading}
 use Rattle.reg_import.specs.declared.reading.Reading.TheVariants as reading
 use Rattle.reg_import.specs.declared.told.Differs.{Differs}
@@ -21,7 +21,10 @@ use Rattle.reg_import.specs.declared.told.Told.{Told}
 use Rattle.reg_import.specs.declared.told.Told.TheVariants as told
 use Rattle.reg_import.specs.Known.{OfKey, At, key_of, with_key}
 use Rattle.reg_import.specs.Index.{key_bytes, bucket_seen, nothing_there, Indexes, and_entry, with_entry}
-use Rattle.reg_import.specs.Imports.{told_of, bodies_of, then_of, told_at, bodies_at, then_at, Step, imports, tolds, effects}
+use Rattle.reg_op.specs.Ids.{Id}
+use Rattle.reg_import.specs.declared.summary.Found.{Found}
+use Rattle.reg_import.specs.Summary.{found, told_by}
+use Rattle.reg_import.specs.Imports.{least, any_entry, told_of, bodies_of, then_of, told_at, bodies_at, then_at, Step, imports, tolds, effects}
 use Rattle.reg_import.specs.Plans.{StepsOn, Lists}
 use Rattle.reg_import.proofs.NumberedLemmas.{numbered_append, length_numbered}
 use Rattle.reg_import.proofs.KnownLemmas.{put_again}
@@ -42,6 +45,10 @@ fits_told d r n there text h =
       spent = omega arith;
     })
 
+-- by what is found of the text
+pub told_is : (d : Differs) (new : Id) (there : OfKey) (text : List ℕ) (f : Found) (t : Told) → f ≡ found text there.known → t ≡ told_by f (least any_entry there.known) d new there → t ≡ told_of d new there text
+told_is d new there text f t e is = is ∙ ap (λ g. told_by g (least any_entry there.known) d new there) e
+
 pub told_fits : (d : Differs) (r : List ℕ) (n : ℕ) (there : OfKey) (text given : List ℕ) (t : Told) → t ≡ told_of d (id_at r n) there given → given ≡ text → n ≤ 4294967296 → n + length (bodies_of t text there.known) ≤ 4294967296
 told_fits d r n there text given t e same h = subst (λ u. n + length (bodies_of u text there.known) ≤ 4294967296) (sym (e ∙ ap (told_of d (id_at r n) there) same)) (fits_told d r n there text h)
 
@@ -50,9 +57,6 @@ fits_at d r n at (reading.Unread f) h = omega arith
 fits_at d r n at (reading.Defined text key) h = fits_told d r n (at (bytes_of key)) text h
 
 -- ---- one text
-
-pub step_unread : (d : Differs) (r : List ℕ) (n : ℕ) (note : List ℕ) (f : DefinitionFault) (at : At) (m : BTreeMap KeyText Bucket) (old new : List Op) → new ≡ old → Indexes m at → StepsOn d r n note (reading.Unread f) at m old new (told.Refused (problem.Unread f))
-step_unread d r n note f at m old new e i = record { told = refl; made = e ∙ sym (append-nil old); index = i }
 
 module _ (d : Differs) (r : List ℕ) (n : ℕ) (note text : List ℕ) (key : Key) (at : At) (kt : KeyText) (b b' : Bucket) (m : BTreeMap KeyText Bucket) (old new : List Op) (t : Told) where
   pub step_is : key_bytes kt ≡ bytes_of key → bucket_seen b ≡ at (key_bytes kt) → t ≡ told_of d (id_at r n) (bucket_seen b) text → new ≡ old ++ numbered r n note (bodies_of t text b.known.items)

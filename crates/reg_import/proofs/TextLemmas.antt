@@ -8,7 +8,7 @@ use Rattle.std.proofs.lemmas.List.Elements.{Contains-append_left, Contains-appen
 use Rattle.crs_value.specs.declared.key.Key.{Key}
 use Rattle.wkt_crs.proofs.Defining.{same_bytes, not_same}
 use Rattle.reg_op.specs.Ids.{Id}
-use Rattle.reg_office.proofs.ConflictLemmas.{none_in, in_cons, in_head, in_tail}
+use Rattle.reg_report.proofs.ConflictLemmas.{none_in, in_cons, in_head, in_tail}
 use Rattle.reg_import.specs.declared.known.Known.{Known}
 use Rattle.reg_import.specs.declared.told.Differs.{Differs}
 use Rattle.reg_import.specs.declared.told.Differs.TheVariants as differs

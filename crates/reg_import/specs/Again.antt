@@ -5,8 +5,10 @@ use Rattle.reg_op.specs.Contents.{Content}
 use Rattle.reg_op.specs.Rows.{Row, rows}
 use Rattle.reg_op.specs.Status.{retires, supersedes}
 use Rattle.reg_seen.specs.Runs.{id_at}
+use Rattle.reg_report.specs.Conflicts.{bytes_of}
 use Rattle.reg_office.specs.Making.{greatest}
 use Rattle.reg_import.specs.declared.reading.Reading.{Reading}
+use Rattle.reg_import.specs.declared.reading.Reading.TheVariants as reading
 use Rattle.reg_import.specs.declared.told.Told.{Told}
 use Rattle.reg_import.specs.declared.told.Told.TheVariants as told
 use Rattle.reg_import.specs.Known.{stands}
@@ -23,6 +25,13 @@ pub record HasStanding (s : Ops) (text : List ℕ) : Type 0 where
 -- the texts of all entries that are not retired, by id
 abbrev pub standing_texts : Ops → List (List ℕ)
 standing_texts s = map (λ (r : Row). r.definition) (filter stands (rows s))
+
+-- the same definition with the same key, or the same fault
+abbrev pub IsSameReading : Reading → Reading → Type 0
+IsSameReading (reading.Defined text key) (reading.Defined other its) = (text ≡ other) × (bytes_of key ≡ bytes_of its)
+IsSameReading (reading.Defined text key) (reading.Unread g) = ⊥
+IsSameReading (reading.Unread f) (reading.Defined other its) = ⊥
+IsSameReading (reading.Unread f) (reading.Unread g) = f ≡ g
 
 -- each text is read so
 abbrev pub AreReadings : List (List ℕ) → List Reading → Type 0

@@ -1,4 +1,4 @@
--- What importing texts does, text by text.
+-- The effect of importing texts, text by text.
 use Rattle.std.specs.Prelude.{◌≡◌, ℕ, ◌+◌, nat_eq, nat_le, Bool, true, false, ◌&&◌, List, [], ◌∷◌, ◌++◌, map, length, Option, Some, None, option_map, if◌then◌else◌}
 use Rattle.std.specs.Option.{unwrap_or}
 use Rattle.std.specs.List.{flat_map, list_any}
@@ -8,7 +8,7 @@ use Rattle.reg_op.specs.Ids.{Id, is_before}
 use Rattle.reg_op.specs.declared.operation.OpBody.{OpBody as Body}
 use Rattle.reg_op.specs.declared.operation.OpBody.TheVariants.{Enter, Retire}
 use Rattle.reg_seen.specs.Runs.{id_at}
-use Rattle.reg_office.specs.Conflicts.{bytes_of}
+use Rattle.reg_report.specs.Conflicts.{bytes_of}
 use Rattle.reg_import.specs.declared.known.Known.{Known}
 use Rattle.reg_import.specs.declared.reading.Reading.{Reading}
 use Rattle.reg_import.specs.declared.reading.Reading.TheVariants as reading
@@ -38,6 +38,15 @@ abbrev pub least : (Known → Bool) → List Known → Option Id
 least passes [] = None
 least passes (e ∷ es) = if passes e then Some (sooner e.entry (least passes es)) else least passes es
 
+-- the lesser of an id and another one, if there is one
+abbrev pub lesser : Option Id → Id → Id
+lesser None j = j
+lesser (Some i) j = sooner i (Some j)
+
+-- the least id of the entries that pass, with one more entry
+abbrev pub and_least : Bool → Option Id → Id → Option Id
+and_least passes first i = if passes then Some (lesser first i) else first
+
 -- the last number that would be given is a number
 abbrev pub unless_spent : ℕ → Told → Told
 unless_spent last t = if nat_le last 4294967295 then t else told.Spent
@@ -50,13 +59,13 @@ told_of_new (Some other) differs.Beside new there = unless_spent new.count (told
 told_of_new (Some other) differs.Revise new there =
     if there.ours then told.Refused (problem.KeyTaken other) else unless_spent (new.count + length there.known) (told.Revised new)
 
--- of a text, over what there is of its key. A text has one key, so each entry that has the text is among these
+-- the action for a text, given the entries of its key. A text has one key, so each entry that has the text is among these
 abbrev pub told_of : Differs → Id → OfKey → List ℕ → Told
 told_of d new there text =
     unwrap_or (option_map told.Same (least (has_text_and_is_valid text) there.known))
     (unwrap_or (option_map told.Superseded (least (has_text text) there.known)) (told_of_new (least any_entry there.known) d new there))
 
--- the effects that this has
+-- the effects of the action
 abbrev pub bodies_of : Told → List ℕ → List Known → List Body
 bodies_of (told.Same i) text others = []
 bodies_of (told.Superseded i) text others = []
@@ -69,7 +78,7 @@ bodies_of told.Spent text others = []
 abbrev pub entered : Id → Key → List ℕ → Known
 entered i key text = record { entry = i; key = key; definition = text; valid = true }
 
--- what there is of the key then
+-- the entries of the key after it
 abbrev pub then_of : Told → Key → List ℕ → OfKey → OfKey
 then_of (told.Same i) key text there = record { known = there.known; ours = true }
 then_of (told.Superseded i) key text there = record { known = there.known; ours = true }
@@ -97,7 +106,7 @@ pub record Step : Type 0 where
   pub told : Told
   pub bodies : List Body
 
--- one text after another, each over what those before it made; the operations are numbered on
+-- one text after another, each given the entries that the ones before it made; the operations are numbered in order
 abbrev pub imports : Differs → List ℕ → ℕ → At → List Reading → List Step
 imports d replica n at [] = []
 imports d replica n at (text ∷ texts) =

@@ -2,10 +2,10 @@
 use Rattle.std.specs.Prelude.{◌≡◌, false, [], ◌∷◌, ◌++◌, Option, Some, None}
 use Rattle.std.specs.declared.cmp.Ordering.{Ordering}
 use Rattle.std.specs.BTreeMap.{BTreeMap, get}
-use Rattle.reg_office.specs.Conflicts.{KeyBytes, key_cmp}
+use Rattle.reg_report.specs.Conflicts.{KeyBytes, key_cmp}
 use Rattle.reg_import.specs.declared.known.Known.{Known}
 use Rattle.reg_import.specs.declared.index.KeyText.{KeyText}
-use Rattle.reg_import.specs.declared.index.Bucket.{Bucket}
+use Rattle.reg_import.specs.declared.bucket.Bucket.{Bucket}
 use Rattle.reg_import.specs.Known.{OfKey, At, key_of, with_key}
 
 abbrev pub key_bytes : KeyText → KeyBytes
@@ -24,11 +24,11 @@ abbrev pub seen_in : Option Bucket → OfKey
 seen_in None = nothing_there
 seen_in (Some b) = bucket_seen b
 
--- of each key it has what there is
+-- it has the entries of each key
 abbrev pub Indexes : BTreeMap KeyText Bucket → At → Type 0
 Indexes m at = (q : KeyText) → seen_in (get text_cmp m q) ≡ at (key_bytes q)
 
--- an entry more of its key
+-- one more entry of its key
 abbrev pub and_entry : Known → OfKey → OfKey
 and_entry e there = record { known = there.known ++ e ∷ []; ours = there.ours }
 

@@ -1,4 +1,4 @@
--- The entries that are not retired, and what there is of each key.
+-- The entries that are not retired, and those of each key.
 use Rattle.std.specs.Prelude.{◌≡◌, Bool, true, false, not, List, [], ◌∷◌, filter, Option, Some, None, if◌then◌else◌}
 use Rattle.std.specs.Ordering.{is_eq}
 use Rattle.wkt_crs.specs.Definition.{IsKeyIn}
@@ -6,8 +6,8 @@ use Rattle.reg_op.specs.Operations.{Ops}
 use Rattle.reg_op.specs.Rows.{Row, rows}
 use Rattle.reg_op.specs.declared.status.Status.{Status}
 use Rattle.reg_op.specs.declared.status.Status.TheVariants.{Valid, Superseded, Retired}
-use Rattle.reg_office.specs.Conflicts.{KeyBytes, bytes_of, key_cmp}
-use Rattle.reg_office.specs.Exports.{is_retired}
+use Rattle.reg_report.specs.Conflicts.{KeyBytes, bytes_of, key_cmp}
+use Rattle.reg_report.specs.Exports.{is_retired}
 use Rattle.reg_import.specs.declared.known.Known.{Known}
 
 abbrev pub is_valid : Option Status → Bool
@@ -40,7 +40,7 @@ pub record OfKey : Type 0 where
   pub known : List Known
   pub ours : Bool
 
--- what there is of each key
+-- the bucket of each key
 abbrev pub At : Type 0
 At = KeyBytes → OfKey
 
@@ -54,6 +54,6 @@ key_of e = bytes_of e.key
 abbrev pub by_key : List Known → At
 by_key es = λ k. record { known = filter (λ (e : Known). is_key k (key_of e)) es; ours = false }
 
--- of this key there is something new, of the others what there was
+-- this key has a new bucket, and every other key its old one
 abbrev pub with_key : KeyBytes → OfKey → At → At
 with_key key new old = λ k. if is_key key k then new else old k

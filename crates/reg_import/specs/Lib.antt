@@ -1,7 +1,11 @@
 pub mod Known
+pub mod Quoted
 pub mod Readings
 pub mod Imports
+pub mod Summary
 pub mod Index
 pub mod Plans
 pub mod Again
+pub mod Gone
 pub mod Lines
+pub mod Listing

@@ -1,15 +1,17 @@
--- What is printed of an import.
-use Rattle.std.specs.Prelude.{◌≡◌, ℕ, List, [], ◌∷◌, ◌++◌, slice_get, codes, decimal}
+-- The lines of an import.
+use Rattle.std.specs.Prelude.{◌≡◌, ℕ, Bool, true, false, not, ◌&&◌, List, [], ◌∷◌, ◌++◌, slice_get, codes, decimal}
 use Rattle.std.specs.Option.{unwrap_or}
 use Rattle.crs_part.specs.Slots.{name_of}
 use Rattle.crs_value.specs.declared.crs.Crs.{Crs}
+use Rattle.crs_value.specs.declared.key.Key.{Key}
 use Rattle.crs_value.specs.Checking as condition
 use Rattle.wkt_grammar.specs.Names.{slot_name}
 use Rattle.wkt_grammar.specs.declared.fault.SlotFault.TheVariants as slot
 use Rattle.wkt_crs.specs.declared.fault.Unspelled.TheVariants as refused
 use Rattle.wkt_crs.specs.declared.definition.DefinitionFault.{DefinitionFault}
 use Rattle.wkt_crs.specs.declared.definition.DefinitionFault.TheVariants as fault
-use Rattle.wkt_crs.specs.Definition.{IsCrsOf, fault_name}
+use Rattle.wkt_crs.specs.Definition.{IsCrsOf, IsKeyIn, fault_name}
+use Rattle.reg_op.specs.Rows.{Row}
 use Rattle.reg_op.specs.Text.{printed}
 use Rattle.reg_import.specs.declared.reading.FileText.{FileText}
 use Rattle.reg_import.specs.declared.reading.Reading.{Reading}
@@ -41,7 +43,7 @@ entry_text (told.Revised i) = printed i
 entry_text (told.Refused p) = []
 entry_text told.Spent = []
 
--- what a fault is called, and what it names
+-- the name of a fault, and the items that it names
 abbrev pub fault_words : DefinitionFault → List ℕ
 fault_words (fault.Read (refused.Slot (slot.Missing name place))) = codes "Missing" ++ 32 ∷ slot_name name
 fault_words (fault.Read (refused.Broken c place)) = codes "Broken" ++ 32 ∷ condition.name_of c
@@ -74,6 +76,15 @@ abbrev pub line_fields : List (List ℕ) → FileText → Told → List ℕ → 
 line_fields names x t authority code name =
     name_at names x.file ∷ decimal x.place ∷ action_word t ∷ entry_text t ∷ authority ∷ code ∷ name ∷ fault_text t x.at ∷ []
 
+abbrev pub is_same : Told → Bool
+is_same (told.Same i) = true
+is_same (told.Superseded i) = false
+is_same (told.Entered i) = false
+is_same (told.Beside i) = false
+is_same (told.Revised i) = false
+is_same (told.Refused p) = false
+is_same told.Spent = false
+
 -- a text, and its action
 pub record Line : Type 0 where
   pub text : FileText
@@ -84,11 +95,26 @@ lines_of [] ts = []
 lines_of (x ∷ xs) [] = []
 lines_of (x ∷ xs) (t ∷ ts) = record { text = x; told = t } ∷ lines_of xs ts
 
--- they are the fields of such a line, with the key and the name of what was read
+-- it is printed, unless only changes are, and a valid entry has the text
+abbrev pub is_shown : Bool → Line → Bool
+is_shown changes l = not (changes && is_same l.told)
+
+-- they are the fields of such a line, with the key and the name of the definition; if there is none, with the first text in
+-- quotation marks as the name
 abbrev pub IsLineOf : List (List ℕ) → FileText → Told → Reading → List (List ℕ) → Type 0
 IsLineOf names x t (reading.Defined definition key) fields =
     (crs : Crs) × IsCrsOf crs definition × (fields ≡ line_fields names x t key.authority.bytes key.code.bytes (name_of crs.parts).bytes)
-IsLineOf names x t (reading.Unread f) fields = fields ≡ line_fields names x t [] [] []
+IsLineOf names x t (reading.Unread f) fields = fields ≡ line_fields names x t [] [] x.quoted.items
 
 abbrev pub IsImportLine : List (List ℕ) → Line → List (List ℕ) → Type 0
 IsImportLine names l fields = IsLineOf names l.text l.told l.text.reading fields
+
+-- ---- entries that no text has
+
+-- they are the fields of the line of such an entry: the action `gone`, the entry, its key and its name
+pub record IsGoneLine (r : Row) (fields : List (List ℕ)) : Type 0 where
+  pub key : Key
+  pub crs : Crs
+  pub keyed : IsKeyIn key r.definition
+  pub spelled : IsCrsOf crs r.definition
+  pub are : fields ≡ [] ∷ [] ∷ codes "gone" ∷ printed r.entry ∷ key.authority.bytes ∷ key.code.bytes ∷ (name_of crs.parts).bytes ∷ [] ∷ []

@@ -17,7 +17,7 @@ use Rattle.reg_import.specs.declared.told.Told.TheVariants as told
 use Rattle.reg_import.specs.declared.import.ImportRefusal.{ImportRefusal}
 use Rattle.reg_import.specs.declared.import.ImportRefusal.TheVariants as refusal
 use Rattle.reg_import.specs.declared.index.KeyText.{KeyText}
-use Rattle.reg_import.specs.declared.index.Bucket.{Bucket}
+use Rattle.reg_import.specs.declared.bucket.Bucket.{Bucket}
 use Rattle.reg_import.specs.Known.{At, AreStanding, by_key}
 use Rattle.reg_import.specs.Index.{Indexes}
 use Rattle.reg_import.specs.Imports.{told_at, bodies_at, then_at, Step, imports, tolds, effects, NoneRefused, NoneSpent}

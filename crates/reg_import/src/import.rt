@@ -13,12 +13,11 @@ use crate::making::join_ops;
 use crate::plan::{Plan, plan_of};
 use crate::reading::FileText;
 use crate::told::{Differs, Problem, Told};
-use reg_op::{Note, NoteFault};
+use reg_office::note_of;
+use reg_op::Note;
 use reg_state::Register;
 use std::alloc::{AllocError, Global};
 use uuid::Uuid;
-
-const MAX_NOTE: usize = 200;
 
 /// A register after an import, and the action for each text.
 #[derive(Drop)]
@@ -27,7 +26,7 @@ pub struct Imported {
     pub told: Vec<Told>,
 }
 
-/// Why nothing is imported.
+/// Why an import is refused.
 #[derive(Clone, Copy, Debug, PartialEq, Eq)]
 pub enum ImportRefusal {
     /// The note has more than 200 bytes.
@@ -65,7 +64,7 @@ fn some_spent(told: &[Told]) -> bool
     told.iter().any(|this| this.is_spent())
 }
 
-// Why there is no plan, whether refused texts are passed over or not.
+// Why the plan is refused.
 fn refusal_of(told: &[Told], keep_going: bool) -> Option<ImportRefusal>
     ensures some { IfSome result (IsRefusedPlan keep_going told.now) }
     ensures none { IfNone result (IsPassedPlan keep_going told.now) }
@@ -79,18 +78,6 @@ fn refusal_of(told: &[Told], keep_going: bool) -> Option<ImportRefusal>
         return Some(ImportRefusal::CountSpent);
     }
     None
-}
-
-fn note_of(alloc: Global, text: &str) -> Result<Note, AllocError>
-    requires { length text.now ≤ 200 }
-    ensures { IfOk result (λ note. note ≡ text.now) }
-{
-    match Note::new(alloc, text.as_bytes()) {
-        Ok(note) => Ok(note),
-        Err(NoteFault::Memory) => Err(AllocError),
-        Err(NoteFault::NoteTooLong) => unreachable!(),
-        Err(NoteFault::NoteNotUtf8) => unreachable!(),
-    }
 }
 
 // The plan of a command with this note.
@@ -127,7 +114,7 @@ pub fn import_texts(
     ensures ok { IfOk result (λ made. Imports register replica note.now differs keep_going (readings texts.now) made.register made.told.items) }
     ensures fault { IfErr result (IsImportRefusal register replica note.now differs keep_going (readings texts.now)) }
 {
-    if note.len() > MAX_NOTE {
+    if note.len() > Note::MAX {
         return Err(ImportRefusal::NoteTooLong);
     }
     let Ok(plan) = planned(alloc, &register, replica, note, differs, texts) else {

@@ -1,15 +1,16 @@
 //! The entries that are not retired, by key.
 
-ghost use Rattle.std.specs.Prelude.{◌≡◌, ◌++◌, ◌∷◌, [], List, map, IfOk, OnOk};
-ghost use Rattle.reg_office.specs.Conflicts.{bytes_of};
-ghost use Rattle.reg_office.specs.Seen.{row_seen};
+ghost use Rattle.std.specs.Prelude.{◌≡◌, List, map, IfOk, OnOk};
+ghost use Rattle.reg_report.specs.Conflicts.{bytes_of};
+ghost use Rattle.reg_report.specs.Seen.{row_seen};
 ghost use Rattle.reg_import.specs.declared.known.Known.{Known};
 ghost use Rattle.reg_import.specs.Known.{At, AreKnown, AreStanding, with_key, by_key};
 ghost use Rattle.reg_import.specs.Index.{key_bytes, bucket_seen, nothing_there, with_entry, Indexes};
 
+use crate::bucket::Bucket;
 use crate::known::{Known, known_of, standing};
 use crs_value::Key;
-use reg_office::Row;
+use reg_report::Row;
 use reg_state::Register;
 use std::alloc::{AllocError, Global};
 use std::collections::BTreeMap;
@@ -19,13 +20,6 @@ use std::collections::BTreeMap;
 pub struct KeyText {
     pub authority: Vec<u8>,
     pub code: Vec<u8>,
-}
-
-/// The entries of a key, and whether this command entered or found one of them.
-#[derive(Drop)]
-pub struct Bucket {
-    pub known: Vec<Known>,
-    pub ours: bool,
 }
 
 /// The bytes of a key.
@@ -45,10 +39,7 @@ pub fn take(alloc: Global, index: &mut BTreeMap<KeyText, Bucket>, key: &KeyText)
 {
     match index.remove(key) {
         Some(bucket) => bucket,
-        None => Bucket {
-            known: Vec::new(alloc),
-            ours: false,
-        },
+        None => Bucket::empty(alloc),
     }
 }
 
@@ -64,14 +55,6 @@ pub fn put(
     Ok(())
 }
 
-fn with_one(known: Vec<Known>, ours: bool, entry: Known) -> Result<Bucket, AllocError>
-    ensures { IfOk result (λ b. bucket_seen b ≡ record { known = known.items ++ entry ∷ []; ours = ours }) }
-{
-    let mut known = known;
-    known.push(entry)?;
-    Ok(Bucket { known, ours })
-}
-
 // Inserts an entry.
 fn put_known(
     alloc: Global,
@@ -81,8 +64,9 @@ fn put_known(
     ensures { OnOk result ((at : At) → Indexes index.old at → Indexes index.new (with_entry entry at)) }
 {
     let key = text_of(alloc, &entry.key)?;
-    let Bucket { known, ours } = take(alloc, index, &key);
-    let bucket = with_one(known, ours, entry)?;
+    let before = take(alloc, index, &key);
+    let ours = before.ours;
+    let bucket = before.with(alloc, entry, ours)?;
     put(index, key, bucket)?;
     Ok(())
 }

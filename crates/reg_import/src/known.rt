@@ -2,13 +2,13 @@
 
 ghost use Rattle.std.specs.Prelude.{◌≡◌, map, filter, Some, IfOk};
 ghost use Rattle.reg_op.specs.Rows.{rows};
-ghost use Rattle.reg_office.specs.Seen.{row_seen};
+ghost use Rattle.reg_report.specs.Seen.{row_seen};
 ghost use Rattle.reg_import.specs.Known.{is_valid, IsKnown, stands};
 
 use crs_part::TryClone;
 use crs_value::Key;
-use reg_office::{Row, rows};
 use reg_op::{OpId, Status};
+use reg_report::{Row, rows};
 use reg_state::Register;
 use std::alloc::{AllocError, Global};
 use wkt_crs::Definition;
@@ -22,7 +22,8 @@ pub struct Known {
     pub valid: bool,
 }
 
-fn stands(row: &Row) -> bool
+/// Whether the entry is not retired.
+pub fn stands(row: &Row) -> bool
     ensures { result ≡ stands (row_seen row.now) }
 {
     row.status != Status::Retired

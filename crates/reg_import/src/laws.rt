@@ -1,11 +1,13 @@
 //! The laws of imports. The functions do nothing: their contracts are the laws.
 
-ghost use Rattle.std.specs.Prelude.{◌≡◌, ◌⊎◌, ◌↔◌, ℕ, Bool, List, map};
+ghost use Rattle.std.specs.Prelude.{◌≡◌, ◌⊎◌, ◌↔◌, ℕ, Bool, List, Contains, map};
 ghost use Rattle.wkt_tree.specs.Tree.{Piece};
 ghost use Rattle.wkt_texts.specs.Texts.{IsCutInto};
 ghost use Rattle.wkt_texts.specs.Printed.{AreFound};
 ghost use Rattle.reg_op.specs.Contents.{Content, IsContent, nothing};
-ghost use Rattle.reg_office.specs.Exports.{export};
+ghost use Rattle.reg_op.specs.Rows.{Row};
+ghost use Rattle.reg_report.specs.Conflicts.{KeyBytes};
+ghost use Rattle.reg_report.specs.Exports.{export};
 ghost use Rattle.reg_office.specs.World.{World, IsWorld};
 ghost use Rattle.reg_import.specs.declared.reading.Reading.{Reading};
 ghost use Rattle.reg_import.specs.declared.told.Differs.{Differs};
@@ -14,8 +16,15 @@ ghost use Rattle.reg_import.specs.declared.told.Problem.{Problem};
 ghost use Rattle.reg_import.specs.declared.told.Told.{Told};
 ghost use Rattle.reg_import.specs.declared.import.ImportRefusal.{ImportRefusal};
 ghost use Rattle.reg_import.specs.declared.import.ImportRefusal.TheVariants as refusal;
+ghost use Rattle.reg_import.specs.Readings.{IsReading};
 ghost use Rattle.reg_import.specs.Plans.{Imports, IsImportRefusal};
-ghost use Rattle.reg_import.specs.Again.{HasStanding, standing_texts, AreReadings, RetiresNoneAhead, SupersedesNoneAhead, IsToldAgain};
+ghost use Rattle.reg_import.specs.Gone.{IsGone, AreGone, IsKeyOf, IsLiveKey};
+ghost use Rattle.reg_import.specs.Again.{HasStanding, standing_texts, IsSameReading, AreReadings, RetiresNoneAhead, SupersedesNoneAhead, IsToldAgain};
+
+/// A text has one reading: the same bytes are read as the same definition with the same key, or refused for the same reason.
+pub fn one_reading()
+    ensures { (text : List ℕ) (r s : Reading) → IsReading text r → IsReading text s → IsSameReading r s }
+{}
 
 /// Importing the same readings again in the same mode makes nothing: the content is unchanged, and each text that was not
 /// refused is reported with an entry that has it. The second import is refused only for a long note or for memory.
@@ -30,8 +39,8 @@ pub fn importing_again_makes_nothing()
         → (f ≡ refusal.NoteTooLong) ⊎ (f ≡ refusal.Memory) }
 {}
 
-/// Exported texts are found again in the file. Imported in mode `beside` into an empty register, none is refused, and the
-/// new register has the same texts.
+/// An exported file is split into the exported texts. Imported in mode `beside` into an empty register, none is refused, and
+/// the new register has the same texts.
 pub fn exported_texts_are_imported()
     ensures found { (x : Content) → IsContent x → AreFound (export x.ops) (standing_texts x.ops) }
     ensures passes { (x : Content) (replica note : List ℕ) (keep_going : Bool) (cuts : List Piece) (readings : List Reading) (at : ℕ) (problem : Problem)
@@ -48,4 +57,13 @@ pub fn exported_texts_are_imported()
 pub fn no_register_is_ahead()
     ensures retired { (w : World) → IsWorld w → (office : List ℕ) → RetiresNoneAhead (w.offices office).content office }
     ensures superseded { (w : World) → IsWorld w → (office : List ℕ) → SupersedesNoneAhead (w.offices office).content office }
+{}
+
+/// The entries that are listed as gone are those of the authority that are not retired and have a key that no text has. Their
+/// keys are the keys of the authority's entries that are not retired, minus the keys of the texts.
+pub fn gone_keys_are_a_difference()
+    ensures rows { (authority : List ℕ) (texts : List KeyBytes) (rs gone : List Row) → AreGone authority texts rs gone
+        → (r : Row) → Contains gone r ↔ (Contains rs r × IsGone authority texts r) }
+    ensures keys { (authority : List ℕ) (texts : List KeyBytes) (rs gone : List Row) → AreGone authority texts rs gone
+        → (key : KeyBytes) → IsKeyOf gone key ↔ (IsLiveKey authority rs key × (¬ (Contains texts key))) }
 {}

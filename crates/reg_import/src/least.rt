@@ -41,7 +41,7 @@ pub fn least_valid(entries: &[Known], text: &[u8]) -> Option<OpId>
     best
 }
 
-/// The least of those that have the text.
+/// The least of the entries that have the text.
 pub fn least_same(entries: &[Known], text: &[u8]) -> Option<OpId>
     ensures { result ≡ least (has_text text.now) entries.now }
 {
@@ -56,7 +56,7 @@ pub fn least_same(entries: &[Known], text: &[u8]) -> Option<OpId>
     best
 }
 
-/// The least of them all.
+/// The least of all entries.
 pub fn least_of_all(entries: &[Known]) -> Option<OpId>
     ensures { result ≡ least any_entry entries.now }
 {

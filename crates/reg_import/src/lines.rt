@@ -1,16 +1,16 @@
-//! The lines that an import prints.
+//! The lines of texts, and the header.
 
 ghost use Rattle.std.specs.Prelude.{◌≡◌, ◌++◌, [], ◌∷◌, ℕ, List, codes, decimal, map, IfOk, OnOk};
 ghost use Rattle.std.specs.String.{string_bytes};
 ghost use Rattle.reg_op.specs.Text.{printed};
-ghost use Rattle.reg_office.specs.Lines.{IsSheet, IsReady, WritesRow};
+ghost use Rattle.reg_report.specs.Lines.{IsSheet, IsReady, WritesRow};
 ghost use Rattle.reg_import.specs.Lines.{Line, lines_of, action_word, entry_text, fault_words, problem_words, problem_text, fault_text, name_at, import_header, line_fields, IsImportLine};
 
 use crate::reading::{FileText, Reading};
 use crate::told::{Problem, Told};
 use csv::Writer;
-use reg_office::printed;
 use reg_op::OpId;
+use reg_report::printed;
 use std::alloc::{AllocError, Global};
 use wkt_crs::{DefinitionFault, SlotFault, Unspelled};
 
@@ -161,7 +161,8 @@ fn write_eight(
     Ok(())
 }
 
-fn write_header(wtr: &mut Writer<Vec<u8>>) -> Result<(), AllocError>
+/// Writes the header.
+pub fn write_header(wtr: &mut Writer<Vec<u8>>) -> Result<(), AllocError>
     requires { IsReady wtr.old }
     ensures { OnOk result (WritesRow wtr.old wtr.new import_header) }
 {
@@ -209,7 +210,8 @@ fn write_named(
     Ok(())
 }
 
-fn write_line(
+/// Writes the line of a text.
+pub fn write_line(
     alloc: Global,
     wtr: &mut Writer<Vec<u8>>,
     names: &[String],
@@ -227,33 +229,9 @@ fn write_line(
             write_named(alloc, wtr, names, text, told, authority, code, name)?;
             Ok(())
         }
-        Reading::Unread(_) => write_named(alloc, wtr, names, text, told, b"", b"", b""),
-    }
-}
-
-/// A header, and a line for each text. The files have these names.
-pub fn lines_text(
-    alloc: Global,
-    names: &[String],
-    texts: &[FileText],
-    told: &[Told],
-) -> Result<Vec<u8>, AllocError>
-    ensures { IfOk result (λ text. IsSheet import_header (IsImportLine (map string_bytes names.now)) (lines_of texts.now told.now) text.items) }
-{
-    let mut wtr = Writer::from_writer(Vec::new(alloc));
-    write_header(&mut wtr)?;
-    let mut texts = texts;
-    let mut told = told;
-    while let (Some((text, others)), Some((this, later))) = (
-        texts.split_first(),
-        told.split_first(),
-    ) {
-        write_line(alloc, &mut wtr, names, text, this)?;
-        texts = others;
-        told = later;
-    }
-    match wtr.into_inner() {
-        Ok(text) => Ok(text),
-        Err(_) => Err(AllocError),
+        Reading::Unread(_) => {
+            write_named(alloc, wtr, names, text, told, b"", b"", &text.quoted)?;
+            Ok(())
+        }
     }
 }

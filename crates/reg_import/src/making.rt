@@ -14,13 +14,14 @@ ghost use Rattle.reg_import.specs.Plans.{retired, AreNumbered};
 
 use crate::known::Known;
 use crate::told::Told;
+use reg_office::{last_count, register_of};
 use reg_op::{Note, Op, OpBody, OpId};
-use reg_state::{ContentFault, Join, JoinFault, Register, Run, Seen};
+use reg_state::{Join, JoinFault, Register, Run};
 use std::alloc::{AllocError, Global};
 use uuid::Uuid;
 use wkt_crs::Definition;
 
-// Puts an operation at the end.
+// Appends an operation.
 fn push_op(
     ops: &mut Vec<Op>,
     replica: Uuid,
@@ -44,7 +45,7 @@ fn push_op(
     Ok(())
 }
 
-// Puts the retirements of some entries at the end.
+// Appends the retirements of some entries.
 fn push_retirements(
     ops: &mut Vec<Op>,
     replica: Uuid,
@@ -88,7 +89,7 @@ fn push_entered(
     push_op(ops, replica, count, note, OpBody::Enter(definition))
 }
 
-/// Puts the operations that a text makes at the end.
+/// Appends the operations that a text makes.
 pub fn push_ops(
     alloc: Global,
     ops: &mut Vec<Op>,
@@ -114,26 +115,6 @@ pub fn push_ops(
         Told::Superseded(_) => Ok(()),
         Told::Refused(_) => Ok(()),
         Told::Spent => Ok(()),
-    }
-}
-
-// The register of operations with the ids of a run.
-fn register_of(alloc: Global, ops: Vec<Op>, run: Run) -> Result<Register, AllocError>
-    requires run { IsRun run }
-    requires by_id { ById ops.items }
-    requires ids { map (λ (o : Operation). o.id) ops.items ≡ ids_of_run run }
-    requires kept { first_dropped (set.from_list {R = op_cmp} ops.items) ≡ None }
-    ensures { IfOk result (λ register. register ≡ state (set.from_list {R = op_cmp} ops.items)) }
-{
-    let mut seen = Seen::new(alloc);
-    seen.add_run(run)?;
-    match Register::from_content(alloc, ops, seen) {
-        Ok(register) => {
-            let _content = register.seen();
-            Ok(register)
-        }
-        Err(ContentFault::Memory) => Err(AllocError),
-        Err(ContentFault::NotKept(_)) => unreachable!(),
     }
 }
 
@@ -171,13 +152,6 @@ fn joined(
         Err(JoinFault::Memory) => Err(AllocError),
         Err(JoinFault::Clash(_)) => unreachable!(),
     }
-}
-
-/// The greatest own count seen.
-pub fn last_count(seen: &Seen, replica: Uuid) -> u32
-    ensures { result ≡ greatest replica seen.now }
-{
-    seen.greatest(replica)
 }
 
 /// The register after the operations of a replica, which are numbered from the greatest own count seen plus one.

@@ -8,13 +8,15 @@ ghost use Rattle.reg_import.specs.Imports.{entered, then_of, imports};
 ghost use Rattle.reg_import.specs.Index.{bucket_seen, Indexes};
 ghost use Rattle.reg_import.specs.Plans.{StepsOn, StepTold, Lists, Plans};
 
-use crate::index::{Bucket, KeyText, index_of, put, take, text_of};
+use crate::bucket::Bucket;
+use crate::index::{KeyText, index_of, put, take, text_of};
 use crate::known::Known;
-use crate::making::{count_of, last_count, push_ops};
+use crate::making::{count_of, push_ops};
 use crate::reading::{FileText, Reading};
 use crate::told::{Differs, Problem, Told, told_of};
 use crs_part::TryClone;
 use crs_value::Key;
+use reg_office::last_count;
 use reg_op::{Note, Op, OpId};
 use reg_state::Register;
 use std::alloc::{AllocError, Global};
@@ -29,26 +31,43 @@ pub struct Plan {
     pub ops: Vec<Op>,
 }
 
+/// The options that all texts of an import share: the conflict mode, and the replica, the first number and the note of
+/// the operations.
+#[derive(Clone, Copy)]
+pub struct Rules<'a> {
+    pub differs: Differs,
+    pub replica: Uuid,
+    pub first: u64,
+    pub note: &'a Note,
+}
+
+/// The state of an import: the entries of each key, and the operations so far.
+#[derive(Drop)]
+pub struct Made {
+    pub index: BTreeMap<KeyText, Bucket>,
+    pub ops: Vec<Op>,
+}
+
 // These entries and a new one of this command.
 fn with_entered(
     alloc: Global,
-    known: Vec<Known>,
+    bucket: Bucket,
     entry: OpId,
     key: &Key,
     definition: &Definition,
 ) -> Result<Bucket, AllocError>
-    ensures { IfOk result (λ b. bucket_seen b ≡ record { known = known.items ++ entered entry key.now definition.now ∷ []; ours = true }) }
+    ensures { IfOk result (λ b. bucket_seen b ≡ record { known = bucket.known.items ++ entered entry key.now definition.now ∷ []; ours = true }) }
 {
-    let mut known = known;
     let key = key.try_clone(alloc)?;
     let definition = definition.try_clone(alloc)?;
-    known.push(Known {
+    let entry = Known {
         entry,
         key,
         definition,
         valid: true,
-    })?;
-    Ok(Bucket { known, ours: true })
+    };
+    let bucket = bucket.with(alloc, entry, true)?;
+    Ok(bucket)
 }
 
 // The bucket of a text's key after this action.
@@ -57,64 +76,81 @@ fn then_of(
     told: &Told,
     key: &Key,
     definition: &Definition,
-    known: Vec<Known>,
-    ours: bool,
+    bucket: Bucket,
 ) -> Result<Bucket, AllocError>
-    ensures { IfOk result (λ b. bucket_seen b ≡ then_of told.now key.now definition.now (record { known = known.items; ours = ours })) }
+    ensures { IfOk result (λ b. bucket_seen b ≡ then_of told.now key.now definition.now (bucket_seen bucket)) }
 {
     match told {
-        Told::Same(_) => Ok(Bucket { known, ours: true }),
-        Told::Superseded(_) => Ok(Bucket { known, ours: true }),
-        Told::Entered(entry) => with_entered(alloc, known, *entry, key, definition),
-        Told::Beside(entry) => with_entered(alloc, known, *entry, key, definition),
-        Told::Revised(entry) => with_entered(alloc, Vec::new(alloc), *entry, key, definition),
-        Told::Refused(_) => Ok(Bucket { known, ours }),
-        Told::Spent => Ok(Bucket { known, ours }),
+        Told::Same(_) => Ok(bucket.found()),
+        Told::Superseded(_) => Ok(bucket.found()),
+        Told::Entered(entry) => with_entered(alloc, bucket, *entry, key, definition),
+        Told::Beside(entry) => with_entered(alloc, bucket, *entry, key, definition),
+        Told::Revised(entry) => with_entered(alloc, Bucket::empty(alloc), *entry, key, definition),
+        Told::Refused(_) => Ok(bucket),
+        Told::Spent => Ok(bucket),
     }
 }
 
-// A text that is a definition.
+// The number of the next operation.
+fn count_after(rules: &Rules<'_>, made: &Made) -> u64
+    requires { rules.now.first + length made.now.ops.items ≤ 4294967296 }
+    ensures { result ≡ rules.now.first + length made.now.ops.items }
+{
+    rules.first + count_of(&made.ops) as u64
+}
+
+fn spelled(alloc: Global, definition: &Definition) -> Result<Vec<u8>, AllocError>
+    ensures { IfOk result (λ text. text.items ≡ definition.now) }
+{
+    Vec::from_slice(alloc, definition.as_bytes())
+}
+
+// Imports a text that is a definition.
 fn step_defined(
     alloc: Global,
-    index: &mut BTreeMap<KeyText, Bucket>,
-    differs: Differs,
-    replica: Uuid,
-    count: u64,
-    note: &Note,
+    rules: &Rules<'_>,
+    made: &mut Made,
     definition: &Definition,
     key: &Key,
-    ops: &mut Vec<Op>,
 ) -> Result<Told, AllocError>
-    requires positive { 0 < count }
-    requires fits { count ≤ 4294967296 }
-    ensures { IfOk result (λ t. (at : At) → Indexes index.old at
-        → StepsOn differs replica count note.now (Reading.Defined definition.now key.now) at index.new ops.old.items ops.new.items t) }
+    requires positive { 0 < rules.now.first }
+    requires fits { rules.now.first + length made.old.ops.items ≤ 4294967296 }
+    ensures { IfOk result (λ t. (at : At) → Indexes made.old.index at
+        → StepsOn rules.now.differs rules.now.replica (rules.now.first + length made.old.ops.items) rules.now.note.now (Reading.Defined definition.now key.now) at made.new.index made.old.ops.items made.new.ops.items t) }
 {
+    let count = count_after(rules, made);
     let text = text_of(alloc, key)?;
-    let Bucket { known, ours } = take(alloc, index, &text);
-    let told = told_of(differs, replica, count, &known, ours, definition.as_bytes());
-    push_ops(alloc, ops, replica, count, note, &told, definition, &known)?;
-    let after = then_of(alloc, &told, key, definition, known, ours)?;
-    put(index, text, after)?;
+    let bucket = take(alloc, &mut made.index, &text);
+    let replica = rules.replica;
+    let spelled = spelled(alloc, definition)?;
+    let told = told_of(rules.differs, replica, count, &bucket, &spelled);
+    push_ops(
+        alloc,
+        &mut made.ops,
+        replica,
+        count,
+        rules.note,
+        &told,
+        definition,
+        &bucket.known,
+    )?;
+    let after = then_of(alloc, &told, key, definition, bucket)?;
+    put(&mut made.index, text, after)?;
     Ok(told)
 }
 
-// A text; its action is appended.
+// Imports a text, and appends its action.
 fn step(
     alloc: Global,
-    index: &mut BTreeMap<KeyText, Bucket>,
-    differs: Differs,
-    replica: Uuid,
-    count: u64,
-    note: &Note,
+    rules: &Rules<'_>,
+    made: &mut Made,
     reading: &Reading,
-    ops: &mut Vec<Op>,
     told: &mut Vec<Told>,
 ) -> Result<(), AllocError>
-    requires positive { 0 < count }
-    requires fits { count ≤ 4294967296 }
-    ensures { OnOk result ((at : At) → Indexes index.old at
-        → StepTold differs replica count note.now reading.now at index.new ops.old.items ops.new.items told.old.items told.new.items) }
+    requires positive { 0 < rules.now.first }
+    requires fits { rules.now.first + length made.old.ops.items ≤ 4294967296 }
+    ensures { OnOk result ((at : At) → Indexes made.old.index at
+        → StepTold rules.now.differs rules.now.replica (rules.now.first + length made.old.ops.items) rules.now.note.now reading.now at made.new.index made.old.ops.items made.new.ops.items told.old.items told.new.items) }
 {
     match reading {
         Reading::Unread(fault) => {
@@ -122,50 +158,36 @@ fn step(
             Ok(())
         }
         Reading::Defined { definition, key } => {
-            let this = step_defined(
-                alloc, index, differs, replica, count, note, definition, key, ops,
-            )?;
+            let this = step_defined(alloc, rules, made, definition, key)?;
             told.push(this)?;
             Ok(())
         }
     }
 }
 
-// One text after another.
+// Imports one text after another.
 fn plan_over(
     alloc: Global,
-    mut index: BTreeMap<KeyText, Bucket>,
-    differs: Differs,
-    replica: Uuid,
-    first: u64,
-    note: &Note,
+    index: BTreeMap<KeyText, Bucket>,
+    rules: &Rules<'_>,
     texts: &[FileText],
 ) -> Result<Plan, AllocError>
-    requires positive { 0 < first }
-    requires fits { first ≤ 4294967296 }
+    requires positive { 0 < rules.now.first }
+    requires fits { rules.now.first ≤ 4294967296 }
     requires indexed { (at : At) × Indexes index at }
     ensures lists { IfOk result (λ p. (at : At) → Indexes index at
-        → Lists replica first note.now (imports differs replica first at (readings texts.now)) p.told.items p.ops.items) }
-    ensures fits { IfOk result (λ p. first + length p.ops.items ≤ 4294967296) }
+        → Lists rules.now.replica rules.now.first rules.now.note.now (imports rules.now.differs rules.now.replica rules.now.first at (readings texts.now)) p.told.items p.ops.items) }
+    ensures fits { IfOk result (λ p. rules.now.first + length p.ops.items ≤ 4294967296) }
 {
     let mut told = Vec::with_capacity(alloc, texts.len())?;
-    let mut ops = Vec::new(alloc);
+    let ops = Vec::new(alloc);
+    let mut made = Made { index, ops };
     let mut rest = texts;
     while let Some((text, others)) = rest.split_first() {
-        let count = first + count_of(&ops) as u64;
-        step(
-            alloc,
-            &mut index,
-            differs,
-            replica,
-            count,
-            note,
-            &text.reading,
-            &mut ops,
-            &mut told,
-        )?;
+        step(alloc, rules, &mut made, &text.reading, &mut told)?;
         rest = others;
     }
+    let Made { index: _, ops } = made;
     Ok(Plan { told, ops })
 }
 
@@ -183,6 +205,12 @@ pub fn plan_of(
 {
     let index = index_of(alloc, register)?;
     let first = u64::from(last_count(register.seen(), replica)) + 1;
-    let plan = plan_over(alloc, index, differs, replica, first, note, texts)?;
+    let rules = Rules {
+        differs,
+        replica,
+        first,
+        note,
+    };
+    let plan = plan_over(alloc, index, &rules, texts)?;
     Ok(plan)
 }

@@ -1,8 +1,9 @@
 //! Readings of texts.
 
 ghost use Rattle.std.specs.Prelude.{◌≡◌, ◌+◌, IfOk, IfSome};
-ghost use Rattle.reg_import.specs.Readings.{IsReading, place_in, IsFileText};
+ghost use Rattle.reg_import.specs.Readings.{IsReading, place_in, quoted_in, IsFileText};
 
+use crate::quoted::first_quoted;
 use crs_part::TryClone;
 use crs_value::Key;
 use std::alloc::{AllocError, Global};
@@ -18,13 +19,14 @@ pub enum Reading {
 }
 
 /// A text of a file: the index of the file, from 0; the offset of its first byte; the offset that is reported if it is
-/// rejected; and its reading.
+/// rejected; its reading; and, if it is no definition, its first text in quotation marks.
 #[derive(Drop)]
 pub struct FileText {
     pub file: usize,
     pub place: usize,
     pub at: usize,
     pub reading: Reading,
+    pub quoted: Vec<u8>,
 }
 
 // The place of a text's fault, or its first byte, in the file. The text begins at this place.
@@ -57,12 +59,27 @@ pub fn read_at(
     let Some(at) = told_at(place, &reading) else {
         return Err(AllocError);
     };
+    let quoted = quoted_in(alloc, text, &reading)?;
     Ok(FileText {
         file,
         place,
         at,
         reading,
+        quoted,
     })
+}
+
+// The first text in quotation marks, in a text that is no definition.
+fn quoted_in(alloc: Global, text: &[u8], reading: &Reading) -> Result<Vec<u8>, AllocError>
+    ensures { IfOk result (λ quoted. quoted.items ≡ quoted_in text.now reading.now) }
+{
+    match reading {
+        Reading::Defined {
+            definition: _,
+            key: _,
+        } => Ok(Vec::new(alloc)),
+        Reading::Unread(_) => first_quoted(alloc, text),
+    }
 }
 
 // Reads a text.

@@ -1,16 +1,19 @@
 //! The action for a text, given the entries of its key.
 
-ghost use Rattle.std.specs.Prelude.{◌≡◌, ◌+◌, ◌<◌, ◌≤◌, ℕ, length, Some, IfSome, IfNone};
+ghost use Rattle.std.specs.Prelude.{◌≡◌, ◌+◌, ◌<◌, ◌≤◌, ℕ, Some, IfSome, IfNone};
 ghost use Rattle.reg_seen.specs.Runs.{id_at};
 ghost use Rattle.reg_import.specs.Imports.{least, any_entry, told_of, told_of_new, unless_spent, is_refused, is_spent};
+ghost use Rattle.reg_import.specs.Index.{bucket_seen};
+ghost use Rattle.reg_import.specs.Lines.{is_same};
+ghost use Rattle.reg_import.specs.Summary.{told_by};
 
-use crate::known::Known;
-use crate::least::{least_of_all, least_same, least_valid};
+use crate::bucket::Bucket;
+use crate::summary::Found;
 use reg_op::OpId;
 use uuid::Uuid;
 use wkt_crs::DefinitionFault;
 
-/// What to do with a text whose key has another text.
+/// The action for a text whose key has another text.
 #[derive(Clone, Copy, Debug, PartialEq, Eq)]
 pub enum Differs {
     /// It is refused.
@@ -21,7 +24,7 @@ pub enum Differs {
     Revise,
 }
 
-/// Why a text is rejected.
+/// The reason why a text is rejected.
 #[derive(Clone, Copy, Debug, PartialEq, Eq)]
 pub enum Problem {
     /// It is not a definition.
@@ -43,7 +46,7 @@ pub enum Told {
     /// It is entered, and the other entries of its key are retired.
     Revised(OpId),
     Refused(Problem),
-    /// One of its numbers would exceed 4,294,967,295, so nothing is made.
+    /// One of its numbers would exceed 4,294,967,295, so it makes nothing.
     Spent,
 }
 
@@ -58,6 +61,21 @@ impl Told {
             Told::Entered(_) => false,
             Told::Beside(_) => false,
             Told::Revised(_) => false,
+            Told::Spent => false,
+        }
+    }
+
+    /// Whether the text changes nothing, since a valid entry has it.
+    pub fn is_same(self) -> bool
+        ensures { result ≡ is_same self }
+    {
+        match self {
+            Told::Same(_) => true,
+            Told::Superseded(_) => false,
+            Told::Entered(_) => false,
+            Told::Beside(_) => false,
+            Told::Revised(_) => false,
+            Told::Refused(_) => false,
             Told::Spent => false,
         }
     }
@@ -77,7 +95,7 @@ impl Told {
     }
 }
 
-// The id with this count, if the count this many further on is in range.
+// The id with this count, if the count plus this many is in range.
 fn number(replica: Uuid, count: u64, more: usize) -> Option<OpId>
     requires { 0 < count }
     ensures some { IfSome result (λ id. (id ≡ id_at replica count) × (count + more ≤ 4294967295)) }
@@ -90,17 +108,10 @@ fn number(replica: Uuid, count: u64, more: usize) -> Option<OpId>
     OpId::new(replica, count as u32)
 }
 
-// The action for a text that no entry has; this entry has its key.
-fn told_beside(
-    differs: Differs,
-    replica: Uuid,
-    count: u64,
-    known: &[Known],
-    ours: bool,
-    other: OpId,
-) -> Told
+// The action for a text that no entry has, if this entry has its key.
+fn told_beside(differs: Differs, replica: Uuid, count: u64, bucket: &Bucket, other: OpId) -> Told
     requires { 0 < count }
-    ensures { result ≡ told_of_new (Some other) differs (id_at replica count) (record { known = known.now; ours = ours }) }
+    ensures { result ≡ told_of_new (Some other) differs (id_at replica count) (bucket_seen bucket.now) }
 {
     match differs {
         Differs::Refuse => Told::Refused(Problem::KeyTaken(other)),
@@ -109,10 +120,10 @@ fn told_beside(
             None => Told::Spent,
         },
         Differs::Revise => {
-            if ours {
+            if bucket.ours {
                 return Told::Refused(Problem::KeyTaken(other));
             }
-            match number(replica, count, known.len()) {
+            match number(replica, count, bucket.known.len()) {
                 Some(new) => Told::Revised(new),
                 None => Told::Spent,
             }
@@ -130,26 +141,28 @@ fn told_new(replica: Uuid, count: u64) -> Told
     }
 }
 
-/// The action for a text. These entries have its key, and this is the count of the next operation.
-pub fn told_of(
-    differs: Differs,
-    replica: Uuid,
-    count: u64,
-    known: &[Known],
-    ours: bool,
-    text: &[u8],
-) -> Told
+// The action for a text, given its least entries among those of its key.
+fn told_found(differs: Differs, replica: Uuid, count: u64, bucket: &Bucket, found: Found) -> Told
     requires { 0 < count }
-    ensures { result ≡ told_of differs (id_at replica count) (record { known = known.now; ours = ours }) text.now }
+    ensures { result ≡ told_by found (least any_entry (bucket_seen bucket.now).known) differs (id_at replica count) (bucket_seen bucket.now) }
 {
-    if let Some(entry) = least_valid(known, text) {
+    if let Some(entry) = found.valid {
         return Told::Same(entry);
     }
-    if let Some(entry) = least_same(known, text) {
+    if let Some(entry) = found.any {
         return Told::Superseded(entry);
     }
-    match least_of_all(known) {
+    match bucket.least() {
         None => told_new(replica, count),
-        Some(other) => told_beside(differs, replica, count, known, ours, other),
+        Some(other) => told_beside(differs, replica, count, bucket, other),
     }
+}
+
+/// The action for a text. The bucket has the entries of its key, and this is the count of the next operation.
+pub fn told_of(differs: Differs, replica: Uuid, count: u64, bucket: &Bucket, text: &Vec<u8>) -> Told
+    requires { 0 < count }
+    ensures { result ≡ told_of differs (id_at replica count) (bucket_seen bucket.now) text.now.items }
+{
+    let found = bucket.find(text);
+    told_found(differs, replica, count, bucket, found)
 }

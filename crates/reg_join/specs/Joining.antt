@@ -1,8 +1,8 @@
--- What it is to be joined: the laws, and the join of a list.
+-- The laws of joining, and the join of a list.
 use Rattle.std.specs.Prelude.{◌≡◌, List, [], ◌∷◌, ◌↔◌, Result, Ok, Err, Contains}
 
--- the join commutes, refusals included; where values agree it is an associative merge in which a value counts once;
--- what agrees with two that agree does so with their merge
+-- the join commutes, refusals included; for values that agree it is an associative merge in which a value counts once;
+-- a value that agrees with two agreeing values agrees with their merge
 pub record JoinLaws {T C : Type 0} (nothing : T) (joined : T → T → Result T C) (merged : T → T → T) (agree : T → T → Type 0) (is_value : T → Type 0) : Type 0 where
   pub agreed : (x y : T) → agree x y → joined x y ≡ Ok (merged x y)
   pub refused : (x y z : T) → joined x y ≡ Ok z → agree x y

@@ -1,4 +1,4 @@
--- How a fault of a join is called.
+-- The name of a fault of a join.
 use Rattle.std.specs.Prelude.{ℕ, List, codes}
 use Rattle.reg_join.specs.declared.JoinFault.{JoinFault}
 use Rattle.reg_join.specs.declared.JoinFault.TheVariants.{Clash, Memory}

@@ -10,7 +10,7 @@ use std::fmt;
 /// Why a join is refused.
 #[derive(Clone, Copy, Debug, PartialEq, Eq, Drop)]
 pub enum JoinFault<C> {
-    /// Two values do not agree; this is where.
+    /// Two values do not agree; the place.
     Clash(C),
     /// An allocation failed.
     Memory,
@@ -41,7 +41,7 @@ impl<C: fmt::Display> fmt::Display for JoinFault<C> {
 
 /// A type whose values can be joined, if they agree.
 pub trait Join: Sized + Drop {
-    /// What a refusal names.
+    /// The place that a refusal names.
     type Clash: Drop;
 
     ghost nothing: { Self };
@@ -66,7 +66,7 @@ pub trait Join: Sized + Drop {
         ensures clash { (c : Self.Clash) → (result ≡ Err (JoinFault.Clash c)) ↔ (joined self.now other.now ≡ Err c) }
         ensures values { is_value self.now × is_value other.now };
 
-    /// What each `impl` proves.
+    /// The laws that each `impl` proves.
     ghost laws: { JoinLaws nothing joined merged agree is_value };
 }
 

@@ -41,7 +41,7 @@ lessens_by (Some n) (Some o) before = is_same n o && before
 abbrev pub lessens : Mark → Mark → Bool
 lessens p m = is_same p.target.entry m.target.entry && lessens_by p.target.by m.target.by (is_before p.id m.id)
 
--- what a mark at the target makes redundant: a greater one there and, if it retires an entry, each supersession of it
+-- the marks that a mark at the target makes redundant: a greater one there and, if it retires an entry, each supersession of it
 abbrev pub covers_by : Option Id → Option Id → Bool
 covers_by None by = true
 covers_by (Some n) None = false
@@ -54,11 +54,11 @@ covers t m = is_same t.entry m.target.entry && covers_by t.by m.target.by
 abbrev pub least : MarkSet → MarkSet
 least s = topmost lessens s
 
--- there is need of each
+-- none is redundant
 abbrev pub AreLeast : MarkSet → Type 0
 AreLeast s = least s ≡ s
 
--- they ascend, and there is need of each
+-- they ascend, and none is redundant
 pub record AreMarks (ms : List Mark) : Type 0 where
   pub sorted : IsSorted mark_cmp ms
   pub are_least : AreLeast (set.from_list ms)

@@ -5,7 +5,7 @@ ghost use Rattle.reg_number.specs.Text.{IsNumber};
 
 use itoa::Buffer;
 
-/// The number between a colon and a newline. It is printed again and compared, so that each number has one spelling.
+/// The number between a colon and a newline. The text is compared with the printed number, so each has one spelling.
 pub fn number_of(text: &[u8]) -> Option<u32>
     ensures found { IfSome result (λ n. IsNumber text.now n) }
     ensures none { IfNone result ((n : ℕ) → ¬ (IsNumber text.now n)) }

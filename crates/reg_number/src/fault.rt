@@ -1,6 +1,6 @@
-//! Why a file gives no last number.
+//! Why an office file cannot be read.
 
-/// Why a file gives no last number.
+/// Why an office file cannot be read.
 #[derive(Clone, Copy, Debug, PartialEq, Eq)]
 pub enum NumberFault {
     /// Reading failed after this many bytes.

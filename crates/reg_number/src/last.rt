@@ -101,7 +101,7 @@ fn is_small(replica: Uuid, text: &[u8]) -> bool
     text == replica.hyphenated().encode_lower(&mut buffer).as_bytes()
 }
 
-// Each byte fits, which a clause cannot say of an array: this walk reads them, and is compiled away.
+// Each byte is below 256, which a clause cannot say of an array. This loop reads them, and is compiled away.
 #[inline]
 fn bytes_fit(bytes: &[u8; 16])
     ensures { (length bytes.now ≡ 16) × All (λ b. b < 256) bytes.now }

@@ -8,7 +8,7 @@ use crate::last::LastNumber;
 use byte_io::{InFault, Source, read_up_to};
 use std::alloc::Global;
 
-// More than an office file has.
+// More bytes than an office file has.
 const MOST: usize = 64;
 
 /// Reads the office file that the source gives: at most 64 bytes of it.

@@ -12,6 +12,7 @@ use Rattle.reg_op.specs.Ids.{Id, is_same}
 use Rattle.reg_op.specs.Finite.{any}
 use Rattle.reg_op.specs.Operations.{Op, Ops, one, IsOfItself}
 use Rattle.reg_op.specs.declared.operation.OpBody.{OpBody as Body}
+use Rattle.reg_op.specs.declared.operation.OpBody.TheVariants as body
 use Rattle.reg_op.specs.Contents.{Content}
 use Rattle.reg_op.specs.Status.{enters, retires, is_replaced_by, is_enter, is_retirement, is_supersession}
 use Rattle.reg_op.proofs.FiniteLemmas.{any-union}
@@ -177,24 +178,25 @@ first_at c x replica n note es k e f h at walked found =
 pub none_left : (c : Command) (x : Content) (replica : List ℕ) (n : ℕ) (note : List ℕ) (es : List Id) (k : ℕ) → length es ≤ k → faults c x.ops [] es ≡ faults c x.ops (take k es) (drop k es) → None ≡ objections x (numbered replica n note (effects c es))
 none_left c x replica n note es k h walked = sym (objections_are c x replica n note es ∙ walked ∙ ap (faults c x.ops (take k es)) (drop_all k es h))
 
--- ---- a command that is not refused has possible effects
+-- ---- effects that are not refused are possible
 
 pub nothing_against : (r rest : Option OfficeFault) → else_next r rest ≡ None → (r ≡ None) × (rest ≡ None)
 nothing_against None rest h = (refl, h)
 nothing_against (Some f) rest h = cc
 
-not_of_itself : (c : Command) (ops : Ops) (e : Id) → objection ops (effect_of c e) ≡ None → IsOfItself (effect_of c e) → ⊥
-not_of_itself Retire ops e h s = s
-not_of_itself (Supersede old) ops e h s = told (enters ops old) (enters ops e) (is_same old e) (retires ops old) (retires ops e) (is_replaced_by ops old e) h (subst (λ i. is_same old i ≡ true) s (ap is_eq (tied_itself id_total old)))
+not_of_itself : (ops : Ops) (b : Body) → objection ops b ≡ None → IsOfItself b → ⊥
+not_of_itself ops (body.Enter text) h s = s
+not_of_itself ops (body.Retire entry) h s = s
+not_of_itself ops (body.Supersede old newer) h s = told (enters ops old) (enters ops newer) (is_same old newer) (retires ops old) (retires ops newer) (is_replaced_by ops old newer) h (subst (λ i. is_same old i ≡ true) s (ap is_eq (tied_itself id_total old)))
   where
-    told : (a b same r q p : Bool) → chain old e a b same r q p ≡ None → same ≡ true → ⊥
+    told : (a b same r q p : Bool) → chain old newer a b same r q p ≡ None → same ≡ true → ⊥
     told true true true r q p h s = cc
     told true true false r q p h s = true≢false (sym s)
     told true false same r q p h s = cc
     told false b same r q p h s = cc
 
-pub possible : (c : Command) (x : Content) (replica : List ℕ) (n : ℕ) (note : List ℕ) (es : List Id) → objections x (numbered replica n note (effects c es)) ≡ None → All (λ e. ¬ (IsOfItself (effect_of c e))) es
-possible c x replica n note [] h = λ k d lt. absurd (omega arith)
-possible c x replica n note (e ∷ es) h =
-    let p = nothing_against (objection x.ops (effect_of c e)) (objections (with_op x (record { id = id_at replica n; body = effect_of c e; note = note })) (numbered replica (n + 1) note (effects c es))) h in
-    All-cons (λ i. ¬ (IsOfItself (effect_of c i))) e es (not_of_itself c x.ops e p.0) (possible c (with_op x (record { id = id_at replica n; body = effect_of c e; note = note })) replica (n + 1) note es p.1)
+pub possible : (x : Content) (replica : List ℕ) (n : ℕ) (note : List ℕ) (bs : List Body) → objections x (numbered replica n note bs) ≡ None → All (λ b. ¬ (IsOfItself b)) bs
+possible x replica n note [] h = λ k d lt. absurd (omega arith)
+possible x replica n note (b ∷ bs) h =
+    let p = nothing_against (objection x.ops b) (objections (with_op x (record { id = id_at replica n; body = b; note = note })) (numbered replica (n + 1) note bs)) h in
+    All-cons (λ b. ¬ (IsOfItself b)) b bs (not_of_itself x.ops b p.0) (possible (with_op x (record { id = id_at replica n; body = b; note = note })) replica (n + 1) note bs p.1)

@@ -1,7 +1,7 @@
 -- What a command numbers is new, and of one body an id.
 use Rattle.std.proofs.Common.{◌≡◌, ℕ, ◌+◌, ◌-◌, ◌<◌, ◌≤◌, nat_lt, add-one, get_or, take, true, false, ◌&&◌, cond, max, List, [], ◌∷◌, ◌++◌, map, length, Some, None, Ok, Err, zero, suc, refl, sym, ap, ◌∙◌, subst, inl, inr, ◌⊎◌, arith}
 use Rattle.std.proofs.lemmas.Bool.Decides.{nat_tests}
-use Rattle.std.proofs.lemmas.List.{take_more, take_all, length-take}
+use Rattle.std.proofs.lemmas.List.{take_more, length-take}
 use Rattle.std.proofs.lemmas.Bool.{cases_lt, or_cases, or_left, or_right, true≢false}
 use Rattle.std.specs.Cmp.{tied_itself, Equal-is, nat_cmp_is}
 use Rattle.std.proofs.lemmas.Cmp.{nat_list_cmp_total}
@@ -162,10 +162,6 @@ numbered_push r n note (c ∷ bs) b =
     let e : n + 1 + length bs ≡ n + (length bs + 1) = omega arith in
     ap (λ os. record { id = id_at r n; body = c; note = note } ∷ os) (numbered_push r (n + 1) note bs b ∙ ap (λ m. numbered r (n + 1) note bs ++ record { id = id_at r m; body = b; note = note } ∷ []) (e ∙ ap (λ m. n + m) (add-one (length bs))))
 
-map_push : {X Y : Type 0} (f : X → Y) (xs : List X) (x : X) → map f (xs ++ x ∷ []) ≡ map f xs ++ f x ∷ []
-map_push f [] x = refl
-map_push f (y ∷ ys) x = ap (λ zs. f y ∷ zs) (map_push f ys x)
-
 pub length_map : {X Y : Type 0} (f : X → Y) (xs : List X) → length (map f xs) ≡ length xs
 length_map f [] = refl
 length_map f (x ∷ xs) = ap suc (length_map f xs)
@@ -173,18 +169,14 @@ length_map f (x ∷ xs) = ap suc (length_map f xs)
 length_front : {X : Type 0} (k : ℕ) (xs : List X) → k < length xs → length (take k xs) ≡ k
 length_front k xs h = omega (arith, length-take k xs)
 
-pub numbered_more : (f : Id → Body) (r : List ℕ) (n : ℕ) (note : List ℕ) (es : List Id) (k : ℕ) (e : Id) (os : List Op) (o : Op) → k < length es → e ≡ get_or es k e → os ≡ numbered r n note (map f (take k es)) → o ≡ record { id = id_at r (n + k); body = f e; note = note }
-    → os ++ o ∷ [] ≡ numbered r n note (map f (take (k + 1) es))
-numbered_more f r n note es k e os o h at before is =
+pub numbered_more : (r : List ℕ) (n : ℕ) (note : List ℕ) (bs : List Body) (k : ℕ) (b : Body) (os : List Op) (o : Op) → k < length bs → b ≡ get_or bs k b → os ≡ numbered r n note (take k bs) → o ≡ record { id = id_at r (n + k); body = b; note = note }
+    → os ++ o ∷ [] ≡ numbered r n note (take (k + 1) bs)
+numbered_more r n note bs k b os o h at before is =
     (λ j. before j ++ is j ∷ [])
-    ∙ (λ j. numbered r n note (map f (take k es)) ++ record { id = id_at r (n + sym (length_map f (take k es) ∙ length_front k es h) j); body = f e; note = note } ∷ [])
-    ∙ sym (numbered_push r n note (map f (take k es)) (f e))
-    ∙ (λ j. numbered r n note (sym (map_push f (take k es) e) j))
-    ∙ (λ j. numbered r n note (map f (take k es ++ at j ∷ [])))
-    ∙ (λ j. numbered r n note (map f (sym (take_more es k e h) j)))
-
-pub numbered_all : (f : Id → Body) (r : List ℕ) (n : ℕ) (note : List ℕ) (es : List Id) (k : ℕ) (os : List Op) → length es ≤ k → os ≡ numbered r n note (map f (take k es)) → os ≡ numbered r n note (map f es)
-numbered_all f r n note es k os h e = e ∙ ap (λ l. numbered r n note (map f l)) (take_all k es h)
+    ∙ (λ j. numbered r n note (take k bs) ++ record { id = id_at r (n + sym (length_front k bs h) j); body = b; note = note } ∷ [])
+    ∙ sym (numbered_push r n note (take k bs) b)
+    ∙ (λ j. numbered r n note (take k bs ++ at j ∷ []))
+    ∙ (λ j. numbered r n note (sym (take_more bs k b h) j))
 
 -- ---- what is made
 
@@ -193,6 +185,9 @@ unspent limit g k h = grind (arith, nat_tests)
 
 spent : (limit g k : ℕ) → 0 < k → limit < g + k → (nat_lt 0 k && nat_lt limit (g + k)) ≡ true
 spent limit g k p h = grind (arith, nat_tests)
+
+pub spent_over : (limit g k : ℕ) → nat_lt limit (g + k) ≡ true → g ≤ limit → (0 < k) × (limit < g + k)
+spent_over limit g k h b = (grind (arith, nat_tests), grind (arith, nat_tests))
 
 pub made_ok : (x : Content) (r note : List ℕ) (bs : List Body) → note_fault note ≡ None → objections x (numbered r (greatest r x.seen + 1) note bs) ≡ None → greatest r x.seen + length bs ≤ 4294967295 → made x r note bs ≡ Ok (numbered r (greatest r x.seen + 1) note bs)
 made_ok x r note bs a e h = λ j. made_unless (else_next (a j) (e j)) (unspent 4294967295 (greatest r x.seen) (length bs) h j) (numbered r (greatest r x.seen + 1) note bs)
@@ -252,15 +247,15 @@ run_of_numbered r n high note bs os p h e =
     let count : length bs ≡ high + 1 - n = omega arith in
     ap (map (λ (o : Op). o.id)) e ∙ numbered_ids r n note bs ∙ ap (ids_from r n) count
 
--- a command that names nothing makes nothing
-pub none_done : (x : Content) (r note : List ℕ) (f : Id → Body) (es is : List Id) → note_fault note ≡ None → IsContent x → length es ≡ 0 → is ≡ [] → Does x r note (map f es) x is
-none_done x r note f [] is a content h e = record {
+-- a command without effects makes nothing
+pub none_done : (x : Content) (r note : List ℕ) (bs : List Body) (is : List Id) → note_fault note ≡ None → IsContent x → length bs ≡ 0 → is ≡ [] → Does x r note bs x is
+none_done x r note [] is a content h e = record {
   ops = [];
   are_made = λ j. made_unless (else_next (a j) None) false [];
   are_joined = ap (joined x) state-empty ∙ joined_comm x nothing ∙ joined_nothing x content;
   their_ids = e;
 }
-none_done x r note f (i ∷ es) is a content h e = absurd (omega arith)
+none_done x r note (b ∷ bs) is a content h e = absurd (omega arith)
 
 pub none_above : (v : Ids) (run : Run) → v ≡ set.empty → IsAbove v run
 none_above v run e i h = absurd (true≢false (sym h ∙ ap (λ t. contains t i) e ∙ contains-empty id_cmp i))

@@ -1,25 +1,12 @@
 -- Offices that reached the same have the same reports.
 use Rattle.std.proofs.Common.{◌≡◌, ℕ, List, sym, ap, ◌∙◌, subst}
 use Rattle.reg_op.specs.Contents.{Content, state}
-use Rattle.reg_op.specs.Rows.{rows}
-use Rattle.reg_office.specs.declared.writing.ReportKind.{ReportKind}
-use Rattle.reg_office.specs.declared.writing.ReportKind.TheVariants.{Entries, Conflicts, Awaited, Gaps}
-use Rattle.reg_office.specs.Exports.{export}
-use Rattle.reg_office.specs.Lines.{conflicts_sheet}
-use Rattle.reg_office.specs.Reports.{IsReport, IsOpsReport}
+use Rattle.reg_report.specs.declared.writing.ReportKind.{ReportKind}
+use Rattle.reg_report.specs.Exports.{export}
+use Rattle.reg_report.specs.Reports.{IsReport, IsOpsReport}
 use Rattle.reg_office.specs.World.{World}
-use Rattle.reg_office.proofs.OneLemmas as contested
-use Rattle.reg_office.proofs.WorldReports.{one_entries, one_gaps}
+use Rattle.reg_report.proofs.ReportLemmas.{one_report}
 use Rattle.reg_office.proofs.WorldInvariant.{Invariant}
-
-pub one_conflicts : (x : Content) (text other : List ℕ) → IsReport Conflicts x text → IsReport Conflicts x other → text ≡ other
-one_conflicts x text other h k = h.2 ∙ ap conflicts_sheet (contested.one_list (rows x.ops) h.0 k.0 h.1 k.1) ∙ sym k.2
-
-one_report : (kind : ReportKind) (x : Content) (text other : List ℕ) → IsReport kind x text → IsReport kind x other → text ≡ other
-one_report Entries x text other h k = one_entries x text other h k
-one_report Conflicts x text other h k = one_conflicts x text other h k
-one_report Awaited x text other h k = h ∙ sym k
-one_report Gaps x text other h k = one_gaps x text other h k
 
 module _ (w : World) (inv : Invariant w) (i j : List ℕ) (same : (w.offices i).reached ≡ (w.offices j).reached) where
   same_content : (w.offices i).content ≡ (w.offices j).content

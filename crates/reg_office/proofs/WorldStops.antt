@@ -1,5 +1,5 @@
 -- What a stop leaves: its event, or what there was.
-use Rattle.std.proofs.Common.{◌≡◌, ℕ, List, Option, Some, None, Result, Ok, Err, refl, sym, ◌∙◌, subst, inl, inr, ◌⊎◌}
+use Rattle.std.proofs.Common.{◌≡◌, ℕ, max, arith, length, List, Option, Some, None, Result, Ok, Err, refl, sym, ◌∙◌, subst, inl, inr, ◌⊎◌}
 use Rattle.std.specs.List.{slice_get}
 use Rattle.reg_op.specs.Ids.{Id}
 use Rattle.reg_op.specs.Operations.{Op, Ops, one}
@@ -7,10 +7,11 @@ use Rattle.reg_op.specs.Set as set
 use Rattle.reg_op.specs.Contents.{Content, state, joined}
 use Rattle.reg_op.specs.Pieces.{PieceRefusal, Basis, Clash, joined_piece}
 use Rattle.reg_shelf.specs.Shelf.{IsShelf}
+use Rattle.reg_shelf.proofs.Contents.{shelf_for}
 use Rattle.reg_office.specs.declared.fault.OfficeFault.{OfficeFault}
 use Rattle.reg_office.specs.Making.{made}
 use Rattle.reg_office.specs.Pooled.{Pooled, OfRegister, OfSeen, OfPiece, ops_in}
-use Rattle.reg_office.specs.World.{Office, Sent, World, Event, Make, Send, SendSeen, SendPiece, Take, TakeOne, Restart, Stop, office_of, IsKept, IsShelfAfter, stays, Outcome, Unchanged, Clashes, Sends, Writes, Gains, gained, gained_by_piece, joins, makes, takes, takes_one, picked, Reads, ComesOf, put, After, Happens}
+use Rattle.reg_office.specs.World.{Office, Sent, World, Event, Make, Send, SendSeen, SendPiece, Take, TakeOne, Restart, Stop, office_of, IsKept, IsShelfAfter, stays, Outcome, Unchanged, Clashes, Sends, Writes, Gains, gained, gained_by_piece, joins, makes, takes, takes_one, picked, Reads, IsEvent, ComesOf, put, After, Happens}
 use Rattle.reg_office.proofs.WorldInvariant.{Invariant}
 use Rattle.reg_office.proofs.WorldSteps.{put_here, stopped_before}
 use Rattle.reg_office.proofs.WorldFollows.{one_world}
@@ -110,3 +111,32 @@ module _ (w v : World) (inv : Invariant w) (e : Event) (left : List ℕ) (h : Ha
       | inr same ↦ old_is h.1.0 old.2 h.1.2 ∙ sym same
     ]
   ]
+
+-- ---- every stop can happen
+
+-- some bytes are a shelf of what an office has
+old_left : (w : World) (inv : Invariant w) (i : List ℕ) → (left : List ℕ) × IsShelf left (w.offices i).content
+old_left w inv i =
+    let last = inv.last i in
+    let some = shelf_for (state (w.offices i).reached) (w.offices i).last (max 14 (length (w.offices i).last)) last (omega arith, omega (arith, last.short)) (omega arith) in
+    (some.0, subst (IsShelf some.0) (sym (inv.content i)) some.1.0)
+
+pub stop_may_leave_the_old : (w : World) → Invariant w → (e : Event) → IsKept e → IsEvent w e → (left : List ℕ) × IsEvent w (Stop e left) × IsShelf left (w.offices (office_of e)).content
+stop_may_leave_the_old w inv e kept is = let old = old_left w inv (office_of e) in (old.0, (kept, is, inl old.1), old.1)
+
+-- the office then has this content, or what it had
+new_left : (w v : World) (inv : Invariant w) (e : Event) (out : Outcome) → IsKept e → IsEvent w e → IsOwn (office_of e) out → ComesOf w e out → After w out v
+    → (left : List ℕ) × IsEvent w (Stop e left) × IsShelf left (v.offices (office_of e)).content
+new_left w v inv e Unchanged kept is mine comes after =
+    subst (λ (u : World). (left : List ℕ) × IsEvent w (Stop e left) × IsShelf left (u.offices (office_of e)).content) (sym after) (stop_may_leave_the_old w inv e kept is)
+new_left w v inv e (Clashes id) kept is mine comes after =
+    subst (λ (u : World). (left : List ℕ) × IsEvent w (Stop e left) × IsShelf left (u.offices (office_of e)).content) (sym after) (stop_may_leave_the_old w inv e kept is)
+new_left w v inv e (Sends sent) kept is mine comes after = absurd mine
+new_left w v inv e (Writes what reached) kept is mine comes after = absurd mine
+new_left w v inv e (Gains j x reached) kept is mine comes after =
+    let holds = after.1 in
+    let some = shelf_for x after.0 (max 14 (length after.0)) holds (omega arith, omega (arith, holds.short)) (omega arith) in
+    (some.0, (kept, is, inr (Gains j x reached, comes, some.1.0)), new_shelf w (office_of e) some.0 (Gains j x reached) v mine some.1.0 after)
+
+pub stop_may_leave_the_new : (w v : World) → Invariant w → (e : Event) → IsKept e → Happens w e v → (left : List ℕ) × IsEvent w (Stop e left) × IsShelf left (v.offices (office_of e)).content
+stop_may_leave_the_new w v inv e kept h = new_left w v inv e h.1.0 kept h.0 (own w e kept h.1.0 h.1.1) h.1.1 h.1.2

@@ -1,4 +1,4 @@
--- The effects of commands, and what a command that is done leaves.
+-- The effects of commands, and the content after a command.
 use Rattle.std.specs.Prelude.{◌≡◌, ℕ, List, map, Ok}
 use Rattle.reg_op.specs.Set as set
 use Rattle.reg_op.specs.Ids.{Id}

@@ -1,4 +1,4 @@
--- What a command does with the entries that it names.
+-- The effects of a command on the entries that it names.
 use Rattle.std.specs.Prelude.{Bool, not, ◌||◌, Option, Some, None, if◌then◌else◌}
 use Rattle.reg_op.specs.Ids.{Id, is_same}
 use Rattle.reg_op.specs.Operations.{Ops}

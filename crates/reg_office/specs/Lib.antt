@@ -3,15 +3,6 @@ pub mod Names
 pub mod Commands
 pub mod Effects
 pub mod Repeats
-pub mod Pairs
-pub mod Seen
-pub mod Conflicts
-pub mod Contenders
-pub mod Gaps
-pub mod Lines
-pub mod Reports
-pub mod Between
 pub mod Pooled
 pub mod World
 pub mod Reached
-pub mod Exports

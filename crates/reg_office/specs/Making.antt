@@ -1,12 +1,13 @@
 -- The outcome of a command on a content.
-use Rattle.std.specs.Prelude.{ℕ, ◌+◌, max, nat_lt, not, ◌&&◌, Bool, List, [], ◌∷◌, length, Option, Some, None, Result, Ok, Err, if◌then◌else◌}
+use Rattle.std.specs.Prelude.{◌≡◌, ℕ, ◌+◌, max, nat_lt, not, ◌&&◌, Bool, List, [], ◌∷◌, length, Option, Some, None, Result, Ok, Err, if◌then◌else◌}
 use Rattle.std.specs.Ordering.{is_eq}
 use Rattle.reg_op.specs.Set as set
 use Rattle.reg_op.specs.Ids.{Id, Ids, is_same}
-use Rattle.reg_op.specs.Operations.{Op, Ops, one}
+use Rattle.reg_op.specs.Operations.{Op, Ops, op_cmp, one}
 use Rattle.reg_op.specs.declared.operation.OpBody.{OpBody as Body}
 use Rattle.reg_op.specs.declared.operation.OpBody.TheVariants.{Enter, Supersede, Retire}
 use Rattle.reg_op.specs.Contents.{Content, state, merged}
+use Rattle.reg_op.specs.Kept.{first_dropped}
 use Rattle.reg_op.specs.Status.{enters, retires, is_replaced_by}
 use Rattle.reg_seen.specs.Runs.{replica_cmp, id_at}
 use Rattle.reg_office.specs.declared.fault.OfficeFault.{OfficeFault}
@@ -64,9 +65,17 @@ abbrev pub made_unless : Option OfficeFault → Bool → List Op → Result (Lis
 made_unless (Some f) spent os = Err f
 made_unless None spent os = if spent then Err fault.CountSpent else Ok os
 
--- the operations of a command with their note, numbered from the greatest own count seen plus one, or its refusal. A
--- long note is refused first, even without operations
+-- the operations of a command with their note, numbered from the greatest own count seen plus one
+abbrev pub new_ops : Content → List ℕ → List ℕ → List Body → List Op
+new_ops x replica note bodies = numbered replica (greatest replica x.seen + 1) note bodies
+
+-- no effect is refused, and none of the new operations makes another one redundant
+pub record AreAllowed (x : Content) (replica note : List ℕ) (bodies : List Body) : Type 0 where
+  pub none_refused : objections x (new_ops x replica note bodies) ≡ None
+  pub none_dropped : first_dropped (set.from_list {R = op_cmp} (new_ops x replica note bodies)) ≡ None
+
+-- the new operations, or the refusal of the command. A long note is refused first, even without operations
 abbrev pub made : Content → List ℕ → List ℕ → List Body → Result (List Op) OfficeFault
 made x replica note bodies =
-    let os = numbered replica (greatest replica x.seen + 1) note bodies in
+    let os = new_ops x replica note bodies in
     made_unless (else_next (note_fault note) (objections x os)) (is_spent (greatest replica x.seen) (length bodies)) os

@@ -1,10 +1,8 @@
--- How faults are called, and what each names.
+-- The names of faults, and the entry that each names.
 use Rattle.std.specs.Prelude.{ℕ, List, Option, Some, None, codes}
 use Rattle.reg_op.specs.Ids.{Id}
 use Rattle.reg_office.specs.declared.fault.OfficeFault.{OfficeFault}
 use Rattle.reg_office.specs.declared.fault.OfficeFault.TheVariants as office
-use Rattle.reg_office.specs.declared.writing.ReportFault.{ReportFault}
-use Rattle.reg_office.specs.declared.writing.ReportFault.TheVariants as report
 
 -- a command that an office refuses
 abbrev pub office_name : OfficeFault → List ℕ
@@ -16,7 +14,7 @@ office_name (office.AlreadySuperseded id) = codes "AlreadySuperseded"
 office_name office.CountSpent = codes "CountSpent"
 office_name office.Memory = codes "Memory"
 
--- and the entry that it names
+-- the entry that it names
 abbrev pub office_id : OfficeFault → Option Id
 office_id office.NoteTooLong = None
 office_id (office.UnknownEntry id) = Some id
@@ -25,12 +23,3 @@ office_id (office.AlreadyRetired id) = Some id
 office_id (office.AlreadySuperseded id) = Some id
 office_id office.CountSpent = None
 office_id office.Memory = None
-
--- a report that was not completely written
-abbrev pub report_name : ReportFault → List ℕ
-report_name (report.WriteFailed at) = codes "WriteFailed"
-report_name report.Memory = codes "Memory"
-
-abbrev pub report_place : ReportFault → Option ℕ
-report_place (report.WriteFailed at) = Some at
-report_place report.Memory = None

@@ -1,4 +1,4 @@
--- Where an entry is named again.
+-- The place at which an entry is named again.
 use Rattle.std.specs.Prelude.{◌≡◌, ℕ, ◌<◌, ◌≤◌, true, false, List, length, slice_index_or, take}
 use Rattle.std.specs.List.{list_any}
 use Rattle.reg_op.specs.Ids.{Id, is_same}

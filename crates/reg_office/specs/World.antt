@@ -17,7 +17,7 @@ use Rattle.reg_office.specs.declared.fault.OfficeFault.{OfficeFault}
 use Rattle.reg_office.specs.Making.{made}
 use Rattle.reg_office.specs.Pooled.{Pooled, OfRegister, OfSeen, OfPiece, HoldsAny, IsAnyTooLarge, ops_in}
 
--- an office: its register's content, its last file, and the operations that it made and was sent, which no code keeps
+-- an office: its register's content, its last file, and the operations that it made or received, which no code keeps
 pub record Office : Type 0 where
   pub content : Content
   pub last : List ℕ
@@ -64,8 +64,8 @@ office_of (Stop e left) = office_of e
 
 -- ---- the outcome of an event
 
--- nothing, such as after a refusal; a clash; a file to be sent; a file to be made and sent, by an office that has reached
--- this; or an office's content, and what it has reached
+-- nothing, as after a refusal; a clash; a file to be sent; a file to be made and sent, by an office that has reached these
+-- operations; or an office's content, and the operations that it has reached
 pub data Outcome : Type 0 where
   Unchanged : Outcome
   Clashes : (id : Id) → Outcome
@@ -116,7 +116,7 @@ Reads next (Some sent) out = (what : Pooled) × HoldsAny sent.bytes what × (out
 abbrev pub picked : Id → Ops → Option Op
 picked id s = find (λ o. is_same o.id id) (set.items s)
 
--- ---- what a stop leaves
+-- ---- the bytes that a stop leaves
 
 -- the bytes are a shelf of the content of this outcome
 abbrev pub IsShelfAfter : List ℕ → Outcome → Type 0

@@ -1,19 +1,17 @@
-//! What a command does, and why an office refuses it.
+//! The effects of a command, and why an office refuses it.
 
-ghost use Rattle.std.specs.Prelude.{◌≡◌, ℕ, ◌+◌, ◌<◌, ◌≤◌, true, List, map, length, All, IfOk};
-ghost use Rattle.reg_op.specs.Operations.{IsOfItself};
+ghost use Rattle.std.specs.Prelude.{◌≡◌, ℕ, List, map, IfOk};
 ghost use Rattle.reg_office.specs.Making.{objections, numbered};
 ghost use Rattle.reg_office.specs.Effects.{effect_of, fault_of};
 
 use crate::OfficeFault;
-use crate::entry::{is_entered, is_retired};
 use crate::repeat::first_repeat;
-use reg_op::{Note, Op, OpBody, OpId};
+use reg_op::{OpBody, OpId};
+use reg_report::{is_entered, is_retired};
 use reg_state::Register;
 use std::alloc::{AllocError, Global};
-use uuid::Uuid;
 
-/// What a command does with each entry that it names.
+/// The effect of a command on each entry that it names.
 #[derive(Clone, Copy)]
 pub enum Command {
     Retire,
@@ -86,31 +84,14 @@ impl Command {
         }
     }
 
-    /// An operation for each entry, with one note, numbered from a first count.
-    pub fn ops(
-        &self,
-        alloc: Global,
-        replica: Uuid,
-        first: u32,
-        note: &Note,
-        named: &[OpId],
-    ) -> Result<Vec<Op>, AllocError>
-        requires positive { 0 < first }
-        requires fits { first + length named.now ≤ 4294967296 }
-        requires possible { All (λ e. ¬ (IsOfItself (effect_of self.now e))) named.now }
-        ensures { IfOk result (λ ops. ops.items ≡ numbered replica first note.now (map (effect_of self.now) named.now)) }
+    /// The effect on each entry.
+    pub fn bodies(&self, alloc: Global, named: &[OpId]) -> Result<Vec<OpBody>, AllocError>
+        ensures { IfOk result (λ bodies. bodies.items ≡ map (effect_of self.now) named.now) }
     {
-        let mut ops = Vec::with_capacity(alloc, named.len())?;
-        for (k, entry) in named.iter().enumerate() {
-            let Some(id) = OpId::new(replica, first + k as u32) else {
-                unreachable!();
-            };
-            let noted = note.try_clone()?;
-            let Ok(op) = Op::new(id, self.effect(*entry), noted) else {
-                unreachable!();
-            };
-            ops.push(op)?;
+        let mut bodies = Vec::with_capacity(alloc, named.len())?;
+        for entry in named {
+            bodies.push(self.effect(*entry))?;
         }
-        Ok(ops)
+        Ok(bodies)
     }
 }

@@ -1,20 +1,15 @@
 //! The laws of commands, of reports, and of every world. The functions do nothing: their contracts are the laws.
 
-ghost use Rattle.std.specs.Prelude.{◌≡◌, ◌≢◌, ◌↔◌, ◌⊎◌, ◌+◌, ◌++◌, ◌<◌, ◌≤◌, ℕ, List, [], ◌∷◌, Contains, map, length, slice_get, true, false, None, Some, Ok, Err};
-ghost use Rattle.csv.specs.Writing.{row_text, default_writer};
-ghost use Rattle.crs_value.specs.declared.crs.Crs.{Crs};
-ghost use Rattle.wkt_crs.specs.Definition.{IsCrsOf};
+ghost use Rattle.std.specs.Prelude.{◌≡◌, ◌≢◌, ◌↔◌, ◌⊎◌, ◌+◌, ◌++◌, ◌<◌, ◌≤◌, ℕ, List, [], ◌∷◌, map, length, slice_get, true, false, None, Some, Ok, Err};
 ghost use Rattle.reg_op.specs.Set as set;
 ghost use Rattle.reg_op.specs.Ids.{Id, Ids};
 ghost use Rattle.reg_op.specs.Lists.{has, ById};
-ghost use Rattle.reg_op.specs.Operations.{Op, Ops, op_cmp, one, ids, OneBody, kept};
-ghost use Rattle.reg_op.specs.Kept.{entering};
-ghost use Rattle.reg_op.specs.Rows.{Row, rows};
+ghost use Rattle.reg_op.specs.Operations.{Op, op_cmp, one, ids, OneBody, kept};
 ghost use Rattle.reg_op.specs.declared.operation.OpBody.{OpBody as Body};
 ghost use Rattle.reg_op.specs.declared.operation.OpBody.TheVariants.{Enter};
 ghost use Rattle.reg_op.specs.Contents.{Content, state, merged, joined, IsContent};
 ghost use Rattle.reg_op.specs.declared.status.Status.TheVariants.{Retired};
-ghost use Rattle.reg_op.specs.Status.{enters, status};
+ghost use Rattle.reg_op.specs.Status.{status};
 ghost use Rattle.reg_seen.specs.Runs.{ids_from, IsGreatest};
 ghost use Rattle.reg_state.specs.ManyLaws.{all_of};
 ghost use Rattle.reg_file.specs.Files.{Holds, HoldsSeen, HoldsPiece};
@@ -22,17 +17,14 @@ ghost use Rattle.reg_shelf.specs.Shelf.{IsShelf};
 ghost use Rattle.reg_office.specs.declared.fault.OfficeFault.{OfficeFault};
 ghost use Rattle.reg_office.specs.declared.fault.OfficeFault.TheVariants as fault;
 ghost use Rattle.reg_office.specs.Commands.{retirements, supersessions};
-ghost use Rattle.reg_office.specs.Conflicts.{Contested, AreConflicts};
-ghost use Rattle.reg_office.specs.Exports.{export};
-ghost use Rattle.reg_office.specs.Lines.{entries_header, IsEntryLine};
+ghost use Rattle.reg_report.specs.Exports.{export};
 ghost use Rattle.reg_office.specs.Making.{greatest, numbered, objections, made};
-ghost use Rattle.reg_office.specs.declared.writing.ReportKind.{ReportKind};
-ghost use Rattle.reg_office.specs.declared.writing.ReportKind.TheVariants.{Entries, Conflicts, Awaited, Gaps};
-ghost use Rattle.reg_office.specs.Reports.{IsReport, IsOpsReport, rows_of, IsEntryReport};
+ghost use Rattle.reg_report.specs.declared.writing.ReportKind.{ReportKind};
+ghost use Rattle.reg_report.specs.Reports.{IsReport, IsOpsReport};
 ghost use Rattle.reg_op.specs.Pieces.{Piece, piece_for, IsHeld};
 ghost use Rattle.reg_office.specs.Pooled.{Pooled, HoldsAny, ops_in, TellsOf};
 ghost use Rattle.reg_office.specs.Reached.{Reaches, WasMade};
-ghost use Rattle.reg_office.specs.World.{World, start, Event, Make, Send, SendSeen, SendPiece, Take, TakeOne, Restart, Stop, office_of, Sent, Outcome, Clashes, IsEvent, IsTooMuch, IsWorld, ComesOf, After, pooled, Happens, Leads};
+ghost use Rattle.reg_office.specs.World.{World, start, Event, Make, Send, SendSeen, SendPiece, Take, TakeOne, Restart, Stop, office_of, Sent, Outcome, Clashes, IsEvent, IsKept, IsTooMuch, IsWorld, ComesOf, After, pooled, Happens, Leads};
 
 /// New operations have the effects of the command in order, numbered consecutively from the greatest own count seen
 /// plus one. None of their ids was seen before, and so they join the content without a clash.
@@ -69,47 +61,17 @@ pub fn effects_are_kept()
         → set.contains (merged x (state (set.from_list {R = op_cmp} os))).ops o ≡ true }
 {}
 
-/// Pruning does not change the keys in conflict, and there is one list of them.
-pub fn conflicts_of_kept()
-    ensures conflicts { (s : Ops) (cs : List Contested) → AreConflicts (rows (kept s)) cs ↔ AreConflicts (rows s) cs }
-    ensures one { (s : Ops) (cs ds : List Contested) → AreConflicts (rows s) cs → AreConflicts (rows s) ds → cs ≡ ds }
-{}
-
-/// A content has at most one report of each kind, and one of its operations.
-pub fn one_report()
-    ensures entries { (x : Content) (text other : List ℕ) → IsReport Entries x text → IsReport Entries x other → text ≡ other }
-    ensures conflicts { (x : Content) (text other : List ℕ) → IsReport Conflicts x text → IsReport Conflicts x other → text ≡ other }
-    ensures awaited { (x : Content) (text other : List ℕ) → IsReport Awaited x text → IsReport Awaited x other → text ≡ other }
-    ensures gaps { (x : Content) (text other : List ℕ) → IsReport Gaps x text → IsReport Gaps x other → text ≡ other }
-    ensures operations { (x : Content) (text other : List ℕ) → IsOpsReport x text → IsOpsReport x other → text ≡ other }
-{}
-
-/// An entry has one row and one line, any other id has none, and there is at most one report of an entry.
-pub fn one_line()
-    ensures row { (x : Content) (entry : Id) → IsContent x → enters x.ops entry ≡ true → (r : Row) × (rows_of entry x ≡ r ∷ []) × (r.entry ≡ entry) }
-    ensures no_row { (x : Content) (entry : Id) → enters x.ops entry ≡ false → rows_of entry x ≡ [] }
-    ensures line { (x : Content) (entry : Id) (r : Row) (text : List ℕ) → rows_of entry x ≡ r ∷ [] → IsEntryReport entry x text
-        → (fields : List (List ℕ)) × IsEntryLine r fields × (text ≡ row_text default_writer entries_header ++ row_text default_writer fields) }
-    ensures report { (x : Content) (entry : Id) (text other : List ℕ) → IsEntryReport entry x text → IsEntryReport entry x other → text ≡ other }
-{}
-
-/// The text of each row, which an export writes if the entry is not retired, is the one that was entered. It is the
-/// canonical text of a value, and spells that value.
-pub fn texts_are_read()
-    ensures entered { (x : Content) (r : Row) → Contains (rows x.ops) r → (note : List ℕ) × (set.contains x.ops (entering r.entry r.definition note) ≡ true) }
-    ensures spelled { (x : Content) (r : Row) → IsContent x → Contains (rows x.ops) r → (crs : Crs) × IsCrsOf crs r.definition }
-{}
-
 /// The theorem on every world: any number of offices, each with its own UUID, after any list of events. Files are lost,
-/// late, repeated and out of order; offices restart from their last files, or from what a stop leaves on their shelves.
+/// late, repeated and out of order. Offices restart from their last files, or from the bytes that a stop leaves on their
+/// shelves.
 pub fn every_world()
     // ---- The promise.
-    // The content of an office is the state of all that it made and received, although operations were pruned on the
+    // The content of an office is the state of all operations that it made and received, although some were pruned on the
     // way.
     ensures content { (w : World) → IsWorld w → (i : List ℕ) → (w.offices i).content ≡ state (w.offices i).reached }
     // Its last file is the file of that content.
     ensures last { (w : World) → IsWorld w → (i : List ℕ) → Holds (w.offices i).last (state (w.offices i).reached) }
-    // Each sent file holds the state of what its sender had reached, or its ids, or a piece of it.
+    // Each sent file holds the state of the operations that its sender had reached, or their ids, or a piece of the state.
     ensures pool { (w : World) → IsWorld w → (place : ℕ) (sent : Sent) → slice_get w.pool place ≡ Some sent
         → (what : Pooled) × HoldsAny sent.bytes what × TellsOf sent.reached what }
     // Offices that reached the same have the same content, and the same file, byte for byte.
@@ -122,7 +84,13 @@ pub fn every_world()
         → IsOpsReport (w.offices i).content text → IsOpsReport (w.offices j).content other → text ≡ other }
     ensures same_exports { (w : World) → IsWorld w → (i j : List ℕ) → (w.offices i).reached ≡ (w.offices j).reached
         → export (w.offices i).content.ops ≡ export (w.offices j).content.ops }
-    // ---- What offices reach, and what is sent.
+    // An entry that is retired at an office stays retired there.
+    ensures stays_retired { (w v : World) (later : List Event) → IsWorld w → Leads w later v → (i : List ℕ) (entry : Id)
+        → status (w.offices i).content.ops entry ≡ Some Retired → status (v.offices i).content.ops entry ≡ Some Retired }
+    // Apart from worlds, it stays retired in every join.
+    ensures retired_in_joins { (x y z : Content) (entry : Id) → (joined x y ≡ Ok z) ⊎ (joined y x ≡ Ok z)
+        → status x.ops entry ≡ Some Retired → status z.ops entry ≡ Some Retired }
+    // ---- What reaching means.
     // An office reaches what it makes; a refused command changes nothing.
     ensures made_is_reached { (w v : World) → IsWorld w → (i : List ℕ) (effects : List Body) (note : List ℕ) (os : List Op) → made (w.offices i).content i note effects ≡ Ok os
         → Happens w (Make i effects note) v → Reaches w i (set.from_list os) v }
@@ -155,15 +123,14 @@ pub fn every_world()
         → HoldsAny sent.bytes what → set.contains (ops_in what) o ≡ true → o.id ≡ id → Happens w (TakeOne i place id) v → Reaches w i (one o) v }
     ensures none_is_reached { (w v : World) → IsWorld w → (i : List ℕ) (place : ℕ) (id : Id) (sent : Sent) (what : Pooled) → slice_get w.pool place ≡ Some sent
         → HoldsAny sent.bytes what → ((o : Op) → set.contains (ops_in what) o ≡ true → o.id ≢ id) → Happens w (TakeOne i place id) v → v ≡ w }
-    // At a place without a file there is nothing to take, and nothing to answer.
+    // At an index of the pool without a file, taking and answering change nothing.
     ensures nothing_to_take { (w v : World) (i : List ℕ) (place : ℕ) → slice_get w.pool place ≡ None → Happens w (Take i place) v → v ≡ w }
     ensures nothing_to_find { (w v : World) (i : List ℕ) (place : ℕ) (id : Id) → slice_get w.pool place ≡ None → Happens w (TakeOne i place id) v → v ≡ w }
     ensures nothing_to_answer { (w v : World) (i : List ℕ) (place : ℕ) → slice_get w.pool place ≡ None → Happens w (SendPiece i place) v → v ≡ w }
     // A restart changes nothing.
     ensures restart_keeps { (w v : World) → IsWorld w → (i : List ℕ) → Happens w (Restart i) v → v ≡ w }
-    // ---- Stops.
-    // A stop leaves all of its event, or nothing of it, and the office starts again with the content of the bytes that are
-    // left. If they are a shelf of the new content, the event has happened; otherwise it made nothing.
+    // A stop leaves all of its event or nothing of it, and the office restarts with the content of the bytes that are left.
+    // If they are a shelf of the new content, the event has happened; otherwise it has changed nothing.
     ensures stop_is_all_or_nothing { (w v : World) → IsWorld w → (e : Event) (left : List ℕ) → Happens w (Stop e left) v → Happens w e v ⊎ (v ≡ w) }
     ensures stop_leaves_a_shelf { (w v : World) → IsWorld w → (e : Event) (left : List ℕ) → Happens w (Stop e left) v
         → IsShelf left (v.offices (office_of e)).content }
@@ -178,10 +145,12 @@ pub fn every_world()
     ensures new_ids { (w : World) → IsWorld w → (i j : List ℕ) (effects : List Body) (note : List ℕ) (os : List Op) (o p : Op) → made (w.offices i).content i note effects ≡ Ok os
         → has os o ≡ true → set.contains (w.offices j).reached p ≡ true → p.id ≢ o.id }
     ensures own_ids { (w : World) → IsWorld w → (i : List ℕ) (effects : List Body) (note : List ℕ) (os : List Op) → made (w.offices i).content i note effects ≡ Ok os → ById os }
-    // What an office has reached stays reached. So no id is made twice.
+    // Operations that an office has reached stay reached.
     ensures grows { (w v : World) (later : List Event) → IsWorld w → Leads w later v → (i : List ℕ) (o : Op)
         → set.contains (w.offices i).reached o ≡ true → set.contains (v.offices i).reached o ≡ true }
-    // No event has a clash as its outcome.
+    // If the events of a list make two operations with one id, these are one operation, and one event makes it.
+    ensures made_once { (events : List Event) (o p : Op) (one : WasMade start events o) (other : WasMade start events p) → o.id ≡ p.id → (o ≡ p) × (one.before ≡ other.before) }
+    // No event ends in a clash.
     ensures no_clash { (w : World) → IsWorld w → (e : Event) (id : Id) → IsEvent w e → ¬ (ComesOf w e (Clashes id)) }
     // ---- Every event has one outcome.
     // Each event has an outcome, and leads to a world unless a file would be too large.
@@ -189,11 +158,8 @@ pub fn every_world()
         → (out : Outcome) × ComesOf w e out × (((v : World) × After w out v) ⊎ IsTooMuch out) }
     // It leads to at most one world.
     ensures one_world { (w u v : World) (e : Event) → Happens w e u → Happens w e v → u ≡ v }
-    // ---- Retired stays retired.
-    // An entry that is retired at an office stays retired there.
-    ensures stays_retired { (w v : World) (later : List Event) → IsWorld w → Leads w later v → (i : List ℕ) (entry : Id)
-        → status (w.offices i).content.ops entry ≡ Some Retired → status (v.offices i).content.ops entry ≡ Some Retired }
-    // Apart from worlds, it stays retired in every join.
-    ensures retired_in_joins { (x y z : Content) (entry : Id) → (joined x y ≡ Ok z) ⊎ (joined y x ≡ Ok z)
-        → status x.ops entry ≡ Some Retired → status z.ops entry ≡ Some Retired }
+    // An event in which an office makes or takes operations can be stopped. The bytes that are left can be a shelf of the old
+    // content, and a shelf of the new one.
+    ensures stop_may_leave_the_old { (w : World) → IsWorld w → (e : Event) → IsKept e → IsEvent w e → (left : List ℕ) × IsEvent w (Stop e left) × IsShelf left (w.offices (office_of e)).content }
+    ensures stop_may_leave_the_new { (w v : World) → IsWorld w → (e : Event) → IsKept e → Happens w e v → (left : List ℕ) × IsEvent w (Stop e left) × IsShelf left (v.offices (office_of e)).content }
 {}

@@ -1,4 +1,4 @@
-//! The note of a command, which all its operations have.
+//! The note of a command, which all its operations share.
 
 ghost use Rattle.std.specs.Prelude.{◌≡◌, ◌≤◌, length, IfOk};
 ghost use Rattle.reg_office.specs.Making.{note_fault};
@@ -7,19 +7,17 @@ use crate::OfficeFault;
 use reg_op::{Note, NoteFault};
 use std::alloc::{AllocError, Global};
 
-const MAX_BYTES: usize = 200;
-
 /// Why a note is refused.
 pub fn note_fault(note: &str) -> Option<OfficeFault>
     ensures { result ≡ note_fault note.now }
 {
-    if note.len() > MAX_BYTES {
+    if note.len() > Note::MAX {
         return Some(OfficeFault::NoteTooLong);
     }
     None
 }
 
-/// The note of a text that is not refused.
+/// The note with this text, or why it is refused.
 pub fn note_of(alloc: Global, text: &str) -> Result<Note, AllocError>
     requires { length text.now ≤ 200 }
     ensures { IfOk result (λ note. note ≡ text.now) }

@@ -15,7 +15,7 @@ pub fn first_repeat(alloc: Global, named: &[OpId]) -> usize
 {
     match repeat_by_set(alloc, named) {
         Ok(at) => at,
-        // A refusal must not depend on memory. This walk is slow, and finds the same.
+        // A refusal must not depend on memory. This loop is slow, and gives the same result without allocating.
         Err(_) => repeat_by_walk(named),
     }
 }
@@ -43,7 +43,7 @@ fn repeat_by_walk(named: &[OpId]) -> usize
     named.len()
 }
 
-// Whether the entry is among some.
+// Whether the entry is in the list.
 fn is_among(entries: &[OpId], entry: OpId) -> bool
     ensures { result ≡ list_any (is_same entry) entries.now }
 {

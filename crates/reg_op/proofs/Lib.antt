@@ -13,3 +13,4 @@ pub mod PointLemmas
 pub mod PieceLemmas
 pub mod RefusalLemmas
 pub mod DroppedLemmas
+pub mod ItemLemmas

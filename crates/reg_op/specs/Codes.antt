@@ -1,4 +1,4 @@
--- Operations, contents and pieces as data: what a model's value needs.
+-- Operations, contents and pieces as data, as the value of a model needs them.
 use Rattle.std.specs.Prelude.{◌≡◌, ℕ, List, [], ◌∷◌, refl, zero, suc}
 use Rattle.reg_op.specs.Set as set
 use Rattle.std.specs.Coded.{Coded, code_by, coded×, coded_ℕ, coded_list}

@@ -5,7 +5,7 @@ ghost use Rattle.reg_op.specs.Text.{IsCount, IsNumeral};
 
 use itoa::Buffer;
 
-/// The count after a colon. It is printed again and compared, so that each count has one spelling.
+/// The count after a colon. The text is compared with the printed count, so each count has one spelling.
 pub fn count_of(text: &[u8]) -> Option<u32>
     ensures found { IfSome result (λ n. IsCount text.now n) }
     ensures none { IfNone result ((n : ℕ) → ¬ (IsCount text.now n)) }

@@ -26,7 +26,7 @@ pub fn least_are_kept()
         (set.contains (kept s) (superseding i old newer note) ≡ true) ↔ IsLeastSupersession s i old newer note }
 {}
 
-/// Pruning does not change status, rows, keys in conflict and awaited ids. The keys of a text are a parameter.
+/// Pruning does not change statuses, rows, keys in conflict and awaited ids. The keys of a text are a parameter.
 pub fn status_of_kept()
     ensures status { (s : Ops) (e : Id) → status (kept s) e ≡ status s e }
     ensures replaced_by { (s : Ops) (e n : Id) → is_replaced_by (kept s) e n ≡ is_replaced_by s e n }

@@ -10,10 +10,7 @@ use std::fmt;
 use std::marker::Model;
 use std::rc::Rc;
 
-/// The most bytes of a note.
-const MOST: usize = 200;
-
-/// Why bytes are not a note.
+/// Why some bytes are not a note.
 #[derive(Clone, Copy, Debug, PartialEq, Eq)]
 pub enum NoteFault {
     /// There are more than 200 bytes.
@@ -71,7 +68,10 @@ impl Model for Note {
 }
 
 impl Note {
-    /// The note without bytes.
+    /// The most bytes of a note.
+    pub const MAX: usize = 200;
+
+    /// The empty note.
     pub fn empty() -> Note
         ensures { result ≡ [] }
     {
@@ -88,7 +88,7 @@ impl Note {
         ensures bytes { length bytes.now ≤ 200 → ¬ (IsUtf8 bytes.now) → result ≡ Err fault.NoteNotUtf8 }
         ensures empty { bytes.now ≡ [] → result ≡ Ok [] }
     {
-        if bytes.len() > MOST {
+        if bytes.len() > Note::MAX {
             return Err(NoteFault::NoteTooLong);
         }
         if bytes.is_empty() {
@@ -121,7 +121,7 @@ impl Note {
         self.as_bytes().is_empty()
     }
 
-    /// The same, which shares its bytes.
+    /// A copy that shares the bytes.
     pub fn try_clone(&self) -> Result<Note, AllocError>
         ensures { IfOk result (λ copy. copy ≡ self.now) }
     {

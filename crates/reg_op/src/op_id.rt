@@ -55,7 +55,7 @@ impl OpId {
         self.replica
     }
 
-    /// Which of its operations it is, from 1.
+    /// Its number among the operations of the replica, from 1.
     pub fn count(&self) -> u32
         ensures value { result ≡ self.now.count }
         ensures id { IsId self.now }
@@ -128,7 +128,7 @@ impl fmt::Display for OpId {
     }
 }
 
-// Each byte fits, which a clause cannot say of an array: this walk reads them, and is compiled away.
+// Each byte is below 256, which a clause cannot say of an array. This loop reads them, and is compiled away.
 #[inline]
 fn bytes_fit(bytes: &[u8; 16])
     ensures { (length bytes.now ≡ 16) × All (λ b. b < 256) bytes.now }

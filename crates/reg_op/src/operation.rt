@@ -9,7 +9,7 @@ use std::alloc::{AllocError, Global};
 use std::marker::Model;
 use wkt_crs::Definition;
 
-/// What an operation does. An entry is named by the id of the operation that entered it.
+/// The effect of an operation. An entry is named by the id of the operation that entered it.
 #[derive(Drop)]
 pub enum OpBody {
     Enter(Definition),
@@ -43,7 +43,7 @@ impl Model for Op {
 }
 
 impl Op {
-    /// An operation with this id, unless an entry would supersede itself.
+    /// An operation with this id, or a fault if an entry would supersede itself.
     pub fn new(id: OpId, body: OpBody, note: Note) -> Result<Op, SameEntry>
         ensures ok { IfOk result (λ op. op ≡ record { id = id; body = body; note = note }) }
         ensures same { IsErr result ↔ IsOfItself body }
@@ -64,7 +64,7 @@ impl Op {
         self.id
     }
 
-    /// What the operation does.
+    /// The effect.
     pub fn body(&self) -> &OpBody
         ensures { result.now ≡ self.now.body }
     {
@@ -144,7 +144,7 @@ impl Op {
 }
 
 impl OpBody {
-    /// Whether an entry would supersede itself. Anything else can be done.
+    /// Whether an entry would supersede itself. Every other effect is allowed.
     pub fn is_of_itself(&self) -> bool
         ensures value { IsTrue result ↔ IsOfItself self.now }
         ensures possible { result ≡ false → IsBody self.now }

@@ -8,7 +8,7 @@ use Rattle.reg_op.specs.Rows.{Row}
 use Rattle.reg_op.specs.declared.status.Status.{Status}
 use Rattle.reg_op.specs.declared.status.Status.TheVariants.{Valid, Superseded, Retired}
 use Rattle.reg_query.specs.declared.figures.register.Counts.{Counts}
-use Rattle.reg_query.specs.Figures.{is_status, status_in, has_status, CountStatuses, AreCounts}
+use Rattle.reg_query.specs.Figures.{is_status, status_in, CountStatuses, AreCounts}
 
 pub count_map : {A B : Type 0} (f : A → B) (p : B → Bool) (xs : List A) → count_by (λ (x : A). p (f x)) xs ≡ count_by p (map f xs)
 count_map f p [] = refl

@@ -1,29 +1,77 @@
--- What is left of rows by a test that tells which have all that is asked.
-use Rattle.std.proofs.Common.{◌≡◌, Bool, true, false, List, [], ◌∷◌, map, length, arith, refl, sym, ap, subst}
-use Rattle.std.specs.List.{items_where_true}
-use Rattle.std.specs.List.Retain.{ReturnsInTurn, IsFiltered}
+-- The rows that meet a query, one row after another.
+use Rattle.std.proofs.Common.{◌≡◌, ◌↔◌, ℕ, Bool, true, false, ◌||◌, is_some, IfSome, Option, Some, None, List, [], ◌∷◌, ◌++◌, map, IsTrue, if◌then◌else◌, refl, sym, ap, ◌∙◌, subst, inl, inr}
+use Rattle.std.proofs.lemmas.Bool.{true≢false}
+use Rattle.std.proofs.lemmas.List.{map-append}
+use Rattle.crs_part.specs.declared.crs.CrsParts.{CrsParts}
 use Rattle.reg_op.specs.Rows.{Row as RowOf}
-use Rattle.reg_office.specs.declared.row.Row.{Row}
-use Rattle.reg_office.specs.Seen.{row_seen}
+use Rattle.reg_report.specs.declared.row.Row.{Row}
+use Rattle.reg_report.specs.Conflicts.{KeyBytes}
+use Rattle.reg_report.specs.Seen.{row_seen}
+use Rattle.crs_search.specs.Parts.{HasPart}
+use Rattle.reg_keys.specs.Words.{NamesKey}
 use Rattle.reg_query.specs.declared.find.query.Query.{Query}
 use Rattle.reg_query.specs.Found.{IsMet, AreFound}
+use Rattle.reg_query.specs.Queries.{HasSome, IsSought, MeetsValue, asks_value}
 
-module _ {F : Type 0} (q : Query) (R : F → Row → Bool → F → Type 0) (f : F) (tells : (x : Row) (b : Bool) (f' : F) → R f x b f' → IsMet q (row_seen x) b × (f' ≡ f)) where
-  told : (bs : List Bool) (xs : List Row) (g : F) → length bs ≡ length xs → ReturnsInTurn R f bs xs g → AreFound q (map row_seen xs) (map row_seen (items_where_true bs xs))
-  told [] [] g e t = refl
-  told [] (x ∷ xs) g e t = absurd (omega arith)
-  told (b ∷ bs) [] g e t = absurd t
-  told (true ∷ bs) (x ∷ xs) g e t =
-      let one = tells x true t.0 t.1 in
-      (true, map row_seen (items_where_true bs xs), one.0, told bs xs g (omega arith) (subst (λ (y : F). ReturnsInTurn R y bs xs g) one.1 t.2), refl)
-  told (false ∷ bs) (x ∷ xs) g e t =
-      let one = tells x false t.0 t.1 in
-      (false, map row_seen (items_where_true bs xs), one.0, told bs xs g (omega arith) (subst (λ (y : F). ReturnsInTurn R y bs xs g) one.1 t.2), refl)
+module _ (rs : List RowOf) (q : Query) where
+  pub none_yet : AreFound rs q [] []
+  none_yet = refl
 
-  pub are_left : (xs ys : List Row) → IsFiltered R f xs ys → AreFound q (map row_seen xs) (map row_seen ys)
-  are_left xs ys k = subst (λ (zs : List Row). AreFound q (map row_seen xs) (map row_seen zs)) (sym k.4) (told k.0 xs k.1 k.2 k.3)
+  -- one more row is found, or not
+  pub found_more : (done : List RowOf) (r : RowOf) (met : Bool) (old new : List RowOf) → IsMet rs q r met → new ≡ old ++ (if met then r ∷ [] else []) → AreFound rs q done old → AreFound rs q (done ++ r ∷ []) new
+  found_more [] r met old new is e none = (met, [], is, refl, e ∙ ap (λ t. t ++ (if met then r ∷ [] else [])) none ∙ one met)
+    where
+      one : (b : Bool) → (if b then r ∷ [] else []) ≡ (if b then r ∷ [] else [])
+      one b = refl
+  found_more (d ∷ done) r met old new is e (m, rest, is_met, later, last) = (
+    m,
+    rest ++ (if met then r ∷ [] else []),
+    is_met,
+    found_more done r met rest (rest ++ (if met then r ∷ [] else [])) is refl later,
+    e ∙ ap (λ t. t ++ (if met then r ∷ [] else [])) last ∙ put m,
+  )
+    where
+      put : (b : Bool) → (if b then d ∷ rest else rest) ++ (if met then r ∷ [] else []) ≡ (if b then d ∷ (rest ++ (if met then r ∷ [] else [])) else (rest ++ (if met then r ∷ [] else [])))
+      put true = refl
+      put false = refl
+
+-- the same of rows as they are seen
+pub more_rows : (rs : List RowOf) (q : Query) (xs : List Row) (row : Row) (met : Bool) (old new : List RowOf) → IsMet rs q (row_seen row) met → new ≡ old ++ (if met then row_seen row ∷ [] else [])
+    → AreFound rs q (map row_seen xs) old → AreFound rs q (map row_seen (xs ++ row ∷ [])) new
+more_rows rs q xs row met old new is e are = subst (λ l. AreFound rs q l new) (sym (map-append row_seen xs (row ∷ []))) (found_more rs q (map row_seen xs) (row_seen row) met old new is e are)
+
+-- ---- a query that asks nothing of the reference system
+
+neither : (a b : Bool) → (a || b) ≡ false → (a ≡ false) × (b ≡ false)
+neither true b e = absurd (true≢false e)
+neither false b e = (refl, e)
+
+if_none : {X : Type 0} (o : Option X) (P : X → Type 0) → is_some o ≡ false → IfSome o P
+if_none None P e = tt
+if_none (Some x) P e = absurd (true≢false e)
+
+pub nothing_asked : (q : Query) (crs : CrsParts) → asks_value q ≡ false → MeetsValue q crs
+nothing_asked q crs e =
+    let one = neither (is_some q.area) (is_some q.at || is_some q.kind) e in
+    let two = neither (is_some q.at) (is_some q.kind) one.1 in
+    record { area = if_none q.area _ one.0; at = if_none q.at _ two.0; kind = if_none q.kind _ two.1 }
 
 -- rows have the ids that they are seen to have
 pub entries_seen : (rs : List Row) → map (λ (r : Row). r.entry) rs ≡ map (λ (r : RowOf). r.entry) (map row_seen rs)
 entries_seen [] = refl
 entries_seen (r ∷ rs) = ap (λ is. r.entry ∷ is) (entries_seen rs)
+
+-- ---- what a word asks for
+
+module _ (rs : List RowOf) (word : List ℕ) (k : KeyBytes) (name : List ℕ) where
+  pub by_its_key : (by_key names : Bool) → IsTrue by_key → (IsTrue by_key ↔ HasSome rs word) → (IsTrue names ↔ NamesKey word k) → IsTrue names ↔ IsSought rs word k name
+  by_its_key by_key names on tells is = (
+    λ h. inl (tells.0 on, is.0 h),
+    λ s. elim s [ inl a ↦ is.1 a.1 | inr b ↦ absurd (b.0 (tells.0 on)) ],
+  )
+
+  pub by_its_name : (by_key has : Bool) → by_key ≡ false → (IsTrue by_key ↔ HasSome rs word) → (IsTrue has ↔ HasPart word name) → IsTrue has ↔ IsSought rs word k name
+  by_its_name by_key has off tells is = (
+    λ h. inr (λ some. true≢false (sym (tells.1 some) ∙ off), is.0 h),
+    λ s. elim s [ inl a ↦ absurd (true≢false (sym (tells.1 a.0) ∙ off)) | inr b ↦ is.1 b.1 ],
+  )

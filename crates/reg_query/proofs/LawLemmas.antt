@@ -6,11 +6,11 @@ use Rattle.csv.specs.Writing.{row_text, default_writer}
 use Rattle.reg_op.specs.Set.{Ascends}
 use Rattle.reg_op.specs.Rows.{Row, rows}
 use Rattle.reg_op.specs.Contents.{Content, IsContent}
-use Rattle.reg_office.specs.declared.row.Row.{Row as DeclaredRow}
-use Rattle.reg_office.specs.Seen.{row_seen}
-use Rattle.reg_office.specs.Lines.{AreLines}
-use Rattle.reg_office.proofs.ConflictLemmas.{none_in, in_head}
-use Rattle.reg_office.proofs.WorldReports.{one_line, same_lines}
+use Rattle.reg_report.specs.declared.row.Row.{Row as DeclaredRow}
+use Rattle.reg_report.specs.Seen.{row_seen}
+use Rattle.reg_report.specs.Lines.{AreLines}
+use Rattle.reg_report.proofs.ConflictLemmas.{none_in, in_head}
+use Rattle.reg_report.proofs.ReportLemmas.{one_line, same_lines}
 use Rattle.reg_query.specs.declared.diff.change.Change.{Change as Declared}
 use Rattle.reg_query.specs.declared.diff.change.Sign.{Sign}
 use Rattle.reg_query.specs.declared.diff.change.Sign.TheVariants.{Gone, Come}

@@ -1,4 +1,3 @@
-pub mod TextLemmas
 pub mod FoundLemmas
 pub mod PartLemmas
 pub mod SeenLemmas

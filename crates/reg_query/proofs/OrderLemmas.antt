@@ -7,7 +7,7 @@ use Rattle.std.specs.Ordering.{is_lt}
 use Rattle.std.specs.declared.cmp.Ordering.{Ordering}
 use Rattle.std.specs.declared.cmp.Ordering.TheVariants.{Less}
 use Rattle.reg_op.specs.Set.{Ascends}
-use Rattle.reg_office.proofs.ConflictLemmas.{none_in, in_cons, in_head, in_tail}
+use Rattle.reg_report.proofs.ConflictLemmas.{none_in, in_cons, in_head, in_tail}
 
 abbrev pub Before : {K : Type 0} → (K → K → Ordering) → K → List K → Type 0
 Before {K = K} R x ys = (y : K) → Contains ys y → R x y ≡ Less

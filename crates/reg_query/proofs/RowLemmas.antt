@@ -23,8 +23,8 @@ use Rattle.reg_op.specs.Contents.{Content, IsContent}
 use Rattle.reg_op.specs.Rows.{Row, newer_of, rows_at, rows}
 use Rattle.reg_op.proofs.OpLemmas.{id_total, id_exact, bytes_exact, is_same_exact}
 use Rattle.reg_op.proofs.SetLemmas.{less}
-use Rattle.reg_file.proofs.KeptLemmas.{items_by_id}
-use Rattle.reg_office.proofs.ConflictLemmas.{none_in, in_cons, in_head, in_tail}
+use Rattle.reg_op.proofs.ItemLemmas.{items_by_id}
+use Rattle.reg_report.proofs.ConflictLemmas.{none_in, in_cons, in_head, in_tail}
 use Rattle.reg_query.specs.Changes.{row_cmp}
 use Rattle.reg_query.proofs.OrderLemmas.{put_before}
 use Rattle.reg_query.proofs.StepLemmas.{row_total}

@@ -1,24 +1,21 @@
 -- The ids of runs, replica by replica.
 use Rattle.std.proofs.Common.{◌≡◌, ◌↔◌, nat_eq, ℕ, ◌+◌, ◌-◌, ◌≤◌, ◌<◌, zero, suc, Bool, true, false, cond, ◌||◌, List, [], ◌∷◌, ◌++◌, map, length, take, drop, refl, sym, ap, ◌∙◌, subst, inl, inr, zero-add, add-zero, arith}
-use Rattle.std.proofs.lemmas.Bool.{true≢false, or_cases}
 use Rattle.std.proofs.lemmas.List.Sums.{sum_by-cons}
 use Rattle.std.proofs.lemmas.List.{map-append}
 use Rattle.std.proofs.lemmas.List.Folds.{list_any-append}
 use Rattle.std.proofs.lemmas.Cmp.{nat_list_cmp_total}
 use Rattle.std.specs.List.{count_by, prefix_len, list_any}
 use Rattle.std.specs.List.Sorted.{IsPartitionedBy, IsPartitionPoint}
-use Rattle.std.specs.declared.cmp.Ordering.{Ordering}
-use Rattle.std.specs.declared.cmp.Ordering.TheVariants.{Less, Equal, Greater}
+use Rattle.std.specs.declared.cmp.Ordering.TheVariants.{Less}
 use Rattle.std.specs.Ordering.{nat_cmp, is_eq, is_lt, is_gt, eq_by_cmp, ordering_then}
 use Rattle.std.specs.Cmp.{tied_itself}
 use Rattle.std.specs.Cmp.Lexicographic.{pointwise, same_text, texts_ties}
 use Rattle.reg_op.specs.Set as set
 use Rattle.reg_op.specs.Set.{Ascends, items-from_list, contains-from_list, same_set}
-use Rattle.reg_op.specs.Ids.{Id, Ids, id_cmp}
+use Rattle.reg_op.specs.Ids.{Id, id_cmp}
 use Rattle.reg_op.proofs.OpLemmas.{id_total, bytes_exact}
 use Rattle.reg_seen.specs.declared.run.Run.{Run}
-use Rattle.reg_seen.specs.Runs.{replica_cmp, IsBelow, IsApart, AreRuns, id_at, first_of, ids_from, ids_of_run, ids_of_runs, is_in_run, is_in_runs, seen_of}
-use Rattle.reg_seen.proofs.RunLemmas.{replica_itself, contains-seen_of}
+use Rattle.reg_seen.specs.Runs.{replica_cmp, IsBelow, IsApart, AreRuns, id_at, first_of, ids_from, ids_of_run, ids_of_runs, seen_of}
 use Rattle.reg_query.specs.Offices.{is_of, is_same_replica, replicas_of}
 use Rattle.reg_seen.specs.Walks.{spans_of}
 use Rattle.reg_query.proofs.PartLemmas.{Rises, total, parted, part}

@@ -2,7 +2,7 @@
 use Rattle.std.proofs.Common.{◌≡◌, ℕ, List, [], ◌∷◌, ◌++◌, append_assoc, append-nil, ◌+◌, ◌<◌, ◌≤◌, get_or, drop, length-drop, map, length, arith, refl, sym, ap, ◌∙◌, subst}
 use Rattle.std.proofs.lemmas.List.{at_drop_more}
 use Rattle.csv.specs.Writing.{row_text, default_writer}
-use Rattle.reg_office.specs.Lines.{AreLines, IsSheet}
+use Rattle.reg_report.specs.Lines.{AreLines, IsSheet}
 use Rattle.reg_query.specs.declared.diff.change.Change.{Change}
 use Rattle.reg_query.specs.ChangesSeen.{change_seen}
 use Rattle.reg_query.specs.DiffLines.{changes_header, IsChangeLine}

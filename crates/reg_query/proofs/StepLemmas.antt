@@ -6,7 +6,7 @@ use Rattle.std.specs.Ordering.{nat_cmp, ordering_then}
 use Rattle.std.specs.declared.cmp.Ordering.TheVariants.{Less}
 use Rattle.reg_op.specs.Rows.{Row}
 use Rattle.reg_op.proofs.OpLemmas.{id_total}
-use Rattle.reg_office.proofs.ConflictLemmas.{in_cons, in_head, in_tail}
+use Rattle.reg_report.proofs.ConflictLemmas.{in_cons, in_head, in_tail}
 use Rattle.reg_query.specs.declared.diff.change.Sign.{Sign}
 use Rattle.reg_query.specs.declared.diff.change.Sign.TheVariants.{Gone, Come}
 use Rattle.reg_query.specs.Changes.{Change, signed, IsChange, rank, row_cmp, change_cmp, AreChanges}

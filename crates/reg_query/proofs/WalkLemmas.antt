@@ -5,9 +5,9 @@ use Rattle.std.specs.Ordering.{nat_cmp, ordering_then, ordering_reverse}
 use Rattle.std.specs.declared.cmp.Ordering.TheVariants.{Less, Equal, Greater}
 use Rattle.reg_op.specs.Set.{Ascends}
 use Rattle.reg_op.specs.Rows.{Row}
-use Rattle.reg_office.specs.declared.row.Row.{Row as Declared}
-use Rattle.reg_office.specs.Seen.{row_seen}
-use Rattle.reg_office.proofs.ConflictLemmas.{none_in, in_cons}
+use Rattle.reg_report.specs.declared.row.Row.{Row as Declared}
+use Rattle.reg_report.specs.Seen.{row_seen}
+use Rattle.reg_report.proofs.ConflictLemmas.{none_in, in_cons}
 use Rattle.reg_query.specs.declared.diff.change.Sign.{Sign}
 use Rattle.reg_query.specs.declared.diff.change.Sign.TheVariants.{Gone, Come}
 use Rattle.reg_query.specs.Changes.{Change, signed, IsChange, row_cmp, change_cmp, AreChanges}

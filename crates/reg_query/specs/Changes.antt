@@ -1,4 +1,4 @@
--- What two lists of rows do not share.
+-- The rows that only one of two lists has.
 use Rattle.std.specs.Prelude.{◌↔◌, ℕ, List, Contains, codes}
 use Rattle.std.specs.declared.cmp.Ordering.{Ordering}
 use Rattle.std.specs.Ordering.{nat_cmp, ordering_then}

@@ -1,5 +1,5 @@
--- What changes are seen as.
-use Rattle.reg_office.specs.Seen.{row_seen}
+-- Changes as contracts see them.
+use Rattle.reg_report.specs.Seen.{row_seen}
 use Rattle.reg_query.specs.declared.diff.change.Change.{Change as Declared}
 use Rattle.reg_query.specs.Changes.{Change}
 

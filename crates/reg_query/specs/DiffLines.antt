@@ -2,7 +2,7 @@
 use Rattle.std.specs.Prelude.{◌≡◌, ◌≢◌, ℕ, List, ◌∷◌, codes}
 use Rattle.reg_op.specs.Contents.{Content}
 use Rattle.reg_op.specs.Rows.{rows}
-use Rattle.reg_office.specs.Lines.{entries_header, IsEntryLine, IsSheet}
+use Rattle.reg_report.specs.Lines.{entries_header, IsEntryLine, IsSheet}
 use Rattle.reg_query.specs.Changes.{Change, sign_text, AreChanges}
 
 abbrev pub changes_header : List (List ℕ)

@@ -1,5 +1,5 @@
--- How much a content has of what its reports list.
-use Rattle.std.specs.Prelude.{◌≡◌, ℕ, Bool, true, false, List, length, Option, Some, None}
+-- The figures of a content: the lengths of its reports.
+use Rattle.std.specs.Prelude.{◌≡◌, ℕ, Bool, true, false, List, length, Option, Some}
 use Rattle.std.specs.List.{count_by}
 use Rattle.reg_op.specs.Set as set
 use Rattle.reg_op.specs.Ids.{Ids}
@@ -7,9 +7,9 @@ use Rattle.reg_op.specs.Contents.{Content}
 use Rattle.reg_op.specs.Rows.{Row, rows, awaited}
 use Rattle.reg_op.specs.declared.status.Status.{Status}
 use Rattle.reg_op.specs.declared.status.Status.TheVariants.{Valid, Superseded, Retired}
-use Rattle.reg_office.specs.declared.gap.Gap.{Gap}
-use Rattle.reg_office.specs.Conflicts.{Contested, AreConflicts}
-use Rattle.reg_office.specs.Gaps.{AreGaps}
+use Rattle.reg_report.specs.declared.gap.Gap.{Gap}
+use Rattle.reg_report.specs.Conflicts.{Contested, AreConflicts}
+use Rattle.reg_report.specs.Gaps.{AreGaps}
 use Rattle.reg_query.specs.declared.figures.register.Counts.{Counts}
 use Rattle.reg_query.specs.declared.figures.register.Figures.{Figures}
 
@@ -25,14 +25,14 @@ status_in r = r.status
 abbrev pub has_status : Status → Row → Bool
 has_status status r = is_status status r.status
 
--- how many entries have these statuses, and how many each
+-- the number of entries with these statuses, in all and of each
 pub record CountStatuses (statuses : List (Option Status)) (c : Counts) : Type 0 where
   pub entries : c.entries ≡ length statuses
   pub valid : c.valid ≡ count_by (is_status Valid) statuses
   pub superseded : c.superseded ≡ count_by (is_status Superseded) statuses
   pub retired : c.retired ≡ count_by (is_status Retired) statuses
 
--- how many rows there are, and how many of each status
+-- the number of rows, in all and of each status
 pub record AreCounts (rs : List Row) (c : Counts) : Type 0 where
   pub entries : c.entries ≡ length rs
   pub valid : c.valid ≡ count_by (has_status Valid) rs
@@ -47,7 +47,7 @@ CountsConflicts rs n = (cs : List Contested) × AreConflicts rs cs × (n ≡ len
 abbrev pub CountsGaps : Ids → ℕ → Type 0
 CountsGaps seen n = (gs : List Gap) × AreGaps seen gs × (n ≡ length gs)
 
--- how long each list is
+-- the length of each list
 pub record AreFigures (x : Content) (f : Figures) : Type 0 where
   pub operations : f.operations ≡ length (set.items x.ops)
   pub entries : f.entries ≡ length (rows x.ops)

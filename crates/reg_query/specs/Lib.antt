@@ -1,4 +1,3 @@
-pub mod NameParts
 pub mod Queries
 pub mod Found
 pub mod Figures

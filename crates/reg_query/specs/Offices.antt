@@ -1,4 +1,4 @@
--- How much was seen of each office, and how much of it is kept.
+-- The counts of each office: seen ids and kept operations.
 use Rattle.std.specs.Prelude.{◌≡◌, ℕ, ◌-◌, Bool, List, [], ◌∷◌, All, map, codes, decimal}
 use Rattle.std.specs.List.{count_by}
 use Rattle.std.specs.Ordering.{is_eq, is_lt}

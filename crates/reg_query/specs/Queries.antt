@@ -1,12 +1,19 @@
 -- Queries of a search.
-use Rattle.std.specs.Prelude.{◌≡◌, ◌≢◌, ◌++◌, ◌∷◌, ℕ, List, IfSome, Option, Some}
+use Rattle.std.specs.Prelude.{◌≡◌, ◌≢◌, ◌⊎◌, ◌↔◌, ℕ, Bool, IsTrue, List, ◌||◌, is_some, IfSome, Option, Some}
+use Rattle.std.specs.List.{Any}
+use Rattle.crs_part.specs.declared.crs.CrsParts.{CrsParts}
+use Rattle.crs_search.specs.Kinds.{kind_of}
+use Rattle.crs_search.specs.Parts.{IsAlike, HasPart}
+use Rattle.crs_search.specs.Usages.{IsInArea, HasPoint}
+use Rattle.reg_keys.specs.Named.{HasWord}
+use Rattle.reg_keys.specs.Words.{NamesKey}
+use Rattle.reg_op.specs.Rows.{Row}
 use Rattle.reg_op.specs.declared.status.Status.{Status}
 use Rattle.reg_op.specs.declared.status.Status.TheVariants as status
-use Rattle.reg_office.specs.Conflicts.{KeyBytes}
+use Rattle.reg_report.specs.Conflicts.{KeyBytes}
 use Rattle.reg_query.specs.declared.find.query.Query.{Query}
 use Rattle.reg_query.specs.declared.find.query.Wanted.{Wanted}
 use Rattle.reg_query.specs.declared.find.query.Wanted.TheVariants.{Valid, Superseded, Retired, Live}
-use Rattle.reg_query.specs.NameParts.{HasPart}
 
 abbrev pub IsWanted : Wanted → Option Status → Type 0
 IsWanted Valid s = s ≡ Some status.Valid
@@ -14,10 +21,40 @@ IsWanted Superseded s = s ≡ Some status.Superseded
 IsWanted Retired s = s ≡ Some status.Retired
 IsWanted Live s = s ≢ Some status.Retired
 
--- an entry with this key, name and status meets the query; a key is written with a colon after the authority
-pub record Meets (q : Query) (k : KeyBytes) (n : List ℕ) (s : Option Status) : Type 0 where
-  pub key : IfSome q.key (λ asked. asked.now ≡ k.authority ++ 58 ∷ k.code)
-  pub authority : IfSome q.authority (λ asked. asked.now ≡ k.authority)
+-- ---- a word without an option
+
+-- some row has the key that the word names
+abbrev pub HasSome : List Row → List ℕ → Type 0
+HasSome rs word = Any (HasWord word) rs
+
+-- if some row has the key, the word asks for it; otherwise it asks for a part of the name
+abbrev pub IsSought : List Row → List ℕ → KeyBytes → List ℕ → Type 0
+IsSought rs word k name = (HasSome rs word × NamesKey word k) ⊎ ((¬ (HasSome rs word)) × HasPart word name)
+
+-- the answer tells whether some row has the key
+abbrev pub IsResolved : List Row → Query → Bool → Type 0
+IsResolved rs q by_key = IfSome q.word (λ word. IsTrue by_key ↔ HasSome rs word.now)
+
+-- ---- the criteria of a query
+
+-- by its options, of the key, the name and the status of an entry
+pub record MeetsOptions (q : Query) (k : KeyBytes) (name : List ℕ) (s : Option Status) : Type 0 where
+  pub key : IfSome q.key (λ word. NamesKey word.now k)
+  pub authority : IfSome q.authority (λ asked. IsAlike asked.now k.authority)
   pub code : IfSome q.code (λ asked. asked.now ≡ k.code)
-  pub name : IfSome q.name (λ asked. HasPart asked.now n)
+  pub part : IfSome q.name (λ part. HasPart part.now name)
   pub status : IfSome q.status (λ wanted. IsWanted wanted s)
+
+-- and by its word
+abbrev pub MeetsTitle : List Row → Query → KeyBytes → List ℕ → Option Status → Type 0
+MeetsTitle rs q k name s = IfSome q.word (λ word. IsSought rs word.now k name) × MeetsOptions q k name s
+
+-- of the areas, the bounding boxes and the kind of its reference system
+pub record MeetsValue (q : Query) (crs : CrsParts) : Type 0 where
+  pub area : IfSome q.area (λ part. IsInArea part.now crs)
+  pub at : IfSome q.at (λ point. HasPoint point crs)
+  pub kind : IfSome q.kind (λ kind. kind_of crs ≡ kind)
+
+-- it asks something of these
+abbrev pub asks_value : Query → Bool
+asks_value q = is_some q.area || (is_some q.at || is_some q.kind)

@@ -1,4 +1,4 @@
-//! The rows that only one of two registers has.
+//! Compares two registers: the rows that only one of them has.
 
 mod change;
 mod comparing;

@@ -1,4 +1,4 @@
-//! How much a register has, and how much of each office.
+//! The counts of a register, and of each office.
 
 mod counting;
 mod office;

@@ -1,8 +1,7 @@
-//! Searching entries of a register.
+//! Searches the entries of a register.
 
 mod query;
 mod search;
-mod text;
 
 pub use query::{Query, Wanted};
 pub use search::{found, found_ids, found_text};

@@ -81,7 +81,7 @@ abbrev pub EndInIds : List Run → Type 0
 EndInIds [] = Unit {0}
 EndInIds (r ∷ rs) = IsId (last_of r) × EndInIds rs
 
--- what `Seen` holds
+-- the runs that a `Seen` holds
 pub record AreSeen (rs : List Run) : Type 0 where
   pub runs : AreRuns rs
   pub ids : EndInIds rs

@@ -33,7 +33,7 @@ impl<'a> Walk<'a> {
         }
     }
 
-    // What is on the left from a count of its first run on, and what is on the right.
+    // The left list, from a count of its first run on, and the right list.
     fn counted(lefts: &'a [Run], rights: &'a [Run], low: u32) -> Walk<'a>
         ensures lefts { result.lefts.now ≡ lefts.now }
         ensures rights { result.rights.now ≡ rights.now }
@@ -42,7 +42,7 @@ impl<'a> Walk<'a> {
         Walk { lefts, rights, low }
     }
 
-    /// The first run outside, and what remains after it.
+    /// The first run outside, and the rest after it.
     pub(crate) fn next_run(self) -> Option<(Run, Walk<'a>)>
         requires { IsWalk self }
         ensures none { IfNone result ((i : Id) → is_left self.entry i ≡ false) }

@@ -40,7 +40,7 @@ impl Model for Seen {
 }
 
 impl Seen {
-    /// Nothing is seen.
+    /// No ids.
     pub fn new(alloc: Global) -> Seen
         ensures { result ≡ set.empty }
     {

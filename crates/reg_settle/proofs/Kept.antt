@@ -10,11 +10,11 @@ use Rattle.std.proofs.lemmas.List.Elements.{Contains-append_cases, Contains-appe
 use Rattle.reg_op.specs.Ids.{Id}
 use Rattle.reg_op.specs.Rows.{Row}
 use Rattle.reg_op.specs.declared.status.Status.TheVariants.{Retired}
-use Rattle.reg_office.specs.Conflicts.{KeyBytes, key_cmp, HasKey}
-use Rattle.reg_office.proofs.ConflictLemmas.{none_in, in_cons, in_head, in_tail}
-use Rattle.reg_office.proofs.ContenderLemmas.{one_key}
+use Rattle.reg_report.specs.Conflicts.{KeyBytes, key_cmp, HasKey}
+use Rattle.reg_report.proofs.ConflictLemmas.{none_in, in_cons, in_head, in_tail}
+use Rattle.reg_report.proofs.ContenderLemmas.{one_key}
 use Rattle.reg_settle.specs.declared.fault.SettleFault.TheVariants as fault
-use Rattle.reg_office.specs.declared.row.Row.{Row as MadeRow}
+use Rattle.reg_report.specs.declared.row.Row.{Row as MadeRow}
 use Rattle.reg_settle.specs.declared.key.KeyText.{KeyText}
 use Rattle.reg_settle.specs.declared.rival.Rival.{Rival}
 use Rattle.reg_settle.specs.Settling.{Picks, IsTaken, IsKept, IsRival, HasRow, IsObjection}

@@ -1,5 +1,4 @@
 mod Steps
-pub mod After
 pub mod Settled
 mod Windows
 mod Ordered

@@ -19,9 +19,9 @@ use Rattle.reg_op.specs.declared.operation.OpBody.TheVariants.{Enter, Supersede,
 use Rattle.reg_op.specs.Rows.{Row, rows_at, rows}
 use Rattle.reg_op.proofs.OpLemmas.{id_total, id_exact, not_before_itself}
 use Rattle.reg_op.proofs.PointLemmas.{lt_or_ge}
-use Rattle.reg_office.specs.declared.row.Row.{Row as MadeRow}
-use Rattle.reg_office.specs.Seen.{row_seen}
-use Rattle.reg_office.proofs.ConflictLemmas.{none_in, in_cons, in_head, in_map, from_map}
+use Rattle.reg_report.specs.declared.row.Row.{Row as MadeRow}
+use Rattle.reg_report.specs.Seen.{row_seen}
+use Rattle.reg_report.proofs.ConflictLemmas.{none_in, in_cons, in_head, in_map, from_map}
 use Rattle.reg_settle.specs.ByEntry.{ByEntry}
 use Rattle.reg_settle.specs.Settling.{HasRow}
 

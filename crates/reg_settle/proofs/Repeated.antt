@@ -13,7 +13,7 @@ use Rattle.reg_op.specs.Ids.{is_before}
 use Rattle.reg_op.specs.Rows.{Row}
 use Rattle.reg_op.specs.declared.status.Status.TheVariants.{Retired}
 use Rattle.reg_op.proofs.OpLemmas.{bytes_exact, is_before_chain, not_before_itself}
-use Rattle.reg_office.proofs.ConflictLemmas.{none_in, in_cons, in_head}
+use Rattle.reg_report.proofs.ConflictLemmas.{none_in, in_cons, in_head}
 use Rattle.reg_settle.specs.Doubles.{IsDouble}
 use Rattle.reg_settle.specs.ByEntry.{ByEntry}
 use Rattle.reg_settle.specs.Texts.{HasText, HasTexts, bytes_cmp}

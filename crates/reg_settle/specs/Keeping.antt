@@ -1,4 +1,4 @@
--- Which row of each key is kept, and which may be retired.
+-- The row of each key that is kept, and the rows that may be retired.
 use Rattle.std.specs.Prelude.{◌≡◌, ◌≢◌, ◌⊎◌, Bool, List, [], ◌∷◌, ◌++◌, Contains, map, filter, Option, Some, None, if◌then◌else◌}
 use Rattle.std.specs.Borrow.{Bor}
 use Rattle.std.specs.BTreeMap.{BTreeMap, get}
@@ -8,9 +8,9 @@ use Rattle.std.specs.declared.cmp.Ordering.{Ordering}
 use Rattle.reg_op.specs.Ids.{Id}
 use Rattle.reg_op.specs.Rows.{Row}
 use Rattle.reg_op.specs.declared.status.Status.TheVariants.{Retired}
-use Rattle.reg_office.specs.declared.row.Row.{Row as MadeRow}
-use Rattle.reg_office.specs.Conflicts.{KeyBytes, key_cmp, HasKey}
-use Rattle.reg_office.specs.Seen.{row_seen}
+use Rattle.reg_report.specs.declared.row.Row.{Row as MadeRow}
+use Rattle.reg_report.specs.Conflicts.{KeyBytes, key_cmp, HasKey}
+use Rattle.reg_report.specs.Seen.{row_seen}
 use Rattle.reg_settle.specs.declared.key.KeyText.{KeyText}
 use Rattle.reg_settle.specs.declared.rival.Rival.{Rival}
 
@@ -49,7 +49,7 @@ is_of_key k c = is_eq (key_cmp k (key_bytes c.key))
 abbrev pub rival_cmp : Rival → Rival → Ordering
 rival_cmp a b = text_cmp a.key b.key
 
--- the entry of the row is neither retired nor to be kept
+-- the entry of the row is neither retired nor kept
 pub record MayGo (keeps : List Id) (r : Row) : Type 0 where
   pub stands : r.status ≢ Some Retired
   pub no_keep : ¬ (Contains keeps r.entry)
@@ -75,7 +75,7 @@ pub record AreRivalsByKey (keeps : List Id) (rs : List Row) (cs : List Rival) : 
   pub are : AreRivals keeps rs all
   pub in_order : (c : Rival) → filter (is_of_key (key_bytes c.key)) cs ≡ filter (is_of_key (key_bytes c.key)) all
 
--- ---- what a kept row retires
+-- ---- the rows that a kept row retires
 
 -- the rivals of its key, if it is the first kept row of the key; otherwise nothing, and both have one text
 abbrev pub Retires : Option Row → Row → List Rival → List Id → List Id → Type 0

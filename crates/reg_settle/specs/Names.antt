@@ -1,4 +1,4 @@
--- How faults are called, and which entry each names.
+-- The names of faults, and the entry that each names.
 use Rattle.std.specs.Prelude.{ℕ, List, Option, Some, None, codes}
 use Rattle.reg_op.specs.Ids.{Id}
 use Rattle.reg_settle.specs.declared.fault.SettleFault.{SettleFault}

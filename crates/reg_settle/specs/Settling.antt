@@ -1,19 +1,19 @@
--- Which entries are retired so that others of their keys are kept.
+-- The entries that are retired so that others of their keys are kept.
 use Rattle.std.specs.Prelude.{◌≡◌, ◌≢◌, ◌⊎◌, List, [], ◌∷◌, ◌++◌, Contains, Some}
 use Rattle.reg_op.specs.Ids.{Id}
 use Rattle.reg_op.specs.Rows.{Row}
 use Rattle.reg_op.specs.declared.status.Status.TheVariants.{Retired}
-use Rattle.reg_office.specs.Conflicts.{KeyBytes, HasKey}
+use Rattle.reg_report.specs.Conflicts.{KeyBytes, HasKey}
 use Rattle.reg_settle.specs.declared.fault.SettleFault.{SettleFault}
 use Rattle.reg_settle.specs.declared.fault.SettleFault.TheVariants as fault
 
--- they have one key
+-- they have the same key
 pub record SharesKey (one other : Row) : Type 0 where
   pub key : KeyBytes
   pub of_one : HasKey one.definition key
   pub of_other : HasKey other.definition key
 
--- they have one key, and different texts
+-- they have the same key, and different texts
 pub record Differs (one other : Row) : Type 0 where
   pub shares : SharesKey one other
   pub differ : one.definition ≢ other.definition
@@ -55,7 +55,7 @@ Settles rs keeps before [] retired all = all ≡ retired
 Settles rs keeps before (k ∷ ks) retired all =
     (keep : Row) × IsKept rs before k keep × ((mine : List Id) × Picks (IsRival keeps retired keep) rs mine × Settles rs keeps (before ++ k ∷ []) ks (retired ++ mine) all)
 
--- what settling retires, where these entries are to be kept
+-- the entries that settling retires to keep these entries
 abbrev pub IsSettled : List Row → List Id → List Id → Type 0
 IsSettled rs keeps all = Settles rs keeps [] keeps [] all
 
@@ -76,6 +76,6 @@ abbrev pub Refuses : List Row → List Id → List Id → SettleFault → Type 0
 Refuses rs before [] f = ⊥
 Refuses rs before (k ∷ ks) f = IsObjection rs before k f ⊎ ((keep : Row) × IsKept rs before k keep × Refuses rs (before ++ k ∷ []) ks f)
 
--- why nothing is settled
+-- why settling is refused
 abbrev pub IsUnsettled : List Row → List Id → SettleFault → Type 0
 IsUnsettled rs keeps f = Refuses rs [] keeps f

@@ -8,7 +8,7 @@ use Rattle.std.specs.declared.cmp.Ordering.{Ordering}
 use Rattle.reg_op.specs.Rows.{Row}
 use Rattle.reg_op.specs.declared.status.Status.TheVariants.{Retired}
 
--- some row has the text, and is not retired
+-- some row that is not retired has the text
 pub record HasText (rs : List Row) (text : List ℕ) : Type 0 where
   pub row : Row
   pub there : Contains rs row

@@ -3,14 +3,14 @@
 ghost use Rattle.std.specs.Prelude.{◌≡◌, ◌≢◌, ◌↔◌, ◌++◌, ◌∷◌, [], List, map, IsTrue, IfOk, OnOk, Some, if◌then◌else◌};
 ghost use Rattle.reg_op.specs.Rows.{Row as OneRow, rows};
 ghost use Rattle.reg_op.specs.declared.status.Status.TheVariants.{Retired};
-ghost use Rattle.reg_office.specs.Seen.{row_seen};
+ghost use Rattle.reg_report.specs.Seen.{row_seen};
 ghost use Rattle.reg_settle.specs.Doubles.{AreDoubles};
 ghost use Rattle.reg_settle.specs.ByEntry.{ByEntry};
 ghost use Rattle.reg_settle.specs.Texts.{HasText, HasTexts};
 
 use crate::row::{rows_by_entry, stands};
-use reg_office::Row;
 use reg_op::OpId;
+use reg_report::Row;
 use reg_state::Register;
 use std::alloc::{AllocError, Global};
 use std::collections::BTreeSet;

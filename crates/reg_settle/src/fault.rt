@@ -1,11 +1,11 @@
-//! Why nothing is settled.
+//! Why settling is refused.
 
 ghost use Rattle.std.specs.Prelude.{◌≡◌};
 
 use reg_op::OpId;
 use std::fmt;
 
-/// Why nothing is settled. It prints as its name and the entry that it names.
+/// Why settling is refused. It prints as its name and the entry that it names.
 #[derive(Clone, Copy, Debug, PartialEq, Eq)]
 pub enum SettleFault {
     /// The register has no such entry.

@@ -1,11 +1,11 @@
-//! The keys of rows, and which row of each is kept.
+//! The keys of rows, and the row of each key that is kept.
 
 ghost use Rattle.std.specs.Prelude.{◌≡◌, IfOk, OnOk};
-ghost use Rattle.reg_office.specs.Conflicts.{HasKey};
-ghost use Rattle.reg_office.specs.Seen.{row_seen};
+ghost use Rattle.reg_report.specs.Conflicts.{HasKey};
+ghost use Rattle.reg_report.specs.Seen.{row_seen};
 ghost use Rattle.reg_settle.specs.Keeping.{key_bytes, At, Holds, seen_in, with_row};
 
-use reg_office::Row;
+use reg_report::Row;
 use std::alloc::AllocError;
 use std::collections::BTreeMap;
 

@@ -1,10 +1,9 @@
-//! Settling: which entries are retired so that others with their keys are kept.
+//! Settling: the entries to retire so that others with their keys are kept.
 #![tactic(auto)]
 
 mod double;
 mod fault;
 mod key;
-pub mod laws;
 mod rival;
 mod row;
 mod settling;

@@ -5,24 +5,24 @@ ghost use Rattle.std.specs.List.Sorted.{IsSorted, IsPermutation};
 ghost use Rattle.std.specs.List.{Contains};
 ghost use Rattle.std.specs.Ordering.{is_lt};
 ghost use Rattle.reg_op.specs.Ids.{id_cmp};
-ghost use Rattle.reg_office.specs.Conflicts.{key_cmp};
-ghost use Rattle.reg_office.specs.Seen.{row_seen};
+ghost use Rattle.reg_report.specs.Conflicts.{key_cmp};
+ghost use Rattle.reg_report.specs.Seen.{row_seen};
 ghost use Rattle.reg_settle.specs.Keeping.{key_bytes, entry_of, rival_cmp, is_of_key, AddsRival, AreRivals, AreRivalsByKey};
 
 use crate::key::{KeyText, key_of};
 use crate::row::stands;
-use reg_office::Row;
 use reg_op::OpId;
+use reg_report::Row;
 use std::alloc::{AllocError, Global};
 
-/// A row whose entry is neither retired nor to be kept.
+/// A row whose entry is neither retired nor kept.
 #[derive(Clone, Copy)]
 pub struct Rival<'a> {
     pub key: KeyText<'a>,
     pub row: &'a Row,
 }
 
-// Whether the id is one of these.
+// Whether the id is in the list.
 fn is_among(ids: &[OpId], id: OpId) -> bool
     requires { IsSorted id_cmp ids.now }
     ensures { IsTrue result ↔ Contains ids.now id }
@@ -30,7 +30,7 @@ fn is_among(ids: &[OpId], id: OpId) -> bool
     ids.binary_search(&id).is_ok()
 }
 
-// Appends the row, unless its entry is retired or to be kept.
+// Appends the row, unless its entry is retired or kept.
 fn push_rival<'a>(
     rivals: &mut Vec<Rival<'a>>,
     keeps: &[OpId],
@@ -76,7 +76,7 @@ fn sorted(alloc: Global, ids: &[OpId]) -> Result<Vec<OpId>, AllocError>
     Ok(made)
 }
 
-/// The rows whose entries are neither retired nor to be kept, sorted by key. Those of one key keep their order.
+/// The rows whose entries are neither retired nor kept, sorted by key. Those of one key stay in order.
 pub fn rivals_by_key<'a>(
     alloc: Global,
     rows: &'a [Row],

@@ -3,12 +3,12 @@
 ghost use Rattle.std.specs.Prelude.{◌≡◌, ◌≢◌, ◌↔◌, map, IsTrue, IfOk, IfSome, IfNone, Some};
 ghost use Rattle.reg_op.specs.Rows.{Row as OneRow, rows};
 ghost use Rattle.reg_op.specs.declared.status.Status.TheVariants.{Retired};
-ghost use Rattle.reg_office.specs.Seen.{row_seen};
+ghost use Rattle.reg_report.specs.Seen.{row_seen};
 ghost use Rattle.reg_settle.specs.Settling.{HasRow};
 ghost use Rattle.reg_settle.specs.ByEntry.{ByEntry};
 
-use reg_office::{Row, rows};
 use reg_op::{OpId, Status};
+use reg_report::{Row, rows};
 use reg_state::Register;
 use std::alloc::{AllocError, Global};
 
@@ -41,7 +41,7 @@ pub fn stands(row: &Row) -> bool
     row.status != Status::Retired
 }
 
-/// Whether they have one text.
+/// Whether they have the same text.
 pub fn shares_text(one: &Row, other: &Row) -> bool
     ensures { IsTrue result ↔ ((row_seen one.now).definition ≡ (row_seen other.now).definition) }
 {

@@ -1,11 +1,11 @@
-//! What is retired so that some entries are kept.
+//! The entries to retire so that some entries are kept.
 
 ghost use Rattle.std.specs.Prelude.{◌≡◌, ◌≢◌, ◌⊎◌, List, map, filter, IfOk, OnOk, IfErr, Some};
 ghost use Rattle.std.specs.List.Sorted.{IsSorted};
 ghost use Rattle.reg_op.specs.Ids.{Id};
 ghost use Rattle.reg_op.specs.Rows.{rows};
 ghost use Rattle.reg_op.specs.declared.status.Status.TheVariants.{Retired};
-ghost use Rattle.reg_office.specs.Seen.{row_seen};
+ghost use Rattle.reg_report.specs.Seen.{row_seen};
 ghost use Rattle.reg_settle.specs.declared.fault.SettleFault.TheVariants as fault;
 ghost use Rattle.reg_settle.specs.Settling.{IsSettled, HasRow, IsObjection, IsUnsettled};
 ghost use Rattle.reg_settle.specs.ByEntry.{ByEntry};
@@ -15,8 +15,8 @@ use crate::fault::SettleFault;
 use crate::key::{KeyText, keep, key_of};
 use crate::rival::{Rival, push_rivals, rivals_by_key};
 use crate::row::{find_row, rows_by_entry, shares_text, stands};
-use reg_office::Row;
 use reg_op::OpId;
+use reg_report::Row;
 use reg_state::Register;
 use std::alloc::Global;
 use std::collections::BTreeMap;

@@ -1,9 +1,10 @@
 -- From the bytes in a slot to the content that they hold.
-use Rattle.std.proofs.Common.{◌≡◌, ◌⊎◌, inl, inr, ℕ, ◌≤◌, ◌<◌, List, [], length, refl, sym, ap, subst, ◌∙◌, arith}
+use Rattle.std.proofs.Common.{◌≡◌, ◌⊎◌, inl, inr, ℕ, ◌≤◌, ◌<◌, List, [], ◌++◌, length, refl, sym, ap, subst, ◌∙◌, arith}
 use Rattle.std.specs.Int.{w32, from_be_bytes}
 use Rattle.std.proofs.lemmas.Nat.{from_be_bytes-to_be_bytes_4}
 use Rattle.byte_shelf.specs.Shelf as slots
 use Rattle.byte_shelf.proofs.OneShelf.{one_bytes}
+use Rattle.byte_shelf.proofs.Slots.{at_front}
 use Rattle.reg_op.specs.Set as set
 use Rattle.reg_op.specs.Operations.{Op}
 use Rattle.reg_op.specs.Contents.{Content, nothing}
@@ -24,6 +25,12 @@ one_size_of image m n x y (p, is-m) (q, is-n) = sym is-m ∙ one_size image p.by
 
 pub shelf_of : (image bytes : List ℕ) (x : Content) → slots.IsShelf image bytes → ReadsAs bytes x → IsShelf image x
 shelf_of image bytes x shelf held = record { bytes = bytes; shelf = shelf; held = held }
+
+-- a new shelf of a content
+pub shelf_for : (x : Content) (bytes : List ℕ) (size : ℕ) → Holds bytes x → slots.IsSize size → length bytes ≤ size → (image : List ℕ) × IsShelfOf image size x
+shelf_for x bytes size holds range within =
+    let slot = at_front size bytes [] (omega (arith, range.1)) range within in
+    (slots.fresh size bytes ++ [], (record { bytes = bytes; shelf = slot.0; held = inl holds }, slot.1))
 
 pub either_of : (was x : Content) (old new : List ℕ) → ReadsAs old was → ReadsAs new x → (c : List ℕ) → slots.IsShelf c old ⊎ slots.IsShelf c new → IsShelf c was ⊎ IsShelf c x
 either_of was x old new before after c (inl shelf) = inl (shelf_of c old was shelf before)

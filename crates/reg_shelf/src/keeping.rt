@@ -14,10 +14,10 @@ use byte_shelf::ShelfFault;
 use reg_state::Register;
 use std::alloc::Global;
 
-/// Keeps the register on the shelf, instead of the one that it has. After `DiskFailed`, as after a stop, restore the
-/// disk before keeping on it again.
+/// Replaces the register of the shelf by this one. After `DiskFailed`, as after a stop, restore the disk before keeping
+/// on it again.
 pub fn keep<D: Disk>(alloc: Global, disk: &mut D, register: &Register) -> Result<(), ShelfFault>
-    // A stop at any moment leaves a shelf of the old content, or of this one.
+    // A stop at any moment leaves a shelf with the old content or the new one.
     ensures any_moment { IsTrue (D.tells disk.old) → (was : Content)
         → ((c : List ℕ) → D.images disk.old c → IsShelf c was)
         → LeavesOnly D.moment D.images_since disk.old disk.new
@@ -26,7 +26,7 @@ pub fn keep<D: Disk>(alloc: Global, disk: &mut D, register: &Register) -> Result
         → ((c : List ℕ) → D.images disk.old c → IsShelf c was)
         → OnOk result (Only (D.seen disk.new) (D.images disk.new)
         × IsShelf (D.seen disk.new) register.now) }
-    // For any disk, what is kept has a file.
+    // On every disk, the register that is kept has a file.
     ensures file { OnOk result (HasFile register.now) }
     ensures not_shelf { IsTrue (D.tells disk.old)
         → IsErrOf result ShelfFault.NotShelf → HasNoHead (D.seen disk.old) }

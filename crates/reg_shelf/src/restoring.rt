@@ -16,10 +16,10 @@ use std::alloc::Global;
 pub fn restore<D: Disk>(alloc: Global, disk: &mut D) -> Result<Register, ShelfFault>
     ensures found { IsTrue (D.tells disk.old)
         → IfOk result (λ r. IsShelf (D.seen disk.old) r) }
-    // What is read is synced.
+    // The bytes that are read are synced.
     ensures only { IsTrue (D.tells disk.old)
         → OnOk result (Only (D.seen disk.old) (D.images disk.new)) }
-    // For any disk, what is restored has a file.
+    // On every disk, the register that is restored has a file.
     ensures file { IfOk result (λ r. HasFile r) }
     ensures not_shelf { IsTrue (D.tells disk.old)
         → IsErrOf result ShelfFault.NotShelf → IsNoShelf (D.seen disk.old) }

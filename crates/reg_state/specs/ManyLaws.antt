@@ -1,4 +1,4 @@
--- Lists of contents, and what their join is over the unions.
+-- Lists of contents, and their join as a content of the unions.
 use Rattle.std.specs.Prelude.{List, [], ◌∷◌}
 use Rattle.reg_op.specs.Set as set
 use Rattle.reg_op.specs.Ids.{Ids}
@@ -18,6 +18,6 @@ abbrev pub all_of : List Ops → Ops
 all_of [] = set.empty
 all_of (s ∷ ss) = set.union s (all_of ss)
 
--- what all make together
+-- the kept operations of all, and the seen ids of all
 abbrev pub merged_all : List Content → Content
 merged_all xs = record { ops = kept (all_ops xs); seen = all_seen xs }

@@ -1,4 +1,4 @@
--- How faults are called, and which id each names.
+-- The names of faults, and the id that each names.
 use Rattle.std.specs.Prelude.{ℕ, List, Option, Some, None, codes}
 use Rattle.reg_op.specs.Ids.{Id}
 use Rattle.reg_state.specs.declared.register.ContentFault.{ContentFault}

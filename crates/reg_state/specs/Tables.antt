@@ -1,4 +1,4 @@
--- What a register's tables are seen as.
+-- The tables of a register as contracts see them.
 use Rattle.std.specs.Prelude.{◌≡◌, List}
 use Rattle.reg_op.specs.Ids.{Ids}
 use Rattle.reg_op.specs.Operations.{Op}

@@ -1,4 +1,4 @@
--- What lent operations are.
+-- Operations with borrowed definitions and notes.
 use Rattle.reg_op.specs.declared.operation.OpBody.{OpBody as Body}
 use Rattle.reg_op.specs.declared.operation.OpBody.TheVariants.{Enter, Supersede, Retire}
 use Rattle.reg_op.specs.Operations.{Op}

@@ -1,4 +1,4 @@
-//! The marks that operations set, and what these make redundant.
+//! The marks that operations set, and the operations that marks make redundant.
 
 ghost use Rattle.std.specs.Prelude.{◌≡◌, ◌&&◌, ◌++◌, [], ◌∷◌, true, OnOk, IfOk, IfSome, IfNone};
 ghost use Rattle.reg_op.specs.Ids.{is_before};
@@ -64,7 +64,7 @@ pub fn is_replaced(marks: &Marks, op: &Op) -> bool
     }
 }
 
-/// The mark that an operation sets, unless it enters.
+/// The mark that an operation sets; an Enter sets none.
 pub fn mark_of(op: &Op) -> Option<Mark>
     ensures some { IfSome result (λ mark. marks_of_body op.now.id op.now.body ≡ mark ∷ []) }
     ensures none { IfNone result (is_enter op.now.body ≡ true) }

@@ -1,4 +1,4 @@
-//! Pieces: what a register has outside a basis.
+//! Pieces: the part of a register outside a basis.
 
 ghost use Rattle.std.specs.Prelude.{◌≡◌, ◌↔◌, true, false, Ok, Err, Some, None, OnOk, IfOk};
 ghost use Rattle.reg_op.specs.Set as set;
@@ -104,7 +104,7 @@ impl Piece {
         Ok(Piece { basis, part })
     }
 
-    /// The ids that a register has to have seen to join it.
+    /// The ids that a register must have seen before it can join the piece.
     pub fn basis(&self) -> &Seen
         ensures value { result.now ≡ self.now.basis }
         ensures piece { IsPiece self.now }
@@ -132,7 +132,7 @@ impl Piece {
 }
 
 impl Register {
-    /// What the register has outside a basis: the operations that it keeps, and the ids that it has seen.
+    /// The part of the register outside a basis: its operations and its seen ids.
     pub fn piece_for(&self, alloc: Global, basis: &Seen) -> Result<Piece, AllocError>
         ensures { IfOk result (λ piece. piece ≡ piece_for self.now basis.now) }
     {
@@ -142,8 +142,8 @@ impl Register {
         Ok(Piece { basis, part })
     }
 
-    /// Joins a piece, if its basis was seen. A missing id of the basis, and then a clash, is found before anything is
-    /// allocated.
+    /// Joins a piece, if its basis was seen. A missing id of the basis is reported first, then a clash, both before
+    /// anything is allocated.
     pub fn join_piece(&self, alloc: Global, piece: &Piece) -> Result<Register, PieceFault>
         ensures ok { IfOk result (λ r. joined_piece self.now piece.now ≡ Ok r) }
         ensures basis { (id : Id) → (result ≡ Err (PieceFault.Basis id)) ↔ (joined_piece self.now piece.now ≡ Err (Basis id)) }

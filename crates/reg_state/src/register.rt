@@ -339,7 +339,7 @@ fn seen_once(alloc: Global, id: OpId) -> Result<Seen, AllocError>
     Ok(seen)
 }
 
-// What was seen, and an id.
+// The seen ids, and one more.
 fn with_id(alloc: Global, seen: &Seen, id: OpId) -> Result<Seen, AllocError>
     ensures { IfOk result (λ more. more ≡ set.union seen.now (set.from_list (id ∷ []))) }
 {

@@ -84,7 +84,7 @@ pub fn put_with_room(ops: &mut Vec<Op>, op: Op)
     }
 }
 
-/// Removes what an operation makes redundant, unless it is known that there is none.
+/// Removes the operations that this one makes redundant, unless it is known that there are none.
 pub fn remove_replaced(ops: &mut Vec<Op>, op: &Op, some: bool)
     requires { some ≡ false → ops.old.items ≡ filter (λ o. not (replaces op.now o)) ops.old.items }
     ensures items { ops.new.items ≡ filter (λ o. not (replaces op.now o)) ops.old.items }
@@ -96,7 +96,7 @@ pub fn remove_replaced(ops: &mut Vec<Op>, op: &Op, some: bool)
     }
 }
 
-/// What the operation of the id enters, among operations by id.
+/// The definition that the operation with this id enters, among operations ordered by id.
 pub fn definition_in(ops: &[Op], id: OpId) -> Option<&Definition>
     requires { ById ops.now }
     ensures told { is_some result ≡ list_any (λ o. is_same id o.id && is_enter o.body) ops.now }

@@ -24,7 +24,7 @@ pub record World : Type 0 where
 abbrev pub start : World
 start = record { numbers = λ i. 0; copies = record { content = nothing; reached = set.empty } ∷ [] }
 
--- an office takes the copy at a place as its register, which may be any earlier one, and makes operations; the same, and it
+-- an office takes the copy at an index as its register, which may be any earlier one, and makes operations; the same, and it
 -- is stopped after it has replaced its office file, and before it replaces the register; or a copy is joined to another
 pub data Event : Type 0 where
   Makes : (office : List ℕ) (place : ℕ) (effects : List Body) (note : List ℕ) → Event

@@ -33,7 +33,7 @@ pub record IsTurned (c : Command) (file : File) (new : List ℕ) (given : List I
 abbrev pub Changes : Command → File → List ℕ → Type 0
 Changes c file new = ((given : List Id) × IsTurned c file new given) ⊎ ((file ≡ Some new) ⊎ (file ≡ None))
 
--- what each command makes of each file
+-- the file that each command makes from each file
 abbrev pub AreChanges : (ℕ → Command) → (ℕ → File → List ℕ) → Type 0
 AreChanges commands change = (k : ℕ) (file : File) → Changes (commands k) file (change k file)
 

@@ -1,4 +1,4 @@
-//! What is kept while many commands change registers, and while offices work through office files on any copies: laws.
+//! The laws of many commands that change registers, and of offices that work through office files on any copies.
 #![tactic(auto)]
 
 mod copies;

@@ -30,14 +30,14 @@ pub const B: &[u8] = &[0, 0, 0, 0, 0, 0, 0x40, 0, 0x80, 0, 0, 0, 0, 0, 0, 0x0b];
 /// The file of the empty register.
 pub const EMPTY: &[u8] = &[0x43, 0x52, 0x53, 0x52, 2, 1, 0, 0, 0, 0, 0, 0, 0, 0];
 
-/// A replica of which all counts from 1 to this one are seen.
+/// A replica, whose counts from 1 to `last` are all seen.
 #[derive(Drop)]
 pub struct Replica {
     pub uuid: &'static [u8],
     pub last: u8,
 }
 
-/// The bytes of some parts.
+/// The concatenation of some parts.
 pub fn joined(alloc: Global, parts: &[&[u8]]) -> Result<Vec<u8>, AllocError> {
     let mut bytes = Vec::new(alloc);
     for part in parts {
@@ -46,7 +46,7 @@ pub fn joined(alloc: Global, parts: &[&[u8]]) -> Result<Vec<u8>, AllocError> {
     Ok(bytes)
 }
 
-/// The file of replicas that each saw the counts from 1 to their last, and of so many operations in these parts.
+/// The file of these replicas, with the counts from 1 to their last seen, and of `count` operations, given as parts.
 pub fn file_of(
     alloc: Global,
     replicas: &[Replica],
@@ -66,7 +66,7 @@ pub fn file_of(
     Ok(bytes)
 }
 
-/// The operation of this id that enters a text of 93 bytes, with an empty note.
+/// The operation with this id that enters a text of 93 bytes, with an empty note.
 pub fn enter(alloc: Global, uuid: &[u8], count: u8, text: &[u8]) -> Result<Vec<u8>, AllocError> {
     joined(alloc, &[uuid, &[0, 0, 0, count, 1, 0, 0, 0, 0, 93], text])
 }
@@ -92,7 +92,7 @@ pub fn retirement_file(alloc: Global) -> Result<Vec<u8>, AllocError> {
     file_of(alloc, &[Replica { uuid: B, last: 1 }], 1, &[&retire])
 }
 
-/// A source of each file, which gives at most so many bytes a call.
+/// A source for each file, which gives at most `piece` bytes a call.
 pub fn sources<'a>(
     alloc: Global,
     files: &[&'a [u8]],

@@ -1,6 +1,6 @@
-//! One public call after its objects are made, for runs in which allocations fail: `test_memory CASE WORD..`. It prints
-//! `ready` before the call, and then what came of it. Where memory fails in the call, it looks whether the object that was
-//! called on is as it was.
+//! Makes one public call, for runs in which allocations fail: `test_memory CASE WORD..`. It makes the objects, prints
+//! `ready`, makes the call, and prints the outcome. If memory fails in the call, it checks that the object of the call is
+//! unchanged.
 #![tactic(auto)]
 
 mod outcome;
@@ -19,7 +19,7 @@ fn main(rt: HostRuntime) -> ExitCode {
     }
 }
 
-/// The outcome of the call. Its objects cannot be made where memory fails, which is an error.
+/// The outcome of the call. It is an error if memory fails before the objects are made.
 fn perform(rt: &HostRuntime) -> io::Result<Outcome> {
     let words: Vec<String> = env::args(rt)?.collect(rt.alloc())?;
     match word(&words, 1) {
@@ -40,7 +40,7 @@ fn perform(rt: &HostRuntime) -> io::Result<Outcome> {
     }
 }
 
-/// The word in this place; none is empty.
+/// The word at this index; empty if there is none.
 fn word(words: &[String], place: usize) -> &str {
     match words.get(place) {
         Some(word) => word.as_str(),
@@ -48,7 +48,7 @@ fn word(words: &[String], place: usize) -> &str {
     }
 }
 
-/// Says that the objects are made.
+/// Prints that the objects are made.
 fn ready(rt: &HostRuntime) -> io::Result<()> {
     println!(rt; "ready")
 }

@@ -1,24 +1,24 @@
-//! What comes of a call.
+//! The outcome of a call.
 
 use reg_op::OpId;
 use std::process::ExitCode;
 
-/// What comes of a call.
+/// The outcome of a call.
 #[derive(Drop)]
 pub enum Outcome {
     Done,
-    /// Out of memory; what it was called on is as it was.
+    /// Out of memory; the object of the call is unchanged.
     Memory,
     /// A text is refused with this fault at this offset.
     Fault(&'static str, usize),
     /// An operation is refused: the fault and the id.
     Refused(&'static str, OpId),
-    /// Another answer, or what it was called on has changed.
+    /// Another result, or the object of the call has changed.
     Wrong,
 }
 
 impl Outcome {
-    /// Of a call that leaves nothing where memory fails.
+    /// The outcome of a call without an object that it could change.
     pub fn of(is_done: bool) -> Outcome {
         if is_done {
             Outcome::Done
@@ -27,7 +27,7 @@ impl Outcome {
         }
     }
 
-    /// Of a call whose memory failed, which has to leave its object.
+    /// The outcome of a call whose memory failed, which must not have changed its object.
     pub fn left(is_left: bool) -> Outcome {
         if is_left {
             Outcome::Memory
@@ -36,7 +36,7 @@ impl Outcome {
         }
     }
 
-    /// Prints it, and gives the program's status: 0 done, 1 refused, 3 wrong, 4 out of memory.
+    /// Prints it, and returns the program's status: 0 done, 1 refused, 3 wrong, 4 out of memory.
     pub fn print(&self, rt: &HostRuntime) -> ExitCode {
         let (said, status) = match self {
             Outcome::Done => (println!(rt; "done"), 0),

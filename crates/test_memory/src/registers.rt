@@ -10,12 +10,12 @@ use reg_op::OpId;
 use reg_state::{Join, JoinFault, PieceFault, Register, TakeFault};
 use std::{fs, io};
 
-/// The register of a file, or that memory failed.
+/// The register of a file, or none if memory failed.
 fn register_of(rt: &HostRuntime, file: &[u8]) -> Option<Register> {
     read_bytes(rt.alloc(), file).ok()
 }
 
-/// Whether the file of the register has these bytes still.
+/// Whether the file of the register still has these bytes.
 fn is_left(rt: &HostRuntime, register: &Register, file: &[u8]) -> bool {
     match write_bytes(rt.alloc(), register) {
         Ok(written) => written.as_slice() == file,
@@ -162,7 +162,7 @@ pub fn merge(rt: &HostRuntime, words: &[String]) -> io::Result<Outcome> {
     Ok(match run_merge(rt.alloc(), &mut sources, &mut target) {
         Ok(()) => Outcome::Done,
         Err(CliFault::Memory) => Outcome::left(target.taken().is_empty()),
-        // The target's own memory may be what fails.
+        // The memory that fails may be the target's own.
         Err(CliFault::Out(_)) => Outcome::Memory,
         Err(_) => Outcome::Wrong,
     })

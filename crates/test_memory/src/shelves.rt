@@ -22,13 +22,13 @@ pub fn keep(rt: &HostRuntime, words: &[String]) -> io::Result<Outcome> {
     Ok(match reg_shelf::keep(rt.alloc(), &mut disk, &register) {
         Ok(()) => Outcome::Done,
         Err(ShelfFault::Memory) => Outcome::left(disk.bytes() == shelf.as_slice()),
-        // The disk's own record may be what fails: a stop then leaves what was there, or what is kept.
+        // The disk's own record may fail to allocate. A stop then leaves the old register or the new one.
         Err(ShelfFault::DiskFailed) => restored(rt, &disk),
         Err(_) => Outcome::Wrong,
     })
 }
 
-/// Whether what a stop leaves is a shelf.
+/// Whether the bytes that a stop leaves are a shelf.
 fn restored(rt: &HostRuntime, disk: &MemDisk) -> Outcome {
     let Ok(left) = disk.left(Pending::Old) else {
         return Outcome::Wrong;

@@ -35,12 +35,12 @@ pub const ANOTHER_NAME: &[u8] =
 pub const SAME_KEY: &[u8] =
     b"VERTCRS[\"H\",VDATUM[\"D\"],CS[vertical,1],AXIS[\"height (H)\",up],LENGTHUNIT[\"metre\",1],ID[\"X\",\"7\"]]";
 
-/// What could not be made.
+/// A value could not be made.
 #[derive(Debug, Drop)]
 pub struct Refused;
 
-// What a test needs before it can look at anything is expected, and not handed on by `?`: a refusal would drop all
-// that the test holds, and the proof would walk that for each refusal.
+// Tests use `expect` for what they set up, and not `?`: a refusal would drop all values that the test holds, and the
+// proof would go through these for each refusal.
 
 pub fn id_of(rt: &impl Abort, replica: u128, count: u32) -> OpId {
     OpId::new(Uuid::from_u128(replica), count).expect(rt, "a count above 0")
@@ -50,7 +50,7 @@ pub fn definition(rt: &impl Abort, alloc: Global, text: &[u8]) -> Definition {
     Definition::from_canonical(alloc, text).expect(rt, "a canonical text")
 }
 
-/// A text that is entered.
+/// A text to enter.
 #[derive(Clone, Copy)]
 pub enum Sample {
     Height,
@@ -68,7 +68,7 @@ fn text_of(sample: Sample) -> &'static [u8] {
     }
 }
 
-/// What an operation does.
+/// The effect of an operation.
 #[derive(Clone, Copy)]
 enum Effect {
     Enter,
@@ -76,8 +76,8 @@ enum Effect {
     Supersede,
 }
 
-/// An operation that is to be made. It holds no memory, so that tests can hold many of them. What its effect doesn't need is
-/// filled with what is at hand.
+/// A description of an operation. It owns no memory, so tests can hold many of them. Fields that the effect does not need
+/// have any value.
 #[derive(Clone, Copy)]
 pub struct Step {
     id: OpId,
@@ -151,12 +151,12 @@ pub fn taken(alloc: Global, steps: &[Step]) -> Result<Register, Refused> {
     Ok(register)
 }
 
-/// The register that has taken some steps.
+/// The register after taking some steps.
 pub fn register_of(rt: &impl Abort, alloc: Global, steps: &[Step]) -> Register {
     taken(alloc, steps).expect(rt, "a register")
 }
 
-/// Two entries, of which the first is retired by one replica and superseded by another.
+/// Two entries. One replica retires the first, and another supersedes it.
 pub fn worked(rt: &impl Abort, alloc: Global) -> Register {
     let (one, two) = (id_of(rt, A, 1), id_of(rt, A, 2));
     register_of(
@@ -179,7 +179,7 @@ pub fn contest(rt: &impl Abort) -> [Step; 2] {
     ]
 }
 
-/// The register that has taken them.
+/// The register after taking them.
 pub fn contested(rt: &impl Abort, alloc: Global) -> Register {
     register_of(rt, alloc, &contest(rt))
 }
@@ -222,12 +222,12 @@ pub fn having_seen(
     Register::from_content(alloc, Vec::new(alloc), seen).expect(rt, "a register")
 }
 
-/// The join of two registers, which end here.
+/// The join of two registers. Consumes both.
 pub fn joined(rt: &impl Abort, alloc: Global, left: Register, right: Register) -> Register {
     left.join(alloc, &right).expect(rt, "a join")
 }
 
-/// Whether the register of an office is what it was before. Both end here.
+/// Whether the register of an office is unchanged. Consumes both.
 pub fn is_unchanged(office: Office, before: Register) -> bool {
     has_same(office.register(), &before)
 }

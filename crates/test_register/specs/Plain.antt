@@ -1,4 +1,4 @@
--- What plain lists are seen as.
+-- Plain lists as contracts see them.
 use Rattle.std.specs.Prelude.{List}
 use Rattle.reg_op.specs.Set as set
 use Rattle.reg_op.specs.Ids.{Id}

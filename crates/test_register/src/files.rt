@@ -32,10 +32,10 @@ pub const OTHER_HEIGHT: &[u8] =
 pub const SPELLED: &[u8] =
     b"VERTCRS[\"H\",VDATUM[\"D\"],CS[vertical,1],AXIS[\"height (H)\",up],LENGTHUNIT[\"metre\",1.0],ID[\"X\",7]]";
 
-/// The version that is written.
+/// The current version, which is written.
 pub const SECOND: u8 = 2;
 
-/// The version before it, which has no notes.
+/// The previous version, which has no notes.
 pub const FIRST: u8 = 1;
 
 /// The kinds of files.
@@ -45,7 +45,7 @@ pub const SEEN: u8 = 2;
 
 pub const PIECE: u8 = 3;
 
-/// What stands first in a file of a version and a kind.
+/// The first bytes of a file of a version and a kind.
 pub fn head(version: u8, kind: u8) -> [u8; 6] {
     [0x43, 0x52, 0x53, 0x52, version, kind]
 }
@@ -68,7 +68,7 @@ pub fn four(number: u32) -> [u8; 4] {
     number.to_be_bytes()
 }
 
-/// The bytes of some parts.
+/// The concatenation of some parts.
 pub fn joined(alloc: Global, parts: &[&[u8]]) -> Result<Vec<u8>, AllocError> {
     let mut bytes = Vec::new(alloc);
     for part in parts {
@@ -77,7 +77,7 @@ pub fn joined(alloc: Global, parts: &[&[u8]]) -> Result<Vec<u8>, AllocError> {
     Ok(bytes)
 }
 
-/// The file of the seen ids of one replica, in these ranges, and of so many operations in these bytes.
+/// The file of the seen ids of one replica, in these ranges, and of `count` operations, given as bytes.
 pub fn file_of(
     alloc: Global,
     version: u8,
@@ -96,7 +96,7 @@ pub fn file_of(
     Ok(bytes)
 }
 
-/// An operation that enters a text of 93 bytes or so, with a note in these bytes.
+/// An operation that enters a text of about 93 bytes, with a note given as bytes.
 pub fn noted_bytes(
     alloc: Global,
     count: u32,
@@ -156,8 +156,8 @@ pub fn goes_round(alloc: Global, bytes: &[u8]) -> bool {
     goes_to(alloc, bytes, bytes)
 }
 
-// What a test needs before it can look at anything is expected, and not handed on by `?`: a refusal would drop all
-// that the test holds, and the proof would walk that for each refusal.
+// Tests use `expect` for what they set up, and not `?`: a refusal would drop all values that the test holds, and the
+// proof would go through these for each refusal.
 
 pub fn id_of(rt: &impl Abort, replica: u128, count: u32) -> OpId {
     OpId::new(Uuid::from_u128(replica), count).expect(rt, "a count above 0")

@@ -156,7 +156,7 @@ fn two_notes_under_one_id_clash(rt: HostRuntime) {
     assert!(rt; copy.is_same(&first) && copy.note().is_same(first.note()));
 }
 
-// Whether these bytes are refused so.
+// Whether these bytes are refused with this fault.
 fn is_refused(alloc: Global, bytes: &[u8], fault: NoteFault) -> bool {
     Note::new(alloc, bytes).err() == Some(fault)
 }
@@ -176,7 +176,7 @@ fn a_note_has_at_most_200_bytes_of_utf8(rt: HostRuntime) {
     assert!(rt; is_refused(alloc, &[b'n', 0xC3], NoteFault::NoteNotUtf8));
 }
 
-// Whether an entry and a retirement, under two ids, differ.
+// Whether an entry and a retirement with two ids differ.
 fn are_apart(enter: &Op, retire: &Op) -> bool {
     !enter.clashes(retire)
         && enter.body().is_same(enter.body())

@@ -32,18 +32,18 @@ pub const OTHER_HEIGHT: &[u8] =
 pub const SAME_KEY: &[u8] =
     b"VERTCRS[\"H\",VDATUM[\"D\"],CS[vertical,1],AXIS[\"height (H)\",up],LENGTHUNIT[\"metre\",1],ID[\"X\",\"7\"]]";
 
-/// What could not be made.
+/// A value could not be made.
 #[derive(Debug, Drop)]
 pub struct Refused;
 
-// What a test needs before it can look at anything is expected, and not handed on by `?`: a refusal would drop all
-// that the test holds, and the proof would walk that for each refusal.
+// Tests use `expect` for what they set up, and not `?`: a refusal would drop all values that the test holds, and the
+// proof would go through these for each refusal.
 
 pub fn id_of(rt: &impl Abort, replica: u128, count: u32) -> OpId {
     OpId::new(Uuid::from_u128(replica), count).expect(rt, "a count above 0")
 }
 
-/// A text that is entered.
+/// A text to enter.
 #[derive(Clone, Copy)]
 pub enum Sample {
     Height,
@@ -59,7 +59,7 @@ fn text_of(sample: Sample) -> &'static [u8] {
     }
 }
 
-/// What is noted of an operation.
+/// The note of an operation.
 #[derive(Clone, Copy)]
 pub enum Remark {
     Nothing,
@@ -76,7 +76,7 @@ pub fn note_of(remark: Remark) -> &'static [u8] {
     }
 }
 
-/// What an operation does.
+/// The effect of an operation.
 #[derive(Clone, Copy)]
 enum Effect {
     Enter,
@@ -84,8 +84,8 @@ enum Effect {
     Supersede,
 }
 
-/// An operation that is to be made. It holds no memory, so that tests can hold many of them. What its effect doesn't need is
-/// filled with what is at hand.
+/// A description of an operation. It owns no memory, so tests can hold many of them. Fields that the effect does not need
+/// have any value.
 #[derive(Clone, Copy)]
 pub struct Step {
     id: OpId,
@@ -158,7 +158,7 @@ pub fn made(alloc: Global, step: Step) -> Result<Op, Refused> {
     }
 }
 
-/// Two entries, of which the first is retired by one replica and superseded by another.
+/// Two entries. One replica retires the first, and another supersedes it.
 pub fn worked(rt: &impl Abort, k: usize) -> Step {
     let (one, two) = (id_of(rt, A, 1), id_of(rt, A, 2));
     match k {
@@ -184,7 +184,7 @@ pub fn taken(alloc: Global, steps: &[Step]) -> Result<Register, Refused> {
     Ok(register)
 }
 
-/// The register that has taken some steps.
+/// The register after taking some steps.
 pub fn register_of(rt: &impl Abort, alloc: Global, steps: &[Step]) -> Register {
     taken(alloc, steps).expect(rt, "a register")
 }
@@ -198,12 +198,12 @@ pub fn has_same(left: &Register, right: &Register) -> bool {
     (0..8).all(|k| left.seen().run(k) == right.seen().run(k))
 }
 
-/// The same of two registers, which end here.
+/// The same for two registers. Consumes both.
 pub fn are_same(left: Register, right: Register) -> bool {
     has_same(&left, &right)
 }
 
-/// What becomes of two registers, which end here, when they are joined.
+/// The result of joining two registers. Consumes both.
 pub fn joined(alloc: Global, left: Register, right: Register) -> Result<Register, JoinFault<OpId>> {
     left.join(alloc, &right)
 }

@@ -27,7 +27,7 @@ fn seen_of(rt: &impl Abort, alloc: Global, replica: u128, low: u32, high: u32) -
     seen
 }
 
-// Whether the run at a place is this.
+// Whether this is the run at an index.
 fn has_run(seen: &Seen, k: usize, run: Run) -> bool {
     seen.run(k) == Some(run)
 }

@@ -1,4 +1,4 @@
-//! Tests of disks, and of bytes that are kept on them.
+//! Tests of disks, and of shelves of bytes.
 
 mod faults;
 mod files;

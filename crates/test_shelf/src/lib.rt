@@ -1,4 +1,4 @@
-//! Tests of disks and shelves, and of registers on them, through their public calls.
+//! Tests of disks and shelves, and of registers on them, through the public calls.
 #![tactic(auto)]
 
 #[cfg(test)]

@@ -34,10 +34,10 @@ const A: &[u8] = &[0, 0, 0, 0, 0, 0, 0x40, 0, 0x80, 0, 0, 0, 0, 0, 0, 0x0a];
 
 const B: &[u8] = &[0, 0, 0, 0, 0, 0, 0x40, 0, 0x80, 0, 0, 0, 0, 0, 0, 0x0b];
 
-/// What the bytes that are not sure may be.
+/// The effects of a stop on unsynced bytes.
 pub static PENDING: [Pending; 3] = [Pending::Old, Pending::New, Pending::Each(0xff)];
 
-/// The bytes of some parts.
+/// The concatenation of some parts.
 pub fn joined(alloc: Global, parts: &[&[u8]]) -> Result<Vec<u8>, AllocError> {
     let mut bytes = Vec::new(alloc);
     for part in parts {
@@ -46,7 +46,7 @@ pub fn joined(alloc: Global, parts: &[&[u8]]) -> Result<Vec<u8>, AllocError> {
     Ok(bytes)
 }
 
-// A file's head for one replica of which this is the last count, and so many operations.
+// The head of a file for one replica with this last count, and as many operations.
 fn head(alloc: Global, version: u8, replica: &[u8], last: u8) -> Result<Vec<u8>, AllocError> {
     let runs = [0, 0, 0, 1, 0, 0, 0, 1, 0, 0, 0, last];
     let front = [version, 1, 0, 0, 0, 1];
@@ -101,14 +101,14 @@ pub fn disk_of(rt: &impl Abort, alloc: Global, bytes: &[u8]) -> MemDisk {
     MemDisk::new(alloc, bytes).expect(rt, "a disk")
 }
 
-/// A shelf of this size, of the empty register, of whose bytes all are sure and none of whose calls is counted.
+/// A shelf of this size with the empty register. All its bytes are synced, and no call is counted yet.
 pub fn shelf_of(rt: &impl Abort, alloc: Global, size: u32) -> MemDisk {
     let mut disk = disk_of(rt, alloc, &[]);
     format(alloc, &mut disk, size).expect(rt, "a shelf");
     disk_of(rt, alloc, disk.bytes())
 }
 
-/// The file of the register that these bytes are a shelf of.
+/// The file of the register on the shelf with these bytes.
 pub fn restored(rt: &impl Abort, alloc: Global, image: &[u8]) -> Result<Vec<u8>, ShelfFault> {
     let mut disk = disk_of(rt, alloc, image);
     match restore(alloc, &mut disk) {
@@ -117,13 +117,13 @@ pub fn restored(rt: &impl Abort, alloc: Global, image: &[u8]) -> Result<Vec<u8>,
     }
 }
 
-/// What is restored of what a stop now leaves.
+/// The file that is restored from the bytes that a stop at this moment leaves.
 pub fn left(rt: &impl Abort, alloc: Global, disk: &MemDisk, pending: Pending) -> Vec<u8> {
     let image = disk.left(pending).expect(rt, "an image");
     restored(rt, alloc, &image).expect(rt, "a shelf")
 }
 
-/// The id of the first replica's operation of this count.
+/// The id of the first replica's operation with this count.
 pub fn id(rt: &impl Abort, count: u32) -> OpId {
     OpId::new(Uuid::from_u128(OFFICE_A), count).expect(rt, "a count above 0")
 }

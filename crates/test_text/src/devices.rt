@@ -8,7 +8,7 @@ use std::alloc::Global;
 
 static TEXT: [u8; 10] = *b"0123456789";
 
-// Whether these bytes are read, where so many are asked.
+// Whether a read of up to this many bytes gives these bytes.
 fn reads(alloc: Global, source: &mut impl Source, most: usize, bytes: &[u8]) -> bool {
     match read_up_to(alloc, source, most) {
         Ok(read) => read.as_slice() == bytes,
@@ -55,7 +55,7 @@ fn tells_how_much_went_out(rt: HostRuntime) {
     assert_eq!(rt; sink.into_inner().as_slice(), TEXT.as_slice());
 }
 
-// Whether the text is published, or refused for this reason.
+// Whether publishing the text has this result.
 fn publishes(target: &mut impl Target, fault: Option<PublishFault>) -> bool {
     publish(target, &TEXT).err() == fault
 }

@@ -9,7 +9,7 @@ fn decimal(rt: &impl Abort, numeral: &[u8]) -> Decimal {
     Decimal::from_numeral(numeral).expect(rt, "a numeral")
 }
 
-/// The canonical text of what a numeral spells.
+/// The canonical text of the number that a numeral spells.
 fn rewritten(rt: &impl Abort, alloc: Global, numeral: &[u8]) -> Vec<u8> {
     let mut out = Vec::new(alloc);
     decimal(rt, numeral)

@@ -21,7 +21,7 @@ const COMPOUND: &[u8] =
 const POLAR: &[u8] =
     b"PROJCRS[\"Polar example\",BASEGEOGCRS[\"Example\",DATUM[\"Example frame\",ELLIPSOID[\"GRS 1980\",6378137,298.257222101]]],CONVERSION[\"Polar example\",METHOD[\"Polar Stereographic (variant A)\"]],CS[Cartesian,2],AXIS[\"(E)\",south,MERIDIAN[90,ANGLEUNIT[\"degree\",0.0174532925199433]],ORDER[1]],AXIS[\"(N)\",south,MERIDIAN[180,ANGLEUNIT[\"degree\",0.0174532925199433]],ORDER[2]],LENGTHUNIT[\"metre\",1],ID[\"X\",\"polar\",1,URI[\"urn:example:polar\"]]]";
 
-/// A projected system on an ensemble, with all that a text of a list of systems has, canonical.
+/// A projected system on an ensemble, with every node that texts of public lists have, canonical.
 const LISTED: &[u8] =
     b"PROJCRS[\"WGS 84 / TM 6 NE\",BASEGEOGCRS[\"WGS 84\",ENSEMBLE[\"World Geodetic System 1984 ensemble\",MEMBER[\"World Geodetic System 1984 (Transit)\",ID[\"EPSG\",1166]],MEMBER[\"World Geodetic System 1984 (G2139)\"],ELLIPSOID[\"WGS 84\",6378137,298.257223563,LENGTHUNIT[\"metre\",1]],ENSEMBLEACCURACY[2]],PRIMEM[\"Greenwich\",0,ANGLEUNIT[\"degree\",0.0174532925199433]],ID[\"EPSG\",4326]],CONVERSION[\"TM 6 NE\",METHOD[\"Transverse Mercator\",ID[\"EPSG\",9807]],PARAMETER[\"Longitude of natural origin\",6,ANGLEUNIT[\"degree\",0.0174532925199433],ID[\"EPSG\",8802]],PARAMETER[\"Scale factor at natural origin\",0.9996,SCALEUNIT[\"unity\",1],ID[\"EPSG\",8805]]],CS[Cartesian,2],AXIS[\"(E)\",east,ORDER[1],LENGTHUNIT[\"metre\",1]],AXIS[\"(N)\",north,ORDER[2],LENGTHUNIT[\"metre\",1]],USAGE[SCOPE[\"Oil and gas exploration and production.\"],AREA[\"Nigeria - offshore.\"],BBOX[-1.92,2.66,6.38,8.49]],ID[\"EPSG\",2311,CITATION[\"List\"],URI[\"urn:example:2311\"]],REMARK[\"C\xc3\xb4te\"]]";
 
@@ -29,8 +29,8 @@ const LISTED: &[u8] =
 const SPELLED: &[u8] =
     b"verticalcrs( \"H\" , VRF[\"D\"],cs(Vertical,1),\n AXIS[\"height (H)\",UP],LENGTHUNIT[\"metre\",1.0],ID[\"X\",7.0e0])";
 
-// What a test needs before it can look at anything is expected, and not handed on by `?`: a refusal would drop all
-// that the test holds, and the proof would walk that for each refusal.
+// Tests use `expect` for what they set up, and not `?`: a refusal would drop all values that the test holds, and the
+// proof would go through these for each refusal.
 
 fn read(rt: &impl Abort, alloc: Global, text: &[u8]) -> Crs {
     read_crs(alloc, text).expect(rt, "a text of a system")

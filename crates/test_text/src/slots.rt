@@ -4,7 +4,7 @@ use std::process::Abort;
 use wkt_grammar::{Edition, SlotFault, SlotName, check_slots};
 use wkt_tree::scan;
 
-// Whether this is the first fault of a text, or it has none.
+// Whether this is the first slot fault of a text, or none if it has none.
 fn is_first(rt: &impl Abort, edition: Edition, text: &str, fault: Option<SlotFault>) -> bool {
     let outline = scan(text.as_bytes()).expect(rt, "a tree");
     check_slots(edition, &outline).err() == fault
@@ -38,7 +38,7 @@ fn both_editions_judge_shared_nodes_alike(rt: HostRuntime) {
     }
 }
 
-/// Texts with what the second edition adds: their faults in the first, and in the second.
+/// Texts with additions of the second edition: their faults in the first edition, and in the second.
 const ADDED: [(&str, SlotFault, Option<SlotFault>); 5] = [
     (
         r#"VERTCRS["H",VDATUM["D"],CS[vertical,1],AXIS["height (H)",up],LENGTHUNIT["metre",1],GEOIDMODEL["M"],ID["X",7]]"#,

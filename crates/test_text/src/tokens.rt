@@ -2,7 +2,7 @@
 
 use wkt_tree::{Delimiter, Token, TokenKind, scan};
 
-// Whether there is a token, of this kind, at this place and with these bytes.
+// Whether there is a token with this kind, place and bytes.
 fn is_token(token: Option<Token<'_>>, kind: TokenKind, place: usize, bytes: &[u8]) -> bool {
     match token {
         Some(token) => token.kind == kind && token.place == place && token.bytes == bytes,

@@ -1,4 +1,4 @@
-//! The texts of values that are made by hand.
+//! The texts of values made by hand.
 
 mod values;
 
@@ -7,7 +7,7 @@ use std::alloc::Global;
 use std::process::Abort;
 use wkt_write::{write_crs, write_pretty};
 
-// Expects a value, which ends here, to be written as this text.
+// Expects a value to be written as this text. Consumes it.
 fn expect_text(rt: &impl Abort, alloc: Global, parts: CrsParts, text: &str) {
     let written = write_crs(alloc, &parts).expect(rt, "room for a text");
     drop(parts);

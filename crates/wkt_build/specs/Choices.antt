@@ -1,4 +1,4 @@
--- What the next keyword decides.
+-- The choices that the next keyword makes.
 use Rattle.std.specs.Prelude.{Bool, true, false, List, [], ◌∷◌, Option, Some, None}
 use Rattle.crs_part.specs.declared.units.UnitDefinition.{UnitDefinition}
 use Rattle.crs_part.specs.declared.units.Unit as units
@@ -14,7 +14,7 @@ use Rattle.wkt_grammar.specs.declared.table.Keyword.{Keyword}
 use Rattle.wkt_grammar.specs.declared.table.Keyword.TheVariants as keywords
 use Rattle.wkt_grammar.specs.Words.{keyword_of}
 
--- what the next token means as a keyword
+-- the meaning of the next token as a keyword
 abbrev pub next_keyword : List Tok → Option Keyword
 next_keyword [] = None
 next_keyword (t ∷ ts) = keyword_of t.piece.bytes

@@ -1,4 +1,4 @@
--- What is built of a reference system of one part.
+-- The value built from a reference system of one part.
 use Rattle.std.specs.Prelude.{◌≡◌, List, Result, IfOk}
 use Rattle.crs_part.specs.declared.crs.Single.{Single}
 use Rattle.wkt_tree.specs.Tree.{Tok}

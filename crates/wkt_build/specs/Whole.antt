@@ -1,4 +1,4 @@
--- What is built of a whole text.
+-- The value built from a whole text.
 use Rattle.std.specs.Prelude.{◌≡◌, List, Result, IfOk}
 use Rattle.crs_part.specs.declared.crs.CrsParts.{CrsParts}
 use Rattle.wkt_tree.specs.declared.token.Delimiter.{Delimiter}

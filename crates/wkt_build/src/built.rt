@@ -33,8 +33,8 @@ pub(crate) fn pass(cursor: &mut Reader<'_>)
     cursor.advance();
 }
 
-/// The value so far, with the next one. So a failing step holds no value with many variants, which its proof would go
-/// through.
+/// The value so far, with the next one. A failing step then holds no value with many variants, which would lengthen its
+/// proof.
 pub(crate) fn with<V: Drop, W>(held: V, next: Result<W, AllocError>) -> Result<(V, W), AllocError>
     ensures { IfOk result (λ both. (both.0 ≡ held) × (next ≡ Ok both.1)) }
 {
@@ -91,7 +91,7 @@ pub(crate) fn take_each<N: Built<V>, V: Drop>(
     Ok(items)
 }
 
-/// The same items, with room for one if there is none: most lists have one item.
+/// The same items, with room for one if the list is empty: most lists have one item.
 fn with_room<V: Drop>(alloc: Global, items: Many<V>) -> Result<Many<V>, AllocError>
     ensures { IfOk result (λ same. same ≡ items) }
 {

@@ -1,4 +1,4 @@
-//! What a keyword decides.
+//! The choices that a keyword makes.
 
 ghost use Rattle.std.specs.Prelude.{◌≡◌};
 ghost use Rattle.wkt_build.specs.Choices.{angle_unit_as, geodetic_kind_of, is_compound, is_ensemble, is_projected, is_vertical, length_unit_as, unit_as};

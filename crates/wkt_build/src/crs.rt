@@ -177,7 +177,7 @@ impl Built<Single> for Single {
     }
 }
 
-// Separate, so that other systems do not pay for the size of two.
+// Separate, so that other systems do not reserve the size of two.
 #[inline(never)]
 pub(crate) fn build_compound(alloc: Global, cursor: &mut Reader<'_>) -> Result<Compound, AllocError>
     ensures builds { BuildsNode nodes.CompoundCrs compound_fields cursor.old cursor.new result }

@@ -1,6 +1,6 @@
 //! The last slots of reference systems of one part and of base systems.
 //!
-//! Each is a separate function, so that few values are held when a step fails, since a proof goes through them.
+//! Each is a separate function, so that a failing step holds few values: its proof goes through each of them.
 
 ghost use Rattle.std.specs.Prelude.{◌≤◌, length};
 ghost use Rattle.wkt_build.specs.Rest.{BuildsBefore, BuildsRest, base_ending_fields, base_ending_row, ending_fields, ending_row, tail_fields, tail_row, vertical_ending_fields, vertical_ending_row, vertical_tail_fields, vertical_tail_row};

@@ -19,14 +19,14 @@ use wkt_grammar::{
 };
 use wkt_tree::{Cursor, Token, TokenKind};
 
-/// What follows a comma, if it was looked up.
+/// The argument after a comma, as far as it was looked up.
 #[derive(Clone, Copy)]
 pub(crate) enum Ahead {
     /// No comma follows.
     NoComma,
     /// A node with this keyword.
     Node(Keyword),
-    /// Anything.
+    /// Any argument.
     Anything,
 }
 

@@ -1,4 +1,4 @@
--- What is seen of a reference system: its name, and its first identifier.
+-- The findings for a reference system: its name, and its first identifier.
 use Rattle.std.specs.Prelude.{◌≡◌, List, [], ◌∷◌, Option, None, IsSomeAnd}
 use Rattle.crs_part.specs.Slots.{name_of, ids_of}
 use Rattle.crs_part.specs.declared.identifiers.Ident.{Ident}

@@ -1,4 +1,4 @@
--- Tests of values on the way, which together are the conditions on the whole.
+-- Tests of the parts as they are read, which together are the conditions on the whole.
 use Rattle.std.specs.Prelude.{◌≡◌, ℕ, ◌<◌, Bool, true, false, ◌||◌, ◌&&◌, Option, None, is_some, is_none, List, length}
 use Rattle.std.specs.List.{list_all, flat_map}
 use Rattle.std.specs.Option.{option_map_or}
@@ -86,7 +86,7 @@ pub record IsAxis (system : SystemKind) (k : ℕ) (has_order has_unit : Bool) (a
   pub meridian : (is_none axis.meridian || is_north_or_south axis.direction) ≡ true
   pub units : all_positive (axis_units axis) ≡ true
 
--- what the conditions say of the axes of a system of this kind and dimension, and of their common unit
+-- the conditions on the axes of a system of this kind and dimension, and on their common unit
 pub record AxesHold (system : SystemKind) (dimension : ℕ) (axes : List Axis) (common : Option Unit) : Type 0 where
   pub count : length axes ≡ dimension
   pub have_units : has_units axes common ≡ true

@@ -28,7 +28,7 @@ pub struct Seen<'a> {
     pub identifier: Option<Identifier<'a>>,
 }
 
-/// What is seen of a reference system of one part.
+/// The findings for a reference system of one part.
 #[derive(Clone, Copy)]
 struct Component<'a> {
     seen: Seen<'a>,
@@ -48,7 +48,7 @@ pub(crate) fn whole(bytes: &[u8]) -> Option<(Seen<'_>, &[u8])>
     Some((component.seen, rest))
 }
 
-/// What is seen of a compound reference system, and the rest after it, read from after its opening delimiter.
+/// The findings for a compound reference system, and the rest after it, read from after its opening delimiter.
 fn compound(bytes: &[u8]) -> Option<(Seen<'_>, &[u8])>
     ensures { IfSome result (λ found. ReadsWhole found.0 (beginning keywords.CompoundCrs ++ bytes.now) found.1.now) }
 {
@@ -67,7 +67,7 @@ fn compound(bytes: &[u8]) -> Option<(Seen<'_>, &[u8])>
     Some((Seen { name, identifier }, rest))
 }
 
-/// What is seen of a reference system of one part, and the rest after it.
+/// The findings for a reference system of one part, and the rest after it.
 fn single(bytes: &[u8]) -> Option<(Component<'_>, &[u8])>
     ensures { IfSome result (λ found. ReadsSingle found.0 bytes.now found.1.now) }
 {
@@ -99,7 +99,7 @@ fn end(bytes: &[u8]) -> Option<(Option<Identifier<'_>>, &[u8])>
     Some((identifier, rest))
 }
 
-/// What is seen of a geodetic reference system, and the rest after it, read from after its opening delimiter.
+/// The findings for a geodetic reference system, and the rest after it, read from after its opening delimiter.
 fn geodetic(kind: GeodeticKind, bytes: &[u8]) -> Option<(Component<'_>, &[u8])>
     ensures { IfSome result (λ found. ReadsSingle found.0 (beginning (geodetic_keyword kind) ++ bytes.now) found.1.now) }
 {
@@ -146,7 +146,7 @@ fn base(bytes: &[u8]) -> Option<&[u8]>
     Some(rest)
 }
 
-/// What is seen of a projected reference system, and the rest after it, read from after its opening delimiter.
+/// The findings for a projected reference system, and the rest after it, read from after its opening delimiter.
 fn projected(bytes: &[u8]) -> Option<(Component<'_>, &[u8])>
     ensures { IfSome result (λ found. ReadsSingle found.0 (beginning keywords.ProjectedCrs ++ bytes.now) found.1.now) }
 {
@@ -167,7 +167,7 @@ fn projected(bytes: &[u8]) -> Option<(Component<'_>, &[u8])>
     Some((component, rest))
 }
 
-/// What is seen of a vertical reference system, and the rest after it, read from after its opening delimiter.
+/// The findings for a vertical reference system, and the rest after it, read from after its opening delimiter.
 fn vertical(bytes: &[u8]) -> Option<(Component<'_>, &[u8])>
     ensures { IfSome result (λ found. ReadsSingle found.0 (beginning keywords.VerticalCrs ++ bytes.now) found.1.now) }
 {

@@ -31,7 +31,7 @@ pub(crate) fn begins<'a>(text: &'a [u8], keyword: Keyword) -> Option<&'a [u8]>
 pub(crate) fn opens<'a>(text: &'a [u8], keyword: Keyword) -> Option<&'a [u8]>
     ensures { IfSome result (λ rest. text.now ≡ opening keyword ++ rest.now) }
 {
-    // An absent node mostly differs from the next one in the first letter.
+    // If the node is absent, the next one mostly has another first letter.
     if text.get(1) != keyword.spelling().first() {
         return None;
     }

@@ -12,7 +12,7 @@ use crate::values::maybe_value;
 use crs_part::{Ident, Named};
 use wkt_grammar::Keyword;
 
-/// The authority and the code of an identifier, without their marks. A number counts as written.
+/// The authority and the code of an identifier, without their marks. A number is compared as written.
 #[derive(Clone, Copy)]
 pub struct Identifier<'a> {
     pub authority: &'a [u8],
@@ -71,7 +71,7 @@ fn version(bytes: &[u8]) -> &[u8]
     }
 }
 
-/// The rest after what has a name and identifiers, read from after its opening delimiter.
+/// The rest after a node with a name and identifiers, read from after its opening delimiter.
 fn named(bytes: &[u8]) -> Option<&[u8]>
     ensures { IfSome result (λ rest. ReadsWithin any named_tree bytes.now rest.now) }
 {

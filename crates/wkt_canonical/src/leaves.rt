@@ -11,7 +11,7 @@ use crate::numerals::number;
 use std::simd::prelude::*;
 use wkt_tree::first_mark;
 
-/// The number of bytes that are compared at once.
+/// The number of bytes compared at once.
 const LANES: usize = 16;
 
 /// A text between marks, and the rest after it.
@@ -36,7 +36,7 @@ pub(crate) fn text(bytes: &[u8]) -> Option<&[u8]>
     Some(rest)
 }
 
-/// Whether the first bytes are UTF-8. Most texts are short ASCII, which is checked at once.
+/// Whether the first bytes are UTF-8. Most texts are short and ASCII, which is checked in one step.
 #[inline(always)]
 fn begins_in_utf8(bytes: &[u8], len: usize) -> bool
     requires { len ≤ length bytes.now }
@@ -48,7 +48,7 @@ fn begins_in_utf8(bytes: &[u8], len: usize) -> bool
     is_utf8(&bytes[..len])
 }
 
-/// Whether the first sixteen bytes are there, and of ASCII.
+/// Whether there are sixteen bytes, and the first sixteen are ASCII.
 #[inline(always)]
 fn begins_in_ascii(bytes: &[u8]) -> bool
     ensures { OnTrue result (IsAscii (take LANES bytes.now)) }
@@ -69,7 +69,7 @@ fn is_utf8(bytes: &[u8]) -> bool
     std::str::from_utf8(bytes).is_ok()
 }
 
-/// A code after its comma, which is a number or a text, and the rest after it. A number counts as it is written.
+/// A code after its comma, which is a number or a text, and the rest after it. A number is compared as written.
 pub(crate) fn code(bytes: &[u8]) -> Option<(&[u8], &[u8])>
     ensures { IfSome result (λ found. ReadsCode found.0.now bytes.now found.1.now) }
 {

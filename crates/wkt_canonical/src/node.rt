@@ -34,7 +34,7 @@ pub(crate) fn one<T: Node>(text: &[u8]) -> Option<&[u8]>
     Some(rest)
 }
 
-/// The rest after the node, if it is there.
+/// The rest after an optional node.
 pub(crate) fn maybe<T: Node>(text: &[u8]) -> Option<&[u8]>
     ensures { IfSome result (λ rest. ReadsMaybe T.test T.tree text.now rest.now) }
 {

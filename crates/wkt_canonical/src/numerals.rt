@@ -10,13 +10,13 @@ ghost use Rattle.wkt_canonical.specs.Digits.{ReadsFraction};
 
 use crate::front::behind;
 
-/// A longer whole part is not read.
+/// The longest whole part that is read.
 const MAX_WHOLE: usize = 16;
 
-/// So many digits after a period are read.
+/// The most digits after a period that are read.
 const MAX_PLACES: usize = 18;
 
-/// How many digits the bytes begin with.
+/// The number of leading digits.
 fn leading_digits(bytes: &[u8]) -> usize
     ensures { result ≡ prefix_len is_ascii_digit bytes.now }
 {
@@ -44,7 +44,7 @@ fn fraction(text: &[u8]) -> Option<&[u8]>
     Some(rest)
 }
 
-/// The rest after a number below one, but zero, of which the `0` was read.
+/// The rest after a number above zero and below one, whose `0` was already read.
 fn below_one(text: &[u8]) -> Option<&[u8]>
     ensures { IfSome result (λ rest. ReadsFirst is_above_zero number_tree (48 ∷ text.now) rest.now) }
 {
@@ -60,7 +60,7 @@ fn below_one(text: &[u8]) -> Option<&[u8]>
     Some(rest)
 }
 
-/// The rest after a number from one on, which does not begin with `0`.
+/// The rest after a number of at least one, which does not begin with `0`.
 fn from_one(text: &[u8]) -> Option<&[u8]>
     requires { get_or text.now 0 0 ≢ 48 }
     ensures { IfSome result (λ rest. ReadsFirst is_above_zero number_tree text.now rest.now) }
@@ -94,7 +94,7 @@ pub(crate) fn positive_number(text: &[u8]) -> Option<&[u8]>
     from_one(text)
 }
 
-/// The rest after zero or a number below one, of which the `0` was read.
+/// The rest after zero or a number below one, whose `0` was already read.
 fn from_zero(text: &[u8]) -> Option<&[u8]>
     ensures { IfSome result (λ rest. ReadsFirst is_not_below_zero number_tree (48 ∷ text.now) rest.now) }
 {
@@ -113,7 +113,7 @@ fn from_zero(text: &[u8]) -> Option<&[u8]>
     Some(text)
 }
 
-/// The rest after a number that is not below zero.
+/// The rest after a number of at least zero.
 pub(crate) fn unsigned_number(text: &[u8]) -> Option<&[u8]>
     ensures { IfSome result (λ rest. ReadsFirst is_not_below_zero number_tree text.now rest.now) }
 {
@@ -174,7 +174,7 @@ pub(crate) fn positive_number_behind_comma(text: &[u8]) -> Option<&[u8]>
     Some(rest)
 }
 
-/// The rest after a comma and a number that is not below zero.
+/// The rest after a comma and a number of at least zero.
 pub(crate) fn unsigned_number_behind_comma(text: &[u8]) -> Option<&[u8]>
     ensures { IfSome result (λ rest. ReadsOne is_not_below_zero number_tree text.now rest.now) }
 {

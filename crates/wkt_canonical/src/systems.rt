@@ -48,7 +48,7 @@ impl Node for Meridian {
     }
 }
 
-/// The rest after a meridian, if it comes, and the axis points to the north or the south.
+/// The rest after an optional meridian. Only an axis to the north or the south may have one.
 fn meridian(direction: Direction, bytes: &[u8]) -> Option<&[u8]>
     ensures { IfSome result (λ rest. ReadsMeridian direction bytes.now rest.now) }
 {
@@ -61,7 +61,7 @@ fn meridian(direction: Direction, bytes: &[u8]) -> Option<&[u8]>
     Some(rest)
 }
 
-/// Whether the axis has its order, and the rest after that.
+/// Whether the axis has an order, which must be its own, and the rest after it.
 fn order(k: usize, bytes: &[u8]) -> Option<(bool, &[u8])>
     requires { k < 3 }
     ensures { IfSome result (λ found. ReadsOrder k found.0 bytes.now found.1.now) }
@@ -77,7 +77,7 @@ fn order(k: usize, bytes: &[u8]) -> Option<(bool, &[u8])>
     Some((true, rest))
 }
 
-/// Whether the axis has a unit, which fits it, and the rest after that.
+/// Whether the axis has a unit, which must fit it, and the rest after it.
 fn axis_unit(kind: SystemKind, k: usize, bytes: &[u8]) -> Option<(bool, &[u8])>
     ensures { IfSome result (λ found. ReadsAxisUnit kind k found.0 bytes.now found.1.now) }
 {
@@ -90,7 +90,7 @@ fn axis_unit(kind: SystemKind, k: usize, bytes: &[u8]) -> Option<(bool, &[u8])>
     Some((true, rest))
 }
 
-/// The rest after the common unit of the axes, if there is one. If the axes have no units, it is required and fits
+/// The rest after the common unit of the axes, if there is one. If the axes have no units, it is required and must fit
 /// each of them.
 fn common_unit(kind: SystemKind, dimension: u32, has_unit: bool, bytes: &[u8]) -> Option<&[u8]>
     ensures { IfSome result (λ rest. ReadsCommonUnit kind dimension has_unit bytes.now rest.now) }
@@ -126,7 +126,7 @@ fn fits_each(kind: SystemKind, dimension: u32, unit_kind: UnitKind) -> bool
     true
 }
 
-/// Whether the axis at this place has its order, whether it has a unit, and the rest after the axis.
+/// Whether the axis with index `k` has an order, whether it has a unit, and the rest after the axis.
 fn axis(system: SystemKind, k: usize, bytes: &[u8]) -> Option<(bool, bool, &[u8])>
     requires { k < 3 }
     ensures { IfSome result (λ found. ReadsAxis system k found.0 found.1 bytes.now found.2.now) }
@@ -143,7 +143,7 @@ fn axis(system: SystemKind, k: usize, bytes: &[u8]) -> Option<(bool, bool, &[u8]
     Some((has_order, has_unit, rest))
 }
 
-/// The rest after an axis that has its order and a unit, or has none, as an axis before it.
+/// The rest after an axis that has an order and a unit exactly if the axes before it have them.
 fn further_axis(
     system: SystemKind,
     k: usize,

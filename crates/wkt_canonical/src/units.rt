@@ -25,7 +25,7 @@ fn definition(bytes: &[u8]) -> Option<&[u8]>
     Some(rest)
 }
 
-/// The kind of a unit that comes, and the rest after it.
+/// The kind of the unit that comes next, and the rest after it.
 pub(crate) fn unit(bytes: &[u8]) -> Option<(UnitKind, &[u8])>
     ensures { IfSome result (λ found. ReadsUnit found.0 bytes.now found.1.now) }
 {
@@ -46,7 +46,7 @@ pub(crate) fn unit(bytes: &[u8]) -> Option<(UnitKind, &[u8])>
     Some((UnitKind::Generic, rest))
 }
 
-/// The rest after a unit, if it comes.
+/// The rest after an optional unit.
 pub(crate) fn maybe_unit(bytes: &[u8]) -> &[u8]
     ensures { ReadsMaybe unit_passes unit_tree bytes.now result.now }
 {
@@ -68,7 +68,7 @@ fn length_unit(bytes: &[u8]) -> Option<&[u8]>
     Some(rest)
 }
 
-/// The rest after a unit of length, if it comes.
+/// The rest after an optional unit of length.
 pub(crate) fn maybe_length_unit(bytes: &[u8]) -> &[u8]
     ensures { ReadsMaybe length_unit_passes length_unit_tree bytes.now result.now }
 {
@@ -91,7 +91,7 @@ pub(crate) fn angle_unit(bytes: &[u8]) -> Option<&[u8]>
     Some(rest)
 }
 
-/// The rest after a unit of angle, if it comes.
+/// The rest after an optional unit of angle.
 pub(crate) fn maybe_angle_unit(bytes: &[u8]) -> &[u8]
     ensures { ReadsMaybe angle_unit_passes angle_unit_tree bytes.now result.now }
 {

@@ -17,7 +17,7 @@ pub(crate) fn value(bytes: &[u8]) -> Option<&[u8]>
     Some(rest)
 }
 
-/// The rest after such a node of this keyword, if it comes.
+/// The rest after such a node with this keyword, if it comes next.
 #[inline(always)]
 pub(crate) fn maybe_value(keyword: Keyword, bytes: &[u8]) -> Option<&[u8]>
     ensures { IfSome result (λ rest. ReadsMaybe any (value_tree keyword) bytes.now rest.now) }

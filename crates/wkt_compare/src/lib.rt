@@ -1,4 +1,4 @@
-//! Compares two texts line by line, and writes what differs as a unified diff.
+//! Compares two texts line by line, and writes the differences as a unified diff.
 #![tactic(auto)]
 
 mod hunk;

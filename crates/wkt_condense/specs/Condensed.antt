@@ -8,13 +8,13 @@ use Rattle.wkt_condense.specs.Alike.{SameNumber}
 abbrev pub is_delimiter : ℕ → Bool
 is_delimiter b = b == 44 || b == 91 || b == 93
 
--- what precedes a place of a text: a delimiter or the start, blanks aside; an open quoted text; or anything else
+-- the context of a place in a text: after a delimiter or the start, blanks aside; inside a quoted text; or anything else
 pub data Before : Type 0 where
   delimiter : Before
   quotation : Before
   other : Before
 
--- what precedes the next place
+-- the context of the next place
 abbrev pub next : Before → ℕ → Before
 next quotation b = if is_mark b then other else quotation
 next delimiter b = if is_mark b then quotation else (if is_delimiter b then delimiter else (if is_blank b then delimiter else other))

@@ -7,7 +7,7 @@ use Rattle.crs_part.specs.declared.crs.CrsParts.{CrsParts}
 use Rattle.wkt_grammar.specs.Denotes.{DenotesParts}
 use Rattle.wkt_condense.specs.Alike.{Alike}
 
--- the text is written with the tokens of a tree that is the same but for places and the spelling of numerals
+-- the text is written with the tokens of a tree that is the same except for places and the spelling of numerals
 pub record IsTreeAlike (text : List ℕ) (i : Item) : Type 0 where
   pub item : Item
   pub outline : IsOutline text (tokens item)

@@ -17,7 +17,7 @@ is_plain b = not (is_blank b) && not (is_mark b)
 abbrev pub is_inner : ℕ → Bool
 is_inner b = is_plain b && not (is_delimiter b)
 
--- what precedes, outside quoted texts
+-- the context outside quoted texts
 abbrev pub before : Bool → Before
 before shut = if shut then delimiter else other
 

@@ -1,4 +1,4 @@
-//! What a byte is to a condensed text, and runs of bytes.
+//! The classes of bytes in a condensed text, and runs of bytes.
 
 ghost use Rattle.std.specs.Prelude.{◌≡◌, ◌≤◌, true, length, take, drop};
 ghost use Rattle.std.specs.List.{prefix_len, AllPass};
@@ -68,7 +68,7 @@ fn delimiter_len(bytes: &[u8]) -> usize
     bytes.iter().take_while(|b| is_delimiter(**b)).count()
 }
 
-/// How many bytes there are of a word or a numeral, and of the delimiters after it.
+/// The number of bytes in the word or numeral at the front and in the delimiters after it.
 #[inline(always)]
 pub(crate) fn plain_len(bytes: &[u8]) -> usize
     ensures plain { AllPass is_plain (take result bytes.now) }
@@ -87,7 +87,7 @@ pub(crate) fn blank_len(bytes: &[u8]) -> usize
     bytes.iter().take_while(|b| is_blank(**b)).count()
 }
 
-/// Whether a delimiter or the end comes after blanks.
+/// Whether a delimiter or the end follows, after any blanks.
 #[inline(always)]
 pub(crate) fn shuts_after_blanks(bytes: &[u8]) -> bool
     ensures { result ≡ true → Shuts bytes.now }
@@ -96,7 +96,7 @@ pub(crate) fn shuts_after_blanks(bytes: &[u8]) -> bool
     shuts(others)
 }
 
-/// Whether a delimiter or the end comes.
+/// Whether a delimiter or the end follows.
 #[inline(always)]
 pub(crate) fn shuts(bytes: &[u8]) -> bool
     ensures { result ≡ true → Shuts bytes.now }

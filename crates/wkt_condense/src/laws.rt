@@ -1,4 +1,4 @@
-//! What holds of all condensed texts, and of trees that differ in the spelling of numbers.
+//! The laws of condensed texts, and of trees that differ only in the spelling of numbers.
 
 ghost use Rattle.std.specs.Prelude.{List, ℕ, ◌≤◌, length};
 ghost use Rattle.crs_part.specs.declared.crs.CrsParts.{CrsParts};
@@ -8,17 +8,17 @@ ghost use Rattle.wkt_condense.specs.Alike.{Alike};
 ghost use Rattle.wkt_condense.specs.Condensed.{IsCondensed};
 ghost use Rattle.wkt_condense.specs.Law.{IsWrittenAs, IsReadAs};
 
-/// Trees that differ in the spelling of numbers alone denote the same.
+/// Trees that differ only in the spelling of numbers denote the same value.
 pub fn same_value()
     ensures { (x y : Bare) (v : CrsParts) → Alike x y → DenotesParts x v → DenotesParts y v }
 {}
 
-/// A text has the tokens of the condensed one, but for their places and the spelling of numbers.
+/// A text has the tokens of the condensed one, except for their places and the spelling of numbers.
 pub fn same_tree()
     ensures { (text condensed : List ℕ) → length text ≤ 1048576 → IsCondensed text condensed → IsWrittenAs text condensed }
 {}
 
-/// What the condensed text spells, the text spells.
+/// Each value that the condensed text spells is a value that the text spells.
 pub fn same_reading()
     ensures { (text condensed : List ℕ) → length text ≤ 1048576 → IsCondensed text condensed → IsReadAs text condensed }
 {}

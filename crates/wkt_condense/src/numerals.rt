@@ -1,4 +1,4 @@
-//! Numerals that are spelled anew.
+//! Numerals that are rewritten in their canonical spelling.
 
 ghost use Rattle.std.specs.Prelude.{◌≡◌, ◌≤◌, true, length, IfSome};
 ghost use Rattle.wkt_condense.specs.Pieces.{IsNumeralFront, IsSpelledAnew};
@@ -19,7 +19,7 @@ fn decimal_len(bytes: &[u8]) -> usize
     bytes.iter().take_while(|b| is_decimal_byte(**b)).count()
 }
 
-/// How many bytes there are of `E` or `e`, and of what follows it.
+/// The number of bytes in an exponent: `E` or `e`, and the digits after it.
 #[inline(always)]
 fn exponent_len(bytes: &[u8]) -> usize
     ensures { result ≤ length bytes.now }
@@ -34,7 +34,7 @@ fn exponent_len(bytes: &[u8]) -> usize
     }
 }
 
-/// Whether a numeral without an exponent is seen to be no canonical one. What it spells is read later.
+/// Whether a numeral without an exponent is visibly not canonical. Its value is read later.
 #[inline(always)]
 fn is_odd(numeral: &[u8]) -> bool {
     let Some((first, others)) = numeral.split_first() else {
@@ -52,7 +52,7 @@ fn is_odd(numeral: &[u8]) -> bool {
     *last == b'0' && others.contains(&b'.')
 }
 
-/// How many bytes of a numeral that is not canonical come, after a delimiter and before one.
+/// The number of bytes of the numeral at the front, if it is not canonical and stands between delimiters.
 #[inline(always)]
 pub(crate) fn odd_len(shut: bool, bytes: &[u8]) -> Option<usize>
     ensures { IfSome result (λ len. IsNumeralFront shut bytes.now len) }
@@ -70,7 +70,7 @@ pub(crate) fn odd_len(shut: bool, bytes: &[u8]) -> Option<usize>
     None
 }
 
-/// Appends the canonical text of what a numeral spells, or answers false.
+/// Appends the canonical text of the number that a numeral spells, or returns false.
 pub(crate) fn respell(condensed: &mut Vec<u8>, numeral: &[u8]) -> bool
     ensures { result ≡ true → IsSpelledAnew condensed.old.items numeral.now condensed.new.items }
 {

@@ -7,7 +7,7 @@ ghost use Rattle.wkt_condense.specs.Pieces.{is_plain, IsPiece};
 use crate::bytes::{blank_len, is_delimiter, plain_len, shuts};
 use wkt_tree::first_mark;
 
-/// Some bytes at a front: how many, whether they are kept, and whether the last of them but for blanks is a delimiter.
+/// A run of bytes at the front: its length, whether it is kept, and whether its last non-blank byte is a delimiter.
 #[derive(Clone, Copy)]
 pub(crate) struct Piece {
     pub len: usize,
@@ -15,7 +15,7 @@ pub(crate) struct Piece {
     pub shut: bool,
 }
 
-/// What the text goes on with, or none where it may be neither kept nor left out.
+/// The next piece of the text, or none if it can be neither kept nor left out.
 #[inline(always)]
 pub(crate) fn next_piece(shut: bool, bytes: &[u8]) -> Option<Piece>
     requires { 0 < length bytes.now }
@@ -63,7 +63,7 @@ fn quoted_piece(shut: bool, bytes: &[u8]) -> Option<Piece>
     })
 }
 
-/// Blanks, where they may be left out.
+/// Blanks that may be left out.
 #[inline(always)]
 fn blank_piece(shut: bool, bytes: &[u8]) -> Option<Piece>
     ensures { IfSome result (λ piece. IsPiece shut bytes.now piece) }

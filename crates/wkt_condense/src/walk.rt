@@ -8,27 +8,25 @@ ghost use Rattle.wkt_condense.specs.Law.{IsReadAs};
 use crate::numerals::{odd_len, respell};
 use crate::pieces::next_piece;
 use std::alloc::Global;
+use wkt_tree::MAX_TEXT;
 
-/// The most bytes of a text.
-const MOST: usize = 1_048_576;
-
-/// By how many bytes the condensed text may be longer than the text.
+/// The number of bytes by which the condensed text may be longer than the text.
 const SPARE: usize = 64;
 
-/// The text without blanks beside delimiters, commas and its ends, and with each number in its canonical spelling; or none,
-/// where blanks stand elsewhere, where numbers make it much longer, or where memory runs out. Each value that it spells, the
-/// text spells.
+/// The text without blanks beside delimiters, commas and its ends, and with each number in its canonical spelling; none if
+/// there are other blanks, if numbers make it much longer, or if memory runs out. Each value that it spells is also spelled
+/// by the text.
 pub fn condense(alloc: Global, text: &[u8]) -> Option<Vec<u8>>
     ensures is { IfSome result (λ condensed. IsCondensed text.now condensed.items) }
     ensures reads { IfSome result (λ condensed. IsReadAs text.now condensed.items) }
 {
-    if text.len() > MOST {
+    if text.len() > MAX_TEXT {
         return None;
     }
     go_over(alloc, text)
 }
 
-/// What is kept is copied once something else comes: the bytes from `from` up to `at` are still to be copied.
+/// Kept bytes are copied in runs: the bytes from `from` up to `at` are still to be copied.
 fn go_over(alloc: Global, text: &[u8]) -> Option<Vec<u8>>
     ensures { IfSome result (λ condensed. IsCondensed text.now condensed.items) }
 {
@@ -67,13 +65,13 @@ fn go_over(alloc: Global, text: &[u8]) -> Option<Vec<u8>>
     }
 }
 
-/// The most bytes of the condensed text, but for its last number. A text of many `1e40` would take ten times its bytes.
+/// The most bytes of the condensed text, without its last number. A text with many `1e40` would take ten times its bytes.
 #[inline(always)]
 fn room(text: &[u8]) -> usize {
     text.len().saturating_add(SPARE)
 }
 
-/// Appends the bytes from one place up to another, or answers false where there is no room for them.
+/// Appends the bytes from one place up to another, or returns false if there is no room for them.
 #[inline(always)]
 fn copy(condensed: &mut Vec<u8>, text: &[u8], from: usize, at: usize) -> bool
     requires order { from ≤ at }

@@ -1,4 +1,4 @@
--- What a definition is, and why a reference system or a text is none.
+-- Definitions, and why a reference system or a text is none.
 use Rattle.std.specs.Prelude.{◌≡◌, ℕ, ◌≤◌, ◌<◌, List, [], ◌∷◌, length, Option, Some, None, codes}
 use Rattle.crs_part.specs.declared.identifiers.Ident.{Ident}
 use Rattle.crs_part.specs.declared.text.Text.{Text}
@@ -86,11 +86,11 @@ abbrev pub refused_or_memory : Option Unspelled → DefinitionFault
 refused_or_memory (Some f) = fault.Read f
 refused_or_memory None = fault.Memory
 
--- the fault of a definition that was to be read
+-- the fault of reading a definition
 abbrev pub of_read : ReadFault → DefinitionFault
 of_read f = refused_or_memory (unspelled f)
 
--- what a fault is called
+-- the name of a fault
 abbrev pub fault_name : DefinitionFault → List ℕ
 fault_name (fault.Read f) = name_of f
 fault_name fault.NoIdentifier = codes "NoIdentifier"

@@ -63,7 +63,7 @@ pub record FirstBroken (text : List ℕ) (condition : Condition) (at : ℕ) : Ty
   pub broken : first_broken value ≡ Some (record { whose = whose; condition = condition })
   pub place : at ≡ keyword_place item whose
 
--- `Memory` says nothing of the text
+-- `Memory` says nothing about the text
 abbrev pub FirstFault : List ℕ → ReadFault → Type 0
 FirstFault bytes (fault.Text f) = tree.FirstFault bytes f
 FirstFault bytes (fault.Slot f) = FirstSlot bytes f

@@ -1,4 +1,4 @@
--- Going over items, and the places of keywords.
+-- Skipping items, and the places of keywords.
 use Rattle.std.specs.Prelude.{◌≡◌, ℕ, Bool, true, false, List, [], ◌∷◌, ◌++◌}
 use Rattle.crs_value.specs.declared.broken.Whose.{Whose}
 use Rattle.crs_value.specs.declared.broken.Whose.TheVariants.{First, Second, Whole}

@@ -21,7 +21,7 @@ unspelled (read.Slot f) = Some (refused.Slot f)
 unspelled (read.Broken condition at) = Some (refused.Broken condition at)
 unspelled read.Memory = None
 
--- what a fault is called
+-- the name of a fault
 abbrev pub name_of : Unspelled → List ℕ
 name_of (refused.Text f) = tree.name_of f
 name_of (refused.Slot f) = fault_name f

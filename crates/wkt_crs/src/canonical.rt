@@ -1,4 +1,4 @@
-//! The canonical text of what a text spells.
+//! The canonical text of the value that a text spells.
 
 ghost use Rattle.std.specs.Prelude.{◌≡◌, ◌≤◌, true, length, IfOk, IfErr, IfSome};
 ghost use Rattle.crs_value.specs.declared.crs.Crs.{Crs};
@@ -15,17 +15,15 @@ use crate::writing::write_crs;
 use std::alloc::Global;
 use wkt_canonical::is_canonical;
 use wkt_condense::condense;
+use wkt_tree::MAX_TEXT;
 
-/// The most bytes of a text.
-const MOST: usize = 1_048_576;
-
-/// The canonical text of what the text spells, or the first fault of the text. Most canonical texts are seen to be so, most
-/// others once they are condensed, and no value is made of them.
+/// The canonical text of the value that the text spells, or the first fault of the text. No value is built if the text, or
+/// its condensed form, is recognized as canonical, as most are.
 pub fn canonical_text(alloc: Global, text: &[u8]) -> Result<Vec<u8>, ReadFault>
     ensures found { IfOk result (λ canonical. SpellsCanon text.now canonical.items) }
     ensures only { (v : Crs) → Spells text.now v → IfErr result (λ f. f ≡ fault.Memory) }
     ensures fault { IfErr result (FirstFault text.now) }
-    // These are reported without allocating.
+    // These faults are reported without allocating.
     ensures text { (f : TextFault) → tree.FirstFault text.now f → IfErr result (λ g. g ≡ fault.Text f) }
     ensures slot { (f : SlotFault) → FirstSlot text.now f → IfErr result (λ g. g ≡ fault.Slot f) }
 {
@@ -38,7 +36,7 @@ pub fn canonical_text(alloc: Global, text: &[u8]) -> Result<Vec<u8>, ReadFault>
     rewritten(alloc, text)
 }
 
-/// The same, for a text that is not seen to be canonical. Where it is not seen of the condensed text either, the value is
+/// The same for a text that is not recognized as canonical. If its condensed form is not recognized either, the value is
 /// read and written.
 pub(crate) fn rewritten(alloc: Global, text: &[u8]) -> Result<Vec<u8>, ReadFault>
     ensures found { IfOk result (λ canonical. SpellsCanon text.now canonical.items) }
@@ -60,7 +58,7 @@ pub(crate) fn rewritten(alloc: Global, text: &[u8]) -> Result<Vec<u8>, ReadFault
     }
 }
 
-/// The condensed text, where that is seen to be canonical.
+/// The condensed text, if it is recognized as canonical.
 fn condensed(alloc: Global, text: &[u8]) -> Option<Vec<u8>>
     ensures { IfSome result (λ canonical. SpellsCanon text.now canonical.items) }
 {
@@ -76,7 +74,7 @@ fn condensed(alloc: Global, text: &[u8]) -> Option<Vec<u8>>
 pub(crate) fn is_seen(text: &[u8]) -> bool
     ensures { result ≡ true → SpellsCanon text.now text.now }
 {
-    if text.len() > MOST {
+    if text.len() > MAX_TEXT {
         return false;
     }
     is_canonical(text)

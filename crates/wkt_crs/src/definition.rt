@@ -1,4 +1,4 @@
-//! Definitions, which a register holds.
+//! Definitions: the texts that a register holds.
 
 ghost use Rattle.std.specs.Prelude.{◌≡◌, ◌≤◌, ◌⊎◌, true, false, length, Some, Ok, Err, IfOk, IfErr, IfSome};
 ghost use Rattle.std.specs.Str.{is_utf8};
@@ -25,13 +25,10 @@ use std::rc::Rc;
 use wkt_canonical::{Identifier, Seen, recognize};
 use wkt_condense::condense;
 
-/// The most bytes of a definition's canonical text.
-const MOST: usize = 65_536;
-
 /// Why a reference system, or a text, is not a definition.
 #[derive(Clone, Copy, Debug, PartialEq, Eq)]
 pub enum DefinitionFault {
-    /// The text spells no reference system; this is its first fault.
+    /// The text spells no reference system. This is its first fault.
     Read(Unspelled),
     /// The reference system has no identifier of its own.
     NoIdentifier,
@@ -92,7 +89,7 @@ struct Body {
     ghost defined: { IsDefinedBy key name text.items },
 }
 
-/// A reference system with an identifier, seen as its canonical text. Copies share the text, and no value is kept: a
+/// A reference system with an identifier, held as its canonical text. Copies share the text, and no value is kept, so a
 /// register takes little more memory than its texts.
 #[derive(Drop)]
 pub struct Definition {
@@ -118,13 +115,16 @@ impl Definition {
     ghost use Rattle.wkt_crs.specs.Spells.{Spells, SpellsCanon, canon};
     ghost use Rattle.wkt_crs.specs.Definition.{HasNone, IsDefinition, IsNewFault, IsCanonicalFault, IsTextFault, IsDefinedBy, IsCrsOf, IsNameIn, IsKeyIn};
 
+    /// The most bytes of a definition's canonical text.
+    pub const MAX: usize = 65_536;
+
     /// The definition of a reference system.
     pub fn new(alloc: Global, crs: Crs) -> Result<Definition, DefinitionFault>
         ensures ok { IfOk result (λ d. d ≡ canon crs) }
         ensures is { IfOk result IsDefinition }
         ensures fault { IfErr result (IsNewFault crs) }
         ensures only { IsDefinition (canon crs) → (result ≡ Ok (canon crs)) ⊎ (result ≡ Err fault.Memory) }
-        // This is reported without allocating.
+        // This fault is reported without allocating.
         ensures none { HasNone crs → result ≡ Err fault.NoIdentifier }
     {
         if !has_identifier(&crs) {
@@ -133,7 +133,7 @@ impl Definition {
         let Ok(text) = write_crs(alloc, &crs) else {
             return Err(DefinitionFault::Memory);
         };
-        if text.len() > MOST {
+        if text.len() > Definition::MAX {
             return Err(DefinitionFault::CanonicalTooLong);
         }
         defined(alloc, &crs, text)
@@ -144,12 +144,12 @@ impl Definition {
         ensures ok { IfOk result (λ d. d ≡ bytes.now) }
         ensures fault { IfErr result (IsCanonicalFault bytes.now) }
         ensures only { IsDefinition bytes.now → (result ≡ Ok bytes.now) ⊎ (result ≡ Err fault.Memory) }
-        // These are always reported: `Memory` never replaces them.
+        // These faults are always reported: `Memory` never replaces them.
         ensures long { 65536 < length bytes.now → result ≡ Err fault.CanonicalTooLong }
         ensures text { (f : TextFault) → length bytes.now ≤ 65536 → tree.FirstFault bytes.now f → result ≡ Err (fault.Read (refused.Text f)) }
         ensures slot { (f : SlotFault) → length bytes.now ≤ 65536 → FirstSlot bytes.now f → result ≡ Err (fault.Read (refused.Slot f)) }
     {
-        if bytes.len() > MOST {
+        if bytes.len() > Definition::MAX {
             return Err(DefinitionFault::CanonicalTooLong);
         }
         let Some(seen) = recognize(bytes) else {
@@ -158,14 +158,14 @@ impl Definition {
         of_seen(alloc, bytes, seen)
     }
 
-    /// The definition of what the text spells. Most canonical texts are seen to be so, most others once they are condensed, and
-    /// no value is made of them.
+    /// The definition of the value that the text spells. No value is built if the text, or its condensed form, is recognized as
+    /// canonical, as most are.
     pub fn from_text(alloc: Global, text: &[u8]) -> Result<Definition, DefinitionFault>
         ensures ok { IfOk result (SpellsCanon text.now) }
         ensures is { IfOk result IsDefinition }
         ensures fault { IfErr result (IsTextFault text.now) }
         ensures only { (v : Crs) → Spells text.now v → IsDefinition (canon v) → (result ≡ Ok (canon v)) ⊎ (result ≡ Err fault.Memory) }
-        // These are reported without allocating.
+        // These faults are reported without allocating.
         ensures text { (f : TextFault) → tree.FirstFault text.now f → result ≡ Err (fault.Read (refused.Text f)) }
         ensures slot { (f : SlotFault) → FirstSlot text.now f → result ≡ Err (fault.Read (refused.Slot f)) }
     {
@@ -191,14 +191,14 @@ impl Definition {
         self.body.text.as_slice()
     }
 
-    /// The reference system that the text spells, read anew.
+    /// The reference system that the text spells. Each call reads the text.
     pub fn crs(&self, alloc: Global) -> Result<Crs, AllocError>
         ensures { IfOk result (λ crs. IsCrsOf crs self.now) }
     {
         match read_crs(alloc, self.as_bytes()) {
             Ok(crs) => Ok(crs),
             Err(ReadFault::Memory) => Err(AllocError),
-            // A definition spells what it defines.
+            // The text of a definition spells its reference system.
             Err(ReadFault::Text(_)) => unreachable!(),
             Err(ReadFault::Slot(_)) => unreachable!(),
             Err(ReadFault::Broken { .. }) => unreachable!(),
@@ -219,7 +219,7 @@ impl Definition {
         &self.body.key
     }
 
-    /// The same, which shares its text.
+    /// A copy that shares the text.
     pub fn try_clone(&self, alloc: Global) -> Result<Definition, AllocError>
         ensures { IfOk result (λ copy. copy ≡ self.now) }
     {
@@ -238,17 +238,17 @@ fn has_identifier(crs: &Crs) -> bool
     !crs.parts().ids().is_empty()
 }
 
-// What is seen of a text that is recognized, and no longer than a definition.
+// The findings for a text that is recognized as canonical and not too long for a definition.
 fn seen_in(text: &[u8]) -> Option<Seen<'_>>
     ensures { IfSome result (λ seen. (length text.now ≤ 65536) × IsCanonicalOf seen text.now) }
 {
-    if text.len() > MOST {
+    if text.len() > Definition::MAX {
         return None;
     }
     recognize(text)
 }
 
-// The definition with these bytes, of which this is seen, if an identifier is.
+// The definition with these bytes and findings, if there is an identifier.
 fn of_seen(alloc: Global, bytes: &[u8], seen: Seen<'_>) -> Result<Definition, DefinitionFault>
     requires { (length bytes.now ≤ 65536) × IsCanonicalOf seen bytes.now }
     ensures ok { IfOk result (λ d. d ≡ bytes.now) }
@@ -264,7 +264,7 @@ fn of_seen(alloc: Global, bytes: &[u8], seen: Seen<'_>) -> Result<Definition, De
     }
 }
 
-// The same with this identifier: no value is built.
+// The same with this identifier. No value is built.
 fn recognized(
     alloc: Global,
     bytes: &[u8],
@@ -319,7 +319,7 @@ fn read_canonical(alloc: Global, bytes: &[u8]) -> Result<Definition, DefinitionF
     defined(alloc, &crs, text)
 }
 
-// The definition of a reference system with an identifier, of which this is the canonical text.
+// The definition of a reference system with an identifier, and its canonical text.
 fn defined(alloc: Global, crs: &Crs, text: Vec<u8>) -> Result<Definition, DefinitionFault>
     requires { (text.items ≡ canon crs.now) × (length text.items ≤ 65536) × ¬ (HasNone crs.now) }
     ensures ok { IfOk result (λ d. d ≡ text.items) }

@@ -27,13 +27,14 @@ pub fn fitting_denotes()
     ensures { (depth : ℕ) (x : Bare) → WellFormed depth x → Fitting kinds.AnyCrs x → (v : CrsParts) × DenotesParts x v }
 {}
 
-/// A text without a fault of its tokens or of its slots spells a value, or some condition is the first that fails.
+/// A text without a fault of its tokens or of its slots spells a value, or one of the conditions is the first that
+/// fails.
 pub fn clean_text()
     ensures { (text : List ℕ) (toks : List Tok) → IsOutline text toks → IsClean editions.Second toks → HasVerdict text }
 {}
 
-/// Each text spells a value, or has a first fault. So the clauses of a reader always leave a result other than
-/// `Memory`.
+/// Each text spells a value, or has a first fault. So a reader whose memory does not run out always has a result other
+/// than `Memory`.
 pub fn each_text(text: &[u8])
     ensures { HasVerdict text.now }
 {

@@ -1,4 +1,4 @@
-//! Where the keyword of a system begins.
+//! The place of a system's keyword.
 
 ghost use Rattle.std.specs.Prelude.{◌≡◌, ◌≤◌, length};
 ghost use Rattle.wkt_tree.specs.Cut.{cut};
@@ -42,7 +42,7 @@ fn next_place(cursor: &Cursor<'_>) -> usize
     }
 }
 
-/// Goes over one item.
+/// Skips one item.
 #[cycle(pass)]
 fn pass_item(cursor: &mut Cursor<'_>)
     ensures shorter { length cursor.new ≤ length cursor.old }
@@ -56,7 +56,7 @@ fn pass_item(cursor: &mut Cursor<'_>)
     }
 }
 
-/// Goes over the items of a node and its closing delimiter.
+/// Skips the items of a node and its closing delimiter.
 #[cycle(pass)]
 fn pass_items(cursor: &mut Cursor<'_>)
     ensures shorter { length cursor.new ≤ length cursor.old }
@@ -70,7 +70,7 @@ fn pass_items(cursor: &mut Cursor<'_>)
     cursor.advance();
 }
 
-/// Goes into a node, over its first argument and the comma after it.
+/// Enters a node, and skips its first argument and the comma after it.
 fn pass_first(cursor: &mut Cursor<'_>)
     ensures { PassesFirst cursor.old cursor.new }
 {
@@ -80,7 +80,7 @@ fn pass_first(cursor: &mut Cursor<'_>)
     cursor.advance();
 }
 
-/// Where the keyword begins of the system that a condition is about.
+/// The place of the keyword of the system that a condition is about.
 pub(crate) fn keyword_place(outline: &Outline<'_>, whose: Whose) -> usize
     ensures { TellsPlace (cut 0 outline.now) whose result }
 {

@@ -23,7 +23,7 @@ pub fn read_crs(alloc: Global, text: &[u8]) -> Result<Crs, ReadFault>
     ensures found { IfOk result (Spells text.now) }
     ensures only { (v : Crs) → Spells text.now v → (result ≡ Ok v) ⊎ (result ≡ Err fault.Memory) }
     ensures fault { IfErr result (FirstFault text.now) }
-    // These are reported without allocating.
+    // These faults are reported without allocating.
     ensures text { (f : TextFault) → tree.FirstFault text.now f → result ≡ Err (fault.Text f) }
     ensures slot { (f : SlotFault) → FirstSlot text.now f → result ≡ Err (fault.Slot f) }
 {

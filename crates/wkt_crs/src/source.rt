@@ -10,11 +10,9 @@ use crate::reading::read_crs;
 use byte_io::{InFault, Source, read_up_to};
 use crs_value::Crs;
 use std::alloc::Global;
+use wkt_tree::MAX_TEXT;
 
-/// The number of bytes that are read at most: one more than the limit of a text.
-const MOST: usize = 1_048_577;
-
-/// Why a source gave no CRS.
+/// Why no reference system could be read from a source.
 #[derive(Clone, Copy, Debug, PartialEq, Eq)]
 pub enum ReadFromFault {
     /// The source failed, this many bytes after the start.
@@ -22,7 +20,7 @@ pub enum ReadFromFault {
     Refused(ReadFault),
 }
 
-/// Why a source gave no definition.
+/// Why no definition could be read from a source.
 #[derive(Clone, Copy, Debug, PartialEq, Eq)]
 pub enum DefineFromFault {
     /// The source failed, this many bytes after the start.
@@ -46,8 +44,8 @@ pub fn read_crs_from<S: Source>(alloc: Global, source: &mut S) -> Result<Crs, Re
     }
 }
 
-/// The canonical text of what the text of the source spells, or its first fault, as `read_crs_from` reads it. A text that
-/// is recognized as canonical is returned unchanged.
+/// The canonical text of the value that the text of the source spells, or its first fault. Like `read_crs_from`, it reads
+/// up to the limit. A text that is recognized as canonical is returned unchanged.
 pub fn canonical_text_from<S: Source>(
     alloc: Global,
     source: &mut S,
@@ -68,12 +66,13 @@ pub fn canonical_text_from<S: Source>(
     }
 }
 
-/// The definition of what the text of the source spells, or why it has none, as `read_crs_from` reads it.
+/// The definition of the value that the text of the source spells, or why there is none. Like `read_crs_from`, it reads
+/// up to the limit.
 pub fn define_from<S: Source>(alloc: Global, source: &mut S) -> Result<Definition, DefineFromFault>
     ensures found { IfOk result (FindsDefinition (S.state source.old) (S.state source.new)) }
     ensures fault { IfErr result (IsDefineFromFault (S.state source.old) (S.state source.new)) }
 {
-    let text = match read_up_to(alloc, source, MOST) {
+    let text = match read_up_to(alloc, source, MAX_TEXT + 1) {
         Ok(text) => text,
         Err(InFault::ReadFailed(n)) => return Err(DefineFromFault::ReadFailed(n)),
         Err(InFault::Memory) => return Err(DefineFromFault::Refused(DefinitionFault::Memory)),
@@ -89,7 +88,7 @@ fn text_from<S: Source>(alloc: Global, source: &mut S) -> Result<Vec<u8>, ReadFr
     ensures found { IfOk result (λ text. ReadsText (S.state source.old) (S.state source.new) text.items) }
     ensures fault { IfErr result (IsReadFromFault (S.state source.old) (S.state source.new)) }
 {
-    match read_up_to(alloc, source, MOST) {
+    match read_up_to(alloc, source, MAX_TEXT + 1) {
         Ok(text) => Ok(text),
         Err(InFault::ReadFailed(n)) => Err(ReadFromFault::ReadFailed(n)),
         Err(InFault::Memory) => Err(ReadFromFault::Refused(ReadFault::Memory)),

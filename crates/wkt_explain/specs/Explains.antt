@@ -27,7 +27,7 @@ abbrev pub path_words : List (List ℕ) → List ℕ
 path_words [] = []
 path_words (k ∷ ks) = codes "in " ++ k ++ flat_map step_words ks ++ codes ": "
 
--- the last of some words, or another one without any
+-- the last of some words, or a default if there is none
 abbrev pub last_of : List ℕ → List (List ℕ) → List ℕ
 last_of word [] = word
 last_of word (k ∷ ks) = last_of k ks
@@ -36,7 +36,7 @@ abbrev pub hint_line : Option Hint → List ℕ
 hint_line None = []
 hint_line (Some h) = codes "hint: " ++ hint_text h ++ 10 ∷ []
 
--- where it is, in which nodes, and what is wrong; the lines that are shown; the hint
+-- the place, the nodes around it, and what is wrong; the lines that are shown; the hint
 abbrev pub said : List ℕ → ℕ → ℕ → List (List ℕ) → List ℕ → List ℕ → DefinitionFault → List ℕ
 said name line column path lines text f =
     place_words name line column ++ path_words path ++ sentence f ++ 10 ∷ [] ++ lines ++ hint_line (hint_of text (last_of [] path) f)

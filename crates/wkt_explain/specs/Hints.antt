@@ -1,4 +1,4 @@
--- Hints for what users really have.
+-- Hints for common mistakes.
 use Rattle.std.specs.Prelude.{ℕ, ◌||◌, ◌&&◌, Bool, not, List, [], ◌∷◌, take, drop, codes, nat_eq, Option, Some, None, if◌then◌else◌}
 use Rattle.std.specs.List.{prefix_len, starts_with}
 use Rattle.crs_part.specs.Words.{same_word}
@@ -14,7 +14,7 @@ use Rattle.wkt_crs.specs.declared.definition.DefinitionFault.TheVariants as faul
 use Rattle.wkt_explain.specs.declared.hints.Hint.{Hint}
 use Rattle.wkt_explain.specs.declared.hints.Hint.TheVariants as hints
 
--- what a hint says
+-- the sentence of a hint
 abbrev pub hint_text : Hint → List ℕ
 hint_text hints.ByteOrderMark = codes "the text begins with a byte order mark: save it without one"
 hint_text hints.Utf16 = codes "this is UTF-16: save the text as UTF-8"
@@ -75,7 +75,7 @@ front_hint text =
 abbrev pub encoding_hint : List ℕ → Hint
 encoding_hint text = if begins (255 ∷ 254 ∷ []) text || begins (254 ∷ 255 ∷ []) text then hints.Utf16 else hints.Latin
 
--- of what follows a text that is complete
+-- for the bytes after a complete text
 abbrev pub after_hint : List ℕ → Option Hint
 after_hint [] = None
 after_hint (b ∷ bs) = Some hints.TwoTexts

@@ -1,4 +1,4 @@
--- A source that keeps what it gave.
+-- A source that keeps the bytes that it gives.
 use Rattle.std.specs.Prelude.{[]}
 use Rattle.byte_io.specs.Device.{SourceState}
 

@@ -1,11 +1,11 @@
--- Which nodes some tokens open and don't close.
+-- The nodes that some tokens open and do not close.
 use Rattle.std.specs.Prelude.{ℕ, ◌-◌, List, [], ◌∷◌, ◌++◌, length, take}
 use Rattle.wkt_tree.specs.declared.token.TokenKind.{TokenKind}
 use Rattle.wkt_tree.specs.declared.token.TokenKind.TheVariants.{Word, Quoted, Number, Comma, Open, Close}
 use Rattle.wkt_tree.specs.Tree.{Tok}
 
--- the keywords of the nodes that are open behind a token, of those before it and of the bytes of the token before it: a
--- delimiter opens the node of that, or closes the innermost
+-- the keywords of the nodes that are open after a token, from those open before it and the bytes of the previous token: an
+-- opening delimiter opens the node named by the previous token, and a closing one closes the innermost node
 abbrev pub behind : TokenKind → List (List ℕ) → List ℕ → List (List ℕ)
 behind Word path word = path
 behind Quoted path word = path

@@ -1,5 +1,5 @@
--- Which nodes are open at a place: outside quotation marks, an opening delimiter opens the node of the word before it, and a
--- closing one closes the innermost.
+-- The nodes that are open at a place: outside quotation marks, an opening delimiter opens the node of the word before it, and
+-- a closing one closes the innermost.
 use Rattle.std.specs.Prelude.{ℕ, ◌-◌, ◌==◌, ◌||◌, Bool, true, false, not, List, [], ◌∷◌, ◌++◌, map, filter, length, take, if◌then◌else◌}
 use Rattle.wkt_tree.specs.Bytes.{is_blank, is_word_byte}
 use Rattle.wkt_explain.specs.declared.path.Piece.{Piece}
@@ -15,7 +15,7 @@ piece_of b =
     else (if b == 93 || b == 41 then Closes
     else Other))))
 
--- the state at some place: whether it is in quotation marks, the word before it, whether that is complete, and the words
+-- the state at a place: whether it is in quotation marks, the word before it, whether that word is complete, and the words
 -- before the open delimiters, the outermost first
 pub record Read : Type 0 where
   pub quoted : Bool

@@ -1,4 +1,4 @@
--- What is wrong, in a sentence for each fault.
+-- A sentence for each fault.
 use Rattle.std.specs.Prelude.{ℕ, List, codes}
 use Rattle.crs_value.specs.declared.broken.Condition.{Condition}
 use Rattle.crs_value.specs.declared.broken.Condition.TheVariants as condition

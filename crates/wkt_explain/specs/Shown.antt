@@ -1,4 +1,4 @@
--- How a line is shown, with a caret under a place of it.
+-- A line as it is shown, with a caret under one of its places.
 use Rattle.std.specs.Prelude.{ℕ, zero, suc, ◌+◌, ◌-◌, ◌*◌, ◌%◌, ◌==◌, ◌||◌, ◌&&◌, Bool, List, [], ◌∷◌, ◌++◌, length, take, drop, min, max, nat_le, nat_lt, if◌then◌else◌}
 use Rattle.std.specs.List.{flat_map}
 
@@ -33,8 +33,8 @@ abbrev pub blanks : ℕ → List ℕ
 blanks zero = []
 blanks (suc n) = 32 ∷ blanks n
 
--- how many of the characters before a place are shown, given the numbers before it and from it on: at most 80 in total,
--- including the place, and at least 40 from it on, if there are so many
+-- the number of characters shown before a place, given the numbers before it and from it on: at most 80 in total,
+-- including the place, and at least 40 from it on, if the line is that long
 abbrev pub shown_before : ℕ → ℕ → ℕ
 shown_before before after = min before (80 - max (min after 40) 1)
 

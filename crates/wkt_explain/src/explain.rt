@@ -17,7 +17,7 @@ use std::alloc::{AllocError, Global};
 use std::marker::Model;
 use wkt_crs::DefinitionFault;
 
-// The place of the fault in the text: the front, if it has none.
+// The place of the fault in the text; 0 if it has none.
 fn told_at(text: &[u8], fault: DefinitionFault) -> usize
     ensures { result ≡ told_at text.now fault }
 {
@@ -74,7 +74,7 @@ fn push_path(out: &mut Vec<u8>, path: &[Vec<u8>]) -> Result<(), AllocError>
     Ok(())
 }
 
-// The last of some words, or none.
+// The last of some words, or the empty word.
 fn last_of(words: &[Vec<u8>]) -> &[u8]
     ensures { result.now ≡ last_of [] (map (λ w. w.items) words.now) }
 {
@@ -87,7 +87,7 @@ fn last_of(words: &[Vec<u8>]) -> &[u8]
     last
 }
 
-// What is wrong, and in which nodes.
+// Appends the nodes around the fault, and the sentence for it.
 fn push_fault(out: &mut Vec<u8>, path: &[Vec<u8>], fault: DefinitionFault) -> Result<(), AllocError>
     ensures { OnOk result (out.new.items ≡ out.old.items ++ path_words (map (λ w. w.items) path.now) ++ sentence fault ++ 10 ∷ []) }
 {
@@ -109,7 +109,7 @@ fn push_hint(out: &mut Vec<u8>, hint: Option<Hint>) -> Result<(), AllocError>
     Ok(())
 }
 
-// What is said of a fault of this text, at a place of its file, in these nodes.
+// The explanation of a fault of this text, at a place of its file, in these nodes.
 fn said(
     alloc: Global,
     name: &str,
@@ -129,8 +129,8 @@ fn said(
     Ok(note)
 }
 
-/// Explains why texts of a file are refused. It goes on from one place of the file to the next, so that texts in their
-/// order cost one walk through the file, and a text that begins before the last one another.
+/// Explains why texts of a file are refused. It continues from the place of the last text, so explaining texts in their
+/// order takes one pass through the file. A text that begins before the last one takes another pass.
 #[derive(Drop)]
 pub struct Explainer<'f> {
     walk: Walk<'f>,
@@ -143,7 +143,7 @@ impl<'f> Model for Explainer<'f> {
 }
 
 impl<'f> Explainer<'f> {
-    /// One for a file of these bytes.
+    /// An explainer for a file with these bytes.
     pub fn new(file: &'f [u8]) -> Explainer<'f>
         ensures { result ≡ file.now }
     {
@@ -152,16 +152,15 @@ impl<'f> Explainer<'f> {
         }
     }
 
-    // Where a place of a text is that starts at another: at the end of the file at most.
+    // The place in the file of a place in a text that begins at `start`; at most the end of the file.
     fn place(&self, start: usize, at: usize) -> usize
         ensures { result ≡ min (start + at) (length self.now) }
     {
         start.saturating_add(at).min(self.walk.file.len())
     }
 
-    /// The explanation of the fault of a text that stands from one place up to another in the file, whose name is this:
-    /// where it is, the keywords of the nodes that it stands in, what is wrong; the line, with a caret; and a hint, where
-    /// there is one.
+    /// The explanation of the fault of the text from `start` up to `end` in the file with this name: its place, the
+    /// keywords of the nodes around it, and what is wrong; then the line, with a caret; then a hint, if there is one.
     pub fn explain(
         &mut self,
         alloc: Global,
@@ -183,7 +182,7 @@ impl<'f> Explainer<'f> {
     }
 }
 
-/// The explanation of the fault of a text that stands from one place up to another in the file of this name.
+/// The explanation of the fault of the text from `start` up to `end` in the file with this name.
 pub fn explain_within(
     alloc: Global,
     name: &str,
@@ -197,7 +196,7 @@ pub fn explain_within(
     Explainer::new(file).explain(alloc, name, start, end, fault)
 }
 
-/// The same for a text that is the whole file.
+/// The same for a text that fills the file.
 pub fn explain_text(
     alloc: Global,
     name: &str,

@@ -10,7 +10,7 @@ use crs_part::same_word;
 use wkt_crs::{DefinitionFault, SlotFault, TextFault, Unspelled};
 use wkt_grammar::Keyword;
 
-/// What a refused text may be, or how to correct it.
+/// A hint: what a refused text probably is, or how to correct it.
 #[derive(Clone, Copy, Debug, PartialEq, Eq)]
 pub enum Hint {
     ByteOrderMark,
@@ -109,7 +109,7 @@ fn is_base(word: &[u8]) -> bool
         || same_word(Keyword::BaseGeodeticCrs.spelling(), word)
 }
 
-// For a word that this node does not take.
+// The hint for a word that this node does not take.
 fn word_hint(word: &[u8], node: &[u8]) -> Option<Hint>
     ensures { result ≡ word_hint word.now node.now }
 {
@@ -128,7 +128,7 @@ fn word_hint(word: &[u8], node: &[u8]) -> Option<Hint>
     None
 }
 
-// For the front of a text without tokens.
+// The hint for the front of a text without tokens.
 fn front_hint(text: &[u8]) -> Option<Hint>
     ensures { result ≡ front_hint text.now }
 {
@@ -148,7 +148,7 @@ fn front_hint(text: &[u8]) -> Option<Hint>
     None
 }
 
-// For bytes that are not UTF-8.
+// The hint for bytes that are not UTF-8.
 fn encoding_hint(text: &[u8]) -> Hint
     ensures { result ≡ encoding_hint text.now }
 {
@@ -168,7 +168,7 @@ fn text_hint(text: &[u8], fault: TextFault) -> Option<Hint>
     }
 }
 
-// For what follows a complete text.
+// The hint for the bytes after a complete text.
 fn after_hint(word: &[u8]) -> Option<Hint>
     ensures { result ≡ after_hint word.now }
 {

@@ -1,11 +1,11 @@
-//! A source that records what it gave.
+//! A source that records the bytes that it gives.
 
 ghost use Rattle.std.specs.Prelude.{◌≡◌, true};
 
 use byte_io::{DeviceFault, Log, Source};
 use std::alloc::Global;
 
-/// A source, with the bytes that it gave, as long as there is memory for them.
+/// A source, with a record of the bytes that it gave as long as there is memory for it.
 #[derive(Drop)]
 pub struct Kept<S> {
     source: S,
@@ -32,7 +32,7 @@ impl<S: Source> Kept<S> {
         }
     }
 
-    /// Everything that it gave, if there was memory for it.
+    /// All bytes that it gave, if there was memory for them.
     pub fn bytes(&self) -> Option<&[u8]>
         ensures whole { IsTrue self.now.is_whole → IsSome result }
         ensures given { IfSome result (λ bytes. bytes.now ≡ (⟦<Kept<S> as Source>⟧.state self.now).given) }

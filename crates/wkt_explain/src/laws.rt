@@ -7,13 +7,13 @@ ghost use Rattle.wkt_explain.specs.Path.{path_at};
 ghost use Rattle.wkt_explain.specs.Shown.{shown_before};
 ghost use Rattle.wkt_explain.specs.Opened.{opened_by_all};
 
-/// After tokens that begin a tree, the path has the keywords of the nodes that they open and do not close.
+/// After tokens that begin a tree, the path is the list of keywords of the nodes that the tokens open and do not close.
 pub fn path_of_tokens()
     ensures { (text : List ℕ) (ts : List Tok) (n : ℕ) → Cut 0 text ts → Begins n ts → path_at text ≡ opened_by_all ts }
 {}
 
-/// The place is among the 80 characters that are shown, and so are 40 from it on, if there are so many. A line that fits
-/// is shown completely.
+/// The place is among the 80 characters that are shown, and so are the 40 characters from it on, if the line is that
+/// long. A line that fits is shown completely.
 pub fn place_is_shown()
     ensures room { (before after : ℕ) → shown_before before after < 80 }
     ensures ahead { (before after : ℕ) → min after 40 ≤ 80 - shown_before before after }

@@ -1,4 +1,4 @@
-//! Which nodes are open at a place.
+//! The nodes that are open at a place.
 
 ghost use Rattle.std.specs.Prelude.{◌≡◌, true, [], map, IfOk, OnOk};
 ghost use Rattle.wkt_tree.specs.Bytes.{is_blank, is_word_byte};
@@ -49,7 +49,7 @@ fn piece_of(b: u8) -> Piece
     }
 }
 
-/// The state at some place: whether it is in quotation marks, the word before it, whether that is complete, and the
+/// The state at a place: whether it is in quotation marks, the word before it, whether that word is complete, and the
 /// words before the open delimiters, the outermost first.
 #[derive(Drop)]
 pub(crate) struct Trail {

@@ -1,4 +1,4 @@
-//! The line of a place, as it is shown.
+//! Shows the line of a place.
 
 ghost use Rattle.std.specs.Prelude.{◌≡◌, ◌<◌, ◌%◌, ◌++◌, take, OnOk};
 ghost use Rattle.wkt_explain.specs.Characters.{chars};
@@ -10,7 +10,8 @@ use std::alloc::AllocError;
 /// The most characters of a line that are shown.
 const WIDTH: usize = 80;
 
-/// This many characters from the place on are shown, if there are so many, before more of those before it.
+/// The number of characters from the place on that are shown, if the line is that long. The rest of the width shows the
+/// characters before the place.
 const AHEAD: usize = 40;
 
 fn shown_byte(b: u8) -> u8
@@ -36,7 +37,7 @@ fn code_of(char: &[u8]) -> usize
     }
 }
 
-// What a byte of a character has of its code: what is below this.
+// The bits of a character's code in one of its bytes.
 fn bits(b: u8, below: usize) -> usize
     requires { 0 < below }
     ensures { result ≡ b % below }
@@ -73,7 +74,7 @@ fn push_char(out: &mut Vec<u8>, char: &[u8]) -> Result<(), AllocError>
     out.extend_from_slice(char)
 }
 
-// Shows at most this many leading characters.
+// Appends at most this many leading characters, as they are shown.
 fn push_shown(out: &mut Vec<u8>, bytes: &[u8], most: usize) -> Result<(), AllocError>
     ensures { OnOk result (out.new.items ≡ out.old.items ++ shown (take most (chars bytes.now))) }
 {
@@ -101,14 +102,14 @@ fn push_blanks(out: &mut Vec<u8>, count: usize) -> Result<(), AllocError>
     Ok(())
 }
 
-// The number of characters before a place that are shown, given the numbers before it and from it on.
+// The number of characters shown before a place, given the numbers of characters before it and from it on.
 fn shown_before(before: usize, after: usize) -> usize
     ensures { result ≡ shown_before before after }
 {
     before.min(WIDTH - after.min(AHEAD).max(1))
 }
 
-/// Shows the parts of a line before and from a place, and a caret under it.
+/// Appends a line, given its parts before and from a place, and a caret under the place.
 pub(crate) fn push_lines(out: &mut Vec<u8>, before: &[u8], after: &[u8]) -> Result<(), AllocError>
     ensures { OnOk result (out.new.items ≡ out.old.items ++ shown_lines (chars before.now) (chars after.now)) }
 {

@@ -1,4 +1,4 @@
-//! A walk through a file, which counts its lines, and the characters of each.
+//! A walk through a file, which counts lines, and characters in a line.
 
 ghost use Rattle.std.specs.Prelude.{◌≡◌, ◌+◌, ◌-◌, ◌<◌, ◌≤◌, ◌++◌, length, take, drop};
 ghost use Rattle.std.specs.List.{suffix_len};
@@ -9,13 +9,13 @@ ghost use Rattle.wkt_explain.specs.Walk.{AreWhole, IsInLine, IsFar, IsSpot};
 use crate::characters::{count_chars, first_len};
 use crate::position::{feeds, first_line, last_line, text_in};
 
-/// So many bytes have 80 characters.
+/// The most bytes of 80 characters.
 const FAR: usize = 320;
 
-/// The most bytes that a character has.
+/// The most bytes of a character.
 const LONGEST: usize = 4;
 
-/// A place of a file, the number of its line, and how many characters stand before it there.
+/// A place in a file, the number of its line, and the number of characters before it in that line.
 #[derive(Clone, Copy)]
 pub(crate) struct Walk<'f> {
     pub(crate) file: &'f [u8],
@@ -29,8 +29,8 @@ pub(crate) struct Walk<'f> {
     ghost whole: { AreWhole (last_line (take place file.now)) (drop place file.now) },
 }
 
-/// A place of a file: the number of its line, its column, and what is in the line before it, and from it on, as far as that is
-/// shown.
+/// A place in a file: the number of its line, its column, and the parts of the line before it and from it on, as far as they
+/// are shown.
 #[derive(Clone, Copy)]
 pub(crate) struct Spot<'f> {
     pub(crate) line: usize,
@@ -39,7 +39,7 @@ pub(crate) struct Spot<'f> {
     pub(crate) after: &'f [u8],
 }
 
-// The bytes up to the last line feed, with it.
+// The bytes up to and including the last line feed.
 fn lines(bytes: &[u8]) -> &[u8]
     ensures { result.now ≡ take (length bytes.now - suffix_len goes_on bytes.now) bytes.now }
 {
@@ -62,7 +62,8 @@ impl<'f> Walk<'f> {
         }
     }
 
-    // The walk again from the front, where a place is behind it, or too near for what is shown before it.
+    // The walk, restarted from the front if it has passed the place, or is too close for the characters shown before the
+    // place.
     fn start(&self, place: usize) -> Walk<'f>
         ensures file { result.file.now ≡ self.now.file.now }
         ensures ahead { result.place ≤ place }
@@ -77,7 +78,7 @@ impl<'f> Walk<'f> {
         *self
     }
 
-    // Goes on to the line of a place.
+    // Advances to the line of a place.
     fn to_line(&self, place: usize) -> Walk<'f>
         requires ahead { self.now.place ≤ place }
         requires within { place ≤ length self.now.file.now }
@@ -98,7 +99,7 @@ impl<'f> Walk<'f> {
         }
     }
 
-    // Passes a character of the line of a place.
+    // Advances by one character in the line of a place.
     fn next(&self, place: usize) -> Walk<'f>
         requires line { IsInLine self.now.file.now self.now.place place }
         requires ahead { self.now.place + 4 ≤ place }
@@ -118,7 +119,7 @@ impl<'f> Walk<'f> {
         }
     }
 
-    // Goes on to the line of a place, and there as far as 80 characters or more are left before it.
+    // Advances to the line of a place, and in it as long as at least 80 characters remain before the place.
     fn near(&self, place: usize) -> Walk<'f>
         requires { place ≤ length self.now.file.now }
         ensures file { result.file.now ≡ self.now.file.now }
@@ -133,7 +134,7 @@ impl<'f> Walk<'f> {
         walk
     }
 
-    /// Goes on to a place.
+    /// Advances to a place.
     pub(crate) fn go(&mut self, place: usize) -> Spot<'f>
         requires { place ≤ length self.old.file.now }
         ensures file { self.new.file.now ≡ self.old.file.now }

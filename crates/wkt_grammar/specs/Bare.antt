@@ -27,7 +27,7 @@ abbrev pub bares : List Bare → Bares
 bares [] = none
 bares (i ∷ r) = and i (bares r)
 
--- what a tree is apart from places and delimiters
+-- a tree without places and delimiters
 abbrev mutual
   pub bare : Item → Bare
   bare (tree.text p) = text p.bytes
@@ -39,7 +39,7 @@ abbrev mutual
   all_bare (last i) = and (bare i) none
   all_bare (more i c rest) = and (bare i) (all_bare rest)
 
--- what it is as an argument
+-- its kind as an argument
 abbrev pub shape : Bare → Argument
 shape (text b) = arguments.Text
 shape (number b) = number_argument b

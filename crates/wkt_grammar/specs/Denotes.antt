@@ -1,4 +1,4 @@
--- What each node denotes: a line a slot, in the order of its row.
+-- The value that each node denotes: a line a slot, in the order of its row.
 use Rattle.crs_number.specs.declared.decimals.Decimal.{Decimal}
 use Rattle.crs_part.specs.declared.text.Text.{Text}
 use Rattle.crs_part.specs.declared.identifiers.NumberOrText.{NumberOrText}

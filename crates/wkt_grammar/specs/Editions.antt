@@ -1,4 +1,4 @@
--- What the second edition adds.
+-- The additions of the second edition.
 use Rattle.std.specs.Prelude.{Bool, false, ◌||◌, List, not}
 use Rattle.std.specs.List.{filter}
 use Rattle.wkt_grammar.specs.Words.{same_keyword}

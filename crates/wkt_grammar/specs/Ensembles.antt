@@ -1,4 +1,4 @@
--- Which rows have a slot for an ellipsoid.
+-- The rows with a slot for an ellipsoid.
 use Rattle.std.specs.Prelude.{Bool, false, ◌&&◌, List}
 use Rattle.std.specs.List.{list_any}
 use Rattle.wkt_grammar.specs.Words.{same_keyword}

@@ -1,4 +1,4 @@
--- How a slot fault is called.
+-- The name of a slot fault.
 use Rattle.std.specs.Prelude.{ℕ, List, codes}
 use Rattle.wkt_grammar.specs.declared.fault.SlotFault.{SlotFault}
 use Rattle.wkt_grammar.specs.declared.fault.SlotFault.TheVariants.{NotHere, Missing, NotCount, WordUnknown}

@@ -25,7 +25,7 @@ number_refusal left filled at = if is_some (next left filled arguments.Count) th
 abbrev pub word_refusal : List Slot → Bool → ℕ → SlotFault
 word_refusal left filled at = if is_some (next left filled arguments.CsKind) || is_some (next left filled arguments.Direction) then WordUnknown at else NotHere at
 
--- which fault an argument is that what is left of the row doesn't take
+-- the fault of an argument that the rest of the row does not take
 abbrev pub refusal : List Slot → Bool → Argument → ℕ → SlotFault
 refusal left filled arguments.Number at = number_refusal left filled at
 refusal left filled arguments.Count at = number_refusal left filled at
@@ -71,7 +71,7 @@ module _ (e : Edition) where
   abbrev pub argument_fault : Node → List Slot → Bool → Item → Option SlotFault
   argument_fault n left filled i = taken (refusal left filled (argument i) (begin i)) (item_fault n i) (λ l. None) (next left filled (argument i))
 
-  -- what is left of the row at a place
+  -- the rest of the row at a position
   abbrev pub rest_at : Node → Place → List Slot
   rest_at n p = drop p.slot (row_of e n)
 

@@ -1,5 +1,5 @@
--- What trees denoted by the rows of the first edition of the grammar, which had no geoid models and no vertical extents.
--- All other nodes have the same rows in both editions, and mean the same.
+-- The values that trees denote by the rows of the first edition of the grammar, which has no geoid models and no vertical
+-- extents. All other nodes have the same rows in both editions, and the same meaning.
 use Rattle.std.specs.Prelude.{◌≡◌, List, [], None, All}
 use Rattle.crs_part.specs.declared.usages.Usage.{Usage}
 use Rattle.crs_part.specs.declared.crs.Geodetic.{Geodetic}
@@ -24,7 +24,7 @@ use Rattle.wkt_grammar.specs.Denotes.{DenotesValue, DenotesIdent, DenotesUnit, D
 abbrev pub IsFirstNode : Keyword → Node → Fields → Bare → Type 0
 IsFirstNode = IsNodeIn editions.First
 
--- ---- what is denoted, a line a slot, in the order of the rows of the first edition
+-- ---- the denoted values, a line a slot, in the order of the rows of the first edition
 
 abbrev pub first_usage_fields : Usage → Fields
 first_usage_fields v =

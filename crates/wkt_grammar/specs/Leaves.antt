@@ -1,4 +1,4 @@
--- What texts, numbers and words denote.
+-- The values that texts, numbers and words denote.
 use Rattle.std.specs.Prelude.{◌≡◌, ℕ, ◌<◌, ◌^◌, List, [], ◌∷◌, Bool, true, false, if◌then◌else◌, map}
 use Rattle.std.specs.Char.{to_ascii_lowercase}
 use Rattle.crs_number.specs.Numeral.{Spells}

@@ -1,4 +1,4 @@
--- How a slot is called.
+-- The name of a slot.
 use Rattle.std.specs.Prelude.{ℕ, List, codes}
 use Rattle.wkt_grammar.specs.declared.table.SlotName.{SlotName}
 use Rattle.wkt_grammar.specs.declared.table.SlotName.TheVariants as slots

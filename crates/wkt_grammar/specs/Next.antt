@@ -37,7 +37,7 @@ place_next (t ∷ ts) = t.piece.place
 abbrev pub Follows : List Tok → Type 0
 Follows ts = next_is is_open ts ≡ false
 
--- what the argument is that begins with the next token
+-- the kind of the argument that begins with the next token
 abbrev pub coming : List Tok → Argument
 coming [] = arguments.OtherNode
 coming (t ∷ ts) = argument_of t.kind t.piece.bytes (next_is is_open ts)

@@ -1,4 +1,4 @@
--- What the arguments of a node denote, slot by slot.
+-- The values that the arguments of a node denote, slot by slot.
 use Rattle.std.specs.Prelude.{◌≡◌, ℕ, List, [], ◌∷◌, ◌++◌, length, map, Option, Some, None}
 use Rattle.std.specs.List.{AllPass}
 use Rattle.crs_part.specs.declared.many.NonEmpty.{NonEmpty}

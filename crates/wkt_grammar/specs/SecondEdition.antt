@@ -1,4 +1,4 @@
--- What fits the rows of the second edition of the grammar, the one in which values are read and written.
+-- The trees that fit the rows of the second edition of the grammar, the one in which values are read and written.
 use Rattle.std.specs.Prelude.{List}
 use Rattle.wkt_grammar.specs.declared.table.Edition.TheVariants as editions
 use Rattle.wkt_grammar.specs.declared.table.Slot.{Slot}

@@ -18,7 +18,7 @@ use Rattle.wkt_grammar.specs.Words.{keyword_of, is_cs_kind, is_direction}
 use Rattle.wkt_grammar.specs.declared.fault.SlotFault.{SlotFault}
 use Rattle.wkt_grammar.specs.declared.fault.SlotFault.TheVariants.{NotHere, Missing, NotCount, WordUnknown}
 
--- ---- what an argument is
+-- ---- the kind of an argument
 
 abbrev pub number_argument : List ℕ → Argument
 number_argument bytes = if is_count bytes then arguments.Count else arguments.Number

@@ -1,4 +1,4 @@
--- A walk along a row: what is left of it, and whether its first slot has an argument.
+-- A walk along a row: the rest of the row, and whether its first slot has an argument.
 use Rattle.std.specs.Prelude.{◌≡◌, List, [], ◌∷◌, Bool, true, false, ◌&&◌, ◌||◌, not, Option, Some, None, if◌then◌else◌, option_and_then, drop, map}
 use Rattle.std.specs.List.{list_all}
 use Rattle.wkt_grammar.specs.declared.table.Edition.{Edition}
@@ -19,7 +19,7 @@ is_many AtMostOnce = false
 is_many Any = true
 is_many AtLeastOnce = true
 
--- what is left of the row once it took the argument; its first slot is the one that did
+-- the rest of the row after it takes the argument; its first slot is the one that took it
 abbrev pub next : List Slot → Bool → Argument → Option (List Slot)
 next [] filled a = None
 next (s ∷ row) filled a =

@@ -1,4 +1,4 @@
--- The keywords, how they are spelled, and what words mean, in any letter case.
+-- The keywords, their spellings, and the meanings of words, in any letter case.
 use Rattle.std.specs.Prelude.{◌≡◌, ℕ, List, [], ◌∷◌, ◌++◌, Bool, true, ◌==◌, ◌&&◌, Option, map, codes}
 use Rattle.std.specs.Char.{to_ascii_lowercase}
 use Rattle.std.specs.Option.{is_some}
@@ -50,7 +50,7 @@ spelling keywords.Identifier = codes "ID"
 abbrev pub all_keywords : List Keyword
 all_keywords = keywords.GeodeticCrs ∷ keywords.GeographicCrs ∷ keywords.ProjectedCrs ∷ keywords.VerticalCrs ∷ keywords.CompoundCrs ∷ keywords.BaseGeodeticCrs ∷ keywords.BaseGeographicCrs ∷ keywords.Datum ∷ keywords.VerticalDatum ∷ keywords.Ensemble ∷ keywords.Member ∷ keywords.Method ∷ keywords.GeoidModel ∷ keywords.EnsembleAccuracy ∷ keywords.Ellipsoid ∷ keywords.PrimeMeridian ∷ keywords.Conversion ∷ keywords.Parameter ∷ keywords.LengthUnit ∷ keywords.AngleUnit ∷ keywords.ScaleUnit ∷ keywords.Unit ∷ keywords.CoordinateSystem ∷ keywords.Axis ∷ keywords.Meridian ∷ keywords.Order ∷ keywords.Usage ∷ keywords.BoundingBox ∷ keywords.VerticalExtent ∷ keywords.Scope ∷ keywords.Area ∷ keywords.Anchor ∷ keywords.Citation ∷ keywords.Uri ∷ keywords.Remark ∷ keywords.Identifier ∷ []
 
--- the other spellings, and what each means
+-- the other spellings, and the meaning of each
 abbrev pub alternates : List (List ℕ × Keyword)
 alternates =
     (codes "GEODETICCRS", keywords.GeodeticCrs)
@@ -66,11 +66,11 @@ alternates =
     ∷ (codes "PRIMEMERIDIAN", keywords.PrimeMeridian)
     ∷ []
 
--- every spelling, and what it means
+-- every spelling, and its meaning
 abbrev pub meanings : List (List ℕ × Keyword)
 meanings = map (λ k. (spelling k, k)) all_keywords ++ alternates
 
--- what a word means: that of the first spelling that it is, in any letter case
+-- the meaning of a word: that of the first spelling that equals it, in any letter case
 unfoldable pub keyword_of : List ℕ → Option Keyword
 keyword_of bytes = lookup (λ w. same_word w bytes) meanings
 

@@ -35,7 +35,7 @@ fn node_argument(bytes: &[u8]) -> Argument
     }
 }
 
-/// The kind of the argument that begins with this token.
+/// The kind of argument that begins with this token.
 pub fn argument_of(kind: TokenKind, bytes: &[u8], is_node: bool) -> Argument
     ensures { result ≡ argument_of kind bytes.now is_node }
 {

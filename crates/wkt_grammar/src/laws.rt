@@ -17,7 +17,7 @@ ghost use Rattle.wkt_tree.specs.Tokens.{Cut};
 ghost use Rattle.wkt_grammar.specs.Slots.{IsClean};
 ghost use Rattle.wkt_grammar.specs.Rows.{Admitted, Fits, enters, row_in, row_of};
 
-/// What has a meaning as a keyword is, in any letter case, a spelling with this meaning, and no other keyword's.
+/// A word with a meaning as a keyword is, in any letter case, a spelling with this meaning, and of no other keyword.
 pub fn keywords()
     ensures { (bytes : List ℕ) (k : Keyword) → (keyword_of bytes ≡ Some k) ↔ IsKeyword k bytes }
 {}
@@ -53,7 +53,7 @@ pub fn without_the_added()
     ensures { (n : Node) → row_of editions.First n ≡ without_added (row_of editions.Second n) }
 {}
 
-/// What fits a row of the first edition fits that of the second.
+/// Arguments that fit a row of the first edition fit that of the second.
 pub fn still_fits()
     ensures { (n : Node) (args : List Argument) → Fits (row_of editions.First n) args → Fits (row_of editions.Second n) args }
 {}

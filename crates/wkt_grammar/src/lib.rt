@@ -1,4 +1,5 @@
-//! The grammar: keywords, the rows of the nodes, the first slot fault of a text that is a tree, and what trees mean.
+//! The grammar: keywords, the rows of the nodes, the first slot fault of a text that is a tree, and the values of
+//! trees.
 #![tactic(auto)]
 
 mod argument;

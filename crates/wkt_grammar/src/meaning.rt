@@ -24,8 +24,8 @@ pub fn tree_denotes()
     ensures { (v : CrsParts) → DenotesParts (parts_tree v) v }
 {}
 
-/// What a tree denoted by the first edition it denotes by the second, and nothing that the second adds is in the value; such a
-/// value was denoted before.
+/// A value that a tree denotes by the first edition it also denotes by the second, and the value uses nothing that the second
+/// adds. Conversely, a value that uses nothing of that is denoted by the first edition too.
 pub fn first_edition()
     ensures still { (x : Bare) (v : CrsParts) → FirstDenotesParts x v → DenotesParts x v × NothingAdded v }
     ensures before { (x : Bare) (v : CrsParts) → DenotesParts x v → NothingAdded v → FirstDenotesParts x v }

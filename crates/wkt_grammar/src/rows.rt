@@ -5,7 +5,7 @@ ghost use Rattle.wkt_grammar.specs.Rows.{row_of};
 
 use crate::table::{Edition, Keyword, Node, Often, Slot, SlotName, Takes};
 
-/// The slots of a row: how often each is filled, its name, and what it takes.
+/// The slots of a row: how often each is filled, its name, and the arguments that it takes.
 macro_rules! slots {
     [$($often:ident $name:ident $takes:ident $(($keyword:ident, $node:ident))?,)*] => {
         [$(Slot {

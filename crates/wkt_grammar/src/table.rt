@@ -10,7 +10,7 @@ pub enum Edition {
     Second,
 }
 
-/// What a keyword means.
+/// The meaning of a keyword.
 #[derive(Clone, Copy, Debug, PartialEq, Eq)]
 pub enum Keyword {
     GeodeticCrs,
@@ -143,7 +143,7 @@ pub enum Takes {
     LengthUnit,
     AngleUnit,
     AnyUnit,
-    /// A node with only this keyword, and its row.
+    /// A node with only this keyword, which has one row.
     Node(Keyword, Node),
 }
 

@@ -7,7 +7,7 @@ ghost use Rattle.wkt_grammar.specs.Walk.{is_many, missing, next};
 use crate::choice::takes;
 use crate::table::{Argument, Often, Slot, SlotName};
 
-/// How far a row is filled: the next slot, and whether it has an argument.
+/// The position in a row: the next slot, and whether it has an argument already.
 #[derive(Clone, Copy, Debug)]
 pub struct Place {
     pub slot: usize,

@@ -104,7 +104,7 @@ static KEYWORDS: [Keyword; 36] = [
     Keyword::Identifier,
 ];
 
-/// The other spellings, each with what it means.
+/// The other spellings, each with its meaning.
 macro_rules! alternates {
     ($part:ident) => {
         alternates!(
@@ -134,8 +134,8 @@ static ALTERNATES: [&[u8]; 11] = alternates!(spelling);
 
 static MEANINGS: [Keyword; 11] = alternates!(meaning);
 
-/// A keyword for each sum of `mixed`: the one whose spelling has it, the most frequent of several, and `Identifier` if no
-/// spelling has it. A wrong entry only costs time.
+/// A keyword for each sum of `mixed`: the keyword whose spelling has this sum, the most frequent one of several, and
+/// `Identifier` if no spelling has it. A wrong entry only costs time.
 static LIKELY: [Keyword; 64] = [
     Keyword::CoordinateSystem,
     Keyword::Identifier,
@@ -218,7 +218,7 @@ fn is_spelled(spelling: &[u8], bytes: &[u8]) -> bool
     spelling == bytes
 }
 
-/// The keyword, if it is a frequent one in capitals: it is compared with one spelling.
+/// The keyword, if it is a frequent one in capitals. The word is compared with only one spelling.
 #[inline(always)]
 fn likely(bytes: &[u8]) -> Option<Keyword>
     ensures { IfSome result (λ keyword. spelling keyword ≡ bytes.now) }
@@ -233,7 +233,7 @@ fn likely(bytes: &[u8]) -> Option<Keyword>
     None
 }
 
-/// The meaning of the first of the words that is the one looked for, in any letter case.
+/// The meaning of the first spelling that equals the word, in any letter case.
 fn look(words: &[&[u8]], meanings: &[Keyword], bytes: &[u8]) -> Option<Keyword>
     requires { length words.now ≡ length meanings.now }
     ensures { result ≡ lookup (λ w. same_word w bytes.now) (zip (map (λ w. w.now) words.now) meanings.now) }
@@ -248,7 +248,7 @@ fn look(words: &[&[u8]], meanings: &[Keyword], bytes: &[u8]) -> Option<Keyword>
     None
 }
 
-/// What the keyword means, in any letter case.
+/// The meaning of the keyword, in any letter case.
 pub fn keyword_of(bytes: &[u8]) -> Option<Keyword>
     ensures { result ≡ keyword_of bytes.now }
 {

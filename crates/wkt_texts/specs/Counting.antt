@@ -1,4 +1,4 @@
--- The length of the first text, by a count of what is open.
+-- The length of the first text, by a count of open delimiters.
 use Rattle.std.specs.Prelude.{ℕ, suc, ◌+◌, ◌-◌, Bool, not, List, [], ◌∷◌, Option, Some, None, nat_le, if◌then◌else◌}
 use Rattle.wkt_tree.specs.Tokens.{is_mark}
 use Rattle.wkt_texts.specs.Texts.{is_opening, is_closing}

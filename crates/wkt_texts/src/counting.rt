@@ -1,10 +1,10 @@
-//! The length of a text, by counting open delimiters.
+//! The length of a text, found by counting open delimiters.
 
 ghost use Rattle.std.specs.Prelude.{◌≡◌, ◌+◌, ◌<◌, ◌^◌, false};
 ghost use Rattle.wkt_texts.specs.Texts.{IsFirstText};
 ghost use Rattle.wkt_texts.specs.Counting.{counted, text_len};
 
-/// The number of open delimiters after a byte outside quotation marks, unless that byte ends the text.
+/// The number of open delimiters after a byte outside quotation marks, or none if that byte ends the text.
 #[inline(always)]
 fn counted(count: usize, b: u8) -> Option<usize>
     requires { count + 1 < 2 ^ 64 }

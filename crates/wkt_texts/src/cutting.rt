@@ -38,7 +38,7 @@ fn blank_len(bytes: &[u8]) -> usize
     blank_count(bytes)
 }
 
-// The offset at which the texts of a file may begin.
+// The offset of the first text or blank, after a byte order mark if there is one.
 fn begin(file: &[u8]) -> usize
     ensures is { result ≡ begin file.now }
     ensures within { result ≤ length file.now }
@@ -50,7 +50,7 @@ fn begin(file: &[u8]) -> usize
     }
 }
 
-// The first text from a place in the file on, and the rest.
+// The first text at or after a place in the file, and the rest.
 fn next_text<'a>(place: usize, bytes: &'a [u8]) -> Option<(Cut<'a>, &'a [u8])>
     requires { place + length bytes.now < 2 ^ 64 }
     ensures some { IfSome result (λ p. IsNext place bytes.now (piece_of p.0) p.1.now) }

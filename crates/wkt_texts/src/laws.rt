@@ -10,7 +10,7 @@ pub fn one_cut()
     ensures { (file : List ℕ) (texts others : List Piece) → IsCutInto file texts → IsCutInto file others → texts ≡ others }
 {}
 
-/// Canonical texts that are written one after another, each with a newline, are found again.
+/// Canonical texts that are written one after another, each with a newline, are split into the same texts.
 pub fn written_are_found()
     ensures { (texts : List (List ℕ)) → All IsCanonical texts → AreFound (printed texts) texts }
 {}

@@ -1,4 +1,4 @@
--- What a byte may be a part of.
+-- The tokens of which a byte may be a part.
 use Rattle.std.specs.Prelude.{ℕ, Bool, Option, Some, None, ◌==◌, ◌||◌, if◌then◌else◌}
 use Rattle.std.specs.Char.{is_ascii_digit, is_ascii_alphabetic}
 use Rattle.crs_number.specs.Bytes.{begins_numeral, is_numeral_byte}

@@ -10,7 +10,7 @@ use Rattle.wkt_tree.specs.declared.fault.TextFault.{TextFault}
 use Rattle.wkt_tree.specs.declared.fault.TextFault.TheVariants.{Unexpected, Depth, After}
 use Rattle.wkt_tree.specs.Tree.{Tok}
 
--- what came last, and which delimiters are open
+-- the last part, and the open delimiters
 pub record State : Type 0 where
   pub phase : Phase
   pub stack : List Delimiter
@@ -67,7 +67,7 @@ abbrev pub run : ℕ → State → List Tok → Option State
 run n st [] = Some st
 run n st (t ∷ ts) = option_and_then (λ next. run n next ts) (step n st t.kind)
 
--- which fault a token is that cannot come
+-- the fault of a token that is not allowed
 abbrev pub refusal : Phase → List Delimiter → TokenKind → ℕ → TextFault
 refusal Begin s k at = Unexpected at
 refusal Named s Word at = Unexpected at

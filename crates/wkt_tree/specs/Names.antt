@@ -16,7 +16,7 @@ place_of (Depth at) = Some at
 place_of (EndEarly at) = Some at
 place_of (After at) = Some at
 
--- what a fault is called
+-- the name of a fault
 abbrev pub name_of : TextFault → List ℕ
 name_of TooLong = codes "TooLong"
 name_of (NotUtf8 at) = codes "NotUtf8"

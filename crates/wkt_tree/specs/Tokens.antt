@@ -37,7 +37,7 @@ Stops p (b ∷ bs) = p b ≡ false
 abbrev pub is_mark : ℕ → Bool
 is_mark b = b == 34
 
--- what follows a token doesn't lengthen it
+-- the bytes after a token do not lengthen it
 abbrev pub Ends : TokenKind → List ℕ → Type 0
 Ends Word bs = Stops is_word_byte bs
 Ends Number bs = Stops is_number_byte bs
@@ -92,7 +92,7 @@ abbrev pub closing : Delimiter → ℕ
 closing Square = 93
 closing Round = 41
 
--- what the bytes of a token of a text are, by its kind
+-- the bytes of a token of a text, by its kind
 abbrev pub IsSound : TokenKind → List ℕ → Type 0
 IsSound Word bs = IsWord bs
 IsSound Quoted bs = IsQuoted bs

@@ -1,4 +1,4 @@
-//! The tokens that each byte may be part of.
+//! The tokens of which each byte may be a part.
 
 use crate::token::{Delimiter, TokenKind};
 

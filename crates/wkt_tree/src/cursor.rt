@@ -1,4 +1,4 @@
-//! A text that has passed, and its tokens in order.
+//! A text that has passed the scan, and its tokens in order.
 
 ghost use Rattle.std.specs.Prelude.{◌≡◌, List, ℕ, [], All, drop, length, slice_get, Err, IsOk, IfSome, IfOk, IfErr};
 ghost use Rattle.std.specs.Option.{option_map};
@@ -15,7 +15,7 @@ use crate::scanner::check_text;
 use crate::token::Token;
 use std::marker::Model;
 
-/// The tokens of a text from some place on, one after another.
+/// The tokens of a text from a place on, one after another.
 #[derive(Drop)]
 pub struct Cursor<'a> {
     text: &'a [u8],
@@ -116,7 +116,7 @@ pub fn scan<'a>(text: &'a [u8]) -> Result<Outline<'a>, TextFault>
     ensures ok { IfOk result (λ outline. (outline ≡ text.now) × IsOutline text.now (cut 0 text.now)) }
     ensures err { IfErr result (FirstFault text.now) }
 
-    // A text with an outline is never refused; otherwise the result is the first fault.
+    // A text with an outline is never refused. Any other text gives its first fault.
     ensures passes { (ts : List Tok) → IsOutline text.now ts → IsOk result }
     ensures fails { (fault : TextFault) → FirstFault text.now fault → result ≡ Err fault }
 {

@@ -22,7 +22,7 @@ pub enum TextFault {
     NumberRange(usize),
     /// A token that is not allowed here.
     Unexpected(usize),
-    /// An opening delimiter when the greatest number is open.
+    /// An opening delimiter while the greatest number of delimiters is open.
     Depth(usize),
     /// The text ends before its tree does.
     EndEarly(usize),
@@ -31,7 +31,7 @@ pub enum TextFault {
 }
 
 impl TextFault {
-    /// Where it is. A text that is too long has no place.
+    /// The offset of the fault, from 0. A text that is too long has no place.
     pub fn place(&self) -> Option<usize>
         ensures { result ≡ place_of self.now }
     {
@@ -49,7 +49,7 @@ impl TextFault {
         }
     }
 
-    /// Its name, as it is printed.
+    /// The name that is printed.
     pub fn name(&self) -> &'static str
         ensures { result.now ≡ name_of self.now }
     {

@@ -1,4 +1,4 @@
-//! One token from the front of some bytes.
+//! Reads one token from the front of some bytes.
 //!
 //! Every function of this module, of `machine` and of `stack` is inlined into the loops that call
 //! them: that halves the time of a scan.
@@ -75,7 +75,7 @@ fn number_len(bytes: &[u8]) -> usize
     bytes.iter().take_while(|b| is_number_byte(**b)).count()
 }
 
-/// How many bytes after the opening mark belong to the text, with the mark that closes it.
+/// The number of bytes after the opening mark that belong to the text, the closing mark included.
 #[inline(always)]
 fn quoted_len(bytes: &[u8]) -> Option<usize>
     ensures within { IfSome result (λ n. n ≤ length bytes.now) }
@@ -99,7 +99,7 @@ fn quoted_len(bytes: &[u8]) -> Option<usize>
     None
 }
 
-/// How many bytes after its first one a token of this kind has.
+/// The number of bytes of a token of this kind after its first one.
 #[inline(always)]
 fn follow_len(kind: TokenKind, bytes: &[u8]) -> Option<usize>
     ensures within { IfSome result (λ n. n ≤ length bytes.now) }

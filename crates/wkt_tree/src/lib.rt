@@ -1,4 +1,4 @@
-//! Tokens of a text, and the check that they are those of one tree.
+//! Tokens of a text, and the check that they form one tree.
 #![tactic(auto)]
 
 mod bytes;
@@ -15,4 +15,5 @@ mod token;
 pub use cursor::{Cursor, Outline, scan};
 pub use fault::TextFault;
 pub use marks::first_mark;
+pub use scanner::MAX_TEXT;
 pub use token::{Delimiter, Token, TokenKind};

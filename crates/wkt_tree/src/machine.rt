@@ -1,4 +1,4 @@
-//! The tokens that may come next, by the open delimiters.
+//! The tokens that may come next, given the open delimiters.
 
 ghost use Rattle.std.specs.Prelude.{◌≡◌, Some, None, IfOk, IfErr, OnErr, IfSome, IfNone};
 ghost use Rattle.wkt_tree.specs.Machine.{closed, comma, refusal, state, step_at};
@@ -7,7 +7,7 @@ use crate::fault::TextFault;
 use crate::stack::Stack;
 use crate::token::{Delimiter, TokenKind};
 
-/// The last part read, as far as it decides what may come next.
+/// The last part read, as far as it decides which tokens may come next.
 #[derive(Clone, Copy, Debug, PartialEq, Eq)]
 pub(crate) enum Phase {
     /// An item has to come.

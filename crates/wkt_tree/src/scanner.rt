@@ -1,4 +1,4 @@
-//! The test that a text is written with the tokens of one tree.
+//! Tests that a text is written with the tokens of one tree.
 
 ghost use Rattle.std.specs.Prelude.{◌≡◌, ◌≤◌, length, List, OnOk, IfErr};
 ghost use Rattle.wkt_tree.specs.Tree.{Tok, IsTree};
@@ -10,8 +10,8 @@ use crate::lexer::read;
 use crate::machine::{Phase, take_token};
 use crate::stack::Stack;
 
-/// The longest text that is read.
-const MAX_LEN: usize = 1_048_576;
+/// The most bytes of a text that is read.
+pub const MAX_TEXT: usize = 1_048_576;
 
 fn scan_tokens(text: &[u8]) -> Result<(), TextFault>
     requires { length text.now ≤ 1048576 }
@@ -43,7 +43,7 @@ pub(crate) fn check_text(text: &[u8]) -> Result<(), TextFault>
     ensures ok { OnOk result ((ts : List Tok) × IsOutline text.now ts) }
     ensures err { IfErr result (FirstFault text.now) }
 {
-    if text.len() > MAX_LEN {
+    if text.len() > MAX_TEXT {
         return Err(TextFault::TooLong);
     }
     if let Err(error) = simdutf8::compat::from_utf8(text) {

@@ -12,7 +12,7 @@ use crs_part::{Many, NonEmpty};
 use std::alloc::AllocError;
 use wkt_grammar::Keyword;
 
-/// Opens a node, and gives the layout of its arguments.
+/// Opens a node, and returns the layout of its arguments.
 pub(crate) fn push_open(
     out: &mut Vec<u8>,
     layout: Layout,

@@ -42,7 +42,7 @@ fn push_named(
     push_close(out)
 }
 
-/// Appends, after a comma, a node of this keyword.
+/// Appends a comma and a node with this keyword.
 fn push_one_named(
     out: &mut Vec<u8>,
     layout: Layout,
@@ -55,7 +55,7 @@ fn push_one_named(
     push_named(out, layout, keyword, named)
 }
 
-/// Appends a node of this keyword for each.
+/// Appends a node with this keyword for each item.
 fn push_each_named(
     out: &mut Vec<u8>,
     layout: Layout,

@@ -1,11 +1,11 @@
-//! Where nodes begin.
+//! The layout of nodes on lines.
 
 ghost use Rattle.std.specs.Prelude.{◌≡◌, ℕ, ◌*◌, ◌++◌, ◌∷◌, [], List, replicate, OnOk, IfOk};
 ghost use Rattle.wkt_write.specs.Layout.{before, inner};
 
 use std::alloc::AllocError;
 
-/// Where a node begins: all nodes on one line, or each node except the root on its own line.
+/// The layout of a node: all nodes on one line, or each node except the root on a line of its own.
 #[derive(Clone, Copy)]
 pub(crate) enum Layout {
     OneLine,

@@ -8,7 +8,7 @@ use crate::written::Written;
 use crs_part::CrsParts;
 use std::alloc::{AllocError, Global};
 
-/// Most texts are no longer than this.
+/// The number of bytes that is enough for most texts.
 const COMMON_LENGTH: usize = 1024;
 
 /// The canonical text.
@@ -18,7 +18,7 @@ pub fn write_crs(alloc: Global, parts: &CrsParts) -> Result<Vec<u8>, AllocError>
     write_crs_with_room(alloc, parts, COMMON_LENGTH)
 }
 
-/// The canonical text, with this many bytes reserved at once; a longer text reallocates.
+/// The canonical text, with this many bytes reserved in advance. A longer text reallocates.
 pub fn write_crs_with_room(
     alloc: Global,
     parts: &CrsParts,

@@ -1,4 +1,4 @@
-//! The command `import` on a register, wherever that is.
+//! The command `import` on a register in a file or on a shelf.
 
 ghost use Rattle.std.specs.Prelude.{map, OnOk, IfErr};
 ghost use Rattle.reg_desk.specs.ImportEngines.{IsTold, IsUntold, kept_in, only_read, IsImported, IsUnimported};
@@ -10,7 +10,7 @@ use byte_io::{Sink, Source, write_all};
 use reg_engine::{CliFault, Keep, OutFault, Store};
 use std::alloc::Global;
 
-// Writes the lines, and answers what is reported of texts that were passed over.
+// Writes the lines, and returns the fault of the texts that were passed over.
 fn tell<K: Sink>(
     alloc: Global,
     lines: &[u8],
@@ -31,7 +31,7 @@ fn tell<K: Sink>(
 }
 
 /// Loads the register, and then reads the files of texts; imports the texts; keeps the register, and then writes a line for
-/// each text to the sink. Where texts were passed over, the first of them is answered then.
+/// each text to the sink. If texts were passed over, it then returns the fault of the first.
 pub fn run_import<T: Keep, F: Source, K: Sink>(
     alloc: Global,
     store: &mut T,
@@ -59,6 +59,13 @@ pub fn run_import<T: Keep, F: Source, K: Sink>(
         Err(why) => return Err(why),
     };
     if let Err(fault) = store.keep(alloc, &register) {
+        if !fault.is_after() {
+            return Err(Unimported::plain(alloc, fault));
+        }
+        if let Err(cut) = write_all(sink, &lines) {
+            let fault = CliFault::Out(OutFault::WriteFailed(cut.written));
+            return Err(Unimported::plain(alloc, fault));
+        }
         return Err(Unimported::plain(alloc, fault));
     }
     match tell(alloc, &lines, passed, sink) {
@@ -67,7 +74,7 @@ pub fn run_import<T: Keep, F: Source, K: Sink>(
     }
 }
 
-/// The same, and the register is not kept: the lines say what would be made.
+/// The same without keeping the register: the lines are those of the import.
 pub fn try_import<T: Store, F: Source, K: Sink>(
     alloc: Global,
     store: &mut T,

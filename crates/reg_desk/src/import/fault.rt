@@ -2,10 +2,11 @@
 
 ghost use Rattle.std.specs.Prelude.{◌≡◌, []};
 ghost use Rattle.reg_desk.specs.declared.import.fault.ImportFault.TheVariants as import;
-ghost use Rattle.reg_desk.specs.Import.{exit_status};
+ghost use Rattle.reg_desk.specs.Import.{exit_status, taken_by};
 
 use reg_engine::{CliFault, Refusal};
 use reg_import::Problem;
+use reg_op::OpId;
 use std::alloc::Global;
 use std::fmt::{self, Display};
 use wkt_crs::{DefinitionFault, SlotFault, Unspelled};
@@ -50,6 +51,19 @@ impl ImportFault {
         match self {
             ImportFault::Cli(fault) => fault.status(),
             ImportFault::Refused { .. } => 1,
+        }
+    }
+
+    /// The entry that has the key of the refused text. `None` for another fault.
+    pub fn taken(&self) -> Option<OpId>
+        ensures { result ≡ taken_by self.now }
+    {
+        match self {
+            ImportFault::Refused {
+                problem: Problem::KeyTaken(entry),
+                ..
+            } => Some(*entry),
+            _ => None,
         }
     }
 }

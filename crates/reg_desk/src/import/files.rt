@@ -5,19 +5,17 @@ ghost use Rattle.reg_desk.specs.ImportFiles.{Gives, IsUnread, bytes_of, GiveAll,
 
 use byte_io::{InFault, Source, read_up_to};
 use reg_engine::{CliFault, InputFault};
+use reg_file::MAX_FILE;
 use std::alloc::Global;
 
-/// The most bytes of a file of texts.
-const MOST: usize = 67_108_864;
-
-// The bytes of the file of this number.
+// The bytes of the file with this number.
 fn read_one<F: Source>(alloc: Global, number: usize, file: &mut F) -> Result<Vec<u8>, CliFault>
     ensures gives { IfOk result (λ bytes. Gives (F.state file.old) (F.state file.new) bytes.items) }
     ensures fault { IfErr result (IsUnread number (F.state file.old) (F.state file.new)) }
 {
-    match read_up_to(alloc, file, MOST + 1) {
+    match read_up_to(alloc, file, MAX_FILE + 1) {
         Ok(bytes) => {
-            if bytes.len() > MOST {
+            if bytes.len() > MAX_FILE {
                 return Err(CliFault::File {
                     number,
                     fault: InputFault::TooLarge,

@@ -12,7 +12,7 @@ use crate::import::order::Order;
 use crate::import::texts::{FileCut, cut_files, read_cuts};
 use byte_io::Source;
 use reg_engine::{CliFault, Refusal};
-use reg_import::{FileText, ImportRefusal, Refused, import_texts, lines_text};
+use reg_import::{FileText, ImportRefusal, Listing, Refused, import_texts, lines_text};
 use reg_office::OfficeFault;
 use reg_state::Register;
 use std::alloc::Global;
@@ -91,7 +91,12 @@ fn made_of(
     let Ok(passed) = passed_over(alloc, first, order, files, cuts, texts, &imported.told) else {
         return Err(Unimported::plain(alloc, CliFault::Memory));
     };
-    match lines_text(alloc, order.names, texts, &imported.told) {
+    let listing = Listing {
+        names: order.names,
+        changes: order.changes,
+        gone: order.gone,
+    };
+    match lines_text(alloc, &listing, &imported.register, texts, &imported.told) {
         Ok(lines) => Ok(Ready {
             register: imported.register,
             lines,

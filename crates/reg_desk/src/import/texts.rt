@@ -17,7 +17,7 @@ pub struct FileCut<'a> {
     pub bytes: &'a [u8],
 }
 
-// Puts the texts of a file at the end.
+// Appends the texts of a file.
 fn push_cuts<'a>(
     all: &mut Vec<FileCut<'a>>,
     file: usize,

@@ -1,20 +1,20 @@
 //! A row that only one of two registers has, and equality of rows.
 
 ghost use Rattle.std.specs.Prelude.{◌≡◌, ◌↔◌, IsTrue};
-ghost use Rattle.reg_office.specs.Seen.{row_seen};
+ghost use Rattle.reg_report.specs.Seen.{row_seen};
 ghost use Rattle.reg_query.specs.Changes.{row_cmp, sign_text};
 
-use reg_office::Row;
 use reg_op::OpId;
+use reg_report::Row;
 use std::cmp::Ordering;
 use wkt_crs::Definition;
 
-/// Which of the two registers has the row.
+/// The register that has the row.
 #[derive(Clone, Copy, Debug, PartialEq, Eq)]
 pub enum Sign {
-    /// Only the older one.
+    /// The older one.
     Gone,
-    /// Only the newer one.
+    /// The newer one.
     Come,
 }
 
@@ -26,8 +26,8 @@ pub struct Change<'a> {
 }
 
 /// The text of a sign.
-pub fn sign_text(sign: Sign) -> &'static [u8]
-    ensures { result.now ≡ sign_text sign }
+pub fn sign_text(sign: &Sign) -> &[u8]
+    ensures { result.now ≡ sign_text sign.now }
 {
     match sign {
         Sign::Gone => b"-",
@@ -60,14 +60,14 @@ fn is_same_text(left: &Definition, right: &Definition) -> bool
     left.as_bytes() == right.as_bytes()
 }
 
-// Whether they enter one text under one id.
+// Whether they have the same entry and the same text.
 fn enter_the_same(left: &Row, right: &Row) -> bool
     ensures { IsTrue result ↔ ((left.now.entry ≡ right.now.entry) × (left.now.definition ≡ right.now.definition)) }
 {
     is_same_id(&left.entry, &right.entry) && is_same_text(&left.definition, &right.definition)
 }
 
-// Whether they are of one status, and superseded by the same.
+// Whether they have the same status and the same newer entries.
 fn stand_the_same(left: &Row, right: &Row) -> bool
     ensures { IsTrue result ↔ ((left.now.status ≡ right.now.status) × (left.now.newer.items ≡ right.now.newer.items)) }
 {

@@ -3,13 +3,13 @@
 ghost use Rattle.std.specs.Prelude.{◌≡◌, ◌↔◌, map, IsTrue, IfOk};
 ghost use Rattle.reg_op.specs.Set.{Ascends};
 ghost use Rattle.reg_op.specs.Rows.{rows};
-ghost use Rattle.reg_office.specs.Seen.{row_seen};
+ghost use Rattle.reg_report.specs.Seen.{row_seen};
 ghost use Rattle.reg_query.specs.Changes.{row_cmp};
 ghost use Rattle.reg_query.specs.DiffLines.{IsDiff, Differ};
 
 use crate::diff::lines::changes_text;
 use crate::diff::walk::changes;
-use reg_office::{Row, rows};
+use reg_report::{Row, rows};
 use reg_state::Register;
 use std::alloc::{AllocError, Global};
 

@@ -1,48 +1,32 @@
 //! The text of a comparison, line by line.
 
-ghost use Rattle.std.specs.Prelude.{◌≡◌, ℕ, ◌∷◌, [], List, map, IfOk, OnOk};
-ghost use Rattle.reg_office.specs.Lines.{IsSheet, IsReady, WritesRow};
+ghost use Rattle.std.specs.Prelude.{◌≡◌, ℕ, List, map, IfOk, OnOk};
+ghost use Rattle.reg_report.specs.Lines.{IsSheet, IsReady, WritesRow};
 ghost use Rattle.reg_query.specs.DiffLines.{changes_header, IsChangeLine};
-ghost use Rattle.reg_office.specs.Seen.{row_seen};
+ghost use Rattle.reg_report.specs.Seen.{row_seen};
 ghost use Rattle.reg_query.specs.Changes.{signed};
 ghost use Rattle.reg_query.specs.ChangesSeen.{change_seen};
 
 use crate::diff::change::{Change, Sign, sign_text};
 use csv::Writer;
-use reg_office::{Row, printed, spaced, status_word};
+use reg_report::{Row, printed, spaced, status_word, write_fields};
 use std::alloc::{AllocError, Global};
-
-fn write_seven(
-    wtr: &mut Writer<Vec<u8>>,
-    first: &[u8],
-    second: &[u8],
-    third: &[u8],
-    fourth: &[u8],
-    fifth: &[u8],
-    sixth: &[u8],
-    seventh: &[u8],
-) -> Result<(), AllocError>
-    requires { IsReady wtr.old }
-    ensures { OnOk result (WritesRow wtr.old wtr.new (first.now ∷ second.now ∷ third.now ∷ fourth.now ∷ fifth.now ∷ sixth.now ∷ seventh.now ∷ [])) }
-{
-    let fields = [first, second, third, fourth, fifth, sixth, seventh];
-    wtr.write_fields(&fields).map_err(|_| AllocError)?;
-    Ok(())
-}
 
 fn write_header(wtr: &mut Writer<Vec<u8>>) -> Result<(), AllocError>
     requires { IsReady wtr.old }
     ensures { OnOk result (WritesRow wtr.old wtr.new changes_header) }
 {
-    write_seven(
+    write_fields(
         wtr,
-        b"change",
-        b"entry",
-        b"authority",
-        b"code",
-        b"name",
-        b"status",
-        b"replaced_by",
+        &[
+            b"change",
+            b"entry",
+            b"authority",
+            b"code",
+            b"name",
+            b"status",
+            b"replaced_by",
+        ],
     )
 }
 
@@ -59,15 +43,17 @@ fn write_row(
     let newer = spaced(alloc, &row.newer)?;
     let key = row.definition.key();
     let name = row.definition.name();
-    write_seven(
+    write_fields(
         wtr,
-        sign_text(sign),
-        &entry,
-        key.authority.as_bytes(),
-        key.code.as_bytes(),
-        name.as_bytes(),
-        status_word(row.status),
-        &newer,
+        &[
+            sign_text(&sign),
+            &entry,
+            key.authority.as_bytes(),
+            key.code.as_bytes(),
+            name.as_bytes(),
+            status_word(row),
+            &newer,
+        ],
     )?;
     Ok(())
 }

@@ -2,13 +2,13 @@
 
 ghost use Rattle.std.specs.Prelude.{◌≡◌, ◌++◌, ◌∷◌, [], map, IfOk, OnOk};
 ghost use Rattle.reg_op.specs.Set.{Ascends};
-ghost use Rattle.reg_office.specs.Seen.{row_seen};
+ghost use Rattle.reg_report.specs.Seen.{row_seen};
 ghost use Rattle.reg_query.specs.Changes.{signed, row_cmp, AreChanges};
 ghost use Rattle.reg_query.specs.ChangesSeen.{change_seen};
 ghost use Rattle.reg_query.specs.DiffWalk.{AddsUnlike};
 
 use crate::diff::change::{Change, Sign, is_same, order};
-use reg_office::Row;
+use reg_report::Row;
 use std::alloc::{AllocError, Global};
 use std::cmp::Ordering;
 

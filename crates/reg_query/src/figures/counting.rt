@@ -1,5 +1,5 @@
-//! How many ids of a replica some runs have, and how many operations of it a list has. Both are in order, so the part of the
-//! replica is looked up.
+//! Counts the ids of a replica in runs, and its operations in a list. Both are in order, so the part of the replica is found
+//! by a search.
 
 ghost use Rattle.std.specs.Prelude.{◌≡◌, ◌+◌, ◌-◌, ◌≤◌, true, false, length};
 ghost use Rattle.std.specs.List.{count_by, prefix_len};

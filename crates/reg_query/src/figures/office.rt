@@ -1,4 +1,4 @@
-//! How much was seen of each office, and how much of it is kept.
+//! The counts of each office: seen ids and kept operations.
 
 ghost use Rattle.std.specs.Prelude.{◌≡◌, IfOk};
 ghost use Rattle.reg_query.specs.Offices.{IsOffice, AreOffices};
@@ -9,15 +9,15 @@ use reg_state::Register;
 use std::alloc::{AllocError, Global};
 use uuid::Uuid;
 
-/// How much was seen of an office, and how much of it is kept.
+/// The counts of an office.
 #[derive(Clone, Copy, Debug, PartialEq, Eq)]
 pub struct OfficeFigures {
     pub replica: Uuid,
     /// The greatest count that was seen.
     pub greatest: u32,
-    /// How many counts below it were not seen.
+    /// The number of counts below it that were not seen.
     pub missing: u32,
-    /// How many of its operations are kept.
+    /// The number of its operations that are kept.
     pub kept: usize,
 }
 

@@ -1,11 +1,12 @@
 //! The report of offices, line by line.
 
 ghost use Rattle.std.specs.Prelude.{◌≡◌, IfOk, OnOk};
-ghost use Rattle.reg_office.specs.Lines.{sheet_of, IsReady, WritesRow};
+ghost use Rattle.reg_report.specs.Lines.{sheet_of, IsReady, WritesRow};
 ghost use Rattle.reg_query.specs.Offices.{offices_header, office_fields};
 
 use crate::figures::office::OfficeFigures;
 use csv::Writer;
+use reg_report::write_fields;
 use std::alloc::{AllocError, Global};
 use uuid::Uuid;
 
@@ -13,14 +14,7 @@ fn write_header(wtr: &mut Writer<Vec<u8>>) -> Result<(), AllocError>
     requires { IsReady wtr.old }
     ensures { OnOk result (WritesRow wtr.old wtr.new offices_header) }
 {
-    let fields = [
-        b"replica".as_slice(),
-        b"greatest".as_slice(),
-        b"missing".as_slice(),
-        b"kept".as_slice(),
-    ];
-    wtr.write_fields(&fields).map_err(|_| AllocError)?;
-    Ok(())
+    write_fields(wtr, &[b"replica", b"greatest", b"missing", b"kept"])
 }
 
 fn write_office(
@@ -36,14 +30,15 @@ fn write_office(
     let greatest = office.greatest.to_string(alloc)?;
     let missing = office.missing.to_string(alloc)?;
     let kept = office.kept.to_string(alloc)?;
-    let fields = [
-        replica.as_bytes(),
-        greatest.as_bytes(),
-        missing.as_bytes(),
-        kept.as_bytes(),
-    ];
-    wtr.write_fields(&fields).map_err(|_| AllocError)?;
-    Ok(())
+    write_fields(
+        wtr,
+        &[
+            replica.as_bytes(),
+            greatest.as_bytes(),
+            missing.as_bytes(),
+            kept.as_bytes(),
+        ],
+    )
 }
 
 /// A header, and a line for each office.

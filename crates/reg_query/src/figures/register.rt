@@ -1,4 +1,4 @@
-//! How much a register has of what its reports list.
+//! The figures of a register: the lengths of its reports.
 
 ghost use Rattle.std.specs.Prelude.{◌≡◌, ◌++◌, true, Some, length, map, IfOk, OnOk};
 ghost use Rattle.std.specs.List.{count_by};
@@ -7,12 +7,12 @@ ghost use Rattle.reg_op.specs.Status.{enters, status};
 ghost use Rattle.reg_op.specs.Rows.{rows_at, rows, awaited};
 ghost use Rattle.reg_query.specs.Figures.{is_status, status_in, CountStatuses, AreCounts, AreFigures, CountsConflicts, CountsGaps};
 
-use reg_office::{awaited, conflicts, gaps};
 use reg_op::{Op, OpBody, OpId, Status};
+use reg_report::{awaited, conflicts, gaps};
 use reg_state::Register;
 use std::alloc::{AllocError, Global};
 
-/// How much a register has.
+/// The figures of a register.
 #[derive(Clone, Copy, Debug, PartialEq, Eq)]
 pub struct Figures {
     /// The operations that it keeps.

@@ -1,4 +1,4 @@
-//! The replicas of what was seen.
+//! The replicas of the seen ids.
 
 ghost use Rattle.std.specs.Prelude.{◌≡◌, IfOk};
 ghost use Rattle.reg_op.specs.Set as set;

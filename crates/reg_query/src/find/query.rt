@@ -1,14 +1,20 @@
 //! Queries of a search.
 
-ghost use Rattle.std.specs.Prelude.{◌≡◌, ◌↔◌, ◌++◌, ◌∷◌, IsTrue, IfSome, Some};
-ghost use Rattle.reg_office.specs.Conflicts.{bytes_of};
-ghost use Rattle.reg_query.specs.NameParts.{HasPart};
-ghost use Rattle.reg_query.specs.Queries.{IsWanted, Meets};
+ghost use Rattle.std.specs.Prelude.{◌≡◌, ◌↔◌, IsTrue, IfSome, List, Some};
+ghost use Rattle.crs_search.specs.Kinds.{kind_of};
+ghost use Rattle.crs_search.specs.Parts.{IsAlike, HasPart};
+ghost use Rattle.crs_search.specs.Usages.{IsInArea, HasPoint};
+ghost use Rattle.reg_keys.specs.Words.{NamesKey};
+ghost use Rattle.reg_op.specs.Rows.{Row};
+ghost use Rattle.reg_report.specs.Conflicts.{bytes_of};
+ghost use Rattle.reg_query.specs.Queries.{asks_value, HasSome, IsResolved, IsSought, IsWanted, MeetsOptions, MeetsTitle, MeetsValue};
 
-use crate::find::text::{has_part, is_key_text};
-use crs_part::Text;
+use crs_part::CrsParts;
+use crs_search::{Kind, Point, has_part, has_point, is_alike, is_in_area, is_of_kind};
 use crs_value::Key;
+use reg_keys::names_key;
 use reg_op::Status;
+use std::alloc::Global;
 
 /// The statuses of a query.
 #[derive(Clone, Copy, Debug, PartialEq, Eq)]
@@ -20,54 +26,118 @@ pub enum Wanted {
     Live,
 }
 
-/// A query: an entry has to meet all criteria that are given.
+/// A query: an entry must meet all criteria that are given. Letters A to Z of authorities, names and areas match in either
+/// case.
 #[derive(Clone, Copy)]
 pub struct Query<'a> {
+    /// The key, if an entry has it; otherwise a part of the name.
+    pub word: Option<&'a str>,
     /// The authority, a colon and the code.
     pub key: Option<&'a str>,
     pub authority: Option<&'a str>,
     pub code: Option<&'a str>,
-    /// A part of the name; letters A to Z match in either case.
+    /// A part of the name.
     pub name: Option<&'a str>,
+    /// A part of the text of an area of use.
+    pub area: Option<&'a str>,
+    /// A point in a bounding box.
+    pub at: Option<Point>,
+    pub kind: Option<Kind>,
     pub status: Option<Wanted>,
 }
 
-/// Whether an entry with this key, name and status meets the query.
-pub(crate) fn meets(query: &Query<'_>, key: &Key, name: &Text, status: Status) -> bool
-    ensures { IsTrue result ↔ Meets query.now (bytes_of key.now) name.now.bytes (Some status) }
+impl Query<'_> {
+    /// Whether it asks for more than the key, the name and the status, so that the text of an entry must be read.
+    pub(crate) fn asks_value(&self) -> bool
+        ensures { result ≡ asks_value self.now }
+    {
+        self.area.is_some() || self.at.is_some() || self.kind.is_some()
+    }
+}
+
+/// Whether an entry with this key, name and status meets the criteria for these. `by_key` is whether an entry has the key
+/// that the query's word names.
+pub(crate) fn meets_title(
+    alloc: Global,
+    query: &Query<'_>,
+    by_key: bool,
+    key: &Key,
+    name: &[u8],
+    status: Status,
+) -> bool
+    ensures { (rs : List Row) → IsResolved rs query.now by_key
+        → IsTrue result ↔ MeetsTitle rs query.now (bytes_of key.now) name.now (Some status) }
+{
+    if !is_sought(alloc, query.word, by_key, key, name) {
+        return false;
+    }
+    meets_options(alloc, query, key, name, status)
+}
+
+fn meets_options(alloc: Global, query: &Query<'_>, key: &Key, name: &[u8], status: Status) -> bool
+    ensures { IsTrue result ↔ MeetsOptions query.now (bytes_of key.now) name.now (Some status) }
 {
     let authority = key.authority.as_bytes();
     let code = key.code.as_bytes();
-    is_key(query.key, authority, code)
-        && is_text(query.authority, authority)
-        && is_text(query.code, code)
-        && is_named(query.name, name.as_bytes())
+    is_key(query.key, key)
+        && is_authority(query.authority, authority)
+        && is_code(query.code, code)
+        && is_named(alloc, query.name, name)
         && is_wanted(query.status, status)
 }
 
-fn is_key(asked: Option<&str>, authority: &[u8], code: &[u8]) -> bool
-    ensures { IsTrue result ↔ IfSome asked.entry (λ text. text.now ≡ authority.now ++ 58 ∷ code.now) }
+fn is_sought(alloc: Global, asked: Option<&str>, by_key: bool, key: &Key, name: &[u8]) -> bool
+    ensures { (rs : List Row) → IfSome asked.entry (λ word. IsTrue by_key ↔ HasSome rs word.now)
+        → IsTrue result ↔ IfSome asked.entry (λ word. IsSought rs word.now (bytes_of key.now) name.now) }
 {
     match asked {
-        Some(text) => is_key_text(text.as_bytes(), authority, code),
+        Some(word) => is_sought_by(alloc, word.as_bytes(), by_key, key, name),
         None => true,
     }
 }
 
-fn is_text(asked: Option<&str>, text: &[u8]) -> bool
-    ensures { IsTrue result ↔ IfSome asked.entry (λ one. one.now ≡ text.now) }
+fn is_sought_by(alloc: Global, word: &[u8], by_key: bool, key: &Key, name: &[u8]) -> bool
+    ensures { (rs : List Row) → IsTrue by_key ↔ HasSome rs word.now
+        → IsTrue result ↔ IsSought rs word.now (bytes_of key.now) name.now }
+{
+    if by_key {
+        return names_key(word, key);
+    }
+    has_part(alloc, name, word)
+}
+
+fn is_key(asked: Option<&str>, key: &Key) -> bool
+    ensures { IsTrue result ↔ IfSome asked.entry (λ word. NamesKey word.now (bytes_of key.now)) }
 {
     match asked {
-        Some(one) => one.as_bytes() == text,
+        Some(word) => names_key(word.as_bytes(), key),
         None => true,
     }
 }
 
-fn is_named(asked: Option<&str>, name: &[u8]) -> bool
+fn is_authority(asked: Option<&str>, authority: &[u8]) -> bool
+    ensures { IsTrue result ↔ IfSome asked.entry (λ one. IsAlike one.now authority.now) }
+{
+    match asked {
+        Some(one) => is_alike(one.as_bytes(), authority),
+        None => true,
+    }
+}
+
+fn is_code(asked: Option<&str>, code: &[u8]) -> bool
+    ensures { IsTrue result ↔ IfSome asked.entry (λ one. one.now ≡ code.now) }
+{
+    match asked {
+        Some(one) => one.as_bytes() == code,
+        None => true,
+    }
+}
+
+fn is_named(alloc: Global, asked: Option<&str>, name: &[u8]) -> bool
     ensures { IsTrue result ↔ IfSome asked.entry (λ part. HasPart part.now name.now) }
 {
     match asked {
-        Some(part) => has_part(name, part.as_bytes()),
+        Some(part) => has_part(alloc, name, part.as_bytes()),
         None => true,
     }
 }
@@ -89,5 +159,39 @@ fn wants(wanted: Wanted, status: Status) -> bool
         Wanted::Superseded => status == Status::Superseded,
         Wanted::Retired => status == Status::Retired,
         Wanted::Live => status != Status::Retired,
+    }
+}
+
+/// Whether a reference system meets the criteria for its areas, bounding boxes and kind.
+pub(crate) fn meets_value(alloc: Global, query: &Query<'_>, crs: &CrsParts) -> bool
+    ensures { IsTrue result ↔ MeetsValue query.now crs.now }
+{
+    is_area(alloc, query.area, crs) && is_at(query.at, crs) && is_kind(query.kind, crs)
+}
+
+fn is_area(alloc: Global, asked: Option<&str>, crs: &CrsParts) -> bool
+    ensures { IsTrue result ↔ IfSome asked.entry (λ part. IsInArea part.now crs.now) }
+{
+    match asked {
+        Some(part) => is_in_area(alloc, crs, part.as_bytes()),
+        None => true,
+    }
+}
+
+fn is_at(asked: Option<Point>, crs: &CrsParts) -> bool
+    ensures { IsTrue result ↔ IfSome asked (λ point. HasPoint point crs.now) }
+{
+    match asked {
+        Some(point) => has_point(crs, &point),
+        None => true,
+    }
+}
+
+fn is_kind(asked: Option<Kind>, crs: &CrsParts) -> bool
+    ensures { IsTrue result ↔ IfSome asked (λ kind. kind_of crs.now ≡ kind) }
+{
+    match asked {
+        Some(kind) => is_of_kind(crs, kind),
+        None => true,
     }
 }

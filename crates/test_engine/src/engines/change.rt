@@ -1,4 +1,4 @@
-//! What the commands of offices write and print.
+//! The files and the output of the commands of offices.
 
 use super::merge::merged;
 use super::{
@@ -20,7 +20,7 @@ pub const OFFICE_B: u128 = 0x4000_8000_0000_0000_000b;
 
 pub const OFFICE_C: u128 = 0x4000_8000_0000_0000_000c;
 
-/// The first system with a factor that is spelled in another way.
+/// The first system, with another spelling of its factor.
 const HEIGHT_AS_ENTERED: &[u8] =
     b"VERTCRS[\"H\",VDATUM[\"D\"],CS[vertical,1],AXIS[\"height (H)\",up],LENGTHUNIT[\"metre\",1.0],ID[\"X\",7]]";
 
@@ -35,7 +35,7 @@ pub fn id(rt: &impl Abort, replica: u128, count: u32) -> OpId {
     OpId::new(Uuid::from_u128(replica), count).expect(rt, "a count above 0")
 }
 
-// What was written and printed, or the fault, where neither was.
+// The file and the output, or the fault, with which nothing was written or printed.
 fn outcome(
     rt: &impl Abort,
     alloc: Global,
@@ -336,7 +336,7 @@ fn merge(rt: &impl Abort, alloc: Global, files: &[&[u8]]) -> Vec<u8> {
     merged(rt, alloc, files).expect(rt, "a merge")
 }
 
-// What comes of a file when others are merged with it, one after another.
+// The file after other files are merged with it, one after another.
 fn merged_in_turn(rt: &impl Abort, alloc: Global, first: &[u8], others: &[&[u8]]) -> Vec<u8> {
     let mut all = Vec::from_slice(alloc, first).expect(rt, "room for a file");
     for file in others {
@@ -345,7 +345,7 @@ fn merged_in_turn(rt: &impl Abort, alloc: Global, first: &[u8], others: &[&[u8]]
     all
 }
 
-// The file of the second office, which took that of the first, entered a system, and superseded the first entry by it.
+// The file of the second office, which merged the first one's file, entered a system, and superseded the first entry.
 fn second_file(rt: &impl Abort, alloc: Global, first: &[u8]) -> Vec<u8> {
     let (old, newer) = (id(rt, OFFICE_A, 1), id(rt, OFFICE_B, 1));
     let took = merge(rt, alloc, &[EMPTY, first]);
@@ -355,7 +355,7 @@ fn second_file(rt: &impl Abort, alloc: Global, first: &[u8]) -> Vec<u8> {
         .file
 }
 
-// An entry of each of two replicas, of which the first is retired. A supersession of it was seen.
+// An entry of each of two replicas. The first one is retired, and a supersession of it was seen.
 fn last_file(alloc: Global) -> Result<Vec<u8>, AllocError> {
     let one = enter(alloc, A, 1, HEIGHT)?;
     let retire = joined(alloc, &[A, &[0, 0, 0, 2, 3, 0], A, &[0, 0, 0, 1]])?;

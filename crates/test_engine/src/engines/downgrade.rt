@@ -10,7 +10,7 @@ use reg_file::FileFault;
 use std::alloc::Global;
 use std::process::Abort;
 
-// What is written, or why nothing is.
+// The bytes that are written, or the fault.
 fn downgraded(rt: &impl Abort, alloc: Global, file: &[u8]) -> Result<Vec<u8>, CliFault> {
     let mut source = Pieces::new(file, 7, Then::Ends);
     let mut target = MemoryTarget::new(alloc, true);

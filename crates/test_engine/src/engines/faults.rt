@@ -66,6 +66,8 @@ fn names_each_fault_and_its_status(rt: HostRuntime) {
         (CliFault::Out(OutFault::NotOpened), b"out: NotOpened", 3),
         (CliFault::Out(OutFault::NewExists), b"out: NewExists", 3),
         (CliFault::Out(OutFault::TooLarge), b"out: TooLarge", 3),
+        (CliFault::Out(OutFault::Changed), b"out: Changed", 3),
+        (CliFault::Out(OutFault::NotSynced), b"out: NotSynced", 3),
         (file(1, InputFault::TooLarge), b"file 1: TooLarge", 3),
         (CliFault::Memory, b"out of memory", 4),
     ];

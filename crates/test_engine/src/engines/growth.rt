@@ -1,5 +1,5 @@
-//! What a failed allocation gives. The allocations fail one by one under `rt try --test --fail-alloc N`; where none is,
-//! these tests see that each call succeeds.
+//! The results of failed allocations. Run these tests with `rt try --test --fail-alloc N`, which makes the allocations
+//! fail one by one. Without it, they check that each call succeeds.
 
 use super::{OTHER_HEIGHT, joined, one_retired, sources};
 use byte_io::{MemoryTarget, Reading, Writing};

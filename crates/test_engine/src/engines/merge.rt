@@ -12,21 +12,21 @@ use std::alloc::{AllocError, Global};
 use std::process::Abort;
 use uuid::Uuid;
 
-/// What a merge of the files writes, or why it does not.
+/// The bytes that a merge of the files writes, or the fault.
 pub fn merged(rt: &impl Abort, alloc: Global, files: &[&[u8]]) -> Result<Vec<u8>, CliFault> {
     let mut target = MemoryTarget::new(alloc, true);
     let mut sources = sources(alloc, files, 7).expect(rt, "sources");
     match run_merge(alloc, &mut sources, &mut target) {
         Ok(()) => Ok(Vec::from_slice(alloc, target.taken()).expect(rt, "room for a file")),
         Err(fault) => {
-            // Nothing goes out where a merge refuses.
+            // A merge that is refused writes nothing.
             assert!(rt; target.taken().is_empty());
             Err(fault)
         }
     }
 }
 
-// Whether a merge of the files writes just this.
+// Whether a merge of the files writes exactly this.
 fn merges_to(rt: &impl Abort, alloc: Global, files: &[&[u8]], want: &[u8]) -> bool {
     match merged(rt, alloc, files) {
         Ok(bytes) => bytes.as_slice() == want,
@@ -80,7 +80,7 @@ fn an_entry_and_its_retirement_in_any_order_have_231_bytes(rt: HostRuntime) {
     }
 }
 
-// The file of two entries and one more operation, of replicas that each saw these.
+// The file of two entries and one more operation, all seen by each replica.
 fn file_with(alloc: Global, replicas: &[Replica], more: &[&[u8]]) -> Result<Vec<u8>, AllocError> {
     let one = enter(alloc, A, 1, HEIGHT)?;
     let two = enter(alloc, A, 2, OTHER_HEIGHT)?;

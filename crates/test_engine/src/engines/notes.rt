@@ -1,4 +1,4 @@
-//! Notes of operations: what commands write of them, what is refused, and what files of both versions say.
+//! Notes of operations: in commands, in refusals, and in files of both versions.
 
 use super::change::{
     OFFICE_A, OFFICE_B, OFFICE_C, entered_with, id, one_each, refused, retired_with,
@@ -32,7 +32,7 @@ pub fn noted_file(alloc: Global, note: &[u8]) -> Result<Vec<u8>, AllocError> {
     file_of(alloc, &[Replica { uuid: A, last: 1 }], 1, &[&entry])
 }
 
-// A note of so many letters.
+// A note with this many letters.
 fn letters(rt: &impl Abort, alloc: Global, number: usize) -> String {
     let mut note = String::new(alloc);
     for _ in 0..number {
@@ -123,7 +123,7 @@ fn a_note_that_is_too_long_comes_before_all_that_an_office_says(rt: HostRuntime)
     }
     let done = superseded_with(&rt, alloc, &file, OFFICE_C, none, &[], &note).err();
     assert_eq!(rt; done, long);
-    // What is wrong with the text comes first.
+    // A fault of the text is reported first.
     let unnamed =
         b"VERTCRS[\"H\",VDATUM[\"D\"],CS[vertical,1],AXIS[\"h\",up],LENGTHUNIT[\"metre\",1]]";
     let done = entered_with(&rt, alloc, EMPTY, OFFICE_A, unnamed, &note).err();

@@ -1,9 +1,9 @@
-//! Outputs over a place that tells what stands there: a step that fails leaves the old file, and nothing beside.
+//! Outputs over a place whose files are known: a step that fails leaves the old file, and no new file.
 
 use super::change::{OFFICE_A, id};
 use super::{EMPTY, HEIGHT, entry_file};
 use byte_io::{Pieces, Then, Writing};
-use byte_out::{MemPlace, Step};
+use byte_out::{InputOf, MemPlace, Step};
 use reg_engine::{CliFault, OutFault, run_new, run_retire};
 use std::alloc::Global;
 use std::process::Abort;
@@ -11,7 +11,7 @@ use uuid::Uuid;
 
 const OLD: &[u8] = b"what stood there";
 
-// A place with an old file, with room for a new one of so many bytes, and with what is beside.
+// A place with an old file, with room for a new one of `room` bytes, and with a file beside, if one is given.
 fn place(rt: &impl Abort, alloc: Global, beside: Option<&[u8]>, room: usize) -> MemPlace {
     let old = Vec::from_slice(alloc, OLD).expect(rt, "room for a file");
     let beside = match beside {
@@ -21,7 +21,7 @@ fn place(rt: &impl Abort, alloc: Global, beside: Option<&[u8]>, room: usize) -> 
     MemPlace::new(alloc, Some(old), beside, room)
 }
 
-// The fault of a new register that goes to the place, after which these files are there.
+// Writes a new register to the place, checks the files that are there afterwards, and returns the fault.
 fn new_leaves(
     rt: &impl Abort,
     alloc: Global,
@@ -80,29 +80,76 @@ fn the_new_file_of_another_writer_stays(rt: HostRuntime) {
     assert_eq!(rt; given, Some(CliFault::Out(OutFault::NewExists)));
 }
 
+// Retires an entry of the register in this file, and replaces the file in the place, which was read or not. Returns the fault
+// and the output.
+fn retired(
+    rt: &impl Abort,
+    alloc: Global,
+    file: &[u8],
+    is_read: bool,
+    place: &mut MemPlace,
+) -> (Option<CliFault>, Vec<u8>) {
+    let mut source = InputOf::new(alloc, Pieces::new(file, 7, Then::Ends), is_read);
+    let mut sink = Writing::new(Vec::new(alloc));
+    let entries = [id(rt, OFFICE_A, 1)];
+    let fault = run_retire(
+        alloc,
+        &mut source,
+        Uuid::from_u128(OFFICE_A),
+        &entries,
+        "",
+        place,
+        &mut sink,
+    )
+    .err();
+    (fault, sink.into_inner())
+}
+
+#[test]
+fn a_file_that_is_not_the_one_that_was_read_stays(rt: HostRuntime) {
+    let alloc = rt.alloc();
+    let file = entry_file(alloc, HEIGHT).expect(&rt, "a file");
+    let mut other = place(&rt, alloc, None, 1000);
+    let (fault, printed) = retired(&rt, alloc, &file, true, &mut other);
+    assert_eq!(rt; fault, Some(CliFault::Out(OutFault::Changed)));
+    assert!(rt; other.stands() == Some(OLD));
+    assert!(rt; other.beside().is_none());
+    assert!(rt; printed.is_empty());
+
+    let copy = Vec::from_slice(alloc, &file).expect(&rt, "room for a file");
+    let mut same = MemPlace::new(alloc, Some(copy), None, 1000);
+    let (fault, printed) = retired(&rt, alloc, &file, true, &mut same);
+    assert_eq!(rt; fault, None);
+    assert!(rt; same.stands() != Some(file.as_slice()));
+    assert!(rt; same.has_landed());
+    assert!(rt; !printed.is_empty());
+}
+
+#[test]
+fn ids_are_printed_where_the_folder_is_not_synced(rt: HostRuntime) {
+    let alloc = rt.alloc();
+    let file = entry_file(alloc, HEIGHT).expect(&rt, "a file");
+    let mut place = place(&rt, alloc, None, 1000);
+    place.fail_at(Step::Land);
+    let (fault, printed) = retired(&rt, alloc, &file, false, &mut place);
+    assert_eq!(rt; fault, Some(CliFault::Out(OutFault::NotSynced)));
+    assert!(rt; place.stands() != Some(OLD));
+    assert!(rt; place.beside().is_none());
+    assert!(rt; !place.has_landed());
+    assert!(rt; !printed.is_empty());
+}
+
 #[test]
 fn a_file_that_is_not_put_prints_no_id(rt: HostRuntime) {
     let alloc = rt.alloc();
     let file = entry_file(alloc, HEIGHT).expect(&rt, "a file");
     for step in [Step::Make, Step::Sync, Step::Put] {
-        let mut source = Pieces::new(&file, 7, Then::Ends);
         let mut place = place(&rt, alloc, None, 1000);
         place.fail_at(step);
-        let mut sink = Writing::new(Vec::new(alloc));
-        let replica = Uuid::from_u128(OFFICE_A);
-        let entries = [id(&rt, OFFICE_A, 1)];
-        let done = run_retire(
-            alloc,
-            &mut source,
-            replica,
-            &entries,
-            "",
-            &mut place,
-            &mut sink,
-        );
-        assert!(rt; done.is_err());
+        let (fault, printed) = retired(&rt, alloc, &file, false, &mut place);
+        assert!(rt; fault.is_some());
         assert!(rt; place.stands() == Some(OLD));
         assert!(rt; place.beside().is_none());
-        assert!(rt; sink.into_inner().is_empty());
+        assert!(rt; printed.is_empty());
     }
 }

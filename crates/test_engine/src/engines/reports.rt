@@ -1,4 +1,4 @@
-//! What reports print.
+//! The output of reports.
 
 use super::{
     A, B, EMPTY, HEIGHT, Replica, enter, entry_file, file_of, joined, one_retired, retirement_file,

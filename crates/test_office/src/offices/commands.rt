@@ -47,7 +47,7 @@ fn commands_are_refused_for_the_first_reason(rt: HostRuntime) {
     assert!(rt; is_unchanged(office, before));
 }
 
-// How many operations an office ends with.
+// The number of operations of an office. Consumes it.
 fn operations_of(office: Office) -> usize {
     office.into_register().ops().count()
 }
@@ -148,7 +148,7 @@ fn a_long_note_is_refused_before_all_else(rt: HostRuntime) {
     );
     let text = definition(&rt, alloc, HEIGHT);
     assert!(rt; office.enter(text, long) == Err(OfficeFault::NoteTooLong));
-    // One byte less is a note, and the next reason is told.
+    // With one byte less it is a note, and the next reason is reported.
     let short = str::from_utf8(&letters[..200]).expect(&rt, "letters");
     assert!(rt; office.retire(alloc, &[], short).is_ok());
     assert!(rt;
@@ -159,7 +159,7 @@ fn a_long_note_is_refused_before_all_else(rt: HostRuntime) {
     );
 }
 
-// How many operations of the office have this note.
+// The number of operations of the office with this note.
 fn noted(office: &Office, note: &[u8]) -> usize {
     let ops = office.register().ops().as_slice();
     ops.iter().filter(|op| op.note().as_bytes() == note).count()
@@ -192,5 +192,5 @@ fn laws_can_be_called() {
     reg_office::laws::long_notes_are_refused_first();
     reg_office::laws::counts_are_spent_last();
     reg_office::laws::effects_are_kept();
-    reg_office::laws::conflicts_of_kept();
+    reg_report::laws::conflicts_of_kept();
 }

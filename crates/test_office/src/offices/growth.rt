@@ -1,5 +1,5 @@
-//! What a failed allocation leaves. The allocations fail one by one under `rt try --test --fail-alloc N`; where none is,
-//! these tests see that each call succeeds.
+//! The state after failed allocations. Run these tests with `rt try --test --fail-alloc N`, which makes the allocations
+//! fail one by one. Without it, they check that each call succeeds.
 
 use super::{A, B, C, HEIGHT, contest, id_of, is_refused, is_unchanged, office, taken};
 use byte_io::Writing;
@@ -17,7 +17,7 @@ fn office_and_copy(rt: &impl Abort, alloc: Global) -> Option<(Office, Register)>
     Some((office(C, register), copy))
 }
 
-// Whether both entries are retired, or none, out of memory.
+// Whether both entries are retired, or memory ran out and none is.
 fn are_retired_or_left(outcome: Result<Vec<OpId>, OfficeFault>, is_unchanged: bool) -> bool {
     match outcome {
         Ok(ids) => ids.len() == 2 && !is_unchanged,
@@ -48,7 +48,7 @@ fn a_repeat_is_told_whatever_memory_there_is(rt: HostRuntime) {
     assert!(rt; is_unchanged(office, before));
 }
 
-// Whether a text is entered, or not, out of memory.
+// Whether a text is entered, or memory ran out and it is not.
 fn is_entered_or_left(outcome: Result<OpId, OfficeFault>, is_unchanged: bool) -> bool {
     match outcome {
         Ok(_) => !is_unchanged,
@@ -69,7 +69,7 @@ fn a_refused_entry_leaves_the_office(rt: HostRuntime) {
     assert!(rt; is_entered_or_left(outcome, is_unchanged(office, before)));
 }
 
-// Whether a report went out whole, or not at all, out of memory.
+// Whether a report was completely written, or memory ran out and nothing was written.
 fn is_whole_or_empty(outcome: Result<(), ReportFault>, text: &[u8]) -> bool {
     match outcome {
         Ok(()) => text.len() > 100,

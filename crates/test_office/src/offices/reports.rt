@@ -142,7 +142,7 @@ fn entries_of_one_text_are_in_no_conflict(rt: HostRuntime) {
     );
 }
 
-// Whether a conflict is over the key of this code, among these entries.
+// Whether a conflict has the key with this code, and these entries.
 fn is_over(conflict: &Conflict, code: &[u8], entries: &[OpId]) -> bool {
     conflict.authority.as_bytes() == b"X".as_slice()
         && conflict.code.as_bytes() == code
@@ -170,7 +170,7 @@ fn all_entries_of_a_key_in_conflict_are_listed(rt: HostRuntime) {
     assert!(rt; is_over(&found[0], b"7", &[one, two, other]));
 }
 
-// Whether a conflict is over the key of this code, among two entries.
+// Whether a conflict has the key with this code, and two entries.
 fn is_of_two(conflict: &Conflict, code: &[u8]) -> bool {
     conflict.code.as_bytes() == code && conflict.entries.len() == 2
 }
@@ -267,7 +267,7 @@ fn where_all_was_seen_there_is_no_gap(rt: HostRuntime) {
     assert!(rt; found.is_empty());
 }
 
-// Whether a report says that so many bytes went into a sink with no more room, and they did.
+// Whether a report to a sink with room for this many bytes fails after exactly these bytes.
 fn fails_after(alloc: Global, register: &Register, written: usize) -> bool {
     let mut sink = Room::new(alloc, 3, written, Full::Fails);
     let outcome = report(alloc, register, ReportKind::Entries, &mut sink);

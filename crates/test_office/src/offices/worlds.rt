@@ -19,27 +19,27 @@ fn read(rt: &impl Abort, alloc: Global, file: &[u8]) -> Register {
     read_bytes(alloc, file).expect(rt, "a register's file")
 }
 
-// The file that the office sends.
+// The file of the office's register.
 fn sent(rt: &impl Abort, alloc: Global, office: &Office) -> Vec<u8> {
     write_bytes(alloc, office.register()).expect(rt, "a file")
 }
 
-// The last file of an office that ends.
+// The last file of an office. Consumes it.
 fn last_file(rt: &impl Abort, alloc: Global, office: Office) -> Vec<u8> {
     sent(rt, alloc, &office)
 }
 
-// Whether an office ends with this file.
+// Whether this is the last file of an office. Consumes it.
 fn ends_with(rt: &impl Abort, alloc: Global, office: Office, file: &[u8]) -> bool {
     last_file(rt, alloc, office).as_slice() == file
 }
 
-// The office when it begins again from its last file.
+// The office after it restarts from its last file.
 fn restarted(rt: &impl Abort, alloc: Global, replica: u128, last: &[u8]) -> Office {
     office(replica, read(rt, alloc, last))
 }
 
-// The office when it has taken files.
+// The office after it takes files.
 fn having_taken(
     rt: &impl Abort,
     alloc: Global,
@@ -54,13 +54,13 @@ fn having_taken(
     office(replica, register)
 }
 
-// The id of the text when the office has entered it.
+// Enters the text, and returns its id.
 fn entered(rt: &impl Abort, alloc: Global, office: &mut Office, text: &[u8]) -> OpId {
     let text = definition(rt, alloc, text);
     office.enter(text, "").expect(rt, "an entry")
 }
 
-// Two entries of two replicas, of which the first is retired. A supersession of it was seen.
+// Two entries of two replicas. The first one is retired, and a supersession of it was seen.
 fn whole_file(rt: &impl Abort, alloc: Global) -> Vec<u8> {
     let parts: &[&[u8]] = &[
         b"CRSR\x02\x01",
@@ -105,7 +105,7 @@ fn second_office(rt: &impl Abort, alloc: Global, file: &[u8]) -> Office {
     b
 }
 
-// The first when it has retired its entry.
+// The first office after it retires its entry.
 fn having_retired(rt: &impl Abort, alloc: Global, before: Office) -> Office {
     let mut a = before;
     let _ids = a
@@ -161,7 +161,7 @@ fn two_orders_make_one_file(rt: HostRuntime) {
     assert!(rt; ends_with(&rt, alloc, other, &file));
 }
 
-// The operation of an id in a file.
+// The operation with this id in a file.
 fn one_of(rt: &impl Abort, alloc: Global, file: &[u8], id: OpId) -> Op {
     let register = read(rt, alloc, file);
     let found = register.ops().as_slice().iter().find(|op| op.id() == id);
@@ -184,14 +184,14 @@ fn one_operation_of_a_file_is_taken(rt: HostRuntime) {
     assert!(rt; ends_with(&rt, alloc, c, &file));
 }
 
-// The piece of a register for what another has seen.
+// The piece of a register for the seen ids of another.
 fn piece_for(rt: &impl Abort, alloc: Global, register: &Register, other: &Register) -> Piece {
     register
         .piece_for(alloc, other.seen())
         .expect(rt, "room for a piece")
 }
 
-// The office when it has joined a piece.
+// The office after it joins a piece.
 fn having_joined(
     rt: &impl Abort,
     alloc: Global,
@@ -218,7 +218,7 @@ fn pieces_serve_in_place_of_files(rt: HostRuntime) {
     let first = sent(&rt, alloc, &a);
     let b = second_office(&rt, alloc, &first);
     let a = having_retired(&rt, alloc, a);
-    // The second has not seen the retirement, the first neither of the operations of the second, of which one is pruned.
+    // The second has not seen the retirement. The first has seen neither operation of the second; one of them is pruned.
     let retirement = piece_for(&rt, alloc, a.register(), b.register());
     assert_eq!(rt; retirement.ops().len(), 1);
     let others = piece_for(&rt, alloc, b.register(), a.register());
@@ -258,7 +258,7 @@ fn a_restart_keeps_the_gap(rt: HostRuntime) {
 #[test]
 fn laws_of_worlds_can_be_called() {
     reg_office::laws::every_world();
-    reg_office::laws::one_report();
-    reg_office::laws::one_line();
-    reg_office::laws::texts_are_read();
+    reg_report::laws::one_report();
+    reg_report::laws::one_line();
+    reg_report::laws::texts_are_read();
 }

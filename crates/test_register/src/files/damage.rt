@@ -154,7 +154,7 @@ fn a_text_is_the_canonical_one(rt: HostRuntime) {
     }
 }
 
-// The file of one replica's counts up to the last, and of so many operations in these parts.
+// The file of one replica's counts up to the last, and of this many operations, given as parts.
 fn file_with(
     rt: &impl Abort,
     alloc: Global,
@@ -171,7 +171,7 @@ fn enters(rt: &impl Abort, alloc: Global, version: u8, count: u32, text: &[u8]) 
     enter_bytes(alloc, version, count, text).expect(rt, "an entry")
 }
 
-// The operation of this count that retires the first.
+// The operation with this count that retires the first entry.
 fn retires(rt: &impl Abort, alloc: Global, version: u8, count: u32) -> Vec<u8> {
     let note = no_note(version);
     joined(alloc, &[UUID_A, &four(count), &[3], note, UUID_A, &four(1)]).expect(rt, "a retirement")

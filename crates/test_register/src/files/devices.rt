@@ -1,4 +1,4 @@
-//! Sources and sinks that fail, cut what goes by, or never end.
+//! Sources and sinks that fail, split the data, or never end.
 
 use super::{FIRST, OTHER_HEIGHT, SECOND, enter_bytes, entry_file, file_of, is_written, one_entry};
 use byte_io::{Full, Pieces, Reading, Room, Then};
@@ -27,7 +27,7 @@ fn a_source_that_fails_is_told_with_its_bytes(rt: HostRuntime) {
     }
 }
 
-// How many operations are read of a file in such pieces, unless it is refused.
+// The number of operations read from a file in these pieces, or the fault.
 fn operations_of(alloc: Global, file: &[u8], piece: usize) -> Option<usize> {
     let mut source = Pieces::new(file, piece, Then::Ends);
     let register = read_register(alloc, &mut source).ok()?;
@@ -47,7 +47,7 @@ fn pieces_change_no_answer(rt: HostRuntime) {
     }
 }
 
-// Reads a file beside the registers that are known, and appends its register.
+// Reads a file with known registers, and appends its register to them.
 fn read_beside(rt: &impl Abort, alloc: Global, known: &mut Vec<Register>, file: &[u8]) {
     let mut source = Pieces::new(file, 7, Then::Ends);
     let register = read_register_beside(alloc, known, &mut source).expect(rt, "a register");
@@ -68,7 +68,7 @@ fn what_is_known_changes_no_answer(rt: HostRuntime) {
     }
 }
 
-// Whether a sink with room for no more than the front of a file takes just that, and reports it.
+// Whether a write to a sink with room for only the front of a file writes exactly that, and reports it.
 fn is_cut(alloc: Global, register: &Register, front: &[u8], full: Full) -> bool {
     let mut sink = Room::new(alloc, 3, front.len(), full);
     let fault = write_register(alloc, register, &mut sink).err();

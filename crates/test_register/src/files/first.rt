@@ -1,4 +1,4 @@
-//! Files of version 1: read with empty notes, and written where there are none.
+//! Files of version 1: read with empty notes, and written if there are no notes.
 
 use super::{A, FIRST, SECOND, entry_file, goes_to, id_of, note_of, one_entry, take_noted};
 use byte_io::{Full, Room};
@@ -28,7 +28,7 @@ fn a_register_without_notes_has_a_file_of_the_first_version(rt: HostRuntime) {
     assert!(rt; sink.taken() == file.as_slice());
 }
 
-// Whether a sink with room for no more than the front of a file takes just that, and reports it.
+// Whether a write to a sink with room for only the front of a file writes exactly that, and reports it.
 fn is_cut(alloc: Global, register: &Register, front: &[u8]) -> bool {
     let mut sink = Room::new(alloc, 3, front.len(), Full::Fails);
     let fault = write_first_register(alloc, register, &mut sink).err();

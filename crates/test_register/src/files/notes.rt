@@ -14,7 +14,7 @@ use wkt_crs::Definition;
 /// A third replica.
 const C: u128 = 0x0000_0000_0000_4000_8000_0000_0000_000c;
 
-// The file of one entry, with a note in these bytes.
+// The file of one entry, with a note given as bytes.
 fn noted_file(rt: &impl Abort, alloc: Global, note: &[u8]) -> Vec<u8> {
     let enter = noted_bytes(alloc, 1, note, HEIGHT).expect(rt, "an operation");
     file_of(alloc, SECOND, &[(1, 1)], 1, &enter).expect(rt, "a file")

@@ -15,7 +15,7 @@ use reg_state::{Piece, Register, Seen};
 use std::alloc::Global;
 use std::process::Abort;
 
-// One entry, which is retired.
+// A retired entry.
 fn two_operations(rt: &impl Abort, alloc: Global) -> Register {
     let mut register = one_entry(rt, alloc);
     let entry = id_of(rt, A, 1);
@@ -23,7 +23,7 @@ fn two_operations(rt: &impl Abort, alloc: Global) -> Register {
     register
 }
 
-// And another one.
+// Another entry.
 fn three_operations(rt: &impl Abort, alloc: Global) -> Register {
     let mut register = two_operations(rt, alloc);
     enter(rt, alloc, &mut register, id_of(rt, A, 3), OTHER_HEIGHT);
@@ -231,7 +231,7 @@ fn another_kind_is_told_at_5(rt: HostRuntime) {
     }
 }
 
-// How many operations a part in these bytes has, and whether it is a piece.
+// The number of operations of the part in these bytes, and whether it is a piece.
 fn part_of(rt: &impl Abort, alloc: Global, bytes: &[u8]) -> (usize, bool) {
     let mut source = Pieces::new(bytes, 7, Then::Ends);
     match read_part(alloc, &mut source).expect(rt, "a part") {
@@ -251,7 +251,7 @@ fn a_part_is_a_register_or_a_piece(rt: HostRuntime) {
     }
 }
 
-// Whether reading a summary, and reading a piece, from a source that fails after these bytes is told with their number.
+// Whether reading a summary, and a piece, from a source that fails after these bytes reports their number.
 fn is_seen_unread(alloc: Global, front: &[u8]) -> bool {
     let mut source = Pieces::new(front, 3, Then::Fails);
     read_seen(alloc, &mut source).err() == Some(ReadFileFault::ReadFailed(front.len()))
@@ -262,7 +262,7 @@ fn is_piece_unread(alloc: Global, front: &[u8]) -> bool {
     read_piece(alloc, &mut source).err() == Some(ReadFileFault::ReadFailed(front.len()))
 }
 
-// Whether a sink with room for no more than the front of a file takes just that, and reports it.
+// Whether a write to a sink with room for only the front of a file writes exactly that, and reports it.
 fn is_seen_cut(alloc: Global, seen: &Seen, front: &[u8]) -> bool {
     let mut sink = Room::new(alloc, 3, front.len(), Full::Fails);
     let fault = write_seen(alloc, seen, &mut sink).err();

@@ -41,7 +41,7 @@ fn one_entry_has_161_bytes(rt: HostRuntime) {
     assert!(rt; goes_round(alloc, &bytes));
 }
 
-// Two entries of one replica, of which the first is retired. A supersession of it by another replica was seen.
+// Two entries of one replica. The first one is retired, and a supersession of it by another replica was seen.
 fn worked_file(alloc: Global) -> Result<Vec<u8>, AllocError> {
     joined(
         alloc,
@@ -127,4 +127,5 @@ fn laws_can_be_called() {
     reg_file::laws::held_or_fault();
     reg_file::laws::one_first_fault();
     reg_file::laws::one_kind();
+    reg_file::laws::noted_is_least();
 }

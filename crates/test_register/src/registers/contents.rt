@@ -1,4 +1,4 @@
-//! Registers made of their content.
+//! Registers made from a content.
 
 use super::{
     A, B, C, Sample, Step, enter, has_status, id_of, keeps, made, register_of, retire, supersede,
@@ -8,7 +8,7 @@ use reg_state::{ContentFault, Register, Seen};
 use std::alloc::Global;
 use std::process::Abort;
 
-// What is made of two operations by id, both of which are seen.
+// The register of two operations ordered by id, both seen, or the fault.
 fn made_of(alloc: Global, steps: &[Step; 2], seen: Seen) -> Result<Register, ContentFault> {
     let Ok(first) = made(alloc, steps[0]) else {
         return Err(ContentFault::Memory);
@@ -40,7 +40,7 @@ fn content_of(alloc: Global, first: Op, second: Op, seen: Seen) -> Result<Regist
     Register::from_content(alloc, ops, seen)
 }
 
-// What has seen both.
+// The seen ids of a register with both steps.
 fn seen_of(rt: &impl Abort, alloc: Global, steps: &[Step; 2]) -> Seen {
     let register = register_of(rt, alloc, steps);
     register.seen().try_clone(alloc).expect(rt, "a copy")

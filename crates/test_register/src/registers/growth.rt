@@ -1,5 +1,5 @@
-//! What a failed allocation leaves. The allocations fail one by one under `rt try --test --fail-alloc N`; where none is,
-//! these tests see that each call succeeds.
+//! The state after failed allocations. Run these tests with `rt try --test --fail-alloc N`, which makes the allocations
+//! fail one by one. Without it, they check that each call succeeds.
 
 use super::{A, Sample, are_same, enter, id_of, joined, made, taken, worked};
 use reg_op::OpId;
@@ -7,7 +7,7 @@ use reg_state::{Join, JoinFault, Piece, PieceFault, Register, TakeFault};
 use std::alloc::Global;
 use std::process::Abort;
 
-// The register of two operations of the worked example, unless memory is refused.
+// The register of two operations of the worked example, or none if memory runs out.
 fn two_of(rt: &impl Abort, alloc: Global, one: usize, other: usize) -> Option<Register> {
     taken(alloc, &[worked(rt, one), worked(rt, other)]).ok()
 }
@@ -19,7 +19,7 @@ fn two_and_copy(rt: &impl Abort, alloc: Global) -> Option<(Register, Register)> 
     Some((register, copy))
 }
 
-// Whether a register has taken an id, or is what it was before, out of memory.
+// Whether a register has taken an id, or memory ran out and it is unchanged.
 fn has_taken_or_is_left(
     outcome: Result<(), TakeFault>,
     id: OpId,
@@ -60,7 +60,7 @@ fn a_refused_entry_leaves_the_register(rt: HostRuntime) {
     assert!(rt; has_taken_or_is_left(outcome, id_of(&rt, A, 2), register, before));
 }
 
-// Whether a join has three operations, or is refused, out of memory, and leaves the two of the left.
+// Whether a join has three operations, or memory ran out and the left register still has its two.
 fn is_joined_or_left(outcome: Result<Register, JoinFault<OpId>>, left: &Register) -> bool {
     match outcome {
         Ok(both) => both.ops().as_slice().len() == 3,
@@ -125,14 +125,14 @@ fn a_clash_of_a_take_is_told_without_memory(rt: HostRuntime) {
     assert!(rt; clash_taken(left.take(third)) == Some(id));
 }
 
-// The second entry of the worked example, for those who have seen the first.
+// The piece of the second entry of the worked example, for a basis with the first.
 fn piece_of(rt: &impl Abort, alloc: Global) -> Option<Piece> {
     let register = two_of(rt, alloc, 0, 1)?;
     let other = taken(alloc, &[worked(rt, 0)]).ok()?;
     register.piece_for(alloc, other.seen()).ok()
 }
 
-// Whether a join has three operations, or is refused, out of memory, and leaves the two of the left.
+// Whether a join has three operations, or memory ran out and the left register still has its two.
 fn is_piece_joined_or_left(outcome: Result<Register, PieceFault>, left: &Register) -> bool {
     match outcome {
         Ok(both) => both.ops().as_slice().len() == 3,

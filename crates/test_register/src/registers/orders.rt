@@ -34,7 +34,7 @@ fn each_order_gives_one_content(rt: HostRuntime) {
     assert_eq!(rt; orders, 24);
 }
 
-// Whether the runs of what was seen are these, from the first on, and no more.
+// Whether the seen ids have exactly these runs.
 fn has_runs(register: &Register, replica: Uuid, runs: &[(u32, u32)]) -> bool {
     for (k, (low, high)) in runs.iter().enumerate() {
         let run = Run {

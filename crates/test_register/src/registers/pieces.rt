@@ -1,4 +1,4 @@
-//! Pieces: what they have, and where they are joined.
+//! Pieces: their content, and the registers that they join.
 
 use super::{A, Sample, Step, are_same, enter, has_same, id_of, keeps, register_of, retire};
 use reg_op::{Op, OpId};
@@ -35,7 +35,7 @@ fn seen_to(rt: &impl Abort, alloc: Global, high: u32) -> Seen {
     seen
 }
 
-// The piece of the three steps for those who have seen the first ones.
+// The piece of the three steps for a basis with the first ones.
 fn piece_from(rt: &impl Abort, alloc: Global, high: u32) -> Piece {
     let register = whole(rt, alloc);
     let basis = seen_to(rt, alloc, high);
@@ -47,7 +47,7 @@ fn has_ops(piece: &Piece, ids: &[OpId]) -> bool {
     ops.len() == ids.len() && ops.iter().zip(ids).all(|(op, id)| op.id() == *id)
 }
 
-// Whether these are the first runs of a piece's basis and of what was seen outside it, and there are no others.
+// Whether a piece's basis and its seen ids have exactly these runs.
 fn has_runs(piece: &Piece, basis: Option<Run>, seen: Option<Run>) -> bool {
     piece.basis().run(0) == basis
         && piece.basis().run(1) == None
@@ -70,7 +70,7 @@ fn a_piece_for_those_who_lack_nothing_is_empty(rt: HostRuntime) {
     assert!(rt; has_ops(&piece, &[]) && has_runs(&piece, Some(run_of(1, 3)), None));
 }
 
-// What becomes of a register, which ends here, when a piece is joined.
+// The result of joining a piece to a register. Consumes the register.
 fn joined(alloc: Global, register: Register, piece: Piece) -> Result<Register, PieceFault> {
     register.join_piece(alloc, &piece)
 }

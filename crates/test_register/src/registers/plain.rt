@@ -1,4 +1,4 @@
-//! The register as a plain program, under the contract of the compact one: unsorted lists, filtered anew in each call.
+//! The register as a plain program, under the contract of the compact one: unsorted lists, filtered in each call.
 
 mod lists;
 
@@ -63,7 +63,7 @@ impl Plain {
         Ok(())
     }
 
-    /// The status of an entry, of which other ids have none.
+    /// The status of an entry; other ids have none.
     pub fn status(&self, entry: OpId) -> Option<Status>
         ensures { result ≡ status self.now.ops entry }
     {
@@ -112,7 +112,7 @@ fn take_into(ops: &mut Vec<Op>, seen: &mut Vec<OpId>, op: Op) -> Result<(), Allo
     Ok(())
 }
 
-// Whether the operation is there, or one that replaces it.
+// Whether the list has the operation, or one that replaces it.
 fn is_needless(ops: &[Op], op: &Op) -> bool
     ensures { result ≡ list_any (λ p. is_eq (op_cmp p op.now) || replaces p op.now) ops.now }
 {
@@ -126,7 +126,7 @@ fn has_other_body(ops: &[Op], op: &Op) -> bool
     ops.iter().any(|p| p.clashes(op))
 }
 
-// Leaves out what one operation replaces.
+// Removes the operations that one operation replaces.
 fn drop_replaced(ops: &mut Vec<Op>, op: &Op)
     ensures room { vec_capacity ops.new ≡ vec_capacity ops.old }
     ensures bound { vec_len ops.new ≤ vec_len ops.old }

@@ -10,7 +10,7 @@ use std::alloc::Global;
 use std::process::Abort;
 use uuid::Uuid;
 
-// Whether it is what comes of a retirement before its entry: the entry has no status yet.
+// Whether the register has a retirement without its entry, which has no status yet.
 fn is_early(register: &Register, entry: OpId, mark: OpId) -> bool {
     register.status(entry) == None && keeps(register, &[mark])
 }
@@ -38,7 +38,7 @@ fn a_retirement_may_come_before_its_entry(rt: HostRuntime) {
     assert!(rt; are_same(both, register_of(&rt, alloc, &steps)));
 }
 
-// Whether these are the first runs of what was seen, and there is no other.
+// Whether the seen ids have exactly these runs.
 fn has_runs(register: &Register, runs: &[Run]) -> bool {
     for (k, run) in runs.iter().enumerate() {
         if register.seen().run(k) != Some(*run) {
@@ -82,7 +82,7 @@ fn has_seen(register: &Register, ids: &[OpId]) -> bool {
     ids.iter().all(|id| register.seen().contains(*id))
 }
 
-// Whether the register that has taken some steps keeps the first two of the ids, and has seen all.
+// Whether the register after these steps keeps exactly the first two of the ids, and has seen all of them.
 fn keeps_first_two(rt: &impl Abort, alloc: Global, steps: &[Step], ids: &[OpId; 3]) -> bool {
     let register = register_of(rt, alloc, steps);
     keeps(&register, &ids[..2]) && has_seen(&register, ids)
@@ -110,7 +110,7 @@ fn the_least_of_two_retirements_is_kept(rt: HostRuntime) {
     }
 }
 
-// How many bytes the texts of all entries have, if all are valid.
+// The total length of the texts of all entries, if all are valid.
 fn bytes_of_valid(register: &Register) -> usize {
     let mut bytes = 0usize;
     for op in register.ops() {
@@ -184,7 +184,7 @@ fn two_notes_of_one_id_clash(rt: HostRuntime) {
     assert!(rt; clashes_at(joined(alloc, left, right), id));
 }
 
-// Whether the operation of this id is lent with this note.
+// Whether the operation with this id is shown with this note.
 fn lends_note(register: &Register, id: OpId, note: &[u8]) -> bool {
     for op in register.ops() {
         if op.id == id {

@@ -1,4 +1,4 @@
-//! Shelves byte for byte, and what is no shelf.
+//! Shelves byte for byte, and bytes that are no shelf.
 
 use byte_disk::MemDisk;
 use byte_shelf::{ShelfFault, format, keep, restore};
@@ -14,12 +14,12 @@ fn front(bytes: &[u8], n: usize) -> &[u8] {
     &bytes[..n.min(bytes.len())]
 }
 
-// The bytes behind the first n.
+// The bytes after the first n.
 fn back(bytes: &[u8], n: usize) -> &[u8] {
     &bytes[n.min(bytes.len())..]
 }
 
-// The bytes with another one at a place.
+// The bytes with one replaced.
 fn changed(alloc: Global, bytes: &[u8], place: usize, byte: u8) -> Result<Vec<u8>, AllocError> {
     let mut other = bytes.to_vec(alloc)?;
     if place < other.len() {
@@ -28,7 +28,7 @@ fn changed(alloc: Global, bytes: &[u8], place: usize, byte: u8) -> Result<Vec<u8
     Ok(other)
 }
 
-// Why the bytes are no shelf, or whether the shelf has these.
+// Whether these bytes are restored from the image, or the fault.
 fn restored(alloc: Global, image: &[u8], bytes: &[u8]) -> Result<bool, ShelfFault> {
     let Ok(mut disk) = disk_of(alloc, image) else {
         return Err(ShelfFault::Memory);
@@ -118,13 +118,13 @@ fn what_is_no_shelf(rt: HostRuntime) -> Result<(), AllocError> {
         let fault = restored(alloc, front(shelf, cut), b"abc").err();
         assert_eq!(rt; fault, Some(ShelfFault::NotShelf), "{cut}");
     }
-    // A size that no shelf has, a length above the size, and a slot that is not there.
+    // A size that no shelf has, a length above the size, and a slot beyond the end.
     for (place, byte) in [(4, 13), (1, 255), (8, 15), (0, 1)] {
         let other = changed(alloc, shelf, place, byte)?;
         let fault = restored(alloc, &other, b"abc").err();
         assert_eq!(rt; fault, Some(ShelfFault::NotShelf), "{place}");
     }
-    // To be kept on, the gate and the size are enough.
+    // Keeping on a shelf needs only the gate and the size.
     for (cut, fault) in [(4, Some(ShelfFault::NotShelf)), (5, None)] {
         let mut disk = disk_of(alloc, front(shelf, cut))?;
         assert_eq!(rt; keep(alloc, &mut disk, b"wxyz").err(), fault, "{cut}");

@@ -7,7 +7,7 @@ use std::alloc::{AllocError, Global};
 
 static PENDING: [Pending; 3] = [Pending::Old, Pending::New, Pending::Each(0xff)];
 
-/// How many calls keeping bytes takes: sync, head, slot, sync, gate, sync.
+/// The number of calls for keeping bytes: sync, head, slot, sync, gate, sync.
 const CALLS: u64 = 6;
 
 fn shelf(alloc: Global) -> Result<MemDisk, AllocError> {
@@ -16,7 +16,7 @@ fn shelf(alloc: Global) -> Result<MemDisk, AllocError> {
     disk_of(alloc, disk.bytes())
 }
 
-// What is restored of what a stop left.
+// The bytes that are restored after a stop.
 fn restored(alloc: Global, disk: &MemDisk, pending: Pending) -> Result<Vec<u8>, AllocError> {
     let mut again = MemDisk::new(alloc, disk.left(pending)?)?;
     match restore(alloc, &mut again) {
@@ -68,7 +68,7 @@ fn each_call_fails(rt: HostRuntime) -> Result<(), AllocError> {
                 "{call}"
             );
         }
-        // It fails once.
+        // One call fails.
         let found = restore(alloc, &mut disk);
         assert!(rt; found.is_ok(), "{call}");
     }

@@ -17,7 +17,7 @@ use std::alloc::Global;
 use std::process::Abort;
 use uuid::Uuid;
 
-/// How many calls entering takes: sync, head, length, slot; sync, head, slot, sync, gate, sync.
+/// The number of calls for entering: sync, head, length, slot; sync, head, slot, sync, gate, sync.
 const CALLS: u64 = 10;
 
 // The shelf of one entry.
@@ -28,7 +28,7 @@ fn entry_shelf(rt: &impl Abort, alloc: Global, size: u32) -> MemDisk {
     disk_of(rt, alloc, disk.bytes())
 }
 
-// The fault of entering the text as the first replica, and what was printed.
+// The fault of entering the text as the first replica, and the output.
 fn entered(
     alloc: Global,
     disk: &mut MemDisk,
@@ -42,7 +42,7 @@ fn entered(
     (fault, sink)
 }
 
-// The fault of retiring the entry as the first replica, and what was printed.
+// The fault of retiring the entry as the first replica, and the output.
 fn retired(alloc: Global, disk: &mut MemDisk, entry: OpId) -> (Option<CliFault>, Room) {
     let mut sink = Room::new(alloc, 7, 100, Full::Fails);
     let replica = Uuid::from_u128(OFFICE_A);
@@ -114,7 +114,7 @@ fn an_entry_is_kept_and_then_printed(rt: HostRuntime) {
     assert!(rt; sink.taken() == FIRST_LINE);
     let found = restored(&rt, alloc, disk.bytes()).expect(&rt, "a register");
     assert!(rt; found.as_slice() == one.as_slice());
-    // It is kept also where its id cannot be printed.
+    // It is kept even if its id cannot be printed.
     let (fault, sink) = entered(alloc, &mut disk, OTHER_HEIGHT, 5);
     assert_eq!(rt; fault, Some(CliFault::Out(OutFault::WriteFailed(5))));
     assert_eq!(rt; sink.taken().len(), 5);
@@ -229,7 +229,7 @@ fn files_are_merged_into_the_register_of_a_shelf(rt: HostRuntime) {
     assert_eq!(rt; merged(&rt, alloc, &mut disk, &[&retirement, EMPTY]), None);
     let found = restored(&rt, alloc, disk.bytes()).expect(&rt, "a register");
     assert_eq!(rt; found.len(), 231);
-    // One that adds nothing turns the gate all the same.
+    // A change that adds nothing switches the gate, too.
     assert!(rt; disk.bytes().starts_with(&[0]));
     assert_eq!(rt; merged(&rt, alloc, &mut disk, &[EMPTY]), None);
     assert!(rt; disk.bytes().starts_with(&[1]));

@@ -1,4 +1,4 @@
-//! Shelves byte for byte, what they refuse, and files of either version in their slots.
+//! Shelves byte for byte, refusals, and files of either version in the slots.
 
 use super::{
     EMPTY, HEIGHT, disk_of, entry_file, first_entry_file, joined, register_of, restored, shelf_of,
@@ -95,7 +95,7 @@ fn bytes_that_are_no_register_are_not_restored(rt: HostRuntime) {
     let image = joined(alloc, &[&head, EMPTY, b"!"]).expect(&rt, "an image");
     let found = restored(&rt, alloc, &image).err();
     assert_eq!(rt; found, Some(ShelfFault::NotShelf));
-    // To be kept on, the gate and the size are enough.
+    // Keeping on a shelf needs only the gate and the size.
     let mut disk = disk_of(&rt, alloc, &image);
     assert_eq!(rt; keep(alloc, &mut disk, &register).err(), None);
     let mut disk = disk_of(&rt, alloc, &[0, 0, 0, 2]);
@@ -110,7 +110,7 @@ fn noise_in_the_other_slot_has_no_meaning(rt: HostRuntime) {
     let register = register_of(&rt, alloc, &file);
     let mut disk = shelf_of(&rt, alloc, 512);
     assert_eq!(rt; keep(alloc, &mut disk, &register).err(), None);
-    // Slot 0 stands at 5, and slot 1, which is in use, at 521.
+    // Slot 0 begins at 5, and slot 1, which is in use, at 521.
     let mut image = Vec::new(alloc);
     for (at, byte) in disk.bytes().iter().enumerate() {
         let noise = if (5..521).contains(&at) {

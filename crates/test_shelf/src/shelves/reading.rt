@@ -154,7 +154,7 @@ fn summaries_and_pieces_go_out(rt: HostRuntime) {
         None
     );
     assert_eq!(rt; target.taken().len(), 38);
-    // The piece for one who has seen nothing: the ids that were seen, and the operation.
+    // The piece for the empty basis: the seen ids, and the operation.
     let mut summary = Pieces::new(NONE_SEEN, 7, Then::Ends);
     let mut target = MemoryTarget::new(alloc, true);
     let fault = run_give(

@@ -4,7 +4,7 @@ use super::{EMPTY, HEIGHT, PENDING, entry_file, left, register_of, shelf_of};
 use byte_disk::Pending;
 use reg_shelf::{ShelfFault, keep};
 
-/// How many calls keeping a register takes: sync, head, slot, sync, gate, sync.
+/// The number of calls for keeping a register: sync, head, slot, sync, gate, sync.
 const CALLS: u64 = 6;
 
 #[test]

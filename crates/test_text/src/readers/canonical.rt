@@ -1,4 +1,4 @@
-//! Canonical texts that are seen to be so.
+//! Canonical texts that are recognized.
 
 use super::{COMPOUND, HEIGHT, LISTED, POLAR, SPELLED};
 use byte_io::{Pieces, Reading, Then};

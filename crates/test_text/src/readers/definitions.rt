@@ -1,4 +1,4 @@
-//! Definitions: their texts, keys and copies, and why a text is none.
+//! Definitions: their texts, keys and copies, and the faults of texts that are none.
 
 use super::{COMPOUND, HEIGHT, LISTED, POLAR, SPELLED, has_text, read};
 use byte_io::Reading;
@@ -11,11 +11,11 @@ use wkt_crs::{DefineFromFault, Definition, DefinitionFault, define_from};
 const NAMED_HEIGHT: &[u8] =
     b"VERTCRS[\"H\",VDATUM[\"D\"],CS[vertical,1],AXIS[\"height (H)\",up],LENGTHUNIT[\"metre\",1],ID[\"X\",\"7\"]]";
 
-/// A canonical text with a mark within a text, which no short way reads.
+/// A canonical text with a mark inside a quoted text, which is not recognized.
 const MARKED: &[u8] =
     b"VERTCRS[\"\"\"\",VDATUM[\"D\"],CS[vertical,1],AXIS[\"height (H)\",up],LENGTHUNIT[\"metre\",1],ID[\"X\",7]]";
 
-/// A canonical text with a unit on one of its axes alone.
+/// A canonical text with a unit on only one of its axes.
 const PARTED: &[u8] =
     b"GEOGCRS[\"G\",DATUM[\"D\",ELLIPSOID[\"S\",6371000,0]],CS[ellipsoidal,2],AXIS[\"(Lat)\",north,ANGLEUNIT[\"degree\",0.0174532925199433]],AXIS[\"(Lon)\",east],ANGLEUNIT[\"radian\",1],ID[\"X\",8]]";
 
@@ -31,7 +31,7 @@ fn is_refused(outcome: Result<Definition, DefinitionFault>, fault: DefinitionFau
     outcome.err() == Some(fault)
 }
 
-// The system of `HEIGHT` with a remark of this many letters: 104 bytes more than the letters.
+// The system of `HEIGHT` with a remark of this many letters. Its text has 104 bytes more.
 fn remarked(rt: &impl Abort, alloc: Global, letters: usize) -> Vec<u8> {
     let remark = vec![in alloc; b'a'; letters].expect(rt, "room for a remark");
     let mut text = Vec::new(alloc);
@@ -101,7 +101,7 @@ fn canonical_texts_that_are_read_in_the_long_way_are_definitions(rt: HostRuntime
     }
 }
 
-// Whether a copy of the value of a text is the value, and has its text.
+// Whether a copy of the value of a text equals the value, and has the same text.
 fn is_copied(rt: &impl Abort, alloc: Global, text: &[u8]) -> bool {
     let value = read(rt, alloc, text);
     let copy = value.try_clone(alloc).expect(rt, "a copy");

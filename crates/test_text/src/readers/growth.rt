@@ -1,5 +1,5 @@
-//! What a failed allocation leaves. The allocations fail one by one under `rt try --test --fail-alloc N`; where none is,
-//! these tests see that each call succeeds.
+//! The state after failed allocations. Run these tests with `rt try --test --fail-alloc N`, which makes the allocations
+//! fail one by one. Without it, they check that each call succeeds.
 
 use super::{COMPOUND, HEIGHT, POLAR, SPELLED};
 use std::alloc::Global;
@@ -8,7 +8,7 @@ use wkt_crs::{
     write_crs, write_pretty,
 };
 
-// What was read where memory was found.
+// The value that was read, or none if memory ran out.
 fn read(alloc: Global, text: &[u8]) -> Option<Crs> {
     read_crs(alloc, text).ok()
 }

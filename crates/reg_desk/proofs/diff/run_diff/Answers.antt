@@ -3,7 +3,7 @@ use Rattle.std.specs.Prelude.{IsTrue}
 use Rattle.reg_op.specs.Contents.{Content, nothing, joined}
 use Rattle.reg_op.specs.Pieces.{Piece}
 use Rattle.reg_join.specs.Joining.{all_joined}
-use Rattle.reg_office.specs.Reports.{Reports}
+use Rattle.reg_report.specs.Reports.{Reports}
 use Rattle.reg_query.specs.DiffLines.{IsDiff, Differ}
 use Rattle.reg_engine.specs.Inputs.{AreUnread, registers}
 use Rattle.reg_engine.specs.Merge.{begun, with_pieces, IsUnjoined}

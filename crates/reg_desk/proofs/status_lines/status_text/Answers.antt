@@ -2,7 +2,7 @@ use Rattle.std.proofs.Common.{◌<◌, ◌≤◌, min, Bor, ℕ, List, [], lengt
 use Rattle.reg_desk.specs.declared.look.Look.{Look}
 use Rattle.reg_desk.specs.declared.look.Look.TheVariants as look
 use Rattle.reg_desk.proofs.StatusLemmas.{line_at, lines_done}
-use Rattle.reg_office.specs.Lines.{sheet_text}
+use Rattle.reg_report.specs.Lines.{sheet_text}
 use Rattle.reg_desk.proofs.status_lines.status_text.Goals as goal
 
 pub loop-i-preserved : goal.loop-i-preserved

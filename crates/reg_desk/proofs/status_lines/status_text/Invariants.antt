@@ -1,5 +1,5 @@
 use Rattle.std.proofs.Common.{drop, map}
-use Rattle.reg_office.specs.Lines.{sheet_text, IsReady}
+use Rattle.reg_report.specs.Lines.{sheet_text, IsReady}
 use Rattle.reg_desk.proofs.StatusLemmas.{Completes, text_of}
 use Rattle.reg_desk.proofs.status_lines.status_text.Given as goal
 

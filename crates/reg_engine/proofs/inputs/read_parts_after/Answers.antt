@@ -1,4 +1,4 @@
-use Rattle.std.proofs.Common.{◌≡◌, refl, rules, subst, sym, take, map, slice_set, ◌+◌}
+use Rattle.std.proofs.Common.{◌≡◌, refl, rules, ◌+◌}
 use Rattle.reg_engine.proofs.InputLemmas.{gives_next, gives_all, none_given_yet, behind, unread_next, none_fails_yet, none_fails_next, part_gives}
 use Rattle.reg_engine.proofs.inputs.read_parts_after.Goals as goal
 

@@ -5,7 +5,7 @@ use Rattle.wkt_crs.specs.Definition.{IsCrsOf}
 use Rattle.reg_op.specs.Contents.{Content}
 use Rattle.reg_op.specs.Rows.{Row, rows}
 use Rattle.reg_file.specs.Files.{ReadsAs}
-use Rattle.reg_office.proofs.EntryLemmas.{row_is_spelled}
+use Rattle.reg_report.proofs.EntryLemmas.{row_is_spelled}
 use Rattle.reg_engine.proofs.laws.exported_is_read.Goals as goal
 
 read : (bytes : List ℕ) (x : Content) → ReadsAs bytes x → (r : Row) → Contains (rows x.ops) r → (v : Crs) × IsCrsOf v r.definition

@@ -1,13 +1,9 @@
-use Rattle.std.proofs.Common.{Ok, sym, subst, drop, ◌+◌, ◌∙◌, get_or}
-use Rattle.std.proofs.lemmas.List.{at_drop_more}
-use Rattle.reg_op.specs.Pieces.{joined_piece}
+use Rattle.std.proofs.Common.{Ok, sym, subst}
 use Rattle.reg_engine.specs.Merge.{with_pieces, IsUnjoined}
-use Rattle.reg_engine.proofs.MergeLemmas.{refusal_stays}
+use Rattle.reg_engine.proofs.MergeLemmas.{unjoined_by}
 use Rattle.reg_engine.proofs.merge.join_pieces.Goals as goal
 
 pub returns-in-Err-clause-err : goal.returns-in-Err-clause-err
 returns-in-Err-clause-err c =
-    let more = at_drop_more (λ qs. with_pieces (Ok c.loop-piece.joined) qs) c.args.pieces.now c.loop-piece.piece-index c.piece-item.result c.loop-piece-test.true in
-    subst (λ r. IsUnjoined r c.in-Err.fault) (sym more ∙ c.loop-piece.invariant)
-    (refusal_stays (joined_piece c.loop-piece.joined (get_or c.args.pieces.now c.loop-piece.piece-index c.piece-item.result)) (drop (c.loop-piece.piece-index + 1) c.args.pieces.now) c.in-Err.fault
-    (subst (λ p. IsUnjoined (joined_piece c.loop-piece.joined p) c.in-Err.fault) c.piece-item.is c.in-Err.ensures.err))
+    let joined = with_pieces (Ok c.args.register) c.args.pieces.now in
+    subst (λ f. IsUnjoined joined f) (sym c.of_piece.ensures) (unjoined_by c.join_pieces.result joined c.join_pieces.ensures.basis c.join_pieces.ensures.clash c.in-Err.fault c.in-Err.is)

@@ -1,4 +1,4 @@
-use Rattle.std.proofs.Common.{subst}
+use Rattle.std.proofs.Common.{subst, None}
 use Rattle.reg_engine.specs.Outputs.{IsUnpublished}
 use Rattle.reg_engine.proofs.MergeLemmas.{never_too_large}
 use Rattle.reg_engine.proofs.merge.run_new.Goals as goal
@@ -7,4 +7,4 @@ pub returns-clause-small : goal.returns-clause-small
 returns-clause-small g c =
     let before = g.P.Place.state c.args.place.now in
     let after = g.P.Place.state c.publish_register-2.new.place in
-    never_too_large before after c.in-Err.fault (subst (λ x. IsUnpublished x before after c.in-Err.fault) c.new.ensures c.in-Err.ensures.fault)
+    never_too_large before after c.in-Err.fault (subst (λ x. IsUnpublished x None before after c.in-Err.fault) c.new.ensures c.in-Err.ensures.fault)

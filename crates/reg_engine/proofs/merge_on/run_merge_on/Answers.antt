@@ -1,4 +1,4 @@
-use Rattle.std.proofs.Common.{◌≡◌, ◌∷◌, [], Ok, map, refl, sym, subst}
+use Rattle.std.proofs.Common.{◌≡◌, ◌∷◌, [], Ok, map, subst}
 use Rattle.reg_op.specs.Contents.{nothing, joined}
 use Rattle.reg_join.specs.Joining.{all_joined}
 use Rattle.reg_engine.specs.Merge.{begun, with_pieces, IsUnjoined}

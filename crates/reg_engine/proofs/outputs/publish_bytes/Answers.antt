@@ -1,4 +1,4 @@
-use Rattle.std.proofs.Common.{sym, subst}
+use Rattle.std.proofs.Common.{sym, subst, option_map}
 use Rattle.reg_engine.specs.Outputs.{IsUnpublishedOf}
 use Rattle.reg_engine.proofs.OutputLemmas.{unreplaced}
 use Rattle.reg_engine.proofs.outputs.publish_bytes.Goals as goal
@@ -7,4 +7,5 @@ pub returns-in-Err-clause-fault : goal.returns-in-Err-clause-fault
 returns-in-Err-clause-fault g c =
     let old = g.P.Place.state c.args.place.now in
     let new = g.P.Place.state c.replace.new.place in
-    subst (IsUnpublishedOf c.args.bytes.now old new) (sym c.of_replace.ensures) (unreplaced c.args.bytes.now old new c.in-Err.fault c.in-Err.ensures.fault)
+    let read = option_map (λ s. s.now) c.args.read in
+    subst (IsUnpublishedOf read c.args.bytes.now old new) (sym c.of_replace.ensures) (unreplaced read c.args.bytes.now old new c.in-Err.fault c.in-Err.ensures.fault)

@@ -8,7 +8,7 @@ use Rattle.reg_file.proofs.summaries.read_seen_bytes.Goals as goal
 pub returns-in-Ok-clause-found : goal.returns-in-Ok-clause-found
 returns-in-Ok-clause-found c =
     let fits : IsBytes c.args.bytes.now = λ i. omega (arith, c.type_inv.bytes i) in
-    read_holds c.args.bytes.now c.in-Ok.seen fits (omega (arith, c.if-bytes-gt-MOST.false)) c.in-Ok.ensures.ok
+    read_holds c.args.bytes.now c.in-Ok.seen fits (omega (arith, c.if-bytes-gt-MAX_FILE.false)) c.in-Ok.ensures.ok
 
 pub returns-in-Ok-clause-only : goal.returns-in-Ok-clause-only
 returns-in-Ok-clause-only c = λ x h. inl (ap Ok (read_is_held c.args.bytes.now c.in-Ok.seen x c.in-Ok.ensures.ok h))

@@ -1,5 +1,5 @@
 use Rattle.std.proofs.Common.{map, filter, ap, ◌∙◌}
-use Rattle.reg_office.specs.Seen.{row_seen}
+use Rattle.reg_report.specs.Seen.{row_seen}
 use Rattle.reg_import.specs.Known.{stands}
 use Rattle.reg_import.proofs.KnownLemmas.{standing_seen}
 use Rattle.reg_import.proofs.known.standing.Goals as goal

@@ -3,8 +3,9 @@ use Rattle.reg_office.proofs.WorldLemmas.{reached, leads_keeps}
 use Rattle.reg_office.proofs.WorldFollows.{same_files, reads, together, are_new, never_clashes, goes_on, one_world, stays_retired, retired_in_joins}
 use Rattle.reg_office.proofs.WorldSame.{same_reports, same_ops_reports, same_exports}
 use Rattle.reg_office.proofs.WorldSteps.{made_reaches, refused_makes, sent_is_pooled, seen_is_pooled, piece_is_pooled, no_summary, taken_reaches, piece_reaches, piece_is_refused, summary_is_refused, one_reaches, one_is_missing, nothing_to_take, nothing_to_find, nothing_to_answer, restart_keeps}
-use Rattle.reg_office.proofs.WorldStops.{stop_is_all_or_nothing, stop_leaves_a_shelf, stop_leaves_the_new}
+use Rattle.reg_office.proofs.WorldStops.{stop_is_all_or_nothing, stop_leaves_a_shelf, stop_leaves_the_new, stop_may_leave_the_old, stop_may_leave_the_new}
 use Rattle.reg_office.proofs.WorldMade.{pool_grows, was_made}
+use Rattle.reg_office.proofs.WorldOnce.{made_once}
 use Rattle.reg_office.proofs.laws.every_world.Goals as goal
 
 pub returns : goal.returns
@@ -41,9 +42,12 @@ returns c = record {
   new_ids = λ w h. are_new w (reached w h);
   own_ids = λ w h i effects note os k. made_by_id (w.offices i).content i note effects os k;
   grows = λ w v later h k. (leads_keeps later w (reached w h) v k).1;
+  made_once = made_once;
   no_clash = λ w h. never_clashes w (reached w h);
   goes_on = λ w h. goes_on w (reached w h);
   one_world = one_world;
+  stop_may_leave_the_old = λ w h. stop_may_leave_the_old w (reached w h);
+  stop_may_leave_the_new = λ w v h. stop_may_leave_the_new w v (reached w h);
   stays_retired = λ w v later h. stays_retired w v (reached w h) later;
   retired_in_joins = retired_in_joins;
 }

@@ -1,5 +1,5 @@
 use Rattle.std.proofs.Common.{[], ◌∷◌, ◌++◌, map, refl, ap, sym, subst}
-use Rattle.reg_office.specs.Seen.{row_seen}
+use Rattle.reg_report.specs.Seen.{row_seen}
 use Rattle.reg_settle.specs.Doubles.{IsDouble}
 use Rattle.reg_settle.proofs.Steps.{Completes, picks_step, picks_all}
 use Rattle.reg_settle.proofs.Steps.{none_left}

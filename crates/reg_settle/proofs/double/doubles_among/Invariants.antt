@@ -1,6 +1,6 @@
 use Rattle.std.proofs.Common.{◌≡◌, ◌++◌, List, length, map}
 use Rattle.reg_op.specs.Rows.{Row}
-use Rattle.reg_office.specs.Seen.{row_seen}
+use Rattle.reg_report.specs.Seen.{row_seen}
 use Rattle.reg_settle.specs.Doubles.{IsDouble}
 use Rattle.reg_settle.specs.Texts.{HasTexts}
 use Rattle.reg_settle.proofs.Steps.{Completes}

@@ -1,5 +1,5 @@
 use Rattle.std.specs.BTreeSet.{contains}
-use Rattle.reg_office.specs.Seen.{row_seen}
+use Rattle.reg_report.specs.Seen.{row_seen}
 use Rattle.reg_settle.specs.Texts.{bytes_cmp}
 use Rattle.reg_settle.proofs.Repeated.{again_is, one_added}
 use Rattle.reg_settle.proofs.double.is_again.Goals as goal

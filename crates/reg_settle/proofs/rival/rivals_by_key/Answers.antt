@@ -1,6 +1,6 @@
 use Rattle.std.proofs.Common.{rules, map, subst}
 use Rattle.std.proofs.lemmas.List.Sorted.{answers_always, IsPermutation-sym}
-use Rattle.reg_office.specs.Seen.{row_seen}
+use Rattle.reg_report.specs.Seen.{row_seen}
 use Rattle.reg_settle.specs.declared.rival.Rival.{Rival}
 use Rattle.reg_settle.specs.Keeping.{AreRivals}
 use Rattle.reg_settle.proofs.Candidates.{in_other_order, in_order_is}

@@ -1,5 +1,5 @@
 use Rattle.std.proofs.Common.{map, ap, sym, subst}
-use Rattle.reg_office.specs.Seen.{row_seen}
+use Rattle.reg_report.specs.Seen.{row_seen}
 use Rattle.reg_settle.proofs.Candidates.{Gathers, gathers_step, gathers_all}
 use Rattle.reg_settle.proofs.Steps.{none_left}
 use Rattle.reg_settle.proofs.rival.rivals_of.Goals as goal

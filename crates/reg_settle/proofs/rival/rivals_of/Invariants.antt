@@ -1,5 +1,5 @@
 use Rattle.std.proofs.Common.{length, map}
-use Rattle.reg_office.specs.Seen.{row_seen}
+use Rattle.reg_report.specs.Seen.{row_seen}
 use Rattle.reg_settle.proofs.Candidates.{Gathers}
 use Rattle.reg_settle.proofs.rival.rivals_of.Given as goal
 

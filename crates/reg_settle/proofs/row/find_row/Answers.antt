@@ -1,6 +1,6 @@
 use Rattle.std.proofs.Common.{rules}
 use Rattle.std.proofs.lemmas.List.Sorted.{answers_always}
-use Rattle.reg_office.specs.declared.row.Row.{Row as MadeRow}
+use Rattle.reg_report.specs.declared.row.Row.{Row as MadeRow}
 use Rattle.reg_settle.proofs.Ordered.{found_row, no_row}
 use Rattle.reg_settle.proofs.row.find_row.Goals as goal
 

@@ -1,6 +1,6 @@
 use Rattle.std.proofs.Common.{None, [], map, take, filter, refl, sym, subst, inl, inr}
 use Rattle.reg_op.specs.Ids.{Id}
-use Rattle.reg_office.specs.Seen.{row_seen}
+use Rattle.reg_report.specs.Seen.{row_seen}
 use Rattle.reg_settle.specs.declared.fault.SettleFault.{SettleFault}
 use Rattle.reg_settle.specs.declared.rival.Rival.{Rival}
 use Rattle.reg_settle.specs.Settling.{IsObjection}

@@ -1,5 +1,5 @@
 use Rattle.std.proofs.Common.{map, take, drop}
-use Rattle.reg_office.specs.Seen.{row_seen}
+use Rattle.reg_report.specs.Seen.{row_seen}
 use Rattle.reg_settle.specs.Keeping.{At, Holds}
 use Rattle.reg_settle.proofs.Steps.{Goes}
 use Rattle.reg_settle.proofs.Kept.{Kept}

@@ -7,7 +7,7 @@ use reg_state::Register;
 use std::alloc::Global;
 use std::process::Abort;
 
-// Whether both give the same of an operation and of its id.
+// Whether both give the same results for an operation and its id.
 fn agrees_on(op: &Op, plain: &Plain, register: &Register) -> bool {
     let id = op.id();
     let kept = register
@@ -30,7 +30,7 @@ fn agree(rt: &impl Abort, alloc: Global, plain: &Plain, register: &Register) -> 
     true
 }
 
-// Whether both take the list of this length and code, and then agree.
+// Whether both agree after they take the list with this length and code.
 fn agree_after(rt: &impl Abort, alloc: Global, len: usize, code: usize) -> bool {
     let mut register = Register::new(alloc);
     let mut plain = Plain::new(alloc);

@@ -10,4 +10,4 @@ some_written bytes None short h = h
 some_written bytes (Some v) short h = read_as bytes v.items short h
 
 pub returns-clause-reads : goal.returns-clause-reads
-returns-clause-reads c = some_written c.args.text.now c.go_over.result c.if-text-gt-MOST.false c.go_over.ensures
+returns-clause-reads c = some_written c.args.text.now c.go_over.result c.if-text-gt-MAX_TEXT.false c.go_over.ensures

@@ -4,7 +4,7 @@ use Rattle.reg_office.specs.Commands.{Does}
 use Rattle.reg_office.specs.Making.{made}
 use Rattle.reg_office.specs.declared.fault.OfficeFault.TheVariants as office
 use Rattle.reg_engine.specs.Change.{CannotEnter}
-use Rattle.reg_engine.proofs.ChangeLemmas.{does_of, made_of, makes_of, value_of, defined_is, reads_definition, cannot_define, cannot_enter, part_of_found}
+use Rattle.reg_engine.proofs.ChangeLemmas.{made_of, makes_of, value_of, defined_is, reads_definition, cannot_define, cannot_enter, part_of_found}
 use Rattle.reg_engine.proofs.change.EnterChange.make.Goals as goal
 
 pub returns-in-Err-clause-refuses : goal.returns-in-Err-clause-refuses

@@ -1,5 +1,5 @@
 use Rattle.std.proofs.Common.{subst}
-use Rattle.reg_office.specs.Lines.{sheet_text}
+use Rattle.reg_report.specs.Lines.{sheet_text}
 use Rattle.reg_query.specs.ChangesSeen.{change_seen}
 use Rattle.reg_query.specs.DiffLines.{IsChangeLine}
 use Rattle.reg_query.proofs.SheetLemmas.{next_line, last_line}

@@ -1,5 +1,5 @@
 use Rattle.std.proofs.Common.{drop}
-use Rattle.reg_office.specs.Lines.{sheet_text, IsReady}
+use Rattle.reg_report.specs.Lines.{sheet_text, IsReady}
 use Rattle.reg_query.proofs.SheetLemmas.{Completes}
 use Rattle.reg_query.proofs.diff.lines.changes_text.Given as goal
 

@@ -1,5 +1,5 @@
 use Rattle.std.proofs.Common.{ℕ, List, [], ◌∷◌, ap, ◌∙◌}
-use Rattle.reg_office.specs.Lines.{spaced}
+use Rattle.reg_report.specs.Lines.{spaced}
 use Rattle.reg_query.proofs.diff.lines.write_row.Goals as goal
 
 pub returns : goal.returns
@@ -24,5 +24,5 @@ returns c =
         },
         ap (λ t. t ∷ rest) c.sign_text.ensures,
       ),
-      c.in_ok-write_seven.ensures,
+      c.in_ok-write_fields.ensures,
     )

@@ -1,5 +1,5 @@
 use Rattle.std.proofs.Common.{map, length, ap, sym, ◌∙◌, ◌⊎◌, ◌≡◌, inl, inr}
-use Rattle.reg_office.specs.Seen.{row_seen}
+use Rattle.reg_report.specs.Seen.{row_seen}
 use Rattle.reg_query.specs.ChangesSeen.{change_seen}
 use Rattle.reg_query.proofs.WalkLemmas.{walk_start, walk_gone, walk_come, walk_both, walk_done}
 use Rattle.reg_query.proofs.diff.walk.changes.Goals as goal

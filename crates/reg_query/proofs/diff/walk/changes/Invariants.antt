@@ -1,5 +1,5 @@
 use Rattle.std.proofs.Common.{◌+◌, map, length}
-use Rattle.reg_office.specs.Seen.{row_seen}
+use Rattle.reg_report.specs.Seen.{row_seen}
 use Rattle.reg_query.specs.ChangesSeen.{change_seen}
 use Rattle.reg_query.proofs.WalkLemmas.{Walks}
 use Rattle.reg_query.proofs.diff.walk.changes.Given as goal

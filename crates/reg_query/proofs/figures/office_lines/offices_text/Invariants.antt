@@ -1,5 +1,5 @@
 use Rattle.std.proofs.Common.{◌≡◌, take}
-use Rattle.reg_office.specs.Lines.{sheet_of, sheet_text, IsReady}
+use Rattle.reg_report.specs.Lines.{sheet_of, sheet_text, IsReady}
 use Rattle.reg_query.specs.Offices.{offices_header, office_fields}
 use Rattle.reg_query.proofs.figures.office_lines.offices_text.Given as goal
 

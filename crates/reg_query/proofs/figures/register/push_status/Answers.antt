@@ -1,4 +1,4 @@
-use Rattle.reg_office.proofs.PairLemmas.{it_enters}
+use Rattle.reg_report.proofs.PairLemmas.{it_enters}
 use Rattle.reg_query.proofs.figures.register.push_status.Goals as goal
 
 pub status_of-requires : goal.status_of-requires

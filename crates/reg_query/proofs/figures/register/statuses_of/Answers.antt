@@ -1,5 +1,5 @@
 use Rattle.std.proofs.Common.{◌∙◌}
-use Rattle.reg_office.proofs.PairLemmas.{is_member}
+use Rattle.reg_report.proofs.PairLemmas.{is_member}
 use Rattle.reg_query.proofs.figures.register.statuses_of.Goals as goal
 
 pub push_status-requires : goal.push_status-requires

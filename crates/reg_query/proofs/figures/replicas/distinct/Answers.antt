@@ -1,7 +1,7 @@
 use Rattle.std.proofs.lemmas.Cmp.{nat_list_cmp_total}
 use Rattle.std.proofs.lemmas.List.Filters.{dedup_is}
 use Rattle.reg_op.proofs.OpLemmas.{bytes_exact}
-use Rattle.reg_office.proofs.SortLemmas.{sorted_items}
+use Rattle.reg_report.proofs.SortLemmas.{sorted_items}
 use Rattle.reg_query.proofs.SeenLemmas.{replicas_exact}
 use Rattle.reg_query.proofs.figures.replicas.distinct.Goals as goal
 

@@ -1,4 +1,4 @@
-use Rattle.std.proofs.Common.{List, map, ap, ◌∙◌}
+use Rattle.std.proofs.Common.{map, ap, ◌∙◌}
 use Rattle.std.proofs.lemmas.List.{take_all}
 use Rattle.reg_op.specs.Set as set
 use Rattle.reg_seen.specs.declared.run.Run.{Run}

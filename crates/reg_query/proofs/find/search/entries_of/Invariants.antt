@@ -1,5 +1,5 @@
 use Rattle.std.proofs.Common.{◌≡◌, map, take}
-use Rattle.reg_office.specs.declared.row.Row.{Row}
+use Rattle.reg_report.specs.declared.row.Row.{Row}
 use Rattle.reg_query.proofs.find.search.entries_of.Given as goal
 
 abbrev pub invariant-loop-row : goal.invariant-loop-row

@@ -1,6 +1,6 @@
 use Rattle.std.proofs.Common.{map, ap, ◌∙◌}
-use Rattle.reg_office.specs.declared.row.Row.{Row}
-use Rattle.reg_office.specs.Seen.{row_seen}
+use Rattle.reg_report.specs.declared.row.Row.{Row}
+use Rattle.reg_report.specs.Seen.{row_seen}
 use Rattle.reg_query.proofs.FoundLemmas.{entries_seen}
 use Rattle.reg_query.proofs.find.search.found_ids.Goals as goal
 

@@ -10,7 +10,7 @@ returns-in_default-clause-slot c = λ f short first. c.read_canonical.ensures.sl
 
 pub returns-clause-fault : goal.returns-clause-fault
 returns-clause-fault c =
-    let short = c.if-bytes-gt-MOST.false in
+    let short = c.if-bytes-gt-MAX.false in
     seen_fault c.of_seen.result c.args.bytes.now (omega (arith, short)) c.of_seen.ensures.fault
 
 pub returns-clause-only : goal.returns-clause-only

@@ -1,0 +1,131 @@
+//! Sentences for refusals.
+use crate::paths::{Paths, Shown};
+use reg_engine::Refusal;
+use reg_office::OfficeFault;
+use reg_op::OpId;
+use std::fmt;
+
+/// Writes the sentence for a refusal. Faults of texts have none: `--explain` explains them at their place.
+pub fn write<W: fmt::Write>(
+    f: &mut fmt::Formatter<W>,
+    refusal: Refusal,
+    paths: &Paths<'_>,
+) -> fmt::Result {
+    match refusal {
+        Refusal::Text(_) | Refusal::Slot(_) | Refusal::Broken { .. } => Ok(()),
+        Refusal::NoIdentifier => f.write_str("the system has no ID of its own\n"),
+        Refusal::CanonicalTooLong => {
+            f.write_str("the canonical text has more than 65,536 bytes\n")
+        }
+        Refusal::Clash(id) => write_clash(f, id),
+        Refusal::Basis(id) => {
+            writeln!(
+                f,
+                "the piece continues a register that has seen {id}, and this one has not"
+            )?;
+            f.write_str(
+                "hint: merge a register or a piece with it first, or ask for a piece for a new summary (crsreg seen)\n",
+            )
+        }
+        Refusal::HasNote(id) => {
+            writeln!(
+                f,
+                "the operation {id} has a note, and files of version 1 have none"
+            )
+        }
+        Refusal::Office(fault) => write_office(f, fault, paths),
+        refusal => write_word(f, refusal, paths),
+    }
+}
+
+// Writes the sentence for two operations with one id.
+fn write_clash<W: fmt::Write>(f: &mut fmt::Formatter<W>, id: OpId) -> fmt::Result {
+    writeln!(
+        f,
+        "two files have different operations under {id}: its office went on from an older file, and gave the number twice"
+    )?;
+    f.write_str(
+        "hint: agree on one file; the office with the other goes on from a copy of it with a new UUID, and enters again what only the other has\n",
+    )
+}
+
+// Writes the sentence for a refusal of an office.
+fn write_office<W: fmt::Write>(
+    f: &mut fmt::Formatter<W>,
+    fault: OfficeFault,
+    paths: &Paths<'_>,
+) -> fmt::Result {
+    match fault {
+        OfficeFault::NoteTooLong => f.write_str("the note has more than 200 bytes\n"),
+        OfficeFault::UnknownEntry(id) => {
+            let register = Shown(register_of(paths));
+            writeln!(
+                f,
+                "{register} has no entry {id}\nhint: crsreg find prints entries with their ids"
+            )
+        }
+        OfficeFault::SameEntry => f.write_str("an entry cannot supersede itself\n"),
+        OfficeFault::AlreadyRetired(id) => {
+            writeln!(f, "the entry {id} is retired already, or is named twice")
+        }
+        OfficeFault::AlreadySuperseded(id) => {
+            writeln!(
+                f,
+                "the entry is superseded by {id} already, or that is named twice"
+            )
+        }
+        OfficeFault::CountSpent => f.write_str(
+            "the office has given the number 4,294,967,295, the last one\nhint: go on with a new UUID\n",
+        ),
+        OfficeFault::Memory => f.write_str("there is not enough memory\n"),
+    }
+}
+
+// The register: the first file, or the shelf.
+fn register_of<'a>(paths: &Paths<'a>) -> &'a str {
+    if paths.shelf.is_empty() {
+        return paths.file(1);
+    }
+    paths.shelf
+}
+
+// A word of the command line, or what it looks for.
+fn write_word<W: fmt::Write>(
+    f: &mut fmt::Formatter<W>,
+    refusal: Refusal,
+    paths: &Paths<'_>,
+) -> fmt::Result {
+    match refusal {
+        Refusal::BadId => f.write_str(
+            "a word is no id, as UUID:NUMBER\nhint: with -k, AUTHORITY:CODE names the entry of a key\n",
+        ),
+        Refusal::BadReplica => f.write_str(
+            "--as (or CRSREG_AS) is no UUID\nhint: uuidgen makes one, once for each office\n",
+        ),
+        Refusal::BadSize => f.write_str("a shelf has from 14 to 67,108,864 bytes\n"),
+        Refusal::NoEntry => {
+            let register = Shown(register_of(paths));
+            writeln!(
+                f,
+                "{register} has no such entry\nhint: crsreg find prints its entries"
+            )
+        }
+        Refusal::Several(id) => {
+            writeln!(
+                f,
+                "several entries that are not retired have this key; {id} is the second"
+            )?;
+            f.write_str("hint: name one by its id: crsreg find REG KEY --status live prints them\n")
+        }
+        Refusal::Unsettled => f.write_str(
+            "a register has a conflict, an awaited id or a gap\nhint: crsreg report lists them; crsreg settle ends a conflict\n",
+        ),
+        Refusal::KeyTaken(id) => {
+            writeln!(
+                f,
+                "the entry {id} has the key of another one, and a different text"
+            )
+        }
+        _ => Ok(()),
+    }
+}

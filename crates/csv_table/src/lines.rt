@@ -1,0 +1,92 @@
+//! The lines of a table.
+
+ghost use Rattle.std.specs.Prelude.{◌≡◌, ◌++◌, ℕ, List, map, IfOk, OnOk, string_bytes};
+ghost use Rattle.csv.specs.Reading.{AreRecords, default_config, strip_bom};
+ghost use Rattle.csv.specs.Records.{fields_of};
+ghost use Rattle.csv.specs.declared.parser.State.TheVariants as st;
+ghost use Rattle.csv_table.specs.Table.{cell_if, cells, line, lines, table};
+
+use crate::cells::{push_cell, without_end};
+use crate::columns::{Column, columns, first, others};
+use crate::records::{fields, records};
+use csv::ByteRecord;
+use std::alloc::{AllocError, Global};
+
+/// The table of the rows, which are CSV with a header: the fields of each row, aligned in columns with two blanks between. The columns
+/// named `entry` come last. The error is out of memory.
+pub fn table(alloc: Global, rows: &[u8]) -> Result<Vec<u8>, AllocError>
+    ensures { IfOk result (λ text. (records : List (List (List ℕ))) × AreRecords default_config st.StartRecord (strip_bom rows.now) records × (text.items ≡ table records)) }
+{
+    let Ok(records) = records(alloc, rows) else {
+        return Err(AllocError);
+    };
+    let columns = columns(alloc, &records)?;
+    let mut text = Vec::new(alloc);
+    push_lines(alloc, &mut text, &columns, &records)?;
+    Ok(text)
+}
+
+fn push_lines(
+    alloc: Global,
+    text: &mut Vec<u8>,
+    columns: &[Column],
+    records: &[ByteRecord],
+) -> Result<(), AllocError>
+    ensures { OnOk result (text.new.items ≡ text.old.items ++ lines columns.now (map fields_of records.now)) }
+{
+    for record in records {
+        push_line(alloc, text, columns, &fields(alloc, record)?)?;
+    }
+    Ok(())
+}
+
+fn push_line(
+    alloc: Global,
+    text: &mut Vec<u8>,
+    columns: &[Column],
+    fields: &[&[u8]],
+) -> Result<(), AllocError>
+    ensures { OnOk result (text.new.items ≡ text.old.items ++ line columns.now (map (λ field. field.now) fields.now)) }
+{
+    let mut line = String::new(alloc);
+    push_cells(alloc, &mut line, false, fields, columns)?;
+    push_cells(alloc, &mut line, true, fields, columns)?;
+    text.extend_from_slice(without_end(&line))?;
+    text.push(b'\n')?;
+    Ok(())
+}
+
+// Appends the fields of the columns named `entry`, or of the others.
+fn push_cells(
+    alloc: Global,
+    line: &mut String,
+    is_entry: bool,
+    fields: &[&[u8]],
+    columns: &[Column],
+) -> Result<(), AllocError>
+    ensures { OnOk result (string_bytes line.new ≡ string_bytes line.old ++ cells is_entry (map (λ field. field.now) fields.now) columns.now) }
+{
+    let mut rest = columns;
+    for field in fields {
+        push_if(alloc, line, is_entry, field, first(rest))?;
+        rest = others(rest);
+    }
+    Ok(())
+}
+
+// Appends the field, if its column is one of those.
+fn push_if(
+    alloc: Global,
+    line: &mut String,
+    is_entry: bool,
+    field: &[u8],
+    column: Column,
+) -> Result<(), AllocError>
+    ensures { OnOk result (string_bytes line.new ≡ string_bytes line.old ++ cell_if is_entry field.now column) }
+{
+    if column.is_entry != is_entry {
+        return Ok(());
+    }
+    push_cell(alloc, line, field, column.width)?;
+    Ok(())
+}

@@ -1,0 +1,79 @@
+//! Texts as they are shown to people.
+
+ghost use Rattle.std.specs.Prelude.{◌≡◌, ◌<◌, ◌++◌, IfOk, OnOk, string_bytes, chars};
+ghost use Rattle.std.specs.List.{flat_map};
+ghost use Rattle.csv_table.specs.Marks.{is_marked, digit, digits, mark, shown, marked};
+
+use std::alloc::{AllocError, Global};
+
+/// The field, with a mark in the place of each character that could move the cursor of a terminal or change the direction of the
+/// text.
+pub fn marked(alloc: Global, field: &[u8]) -> Result<String, AllocError>
+    ensures { IfOk result (λ text. string_bytes text ≡ marked field.now) }
+{
+    let text = String::from_utf8_lossy(alloc, field)?;
+    let mut out = String::new(alloc);
+    push_characters(&mut out, &text)?;
+    Ok(out)
+}
+
+fn push_characters(out: &mut String, text: &str) -> Result<(), AllocError>
+    ensures { OnOk result (string_bytes out.new ≡ string_bytes out.old ++ flat_map shown (chars text.now)) }
+{
+    for c in text.chars() {
+        push_shown(out, c)?;
+    }
+    Ok(())
+}
+
+fn push_shown(out: &mut String, c: char) -> Result<(), AllocError>
+    ensures { OnOk result (string_bytes out.new ≡ string_bytes out.old ++ shown c) }
+{
+    if is_marked(u32::from(c)) {
+        return push_mark(out, u32::from(c));
+    }
+    out.push(c)?;
+    Ok(())
+}
+
+// Control characters, and those that embed, override or isolate a direction.
+fn is_marked(code: u32) -> bool
+    ensures { result ≡ is_marked code }
+{
+    code < 0x20
+        || (0x7f <= code && code < 0xa0)
+        || (0x202a <= code && code < 0x202f)
+        || (0x2066 <= code && code < 0x206a)
+}
+
+fn push_mark(out: &mut String, code: u32) -> Result<(), AllocError>
+    ensures { OnOk result (string_bytes out.new ≡ string_bytes out.old ++ mark code) }
+{
+    out.push_str("⟨U+")?;
+    push_digits(out, code)?;
+    out.push_str("⟩")?;
+    Ok(())
+}
+
+fn push_digits(out: &mut String, code: u32) -> Result<(), AllocError>
+    ensures { OnOk result (string_bytes out.new ≡ string_bytes out.old ++ digits code) }
+{
+    out.push(digit(code / 4096 % 16))?;
+    out.push(digit(code / 256 % 16))?;
+    out.push(digit(code / 16 % 16))?;
+    out.push(digit(code % 16))?;
+    Ok(())
+}
+
+// A hexadecimal digit.
+fn digit(value: u32) -> char
+    requires { value < 16 }
+    ensures value { result ≡ digit value }
+    ensures ascii { result < 128 }
+{
+    if value < 10 {
+        char::from(b'0' + value as u8)
+    } else {
+        char::from(b'A' + (value - 10) as u8)
+    }
+}

@@ -1,0 +1,37 @@
+//! The records of rows, and the fields of a record.
+
+ghost use Rattle.std.specs.Prelude.{◌≡◌, map, IfOk};
+ghost use Rattle.csv.specs.Reading.{AreRecords, default_config, strip_bom};
+ghost use Rattle.csv.specs.Records.{fields_of};
+ghost use Rattle.csv.specs.declared.parser.State.TheVariants as st;
+
+use csv::{ByteRecord, Error, ReaderBuilder};
+use std::alloc::{AllocError, Global};
+
+/// All records of the rows. They are read from memory, so the error is out of memory.
+pub fn records(alloc: Global, text: &[u8]) -> Result<Vec<ByteRecord>, Error>
+    ensures { IfOk result (λ rows. AreRecords default_config st.StartRecord (strip_bom text.now) (map fields_of rows.items)) }
+{
+    let rdr = ReaderBuilder::new()
+        .has_headers(false)
+        .flexible(true)
+        .from_reader(alloc, text);
+    let mut rows = Vec::new(alloc);
+    for row in rdr.into_byte_records() {
+        if rows.push(row?).is_err() {
+            return Err(Error::out_of_memory());
+        }
+    }
+    Ok(rows)
+}
+
+/// The fields of the record.
+pub fn fields(alloc: Global, row: &ByteRecord) -> Result<Vec<&[u8]>, AllocError>
+    ensures { IfOk result (λ made. map (λ field. field.now) made.items ≡ fields_of row.now) }
+{
+    let mut made = Vec::new(alloc);
+    for field in row {
+        made.push(field)?;
+    }
+    Ok(made)
+}

@@ -1,0 +1,7 @@
+pub mod OrderLemmas
+pub mod RowLemmas
+pub mod WordLemmas
+pub mod AnswerLemmas
+pub mod NamedLemmas
+pub mod ToldLemmas
+pub mod LawLemmas

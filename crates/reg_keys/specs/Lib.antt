@@ -1,0 +1,4 @@
+pub mod Words
+pub mod Rows
+pub mod Named
+pub mod Told

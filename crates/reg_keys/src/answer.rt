@@ -1,0 +1,82 @@
+//! The entries of a key.
+
+ghost use Rattle.std.specs.Prelude.{◌≢◌, ◌↔◌, map, IsTrue, IfOk, OnOk, Some};
+ghost use Rattle.reg_op.specs.Set.{Ascends};
+ghost use Rattle.reg_op.specs.declared.status.Status.TheVariants.{Retired};
+ghost use Rattle.reg_report.specs.Seen.{row_seen};
+ghost use Rattle.reg_keys.specs.Rows.{row_cmp};
+ghost use Rattle.reg_keys.specs.Named.{HasWord, Answers, AreEntries, AddsEntry};
+
+use crate::word::names_key;
+use reg_op::{OpId, Status};
+use reg_report::Row;
+use std::alloc::{AllocError, Global};
+
+/// Whether the word is the key of the row.
+pub fn has_key(row: &Row, word: &[u8]) -> bool
+    ensures { IsTrue result ↔ HasWord word.now (row_seen row.now) }
+{
+    let key = row.definition.key();
+    names_key(word, key)
+}
+
+fn is_live(row: &Row) -> bool
+    ensures { IsTrue result ↔ ((row_seen row.now).status ≢ Some Retired) }
+{
+    row.status != Status::Retired
+}
+
+// Whether the word is the key of the row, and the entry is not retired.
+fn answers(row: &Row, word: &[u8]) -> bool
+    ensures { IsTrue result ↔ Answers word.now (row_seen row.now) }
+{
+    has_key(row, word) && is_live(row)
+}
+
+fn push_answer(ids: &mut Vec<OpId>, word: &[u8], row: &Row) -> Result<(), AllocError>
+    ensures { OnOk result (AddsEntry (Answers word.now) (row_seen row.now) ids.old.items ids.new.items) }
+{
+    if !answers(row, word) {
+        return Ok(());
+    }
+    ids.push(row.entry)?;
+    Ok(())
+}
+
+/// The entries of this key that are not retired, by id. The rows are ordered by entry.
+pub fn entries_answering(alloc: Global, rows: &[Row], word: &[u8]) -> Result<Vec<OpId>, AllocError>
+    requires { Ascends row_cmp (map row_seen rows.now) }
+    ensures { IfOk result (λ ids. AreEntries (Answers word.now) (map row_seen rows.now) ids.items) }
+{
+    let mut ids = Vec::new(alloc);
+    let mut rest = rows;
+    while let Some((row, others)) = rest.split_first() {
+        push_answer(&mut ids, word, row)?;
+        rest = others;
+    }
+    Ok(ids)
+}
+
+fn push_of_key(ids: &mut Vec<OpId>, word: &[u8], row: &Row) -> Result<(), AllocError>
+    ensures { OnOk result (AddsEntry (HasWord word.now) (row_seen row.now) ids.old.items ids.new.items) }
+{
+    if !has_key(row, word) {
+        return Ok(());
+    }
+    ids.push(row.entry)?;
+    Ok(())
+}
+
+/// All entries of this key, retired ones too, by id. The rows are ordered by entry.
+pub fn entries_of_key(alloc: Global, rows: &[Row], word: &[u8]) -> Result<Vec<OpId>, AllocError>
+    requires { Ascends row_cmp (map row_seen rows.now) }
+    ensures { IfOk result (λ ids. AreEntries (HasWord word.now) (map row_seen rows.now) ids.items) }
+{
+    let mut ids = Vec::new(alloc);
+    let mut rest = rows;
+    while let Some((row, others)) = rest.split_first() {
+        push_of_key(&mut ids, word, row)?;
+        rest = others;
+    }
+    Ok(ids)
+}

@@ -1,0 +1,118 @@
+//! The entries that words name.
+
+ghost use Rattle.std.specs.Prelude.{◌≡◌, ◌++◌, ◌∷◌, [], map, IfOk, OnOk, IfErr};
+ghost use Rattle.reg_op.specs.Ids.{Id};
+ghost use Rattle.reg_op.specs.Rows.{rows};
+ghost use Rattle.reg_op.specs.Set.{Ascends};
+ghost use Rattle.reg_report.specs.Seen.{row_seen};
+ghost use Rattle.reg_keys.specs.Rows.{row_cmp};
+ghost use Rattle.reg_keys.specs.Named.{StandsFor, IsObjection, IsNotOne, StandFor, Object};
+
+use crate::answer::entries_answering;
+use crate::fault::KeyFault;
+use reg_op::OpId;
+use reg_report::{Row, rows};
+use reg_state::Register;
+use std::alloc::{AllocError, Global};
+
+/// The entry that a word names, among rows that are ordered by entry. An id names its entry. Any other word is a key, and
+/// names the only entry with the key that is not retired.
+pub fn entry_of(alloc: Global, rows: &[Row], word: &[u8]) -> Result<OpId, KeyFault>
+    requires { Ascends row_cmp (map row_seen rows.now) }
+    ensures ok { IfOk result (StandsFor (map row_seen rows.now) word.now) }
+    ensures fault { IfErr result (IsObjection (map row_seen rows.now) word.now) }
+{
+    if let Some(id) = OpId::parse(word) {
+        return Ok(id);
+    }
+    let ids = match entries_answering(alloc, rows, word) {
+        Ok(ids) => ids,
+        Err(_) => return Err(KeyFault::Memory),
+    };
+    match only(&ids) {
+        Ok(id) => Ok(id),
+        Err(fault) => Err(fault),
+    }
+}
+
+// The id, if there is exactly one.
+fn only(ids: &[OpId]) -> Result<OpId, KeyFault>
+    ensures ok { IfOk result (λ id. ids.now ≡ id ∷ []) }
+    ensures fault { IfErr result (IsNotOne ids.now) }
+{
+    let Some((first, others)) = ids.split_first() else {
+        return Err(KeyFault::NoEntry);
+    };
+    match others.split_first() {
+        Some((second, _)) => Err(KeyFault::Several(*second)),
+        None => Ok(*first),
+    }
+}
+
+/// A row for each entry, by id.
+pub(crate) fn rows_in_order(alloc: Global, register: &Register) -> Result<Vec<Row>, AllocError>
+    ensures rows { IfOk result (λ made. map row_seen made.items ≡ rows register.now.ops) }
+    ensures order { IfOk result (λ made. Ascends row_cmp (map row_seen made.items)) }
+{
+    let _ops = register.ops();
+    let made = rows(alloc, register)?;
+    Ok(made)
+}
+
+/// The entries that some words name, in their order.
+pub fn named(alloc: Global, register: &Register, words: &[&[u8]]) -> Result<Vec<OpId>, KeyFault>
+    ensures ok { IfOk result (λ ids. StandFor (rows register.now.ops) (map (λ w. w.now) words.now) ids.items) }
+    ensures fault { IfErr result (Object (rows register.now.ops) (map (λ w. w.now) words.now)) }
+{
+    let rows = match rows_in_order(alloc, register) {
+        Ok(rows) => rows,
+        Err(_) => return Err(KeyFault::Memory),
+    };
+    match entries_of(alloc, &rows, words) {
+        Ok(ids) => Ok(ids),
+        Err(fault) => Err(fault),
+    }
+}
+
+// Appends the entry that the word names.
+fn push_named(alloc: Global, ids: &mut Vec<OpId>, rows: &[Row], word: &[u8]) -> Result<(), KeyFault>
+    requires { Ascends row_cmp (map row_seen rows.now) }
+    ensures ok { OnOk result ((e : Id) × StandsFor (map row_seen rows.now) word.now e × (ids.new.items ≡ ids.old.items ++ e ∷ [])) }
+    ensures fault { IfErr result (IsObjection (map row_seen rows.now) word.now) }
+{
+    let id = match entry_of(alloc, rows, word) {
+        Ok(id) => id,
+        Err(fault) => return Err(fault),
+    };
+    match ids.push(id) {
+        Ok(()) => Ok(()),
+        Err(_) => Err(KeyFault::Memory),
+    }
+}
+
+fn entries_of(alloc: Global, rows: &[Row], words: &[&[u8]]) -> Result<Vec<OpId>, KeyFault>
+    requires { Ascends row_cmp (map row_seen rows.now) }
+    ensures ok { IfOk result (λ ids. StandFor (map row_seen rows.now) (map (λ w. w.now) words.now) ids.items) }
+    ensures fault { IfErr result (Object (map row_seen rows.now) (map (λ w. w.now) words.now)) }
+{
+    let mut ids = Vec::new(alloc);
+    for word in words {
+        push_named(alloc, &mut ids, rows, word)?;
+    }
+    Ok(ids)
+}
+
+/// The entry that a word names.
+pub fn named_one(alloc: Global, register: &Register, word: &[u8]) -> Result<OpId, KeyFault>
+    ensures ok { IfOk result (StandsFor (rows register.now.ops) word.now) }
+    ensures fault { IfErr result (IsObjection (rows register.now.ops) word.now) }
+{
+    let rows = match rows_in_order(alloc, register) {
+        Ok(rows) => rows,
+        Err(_) => return Err(KeyFault::Memory),
+    };
+    match entry_of(alloc, &rows, word) {
+        Ok(id) => Ok(id),
+        Err(fault) => Err(fault),
+    }
+}

@@ -1,0 +1,21 @@
+-- The entries whose operations are listed.
+use Rattle.std.specs.Prelude.{Bool, true, not, List, Option, find}
+use Rattle.std.specs.List.{list_any}
+use Rattle.reg_op.specs.Ids.{Id, is_same}
+use Rattle.reg_op.specs.Operations.{Op}
+use Rattle.reg_log.specs.Log.{subject}
+use Rattle.reg_log.specs.declared.asked.Asked.{Asked}
+use Rattle.reg_log.specs.declared.asked.Asked.TheVariants.{All, These}
+
+-- the operations of the entry are listed
+abbrev pub is_asked : Asked → Id → Bool
+is_asked All e = true
+is_asked (These entries) e = list_any (is_same e) entries.now
+
+-- an operation is about the entry
+abbrev pub is_logged : List Op → Id → Bool
+is_logged os e = list_any (λ o. is_same e (subject o)) os
+
+-- the first of these entries without an operation
+abbrev pub first_unlogged : List Op → List Id → Option Id
+first_unlogged os es = find (λ e. not (is_logged os e)) es

@@ -1,0 +1,11 @@
+//! The log of entries: the operations that a register keeps, entry by entry.
+#![tactic(auto)]
+
+mod asked;
+pub mod laws;
+mod lines;
+mod logged;
+mod order;
+
+pub use asked::{Asked, first_unlogged};
+pub use lines::log_text;

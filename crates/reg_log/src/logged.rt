@@ -1,0 +1,51 @@
+//! The operations of a log, in order.
+
+ghost use Rattle.std.specs.Prelude.{◌≡◌, ◌++◌, ◌∷◌, [], filter, IfOk, OnOk, if◌then◌else◌};
+ghost use Rattle.reg_op.specs.Operations.{Op as Operation};
+ghost use Rattle.reg_log.specs.Log.{subject, AreLogged};
+ghost use Rattle.reg_log.specs.Asked.{is_asked};
+
+use crate::asked::{Asked, is_asked};
+use crate::order::{order, subject};
+use reg_op::Op;
+use reg_state::Register;
+use std::alloc::{AllocError, Global};
+
+// Appends a copy of the operation, if its entry is requested.
+fn push_where_asked(
+    alloc: Global,
+    made: &mut Vec<Op>,
+    asked: &Asked<'_>,
+    op: &Op,
+) -> Result<(), AllocError>
+    ensures { OnOk result (made.new.items ≡ made.old.items ++ (if is_asked asked.now (subject op.now) then op.now ∷ [] else [])) }
+{
+    if !is_asked(asked, subject(op)) {
+        return Ok(());
+    }
+    let copy = op.try_clone(alloc)?;
+    made.push(copy)?;
+    Ok(())
+}
+
+fn ops_asked(alloc: Global, ops: &[Op], asked: &Asked<'_>) -> Result<Vec<Op>, AllocError>
+    ensures { IfOk result (λ made. made.items ≡ filter (λ (o : Operation). is_asked asked.now (subject o)) ops.now) }
+{
+    let mut made = Vec::new(alloc);
+    let mut rest = ops;
+    while let Some((op, others)) = rest.split_first() {
+        push_where_asked(alloc, &mut made, asked, op)?;
+        rest = others;
+    }
+    Ok(made)
+}
+
+/// The operations that the register keeps on the requested entries, entry by entry.
+pub fn logged(alloc: Global, register: &Register, asked: &Asked<'_>) -> Result<Vec<Op>, AllocError>
+    ensures { IfOk result (λ made. AreLogged (is_asked asked.now) register.now.ops made.items) }
+{
+    let ops = register.ops().as_slice();
+    let mut made = ops_asked(alloc, ops, asked)?;
+    made.sort_unstable_by(|left, right| order(left, right));
+    Ok(made)
+}

@@ -1,7 +1,0 @@
-use Rattle.std.proofs.Common.{map, take}
-use Rattle.reg_office.specs.Seen.{row_seen}
-use Rattle.reg_office.specs.Contenders.{AreContenders}
-use Rattle.reg_office.proofs.contender.contenders_of.Given as goal
-
-abbrev pub invariant-loop-row : goal.invariant-loop-row
-invariant-loop-row l = AreContenders (map row_seen (take l.row-index l.rows)) l.made.items

@@ -1,9 +1,0 @@
-use Rattle.std.proofs.Common.{◌≡◌, ◌++◌, None, length}
-use Rattle.reg_office.specs.Between.{gaps_between}
-use Rattle.reg_office.proofs.gap.gaps.Given as goal
-
-abbrev pub invariant-loop-run : goal.invariant-loop-run
-invariant-loop-run l = l.made.items ++ gaps_between l.before l.rest ≡ gaps_between None l.initial.rest
-
-abbrev pub decreases-loop-run : goal.decreases-loop-run
-decreases-loop-run l = length l.rest

@@ -1,6 +1,0 @@
-use Rattle.std.proofs.Common.{◌∙◌}
-use Rattle.reg_office.proofs.PairLemmas.{is_member}
-use Rattle.reg_office.proofs.row.rows.Goals as goal
-
-pub push_row-requires-clause-there : goal.push_row-requires-clause-there
-push_row-requires-clause-there c = is_member c.args.register.now.ops c.as_slice-ops.result.now c.loop-op.op-index c.op-item.result (c.as_slice-ops.ensures ∙ c.ops.ensures.items) c.loop-op-test.true c.op-item.is

@@ -1,0 +1,29 @@
+-- The ends of loops that append pieces.
+use Rattle.std.proofs.Common.{◌≡◌, List, [], ◌∷◌, ◌++◌, map, refl, sym, ap, ◌∙◌, ℕ}
+use Rattle.std.specs.List.{flat_map}
+use Rattle.std.proofs.lemmas.Grind.{flat_map-append}
+use Rattle.std.proofs.lemmas.List.Folds.{flat_map-map}
+use Rattle.html_text.specs.Pieces.{Piece, html, Appends}
+use Rattle.html_text.proofs.JoinLemmas.{Leads, leads_done}
+
+pub flat_map-flat_map : {A B C : Type 0} (f : B → List C) (g : A → List B) (xs : List A) → flat_map f (flat_map g xs) ≡ flat_map (λ x. flat_map f (g x)) xs
+flat_map-flat_map f g [] = refl
+flat_map-flat_map f g (x ∷ xs) = flat_map-append f (g x) (flat_map g xs) ∙ ap (λ r. flat_map f (g x) ++ r) (flat_map-flat_map f g xs)
+
+pub as_others : {start end : List ℕ} (ps qs : List Piece) → ps ≡ qs → Appends start end ps → Appends start end qs
+as_others {start = start} {end = end} ps qs e h = record { is = h.is ∙ ap (λ r. start ++ html r) e }
+
+-- each item is shown as another
+pub mapped : {T U : Type 0} (f : U → List Piece) (g : T → U) {page : List ℕ} {rest : List T} (start : List ℕ) (items : List T)
+    → Leads (λ x. f (g x)) page rest (start ++ html (flat_map (λ x. f (g x)) items)) → rest ≡ [] → Appends start page (flat_map f (map g items))
+mapped f g start items so_far none = as_others (flat_map (λ x. f (g x)) items) (flat_map f (map g items)) (sym (flat_map-map f g items)) (leads_done start items so_far none)
+
+-- each item is shown as some others
+pub flattened : {T U : Type 0} (f : U → List Piece) (g : T → List U) {page : List ℕ} {rest : List T} (start : List ℕ) (items : List T)
+    → Leads (λ x. flat_map f (g x)) page rest (start ++ html (flat_map (λ x. flat_map f (g x)) items)) → rest ≡ [] → Appends start page (flat_map f (flat_map g items))
+flattened f g start items so_far none = as_others (flat_map (λ x. flat_map f (g x)) items) (flat_map f (flat_map g items)) (sym (flat_map-flat_map f g items)) (leads_done start items so_far none)
+
+-- each item is shown twice over
+pub twice : {T U V : Type 0} (f : U → V) (g : T → U) (xs : List T) → map (λ x. f (g x)) xs ≡ map f (map g xs)
+twice f g [] = refl
+twice f g (x ∷ xs) = ap (λ rest. f (g x) ∷ rest) (twice f g xs)

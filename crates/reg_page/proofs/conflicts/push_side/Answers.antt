@@ -1,0 +1,15 @@
+use Rattle.std.specs.List.{flat_map}
+use Rattle.html_text.proofs.JoinLemmas.{next}
+use Rattle.html_page.specs.Templates.{side_start, word}
+use Rattle.html_page.specs.Words.{compared}
+use Rattle.reg_page.proofs.LoopLemmas.{as_others}
+use Rattle.reg_page.proofs.conflicts.push_side.Goals as goal
+
+pub returns : goal.returns
+returns c =
+    let t = c.args.one.now in
+    let u = c.args.other.now in
+    next (next
+    (as_others _ (side_start t.printed.items t.note.items) (λ j. side_start (c.deref.ensures.value j) (c.deref-2.ensures.value j)) c.in_ok-push_side_start.ensures)
+    (as_others _ (flat_map word (compared t.described.text.items u.described.text.items)) (λ j. flat_map word (compared (c.deref-3.ensures.value j) (c.deref-4.ensures.value j))) c.in_ok-push_compared.ensures))
+    c.in_ok-push_mark.ensures

@@ -1,0 +1,4 @@
+pub mod Kinds
+pub mod Tells
+pub mod Page
+pub mod Parts

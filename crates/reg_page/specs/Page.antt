@@ -1,0 +1,170 @@
+-- The page of a register.
+use Rattle.std.specs.Prelude.{◌≡◌, ℕ, Bool, true, false, not, List, [], ◌∷◌, filter, find, map, length, Contains, Option, Some, None, if◌then◌else◌}
+use Rattle.std.specs.Global.{Vec}
+use Rattle.std.specs.List.{flat_map, count_by}
+use Rattle.uuid.specs.Text.{hyphenated_text, lower}
+use Rattle.html_text.specs.Pieces.{html}
+use Rattle.html_page.specs.declared.head.Figures.{Figures}
+use Rattle.html_page.specs.declared.standing.Standing.{Standing}
+use Rattle.html_page.specs.declared.standing.Standing.TheVariants as standing
+use Rattle.html_page.specs.Shown as shown
+use Rattle.html_page.specs.Templates.{page}
+use Rattle.html_page.specs.Words.{compared}
+use Rattle.reg_op.specs.Set as set
+use Rattle.reg_op.specs.Ids.{Id, is_same}
+use Rattle.reg_op.specs.Text.{printed}
+use Rattle.reg_op.specs.Operations.{Op, Ops}
+use Rattle.reg_op.specs.declared.operation.OpBody.{OpBody as Body}
+use Rattle.reg_op.specs.declared.operation.OpBody.TheVariants.{Enter, Supersede, Retire}
+use Rattle.reg_op.specs.Contents.{Content}
+use Rattle.reg_op.specs.Status.{is_enter, status}
+use Rattle.reg_op.specs.declared.status.Status.{Status}
+use Rattle.reg_op.specs.declared.status.Status.TheVariants as statuses
+use Rattle.reg_op.specs.Rows.{rows, awaited}
+use Rattle.reg_report.specs.declared.gap.Gap.{Gap}
+use Rattle.reg_report.specs.Gaps.{AreGaps}
+use Rattle.reg_report.specs.Conflicts.{Contested, AreConflicts}
+use Rattle.reg_page.specs.declared.told.Told.{Told}
+use Rattle.reg_page.specs.Tells.{AreTold}
+
+-- ---- entries
+
+abbrev pub standing_of : Option Status → Standing
+standing_of None = standing.Valid
+standing_of (Some statuses.Valid) = standing.Valid
+standing_of (Some statuses.Superseded) = standing.Superseded
+standing_of (Some statuses.Retired) = standing.Retired
+
+-- what the page shows of an entry, if it was entered
+abbrev pub told_at : List Told → Id → Option Told
+told_at told i = find (λ (t : Told). is_same t.id i) told
+
+abbrev pub link_as : Id → Option Told → shown.Link
+link_as i None = shown.Awaited (printed i)
+link_as i (Some t) = shown.Entered t.printed.items t.authority.items t.code.items
+
+abbrev pub link_to : List Told → Id → shown.Link
+link_to told i = link_as i (told_at told i)
+
+-- the operations on entries: supersessions and retirements
+abbrev pub acts_in : Ops → List Op
+acts_in s = filter (λ (o : Op). not (is_enter o.body)) (set.items s)
+
+-- the entries that supersede an entry
+abbrev pub links_by : List Told → Id → Body → List shown.Link
+links_by told e (Enter text) = []
+links_by told e (Supersede old newer) = if is_same old e then link_to told newer ∷ [] else []
+links_by told e (Retire entry) = []
+
+-- what an operation does to an entry
+abbrev pub events_by : List Told → Id → List ℕ → List ℕ → Body → List shown.Event
+events_by told e id note (Enter text) = []
+events_by told e id note (Supersede old newer) = if is_same old e then shown.SupersededBy (link_to told newer) id note ∷ [] else []
+events_by told e id note (Retire entry) = if is_same entry e then shown.RetiredBy id note ∷ [] else []
+
+abbrev pub links_in : List Told → Id → Op → List shown.Link
+links_in told e o = links_by told e o.body
+
+abbrev pub events_in : List Told → Id → Op → List shown.Event
+events_in told e o = events_by told e (printed o.id) o.note o.body
+
+-- the row of an entry, with what the operations do to it
+abbrev pub entry_of : Ops → List Told → List Op → Told → shown.Entry
+entry_of s told os t = record {
+  id = t.printed.items;
+  authority = t.authority.items;
+  code = t.code.items;
+  name = t.described.name.items;
+  areas = map (λ (a : Vec ℕ). a.items) t.described.areas.items;
+  kind = t.described.kind.now;
+  standing = standing_of (status s t.id);
+  links = flat_map (links_in told t.id) os;
+  text = t.described.text.items;
+  note = t.note.items;
+  events = flat_map (events_in told t.id) os;
+}
+
+-- ---- conflicts
+
+-- an entry's text, with the words marked that another's text does not have
+abbrev pub side_of : Told → Told → shown.Side
+side_of t other = record { id = t.printed.items; note = t.note.items; words = compared t.described.text.items other.described.text.items }
+
+abbrev pub pairs_of : Option Told → Option Told → List shown.Pair
+pairs_of None other = []
+pairs_of (Some one) None = []
+pairs_of (Some one) (Some other) = record { first = side_of one other; second = side_of other one } ∷ []
+
+-- the first entry of a key beside each of the others
+abbrev pub pairs_among : List Told → List Id → List shown.Pair
+pairs_among told [] = []
+pairs_among told (i ∷ is) = flat_map (λ j. pairs_of (told_at told i) (told_at told j)) is
+
+abbrev pub conflict_of : List Told → Contested → shown.Conflict
+conflict_of told c = record { authority = c.key.authority; code = c.key.code; pairs = pairs_among told c.entries }
+
+-- ---- the page
+
+abbrev pub gap_of : Gap → shown.Gap
+gap_of g = record { replica = hyphenated_text lower g.replica; low = g.low; high = g.high }
+
+abbrev pub is_valid : Standing → Bool
+is_valid standing.Valid = true
+is_valid standing.Superseded = false
+is_valid standing.Retired = false
+
+abbrev pub is_superseded : Standing → Bool
+is_superseded standing.Valid = false
+is_superseded standing.Superseded = true
+is_superseded standing.Retired = false
+
+abbrev pub is_retired : Standing → Bool
+is_retired standing.Valid = false
+is_retired standing.Superseded = false
+is_retired standing.Retired = true
+
+abbrev pub figures_of : Content → List Told → List Contested → List Id → List Gap → Figures
+figures_of x told cs is gs = record {
+  entries = length told;
+  valid = count_by (λ (t : Told). is_valid (standing_of (status x.ops t.id))) told;
+  superseded = count_by (λ (t : Told). is_superseded (standing_of (status x.ops t.id))) told;
+  retired = count_by (λ (t : Told). is_retired (standing_of (status x.ops t.id))) told;
+  conflicts = length cs;
+  awaited = length is;
+  gaps = length gs;
+  operations = length (set.items x.ops);
+}
+
+-- what is shown of a content, from the descriptions of its entries, its operations, conflicts, awaited ids and gaps
+abbrev pub shown_of : Content → List ℕ → List Told → List Op → List Contested → List Id → List Gap → shown.Shown
+shown_of x title told os cs is gs = record {
+  title = title;
+  figures = figures_of x told cs is gs;
+  conflicts = map (conflict_of told) cs;
+  awaited = map printed is;
+  gaps = map gap_of gs;
+  entries = map (entry_of x.ops told os) told;
+}
+
+-- what the page of a content with this title shows
+pub record IsShown (title : List ℕ) (x : Content) (s : shown.Shown) : Type 0 where
+  pub told : List Told
+  pub are_told : AreTold x.ops told
+  pub conflicts : List Contested
+  pub are_conflicts : AreConflicts (rows x.ops) conflicts
+  pub gaps : List Gap
+  pub are_gaps : AreGaps x.seen gaps
+  pub is : s ≡ shown_of x title told (acts_in x.ops) conflicts (set.items (awaited x.ops)) gaps
+
+-- the page of a content with this title
+pub record IsPage (title : List ℕ) (x : Content) (bytes : List ℕ) : Type 0 where
+  pub shows : shown.Shown
+  pub are : IsShown title x shows
+  pub is : bytes ≡ html (page shows)
+
+-- the side is an entry of the page: its words, without marks, are the entry's text
+pub record IsSide (es : List shown.Entry) (side : shown.Side) : Type 0 where
+  pub entry : shown.Entry
+  pub there : Contains es entry
+  pub id : side.id ≡ entry.id
+  pub words : flat_map (λ (w : shown.Word). w.text) side.words ≡ entry.text

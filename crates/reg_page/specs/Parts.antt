@@ -1,0 +1,22 @@
+-- The page in three parts.
+use Rattle.std.specs.Prelude.{ℕ, List, [], ◌∷◌, ◌++◌}
+use Rattle.std.specs.List.{flat_map}
+use Rattle.html_text.specs.Pieces.{Piece, Markup}
+use Rattle.html_page.specs.declared.head.Figures.{Figures}
+use Rattle.html_page.specs.declared.markup.TheConstants.{AFTER_FIGURES, CONFLICTS_START, CONFLICTS_END, AWAITED_START, AWAITED_END, GAPS_START, GAPS_END, ENTRIES_START}
+use Rattle.html_page.specs.Shown.{Conflict, Gap, Entry}
+use Rattle.html_page.specs.Templates.{head, figures, section, conflict, awaited, gap, entry, end}
+
+-- the title and the figures
+abbrev pub top : List ℕ → Figures → List Piece
+top title f = head title ++ figures f ++ (Markup AFTER_FIGURES.now ∷ [])
+
+-- the conflicts, the awaited ids and the gaps
+abbrev pub open_ends : List Conflict → List (List ℕ) → List Gap → List Piece
+open_ends cs is gs =
+    section CONFLICTS_START.now conflict CONFLICTS_END.now cs ++ section AWAITED_START.now awaited AWAITED_END.now is
+    ++ section GAPS_START.now gap GAPS_END.now gs
+
+-- the rows of the entries
+abbrev pub table : List Entry → List Piece
+table es = (Markup ENTRIES_START.now ∷ []) ++ flat_map entry es ++ end

@@ -1,0 +1,137 @@
+//! Conflicts, side by side.
+
+ghost use Rattle.std.specs.Prelude.{◌≡◌, map, OnOk};
+ghost use Rattle.std.specs.List.{flat_map};
+ghost use Rattle.html_text.specs.Pieces.{Appends};
+ghost use Rattle.html_page.specs.Templates.{side, pair, conflict, section};
+ghost use Rattle.html_page.specs.declared.markup.TheConstants.{CONFLICTS_START as START, CONFLICTS_END as END};
+ghost use Rattle.reg_report.specs.declared.conflict.Conflict.{Conflict as OneConflict};
+ghost use Rattle.reg_report.specs.Contenders.{conflict_seen};
+ghost use Rattle.reg_page.specs.Page.{told_at, side_of, pairs_of, pairs_among, conflict_of};
+
+use crate::links::told_at;
+use crate::told::Told;
+use html_page::markup::{AFTER_PAIR, AFTER_SIDE, CONFLICTS_END, CONFLICTS_START, PAIR};
+use html_page::{push_compared, push_conflict_start, push_mark, push_side_start};
+use reg_op::OpId;
+use reg_report::Conflict;
+use std::alloc::{AllocError, Global};
+
+fn push_side(alloc: Global, page: &mut Vec<u8>, one: &Told, other: &Told) -> Result<(), AllocError>
+    ensures { OnOk result (Appends page.old.items page.new.items (side (side_of one.now other.now))) }
+{
+    push_side_start(page, &one.printed, &one.note)?;
+    push_compared(alloc, page, &one.described.text, &other.described.text)?;
+    push_mark(page, AFTER_SIDE)?;
+    Ok(())
+}
+
+fn push_sides(alloc: Global, page: &mut Vec<u8>, one: &Told, other: &Told) -> Result<(), AllocError>
+    ensures { OnOk result (Appends page.old.items page.new.items (pair (record { first = side_of one.now other.now; second = side_of other.now one.now }))) }
+{
+    push_mark(page, PAIR)?;
+    push_side(alloc, page, one, other)?;
+    push_side(alloc, page, other, one)?;
+    push_mark(page, AFTER_PAIR)?;
+    Ok(())
+}
+
+// Appends two entries of a key, if both were entered.
+fn push_pair(
+    alloc: Global,
+    page: &mut Vec<u8>,
+    told: &[Told],
+    first: OpId,
+    second: OpId,
+) -> Result<(), AllocError>
+    ensures { OnOk result (Appends page.old.items page.new.items (flat_map pair (pairs_of (told_at told.now first) (told_at told.now second)))) }
+{
+    let Some(one) = told_at(told, first) else {
+        return Ok(());
+    };
+    let Some(other) = told_at(told, second) else {
+        return Ok(());
+    };
+    push_sides(alloc, page, one, other)?;
+    Ok(())
+}
+
+// Appends the first entry beside each of the others.
+fn push_pairs(
+    alloc: Global,
+    page: &mut Vec<u8>,
+    told: &[Told],
+    entries: &[OpId],
+) -> Result<(), AllocError>
+    ensures { OnOk result (Appends page.old.items page.new.items (flat_map pair (pairs_among told.now entries.now))) }
+{
+    let Some((first, others)) = entries.split_first() else {
+        return Ok(());
+    };
+    push_others(alloc, page, told, *first, others)?;
+    Ok(())
+}
+
+fn push_others(
+    alloc: Global,
+    page: &mut Vec<u8>,
+    told: &[Told],
+    first: OpId,
+    others: &[OpId],
+) -> Result<(), AllocError>
+    ensures { OnOk result (Appends page.old.items page.new.items (flat_map pair (flat_map (λ j. pairs_of (told_at told.now first) (told_at told.now j)) others.now))) }
+{
+    let mut rest = others;
+    while let Some((second, later)) = rest.split_first() {
+        push_pair(alloc, page, told, first, *second)?;
+        rest = later;
+    }
+    Ok(())
+}
+
+fn push_conflict(
+    alloc: Global,
+    page: &mut Vec<u8>,
+    told: &[Told],
+    one: &Conflict,
+) -> Result<(), AllocError>
+    ensures { OnOk result (Appends page.old.items page.new.items (conflict (conflict_of told.now (conflict_seen one.now)))) }
+{
+    push_conflict_start(page, one.authority.as_bytes(), one.code.as_bytes())?;
+    push_pairs(alloc, page, told, &one.entries)?;
+    Ok(())
+}
+
+fn push_each(
+    alloc: Global,
+    page: &mut Vec<u8>,
+    told: &[Told],
+    conflicts: &[Conflict],
+) -> Result<(), AllocError>
+    ensures { OnOk result (Appends page.old.items page.new.items (flat_map conflict (map (λ (k : OneConflict). conflict_of told.now (conflict_seen k)) conflicts.now))) }
+{
+    let mut rest = conflicts;
+    while let Some((one, others)) = rest.split_first() {
+        push_conflict(alloc, page, told, one)?;
+        rest = others;
+    }
+    Ok(())
+}
+
+/// Appends the keys in conflict, if there are some.
+pub fn push_conflicts(
+    alloc: Global,
+    page: &mut Vec<u8>,
+    told: &[Told],
+    conflicts: &[Conflict],
+) -> Result<(), AllocError>
+    ensures { OnOk result (Appends page.old.items page.new.items (section START.now conflict END.now (map (λ (k : OneConflict). conflict_of told.now (conflict_seen k)) conflicts.now))) }
+{
+    if conflicts.is_empty() {
+        return Ok(());
+    }
+    push_mark(page, CONFLICTS_START)?;
+    push_each(alloc, page, told, conflicts)?;
+    push_mark(page, CONFLICTS_END)?;
+    Ok(())
+}

@@ -1,0 +1,28 @@
+//! The command `page`.
+
+use crate::page::page_text;
+use reg_engine::{CliFault, Print};
+use reg_state::Register;
+use std::alloc::Global;
+
+/// Prints the register as a page of HTML with this title.
+#[derive(Drop)]
+pub struct Page<'a> {
+    pub title: &'a [u8],
+}
+
+impl Print for Page<'_> {
+    ghost use Rattle.reg_engine.specs.Report.{Never};
+    ghost use Rattle.reg_page.specs.Page.{IsPage};
+
+    ghost prints = { λ c. λ x. λ text. IsPage c.title.now x text };
+
+    ghost refuses = { λ c. λ x. λ f. Never x f };
+
+    fn text(&self, alloc: Global, register: &Register) -> Result<Vec<u8>, CliFault> {
+        match page_text(alloc, register, self.title) {
+            Ok(text) => Ok(text),
+            Err(_) => Err(CliFault::Memory),
+        }
+    }
+}

@@ -1,0 +1,227 @@
+//! The rows of entries.
+
+ghost use Rattle.std.specs.Prelude.{◌≡◌, ℕ, map, OnOk};
+ghost use Rattle.std.specs.List.{flat_map};
+ghost use Rattle.std.specs.Global.{Vec as Owned};
+ghost use Rattle.html_text.specs.Pieces.{Appends};
+ghost use Rattle.html_page.specs.Shown.{SupersededBy, RetiredBy};
+ghost use Rattle.html_page.specs.Templates.{operation, event, area, by, entry};
+ghost use Rattle.reg_op.specs.Text.{printed};
+ghost use Rattle.reg_op.specs.Status.{status};
+ghost use Rattle.reg_page.specs.Page.{standing_of, link_to, links_in, events_in, entry_of};
+
+use crate::links::push_link_to;
+use crate::told::Told;
+use html_page::markup::{AFTER_BY, AFTER_ENTRY, AFTER_HISTORY, BY, RETIRED_BY, SUPERSEDED_BY};
+use html_page::{
+    Standing, push_area, push_entry_start, push_entry_text, push_mark, push_operation_id,
+    push_operation_note, push_standing,
+};
+use reg_op::{Op, OpBody, OpId, Status};
+use reg_report::printed;
+use reg_state::Register;
+use std::alloc::{AllocError, Global};
+
+/// The status of an entry.
+pub fn standing_of(register: &Register, id: OpId) -> Standing
+    ensures { result ≡ standing_of (status register.now.ops id) }
+{
+    match register.status(id) {
+        Some(Status::Superseded) => Standing::Superseded,
+        Some(Status::Retired) => Standing::Retired,
+        _ => Standing::Valid,
+    }
+}
+
+// Appends the id and the note of an operation.
+fn push_operation(alloc: Global, page: &mut Vec<u8>, op: &Op) -> Result<(), AllocError>
+    ensures { OnOk result (Appends page.old.items page.new.items (operation (printed op.now.id) op.now.note)) }
+{
+    let id = printed(alloc, op.id())?;
+    push_operation_id(page, &id)?;
+    push_operation_note(page, op.note().as_bytes())?;
+    Ok(())
+}
+
+fn push_superseded(
+    alloc: Global,
+    page: &mut Vec<u8>,
+    told: &[Told],
+    newer: OpId,
+    op: &Op,
+) -> Result<(), AllocError>
+    ensures { OnOk result (Appends page.old.items page.new.items (event (SupersededBy (link_to told.now newer) (printed op.now.id) op.now.note))) }
+{
+    push_mark(page, SUPERSEDED_BY)?;
+    push_link_to(alloc, page, told, newer)?;
+    push_operation(alloc, page, op)?;
+    Ok(())
+}
+
+fn push_retired(alloc: Global, page: &mut Vec<u8>, op: &Op) -> Result<(), AllocError>
+    ensures { OnOk result (Appends page.old.items page.new.items (event (RetiredBy (printed op.now.id) op.now.note))) }
+{
+    push_mark(page, RETIRED_BY)?;
+    push_operation(alloc, page, op)?;
+    Ok(())
+}
+
+// Appends what an operation does to the entry, if it does something to it.
+fn push_event(
+    alloc: Global,
+    page: &mut Vec<u8>,
+    told: &[Told],
+    entry: OpId,
+    op: &Op,
+) -> Result<(), AllocError>
+    ensures { OnOk result (Appends page.old.items page.new.items (flat_map event (events_in told.now entry op.now))) }
+{
+    match op.body() {
+        OpBody::Enter(_) => Ok(()),
+        OpBody::Supersede { old, newer } => {
+            if old.is_same(&entry) {
+                push_superseded(alloc, page, told, *newer, op)?;
+                return Ok(());
+            }
+            Ok(())
+        }
+        OpBody::Retire { entry: retired } => {
+            if retired.is_same(&entry) {
+                push_retired(alloc, page, op)?;
+                return Ok(());
+            }
+            Ok(())
+        }
+    }
+}
+
+// Appends what the operations do to the entry.
+fn push_events(
+    alloc: Global,
+    page: &mut Vec<u8>,
+    told: &[Told],
+    entry: OpId,
+    acts: &[Op],
+) -> Result<(), AllocError>
+    ensures { OnOk result (Appends page.old.items page.new.items (flat_map event (flat_map (events_in told.now entry) acts.now))) }
+{
+    let mut rest = acts;
+    while let Some((op, others)) = rest.split_first() {
+        push_event(alloc, page, told, entry, op)?;
+        rest = others;
+    }
+    Ok(())
+}
+
+fn push_link_by(
+    alloc: Global,
+    page: &mut Vec<u8>,
+    told: &[Told],
+    newer: OpId,
+) -> Result<(), AllocError>
+    ensures { OnOk result (Appends page.old.items page.new.items (by (link_to told.now newer))) }
+{
+    push_mark(page, BY)?;
+    push_link_to(alloc, page, told, newer)?;
+    push_mark(page, AFTER_BY)?;
+    Ok(())
+}
+
+// Appends a link to the entry that supersedes this one by the operation, if it is one of this entry.
+fn push_by(
+    alloc: Global,
+    page: &mut Vec<u8>,
+    told: &[Told],
+    entry: OpId,
+    op: &Op,
+) -> Result<(), AllocError>
+    ensures { OnOk result (Appends page.old.items page.new.items (flat_map by (links_in told.now entry op.now))) }
+{
+    match op.body() {
+        OpBody::Enter(_) => Ok(()),
+        OpBody::Supersede { old, newer } => {
+            if old.is_same(&entry) {
+                push_link_by(alloc, page, told, *newer)?;
+                return Ok(());
+            }
+            Ok(())
+        }
+        OpBody::Retire { entry: _ } => Ok(()),
+    }
+}
+
+// Appends links to the entries that supersede this one.
+fn push_bys(
+    alloc: Global,
+    page: &mut Vec<u8>,
+    told: &[Told],
+    entry: OpId,
+    acts: &[Op],
+) -> Result<(), AllocError>
+    ensures { OnOk result (Appends page.old.items page.new.items (flat_map by (flat_map (links_in told.now entry) acts.now))) }
+{
+    let mut rest = acts;
+    while let Some((op, others)) = rest.split_first() {
+        push_by(alloc, page, told, entry, op)?;
+        rest = others;
+    }
+    Ok(())
+}
+
+fn push_areas(page: &mut Vec<u8>, areas: &[Vec<u8>]) -> Result<(), AllocError>
+    ensures { OnOk result (Appends page.old.items page.new.items (flat_map area (map (λ (a : Owned ℕ). a.items) areas.now))) }
+{
+    let mut rest = areas;
+    while let Some((one, others)) = rest.split_first() {
+        push_area(page, one)?;
+        rest = others;
+    }
+    Ok(())
+}
+
+// Appends the row of an entry.
+fn push_entry(
+    alloc: Global,
+    page: &mut Vec<u8>,
+    register: &Register,
+    told: &[Told],
+    acts: &[Op],
+    one: &Told,
+) -> Result<(), AllocError>
+    ensures { OnOk result (Appends page.old.items page.new.items (entry (entry_of register.now.ops told.now acts.now one.now))) }
+{
+    let described = &one.described;
+    push_entry_start(
+        page,
+        &one.printed,
+        &one.authority,
+        &one.code,
+        &described.name,
+    )?;
+    push_entry_text(page, &described.text, &one.printed, &one.note)?;
+    push_events(alloc, page, told, one.id, acts)?;
+    push_mark(page, AFTER_HISTORY)?;
+    push_areas(page, &described.areas)?;
+    push_standing(page, described.kind, standing_of(register, one.id))?;
+    push_bys(alloc, page, told, one.id, acts)?;
+    push_mark(page, AFTER_ENTRY)?;
+    Ok(())
+}
+
+/// Appends a row for each entry.
+pub fn push_entries(
+    alloc: Global,
+    page: &mut Vec<u8>,
+    register: &Register,
+    told: &[Told],
+    acts: &[Op],
+) -> Result<(), AllocError>
+    ensures { OnOk result (Appends page.old.items page.new.items (flat_map entry (map (entry_of register.now.ops told.now acts.now) told.now))) }
+{
+    let mut rest = told;
+    while let Some((one, others)) = rest.split_first() {
+        push_entry(alloc, page, register, told, acts, one)?;
+        rest = others;
+    }
+    Ok(())
+}

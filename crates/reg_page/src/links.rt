@@ -1,0 +1,57 @@
+//! Links to other entries.
+
+ghost use Rattle.std.specs.Prelude.{◌≡◌, option_copied, OnOk};
+ghost use Rattle.html_text.specs.Pieces.{Appends};
+ghost use Rattle.html_page.specs.Shown.{Entered, Awaited};
+ghost use Rattle.html_page.specs.Templates.{link};
+ghost use Rattle.reg_op.specs.Text.{printed};
+ghost use Rattle.reg_page.specs.Page.{told_at, link_to};
+
+use crate::told::Told;
+use html_page::{push_awaited_link, push_link};
+use reg_op::OpId;
+use reg_report::printed;
+use std::alloc::{AllocError, Global};
+
+/// What the page shows of an entry, if it was entered.
+pub fn told_at<'a>(told: &'a [Told], id: OpId) -> Option<&'a Told>
+    ensures { option_copied result ≡ told_at told.now id }
+{
+    told.iter().find(|one| one.id.is_same(&id))
+}
+
+fn push_known(page: &mut Vec<u8>, one: &Told) -> Result<(), AllocError>
+    ensures { OnOk result (Appends page.old.items page.new.items (link (Entered one.now.printed.items one.now.authority.items one.now.code.items))) }
+{
+    push_link(page, &one.printed, &one.authority, &one.code)?;
+    Ok(())
+}
+
+fn push_unknown(alloc: Global, page: &mut Vec<u8>, id: OpId) -> Result<(), AllocError>
+    ensures { OnOk result (Appends page.old.items page.new.items (link (Awaited (printed id)))) }
+{
+    let text = printed(alloc, id)?;
+    push_awaited_link(page, &text)?;
+    Ok(())
+}
+
+/// Appends a link to an entry, or its id if it was not entered.
+pub fn push_link_to(
+    alloc: Global,
+    page: &mut Vec<u8>,
+    told: &[Told],
+    id: OpId,
+) -> Result<(), AllocError>
+    ensures { OnOk result (Appends page.old.items page.new.items (link (link_to told.now id))) }
+{
+    match told_at(told, id) {
+        Some(one) => {
+            push_known(page, one)?;
+            Ok(())
+        }
+        None => {
+            push_unknown(alloc, page, id)?;
+            Ok(())
+        }
+    }
+}

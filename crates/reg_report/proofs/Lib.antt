@@ -1,0 +1,12 @@
+pub mod SortLemmas
+pub mod PairLemmas
+pub mod AwaitedLemmas
+pub mod SheetLemmas
+pub mod GapLemmas
+pub mod ShownLemmas
+pub mod ConflictLemmas
+pub mod ContenderLemmas
+pub mod OneLemmas
+pub mod GapLists
+pub mod ReportLemmas
+pub mod EntryLemmas

@@ -1,0 +1,10 @@
+pub mod Names
+pub mod Pairs
+pub mod Seen
+pub mod Conflicts
+pub mod Contenders
+pub mod Gaps
+pub mod Lines
+pub mod Reports
+pub mod Between
+pub mod Exports

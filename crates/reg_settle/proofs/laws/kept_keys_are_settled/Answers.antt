@@ -1,5 +1,0 @@
-use Rattle.reg_settle.proofs.Settled.{kept_keys}
-use Rattle.reg_settle.proofs.laws.kept_keys_are_settled.Goals as goal
-
-pub returns : goal.returns
-returns c x y replica note keeps ids made keep key is settled done there named keyed = kept_keys x y replica note is ids made done keeps keep key settled there named keyed

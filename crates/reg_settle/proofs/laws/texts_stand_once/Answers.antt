@@ -1,5 +1,0 @@
-use Rattle.reg_settle.proofs.Settled.{one_entry}
-use Rattle.reg_settle.proofs.laws.texts_stand_once.Goals as goal
-
-pub returns : goal.returns
-returns c x y replica note ids made one other is doubles done there other_there stands other_stands same = one_entry x y replica note is ids made done doubles one other there other_there stands other_stands same

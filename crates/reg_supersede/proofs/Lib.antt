@@ -1,0 +1,5 @@
+mod AfterLemmas
+mod PairLemmas
+mod LineLemmas
+mod ListLemmas
+mod LawLemmas

@@ -1,0 +1,104 @@
+-- What the lines so far have come to: the effects of a command, and the content that they make.
+use Rattle.std.specs.Prelude.{◌≡◌, ◌⊎◌, ◌≤◌, ◌+◌, ◌++◌, [], ◌∷◌, ℕ, Bool, ◌&&◌, true, false, List, Option, Some, None, length, map}
+use Rattle.std.specs.List.{list_any}
+use Rattle.std.specs.BTreeSet.{BTreeSet, contains}
+use Rattle.std.specs.declared.cmp.Ordering.{Ordering}
+use Rattle.std.specs.Ordering.{ordering_then}
+use Rattle.reg_op.specs.Set as set
+use Rattle.reg_op.specs.Ids.{Id, id_cmp, is_same}
+use Rattle.reg_op.specs.Operations.{Op, op_cmp}
+use Rattle.reg_op.specs.declared.operation.OpBody.{OpBody as Body}
+use Rattle.reg_op.specs.declared.operation.OpBody.TheVariants.{Enter, Supersede, Retire}
+use Rattle.reg_op.specs.Contents.{Content, state, merged}
+use Rattle.reg_op.specs.Status.{is_supersession}
+use Rattle.reg_report.specs.Seen.{row_seen}
+use Rattle.reg_office.specs.declared.fault.OfficeFault.{OfficeFault}
+use Rattle.reg_office.specs.Making.{greatest, numbered, new_ops, objections, note_fault}
+use Rattle.reg_office.specs.Commands.{supersessions}
+use Rattle.reg_supersede.specs.declared.order.Order.{Order}
+use Rattle.reg_supersede.specs.declared.order.Pair.{Pair}
+use Rattle.reg_supersede.specs.declared.order.RefusedLine.{RefusedLine}
+use Rattle.reg_supersede.specs.declared.order.LineFault.{LineFault}
+use Rattle.reg_supersede.specs.Lists.{Task, IsRefusal, DoesLine, RefusesFor, RefusesLine, RefusesAll}
+
+abbrev pub task_of : Order → Task
+task_of o = record { replica = o.replica; note = o.note.now; keys = o.keys; rows = map row_seen o.rows.now; keep_going = o.keep_going }
+
+-- ---- effects on a content
+
+-- the content after some effects of the office
+abbrev pub after : Task → Content → List Body → Content
+after t x bs = merged x (state (set.from_list {R = op_cmp} (new_ops x t.replica t.note bs)))
+
+-- the number of the next effect, and the operations of some more
+abbrev pub next : Task → Content → List Body → ℕ
+next t x bs = greatest t.replica x.seen + 1 + length bs
+
+abbrev pub ids_of : Task → Content → List Body → List Id
+ids_of t x bs = map (λ (o : Op). o.id) (new_ops x t.replica t.note bs)
+
+-- each supersedes
+abbrev pub AreSupersessions : List Body → Type 0
+AreSupersessions [] = Unit {0}
+AreSupersessions (Supersede old newer ∷ bs) = AreSupersessions bs
+AreSupersessions (b ∷ bs) = ⊥
+
+-- one of them supersedes this entry by that one
+abbrev pub has_pair : List Body → Id → Id → Bool
+has_pair bs old newer = list_any (is_supersession old (is_same newer)) bs
+
+-- a pair is ordered by the old entry, then by the newer one
+abbrev pub pair_cmp : Pair → Pair → Ordering
+pair_cmp a b = ordering_then (id_cmp a.old b.old) (id_cmp a.newer b.newer)
+
+-- the set has exactly the pairs of the effects
+abbrev pub ArePairs : BTreeSet Pair → List Body → Type 0
+ArePairs pairs bs = (old newer : Id) → contains pair_cmp pairs (record { old = old; newer = newer }) ≡ has_pair bs old newer
+
+-- the office can make these effects: each supersedes, none is refused, and there are enough numbers
+pub record CanMake (t : Task) (x : Content) (bs : List Body) : Type 0 where
+  pub supersede : AreSupersessions bs
+  pub none_refused : objections x (new_ops x t.replica t.note bs) ≡ None
+  pub fit : greatest t.replica x.seen + length bs ≤ 4294967295
+
+-- and it can make the supersessions of one more line
+pub record CanAdd (t : Task) (x : Content) (bs : List Body) (old : Id) (newer : List Id) : Type 0 where
+  pub short : note_fault t.note ≡ None
+  pub none_refused : objections (after t x bs) (numbered t.replica (next t x bs) t.note (supersessions old newer)) ≡ None
+  pub fit : greatest t.replica x.seen + length bs + length newer ≤ 4294967295
+
+-- the entries of a line that is not refused, and their effects
+abbrev pub AreAllowed : Task → Content → List Body → List Id → Type 0
+AreAllowed t x bs [] = Unit {0}
+AreAllowed t x bs (old ∷ []) = ⊥
+AreAllowed t x bs (old ∷ newer ∷ more) = CanAdd t x bs old (newer ∷ more)
+
+abbrev pub effects_of : List Id → List Body
+effects_of [] = []
+effects_of (old ∷ newer) = supersessions old newer
+
+-- ---- one line more
+
+-- it is done: these are the effects then; or it is refused and left out
+abbrev pub StepsOn : Task → Content → ℕ → List ℕ → List Body → List RefusedLine → List Body → List RefusedLine → Type 0
+StepsOn t x n text old left new more =
+    ((now : List Id) × DoesLine t (after t x old) text (after t x new) now × (ids_of t x new ≡ ids_of t x old ++ now) × (more ≡ left))
+    ⊎ ((f : LineFault) × (t.keep_going ≡ true) × RefusesLine t (after t x old) text f × (new ≡ old) × (more ≡ left ++ record { line = n; fault = f } ∷ []))
+
+-- ---- why a line makes nothing, unless there is no memory
+
+abbrev pub IsFaultOf : Task → Content → List Id → LineFault → Type 0
+IsFaultOf t x es f = IsRefusal f → RefusesFor t x es f
+
+abbrev pub IsLineFault : Task → Content → List ℕ → LineFault → Type 0
+IsLineFault t x text f = IsRefusal f → RefusesLine t x text f
+
+-- refused lines are not left out
+abbrev pub IsNotLeft : Bool → RefusedLine → RefusedLine → Type 0
+IsNotLeft keep_going f g = IsRefusal g.fault → (keep_going ≡ false) × (g ≡ f)
+
+abbrev pub IsStepFault : Task → Content → ℕ → List ℕ → RefusedLine → Type 0
+IsStepFault t x n text f = IsRefusal f.fault → (t.keep_going ≡ false) × RefusesLine t x text f.fault × (f.line ≡ n)
+
+abbrev pub IsListFault : Task → Content → List (List ℕ) → RefusedLine → Type 0
+IsListFault t x lines f = IsRefusal f.fault → RefusesAll t x lines f

@@ -1,0 +1,60 @@
+-- What the command makes of a register and of its list, and why it makes nothing.
+use Rattle.std.specs.Prelude.{◌≡◌, ◌≤◌, ◌<◌, ◌+◌, ◌++◌, [], ◌∷◌, ℕ, Bool, List, length}
+use Rattle.byte_io.specs.Device.{SourceState}
+use Rattle.byte_io.specs.Whole.{FailsAfter}
+use Rattle.reg_file.specs.Files.{most, ReadsBytes}
+use Rattle.reg_op.specs.Ids.{Id}
+use Rattle.reg_op.specs.Contents.{Content}
+use Rattle.reg_engine.specs.declared.fault.InputFault.{InputFault}
+use Rattle.reg_engine.specs.declared.fault.InputFault.TheVariants as file
+use Rattle.reg_engine.specs.declared.fault.CliFault.{CliFault}
+use Rattle.reg_engine.specs.declared.fault.CliFault.TheVariants as cli
+use Rattle.reg_engine.specs.declared.fault.Refusal.TheVariants as refusal
+use Rattle.reg_engine.specs.Fault.{office_fault}
+use Rattle.reg_engine.specs.Outputs.{id_lines}
+use Rattle.reg_supersede.specs.declared.order.LineFault.{LineFault}
+use Rattle.reg_supersede.specs.declared.order.LineFault.TheVariants as line
+use Rattle.reg_supersede.specs.declared.order.RefusedLine.{RefusedLine}
+use Rattle.reg_supersede.specs.Lines.{lines}
+use Rattle.reg_supersede.specs.Lists.{Task, rows_if, DoesAll, RefusesAll}
+
+-- the source gave all its bytes, within the limit of a file
+abbrev pub Gives : SourceState → SourceState → List ℕ → Type 0
+Gives old new bytes = ReadsBytes old new bytes × (length bytes ≤ most)
+
+-- or it did not, for this reason
+abbrev pub IsFileFault : InputFault → SourceState → SourceState → Type 0
+IsFileFault file.NotOpened old new = ⊥
+IsFileFault (file.ReadFailed n) old new = FailsAfter n (most + 1) old new
+IsFileFault file.TooLarge old new = (bytes : List ℕ) × ReadsBytes old new bytes × (most < length bytes)
+IsFileFault (file.BadFile f place) old new = ⊥
+
+-- why the list, whose file has this number, was not read
+abbrev pub IsUnread : ℕ → SourceState → SourceState → CliFault → Type 0
+IsUnread number old new (cli.File k f) = (k ≡ number) × IsFileFault f old new
+IsUnread number old new cli.Memory = Unit {0}
+IsUnread number old new f = ⊥
+
+-- what holds of all lines, over the register before the first
+abbrev pub task : List ℕ → List ℕ → Bool → Bool → Content → Task
+task replica note keys keep_going x = record { replica = replica; note = note; keys = keys; rows = rows_if keys x; keep_going = keep_going }
+
+-- the fault of a command that a line refuses
+abbrev pub cause_of : LineFault → CliFault
+cause_of line.BadId = cli.Refused refusal.BadId
+cause_of line.NoEntry = cli.Refused refusal.NoEntry
+cause_of (line.Several id) = cli.Refused (refusal.Several id)
+cause_of (line.Office f) = office_fault f
+cause_of line.Memory = cli.Memory
+
+-- the lines of the list were done, one after the other; these are left out, and those are the lines of the new ids
+abbrev pub Supersedes : Task → SourceState → SourceState → Content → Content → List ℕ → List RefusedLine → Type 0
+Supersedes t old new x y text left = (bytes : List ℕ) × Gives old new bytes × ((ids : List Id) × DoesAll t 1 x (lines bytes) y ids left × (text ≡ id_lines ids))
+
+-- the list was not read; or a line of it refuses the command, and is listed after those that were there; or memory ran out
+abbrev pub CannotSupersede : Task → ℕ → SourceState → SourceState → Content → List RefusedLine → List RefusedLine → CliFault → Type 0
+CannotSupersede t number old new x before told (cli.Refused r) = (bytes : List ℕ) × Gives old new bytes
+    × ((f : RefusedLine) × RefusesAll t x (lines bytes) f × (told ≡ before ++ f ∷ []) × (cause_of f.fault ≡ cli.Refused r))
+CannotSupersede t number old new x before told (cli.File k f) = (k ≡ number) × IsFileFault f old new
+CannotSupersede t number old new x before told cli.Memory = Unit {0}
+CannotSupersede t number old new x before told f = ⊥

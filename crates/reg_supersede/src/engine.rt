@@ -1,0 +1,179 @@
+//! The command `supersede --from`.
+
+ghost use Rattle.std.specs.Prelude.{◌≡◌, true, IfOk, IfErr};
+ghost use Rattle.reg_op.specs.Ids.{Id};
+ghost use Rattle.reg_engine.specs.Outputs.{id_lines};
+ghost use Rattle.reg_supersede.specs.Lines.{lines};
+ghost use Rattle.reg_supersede.specs.Lists.{DoesAll};
+ghost use Rattle.reg_supersede.specs.Effects.{after, ids_of, CanMake, IsListFault};
+ghost use Rattle.reg_supersede.specs.Engine.{Gives, IsUnread, task};
+
+use crate::lines::lines_of;
+use crate::list::{Listed, all_lines, leave_out};
+use crate::naming::rows_for;
+use crate::order::{LineFault, Order, RefusedLine};
+use byte_io::{InFault, Source, read_up_to};
+use reg_engine::{Change, CliFault, InputFault, Made, id_lines};
+use reg_file::MAX_FILE;
+use reg_office::Office;
+use reg_op::OpBody;
+use reg_state::Register;
+use std::alloc::Global;
+use uuid::Uuid;
+
+/// Reads a list after the register, and supersedes the entries of its lines as the replica, with the note. Where refused lines are
+/// left out, `refused` has them afterwards; else it has the one that refuses the command.
+#[derive(Drop)]
+pub struct SupersedeFrom<'a, S> {
+    pub list: &'a mut S,
+    pub keys: bool,
+    pub replica: Uuid,
+    pub note: &'a str,
+    pub keep_going: bool,
+    pub refused: Vec<RefusedLine>,
+}
+
+// The bytes of the list, whose file has this number.
+fn bytes_of<S: Source>(alloc: Global, number: usize, list: &mut S) -> Result<Vec<u8>, CliFault>
+    ensures gives { IfOk result (λ bytes. Gives (S.state list.old) (S.state list.new) bytes.items) }
+    ensures fault { IfErr result (IsUnread number (S.state list.old) (S.state list.new)) }
+{
+    match read_up_to(alloc, list, MAX_FILE + 1) {
+        Ok(bytes) => {
+            if bytes.len() > MAX_FILE {
+                return Err(CliFault::File {
+                    number,
+                    fault: InputFault::TooLarge,
+                });
+            }
+            Ok(bytes)
+        }
+        Err(InFault::ReadFailed(n)) => Err(CliFault::File {
+            number,
+            fault: InputFault::ReadFailed(n),
+        }),
+        Err(InFault::Memory) => Err(CliFault::Memory),
+    }
+}
+
+const OUT_OF_MEMORY: RefusedLine = RefusedLine {
+    line: 0,
+    fault: LineFault::Memory,
+};
+
+// The effects of the list of these bytes.
+fn planned(
+    alloc: Global,
+    register: &Register,
+    keys: bool,
+    replica: Uuid,
+    note: &str,
+    keep_going: bool,
+    bytes: &[u8],
+) -> Result<Listed, RefusedLine>
+    ensures done { IfOk result (λ l. DoesAll (task replica note.now keys keep_going register.now) 1 register.now (lines bytes.now)
+        (after (task replica note.now keys keep_going register.now) register.now l.bodies.items)
+        (ids_of (task replica note.now keys keep_going register.now) register.now l.bodies.items) l.left.items) }
+    ensures made { IfOk result (λ l. CanMake (task replica note.now keys keep_going register.now) register.now l.bodies.items) }
+    ensures fault { IfErr result (IsListFault (task replica note.now keys keep_going register.now) register.now (lines bytes.now)) }
+{
+    let Ok(rows) = rows_for(alloc, register, keys) else {
+        return Err(OUT_OF_MEMORY);
+    };
+    let Ok(lines) = lines_of(alloc, bytes) else {
+        return Err(OUT_OF_MEMORY);
+    };
+    let order = Order {
+        register,
+        rows: &rows,
+        keys,
+        replica,
+        note,
+        keep_going,
+    };
+    match all_lines(alloc, &order, &lines) {
+        Ok(listed) => Ok(listed),
+        Err(fault) => Err(fault),
+    }
+}
+
+// The register after all effects, and the lines of the new ids.
+fn made_of(
+    alloc: Global,
+    register: Register,
+    replica: Uuid,
+    note: &str,
+    bodies: &[OpBody],
+) -> Result<Made, CliFault>
+    requires { CanMake (task replica note.now true true register) register bodies.now }
+    ensures register { IfOk result (λ made. made.register ≡ after (task replica note.now true true register) register bodies.now) }
+    ensures lines { IfOk result (λ made. made.lines.items ≡ id_lines (ids_of (task replica note.now true true register) register bodies.now)) }
+    ensures fault { IfErr result (λ f. f ≡ CliFault.Memory) }
+{
+    let _content = register.seen();
+    if bodies.is_empty() {
+        return Ok(Made {
+            register,
+            lines: Vec::new(alloc),
+        });
+    }
+    let mut office = Office::new(replica, register);
+    let Ok(ids) = office.make(alloc, bodies, note) else {
+        return Err(CliFault::Memory);
+    };
+    match id_lines(alloc, &ids) {
+        Ok(lines) => Ok(Made {
+            register: office.into_register(),
+            lines,
+        }),
+        Err(_) => Err(CliFault::Memory),
+    }
+}
+
+impl<S: Source> Change for SupersedeFrom<'_, S> {
+    ghost use Rattle.std.specs.Prelude.{◌≡◌};
+    ghost use Rattle.std.proofs.Common.{refl};
+    ghost use Rattle.reg_supersede.specs.Engine.{task, Supersedes, CannotSupersede};
+
+    ghost makes = { λ old. λ new. λ next. λ x. λ y. λ text. Supersedes (task old.replica old.note.now old.keys old.keep_going x) (S.state old.list.now) (S.state new.list.now) x y text new.refused.items };
+
+    ghost refuses = { λ old. λ new. λ next. λ x. λ f. CannotSupersede (task old.replica old.note.now old.keys old.keep_going x) next (S.state old.list.now) (S.state new.list.now) x old.refused.items new.refused.items f };
+
+    ghost same = { λ old. λ new. new.list.ghost_name ≡ old.list.ghost_name };
+
+    ghost itself = { λ a. refl };
+
+    ghost unread = { λ old. λ new. S.state new.list.now ≡ S.state old.list.now };
+
+    ghost rests = { λ a. refl };
+
+    fn make(&mut self, alloc: Global, next: usize, register: Register) -> Result<Made, CliFault> {
+        let bytes = match bytes_of(alloc, next, self.list) {
+            Ok(bytes) => bytes,
+            Err(fault) => return Err(fault),
+        };
+        let planned = planned(
+            alloc,
+            &register,
+            self.keys,
+            self.replica,
+            self.note,
+            self.keep_going,
+            &bytes,
+        );
+        let Listed { bodies, left } = match planned {
+            Ok(listed) => listed,
+            Err(refused) => {
+                if leave_out(true, &mut self.refused, refused).is_err() {
+                    return Err(CliFault::Memory);
+                }
+                return Err(refused.cause());
+            }
+        };
+        self.refused = left;
+        match made_of(alloc, register, self.replica, self.note, &bodies) {
+            Ok(made) => Ok(made),
+            Err(fault) => Err(fault),
+        }
+    }
+}

@@ -1,0 +1,122 @@
+-- One more of the files, when those before it are read.
+use Rattle.std.proofs.Common.{◌≡◌, ◌∷◌, ◌++◌, [], Bool, true, false, List, ℕ, ◌+◌, ◌<◌, ◌≤◌, zero, suc, length, map, take, drop, get_or, slice_set, refl, ap, sym, subst, arith, inl, inr}
+use Rattle.std.proofs.lemmas.List.{take_all, length-map}
+use Rattle.byte_io.specs.Device.{SourceState}
+use Rattle.reg_file.specs.Parts.{FindsPart, IsPartReadFromFault}
+use Rattle.reg_file.specs.declared.fault.ReadFileFault.{ReadFileFault}
+use Rattle.reg_file.specs.declared.fault.ReadFileFault.TheVariants as reading
+use Rattle.reg_file.specs.declared.parts.Part.{Part}
+use Rattle.reg_file.specs.declared.parts.Part.TheVariants as part
+use Rattle.reg_engine.specs.declared.fault.CliFault.{CliFault}
+use Rattle.reg_engine.specs.declared.fault.CliFault.TheVariants as cli
+use Rattle.reg_take.specs.declared.files.Arrival.{Arrival}
+use Rattle.reg_take.specs.declared.files.Arrival.TheVariants as arrival
+use Rattle.reg_take.specs.Files.{FileState, file_state, fault_in, IsUnread, HasFault, IsArrival, IsLast, AreArrivals, StopsAt, IsStopped}
+
+abbrev head_of : {A : Type 0} → A → List A → A
+head_of d [] = d
+head_of d (x ∷ xs) = x
+
+abbrev tail_of : {A : Type 0} → List A → List A
+tail_of [] = []
+tail_of (x ∷ xs) = xs
+
+never : (b : Bool) → b ≡ false → b ≡ true → ⊥
+never b e h = absurd (cc)
+
+-- where the command does not keep going, each file gave a part
+part_given : (going : Bool) (k : ℕ) (o n : FileState) (a : Arrival) → going ≡ false → IsArrival going k o n a → (p : Part) × FindsPart o.source n.source p
+part_given going k o n (arrival.Register x) dry h = (part.Register x, h)
+part_given going k o n (arrival.Piece p) dry h = (part.Piece p, h)
+part_given going k o n (arrival.Unread m f) dry h = absurd (never going dry h.0)
+
+-- the fault of reading is that of the file
+pub fault_is : (number : ℕ) (was shut : Bool) (o n : SourceState) (f : ReadFileFault) → IsPartReadFromFault o n f
+    → IsUnread number (file_state o was) (file_state n shut) (fault_in number shut f)
+fault_is number was true o n (reading.ReadFailed m) h = inr (refl, (refl, (m, h)))
+fault_is number was false o n (reading.ReadFailed m) h = inr (refl, (refl, h))
+fault_is number was true o n (reading.File f place) h = inr (refl, h)
+fault_is number was false o n (reading.File f place) h = inr (refl, h)
+fault_is number was true o n reading.TooLarge h = inr (refl, h)
+fault_is number was false o n reading.TooLarge h = inr (refl, h)
+fault_is number was true o n reading.Memory h = inl refl
+fault_is number was false o n reading.Memory h = inl refl
+
+pub late_fault : (number : ℕ) (was : Bool) (o n m : SourceState) (shut told : Bool) (f : ReadFileFault) (g : CliFault) → m ≡ n → told ≡ shut → g ≡ fault_in number told f → IsPartReadFromFault o n f
+    → IsUnread number (file_state o was) (file_state m shut) g
+late_fault number was o n m shut told f g gave same is h =
+    subst (λ k. IsUnread number (file_state o was) (file_state m shut) k) (sym is)
+    (subst (λ b. IsUnread number (file_state o was) (file_state m shut) (fault_in number b f)) (sym same) (fault_is number was shut o m f (subst (λ k. IsPartReadFromFault o k f) (sym gave) h)))
+
+-- a fault that is no lack of memory is that of the file
+pub of_file : (number : ℕ) (o n : FileState) (f : CliFault) → (f ≡ cli.Memory → ⊥) → IsUnread number o n f → HasFault number o n f
+of_file number o n f other (inl memory) = absurd (other memory)
+of_file number o n f other (inr fault) = fault
+
+next : (i : ℕ) → suc i ≡ i + 1
+next i = omega arith
+
+module _ {S : Type 0} (st : S → FileState) (going : Bool) where
+  first : (w n : S) (ws ns : List S) → map st (n ∷ ns) ≡ map st (w ∷ ws) → st n ≡ st w
+  first w n ws ns e = ap (head_of (st n)) e
+
+  others : (w n : S) (ws ns : List S) → map st (n ∷ ns) ≡ map st (w ∷ ws) → map st ns ≡ map st ws
+  others w n ws ns e = ap tail_of e
+
+  behind_suc : (was now : List S) (i : ℕ) (s : S) → length now ≡ length was → drop i (map st now) ≡ drop i (map st was)
+      → drop (suc i) (map st (slice_set now i s)) ≡ drop (suc i) (map st was)
+  behind_suc [] [] i s size back = refl
+  behind_suc [] (n ∷ ns) i s size back = absurd (omega arith)
+  behind_suc (w ∷ ws) [] i s size back = absurd (omega arith)
+  behind_suc (w ∷ ws) (n ∷ ns) zero s size back = others w n ws ns back
+  behind_suc (w ∷ ws) (n ∷ ns) (suc i) s size back = behind_suc ws ns i s (omega arith) back
+
+  pub behind : (was now : List S) (i : ℕ) (s : S) → length now ≡ length was → drop i (map st now) ≡ drop i (map st was)
+      → drop (i + 1) (map st (slice_set now i s)) ≡ drop (i + 1) (map st was)
+  behind was now i s size back = subst (λ j. drop j (map st (slice_set now i s)) ≡ drop j (map st was)) (next i) (behind_suc was now i s size back)
+
+  arrived_suc : (was now : List S) (number i k : ℕ) (o s : S) (gave : List Arrival) (a : Arrival) → i < length was → length now ≡ length was
+      → AreArrivals going number (take i (map st was)) (take i (map st now)) gave → drop i (map st now) ≡ drop i (map st was) → k ≡ number + i → IsArrival going k (st (get_or now i o)) (st s) a
+      → AreArrivals going number (take (suc i) (map st was)) (take (suc i) (map st (slice_set now i s))) (gave ++ a ∷ [])
+  arrived_suc was [] number i k o s gave a within size front back at is = absurd (omega arith)
+  arrived_suc [] (n ∷ ns) number i k o s gave a within size front back at is = absurd (omega arith)
+  arrived_suc (w ∷ ws) (n ∷ ns) number zero k o s [] a within size front back at is =
+      let same : k ≡ number = omega (arith, at) in
+      (subst (λ j. IsArrival going j (st w) (st s) a) same (subst (λ j. IsArrival going k j (st s) a) (first w n ws ns back) is), tt)
+  arrived_suc (w ∷ ws) (n ∷ ns) number zero k o s (b ∷ bs) a within size front back at is = absurd front
+  arrived_suc (w ∷ ws) (n ∷ ns) number (suc i) k o s [] a within size front back at is = absurd front
+  arrived_suc (w ∷ ws) (n ∷ ns) number (suc i) k o s (b ∷ bs) a within size front back at is =
+      (front.0, arrived_suc ws ns (number + 1) i k o s bs a (omega arith) (omega arith) front.1 back (omega (arith, at)) is)
+
+  pub arrived_next : (was now : List S) (number i k : ℕ) (o s : S) (gave bs : List Arrival) (a : Arrival) → i < length was → length now ≡ length was
+      → AreArrivals going number (take i (map st was)) (take i (map st now)) gave → drop i (map st now) ≡ drop i (map st was) → k ≡ number + i → IsArrival going k (st (get_or now i o)) (st s) a
+      → bs ≡ gave ++ a ∷ [] → AreArrivals going number (take (i + 1) (map st was)) (take (i + 1) (map st (slice_set now i s))) bs
+  arrived_next was now number i k o s gave bs a within size front back at is pushed =
+      subst (λ j. AreArrivals going number (take j (map st was)) (take j (map st (slice_set now i s))) bs) (next i)
+      (subst (λ ks. AreArrivals going number (take (suc i) (map st was)) (take (suc i) (map st (slice_set now i s))) ks) (sym pushed) (arrived_suc was now number i k o s gave a within size front back at is))
+
+  stops_at : (was now : List S) (number i k : ℕ) (o s : S) (gave : List Arrival) (f : CliFault) → going ≡ false → i < length was → length now ≡ length was
+      → AreArrivals going number (take i (map st was)) (take i (map st now)) gave → drop i (map st now) ≡ drop i (map st was) → k ≡ number + i → HasFault k (st (get_or now i o)) (st s) f
+      → StopsAt number f (map st was) (map st (slice_set now i s))
+  stops_at was [] number i k o s gave f dry within size front back at fault = absurd (omega arith)
+  stops_at [] (n ∷ ns) number i k o s gave f dry within size front back at fault = absurd (omega arith)
+  stops_at (w ∷ ws) (n ∷ ns) number zero k o s gave f dry within size front back at fault =
+      let same : k ≡ number = omega (arith, at) in
+      inl (subst (λ j. HasFault j (st w) (st s) f) same (subst (λ j. HasFault k j (st s) f) (first w n ws ns back) fault), others w n ws ns back)
+  stops_at (w ∷ ws) (n ∷ ns) number (suc i) k o s [] f dry within size front back at fault = absurd front
+  stops_at (w ∷ ws) (n ∷ ns) number (suc i) k o s (b ∷ bs) f dry within size front back at fault =
+      inr (part_given going number (st w) (st n) b dry front.0, stops_at ws ns (number + 1) i k o s bs f dry (omega arith) (omega arith) front.1 back (omega (arith, at)) fault)
+
+  -- what ends the reading of one ends that of all
+  pub last_stops : (was now : List S) (number i k : ℕ) (o s : S) (gave : List Arrival) (f : CliFault) → i < length was → length now ≡ length was
+      → AreArrivals going number (take i (map st was)) (take i (map st now)) gave → drop i (map st now) ≡ drop i (map st was) → k ≡ number + i → IsLast going k (st (get_or now i o)) (st s) f
+      → IsStopped going number (map st was) (map st (slice_set now i s)) f
+  last_stops was now number i k o s gave f within size front back at (inl memory) = inl memory
+  last_stops was now number i k o s gave f within size front back at (inr (dry, fault)) = inr (dry, stops_at was now number i k o s gave f dry within size front back at fault)
+
+  -- after the last
+  pub arrived_all : (was now : List S) (number i : ℕ) (gave : List Arrival) → length was ≤ i → length now ≡ length was
+      → AreArrivals going number (take i (map st was)) (take i (map st now)) gave → AreArrivals going number (map st was) (map st now) gave
+  arrived_all was now number i gave past size h =
+      subst (λ os. AreArrivals going number os (map st now) gave) (take_all i (map st was) (omega (arith, length-map was st, past)))
+      (subst (λ ns. AreArrivals going number (take i (map st was)) ns gave) (take_all i (map st now) (omega (arith, length-map now st, size, past))) h)

@@ -1,0 +1,5 @@
+mod SameLemmas
+mod FileLemmas
+mod TakenLemmas
+mod LawLemmas
+mod EngineLemmas

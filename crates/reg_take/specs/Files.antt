@@ -1,0 +1,80 @@
+-- Files of registers and pieces that are opened in turn: what each gave.
+use Rattle.std.specs.Prelude.{◌≡◌, ◌⊎◌, ◌+◌, ◌∷◌, [], Bool, true, false, IsTrue, List, ℕ}
+use Rattle.byte_io.specs.Device.{SourceState}
+use Rattle.reg_file.specs.Parts.{FindsPart}
+use Rattle.reg_file.specs.declared.parts.Part.{Part}
+use Rattle.reg_file.specs.declared.parts.Part.TheVariants as part
+use Rattle.reg_file.specs.declared.fault.ReadFileFault.{ReadFileFault}
+use Rattle.reg_file.specs.declared.fault.ReadFileFault.TheVariants as reading
+use Rattle.reg_engine.specs.declared.fault.InputFault.{InputFault}
+use Rattle.reg_engine.specs.declared.fault.InputFault.TheVariants as file
+use Rattle.reg_engine.specs.declared.fault.CliFault.{CliFault}
+use Rattle.reg_engine.specs.declared.fault.CliFault.TheVariants as cli
+use Rattle.reg_engine.specs.Fault.{file_fault}
+use Rattle.reg_engine.specs.Inputs.{IsPartFault}
+use Rattle.reg_take.specs.declared.files.Arrival.{Arrival}
+use Rattle.reg_take.specs.declared.files.Arrival.TheVariants as arrival
+
+-- a file: what it gave, and whether it did not open
+pub record FileState : Type 0 where
+  pub source : SourceState
+  pub shut : Bool
+
+abbrev pub file_state : SourceState → Bool → FileState
+file_state source shut = record { source = source; shut = shut }
+
+-- the fault of the file of this number, which may not have opened
+abbrev pub fault_in : ℕ → Bool → ReadFileFault → CliFault
+fault_in number true (reading.ReadFailed n) = cli.File number file.NotOpened
+fault_in number false (reading.ReadFailed n) = file_fault number (reading.ReadFailed n)
+fault_in number shut (reading.File f place) = file_fault number (reading.File f place)
+fault_in number shut reading.TooLarge = file_fault number reading.TooLarge
+fault_in number shut reading.Memory = file_fault number reading.Memory
+
+-- why a file gave neither a register nor a piece
+abbrev pub IsFault : InputFault → FileState → FileState → Type 0
+IsFault file.NotOpened old new = IsTrue new.shut × ((n : ℕ) × IsPartFault (file.ReadFailed n) old.source new.source)
+IsFault (file.ReadFailed n) old new = (new.shut ≡ false) × IsPartFault (file.ReadFailed n) old.source new.source
+IsFault file.TooLarge old new = IsPartFault file.TooLarge old.source new.source
+IsFault (file.BadFile f place) old new = IsPartFault (file.BadFile f place) old.source new.source
+
+-- that of this number has this fault
+abbrev pub HasFault : ℕ → FileState → FileState → CliFault → Type 0
+HasFault number old new (cli.Refused r) = ⊥
+HasFault number old new (cli.File k f) = (k ≡ number) × IsFault f old new
+HasFault number old new (cli.Out f) = ⊥
+HasFault number old new cli.Memory = ⊥
+HasFault number old new (cli.Shelf p) = ⊥
+
+-- it was not read, for this reason
+abbrev pub IsUnread : ℕ → FileState → FileState → CliFault → Type 0
+IsUnread number old new f = (f ≡ cli.Memory) ⊎ HasFault number old new f
+
+-- what it gave: the file of this part; or this fault, with which the command goes on
+abbrev pub IsArrival : Bool → ℕ → FileState → FileState → Arrival → Type 0
+IsArrival going number old new (arrival.Register x) = FindsPart old.source new.source (part.Register x)
+IsArrival going number old new (arrival.Piece p) = FindsPart old.source new.source (part.Piece p)
+IsArrival going number old new (arrival.Unread k f) = IsTrue going × HasFault number old new (cli.File k f)
+
+-- the command ends with this fault
+abbrev pub IsLast : Bool → ℕ → FileState → FileState → CliFault → Type 0
+IsLast going number old new f = (f ≡ cli.Memory) ⊎ ((going ≡ false) × HasFault number old new f)
+
+-- each file, in order: the first has this number, and the others one more each
+abbrev pub AreArrivals : Bool → ℕ → List FileState → List FileState → List Arrival → Type 0
+AreArrivals going number [] [] [] = Unit {0}
+AreArrivals going number [] [] (a ∷ gave) = ⊥
+AreArrivals going number [] (n ∷ ns) gave = ⊥
+AreArrivals going number (o ∷ os) [] gave = ⊥
+AreArrivals going number (o ∷ os) (n ∷ ns) [] = ⊥
+AreArrivals going number (o ∷ os) (n ∷ ns) (a ∷ gave) = IsArrival going number o n a × AreArrivals going (number + 1) os ns gave
+
+-- one has this fault; each before it gave the file of a part, and those after it were not read
+abbrev pub StopsAt : ℕ → CliFault → List FileState → List FileState → Type 0
+StopsAt number f [] new = ⊥
+StopsAt number f (o ∷ os) [] = ⊥
+StopsAt number f (o ∷ os) (n ∷ ns) = (HasFault number o n f × (ns ≡ os)) ⊎ (((p : Part) × FindsPart o.source n.source p) × StopsAt (number + 1) f os ns)
+
+-- not all were read: out of memory, or the first fault of a file ends the command
+abbrev pub IsStopped : Bool → ℕ → List FileState → List FileState → CliFault → Type 0
+IsStopped going number old new f = (f ≡ cli.Memory) ⊎ ((going ≡ false) × StopsAt number f old new)

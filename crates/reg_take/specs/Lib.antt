@@ -1,0 +1,4 @@
+pub mod Files
+pub mod Taken
+pub mod Take
+pub mod Engines

@@ -1,0 +1,28 @@
+-- What joining files to a register gives, or why it gives nothing.
+use Rattle.std.specs.Prelude.{◌≡◌, ◌⊎◌, ◌∷◌, [], Bool, true, false, List, ℕ}
+use Rattle.reg_op.specs.Contents.{Content}
+use Rattle.reg_engine.specs.declared.fault.CliFault.{CliFault}
+use Rattle.reg_take.specs.declared.files.Arrival.{Arrival}
+use Rattle.reg_take.specs.declared.taking.LeftOut.{LeftOut}
+use Rattle.reg_take.specs.Files.{FileState, AreArrivals, IsStopped}
+use Rattle.reg_take.specs.Taken.{fault_of, all_taken, IsTakenFrom}
+
+-- files are left out only where the command keeps going
+abbrev pub MayLeave : Bool → List LeftOut → Type 0
+MayLeave true left = Unit {0}
+MayLeave false left = left ≡ []
+
+-- it does not, and this is the fault of the first file that would be left out
+abbrev pub IsFirstFault : Bool → List LeftOut → CliFault → Type 0
+IsFirstFault true left f = ⊥
+IsFirstFault false [] f = ⊥
+IsFirstFault false (l ∷ ls) f = f ≡ fault_of l
+
+-- the files were read, and joined to the content
+abbrev pub Takes : Bool → ℕ → List FileState → List FileState → Content → Content → List LeftOut → Type 0
+Takes going next old new x y left = (gave : List Arrival) × AreArrivals going next old new gave × IsTakenFrom x gave y left × MayLeave going left
+
+-- why nothing is joined: they were not all read, or one cannot be joined
+abbrev pub CannotTake : Bool → ℕ → List FileState → List FileState → Content → CliFault → Type 0
+CannotTake going next old new x f = IsStopped going next old new f
+    ⊎ ((gave : List Arrival) × AreArrivals going next old new gave × IsFirstFault going (all_taken x gave).left f)

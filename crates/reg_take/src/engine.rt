@@ -1,0 +1,123 @@
+//! The command `take` on a register, wherever that is.
+
+ghost use Rattle.std.specs.Prelude.{◌≡◌, ◌≢◌, ◌↔◌, map, IsTrue, IfOk, OnOk, IfErr};
+ghost use Rattle.reg_op.specs.Contents.{Content};
+ghost use Rattle.byte_io.specs.Whole.{WritesAll};
+ghost use Rattle.reg_engine.specs.Store.{AreCut};
+ghost use Rattle.reg_take.specs.Files.{file_state};
+ghost use Rattle.reg_take.specs.Engines.{only_read, kept_if_changed, Leaves, IsTaken, IsUntaken};
+
+use crate::ready::{Ready, make_ready};
+use crate::taking::LeftOut;
+use byte_io::{Sink, write_all};
+use byte_late::LateSource;
+use reg_engine::{CliFault, Keep, OutFault, Store};
+use reg_state::Register;
+use std::alloc::Global;
+
+// Writes the lines.
+fn tell<K: Sink>(lines: &[u8], sink: &mut K) -> Result<(), CliFault>
+    ensures written { OnOk result (WritesAll lines.now (K.state sink.old) (K.state sink.new)) }
+    ensures fault { IfErr result (AreCut lines.now (K.state sink.old) (K.state sink.new)) }
+{
+    match write_all(sink, lines) {
+        Ok(()) => Ok(()),
+        Err(fault) => Err(CliFault::Out(OutFault::WriteFailed(fault.written))),
+    }
+}
+
+// Keeps the register, unless it is the one that was loaded.
+fn keep_changed<T: Keep>(
+    alloc: Global,
+    store: &mut T,
+    register: &Register,
+    is_same: bool,
+) -> Result<(), CliFault>
+    ensures same { (first : T) → T.same first store.old → T.same first store.new }
+    ensures left { (first : T) (was : Content) → T.same first store.old → (T.around first store.old).came was → (IsTrue is_same ↔ (register.now ≡ was))
+        → OnOk result (Leaves (T.around first store.new).left (T.around first store.new) was register.now) }
+    ensures unleft { (first : T) (was : Content) → T.same first store.old → (T.around first store.old).came was → (IsTrue is_same ↔ (register.now ≡ was))
+        → IfErr result (λ f. (register.now ≢ was) × (T.around first store.new).unleft was register.now f) }
+{
+    if is_same {
+        return Ok(());
+    }
+    match store.keep(alloc, register) {
+        Ok(()) => Ok(()),
+        Err(fault) => Err(fault),
+    }
+}
+
+/// Loads the register, and then joins a register or a piece from each file to it; keeps the result, if it is another register,
+/// and then writes the rows that the two do not share. Answers the files that are left out: where it keeps going those that
+/// cannot be read, that clash, or whose basis is not held; else the first such file ends the command.
+pub fn run_take<T: Keep, S: LateSource, K: Sink>(
+    alloc: Global,
+    store: &mut T,
+    files: &mut [S],
+    keep_going: bool,
+    sink: &mut K,
+) -> Result<Vec<LeftOut>, CliFault>
+    ensures same { T.same store.old store.new }
+    ensures taken { IfOk result (λ left. IsTaken (kept_if_changed (T.around store.old store.new) (K.state sink.old) (K.state sink.new)) keep_going (T.next store.old)
+        (map (λ s. file_state (S.state s) (S.shut s)) files.old) (map (λ s. file_state (S.state s) (S.shut s)) files.new) left.items) }
+    ensures fault { IfErr result (IsUntaken (kept_if_changed (T.around store.old store.new) (K.state sink.old) (K.state sink.new)) keep_going (T.next store.old)
+        (map (λ s. file_state (S.state s) (S.shut s)) files.old) (map (λ s. file_state (S.state s) (S.shut s)) files.new)) }
+{
+    let next = store.next();
+    let old = match store.load(alloc) {
+        Ok(old) => old,
+        Err(fault) => return Err(fault),
+    };
+    let Ready {
+        register,
+        lines,
+        is_same,
+        left,
+    } = match make_ready(alloc, &old, next, files, keep_going) {
+        Ok(ready) => ready,
+        Err(fault) => return Err(fault),
+    };
+    if let Err(fault) = keep_changed(alloc, store, &register, is_same) {
+        if !fault.is_after() {
+            return Err(fault);
+        }
+        if let Err(cut) = write_all(sink, &lines) {
+            return Err(CliFault::Out(OutFault::WriteFailed(cut.written)));
+        }
+        return Err(fault);
+    }
+    match tell(&lines, sink) {
+        Ok(()) => Ok(left),
+        Err(fault) => Err(fault),
+    }
+}
+
+/// The same, and nothing is kept: the rows say what would change.
+pub fn try_take<T: Store, S: LateSource, K: Sink>(
+    alloc: Global,
+    store: &mut T,
+    files: &mut [S],
+    keep_going: bool,
+    sink: &mut K,
+) -> Result<Vec<LeftOut>, CliFault>
+    ensures same { T.same store.old store.new }
+    ensures taken { IfOk result (λ left. IsTaken (only_read (T.around store.old store.new) (K.state sink.old) (K.state sink.new)) keep_going (T.next store.old)
+        (map (λ s. file_state (S.state s) (S.shut s)) files.old) (map (λ s. file_state (S.state s) (S.shut s)) files.new) left.items) }
+    ensures fault { IfErr result (IsUntaken (only_read (T.around store.old store.new) (K.state sink.old) (K.state sink.new)) keep_going (T.next store.old)
+        (map (λ s. file_state (S.state s) (S.shut s)) files.old) (map (λ s. file_state (S.state s) (S.shut s)) files.new)) }
+{
+    let next = store.next();
+    let old = match store.load(alloc) {
+        Ok(old) => old,
+        Err(fault) => return Err(fault),
+    };
+    let ready = match make_ready(alloc, &old, next, files, keep_going) {
+        Ok(ready) => ready,
+        Err(fault) => return Err(fault),
+    };
+    match tell(&ready.lines, sink) {
+        Ok(()) => Ok(ready.left),
+        Err(fault) => Err(fault),
+    }
+}

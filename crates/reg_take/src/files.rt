@@ -1,0 +1,104 @@
+//! Files of registers and pieces, which are opened, read and closed in turn.
+
+ghost use Rattle.std.specs.Prelude.{◌≡◌, map, IfOk, IfErr};
+ghost use Rattle.reg_file.specs.Parts.{FindsPart, IsPartReadFromFault};
+ghost use Rattle.reg_take.specs.Files.{file_state, fault_in, IsUnread, IsArrival, IsLast, AreArrivals, IsStopped};
+
+use byte_late::LateSource;
+use reg_engine::{CliFault, InputFault};
+use reg_file::{Part, ReadFileFault, read_part_beside};
+use reg_state::{Piece, Register};
+use std::alloc::Global;
+use std::slice;
+
+/// What a file gave: a register or a piece, or the fault for which it is left out.
+#[derive(Drop)]
+pub enum Arrival {
+    Register(Register),
+    Piece(Piece),
+    Unread { number: usize, fault: InputFault },
+}
+
+// The fault of the file of this number, which may not have opened.
+fn fault_in(number: usize, shut: bool, fault: ReadFileFault) -> CliFault
+    ensures { result ≡ fault_in number shut fault }
+{
+    match fault {
+        ReadFileFault::ReadFailed(_) if shut => CliFault::File {
+            number,
+            fault: InputFault::NotOpened,
+        },
+        fault => CliFault::of_file(number, fault),
+    }
+}
+
+// Reads the register or the piece in the file of this number, and closes it. What a known register has is not read again.
+fn read_next<S: LateSource>(
+    alloc: Global,
+    known: &Register,
+    number: usize,
+    file: &mut S,
+) -> Result<Part, CliFault>
+    ensures found { IfOk result (FindsPart (S.state file.old) (S.state file.new)) }
+    ensures fault { IfErr result (IsUnread number (file_state (S.state file.old) (S.shut file.old)) (file_state (S.state file.new) (S.shut file.new))) }
+{
+    let read = read_part_beside(alloc, slice::from_ref(known), file);
+    file.close();
+    match read {
+        Ok(part) => Ok(part),
+        Err(fault) => Err(fault_in(number, file.is_shut(), fault)),
+    }
+}
+
+// What the file of this number gave. Its fault ends the command, unless it keeps going.
+fn arrival_of<S: LateSource>(
+    alloc: Global,
+    known: &Register,
+    number: usize,
+    keep_going: bool,
+    file: &mut S,
+) -> Result<Arrival, CliFault>
+    ensures arrived { IfOk result (IsArrival keep_going number (file_state (S.state file.old) (S.shut file.old)) (file_state (S.state file.new) (S.shut file.new))) }
+    ensures fault { IfErr result (IsLast keep_going number (file_state (S.state file.old) (S.shut file.old)) (file_state (S.state file.new) (S.shut file.new))) }
+{
+    match read_next(alloc, known, number, file) {
+        Ok(Part::Register(register)) => Ok(Arrival::Register(register)),
+        Ok(Part::Piece(piece)) => Ok(Arrival::Piece(piece)),
+        Err(CliFault::File { number, fault }) => {
+            if keep_going {
+                return Ok(Arrival::Unread { number, fault });
+            }
+            Err(CliFault::File { number, fault })
+        }
+        Err(_) => Err(CliFault::Memory),
+    }
+}
+
+/// Reads all files in their order, the first of which has this number. Where it does not keep going, the first fault ends it.
+pub fn arrivals<S: LateSource>(
+    alloc: Global,
+    known: &Register,
+    next: usize,
+    keep_going: bool,
+    files: &mut [S],
+) -> Result<Vec<Arrival>, CliFault>
+    ensures arrived { IfOk result (λ all. AreArrivals keep_going next
+        (map (λ s. file_state (S.state s) (S.shut s)) files.old) (map (λ s. file_state (S.state s) (S.shut s)) files.new) all.items) }
+    ensures fault { IfErr result (IsStopped keep_going next
+        (map (λ s. file_state (S.state s) (S.shut s)) files.old) (map (λ s. file_state (S.state s) (S.shut s)) files.new)) }
+{
+    let mut all = Vec::new(alloc);
+    for i in 0..files.len() {
+        let Some(number) = next.checked_add(i) else {
+            return Err(CliFault::Memory);
+        };
+        let arrival = match arrival_of(alloc, known, number, keep_going, &mut files[i]) {
+            Ok(arrival) => arrival,
+            Err(fault) => return Err(fault),
+        };
+        if let Err(_) = all.push(arrival) {
+            return Err(CliFault::Memory);
+        }
+    }
+    Ok(all)
+}

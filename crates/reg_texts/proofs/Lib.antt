@@ -1,0 +1,8 @@
+mod EachLemmas
+mod RowLemmas
+mod SaidLemmas
+mod OrderLemmas
+mod SayingLemmas
+mod ListingLemmas
+mod HeadLemmas
+mod LawLemmas

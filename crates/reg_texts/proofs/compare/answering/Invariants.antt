@@ -1,0 +1,11 @@
+use Rattle.std.proofs.Common.{length, map}
+use Rattle.reg_report.specs.Seen.{row_seen}
+use Rattle.reg_texts.specs.Compare.{IsAnswer, seen_rows}
+use Rattle.reg_texts.proofs.EachLemmas.{Gathers}
+use Rattle.reg_texts.proofs.compare.answering.Given as goal
+
+abbrev pub invariant-loop-row : goal.invariant-loop-row
+invariant-loop-row l = Gathers (IsAnswer l.key) (map row_seen l.rows) (map row_seen l.rest) (seen_rows l.found.items)
+
+abbrev pub decreases-loop-row : goal.decreases-loop-row
+decreases-loop-row l = length l.rest

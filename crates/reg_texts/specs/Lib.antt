@@ -1,0 +1,5 @@
+pub mod Said
+pub mod Listing
+pub mod Gathered
+pub mod Texts
+pub mod Compare

@@ -1,0 +1,78 @@
+-- What a register says of its texts.
+use Rattle.std.specs.Prelude.{◌≡◌, ◌≢◌, ◌⊎◌, ◌↔◌, ℕ, Bool, true, List, Contains, Option, Some, None, IsTrue}
+use Rattle.std.specs.declared.cmp.Ordering.{Ordering}
+use Rattle.std.specs.Ordering.{nat_cmp, bool_cmp, ordering_then}
+use Rattle.std.specs.Option.{option_cmp}
+use Rattle.std.specs.Cmp.Lexicographic.{slice_cmp}
+use Rattle.reg_op.specs.Ids.{Id}
+use Rattle.reg_op.specs.Rows.{Row}
+use Rattle.reg_op.specs.Set.{Ascends}
+use Rattle.reg_op.specs.declared.status.Status.TheVariants.{Superseded, Retired}
+use Rattle.reg_report.specs.Conflicts.{KeyBytes, key_cmp, HasKey}
+use Rattle.reg_texts.specs.declared.key.KeyText.{KeyText}
+use Rattle.reg_texts.specs.declared.saying.Saying.{Saying}
+
+-- a statement about a text under a key: that it is valid; or that it is superseded, and by an entry of which key
+pub record Said : Type 0 where
+  pub key : KeyBytes
+  pub text : List ℕ
+  pub superseded : Bool
+  pub by : Option KeyBytes
+
+-- the entry is not retired
+abbrev pub IsLive : Row → Type 0
+IsLive r = r.status ≢ Some Retired
+
+-- a row of the entry
+pub record HasRow (rs : List Row) (e : Id) (r : Row) : Type 0 where
+  pub there : Contains rs r
+  pub is : r.entry ≡ e
+
+-- the row's entry is not retired, and has this text and this key
+pub record IsOf (r : Row) (s : Said) : Type 0 where
+  pub live : IsLive r
+  pub text : s.text ≡ r.definition
+  pub keyed : HasKey r.definition s.key
+
+-- whether the row's entry is superseded is said
+pub record SaysStatus (r : Row) (s : Said) : Type 0 where
+  pub of : IsOf r s
+  pub status : IsTrue s.superseded ↔ (r.status ≡ Some Superseded)
+  pub by : s.by ≡ None
+
+-- the key of an entry that supersedes the row's, and is not retired, is said
+pub record SaysSuccessor (rs : List Row) (r : Row) (s : Said) : Type 0 where
+  pub of : IsOf r s
+  pub superseded : s.superseded ≡ true
+  pub newer : Row
+  pub there : Contains rs newer
+  pub supersedes : Contains r.newer newer.entry
+  pub live : IsLive newer
+  pub by : (k : KeyBytes) × (s.by ≡ Some k) × HasKey newer.definition k
+
+-- the rows say this of the text of some row
+abbrev pub Says : List Row → Said → Type 0
+Says rs s = (r : Row) × Contains rs r × (SaysStatus r s ⊎ SaysSuccessor rs r s)
+
+-- by key, then by text, then by what is said: that a text is valid comes first
+abbrev pub said_cmp : Said → Said → Ordering
+said_cmp a b =
+    ordering_then (key_cmp a.key b.key)
+    (ordering_then (slice_cmp nat_cmp a.text b.text) (ordering_then (bool_cmp a.superseded b.superseded) (option_cmp key_cmp a.by b.by)))
+
+-- all that the rows say, in order, each once
+pub record AreSaid (rs : List Row) (ss : List Said) : Type 0 where
+  pub ascend : Ascends said_cmp ss
+  pub each : (s : Said) → Contains ss s ↔ Says rs s
+
+-- ---- the sayings of the program
+
+abbrev pub key_bytes : KeyText → KeyBytes
+key_bytes k = record { authority = k.authority.now; code = k.code.now }
+
+abbrev pub by_bytes : Option KeyText → Option KeyBytes
+by_bytes None = None
+by_bytes (Some k) = Some (key_bytes k)
+
+abbrev pub said : Saying → Said
+said s = record { key = key_bytes s.key; text = s.text.now; superseded = s.superseded; by = by_bytes s.by }

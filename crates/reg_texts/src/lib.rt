@@ -1,0 +1,15 @@
+//! What a register says: its texts, by key, each with its status; and what differs between the texts of entries.
+#![tactic(auto)]
+
+mod compare;
+mod gathering;
+mod key;
+pub mod laws;
+mod listing;
+mod row;
+mod saying;
+mod texts;
+mod version;
+
+pub use compare::{Uncompared, compared_key, compared_text};
+pub use texts::texts_of;

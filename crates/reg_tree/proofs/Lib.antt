@@ -1,0 +1,3 @@
+pub mod Neighbours
+pub mod Halves
+pub mod Held

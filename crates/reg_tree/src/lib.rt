@@ -1,0 +1,10 @@
+//! Many registers and many pieces, joined as a tree.
+#![tactic(auto)]
+
+mod agreeing;
+mod needs;
+mod pieces;
+mod registers;
+
+pub use pieces::join_pieces;
+pub use registers::join_registers;
