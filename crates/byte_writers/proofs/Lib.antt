@@ -2,3 +2,4 @@ pub mod Kept
 pub mod Left
 pub mod Numbers
 pub mod Desks
+pub mod StepLemmas

@@ -1,3 +1,4 @@
 pub mod Path
 pub mod Writers
 pub mod Desk
+pub mod Steps
