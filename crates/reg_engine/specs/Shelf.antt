@@ -1,7 +1,7 @@
 -- The effects of commands on the disk of a shelf, and the commands that make a shelf or write its register to a file.
 use Rattle.std.specs.Prelude.{◌≡◌, ◌⊎◌, ◌+◌, Bool, IsTrue, List, ℕ}
 use Rattle.byte_disk.specs.Disk.{Only, SameImages, LeavesOnly}
-use Rattle.byte_shelf.specs.Shelf.{IsSize}
+use Rattle.byte_shelf.specs.Shelf.{IsSize, EndsWithin}
 use Rattle.byte_shelf.specs.Keep.{AddsNothing}
 use Rattle.reg_op.specs.Contents.{Content, nothing}
 use Rattle.reg_shelf.specs.Shelf.{IsShelf, IsShelfOf, IsNoShelf, HasFile}
@@ -52,11 +52,16 @@ pub record StaysOn {D : Type 0} (d : Disks D) (old new : D) : Type 0 where
 abbrev pub PassesOn : {D : Type 0} → Disks D → Content → Content → D → D → Type 0
 PassesOn d x y old new = IsTrue (d.tells old) → LeavesOnly d.moment d.since old new (λ c. d.images old c ⊎ (IsShelf c x ⊎ IsShelf c y))
 
+-- the slots of a shelf of the first content keep their size under the second, and the disk does not grow past them
+abbrev pub KeepsSize : {D : Type 0} → Disks D → Content → Content → D → D → Type 0
+KeepsSize d x y old new = IsTrue (d.tells old) → (size : ℕ) → IsShelfOf (d.seen old) size x → IsShelfOf (d.seen new) size y × EndsWithin size (d.seen old) (d.seen new)
+
 -- a shelf of the first content is now one of the second, and a stop leaves nothing else
 pub record KeepsOn {D : Type 0} (d : Disks D) (x y : Content) (old new : D) : Type 0 where
   pub quiet : d.failures new ≡ d.failures old
   pub file : HasFile y
   pub has : Has d new y
+  pub sized : KeepsSize d x y old new
   pub sure : IsSure d new
   pub passes : PassesOn d x y old new
 
