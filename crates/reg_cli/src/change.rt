@@ -1,7 +1,7 @@
 //! Commands that change a register.
 use crate::outcome::Outcome;
 use crate::stores::{Opened, change_of, next_file, open_to_change};
-use crate::table::{Rows, print_table};
+use crate::table::{Rows, answered};
 use crate::words::{
     differs, entries, entry, is_twice, listed, open, open_text, open_texts, printing_place,
     push_listed, push_words, replica, word,
@@ -226,8 +226,8 @@ pub fn import(rt: &HostRuntime, matches: &ArgMatches<'_>) -> Outcome {
     };
     let mut sink = Rows::sink(rt.alloc(), matches, io::writer(rt));
     let outcome = import_to(rt, matches, &mut register, &mut files, &order, &mut sink);
-    match print_table(rt.alloc(), sink) {
-        Ok(()) => outcome,
+    match answered(rt.alloc(), sink, outcome) {
+        Ok(outcome) => outcome,
         Err(fault) => Outcome::Fault(fault),
     }
 }

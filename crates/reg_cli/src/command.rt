@@ -1,10 +1,11 @@
 //! Runs a command: from the command line to an engine, and from its result to the exit status.
 use crate::change::{enter, import, retire, settle, supersede};
+use crate::compare::compare;
 use crate::environment::Environment;
 use crate::exchange::{downgrade, merge, new, piece, seen, shelf, unshelf};
+use crate::hand::export;
 use crate::look::{
-    check, compare, diff, export, find, log, offices, ops, page, report, show, status as figures,
-    texts, wkt,
+    check, diff, find, log, offices, ops, page, report, show, status as figures, texts, wkt,
 };
 use crate::outcome::{MISUSE, Outcome, complain, failed, print, status};
 use crate::paths::Named;
@@ -83,7 +84,7 @@ fn perform(rt: &HostRuntime, matches: &ArgMatches<'_>) -> Option<Outcome> {
         "wkt" => Outcome::of(wkt(rt, inner)),
         "texts" => Outcome::of(texts(rt, inner)),
         "compare" => compare(rt, inner),
-        "export" => Outcome::of(export(rt, inner)),
+        "export" => export(rt, inner),
         "ops" => Outcome::of(ops(rt, inner)),
         "log" => Outcome::of(log(rt, inner)),
         "report" => Outcome::of(report(rt, inner)?),

@@ -3,10 +3,14 @@
 
 mod change;
 mod command;
+mod compare;
 mod environment;
 mod exchange;
+mod hand;
 mod inputs;
+mod into;
 mod look;
+mod naming;
 mod outcome;
 mod paths;
 mod shells;

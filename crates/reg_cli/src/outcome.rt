@@ -1,7 +1,8 @@
 //! The outcome of a command: its messages and its exit status.
+use crate::naming::{heading, taken_by};
 use crate::paths::Named;
 use cli_sentences::{KeyTaken, Sentence};
-use reg_desk::{CliFault, Explained, ImportFault, OutFault, Unimported, Writing, write_all};
+use reg_desk::{CliFault, Explained, ImportFault, OpId, OutFault, Unimported, Writing, write_all};
 use reg_supersede::RefusedLine;
 use std::io::{self, Write};
 use std::{fmt, str};
@@ -117,8 +118,10 @@ pub fn add(rt: &HostRuntime, note: &[u8]) {
 // Prints the sentence of a fault to standard error, below its line.
 fn explain(rt: &HostRuntime, fault: CliFault, named: &Option<Named<'_>>) {
     if let Some(named) = named {
+        let head = head_of(rt, named, taken_by(&fault));
         let sentence = Sentence {
             fault,
+            head: shown(&head),
             paths: named.paths(),
         };
         let _ = eprint!(rt; "{sentence}");
@@ -131,13 +134,27 @@ fn explain_import(rt: &HostRuntime, fault: ImportFault, named: &Option<Named<'_>
         ImportFault::Cli(fault) => explain(rt, fault, named),
         ImportFault::Refused { file, .. } => {
             if let (Some(entry), Some(named)) = (fault.taken(), named) {
-                let sentence = KeyTaken {
-                    entry,
-                    file: named.paths().file(file),
-                };
-                let _ = eprint!(rt; "{sentence}");
+                let found = head_of(rt, named, Some(entry));
+                explain_taken(rt, entry, shown(&found), named.paths().file(file));
             }
         }
+    }
+}
+
+fn explain_taken<'a>(rt: &HostRuntime, entry: OpId, head: Option<&'a str>, file: &'a str) {
+    let sentence = KeyTaken { entry, head, file };
+    let _ = eprint!(rt; "{sentence}");
+}
+
+// The key, the id and the status of the entry, if it can be looked up.
+fn head_of(rt: &HostRuntime, named: &Named<'_>, entry: Option<OpId>) -> Option<Vec<u8>> {
+    heading(rt, named, entry?)
+}
+
+fn shown(head: &Option<Vec<u8>>) -> Option<&str> {
+    match head {
+        Some(head) => str::from_utf8(head).ok(),
+        None => None,
     }
 }
 

@@ -56,6 +56,7 @@ impl<'a> Named<'a> {
 fn files_of(name: &str) -> &'static [&'static str] {
     match name {
         "check" => &["TEXT"],
+        "compare" => &["REG", "with"],
         "diff" => &["OLD", "NEW"],
         "enter" => &["REG", "text"],
         "new" | "shelf" | "unshelf" => &[],
@@ -68,6 +69,7 @@ fn files_of(name: &str) -> &'static [&'static str] {
 fn out_of(name: &str) -> &'static str {
     match name {
         "take" => "REG",
+        "export" => "into",
         _ => "OUT",
     }
 }

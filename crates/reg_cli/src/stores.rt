@@ -1,6 +1,6 @@
 //! Opens the register that a command names, in its file or (with `--shelf`) on its shelf, and runs the command on it.
 use crate::inputs::{Replaced, open_input};
-use crate::table::{Rows, print_table};
+use crate::table::{Rows, answered};
 use crate::words::{changed_place, open_shelf, open_to_read, place, word};
 use byte_out::Place;
 use clap::ArgMatches;
@@ -76,8 +76,8 @@ pub fn print_of<C: Print>(
 ) -> Result<(), CliFault> {
     let mut sink = Rows::sink(rt.alloc(), matches, io::writer(rt));
     let answer = print_to(rt, matches, command, &mut sink);
-    match print_table(rt.alloc(), sink) {
-        Ok(()) => answer,
+    match answered(rt.alloc(), sink, answer) {
+        Ok(answer) => answer,
         Err(fault) => Err(fault),
     }
 }
