@@ -1,5 +1,5 @@
 //! The sentence for a refused import.
-use crate::paths::Shown;
+use crate::paths::{Head, Shown};
 use reg_op::OpId;
 use std::fmt;
 
@@ -8,6 +8,8 @@ use std::fmt;
 pub struct KeyTaken<'a> {
     /// The entry that has the key of the text.
     pub entry: OpId,
+    /// The key, the id and the status of the entry. None if the command itself made it, or if its register cannot be read again.
+    pub head: Option<&'a str>,
     /// The file with the text.
     pub file: &'a str,
 }
@@ -15,12 +17,21 @@ pub struct KeyTaken<'a> {
 impl fmt::Display for KeyTaken<'_> {
     fn fmt<W: fmt::Write>(&self, f: &mut fmt::Formatter<W>) -> fmt::Result {
         let (entry, file) = (self.entry, Shown(self.file));
-        writeln!(
-            f,
-            "{file}: the entry {entry} has the authority and code of this text, and a different text",
-        )?;
+        match self.head {
+            Some(head) => {
+                let head = Head(head);
+                writeln!(
+                    f,
+                    "{file}: the register has the key of this text, with another text: {head}"
+                )?;
+            }
+            None => writeln!(
+                f,
+                "{file}: the entry {entry} has the key of this text, and another text",
+            )?,
+        }
         f.write_str(
-            "hint: --differs beside enters it as well; --differs revise also retires the other entries\n",
+            "hint: crsreg compare REG --with FILE shows what differs; --differs beside enters it as well; --differs revise also retires the other entries\n",
         )
     }
 }

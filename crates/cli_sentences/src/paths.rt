@@ -31,11 +31,25 @@ impl fmt::Display for Shown<'_> {
         if self.0 == "-" || self.0.is_empty() {
             return f.write_str("standard input");
         }
-        for char in self.0.chars() {
-            f.write_char(if is_hidden(char) { '?' } else { char })?;
-        }
-        Ok(())
+        write_shown(f, self.0)
     }
+}
+
+/// The key, the id and the status of an entry as they are printed: a control character prints as `?`.
+#[derive(Clone, Copy)]
+pub struct Head<'a>(pub &'a str);
+
+impl fmt::Display for Head<'_> {
+    fn fmt<W: fmt::Write>(&self, f: &mut fmt::Formatter<W>) -> fmt::Result {
+        write_shown(f, self.0)
+    }
+}
+
+fn write_shown<W: fmt::Write>(f: &mut fmt::Formatter<W>, text: &str) -> fmt::Result {
+    for char in text.chars() {
+        f.write_char(if is_hidden(char) { '?' } else { char })?;
+    }
+    Ok(())
 }
 
 // Whether a terminal would act on the character, hide it, or reorder other characters because of it.

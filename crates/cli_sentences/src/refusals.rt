@@ -1,5 +1,5 @@
 //! Sentences for refusals.
-use crate::paths::{Paths, Shown};
+use crate::paths::{Head, Paths, Shown};
 use reg_engine::Refusal;
 use reg_office::OfficeFault;
 use reg_op::OpId;
@@ -9,6 +9,7 @@ use std::fmt;
 pub fn write<W: fmt::Write>(
     f: &mut fmt::Formatter<W>,
     refusal: Refusal,
+    head: Option<&str>,
     paths: &Paths<'_>,
 ) -> fmt::Result {
     match refusal {
@@ -18,6 +19,7 @@ pub fn write<W: fmt::Write>(
             f.write_str("the canonical text has more than 65,536 bytes\n")
         }
         Refusal::Clash(id) => write_clash(f, id),
+        Refusal::KeyTaken(id) => write_taken(f, id, head),
         Refusal::Basis(id) => {
             writeln!(
                 f,
@@ -40,12 +42,34 @@ pub fn write<W: fmt::Write>(
 
 // Writes the sentence for two operations with one id.
 fn write_clash<W: fmt::Write>(f: &mut fmt::Formatter<W>, id: OpId) -> fmt::Result {
+    let (office, count) = (id.replica(), id.count());
     writeln!(
         f,
-        "two files have different operations under {id}: its office went on from an older file, and gave the number twice"
+        "two files have different operations under {id}: the office {office} gave the number {count} twice, as it went on from an older file or a copy"
     )?;
     f.write_str(
-        "hint: agree on one file; the office with the other goes on from a copy of it with a new UUID, and enters again what only the other has\n",
+        "hint: see both with crsreg ops FILE, and agree on the file that stays; its office goes on from it with a new UUID, and enters again what only the other file has\n",
+    )
+}
+
+// Writes the sentence for a key that two different texts have.
+fn write_taken<W: fmt::Write>(
+    f: &mut fmt::Formatter<W>,
+    id: OpId,
+    head: Option<&str>,
+) -> fmt::Result {
+    match head {
+        Some(head) => {
+            let head = Head(head);
+            writeln!(
+                f,
+                "the key of this entry has another entry with a different text: {head}"
+            )?;
+        }
+        None => writeln!(f, "the key of {id} has another entry with a different text")?,
+    }
+    f.write_str(
+        "hint: crsreg compare REG KEY shows what differs; crsreg settle REG ID keeps one entry of a key\n",
     )
 }
 
@@ -120,12 +144,6 @@ fn write_word<W: fmt::Write>(
         Refusal::Unsettled => f.write_str(
             "a register has a conflict, an awaited id or a gap\nhint: crsreg report lists them; crsreg settle ends a conflict\n",
         ),
-        Refusal::KeyTaken(id) => {
-            writeln!(
-                f,
-                "the entry {id} has the key of another one, and a different text"
-            )
-        }
         _ => Ok(()),
     }
 }

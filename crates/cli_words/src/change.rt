@@ -1,5 +1,7 @@
 //! The commands that enter one text, or change entries.
-use crate::arguments::{ON_SHELF, changed, flag, keys, note, on_shelf, register, replica, several};
+use crate::arguments::{
+    ON_SHELF, changed, flag, keys, note, office_file, on_shelf, register, replica, several,
+};
 use crate::change_help::{ENTER_HELP, RETIRE_HELP, SUPERSEDE_HELP};
 use crate::defaults::Defaults;
 use clap::{Arg, ArgAction, Command};
@@ -11,7 +13,8 @@ pub fn enter<'a>(alloc: Global, defaults: &Defaults<'a>) -> Result<Command<'a>, 
         .about("Enters a coordinate reference system into a register")
         .after_help(ENTER_HELP)
         .arg(register(alloc))?
-        .arg(replica(alloc, defaults))?
+        .arg(replica(alloc, defaults)?)?
+        .arg(office_file(alloc, defaults)?)?
         .arg(note(alloc, defaults))?
         .arg(text(alloc))?
         .arg(on_shelf(alloc, ON_SHELF))?
@@ -33,7 +36,8 @@ pub fn supersede<'a>(alloc: Global, defaults: &Defaults<'a>) -> Result<Command<'
             "keep-going",
             "With --from, leaves refused lines out, and goes on",
         ))?
-        .arg(replica(alloc, defaults))?
+        .arg(replica(alloc, defaults)?)?
+        .arg(office_file(alloc, defaults)?)?
         .arg(note(alloc, defaults))?
         .arg(on_shelf(alloc, ON_SHELF))?
         .arg(changed(alloc)?)
@@ -51,7 +55,8 @@ pub fn retire<'a>(alloc: Global, defaults: &Defaults<'a>) -> Result<Command<'a>,
             "The ids of the entries, as UUID:NUMBER, or with -k their keys; - reads ids",
         ))?
         .arg(keys(alloc, defaults))?
-        .arg(replica(alloc, defaults))?
+        .arg(replica(alloc, defaults)?)?
+        .arg(office_file(alloc, defaults)?)?
         .arg(note(alloc, defaults))?
         .arg(on_shelf(alloc, ON_SHELF))?
         .arg(changed(alloc)?)

@@ -1,8 +1,8 @@
 //! The commands that make and exchange registers, and keep them on shelves.
 use crate::arguments::{ON_SHELF, READ_SHELF, flag, on_shelf, out, register, several};
 use crate::exchange_help::{
-    DOWNGRADE_HELP, MERGE_HELP, NEW_HELP, PIECE_HELP, SEEN_HELP, SHELF_HELP, TAKE_HELP,
-    UNSHELF_HELP,
+    DOWNGRADE_HELP, MERGE_HELP, NEW_HELP, OFFICE_HELP, PIECE_HELP, SEEN_HELP, SHELF_HELP,
+    TAKE_HELP, UNSHELF_HELP,
 };
 use clap::{Arg, Command};
 use std::alloc::{AllocError, Global};
@@ -13,6 +13,17 @@ pub fn new<'a>(alloc: Global) -> Result<Command<'a>, AllocError> {
         .about("Writes an empty register")
         .after_help(NEW_HELP)
         .arg(out(alloc, "The register file to write"))
+}
+
+/// `office`.
+pub fn office<'a>(alloc: Global) -> Result<Command<'a>, AllocError> {
+    let new = Arg::new(alloc, "NEW")
+        .help("The office file to make; nothing may have this name")
+        .required(true);
+    Command::new(alloc, "office")
+        .about("Makes an office file, and prints the UUID of the new office")
+        .after_help(OFFICE_HELP)
+        .arg(new)
 }
 
 /// `take`.

@@ -23,6 +23,26 @@ exit status is that of the first line.
 Example:
   crsreg take office.crs north.crs south.piece";
 
+pub const OFFICE_HELP: &str = "\
+An office file has one line: the UUID of the office, a colon, and the last
+number that the office gave. NEW gets a fresh UUID and the number 0. It is never
+written over a file or through a link (out: NotOpened).
+
+With --office FILE a command works as this office, and replaces FILE before it
+writes OUT. So the office gives no number twice, even if REG is an old copy:
+then the command is refused as Behind UUID:NUMBER. Merge a register that has
+this number, or make a new office if nobody has it any more.
+
+Have one office file for each register. Never copy an office file, restore an
+older one, or put it under version control. While a command has FILE, FILE.new
+is there, and other commands with FILE end with file 1: Busy. A command that was
+killed may leave FILE.new: remove it when no crsreg runs.
+
+Example:
+  crsreg office north.office
+  crsreg enter office.crs --office north.office --text height.wkt \\
+      --out office.crs";
+
 pub const MERGE_HELP: &str = "\
 Makes one register of several. What was at OUT is replaced, and is lost unless
 OUT is among the files; crsreg take joins the files of others to your register.
@@ -42,6 +62,7 @@ Example:
 pub const SEEN_HELP: &str = "\
 The summary lists the ids of the operations that the register has seen. Send it
 to another office, which uses crsreg piece to make a file of what you lack.
+What was at OUT before is replaced.
 
 Example:
   crsreg seen south.crs south.seen";
@@ -49,7 +70,7 @@ Example:
 pub const PIECE_HELP: &str = "\
 The piece has what REG has and the office with the summary SEEN lacks. That
 office merges it like a register. So can any other office that has seen at
-least as much.
+least as much. What was at OUT before is replaced.
 
 Example:
   crsreg piece north.crs south.seen south.piece";
@@ -57,7 +78,7 @@ Example:
 pub const DOWNGRADE_HELP: &str = "\
 For an office with crsreg 0.3 or older: writes the same register in file
 version 1, without notes. The next change or merge by this program writes
-version 2 again.
+version 2 again. What was at OUT before is replaced.
 
 Refused, with nothing written: HasNote ID if an operation of the register has a
 note. ID is the least such operation.
@@ -77,7 +98,7 @@ Example:
 
 pub const UNSHELF_HELP: &str = "\
 Writes the register on the shelf to a file, for other offices. The shelf does
-not change.
+not change. What was at OUT before is replaced.
 
 Example:
   crsreg unshelf office.shelf office.crs";

@@ -1,6 +1,6 @@
 //! The commands `import` and `settle`.
 use crate::arguments::{
-    ON_SHELF, changed, flag, named, note, on_shelf, register, replica, several,
+    ON_SHELF, changed, flag, named, note, office_file, on_shelf, register, replica, several,
 };
 use crate::defaults::Defaults;
 use crate::many_help::{IMPORT_HELP, SETTLE_HELP};
@@ -16,7 +16,8 @@ pub fn import<'a>(alloc: Global, defaults: &Defaults<'a>) -> Result<Command<'a>,
         .after_help(IMPORT_HELP)
         .arg(register(alloc))?
         .arg(several(alloc, "FILE", "The files with texts; - is standard input"))?
-        .arg(replica(alloc, defaults))?
+        .arg(replica(alloc, defaults)?)?
+        .arg(office_file(alloc, defaults)?)?
         .arg(note(alloc, defaults))?;
     let whole = whole
         .arg(differs(alloc))?
@@ -52,7 +53,8 @@ pub fn settle<'a>(alloc: Global, defaults: &Defaults<'a>) -> Result<Command<'a>,
             "Of entries with one key and text, keeps the least",
         ))?
         .arg(flag(alloc, "quiet", "Prints no ids"))?
-        .arg(replica(alloc, defaults))?
+        .arg(replica(alloc, defaults)?)?
+        .arg(office_file(alloc, defaults)?)?
         .arg(note(alloc, defaults))?
         .arg(on_shelf(alloc, ON_SHELF))?
         .arg(changed(alloc)?)

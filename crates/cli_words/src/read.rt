@@ -1,6 +1,7 @@
 //! The commands that show a register, or an entry of it.
-use crate::arguments::{READ_SHELF, entry, flag, keys, on_shelf, register};
+use crate::arguments::{READ_SHELF, entry, flag, keys, named, on_shelf, register};
 use crate::defaults::Defaults;
+use crate::look::wanted;
 use crate::read_help::{
     COMPARE_HELP, EXPORT_HELP, LOG_HELP, OPS_HELP, REPORT_HELP, SHOW_HELP, TEXTS_HELP, WKT_HELP,
 };
@@ -51,30 +52,57 @@ pub fn compare<'a>(alloc: Global, defaults: &Defaults<'a>) -> Result<Command<'a>
         .about("Prints the lines that differ between the texts of entries")
         .after_help(COMPARE_HELP)
         .arg(register(alloc))?
-        .arg(compared(alloc))?
-        .arg(other(alloc))?
+        .arg(compared(alloc)?)?
+        .arg(other(alloc)?)?
+        .arg(with(alloc))?
         .arg(keys(alloc, defaults))?
         .arg(flag(alloc, "exit-code", "Exits with status 1 if they differ"))?
         .arg(on_shelf(alloc, READ_SHELF))
 }
 
-fn compared<'a>(alloc: Global) -> Arg<'a> {
+fn compared<'a>(alloc: Global) -> Result<Arg<'a>, AllocError> {
     Arg::new(alloc, "ENTRY")
         .help("The id of an entry, or with -k its key; alone, a key with or without -k")
-        .required(true)
+        .required_unless_present("with")?
+        .conflicts_with("with")
 }
 
-fn other<'a>(alloc: Global) -> Arg<'a> {
-    Arg::new(alloc, "OTHER").help("The id of another entry, or with -k its key")
+fn other<'a>(alloc: Global) -> Result<Arg<'a>, AllocError> {
+    Arg::new(alloc, "OTHER")
+        .help("The id of another entry, or with -k its key")
+        .conflicts_with("with")
+}
+
+fn with<'a>(alloc: Global) -> Arg<'a> {
+    Arg::new(alloc, "with").long("with").value_name("FILE").help(
+        "Compares each text of FILE with the entries of its key; - is standard input",
+    )
 }
 
 /// `export`.
 pub fn export<'a>(alloc: Global) -> Result<Command<'a>, AllocError> {
     Command::new(alloc, "export")
-        .about("Prints the texts of all entries that are not retired")
+        .about("Prints the texts of all entries that are not retired, or hands them on")
         .after_help(EXPORT_HELP)
         .arg(register(alloc))?
+        .arg(into(alloc))?
+        .arg(wanted(alloc))?
+        .arg(named(alloc, "authority", "A", "Only with this authority"))?
+        .arg(flag(
+            alloc,
+            "keep-going",
+            "Leaves out keys with two texts, and names the first at the end",
+        ))?
         .arg(on_shelf(alloc, READ_SHELF))
+}
+
+fn into<'a>(alloc: Global) -> Arg<'a> {
+    named(
+        alloc,
+        "into",
+        "DIR",
+        "Writes a file for each key into the folder DIR, which is made",
+    )
 }
 
 /// `ops`.

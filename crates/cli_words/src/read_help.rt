@@ -49,6 +49,10 @@ Without OTHER, ENTRY is a key. Of the entries with this key that are not
 retired, the least is compared with each other. The command is refused as
 NoEntry if there is none.
 
+With --with FILE, each text of FILE, as crsreg import splits it, is compared
+with the entries of its key that are not retired. Lines that the text adds begin
+with +. A text whose key has no such entry is added as a whole.
+
 With -k, or if CRSREG_KEYS is 1, an argument that is not an id is a key, such
 as EPSG:7837. It means the one entry with this key that is not retired. The
 command is refused as NoEntry if there is none, and as Several ID if there are
@@ -56,14 +60,27 @@ more.
 
 Example:
   crsreg compare office.crs EPSG:7837
-  crsreg compare -k office.crs EPSG:7837 EPSG:5783";
+  crsreg compare -k office.crs EPSG:7837 EPSG:5783
+  crsreg compare office.crs --with new.wkt";
 
 pub const EXPORT_HELP: &str = "\
 Prints the canonical text of each entry that is not retired, superseded ones
 included, one a line, ordered by id. Line breaks within quotation marks stay.
 
+With --into it writes these entries, or those that match --status and
+--authority, into a folder, for other programs. If two of them have one key
+and different texts, it is refused as KeyTaken ID, the least such entry of the
+least key. With --keep-going such keys are left out; the first is named at the
+end, with status 1.
+
+--into writes a file AUTHORITY_CODE.wkt for each key, with the canonical text
+and a newline. Bytes other than A-Z, a-z, 0-9, . and - become % and two digits
+to the base 16. DIR must not exist, or be an empty folder. It is made as
+DIR.new and then renamed, so it has all files or is not there.
+
 Example:
-  crsreg export office.crs > all.wkt";
+  crsreg export office.crs > all.wkt
+  crsreg export office.crs --into texts";
 
 pub const OPS_HELP: &str = "\
 Prints, as comma-separated values, each operation that the register keeps,

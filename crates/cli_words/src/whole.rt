@@ -3,7 +3,7 @@ use crate::arguments::{explain, table};
 use crate::change::{enter, retire, supersede};
 use crate::completions::SHELLS;
 use crate::defaults::Defaults;
-use crate::exchange::{downgrade, merge, new, piece, seen, shelf, take, unshelf};
+use crate::exchange::{downgrade, merge, new, office, piece, seen, shelf, take, unshelf};
 use crate::look::{diff, find, offices, page, status};
 use crate::many::{import, settle};
 use crate::read::{compare, export, log, ops, report, show, texts, wkt};
@@ -36,6 +36,7 @@ fn with_changes<'a>(
     defaults: &Defaults<'a>,
 ) -> Result<Command<'a>, AllocError> {
     let whole = and(alloc, whole, defaults, new(alloc))?;
+    let whole = and(alloc, whole, defaults, office(alloc))?;
     let whole = and(alloc, whole, defaults, enter(alloc, defaults))?;
     let whole = and_rows(alloc, whole, defaults, import(alloc, defaults))?;
     let whole = and(alloc, whole, defaults, supersede(alloc, defaults))?;

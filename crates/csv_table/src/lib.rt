@@ -1,6 +1,7 @@
 //! Rows of CSV as a table for people.
 #![tactic(auto)]
 
+mod answer;
 mod cells;
 mod columns;
 pub mod laws;
@@ -8,4 +9,5 @@ mod lines;
 mod marks;
 mod records;
 
+pub use answer::{TableFault, told_as_table};
 pub use lines::table;

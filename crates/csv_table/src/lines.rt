@@ -1,10 +1,9 @@
 //! The lines of a table.
 
-ghost use Rattle.std.specs.Prelude.{◌≡◌, ◌++◌, ℕ, List, map, IfOk, OnOk, string_bytes};
-ghost use Rattle.csv.specs.Reading.{AreRecords, default_config, strip_bom};
+ghost use Rattle.std.specs.Prelude.{◌≡◌, ◌++◌, map, IfOk, OnOk, string_bytes};
 ghost use Rattle.csv.specs.Records.{fields_of};
-ghost use Rattle.csv.specs.declared.parser.State.TheVariants as st;
-ghost use Rattle.csv_table.specs.Table.{cell_if, cells, line, lines, table};
+ghost use Rattle.csv_table.specs.Answer.{IsTableOf};
+ghost use Rattle.csv_table.specs.Table.{cell_if, cells, line, lines};
 
 use crate::cells::{push_cell, without_end};
 use crate::columns::{Column, columns, first, others};
@@ -15,7 +14,7 @@ use std::alloc::{AllocError, Global};
 /// The table of the rows, which are CSV with a header: the fields of each row, aligned in columns with two blanks between. The columns
 /// named `entry` come last. The error is out of memory.
 pub fn table(alloc: Global, rows: &[u8]) -> Result<Vec<u8>, AllocError>
-    ensures { IfOk result (λ text. (records : List (List (List ℕ))) × AreRecords default_config st.StartRecord (strip_bom rows.now) records × (text.items ≡ table records)) }
+    ensures { IfOk result (λ text. IsTableOf rows.now text.items) }
 {
     let Ok(records) = records(alloc, rows) else {
         return Err(AllocError);

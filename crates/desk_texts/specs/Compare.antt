@@ -7,7 +7,7 @@ use Rattle.reg_office.specs.declared.fault.OfficeFault.TheVariants as office
 use Rattle.reg_engine.specs.declared.fault.Refusal.TheVariants as refusal
 use Rattle.reg_engine.specs.declared.fault.CliFault.{CliFault}
 use Rattle.reg_engine.specs.declared.fault.CliFault.TheVariants as cli
-use Rattle.reg_desk.specs.Keyed.{PrintsFor, RefusesFor}
+use Rattle.reg_keyed.specs.Keyed.{PrintsFor, RefusesFor}
 use Rattle.reg_texts.specs.declared.compare.Uncompared.{Uncompared}
 use Rattle.reg_texts.specs.declared.compare.Uncompared.TheVariants as why
 use Rattle.reg_texts.specs.Compare.{IsCompared, IsUncompared, IsKeyCompared}

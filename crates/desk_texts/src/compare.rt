@@ -3,8 +3,8 @@
 ghost use Rattle.std.specs.Prelude.{◌≡◌};
 ghost use Rattle.desk_texts.specs.Compare.{uncompared_fault};
 
-use reg_desk::{ByWord, PrintOf};
 use reg_engine::{CliFault, Print, Refusal};
+use reg_keyed::{ByWord, PrintOf};
 use reg_office::OfficeFault;
 use reg_op::OpId;
 use reg_state::Register;
@@ -34,7 +34,8 @@ impl Print for Compare {
     }
 }
 
-fn fault_of(why: Uncompared) -> CliFault
+/// The fault of entries that are not compared.
+pub fn fault_of(why: Uncompared) -> CliFault
     ensures { result ≡ uncompared_fault why }
 {
     match why {

@@ -33,7 +33,8 @@ pub fn run_differs<T: Store, C: Print, K: Sink>(
     }
 }
 
-fn has_any(text: &[u8]) -> bool
+/// Whether the text has any byte.
+pub fn has_any(text: &[u8]) -> bool
     ensures { IsTrue result ↔ (text.now ≢ []) }
 {
     !text.is_empty()

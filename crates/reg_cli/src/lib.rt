@@ -3,10 +3,16 @@
 
 mod change;
 mod command;
+mod compare;
 mod environment;
 mod exchange;
+mod hand;
+mod importing;
 mod inputs;
+mod into;
 mod look;
+mod naming;
+mod office;
 mod outcome;
 mod paths;
 mod shells;

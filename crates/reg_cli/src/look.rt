@@ -1,18 +1,18 @@
 //! Commands that print something of a text, of a register, or of several registers.
 use crate::outcome::Outcome;
-use crate::stores::{Opened as Register, differs_of, next_file, open_register, print_of};
-use crate::table::{Rows, print_table};
+use crate::stores::{Opened as Register, next_file, open_register, print_of};
+use crate::table::{Rows, answered};
 use crate::words::{
     STANDARD_INPUT, entries, entry, form, kind, open, open_all, open_to_read, point, push_words,
     word,
 };
 use clap::ArgMatches;
-use desk_texts::{Compare, CompareKey, CompareWith, Texts};
+use desk_texts::Texts;
 use reg_desk::{
-    ByWord, CliFault, Export, FileAt, FileDisk, Find, FindIds, Kept, Kind, Lockable, LogAll,
-    LogByWords, LogOf, OfFile, Offices, OnShelf, OpId, Opened, Ops, PrintOf, Query, Reading,
-    Report, ShelfAt, Show, ShowOf, Source, Wanted, Wkt, WktOf, Writing, run_check,
-    run_check_explained, run_diff, run_status,
+    ByWord, CliFault, FileAt, FileDisk, Find, FindIds, Kept, Kind, Lockable, LogAll, LogByWords,
+    LogOf, OfFile, Offices, OnShelf, Opened, Ops, PrintOf, Query, Reading, Report, ShelfAt, Show,
+    ShowOf, Source, Wanted, Wkt, WktOf, Writing, run_check, run_check_explained, run_diff,
+    run_status,
 };
 use reg_page::Page;
 use std::alloc::{AllocError, Global};
@@ -94,11 +94,6 @@ fn print_by_word<C: PrintOf>(
     print_of(rt, matches, &ByWord { word, command })
 }
 
-/// `export`.
-pub fn export(rt: &HostRuntime, matches: &ArgMatches<'_>) -> Result<(), CliFault> {
-    print_of(rt, matches, &Export)
-}
-
 /// `ops`.
 pub fn ops(rt: &HostRuntime, matches: &ArgMatches<'_>) -> Result<(), CliFault> {
     print_of(rt, matches, &Ops)
@@ -121,51 +116,6 @@ pub fn log(rt: &HostRuntime, matches: &ArgMatches<'_>) -> Result<(), CliFault> {
 /// `texts`.
 pub fn texts(rt: &HostRuntime, matches: &ArgMatches<'_>) -> Result<(), CliFault> {
     print_of(rt, matches, &Texts)
-}
-
-/// `compare`.
-pub fn compare(rt: &HostRuntime, matches: &ArgMatches<'_>) -> Outcome {
-    told(matches, compared(rt, matches))
-}
-
-// Two entries, or those of a key.
-fn compared(rt: &HostRuntime, matches: &ArgMatches<'_>) -> Result<bool, CliFault> {
-    let one = word(matches, "ENTRY");
-    let Some(other) = matches.get_str("OTHER") else {
-        let key = one.as_bytes();
-        return differs_of(rt, matches, &CompareKey { key });
-    };
-    if matches.get_flag("keys") {
-        let command = CompareWith {
-            word: other.as_bytes(),
-        };
-        let word = one.as_bytes();
-        return differs_of(
-            rt,
-            matches,
-            &ByWord {
-                word,
-                command: &command,
-            },
-        );
-    }
-    match entry(one) {
-        Ok(one) => compared_to(rt, matches, one, other),
-        Err(fault) => Err(fault),
-    }
-}
-
-// An entry, and the one with this id.
-fn compared_to(
-    rt: &HostRuntime,
-    matches: &ArgMatches<'_>,
-    one: OpId,
-    other: &str,
-) -> Result<bool, CliFault> {
-    match entry(other) {
-        Ok(other) => differs_of(rt, matches, &Compare { one, other }),
-        Err(fault) => Err(fault),
-    }
 }
 
 /// `report`, if there is one of the kind.
@@ -205,8 +155,8 @@ fn kind_of(word: &str) -> Option<Kind> {
     }
 }
 
-// The status of the argument. clap rejects other words.
-fn wanted(word: &str) -> Option<Wanted> {
+/// The status of the argument. clap rejects other words.
+pub fn wanted(word: &str) -> Option<Wanted> {
     match word {
         "valid" => Some(Wanted::Valid),
         "superseded" => Some(Wanted::Superseded),
@@ -246,8 +196,8 @@ pub fn status(rt: &HostRuntime, matches: &ArgMatches<'_>) -> Result<(), CliFault
     };
     let mut sink = Rows::sink(rt.alloc(), matches, io::writer(rt));
     let answer = status_to(rt, matches, paths, &names, &mut sink);
-    match print_table(rt.alloc(), sink) {
-        Ok(()) => answer,
+    match answered(rt.alloc(), sink, answer) {
+        Ok(answer) => answer,
         Err(fault) => Err(fault),
     }
 }
@@ -323,8 +273,8 @@ pub fn diff(rt: &HostRuntime, matches: &ArgMatches<'_>) -> Outcome {
     told(matches, merged(rt, matches))
 }
 
-// Whether something differs is an exit status, if that is asked for.
-fn told(matches: &ArgMatches<'_>, answer: Result<bool, CliFault>) -> Outcome {
+/// Whether something differs is an exit status, if that is asked for.
+pub fn told(matches: &ArgMatches<'_>, answer: Result<bool, CliFault>) -> Outcome {
     match answer {
         Ok(differs) if differs && matches.get_flag("exit-code") => Outcome::Differs,
         Ok(_) => Outcome::Done,
@@ -335,8 +285,8 @@ fn told(matches: &ArgMatches<'_>, answer: Result<bool, CliFault>) -> Outcome {
 fn merged(rt: &HostRuntime, matches: &ArgMatches<'_>) -> Result<bool, CliFault> {
     let mut sink = Rows::sink(rt.alloc(), matches, io::writer(rt));
     let answer = merged_to(rt, matches, &mut sink);
-    match print_table(rt.alloc(), sink) {
-        Ok(()) => answer,
+    match answered(rt.alloc(), sink, answer) {
+        Ok(answer) => answer,
         Err(fault) => Err(fault),
     }
 }

@@ -1,6 +1,7 @@
 //! Opens the register that a command names, in its file or (with `--shelf`) on its shelf, and runs the command on it.
 use crate::inputs::{Replaced, open_input};
-use crate::table::{Rows, print_table};
+use crate::office::{Desk, OfficeFile, files_before};
+use crate::table::{Rows, answered};
 use crate::words::{changed_place, open_shelf, open_to_read, place, word};
 use byte_out::Place;
 use clap::ArgMatches;
@@ -9,6 +10,7 @@ use reg_desk::{
     Change, CliFault, FileDisk, Give, InFile, Input, InputOf, Lockable, OfFile, OnShelf, Print,
     Reading, Writing, run_change, run_give, run_print,
 };
+use reg_guard::{GuardFault, GuardedFile, GuardedShelf, run_guarded};
 use std::alloc::Global;
 use std::fs::OpenFile;
 use std::io::{self, Read, Seek, Write};
@@ -64,7 +66,8 @@ where
         return Ok(Opened::Shelf(disk));
     }
     let out = Some(Replaced::named(rt, alloc, matches, "out")?);
-    let source = open_input(rt, alloc, 1, path, &out)?;
+    let number = files_before(matches).saturating_add(1);
+    let source = open_input(rt, alloc, number, path, &out)?;
     Ok(Opened::File(source))
 }
 
@@ -76,8 +79,8 @@ pub fn print_of<C: Print>(
 ) -> Result<(), CliFault> {
     let mut sink = Rows::sink(rt.alloc(), matches, io::writer(rt));
     let answer = print_to(rt, matches, command, &mut sink);
-    match print_table(rt.alloc(), sink) {
-        Ok(()) => answer,
+    match answered(rt.alloc(), sink, answer) {
+        Ok(answer) => answer,
         Err(fault) => Err(fault),
     }
 }
@@ -143,38 +146,55 @@ pub fn give_of<F: Read + Write + Seek + OpenFile, C: Give>(
     }
 }
 
-/// Changes the register, and prints the command's lines, unless `--quiet` is given.
+/// Changes the register as the office, and prints the command's lines, unless `--quiet` is given.
 pub fn change_of<F: Read + Write + Seek + OpenFile, C: Change>(
     rt: &HostRuntime,
     matches: &ArgMatches<'_>,
+    desk: &mut Desk<'_, HostRuntime>,
     register: &mut Opened<F>,
     command: &mut C,
-) -> Result<(), CliFault> {
+) -> Result<(), GuardFault> {
     if matches.get_flag("quiet") {
         let mut sink = Writing::new(io::sink());
-        return change_to(rt, matches, register, command, &mut sink);
+        return change_to(rt, matches, desk, register, command, &mut sink);
     }
     let mut sink = Writing::new(io::writer(rt));
-    change_to(rt, matches, register, command, &mut sink)
+    change_to(rt, matches, desk, register, command, &mut sink)
 }
 
 fn change_to<F: Read + Write + Seek + OpenFile, C: Change, W: Write>(
     rt: &HostRuntime,
     matches: &ArgMatches<'_>,
+    desk: &mut Desk<'_, HostRuntime>,
     register: &mut Opened<F>,
     command: &mut C,
     sink: &mut Writing<W>,
-) -> Result<(), CliFault> {
+) -> Result<(), GuardFault> {
     match register {
         Opened::File(source) => {
             let is_quiet = matches.get_flag("quiet");
             let mut place = changed_place(rt, rt.alloc(), word(matches, "out"), is_quiet)?;
-            change_file(rt.alloc(), source, &mut place, command, sink)
+            match &mut desk.file {
+                Some(office) => {
+                    guarded_file(rt.alloc(), office, source, &mut place, command, sink)
+                }
+                None => plain(change_file(rt.alloc(), source, &mut place, command, sink)),
+            }
         }
-        Opened::Shelf(disk) => {
-            let mut store = OnShelf { disk };
-            run_change(rt.alloc(), &mut store, command, sink)
-        }
+        Opened::Shelf(disk) => match &mut desk.file {
+            Some(office) => guarded_shelf(rt.alloc(), office, disk, command, sink),
+            None => {
+                let mut store = OnShelf { disk };
+                plain(run_change(rt.alloc(), &mut store, command, sink))
+            }
+        },
+    }
+}
+
+fn plain(answer: Result<(), CliFault>) -> Result<(), GuardFault> {
+    match answer {
+        Ok(()) => Ok(()),
+        Err(fault) => Err(GuardFault::Command(fault)),
     }
 }
 
@@ -188,4 +208,28 @@ fn change_file<'a, S: Input, P: Place, C: Change, W: Write>(
 ) -> Result<(), CliFault> {
     let mut store = InFile { source, place };
     run_change(alloc, &mut store, command, sink)
+}
+
+// The same with an office file.
+fn guarded_file<'a, R: Files, S: Input, P: Place, C: Change, W: Write>(
+    alloc: Global,
+    office: &'a mut OfficeFile<'_, R>,
+    source: &'a mut S,
+    place: &'a mut P,
+    command: &mut C,
+    sink: &mut Writing<W>,
+) -> Result<(), GuardFault> {
+    let mut store = GuardedFile::new(source, place, &mut office.place, office.last);
+    run_guarded(alloc, &mut store, command, sink)
+}
+
+fn guarded_shelf<'a, R: Files, F: Read + Write + Seek + OpenFile, C: Change, W: Write>(
+    alloc: Global,
+    office: &'a mut OfficeFile<'_, R>,
+    disk: &'a mut FileDisk<F>,
+    command: &mut C,
+    sink: &mut Writing<W>,
+) -> Result<(), GuardFault> {
+    let mut store = GuardedShelf::new(disk, &mut office.place, office.last);
+    run_guarded(alloc, &mut store, command, sink)
 }

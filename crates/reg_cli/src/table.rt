@@ -1,8 +1,7 @@
 //! The rows that a command prints, or with `--table` the table of them.
-use crate::outcome::print_bytes;
 use clap::ArgMatches;
-use csv_table::table;
-use reg_desk::{CliFault, Writing};
+use csv_table::{TableFault, told_as_table};
+use reg_desk::{CliFault, OutFault, Writing};
 use std::alloc::Global;
 use std::io::{self, ErrorKind, Write};
 
@@ -48,8 +47,12 @@ impl<W: Write> Write for Rows<W> {
     }
 }
 
-/// Prints the table, if there is one: after the command, also if it failed with rows.
-pub fn print_table<W: Write + Drop>(alloc: Global, sink: Writing<Rows<W>>) -> Result<(), CliFault> {
+/// The answer of a command that wrote these rows. With `--table` it prints the table of them first, also if the command failed with rows.
+pub fn answered<W: Write + Drop, A: Drop>(
+    alloc: Global,
+    sink: Writing<Rows<W>>,
+    answer: A,
+) -> Result<A, CliFault> {
     let Rows {
         out,
         kept,
@@ -59,10 +62,11 @@ pub fn print_table<W: Write + Drop>(alloc: Global, sink: Writing<Rows<W>>) -> Re
         return Err(CliFault::Memory);
     }
     let Some(rows) = kept else {
-        return Ok(());
+        return Ok(answer);
     };
-    match table(alloc, &rows) {
-        Ok(text) => print_bytes(out, &text),
-        Err(_) => Err(CliFault::Memory),
+    match told_as_table(alloc, &rows, answer, &mut Writing::new(out)) {
+        Ok(answer) => Ok(answer),
+        Err(TableFault::WriteFailed(written)) => Err(CliFault::Out(OutFault::WriteFailed(written))),
+        Err(TableFault::Memory) => Err(CliFault::Memory),
     }
 }

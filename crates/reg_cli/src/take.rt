@@ -2,7 +2,7 @@
 use crate::inputs::Replaced;
 use crate::outcome::Outcome;
 use crate::stores::{Opened, open_register};
-use crate::table::{Rows, print_table};
+use crate::table::{Rows, answered};
 use crate::words::{open_shelf, printing_place, word};
 use byte_late::{LateFile, LateSource};
 use byte_out::Place;
@@ -71,8 +71,8 @@ fn take_into<F: Read + Write + Seek + OpenFile, S: LateSource>(
 ) -> Result<Vec<LeftOut>, CliFault> {
     let mut sink = Rows::sink(rt.alloc(), matches, io::writer(rt));
     let answer = take_to(rt, matches, register, files, &mut sink);
-    match print_table(rt.alloc(), sink) {
-        Ok(()) => answer,
+    match answered(rt.alloc(), sink, answer) {
+        Ok(answer) => answer,
         Err(fault) => Err(fault),
     }
 }

@@ -1,4 +1,5 @@
 //! The arguments of a command: replicas, entries, files.
+use crate::office::files_before;
 use byte_io::{InFault, read_up_to};
 use clap::ArgMatches;
 use reg_desk::{
@@ -77,7 +78,8 @@ pub fn entry(word: &str) -> Result<OpId, CliFault> {
 
 /// The ids on standard input, one a line, if one of the arguments is `-`. It is numbered as the file after the register.
 pub fn listed(rt: &HostRuntime, matches: &ArgMatches<'_>, name: &str) -> Result<Vec<u8>, CliFault> {
-    let number = if matches.get_flag("shelf") { 1 } else { 2 };
+    let own = if matches.get_flag("shelf") { 1 } else { 2 };
+    let number = files_before(matches).saturating_add(own);
     if !matches
         .get_strs(name)
         .unwrap_or(&[])

@@ -9,4 +9,5 @@ pub mod ImportTextLemmas
 pub mod ImportEngineLemmas
 pub mod AfterRetiring
 pub mod AfterSettling
-mod KeyedLemmas
+mod SettledTwice
+mod LoggedLemmas

@@ -1,6 +1,7 @@
 pub mod Diff
 pub mod Find
 pub mod Look
+pub mod Words
 pub mod Status
 pub mod Explained
 pub mod Settle
@@ -9,5 +10,4 @@ pub mod ImportTexts
 pub mod ImportNotes
 pub mod Import
 pub mod ImportEngines
-pub mod Keyed
 pub mod Logged

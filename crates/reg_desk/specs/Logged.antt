@@ -12,7 +12,7 @@ use Rattle.reg_log.specs.Lines.{IsLog}
 use Rattle.reg_engine.specs.declared.fault.Refusal.TheVariants as refusal
 use Rattle.reg_engine.specs.declared.fault.CliFault.{CliFault}
 use Rattle.reg_engine.specs.declared.fault.CliFault.TheVariants as cli
-use Rattle.reg_desk.specs.Keyed.{IsUnnamed}
+use Rattle.reg_keyed.specs.Keyed.{IsUnnamed}
 
 -- the log of all entries
 abbrev pub LogsAll : Content → List ℕ → Type 0

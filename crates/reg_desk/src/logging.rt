@@ -1,7 +1,7 @@
 //! The command `log`.
 
-use crate::keyed::fault_of;
 use reg_engine::{CliFault, Print, Refusal};
+use reg_keyed::fault_of;
 use reg_keys::told;
 use reg_log::{Asked, first_unlogged, log_text};
 use reg_office::OfficeFault;

@@ -1,2 +1,4 @@
 pub mod Text
 pub mod Source
+pub mod Noting
+pub mod Replacing

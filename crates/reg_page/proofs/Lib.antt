@@ -1,6 +1,11 @@
 pub mod LoopLemmas
 pub mod EventLemmas
 pub mod SectionLemmas
-pub mod ToldLemmas
+pub mod DescribeLemmas
 pub mod SideLemmas
 pub mod WholeLemmas
+pub mod IdLemmas
+pub mod FindLemmas
+pub mod ActLemmas
+pub mod SameLemmas
+pub mod OneLemmas

@@ -1,10 +1,11 @@
 -- The ends of loops that append pieces.
-use Rattle.std.proofs.Common.{◌≡◌, List, [], ◌∷◌, ◌++◌, map, refl, sym, ap, ◌∙◌, ℕ}
+use Rattle.std.proofs.Common.{◌≡◌, List, [], ◌∷◌, ◌++◌, ◌+◌, ◌<◌, map, take, length, get_or, append-nil, refl, sym, ap, ◌∙◌, ℕ}
+use Rattle.std.proofs.lemmas.List.{take_more, map-append}
 use Rattle.std.specs.List.{flat_map}
 use Rattle.std.proofs.lemmas.Grind.{flat_map-append}
 use Rattle.std.proofs.lemmas.List.Folds.{flat_map-map}
 use Rattle.html_text.specs.Pieces.{Piece, html, Appends}
-use Rattle.html_text.proofs.JoinLemmas.{Leads, leads_done}
+use Rattle.html_text.proofs.JoinLemmas.{Leads, leads_done, next}
 
 pub flat_map-flat_map : {A B C : Type 0} (f : B → List C) (g : A → List B) (xs : List A) → flat_map f (flat_map g xs) ≡ flat_map (λ x. flat_map f (g x)) xs
 flat_map-flat_map f g [] = refl
@@ -27,3 +28,13 @@ flattened f g start items so_far none = as_others (flat_map (λ x. flat_map f (g
 pub twice : {T U V : Type 0} (f : U → V) (g : T → U) (xs : List T) → map (λ x. f (g x)) xs ≡ map f (map g xs)
 twice f g [] = refl
 twice f g (x ∷ xs) = ap (λ rest. f (g x) ∷ rest) (twice f g xs)
+
+-- one item more, by its index
+pub one_more : {T U : Type 0} (f : U → List Piece) (g : T → U) (xs : List T) (i : ℕ) (x : T) {start middle end : List ℕ} → i < length xs → x ≡ get_or xs i x
+    → Appends start middle (flat_map f (map g (take i xs))) → Appends middle end (f (g x)) → Appends start end (flat_map f (map g (take (i + 1) xs)))
+one_more f g xs i x lt is so_far item =
+    let before = take i xs in
+    let longer : take (i + 1) xs ≡ before ++ x ∷ [] = take_more xs i x lt ∙ ap (λ y. before ++ y ∷ []) (sym is) in
+    let all : flat_map f (map g (take (i + 1) xs)) ≡ flat_map f (map g before) ++ f (g x) =
+    ap (λ l. flat_map f (map g l)) longer ∙ ap (flat_map f) (map-append g before (x ∷ [])) ∙ flat_map-append f (map g before) (g x ∷ []) ∙ ap (λ l. flat_map f (map g before) ++ l) (append-nil (f (g x))) in
+    as_others (flat_map f (map g before) ++ f (g x)) (flat_map f (map g (take (i + 1) xs))) (sym all) (next so_far item)

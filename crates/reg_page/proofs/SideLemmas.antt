@@ -9,10 +9,10 @@ use Rattle.reg_op.specs.Operations.{Op, Ops}
 use Rattle.reg_op.specs.Contents.{Content}
 use Rattle.reg_report.specs.Conflicts.{Contested}
 use Rattle.reg_report.proofs.ConflictLemmas.{none_in, in_cons, in_head, in_tail, in_map, from_map}
-use Rattle.reg_page.specs.declared.told.Told.{Told}
-use Rattle.reg_page.specs.Page.{told_at, entry_of, side_of, pairs_of, pairs_among, conflict_of, acts_in, IsShown, IsSide}
+use Rattle.reg_page.specs.declared.described.Described.{Described}
+use Rattle.reg_page.specs.Page.{described_at, entry_of, side_of, pairs_of, pairs_among, conflict_of, acts_in, IsShown, IsSide}
 
-found_in : {X : Type 0} (t : X → Bool) (xs : List X) (x : X) → find t xs ≡ Some x → Contains xs x
+pub found_in : {X : Type 0} (t : X → Bool) (xs : List X) (x : X) → find t xs ≡ Some x → Contains xs x
 found_in t [] x e = absurd cc
 found_in t (y ∷ ys) x e =
     elim (t y) as (λ b. cond b (Some y) (find t ys) ≡ Some x → Contains (y ∷ ys) x) [
@@ -27,14 +27,14 @@ from_flat f (x ∷ xs) y c = elim (Contains-append_cases (f x) (flat_map f xs) y
   | inr d ↦ let r = from_flat f xs y d in (r.0, in_tail r.0 x xs r.1, r.2)
 ]
 
-module _ (s : Ops) (told : List Told) (acts : List Op) where
+module _ (s : Ops) (described : List Described) (acts : List Op) where
   abbrev rows : List shown.Entry
-  rows = map (entry_of s told acts) told
+  rows = map (entry_of s described acts) described
 
-  side : (t other : Told) → Contains told t → IsSide rows (side_of t other)
-  side t other c = record { entry = entry_of s told acts t; there = in_map (entry_of s told acts) told t c; id = refl; words = compared_is t.described.text.items other.described.text.items }
+  side : (t other : Described) → Contains described t → IsSide rows (side_of t other)
+  side t other c = record { entry = entry_of s described acts t; there = in_map (entry_of s described acts) described t c; id = refl; words = compared_is t.system.text.items other.system.text.items }
 
-  sides : (one other : Option Told) → ((t : Told) → one ≡ Some t → Contains told t) → ((t : Told) → other ≡ Some t → Contains told t)
+  sides : (one other : Option Described) → ((t : Described) → one ≡ Some t → Contains described t) → ((t : Described) → other ≡ Some t → Contains described t)
       → (p : shown.Pair) → Contains (pairs_of one other) p → IsSide rows p.first × IsSide rows p.second
   sides None other f g p c = absurd (none_in p c)
   sides (Some t) None f g p c = absurd (none_in p c)
@@ -43,21 +43,21 @@ module _ (s : Ops) (told : List Told) (acts : List Op) where
     | inr d ↦ absurd (none_in p d)
   ]
 
-  at : (i : Id) (t : Told) → told_at told i ≡ Some t → Contains told t
-  at i t e = found_in (λ (u : Told). is_same u.id i) told t e
+  at : (i : Id) (t : Described) → described_at described i ≡ Some t → Contains described t
+  at i t e = found_in (λ (u : Described). is_same u.id i) described t e
 
-  among : (is : List Id) (p : shown.Pair) → Contains (pairs_among told is) p → IsSide rows p.first × IsSide rows p.second
+  among : (is : List Id) (p : shown.Pair) → Contains (pairs_among described is) p → IsSide rows p.first × IsSide rows p.second
   among [] p c = absurd (none_in p c)
   among (i ∷ is) p c =
-      let r = from_flat (λ j. pairs_of (told_at told i) (told_at told j)) is p c in
-      sides (told_at told i) (told_at told r.0) (at i) (at r.0) p r.2
+      let r = from_flat (λ j. pairs_of (described_at described i) (described_at described j)) is p c in
+      sides (described_at described i) (described_at described r.0) (at i) (at r.0) p r.2
 
-  pub all_sides : (cs : List Contested) (c : shown.Conflict) → Contains (map (conflict_of told) cs) c → (p : shown.Pair) → Contains c.pairs p → IsSide rows p.first × IsSide rows p.second
+  pub all_sides : (cs : List Contested) (c : shown.Conflict) → Contains (map (conflict_of described) cs) c → (p : shown.Pair) → Contains c.pairs p → IsSide rows p.first × IsSide rows p.second
   all_sides cs c h p k =
-      let r = from_map (conflict_of told) cs c h in
+      let r = from_map (conflict_of described) cs c h in
       among (r.0).entries p (subst (λ (d : shown.Conflict). Contains d.pairs p) r.2 k)
 
 pub are_sides : (title : List ℕ) (x : Content) (s : shown.Shown) → IsShown title x s → (c : shown.Conflict) → Contains s.conflicts c → (p : shown.Pair) → Contains c.pairs p → IsSide s.entries p.first × IsSide s.entries p.second
 are_sides title x s h c k p l =
     subst (λ (z : shown.Shown). Contains z.conflicts c → IsSide z.entries p.first × IsSide z.entries p.second) (sym h.is)
-    (λ m. all_sides x.ops h.told (acts_in x.ops) h.conflicts c m p l) k
+    (λ m. all_sides x.ops h.described (acts_in x.ops) h.conflicts c m p l) k

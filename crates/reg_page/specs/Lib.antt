@@ -1,4 +1,4 @@
 pub mod Kinds
-pub mod Tells
+pub mod Descriptions
 pub mod Page
 pub mod Parts

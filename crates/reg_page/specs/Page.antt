@@ -24,8 +24,9 @@ use Rattle.reg_op.specs.Rows.{rows, awaited}
 use Rattle.reg_report.specs.declared.gap.Gap.{Gap}
 use Rattle.reg_report.specs.Gaps.{AreGaps}
 use Rattle.reg_report.specs.Conflicts.{Contested, AreConflicts}
-use Rattle.reg_page.specs.declared.told.Told.{Told}
-use Rattle.reg_page.specs.Tells.{AreTold}
+use Rattle.reg_page.specs.declared.described.Described.{Described}
+use Rattle.reg_page.specs.Descriptions.{AreDescribed}
+use Rattle.reg_page.specs.Kinds.{kind_word}
 
 -- ---- entries
 
@@ -36,72 +37,84 @@ standing_of (Some statuses.Superseded) = standing.Superseded
 standing_of (Some statuses.Retired) = standing.Retired
 
 -- what the page shows of an entry, if it was entered
-abbrev pub told_at : List Told → Id → Option Told
-told_at told i = find (λ (t : Told). is_same t.id i) told
+abbrev pub described_at : List Described → Id → Option Described
+described_at described i = find (λ (t : Described). is_same t.id i) described
 
-abbrev pub link_as : Id → Option Told → shown.Link
+abbrev pub link_as : Id → Option Described → shown.Link
 link_as i None = shown.Awaited (printed i)
 link_as i (Some t) = shown.Entered t.printed.items t.authority.items t.code.items
 
-abbrev pub link_to : List Told → Id → shown.Link
-link_to told i = link_as i (told_at told i)
+abbrev pub link_to : List Described → Id → shown.Link
+link_to described i = link_as i (described_at described i)
 
 -- the operations on entries: supersessions and retirements
 abbrev pub acts_in : Ops → List Op
 acts_in s = filter (λ (o : Op). not (is_enter o.body)) (set.items s)
 
+-- the entry that an operation supersedes or retires, or that it enters
+abbrev pub subject_of : Id → Body → Id
+subject_of i (Enter text) = i
+subject_of i (Supersede old newer) = old
+subject_of i (Retire entry) = entry
+
+abbrev pub subject : Op → Id
+subject o = subject_of o.id o.body
+
+abbrev pub is_on : Id → Op → Bool
+is_on e o = is_same (subject o) e
+
 -- the entries that supersede an entry
-abbrev pub links_by : List Told → Id → Body → List shown.Link
-links_by told e (Enter text) = []
-links_by told e (Supersede old newer) = if is_same old e then link_to told newer ∷ [] else []
-links_by told e (Retire entry) = []
+abbrev pub links_by : List Described → Id → Body → List shown.Link
+links_by described e (Enter text) = []
+links_by described e (Supersede old newer) = if is_same old e then link_to described newer ∷ [] else []
+links_by described e (Retire entry) = []
 
 -- what an operation does to an entry
-abbrev pub events_by : List Told → Id → List ℕ → List ℕ → Body → List shown.Event
-events_by told e id note (Enter text) = []
-events_by told e id note (Supersede old newer) = if is_same old e then shown.SupersededBy (link_to told newer) id note ∷ [] else []
-events_by told e id note (Retire entry) = if is_same entry e then shown.RetiredBy id note ∷ [] else []
+abbrev pub events_by : List Described → Id → List ℕ → List ℕ → Body → List shown.Event
+events_by described e id note (Enter text) = []
+events_by described e id note (Supersede old newer) = if is_same old e then shown.SupersededBy (link_to described newer) id note ∷ [] else []
+events_by described e id note (Retire entry) = if is_same entry e then shown.RetiredBy id note ∷ [] else []
 
-abbrev pub links_in : List Told → Id → Op → List shown.Link
-links_in told e o = links_by told e o.body
+abbrev pub links_in : List Described → Id → Op → List shown.Link
+links_in described e o = links_by described e o.body
 
-abbrev pub events_in : List Told → Id → Op → List shown.Event
-events_in told e o = events_by told e (printed o.id) o.note o.body
+abbrev pub events_in : List Described → Id → Op → List shown.Event
+events_in described e o = events_by described e (printed o.id) o.note o.body
 
 -- the row of an entry, with what the operations do to it
-abbrev pub entry_of : Ops → List Told → List Op → Told → shown.Entry
-entry_of s told os t = record {
+abbrev pub entry_of : Ops → List Described → List Op → Described → shown.Entry
+entry_of s described os t = record {
   id = t.printed.items;
   authority = t.authority.items;
   code = t.code.items;
-  name = t.described.name.items;
-  areas = map (λ (a : Vec ℕ). a.items) t.described.areas.items;
-  kind = t.described.kind.now;
+  name = t.system.name.items;
+  areas = map (λ (a : Vec ℕ). a.items) t.system.areas.items;
+  kind = kind_word t.system.kind;
   standing = standing_of (status s t.id);
-  links = flat_map (links_in told t.id) os;
-  text = t.described.text.items;
+  links = flat_map (links_in described t.id) os;
+  text = t.system.text.items;
   note = t.note.items;
-  events = flat_map (events_in told t.id) os;
+  events = flat_map (events_in described t.id) os;
 }
 
 -- ---- conflicts
 
 -- an entry's text, with the words marked that another's text does not have
-abbrev pub side_of : Told → Told → shown.Side
-side_of t other = record { id = t.printed.items; note = t.note.items; words = compared t.described.text.items other.described.text.items }
+abbrev pub side_of : Described → Described → shown.Side
+side_of t other = record { id = t.printed.items; note = t.note.items; words = compared t.system.text.items other.system.text.items }
 
-abbrev pub pairs_of : Option Told → Option Told → List shown.Pair
+abbrev pub pairs_of : Option Described → Option Described → List shown.Pair
 pairs_of None other = []
 pairs_of (Some one) None = []
 pairs_of (Some one) (Some other) = record { first = side_of one other; second = side_of other one } ∷ []
 
 -- the first entry of a key beside each of the others
-abbrev pub pairs_among : List Told → List Id → List shown.Pair
-pairs_among told [] = []
-pairs_among told (i ∷ is) = flat_map (λ j. pairs_of (told_at told i) (told_at told j)) is
+abbrev pub pairs_among : List Described → List Id → List shown.Pair
+pairs_among described [] = []
+pairs_among described (i ∷ is) = flat_map (λ j. pairs_of (described_at described i) (described_at described j)) is
 
-abbrev pub conflict_of : List Told → Contested → shown.Conflict
-conflict_of told c = record { authority = c.key.authority; code = c.key.code; pairs = pairs_among told c.entries }
+abbrev pub conflict_of : List Described → Contested → shown.Conflict
+conflict_of described c = record { authority = c.key.authority; code = c.key.code; pairs = pairs_among described c.entries }
 
 -- ---- the page
 
@@ -123,12 +136,12 @@ is_retired standing.Valid = false
 is_retired standing.Superseded = false
 is_retired standing.Retired = true
 
-abbrev pub figures_of : Content → List Told → List Contested → List Id → List Gap → Figures
-figures_of x told cs is gs = record {
-  entries = length told;
-  valid = count_by (λ (t : Told). is_valid (standing_of (status x.ops t.id))) told;
-  superseded = count_by (λ (t : Told). is_superseded (standing_of (status x.ops t.id))) told;
-  retired = count_by (λ (t : Told). is_retired (standing_of (status x.ops t.id))) told;
+abbrev pub figures_of : Content → List Described → List Contested → List Id → List Gap → Figures
+figures_of x described cs is gs = record {
+  entries = length described;
+  valid = count_by (λ (t : Described). is_valid (standing_of (status x.ops t.id))) described;
+  superseded = count_by (λ (t : Described). is_superseded (standing_of (status x.ops t.id))) described;
+  retired = count_by (λ (t : Described). is_retired (standing_of (status x.ops t.id))) described;
   conflicts = length cs;
   awaited = length is;
   gaps = length gs;
@@ -136,25 +149,25 @@ figures_of x told cs is gs = record {
 }
 
 -- what is shown of a content, from the descriptions of its entries, its operations, conflicts, awaited ids and gaps
-abbrev pub shown_of : Content → List ℕ → List Told → List Op → List Contested → List Id → List Gap → shown.Shown
-shown_of x title told os cs is gs = record {
+abbrev pub shown_of : Content → List ℕ → List Described → List Op → List Contested → List Id → List Gap → shown.Shown
+shown_of x title described os cs is gs = record {
   title = title;
-  figures = figures_of x told cs is gs;
-  conflicts = map (conflict_of told) cs;
+  figures = figures_of x described cs is gs;
+  conflicts = map (conflict_of described) cs;
   awaited = map printed is;
   gaps = map gap_of gs;
-  entries = map (entry_of x.ops told os) told;
+  entries = map (entry_of x.ops described os) described;
 }
 
 -- what the page of a content with this title shows
 pub record IsShown (title : List ℕ) (x : Content) (s : shown.Shown) : Type 0 where
-  pub told : List Told
-  pub are_told : AreTold x.ops told
+  pub described : List Described
+  pub are_described : AreDescribed x.ops described
   pub conflicts : List Contested
   pub are_conflicts : AreConflicts (rows x.ops) conflicts
   pub gaps : List Gap
   pub are_gaps : AreGaps x.seen gaps
-  pub is : s ≡ shown_of x title told (acts_in x.ops) conflicts (set.items (awaited x.ops)) gaps
+  pub is : s ≡ shown_of x title described (acts_in x.ops) conflicts (set.items (awaited x.ops)) gaps
 
 -- the page of a content with this title
 pub record IsPage (title : List ℕ) (x : Content) (bytes : List ℕ) : Type 0 where

@@ -7,26 +7,37 @@ ghost use Rattle.html_page.specs.Templates.{side, pair, conflict, section};
 ghost use Rattle.html_page.specs.declared.markup.TheConstants.{CONFLICTS_START as START, CONFLICTS_END as END};
 ghost use Rattle.reg_report.specs.declared.conflict.Conflict.{Conflict as OneConflict};
 ghost use Rattle.reg_report.specs.Contenders.{conflict_seen};
-ghost use Rattle.reg_page.specs.Page.{told_at, side_of, pairs_of, pairs_among, conflict_of};
+ghost use Rattle.reg_page.specs.Descriptions.{AscendById};
+ghost use Rattle.reg_page.specs.Page.{described_at, side_of, pairs_of, pairs_among, conflict_of};
 
-use crate::links::told_at;
-use crate::told::Told;
+use crate::described::Described;
+use crate::links::described_at;
 use html_page::markup::{AFTER_PAIR, AFTER_SIDE, CONFLICTS_END, CONFLICTS_START, PAIR};
 use html_page::{push_compared, push_conflict_start, push_mark, push_side_start};
 use reg_op::OpId;
 use reg_report::Conflict;
 use std::alloc::{AllocError, Global};
 
-fn push_side(alloc: Global, page: &mut Vec<u8>, one: &Told, other: &Told) -> Result<(), AllocError>
+fn push_side(
+    alloc: Global,
+    page: &mut Vec<u8>,
+    one: &Described,
+    other: &Described,
+) -> Result<(), AllocError>
     ensures { OnOk result (Appends page.old.items page.new.items (side (side_of one.now other.now))) }
 {
     push_side_start(page, &one.printed, &one.note)?;
-    push_compared(alloc, page, &one.described.text, &other.described.text)?;
+    push_compared(alloc, page, &one.system.text, &other.system.text)?;
     push_mark(page, AFTER_SIDE)?;
     Ok(())
 }
 
-fn push_sides(alloc: Global, page: &mut Vec<u8>, one: &Told, other: &Told) -> Result<(), AllocError>
+fn push_sides(
+    alloc: Global,
+    page: &mut Vec<u8>,
+    one: &Described,
+    other: &Described,
+) -> Result<(), AllocError>
     ensures { OnOk result (Appends page.old.items page.new.items (pair (record { first = side_of one.now other.now; second = side_of other.now one.now }))) }
 {
     push_mark(page, PAIR)?;
@@ -40,16 +51,17 @@ fn push_sides(alloc: Global, page: &mut Vec<u8>, one: &Told, other: &Told) -> Re
 fn push_pair(
     alloc: Global,
     page: &mut Vec<u8>,
-    told: &[Told],
+    described: &[Described],
     first: OpId,
     second: OpId,
 ) -> Result<(), AllocError>
-    ensures { OnOk result (Appends page.old.items page.new.items (flat_map pair (pairs_of (told_at told.now first) (told_at told.now second)))) }
+    requires { AscendById described.now }
+    ensures { OnOk result (Appends page.old.items page.new.items (flat_map pair (pairs_of (described_at described.now first) (described_at described.now second)))) }
 {
-    let Some(one) = told_at(told, first) else {
+    let Some(one) = described_at(described, first) else {
         return Ok(());
     };
-    let Some(other) = told_at(told, second) else {
+    let Some(other) = described_at(described, second) else {
         return Ok(());
     };
     push_sides(alloc, page, one, other)?;
@@ -60,30 +72,32 @@ fn push_pair(
 fn push_pairs(
     alloc: Global,
     page: &mut Vec<u8>,
-    told: &[Told],
+    described: &[Described],
     entries: &[OpId],
 ) -> Result<(), AllocError>
-    ensures { OnOk result (Appends page.old.items page.new.items (flat_map pair (pairs_among told.now entries.now))) }
+    requires { AscendById described.now }
+    ensures { OnOk result (Appends page.old.items page.new.items (flat_map pair (pairs_among described.now entries.now))) }
 {
     let Some((first, others)) = entries.split_first() else {
         return Ok(());
     };
-    push_others(alloc, page, told, *first, others)?;
+    push_others(alloc, page, described, *first, others)?;
     Ok(())
 }
 
 fn push_others(
     alloc: Global,
     page: &mut Vec<u8>,
-    told: &[Told],
+    described: &[Described],
     first: OpId,
     others: &[OpId],
 ) -> Result<(), AllocError>
-    ensures { OnOk result (Appends page.old.items page.new.items (flat_map pair (flat_map (λ j. pairs_of (told_at told.now first) (told_at told.now j)) others.now))) }
+    requires { AscendById described.now }
+    ensures { OnOk result (Appends page.old.items page.new.items (flat_map pair (flat_map (λ j. pairs_of (described_at described.now first) (described_at described.now j)) others.now))) }
 {
     let mut rest = others;
     while let Some((second, later)) = rest.split_first() {
-        push_pair(alloc, page, told, first, *second)?;
+        push_pair(alloc, page, described, first, *second)?;
         rest = later;
     }
     Ok(())
@@ -92,27 +106,29 @@ fn push_others(
 fn push_conflict(
     alloc: Global,
     page: &mut Vec<u8>,
-    told: &[Told],
+    described: &[Described],
     one: &Conflict,
 ) -> Result<(), AllocError>
-    ensures { OnOk result (Appends page.old.items page.new.items (conflict (conflict_of told.now (conflict_seen one.now)))) }
+    requires { AscendById described.now }
+    ensures { OnOk result (Appends page.old.items page.new.items (conflict (conflict_of described.now (conflict_seen one.now)))) }
 {
     push_conflict_start(page, one.authority.as_bytes(), one.code.as_bytes())?;
-    push_pairs(alloc, page, told, &one.entries)?;
+    push_pairs(alloc, page, described, &one.entries)?;
     Ok(())
 }
 
 fn push_each(
     alloc: Global,
     page: &mut Vec<u8>,
-    told: &[Told],
+    described: &[Described],
     conflicts: &[Conflict],
 ) -> Result<(), AllocError>
-    ensures { OnOk result (Appends page.old.items page.new.items (flat_map conflict (map (λ (k : OneConflict). conflict_of told.now (conflict_seen k)) conflicts.now))) }
+    requires { AscendById described.now }
+    ensures { OnOk result (Appends page.old.items page.new.items (flat_map conflict (map (λ (k : OneConflict). conflict_of described.now (conflict_seen k)) conflicts.now))) }
 {
     let mut rest = conflicts;
     while let Some((one, others)) = rest.split_first() {
-        push_conflict(alloc, page, told, one)?;
+        push_conflict(alloc, page, described, one)?;
         rest = others;
     }
     Ok(())
@@ -122,16 +138,17 @@ fn push_each(
 pub fn push_conflicts(
     alloc: Global,
     page: &mut Vec<u8>,
-    told: &[Told],
+    described: &[Described],
     conflicts: &[Conflict],
 ) -> Result<(), AllocError>
-    ensures { OnOk result (Appends page.old.items page.new.items (section START.now conflict END.now (map (λ (k : OneConflict). conflict_of told.now (conflict_seen k)) conflicts.now))) }
+    requires { AscendById described.now }
+    ensures { OnOk result (Appends page.old.items page.new.items (section START.now conflict END.now (map (λ (k : OneConflict). conflict_of described.now (conflict_seen k)) conflicts.now))) }
 {
     if conflicts.is_empty() {
         return Ok(());
     }
     push_mark(page, CONFLICTS_START)?;
-    push_each(alloc, page, told, conflicts)?;
+    push_each(alloc, page, described, conflicts)?;
     push_mark(page, CONFLICTS_END)?;
     Ok(())
 }

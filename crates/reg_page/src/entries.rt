@@ -1,17 +1,23 @@
 //! The rows of entries.
 
-ghost use Rattle.std.specs.Prelude.{◌≡◌, ℕ, map, OnOk};
+ghost use Rattle.std.specs.Prelude.{◌≡◌, ℕ, List, map, OnOk};
 ghost use Rattle.std.specs.List.{flat_map};
+ghost use Rattle.std.specs.List.Sorted.{IsSortedByKey};
 ghost use Rattle.std.specs.Global.{Vec as Owned};
 ghost use Rattle.html_text.specs.Pieces.{Appends};
 ghost use Rattle.html_page.specs.Shown.{SupersededBy, RetiredBy};
 ghost use Rattle.html_page.specs.Templates.{operation, event, area, by, entry};
 ghost use Rattle.reg_op.specs.Text.{printed};
 ghost use Rattle.reg_op.specs.Status.{status};
-ghost use Rattle.reg_page.specs.Page.{standing_of, link_to, links_in, events_in, entry_of};
+ghost use Rattle.reg_op.specs.Ids.{id_cmp};
+ghost use Rattle.reg_page.specs.declared.described.Described.{Described as OneDescribed};
+ghost use Rattle.reg_page.specs.Descriptions.{AscendById, at, InOrder};
+ghost use Rattle.reg_page.specs.Page.{standing_of, link_to, subject, links_in, events_in, entry_of};
 
+use crate::acts::acts_on;
+use crate::described::{Described, by_key};
+use crate::kind::kind_word;
 use crate::links::push_link_to;
-use crate::told::Told;
 use html_page::markup::{AFTER_BY, AFTER_ENTRY, AFTER_HISTORY, BY, RETIRED_BY, SUPERSEDED_BY};
 use html_page::{
     Standing, push_area, push_entry_start, push_entry_text, push_mark, push_operation_id,
@@ -46,14 +52,15 @@ fn push_operation(alloc: Global, page: &mut Vec<u8>, op: &Op) -> Result<(), Allo
 fn push_superseded(
     alloc: Global,
     page: &mut Vec<u8>,
-    told: &[Told],
+    described: &[Described],
     newer: OpId,
     op: &Op,
 ) -> Result<(), AllocError>
-    ensures { OnOk result (Appends page.old.items page.new.items (event (SupersededBy (link_to told.now newer) (printed op.now.id) op.now.note))) }
+    requires { AscendById described.now }
+    ensures { OnOk result (Appends page.old.items page.new.items (event (SupersededBy (link_to described.now newer) (printed op.now.id) op.now.note))) }
 {
     push_mark(page, SUPERSEDED_BY)?;
-    push_link_to(alloc, page, told, newer)?;
+    push_link_to(alloc, page, described, newer)?;
     push_operation(alloc, page, op)?;
     Ok(())
 }
@@ -70,17 +77,18 @@ fn push_retired(alloc: Global, page: &mut Vec<u8>, op: &Op) -> Result<(), AllocE
 fn push_event(
     alloc: Global,
     page: &mut Vec<u8>,
-    told: &[Told],
+    described: &[Described],
     entry: OpId,
     op: &Op,
 ) -> Result<(), AllocError>
-    ensures { OnOk result (Appends page.old.items page.new.items (flat_map event (events_in told.now entry op.now))) }
+    requires { AscendById described.now }
+    ensures { OnOk result (Appends page.old.items page.new.items (flat_map event (events_in described.now entry op.now))) }
 {
     match op.body() {
         OpBody::Enter(_) => Ok(()),
         OpBody::Supersede { old, newer } => {
             if old.is_same(&entry) {
-                push_superseded(alloc, page, told, *newer, op)?;
+                push_superseded(alloc, page, described, *newer, op)?;
                 return Ok(());
             }
             Ok(())
@@ -99,15 +107,16 @@ fn push_event(
 fn push_events(
     alloc: Global,
     page: &mut Vec<u8>,
-    told: &[Told],
+    described: &[Described],
     entry: OpId,
     acts: &[Op],
 ) -> Result<(), AllocError>
-    ensures { OnOk result (Appends page.old.items page.new.items (flat_map event (flat_map (events_in told.now entry) acts.now))) }
+    requires { AscendById described.now }
+    ensures { OnOk result (Appends page.old.items page.new.items (flat_map event (flat_map (events_in described.now entry) acts.now))) }
 {
     let mut rest = acts;
     while let Some((op, others)) = rest.split_first() {
-        push_event(alloc, page, told, entry, op)?;
+        push_event(alloc, page, described, entry, op)?;
         rest = others;
     }
     Ok(())
@@ -116,13 +125,14 @@ fn push_events(
 fn push_link_by(
     alloc: Global,
     page: &mut Vec<u8>,
-    told: &[Told],
+    described: &[Described],
     newer: OpId,
 ) -> Result<(), AllocError>
-    ensures { OnOk result (Appends page.old.items page.new.items (by (link_to told.now newer))) }
+    requires { AscendById described.now }
+    ensures { OnOk result (Appends page.old.items page.new.items (by (link_to described.now newer))) }
 {
     push_mark(page, BY)?;
-    push_link_to(alloc, page, told, newer)?;
+    push_link_to(alloc, page, described, newer)?;
     push_mark(page, AFTER_BY)?;
     Ok(())
 }
@@ -131,17 +141,18 @@ fn push_link_by(
 fn push_by(
     alloc: Global,
     page: &mut Vec<u8>,
-    told: &[Told],
+    described: &[Described],
     entry: OpId,
     op: &Op,
 ) -> Result<(), AllocError>
-    ensures { OnOk result (Appends page.old.items page.new.items (flat_map by (links_in told.now entry op.now))) }
+    requires { AscendById described.now }
+    ensures { OnOk result (Appends page.old.items page.new.items (flat_map by (links_in described.now entry op.now))) }
 {
     match op.body() {
         OpBody::Enter(_) => Ok(()),
         OpBody::Supersede { old, newer } => {
             if old.is_same(&entry) {
-                push_link_by(alloc, page, told, *newer)?;
+                push_link_by(alloc, page, described, *newer)?;
                 return Ok(());
             }
             Ok(())
@@ -154,15 +165,16 @@ fn push_by(
 fn push_bys(
     alloc: Global,
     page: &mut Vec<u8>,
-    told: &[Told],
+    described: &[Described],
     entry: OpId,
     acts: &[Op],
 ) -> Result<(), AllocError>
-    ensures { OnOk result (Appends page.old.items page.new.items (flat_map by (flat_map (links_in told.now entry) acts.now))) }
+    requires { AscendById described.now }
+    ensures { OnOk result (Appends page.old.items page.new.items (flat_map by (flat_map (links_in described.now entry) acts.now))) }
 {
     let mut rest = acts;
     while let Some((op, others)) = rest.split_first() {
-        push_by(alloc, page, told, entry, op)?;
+        push_by(alloc, page, described, entry, op)?;
         rest = others;
     }
     Ok(())
@@ -184,44 +196,59 @@ fn push_entry(
     alloc: Global,
     page: &mut Vec<u8>,
     register: &Register,
-    told: &[Told],
+    described: &[Described],
     acts: &[Op],
-    one: &Told,
+    one: &Described,
 ) -> Result<(), AllocError>
-    ensures { OnOk result (Appends page.old.items page.new.items (entry (entry_of register.now.ops told.now acts.now one.now))) }
+    requires ascend { AscendById described.now }
+    requires sorted { IsSortedByKey subject id_cmp acts.now }
+    ensures { OnOk result (Appends page.old.items page.new.items (entry (entry_of register.now.ops described.now acts.now one.now))) }
 {
-    let described = &one.described;
-    push_entry_start(
-        page,
-        &one.printed,
-        &one.authority,
-        &one.code,
-        &described.name,
-    )?;
-    push_entry_text(page, &described.text, &one.printed, &one.note)?;
-    push_events(alloc, page, told, one.id, acts)?;
+    let system = &one.system;
+    let mine = acts_on(acts, one.id);
+    push_entry_start(page, &one.printed, &one.authority, &one.code, &system.name)?;
+    push_entry_text(page, &system.text, &one.printed, &one.note)?;
+    push_events(alloc, page, described, one.id, mine)?;
     push_mark(page, AFTER_HISTORY)?;
-    push_areas(page, &described.areas)?;
-    push_standing(page, described.kind, standing_of(register, one.id))?;
-    push_bys(alloc, page, told, one.id, acts)?;
+    push_areas(page, &system.areas)?;
+    push_standing(page, kind_word(system.kind), standing_of(register, one.id))?;
+    push_bys(alloc, page, described, one.id, mine)?;
     push_mark(page, AFTER_ENTRY)?;
     Ok(())
 }
 
-/// Appends a row for each entry.
+// Appends the rows of these entries.
+fn push_rows(
+    alloc: Global,
+    page: &mut Vec<u8>,
+    register: &Register,
+    described: &[Described],
+    acts: &[Op],
+    rows: &[&Described],
+) -> Result<(), AllocError>
+    requires ascend { AscendById described.now }
+    requires sorted { IsSortedByKey subject id_cmp acts.now }
+    ensures { OnOk result (Appends page.old.items page.new.items (flat_map entry (map (entry_of register.now.ops described.now acts.now) (at rows.now)))) }
+{
+    for i in 0..rows.len() {
+        push_entry(alloc, page, register, described, acts, rows[i])?;
+    }
+    Ok(())
+}
+
+/// Appends a row for each entry, by key and then by id.
 pub fn push_entries(
     alloc: Global,
     page: &mut Vec<u8>,
     register: &Register,
-    told: &[Told],
+    described: &[Described],
     acts: &[Op],
 ) -> Result<(), AllocError>
-    ensures { OnOk result (Appends page.old.items page.new.items (flat_map entry (map (entry_of register.now.ops told.now acts.now) told.now))) }
+    requires ascend { AscendById described.now }
+    requires sorted { IsSortedByKey subject id_cmp acts.now }
+    ensures { OnOk result ((rows : List OneDescribed) × InOrder described.now rows × Appends page.old.items page.new.items (flat_map entry (map (entry_of register.now.ops described.now acts.now) rows))) }
 {
-    let mut rest = told;
-    while let Some((one, others)) = rest.split_first() {
-        push_entry(alloc, page, register, told, acts, one)?;
-        rest = others;
-    }
+    let rows = by_key(alloc, described)?;
+    push_rows(alloc, page, register, described, acts, &rows)?;
     Ok(())
 }

@@ -10,23 +10,36 @@ use crs_part::{CrsParts, Text};
 use crs_search::{Kind, is_of_kind, usages_of};
 use std::alloc::{AllocError, Global};
 
-/// The word for the kind of a reference system.
-pub fn kind_word(parts: &CrsParts) -> &'static [u8]
-    ensures { result.now ≡ kind_word (kind_of parts.now) }
+/// The kind of a reference system.
+pub fn kind_of(parts: &CrsParts) -> Kind
+    ensures { result ≡ kind_of parts.now }
 {
     if is_of_kind(parts, Kind::Geographic) {
-        return b"geographic";
+        return Kind::Geographic;
     }
     if is_of_kind(parts, Kind::Geodetic) {
-        return b"geodetic";
+        return Kind::Geodetic;
     }
     if is_of_kind(parts, Kind::Projected) {
-        return b"projected";
+        return Kind::Projected;
     }
     if is_of_kind(parts, Kind::Vertical) {
-        return b"vertical";
+        return Kind::Vertical;
     }
-    b"compound"
+    Kind::Compound
+}
+
+/// The word for a kind.
+pub fn kind_word(kind: Kind) -> &'static [u8]
+    ensures { result.now ≡ kind_word kind }
+{
+    match kind {
+        Kind::Geographic => b"geographic",
+        Kind::Geodetic => b"geodetic",
+        Kind::Projected => b"projected",
+        Kind::Vertical => b"vertical",
+        Kind::Compound => b"compound",
+    }
 }
 
 fn push_area(areas: &mut Vec<Vec<u8>>, alloc: Global, area: &Option<Text>) -> Result<(), AllocError>

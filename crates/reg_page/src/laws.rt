@@ -1,12 +1,25 @@
 //! The laws of the page of a register. The functions do nothing: their contracts are the laws.
 
-ghost use Rattle.std.specs.Prelude.{◌≡◌, ℕ, List, Contains, Some};
+ghost use Rattle.std.specs.Prelude.{◌≡◌, ℕ, List, Contains, Some, Ok};
 ghost use Rattle.html_text.specs.Pieces.{Piece, html};
 ghost use Rattle.html_text.specs.Places.{Content as BetweenTags, tags, past_all};
 ghost use Rattle.html_page.specs.Shape.{shape};
 ghost use Rattle.html_page.specs.Shown.{Pair, Conflict, Shown};
-ghost use Rattle.reg_op.specs.Contents.{Content};
+ghost use Rattle.reg_op.specs.Set as set;
+ghost use Rattle.reg_op.specs.Ids.{Id};
+ghost use Rattle.reg_op.specs.Operations.{Op};
+ghost use Rattle.reg_op.specs.Contents.{Content, IsContent, joined};
 ghost use Rattle.reg_page.specs.Page.{IsShown, IsPage, IsSide};
+
+/// A register has one page with a title. So registers with the same operations and seen ids have the same page, and both orders of a
+/// merge do.
+pub fn one_page()
+    ensures content { (title : List ℕ) (x : Content) (a b : List ℕ) → IsContent x → IsPage title x a → IsPage title x b → a ≡ b }
+    ensures replicas { (title : List ℕ) (x y : Content) (a b : List ℕ) → IsContent x → ((o : Op) → set.contains x.ops o ≡ set.contains y.ops o)
+        → ((i : Id) → set.contains x.seen i ≡ set.contains y.seen i) → IsPage title x a → IsPage title y b → a ≡ b }
+    ensures merges { (title : List ℕ) (x y z w : Content) (a b : List ℕ) → IsContent x → IsContent y → joined x y ≡ Ok z → joined y x ≡ Ok w
+        → IsPage title z a → IsPage title w b → a ≡ b }
+{}
 
 /// The bytes of a page are pieces of which each text stands between tags, or between the quotation marks of an attribute.
 /// The tags of two pages of one shape are the same, whatever texts their registers have.

@@ -1,8 +1,9 @@
-//! The page of a register: what it tells of entries, conflicts and gaps.
+//! The page of a register: what it shows of entries, conflicts and gaps.
 #![tactic(auto)]
 
 mod acts;
 mod conflicts;
+mod described;
 mod engine;
 mod entries;
 mod figures;
@@ -11,7 +12,6 @@ pub mod laws;
 mod links;
 mod missing;
 mod page;
-mod told;
 
 pub use engine::Page;
 pub use page::page_text;

@@ -5,22 +5,27 @@ ghost use Rattle.html_text.specs.Pieces.{Appends};
 ghost use Rattle.html_page.specs.Shown.{Entered, Awaited};
 ghost use Rattle.html_page.specs.Templates.{link};
 ghost use Rattle.reg_op.specs.Text.{printed};
-ghost use Rattle.reg_page.specs.Page.{told_at, link_to};
+ghost use Rattle.reg_page.specs.Descriptions.{AscendById};
+ghost use Rattle.reg_page.specs.Page.{described_at, link_to};
 
-use crate::told::Told;
+use crate::described::Described;
 use html_page::{push_awaited_link, push_link};
 use reg_op::OpId;
 use reg_report::printed;
 use std::alloc::{AllocError, Global};
 
 /// What the page shows of an entry, if it was entered.
-pub fn told_at<'a>(told: &'a [Told], id: OpId) -> Option<&'a Told>
-    ensures { option_copied result ≡ told_at told.now id }
+pub fn described_at<'a>(described: &'a [Described], id: OpId) -> Option<&'a Described>
+    requires { AscendById described.now }
+    ensures { option_copied result ≡ described_at described.now id }
 {
-    told.iter().find(|one| one.id.is_same(&id))
+    match described.binary_search_by_key(&id, |one| one.id) {
+        Ok(place) => Some(&described[place]),
+        Err(_) => None,
+    }
 }
 
-fn push_known(page: &mut Vec<u8>, one: &Told) -> Result<(), AllocError>
+fn push_known(page: &mut Vec<u8>, one: &Described) -> Result<(), AllocError>
     ensures { OnOk result (Appends page.old.items page.new.items (link (Entered one.now.printed.items one.now.authority.items one.now.code.items))) }
 {
     push_link(page, &one.printed, &one.authority, &one.code)?;
@@ -39,12 +44,13 @@ fn push_unknown(alloc: Global, page: &mut Vec<u8>, id: OpId) -> Result<(), Alloc
 pub fn push_link_to(
     alloc: Global,
     page: &mut Vec<u8>,
-    told: &[Told],
+    described: &[Described],
     id: OpId,
 ) -> Result<(), AllocError>
-    ensures { OnOk result (Appends page.old.items page.new.items (link (link_to told.now id))) }
+    requires { AscendById described.now }
+    ensures { OnOk result (Appends page.old.items page.new.items (link (link_to described.now id))) }
 {
-    match told_at(told, id) {
+    match described_at(described, id) {
         Some(one) => {
             push_known(page, one)?;
             Ok(())

@@ -1,19 +1,23 @@
 //! The whole page.
 
-ghost use Rattle.std.specs.Prelude.{◌≡◌, map, IfOk, OnOk};
+ghost use Rattle.std.specs.Prelude.{◌≡◌, List, map, IfOk, OnOk};
 ghost use Rattle.html_text.specs.Pieces.{Appends};
 ghost use Rattle.html_page.specs.Templates.{page as page_pieces};
 ghost use Rattle.reg_report.specs.Contenders.{conflict_seen};
 ghost use Rattle.reg_op.specs.Text.{printed};
-ghost use Rattle.reg_page.specs.Page.{conflict_of, gap_of, entry_of, figures_of, shown_of, IsPage};
+ghost use Rattle.std.specs.List.Sorted.{IsSortedByKey};
+ghost use Rattle.reg_op.specs.Ids.{id_cmp};
+ghost use Rattle.reg_page.specs.declared.described.Described.{Described as OneDescribed};
+ghost use Rattle.reg_page.specs.Descriptions.{AscendById, InOrder};
+ghost use Rattle.reg_page.specs.Page.{subject, conflict_of, gap_of, entry_of, figures_of, shown_of, IsPage};
 ghost use Rattle.reg_page.specs.Parts.{top, open_ends, table};
 
-use crate::acts::acts;
+use crate::acts::acts_by_entry;
 use crate::conflicts::push_conflicts;
+use crate::described::{Described, all_described};
 use crate::entries::push_entries;
 use crate::figures::{count_retired, count_superseded, count_valid};
 use crate::missing::{push_all_awaited, push_gaps};
-use crate::told::{Told, all_told};
 use html_page::markup::{AFTER_FIGURES, ENTRIES_START};
 use html_page::{Figures, push_end, push_figures, push_head, push_mark};
 use reg_op::{Op, OpId};
@@ -23,18 +27,18 @@ use std::alloc::{AllocError, Global};
 
 fn figures_of(
     register: &Register,
-    told: &[Told],
+    described: &[Described],
     conflicts: &[Conflict],
     awaited: &[OpId],
     gaps: &[Gap],
 ) -> Figures
-    ensures { result ≡ figures_of register.now told.now (map conflict_seen conflicts.now) awaited.now gaps.now }
+    ensures { result ≡ figures_of register.now described.now (map conflict_seen conflicts.now) awaited.now gaps.now }
 {
     Figures {
-        entries: told.len(),
-        valid: count_valid(register, told),
-        superseded: count_superseded(register, told),
-        retired: count_retired(register, told),
+        entries: described.len(),
+        valid: count_valid(register, described),
+        superseded: count_superseded(register, described),
+        retired: count_retired(register, described),
         conflicts: conflicts.len(),
         awaited: awaited.len(),
         gaps: gaps.len(),
@@ -60,14 +64,15 @@ fn push_top(
 fn push_open_ends(
     alloc: Global,
     page: &mut Vec<u8>,
-    told: &[Told],
+    described: &[Described],
     conflicts: &[Conflict],
     awaited: &[OpId],
     gaps: &[Gap],
 ) -> Result<(), AllocError>
-    ensures { OnOk result (Appends page.old.items page.new.items (open_ends (map (conflict_of told.now) (map conflict_seen conflicts.now)) (map printed awaited.now) (map gap_of gaps.now))) }
+    requires { AscendById described.now }
+    ensures { OnOk result (Appends page.old.items page.new.items (open_ends (map (conflict_of described.now) (map conflict_seen conflicts.now)) (map printed awaited.now) (map gap_of gaps.now))) }
 {
-    push_conflicts(alloc, page, told, conflicts)?;
+    push_conflicts(alloc, page, described, conflicts)?;
     push_all_awaited(alloc, page, awaited)?;
     push_gaps(alloc, page, gaps)?;
     Ok(())
@@ -77,13 +82,15 @@ fn push_table(
     alloc: Global,
     page: &mut Vec<u8>,
     register: &Register,
-    told: &[Told],
+    described: &[Described],
     acts: &[Op],
 ) -> Result<(), AllocError>
-    ensures { OnOk result (Appends page.old.items page.new.items (table (map (entry_of register.now.ops told.now acts.now) told.now))) }
+    requires ascend { AscendById described.now }
+    requires sorted { IsSortedByKey subject id_cmp acts.now }
+    ensures { OnOk result ((rows : List OneDescribed) × InOrder described.now rows × Appends page.old.items page.new.items (table (map (entry_of register.now.ops described.now acts.now) rows))) }
 {
     push_mark(page, ENTRIES_START)?;
-    push_entries(alloc, page, register, told, acts)?;
+    push_entries(alloc, page, register, described, acts)?;
     push_end(page)?;
     Ok(())
 }
@@ -94,18 +101,20 @@ fn push_page(
     page: &mut Vec<u8>,
     register: &Register,
     title: &[u8],
-    told: &[Told],
+    described: &[Described],
     acts: &[Op],
     conflicts: &[Conflict],
     awaited: &[OpId],
     gaps: &[Gap],
 ) -> Result<(), AllocError>
-    ensures { OnOk result (Appends page.old.items page.new.items (page_pieces (shown_of register.now title.now told.now acts.now (map conflict_seen conflicts.now) awaited.now gaps.now))) }
+    requires ascend { AscendById described.now }
+    requires sorted { IsSortedByKey subject id_cmp acts.now }
+    ensures { OnOk result ((rows : List OneDescribed) × InOrder described.now rows × Appends page.old.items page.new.items (page_pieces (shown_of register.now title.now rows acts.now (map conflict_seen conflicts.now) awaited.now gaps.now))) }
 {
-    let figures = figures_of(register, told, conflicts, awaited, gaps);
+    let figures = figures_of(register, described, conflicts, awaited, gaps);
     push_top(alloc, page, title, &figures)?;
-    push_open_ends(alloc, page, told, conflicts, awaited, gaps)?;
-    push_table(alloc, page, register, told, acts)?;
+    push_open_ends(alloc, page, described, conflicts, awaited, gaps)?;
+    push_table(alloc, page, register, described, acts)?;
     Ok(())
 }
 
@@ -113,14 +122,14 @@ fn push_page(
 pub fn page_text(alloc: Global, register: &Register, title: &[u8]) -> Result<Vec<u8>, AllocError>
     ensures { IfOk result (λ text. IsPage title.now register.now text.items) }
 {
-    let told = all_told(alloc, register)?;
-    let acts = acts(alloc, register)?;
+    let described = all_described(alloc, register)?;
+    let acts = acts_by_entry(alloc, register)?;
     let conflicts = conflicts(alloc, register)?;
     let awaited = awaited(alloc, register)?;
     let gaps = gaps(alloc, register)?;
     let mut page = Vec::new(alloc);
     push_page(
-        alloc, &mut page, register, title, &told, &acts, &conflicts, &awaited, &gaps,
+        alloc, &mut page, register, title, &described, &acts, &conflicts, &awaited, &gaps,
     )?;
     Ok(page)
 }

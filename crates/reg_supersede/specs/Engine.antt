@@ -1,12 +1,9 @@
 -- What the command makes of a register and of its list, and why it makes nothing.
-use Rattle.std.specs.Prelude.{◌≡◌, ◌≤◌, ◌<◌, ◌+◌, ◌++◌, [], ◌∷◌, ℕ, Bool, List, length}
+use Rattle.std.specs.Prelude.{◌≡◌, ◌++◌, [], ◌∷◌, ℕ, Bool, List}
 use Rattle.byte_io.specs.Device.{SourceState}
-use Rattle.byte_io.specs.Whole.{FailsAfter}
-use Rattle.reg_file.specs.Files.{most, ReadsBytes}
+use Rattle.desk_files.specs.Bytes.{Gives, IsFileFault}
 use Rattle.reg_op.specs.Ids.{Id}
 use Rattle.reg_op.specs.Contents.{Content}
-use Rattle.reg_engine.specs.declared.fault.InputFault.{InputFault}
-use Rattle.reg_engine.specs.declared.fault.InputFault.TheVariants as file
 use Rattle.reg_engine.specs.declared.fault.CliFault.{CliFault}
 use Rattle.reg_engine.specs.declared.fault.CliFault.TheVariants as cli
 use Rattle.reg_engine.specs.declared.fault.Refusal.TheVariants as refusal
@@ -17,23 +14,6 @@ use Rattle.reg_supersede.specs.declared.order.LineFault.TheVariants as line
 use Rattle.reg_supersede.specs.declared.order.RefusedLine.{RefusedLine}
 use Rattle.reg_supersede.specs.Lines.{lines}
 use Rattle.reg_supersede.specs.Lists.{Task, rows_if, DoesAll, RefusesAll}
-
--- the source gave all its bytes, within the limit of a file
-abbrev pub Gives : SourceState → SourceState → List ℕ → Type 0
-Gives old new bytes = ReadsBytes old new bytes × (length bytes ≤ most)
-
--- or it did not, for this reason
-abbrev pub IsFileFault : InputFault → SourceState → SourceState → Type 0
-IsFileFault file.NotOpened old new = ⊥
-IsFileFault (file.ReadFailed n) old new = FailsAfter n (most + 1) old new
-IsFileFault file.TooLarge old new = (bytes : List ℕ) × ReadsBytes old new bytes × (most < length bytes)
-IsFileFault (file.BadFile f place) old new = ⊥
-
--- why the list, whose file has this number, was not read
-abbrev pub IsUnread : ℕ → SourceState → SourceState → CliFault → Type 0
-IsUnread number old new (cli.File k f) = (k ≡ number) × IsFileFault f old new
-IsUnread number old new cli.Memory = Unit {0}
-IsUnread number old new f = ⊥
 
 -- what holds of all lines, over the register before the first
 abbrev pub task : List ℕ → List ℕ → Bool → Bool → Content → Task

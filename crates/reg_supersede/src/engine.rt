@@ -6,15 +6,15 @@ ghost use Rattle.reg_engine.specs.Outputs.{id_lines};
 ghost use Rattle.reg_supersede.specs.Lines.{lines};
 ghost use Rattle.reg_supersede.specs.Lists.{DoesAll};
 ghost use Rattle.reg_supersede.specs.Effects.{after, ids_of, CanMake, IsListFault};
-ghost use Rattle.reg_supersede.specs.Engine.{Gives, IsUnread, task};
+ghost use Rattle.reg_supersede.specs.Engine.{task};
 
 use crate::lines::lines_of;
 use crate::list::{Listed, all_lines, leave_out};
 use crate::naming::rows_for;
 use crate::order::{LineFault, Order, RefusedLine};
-use byte_io::{InFault, Source, read_up_to};
-use reg_engine::{Change, CliFault, InputFault, Made, id_lines};
-use reg_file::MAX_FILE;
+use byte_io::Source;
+use desk_files::read_whole;
+use reg_engine::{Change, CliFault, Made, id_lines};
 use reg_office::Office;
 use reg_op::OpBody;
 use reg_state::Register;
@@ -31,29 +31,6 @@ pub struct SupersedeFrom<'a, S> {
     pub note: &'a str,
     pub keep_going: bool,
     pub refused: Vec<RefusedLine>,
-}
-
-// The bytes of the list, whose file has this number.
-fn bytes_of<S: Source>(alloc: Global, number: usize, list: &mut S) -> Result<Vec<u8>, CliFault>
-    ensures gives { IfOk result (λ bytes. Gives (S.state list.old) (S.state list.new) bytes.items) }
-    ensures fault { IfErr result (IsUnread number (S.state list.old) (S.state list.new)) }
-{
-    match read_up_to(alloc, list, MAX_FILE + 1) {
-        Ok(bytes) => {
-            if bytes.len() > MAX_FILE {
-                return Err(CliFault::File {
-                    number,
-                    fault: InputFault::TooLarge,
-                });
-            }
-            Ok(bytes)
-        }
-        Err(InFault::ReadFailed(n)) => Err(CliFault::File {
-            number,
-            fault: InputFault::ReadFailed(n),
-        }),
-        Err(InFault::Memory) => Err(CliFault::Memory),
-    }
 }
 
 const OUT_OF_MEMORY: RefusedLine = RefusedLine {
@@ -148,7 +125,7 @@ impl<S: Source> Change for SupersedeFrom<'_, S> {
     ghost rests = { λ a. refl };
 
     fn make(&mut self, alloc: Global, next: usize, register: Register) -> Result<Made, CliFault> {
-        let bytes = match bytes_of(alloc, next, self.list) {
+        let bytes = match read_whole(alloc, next, self.list) {
             Ok(bytes) => bytes,
             Err(fault) => return Err(fault),
         };

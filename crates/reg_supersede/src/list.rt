@@ -12,8 +12,9 @@ ghost use Rattle.reg_supersede.specs.Effects.{task_of, after, ids_of, ArePairs, 
 
 use crate::check::office_fault;
 use crate::lines::words_of;
-use crate::naming::{entries_of, fault_of_word};
+use crate::naming::fault_of_word;
 use crate::order::{Effects, LineFault, Order, Pair, RefusedLine};
+use reg_keys::entries_of;
 use reg_op::{OpBody, OpId};
 use std::alloc::{AllocError, Global};
 use std::collections::BTreeSet;

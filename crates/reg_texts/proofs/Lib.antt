@@ -6,3 +6,4 @@ mod SayingLemmas
 mod ListingLemmas
 mod HeadLemmas
 mod LawLemmas
+mod GivenLemmas

@@ -57,6 +57,10 @@ IsPairOf one other pair = (v : Version) × (w : Version) × IsVersionOf one v ×
 abbrev pub IsCompared : Id → Id → Content → List ℕ → Type 0
 IsCompared i j x text = (one : Row) × (other : Row) × HasRow (rows x.ops) i one × HasRow (rows x.ops) j other × IsPairOf one other text
 
+-- the key, the id and the status of an entry
+abbrev pub IsHeading : Id → Content → List ℕ → Type 0
+IsHeading i x head = (r : Row) × HasRow (rows x.ops) i r × IsHeadOf r head
+
 -- one of the two is no entry; or there is no memory
 abbrev pub IsUncompared : Id → Id → Content → Uncompared → Type 0
 IsUncompared i j x (why.UnknownEntry id) = ((id ≡ i) ⊎ (id ≡ j)) × ((r : Row) → ¬ (HasRow (rows x.ops) id r))
@@ -67,9 +71,9 @@ IsUncompared i j x why.Memory = Unit {0}
 abbrev pub seen_rows : List (Bor MadeRow) → List Row
 seen_rows rs = map (λ (r : Bor MadeRow). row_seen r.now) rs
 
--- the row, if it has the key and its entry is not retired
-abbrev pub IsAnswer : List ℕ → Row → List Row → Type 0
-IsAnswer key r mine = (Answers key r × (mine ≡ r ∷ [])) ⊎ ((¬ (Answers key r)) × (mine ≡ []))
+-- the row, if P holds for it
+abbrev pub IsChosen : (Row → Type 0) → Row → List Row → Type 0
+IsChosen P r mine = (P r × (mine ≡ r ∷ [])) ⊎ ((¬ (P r)) × (mine ≡ []))
 
 -- the first of some entries against each of the others, in order; there is no text without one
 abbrev pub IsFirstAgainst : List Row → Option (Vec ℕ) → Type 0
@@ -80,4 +84,4 @@ IsFirstAgainst (r ∷ rs) (Some text) = Each (IsPairOf r) rs text.items
 
 -- of the entries of the key that are not retired, by id, the first against each of the others
 abbrev pub IsKeyCompared : List ℕ → Content → Option (Vec ℕ) → Type 0
-IsKeyCompared key x text = (found : List Row) × Each (IsAnswer key) (rows x.ops) found × IsFirstAgainst found text
+IsKeyCompared key x text = (found : List Row) × Each (IsChosen (Answers key)) (rows x.ops) found × IsFirstAgainst found text

@@ -3,3 +3,4 @@ pub mod Listing
 pub mod Gathered
 pub mod Texts
 pub mod Compare
+pub mod Given

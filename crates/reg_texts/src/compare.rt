@@ -1,15 +1,15 @@
 //! What differs between the texts of entries.
 
-ghost use Rattle.std.specs.Prelude.{◌≡◌, ◌++◌, ◌↔◌, ℕ, List, map, IsTrue, IfOk, IfErr, OnOk};
+ghost use Rattle.std.specs.Prelude.{◌≡◌, ◌++◌, ℕ, List, IfOk, IfErr, OnOk};
 ghost use Rattle.reg_op.specs.Rows.{Row as OneRow};
 ghost use Rattle.reg_report.specs.Seen.{row_seen};
-ghost use Rattle.reg_keys.specs.Named.{Answers};
 ghost use Rattle.reg_texts.specs.Gathered.{Each};
-ghost use Rattle.reg_texts.specs.Compare.{IsCompared, IsUncompared, IsKeyCompared, IsPairOf, IsAnswer, IsVersionOf, seen_rows};
+ghost use Rattle.reg_texts.specs.Compare.{IsCompared, IsHeading, IsUncompared, IsKeyCompared, IsPairOf, IsVersionOf, seen_rows};
 
-use crate::row::{find_row, is_live, rows_by_entry};
-use crate::version::{Version, push_pair, version_of};
-use reg_keys::has_key;
+use crate::choice::{OfWord, chosen};
+use crate::row::find_row;
+use crate::version::{Version, head_of, push_pair, version_of};
+use reg_keys::rows_in_order;
 use reg_op::OpId;
 use reg_report::Row;
 use reg_state::Register;
@@ -33,7 +33,7 @@ pub fn compared_text(
     ensures ok { IfOk result (λ text. IsCompared one other register.now text.items) }
     ensures fault { IfErr result (IsUncompared one other register.now) }
 {
-    let Ok(rows) = rows_by_entry(alloc, register) else {
+    let Ok(rows) = rows_in_order(alloc, register) else {
         return Err(Uncompared::Memory);
     };
     let Some(first) = find_row(&rows, one) else {
@@ -43,6 +43,23 @@ pub fn compared_text(
         return Err(Uncompared::UnknownEntry(other));
     };
     match pair_text(alloc, first, second) {
+        Ok(text) => Ok(text),
+        Err(_) => Err(Uncompared::Memory),
+    }
+}
+
+/// The key, the id and the status of an entry, as in the head of a diff.
+pub fn heading(alloc: Global, register: &Register, entry: OpId) -> Result<Vec<u8>, Uncompared>
+    ensures ok { IfOk result (λ text. IsHeading entry register.now text.items) }
+    ensures fault { IfErr result (IsUncompared entry entry register.now) }
+{
+    let Ok(rows) = rows_in_order(alloc, register) else {
+        return Err(Uncompared::Memory);
+    };
+    let Some(row) = find_row(&rows, entry) else {
+        return Err(Uncompared::UnknownEntry(entry));
+    };
+    match head_of(alloc, row) {
         Ok(text) => Ok(text),
         Err(_) => Err(Uncompared::Memory),
     }
@@ -67,42 +84,13 @@ pub fn compared_key(
 ) -> Result<Option<Vec<u8>>, AllocError>
     ensures { IfOk result (IsKeyCompared key.now register.now) }
 {
-    let rows = rows_by_entry(alloc, register)?;
-    let found = answering(alloc, &rows, key)?;
+    let rows = rows_in_order(alloc, register)?;
+    let found = chosen(alloc, &rows, &OfWord { key })?;
     let Some((first, others)) = found.split_first() else {
         return Ok(None);
     };
     let text = texts_against(alloc, first, others)?;
     Ok(Some(text))
-}
-
-// The rows of the key whose entries are not retired, by id.
-fn answering<'a>(alloc: Global, rows: &'a [Row], key: &[u8]) -> Result<Vec<&'a Row>, AllocError>
-    ensures { IfOk result (λ found. Each (IsAnswer key.now) (map row_seen rows.now) (seen_rows found.items)) }
-{
-    let mut found = Vec::new(alloc);
-    let mut rest = rows;
-    while let Some((row, others)) = rest.split_first() {
-        push_answer(&mut found, key, row)?;
-        rest = others;
-    }
-    Ok(found)
-}
-
-fn push_answer<'a>(found: &mut Vec<&'a Row>, key: &[u8], row: &'a Row) -> Result<(), AllocError>
-    ensures { OnOk result ((mine : List OneRow) × IsAnswer key.now (row_seen row.now) mine × (seen_rows found.new.items ≡ seen_rows found.old.items ++ mine)) }
-{
-    if !answers(row, key) {
-        return Ok(());
-    }
-    found.push(row)?;
-    Ok(())
-}
-
-fn answers(row: &Row, key: &[u8]) -> bool
-    ensures { IsTrue result ↔ Answers key.now (row_seen row.now) }
-{
-    has_key(row, key) && is_live(row)
 }
 
 // What differs between the text of the first and that of each of the others, one after another.

@@ -1,6 +1,6 @@
-//! Keys of rows, and how they are written.
+//! Keys of definitions and rows, and how they are written.
 
-ghost use Rattle.std.specs.Prelude.{◌≡◌, ◌++◌, ◌∷◌, [], map, OnOk};
+ghost use Rattle.std.specs.Prelude.{◌≡◌, ◌↔◌, ◌++◌, ◌∷◌, [], map, IsTrue, OnOk};
 ghost use Rattle.reg_report.specs.Conflicts.{HasKey};
 ghost use Rattle.reg_report.specs.Seen.{row_seen};
 ghost use Rattle.reg_texts.specs.Said.{key_bytes};
@@ -8,6 +8,7 @@ ghost use Rattle.reg_texts.specs.Listing.{key_text, on_line};
 
 use reg_report::Row;
 use std::alloc::AllocError;
+use wkt_crs::Definition;
 
 /// The bytes of a key, ordered by the authority and then by the code.
 #[derive(Clone, Copy, PartialEq, Eq, PartialOrd, Ord)]
@@ -16,15 +17,29 @@ pub struct KeyText<'a> {
     pub code: &'a [u8],
 }
 
-/// The key of a row.
-pub fn key_of(row: &Row) -> KeyText<'_>
-    ensures { HasKey (row_seen row.now).definition (key_bytes result) }
+/// The key of a definition.
+pub fn key_in(definition: &Definition) -> KeyText<'_>
+    ensures { HasKey definition.now (key_bytes result) }
 {
-    let key = row.definition.key();
+    let key = definition.key();
     KeyText {
         authority: key.authority.as_bytes(),
         code: key.code.as_bytes(),
     }
+}
+
+/// The key of a row.
+pub fn key_of(row: &Row) -> KeyText<'_>
+    ensures { HasKey (row_seen row.now).definition (key_bytes result) }
+{
+    key_in(&row.definition)
+}
+
+/// Whether both are one key.
+pub fn is_same_key(one: &KeyText, other: &KeyText) -> bool
+    ensures { IsTrue result ↔ (key_bytes one.now ≡ key_bytes other.now) }
+{
+    one.authority == other.authority && one.code == other.code
 }
 
 /// Appends the authority, a colon and the code, on one line.
@@ -37,8 +52,8 @@ pub fn push_key(text: &mut Vec<u8>, key: &KeyText) -> Result<(), AllocError>
     Ok(())
 }
 
-// Appends the bytes, with a space in the place of each line break.
-fn push_on_line(text: &mut Vec<u8>, bytes: &[u8]) -> Result<(), AllocError>
+/// Appends the bytes, with a space in the place of each line break.
+pub fn push_on_line(text: &mut Vec<u8>, bytes: &[u8]) -> Result<(), AllocError>
     ensures { OnOk result (text.new.items ≡ text.old.items ++ map on_line bytes.now) }
 {
     for byte in bytes {

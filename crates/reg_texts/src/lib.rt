@@ -1,8 +1,11 @@
 //! What a register says: its texts, by key, each with its status; and what differs between the texts of entries.
 #![tactic(auto)]
 
+mod against;
+mod choice;
 mod compare;
 mod gathering;
+mod given;
 mod key;
 pub mod laws;
 mod listing;
@@ -11,5 +14,6 @@ mod saying;
 mod texts;
 mod version;
 
-pub use compare::{Uncompared, compared_key, compared_text};
+pub use against::{Unread, compared_texts};
+pub use compare::{Uncompared, compared_key, compared_text, heading};
 pub use texts::texts_of;

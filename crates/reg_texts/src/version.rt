@@ -29,7 +29,8 @@ pub fn version_of(alloc: Global, row: &Row) -> Result<Version, AllocError>
     Ok(Version { head, text })
 }
 
-fn indented(alloc: Global, definition: &Definition) -> Result<Vec<u8>, AllocError>
+/// The indented text of a definition.
+pub fn indented(alloc: Global, definition: &Definition) -> Result<Vec<u8>, AllocError>
     ensures { IfOk result (λ text. (crs : Crs) × IsCrsOf crs definition.now × (text.items ≡ pretty crs)) }
 {
     let crs = definition.crs(alloc)?;
@@ -37,8 +38,8 @@ fn indented(alloc: Global, definition: &Definition) -> Result<Vec<u8>, AllocErro
     Ok(text)
 }
 
-// The key, the id and the status of an entry.
-fn head_of(alloc: Global, row: &Row) -> Result<Vec<u8>, AllocError>
+/// The key, the id and the status of an entry.
+pub fn head_of(alloc: Global, row: &Row) -> Result<Vec<u8>, AllocError>
     ensures { IfOk result (λ head. IsHeadOf (row_seen row.now) head.items) }
 {
     let mut head = Vec::new(alloc);
@@ -69,15 +70,16 @@ pub fn push_pair(
     Ok(())
 }
 
-fn is_none(text: &[u8]) -> bool
-    ensures none { result ≡ true → text.now ≡ [] }
-    ensures some { result ≡ false → text.now ≢ [] }
+/// Whether the list has no item.
+pub fn is_none<T>(items: &[T]) -> bool
+    ensures none { result ≡ true → items.now ≡ [] }
+    ensures some { result ≡ false → items.now ≢ [] }
 {
-    text.is_empty()
+    items.is_empty()
 }
 
-// Appends a line: the sign and the head.
-fn push_head(text: &mut Vec<u8>, sign: &[u8], head: &[u8]) -> Result<(), AllocError>
+/// Appends a line: the sign and the head.
+pub fn push_head(text: &mut Vec<u8>, sign: &[u8], head: &[u8]) -> Result<(), AllocError>
     ensures { OnOk result (text.new.items ≡ text.old.items ++ (sign.now ++ head.now ++ 10 ∷ [])) }
 {
     text.extend_from_slice(sign)?;

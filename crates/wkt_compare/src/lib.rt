@@ -10,4 +10,4 @@ mod writing;
 
 pub use lines::lines_of;
 pub use steps::{Line, Side, compared};
-pub use writing::unified;
+pub use writing::{added, unified};

@@ -1,35 +1,12 @@
 //! The bytes of files of texts.
 
 ghost use Rattle.std.specs.Prelude.{◌≡◌, ◌++◌, ◌∷◌, [], map, IfOk, OnOk, IfErr};
-ghost use Rattle.reg_desk.specs.ImportFiles.{Gives, IsUnread, bytes_of, GiveAll, AreUnread};
+ghost use Rattle.reg_desk.specs.ImportFiles.{bytes_of, GiveAll, AreUnread};
 
-use byte_io::{InFault, Source, read_up_to};
-use reg_engine::{CliFault, InputFault};
-use reg_file::MAX_FILE;
+use byte_io::Source;
+use desk_files::read_whole;
+use reg_engine::CliFault;
 use std::alloc::Global;
-
-// The bytes of the file with this number.
-fn read_one<F: Source>(alloc: Global, number: usize, file: &mut F) -> Result<Vec<u8>, CliFault>
-    ensures gives { IfOk result (λ bytes. Gives (F.state file.old) (F.state file.new) bytes.items) }
-    ensures fault { IfErr result (IsUnread number (F.state file.old) (F.state file.new)) }
-{
-    match read_up_to(alloc, file, MAX_FILE + 1) {
-        Ok(bytes) => {
-            if bytes.len() > MAX_FILE {
-                return Err(CliFault::File {
-                    number,
-                    fault: InputFault::TooLarge,
-                });
-            }
-            Ok(bytes)
-        }
-        Err(InFault::ReadFailed(n)) => Err(CliFault::File {
-            number,
-            fault: InputFault::ReadFailed(n),
-        }),
-        Err(InFault::Memory) => Err(CliFault::Memory),
-    }
-}
 
 /// The bytes of each file, in order; the first file has this number.
 pub fn read_files<F: Source>(
@@ -45,7 +22,7 @@ pub fn read_files<F: Source>(
         let Some(number) = first.checked_add(i) else {
             return Err(CliFault::Memory);
         };
-        let bytes = match read_one(alloc, number, &mut files[i]) {
+        let bytes = match read_whole(alloc, number, &mut files[i]) {
             Ok(bytes) => bytes,
             Err(fault) => return Err(fault),
         };

@@ -1,4 +1,4 @@
-use Rattle.reg_desk.proofs.KeyedLemmas.{log_is, no_log_is}
+use Rattle.reg_desk.proofs.LoggedLemmas.{log_is, no_log_is}
 use Rattle.reg_desk.proofs.laws.a_log_of_words_is_that_of_their_entries.Goals as goal
 
 pub returns : goal.returns

@@ -11,4 +11,4 @@ returns c =
     let k = c.args.one.now in
     next
     (as_others _ (conflict_start k.authority.bytes k.code.bytes) (λ j. conflict_start (c.as_bytes.ensures j) (c.as_bytes-2.ensures j)) c.in_ok-push_conflict_start.ensures)
-    (as_others _ (flat_map pair (pairs_among c.args.told.now k.entries.items)) (λ j. flat_map pair (pairs_among c.args.told.now (c.deref.ensures.value j))) c.in_ok-push_pairs.ensures)
+    (as_others _ (flat_map pair (pairs_among c.args.described.now k.entries.items)) (λ j. flat_map pair (pairs_among c.args.described.now (c.deref.ensures.value j))) c.in_ok-push_pairs.ensures)

@@ -11,5 +11,5 @@ returns c =
     let u = c.args.other.now in
     next (next
     (as_others _ (side_start t.printed.items t.note.items) (λ j. side_start (c.deref.ensures.value j) (c.deref-2.ensures.value j)) c.in_ok-push_side_start.ensures)
-    (as_others _ (flat_map word (compared t.described.text.items u.described.text.items)) (λ j. flat_map word (compared (c.deref-3.ensures.value j) (c.deref-4.ensures.value j))) c.in_ok-push_compared.ensures))
+    (as_others _ (flat_map word (compared t.system.text.items u.system.text.items)) (λ j. flat_map word (compared (c.deref-3.ensures.value j) (c.deref-4.ensures.value j))) c.in_ok-push_compared.ensures))
     c.in_ok-push_mark.ensures

@@ -2,7 +2,7 @@ use Rattle.reg_page.proofs.EventLemmas.{link_known, link_unknown}
 use Rattle.reg_page.proofs.links.push_link_to.Goals as goal
 
 pub returns-in_ok-push_known-in-Some : goal.returns-in_ok-push_known-in-Some
-returns-in_ok-push_known-in-Some c = link_known c.args.told.now c.args.id c.in-Some.one.now c.in-Some.ensures c.in_ok-push_known-in-Some.ensures
+returns-in_ok-push_known-in-Some c = link_known c.args.described.now c.args.id c.in-Some.one.now c.in-Some.ensures c.in_ok-push_known-in-Some.ensures
 
 pub returns-in_ok-push_unknown-in-None : goal.returns-in_ok-push_unknown-in-None
-returns-in_ok-push_unknown-in-None c = link_unknown c.args.told.now c.args.id c.in-None.ensures c.in_ok-push_unknown-in-None.ensures
+returns-in_ok-push_unknown-in-None c = link_unknown c.args.described.now c.args.id c.in-None.ensures c.in_ok-push_unknown-in-None.ensures

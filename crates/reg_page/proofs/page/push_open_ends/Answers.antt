@@ -9,6 +9,6 @@ use Rattle.reg_page.proofs.page.push_open_ends.Goals as goal
 
 pub returns : goal.returns
 returns c =
-    let contested = as_others _ (section CONFLICTS_START.now conflict CONFLICTS_END.now (map (conflict_of c.args.told.now) (map conflict_seen c.args.conflicts.now)))
-    (ap (section CONFLICTS_START.now conflict CONFLICTS_END.now) (twice (conflict_of c.args.told.now) conflict_seen c.args.conflicts.now)) c.in_ok-push_conflicts.ensures in
+    let contested = as_others _ (section CONFLICTS_START.now conflict CONFLICTS_END.now (map (conflict_of c.args.described.now) (map conflict_seen c.args.conflicts.now)))
+    (ap (section CONFLICTS_START.now conflict CONFLICTS_END.now) (twice (conflict_of c.args.described.now) conflict_seen c.args.conflicts.now)) c.in_ok-push_conflicts.ensures in
     next (next contested c.in_ok-push_all_awaited.ensures) c.in_ok-push_gaps.ensures

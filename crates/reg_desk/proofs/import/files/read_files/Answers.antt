@@ -13,20 +13,20 @@ pub returns-in-Err-clause-fault : goal.returns-in-Err-clause-fault
 returns-in-Err-clause-fault g c =
     let was = c.loop-i.invariant in
     let at : c.in-Some.number ≡ c.args.first + c.loop-i.i = search rules in
-    unread_next g.F.Source.state c.args.files.now c.loop-i.files c.args.first c.loop-i.i c.in-Some.number c.index-files-i.result c.read_one.new.file (bytes_of c.loop-i.all.items)
+    unread_next g.F.Source.state c.args.files.now c.loop-i.files c.args.first c.loop-i.i c.in-Some.number c.index-files-i.result c.read_whole.new.file (bytes_of c.loop-i.all.items)
     c.loop-i-test.true was.size was.front was.back at c.in-Err.fault c.in-Err.ensures.fault
 
 pub returns-in-Err-push-clause-fault : goal.returns-in-Err-push-clause-fault
 returns-in-Err-push-clause-fault g c =
     let was = c.loop-i.invariant in
-    none_fails_next g.F.Source.state c.args.files.now c.loop-i.files c.loop-i.i c.index-files-i.result c.read_one.new.file (bytes_of c.loop-i.all.items)
+    none_fails_next g.F.Source.state c.args.files.now c.loop-i.files c.loop-i.i c.index-files-i.result c.read_whole.new.file (bytes_of c.loop-i.all.items)
     c.loop-i-test.true was.size was.front was.back (gave_some _ _ c.in-Ok.bytes.items c.in-Ok.ensures.gives)
 
 pub loop-i-preserved : goal.loop-i-preserved
 loop-i-preserved g c =
     let was = c.loop-i.invariant in record {
-      front = gave_next g.F.Source.state c.args.files.now c.loop-i.files c.loop-i.i c.index-files-i.result c.read_one.new.file (bytes_of c.loop-i.all.items) (bytes_of c.push.new.self.items) c.in-Ok.bytes.items
+      front = gave_next g.F.Source.state c.args.files.now c.loop-i.files c.loop-i.i c.index-files-i.result c.read_whole.new.file (bytes_of c.loop-i.all.items) (bytes_of c.push.new.self.items) c.in-Ok.bytes.items
           c.loop-i-test.true was.size was.front was.back c.in-Ok.ensures.gives (ap bytes_of c.in_default-push.ensures.items ∙ map_push _ c.loop-i.all.items c.in-Ok.bytes);
-      back = behind g.F.Source.state c.args.files.now c.loop-i.files c.loop-i.i c.read_one.new.file was.size was.back;
+      back = behind g.F.Source.state c.args.files.now c.loop-i.files c.loop-i.i c.read_whole.new.file was.size was.back;
       size = search rules;
     }

@@ -1,0 +1,37 @@
+-- Texts of a file that are compared with a register: what is read and written.
+use Rattle.std.specs.Prelude.{◌≡◌, ◌≢◌, ◌⊎◌, ◌↔◌, ℕ, Bool, List, [], IsTrue}
+use Rattle.byte_io.specs.Device.{SourceState, SinkState}
+use Rattle.byte_io.specs.Whole.{WritesAll}
+use Rattle.desk_files.specs.Bytes.{Gives, IsUnread}
+use Rattle.reg_op.specs.Contents.{Content}
+use Rattle.reg_engine.specs.declared.fault.CliFault.{CliFault}
+use Rattle.reg_engine.specs.declared.fault.CliFault.TheVariants as cli
+use Rattle.reg_engine.specs.Store.{Around, AreCut}
+use Rattle.reg_texts.specs.declared.against.Unread.TheVariants as unread
+use Rattle.reg_texts.specs.Given.{IsFileAgainst, IsFileUnread}
+use Rattle.desk_texts.specs.declared.with.WithFault.{WithFault}
+use Rattle.desk_texts.specs.declared.with.WithFault.TheVariants as with
+
+-- a register was read, and a file; what differs between each text of the file and the entries of its key was written, and the
+-- answer is whether anything was
+abbrev pub IsComparedWithFile : Around → List ℕ → SourceState → SourceState → SinkState → SinkState → Bool → Type 0
+IsComparedWithFile a name old new before after any = (x : Content) × (bytes : List ℕ) × (text : List ℕ) × a.came x × Gives old new bytes × IsFileAgainst name bytes x text
+    × (IsTrue any ↔ (text ≢ [])) × WritesAll text before after
+
+-- the fault of a text, in a file of these bytes with this number; or memory ran out
+abbrev pub IsRefusedIn : ℕ → List ℕ → WithFault → Type 0
+IsRefusedIn number bytes (with.Cli f) = f ≡ cli.Memory
+IsRefusedIn number bytes (with.Refused f at place len k) = (k ≡ number) × IsFileUnread bytes (unread.Refused f at place len)
+
+-- the fault is none of a text
+abbrev pub IsCli : (CliFault → Type 0) → WithFault → Type 0
+IsCli Is (with.Cli f) = Is f
+IsCli Is (with.Refused f at place len k) = ⊥
+
+-- no register was read, and nothing else was; or the file was not read; or a text of it is no definition; or what differs was not
+-- completely written
+abbrev pub IsUncomparedWith : Around → ℕ → List ℕ → SourceState → SourceState → SinkState → SinkState → WithFault → Type 0
+IsUncomparedWith a next name old new before after w = (IsCli a.none w × (new ≡ old) × (after ≡ before))
+    ⊎ ((x : Content) × a.came x × ((IsCli (IsUnread next old new) w × (after ≡ before))
+    ⊎ ((bytes : List ℕ) × Gives old new bytes × ((IsRefusedIn next bytes w × (after ≡ before))
+    ⊎ ((text : List ℕ) × IsFileAgainst name bytes x text × IsCli (AreCut text before after) w)))))

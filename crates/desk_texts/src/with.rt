@@ -1,0 +1,83 @@
+//! The command `compare --with`.
+
+ghost use Rattle.std.specs.Prelude.{ℕ, List, IfOk, IfErr};
+ghost use Rattle.reg_texts.specs.Given.{IsFileUnread};
+ghost use Rattle.desk_texts.specs.With.{IsRefusedIn, IsComparedWithFile, IsUncomparedWith};
+
+use crate::differs::has_any;
+use byte_io::{Sink, Source, write_all};
+use desk_files::read_whole;
+use reg_engine::{CliFault, OutFault, Store};
+use reg_texts::{Unread, compared_texts};
+use std::alloc::Global;
+use wkt_crs::DefinitionFault;
+
+/// Why the texts of a file are not compared with a register.
+#[derive(Clone, Copy, Debug, PartialEq, Eq)]
+pub enum WithFault {
+    Cli(CliFault),
+    /// A text of the file with this number is no definition, for this reason.
+    Refused {
+        fault: DefinitionFault,
+        /// The offset in the file of the fault, or of the text's first byte if the fault has no place.
+        at: usize,
+        /// The offset in the file of the text's first byte.
+        place: usize,
+        /// The length of the text in bytes.
+        len: usize,
+        file: usize,
+    },
+}
+
+/// Loads the register, reads the file after it, writes what differs between each text of the file and the entries of its key, and
+/// answers whether anything does. `name` names the file in the heads.
+pub fn run_compared_with<T: Store, S: Source, K: Sink>(
+    alloc: Global,
+    store: &mut T,
+    name: &[u8],
+    file: &mut S,
+    sink: &mut K,
+) -> Result<bool, WithFault>
+    ensures same { T.same store.old store.new }
+    ensures printed { IfOk result (IsComparedWithFile (T.around store.old store.new) name.now (S.state file.old) (S.state file.new) (K.state sink.old) (K.state sink.new)) }
+    ensures fault { IfErr result (IsUncomparedWith (T.around store.old store.new) (T.next store.old) name.now (S.state file.old) (S.state file.new) (K.state sink.old) (K.state sink.new)) }
+{
+    let next = store.next();
+    let register = match store.load(alloc) {
+        Ok(register) => register,
+        Err(fault) => return Err(WithFault::Cli(fault)),
+    };
+    let bytes = match read_whole(alloc, next, file) {
+        Ok(bytes) => bytes,
+        Err(fault) => return Err(WithFault::Cli(fault)),
+    };
+    let text = match compared_texts(alloc, &register, name, &bytes) {
+        Ok(text) => text,
+        Err(why) => return Err(refused_in(next, why)),
+    };
+    match write_all(sink, &text) {
+        Ok(()) => Ok(has_any(&text)),
+        Err(fault) => Err(WithFault::Cli(CliFault::Out(OutFault::WriteFailed(fault.written)))),
+    }
+}
+
+// The fault of a text in the file with this number.
+fn refused_in(file: usize, why: Unread) -> WithFault
+    ensures { (bytes : List ℕ) → IsFileUnread bytes why → IsRefusedIn file bytes result }
+{
+    match why {
+        Unread::Refused {
+            fault,
+            at,
+            place,
+            len,
+        } => WithFault::Refused {
+            fault,
+            at,
+            place,
+            len,
+            file,
+        },
+        Unread::Memory => WithFault::Cli(CliFault::Memory),
+    }
+}

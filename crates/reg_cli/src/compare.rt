@@ -1,0 +1,144 @@
+//! `compare`: what differs between the texts of entries, and of a file.
+use crate::look::told;
+use crate::outcome::Outcome;
+use crate::stores::{Opened, differs_of, next_file, open_register};
+use crate::words::{entry, open_text, word};
+use clap::ArgMatches;
+use desk_texts::{Compare, CompareKey, CompareWith, WithFault, run_compared_with};
+use reg_desk::{
+    ByWord, CliFault, ImportFault, Kept, OfFile, OnShelf, OpId, Problem, Source, Unimported,
+    Writing, explain_within,
+};
+use std::alloc::Global;
+use std::fs::OpenFile;
+use std::io::{self, Read, Seek, Write};
+
+/// The message if an id is compared with nothing.
+const ALONE: &str =
+    "error: compare takes a key, or two entries, or --with FILE: an id alone is compared with nothing";
+
+/// `compare`.
+pub fn compare(rt: &HostRuntime, matches: &ArgMatches<'_>) -> Outcome {
+    if let Some(path) = matches.get_str("with") {
+        return compare_with(rt, matches, path);
+    }
+    if matches.get_str("OTHER").is_none()
+        && OpId::parse(word(matches, "ENTRY").as_bytes()).is_some()
+    {
+        return Outcome::Misuse(ALONE);
+    }
+    told(matches, compared(rt, matches))
+}
+
+// Two entries, or those of a key.
+fn compared(rt: &HostRuntime, matches: &ArgMatches<'_>) -> Result<bool, CliFault> {
+    let one = word(matches, "ENTRY");
+    let Some(other) = matches.get_str("OTHER") else {
+        let key = one.as_bytes();
+        return differs_of(rt, matches, &CompareKey { key });
+    };
+    if matches.get_flag("keys") {
+        let command = CompareWith {
+            word: other.as_bytes(),
+        };
+        let word = one.as_bytes();
+        return differs_of(
+            rt,
+            matches,
+            &ByWord {
+                word,
+                command: &command,
+            },
+        );
+    }
+    match entry(one) {
+        Ok(one) => compared_to(rt, matches, one, other),
+        Err(fault) => Err(fault),
+    }
+}
+
+// An entry, and the one with this id.
+fn compared_to(
+    rt: &HostRuntime,
+    matches: &ArgMatches<'_>,
+    one: OpId,
+    other: &str,
+) -> Result<bool, CliFault> {
+    match entry(other) {
+        Ok(other) => differs_of(rt, matches, &Compare { one, other }),
+        Err(fault) => Err(fault),
+    }
+}
+
+// `compare --with`. The file is opened after the register, and read after it.
+fn compare_with(rt: &HostRuntime, matches: &ArgMatches<'_>, path: &str) -> Outcome {
+    let mut register = match open_register(rt, rt.alloc(), matches, "REG", &None) {
+        Ok(register) => register,
+        Err(fault) => return Outcome::Fault(fault),
+    };
+    let mut text = match open_text(rt, next_file(&register), path) {
+        Ok(file) => Kept::new(rt.alloc(), file),
+        Err(fault) => return Outcome::Fault(fault),
+    };
+    let mut sink = Writing::new(io::writer(rt));
+    match compared_with(rt.alloc(), &mut register, path, &mut text, &mut sink) {
+        Ok(differs) => told(matches, Ok(differs)),
+        Err(why) => uncompared(rt.alloc(), matches, path, &text, why),
+    }
+}
+
+fn compared_with<F: Read + Write + Seek + OpenFile, S: Source, W: Write>(
+    alloc: Global,
+    register: &mut Opened<F>,
+    path: &str,
+    text: &mut S,
+    sink: &mut Writing<W>,
+) -> Result<bool, WithFault> {
+    match register {
+        Opened::File(source) => {
+            let mut store = OfFile { source };
+            run_compared_with(alloc, &mut store, path.as_bytes(), text, sink)
+        }
+        Opened::Shelf(disk) => {
+            let mut store = OnShelf { disk };
+            run_compared_with(alloc, &mut store, path.as_bytes(), text, sink)
+        }
+    }
+}
+
+// A text that cannot be read is refused as by `import`.
+fn uncompared<S: Source>(
+    alloc: Global,
+    matches: &ArgMatches<'_>,
+    path: &str,
+    text: &Kept<S>,
+    why: WithFault,
+) -> Outcome {
+    match why {
+        WithFault::Cli(fault) => Outcome::Fault(fault),
+        WithFault::Refused {
+            fault,
+            at,
+            place,
+            len,
+            file,
+        } => {
+            let end = place.saturating_add(len);
+            let bytes = text.bytes().unwrap_or(&[]);
+            let notes = if matches.get_flag("explain") {
+                explain_within(alloc, path, bytes, place, end, fault)
+            } else {
+                Ok(Vec::new(alloc))
+            };
+            let Ok(notes) = notes else {
+                return Outcome::Fault(CliFault::Memory);
+            };
+            let fault = ImportFault::Refused {
+                problem: Problem::Unread(fault),
+                place: at,
+                file,
+            };
+            Outcome::Import(Unimported { fault, notes })
+        }
+    }
+}

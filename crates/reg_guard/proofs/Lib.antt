@@ -1,0 +1,2 @@
+mod KeepingLemmas
+mod StoreLemmas

@@ -1,0 +1,105 @@
+//! Keeps a register, after the office file got its greatest own number.
+
+ghost use Rattle.std.specs.Prelude.{◌≡◌, IfOk, OnOk, IfErr, option_map};
+ghost use Rattle.reg_op.specs.Contents.{Content};
+ghost use Rattle.reg_engine.specs.Shelf.{disks, Has, IsSure};
+ghost use Rattle.reg_number.specs.Text.{office_text};
+ghost use Rattle.reg_guard.specs.Behind.{next_of};
+ghost use Rattle.reg_guard.specs.Keeping.{PublishesNumbered, IsUnpublishedNumbered, KeepsNumbered, IsUnkeptNumbered, unkept_fault};
+
+use crate::lag::next_number;
+use byte_disk::Disk;
+use byte_out::Place;
+use reg_engine::{CliFault, OutFault, keep_on};
+use reg_file::{WriteFileFault, write_bytes};
+use reg_number::{LastNumber, NoteFault, NumberedFault, put_number, replace_numbered};
+use reg_state::Register;
+use std::alloc::{AllocError, Global};
+
+/// Why a register was not kept.
+#[derive(Clone, Copy, Debug, PartialEq, Eq)]
+pub enum Unkept {
+    /// The fault of the store.
+    Store(CliFault),
+    /// The office file was not replaced, or a power cut may undo that.
+    Unnoted(NoteFault),
+}
+
+// The text of the office file for a register.
+fn number_text(alloc: Global, last: &LastNumber, register: &Register) -> Result<Vec<u8>, AllocError>
+    ensures { IfOk result (λ text. text.items ≡ office_text (next_of last.now register.now)) }
+{
+    let mut text = Vec::new(alloc);
+    next_number(last, register).write_to(&mut text)?;
+    Ok(text)
+}
+
+/// Makes the register's file ready, replaces the office file, and then the register's file, unless that was read and has changed.
+pub fn publish_numbered<P: Place, Q: Place>(
+    alloc: Global,
+    last: &LastNumber,
+    register: &Register,
+    read: Option<&[u8]>,
+    place: &mut P,
+    office: &mut Q,
+) -> Result<(), Unkept>
+    ensures published { OnOk result (PublishesNumbered last.now register.now (option_map (λ s. s.now) read.entry)
+        (P.state place.old) (P.state place.new) (Q.state office.old) (Q.state office.new)) }
+    ensures fault { IfErr result (IsUnpublishedNumbered last.now register.now (option_map (λ s. s.now) read.entry)
+        (P.state place.old) (P.state place.new) (Q.state office.old) (Q.state office.new)) }
+{
+    let Ok(text) = number_text(alloc, last, register) else {
+        return Err(Unkept::Store(CliFault::Memory));
+    };
+    let bytes = match write_bytes(alloc, register) {
+        Ok(bytes) => bytes,
+        Err(WriteFileFault::TooLarge) => {
+            return Err(Unkept::Store(CliFault::Out(OutFault::TooLarge)));
+        }
+        Err(_) => return Err(Unkept::Store(CliFault::Memory)),
+    };
+    match replace_numbered(place, read, &bytes, office, &text) {
+        Ok(()) => Ok(()),
+        Err(fault) => Err(unkept_by(fault)),
+    }
+}
+
+fn unkept_by(fault: NumberedFault) -> Unkept
+    ensures { result ≡ unkept_fault fault }
+{
+    match fault {
+        NumberedFault::Unready(fault) => Unkept::Store(CliFault::of_replace(fault)),
+        NumberedFault::Unnoted(fault) => Unkept::Unnoted(fault),
+        NumberedFault::Late(fault) => Unkept::Store(CliFault::of_replace(fault)),
+    }
+}
+
+/// Replaces the office file, and keeps the register on the shelf from which another one was restored.
+pub fn keep_on_numbered<D: Disk, Q: Place>(
+    alloc: Global,
+    last: &LastNumber,
+    register: &Register,
+    disk: &mut D,
+    office: &mut Q,
+) -> Result<(), Unkept>
+    ensures kept { (was : Content) → Has (disks D.tells D.seen D.images D.moment D.images_since D.failures) disk.old was
+        → IsSure (disks D.tells D.seen D.images D.moment D.images_since D.failures) disk.old
+        → OnOk result (KeepsNumbered (disks D.tells D.seen D.images D.moment D.images_since D.failures) last.now was register.now
+        disk.old disk.new (Q.state office.old) (Q.state office.new)) }
+    ensures fault { (was : Content) → Has (disks D.tells D.seen D.images D.moment D.images_since D.failures) disk.old was
+        → IsSure (disks D.tells D.seen D.images D.moment D.images_since D.failures) disk.old
+        → IfErr result (IsUnkeptNumbered (disks D.tells D.seen D.images D.moment D.images_since D.failures) last.now was register.now
+        disk.old disk.new (Q.state office.old) (Q.state office.new)) }
+    ensures tells { D.tells disk.new ≡ D.tells disk.old }
+{
+    let Ok(text) = number_text(alloc, last, register) else {
+        return Err(Unkept::Store(CliFault::Memory));
+    };
+    if let Err(fault) = put_number(office, &text) {
+        return Err(Unkept::Unnoted(fault));
+    }
+    match keep_on(alloc, disk, register) {
+        Ok(()) => Ok(()),
+        Err(fault) => Err(Unkept::Store(fault)),
+    }
+}

@@ -1,0 +1,33 @@
+-- Replacing a file, and an office file before it.
+use Rattle.std.specs.Prelude.{◌≡◌, List, ℕ, Option, None}
+use Rattle.byte_io.specs.Publish.{Publishes}
+use Rattle.byte_out.specs.Place.{PlaceState, Told}
+use Rattle.byte_out.specs.Replace.{Replaces, IsReplaceFault, IsKept, FailsWhole}
+use Rattle.byte_out.specs.declared.fault.ReplaceFault.{ReplaceFault}
+use Rattle.byte_out.specs.declared.fault.ReplaceFault.TheVariants as replaced
+use Rattle.reg_number.specs.Noting.{Notes, IsUnnoted}
+use Rattle.reg_number.specs.declared.fault.NumberedFault.{NumberedFault}
+use Rattle.reg_number.specs.declared.fault.NumberedFault.TheVariants as fault
+
+-- the new file was whole, and was removed: the old one still has the name
+abbrev pub IsWithdrawn : List ℕ → PlaceState → PlaceState → Type 0
+IsWithdrawn bytes old new = Publishes bytes old.sink new.sink × Told IsKept old.files new.files
+
+-- the new file was whole, and could not be renamed; or it was, and a stop may leave the old one
+abbrev pub IsLate : Option (List ℕ) → List ℕ → PlaceState → PlaceState → ReplaceFault → Type 0
+IsLate read bytes old new replaced.NotOpened = FailsWhole bytes old.sink new.sink × Told (λ f g. IsKept f g × (f.beside ≡ None)) old.files new.files
+IsLate read bytes old new replaced.NewExists = ⊥
+IsLate read bytes old new (replaced.WriteFailed n) = ⊥
+IsLate read bytes old new replaced.Changed = ⊥
+IsLate read bytes old new replaced.NotSynced = IsReplaceFault read bytes old new replaced.NotSynced
+
+-- the file has these bytes, and the office file this text
+abbrev pub ReplacesNumbered : Option (List ℕ) → List ℕ → List ℕ → PlaceState → PlaceState → PlaceState → PlaceState → Type 0
+ReplacesNumbered read bytes text old new office noted = Replaces read bytes old new × Notes text office noted
+
+-- the new file was not made ready, and the office file is unchanged; or the office file was not replaced, or not for sure, and
+-- the old file still has the name; or the office file has the text, and the new file did not get the name, or not for sure
+abbrev pub IsUnnumbered : Option (List ℕ) → List ℕ → List ℕ → PlaceState → PlaceState → PlaceState → PlaceState → NumberedFault → Type 0
+IsUnnumbered read bytes text old new office noted (fault.Unready f) = IsReplaceFault read bytes old new f × (noted ≡ office)
+IsUnnumbered read bytes text old new office noted (fault.Unnoted f) = IsWithdrawn bytes old new × IsUnnoted text office noted f
+IsUnnumbered read bytes text old new office noted (fault.Late f) = IsLate read bytes old new f × Notes text office noted

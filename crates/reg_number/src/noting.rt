@@ -1,0 +1,32 @@
+//! Replaces the file of an office.
+
+ghost use Rattle.std.specs.Prelude.{OnOk, IfErr};
+ghost use Rattle.reg_number.specs.Noting.{Notes, IsUnnoted};
+
+use crate::fault::NoteFault;
+use byte_out::Place;
+
+/// Replaces the office file by one with this text. Its new file was made before: it keeps other commands of the office away. If
+/// it does not get the name, it is removed.
+pub fn put_number<P: Place>(place: &mut P, text: &[u8]) -> Result<(), NoteFault>
+    ensures noted { OnOk result (Notes text.now (P.state place.old) (P.state place.new)) }
+    ensures fault { IfErr result (IsUnnoted text.now (P.state place.old) (P.state place.new)) }
+{
+    if let Err(fault) = place.write(text) {
+        place.remove();
+        return Err(NoteFault::WriteFailed(fault.written));
+    }
+    if place.sync().is_err() {
+        place.remove();
+        return Err(NoteFault::WriteFailed(text.len()));
+    }
+    if place.put().is_err() {
+        place.remove();
+        return Err(NoteFault::NotOpened);
+    }
+    // A number that a power cut may undo is not given out.
+    if place.land().is_err() {
+        return Err(NoteFault::WriteFailed(text.len()));
+    }
+    Ok(())
+}

@@ -1,0 +1,154 @@
+//! What the page shows of each entry.
+
+ghost use Rattle.std.specs.Prelude.{◌≡◌, ◌++◌, ◌∷◌, [], All, true, filter, map, IfOk, OnOk};
+ghost use Rattle.reg_op.specs.Set as set;
+ghost use Rattle.reg_op.specs.Operations.{Op as Operation};
+ghost use Rattle.reg_op.specs.Status.{is_enter};
+ghost use Rattle.reg_page.specs.Descriptions.{IsSystemOf, IsSystemIn, DescribesEntry, IsDescribed, described_cmp, AreById, at, InOrder};
+
+use crate::kind::{areas_of, kind_of};
+use crs_search::Kind;
+use crs_value::Crs;
+use reg_op::{Op, OpBody, OpId};
+use reg_report::printed;
+use reg_state::Register;
+use std::alloc::{AllocError, Global};
+use std::cmp::Ordering;
+use wkt_crs::{Definition, write_pretty};
+
+/// What the page shows of a reference system.
+#[derive(Drop)]
+pub struct System {
+    pub name: Vec<u8>,
+    pub areas: Vec<Vec<u8>>,
+    pub kind: Kind,
+    /// The indented text.
+    pub text: Vec<u8>,
+}
+
+/// What the page shows of an entry.
+#[derive(Drop)]
+pub struct Described {
+    pub id: OpId,
+    /// The printed form of the id.
+    pub printed: Vec<u8>,
+    pub authority: Vec<u8>,
+    pub code: Vec<u8>,
+    pub system: System,
+    pub note: Vec<u8>,
+}
+
+fn system_of(alloc: Global, crs: &Crs) -> Result<System, AllocError>
+    ensures { IfOk result (IsSystemOf crs.now) }
+{
+    let name = Vec::from_slice(alloc, crs.name().as_bytes())?;
+    let areas = areas_of(alloc, crs.parts())?;
+    let text = write_pretty(alloc, crs)?;
+    Ok(System {
+        name,
+        areas,
+        kind: kind_of(crs.parts()),
+        text,
+    })
+}
+
+fn system_in(alloc: Global, definition: &Definition) -> Result<System, AllocError>
+    ensures { IfOk result (IsSystemIn definition.now) }
+{
+    let crs = definition.crs(alloc)?;
+    let made = system_of(alloc, &crs)?;
+    Ok(made)
+}
+
+fn describe_entry(
+    alloc: Global,
+    id: OpId,
+    definition: &Definition,
+    note: &[u8],
+) -> Result<Described, AllocError>
+    ensures { IfOk result (DescribesEntry id definition.now note.now) }
+{
+    let system = system_in(alloc, definition)?;
+    let key = definition.key();
+    let authority = Vec::from_slice(alloc, key.authority.as_bytes())?;
+    let code = Vec::from_slice(alloc, key.code.as_bytes())?;
+    let note = Vec::from_slice(alloc, note)?;
+    let printed = printed(alloc, id)?;
+    Ok(Described {
+        id,
+        printed,
+        authority,
+        code,
+        system,
+        note,
+    })
+}
+
+fn push_described(
+    alloc: Global,
+    described: &mut Vec<Described>,
+    register: &Register,
+    op: &Op,
+) -> Result<(), AllocError>
+    requires there { set.contains register.now.ops op.now ≡ true }
+    requires before { All (IsDescribed register.now.ops) described.old.items }
+    ensures each { OnOk result (All (IsDescribed register.now.ops) described.new.items) }
+    ensures ids { OnOk result (map (λ (t : Described). t.id) described.new.items ≡ map (λ (t : Described). t.id) described.old.items ++ map (λ (o : Operation). o.id) (filter (λ (o : Operation). is_enter o.body) (op.now ∷ []))) }
+{
+    let definition = match op.body() {
+        OpBody::Enter(definition) => definition,
+        OpBody::Supersede { old: _, newer: _ } => return Ok(()),
+        OpBody::Retire { entry: _ } => return Ok(()),
+    };
+    let one = describe_entry(alloc, op.id(), definition, op.note().as_bytes())?;
+    described.push(one)?;
+    Ok(())
+}
+
+fn compare(left: &Described, right: &Described) -> Ordering
+    ensures { result ≡ described_cmp left.now right.now }
+{
+    left.authority
+        .as_slice()
+        .cmp(right.authority.as_slice())
+        .then(
+            left.code
+                .as_slice()
+                .cmp(right.code.as_slice())
+                .then(left.id.cmp(&right.id)),
+        )
+}
+
+/// What the page shows of each entry, by id.
+pub fn all_described(alloc: Global, register: &Register) -> Result<Vec<Described>, AllocError>
+    ensures { IfOk result (λ made. AreById register.now.ops made.items) }
+{
+    let mut made = Vec::new(alloc);
+    let ops = register.ops().as_slice();
+    for op in ops {
+        push_described(alloc, &mut made, register, op)?;
+    }
+    Ok(made)
+}
+
+fn all_of<'a>(alloc: Global, described: &'a [Described]) -> Result<Vec<&'a Described>, AllocError>
+    ensures { IfOk result (λ made. at made.items ≡ described.now) }
+{
+    let mut made = Vec::with_capacity(alloc, described.len())?;
+    for one in described {
+        made.push(one)?;
+    }
+    Ok(made)
+}
+
+/// The same by key, and then by id.
+pub fn by_key<'a>(
+    alloc: Global,
+    described: &'a [Described],
+) -> Result<Vec<&'a Described>, AllocError>
+    ensures { IfOk result (λ made. InOrder described.now (at made.items)) }
+{
+    let mut made = all_of(alloc, described)?;
+    made.sort_unstable_by(|left, right| compare(left, right));
+    Ok(made)
+}

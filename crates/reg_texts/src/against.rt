@@ -1,0 +1,181 @@
+//! What differs between the texts of a file and the entries of their keys.
+
+ghost use Rattle.std.specs.Prelude.{◌≡◌, ◌≢◌, ◌++◌, List, ℕ, map, IfOk, IfErr, OnOk};
+ghost use Rattle.wkt_crs.specs.Definition.{IsTextFault};
+ghost use Rattle.wkt_crs.specs.declared.definition.DefinitionFault.TheVariants.{Memory as NoMemory};
+ghost use Rattle.wkt_texts.specs.Texts.{piece_of};
+ghost use Rattle.reg_report.specs.Seen.{row_seen};
+ghost use Rattle.reg_texts.specs.Gathered.{Each};
+ghost use Rattle.reg_texts.specs.Compare.{seen_rows};
+ghost use Rattle.reg_texts.specs.Given.{IsPairWith, IsGivenAgainst, Defines, IsTextAgainst, IsFileAgainst, IsUnread, IsFirstUnread, IsFileUnread};
+
+use crate::choice::{OfText, chosen};
+use crate::given::{given, new_text};
+use crate::version::{Version, is_none, push_pair, version_of};
+use reg_keys::rows_in_order;
+use reg_report::Row;
+use reg_state::Register;
+use std::alloc::{AllocError, Global};
+use wkt_crs::{Definition, DefinitionFault};
+use wkt_texts::{Cut, texts};
+
+/// Why the texts of a file are not compared.
+#[derive(Clone, Copy, Debug, PartialEq, Eq)]
+pub enum Unread {
+    /// A text is no definition, for this reason.
+    Refused {
+        fault: DefinitionFault,
+        /// The offset in the file of the fault, or of the text's first byte if the fault has no place.
+        at: usize,
+        /// The offset in the file of the text's first byte.
+        place: usize,
+        /// The length of the text in bytes.
+        len: usize,
+    },
+    Memory,
+}
+
+/// What differs between each text of a file and the entries of its key that are not retired: unified diffs from the text of the
+/// entry to the given one, text by text and then by id. A text whose key no such entry has is added as a whole. `name` names the
+/// file in the heads.
+pub fn compared_texts(
+    alloc: Global,
+    register: &Register,
+    name: &[u8],
+    file: &[u8],
+) -> Result<Vec<u8>, Unread>
+    ensures ok { IfOk result (λ text. IsFileAgainst name.now file.now register.now text.items) }
+    ensures fault { IfErr result (IsFileUnread file.now) }
+{
+    let Ok(rows) = rows_in_order(alloc, register) else {
+        return Err(Unread::Memory);
+    };
+    let Ok(cuts) = texts(alloc, file) else {
+        return Err(Unread::Memory);
+    };
+    match all_against(alloc, &rows, name, &cuts) {
+        Ok(text) => Ok(text),
+        Err(why) => Err(why),
+    }
+}
+
+// The same of these texts.
+fn all_against(
+    alloc: Global,
+    rows: &[Row],
+    name: &[u8],
+    cuts: &[Cut<'_>],
+) -> Result<Vec<u8>, Unread>
+    ensures ok { IfOk result (λ text. Each (IsTextAgainst name.now (map row_seen rows.now)) (map piece_of cuts.now) text.items) }
+    ensures fault { IfErr result (IsFirstUnread (map piece_of cuts.now)) }
+{
+    let mut text = Vec::new(alloc);
+    for cut in cuts {
+        push_text(alloc, &mut text, rows, name, cut)?;
+    }
+    Ok(text)
+}
+
+fn push_text(
+    alloc: Global,
+    text: &mut Vec<u8>,
+    rows: &[Row],
+    name: &[u8],
+    cut: &Cut<'_>,
+) -> Result<(), Unread>
+    ensures ok { OnOk result ((mine : List ℕ) × IsTextAgainst name.now (map row_seen rows.now) (piece_of cut.now) mine × (text.new.items ≡ text.old.items ++ mine)) }
+    ensures fault { IfErr result (IsUnread (piece_of cut.now)) }
+{
+    let mine = match text_against(alloc, rows, name, cut) {
+        Ok(mine) => mine,
+        Err(why) => return Err(why),
+    };
+    match text.extend_from_slice(&mine) {
+        Ok(()) => Ok(()),
+        Err(_) => Err(Unread::Memory),
+    }
+}
+
+fn text_against(alloc: Global, rows: &[Row], name: &[u8], cut: &Cut<'_>) -> Result<Vec<u8>, Unread>
+    ensures ok { IfOk result (λ mine. IsTextAgainst name.now (map row_seen rows.now) (piece_of cut.now) mine.items) }
+    ensures fault { IfErr result (IsUnread (piece_of cut.now)) }
+{
+    let definition = match definition_at(alloc, cut) {
+        Ok(definition) => definition,
+        Err(why) => return Err(why),
+    };
+    match given_against(alloc, rows, name, cut.place, &definition) {
+        Ok(text) => Ok(text),
+        Err(_) => Err(Unread::Memory),
+    }
+}
+
+fn definition_at(alloc: Global, cut: &Cut<'_>) -> Result<Definition, Unread>
+    ensures ok { IfOk result (Defines cut.now.bytes.now) }
+    ensures fault { IfErr result (IsUnread (piece_of cut.now)) }
+{
+    match Definition::from_text(alloc, cut.bytes) {
+        Ok(definition) => Ok(definition),
+        Err(DefinitionFault::Memory) => Err(Unread::Memory),
+        Err(fault) => Err(refused(cut, fault)),
+    }
+}
+
+// Why the text is refused.
+fn refused(cut: &Cut<'_>, fault: DefinitionFault) -> Unread
+    ensures { IsTextFault cut.now.bytes.now fault → fault ≢ NoMemory → IsUnread (piece_of cut.now) result }
+{
+    // Places are smaller, since files are in memory.
+    let Some(at) = cut.place.checked_add(fault.place().unwrap_or(0)) else {
+        return Unread::Memory;
+    };
+    Unread::Refused {
+        fault,
+        at,
+        place: cut.place,
+        len: cut.bytes.len(),
+    }
+}
+
+fn given_against(
+    alloc: Global,
+    rows: &[Row],
+    name: &[u8],
+    place: usize,
+    definition: &Definition,
+) -> Result<Vec<u8>, AllocError>
+    ensures { IfOk result (λ text. IsGivenAgainst name.now place definition.now (map row_seen rows.now) text.items) }
+{
+    let given = given(alloc, name, place, definition)?;
+    let found = chosen(alloc, rows, &OfText { definition })?;
+    if is_none(&found) {
+        let text = new_text(alloc, definition, &given)?;
+        return Ok(text);
+    }
+    let pairs = each_against(alloc, &found, &given)?;
+    Ok(pairs)
+}
+
+// What differs between the text of each entry and the given one, one after another.
+fn each_against(alloc: Global, rows: &[&Row], given: &Version) -> Result<Vec<u8>, AllocError>
+    ensures { IfOk result (λ text. Each (IsPairWith given.now) (seen_rows rows.now) text.items) }
+{
+    let mut text = Vec::new(alloc);
+    for row in rows {
+        push_against(alloc, &mut text, row, given)?;
+    }
+    Ok(text)
+}
+
+fn push_against(
+    alloc: Global,
+    text: &mut Vec<u8>,
+    row: &Row,
+    given: &Version,
+) -> Result<(), AllocError>
+    ensures { OnOk result ((pair : List ℕ) × IsPairWith given.now (row_seen row.now) pair × (text.new.items ≡ text.old.items ++ pair)) }
+{
+    let entry = version_of(alloc, row)?;
+    push_pair(alloc, text, &entry, given)?;
+    Ok(())
+}
