@@ -1,0 +1,4 @@
+pub mod Titles
+pub mod Geojson
+pub mod ProjSql
+pub mod Handed

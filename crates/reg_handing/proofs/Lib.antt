@@ -1,0 +1,3 @@
+mod TextLemmas
+pub mod NotedLemmas
+pub mod ChosenLemmas

@@ -1,0 +1,5 @@
+pub mod Choice
+pub mod Chosen
+pub mod Noted
+pub mod Kept
+pub mod Handed
