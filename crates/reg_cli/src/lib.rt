@@ -5,6 +5,7 @@ mod change;
 mod command;
 mod environment;
 mod exchange;
+mod hand;
 mod inputs;
 mod look;
 mod outcome;
