@@ -105,7 +105,8 @@ pub fn diff<'a>(alloc: Global) -> Result<Command<'a>, AllocError> {
         .arg(on_shelf(alloc, "OLD is a shelf, whose register is merged too"))
 }
 
-fn wanted<'a>(alloc: Global) -> Arg<'a> {
+/// The status of entries.
+pub fn wanted<'a>(alloc: Global) -> Arg<'a> {
     Arg::new(alloc, "status")
         .long("status")
         .value_name("S")

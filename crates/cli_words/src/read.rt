@@ -1,8 +1,10 @@
 //! The commands that show a register, or an entry of it.
-use crate::arguments::{READ_SHELF, entry, flag, keys, on_shelf, register};
+use crate::arguments::{READ_SHELF, entry, flag, keys, named, on_shelf, register};
 use crate::defaults::Defaults;
+use crate::look::wanted;
 use crate::read_help::{
-    COMPARE_HELP, EXPORT_HELP, LOG_HELP, OPS_HELP, REPORT_HELP, SHOW_HELP, TEXTS_HELP, WKT_HELP,
+    COMPARE_HELP, EXPORT_HELP, GRAPH_HELP, LOG_HELP, OPS_HELP, REPORT_HELP, SHOW_HELP, TEXTS_HELP,
+    WKT_HELP,
 };
 use clap::{Arg, ArgAction, Command};
 use std::alloc::{AllocError, Global};
@@ -71,9 +73,49 @@ fn other<'a>(alloc: Global) -> Arg<'a> {
 /// `export`.
 pub fn export<'a>(alloc: Global) -> Result<Command<'a>, AllocError> {
     Command::new(alloc, "export")
-        .about("Prints the texts of all entries that are not retired")
+        .about("Prints the texts of all entries that are not retired, or hands them on")
         .after_help(EXPORT_HELP)
         .arg(register(alloc))?
+        .arg(into(alloc)?)?
+        .arg(flag(alloc, "geojson", "Prints the bounding boxes as GeoJSON"))?
+        .arg(proj_sql(alloc)?)?
+        .arg(wanted(alloc))?
+        .arg(named(alloc, "authority", "A", "Only with this authority"))?
+        .arg(flag(
+            alloc,
+            "keep-going",
+            "Leaves out keys with two texts, and names the first at the end",
+        ))?
+        .arg(on_shelf(alloc, READ_SHELF))
+}
+
+fn into<'a>(alloc: Global) -> Result<Arg<'a>, AllocError> {
+    named(
+        alloc,
+        "into",
+        "DIR",
+        "Writes a file for each key into the folder DIR, which is made",
+    )
+    .conflicts_with("geojson")?
+    .conflicts_with("proj-sql")
+}
+
+fn proj_sql<'a>(alloc: Global) -> Result<Arg<'a>, AllocError> {
+    flag(
+        alloc,
+        "proj-sql",
+        "Prints SQL for an auxiliary database of PROJ",
+    )
+    .conflicts_with("geojson")
+}
+
+/// `graph`.
+pub fn graph<'a>(alloc: Global) -> Result<Command<'a>, AllocError> {
+    Command::new(alloc, "graph")
+        .about("Prints a graph of entries that supersede each other or are in conflict")
+        .after_help(GRAPH_HELP)
+        .arg(register(alloc))?
+        .arg(flag(alloc, "all", "Draws every entry"))?
         .arg(on_shelf(alloc, READ_SHELF))
 }
 

@@ -62,8 +62,43 @@ pub const EXPORT_HELP: &str = "\
 Prints the canonical text of each entry that is not retired, superseded ones
 included, one a line, ordered by id. Line breaks within quotation marks stay.
 
+With --into, --geojson or --proj-sql it hands these entries on, or those that match
+--status and --authority. If two of them have one key and different texts, it
+is refused as KeyTaken ID, the least such entry of the least key. With
+--keep-going such keys are left out; the first is named at the end, with
+status 1.
+
+--into writes a file AUTHORITY_CODE.wkt for each key, with the canonical text
+and a newline. Bytes other than A-Z, a-z, 0-9, . and - become % and two digits
+to the base 16. DIR must not exist, or be an empty folder. It is made as
+DIR.new and then renamed, so it has all files or is not there.
+
+--geojson prints a feature for each USAGE that has a BBOX. A box whose west is
+greater than its east is cut at 180 degrees. QGIS opens it.
+
+--proj-sql prints SQL that puts geodetic, geographic and projected entries into
+an auxiliary database of PROJ. What PROJ's tables cannot hold is left out, with
+a line \"-- left out: ID NAME\". A code that PROJ's own database has stays
+PROJ's, so give variants an authority of your own. Set PROJ_AUX_DB for a
+project, and not in a login profile: each look-up takes longer with it.
+
 Example:
-  crsreg export office.crs > all.wkt";
+  crsreg export office.crs > all.wkt
+  crsreg export office.crs --into texts
+  crsreg export office.crs --geojson > office.geojson
+  (projinfo --dump-db-structure; crsreg export office.crs --proj-sql) |
+    sqlite3 aux.db
+  PROJ_AUX_DB=aux.db projinfo OFFICE:25832";
+
+pub const GRAPH_HELP: &str = "\
+Prints a graph in DOT, the language of Graphviz: a node for each entry that
+has an edge or is in conflict, or with --all for every entry, with its key and
+its name. Valid entries are green, superseded ones yellow, retired ones gray.
+An edge leads from a superseded entry to the one that supersedes it. A red line
+joins the first entry of a key in conflict to each of the others.
+
+Example:
+  crsreg graph office.crs | dot -Tsvg > office.svg";
 
 pub const OPS_HELP: &str = "\
 Prints, as comma-separated values, each operation that the register keeps,

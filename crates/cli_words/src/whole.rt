@@ -6,7 +6,7 @@ use crate::defaults::Defaults;
 use crate::exchange::{downgrade, merge, new, piece, seen, shelf, take, unshelf};
 use crate::look::{diff, find, offices, page, status};
 use crate::many::{import, settle};
-use crate::read::{compare, export, log, ops, report, show, texts, wkt};
+use crate::read::{compare, export, graph, log, ops, report, show, texts, wkt};
 use crate::whole_help::{CHECK_HELP, COMPLETIONS_HELP, STATUS_HELP};
 use clap::{Arg, Command};
 use std::alloc::{AllocError, Global};
@@ -55,6 +55,7 @@ fn with_readers<'a>(
     let whole = and(alloc, whole, defaults, texts(alloc))?;
     let whole = and(alloc, whole, defaults, compare(alloc, defaults))?;
     let whole = and(alloc, whole, defaults, export(alloc))?;
+    let whole = and(alloc, whole, defaults, graph(alloc))?;
     let whole = and_rows(alloc, whole, defaults, ops(alloc))?;
     let whole = and_rows(alloc, whole, defaults, log(alloc, defaults))?;
     let whole = and_rows(alloc, whole, defaults, report(alloc))?;

@@ -2,9 +2,10 @@
 use crate::change::{enter, import, retire, settle, supersede};
 use crate::environment::Environment;
 use crate::exchange::{downgrade, merge, new, piece, seen, shelf, unshelf};
+use crate::hand::{export, graph};
 use crate::look::{
-    check, compare, diff, export, find, log, offices, ops, page, report, show, status as figures,
-    texts, wkt,
+    check, compare, diff, find, log, offices, ops, page, report, show, status as figures, texts,
+    wkt,
 };
 use crate::outcome::{MISUSE, Outcome, complain, failed, print, status};
 use crate::paths::Named;
@@ -83,7 +84,8 @@ fn perform(rt: &HostRuntime, matches: &ArgMatches<'_>) -> Option<Outcome> {
         "wkt" => Outcome::of(wkt(rt, inner)),
         "texts" => Outcome::of(texts(rt, inner)),
         "compare" => compare(rt, inner),
-        "export" => Outcome::of(export(rt, inner)),
+        "export" => export(rt, inner),
+        "graph" => Outcome::of(graph(rt, inner)),
         "ops" => Outcome::of(ops(rt, inner)),
         "log" => Outcome::of(log(rt, inner)),
         "report" => Outcome::of(report(rt, inner)?),

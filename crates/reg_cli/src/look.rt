@@ -9,10 +9,10 @@ use crate::words::{
 use clap::ArgMatches;
 use desk_texts::{Compare, CompareKey, CompareWith, Texts};
 use reg_desk::{
-    ByWord, CliFault, Export, FileAt, FileDisk, Find, FindIds, Kept, Kind, Lockable, LogAll,
-    LogByWords, LogOf, OfFile, Offices, OnShelf, OpId, Opened, Ops, PrintOf, Query, Reading,
-    Report, ShelfAt, Show, ShowOf, Source, Wanted, Wkt, WktOf, Writing, run_check,
-    run_check_explained, run_diff, run_status,
+    ByWord, CliFault, FileAt, FileDisk, Find, FindIds, Kept, Kind, Lockable, LogAll, LogByWords,
+    LogOf, OfFile, Offices, OnShelf, OpId, Opened, Ops, PrintOf, Query, Reading, Report, ShelfAt,
+    Show, ShowOf, Source, Wanted, Wkt, WktOf, Writing, run_check, run_check_explained, run_diff,
+    run_status,
 };
 use reg_page::Page;
 use std::alloc::{AllocError, Global};
@@ -92,11 +92,6 @@ fn print_by_word<C: PrintOf>(
 ) -> Result<(), CliFault> {
     let word = word(matches, "ENTRY").as_bytes();
     print_of(rt, matches, &ByWord { word, command })
-}
-
-/// `export`.
-pub fn export(rt: &HostRuntime, matches: &ArgMatches<'_>) -> Result<(), CliFault> {
-    print_of(rt, matches, &Export)
 }
 
 /// `ops`.
@@ -205,8 +200,8 @@ fn kind_of(word: &str) -> Option<Kind> {
     }
 }
 
-// The status of the argument. clap rejects other words.
-fn wanted(word: &str) -> Option<Wanted> {
+/// The status of the argument. clap rejects other words.
+pub fn wanted(word: &str) -> Option<Wanted> {
     match word {
         "valid" => Some(Wanted::Valid),
         "superseded" => Some(Wanted::Superseded),

@@ -68,6 +68,7 @@ fn files_of(name: &str) -> &'static [&'static str] {
 fn out_of(name: &str) -> &'static str {
     match name {
         "take" => "REG",
+        "export" => "into",
         _ => "OUT",
     }
 }

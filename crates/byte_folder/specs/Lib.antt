@@ -1,0 +1,3 @@
+pub mod Folder
+pub mod Put
+pub mod Names

@@ -1,0 +1,154 @@
+//! The place of a path in the file system. No contract is about the file system.
+
+ghost use Rattle.std.specs.Prelude.{◌≡◌, ◌<◌, None, IsSome, IfOk};
+ghost use Rattle.byte_io.specs.Device.{target_of};
+ghost use Rattle.byte_folder.specs.Folder.{untold};
+
+use crate::fault::MakeFault;
+use crate::place::FolderPlace;
+use crate::way::{make_folder, path_in, remove_folder, without_slashes};
+use byte_io::{DeviceFault, Log, NotOpened, PublishFault, Sink, Tally, Target, publish};
+use std::alloc::{AllocError, Global};
+use std::fs::{self, OpenOptions};
+use std::io::Write;
+use std::rt::Files;
+
+/// The place of a path. The new folder has its name with `.new`.
+#[derive(Drop)]
+pub struct SystemFolder<'a, R: Files> {
+    alloc: Global,
+    rt: &'a R,
+    path: &'a str,
+    beside: String,
+    next: String,
+    file: Option<R::File>,
+    taken: Log,
+    failures: Tally,
+    stalls: Tally,
+    openings: Tally,
+    ghost counted: { IsSome file → 0 < openings.count },
+}
+
+impl<'a, R: Files> SystemFolder<'a, R> {
+    /// The place of a path. Nothing is made yet.
+    pub fn new(alloc: Global, rt: &'a R, path: &'a str) -> Result<SystemFolder<'a, R>, AllocError>
+        ensures untold { IfOk result
+            (λ p. ⟦<SystemFolder<'a, R> as FolderPlace>⟧.state p ≡ untold (target_of None)) }
+    {
+        let path = without_slashes(path);
+        let beside = format!(in alloc; "{path}.new")?;
+        let next = String::new(alloc);
+        Ok(SystemFolder {
+            alloc,
+            rt,
+            path,
+            beside,
+            next,
+            file: None,
+            taken: Log::empty(),
+            failures: Tally::none(),
+            stalls: Tally::none(),
+            openings: Tally::none(),
+        })
+    }
+}
+
+impl<R: Files> Sink for SystemFolder<'_, R> {
+    ghost state = { λ s. record {
+      written = None;
+      taken = s.taken.bytes;
+      failures = s.failures.count;
+      stalls = s.stalls.count;
+      openings = s.openings.count;
+    } };
+
+    fn write_some(&mut self, buf: &[u8]) -> Result<usize, DeviceFault> {
+        let written = match &mut self.file {
+            None => Ok(0),
+            Some(file) => file.write(buf),
+        };
+        match written {
+            Ok(n) => {
+                if n == 0 && !buf.is_empty() {
+                    self.stalls = Tally::after(&self.stalls);
+                }
+                self.taken.note(&buf[..n]);
+                Ok(n)
+            }
+            Err(_) => {
+                self.failures = Tally::after(&self.failures);
+                Err(DeviceFault)
+            }
+        }
+    }
+}
+
+impl<R: Files> Target for SystemFolder<'_, R> {
+    /// Makes the next file of the new folder. There is none with its name.
+    fn open(&mut self) -> Result<(), NotOpened> {
+        let made = OpenOptions::new()
+            .write(true)
+            .create_new(true)
+            .open(self.rt, &self.next);
+        match made {
+            Ok(file) => {
+                self.openings = Tally::after(&self.openings);
+                self.file = Some(file);
+                Ok(())
+            }
+            Err(_) => {
+                self.failures = Tally::after(&self.failures);
+                Err(NotOpened)
+            }
+        }
+    }
+}
+
+impl<R: Files> FolderPlace for SystemFolder<'_, R> {
+    ghost state = { λ s. record {
+      sink = record {
+        written = None;
+        taken = s.taken.bytes;
+        failures = s.failures.count;
+        stalls = s.stalls.count;
+        openings = s.openings.count;
+      };
+      folders = None;
+    } };
+
+    fn make(&mut self) -> Result<(), MakeFault> {
+        let made = make_folder(self.rt, self.path, &self.beside);
+        if made.is_err() {
+            self.failures = Tally::after(&self.failures);
+        }
+        made
+    }
+
+    fn add(&mut self, name: &[u8], bytes: &[u8]) -> Result<(), PublishFault> {
+        match path_in(self.alloc, &self.beside, name) {
+            Some(next) => self.next = next,
+            None => {
+                self.failures = Tally::after(&self.failures);
+                return Err(PublishFault::NotOpened);
+            }
+        }
+        publish(self, bytes)
+    }
+
+    fn put(&mut self) -> Result<(), NotOpened> {
+        // The last file is closed first.
+        self.file = None;
+        match fs::rename(self.rt, &self.beside, self.path) {
+            Ok(()) => Ok(()),
+            Err(_) => {
+                self.failures = Tally::after(&self.failures);
+                Err(NotOpened)
+            }
+        }
+    }
+
+    fn remove(&mut self) {
+        self.file = None;
+        remove_folder(self.alloc, self.rt, &self.beside);
+    }
+}

@@ -1,0 +1,76 @@
+//! How folders of the file system are made and removed. No contract describes the file system.
+
+use crate::fault::MakeFault;
+use std::alloc::Global;
+use std::io::{self, ErrorKind, Read};
+use std::rt::Files;
+use std::{fs, str};
+
+/// The path without slashes at its end: after one, the new folder would have no name of its own.
+pub(crate) fn without_slashes(path: &str) -> &str {
+    let trimmed = path.trim_end_matches('/');
+    if trimmed.is_empty() { path } else { trimmed }
+}
+
+/// Makes the folder beside the path, if that has nothing or an empty folder.
+pub(crate) fn make_folder<R: Files>(rt: &R, path: &str, beside: &str) -> Result<(), MakeFault> {
+    if !is_free(rt, path) {
+        return Err(MakeFault::NotOpened);
+    }
+    match fs::create_dir(rt, beside) {
+        Ok(()) => Ok(()),
+        Err(error) if error.kind() == ErrorKind::AlreadyExists => Err(MakeFault::Exists),
+        Err(_) => Err(MakeFault::NotOpened),
+    }
+}
+
+// Whether the path has nothing, or an empty folder. A link to a folder cannot be replaced by a folder.
+fn is_free<R: Files>(rt: &R, path: &str) -> bool {
+    match fs::symlink_metadata(rt, path) {
+        Ok(there) => there.is_dir() && is_empty(rt, path).unwrap_or(false),
+        Err(error) => error.kind() == ErrorKind::NotFound && !path.is_empty(),
+    }
+}
+
+// Whether a folder has no names but its own and that of its parent.
+fn is_empty<R: Files>(rt: &R, path: &str) -> io::Result<bool> {
+    let mut names = rt.open_dir(path)?;
+    let mut chunk = [0; 4096];
+    for _ in 0..u64::MAX {
+        let n = match names.read(&mut chunk) {
+            Ok(n) => n,
+            Err(error) if error.kind() == ErrorKind::Interrupted => continue,
+            Err(error) => return Err(error),
+        };
+        if n == 0 {
+            return Ok(true);
+        }
+        if n > chunk.len() || has_name(&chunk[..n]) {
+            return Ok(false);
+        }
+    }
+    Ok(false)
+}
+
+// Whether there is another name than `.` and `..`. A NUL ends each.
+fn has_name(names: &[u8]) -> bool {
+    for name in names.split(|byte| *byte == 0) {
+        if !name.is_empty() && name != b".".as_slice() && name != b"..".as_slice() {
+            return true;
+        }
+    }
+    false
+}
+
+/// The path of the file with this name in a folder, if there is memory for it, and the name is a text.
+pub(crate) fn path_in(alloc: Global, folder: &str, name: &[u8]) -> Option<String> {
+    let Ok(name) = str::from_utf8(name) else {
+        return None;
+    };
+    format!(in alloc; "{folder}/{name}").ok()
+}
+
+/// Removes the folder with its files, if that can be done.
+pub(crate) fn remove_folder<R: Files>(alloc: Global, rt: &R, path: &str) {
+    let _ = rt.remove_dir_all(alloc, path);
+}

@@ -1,0 +1,6 @@
+pub mod Boxes
+pub mod Features
+pub mod Tables
+pub mod Codes
+pub mod Sql
+pub mod Graphs

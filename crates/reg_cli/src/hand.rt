@@ -1,0 +1,70 @@
+//! Commands that hand a register on.
+use crate::into::export_into;
+use crate::look::wanted;
+use crate::outcome::Outcome;
+use crate::stores::{Opened, open_register, print_of};
+use crate::words::word;
+use clap::ArgMatches;
+use reg_desk::{CliFault, Export, OfFile, OnShelf, OpId, Refusal, Writing};
+use reg_handing::{Choice, Geojson, Graph, Hand, ProjSql, run_hand};
+use std::io;
+
+const NOT_HANDED: &str =
+    "error: --status, --authority and --keep-going go with --into, --geojson or --proj-sql";
+
+/// `export`.
+pub fn export(rt: &HostRuntime, matches: &ArgMatches<'_>) -> Outcome {
+    let choice = Choice {
+        status: wanted(word(matches, "status")),
+        authority: matches.get_str("authority"),
+    };
+    let keep_going = matches.get_flag("keep-going");
+    if matches.contains_id("into") {
+        return Outcome::of(export_into(rt, matches, &choice, keep_going));
+    }
+    if matches.get_flag("geojson") {
+        return Outcome::of(hand(rt, matches, &Geojson { choice, keep_going }));
+    }
+    if matches.get_flag("proj-sql") {
+        return Outcome::of(hand(rt, matches, &ProjSql { choice, keep_going }));
+    }
+    if choice.status.is_some() || choice.authority.is_some() || keep_going {
+        return Outcome::Misuse(NOT_HANDED);
+    }
+    Outcome::of(print_of(rt, matches, &Export))
+}
+
+/// `graph`.
+pub fn graph(rt: &HostRuntime, matches: &ArgMatches<'_>) -> Result<(), CliFault> {
+    let all = matches.get_flag("all");
+    print_of(rt, matches, &Graph { all })
+}
+
+// Opens the register and prints what the command hands on. A key that was left out is the fault.
+fn hand<C: Hand>(rt: &HostRuntime, matches: &ArgMatches<'_>, command: &C) -> Result<(), CliFault> {
+    match hand_to(rt, matches, command) {
+        Ok(None) => Ok(()),
+        Ok(Some(id)) => Err(CliFault::Refused(Refusal::KeyTaken(id))),
+        Err(fault) => Err(fault),
+    }
+}
+
+fn hand_to<C: Hand>(
+    rt: &HostRuntime,
+    matches: &ArgMatches<'_>,
+    command: &C,
+) -> Result<Option<OpId>, CliFault> {
+    let mut sink = Writing::new(io::writer(rt));
+    match open_register(rt, rt.alloc(), matches, "REG", &None)? {
+        Opened::File(mut source) => {
+            let mut store = OfFile {
+                source: &mut source,
+            };
+            run_hand(rt.alloc(), &mut store, command, &mut sink)
+        }
+        Opened::Shelf(mut disk) => {
+            let mut store = OnShelf { disk: &mut disk };
+            run_hand(rt.alloc(), &mut store, command, &mut sink)
+        }
+    }
+}

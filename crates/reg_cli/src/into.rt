@@ -1,0 +1,45 @@
+//! The command `export --into`.
+use crate::stores::{Opened, open_register};
+use crate::words::word;
+use byte_folder::SystemFolder;
+use clap::ArgMatches;
+use reg_desk::{CliFault, OfFile, OnShelf, OpId, Refusal};
+use reg_handing::Choice;
+use reg_into::run_into;
+
+/// Opens the register, and puts a folder with a file for each key in place. A key that was left out is the fault.
+pub fn export_into(
+    rt: &HostRuntime,
+    matches: &ArgMatches<'_>,
+    choice: &Choice<'_>,
+    keep_going: bool,
+) -> Result<(), CliFault> {
+    match put_into(rt, matches, choice, keep_going) {
+        Ok(None) => Ok(()),
+        Ok(Some(id)) => Err(CliFault::Refused(Refusal::KeyTaken(id))),
+        Err(fault) => Err(fault),
+    }
+}
+
+fn put_into(
+    rt: &HostRuntime,
+    matches: &ArgMatches<'_>,
+    choice: &Choice<'_>,
+    keep_going: bool,
+) -> Result<Option<OpId>, CliFault> {
+    let Ok(mut place) = SystemFolder::new(rt.alloc(), rt, word(matches, "into")) else {
+        return Err(CliFault::Memory);
+    };
+    match open_register(rt, rt.alloc(), matches, "REG", &None)? {
+        Opened::File(mut source) => {
+            let mut store = OfFile {
+                source: &mut source,
+            };
+            run_into(rt.alloc(), &mut store, choice, keep_going, &mut place)
+        }
+        Opened::Shelf(mut disk) => {
+            let mut store = OnShelf { disk: &mut disk };
+            run_into(rt.alloc(), &mut store, choice, keep_going, &mut place)
+        }
+    }
+}

@@ -1,0 +1,5 @@
+mod TextLemmas
+pub mod NotedLemmas
+pub mod ChosenLemmas
+mod EachLemmas
+mod AmongLemmas

@@ -1,0 +1,9 @@
+pub mod Choice
+pub mod Chosen
+pub mod Noted
+pub mod Kept
+pub mod Titles
+pub mod Geojson
+pub mod ProjSql
+pub mod Handed
+pub mod Graph

@@ -1,0 +1,8 @@
+//! Handing a register on as a folder: a file for each key.
+#![tactic(auto)]
+
+mod engine;
+mod rows;
+
+pub use engine::run_into;
+pub use rows::{Handed, files_of_found};
