@@ -2,4 +2,3 @@ pub mod Kept
 pub mod Left
 pub mod Numbers
 pub mod Desks
-pub mod StepLemmas

@@ -1,4 +1,3 @@
 pub mod Path
 pub mod Writers
 pub mod Desk
-pub mod Steps

@@ -2,13 +2,8 @@
 #![tactic(auto)]
 
 mod laws;
-mod steps;
 
 pub use laws::{
     ids_are_kept, no_number_is_given_twice, no_work_is_lost, one_alone_at_a_desk,
     one_alone_is_done, one_who_gave, what_is_left_blocks,
-};
-pub use steps::{
-    comparing_is_a_step, failing_is_two_steps, landing_is_no_step, making_is_a_step,
-    putting_is_a_step, removing_is_a_step, syncing_is_a_step, writing_is_a_step,
 };

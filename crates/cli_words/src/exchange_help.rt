@@ -42,6 +42,7 @@ Example:
 pub const SEEN_HELP: &str = "\
 The summary lists the ids of the operations that the register has seen. Send it
 to another office, which uses crsreg piece to make a file of what you lack.
+What was at OUT before is replaced.
 
 Example:
   crsreg seen south.crs south.seen";
@@ -49,7 +50,7 @@ Example:
 pub const PIECE_HELP: &str = "\
 The piece has what REG has and the office with the summary SEEN lacks. That
 office merges it like a register. So can any other office that has seen at
-least as much.
+least as much. What was at OUT before is replaced.
 
 Example:
   crsreg piece north.crs south.seen south.piece";
@@ -57,7 +58,7 @@ Example:
 pub const DOWNGRADE_HELP: &str = "\
 For an office with crsreg 0.3 or older: writes the same register in file
 version 1, without notes. The next change or merge by this program writes
-version 2 again.
+version 2 again. What was at OUT before is replaced.
 
 Refused, with nothing written: HasNote ID if an operation of the register has a
 note. ID is the least such operation.
@@ -77,7 +78,7 @@ Example:
 
 pub const UNSHELF_HELP: &str = "\
 Writes the register on the shelf to a file, for other offices. The shelf does
-not change.
+not change. What was at OUT before is replaced.
 
 Example:
   crsreg unshelf office.shelf office.crs";

@@ -54,7 +54,7 @@ among_ops s (o ∷ os) r h = elim (Contains-append_cases (rows_at s o.id o.body)
 pub row_status : (s : Ops) (r : Row) → Contains (rows s) r → r.status ≡ status s r.entry
 row_status s r h = among_ops s (set.items s) r h
 
-row_enters : (s : Ops) (r : Row) → Contains (rows s) r → enters s r.entry ≡ true
+pub row_enters : (s : Ops) (r : Row) → Contains (rows s) r → enters s r.entry ≡ true
 row_enters s r h =
     let o = row_is_entered s r h in
     it_enters s (entering r.entry r.definition o.0) r.entry r.definition (Enter r.definition) o.1 refl refl refl
@@ -66,7 +66,7 @@ of_cons p y ys x true others c = elim (in_cons x y (filter p ys) c) [
 ]
 of_cons p y ys x false others c = in_tail x y ys (others c)
 
-of_filter : {X : Type 0} (p : X → Bool) (xs : List X) (x : X) → Contains (filter p xs) x → Contains xs x
+pub of_filter : {X : Type 0} (p : X → Bool) (xs : List X) (x : X) → Contains (filter p xs) x → Contains xs x
 of_filter p [] x h = absurd (none_in x h)
 of_filter p (y ∷ ys) x h = of_cons p y ys x (p y) (λ c. of_filter p ys x c) h
 

@@ -7,6 +7,8 @@ mod SettleLemmas
 pub mod ImportFileLemmas
 pub mod ImportTextLemmas
 pub mod ImportEngineLemmas
+mod ExportedLemmas
 pub mod AfterRetiring
 pub mod AfterSettling
+mod SettledTwice
 mod KeyedLemmas

@@ -1,6 +1,7 @@
 pub mod Diff
 pub mod Find
 pub mod Look
+pub mod Words
 pub mod Status
 pub mod Explained
 pub mod Settle

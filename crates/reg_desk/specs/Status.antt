@@ -10,9 +10,11 @@ use Rattle.reg_engine.specs.declared.fault.Refusal.TheVariants as refusal
 use Rattle.reg_engine.specs.declared.fault.OutFault.TheVariants as out
 use Rattle.reg_engine.specs.declared.fault.CliFault.{CliFault}
 use Rattle.reg_engine.specs.declared.fault.CliFault.TheVariants as cli
+use Rattle.reg_engine.specs.Names.{problem_name}
 use Rattle.reg_query.specs.declared.figures.register.Figures.{Figures}
 use Rattle.reg_query.specs.declared.figures.office.OfficeFigures.{OfficeFigures}
 use Rattle.reg_query.specs.Offices.{offices_header, office_fields, AreOffices}
+use Rattle.reg_desk.specs.Words.{words_of}
 use Rattle.reg_desk.specs.declared.look.Look.{Look}
 use Rattle.reg_desk.specs.declared.look.Look.TheVariants as look
 
@@ -37,9 +39,9 @@ no_figures = [] ∷ [] ∷ [] ∷ [] ∷ [] ∷ [] ∷ [] ∷ [] ∷ []
 -- the name, the size if it was read completely, the words of its fault if it has one, and otherwise the figures
 abbrev pub IsStatusLine : List ℕ → Look → List (List ℕ) → Type 0
 IsStatusLine name (look.Figures n f) fields = fields ≡ name ∷ decimal n ∷ [] ∷ figure_fields f
-IsStatusLine name (look.NoRegister n f) fields = (words : List ℕ) × (fields ≡ name ∷ decimal n ∷ words ∷ no_figures)
-IsStatusLine name (look.Unread f) fields = (words : List ℕ) × (fields ≡ name ∷ [] ∷ words ∷ no_figures)
-IsStatusLine name (look.NoShelf p) fields = (words : List ℕ) × (fields ≡ name ∷ [] ∷ words ∷ no_figures)
+IsStatusLine name (look.NoRegister n f) fields = fields ≡ name ∷ decimal n ∷ words_of f ∷ no_figures
+IsStatusLine name (look.Unread f) fields = fields ≡ name ∷ [] ∷ words_of f ∷ no_figures
+IsStatusLine name (look.NoShelf p) fields = fields ≡ name ∷ [] ∷ problem_name p ∷ no_figures
 
 -- a line for each name and what the file of this name has
 abbrev pub AreStatusLines : List (List ℕ) → List Look → List ℕ → Type 0

@@ -1,19 +1,30 @@
 //! The laws of settling, and of commands on keys. The functions do nothing: their contracts are the laws.
 
-ghost use Rattle.std.specs.Prelude.{◌≡◌, ◌≢◌, ◌↔◌, ◌⊎◌, ℕ, List, Contains, Some};
+ghost use Rattle.std.specs.Prelude.{◌≡◌, ◌≢◌, ◌↔◌, ◌⊎◌, ℕ, true, List, [], ◌∷◌, Contains, Option, Some, Ok};
 ghost use Rattle.reg_op.specs.Ids.{Id};
-ghost use Rattle.reg_op.specs.Contents.{Content, IsContent};
+ghost use Rattle.reg_op.specs.Contents.{Content, joined, nothing, IsContent};
 ghost use Rattle.reg_op.specs.Rows.{Row, rows, IsInConflict};
 ghost use Rattle.reg_op.specs.declared.status.Status.TheVariants.{Retired};
+ghost use Rattle.reg_op.specs.Status.{enters, retires, status};
 ghost use Rattle.reg_office.specs.Commands.{Does, retirements};
 ghost use Rattle.reg_report.specs.Conflicts.{KeyBytes, HasKey};
+ghost use Rattle.reg_report.specs.Exports.{export};
 ghost use Rattle.reg_settle.specs.Settling.{IsSettled};
-ghost use Rattle.reg_settle.specs.Doubles.{AreDoubles};
+ghost use Rattle.reg_settle.specs.Doubles.{AreDoubles, HasLesser};
 ghost use Rattle.reg_keys.specs.Named.{StandsFor, StandFor};
 ghost use Rattle.reg_keys.specs.Told.{TellOf};
 ghost use Rattle.reg_engine.specs.declared.fault.CliFault.{CliFault};
 ghost use Rattle.reg_engine.specs.declared.fault.CliFault.TheVariants.{Memory};
 ghost use Rattle.reg_desk.specs.Keyed.{PrintsFor, RefusesFor, MakesFor, CannotMakeFor};
+ghost use Rattle.reg_import.specs.declared.reading.FileText.{FileText};
+ghost use Rattle.reg_import.specs.declared.told.Differs.TheVariants.{Beside};
+ghost use Rattle.reg_import.specs.declared.told.Problem.{Problem};
+ghost use Rattle.reg_import.specs.declared.import.ImportRefusal.TheVariants as refused;
+ghost use Rattle.reg_import.specs.Again.{HasStanding};
+ghost use Rattle.reg_desk.specs.declared.import.order.Order.{Order};
+ghost use Rattle.reg_desk.specs.declared.import.fault.Unimported.{Unimported};
+ghost use Rattle.reg_desk.specs.ImportTexts.{TextAt, HaveTexts};
+ghost use Rattle.reg_desk.specs.Import.{Makes, Refuses};
 ghost use Rattle.reg_desk.specs.Logged.{LogsOf, CannotLog, LogsFor, CannotLogFor};
 
 use crate::keyed::{ChangeOf, PrintOf};
@@ -31,6 +42,26 @@ pub fn texts_stand_once()
         → AreDoubles (rows x.ops) ids → Does x replica note (retirements ids) y made
         → Contains (rows y.ops) one → Contains (rows y.ops) other → one.status ≢ Some Retired → other.status ≢ Some Retired
         → one.definition ≡ other.definition → one.entry ≡ other.entry }
+{}
+
+/// Two offices that have retired the same entries retire the doubles of their registers, each without the other, and then
+/// join. An entry of both registers together that is not retired, and is the least of its text, is not retired then.
+pub fn the_least_stays()
+    ensures { (x y both xs ys z : Content) (replica other note remark : List ℕ) (ids others made more : List Id) (one : Row) → IsContent x → IsContent y
+        → joined x y ≡ Ok both → ((e : Id) → retires x.ops e ≡ retires y.ops e)
+        → AreDoubles (rows x.ops) ids → Does x replica note (retirements ids) xs made
+        → AreDoubles (rows y.ops) others → Does y other remark (retirements others) ys more → joined xs ys ≡ Ok z
+        → Contains (rows both.ops) one → one.status ≢ Some Retired → ¬ (HasLesser (rows both.ops) one)
+        → (enters z.ops one.entry ≡ true) × (status z.ops one.entry ≢ Some Retired) }
+{}
+
+/// The file that `Export` prints, imported in mode `beside` into an empty register: the new register has the same texts, and
+/// none is refused.
+pub fn an_exported_file_is_imported()
+    ensures same { (o : Order) (first : ℕ) (x y : Content) (lines : List ℕ) (passed : Option Unimported) → IsContent x → o.differs ≡ Beside
+        → Makes o first nothing (export x.ops ∷ []) y lines passed → (text : List ℕ) → HasStanding y.ops text ↔ HasStanding x.ops text }
+    ensures passes { (o : Order) (x : Content) (cuts : List TextAt) (texts : List FileText) (at : ℕ) (p : Problem) → IsContent x → o.differs ≡ Beside
+        → HaveTexts (export x.ops ∷ []) cuts texts → ¬ (Refuses o nothing texts (refused.Refused at p)) }
 {}
 
 /// With a word that names an entry, a command prints exactly the text that it prints for the entry, and is refused for exactly

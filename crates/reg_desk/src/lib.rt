@@ -13,6 +13,7 @@ mod offices;
 mod settle;
 mod status;
 mod status_lines;
+mod words;
 
 pub use diff::run_diff;
 pub use explained::{Explained, explained_fault, problem_of, run_check_explained};

@@ -5,6 +5,7 @@ ghost use Rattle.reg_report.specs.Lines.{IsReady, WritesRow};
 ghost use Rattle.reg_desk.specs.Status.{status_header, figure_fields, no_figures, IsStatusLine, IsStatusText};
 
 use crate::look::Look;
+use crate::words::words_of;
 use csv::Writer;
 use reg_query::Figures;
 use reg_report::write_fields;
@@ -98,17 +99,14 @@ fn write_line(
         Look::Figures { bytes, figures } => write_figures(alloc, wtr, name, *bytes, figures),
         Look::NoRegister { bytes, fault } => {
             let bytes = bytes.to_string(alloc)?;
-            let words = format!(in alloc; "{fault}")?;
-            write_fault(wtr, name, bytes.as_bytes(), words.as_bytes())
+            let words = words_of(alloc, *fault)?;
+            write_fault(wtr, name, bytes.as_bytes(), &words)
         }
         Look::Unread(fault) => {
-            let words = format!(in alloc; "{fault}")?;
-            write_fault(wtr, name, b"", words.as_bytes())
+            let words = words_of(alloc, *fault)?;
+            write_fault(wtr, name, b"", &words)
         }
-        Look::NoShelf(problem) => {
-            let words = format!(in alloc; "{problem}")?;
-            write_fault(wtr, name, b"", words.as_bytes())
-        }
+        Look::NoShelf(problem) => write_fault(wtr, name, b"", problem.name().as_bytes()),
     }
 }
 

@@ -5,18 +5,18 @@ use Rattle.std.proofs.lemmas.Nat.{from_be_bytes-to_be_bytes_4}
 use Rattle.std.specs.Prelude.{IsTrue, Err, IsErrOf}
 use Rattle.byte_disk.specs.Disk.{Only, LeavesOnly}
 use Rattle.byte_disk.proofs.Moments.{weaker, joined}
-use Rattle.byte_shelf.specs.Shelf.{StandAt, HasNoHead, IsSize}
+use Rattle.byte_shelf.specs.Shelf.{StandAt, HasNoHead, IsSize, EndsWithin}
 use Rattle.byte_shelf.specs.Keep.{AddsNothing, CountsFault}
 use Rattle.byte_shelf.specs.declared.fault.ShelfFault.{ShelfFault}
 use Rattle.byte_shelf.specs.declared.fault.ShelfFault.TheVariants as shelf
 use Rattle.reg_op.specs.Contents.{Content}
-use Rattle.reg_shelf.specs.Shelf.{IsShelf, IsNoShelf, HasFile}
+use Rattle.reg_shelf.specs.Shelf.{IsShelf, IsShelfOf, IsNoShelf, HasFile}
 use Rattle.reg_shelf.specs.Keep.{IsTooLarge, IsRestoreFault}
 use Rattle.reg_engine.specs.declared.fault.ShelfProblem.TheVariants as problem
 use Rattle.reg_engine.specs.declared.fault.CliFault.{CliFault}
 use Rattle.reg_engine.specs.declared.fault.CliFault.TheVariants as cli
 use Rattle.reg_engine.specs.Fault.{shelf_fault}
-use Rattle.reg_engine.specs.Shelf.{Disks, Has, IsSure, AddsNothingTo, StaysOn, PassesOn, KeepsOn, HasNoRoom, IsUnrestored, IsUnkept}
+use Rattle.reg_engine.specs.Shelf.{Disks, Has, IsSure, AddsNothingTo, StaysOn, PassesOn, KeepsSize, KeepsOn, HasNoRoom, IsUnrestored, IsUnkept}
 
 -- ---- faults
 
@@ -76,11 +76,11 @@ passes_on d old new x y has sure leaves = λ told.
 
 pub keeps_on : {D : Type 0} (d : Disks D) (old new : D) (x y : Content) → Has d old x → IsSure d old → d.tells new ≡ d.tells old → d.failures new ≡ d.failures old → HasFile y
     → (IsTrue (d.tells old) → (was : Content) → ((c : List ℕ) → d.images old c → IsShelf c was) → Only (d.seen new) (d.images new) × IsShelf (d.seen new) y)
-    → PassesOn d x y old new → KeepsOn d x y old new
-keeps_on d old new x y has sure tells quiet file kept passes =
+    → KeepsSize d x y old new → PassesOn d x y old new → KeepsOn d x y old new
+keeps_on d old new x y has sure tells quiet file kept sized passes =
     let before : IsTrue (d.tells new) → IsTrue (d.tells old) = λ told. subst (λ (b : Bool). IsTrue b) tells told in
     let now : IsTrue (d.tells new) → Only (d.seen new) (d.images new) × IsShelf (d.seen new) y = λ told. kept (before told) x (all_shelves d old x has sure (before told)) in
-    record { quiet = quiet; file = file; has = λ told. (now told).1; sure = λ told. (now told).0; passes = passes }
+    record { quiet = quiet; file = file; has = λ told. (now told).1; sized = sized; sure = λ told. (now told).0; passes = passes }
 
 -- ---- one step after another
 
@@ -113,8 +113,14 @@ module _ {D : Type 0} (d : Disks D) (old mid new : D) (tells : d.tells mid ≡ d
       joined d.moment d.since old mid new P (weaker d.moment d.since old mid (d.images old) P first.any_moment (λ c may. inl may))
       (weaker d.moment d.since mid new (λ c. d.images mid c ⊎ (IsShelf c x ⊎ IsShelf c y)) P (passes (then_told told)) (λ c left. ⊎_elim (λ may. inl (first.fewer c may)) inr left))
 
+  then_sized : (x y : Content) → KeepsSize d x y mid new → KeepsSize d x y old new
+  then_sized x y sized = λ told size was.
+      let same = (stays.nothing told).same in
+      let done = sized (then_told told) size (subst (λ (t : List ℕ). IsShelfOf t size x) (sym same) was) in
+      (done.0, subst (λ (t : List ℕ). EndsWithin size t (d.seen new)) same done.1)
+
   pub then_keeps : (x y : Content) → KeepsOn d x y mid new → KeepsOn d x y old new
-  then_keeps x y keeps = record { quiet = keeps.quiet ∙ stays.quiet; file = keeps.file; has = keeps.has; sure = keeps.sure; passes = then_passes x y keeps.passes }
+  then_keeps x y keeps = record { quiet = keeps.quiet ∙ stays.quiet; file = keeps.file; has = keeps.has; sized = then_sized x y keeps.sized; sure = keeps.sure; passes = then_passes x y keeps.passes }
 
   room_before : (y : Content) → HasNoRoom d mid y → HasNoRoom d old y
   room_before y large = λ told. subst (λ (t : List ℕ). IsTooLarge t y) (stays.nothing told).same (large (then_told told))

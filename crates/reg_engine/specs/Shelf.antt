@@ -1,7 +1,7 @@
 -- The effects of commands on the disk of a shelf, and the commands that make a shelf or write its register to a file.
-use Rattle.std.specs.Prelude.{◌≡◌, ◌⊎◌, ◌+◌, Bool, IsTrue, List, ℕ}
+use Rattle.std.specs.Prelude.{◌≡◌, ◌⊎◌, ◌+◌, Bool, IsTrue, List, [], ℕ}
 use Rattle.byte_disk.specs.Disk.{Only, SameImages, LeavesOnly}
-use Rattle.byte_shelf.specs.Shelf.{IsSize}
+use Rattle.byte_shelf.specs.Shelf.{IsSize, EndsWithin}
 use Rattle.byte_shelf.specs.Keep.{AddsNothing}
 use Rattle.reg_op.specs.Contents.{Content, nothing}
 use Rattle.reg_shelf.specs.Shelf.{IsShelf, IsShelfOf, IsNoShelf, HasFile}
@@ -52,11 +52,16 @@ pub record StaysOn {D : Type 0} (d : Disks D) (old new : D) : Type 0 where
 abbrev pub PassesOn : {D : Type 0} → Disks D → Content → Content → D → D → Type 0
 PassesOn d x y old new = IsTrue (d.tells old) → LeavesOnly d.moment d.since old new (λ c. d.images old c ⊎ (IsShelf c x ⊎ IsShelf c y))
 
+-- the slots of a shelf of the first content keep their size under the second, and the disk does not grow past them
+abbrev pub KeepsSize : {D : Type 0} → Disks D → Content → Content → D → D → Type 0
+KeepsSize d x y old new = IsTrue (d.tells old) → (size : ℕ) → IsShelfOf (d.seen old) size x → IsShelfOf (d.seen new) size y × EndsWithin size (d.seen old) (d.seen new)
+
 -- a shelf of the first content is now one of the second, and a stop leaves nothing else
 pub record KeepsOn {D : Type 0} (d : Disks D) (x y : Content) (old new : D) : Type 0 where
   pub quiet : d.failures new ≡ d.failures old
   pub file : HasFile y
   pub has : Has d new y
+  pub sized : KeepsSize d x y old new
   pub sure : IsSure d new
   pub passes : PassesOn d x y old new
 
@@ -103,23 +108,31 @@ IsShelfFault d Unread Makes old new p = (IsUnrestored d old new (cli.Shelf p) ×
 
 -- ---- a new shelf
 
--- the disk was made a shelf of the empty register, of this size
-pub record IsNewShelf {D : Type 0} (d : Disks D) (size : ℕ) (old new : D) : Type 0 where
+-- the disk was opened, once, which emptied it
+pub record IsEmptied {D : Type 0} (d : Disks D) (openings : D → ℕ) (old new : D) : Type 0 where
+  pub opened : openings new ≡ openings old + 1
+  pub quiet : d.failures new ≡ d.failures old
+  pub empty : IsTrue (d.tells old) → d.seen new ≡ []
+
+-- the disk was opened, and made a shelf of the empty register, of this size
+pub record IsNewShelf {D : Type 0} (d : Disks D) (openings : D → ℕ) (size : ℕ) (old new : D) : Type 0 where
+  pub between : D
+  pub emptied : IsEmptied d openings old between
   pub quiet : d.failures new ≡ d.failures old
   pub sized : IsSize size
   pub has : IsTrue (d.tells new) → IsShelfOf (d.seen new) size nothing
   pub sure : IsSure d new
 
--- why it was not; of a size that no shelf has nothing is opened
+-- why it was not; of a size that no shelf has nothing is opened, and without memory it is left empty
 abbrev pub IsUnformatted : {D : Type 0} → Disks D → (D → ℕ) → ℕ → D → D → CliFault → Type 0
 IsUnformatted d openings size old new (cli.Refused refusal.BadSize) = (IsSize size → ⊥) × (new ≡ old)
 IsUnformatted d openings size old new (cli.Refused r) = ⊥
 IsUnformatted d openings size old new (cli.File k f) = ⊥
 IsUnformatted d openings size old new (cli.Out f) = ⊥
-IsUnformatted d openings size old new cli.Memory = IsSize size × (d.failures new ≡ d.failures old) × (openings new ≡ openings old + 1)
+IsUnformatted d openings size old new cli.Memory = IsSize size × IsEmptied d openings old new
 IsUnformatted d openings size old new (cli.Shelf problem.NotOpened) = IsSize size × Fails d old new × (openings new ≡ openings old)
     × (IsTrue (d.tells old) → (d.seen new ≡ d.seen old) × SameImages (d.images old) (d.images new))
 IsUnformatted d openings size old new (cli.Shelf problem.Busy) = ⊥
 IsUnformatted d openings size old new (cli.Shelf problem.NotShelf) = ⊥
 IsUnformatted d openings size old new (cli.Shelf problem.TooLarge) = ⊥
-IsUnformatted d openings size old new (cli.Shelf problem.DiskFailed) = IsSize size × Fails d old new
+IsUnformatted {D = D} d openings size old new (cli.Shelf problem.DiskFailed) = IsSize size × Fails d old new × ((between : D) × IsEmptied d openings old between)

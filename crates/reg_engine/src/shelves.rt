@@ -11,7 +11,7 @@ use std::alloc::Global;
 
 /// Opens the disk, which empties it, and makes it a shelf with the empty register, for files of up to `size` bytes.
 pub fn run_shelf<D: NewDisk>(alloc: Global, disk: &mut D, size: u32) -> Result<(), CliFault>
-    ensures made { OnOk result (IsNewShelf (disks D.tells D.seen D.images D.moment D.images_since D.failures) size disk.old disk.new) }
+    ensures made { OnOk result (IsNewShelf (disks D.tells D.seen D.images D.moment D.images_since D.failures) D.openings size disk.old disk.new) }
     ensures fault { IfErr result (IsUnformatted (disks D.tells D.seen D.images D.moment D.images_since D.failures) D.openings size disk.old disk.new) }
     ensures bad_size { (result ≡ Err (CliFault.Refused Refusal.BadSize)) ↔ (IsSize size → ⊥) }
     ensures tells { D.tells disk.new ≡ D.tells disk.old }

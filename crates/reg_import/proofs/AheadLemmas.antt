@@ -22,7 +22,7 @@ use Rattle.reg_seen.specs.Runs.{id_at}
 use Rattle.reg_office.specs.declared.fault.OfficeFault.{OfficeFault}
 use Rattle.reg_office.specs.declared.fault.OfficeFault.TheVariants as fault
 use Rattle.reg_office.specs.Making.{greatest, numbered, objection, objections, with_op, else_next, note_fault, is_spent, made_unless, made}
-use Rattle.reg_office.specs.World.{World, start, Event, Make, Send, SendSeen, SendPiece, Take, TakeOne, Restart, Stop, Happens, Leads, IsWorld}
+use Rattle.reg_office.specs.World.{World, start, Event, Make, Send, SendSeen, SendPiece, SendFirst, Take, TakeOne, Restart, Upgrade, Stop, Happens, Leads, IsWorld}
 use Rattle.reg_office.specs.Reached.{IsMadeBy}
 use Rattle.reg_office.proofs.EffectLemmas.{nothing_against}
 use Rattle.reg_office.proofs.LawLemmas.{made_are}
@@ -127,7 +127,9 @@ by_event w inv u (SendSeen i) o e m h g body = absurd m
 by_event w inv u (SendPiece i place) o e m h g body = absurd m
 by_event w inv u (Take i place) o e m h g body = absurd m
 by_event w inv u (TakeOne i place id) o e m h g body = absurd m
+by_event w inv u (SendFirst i what bytes) o e m h g body = absurd m
 by_event w inv u (Restart i) o e m h g body = absurd m
+by_event w inv u (Upgrade i bytes) o e m h g body = absurd m
 by_event w inv u (Stop v left) o e m h g body = elim (stop_is_all_or_nothing w u inv v left h) [
   | inl now ↦ by_event w inv u v o e m.0 now g body
   | inr same ↦ inr same

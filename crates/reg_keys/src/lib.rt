@@ -10,6 +10,6 @@ mod word;
 
 pub use answer::{entries_answering, entries_of_key, has_key};
 pub use fault::KeyFault;
-pub use naming::{entry_of, named, named_one};
+pub use naming::{entries_of, entry_of, named, named_one, rows_in_order};
 pub use telling::told;
 pub use word::names_key;

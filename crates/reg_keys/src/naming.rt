@@ -50,7 +50,7 @@ fn only(ids: &[OpId]) -> Result<OpId, KeyFault>
 }
 
 /// A row for each entry, by id.
-pub(crate) fn rows_in_order(alloc: Global, register: &Register) -> Result<Vec<Row>, AllocError>
+pub fn rows_in_order(alloc: Global, register: &Register) -> Result<Vec<Row>, AllocError>
     ensures rows { IfOk result (λ made. map row_seen made.items ≡ rows register.now.ops) }
     ensures order { IfOk result (λ made. Ascends row_cmp (map row_seen made.items)) }
 {
@@ -90,7 +90,8 @@ fn push_named(alloc: Global, ids: &mut Vec<OpId>, rows: &[Row], word: &[u8]) -> 
     }
 }
 
-fn entries_of(alloc: Global, rows: &[Row], words: &[&[u8]]) -> Result<Vec<OpId>, KeyFault>
+/// The entries that some words name, in their order, among rows that are ordered by entry.
+pub fn entries_of(alloc: Global, rows: &[Row], words: &[&[u8]]) -> Result<Vec<OpId>, KeyFault>
     requires { Ascends row_cmp (map row_seen rows.now) }
     ensures ok { IfOk result (λ ids. StandFor (map row_seen rows.now) (map (λ w. w.now) words.now) ids.items) }
     ensures fault { IfErr result (Object (map row_seen rows.now) (map (λ w. w.now) words.now)) }

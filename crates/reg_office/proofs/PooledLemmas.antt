@@ -11,25 +11,36 @@ use Rattle.reg_op.proofs.PieceLemmas.{outside_parts}
 use Rattle.reg_seen.specs.Runs.{AllIds}
 use Rattle.reg_file.specs.Layout.{file, seen_file, piece_file}
 use Rattle.reg_file.specs.Files.{most, IsFileOf, IsSeenFileOf, IsPieceFileOf}
-use Rattle.reg_file.proofs.HoldLemmas.{one_content, one_file}
-use Rattle.reg_file.proofs.SummaryLemmas.{one_summary, one_file as one_seen_file}
-use Rattle.reg_file.proofs.PieceLemmas.{one_piece, one_file as one_piece_file}
-use Rattle.reg_file.proofs.KindLemmas.{register_or_seen, register_or_piece, seen_or_piece}
+use Rattle.reg_file.proofs.HoldLemmas.{one_reading as one_register, one_file}
+use Rattle.reg_file.proofs.SummaryLemmas.{one_reading as one_summary, one_file as one_seen_file}
+use Rattle.reg_file.proofs.PieceLemmas.{one_reading as one_piece, one_file as one_piece_file}
+use Rattle.reg_file.proofs.KindLemmas.{read_register_or_seen, read_register_or_piece, read_seen_or_piece}
 use Rattle.reg_file.proofs.MadeRuns.{runs_of_ids}
-use Rattle.reg_office.specs.Pooled.{Pooled, OfRegister, OfSeen, OfPiece, HoldsAny, IsAnyTooLarge, ops_in, TellsOf}
+use Rattle.reg_office.specs.Pooled.{Pooled, OfRegister, OfSeen, OfPiece, HoldsAny, HoldsFirstAny, ReadsAsAny, IsAnyTooLarge, ops_in, TellsOf}
 
 -- ---- they hold one thing
 
-pub one_pooled : (bytes : List ℕ) (what other : Pooled) → HoldsAny bytes what → HoldsAny bytes other → what ≡ other
-one_pooled bytes (OfRegister x) (OfRegister y) h k = ap OfRegister (one_content bytes x y h k)
-one_pooled bytes (OfRegister x) (OfSeen v) h k = absurd (register_or_seen bytes x v h k)
-one_pooled bytes (OfRegister x) (OfPiece p) h k = absurd (register_or_piece bytes x p h k)
-one_pooled bytes (OfSeen v) (OfRegister x) h k = absurd (register_or_seen bytes x v k h)
+pub one_pooled : (bytes : List ℕ) (what other : Pooled) → ReadsAsAny bytes what → ReadsAsAny bytes other → what ≡ other
+one_pooled bytes (OfRegister x) (OfRegister y) h k = ap OfRegister (one_register bytes x y h k)
+one_pooled bytes (OfRegister x) (OfSeen v) h k = absurd (read_register_or_seen bytes x v h k)
+one_pooled bytes (OfRegister x) (OfPiece p) h k = absurd (read_register_or_piece bytes x p h k)
+one_pooled bytes (OfSeen v) (OfRegister x) h k = absurd (read_register_or_seen bytes x v k h)
 one_pooled bytes (OfSeen v) (OfSeen w) h k = ap OfSeen (one_summary bytes v w h k)
-one_pooled bytes (OfSeen v) (OfPiece p) h k = absurd (seen_or_piece bytes v p h k)
-one_pooled bytes (OfPiece p) (OfRegister x) h k = absurd (register_or_piece bytes x p k h)
-one_pooled bytes (OfPiece p) (OfSeen v) h k = absurd (seen_or_piece bytes v p k h)
+one_pooled bytes (OfSeen v) (OfPiece p) h k = absurd (read_seen_or_piece bytes v p h k)
+one_pooled bytes (OfPiece p) (OfRegister x) h k = absurd (read_register_or_piece bytes x p k h)
+one_pooled bytes (OfPiece p) (OfSeen v) h k = absurd (read_seen_or_piece bytes v p k h)
 one_pooled bytes (OfPiece p) (OfPiece q) h k = ap OfPiece (one_piece bytes p q h k)
+
+-- whether they are of version 2 or of version 1
+pub is_read : (bytes : List ℕ) (what : Pooled) → HoldsAny bytes what → ReadsAsAny bytes what
+is_read bytes (OfRegister x) h = inl h
+is_read bytes (OfSeen v) h = inl h
+is_read bytes (OfPiece p) h = inl h
+
+pub first_is_read : (bytes : List ℕ) (what : Pooled) → HoldsFirstAny bytes what → ReadsAsAny bytes what
+first_is_read bytes (OfRegister x) h = inr h
+first_is_read bytes (OfSeen v) h = inr h
+first_is_read bytes (OfPiece p) h = inr h
 
 -- ---- it has one file, or one that is too large
 

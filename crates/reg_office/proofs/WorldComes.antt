@@ -19,12 +19,12 @@ use Rattle.reg_op.specs.Pieces.{Piece, part_of, piece_for, IsHeld, first_missing
 use Rattle.reg_op.proofs.PieceLemmas.{piece_is}
 use Rattle.reg_op.proofs.RefusalLemmas.{missing_none, pieces_joined}
 use Rattle.reg_seen.specs.Runs.{AllIds}
-use Rattle.reg_file.specs.Files.{HoldsSeen}
-use Rattle.reg_file.proofs.HoldLemmas.{one_content}
+use Rattle.reg_file.specs.Files.{HoldsFirst, ReadsAsSeen}
+use Rattle.reg_file.proofs.HoldLemmas.{one_content, one_reading}
 use Rattle.reg_office.specs.Making.{made}
-use Rattle.reg_office.specs.Pooled.{Pooled, OfRegister, OfSeen, OfPiece, HoldsAny, ops_in, TellsOf}
-use Rattle.reg_office.specs.World.{Sent, World, Event, Make, Send, SendSeen, SendPiece, Take, TakeOne, Restart, Stop, office_of, IsEvent, Outcome, Gains, gained, gained_by_piece, joins, makes, takes, takes_one, sends_piece, picked, Reads, ComesOf}
-use Rattle.reg_office.proofs.PooledLemmas.{one_pooled, ops_within}
+use Rattle.reg_office.specs.Pooled.{Pooled, OfRegister, OfSeen, OfPiece, ReadsAsAny, ops_in, TellsOf}
+use Rattle.reg_office.specs.World.{Sent, World, Event, Make, Send, SendSeen, SendPiece, SendFirst, Take, TakeOne, Restart, Upgrade, Stop, office_of, IsEvent, Outcome, Gains, gained, gained_by_piece, joins, makes, takes, takes_one, sends_piece, picked, Reads, ComesOf}
+use Rattle.reg_office.proofs.PooledLemmas.{one_pooled, first_is_read, ops_within}
 use Rattle.reg_office.proofs.LawLemmas.{are_unseen, are_once}
 use Rattle.reg_office.proofs.WorldCommands.{made_operations, made_on}
 use Rattle.reg_office.proofs.WorldInvariant.{IsWithin, IsSent, Invariant, sent_at, office_content, IsGood}
@@ -146,7 +146,7 @@ one_good w inv i id s within =
     ] refl
 
 -- what the file of a sender holds tells of what it had reached
-pub told : (all : Ops) (s : Sent) (what : Pooled) → IsSent all s → HoldsAny s.bytes what → TellsOf s.reached what
+pub told : (all : Ops) (s : Sent) (what : Pooled) → IsSent all s → ReadsAsAny s.bytes what → TellsOf s.reached what
 told all s what is h = subst (TellsOf s.reached) (one_pooled s.bytes is.what what is.holds h) is.tells
 
 -- a piece that tells of some operations, joined where its basis is held, gives the state of these too
@@ -201,13 +201,17 @@ sends_piece_good w inv i (OfSeen seen) are = record {
   sound = piece_is (w.offices i).content seen (office_content w inv i) (are seen refl);
 }
 
-reads_good : (w : World) (inv : Invariant w) (next : Pooled → Ops → Outcome) → ((s : Sent) (what : Pooled) → IsSent inv.all s → HoldsAny s.bytes what → IsGood w inv (next what s.reached))
+reads_good : (w : World) (inv : Invariant w) (next : Pooled → Ops → Outcome) → ((s : Sent) (what : Pooled) → IsSent inv.all s → ReadsAsAny s.bytes what → IsGood w inv (next what s.reached))
     → (o : Option Sent) (at : (s : Sent) → o ≡ Some s → IsSent inv.all s) (out : Outcome) → Reads next o out → IsGood w inv out
 reads_good w inv next each None at out h = subst (IsGood w inv) (sym h) tt
 reads_good w inv next each (Some s) at out h = subst (IsGood w inv) (sym h.2) (each s h.0 (at s refl) h.1)
 
-seen_ids : (bytes : List ℕ) (what : Pooled) → HoldsAny bytes what → (seen : Ids) → what ≡ OfSeen seen → AllIds seen
-seen_ids bytes what h seen e = let k : HoldsSeen bytes seen = subst (HoldsAny bytes) e h in k.are_ids
+seen_ids : (bytes : List ℕ) (what : Pooled) → ReadsAsAny bytes what → (seen : Ids) → what ≡ OfSeen seen → AllIds seen
+seen_ids bytes what h seen e = of_either (subst (ReadsAsAny bytes) e h)
+  where
+    of_either : ReadsAsSeen bytes seen → AllIds seen
+    of_either (inl k) = k.are_ids
+    of_either (inr k) = k.are_ids
 
 -- what an office had
 same_good : (w : World) (inv : Invariant w) (i : List ℕ) (x : Content) → x ≡ state (w.offices i).reached → IsGood w inv (Gains i x (w.offices i).reached)
@@ -224,10 +228,11 @@ same_good w inv i x is = record {
 
 pub comes_good : (w : World) (inv : Invariant w) (e : Event) → IsEvent w e → (out : Outcome) → ComesOf w e out → IsGood w inv out
 comes_good w inv (Make i bs note) is out h = subst (IsGood w inv) (sym h) (make_good w inv i bs note is)
-comes_good w inv (Send i) is out h = subst (IsGood w inv) (sym h) (record { what = OfRegister (state (w.offices i).reached); holds = inv.last i; tells = refl; within = inv.within i })
+comes_good w inv (Send i) is out h = subst (IsGood w inv) (sym h) (record { what = OfRegister (state (w.offices i).reached); holds = inl (inv.last i); tells = refl; within = inv.within i })
 comes_good w inv (SendSeen i) is out h = subst (IsGood w inv) (sym h) (record { tells = ap (λ (x : Content). x.seen) (inv.content i); within = inv.within i; sound = (office_content w inv i).are_ids })
 comes_good w inv (SendPiece i place) is out h =
     reads_good w inv (λ what reached. sends_piece w i what) (λ s what sent holds. sends_piece_good w inv i what (seen_ids s.bytes what holds)) (slice_get w.pool place) (λ s at. sent_at inv.all w.pool place s inv.pool at) out h
+comes_good w inv (SendFirst i what bytes) is out h = subst (IsGood w inv) (sym h) (record { what = what; holds = first_is_read bytes what is.0; tells = is.1; within = inv.within i })
 comes_good w inv (Take i place) is out h =
     reads_good w inv (takes w i) (λ s what sent holds. takes_good w inv i what s.reached (told inv.all s what sent holds) sent.within) (slice_get w.pool place) (λ s at. sent_at inv.all w.pool place s inv.pool at) out h
 comes_good w inv (TakeOne i place id) is out h =
@@ -235,5 +240,8 @@ comes_good w inv (TakeOne i place id) is out h =
     (λ s what sent holds. one_good w inv i id (ops_in what) (λ o k. sent.within o (ops_within s.reached what (told inv.all s what sent holds) o k)))
     (slice_get w.pool place) (λ s at. sent_at inv.all w.pool place s inv.pool at) out h
 comes_good w inv (Restart i) is out h = subst (IsGood w inv) (sym h.2) (same_good w inv i h.0 (one_content (w.offices i).last h.0 (state (w.offices i).reached) h.1 (inv.last i)))
+comes_good w inv (Upgrade i bytes) is out h =
+    let held : HoldsFirst bytes (state (w.offices i).reached) = subst (HoldsFirst bytes) (inv.content i) is in
+    subst (IsGood w inv) (sym h.2) (same_good w inv i h.0 (one_reading bytes h.0 (state (w.offices i).reached) h.1 (inr held)))
 comes_good w inv (Stop e left) is out (inl new) = comes_good w inv e is.1 out new.0
 comes_good w inv (Stop e left) is out (inr old) = subst (IsGood w inv) (sym old.2) (same_good w inv (office_of e) (w.offices (office_of e)).content (inv.content (office_of e)))

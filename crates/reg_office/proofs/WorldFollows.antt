@@ -18,10 +18,10 @@ use Rattle.reg_op.proofs.StatusLemmas.{status-kept}
 use Rattle.reg_op.proofs.JoinLemmas.{joined_ok}
 use Rattle.reg_state.specs.ManyLaws.{all_of}
 use Rattle.reg_file.specs.Files.{Holds, IsFileOf}
-use Rattle.reg_file.proofs.HoldLemmas.{one_content, one_file}
+use Rattle.reg_file.proofs.HoldLemmas.{one_content, one_reading, one_file}
 use Rattle.reg_office.specs.Making.{made}
-use Rattle.reg_office.specs.Pooled.{Pooled, OfRegister, HoldsAny, ops_in, TellsOf}
-use Rattle.reg_office.specs.World.{Sent, World, Event, Make, Send, SendSeen, SendPiece, Take, TakeOne, Restart, Stop, office_of, IsEvent, IsShelfAfter, stays, Outcome, Unchanged, Clashes, Sends, Writes, Gains, takes, takes_one, sends_piece, picked, Reads, ComesOf, put, pooled, After, IsTooMuch, Happens, Leads}
+use Rattle.reg_office.specs.Pooled.{Pooled, OfRegister, ReadsAsAny, ops_in, TellsOf}
+use Rattle.reg_office.specs.World.{Sent, World, Event, Make, Send, SendSeen, SendPiece, SendFirst, Take, TakeOne, Restart, Upgrade, Stop, office_of, IsEvent, IsShelfAfter, stays, Outcome, Unchanged, Clashes, Sends, Writes, Gains, takes, takes_one, sends_piece, picked, Reads, ComesOf, put, pooled, After, IsTooMuch, Happens, Leads}
 use Rattle.reg_office.proofs.PooledLemmas.{one_pooled, one_pooled_file, has_file}
 use Rattle.reg_office.proofs.WorldInvariant.{IsWithin, sent_at, Invariant, gain_content, IsGood}
 use Rattle.reg_office.proofs.WorldShelves.{shelf_or_not}
@@ -34,7 +34,7 @@ same_files w inv i j e = (
   one_file (state (w.offices j).reached) (w.offices i).last (w.offices j).last (subst (λ s. IsFileOf (state s) (w.offices i).last) e (inv.last i).bytes_are) (inv.last j).bytes_are,
 )
 
-pub reads : (w : World) (inv : Invariant w) (place : ℕ) (sent : Sent) → slice_get w.pool place ≡ Some sent → (what : Pooled) × HoldsAny sent.bytes what × TellsOf sent.reached what
+pub reads : (w : World) (inv : Invariant w) (place : ℕ) (sent : Sent) → slice_get w.pool place ≡ Some sent → (what : Pooled) × ReadsAsAny sent.bytes what × TellsOf sent.reached what
 reads w inv place sent at = let is = sent_at inv.all w.pool place sent inv.pool at in (is.what, is.holds, is.tells)
 
 all_within : (w : World) (inv : Invariant w) (is : List (List ℕ)) → IsWithin (all_of (map (λ i. (w.offices i).reached) is)) inv.all
@@ -61,15 +61,17 @@ one_outcome w (Make i effects note) out other h k = h ∙ sym k
 one_outcome w (Send i) out other h k = h ∙ sym k
 one_outcome w (SendSeen i) out other h k = h ∙ sym k
 one_outcome w (SendPiece i place) out other h k = reads_one (λ what reached. sends_piece w i what) (slice_get w.pool place) out other h k
+one_outcome w (SendFirst i what bytes) out other h k = h ∙ sym k
 one_outcome w (Take i place) out other h k = reads_one (takes w i) (slice_get w.pool place) out other h k
 one_outcome w (TakeOne i place id) out other h k = reads_one (λ what reached. takes_one w i (picked id (ops_in what))) (slice_get w.pool place) out other h k
 one_outcome w (Restart i) out other h k = h.2 ∙ ap (λ x. Gains i x (w.offices i).reached) (one_content (w.offices i).last h.0 k.0 h.1 k.1) ∙ sym k.2
+one_outcome w (Upgrade i bytes) out other h k = h.2 ∙ ap (λ x. Gains i x (w.offices i).reached) (one_reading bytes h.0 k.0 h.1 k.1) ∙ sym k.2
 one_outcome w (Stop e left) out other (inl h) (inl k) = one_outcome w e out other h.0 k.0
 one_outcome w (Stop e left) out other (inl h) (inr k) = absurd (k.1 out h.0 h.1)
 one_outcome w (Stop e left) out other (inr h) (inl k) = absurd (h.1 other k.0 k.1)
 one_outcome w (Stop e left) out other (inr h) (inr k) = h.2 ∙ sym k.2
 
-reads_some : (next : Pooled → Ops → Outcome) (o : Option Sent) → ((s : Sent) → o ≡ Some s → (what : Pooled) × HoldsAny s.bytes what × TellsOf s.reached what) → (out : Outcome) × Reads next o out
+reads_some : (next : Pooled → Ops → Outcome) (o : Option Sent) → ((s : Sent) → o ≡ Some s → (what : Pooled) × ReadsAsAny s.bytes what × TellsOf s.reached what) → (out : Outcome) × Reads next o out
 reads_some next None at = (Unchanged, refl)
 reads_some next (Some s) at = let r = at s refl in (next r.0 s.reached, (r.0, r.1, refl))
 
@@ -78,9 +80,11 @@ outcome w inv (Make i effects note) is = (_, refl)
 outcome w inv (Send i) is = (_, refl)
 outcome w inv (SendSeen i) is = (_, refl)
 outcome w inv (SendPiece i place) is = reads_some (λ what reached. sends_piece w i what) (slice_get w.pool place) (reads w inv place)
+outcome w inv (SendFirst i what bytes) is = (_, refl)
 outcome w inv (Take i place) is = reads_some (takes w i) (slice_get w.pool place) (reads w inv place)
 outcome w inv (TakeOne i place id) is = reads_some (λ what reached. takes_one w i (picked id (ops_in what))) (slice_get w.pool place) (reads w inv place)
 outcome w inv (Restart i) is = (_, (state (w.offices i).reached, inv.last i, refl))
+outcome w inv (Upgrade i bytes) is = (_, ((w.offices i).content, inr is, refl))
 outcome w inv (Stop e left) is =
     let came = outcome w inv e is.1 in
     let office = w.offices (office_of e) in

@@ -6,7 +6,7 @@ use Rattle.reg_op.specs.Operations.{Op, Ops, OneBody}
 use Rattle.reg_op.specs.Contents.{Content, state, AreOperations, IsContent}
 use Rattle.reg_op.proofs.ContentLemmas.{state_is_content, OneBody-within}
 use Rattle.reg_file.specs.Files.{Holds}
-use Rattle.reg_office.specs.Pooled.{Pooled, HoldsAny, TellsOf}
+use Rattle.reg_office.specs.Pooled.{Pooled, ReadsAsAny, TellsOf}
 use Rattle.reg_office.specs.World.{Sent, World, Outcome, Unchanged, Clashes, Sends, Writes, Gains}
 use Rattle.reg_office.proofs.PooledLemmas.{IsSound}
 
@@ -16,7 +16,7 @@ IsWithin s t = (o : Op) → contains s o ≡ true → contains t o ≡ true
 -- a file of what its sender had reached, among all that was made
 pub record IsSent (all : Ops) (s : Sent) : Type 0 where
   pub what : Pooled
-  pub holds : HoldsAny s.bytes what
+  pub holds : ReadsAsAny s.bytes what
   pub tells : TellsOf s.reached what
   pub within : IsWithin s.reached all
 

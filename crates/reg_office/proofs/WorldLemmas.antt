@@ -15,6 +15,7 @@ use Rattle.reg_file.specs.Files.{Holds}
 use Rattle.reg_office.specs.World.{Office, Sent, World, start, Event, Outcome, Unchanged, Clashes, Sends, Writes, Gains, put, pooled, After, Leads, IsWorld}
 use Rattle.reg_office.proofs.WorldInvariant.{IsWithin, IsSent, Invariant, Grows, sent_within, IsGain, IsGood}
 use Rattle.reg_office.proofs.WorldComes.{comes_good}
+use Rattle.reg_office.proofs.PooledLemmas.{is_read}
 
 -- ---- the world after it
 
@@ -60,7 +61,7 @@ after_keeps w inv Unchanged good v h = subst (λ u. Invariant u × Grows w u) (s
 after_keeps w inv (Clashes id) good v h = absurd good
 after_keeps w inv (Sends sent) good v h = subst (λ u. Invariant u × Grows w u) (sym h) (sent_keeps w inv sent good, λ i o a. a)
 after_keeps w inv (Writes what reached) good v h = subst (λ u. Invariant u × Grows w u) (sym h.2) (
-  sent_keeps w inv (record { bytes = h.0; reached = reached }) (record { what = what; holds = h.1; tells = good.tells; within = good.within }),
+  sent_keeps w inv (record { bytes = h.0; reached = reached }) (record { what = what; holds = is_read h.0 what h.1; tells = good.tells; within = good.within }),
   λ i o a. a,
 )
 after_keeps w inv (Gains i x reached) good v h = subst (λ u. Invariant u × Grows w u) (sym h.2) (

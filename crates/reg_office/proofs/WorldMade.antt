@@ -13,13 +13,13 @@ use Rattle.reg_seen.specs.Runs.{replica_cmp}
 use Rattle.reg_seen.proofs.RunLemmas.{same_replica, replica_itself}
 use Rattle.reg_office.specs.Making.{made}
 use Rattle.reg_office.specs.Pooled.{ops_in}
-use Rattle.reg_office.specs.World.{Sent, World, start, Event, Make, Send, SendSeen, SendPiece, Take, TakeOne, Restart, Stop, office_of, Outcome, Unchanged, Clashes, Sends, Writes, Gains, After, Happens, Leads}
+use Rattle.reg_office.specs.World.{Sent, World, start, Event, Make, Send, SendSeen, SendPiece, SendFirst, Take, TakeOne, Restart, Upgrade, Stop, office_of, Outcome, Unchanged, Clashes, Sends, Writes, Gains, After, Happens, Leads}
 use Rattle.reg_office.specs.Reached.{Reaches, IsMadeBy, WasMade}
 use Rattle.reg_office.proofs.WorldInvariant.{sent_at, Invariant}
 use Rattle.reg_office.proofs.WorldComes.{comes_good}
 use Rattle.reg_office.proofs.WorldLemmas.{starts, after_keeps}
 use Rattle.reg_office.proofs.PooledLemmas.{ops_within}
-use Rattle.reg_office.proofs.WorldSteps.{made_reaches, refused_makes, sent_is_pooled, seen_is_pooled, answer_keeps, restart_keeps, stopped_before, nothing_to_take, nothing_to_find, taken_or_not, one_or_none}
+use Rattle.reg_office.proofs.WorldSteps.{made_reaches, refused_makes, sent_is_pooled, first_is_pooled, seen_is_pooled, answer_keeps, restart_keeps, upgrade_keeps, stopped_before, nothing_to_take, nothing_to_find, taken_or_not, one_or_none}
 
 -- ---- the pool
 
@@ -73,6 +73,7 @@ step_known w inv (Make i bs note) v h k o now =
 step_known w inv (Send i) v h k o now = inl (inv.within k o (subst (λ (u : World). contains (u.offices k).reached o ≡ true) (sent_is_pooled w v i h) now))
 step_known w inv (SendSeen i) v h k o now = inl (inv.within k o (subst (λ (u : World). contains (u.offices k).reached o ≡ true) (seen_is_pooled w v inv i h).2 now))
 step_known w inv (SendPiece i place) v h k o now = inl (inv.within k o (subst (λ s. contains s o ≡ true) (answer_keeps w v inv i place h k) now))
+step_known w inv (SendFirst i what bytes) v h k o now = inl (inv.within k o (subst (λ (u : World). contains (u.offices k).reached o ≡ true) (first_is_pooled w v i what bytes h) now))
 step_known w inv (Take i place) v h k o now =
     elim (slice_get w.pool place) as (λ r. slice_get w.pool place ≡ r → Known w inv (Take i place) o) [
       | Some sent ↦ λ at. elim (taken_or_not w inv i place sent v at h) [
@@ -98,6 +99,7 @@ step_known w inv (TakeOne i place id) v h k o now =
       | None ↦ λ none. unchanged_known w v inv (TakeOne i place id) (nothing_to_find w v i place id none h) k o now
     ] refl
 step_known w inv (Restart i) v h k o now = unchanged_known w v inv (Restart i) (restart_keeps w v inv i h) k o now
+step_known w inv (Upgrade i bytes) v h k o now = unchanged_known w v inv (Upgrade i bytes) (upgrade_keeps w v inv i bytes h) k o now
 step_known w inv (Stop e left) v h k o now = elim h.1.1 [
   | inl new ↦ elim (step_known w inv e v (h.0.1, (h.1.0, new.0, h.1.2)) k o now) [
     | inl a ↦ inl a

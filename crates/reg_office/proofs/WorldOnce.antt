@@ -7,7 +7,7 @@ use Rattle.reg_op.specs.Operations.{Op}
 use Rattle.reg_op.proofs.OpLemmas.{op_total}
 use Rattle.reg_op.proofs.ContentLemmas.{union_right}
 use Rattle.reg_office.specs.Making.{made}
-use Rattle.reg_office.specs.World.{World, start, Event, Make, Send, SendSeen, SendPiece, Take, TakeOne, Restart, Stop, office_of, Happens, Leads}
+use Rattle.reg_office.specs.World.{World, start, Event, Make, Send, SendSeen, SendPiece, SendFirst, Take, TakeOne, Restart, Upgrade, Stop, office_of, Happens, Leads}
 use Rattle.reg_office.specs.Reached.{IsMadeBy, WasMade}
 use Rattle.reg_office.proofs.LawLemmas.{are_once}
 use Rattle.reg_office.proofs.WorldInvariant.{Invariant}
@@ -32,7 +32,9 @@ makes_reached w inv (SendSeen i) v h o is = absurd is
 makes_reached w inv (SendPiece i place) v h o is = absurd is
 makes_reached w inv (Take i place) v h o is = absurd is
 makes_reached w inv (TakeOne i place id) v h o is = absurd is
+makes_reached w inv (SendFirst i what bytes) v h o is = absurd is
 makes_reached w inv (Restart i) v h o is = absurd is
+makes_reached w inv (Upgrade i bytes) v h o is = absurd is
 
 -- its operations have an id each
 one_of_event : (w : World) (e : Event) (o p : Op) → IsMadeBy w e o → IsMadeBy w e p → o.id ≡ p.id → o ≡ p
@@ -45,7 +47,9 @@ one_of_event w (SendSeen i) o p is are same = absurd is
 one_of_event w (SendPiece i place) o p is are same = absurd is
 one_of_event w (Take i place) o p is are same = absurd is
 one_of_event w (TakeOne i place id) o p is are same = absurd is
+one_of_event w (SendFirst i what bytes) o p is are same = absurd is
 one_of_event w (Restart i) o p is are same = absurd is
+one_of_event w (Upgrade i bytes) o p is are same = absurd is
 
 -- and no operation that was reached before has one of them
 none_before : (w : World) (inv : Invariant w) (e : Event) (o : Op) → IsMadeBy w e o → (j : List ℕ) (p : Op) → contains (w.offices j).reached p ≡ true → p.id ≡ o.id → ⊥
@@ -56,7 +60,9 @@ none_before w inv (SendSeen i) o is j p known same = is
 none_before w inv (SendPiece i place) o is j p known same = is
 none_before w inv (Take i place) o is j p known same = is
 none_before w inv (TakeOne i place id) o is j p known same = is
+none_before w inv (SendFirst i what bytes) o is j p known same = is
 none_before w inv (Restart i) o is j p known same = is
+none_before w inv (Upgrade i bytes) o is j p known same = is
 
 -- ---- lists of events
 

@@ -16,13 +16,13 @@ use Rattle.reg_op.proofs.OpLemmas.{op_total, op_exact, id_total, is_same_exact}
 use Rattle.reg_op.proofs.ContentLemmas.{OneBody-within}
 use Rattle.reg_seen.specs.Runs.{replica_cmp}
 use Rattle.reg_seen.proofs.RunLemmas.{same_replica, replica_itself}
-use Rattle.reg_file.specs.Files.{Holds, HoldsSeen, HoldsPiece}
+use Rattle.reg_file.specs.Files.{Holds, ReadsAs, HoldsSeen, ReadsAsSeen, HoldsPiece, ReadsAsPiece}
 use Rattle.reg_op.specs.Pieces.{Piece, piece_for, IsHeld}
-use Rattle.reg_file.proofs.HoldLemmas.{one_content, one_file}
+use Rattle.reg_file.proofs.HoldLemmas.{one_content, one_reading, one_file}
 use Rattle.reg_office.specs.declared.fault.OfficeFault.{OfficeFault}
 use Rattle.reg_office.specs.Making.{made}
-use Rattle.reg_office.specs.Pooled.{Pooled, OfRegister, OfSeen, OfPiece, HoldsAny, ops_in}
-use Rattle.reg_office.specs.World.{Office, Sent, World, Make, Send, SendSeen, SendPiece, Take, TakeOne, Restart, Outcome, Gains, gained, gained_by_piece, joins, makes, takes, takes_one, sends_piece, picked, Reads, stays, After, put, pooled, Happens}
+use Rattle.reg_office.specs.Pooled.{Pooled, OfRegister, OfSeen, OfPiece, ReadsAsAny, ops_in}
+use Rattle.reg_office.specs.World.{Office, Sent, World, Make, Send, SendSeen, SendPiece, SendFirst, Take, TakeOne, Restart, Upgrade, Outcome, Gains, gained, gained_by_piece, joins, makes, takes, takes_one, sends_piece, picked, Reads, stays, After, put, pooled, Happens}
 use Rattle.reg_office.specs.Reached.{Reaches}
 use Rattle.reg_office.proofs.PooledLemmas.{one_pooled, ops_within}
 use Rattle.reg_office.proofs.WorldInvariant.{IsWithin, IsSent, sent_at, Invariant, IsGood}
@@ -89,6 +89,9 @@ refused_makes w v i bs note fault e h = subst (λ r. After w (makes w i r) v) e 
 pub sent_is_pooled : (w v : World) (i : List ℕ) → Happens w (Send i) v → v ≡ pooled w (record { bytes = (w.offices i).last; reached = (w.offices i).reached })
 sent_is_pooled w v i h = subst (λ out. After w out v) h.1.1 h.1.2
 
+pub first_is_pooled : (w v : World) (i : List ℕ) (what : Pooled) (bytes : List ℕ) → Happens w (SendFirst i what bytes) v → v ≡ pooled w (record { bytes = bytes; reached = (w.offices i).reached })
+first_is_pooled w v i what bytes h = subst (λ out. After w out v) h.1.1 h.1.2
+
 -- what it had stays
 stays_same : (w v : World) (inv : Invariant w) (i : List ℕ) (x : Content) → Holds (w.offices i).last x → After w (Gains i x (w.offices i).reached) v → v ≡ w
 stays_same w v inv i x held after =
@@ -101,6 +104,12 @@ pub restart_keeps : (w v : World) (inv : Invariant w) (i : List ℕ) → Happens
 restart_keeps w v inv i h =
     let came = h.1.1 in
     stays_same w v inv i came.0 came.1 (subst (λ out. After w out v) came.2 h.1.2)
+
+pub upgrade_keeps : (w v : World) (inv : Invariant w) (i : List ℕ) (bytes : List ℕ) → Happens w (Upgrade i bytes) v → v ≡ w
+upgrade_keeps w v inv i bytes h =
+    let came = h.1.1 in
+    let same : (w.offices i).content ≡ came.0 = one_reading bytes (w.offices i).content came.0 (inr h.0) came.1 in
+    stays_same w v inv i came.0 (subst (Holds (w.offices i).last) (sym (inv.content i) ∙ same) (inv.last i)) (subst (λ out. After w out v) came.2 h.1.2)
 
 -- it is stopped before anything is kept
 pub stopped_before : (w v : World) (inv : Invariant w) (i : List ℕ) → After w (stays w i) v → v ≡ w
@@ -128,7 +137,7 @@ pub nothing_to_answer : (w v : World) (i : List ℕ) (place : ℕ) → slice_get
 nothing_to_answer w v i place none h = nothing_read w v (λ what reached. sends_piece w i what) place h.1.0 none h.1.1 h.1.2
 
 -- what comes of a file that is read, by the one thing that it holds
-read_as : (w v : World) (next : Pooled → Ops → Outcome) (place : ℕ) (sent : Sent) (what : Pooled) (out : Outcome) → slice_get w.pool place ≡ Some sent → HoldsAny sent.bytes what
+read_as : (w v : World) (next : Pooled → Ops → Outcome) (place : ℕ) (sent : Sent) (what : Pooled) (out : Outcome) → slice_get w.pool place ≡ Some sent → ReadsAsAny sent.bytes what
     → Reads next (slice_get w.pool place) out → After w out v → After w (next what sent.reached) v
 read_as w v next place sent what out at holds came after =
     let read = subst (λ s. Reads next s out) at came in
@@ -139,31 +148,31 @@ module _ (w : World) (inv : Invariant w) (i : List ℕ) (place : ℕ) (sent : Se
   is_sent : IsSent inv.all sent
   is_sent = sent_at inv.all w.pool place sent inv.pool at
 
-  taken_as : (what : Pooled) → HoldsAny sent.bytes what → Happens w (Take i place) v → After w (takes w i what sent.reached) v
+  taken_as : (what : Pooled) → ReadsAsAny sent.bytes what → Happens w (Take i place) v → After w (takes w i what sent.reached) v
   taken_as what holds h = read_as w v (takes w i) place sent what h.1.0 at holds h.1.1 h.1.2
 
-  pub taken_reaches : (x : Content) → Holds sent.bytes x → Happens w (Take i place) v → Reaches w i sent.reached v
+  pub taken_reaches : (x : Content) → ReadsAs sent.bytes x → Happens w (Take i place) v → Reaches w i sent.reached v
   taken_reaches x holds h =
       join_reaches w inv i x sent.reached (takes_good w inv i (OfRegister x) sent.reached (told inv.all sent (OfRegister x) is_sent holds) is_sent.within) v (taken_as (OfRegister x) holds h)
 
-  pub piece_reaches : (piece : Piece) → HoldsPiece sent.bytes piece → IsHeld piece.basis (ids (w.offices i).reached) → Happens w (Take i place) v → Reaches w i sent.reached v
+  pub piece_reaches : (piece : Piece) → ReadsAsPiece sent.bytes piece → IsHeld piece.basis (ids (w.offices i).reached) → Happens w (Take i place) v → Reaches w i sent.reached v
   piece_reaches piece holds is_held h =
       let reached = set.union (w.offices i).reached sent.reached in
       let joined = piece_joins w inv i piece sent.reached (told inv.all sent (OfPiece piece) is_sent holds) is_sent.within is_held in
       gains_reach w i sent.reached (state reached) v (subst (λ r. After w (gained_by_piece i reached r) v) joined (taken_as (OfPiece piece) holds h))
 
-  pub piece_is_refused : (piece : Piece) → HoldsPiece sent.bytes piece → (IsHeld piece.basis (ids (w.offices i).reached) → ⊥) → Happens w (Take i place) v → v ≡ w
+  pub piece_is_refused : (piece : Piece) → ReadsAsPiece sent.bytes piece → (IsHeld piece.basis (ids (w.offices i).reached) → ⊥) → Happens w (Take i place) v → v ≡ w
   piece_is_refused piece holds never h =
       subst (λ r. After w (gained_by_piece i (set.union (w.offices i).reached sent.reached) r) v) (piece_refused w inv i piece never).1 (taken_as (OfPiece piece) holds h)
 
-  pub summary_is_refused : (seen : Ids) → HoldsSeen sent.bytes seen → Happens w (Take i place) v → v ≡ w
+  pub summary_is_refused : (seen : Ids) → ReadsAsSeen sent.bytes seen → Happens w (Take i place) v → v ≡ w
   summary_is_refused seen holds h = taken_as (OfSeen seen) holds h
 
   -- whatever it takes, it reaches what the sender had, or nothing changes
   pub taken_or_not : Happens w (Take i place) v → (v ≡ w) ⊎ Reaches w i sent.reached v
   taken_or_not h = by_kind is_sent.what is_sent.holds
     where
-      by_kind : (what : Pooled) → HoldsAny sent.bytes what → (v ≡ w) ⊎ Reaches w i sent.reached v
+      by_kind : (what : Pooled) → ReadsAsAny sent.bytes what → (v ≡ w) ⊎ Reaches w i sent.reached v
       by_kind (OfRegister x) holds = inr (taken_reaches x holds h)
       by_kind (OfSeen seen) holds = inl (summary_is_refused seen holds h)
       by_kind (OfPiece piece) holds = elim (held_or_not piece.basis (ids (w.offices i).reached)) [
@@ -173,16 +182,16 @@ module _ (w : World) (inv : Invariant w) (i : List ℕ) (place : ℕ) (sent : Se
 
   -- ---- it answers a summary with a piece
 
-  pub piece_is_pooled : (seen : Ids) → HoldsSeen sent.bytes seen → Happens w (SendPiece i place) v
+  pub piece_is_pooled : (seen : Ids) → ReadsAsSeen sent.bytes seen → Happens w (SendPiece i place) v
       → (bytes : List ℕ) × HoldsPiece bytes (piece_for (state (w.offices i).reached) seen) × (v ≡ pooled w (record { bytes = bytes; reached = (w.offices i).reached }))
   piece_is_pooled seen holds h =
       let after = read_as w v (λ what reached. sends_piece w i what) place sent (OfSeen seen) h.1.0 at holds h.1.1 h.1.2 in
       (after.0, subst (λ (x : Content). HoldsPiece after.0 (piece_for x seen)) (inv.content i) after.1, after.2)
 
-  pub no_summary : ((seen : Ids) → HoldsSeen sent.bytes seen → ⊥) → Happens w (SendPiece i place) v → v ≡ w
+  pub no_summary : ((seen : Ids) → ReadsAsSeen sent.bytes seen → ⊥) → Happens w (SendPiece i place) v → v ≡ w
   no_summary none h = by_kind is_sent.what is_sent.holds
     where
-      by_kind : (what : Pooled) → HoldsAny sent.bytes what → v ≡ w
+      by_kind : (what : Pooled) → ReadsAsAny sent.bytes what → v ≡ w
       by_kind (OfRegister x) holds = read_as w v (λ what reached. sends_piece w i what) place sent (OfRegister x) h.1.0 at holds h.1.1 h.1.2
       by_kind (OfSeen seen) holds = absurd (none seen holds)
       by_kind (OfPiece piece) holds = read_as w v (λ what reached. sends_piece w i what) place sent (OfPiece piece) h.1.0 at holds h.1.1 h.1.2
@@ -195,7 +204,7 @@ answer_keeps w v inv i place h k =
       | None ↦ λ none. ap (λ (u : World). (u.offices k).reached) (nothing_to_answer w v i place none h)
     ] refl
   where
-    by_kind : (sent : Sent) → slice_get w.pool place ≡ Some sent → (what : Pooled) → HoldsAny sent.bytes what → (v.offices k).reached ≡ (w.offices k).reached
+    by_kind : (sent : Sent) → slice_get w.pool place ≡ Some sent → (what : Pooled) → ReadsAsAny sent.bytes what → (v.offices k).reached ≡ (w.offices k).reached
     by_kind sent at (OfRegister x) holds = ap (λ (u : World). (u.offices k).reached) (read_as w v (λ what reached. sends_piece w i what) place sent (OfRegister x) h.1.0 at holds h.1.1 h.1.2)
     by_kind sent at (OfSeen seen) holds = ap (λ (u : World). (u.offices k).reached) (piece_is_pooled w inv i place sent v at seen holds h).2
     by_kind sent at (OfPiece piece) holds = ap (λ (u : World). (u.offices k).reached) (read_as w v (λ what reached. sends_piece w i what) place sent (OfPiece piece) h.1.0 at holds h.1.1 h.1.2)
@@ -243,7 +252,7 @@ picked_is s id o e = (
 )
 
 module _ (w : World) (inv : Invariant w) (i : List ℕ) (place : ℕ) (id : Id) (sent : Sent) (what : Pooled) (v : World)
-    (at : slice_get w.pool place ≡ Some sent) (holds : HoldsAny sent.bytes what) (h : Happens w (TakeOne i place id) v) where
+    (at : slice_get w.pool place ≡ Some sent) (holds : ReadsAsAny sent.bytes what) (h : Happens w (TakeOne i place id) v) where
   one_after : After w (takes_one w i (picked id (ops_in what))) v
   one_after = read_as w v (λ p reached. takes_one w i (picked id (ops_in p))) place sent what h.1.0 at holds h.1.1 h.1.2
 

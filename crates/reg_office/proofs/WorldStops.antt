@@ -11,7 +11,7 @@ use Rattle.reg_shelf.proofs.Contents.{shelf_for}
 use Rattle.reg_office.specs.declared.fault.OfficeFault.{OfficeFault}
 use Rattle.reg_office.specs.Making.{made}
 use Rattle.reg_office.specs.Pooled.{Pooled, OfRegister, OfSeen, OfPiece, ops_in}
-use Rattle.reg_office.specs.World.{Office, Sent, World, Event, Make, Send, SendSeen, SendPiece, Take, TakeOne, Restart, Stop, office_of, IsKept, IsShelfAfter, stays, Outcome, Unchanged, Clashes, Sends, Writes, Gains, gained, gained_by_piece, joins, makes, takes, takes_one, picked, Reads, IsEvent, ComesOf, put, After, Happens}
+use Rattle.reg_office.specs.World.{Office, Sent, World, Event, Make, Send, SendSeen, SendPiece, SendFirst, Take, TakeOne, Restart, Upgrade, Stop, office_of, IsKept, IsShelfAfter, stays, Outcome, Unchanged, Clashes, Sends, Writes, Gains, gained, gained_by_piece, joins, makes, takes, takes_one, picked, Reads, IsEvent, ComesOf, put, After, Happens}
 use Rattle.reg_office.proofs.WorldInvariant.{Invariant}
 use Rattle.reg_office.proofs.WorldSteps.{put_here, stopped_before}
 use Rattle.reg_office.proofs.WorldFollows.{one_world}
@@ -58,9 +58,11 @@ own w (Make i effects note) kept out h = subst (IsOwn i) (sym h) (makes_own w i 
 own w (Send i) kept out h = absurd kept
 own w (SendSeen i) kept out h = absurd kept
 own w (SendPiece i place) kept out h = absurd kept
+own w (SendFirst i what bytes) kept out h = absurd kept
 own w (Take i place) kept out h = reads_own i (takes w i) (takes_own w i) (slice_get w.pool place) out h
 own w (TakeOne i place id) kept out h = reads_own i (λ what reached. takes_one w i (picked id (ops_in what))) (λ what more. one_own w i (picked id (ops_in what))) (slice_get w.pool place) out h
 own w (Restart i) kept out h = absurd kept
+own w (Upgrade i bytes) kept out h = absurd kept
 own w (Stop e left) kept out h = absurd kept
 
 -- ---- the world after it

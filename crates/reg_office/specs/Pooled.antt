@@ -5,7 +5,7 @@ use Rattle.reg_op.specs.Ids.{Ids}
 use Rattle.reg_op.specs.Operations.{Ops, ids}
 use Rattle.reg_op.specs.Contents.{Content, state}
 use Rattle.reg_op.specs.Pieces.{Piece, piece_for}
-use Rattle.reg_file.specs.Files.{Holds, IsTooLarge, HoldsSeen, HoldsPiece, IsSeenTooLarge, IsPieceTooLarge}
+use Rattle.reg_file.specs.Files.{Holds, HoldsFirst, ReadsAs, IsTooLarge, HoldsSeen, HoldsFirstSeen, ReadsAsSeen, HoldsPiece, HoldsFirstPiece, ReadsAsPiece, IsSeenTooLarge, IsPieceTooLarge}
 
 -- the content of a register, a summary of the ids that were seen, or a piece of a content
 pub data Pooled : Type 0 where
@@ -18,6 +18,18 @@ abbrev pub HoldsAny : List ℕ → Pooled → Type 0
 HoldsAny bytes (OfRegister x) = Holds bytes x
 HoldsAny bytes (OfSeen seen) = HoldsSeen bytes seen
 HoldsAny bytes (OfPiece piece) = HoldsPiece bytes piece
+
+-- the bytes are its file of version 1
+abbrev pub HoldsFirstAny : List ℕ → Pooled → Type 0
+HoldsFirstAny bytes (OfRegister x) = HoldsFirst bytes x
+HoldsFirstAny bytes (OfSeen seen) = HoldsFirstSeen bytes seen
+HoldsFirstAny bytes (OfPiece piece) = HoldsFirstPiece bytes piece
+
+-- the bytes are its file of either version
+abbrev pub ReadsAsAny : List ℕ → Pooled → Type 0
+ReadsAsAny bytes (OfRegister x) = ReadsAs bytes x
+ReadsAsAny bytes (OfSeen seen) = ReadsAsSeen bytes seen
+ReadsAsAny bytes (OfPiece piece) = ReadsAsPiece bytes piece
 
 -- its file has too many bytes
 abbrev pub IsAnyTooLarge : Pooled → Type 0

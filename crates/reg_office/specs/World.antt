@@ -11,11 +11,11 @@ use Rattle.reg_op.specs.Contents.{Content, state, nothing, joined}
 use Rattle.reg_seen.specs.Runs.{replica_cmp}
 use Rattle.reg_op.specs.Pieces.{piece_for, PieceRefusal, Basis, Clash, joined_piece}
 use Rattle.reg_file.specs.Layout.{file}
-use Rattle.reg_file.specs.Files.{Holds, IsTooLarge}
+use Rattle.reg_file.specs.Files.{Holds, HoldsFirst, ReadsAs, IsTooLarge}
 use Rattle.reg_shelf.specs.Shelf.{IsShelf}
 use Rattle.reg_office.specs.declared.fault.OfficeFault.{OfficeFault}
 use Rattle.reg_office.specs.Making.{made}
-use Rattle.reg_office.specs.Pooled.{Pooled, OfRegister, OfSeen, OfPiece, HoldsAny, IsAnyTooLarge, ops_in}
+use Rattle.reg_office.specs.Pooled.{Pooled, OfRegister, OfSeen, OfPiece, HoldsAny, HoldsFirstAny, ReadsAsAny, IsAnyTooLarge, ops_in, TellsOf}
 
 -- an office: its register's content, its last file, and the operations that it made or received, which no code keeps
 pub record Office : Type 0 where
@@ -38,17 +38,20 @@ abbrev pub start : World
 start = record { offices = λ i. record { content = nothing; last = file [] []; reached = set.empty }; pool = [] }
 
 -- an office makes the operations of one command, each with its note; sends its last file; sends a summary of what it has
--- seen; sends the piece of its register for a summary at a place of the pool; takes a file from a place of the pool; takes
--- the operation of one id in such a file; restarts from its last file; or is stopped while it keeps the result of an event,
--- and restarts from the bytes that are left
+-- seen; sends the piece of its register for a summary at a place of the pool; sends one of these in a file of version 1;
+-- takes a file from a place of the pool; takes the operation of one id in such a file; restarts from its last file, or from
+-- one of version 1 that an older program kept; or is stopped while it keeps the result of an event, and restarts from the
+-- bytes that are left
 pub data Event : Type 0 where
   Make : (office : List ℕ) (effects : List Body) (note : List ℕ) → Event
   Send : (office : List ℕ) → Event
   SendSeen : (office : List ℕ) → Event
   SendPiece : (office : List ℕ) (place : ℕ) → Event
+  SendFirst : (office : List ℕ) (what : Pooled) (bytes : List ℕ) → Event
   Take : (office : List ℕ) (place : ℕ) → Event
   TakeOne : (office : List ℕ) (place : ℕ) (id : Id) → Event
   Restart : (office : List ℕ) → Event
+  Upgrade : (office : List ℕ) (bytes : List ℕ) → Event
   Stop : (event : Event) (left : List ℕ) → Event
 
 -- the office whose event it is
@@ -57,9 +60,11 @@ office_of (Make i effects note) = i
 office_of (Send i) = i
 office_of (SendSeen i) = i
 office_of (SendPiece i place) = i
+office_of (SendFirst i what bytes) = i
 office_of (Take i place) = i
 office_of (TakeOne i place id) = i
 office_of (Restart i) = i
+office_of (Upgrade i bytes) = i
 office_of (Stop e left) = office_of e
 
 -- ---- the outcome of an event
@@ -107,10 +112,10 @@ sends_piece w i (OfRegister x) = Unchanged
 sends_piece w i (OfSeen seen) = Writes (OfPiece (piece_for (w.offices i).content seen)) (w.offices i).reached
 sends_piece w i (OfPiece piece) = Unchanged
 
--- the file is read, and this is the outcome
+-- the file is read, in either version, and this is the outcome
 abbrev pub Reads : (Pooled → Ops → Outcome) → Option Sent → Outcome → Type 0
 Reads next None out = out ≡ Unchanged
-Reads next (Some sent) out = (what : Pooled) × HoldsAny sent.bytes what × (out ≡ next what sent.reached)
+Reads next (Some sent) out = (what : Pooled) × ReadsAsAny sent.bytes what × (out ≡ next what sent.reached)
 
 -- the operation of the id
 abbrev pub picked : Id → Ops → Option Op
@@ -139,9 +144,11 @@ ComesOf w (Make i effects note) out = out ≡ makes w i (made (w.offices i).cont
 ComesOf w (Send i) out = out ≡ Sends (record { bytes = (w.offices i).last; reached = (w.offices i).reached })
 ComesOf w (SendSeen i) out = out ≡ Writes (OfSeen (w.offices i).content.seen) (w.offices i).reached
 ComesOf w (SendPiece i place) out = Reads (λ what reached. sends_piece w i what) (slice_get w.pool place) out
+ComesOf w (SendFirst i what bytes) out = out ≡ Sends (record { bytes = bytes; reached = (w.offices i).reached })
 ComesOf w (Take i place) out = Reads (takes w i) (slice_get w.pool place) out
 ComesOf w (TakeOne i place id) out = Reads (λ what reached. takes_one w i (picked id (ops_in what))) (slice_get w.pool place) out
 ComesOf w (Restart i) out = (x : Content) × Holds (w.offices i).last x × (out ≡ Gains i x (w.offices i).reached)
+ComesOf w (Upgrade i bytes) out = (x : Content) × ReadsAs bytes x × (out ≡ Gains i x (w.offices i).reached)
 ComesOf w (Stop e left) out = Leaves (ComesOf w e) (stays w (office_of e)) left out
 
 -- the bytes that are left are a shelf of the event's new content
@@ -161,10 +168,13 @@ IsEffect (Enter text) = IsDefinition text
 IsEffect (Supersede old newer) = IsId old × IsId newer
 IsEffect (Retire entry) = IsId entry
 
--- an office that makes operations has a UUID, and its note is UTF-8. A stop happens while something is kept, and
+-- an office that makes operations has a UUID, and its note is UTF-8. A file of version 1 is of what the office has
+-- reached, or of its register. A stop happens while something is kept, and
 -- leaves a shelf of that or of the old content: during `keep` the disk has no other image
 abbrev pub IsEvent : World → Event → Type 0
 IsEvent w (Make i effects note) = (length i ≡ 16) × All (λ b. b < 256) i × All IsEffect effects × IsUtf8 note
+IsEvent w (SendFirst i what bytes) = HoldsFirstAny bytes what × TellsOf (w.offices i).reached what
+IsEvent w (Upgrade i bytes) = HoldsFirst bytes (w.offices i).content
 IsEvent w (Stop e left) = IsKept e × IsEvent w e × (IsShelfAfter left (stays w (office_of e)) ⊎ LeavesNew w e left)
 IsEvent w e = Unit {0}
 

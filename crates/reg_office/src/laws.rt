@@ -12,7 +12,7 @@ ghost use Rattle.reg_op.specs.declared.status.Status.TheVariants.{Retired};
 ghost use Rattle.reg_op.specs.Status.{status};
 ghost use Rattle.reg_seen.specs.Runs.{ids_from, IsGreatest};
 ghost use Rattle.reg_state.specs.ManyLaws.{all_of};
-ghost use Rattle.reg_file.specs.Files.{Holds, HoldsSeen, HoldsPiece};
+ghost use Rattle.reg_file.specs.Files.{Holds, HoldsSeen, HoldsPiece, ReadsAs, ReadsAsSeen, ReadsAsPiece};
 ghost use Rattle.reg_shelf.specs.Shelf.{IsShelf};
 ghost use Rattle.reg_office.specs.declared.fault.OfficeFault.{OfficeFault};
 ghost use Rattle.reg_office.specs.declared.fault.OfficeFault.TheVariants as fault;
@@ -22,9 +22,9 @@ ghost use Rattle.reg_office.specs.Making.{greatest, numbered, objections, made};
 ghost use Rattle.reg_report.specs.declared.writing.ReportKind.{ReportKind};
 ghost use Rattle.reg_report.specs.Reports.{IsReport, IsOpsReport};
 ghost use Rattle.reg_op.specs.Pieces.{Piece, piece_for, IsHeld};
-ghost use Rattle.reg_office.specs.Pooled.{Pooled, HoldsAny, ops_in, TellsOf};
+ghost use Rattle.reg_office.specs.Pooled.{Pooled, ReadsAsAny, ops_in, TellsOf};
 ghost use Rattle.reg_office.specs.Reached.{Reaches, WasMade};
-ghost use Rattle.reg_office.specs.World.{World, start, Event, Make, Send, SendSeen, SendPiece, Take, TakeOne, Restart, Stop, office_of, Sent, Outcome, Clashes, IsEvent, IsKept, IsTooMuch, IsWorld, ComesOf, After, pooled, Happens, Leads};
+ghost use Rattle.reg_office.specs.World.{World, start, Event, Make, Send, SendSeen, SendPiece, SendFirst, Take, TakeOne, Restart, Upgrade, Stop, office_of, Sent, Outcome, Clashes, IsEvent, IsKept, IsTooMuch, IsWorld, ComesOf, After, pooled, Happens, Leads};
 
 /// New operations have the effects of the command in order, numbered consecutively from the greatest own count seen
 /// plus one. None of their ids was seen before, and so they join the content without a clash.
@@ -63,7 +63,7 @@ pub fn effects_are_kept()
 
 /// The theorem on every world: any number of offices, each with its own UUID, after any list of events. Files are lost,
 /// late, repeated and out of order. Offices restart from their last files, or from the bytes that a stop leaves on their
-/// shelves.
+/// shelves. Some may still keep and send files of version 1.
 pub fn every_world()
     // ---- The promise.
     // The content of an office is the state of all operations that it made and received, although some were pruned on the
@@ -73,7 +73,7 @@ pub fn every_world()
     ensures last { (w : World) → IsWorld w → (i : List ℕ) → Holds (w.offices i).last (state (w.offices i).reached) }
     // Each sent file holds the state of the operations that its sender had reached, or their ids, or a piece of the state.
     ensures pool { (w : World) → IsWorld w → (place : ℕ) (sent : Sent) → slice_get w.pool place ≡ Some sent
-        → (what : Pooled) × HoldsAny sent.bytes what × TellsOf sent.reached what }
+        → (what : Pooled) × ReadsAsAny sent.bytes what × TellsOf sent.reached what }
     // Offices that reached the same have the same content, and the same file, byte for byte.
     ensures same { (w : World) → IsWorld w → (i j : List ℕ) → (w.offices i).reached ≡ (w.offices j).reached
         → ((w.offices i).content ≡ (w.offices j).content) × ((w.offices i).last ≡ (w.offices j).last) }
@@ -104,31 +104,35 @@ pub fn every_world()
     ensures seen_is_pooled { (w v : World) → IsWorld w → (i : List ℕ) → Happens w (SendSeen i) v
         → (bytes : List ℕ) × HoldsSeen bytes (ids (w.offices i).reached) × (v ≡ pooled w (record { bytes = bytes; reached = (w.offices i).reached })) }
     ensures piece_is_pooled { (w v : World) → IsWorld w → (i : List ℕ) (place : ℕ) (sent : Sent) (seen : Ids) → slice_get w.pool place ≡ Some sent
-        → HoldsSeen sent.bytes seen → Happens w (SendPiece i place) v
+        → ReadsAsSeen sent.bytes seen → Happens w (SendPiece i place) v
         → (bytes : List ℕ) × HoldsPiece bytes (piece_for (state (w.offices i).reached) seen) × (v ≡ pooled w (record { bytes = bytes; reached = (w.offices i).reached })) }
     ensures no_piece_is_pooled { (w v : World) → IsWorld w → (i : List ℕ) (place : ℕ) (sent : Sent) → slice_get w.pool place ≡ Some sent
-        → ((seen : Ids) → ¬ (HoldsSeen sent.bytes seen)) → Happens w (SendPiece i place) v → v ≡ w }
+        → ((seen : Ids) → ¬ (ReadsAsSeen sent.bytes seen)) → Happens w (SendPiece i place) v → v ≡ w }
+    // The same for a file of version 1.
+    ensures first_is_pooled { (w v : World) (i : List ℕ) (what : Pooled) (bytes : List ℕ) → Happens w (SendFirst i what bytes) v
+        → v ≡ pooled w (record { bytes = bytes; reached = (w.offices i).reached }) }
     // By taking a register's file, an office reaches all that the sender had reached.
     ensures taken_is_reached { (w v : World) → IsWorld w → (i : List ℕ) (place : ℕ) (sent : Sent) (x : Content) → slice_get w.pool place ≡ Some sent
-        → Holds sent.bytes x → Happens w (Take i place) v → Reaches w i sent.reached v }
+        → ReadsAs sent.bytes x → Happens w (Take i place) v → Reaches w i sent.reached v }
     // The same for a piece whose basis it has reached; another piece, or a summary, changes nothing.
     ensures piece_is_reached { (w v : World) → IsWorld w → (i : List ℕ) (place : ℕ) (sent : Sent) (piece : Piece) → slice_get w.pool place ≡ Some sent
-        → HoldsPiece sent.bytes piece → IsHeld piece.basis (ids (w.offices i).reached) → Happens w (Take i place) v → Reaches w i sent.reached v }
+        → ReadsAsPiece sent.bytes piece → IsHeld piece.basis (ids (w.offices i).reached) → Happens w (Take i place) v → Reaches w i sent.reached v }
     ensures piece_is_refused { (w v : World) → IsWorld w → (i : List ℕ) (place : ℕ) (sent : Sent) (piece : Piece) → slice_get w.pool place ≡ Some sent
-        → HoldsPiece sent.bytes piece → ¬ (IsHeld piece.basis (ids (w.offices i).reached)) → Happens w (Take i place) v → v ≡ w }
+        → ReadsAsPiece sent.bytes piece → ¬ (IsHeld piece.basis (ids (w.offices i).reached)) → Happens w (Take i place) v → v ≡ w }
     ensures summary_is_refused { (w v : World) → IsWorld w → (i : List ℕ) (place : ℕ) (sent : Sent) (seen : Ids) → slice_get w.pool place ≡ Some sent
-        → HoldsSeen sent.bytes seen → Happens w (Take i place) v → v ≡ w }
+        → ReadsAsSeen sent.bytes seen → Happens w (Take i place) v → v ≡ w }
     // By taking one operation, it reaches that operation if the file has it, and otherwise nothing.
     ensures one_is_reached { (w v : World) → IsWorld w → (i : List ℕ) (place : ℕ) (id : Id) (sent : Sent) (what : Pooled) (o : Op) → slice_get w.pool place ≡ Some sent
-        → HoldsAny sent.bytes what → set.contains (ops_in what) o ≡ true → o.id ≡ id → Happens w (TakeOne i place id) v → Reaches w i (one o) v }
+        → ReadsAsAny sent.bytes what → set.contains (ops_in what) o ≡ true → o.id ≡ id → Happens w (TakeOne i place id) v → Reaches w i (one o) v }
     ensures none_is_reached { (w v : World) → IsWorld w → (i : List ℕ) (place : ℕ) (id : Id) (sent : Sent) (what : Pooled) → slice_get w.pool place ≡ Some sent
-        → HoldsAny sent.bytes what → ((o : Op) → set.contains (ops_in what) o ≡ true → o.id ≢ id) → Happens w (TakeOne i place id) v → v ≡ w }
+        → ReadsAsAny sent.bytes what → ((o : Op) → set.contains (ops_in what) o ≡ true → o.id ≢ id) → Happens w (TakeOne i place id) v → v ≡ w }
     // At an index of the pool without a file, taking and answering change nothing.
     ensures nothing_to_take { (w v : World) (i : List ℕ) (place : ℕ) → slice_get w.pool place ≡ None → Happens w (Take i place) v → v ≡ w }
     ensures nothing_to_find { (w v : World) (i : List ℕ) (place : ℕ) (id : Id) → slice_get w.pool place ≡ None → Happens w (TakeOne i place id) v → v ≡ w }
     ensures nothing_to_answer { (w v : World) (i : List ℕ) (place : ℕ) → slice_get w.pool place ≡ None → Happens w (SendPiece i place) v → v ≡ w }
-    // A restart changes nothing.
+    // A restart changes nothing, nor does one from the file that a program of version 1 kept.
     ensures restart_keeps { (w v : World) → IsWorld w → (i : List ℕ) → Happens w (Restart i) v → v ≡ w }
+    ensures upgrade_keeps { (w v : World) → IsWorld w → (i : List ℕ) (bytes : List ℕ) → Happens w (Upgrade i bytes) v → v ≡ w }
     // A stop leaves all of its event or nothing of it, and the office restarts with the content of the bytes that are left.
     // If they are a shelf of the new content, the event has happened; otherwise it has changed nothing.
     ensures stop_is_all_or_nothing { (w v : World) → IsWorld w → (e : Event) (left : List ℕ) → Happens w (Stop e left) v → Happens w e v ⊎ (v ≡ w) }

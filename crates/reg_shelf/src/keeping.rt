@@ -2,10 +2,10 @@
 
 ghost use Rattle.std.specs.Prelude.{◌≡◌, ◌⊎◌, List, ℕ, IsTrue, OnOk, IsErr, IsErrOf};
 ghost use Rattle.byte_disk.specs.Disk.{Only, LeavesOnly};
-ghost use Rattle.byte_shelf.specs.Shelf.{HasNoHead};
+ghost use Rattle.byte_shelf.specs.Shelf.{EndsWithin, HasNoHead};
 ghost use Rattle.byte_shelf.specs.Keep.{AddsNothing, CountsFault};
 ghost use Rattle.reg_op.specs.Contents.{Content};
-ghost use Rattle.reg_shelf.specs.Shelf.{HasFile, IsShelf};
+ghost use Rattle.reg_shelf.specs.Shelf.{HasFile, IsShelf, IsShelfOf};
 ghost use Rattle.reg_shelf.specs.Keep.{IsTooLarge};
 
 use crate::file::file_of;
@@ -26,6 +26,10 @@ pub fn keep<D: Disk>(alloc: Global, disk: &mut D, register: &Register) -> Result
         → ((c : List ℕ) → D.images disk.old c → IsShelf c was)
         → OnOk result (Only (D.seen disk.new) (D.images disk.new)
         × IsShelf (D.seen disk.new) register.now) }
+    // The slots keep their size, and the disk does not grow past them.
+    ensures sized { IsTrue (D.tells disk.old) → (was : Content) (size : ℕ) → IsShelfOf (D.seen disk.old) size was
+        → OnOk result (IsShelfOf (D.seen disk.new) size register.now
+        × EndsWithin size (D.seen disk.old) (D.seen disk.new)) }
     // On every disk, the register that is kept has a file.
     ensures file { OnOk result (HasFile register.now) }
     ensures not_shelf { IsTrue (D.tells disk.old)

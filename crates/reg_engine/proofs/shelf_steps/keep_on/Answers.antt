@@ -7,6 +7,7 @@ pub returns-in-Ok-clause-kept : goal.returns-in-Ok-clause-kept
 returns-in-Ok-clause-kept g c = λ was has sure.
     let d = disks g.D.Disk.tells g.D.Disk.seen g.D.Disk.images g.D.Disk.moment g.D.Disk.images_since g.D.Disk.failures in
     keeps_on d c.args.disk.now c.keep.new.disk was c.args.register.now has sure c.in-Ok.ensures.tells c.in-Ok.ensures.counts c.in-Ok.ensures.file c.in-Ok.ensures.kept
+    (λ told size. c.in-Ok.ensures.sized told was size)
     (passes_on d c.args.disk.now c.keep.new.disk was c.args.register.now has sure c.in-Ok.ensures.any_moment)
 
 pub returns-in-Err-clause-fault : goal.returns-in-Err-clause-fault

@@ -2,7 +2,7 @@ use Rattle.reg_office.proofs.WorldCommands.{made_by_id}
 use Rattle.reg_office.proofs.WorldLemmas.{reached, leads_keeps}
 use Rattle.reg_office.proofs.WorldFollows.{same_files, reads, together, are_new, never_clashes, goes_on, one_world, stays_retired, retired_in_joins}
 use Rattle.reg_office.proofs.WorldSame.{same_reports, same_ops_reports, same_exports}
-use Rattle.reg_office.proofs.WorldSteps.{made_reaches, refused_makes, sent_is_pooled, seen_is_pooled, piece_is_pooled, no_summary, taken_reaches, piece_reaches, piece_is_refused, summary_is_refused, one_reaches, one_is_missing, nothing_to_take, nothing_to_find, nothing_to_answer, restart_keeps}
+use Rattle.reg_office.proofs.WorldSteps.{made_reaches, refused_makes, sent_is_pooled, first_is_pooled, seen_is_pooled, piece_is_pooled, no_summary, taken_reaches, piece_reaches, piece_is_refused, summary_is_refused, one_reaches, one_is_missing, nothing_to_take, nothing_to_find, nothing_to_answer, restart_keeps, upgrade_keeps}
 use Rattle.reg_office.proofs.WorldStops.{stop_is_all_or_nothing, stop_leaves_a_shelf, stop_leaves_the_new, stop_may_leave_the_old, stop_may_leave_the_new}
 use Rattle.reg_office.proofs.WorldMade.{pool_grows, was_made}
 use Rattle.reg_office.proofs.WorldOnce.{made_once}
@@ -24,6 +24,7 @@ returns c = record {
   seen_is_pooled = λ w v h. seen_is_pooled w v (reached w h);
   piece_is_pooled = λ w v h i place sent seen at. piece_is_pooled w (reached w h) i place sent v at seen;
   no_piece_is_pooled = λ w v h i place sent at. no_summary w (reached w h) i place sent v at;
+  first_is_pooled = first_is_pooled;
   taken_is_reached = λ w v h i place sent x at. taken_reaches w (reached w h) i place sent v at x;
   piece_is_reached = λ w v h i place sent piece at. piece_reaches w (reached w h) i place sent v at piece;
   piece_is_refused = λ w v h i place sent piece at. piece_is_refused w (reached w h) i place sent v at piece;
@@ -34,6 +35,7 @@ returns c = record {
   nothing_to_find = nothing_to_find;
   nothing_to_answer = nothing_to_answer;
   restart_keeps = λ w v h. restart_keeps w v (reached w h);
+  upgrade_keeps = λ w v h. upgrade_keeps w v (reached w h);
   stop_is_all_or_nothing = λ w v h. stop_is_all_or_nothing w v (reached w h);
   stop_leaves_a_shelf = λ w v h. stop_leaves_a_shelf w v (reached w h);
   stop_leaves_the_new = λ w u v h e left happens. stop_leaves_the_new w v (reached w h) e left happens u;

@@ -1,7 +1,7 @@
 use Rattle.std.proofs.lemmas.Result.{on_ok_weaker}
 use Rattle.byte_disk.specs.Disk.{Only}
 use Rattle.byte_shelf.specs.Shelf as slots
-use Rattle.reg_shelf.proofs.Kept.{moments_of, kept_of}
+use Rattle.reg_shelf.proofs.Kept.{moments_of, kept_of, sized_of}
 use Rattle.reg_shelf.proofs.keeping.keep.Goals as goal
 
 pub returns-clause-any_moment : goal.returns-clause-any_moment
@@ -18,3 +18,10 @@ returns-clause-kept g c = λ told was all.
     on_ok_weaker c.keep.result
     (λ (done : sure × slots.IsShelf (g.D.Disk.seen c.keep.new.disk) c.deref.result.now). (done.0, kept_of (g.D.Disk.seen c.keep.new.disk) c.deref.result.now c.in-Ok.file.items c.args.register.now done.1 c.deref.ensures.value c.in-Ok.ensures.held))
     (c.keep.ensures.kept told first.bytes first.shelf)
+
+pub returns-clause-sized : goal.returns-clause-sized
+returns-clause-sized g c = λ told was size first.
+    let within : Type 0 = slots.EndsWithin size (g.D.Disk.seen c.args.disk.now) (g.D.Disk.seen c.keep.new.disk) in
+    on_ok_weaker c.keep.result
+    (λ (done : slots.IsShelfOf (g.D.Disk.seen c.keep.new.disk) size c.deref.result.now × within). (sized_of (g.D.Disk.seen c.keep.new.disk) c.deref.result.now c.in-Ok.file.items size c.args.register.now done.0 c.deref.ensures.value c.in-Ok.ensures.held, done.1))
+    (c.keep.ensures.sized told first.0.bytes size (first.0.shelf, first.1))
