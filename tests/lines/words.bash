@@ -63,3 +63,12 @@ for k in range(1, 1025):
 sys.stdout.buffer.write(b"".join(out))
 END_OF_PROGRAM
 }
+
+# flat NAME USAGES CODE: prints a geographic system with these usages.
+flat() { printf 'GEOGCRS["%s",DATUM["D",ELLIPSOID["E",6378137,298.25]],CS[ellipsoidal,2],AXIS["latitude (Lat)",north],AXIS["longitude (Lon)",east],ANGLEUNIT["degree",0.0174532925199433],%sID["X",%s]]' "$@"; }
+
+# usage SCOPE AREA BOX: prints a usage with a bounding box; AREA is empty, or an AREA and a comma.
+usage() { printf 'USAGE[SCOPE["%s"],%sBBOX[%s]],' "$@"; }
+
+# geometries BOX: prints the geometry of a system with this box, from the empty register new.crs.
+geometries() { flat F "$(usage s '' "$1")" 7 >d; crsreg enter new.crs --as $A --text d --out g.crs >/dev/null; crsreg export g.crs --geojson | grep -o '"type":"[MP][^}]*'; }

@@ -14,7 +14,7 @@ use Rattle.byte_folder.specs.Folder.{File, Folders, FolderState, Told, IsAdded, 
 use Rattle.byte_folder.specs.Put.{WritesFiles, FailsAfter, IsCut, IsFilled, Stays, Adds, IsAddFault}
 use Rattle.byte_folder.specs.declared.fault.FolderFault.TheVariants as put
 
--- ---- folders that are told
+-- ---- folders that a place reports
 
 pub told_then : {P Q R : Folders → Folders → Type 0} → ((f g h : Folders) → P f g → Q g h → R f h) → (a b c : Option Folders) → Told P a b → Told Q b c → Told R a c
 told_then both None b c p q = tt

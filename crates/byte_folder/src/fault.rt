@@ -7,7 +7,7 @@ use std::fmt;
 /// Why no new folder was made.
 #[derive(Clone, Copy, Debug, PartialEq, Eq)]
 pub enum MakeFault {
-    /// It could not be made, or the folder with the name has files, or the name is that of something else.
+    /// It could not be made, or the name belongs to a folder with files, or to something that is not a folder.
     NotOpened,
     /// There is a file or a folder with the new folder's name.
     Exists,

@@ -12,7 +12,7 @@ pub(crate) fn without_slashes(path: &str) -> &str {
     if trimmed.is_empty() { path } else { trimmed }
 }
 
-/// Makes the folder beside the path, if that has nothing or an empty folder.
+/// Makes the new folder next to the path, if the path has nothing or an empty folder.
 pub(crate) fn make_folder<R: Files>(rt: &R, path: &str, beside: &str) -> Result<(), MakeFault> {
     if !is_free(rt, path) {
         return Err(MakeFault::NotOpened);

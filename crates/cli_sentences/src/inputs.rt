@@ -1,7 +1,7 @@
 //! Sentences for files that cannot be read.
 use crate::paths::{Paths, Shown};
 use reg_engine::InputFault;
-use reg_file::FileFault;
+use reg_engine::files::FileFault;
 use std::fmt;
 
 /// Writes the sentence for a fault of the file with this number.
@@ -42,7 +42,7 @@ fn write_bad<W: fmt::Write>(
     place: usize,
 ) -> fmt::Result {
     match fault {
-        FileFault::Magic => f.write_str("is no file of crsreg\n"),
+        FileFault::Magic => f.write_str("is not a file of crsreg\n"),
         FileFault::Version => f.write_str(
             "has a version that this program does not know\nhint: use the newest crsreg; crsreg downgrade writes version 1\n",
         ),

@@ -1,6 +1,7 @@
 //! A sentence for each refusal: what is wrong, with the path of the file instead of its number, and the way out.
 #![tactic(auto)]
 
+mod guard;
 mod imports;
 mod inputs;
 mod outputs;
@@ -8,6 +9,7 @@ mod paths;
 mod refusals;
 mod shelves;
 
+pub use guard::GuardSentence;
 pub use imports::KeyTaken;
 pub use paths::{Paths, Shown};
 use reg_engine::CliFault;

@@ -1,8 +1,8 @@
 //! Sentences for refusals.
 use crate::paths::{Head, Paths, Shown};
 use reg_engine::Refusal;
-use reg_office::OfficeFault;
-use reg_op::OpId;
+use reg_engine::offices::OfficeFault;
+use reg_engine::operations::OpId;
 use std::fmt;
 
 /// Writes the sentence for a refusal. Faults of texts have none: `--explain` explains them at their place.
@@ -121,10 +121,10 @@ fn write_word<W: fmt::Write>(
 ) -> fmt::Result {
     match refusal {
         Refusal::BadId => f.write_str(
-            "a word is no id, as UUID:NUMBER\nhint: with -k, AUTHORITY:CODE names the entry of a key\n",
+            "a word is not an id of the form UUID:NUMBER\nhint: with -k, AUTHORITY:CODE names the entry of a key\n",
         ),
         Refusal::BadReplica => f.write_str(
-            "--as (or CRSREG_AS) is no UUID\nhint: uuidgen makes one, once for each office\n",
+            "--as (or CRSREG_AS) is not a UUID\nhint: uuidgen makes one, once for each office\n",
         ),
         Refusal::BadSize => f.write_str("a shelf has from 14 to 67,108,864 bytes\n"),
         Refusal::NoEntry => {

@@ -26,7 +26,7 @@ pub fn write<W: fmt::Write>(
         ShelfProblem::NotShelf => {
             writeln!(
                 f,
-                "{shelf} is no shelf, or it is damaged\nhint: crsreg shelf makes one; without --shelf a command takes a file"
+                "{shelf} is not a shelf, or it is damaged\nhint: crsreg shelf makes one; without --shelf a command takes a file"
             )
         }
         ShelfProblem::TooLarge => {

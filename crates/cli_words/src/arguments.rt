@@ -28,7 +28,7 @@ pub fn keys<'a>(alloc: Global, defaults: &Defaults<'a>) -> Arg<'a> {
     let flag = flag(
         alloc,
         "keys",
-        "Takes keys, as AUTHORITY:CODE, in the place of ids (default: $CRSREG_KEYS)",
+        "Takes keys, as AUTHORITY:CODE, instead of ids (default: $CRSREG_KEYS)",
     )
     .short('k');
     set_if(defaults.keys, flag)
@@ -49,7 +49,7 @@ pub fn table<'a>(alloc: Global, defaults: &Defaults<'a>) -> Arg<'a> {
     let flag = flag(
         alloc,
         "table",
-        "Prints an aligned table in the place of CSV (default: $CRSREG_TABLE)",
+        "Prints an aligned table instead of CSV (default: $CRSREG_TABLE)",
     );
     set_if(defaults.table, flag)
 }
@@ -100,15 +100,29 @@ pub fn changed<'a>(alloc: Global) -> Result<Arg<'a>, AllocError> {
         .conflicts_with("shelf")
 }
 
-/// The office of a command: the argument, with a default from the environment.
-pub fn replica<'a>(alloc: Global, defaults: &Defaults<'a>) -> Arg<'a> {
+/// The office of a command, by its UUID: the argument, with a default from the environment.
+pub fn replica<'a>(alloc: Global, defaults: &Defaults<'a>) -> Result<Arg<'a>, AllocError> {
     let word = Arg::new(alloc, "as")
         .long("as")
         .value_name("UUID")
         .help("UUID of the office, unique to it (default: $CRSREG_AS)");
-    match defaults.office {
-        Some(office) => word.default_value(office).hide_default_value(true),
-        None => word.required(true),
+    match (defaults.office, defaults.office_file) {
+        (Some(office), _) => Ok(word.default_value(office).hide_default_value(true)),
+        (None, Some(_)) => Ok(word),
+        (None, None) => word.required_unless_present("office"),
+    }
+}
+
+/// The office of a command, by its office file: the argument, with a default from the environment.
+pub fn office_file<'a>(alloc: Global, defaults: &Defaults<'a>) -> Result<Arg<'a>, AllocError> {
+    let word = Arg::new(alloc, "office")
+        .long("office")
+        .value_name("FILE")
+        .help("The office file, in the place of --as (default: $CRSREG_OFFICE)")
+        .conflicts_with("as")?;
+    match defaults.office_file {
+        Some(file) => Ok(word.default_value(file).hide_default_value(true)),
+        None => Ok(word),
     }
 }
 

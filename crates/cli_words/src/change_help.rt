@@ -33,11 +33,11 @@ Refused, with nothing written: NoteTooLong if the note has more than 200 bytes;
 then UnknownEntry ID, SameEntry, AlreadyRetired ID or AlreadySuperseded ID, for
 the first BY that is not possible.
 
-With --from, FILE is a list: each line is an OLD and its BYs, with blanks
-between. It has the result of one command for each line, in order, and all are
-done or none: the first line that is refused refuses the command, and its
-number follows, as in UnknownEntry ID at line 7. A line with one word is
-refused as BadId. With --keep-going, refused lines are left out, a line
+With --from, FILE is a list: each line is an OLD and its BYs, separated by
+blanks. It has the result of one command for each line, in order, and all are
+done or none: the first refused line ends the command, and its number follows
+the fault, as in UnknownEntry ID at line 7. A line with one word is refused as
+BadId. With --keep-going, refused lines are left out, a line
 left out: REFUSAL at line N is printed for each, and the status is 1.
 
 Example:

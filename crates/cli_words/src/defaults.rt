@@ -5,6 +5,8 @@
 pub struct Defaults<'a> {
     /// The office of `--as`.
     pub office: Option<&'a str>,
+    /// The office file of `--office`.
+    pub office_file: Option<&'a str>,
     /// The note of `--note`.
     pub note: Option<&'a str>,
     /// Whether commands accept keys, as with `--keys`.
@@ -20,6 +22,7 @@ impl Defaults<'_> {
     pub fn none() -> Defaults<'static> {
         Defaults {
             office: None,
+            office_file: None,
             note: None,
             keys: false,
             explain: false,

@@ -1,97 +1,128 @@
 //! The commands that make and exchange registers, and keep them on shelves.
 use crate::arguments::{ON_SHELF, READ_SHELF, flag, on_shelf, out, register, several};
+use crate::draft::Draft;
 use crate::exchange_help::{
-    DOWNGRADE_HELP, MERGE_HELP, NEW_HELP, PIECE_HELP, SEEN_HELP, SHELF_HELP, TAKE_HELP,
-    UNSHELF_HELP,
+    DOWNGRADE_HELP, MERGE_HELP, NEW_HELP, OFFICE_HELP, PIECE_HELP, SEEN_HELP, SHELF_HELP,
+    TAKE_HELP, UNSHELF_HELP,
 };
-use clap::{Arg, Command};
-use std::alloc::{AllocError, Global};
+use clap::Arg;
+use std::alloc::Global;
 
 /// `new`.
-pub fn new<'a>(alloc: Global) -> Result<Command<'a>, AllocError> {
-    Command::new(alloc, "new")
-        .about("Writes an empty register")
-        .after_help(NEW_HELP)
-        .arg(out(alloc, "The register file to write"))
+pub fn new<'a>(alloc: Global) -> Draft<'a> {
+    Draft::new(alloc, "new", "Writes an empty register", NEW_HELP).arg(out(
+        alloc,
+        "The register file to write",
+    ))
+}
+
+/// `office`.
+pub fn office<'a>(alloc: Global) -> Draft<'a> {
+    let new = Arg::new(alloc, "NEW")
+        .help("The office file to make; nothing may have this name")
+        .required(true);
+    Draft::new(
+        alloc,
+        "office",
+        "Makes an office file, and prints the UUID of the new office",
+        OFFICE_HELP,
+    )
+    .arg(new)
 }
 
 /// `take`.
-pub fn take<'a>(alloc: Global) -> Result<Command<'a>, AllocError> {
-    Command::new(alloc, "take")
-        .about("Joins registers and pieces of other offices to a register")
-        .after_help(TAKE_HELP)
-        .arg(own_register(alloc))?
-        .arg(several(alloc, "FILE", "The files of registers and pieces to join"))?
-        .arg(flag(
-            alloc,
-            "dry-run",
-            "Prints what would change, and writes nothing",
-        ))?
-        .arg(flag(
-            alloc,
-            "keep-going",
-            "Leaves out files that are refused, and joins the others",
-        ))?
-        .arg(on_shelf(alloc, ON_SHELF))
+pub fn take<'a>(alloc: Global) -> Draft<'a> {
+    Draft::new(
+        alloc,
+        "take",
+        "Joins registers and pieces of other offices to a register",
+        TAKE_HELP,
+    )
+    .arg(own_register(alloc))
+    .arg(several(alloc, "FILE", "The files of registers and pieces to join"))
+    .arg(flag(
+        alloc,
+        "dry-run",
+        "Prints what would change, and writes nothing",
+    ))
+    .arg(flag(
+        alloc,
+        "keep-going",
+        "Leaves out files that are refused, and joins the others",
+    ))
+    .arg(on_shelf(alloc, ON_SHELF))
 }
 
 /// `merge`.
-pub fn merge<'a>(alloc: Global) -> Result<Command<'a>, AllocError> {
-    Command::new(alloc, "merge")
-        .about("Merges registers and pieces")
-        .after_help(MERGE_HELP)
-        .arg(on_shelf(alloc, "OUT is a shelf, whose register is merged too"))?
-        .arg(out(alloc, "The register file to write"))?
+pub fn merge<'a>(alloc: Global) -> Draft<'a> {
+    Draft::new(alloc, "merge", "Merges registers and pieces", MERGE_HELP)
+        .arg(on_shelf(alloc, "OUT is a shelf, whose register is merged too"))
+        .arg(out(alloc, "The register file to write"))
         .arg(several(alloc, "FILE", "The files of registers and pieces to merge"))
 }
 
 /// `seen`.
-pub fn seen<'a>(alloc: Global) -> Result<Command<'a>, AllocError> {
-    Command::new(alloc, "seen")
-        .about("Writes a summary of the operations that a register has seen")
-        .after_help(SEEN_HELP)
-        .arg(register(alloc))?
-        .arg(on_shelf(alloc, READ_SHELF))?
-        .arg(out(alloc, "The summary file to write"))
+pub fn seen<'a>(alloc: Global) -> Draft<'a> {
+    Draft::new(
+        alloc,
+        "seen",
+        "Writes a summary of the operations that a register has seen",
+        SEEN_HELP,
+    )
+    .arg(register(alloc))
+    .arg(on_shelf(alloc, READ_SHELF))
+    .arg(out(alloc, "The summary file to write"))
 }
 
 /// `piece`.
-pub fn piece<'a>(alloc: Global) -> Result<Command<'a>, AllocError> {
-    Command::new(alloc, "piece")
-        .about("Writes what another office lacks of a register")
-        .after_help(PIECE_HELP)
-        .arg(register(alloc))?
-        .arg(on_shelf(alloc, READ_SHELF))?
-        .arg(summary(alloc))?
-        .arg(out(alloc, "The piece file to write"))
+pub fn piece<'a>(alloc: Global) -> Draft<'a> {
+    Draft::new(
+        alloc,
+        "piece",
+        "Writes what another office lacks of a register",
+        PIECE_HELP,
+    )
+    .arg(register(alloc))
+    .arg(on_shelf(alloc, READ_SHELF))
+    .arg(summary(alloc))
+    .arg(out(alloc, "The piece file to write"))
 }
 
 /// `downgrade`.
-pub fn downgrade<'a>(alloc: Global) -> Result<Command<'a>, AllocError> {
-    Command::new(alloc, "downgrade")
-        .about("Writes the register in file version 1, for crsreg 0.3 and older")
-        .after_help(DOWNGRADE_HELP)
-        .arg(register(alloc))?
-        .arg(on_shelf(alloc, READ_SHELF))?
-        .arg(out(alloc, "The register file to write"))
+pub fn downgrade<'a>(alloc: Global) -> Draft<'a> {
+    Draft::new(
+        alloc,
+        "downgrade",
+        "Writes the register in file version 1, for crsreg 0.3 and older",
+        DOWNGRADE_HELP,
+    )
+    .arg(register(alloc))
+    .arg(on_shelf(alloc, READ_SHELF))
+    .arg(out(alloc, "The register file to write"))
 }
 
 /// `shelf`.
-pub fn shelf<'a>(alloc: Global) -> Result<Command<'a>, AllocError> {
-    Command::new(alloc, "shelf")
-        .about("Creates a crash-safe file (a shelf) that holds an empty register")
-        .after_help(SHELF_HELP)
-        .arg(new_shelf(alloc))?
-        .arg(size(alloc))
+pub fn shelf<'a>(alloc: Global) -> Draft<'a> {
+    Draft::new(
+        alloc,
+        "shelf",
+        "Creates a crash-safe file (a shelf) that holds an empty register",
+        SHELF_HELP,
+    )
+    .arg(new_shelf(alloc))
+    .arg(size(alloc))
 }
 
 /// `unshelf`.
-pub fn unshelf<'a>(alloc: Global) -> Result<Command<'a>, AllocError> {
-    Command::new(alloc, "unshelf")
-        .about("Writes the register on a shelf to a file")
-        .after_help(UNSHELF_HELP)
-        .arg(old_shelf(alloc))?
-        .arg(out(alloc, "The register file to write"))
+pub fn unshelf<'a>(alloc: Global) -> Draft<'a> {
+    Draft::new(
+        alloc,
+        "unshelf",
+        "Writes the register on a shelf to a file",
+        UNSHELF_HELP,
+    )
+    .arg(old_shelf(alloc))
+    .arg(out(alloc, "The register file to write"))
 }
 
 fn own_register<'a>(alloc: Global) -> Arg<'a> {

@@ -23,6 +23,28 @@ exit status is that of the first line.
 Example:
   crsreg take office.crs north.crs south.piece";
 
+pub const OFFICE_HELP: &str = "\
+An office file has one line: the UUID of the office, a colon, and the last
+number that the office gave. NEW gets a fresh UUID and the number 0. It is never
+written over a file or through a link (out: NotOpened).
+
+With --office FILE a command works as this office, and replaces FILE before it
+writes OUT. So the office gives no number twice, even if REG is an old copy:
+then the command is refused as Behind UUID:NUMBER. Take a register that has
+this number, or make a new office if nobody has it any more. If a command is
+stopped after it replaced FILE, the next one with FILE and OUT renames OUT.new
+to OUT first.
+
+Have one office file for each register. Never copy an office file, restore an
+older one, or put it under version control. While a command has FILE, FILE.new
+is there, and other commands with FILE end with file 1: Busy. A command that was
+killed may leave FILE.new: remove it when no crsreg runs.
+
+Example:
+  crsreg office north.office
+  crsreg enter office.crs --office north.office --text height.wkt \\
+      --out office.crs";
+
 pub const MERGE_HELP: &str = "\
 Makes one register of several. What was at OUT is replaced, and is lost unless
 OUT is among the files; crsreg take joins the files of others to your register.

@@ -6,6 +6,7 @@ mod change;
 mod change_help;
 mod completions;
 mod defaults;
+mod draft;
 mod exchange;
 mod exchange_help;
 mod look;

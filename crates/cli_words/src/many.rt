@@ -1,61 +1,67 @@
 //! The commands `import` and `settle`.
 use crate::arguments::{
-    ON_SHELF, changed, flag, named, note, on_shelf, register, replica, several,
+    ON_SHELF, changed, flag, named, note, office_file, on_shelf, register, replica, several,
 };
 use crate::defaults::Defaults;
+use crate::draft::Draft;
 use crate::many_help::{IMPORT_HELP, SETTLE_HELP};
-use clap::{Arg, ArgAction, Command};
+use clap::{Arg, ArgAction};
 use std::alloc::{AllocError, Global};
 
 const MODES: [&str; 3] = ["refuse", "beside", "revise"];
 
 /// `import`.
-pub fn import<'a>(alloc: Global, defaults: &Defaults<'a>) -> Result<Command<'a>, AllocError> {
-    let whole = Command::new(alloc, "import")
-        .about("Enters all texts of files into a register")
-        .after_help(IMPORT_HELP)
-        .arg(register(alloc))?
-        .arg(several(alloc, "FILE", "The files with texts; - is standard input"))?
-        .arg(replica(alloc, defaults))?
-        .arg(note(alloc, defaults))?;
-    let whole = whole
-        .arg(differs(alloc))?
-        .arg(flag(alloc, "keep-going", "Lists refused texts, and goes on"))?
-        .arg(flag(
-            alloc,
-            "dry-run",
-            "Prints what would be done, and writes nothing",
-        ))?;
-    let whole = whole
-        .arg(flag(alloc, "changes", "Prints no lines with the action same"))?
-        .arg(named(
-            alloc,
-            "gone",
-            "AUTHORITY",
-            "Lists its entries whose keys no text has",
-        ))?;
-    whole
-        .arg(on_shelf(alloc, ON_SHELF))?
-        .arg(unless_dry(alloc)?)
+pub fn import<'a>(alloc: Global, defaults: &Defaults<'a>) -> Draft<'a> {
+    Draft::new(
+        alloc,
+        "import",
+        "Enters all texts of files into a register",
+        IMPORT_HELP,
+    )
+    .arg(register(alloc))
+    .arg(several(alloc, "FILE", "The files with texts; - is standard input"))
+    .try_arg(replica(alloc, defaults))
+    .try_arg(office_file(alloc, defaults))
+    .arg(note(alloc, defaults))
+    .arg(differs(alloc))
+    .arg(flag(alloc, "keep-going", "Lists refused texts, and goes on"))
+    .arg(flag(
+        alloc,
+        "dry-run",
+        "Prints what would be done, and writes nothing",
+    ))
+    .arg(flag(alloc, "changes", "Prints no lines with the action same"))
+    .arg(named(
+        alloc,
+        "gone",
+        "AUTHORITY",
+        "Lists the entries of AUTHORITY whose keys no text has",
+    ))
+    .arg(on_shelf(alloc, ON_SHELF))
+    .try_arg(unless_dry(alloc))
 }
 
 /// `settle`.
-pub fn settle<'a>(alloc: Global, defaults: &Defaults<'a>) -> Result<Command<'a>, AllocError> {
-    Command::new(alloc, "settle")
-        .about("Keeps entries, and retires all others with their authority and code")
-        .after_help(SETTLE_HELP)
-        .arg(register(alloc))?
-        .arg(kept(alloc)?)?
-        .arg(flag(
-            alloc,
-            "equal",
-            "Of entries with one key and text, keeps the least",
-        ))?
-        .arg(flag(alloc, "quiet", "Prints no ids"))?
-        .arg(replica(alloc, defaults))?
-        .arg(note(alloc, defaults))?
-        .arg(on_shelf(alloc, ON_SHELF))?
-        .arg(changed(alloc)?)
+pub fn settle<'a>(alloc: Global, defaults: &Defaults<'a>) -> Draft<'a> {
+    Draft::new(
+        alloc,
+        "settle",
+        "Keeps entries, and retires all others with their authority and code",
+        SETTLE_HELP,
+    )
+    .arg(register(alloc))
+    .try_arg(kept(alloc))
+    .arg(flag(
+        alloc,
+        "equal",
+        "Of entries with one key and text, keeps the least",
+    ))
+    .arg(flag(alloc, "quiet", "Prints no ids"))
+    .try_arg(replica(alloc, defaults))
+    .try_arg(office_file(alloc, defaults))
+    .arg(note(alloc, defaults))
+    .arg(on_shelf(alloc, ON_SHELF))
+    .try_arg(changed(alloc))
 }
 
 // The action if the key has another text.

@@ -1,35 +1,38 @@
 //! The commands that show a register, or an entry of it.
 use crate::arguments::{READ_SHELF, entry, flag, keys, named, on_shelf, register};
 use crate::defaults::Defaults;
+use crate::draft::Draft;
 use crate::look::wanted;
 use crate::read_help::{
-    COMPARE_HELP, EXPORT_HELP, LOG_HELP, OPS_HELP, REPORT_HELP, SHOW_HELP, TEXTS_HELP, WKT_HELP,
+    COMPARE_HELP, EXPORT_HELP, GRAPH_HELP, LOG_HELP, OPS_HELP, REPORT_HELP, SHOW_HELP, TEXTS_HELP,
+    WKT_HELP,
 };
-use clap::{Arg, ArgAction, Command};
+use clap::{Arg, ArgAction};
 use std::alloc::{AllocError, Global};
 
 const KINDS: [&str; 4] = ["entries", "conflicts", "awaited", "gaps"];
 
 /// `show`.
-pub fn show<'a>(alloc: Global, defaults: &Defaults<'a>) -> Result<Command<'a>, AllocError> {
-    Command::new(alloc, "show")
-        .about("Prints the key, the name and the status of one entry")
-        .after_help(SHOW_HELP)
-        .arg(register(alloc))?
-        .arg(keys(alloc, defaults))?
-        .arg(on_shelf(alloc, READ_SHELF))?
-        .arg(entry(alloc))
+pub fn show<'a>(alloc: Global, defaults: &Defaults<'a>) -> Draft<'a> {
+    Draft::new(
+        alloc,
+        "show",
+        "Prints the key, the name and the status of one entry",
+        SHOW_HELP,
+    )
+    .arg(register(alloc))
+    .arg(keys(alloc, defaults))
+    .arg(on_shelf(alloc, READ_SHELF))
+    .arg(entry(alloc))
 }
 
 /// `wkt`.
-pub fn wkt<'a>(alloc: Global, defaults: &Defaults<'a>) -> Result<Command<'a>, AllocError> {
-    Command::new(alloc, "wkt")
-        .about("Prints the text of one entry")
-        .after_help(WKT_HELP)
-        .arg(register(alloc))?
-        .arg(keys(alloc, defaults))?
-        .arg(on_shelf(alloc, READ_SHELF))?
-        .arg(entry(alloc))?
+pub fn wkt<'a>(alloc: Global, defaults: &Defaults<'a>) -> Draft<'a> {
+    Draft::new(alloc, "wkt", "Prints the text of one entry", WKT_HELP)
+        .arg(register(alloc))
+        .arg(keys(alloc, defaults))
+        .arg(on_shelf(alloc, READ_SHELF))
+        .arg(entry(alloc))
         .arg(flag(
             alloc,
             "pretty",
@@ -38,26 +41,32 @@ pub fn wkt<'a>(alloc: Global, defaults: &Defaults<'a>) -> Result<Command<'a>, Al
 }
 
 /// `texts`.
-pub fn texts<'a>(alloc: Global) -> Result<Command<'a>, AllocError> {
-    Command::new(alloc, "texts")
-        .about("Prints the indented texts of all entries that are not retired, by key")
-        .after_help(TEXTS_HELP)
-        .arg(register(alloc))?
-        .arg(on_shelf(alloc, READ_SHELF))
+pub fn texts<'a>(alloc: Global) -> Draft<'a> {
+    Draft::new(
+        alloc,
+        "texts",
+        "Prints the indented texts of all entries that are not retired, by key",
+        TEXTS_HELP,
+    )
+    .arg(register(alloc))
+    .arg(on_shelf(alloc, READ_SHELF))
 }
 
 /// `compare`.
-pub fn compare<'a>(alloc: Global, defaults: &Defaults<'a>) -> Result<Command<'a>, AllocError> {
-    Command::new(alloc, "compare")
-        .about("Prints the lines that differ between the texts of entries")
-        .after_help(COMPARE_HELP)
-        .arg(register(alloc))?
-        .arg(compared(alloc)?)?
-        .arg(other(alloc)?)?
-        .arg(with(alloc))?
-        .arg(keys(alloc, defaults))?
-        .arg(flag(alloc, "exit-code", "Exits with status 1 if they differ"))?
-        .arg(on_shelf(alloc, READ_SHELF))
+pub fn compare<'a>(alloc: Global, defaults: &Defaults<'a>) -> Draft<'a> {
+    Draft::new(
+        alloc,
+        "compare",
+        "Prints the lines that differ between the texts of entries",
+        COMPARE_HELP,
+    )
+    .arg(register(alloc))
+    .try_arg(compared(alloc))
+    .try_arg(other(alloc))
+    .arg(with(alloc))
+    .arg(keys(alloc, defaults))
+    .arg(flag(alloc, "exit-code", "Exits with status 1 if they differ"))
+    .arg(on_shelf(alloc, READ_SHELF))
 }
 
 fn compared<'a>(alloc: Global) -> Result<Arg<'a>, AllocError> {
@@ -80,49 +89,85 @@ fn with<'a>(alloc: Global) -> Arg<'a> {
 }
 
 /// `export`.
-pub fn export<'a>(alloc: Global) -> Result<Command<'a>, AllocError> {
-    Command::new(alloc, "export")
-        .about("Prints the texts of all entries that are not retired, or hands them on")
-        .after_help(EXPORT_HELP)
-        .arg(register(alloc))?
-        .arg(into(alloc))?
-        .arg(wanted(alloc))?
-        .arg(named(alloc, "authority", "A", "Only with this authority"))?
-        .arg(flag(
-            alloc,
-            "keep-going",
-            "Leaves out keys with two texts, and names the first at the end",
-        ))?
-        .arg(on_shelf(alloc, READ_SHELF))
+pub fn export<'a>(alloc: Global) -> Draft<'a> {
+    Draft::new(
+        alloc,
+        "export",
+        "Prints the texts of all entries that are not retired, or hands them on",
+        EXPORT_HELP,
+    )
+    .arg(register(alloc))
+    .try_arg(into(alloc))
+    .arg(flag(alloc, "geojson", "Prints the bounding boxes as GeoJSON"))
+    .try_arg(proj_sql(alloc))
+    .arg(wanted(alloc))
+    .arg(named(alloc, "authority", "A", "Only with this authority"))
+    .arg(flag(
+        alloc,
+        "keep-going",
+        "Leaves out keys with two texts, and names the first at the end",
+    ))
+    .arg(on_shelf(alloc, READ_SHELF))
 }
 
-fn into<'a>(alloc: Global) -> Arg<'a> {
+fn into<'a>(alloc: Global) -> Result<Arg<'a>, AllocError> {
     named(
         alloc,
         "into",
         "DIR",
-        "Writes a file for each key into the folder DIR, which is made",
+        "Writes a file for each key into the new folder DIR",
     )
+    .allow_hyphen_values(false)
+    .conflicts_with("geojson")?
+    .conflicts_with("proj-sql")
+}
+
+fn proj_sql<'a>(alloc: Global) -> Result<Arg<'a>, AllocError> {
+    flag(
+        alloc,
+        "proj-sql",
+        "Prints SQL for an auxiliary database of PROJ",
+    )
+    .conflicts_with("geojson")
+}
+
+/// `graph`.
+pub fn graph<'a>(alloc: Global) -> Draft<'a> {
+    Draft::new(
+        alloc,
+        "graph",
+        "Prints a graph of entries that supersede each other or are in conflict",
+        GRAPH_HELP,
+    )
+    .arg(register(alloc))
+    .arg(flag(alloc, "all", "Draws every entry"))
+    .arg(on_shelf(alloc, READ_SHELF))
 }
 
 /// `ops`.
-pub fn ops<'a>(alloc: Global) -> Result<Command<'a>, AllocError> {
-    Command::new(alloc, "ops")
-        .about("Prints the operations that a register keeps")
-        .after_help(OPS_HELP)
-        .arg(register(alloc))?
-        .arg(on_shelf(alloc, READ_SHELF))
+pub fn ops<'a>(alloc: Global) -> Draft<'a> {
+    Draft::new(
+        alloc,
+        "ops",
+        "Prints the operations that a register keeps",
+        OPS_HELP,
+    )
+    .arg(register(alloc))
+    .arg(on_shelf(alloc, READ_SHELF))
 }
 
 /// `log`.
-pub fn log<'a>(alloc: Global, defaults: &Defaults<'a>) -> Result<Command<'a>, AllocError> {
-    Command::new(alloc, "log")
-        .about("Prints the operations on entries, entry by entry")
-        .after_help(LOG_HELP)
-        .arg(register(alloc))?
-        .arg(logged(alloc))?
-        .arg(keys(alloc, defaults))?
-        .arg(on_shelf(alloc, READ_SHELF))
+pub fn log<'a>(alloc: Global, defaults: &Defaults<'a>) -> Draft<'a> {
+    Draft::new(
+        alloc,
+        "log",
+        "Prints the operations on entries, entry by entry",
+        LOG_HELP,
+    )
+    .arg(register(alloc))
+    .arg(logged(alloc))
+    .arg(keys(alloc, defaults))
+    .arg(on_shelf(alloc, READ_SHELF))
 }
 
 fn logged<'a>(alloc: Global) -> Arg<'a> {
@@ -133,13 +178,16 @@ fn logged<'a>(alloc: Global) -> Arg<'a> {
 }
 
 /// `report`.
-pub fn report<'a>(alloc: Global) -> Result<Command<'a>, AllocError> {
-    Command::new(alloc, "report")
-        .about("Prints a report on a register")
-        .after_help(REPORT_HELP)
-        .arg(register(alloc))?
-        .arg(on_shelf(alloc, READ_SHELF))?
-        .arg(kind(alloc))
+pub fn report<'a>(alloc: Global) -> Draft<'a> {
+    Draft::new(
+        alloc,
+        "report",
+        "Prints a report on a register",
+        REPORT_HELP,
+    )
+    .arg(register(alloc))
+    .arg(on_shelf(alloc, READ_SHELF))
+    .arg(kind(alloc))
 }
 
 fn kind<'a>(alloc: Global) -> Arg<'a> {

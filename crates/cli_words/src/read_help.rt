@@ -29,12 +29,12 @@ Example:
 pub const TEXTS_HELP: &str = "\
 Prints each text of an entry that is not retired, ordered by key and then by
 text, each text of a key once: a line with the key and the status, the indented
-text, and an empty line. A superseded text is followed by the keys of what
-supersedes it, if that is not retired. A line break within a key is printed as
-a space.
+text, and an empty line. After superseded, the line has the keys of the
+superseding entries that are not retired. A line break within a key is printed
+as a space.
 
-It prints no ids, so registers that say the same print the same. As git's
-textconv it shows the lines that changed.
+It prints no ids, so registers with the same keys, texts and statuses print the
+same. As git's textconv it shows the lines that changed.
 
 Example:
   crsreg texts office.crs";
@@ -46,8 +46,8 @@ with -, lines of the second with +, lines of both with a space. If the texts are
 equal, it prints nothing.
 
 Without OTHER, ENTRY is a key. Of the entries with this key that are not
-retired, the least is compared with each other. The command is refused as
-NoEntry if there is none.
+retired, the one with the least id is compared with each of the others. The
+command is refused as NoEntry if there is none.
 
 With --with FILE, each text of FILE, as crsreg import splits it, is compared
 with the entries of its key that are not retired. Lines that the text adds begin
@@ -67,20 +67,43 @@ pub const EXPORT_HELP: &str = "\
 Prints the canonical text of each entry that is not retired, superseded ones
 included, one a line, ordered by id. Line breaks within quotation marks stay.
 
-With --into it writes these entries, or those that match --status and
---authority, into a folder, for other programs. If two of them have one key
-and different texts, it is refused as KeyTaken ID, the least such entry of the
-least key. With --keep-going such keys are left out; the first is named at the
-end, with status 1.
+With --into, --geojson or --proj-sql it hands these entries on to other
+programs, or those that match --status and --authority. If two of them have one
+key and different texts, it is refused as KeyTaken ID, the least such entry of
+the least key. With --keep-going such keys are left out; the first is named at
+the end, with status 1.
 
 --into writes a file AUTHORITY_CODE.wkt for each key, with the canonical text
-and a newline. Bytes other than A-Z, a-z, 0-9, . and - become % and two digits
-to the base 16. DIR must not exist, or be an empty folder. It is made as
-DIR.new and then renamed, so it has all files or is not there.
+and a newline. Bytes other than A-Z, a-z, 0-9, . and - become % and two
+hexadecimal digits. DIR must not exist, or be an empty folder. The files are
+written to DIR.new, which is then renamed: DIR has all files or is not there.
+
+--geojson prints a feature for each USAGE that has a BBOX. A box whose west is
+greater than its east is cut at 180 degrees. QGIS opens it.
+
+--proj-sql prints SQL that puts geodetic, geographic and projected entries into
+an auxiliary database of PROJ. What PROJ's tables cannot hold is left out, with
+a line \"-- left out: ID NAME\". A code that PROJ's own database has stays
+PROJ's, so give variants an authority of your own. Set PROJ_AUX_DB for a
+project, not in a login profile: with it each look-up takes longer.
 
 Example:
   crsreg export office.crs > all.wkt
-  crsreg export office.crs --into texts";
+  crsreg export office.crs --into texts
+  crsreg export office.crs --geojson > office.geojson
+  (projinfo --dump-db-structure; crsreg export office.crs --proj-sql) |
+    sqlite3 aux.db
+  PROJ_AUX_DB=aux.db projinfo OFFICE:25832";
+
+pub const GRAPH_HELP: &str = "\
+Prints a graph in DOT, the language of Graphviz: a node for each entry that has
+an edge or is in conflict, or with --all for every entry, with its key and its
+name. Valid entries are green, superseded ones yellow, retired ones gray. An
+edge leads from a superseded entry to each entry that supersedes it. A red line
+joins the first entry of a key in conflict to each of the others.
+
+Example:
+  crsreg graph office.crs | dot -Tsvg > office.svg";
 
 pub const OPS_HELP: &str = "\
 Prints, as comma-separated values, each operation that the register keeps,

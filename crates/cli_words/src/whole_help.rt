@@ -3,7 +3,8 @@
 pub const STATUS_HELP: &str = "\
 Exit status:
   0  done
-  1  refused; the fault is on standard error
+  1  refused, or left out by --keep-going; the fault is on standard error. Or
+     --exit-code found a difference
   2  the command line is wrong
   3  a file could not be opened, read or written, or is not a register; or a
      shelf has no register, no room for it, or could not be written

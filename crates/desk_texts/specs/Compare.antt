@@ -17,11 +17,11 @@ abbrev pub uncompared_fault : Uncompared → CliFault
 uncompared_fault (why.UnknownEntry id) = cli.Refused (refusal.Office (office.UnknownEntry id))
 uncompared_fault why.Memory = cli.Memory
 
--- one of two entries is not there, which is refused; or there is no memory
+-- one of the two entries is not in the register, so the command is refused; or memory ran out
 abbrev pub CannotCompare : Id → Id → Content → CliFault → Type 0
 CannotCompare i j x f = (w : Uncompared) × IsUncompared i j x w × (uncompared_fault w ≡ f)
 
--- what differs between an entry and the one that a word stands for
+-- what differs between an entry and the one that a word names
 abbrev pub IsComparedWith : Id → List ℕ → Content → List ℕ → Type 0
 IsComparedWith i word x text = PrintsFor (IsCompared i) word x text
 
@@ -32,7 +32,7 @@ CannotCompareWith i word x f = RefusesFor (CannotCompare i) word x f
 abbrev pub IsKeyComparedText : List ℕ → Content → List ℕ → Type 0
 IsKeyComparedText key x text = (v : Vec ℕ) × IsKeyCompared key x (Some v) × (text ≡ v.items)
 
--- there is none, which is refused; or there is no memory
+-- there is no such entry, so the command is refused; or memory ran out
 abbrev pub HasNoEntry : List ℕ → Content → CliFault → Type 0
 HasNoEntry key x (cli.Refused refusal.NoEntry) = IsKeyCompared key x None
 HasNoEntry key x cli.Memory = Unit {0}

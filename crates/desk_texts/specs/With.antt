@@ -2,7 +2,7 @@
 use Rattle.std.specs.Prelude.{◌≡◌, ◌≢◌, ◌⊎◌, ◌↔◌, ℕ, Bool, List, [], IsTrue}
 use Rattle.byte_io.specs.Device.{SourceState, SinkState}
 use Rattle.byte_io.specs.Whole.{WritesAll}
-use Rattle.desk_files.specs.Bytes.{Gives, IsUnread}
+use Rattle.reg_engine.specs.WholeFile.{Gives, IsUnread}
 use Rattle.reg_op.specs.Contents.{Content}
 use Rattle.reg_engine.specs.declared.fault.CliFault.{CliFault}
 use Rattle.reg_engine.specs.declared.fault.CliFault.TheVariants as cli
@@ -12,8 +12,8 @@ use Rattle.reg_texts.specs.Given.{IsFileAgainst, IsFileUnread}
 use Rattle.desk_texts.specs.declared.with.WithFault.{WithFault}
 use Rattle.desk_texts.specs.declared.with.WithFault.TheVariants as with
 
--- a register was read, and a file; what differs between each text of the file and the entries of its key was written, and the
--- answer is whether anything was
+-- a register and a file were read; what differs between each text of the file and the entries of its key was written; the result
+-- is whether anything was written
 abbrev pub IsComparedWithFile : Around → List ℕ → SourceState → SourceState → SinkState → SinkState → Bool → Type 0
 IsComparedWithFile a name old new before after any = (x : Content) × (bytes : List ℕ) × (text : List ℕ) × a.came x × Gives old new bytes × IsFileAgainst name bytes x text
     × (IsTrue any ↔ (text ≢ [])) × WritesAll text before after
@@ -23,13 +23,13 @@ abbrev pub IsRefusedIn : ℕ → List ℕ → WithFault → Type 0
 IsRefusedIn number bytes (with.Cli f) = f ≡ cli.Memory
 IsRefusedIn number bytes (with.Refused f at place len k) = (k ≡ number) × IsFileUnread bytes (unread.Refused f at place len)
 
--- the fault is none of a text
+-- the fault is not about a text
 abbrev pub IsCli : (CliFault → Type 0) → WithFault → Type 0
 IsCli Is (with.Cli f) = Is f
 IsCli Is (with.Refused f at place len k) = ⊥
 
--- no register was read, and nothing else was; or the file was not read; or a text of it is no definition; or what differs was not
--- completely written
+-- neither the register nor the file was read; or only the register; or a text of the file is not a definition; or not all of what
+-- differs was written
 abbrev pub IsUncomparedWith : Around → ℕ → List ℕ → SourceState → SourceState → SinkState → SinkState → WithFault → Type 0
 IsUncomparedWith a next name old new before after w = (IsCli a.none w × (new ≡ old) × (after ≡ before))
     ⊎ ((x : Content) × a.came x × ((IsCli (IsUnread next old new) w × (after ≡ before))

@@ -34,7 +34,7 @@ impl Print for Compare {
     }
 }
 
-/// The fault of entries that are not compared.
+/// The fault of the command, if two entries cannot be compared.
 pub fn fault_of(why: Uncompared) -> CliFault
     ensures { result ≡ uncompared_fault why }
 {
@@ -74,7 +74,7 @@ impl PrintOf for CompareTo {
     }
 }
 
-/// `Compare` of an entry and the one that the word stands for.
+/// `Compare` of an entry and the one that the word names.
 #[derive(Drop)]
 pub struct CompareWith<'a> {
     pub word: &'a [u8],
@@ -105,7 +105,7 @@ impl PrintOf for CompareWith<'_> {
     }
 }
 
-/// Prints what differs between the text of the least entry of a key that is not retired and that of each other.
+/// Of the entries of a key that are not retired, compares the text of the one with the least id with each of the others.
 #[derive(Drop)]
 pub struct CompareKey<'a> {
     pub key: &'a [u8],

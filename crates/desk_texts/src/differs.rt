@@ -1,4 +1,4 @@
-//! The steps of a command that prints what differs, and answers whether anything does.
+//! The steps of a command that prints differences, and returns whether there are any.
 
 ghost use Rattle.std.specs.Prelude.{◌≡◌, ◌≢◌, ◌↔◌, [], ℕ, List, IsTrue, IfOk, IfErr};
 ghost use Rattle.reg_engine.specs.Store.{IsPrinted, IsUnprinted};
@@ -8,7 +8,7 @@ use byte_io::{Sink, write_all};
 use reg_engine::{CliFault, OutFault, Print, Store};
 use std::alloc::Global;
 
-/// Loads the register, writes the command's text of it to the sink, and answers whether the text has any byte.
+/// Loads the register, writes the command's text to the sink, and returns whether the text has any byte.
 pub fn run_differs<T: Store, C: Print, K: Sink>(
     alloc: Global,
     store: &mut T,

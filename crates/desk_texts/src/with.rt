@@ -6,8 +6,7 @@ ghost use Rattle.desk_texts.specs.With.{IsRefusedIn, IsComparedWithFile, IsUncom
 
 use crate::differs::has_any;
 use byte_io::{Sink, Source, write_all};
-use desk_files::read_whole;
-use reg_engine::{CliFault, OutFault, Store};
+use reg_engine::{CliFault, OutFault, Store, read_whole};
 use reg_texts::{Unread, compared_texts};
 use std::alloc::Global;
 use wkt_crs::DefinitionFault;
@@ -16,7 +15,7 @@ use wkt_crs::DefinitionFault;
 #[derive(Clone, Copy, Debug, PartialEq, Eq)]
 pub enum WithFault {
     Cli(CliFault),
-    /// A text of the file with this number is no definition, for this reason.
+    /// A text of the file with this number is not a definition, for this reason.
     Refused {
         fault: DefinitionFault,
         /// The offset in the file of the fault, or of the text's first byte if the fault has no place.
@@ -30,7 +29,7 @@ pub enum WithFault {
 }
 
 /// Loads the register, reads the file after it, writes what differs between each text of the file and the entries of its key, and
-/// answers whether anything does. `name` names the file in the heads.
+/// returns whether anything differs. `name` is the file's name in the header lines.
 pub fn run_compared_with<T: Store, S: Source, K: Sink>(
     alloc: Global,
     store: &mut T,

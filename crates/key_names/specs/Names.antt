@@ -10,7 +10,7 @@ is_plain b =
 abbrev pub hex_digit : ℕ → ℕ
 hex_digit n = if nat_lt n 10 then 48 + n else 55 + n
 
--- each other byte becomes `%` and two digits to the base 16
+-- each other byte becomes `%` and two hexadecimal digits
 abbrev pub named_byte : ℕ → List ℕ
 named_byte b = if is_plain b then b ∷ [] else (37 ∷ hex_digit (b / 16) ∷ hex_digit (b % 16) ∷ [])
 

@@ -13,7 +13,7 @@ pub fn names_are_read_back()
     ensures code { (a c : List ℕ) → code_of (file_name a c) ≡ c }
 {}
 
-/// Two keys have two names.
+/// Different keys have different names.
 pub fn no_name_is_shared()
     ensures { (a c b d : List ℕ) → file_name a c ≡ file_name b d → (a ≡ b) × (c ≡ d) }
 {}
@@ -29,7 +29,7 @@ pub fn names_stay_in_the_folder()
     ensures bytes { (a c : List ℕ) → All (λ b. b < 256) a → All (λ b. b < 256) c → list_all is_name_byte (file_name a c) ≡ true }
 {}
 
-/// If no key has two texts, the names of the files ascend: each name is that of one file.
+/// If no key has two texts, the names of the files ascend, so no two files have one name.
 pub fn no_name_has_two_texts()
     ensures { (ts : List KeyedText) (fs : List File) → AreFilesOf ts fs → HaveOneText ts → IsStrictlySortedBy name_cmp (map (λ (f : File). f.name) fs) }
 {}

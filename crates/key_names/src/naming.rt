@@ -56,7 +56,7 @@ fn push_part(name: &mut Vec<u8>, text: &[u8]) -> Result<(), AllocError>
 }
 
 /// The name of the file of the key with this authority and code: both, with `_` between, and `.wkt`. Bytes other than ASCII
-/// letters, digits, `.` and `-` become `%` and two digits to the base 16.
+/// letters, digits, `.` and `-` become `%` and two hexadecimal digits.
 pub fn file_name(alloc: Global, authority: &[u8], code: &[u8]) -> Result<Vec<u8>, AllocError>
     ensures { IfOk result (λ name. name.items ≡ file_name authority.now code.now) }
 {

@@ -1,16 +1,19 @@
 //! Runs a command: from the command line to an engine, and from its result to the exit status.
-use crate::change::{enter, import, retire, settle, supersede};
+use crate::change::{enter, retire, settle, supersede};
 use crate::compare::compare;
 use crate::environment::Environment;
 use crate::exchange::{downgrade, merge, new, piece, seen, shelf, unshelf};
-use crate::hand::export;
+use crate::hand::{export, graph};
+use crate::importing::import;
 use crate::look::{
     check, diff, find, log, offices, ops, page, report, show, status as figures, texts, wkt,
 };
+use crate::office::{is_out, office, office_file};
 use crate::outcome::{MISUSE, Outcome, complain, failed, print, status};
 use crate::paths::Named;
 use crate::shells::completions;
 use crate::take::take;
+use crate::words::word;
 use clap::ArgMatches;
 use clap::error::ErrorKind;
 use cli_words::command_line;
@@ -18,6 +21,8 @@ use reg_desk::CliFault;
 use std::{env, io};
 
 const NO_TEXT: &str = "error: a word of the command line is not UTF-8";
+
+const SAME_FILE: &str = "error: OUT is the office file, or its new one";
 
 const NO_COMMAND: &str = "error: there is no such command";
 
@@ -74,17 +79,15 @@ fn perform(rt: &HostRuntime, matches: &ArgMatches<'_>) -> Option<Outcome> {
     let outcome = match name {
         "check" => check(rt, inner),
         "new" => Outcome::of(new(rt, inner)),
-        "enter" => enter(rt, inner),
-        "import" => import(rt, inner),
-        "supersede" => supersede(rt, inner),
-        "retire" => retire(rt, inner),
-        "settle" => settle(rt, inner),
+        "office" => Outcome::of(office(rt, inner)),
+        "enter" | "import" | "supersede" | "retire" | "settle" => changed(rt, name, inner)?,
         "find" => find(rt, inner),
         "show" => Outcome::of(show(rt, inner)),
         "wkt" => Outcome::of(wkt(rt, inner)),
         "texts" => Outcome::of(texts(rt, inner)),
         "compare" => compare(rt, inner),
         "export" => export(rt, inner),
+        "graph" => Outcome::of(graph(rt, inner)),
         "ops" => Outcome::of(ops(rt, inner)),
         "log" => Outcome::of(log(rt, inner)),
         "report" => Outcome::of(report(rt, inner)?),
@@ -100,6 +103,26 @@ fn perform(rt: &HostRuntime, matches: &ArgMatches<'_>) -> Option<Outcome> {
         "shelf" => Outcome::of(shelf(rt, inner)),
         "unshelf" => Outcome::of(unshelf(rt, inner)),
         "completions" => Outcome::of(completions(rt, inner)?),
+        _ => return None,
+    };
+    Some(outcome)
+}
+
+// Runs a command that changes a register as an office. OUT and the office file are different files.
+fn changed(rt: &HostRuntime, name: &str, inner: &ArgMatches<'_>) -> Option<Outcome> {
+    if let Some(file) = office_file(inner) {
+        match is_out(rt, rt.alloc(), word(inner, "out"), file) {
+            Ok(false) => {}
+            Ok(true) => return Some(Outcome::Misuse(SAME_FILE)),
+            Err(fault) => return Some(Outcome::Fault(fault)),
+        }
+    }
+    let outcome = match name {
+        "enter" => enter(rt, inner),
+        "import" => import(rt, inner),
+        "supersede" => supersede(rt, inner),
+        "retire" => retire(rt, inner),
+        "settle" => settle(rt, inner),
         _ => return None,
     };
     Some(outcome)

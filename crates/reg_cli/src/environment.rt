@@ -7,10 +7,13 @@ use std::env::{self, VarError};
 /// The UUID of the office.
 const OFFICE: &str = "CRSREG_AS";
 
+/// The office file of the office.
+const OFFICE_FILE: &str = "CRSREG_OFFICE";
+
 /// The note of operations.
 const NOTE: &str = "CRSREG_NOTE";
 
-/// `1` if commands take keys in the place of ids.
+/// `1` if commands take keys instead of ids.
 const KEYS: &str = "CRSREG_KEYS";
 
 /// `1` if commands explain refusals.
@@ -24,10 +27,13 @@ const NO_UUID: &str = "?";
 
 const NO_NOTE: &str = "error: CRSREG_NOTE is not UTF-8";
 
+const NO_FILE: &str = "error: CRSREG_OFFICE is not UTF-8";
+
 /// The variables that are set.
 #[derive(Drop)]
 pub struct Environment {
     office: Option<String>,
+    office_file: Option<String>,
     note: Option<String>,
     keys: bool,
     explain: bool,
@@ -48,8 +54,13 @@ impl Environment {
             Err(VarError::NotUnicode) => return Err(complain(rt, &NO_NOTE, MISUSE)),
             read => set(rt, read)?,
         };
+        let office_file = match env::var(rt, OFFICE_FILE) {
+            Err(VarError::NotUnicode) => return Err(complain(rt, &NO_FILE, MISUSE)),
+            read => set(rt, read)?,
+        };
         Ok(Environment {
             office,
+            office_file,
             note,
             keys: is_one(rt, KEYS)?,
             explain: is_one(rt, EXPLAIN)?,
@@ -61,6 +72,7 @@ impl Environment {
     pub fn defaults(&self) -> Defaults<'_> {
         Defaults {
             office: self.office.as_deref(),
+            office_file: self.office_file.as_deref(),
             note: self.note.as_deref(),
             keys: self.keys,
             explain: self.explain,

@@ -1,14 +1,17 @@
-//! The command `export`.
+//! The commands `export` and `graph`.
 use crate::into::export_into;
 use crate::look::wanted;
 use crate::outcome::Outcome;
-use crate::stores::print_of;
+use crate::stores::{Opened, open_register, print_of};
 use crate::words::word;
 use clap::ArgMatches;
-use reg_desk::Export;
-use reg_handing::Choice;
+use reg_desk::{CliFault, Export, OfFile, OnShelf, OpId, Refusal, Writing};
+use reg_formats::{Format, Graph, run_handed};
+use reg_into::Choice;
+use std::io;
 
-const NOT_HANDED: &str = "error: --status, --authority and --keep-going go with --into";
+const NOT_HANDED: &str =
+    "error: --status, --authority and --keep-going go with --into, --geojson or --proj-sql";
 
 /// `export`.
 pub fn export(rt: &HostRuntime, matches: &ArgMatches<'_>) -> Outcome {
@@ -20,8 +23,78 @@ pub fn export(rt: &HostRuntime, matches: &ArgMatches<'_>) -> Outcome {
     if matches.contains_id("into") {
         return Outcome::of(export_into(rt, matches, &choice, keep_going));
     }
+    if let Some(format) = format_of(matches) {
+        return Outcome::of(export_as(rt, matches, format, &choice, keep_going));
+    }
     if choice.status.is_some() || choice.authority.is_some() || keep_going {
         return Outcome::Misuse(NOT_HANDED);
     }
     Outcome::of(print_of(rt, matches, &Export))
+}
+
+/// `graph`.
+pub fn graph(rt: &HostRuntime, matches: &ArgMatches<'_>) -> Result<(), CliFault> {
+    let all = matches.get_flag("all");
+    print_of(rt, matches, &Graph { all })
+}
+
+fn format_of(matches: &ArgMatches<'_>) -> Option<Format> {
+    if matches.get_flag("geojson") {
+        return Some(Format::Geojson);
+    }
+    if matches.get_flag("proj-sql") {
+        return Some(Format::ProjSql);
+    }
+    None
+}
+
+// Opens the register and prints what is handed on. A key that was left out is the fault.
+fn export_as(
+    rt: &HostRuntime,
+    matches: &ArgMatches<'_>,
+    format: Format,
+    choice: &Choice<'_>,
+    keep_going: bool,
+) -> Result<(), CliFault> {
+    match print_as(rt, matches, format, choice, keep_going) {
+        Ok(None) => Ok(()),
+        Ok(Some(id)) => Err(CliFault::Refused(Refusal::KeyTaken(id))),
+        Err(fault) => Err(fault),
+    }
+}
+
+fn print_as(
+    rt: &HostRuntime,
+    matches: &ArgMatches<'_>,
+    format: Format,
+    choice: &Choice<'_>,
+    keep_going: bool,
+) -> Result<Option<OpId>, CliFault> {
+    let mut sink = Writing::new(io::writer(rt));
+    match open_register(rt, rt.alloc(), matches, "REG", &None)? {
+        Opened::File(mut source) => {
+            let mut store = OfFile {
+                source: &mut source,
+            };
+            run_handed(
+                rt.alloc(),
+                &mut store,
+                format,
+                choice,
+                keep_going,
+                &mut sink,
+            )
+        }
+        Opened::Shelf(mut disk) => {
+            let mut store = OnShelf { disk: &mut disk };
+            run_handed(
+                rt.alloc(),
+                &mut store,
+                format,
+                choice,
+                keep_going,
+                &mut sink,
+            )
+        }
+    }
 }

@@ -48,8 +48,8 @@ impl<'a> Replaced<'a> {
     }
 }
 
-// The path without links, if there is a file.
-fn real_path<R: Files>(rt: &R, alloc: Global, path: &str) -> Result<Option<String>, CliFault> {
+/// The path without links, if there is a file.
+pub fn real_path<R: Files>(rt: &R, alloc: Global, path: &str) -> Result<Option<String>, CliFault> {
     match rt.canonicalize(alloc, path) {
         Ok(real) => Ok(Some(real.into_string())),
         Err(error) if error.kind() == ErrorKind::OutOfMemory => Err(CliFault::Memory),

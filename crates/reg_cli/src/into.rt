@@ -4,8 +4,7 @@ use crate::words::word;
 use byte_folder::SystemFolder;
 use clap::ArgMatches;
 use reg_desk::{CliFault, OfFile, OnShelf, OpId, Refusal};
-use reg_handing::Choice;
-use reg_into::run_into;
+use reg_into::{Choice, run_into};
 
 /// Opens the register, and puts a folder with a file for each key in place. A key that was left out is the fault.
 pub fn export_into(

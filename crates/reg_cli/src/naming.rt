@@ -29,7 +29,7 @@ pub fn heading(rt: &HostRuntime, named: &Named<'_>, entry: OpId) -> Option<Vec<u
     }
 }
 
-// A pipe is left alone: to open it again could wait for ever.
+// A pipe is not opened again, since that could block forever.
 fn in_file<C: Print>(rt: &HostRuntime, path: &str, command: &C) -> Option<Vec<u8>> {
     if !fs::metadata(rt, path).ok()?.is_file() {
         return None;

@@ -1,8 +1,9 @@
 //! The outcome of a command: its messages and its exit status.
 use crate::naming::{heading, taken_by};
 use crate::paths::Named;
-use cli_sentences::{KeyTaken, Sentence};
+use cli_sentences::{GuardSentence, KeyTaken, Sentence};
 use reg_desk::{CliFault, Explained, ImportFault, OpId, OutFault, Unimported, Writing, write_all};
+use reg_guard::GuardFault;
 use reg_supersede::RefusedLine;
 use std::io::{self, Write};
 use std::{fmt, str};
@@ -23,6 +24,8 @@ pub enum Outcome {
     /// Done, but for files that were left out and named on standard error. This is the exit status.
     LeftOut(u8),
     Fault(CliFault),
+    /// A command with an office file failed.
+    Guard(GuardFault),
     /// Failed, with an explanation of the refused text.
     Explained(Explained),
     /// Texts were not imported, or not all of them.
@@ -41,6 +44,14 @@ impl Outcome {
         match answer {
             Ok(()) => Outcome::Done,
             Err(fault) => Outcome::Fault(fault),
+        }
+    }
+
+    /// The outcome of a command of an office.
+    pub fn of_office(answer: Result<(), GuardFault>) -> Outcome {
+        match answer {
+            Ok(()) => Outcome::Done,
+            Err(fault) => Outcome::Guard(fault),
         }
     }
 
@@ -70,6 +81,11 @@ pub fn status(rt: &HostRuntime, outcome: Outcome, named: Option<Named<'_>>) -> u
         Outcome::Fault(fault) => {
             let status = failed(rt, &fault);
             explain(rt, fault, &named);
+            status
+        }
+        Outcome::Guard(fault) => {
+            let status = complain(rt, &fault, fault.status());
+            explain_guard(rt, fault, &named);
             status
         }
         Outcome::Explained(explained) => {
@@ -120,6 +136,23 @@ fn explain(rt: &HostRuntime, fault: CliFault, named: &Option<Named<'_>>) {
     if let Some(named) = named {
         let head = head_of(rt, named, taken_by(&fault));
         let sentence = Sentence {
+            fault,
+            head: shown(&head),
+            paths: named.paths(),
+        };
+        let _ = eprint!(rt; "{sentence}");
+    }
+}
+
+// The same for a command with an office file.
+fn explain_guard(rt: &HostRuntime, fault: GuardFault, named: &Option<Named<'_>>) {
+    if let Some(named) = named {
+        let taken = match &fault {
+            GuardFault::Command(fault) => taken_by(fault),
+            _ => None,
+        };
+        let head = head_of(rt, named, taken);
+        let sentence = GuardSentence {
             fault,
             head: shown(&head),
             paths: named.paths(),

@@ -1,4 +1,5 @@
 //! The files that a command names, for the sentence about a fault.
+use crate::office::office_file;
 use crate::words::{STANDARD_INPUT, word};
 use clap::ArgMatches;
 use cli_sentences::Paths;
@@ -24,6 +25,9 @@ impl<'a> Named<'a> {
     ) -> Result<Named<'a>, AllocError> {
         let shelf = shelf_of(name, matches);
         let mut files = Vec::new(alloc);
+        if let Some(file) = office_file(matches) {
+            files.push(file)?;
+        }
         for argument in files_of(name) {
             for path in matches.get_strs(argument).unwrap_or(&[]) {
                 if *path != shelf {
@@ -59,7 +63,7 @@ fn files_of(name: &str) -> &'static [&'static str] {
         "compare" => &["REG", "with"],
         "diff" => &["OLD", "NEW"],
         "enter" => &["REG", "text"],
-        "new" | "shelf" | "unshelf" => &[],
+        "new" | "office" | "shelf" | "unshelf" => &[],
         "supersede" => &["REG", "from"],
         _ => &["REG", "SEEN", "FILE"],
     }
@@ -69,6 +73,7 @@ fn files_of(name: &str) -> &'static [&'static str] {
 fn out_of(name: &str) -> &'static str {
     match name {
         "take" => "REG",
+        "office" => "NEW",
         "export" => "into",
         _ => "OUT",
     }

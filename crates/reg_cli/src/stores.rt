@@ -1,5 +1,6 @@
 //! Opens the register that a command names, in its file or (with `--shelf`) on its shelf, and runs the command on it.
 use crate::inputs::{Replaced, open_input};
+use crate::office::{Desk, OfficeFile, files_before};
 use crate::table::{Rows, answered};
 use crate::words::{changed_place, open_shelf, open_to_read, place, word};
 use byte_out::Place;
@@ -9,6 +10,7 @@ use reg_desk::{
     Change, CliFault, FileDisk, Give, InFile, Input, InputOf, Lockable, OfFile, OnShelf, Print,
     Reading, Writing, run_change, run_give, run_print,
 };
+use reg_guard::{GuardFault, GuardedFile, GuardedShelf, LastNumber, run_guarded};
 use std::alloc::Global;
 use std::fs::OpenFile;
 use std::io::{self, Read, Seek, Write};
@@ -64,7 +66,8 @@ where
         return Ok(Opened::Shelf(disk));
     }
     let out = Some(Replaced::named(rt, alloc, matches, "out")?);
-    let source = open_input(rt, alloc, 1, path, &out)?;
+    let number = files_before(matches).saturating_add(1);
+    let source = open_input(rt, alloc, number, path, &out)?;
     Ok(Opened::File(source))
 }
 
@@ -143,22 +146,41 @@ pub fn give_of<F: Read + Write + Seek + OpenFile, C: Give>(
     }
 }
 
-/// Changes the register, and prints the command's lines, unless `--quiet` is given.
-pub fn change_of<F: Read + Write + Seek + OpenFile, C: Change>(
+/// Changes the register as the office, and prints the command's lines, unless `--quiet` is given.
+pub fn change_of<Q: Place, F: Read + Write + Seek + OpenFile, C: Change>(
     rt: &HostRuntime,
     matches: &ArgMatches<'_>,
+    desk: &mut Desk<Q>,
     register: &mut Opened<F>,
     command: &mut C,
-) -> Result<(), CliFault> {
+) -> Result<(), GuardFault> {
     if matches.get_flag("quiet") {
         let mut sink = Writing::new(io::sink());
-        return change_to(rt, matches, register, command, &mut sink);
+        return change_to(rt, matches, desk, register, command, &mut sink);
     }
     let mut sink = Writing::new(io::writer(rt));
-    change_to(rt, matches, register, command, &mut sink)
+    change_to(rt, matches, desk, register, command, &mut sink)
 }
 
-fn change_to<F: Read + Write + Seek + OpenFile, C: Change, W: Write>(
+fn change_to<Q: Place, F: Read + Write + Seek + OpenFile, C: Change, W: Write>(
+    rt: &HostRuntime,
+    matches: &ArgMatches<'_>,
+    desk: &mut Desk<Q>,
+    register: &mut Opened<F>,
+    command: &mut C,
+    sink: &mut Writing<W>,
+) -> Result<(), GuardFault> {
+    if let Some(office) = &mut desk.file {
+        return change_numbered(rt, matches, office, register, command, sink);
+    }
+    match change_plain(rt, matches, register, command, sink) {
+        Ok(()) => Ok(()),
+        Err(fault) => Err(GuardFault::Command(fault)),
+    }
+}
+
+// Changes the register of an office without an office file.
+fn change_plain<F: Read + Write + Seek + OpenFile, C: Change, W: Write>(
     rt: &HostRuntime,
     matches: &ArgMatches<'_>,
     register: &mut Opened<F>,
@@ -178,6 +200,27 @@ fn change_to<F: Read + Write + Seek + OpenFile, C: Change, W: Write>(
     }
 }
 
+// Changes the register of an office with an office file.
+fn change_numbered<Q: Place, F: Read + Write + Seek + OpenFile, C: Change, W: Write>(
+    rt: &HostRuntime,
+    matches: &ArgMatches<'_>,
+    office: &mut OfficeFile<Q>,
+    register: &mut Opened<F>,
+    command: &mut C,
+    sink: &mut Writing<W>,
+) -> Result<(), GuardFault> {
+    let last = office.last;
+    let noted = &mut office.place;
+    match register {
+        Opened::File(source) => {
+            let is_quiet = matches.get_flag("quiet");
+            let mut place = changed_place(rt, rt.alloc(), word(matches, "out"), is_quiet)?;
+            guarded_file(rt.alloc(), source, &mut place, noted, last, command, sink)
+        }
+        Opened::Shelf(disk) => guarded_shelf(rt.alloc(), disk, noted, last, command, sink),
+    }
+}
+
 // The file is read in one place and written in another.
 fn change_file<'a, S: Input, P: Place, C: Change, W: Write>(
     alloc: Global,
@@ -188,4 +231,30 @@ fn change_file<'a, S: Input, P: Place, C: Change, W: Write>(
 ) -> Result<(), CliFault> {
     let mut store = InFile { source, place };
     run_change(alloc, &mut store, command, sink)
+}
+
+// The same with an office file.
+fn guarded_file<'a, S: Input, P: Place, Q: Place, C: Change, W: Write>(
+    alloc: Global,
+    source: &'a mut S,
+    place: &'a mut P,
+    office: &'a mut Q,
+    last: LastNumber,
+    command: &mut C,
+    sink: &mut Writing<W>,
+) -> Result<(), GuardFault> {
+    let mut store = GuardedFile::new(source, place, office, last);
+    run_guarded(alloc, &mut store, command, sink)
+}
+
+fn guarded_shelf<'a, Q: Place, F: Read + Write + Seek + OpenFile, C: Change, W: Write>(
+    alloc: Global,
+    disk: &'a mut FileDisk<F>,
+    office: &'a mut Q,
+    last: LastNumber,
+    command: &mut C,
+    sink: &mut Writing<W>,
+) -> Result<(), GuardFault> {
+    let mut store = GuardedShelf::new(disk, office, last);
+    run_guarded(alloc, &mut store, command, sink)
 }

@@ -1,4 +1,5 @@
 //! The arguments of a command: replicas, entries, files.
+use crate::office::files_before;
 use byte_io::{InFault, read_up_to};
 use clap::ArgMatches;
 use reg_desk::{
@@ -77,7 +78,8 @@ pub fn entry(word: &str) -> Result<OpId, CliFault> {
 
 /// The ids on standard input, one a line, if one of the arguments is `-`. It is numbered as the file after the register.
 pub fn listed(rt: &HostRuntime, matches: &ArgMatches<'_>, name: &str) -> Result<Vec<u8>, CliFault> {
-    let number = if matches.get_flag("shelf") { 1 } else { 2 };
+    let own = if matches.get_flag("shelf") { 1 } else { 2 };
+    let number = files_before(matches).saturating_add(own);
     if !matches
         .get_strs(name)
         .unwrap_or(&[])
@@ -104,7 +106,7 @@ pub fn push_words<'a>(found: &mut Vec<&'a [u8]>, words: &[&'a str]) -> Result<()
     Ok(())
 }
 
-/// Appends words, with the listed lines in the place of `-`.
+/// Appends words, with the listed lines instead of `-`.
 pub fn push_listed<'a>(
     found: &mut Vec<&'a [u8]>,
     words: &[&'a str],
@@ -219,14 +221,24 @@ pub fn is_twice(paths: &[&str]) -> bool {
     false
 }
 
-/// Opens a shelf for reading and writing. No other command may have it open.
+/// Opens a shelf for reading and writing. No other command may have it open, and standard output may not go to it.
 pub fn open_shelf<R: Files>(rt: &R, path: &str) -> Result<FileDisk<R::File>, CliFault>
 where
     R::File: Lockable,
 {
-    match OpenOptions::new().read(true).write(true).open(rt, path) {
-        Ok(file) => disk_if(file.lock_alone(), file),
-        Err(_) => Err(CliFault::Shelf(ShelfProblem::NotOpened)),
+    let Ok(file) = OpenOptions::new().read(true).write(true).open(rt, path) else {
+        return Err(CliFault::Shelf(ShelfProblem::NotOpened));
+    };
+    if is_standard_output(rt, &file) {
+        return Err(CliFault::Shelf(ShelfProblem::NotOpened));
+    }
+    disk_if(file.lock_alone(), file)
+}
+
+fn is_standard_output<R: Files>(rt: &R, file: &R::File) -> bool {
+    match FileId::at(rt, STANDARD_OUTPUT_PATH) {
+        Some(id) => id.is_of(file),
+        None => false,
     }
 }
 

@@ -15,7 +15,7 @@ use Rattle.reg_desk.specs.ImportEngines.{IsUntold, Way, IsAnswer}
 pub plain_is : (Is : CliFault → Type 0) (u : Unimported) (f : CliFault) → u.fault ≡ import.Cli f → u.notes.items ≡ [] → Is f → IsPlain Is u
 plain_is Is u f e n h = subst (λ k. IsPlainFault Is k u.notes.items) (sym e) (h, n)
 
-weaker : (P Q : CliFault → Type 0) (k : ImportFault) (notes : List ℕ) → ((f : CliFault) → P f → Q f) → IsPlainFault P k notes → IsPlainFault Q k notes
+pub weaker : (P Q : CliFault → Type 0) (k : ImportFault) (notes : List ℕ) → ((f : CliFault) → P f → Q f) → IsPlainFault P k notes → IsPlainFault Q k notes
 weaker P Q (import.Cli f) notes h (p, n) = (h f p, n)
 weaker P Q (import.Refused p place file) notes h never = absurd never
 

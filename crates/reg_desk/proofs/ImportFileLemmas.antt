@@ -7,7 +7,7 @@ use Rattle.reg_engine.specs.declared.fault.CliFault.{CliFault}
 use Rattle.reg_engine.specs.declared.fault.CliFault.TheVariants as cli
 use Rattle.reg_engine.specs.Inputs.{NeverFails, NoneFails}
 use Rattle.reg_engine.proofs.InputLemmas.{none_given}
-use Rattle.desk_files.specs.Bytes.{Gives, IsFileFault, IsUnread}
+use Rattle.reg_engine.specs.WholeFile.{Gives, IsFileFault, IsUnread}
 use Rattle.reg_desk.specs.ImportFiles.{GiveAll, StopsAt, AreUnread}
 
 abbrev head_of : {A : Type 0} → A → List A → A

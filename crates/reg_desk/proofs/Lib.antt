@@ -11,3 +11,6 @@ pub mod AfterRetiring
 pub mod AfterSettling
 mod SettledTwice
 mod LoggedLemmas
+mod SameTexts
+mod ImportedLemmas
+pub mod RoomLemmas

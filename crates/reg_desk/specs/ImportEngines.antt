@@ -9,6 +9,7 @@ use Rattle.reg_engine.specs.Store.{Around, AreCut, WritesIf, IsKeptIn}
 use Rattle.reg_desk.specs.declared.import.order.Order.{Order}
 use Rattle.reg_desk.specs.declared.import.fault.Unimported.{Unimported}
 use Rattle.reg_desk.specs.Import.{IsPlain, IsReady, IsUnready}
+use Rattle.reg_desk.specs.ImportRoom.{Room}
 
 -- all lines were written, and there is no fault
 abbrev pub IsTold : List ℕ → Option Unimported → SinkState → SinkState → Type 0
@@ -25,7 +26,7 @@ pub record Way : Type 1 where
   pub came : Content → Type 0
   -- none was, for this reason, and nothing was written
   pub none : CliFault → Type 0
-  -- the second content was made from the first, and was written, and then these lines
+  -- the second content was made from the first, and is there, or has room there, and then these lines were written
   pub gave : Content → Content → List ℕ → Type 0
   -- not all of that, for this reason
   pub failed : Content → Content → List ℕ → CliFault → Type 0
@@ -39,13 +40,13 @@ kept_in a before after = record {
   failed = λ x y lines f. (a.unleft x y f × WritesIf (is_after f) lines before after) ⊎ (IsKeptIn a x y × AreCut lines before after f);
 }
 
--- a store that is only read
-abbrev pub only_read : Around → SinkState → SinkState → Way
-only_read a before after = record {
+-- a store that would have room for it, and is only read
+abbrev pub tried_in : Around → Room → SinkState → SinkState → Way
+tried_in a r before after = record {
   came = λ x. a.came x × (after ≡ before);
   none = λ f. a.none f × (after ≡ before);
-  gave = λ x y lines. a.came x × WritesAll lines before after;
-  failed = λ x y lines f. a.came x × AreCut lines before after f;
+  gave = λ x y lines. r.fits x y × WritesAll lines before after;
+  failed = λ x y lines f. (r.full x y f × (after ≡ before)) ⊎ (r.fits x y × AreCut lines before after f);
 }
 
 -- ---- the effect of an import

@@ -2,7 +2,7 @@
 use Rattle.std.specs.Prelude.{◌≡◌, ◌⊎◌, ◌+◌, ℕ, List, [], ◌∷◌, map}
 use Rattle.std.specs.declared.vec.Vec.{Vec}
 use Rattle.byte_io.specs.Device.{SourceState}
-use Rattle.desk_files.specs.Bytes.{Gives, IsFileFault}
+use Rattle.reg_engine.specs.WholeFile.{Gives, IsFileFault}
 use Rattle.reg_engine.specs.declared.fault.InputFault.{InputFault}
 use Rattle.reg_engine.specs.declared.fault.CliFault.{CliFault}
 use Rattle.reg_engine.specs.declared.fault.CliFault.TheVariants as cli

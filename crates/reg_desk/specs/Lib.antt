@@ -9,5 +9,6 @@ pub mod ImportFiles
 pub mod ImportTexts
 pub mod ImportNotes
 pub mod Import
+pub mod ImportRoom
 pub mod ImportEngines
 pub mod Logged

@@ -79,8 +79,12 @@ LooksAt Is unopened (Some old) (Some new) l = Is old new l
 abbrev pub FileLooksAt : Option SourceState → Option SourceState → Look → Type 0
 FileLooksAt = LooksAt IsLook (look.Unread file.NotOpened)
 
+-- a disk tells what it told before
+abbrev pub StillTells : {D : Type 0} → Disks D → D → D → Type 0
+StillTells d old new = d.tells new ≡ d.tells old
+
 abbrev pub ShelfLooksAt : {D : Type 0} → Disks D → Option D → Option D → Look → Type 0
-ShelfLooksAt d = LooksAt (IsShelfLook d) (look.NoShelf problem.NotOpened)
+ShelfLooksAt d = LooksAt (λ old new l. IsShelfLook d old new l × StillTells d old new) (look.NoShelf problem.NotOpened)
 
 -- a device that was opened is unchanged
 abbrev pub StaysAt : {T : Type 0} → (T → T → Type 0) → Option T → Option T → Type 0
@@ -88,6 +92,9 @@ StaysAt Stays None None = Unit {0}
 StaysAt Stays None (Some new) = ⊥
 StaysAt Stays (Some old) None = ⊥
 StaysAt Stays (Some old) (Some new) = Stays old new
+
+abbrev pub ShelfStaysAt : {D : Type 0} → Disks D → Option D → Option D → Type 0
+ShelfStaysAt d = StaysAt (λ old new. StaysOn d old new × StillTells d old new)
 
 -- the result for each, in order
 abbrev pub AreLooks : {T : Type 0} → (T → T → Look → Type 0) → List T → List T → List Look → Type 0

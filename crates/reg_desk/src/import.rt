@@ -7,8 +7,10 @@ mod files;
 mod notes;
 mod order;
 mod ready;
+mod room;
 mod texts;
 
 pub use engine::{run_import, try_import};
 pub use fault::{ImportFault, Unimported};
 pub use order::Order;
+pub use room::HasRoom;

@@ -1,17 +1,28 @@
-//! The laws of settling, and of logs. The functions do nothing: their contracts are the laws.
+//! The laws of settling, of imports and of logs. The functions do nothing: their contracts are the laws.
 
-ghost use Rattle.std.specs.Prelude.{◌≡◌, ◌≢◌, ◌↔◌, ℕ, true, List, Contains, Some, Ok};
+ghost use Rattle.std.specs.Prelude.{◌≡◌, ◌≢◌, ◌↔◌, ◌⊎◌, ℕ, true, List, [], ◌∷◌, Contains, Option, Some, Ok};
+ghost use Rattle.byte_io.specs.Device.{SourceState};
 ghost use Rattle.reg_op.specs.Ids.{Id};
-ghost use Rattle.reg_op.specs.Contents.{Content, joined, IsContent};
+ghost use Rattle.reg_op.specs.Contents.{Content, joined, nothing, IsContent};
 ghost use Rattle.reg_op.specs.Rows.{Row, rows, IsInConflict};
 ghost use Rattle.reg_op.specs.declared.status.Status.TheVariants.{Retired};
 ghost use Rattle.reg_op.specs.Status.{enters, retires, status};
 ghost use Rattle.reg_office.specs.Commands.{Does, retirements};
+ghost use Rattle.reg_office.specs.declared.fault.OfficeFault.TheVariants as office;
 ghost use Rattle.reg_report.specs.Conflicts.{KeyBytes, HasKey};
+ghost use Rattle.reg_report.specs.Exports.{export};
 ghost use Rattle.reg_settle.specs.Settling.{IsSettled};
 ghost use Rattle.reg_settle.specs.Doubles.{AreDoubles, HasLesser};
+ghost use Rattle.reg_import.specs.declared.told.Differs.TheVariants.{Beside};
+ghost use Rattle.reg_import.specs.Again.{HasStanding, RetiresNoneAhead};
 ghost use Rattle.reg_keys.specs.Told.{TellOf};
+ghost use Rattle.reg_engine.specs.declared.fault.Refusal.TheVariants as refusal;
 ghost use Rattle.reg_engine.specs.declared.fault.CliFault.{CliFault};
+ghost use Rattle.reg_engine.specs.declared.fault.CliFault.TheVariants as cli;
+ghost use Rattle.reg_desk.specs.declared.import.order.Order.{Order};
+ghost use Rattle.reg_desk.specs.declared.import.fault.Unimported.{Unimported};
+ghost use Rattle.reg_desk.specs.ImportFiles.{GiveAll};
+ghost use Rattle.reg_desk.specs.Import.{IsPlain, IsUnmade, IsReady};
 ghost use Rattle.reg_desk.specs.Logged.{LogsOf, CannotLog, LogsFor, CannotLogFor};
 
 /// After an office has retired the entries that settling lists, no key of a kept entry is in conflict.
@@ -38,6 +49,27 @@ pub fn the_least_stays()
         → AreDoubles (rows y.ops) others → Does y other remark (retirements others) ys more → joined xs ys ≡ Ok z
         → Contains (rows both.ops) one → one.status ≢ Some Retired → ¬ (HasLesser (rows both.ops) one)
         → (enters z.ops one.entry ≡ true) × (status z.ops one.entry ≢ Some Retired) }
+{}
+
+/// The same files, imported again in the same mode into the register that their import made, make nothing: whatever the office,
+/// the note and the other options are. The second import is refused only for a long note or for memory.
+pub fn the_same_files_make_nothing()
+    ensures nothing { (o p : Order) (m n : ℕ) (x y z : Content) (a b c d : List SourceState) (files : List (List ℕ)) (lines others : List ℕ) (passed skipped : Option Unimported)
+        → IsContent x → RetiresNoneAhead x o.replica → p.differs ≡ o.differs → p.keep_going ≡ o.keep_going → GiveAll a b files → GiveAll c d files
+        → IsReady o m x a b y lines passed → IsReady p n y c d z others skipped → z ≡ y }
+    ensures passes { (o p : Order) (m n : ℕ) (x y : Content) (a b : List SourceState) (files : List (List ℕ)) (lines : List ℕ) (passed : Option Unimported) (u : Unimported)
+        → IsContent x → RetiresNoneAhead x o.replica → p.differs ≡ o.differs → p.keep_going ≡ o.keep_going → GiveAll a b files
+        → IsReady o m x a b y lines passed → IsUnmade p n y files u
+        → IsPlain (λ f. (f ≡ cli.Refused (refusal.Office office.NoteTooLong)) ⊎ (f ≡ cli.Memory)) u }
+{}
+
+/// The file that `Export` prints of a register, imported in mode `beside` into an empty one, gives a register with the same texts.
+/// No text is refused.
+pub fn an_exported_file_is_imported()
+    ensures same { (o : Order) (first : ℕ) (x y : Content) (a b : List SourceState) (lines : List ℕ) (passed : Option Unimported) → IsContent x → o.differs ≡ Beside
+        → GiveAll a b (export x.ops ∷ []) → IsReady o first nothing a b y lines passed → (text : List ℕ) → HasStanding y.ops text ↔ HasStanding x.ops text }
+    ensures passes { (o : Order) (first : ℕ) (x : Content) (u : Unimported) → IsContent x → o.differs ≡ Beside → IsUnmade o first nothing (export x.ops ∷ []) u
+        → IsPlain (λ f. (f ≡ cli.Refused (refusal.Office office.NoteTooLong)) ⊎ ((f ≡ cli.Refused (refusal.Office office.CountSpent)) ⊎ (f ≡ cli.Memory))) u }
 {}
 
 /// With words that select entries, the log is that of the entries, and it is refused for the reasons for which that of the

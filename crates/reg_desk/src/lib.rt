@@ -17,7 +17,7 @@ mod words;
 pub use diff::run_diff;
 pub use explained::{Explained, explained_fault, problem_of, run_check_explained};
 pub use find::{Find, FindIds};
-pub use import::{ImportFault, Order, Unimported, run_import, try_import};
+pub use import::{HasRoom, ImportFault, Order, Unimported, run_import, try_import};
 pub use logging::{LogAll, LogByWords, LogOf};
 pub use look::{FileAt, Inspect, Look, Opened, ShelfAt};
 pub use offices::Offices;

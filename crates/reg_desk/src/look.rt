@@ -79,12 +79,12 @@ pub struct ShelfAt<D> {
 }
 
 impl<D: Disk> Inspect for ShelfAt<D> {
-    ghost use Rattle.reg_engine.specs.Shelf.{disks, StaysOn};
-    ghost use Rattle.reg_desk.specs.Look.{opened_state, itself, ShelfLooksAt, StaysAt};
+    ghost use Rattle.reg_engine.specs.Shelf.{disks};
+    ghost use Rattle.reg_desk.specs.Look.{opened_state, itself, ShelfLooksAt, ShelfStaysAt};
 
     ghost looks = { λ old. λ new. λ l. ShelfLooksAt (disks D.tells D.seen D.images D.moment D.images_since D.failures) (opened_state itself old.opened) (opened_state itself new.opened) l };
 
-    ghost stays = { λ old. λ new. StaysAt (StaysOn (disks D.tells D.seen D.images D.moment D.images_since D.failures)) (opened_state itself old.opened) (opened_state itself new.opened) };
+    ghost stays = { λ old. λ new. ShelfStaysAt (disks D.tells D.seen D.images D.moment D.images_since D.failures) (opened_state itself old.opened) (opened_state itself new.opened) };
 
     fn look(&mut self, alloc: Global) -> Result<Look, AllocError> {
         match &mut self.opened {
@@ -153,6 +153,7 @@ fn register_look(alloc: Global, bytes: &[u8]) -> Result<Look, AllocError>
 fn look_on<D: Disk>(alloc: Global, disk: &mut D) -> Result<Look, AllocError>
     ensures look { IfOk result (IsShelfLook (disks D.tells D.seen D.images D.moment D.images_since D.failures) disk.old disk.new) }
     ensures stays { OnErr result (StaysOn (disks D.tells D.seen D.images D.moment D.images_since D.failures) disk.old disk.new) }
+    ensures tells { D.tells disk.new ≡ D.tells disk.old }
 {
     let bytes = match restore(alloc, disk) {
         Ok(bytes) => bytes,

@@ -12,3 +12,4 @@ pub mod Report
 pub mod Shelf
 pub mod Store
 pub mod MergeOn
+pub mod WholeFile

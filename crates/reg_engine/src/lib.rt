@@ -18,6 +18,7 @@ mod reports;
 mod shelf_steps;
 mod shelves;
 mod store;
+mod whole_file;
 mod wkt;
 
 pub use change::{
@@ -38,6 +39,7 @@ pub use reports::{Ops, Report, Show, run_ops, run_report, run_show};
 pub use shelf_steps::{keep_on, restore_from};
 pub use shelves::run_shelf;
 pub use store::{Base, InFile, Keep, OfFile, OnShelf, Store};
+pub use whole_file::read_whole;
 pub use wkt::{Form, Wkt, run_wkt};
 
 // The items of other crates that its contracts cite, so that callers need only this crate.

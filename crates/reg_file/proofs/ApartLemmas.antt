@@ -8,9 +8,9 @@ use Rattle.reg_op.specs.Set as set
 use Rattle.reg_op.specs.Set.{contains-from_list}
 use Rattle.reg_op.specs.Ids.{Id, Ids, id_cmp}
 use Rattle.reg_op.proofs.OpLemmas.{id_total, id_exact}
-use Rattle.reg_seen.specs.declared.run.Run.{Run}
-use Rattle.reg_seen.specs.Runs.{ids_of_run, is_in_run, is_in_runs}
-use Rattle.reg_seen.proofs.RunLemmas.{contains-seen_of}
+use Rattle.reg_state.specs.declared.run.Run.{Run}
+use Rattle.reg_state.specs.Runs.{ids_of_run, is_in_run, is_in_runs}
+use Rattle.reg_state.proofs.RunLemmas.{contains-seen_of}
 use Rattle.reg_file.specs.declared.span.Span.{Span}
 use Rattle.reg_file.specs.Layout.{Group, run_at, runs_of}
 use Rattle.reg_file.specs.Steps.{ReadsSeen}

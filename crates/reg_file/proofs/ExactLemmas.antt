@@ -3,7 +3,7 @@ use Rattle.std.proofs.Common.{◌≡◌, ℕ, ◌<◌, List, [], ◌∷◌, leng
 use Rattle.reg_op.specs.Ids.{Id, Ids}
 use Rattle.reg_op.specs.Operations.{Op, op_cmp, IsBody}
 use Rattle.reg_op.specs.Set as set
-use Rattle.reg_seen.specs.Runs.{seen_of}
+use Rattle.reg_state.specs.Runs.{seen_of}
 use Rattle.reg_op.specs.Kept.{first_dropped}
 use Rattle.std.specs.Int.{w32}
 use Rattle.reg_op.specs.declared.operation.OpBody.{OpBody as Body}

@@ -7,9 +7,9 @@ use Rattle.std.proofs.lemmas.List.Concat.{flat_map-cons}
 use Rattle.std.specs.Ordering.{is_eq, is_lt}
 use Rattle.reg_op.specs.Ids.{Ids, IsId}
 use Rattle.reg_op.proofs.SetLemmas.{less}
-use Rattle.reg_seen.specs.declared.run.Run.{Run}
-use Rattle.reg_seen.specs.Runs.{replica_cmp, IsBelow, last_of, IsRun, IsApart, AreRuns, EndInIds, meets}
-use Rattle.reg_seen.proofs.RunLemmas.{same_replica, replica_itself}
+use Rattle.reg_state.specs.declared.run.Run.{Run}
+use Rattle.reg_state.specs.Runs.{replica_cmp, IsBelow, last_of, IsRun, IsApart, AreRuns, EndInIds, meets}
+use Rattle.reg_state.proofs.RunLemmas.{same_replica, replica_itself}
 use Rattle.reg_file.specs.declared.span.Span.{Span}
 use Rattle.reg_file.specs.Layout.{four, span_bytes, Group, group_bytes, ranges_bytes, span_of, run_at, runs_of, put, grouped}
 use Rattle.reg_file.specs.Fields.{span_at, group_at, number_at, is_above}

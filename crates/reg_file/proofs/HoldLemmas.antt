@@ -4,8 +4,8 @@ use Rattle.std.proofs.lemmas.List.{length-append}
 use Rattle.reg_op.specs.Set as set
 use Rattle.reg_op.specs.Operations.{Op}
 use Rattle.reg_op.specs.Contents.{Content}
-use Rattle.reg_seen.specs.declared.run.Run.{Run}
-use Rattle.reg_seen.proofs.CanonLemmas.{same_runs}
+use Rattle.reg_state.specs.declared.run.Run.{Run}
+use Rattle.reg_state.proofs.CanonLemmas.{same_runs}
 use Rattle.reg_file.specs.Layout.{ops_bytes, ranges_bytes, grouped, head, register_file}
 use Rattle.reg_file.specs.Fields.{head_at}
 use Rattle.reg_file.specs.Readers.{Portion}

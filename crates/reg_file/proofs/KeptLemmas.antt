@@ -17,10 +17,10 @@ use Rattle.reg_op.proofs.ClashLemmas.{items_are, find_none}
 use Rattle.reg_op.proofs.ItemLemmas.{items_by_id}
 use Rattle.reg_op.proofs.ContentLemmas.{contains-kept, same_content}
 use Rattle.reg_op.proofs.FiniteLemmas.{some_of}
-use Rattle.reg_seen.specs.declared.run.Run.{Run}
-use Rattle.reg_seen.specs.Runs.{last_of, is_in_run, is_in_runs, AreRuns, EndInIds, AllIds, seen_of}
-use Rattle.reg_seen.proofs.RunLemmas.{first_run, rest_runs, contains-seen_of}
-use Rattle.reg_seen.proofs.SearchLemmas.{last_in}
+use Rattle.reg_state.specs.declared.run.Run.{Run}
+use Rattle.reg_state.specs.Runs.{last_of, is_in_run, is_in_runs, AreRuns, EndInIds, AllIds, seen_of}
+use Rattle.reg_state.proofs.RunLemmas.{first_run, rest_runs, contains-seen_of}
+use Rattle.reg_state.proofs.SearchLemmas.{last_in}
 use Rattle.reg_file.specs.Layout.{four, op_bytes, ops_bytes, ranges_bytes, runs_of, grouped}
 use Rattle.reg_file.specs.Reading.{operation, id_after}
 use Rattle.reg_file.specs.Readers.{ReadsEach}

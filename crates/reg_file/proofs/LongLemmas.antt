@@ -5,8 +5,8 @@ use Rattle.std.proofs.lemmas.List.Concat.{flat_map-cons}
 use Rattle.std.specs.List.{flat_map}
 use Rattle.std.specs.Ordering.{is_eq}
 use Rattle.reg_op.specs.Operations.{Op}
-use Rattle.reg_seen.specs.declared.run.Run.{Run}
-use Rattle.reg_seen.specs.Runs.{replica_cmp}
+use Rattle.reg_state.specs.declared.run.Run.{Run}
+use Rattle.reg_state.specs.Runs.{replica_cmp}
 use Rattle.reg_file.specs.Layout.{four, op_bytes, ops_bytes, Group, group_bytes, span_bytes, ranges_bytes, runs_of, run_at, put, grouped}
 use Rattle.reg_file.proofs.GroupLemmas.{put_same, put_other, runs_grouped}
 

@@ -12,9 +12,9 @@ use Rattle.reg_op.specs.Set.{same_set, contains-items}
 use Rattle.reg_op.specs.Ids.{Id, Ids, IsId, id_cmp}
 use Rattle.reg_op.proofs.OpLemmas.{id_total, id_exact, bytes_exact}
 use Rattle.reg_op.proofs.SetLemmas.{Climbs, items_climb}
-use Rattle.reg_seen.specs.declared.run.Run.{Run}
-use Rattle.reg_seen.specs.Runs.{replica_cmp, IsBelow, is_in_run, is_in_runs, IsRun, IsApart, AreRuns, seen_of}
-use Rattle.reg_seen.proofs.RunLemmas.{contains-seen_of, same_replica, replica_itself}
+use Rattle.reg_state.specs.declared.run.Run.{Run}
+use Rattle.reg_state.specs.Runs.{replica_cmp, IsBelow, is_in_run, is_in_runs, IsRun, IsApart, AreRuns, seen_of}
+use Rattle.reg_state.proofs.RunLemmas.{contains-seen_of, same_replica, replica_itself}
 
 abbrev run_of : Id → Run
 run_of i = record { replica = i.replica; low = i.count; high = i.count }

@@ -5,10 +5,10 @@ use Rattle.reg_op.specs.Set as set
 use Rattle.reg_op.specs.Ids.{Ids}
 use Rattle.reg_op.specs.Operations.{Op}
 use Rattle.reg_op.specs.Pieces.{Piece, part_of}
-use Rattle.reg_seen.specs.declared.run.Run.{Run}
-use Rattle.reg_seen.specs.Runs.{AreRuns, seen_of}
-use Rattle.reg_seen.proofs.RunLemmas.{contains-seen_of}
-use Rattle.reg_seen.proofs.CanonLemmas.{same_runs}
+use Rattle.reg_state.specs.declared.run.Run.{Run}
+use Rattle.reg_state.specs.Runs.{AreRuns, seen_of}
+use Rattle.reg_state.proofs.RunLemmas.{contains-seen_of}
+use Rattle.reg_state.proofs.CanonLemmas.{same_runs}
 use Rattle.reg_file.specs.Layout.{ops_bytes, ranges_bytes, grouped, head, piece_file}
 use Rattle.reg_file.specs.Fields.{head_at}
 use Rattle.reg_file.specs.Reading.{version_in, seen_and_kept, piece, HasPieceFault}

@@ -6,10 +6,10 @@ use Rattle.reg_op.specs.Set as set
 use Rattle.reg_op.specs.Ids.{Id, Ids, id_cmp}
 use Rattle.reg_op.proofs.OpLemmas.{id_total}
 use Rattle.reg_op.proofs.SetLemmas.{less}
-use Rattle.reg_seen.specs.declared.run.Run.{Run}
-use Rattle.reg_seen.specs.Runs.{IsBelow, ids_of_run, is_in_run, seen_of, IsAbove}
-use Rattle.reg_seen.proofs.RunLemmas.{below_chain, contains-seen_of, seen_of-push}
-use Rattle.reg_seen.proofs.SearchLemmas.{within}
+use Rattle.reg_state.specs.declared.run.Run.{Run}
+use Rattle.reg_state.specs.Runs.{IsBelow, ids_of_run, is_in_run, seen_of, IsAbove}
+use Rattle.reg_state.proofs.RunLemmas.{below_chain, contains-seen_of, seen_of-push}
+use Rattle.reg_state.proofs.SearchLemmas.{within}
 use Rattle.reg_file.specs.declared.span.Span.{Span}
 use Rattle.reg_file.specs.Layout.{Group, run_at, runs_of}
 use Rattle.reg_file.specs.Fields.{span_at, is_above, group_at}

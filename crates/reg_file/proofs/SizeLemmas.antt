@@ -7,8 +7,8 @@ use Rattle.reg_op.specs.Set as set
 use Rattle.reg_op.specs.Ids.{Ids}
 use Rattle.reg_op.specs.Operations.{Op}
 use Rattle.reg_op.specs.Contents.{Content}
-use Rattle.reg_seen.specs.declared.run.Run.{Run}
-use Rattle.reg_seen.specs.Runs.{AreRuns, EndInIds, seen_of}
+use Rattle.reg_state.specs.declared.run.Run.{Run}
+use Rattle.reg_state.specs.Runs.{AreRuns, EndInIds, seen_of}
 use Rattle.reg_file.specs.declared.span.Span.{Span}
 use Rattle.reg_file.specs.Layout.{four, op_bytes, ops_bytes, span_bytes, Group, group_bytes, ranges_bytes, run_at, runs_of, grouped, head, register_file, seen_file, piece_file}
 use Rattle.reg_file.specs.Files.{most, IsFileIn, IsTooLargeIn}

@@ -3,9 +3,9 @@ use Rattle.std.proofs.Common.{◌≡◌, ℕ, ◌^◌, ◌<◌, ◌≤◌, List,
 use Rattle.std.proofs.lemmas.List.{append-nil, length-append}
 use Rattle.reg_op.specs.Set as set
 use Rattle.reg_op.specs.Ids.{Ids}
-use Rattle.reg_seen.specs.declared.run.Run.{Run}
-use Rattle.reg_seen.specs.Runs.{AreRuns, seen_of}
-use Rattle.reg_seen.proofs.CanonLemmas.{same_runs}
+use Rattle.reg_state.specs.declared.run.Run.{Run}
+use Rattle.reg_state.specs.Runs.{AreRuns, seen_of}
+use Rattle.reg_state.proofs.CanonLemmas.{same_runs}
 use Rattle.reg_file.specs.Layout.{ranges_bytes, grouped, head, seen_file}
 use Rattle.reg_file.specs.Fields.{head_at}
 use Rattle.reg_file.specs.Reading.{version_in, summary, HasSeenFault}

@@ -7,7 +7,7 @@ use Rattle.reg_op.specs.Operations.{Op}
 use Rattle.reg_op.specs.Contents.{Content}
 use Rattle.reg_op.specs.Lists.{content_at}
 use Rattle.reg_op.specs.Pieces.{Piece, part_of}
-use Rattle.reg_seen.specs.Runs.{AllIds, seen_of}
+use Rattle.reg_state.specs.Runs.{AllIds, seen_of}
 use Rattle.reg_file.specs.declared.fault.Stop.{Stop}
 use Rattle.reg_file.specs.declared.fault.Stop.TheVariants as stop
 use Rattle.reg_file.specs.declared.place.Place.{Place}

@@ -7,8 +7,8 @@ use Rattle.reg_op.specs.Ids.{Id, Ids, is_before}
 use Rattle.reg_op.specs.Operations.{Op, Ops}
 use Rattle.reg_op.specs.Contents.{Content, IsContent}
 use Rattle.reg_op.specs.Pieces.{Piece, IsPiece}
-use Rattle.reg_seen.specs.declared.run.Run.{Run}
-use Rattle.reg_seen.specs.Runs.{AreRuns, AllIds, seen_of}
+use Rattle.reg_state.specs.declared.run.Run.{Run}
+use Rattle.reg_state.specs.Runs.{AreRuns, AllIds, seen_of}
 use Rattle.reg_file.specs.declared.fault.FileFault.{FileFault}
 use Rattle.reg_file.specs.declared.fault.FirstFileFault.{FirstFileFault}
 use Rattle.reg_file.specs.declared.fault.FirstFileFault.TheVariants as first

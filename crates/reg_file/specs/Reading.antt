@@ -8,7 +8,7 @@ use Rattle.reg_op.specs.Operations.{Op, op_cmp, IsBody}
 use Rattle.reg_op.specs.Lists.{passes}
 use Rattle.reg_op.specs.declared.operation.OpBody.{OpBody as Body}
 use Rattle.reg_op.specs.declared.operation.OpBody.TheVariants.{Enter, Supersede, Retire}
-use Rattle.reg_seen.specs.Runs.{seen_of}
+use Rattle.reg_state.specs.Runs.{seen_of}
 use Rattle.reg_op.specs.Kept.{first_dropped}
 use Rattle.wkt_crs.specs.Definition.{IsCanonicalFault}
 use Rattle.wkt_crs.specs.declared.definition.DefinitionFault.{DefinitionFault}

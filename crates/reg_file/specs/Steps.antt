@@ -16,8 +16,8 @@ use Rattle.reg_file.specs.declared.fault.Stop.{Stop}
 use Rattle.reg_file.specs.declared.fault.Stop.TheVariants as stop
 use Rattle.reg_file.specs.declared.fault.FileFault.TheVariants as fault
 use Rattle.reg_file.specs.declared.place.Place.{Place}
-use Rattle.reg_seen.specs.declared.run.Run.{Run}
-use Rattle.reg_seen.specs.Runs.{IsBelow, AllIds, ids_of_run, seen_of}
+use Rattle.reg_state.specs.declared.run.Run.{Run}
+use Rattle.reg_state.specs.Runs.{IsBelow, AllIds, ids_of_run, seen_of}
 use Rattle.reg_file.specs.declared.span.Span.{Span}
 use Rattle.reg_file.specs.Layout.{Group, run_at, runs_of}
 use Rattle.reg_file.specs.Fields.{head_at}

@@ -5,7 +5,7 @@ ghost use Rattle.reg_op.specs.Ids.{Id, Ids};
 ghost use Rattle.reg_op.specs.Operations.{Ops};
 ghost use Rattle.reg_op.specs.Contents.{Content, IsContent};
 ghost use Rattle.reg_op.specs.Pieces.{Piece, IsPiece};
-ghost use Rattle.reg_seen.specs.Runs.{AllIds};
+ghost use Rattle.reg_state.specs.Runs.{AllIds};
 ghost use Rattle.reg_file.specs.declared.fault.FileFault.{FileFault};
 ghost use Rattle.reg_file.specs.Reading.{HasFault, HasPartFault, HasPieceFault, HasSeenFault};
 ghost use Rattle.reg_file.specs.Files.{AreUnnoted, Holds, HoldsFirst, HoldsFirstPiece, HoldsFirstSeen, HoldsPiece, HoldsSeen, IsFileIn, IsLeastNoted, IsPieceFileIn, IsSeenFileIn, ReadsAs, ReadsAsPiece, ReadsAsSeen, first_noted};

@@ -2,7 +2,7 @@
 
 ghost use Rattle.std.specs.Prelude.{◌≡◌, ◌≤◌, ◌<◌, ◌+◌, length, IfSome, IfNone};
 ghost use Rattle.std.specs.List.{flat_map};
-ghost use Rattle.reg_seen.specs.Runs.{AreRuns, EndInIds};
+ghost use Rattle.reg_state.specs.Runs.{AreRuns, EndInIds};
 ghost use Rattle.reg_file.specs.Layout.{body_bytes, grouped, note_bytes, op_bytes, piece_file, ranges_bytes, register_file, seen_file};
 
 use crate::heads::{FIRST_VERSION, MAX_FILE, VERSION};

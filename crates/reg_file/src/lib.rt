@@ -25,5 +25,6 @@ pub use heads::MAX_FILE;
 pub use parts::{Part, read_part, read_part_beside, read_part_bytes};
 pub use pieces::{read_piece, read_piece_beside, read_piece_bytes, write_piece, write_piece_bytes};
 pub use reading::{read_bytes, read_register, read_register_beside};
+pub use reg_state::Register;
 pub use summaries::{read_seen, read_seen_bytes, write_seen, write_seen_bytes};
 pub use writing::{write_bytes, write_register};

@@ -3,7 +3,7 @@
 ghost use Rattle.std.specs.Prelude.{◌≡◌, ◌≤◌, ◌<◌, ◌^◌, ◌++◌, None, length, OnOk};
 ghost use Rattle.std.specs.List.{prefix_len};
 ghost use Rattle.std.specs.Ordering.{is_eq};
-ghost use Rattle.reg_seen.specs.Runs.{replica_cmp};
+ghost use Rattle.reg_state.specs.Runs.{replica_cmp};
 ghost use Rattle.reg_file.specs.Layout.{four, grouped, head, id_bytes, kind_byte, body_bytes, note_bytes, op_bytes, ops_bytes, ranges_bytes};
 ghost use Rattle.reg_file.specs.Spelling.{is_of, spelled};
 

@@ -4,3 +4,4 @@ pub mod Stores
 pub mod Keeping
 pub mod Making
 pub mod Opening
+pub mod Left

@@ -3,7 +3,7 @@
 ghost use Rattle.std.specs.Prelude.{◌≡◌, max, if◌then◌else◌};
 ghost use Rattle.std.specs.Ordering.{is_eq};
 ghost use Rattle.reg_op.specs.Operations.{named_in};
-ghost use Rattle.reg_seen.specs.Runs.{replica_cmp};
+ghost use Rattle.reg_state.specs.Runs.{replica_cmp};
 ghost use Rattle.reg_office.specs.Making.{greatest_of};
 ghost use Rattle.reg_guard.specs.Behind.{named_by, behind, next_of};
 

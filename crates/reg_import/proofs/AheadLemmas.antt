@@ -18,7 +18,7 @@ use Rattle.reg_op.proofs.FiniteLemmas.{any-union, member_from_any}
 use Rattle.reg_op.proofs.ContentLemmas.{kept_is_within, union_right, ids_has}
 use Rattle.reg_op.proofs.OneLemmas.{one_is}
 use Rattle.reg_op.proofs.StatusLemmas.{enters-kept}
-use Rattle.reg_seen.specs.Runs.{id_at}
+use Rattle.reg_state.specs.Runs.{id_at}
 use Rattle.reg_office.specs.declared.fault.OfficeFault.{OfficeFault}
 use Rattle.reg_office.specs.declared.fault.OfficeFault.TheVariants as fault
 use Rattle.reg_office.specs.Making.{greatest, numbered, objection, objections, with_op, else_next, note_fault, is_spent, made_unless, made}

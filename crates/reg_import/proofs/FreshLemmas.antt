@@ -16,7 +16,7 @@ use Rattle.reg_op.specs.Rows.{Row, rows_at, newer_of}
 use Rattle.reg_op.specs.Status.{enters, retires, supersedes, status}
 use Rattle.reg_op.specs.declared.status.Status.TheVariants.{Retired, Superseded, Valid}
 use Rattle.reg_op.proofs.OpLemmas.{id_total, op_total, is_same_exact}
-use Rattle.reg_seen.specs.Runs.{id_at}
+use Rattle.reg_state.specs.Runs.{id_at}
 use Rattle.reg_report.specs.Conflicts.{KeyBytes, bytes_of}
 use Rattle.reg_report.specs.Exports.{is_retired}
 use Rattle.reg_office.proofs.NumberLemmas.{op_cases}

@@ -20,7 +20,7 @@ use Rattle.reg_op.specs.Status.{enters, is_enter, retires, is_retirement}
 use Rattle.reg_op.proofs.OpLemmas.{op_total, op_exact, id_total, is_same_exact}
 use Rattle.reg_op.proofs.FiniteLemmas.{member_from_any}
 use Rattle.reg_op.proofs.ItemLemmas.{items_by_id}
-use Rattle.reg_seen.specs.Runs.{id_at}
+use Rattle.reg_state.specs.Runs.{id_at}
 use Rattle.reg_report.specs.Conflicts.{KeyBytes, bytes_of}
 use Rattle.reg_office.specs.Making.{greatest, numbered}
 use Rattle.reg_office.specs.Commands.{Does}

@@ -27,7 +27,7 @@ use Rattle.reg_op.specs.Status.{is_retirement}
 use Rattle.reg_op.proofs.OpLemmas.{op_total, op_exact}
 use Rattle.reg_op.proofs.FiniteLemmas.{member_from_any}
 use Rattle.reg_op.proofs.ContentLemmas.{nothing_is_content}
-use Rattle.reg_seen.specs.Runs.{id_at}
+use Rattle.reg_state.specs.Runs.{id_at}
 use Rattle.reg_report.specs.Conflicts.{bytes_of}
 use Rattle.reg_report.specs.Exports.{is_retired, row_line, export}
 use Rattle.reg_office.specs.Making.{greatest}

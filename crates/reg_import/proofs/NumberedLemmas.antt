@@ -4,7 +4,7 @@ use Rattle.std.proofs.Common.{add-one}
 use Rattle.reg_op.specs.Operations.{Op}
 use Rattle.reg_op.specs.declared.operation.OpBody.{OpBody as Body}
 use Rattle.reg_op.specs.declared.operation.OpBody.TheVariants.{Retire}
-use Rattle.reg_seen.specs.Runs.{id_at}
+use Rattle.reg_state.specs.Runs.{id_at}
 use Rattle.reg_office.specs.Making.{numbered}
 use Rattle.reg_import.specs.declared.known.Known.{Known}
 use Rattle.reg_import.specs.Plans.{retired}

@@ -21,7 +21,7 @@ use Rattle.reg_op.proofs.ContentLemmas.{kept-union_right}
 use Rattle.reg_op.proofs.OneLemmas.{any-from_list}
 use Rattle.reg_op.proofs.StatusLemmas.{enters-kept, retires-kept}
 use Rattle.reg_op.proofs.ClashLemmas.{find_none}
-use Rattle.reg_seen.specs.Runs.{id_at}
+use Rattle.reg_state.specs.Runs.{id_at}
 use Rattle.reg_state.specs.Tables.{first_dropped}
 use Rattle.reg_office.specs.declared.fault.OfficeFault.TheVariants as fault
 use Rattle.reg_office.specs.Making.{numbered, with_op, else_next, objections}

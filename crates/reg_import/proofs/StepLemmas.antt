@@ -6,7 +6,7 @@ use Rattle.wkt_crs.specs.declared.definition.DefinitionFault.{DefinitionFault}
 use Rattle.reg_op.specs.Operations.{Op}
 use Rattle.reg_op.specs.declared.operation.OpBody.{OpBody as Body}
 use Rattle.reg_op.specs.declared.operation.OpBody.TheVariants.{Retire}
-use Rattle.reg_seen.specs.Runs.{id_at}
+use Rattle.reg_state.specs.Runs.{id_at}
 use Rattle.reg_report.specs.Conflicts.{bytes_of}
 use Rattle.reg_office.specs.Making.{numbered}
 use Rattle.reg_office.proofs.NumberLemmas.{length_map}

@@ -4,7 +4,7 @@ use Rattle.reg_op.specs.Operations.{Ops}
 use Rattle.reg_op.specs.Contents.{Content}
 use Rattle.reg_op.specs.Rows.{Row, rows}
 use Rattle.reg_op.specs.Status.{retires, supersedes}
-use Rattle.reg_seen.specs.Runs.{id_at}
+use Rattle.reg_state.specs.Runs.{id_at}
 use Rattle.reg_report.specs.Conflicts.{bytes_of}
 use Rattle.reg_office.specs.Making.{greatest}
 use Rattle.reg_import.specs.declared.reading.Reading.{Reading}

@@ -6,7 +6,7 @@ ghost use Rattle.reg_op.specs.Lists.{ById};
 ghost use Rattle.reg_op.specs.Operations.{Op as Operation, op_cmp, IsOfItself};
 ghost use Rattle.reg_op.specs.declared.operation.OpBody.TheVariants as body;
 ghost use Rattle.reg_op.specs.Contents.{state, joined};
-ghost use Rattle.reg_seen.specs.Runs.{IsRun, ids_of_run};
+ghost use Rattle.reg_state.specs.Runs.{IsRun, ids_of_run};
 ghost use Rattle.reg_state.specs.Tables.{first_dropped};
 ghost use Rattle.reg_office.specs.Making.{greatest, numbered, objections};
 ghost use Rattle.reg_import.specs.Imports.{bodies_of};

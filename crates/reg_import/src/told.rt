@@ -1,7 +1,7 @@
 //! The action for a text, given the entries of its key.
 
 ghost use Rattle.std.specs.Prelude.{◌≡◌, ◌+◌, ◌<◌, ◌≤◌, ℕ, Some, IfSome, IfNone};
-ghost use Rattle.reg_seen.specs.Runs.{id_at};
+ghost use Rattle.reg_state.specs.Runs.{id_at};
 ghost use Rattle.reg_import.specs.Imports.{least, any_entry, told_of, told_of_new, unless_spent, is_refused, is_spent};
 ghost use Rattle.reg_import.specs.Index.{bucket_seen};
 ghost use Rattle.reg_import.specs.Lines.{is_same};

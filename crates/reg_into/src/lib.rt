@@ -5,4 +5,5 @@ mod engine;
 mod rows;
 
 pub use engine::run_into;
+pub use reg_handing::Choice;
 pub use rows::{Handed, files_of_found};

@@ -20,7 +20,7 @@ use Rattle.reg_op.proofs.OpLemmas.{id_total, op_total, op_exact}
 use Rattle.reg_op.proofs.ContentLemmas.{kept-union_right}
 use Rattle.reg_op.proofs.OneLemmas.{any-from_list}
 use Rattle.reg_op.proofs.StatusLemmas.{enters-kept, retires-kept, replaced_by-kept}
-use Rattle.reg_seen.specs.Runs.{id_at}
+use Rattle.reg_state.specs.Runs.{id_at}
 use Rattle.reg_office.specs.declared.command.Command.{Command}
 use Rattle.reg_office.specs.declared.command.Command.TheVariants.{Retire, Supersede}
 use Rattle.reg_office.specs.declared.fault.OfficeFault.{OfficeFault}

@@ -11,7 +11,7 @@ use Rattle.reg_op.specs.declared.operation.OpBody.{OpBody as Body}
 use Rattle.reg_op.specs.declared.operation.OpBody.TheVariants.{Enter, Supersede, Retire}
 use Rattle.reg_op.specs.Status.{enters, retires, is_replaced_by}
 use Rattle.reg_op.specs.Contents.{Content, state, merged, joined, IsContent}
-use Rattle.reg_seen.specs.Runs.{id_at, ids_from, IsGreatest}
+use Rattle.reg_state.specs.Runs.{id_at, ids_from, IsGreatest}
 use Rattle.reg_office.specs.declared.fault.OfficeFault.{OfficeFault}
 use Rattle.reg_office.specs.declared.fault.OfficeFault.TheVariants as fault
 use Rattle.reg_office.specs.Making.{greatest, numbered, objection, objections, with_op, else_next, note_fault, is_spent, made_unless, made}

@@ -20,9 +20,9 @@ use Rattle.reg_op.proofs.OpLemmas.{id_total, id_exact, op_total, op_exact}
 use Rattle.reg_op.proofs.ContentLemmas.{state-empty, joined_comm, joined_nothing, contains_op-union, joined_content, kept_is_within, OneBody-within, union_within, union_left, union_right, same_content}
 use Rattle.reg_op.proofs.ClashLemmas.{items_are}
 use Rattle.reg_op.proofs.FiniteLemmas.{union-empty}
-use Rattle.reg_seen.specs.declared.run.Run.{Run}
-use Rattle.reg_seen.specs.Runs.{replica_cmp, id_at, ids_from, ids_of_run, IsGreatest, IsAbove}
-use Rattle.reg_seen.proofs.RunLemmas.{same_replica, replica_itself}
+use Rattle.reg_state.specs.declared.run.Run.{Run}
+use Rattle.reg_state.specs.Runs.{replica_cmp, id_at, ids_from, ids_of_run, IsGreatest, IsAbove}
+use Rattle.reg_state.proofs.RunLemmas.{same_replica, replica_itself}
 use Rattle.reg_office.specs.declared.fault.OfficeFault.{OfficeFault}
 use Rattle.reg_office.specs.declared.fault.OfficeFault.TheVariants as fault
 use Rattle.reg_office.specs.Making.{greatest_of, greatest, numbered, objections, else_next, note_fault, is_spent, made_unless, made}

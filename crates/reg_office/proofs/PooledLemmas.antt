@@ -8,7 +8,7 @@ use Rattle.reg_op.specs.Contents.{Content, state, IsContent}
 use Rattle.reg_op.proofs.ContentLemmas.{kept_is_within}
 use Rattle.reg_op.specs.Pieces.{Piece, IsPiece}
 use Rattle.reg_op.proofs.PieceLemmas.{outside_parts}
-use Rattle.reg_seen.specs.Runs.{AllIds}
+use Rattle.reg_state.specs.Runs.{AllIds}
 use Rattle.reg_file.specs.Layout.{file, seen_file, piece_file}
 use Rattle.reg_file.specs.Files.{most, IsFileOf, IsSeenFileOf, IsPieceFileOf}
 use Rattle.reg_file.proofs.HoldLemmas.{one_reading as one_register, one_file}

@@ -18,7 +18,7 @@ use Rattle.reg_op.proofs.ContentLemmas.{joined-state, OneBody-within, union_with
 use Rattle.reg_op.specs.Pieces.{Piece, part_of, piece_for, IsHeld, first_missing, Basis, joined_where, joined_piece}
 use Rattle.reg_op.proofs.PieceLemmas.{piece_is}
 use Rattle.reg_op.proofs.RefusalLemmas.{missing_none, pieces_joined}
-use Rattle.reg_seen.specs.Runs.{AllIds}
+use Rattle.reg_state.specs.Runs.{AllIds}
 use Rattle.reg_file.specs.Files.{HoldsFirst, ReadsAsSeen}
 use Rattle.reg_file.proofs.HoldLemmas.{one_content, one_reading}
 use Rattle.reg_office.specs.Making.{made}

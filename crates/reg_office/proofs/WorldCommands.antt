@@ -15,7 +15,7 @@ use Rattle.reg_op.specs.declared.operation.OpBody.TheVariants.{Enter, Supersede,
 use Rattle.reg_op.specs.Status.{enters, retires, is_replaced_by}
 use Rattle.reg_op.specs.Contents.{Content}
 use Rattle.reg_op.proofs.OpLemmas.{id_total, op_exact}
-use Rattle.reg_seen.specs.Runs.{id_at}
+use Rattle.reg_state.specs.Runs.{id_at}
 use Rattle.reg_office.specs.declared.fault.OfficeFault.{OfficeFault}
 use Rattle.reg_office.specs.Making.{greatest, numbered, objection, objections, with_op, else_next, note_fault, is_spent, made_unless, made}
 use Rattle.reg_office.specs.World.{IsEffect}

@@ -8,8 +8,8 @@ use Rattle.reg_op.specs.Operations.{Ops, op_cmp}
 use Rattle.reg_op.specs.Contents.{Content, state, nothing}
 use Rattle.reg_op.proofs.OpLemmas.{op_total}
 use Rattle.reg_op.proofs.ContentLemmas.{state-empty, nothing_is_content}
-use Rattle.reg_seen.specs.Runs.{replica_cmp}
-use Rattle.reg_seen.proofs.RunLemmas.{same_replica, replica_itself}
+use Rattle.reg_state.specs.Runs.{replica_cmp}
+use Rattle.reg_state.proofs.RunLemmas.{same_replica, replica_itself}
 use Rattle.reg_file.specs.Layout.{file}
 use Rattle.reg_file.specs.Files.{Holds}
 use Rattle.reg_office.specs.World.{Office, Sent, World, start, Event, Outcome, Unchanged, Clashes, Sends, Writes, Gains, put, pooled, After, Leads, IsWorld}

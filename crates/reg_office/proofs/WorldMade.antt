@@ -9,8 +9,8 @@ use Rattle.reg_op.specs.Operations.{Op, Ops, one, op_cmp}
 use Rattle.reg_op.proofs.OpLemmas.{op_total}
 use Rattle.reg_op.proofs.OneLemmas.{one_is}
 use Rattle.reg_op.proofs.ContentLemmas.{contains_op-union}
-use Rattle.reg_seen.specs.Runs.{replica_cmp}
-use Rattle.reg_seen.proofs.RunLemmas.{same_replica, replica_itself}
+use Rattle.reg_state.specs.Runs.{replica_cmp}
+use Rattle.reg_state.proofs.RunLemmas.{same_replica, replica_itself}
 use Rattle.reg_office.specs.Making.{made}
 use Rattle.reg_office.specs.Pooled.{ops_in}
 use Rattle.reg_office.specs.World.{Sent, World, start, Event, Make, Send, SendSeen, SendPiece, SendFirst, Take, TakeOne, Restart, Upgrade, Stop, office_of, Outcome, Unchanged, Clashes, Sends, Writes, Gains, After, Happens, Leads}

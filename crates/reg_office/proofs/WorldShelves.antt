@@ -3,8 +3,8 @@ use Rattle.std.proofs.Common.{◌≡◌, ℕ, true, List, length, sym, ap, ◌�
 use Rattle.std.proofs.lemmas.Bool.{cases_Bool, true≢false}
 use Rattle.std.specs.Ordering.{is_eq}
 use Rattle.reg_op.specs.Contents.{Content, IsContent}
-use Rattle.reg_seen.specs.Runs.{replica_cmp}
-use Rattle.reg_seen.proofs.RunLemmas.{same_replica, replica_itself}
+use Rattle.reg_state.specs.Runs.{replica_cmp}
+use Rattle.reg_state.proofs.RunLemmas.{same_replica, replica_itself}
 use Rattle.reg_file.specs.Files.{Holds, IsFileOf}
 use Rattle.reg_file.proofs.HoldLemmas.{one_content, one_file}
 use Rattle.reg_shelf.specs.Shelf.{IsShelf}

@@ -14,8 +14,8 @@ use Rattle.reg_op.specs.declared.operation.OpBody.{OpBody as Body}
 use Rattle.reg_op.specs.Contents.{Content, state}
 use Rattle.reg_op.proofs.OpLemmas.{op_total, op_exact, id_total, is_same_exact}
 use Rattle.reg_op.proofs.ContentLemmas.{OneBody-within}
-use Rattle.reg_seen.specs.Runs.{replica_cmp}
-use Rattle.reg_seen.proofs.RunLemmas.{same_replica, replica_itself}
+use Rattle.reg_state.specs.Runs.{replica_cmp}
+use Rattle.reg_state.proofs.RunLemmas.{same_replica, replica_itself}
 use Rattle.reg_file.specs.Files.{Holds, ReadsAs, HoldsSeen, ReadsAsSeen, HoldsPiece, ReadsAsPiece}
 use Rattle.reg_op.specs.Pieces.{Piece, piece_for, IsHeld}
 use Rattle.reg_file.proofs.HoldLemmas.{one_content, one_reading, one_file}

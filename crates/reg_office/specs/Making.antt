@@ -9,7 +9,7 @@ use Rattle.reg_op.specs.declared.operation.OpBody.TheVariants.{Enter, Supersede,
 use Rattle.reg_op.specs.Contents.{Content, state, merged}
 use Rattle.reg_op.specs.Kept.{first_dropped}
 use Rattle.reg_op.specs.Status.{enters, retires, is_replaced_by}
-use Rattle.reg_seen.specs.Runs.{replica_cmp, id_at}
+use Rattle.reg_state.specs.Runs.{replica_cmp, id_at}
 use Rattle.reg_office.specs.declared.fault.OfficeFault.{OfficeFault}
 use Rattle.reg_office.specs.declared.fault.OfficeFault.TheVariants as fault
 

@@ -8,7 +8,7 @@ use Rattle.reg_op.specs.Operations.{Op, Ops, one}
 use Rattle.reg_op.specs.declared.operation.OpBody.{OpBody as Body}
 use Rattle.reg_op.specs.declared.operation.OpBody.TheVariants.{Enter, Supersede, Retire}
 use Rattle.reg_op.specs.Contents.{Content, state, nothing, joined}
-use Rattle.reg_seen.specs.Runs.{replica_cmp}
+use Rattle.reg_state.specs.Runs.{replica_cmp}
 use Rattle.reg_op.specs.Pieces.{piece_for, PieceRefusal, Basis, Clash, joined_piece}
 use Rattle.reg_file.specs.Layout.{file}
 use Rattle.reg_file.specs.Files.{Holds, HoldsFirst, ReadsAs, IsTooLarge}

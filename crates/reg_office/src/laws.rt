@@ -10,7 +10,7 @@ ghost use Rattle.reg_op.specs.declared.operation.OpBody.TheVariants.{Enter};
 ghost use Rattle.reg_op.specs.Contents.{Content, state, merged, joined, IsContent};
 ghost use Rattle.reg_op.specs.declared.status.Status.TheVariants.{Retired};
 ghost use Rattle.reg_op.specs.Status.{status};
-ghost use Rattle.reg_seen.specs.Runs.{ids_from, IsGreatest};
+ghost use Rattle.reg_state.specs.Runs.{ids_from, IsGreatest};
 ghost use Rattle.reg_state.specs.ManyLaws.{all_of};
 ghost use Rattle.reg_file.specs.Files.{Holds, HoldsSeen, HoldsPiece, ReadsAs, ReadsAsSeen, ReadsAsPiece};
 ghost use Rattle.reg_shelf.specs.Shelf.{IsShelf};

@@ -5,7 +5,7 @@ ghost use Rattle.reg_op.specs.Set as set;
 ghost use Rattle.reg_op.specs.Lists.{ById};
 ghost use Rattle.reg_op.specs.Operations.{Op as Operation, IsOfItself, op_cmp};
 ghost use Rattle.reg_op.specs.Contents.{state};
-ghost use Rattle.reg_seen.specs.Runs.{IsRun, ids_of_run};
+ghost use Rattle.reg_state.specs.Runs.{IsRun, ids_of_run};
 ghost use Rattle.reg_op.specs.Kept.{first_dropped};
 ghost use Rattle.reg_office.specs.Making.{greatest, numbered};
 

@@ -21,7 +21,7 @@ pub fn one_page()
         → IsPage title z a → IsPage title w b → a ≡ b }
 {}
 
-/// The bytes of a page are pieces of which each text stands between tags, or between the quotation marks of an attribute.
+/// A page is a list of pieces, in which each text is between tags, or between the quotation marks of an attribute.
 /// The tags of two pages of one shape are the same, whatever texts their registers have.
 pub fn no_text_leaves_its_place()
     ensures places { (title : List ℕ) (x : Content) (bytes : List ℕ) → IsPage title x bytes

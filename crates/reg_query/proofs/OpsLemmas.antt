@@ -9,7 +9,7 @@ use Rattle.std.specs.Ordering.{nat_cmp, is_lt, is_gt, ordering_then}
 use Rattle.reg_op.specs.Ids.{Id, is_before}
 use Rattle.reg_op.specs.Operations.{Op}
 use Rattle.reg_op.specs.Lists.{ById}
-use Rattle.reg_seen.specs.Runs.{replica_cmp}
+use Rattle.reg_state.specs.Runs.{replica_cmp}
 use Rattle.reg_query.specs.Offices.{is_op_of, is_below}
 use Rattle.reg_query.proofs.PartLemmas.{Rises, total, parted, part}
 

@@ -14,10 +14,10 @@ use Rattle.reg_op.specs.Set as set
 use Rattle.reg_op.specs.Set.{Ascends, items-from_list, contains-from_list, same_set}
 use Rattle.reg_op.specs.Ids.{Id, id_cmp}
 use Rattle.reg_op.proofs.OpLemmas.{id_total, bytes_exact}
-use Rattle.reg_seen.specs.declared.run.Run.{Run}
-use Rattle.reg_seen.specs.Runs.{replica_cmp, IsBelow, IsApart, AreRuns, id_at, first_of, ids_from, ids_of_run, ids_of_runs, seen_of}
+use Rattle.reg_state.specs.declared.run.Run.{Run}
+use Rattle.reg_state.specs.Runs.{replica_cmp, IsBelow, IsApart, AreRuns, id_at, first_of, ids_from, ids_of_run, ids_of_runs, seen_of}
 use Rattle.reg_query.specs.Offices.{is_of, is_same_replica, replicas_of}
-use Rattle.reg_seen.specs.Walks.{spans_of}
+use Rattle.reg_state.specs.Walks.{spans_of}
 use Rattle.reg_query.proofs.PartLemmas.{Rises, total, parted, part}
 
 -- ---- the ids of runs ascend

@@ -7,7 +7,7 @@ use Rattle.reg_op.specs.Set as set
 use Rattle.reg_op.specs.Ids.{Id, Ids}
 use Rattle.reg_op.specs.Operations.{Op}
 use Rattle.reg_op.specs.Contents.{Content}
-use Rattle.reg_seen.specs.Runs.{replica_cmp, IsGreatest}
+use Rattle.reg_state.specs.Runs.{replica_cmp, IsGreatest}
 use Rattle.reg_query.specs.declared.figures.office.OfficeFigures.{OfficeFigures}
 
 abbrev pub is_below : List ℕ → List ℕ → Bool

@@ -7,10 +7,10 @@ use Rattle.std.specs.List.{Contains}
 use Rattle.std.specs.Ordering.{is_eq}
 use Rattle.reg_op.specs.Set as set
 use Rattle.reg_op.specs.Ids.{Id, Ids}
-use Rattle.reg_seen.specs.declared.run.Run.{Run}
-use Rattle.reg_seen.specs.Runs.{replica_cmp, IsBelow, IsRun, IsApart, AreRuns, id_at, is_in_run, is_in_runs, seen_of}
-use Rattle.reg_seen.proofs.RunLemmas.{same_replica, replica_itself, below_chain, not_below_itself, not_below_same, first_run, contains-seen_of}
-use Rattle.reg_seen.proofs.SearchLemmas.{IsWithin, within, in_run}
+use Rattle.reg_state.specs.declared.run.Run.{Run}
+use Rattle.reg_state.specs.Runs.{replica_cmp, IsBelow, IsRun, IsApart, AreRuns, id_at, is_in_run, is_in_runs, seen_of}
+use Rattle.reg_state.proofs.RunLemmas.{same_replica, replica_itself, below_chain, not_below_itself, not_below_same, first_run, contains-seen_of}
+use Rattle.reg_state.proofs.SearchLemmas.{IsWithin, within, in_run}
 use Rattle.reg_report.specs.declared.gap.Gap.{Gap}
 use Rattle.reg_report.specs.Between.{last_count, gaps_at, gaps_between}
 use Rattle.reg_report.specs.Gaps.{IsGap, ComesFirst, AllLater, Ascend, AreGaps}

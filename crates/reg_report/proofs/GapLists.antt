@@ -2,8 +2,8 @@
 use Rattle.std.proofs.Common.{◌≡◌, ◌≤◌, zero, suc, List, [], ◌∷◌, refl, sym, ◌∙◌, subst, inl, inr, ◌⊎◌, arith}
 use Rattle.std.specs.List.{Contains}
 use Rattle.reg_op.specs.Ids.{Ids}
-use Rattle.reg_seen.specs.Runs.{IsBelow}
-use Rattle.reg_seen.proofs.RunLemmas.{below_chain, not_below_itself}
+use Rattle.reg_state.specs.Runs.{IsBelow}
+use Rattle.reg_state.proofs.RunLemmas.{below_chain, not_below_itself}
 use Rattle.reg_report.specs.declared.gap.Gap.{Gap}
 use Rattle.reg_report.specs.Gaps.{ComesFirst, AllLater, Ascend, AreGaps}
 

@@ -2,7 +2,7 @@
 use Rattle.std.specs.Prelude.{◌≡◌, ℕ, ◌+◌, ◌-◌, ◌≤◌, ◌<◌, true, false, ◌⊎◌, ◌↔◌, List, [], ◌∷◌, Contains}
 use Rattle.reg_op.specs.Set as set
 use Rattle.reg_op.specs.Ids.{Ids}
-use Rattle.reg_seen.specs.Runs.{IsBelow, id_at}
+use Rattle.reg_state.specs.Runs.{IsBelow, id_at}
 use Rattle.reg_report.specs.declared.gap.Gap.{Gap}
 
 -- counts of a replica that were not seen, up to one that was seen, and down to one that was, or to 1

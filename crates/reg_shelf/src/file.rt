@@ -5,8 +5,7 @@ ghost use Rattle.reg_op.specs.Contents.{Content};
 ghost use Rattle.reg_file.specs.Files.{Holds, ReadsAs, IsTooLarge};
 
 use byte_shelf::ShelfFault;
-use reg_file::{ReadFileFault, WriteFileFault, read_bytes, write_bytes};
-use reg_state::Register;
+use reg_file::{ReadFileFault, Register, WriteFileFault, read_bytes, write_bytes};
 use std::alloc::Global;
 
 /// The bytes of the register's file.

@@ -11,7 +11,7 @@ use crate::file::file_of;
 use crate::size::is_size;
 use byte_disk::Disk;
 use byte_shelf::ShelfFault;
-use reg_state::Register;
+use reg_file::Register;
 use std::alloc::Global;
 
 /// Makes a shelf of the empty register, for files of up to `size` bytes. A stop during the call may leave any bytes.

@@ -11,7 +11,7 @@ ghost use Rattle.reg_shelf.specs.Keep.{IsTooLarge};
 use crate::file::file_of;
 use byte_disk::Disk;
 use byte_shelf::ShelfFault;
-use reg_state::Register;
+use reg_file::Register;
 use std::alloc::Global;
 
 /// Replaces the register of the shelf by this one. After `DiskFailed`, as after a stop, restore the disk before keeping

@@ -9,7 +9,7 @@ ghost use Rattle.reg_shelf.specs.Keep.{IsRestoreFault};
 use crate::file::register_of;
 use byte_disk::Disk;
 use byte_shelf::ShelfFault;
-use reg_state::Register;
+use reg_file::Register;
 use std::alloc::Global;
 
 /// The register of the shelf.

@@ -1,3 +1,13 @@
+pub mod CoverLemmas
+pub mod FirstLemmas
+pub mod InsertLemmas
+pub mod OrderLemmas
+pub mod MarkMergeLemmas
+pub mod RunLemmas
+pub mod SearchLemmas
+pub mod CanonLemmas
+pub mod MeetLemmas
+pub mod OutsideLemmas
 pub mod MarkJoin
 pub mod MarkLemmas
 pub mod MergeLemmas

@@ -17,10 +17,10 @@ use Rattle.reg_op.proofs.FiniteLemmas.{any_from_member, member_from_any, any-uni
 use Rattle.reg_op.proofs.OpLemmas.{op_total, op_exact, replaces_chain}
 use Rattle.reg_op.proofs.ContentLemmas.{kept_is_within}
 use Rattle.reg_op.proofs.OneLemmas.{any-from_list, kept_free, kept_has}
-use Rattle.reg_marks.specs.declared.mark.Mark.{Mark}
-use Rattle.reg_marks.specs.Marks.{mark_cmp, has, MarkSet, lessens, least}
-use Rattle.reg_marks.specs.MarkLaws.{mark_total, mark_exact, least_least, least-union, merged_marks}
-use Rattle.reg_marks.proofs.InsertLemmas.{contains-least, least_has, eq_of}
+use Rattle.reg_state.specs.declared.mark.Mark.{Mark}
+use Rattle.reg_state.specs.MarkSets.{mark_cmp, has, MarkSet, lessens, least}
+use Rattle.reg_state.specs.MarkLaws.{mark_total, mark_exact, least_least, least-union, merged_marks}
+use Rattle.reg_state.proofs.InsertLemmas.{contains-least, least_has, eq_of}
 use Rattle.reg_state.specs.Marks.{marks_of, marks_of_body, mark_at, target_body, op_of, least_marks}
 
 -- the marks that the operations of a set set

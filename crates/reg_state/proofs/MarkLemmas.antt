@@ -18,9 +18,9 @@ use Rattle.std.proofs.lemmas.List.Folds.{list_any-append}
 use Rattle.reg_op.specs.declared.operation.OpBody.{OpBody as Body}
 use Rattle.reg_op.specs.Status.{is_retirement, is_supersession}
 use Rattle.reg_op.proofs.OpLemmas.{id_total}
-use Rattle.reg_marks.specs.declared.mark.Mark.{Mark}
-use Rattle.reg_marks.specs.Marks.{MarkSet, is_at, lessens}
-use Rattle.reg_marks.proofs.OrderLemmas.{any-from_list, any-least}
+use Rattle.reg_state.specs.declared.mark.Mark.{Mark}
+use Rattle.reg_state.specs.MarkSets.{MarkSet, is_at, lessens}
+use Rattle.reg_state.proofs.OrderLemmas.{any-from_list, any-least}
 use Rattle.reg_state.proofs.MarkJoin.{own_marks}
 use Rattle.reg_state.specs.Marks.{marks_of, marks_of_body, least_marks, target_body, op_of}
 

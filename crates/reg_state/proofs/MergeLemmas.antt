@@ -13,7 +13,7 @@ use Rattle.reg_op.specs.Operations.{Op}
 use Rattle.reg_op.specs.Ids.{id_cmp, is_same, is_before}
 use Rattle.reg_op.specs.Operations.{op_cmp, clashes}
 use Rattle.reg_op.proofs.OpLemmas.{id_total, op_total, op_exact, is_same_exact}
-use Rattle.reg_marks.specs.Marks.{MarkSet}
+use Rattle.reg_state.specs.MarkSets.{MarkSet}
 use Rattle.reg_op.specs.Lists.{has, AllAfter, ById}
 use Rattle.reg_state.specs.Merge.{lasts, stays, is_marked_off, Agree, clash_in, IsMerging}
 

@@ -16,10 +16,10 @@ use Rattle.reg_op.proofs.FiniteLemmas.{any_from_member, member_from_any}
 use Rattle.reg_op.proofs.OpLemmas.{id_total, id_exact, op_total, op_exact, is_same_exact, replaces_irreflexive, replaces_chain}
 use Rattle.reg_op.proofs.ContentLemmas.{union_left, union_right, contains_op-union, kept_is_within, same_content}
 use Rattle.reg_op.proofs.OneLemmas.{any-from_list, merged_is_content, one_is, one_has, one_is_content, kept_one, kept_free, kept_has}
-use Rattle.reg_marks.specs.declared.mark.Mark.{Mark}
-use Rattle.reg_marks.specs.Marks.{MarkSet, mark_cmp, covers}
-use Rattle.reg_marks.specs.MarkLaws.{mark_total, mark_exact}
-use Rattle.reg_marks.proofs.CoverLemmas.{lesser_covers}
+use Rattle.reg_state.specs.declared.mark.Mark.{Mark}
+use Rattle.reg_state.specs.MarkSets.{MarkSet, mark_cmp, covers}
+use Rattle.reg_state.specs.MarkLaws.{mark_total, mark_exact}
+use Rattle.reg_state.proofs.CoverLemmas.{lesser_covers}
 use Rattle.reg_state.specs.Marks.{least_marks, marks_of_body}
 use Rattle.reg_state.specs.Merge.{is_marked_off}
 use Rattle.reg_state.specs.Tables.{AreTables}

@@ -13,7 +13,7 @@ use Rattle.reg_op.specs.Pieces.{Piece, Clash, outside, first_missing, joined_whe
 use Rattle.reg_op.proofs.OpLemmas.{id_total, op_total, op_exact}
 use Rattle.reg_op.proofs.ContentLemmas.{same_content}
 use Rattle.reg_op.proofs.PieceLemmas.{outside_is_content}
-use Rattle.reg_marks.specs.Marks.{MarkSet}
+use Rattle.reg_state.specs.MarkSets.{MarkSet}
 use Rattle.reg_state.specs.Marks.{least_marks}
 use Rattle.reg_state.specs.Pieces.{is_outside, ops_outside, piece_of, IsBasisOf}
 use Rattle.reg_state.specs.Tables.{AreTables}

@@ -19,7 +19,7 @@ use Rattle.reg_op.specs.Status.{is_enter}
 use Rattle.reg_op.proofs.OpLemmas.{id_total, op_total, op_exact}
 use Rattle.reg_op.proofs.ClashLemmas.{same_id}
 use Rattle.reg_op.proofs.OneLemmas.{any-from_list, merged_is_content}
-use Rattle.reg_marks.specs.Marks.{MarkSet, least}
+use Rattle.reg_state.specs.MarkSets.{MarkSet, least}
 use Rattle.reg_state.specs.Marks.{marks_of, marks_of_body, least_marks}
 use Rattle.reg_state.specs.Merge.{is_marked_off, stays}
 use Rattle.reg_state.specs.Tables.{AreTables}

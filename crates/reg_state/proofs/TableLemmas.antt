@@ -24,8 +24,8 @@ use Rattle.reg_op.proofs.OpLemmas.{op_total, op_exact, is_same_exact}
 use Rattle.reg_op.proofs.ContentLemmas.{contains_op-union, contains-kept, union_left, union_right, one_body_from, same_content, nothing_is_content}
 use Rattle.reg_op.proofs.OneLemmas.{any-from_list, merged_is_content}
 use Rattle.reg_op.proofs.ClashLemmas.{items_are, items_rise, found, any_of, Matched, same_first, rises_by_id, clashes_back, same_no_clash, lt_id_itself}
-use Rattle.reg_marks.specs.Marks.{MarkSet, is_at}
-use Rattle.reg_marks.specs.MarkLaws.{least-empty}
+use Rattle.reg_state.specs.MarkSets.{MarkSet, is_at}
+use Rattle.reg_state.specs.MarkLaws.{least-empty}
 use Rattle.reg_state.specs.Marks.{marks_of, marks_of_body, least_marks, op_of}
 use Rattle.reg_op.specs.Lists.{has, AllAfter, ById}
 use Rattle.reg_state.specs.Merge.{Agree, clash_in, is_marked_off, stays, first_off}

@@ -10,8 +10,8 @@ use Rattle.reg_op.proofs.OpLemmas.{id_total, id_exact, op_total}
 use Rattle.reg_op.proofs.FiniteLemmas.{union-empty}
 use Rattle.reg_op.proofs.ContentLemmas.{one_body_from, joined_content, same_content}
 use Rattle.reg_op.proofs.OneLemmas.{one_is, kept_one, one_is_content}
-use Rattle.reg_seen.specs.Runs.{ids_from, ids_of_run}
-use Rattle.reg_marks.specs.Marks.{MarkSet}
+use Rattle.reg_state.specs.Runs.{ids_from, ids_of_run}
+use Rattle.reg_state.specs.MarkSets.{MarkSet}
 use Rattle.reg_state.specs.Marks.{least_marks}
 use Rattle.reg_state.specs.Merge.{clash_in}
 use Rattle.reg_state.specs.Tables.{AreTables}

@@ -1,8 +1,13 @@
 pub mod ManyLaws
+pub mod MarkLaws
+pub mod MarkSets
 pub mod Marks
 pub mod Merge
 pub mod Names
 pub mod Pieces
 pub mod RegisterLaws
+pub mod Runs
+pub mod SeenLaws
 pub mod Tables
 pub mod Views
+pub mod Walks

@@ -5,8 +5,8 @@ use Rattle.reg_op.specs.Ids.{Id}
 use Rattle.reg_op.specs.Operations.{Op}
 use Rattle.reg_op.specs.declared.operation.OpBody.{OpBody as Body}
 use Rattle.reg_op.specs.declared.operation.OpBody.TheVariants.{Enter, Supersede, Retire}
-use Rattle.reg_marks.specs.declared.mark.Mark.{Mark}
-use Rattle.reg_marks.specs.Marks.{MarkSet, least}
+use Rattle.reg_state.specs.declared.mark.Mark.{Mark}
+use Rattle.reg_state.specs.MarkSets.{MarkSet, least}
 
 abbrev pub target_body : Id → Option Id → Body
 target_body e None = Retire e

@@ -5,7 +5,7 @@ use Rattle.reg_op.specs.Ids.{Id}
 use Rattle.reg_op.specs.Operations.{Op}
 use Rattle.reg_op.specs.Operations.{clashes, replaces}
 use Rattle.reg_op.specs.Finite.{any}
-use Rattle.reg_marks.specs.Marks.{MarkSet}
+use Rattle.reg_state.specs.MarkSets.{MarkSet}
 use Rattle.reg_op.specs.Lists.{has, ById}
 use Rattle.reg_state.specs.Marks.{op_of}
 

@@ -4,7 +4,7 @@ use Rattle.reg_op.specs.Ids.{Ids}
 use Rattle.reg_op.specs.Operations.{Op}
 use Rattle.reg_op.specs.Contents.{IsContent}
 pub use Rattle.reg_op.specs.Kept.{first_dropped}
-use Rattle.reg_marks.specs.Marks.{MarkSet}
+use Rattle.reg_state.specs.MarkSets.{MarkSet}
 use Rattle.reg_state.specs.Marks.{least_marks}
 use Rattle.reg_op.specs.Lists.{ById, content_at}
 

@@ -5,10 +5,11 @@ ghost use Rattle.reg_op.specs.Ids.{is_before};
 ghost use Rattle.reg_op.specs.Finite.{any};
 ghost use Rattle.reg_op.specs.Operations.{replaces};
 ghost use Rattle.reg_op.specs.Status.{is_enter};
-ghost use Rattle.reg_marks.specs.Marks.{is_at};
+ghost use Rattle.reg_state.specs.MarkSets.{is_at};
 ghost use Rattle.reg_state.specs.Marks.{least_marks, marks_of_body, op_of};
 
-use reg_marks::{Mark, Marks, Target};
+use crate::mark::{Mark, Target};
+use crate::mark_set::Marks;
 use reg_op::{Op, OpBody, OpId};
 use std::alloc::{AllocError, Global};
 

@@ -5,9 +5,9 @@ ghost use Rattle.reg_op.specs.Operations.{Op as Operation};
 ghost use Rattle.reg_op.specs.Lists.{ById, has};
 ghost use Rattle.reg_state.specs.Merge.{Agree, stays, lasts, is_marked_off};
 
+use crate::mark_set::Marks;
 use crate::marks::is_replaced;
 use crate::table::comes_first;
-use reg_marks::Marks;
 use reg_op::Op;
 use std::alloc::{AllocError, Global};
 

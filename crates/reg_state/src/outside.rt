@@ -3,8 +3,8 @@
 ghost use Rattle.std.specs.Prelude.{◌≡◌, ◌++◌, [], ◌∷◌, OnOk, IfOk};
 ghost use Rattle.reg_state.specs.Pieces.{ops_outside};
 
+use crate::seen::Seen;
 use reg_op::Op;
-use reg_seen::Seen;
 use std::alloc::{AllocError, Global};
 
 // Appends a copy of an operation, unless its id is in the basis.

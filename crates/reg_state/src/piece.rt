@@ -10,9 +10,9 @@ ghost use Rattle.reg_op.specs.Pieces.{IsPiece, piece_for, joined_piece, Basis, C
 ghost use Rattle.reg_state.specs.Pieces.{piece_of};
 
 use crate::register::{ContentFault, Register};
+use crate::seen::Seen;
 use reg_join::{Join, JoinFault};
 use reg_op::{Op, OpId};
-use reg_seen::Seen;
 use std::alloc::{AllocError, Global};
 use std::fmt;
 use std::marker::Model;

@@ -13,21 +13,22 @@ ghost use Rattle.reg_op.specs.Lists.{ById, has, content_at};
 ghost use Rattle.reg_state.specs.Marks.{marks_of_body};
 ghost use Rattle.reg_state.specs.RegisterLaws.{register_laws};
 
+use crate::mark::{Mark, Target};
+use crate::mark_set::Marks;
 use crate::marks::{is_marked, is_replaced, mark_of, marks_of};
 use crate::merge::join_ops;
 use crate::outside::ops_outside;
+use crate::run::Run;
+use crate::seen::Seen;
 use crate::table::{
     definition_in, first_clash, first_replaced, has_id, put_op, put_with_room, remove_replaced,
 };
 use crate::view::Ops;
 use reg_join::{Join, JoinFault};
-use reg_marks::{Mark, Marks, Target};
-use reg_op::{Op, OpId, Status};
-use reg_seen::{Run, Seen};
+use reg_op::{Definition, Op, OpId, Status};
 use std::alloc::{AllocError, Global};
 use std::marker::Model;
 use std::{fmt, slice};
-use wkt_crs::Definition;
 
 /// Why `from_content` rejects operations.
 #[derive(Clone, Copy, Debug, PartialEq, Eq)]

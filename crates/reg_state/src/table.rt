@@ -9,11 +9,10 @@ ghost use Rattle.reg_op.specs.Kept.{entering};
 ghost use Rattle.reg_op.specs.Lists.{ById, has};
 ghost use Rattle.reg_state.specs.Merge.{clash_in, first_off};
 
+use crate::mark_set::Marks;
 use crate::marks::is_replaced;
-use reg_marks::Marks;
-use reg_op::{Op, OpBody, OpId};
+use reg_op::{Definition, Op, OpBody, OpId};
 use std::alloc::AllocError;
-use wkt_crs::Definition;
 
 fn is_earlier(op: &Op, id: OpId) -> bool
     ensures { result ≡ is_before op.now.id id }

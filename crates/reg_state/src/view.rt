@@ -4,9 +4,8 @@ ghost use Rattle.std.specs.Prelude.{◌≡◌};
 ghost use Rattle.std.specs.Iterator.{YieldsFirstBy, item_count};
 ghost use Rattle.reg_state.specs.Views.{op_seen};
 
-use reg_op::{Note, Op, OpBody, OpId};
+use reg_op::{Definition, Note, Op, OpBody, OpId};
 use std::marker::Model;
-use wkt_crs::Definition;
 
 /// The effect of an operation, with a borrowed definition.
 #[derive(Clone, Copy)]

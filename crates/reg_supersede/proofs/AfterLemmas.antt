@@ -16,7 +16,7 @@ use Rattle.reg_op.proofs.OpLemmas.{id_total, id_exact, op_total, op_exact, is_sa
 use Rattle.reg_op.proofs.FiniteLemmas.{union-empty}
 use Rattle.reg_op.proofs.ContentLemmas.{contains_op-union, contains-ids, kept_is_within, kept-kept, merged-state, merged_assoc, merged_comm, state-empty, same_content, joined_content, OneBody-within, union_within, union_left, union_right}
 use Rattle.reg_op.proofs.OneLemmas.{any-from_list}
-use Rattle.reg_seen.specs.Runs.{id_at}
+use Rattle.reg_state.specs.Runs.{id_at}
 use Rattle.reg_office.specs.declared.fault.OfficeFault.{OfficeFault}
 use Rattle.reg_office.specs.Making.{greatest, numbered, objection, objections, else_next, with_op}
 use Rattle.reg_office.proofs.NumberLemmas.{greatest_is, numbers_agree}

@@ -17,7 +17,7 @@ use Rattle.reg_op.specs.declared.operation.OpBody.TheVariants.{Supersede}
 use Rattle.reg_op.specs.Contents.{Content, state, joined_unless, merged, IsContent}
 use Rattle.reg_op.specs.Status.{is_supersession}
 use Rattle.reg_op.proofs.OpLemmas.{id_total}
-use Rattle.reg_seen.specs.Runs.{id_at}
+use Rattle.reg_state.specs.Runs.{id_at}
 use Rattle.reg_office.specs.declared.command.Command.{Command}
 use Rattle.reg_office.specs.declared.fault.OfficeFault.{OfficeFault}
 use Rattle.reg_office.specs.declared.fault.OfficeFault.TheVariants as fault

@@ -22,7 +22,7 @@ use Rattle.reg_op.proofs.ContentLemmas.{kept-union_right}
 use Rattle.reg_op.proofs.OneLemmas.{any-from_list}
 use Rattle.reg_op.proofs.ClashLemmas.{find_none}
 use Rattle.reg_op.proofs.StatusLemmas.{enters-kept, retires-kept, replaced_by-kept}
-use Rattle.reg_seen.specs.Runs.{id_at}
+use Rattle.reg_state.specs.Runs.{id_at}
 use Rattle.reg_office.specs.declared.command.Command.TheVariants as command
 use Rattle.reg_office.specs.Making.{numbered, objection, objections, with_op}
 use Rattle.reg_office.specs.Effects.{fault_of}

@@ -1,7 +1,7 @@
 -- What the command makes of a register and of its list, and why it makes nothing.
 use Rattle.std.specs.Prelude.{◌≡◌, ◌++◌, [], ◌∷◌, ℕ, Bool, List}
 use Rattle.byte_io.specs.Device.{SourceState}
-use Rattle.desk_files.specs.Bytes.{Gives, IsFileFault}
+use Rattle.reg_engine.specs.WholeFile.{Gives, IsFileFault}
 use Rattle.reg_op.specs.Ids.{Id}
 use Rattle.reg_op.specs.Contents.{Content}
 use Rattle.reg_engine.specs.declared.fault.CliFault.{CliFault}
@@ -31,7 +31,7 @@ cause_of line.Memory = cli.Memory
 abbrev pub Supersedes : Task → SourceState → SourceState → Content → Content → List ℕ → List RefusedLine → Type 0
 Supersedes t old new x y text left = (bytes : List ℕ) × Gives old new bytes × ((ids : List Id) × DoesAll t 1 x (lines bytes) y ids left × (text ≡ id_lines ids))
 
--- the list was not read; or a line of it refuses the command, and is listed after those that were there; or memory ran out
+-- the list was not read; or a line refuses the command, and is appended to the refused lines; or memory ran out
 abbrev pub CannotSupersede : Task → ℕ → SourceState → SourceState → Content → List RefusedLine → List RefusedLine → CliFault → Type 0
 CannotSupersede t number old new x before told (cli.Refused r) = (bytes : List ℕ) × Gives old new bytes
     × ((f : RefusedLine) × RefusesAll t x (lines bytes) f × (told ≡ before ++ f ∷ []) × (cause_of f.fault ≡ cli.Refused r))

@@ -40,24 +40,24 @@ RefusesFor t x [] f = ⊥
 RefusesFor t x (old ∷ []) f = f ≡ line.BadId
 RefusesFor t x (old ∷ newer ∷ more) f = (g : OfficeFault) × (made x t.replica t.note (supersessions old (newer ∷ more)) ≡ Err g) × (f ≡ line.Office g)
 
--- why a word stands for no entry; without keys it is no id
+-- why a word names no entry; without keys it is not an id
 abbrev pub word_fault : Bool → KeyFault → LineFault
 word_fault keys key.NoEntry = if keys then line.NoEntry else line.BadId
 word_fault keys (key.Several id) = line.Several id
 word_fault keys key.Memory = line.Memory
 
--- that there is no memory is no refusal
+-- running out of memory is not a refusal
 abbrev pub IsRefusal : LineFault → Type 0
 IsRefusal line.Memory = ⊥
 IsRefusal f = Unit {0}
 
--- the line makes the second content of the first, with these new ids
+-- the line leads from the first content to the second, with these new ids
 pub record DoesLine (t : Task) (x : Content) (text : List ℕ) (y : Content) (ids : List Id) : Type 0 where
   pub entries : List Id
   pub stand : StandFor t.rows (words text) entries
   pub does : DoesFor t x entries y ids
 
--- it is refused: a word stands for no entry, or the command is refused
+-- it is refused: a word names no entry, or the command is refused
 abbrev pub RefusesLine : Task → Content → List ℕ → LineFault → Type 0
 RefusesLine t x text f = IsRefusal f × (((k : KeyFault) × Object t.rows (words text) k × (word_fault t.keys k ≡ f))
     ⊎ ((es : List Id) × StandFor t.rows (words text) es × RefusesFor t x es f))

@@ -13,8 +13,7 @@ use crate::list::{Listed, all_lines, leave_out};
 use crate::naming::rows_for;
 use crate::order::{LineFault, Order, RefusedLine};
 use byte_io::Source;
-use desk_files::read_whole;
-use reg_engine::{Change, CliFault, Made, id_lines};
+use reg_engine::{Change, CliFault, Made, id_lines, read_whole};
 use reg_office::Office;
 use reg_op::OpBody;
 use reg_state::Register;
@@ -22,7 +21,7 @@ use std::alloc::Global;
 use uuid::Uuid;
 
 /// Reads a list after the register, and supersedes the entries of its lines as the replica, with the note. Where refused lines are
-/// left out, `refused` has them afterwards; else it has the one that refuses the command.
+/// left out, `refused` has them afterwards; otherwise it has the line that refuses the command.
 #[derive(Drop)]
 pub struct SupersedeFrom<'a, S> {
     pub list: &'a mut S,

@@ -11,8 +11,8 @@ ghost use Rattle.reg_supersede.specs.declared.order.LineFault.TheVariants as lin
 ghost use Rattle.reg_supersede.specs.Lines.{words};
 ghost use Rattle.reg_supersede.specs.Lists.{Task, DoesAll, StopsAt};
 
-/// A list of one line, whose words stand for an old entry and those that supersede it, is the command `supersede` on these entries:
-/// it does the same, and is refused for the same reasons.
+/// A list of one line, whose words name an old entry and the entries that supersede it, is the command `supersede` on these
+/// entries: it does the same, and is refused for the same reasons.
 pub fn one_line()
     ensures does { (t : Task) (x y : Content) (text : List ℕ) (old newer : Id) (more ids : List Id) → StandFor t.rows (words text) (old ∷ newer ∷ more)
         → DoesAll t 1 x (text ∷ []) y ids [] ↔ Does x t.replica t.note (supersessions old (newer ∷ more)) y ids }

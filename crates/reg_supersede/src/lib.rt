@@ -1,4 +1,4 @@
-//! Supersessions of a list: a line for each old entry and those that supersede it, all in one command.
+//! The command `supersede --from`: a list with a line for each old entry and the entries that supersede it.
 #![tactic(auto)]
 
 mod check;

@@ -46,7 +46,7 @@ fn allowed(
     }
 }
 
-// Why a line of these entries is refused.
+// Why a line with these entries is refused.
 fn fault_of(
     alloc: Global,
     order: &Order<'_>,
@@ -128,7 +128,7 @@ fn step(
     }
 }
 
-/// Lists a refused line, if those are left out.
+/// Lists a refused line, if refused lines are left out.
 pub fn leave_out(
     keep_going: bool,
     left: &mut Vec<RefusedLine>,
@@ -153,7 +153,7 @@ pub fn leave_out(
     }
 }
 
-/// The effects of the lines, and those that are refused and left out.
+/// The effects of the lines, and the refused lines that are left out.
 #[derive(Drop)]
 pub struct Listed {
     pub bodies: Vec<OpBody>,

@@ -1,4 +1,4 @@
-//! The rows among which words are looked up, and the fault of a word that stands for nothing.
+//! The rows in which words are looked up, and the fault of a word that names no entry.
 
 ghost use Rattle.std.specs.Prelude.{◌≡◌, map, IfOk};
 ghost use Rattle.reg_op.specs.Set.{Ascends};
@@ -12,7 +12,7 @@ use reg_report::Row;
 use reg_state::Register;
 use std::alloc::{AllocError, Global};
 
-/// The rows among which words are looked up: those of the register by id, or none where only ids are taken.
+/// The rows in which words are looked up: those of the register by id, or none if only ids are accepted.
 pub fn rows_for(alloc: Global, register: &Register, keys: bool) -> Result<Vec<Row>, AllocError>
     ensures rows { IfOk result (λ made. map row_seen made.items ≡ rows_if keys register.now) }
     ensures order { IfOk result (λ made. Ascends row_cmp (map row_seen made.items)) }
@@ -23,7 +23,7 @@ pub fn rows_for(alloc: Global, register: &Register, keys: bool) -> Result<Vec<Ro
     Ok(Vec::new(alloc))
 }
 
-/// The fault of a line with a word that stands for nothing. Where keys are not taken, such a word is no id.
+/// The fault of a line with a word that names no entry. If keys are not accepted, the word is not an id.
 pub fn fault_of_word(keys: bool, fault: KeyFault) -> LineFault
     ensures { result ≡ word_fault keys fault }
 {

@@ -1,4 +1,4 @@
-//! What holds of all lines, what the lines before have come to, and why a line is refused.
+//! The settings of all lines, the effects of the lines so far, and the reasons why a line is refused.
 
 ghost use Rattle.std.specs.Prelude.{◌≡◌, true, false};
 ghost use Rattle.reg_supersede.specs.Lists.{IsRefusal};
@@ -10,7 +10,7 @@ use reg_state::Register;
 use std::collections::BTreeSet;
 use uuid::Uuid;
 
-/// The register before the first line, the rows among which keys are looked up, whether there are keys, the office and the note
+/// The register before the first line, the rows in which keys are looked up, whether keys are accepted, the office and the note
 /// of its operations, and whether refused lines are left out.
 #[derive(Clone, Copy)]
 pub struct Order<'a> {
@@ -36,21 +36,21 @@ pub struct Effects {
     pub pairs: BTreeSet<Pair>,
 }
 
-/// Why a line makes nothing.
+/// Why a line is refused.
 #[derive(Clone, Copy, Debug, PartialEq, Eq)]
 pub enum LineFault {
-    /// A word is no id, where keys are not taken; or there is only one word.
+    /// A word is not an id, and keys are not accepted; or there is only one word.
     BadId,
-    /// No entry answers a key.
+    /// No entry has the key, or only retired ones.
     NoEntry,
-    /// Several entries answer a key. This is the second least of them.
+    /// Several entries of the key are not retired. This is the second least of them.
     Several(OpId),
     Office(OfficeFault),
     Memory,
 }
 
 impl LineFault {
-    /// Whether there is no memory, which is no refusal.
+    /// Whether memory ran out, which is not a refusal.
     pub fn is_memory(self) -> bool
         ensures memory { result ≡ true → ¬ (IsRefusal self) }
         ensures refusal { result ≡ false → IsRefusal self }

@@ -22,7 +22,7 @@ impl RefusedLine {
     }
 }
 
-/// Prints what would stand behind `refused: `, and the number.
+/// Prints the text that follows `refused: `, and the number of the line.
 impl fmt::Display for RefusedLine {
     fn fmt<W: fmt::Write>(&self, f: &mut fmt::Formatter<W>) -> fmt::Result {
         match self.cause() {

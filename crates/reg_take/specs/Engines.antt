@@ -11,7 +11,7 @@ use Rattle.reg_take.specs.declared.taking.LeftOut.{LeftOut}
 use Rattle.reg_take.specs.Files.{FileState}
 use Rattle.reg_take.specs.Take.{Takes, CannotTake}
 
--- a register that comes in, and what is written of another one that is made of it
+-- the register that a store gives, and what is written for the register that replaces it
 pub record Way : Type 1 where
   -- this register came in, and nothing was written
   pub came : Content → Type 0
@@ -31,7 +31,7 @@ only_read a before after = record {
   failed = λ x y lines f. a.came x × AreCut lines before after f;
 }
 
--- the store has the second content, for sure or not; where that is the first one, nothing was done to it
+-- the store has the second content, whether or not a power cut can undo that; if it equals the first one, the store is unchanged
 abbrev pub Leaves : (Content → Content → Type 0) → Around → Content → Content → Type 0
 Leaves Has a x y = ((y ≡ x) × a.came x) ⊎ ((y ≢ x) × Has x y)
 
@@ -44,11 +44,11 @@ kept_if_changed a before after = record {
   failed = λ x y lines f. ((y ≢ x) × a.unleft x y f × WritesIf (is_after f) lines before after) ⊎ (Leaves (IsKeptIn a) a x y × AreCut lines before after f);
 }
 
--- a register came in; the files were joined to it, but for those that are left out; and the rows of what changed were written
+-- a register was read; the files were joined to it, except those that are left out; and the rows that changed were written
 abbrev pub IsTaken : Way → Bool → ℕ → List FileState → List FileState → List LeftOut → Type 0
 IsTaken w going next old new left = (x : Content) × (y : Content) × (lines : List ℕ) × Takes going next old new x y left × IsDiff x y lines × w.gave x y lines
 
--- none came in, and no file was read; or nothing is joined to it; or the files were joined, and not everything was written
+-- none was read, and no file either; or nothing is joined to it; or the files were joined, and not everything was written
 abbrev pub IsUntaken : Way → Bool → ℕ → List FileState → List FileState → CliFault → Type 0
 IsUntaken w going next old new f = (w.none f × (new ≡ old))
     ⊎ (((x : Content) × w.came x × CannotTake going next old new x f)

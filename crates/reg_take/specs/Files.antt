@@ -15,7 +15,7 @@ use Rattle.reg_engine.specs.Inputs.{IsPartFault}
 use Rattle.reg_take.specs.declared.files.Arrival.{Arrival}
 use Rattle.reg_take.specs.declared.files.Arrival.TheVariants as arrival
 
--- a file: what it gave, and whether it did not open
+-- a file: what it gave, and whether it failed to open
 pub record FileState : Type 0 where
   pub source : SourceState
   pub shut : Bool
@@ -23,7 +23,7 @@ pub record FileState : Type 0 where
 abbrev pub file_state : SourceState → Bool → FileState
 file_state source shut = record { source = source; shut = shut }
 
--- the fault of the file of this number, which may not have opened
+-- the fault of the file with this number, which may have failed to open
 abbrev pub fault_in : ℕ → Bool → ReadFileFault → CliFault
 fault_in number true (reading.ReadFailed n) = cli.File number file.NotOpened
 fault_in number false (reading.ReadFailed n) = file_fault number (reading.ReadFailed n)

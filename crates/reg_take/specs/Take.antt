@@ -1,4 +1,4 @@
--- What joining files to a register gives, or why it gives nothing.
+-- The result of joining files to a register, or why there is none.
 use Rattle.std.specs.Prelude.{◌≡◌, ◌⊎◌, ◌∷◌, [], Bool, true, false, List, ℕ}
 use Rattle.reg_op.specs.Contents.{Content}
 use Rattle.reg_engine.specs.declared.fault.CliFault.{CliFault}

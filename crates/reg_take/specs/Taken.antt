@@ -1,4 +1,4 @@
--- What was read joined to a content: all registers, and then the pieces in order, but for those that are left out.
+-- Files joined to a content: all registers, and then the pieces in order, except those that are left out.
 use Rattle.std.specs.Prelude.{◌≡◌, ◌+◌, ◌∷◌, ◌++◌, [], List, ℕ, Result, Ok, Err}
 use Rattle.reg_op.specs.Contents.{Content, nothing, joined, merged}
 use Rattle.reg_op.specs.Pieces.{Piece, PieceRefusal, Basis, Clash, joined_piece}
@@ -81,7 +81,7 @@ taken phase.Pieces t i (arrival.Register z) = t
 taken phase.Pieces t i (arrival.Piece p) = after_piece t i p (joined_piece t.content p)
 taken phase.Pieces t i (arrival.Unread k f) = t
 
--- with each file in order, the first of which has this index
+-- with each file in order; the first one has this index
 abbrev pub each_taken : Phase → Progress → ℕ → List Arrival → Progress
 each_taken w t i [] = t
 each_taken w t i (a ∷ gave) = each_taken w (taken w t i a) (i + 1) gave

@@ -1,4 +1,4 @@
-//! The command `take` on a register, wherever that is.
+//! The command `take`, on a register in a file or on a shelf.
 
 ghost use Rattle.std.specs.Prelude.{◌≡◌, ◌≢◌, ◌↔◌, map, IsTrue, IfOk, OnOk, IfErr};
 ghost use Rattle.reg_op.specs.Contents.{Content};
@@ -48,9 +48,9 @@ fn keep_changed<T: Keep>(
     }
 }
 
-/// Loads the register, and then joins a register or a piece from each file to it; keeps the result, if it is another register,
-/// and then writes the rows that the two do not share. Answers the files that are left out: where it keeps going those that
-/// cannot be read, that clash, or whose basis is not held; else the first such file ends the command.
+/// Loads the register, joins the register or piece of each file to it, keeps the result if it differs, and then writes the rows
+/// that changed. Returns the files that are left out: with `keep_going` those that cannot be read, that clash, or whose basis is
+/// not held. Otherwise the first such file ends the command.
 pub fn run_take<T: Keep, S: LateSource, K: Sink>(
     alloc: Global,
     store: &mut T,
@@ -93,7 +93,7 @@ pub fn run_take<T: Keep, S: LateSource, K: Sink>(
     }
 }
 
-/// The same, and nothing is kept: the rows say what would change.
+/// The same, but nothing is kept: the rows show what would change.
 pub fn try_take<T: Store, S: LateSource, K: Sink>(
     alloc: Global,
     store: &mut T,

@@ -19,7 +19,7 @@ pub enum Arrival {
     Unread { number: usize, fault: InputFault },
 }
 
-// The fault of the file of this number, which may not have opened.
+// The fault of the file with this number, which may have failed to open.
 fn fault_in(number: usize, shut: bool, fault: ReadFileFault) -> CliFault
     ensures { result ≡ fault_in number shut fault }
 {
@@ -32,7 +32,7 @@ fn fault_in(number: usize, shut: bool, fault: ReadFileFault) -> CliFault
     }
 }
 
-// Reads the register or the piece in the file of this number, and closes it. What a known register has is not read again.
+// Reads the register or the piece in the file with this number, and closes it. Definitions of known registers are not read again.
 fn read_next<S: LateSource>(
     alloc: Global,
     known: &Register,
@@ -50,7 +50,7 @@ fn read_next<S: LateSource>(
     }
 }
 
-// What the file of this number gave. Its fault ends the command, unless it keeps going.
+// What the file with this number gave. Its fault ends the command, unless the command keeps going.
 fn arrival_of<S: LateSource>(
     alloc: Global,
     known: &Register,
@@ -74,7 +74,7 @@ fn arrival_of<S: LateSource>(
     }
 }
 
-/// Reads all files in their order, the first of which has this number. Where it does not keep going, the first fault ends it.
+/// Reads all files in order, numbered from this number on. Unless the command keeps going, the first fault ends it.
 pub fn arrivals<S: LateSource>(
     alloc: Global,
     known: &Register,

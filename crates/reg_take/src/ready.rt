@@ -14,8 +14,8 @@ use reg_query::compare;
 use reg_state::Register;
 use std::alloc::Global;
 
-/// The register with the files that were taken, the rows that it does not share with the one before, whether it is the
-/// same, and the files that are left out.
+/// The register joined with the files, the rows that changed, whether the register is the same as before, and the files that are
+/// left out.
 #[derive(Drop)]
 pub struct Ready {
     pub register: Register,
@@ -24,7 +24,7 @@ pub struct Ready {
     pub left: Vec<LeftOut>,
 }
 
-// The fault that ends the command: that of the first file that is left out, unless it keeps going.
+// The fault that ends the command: that of the first file that is left out, unless the command keeps going.
 fn ending(keep_going: bool, left: &[LeftOut]) -> Option<CliFault>
     ensures fault { IfSome result (IsFirstFault keep_going left.now) }
     ensures none { IfNone result (MayLeave keep_going left.now) }

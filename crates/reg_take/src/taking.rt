@@ -1,4 +1,4 @@
-//! Files joined to a register, but for those that are left out.
+//! Joins files to a register, and leaves out those that are refused.
 
 ghost use Rattle.std.specs.Prelude.{◌≡◌, ◌++◌, ◌∷◌, [], IfOk};
 ghost use Rattle.reg_op.specs.Contents.{joined};
@@ -13,11 +13,11 @@ use reg_state::{Join, JoinFault, Piece, PieceFault, Register};
 use std::alloc::{AllocError, Global};
 use std::fmt;
 
-/// A file that is left out: its index among the files, from 0, and why. It prints as what is behind the first words of the
-/// fault's line.
+/// A file that is left out: its index among the files, from 0, and why. It prints as the line of the fault without `file K: ` or
+/// `refused: `.
 #[derive(Clone, Copy)]
 pub enum LeftOut {
-    /// It was not read. Its number is the one among all files that the command reads.
+    /// It was not read. The number counts all files that the command reads.
     Unread {
         file: usize,
         number: usize,

@@ -61,7 +61,7 @@ IsCompared i j x text = (one : Row) × (other : Row) × HasRow (rows x.ops) i on
 abbrev pub IsHeading : Id → Content → List ℕ → Type 0
 IsHeading i x head = (r : Row) × HasRow (rows x.ops) i r × IsHeadOf r head
 
--- one of the two is no entry; or there is no memory
+-- one of the two is not an entry; or memory ran out
 abbrev pub IsUncompared : Id → Id → Content → Uncompared → Type 0
 IsUncompared i j x (why.UnknownEntry id) = ((id ≡ i) ⊎ (id ≡ j)) × ((r : Row) → ¬ (HasRow (rows x.ops) id r))
 IsUncompared i j x why.Memory = Unit {0}

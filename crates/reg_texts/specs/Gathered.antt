@@ -1,4 +1,4 @@
--- What is said, row by row.
+-- The statements, row by row.
 use Rattle.std.specs.Prelude.{◌≡◌, ◌⊎◌, true, List, [], ◌∷◌, ◌++◌, Some}
 use Rattle.reg_op.specs.Ids.{Id}
 use Rattle.reg_op.specs.Rows.{Row}
@@ -11,14 +11,14 @@ module _ {X Y : Type 0} (Gives : X → List Y → Type 0) where
   Each [] ys = ys ≡ []
   Each (x ∷ xs) ys = (mine : List Y) × (later : List Y) × Gives x mine × Each xs later × (ys ≡ mine ++ later)
 
--- the text of the row is said to be superseded by an entry with the key of the other row
+-- the statement that the text of the row is superseded by an entry with the key of the other row
 pub record IsOfSuccessor (r newer : Row) (s : Said) : Type 0 where
   pub text : s.text ≡ r.definition
   pub keyed : HasKey r.definition s.key
   pub superseded : s.superseded ≡ true
   pub by : (k : KeyBytes) × (s.by ≡ Some k) × HasKey newer.definition k
 
--- what a row's successor brings: its key, or nothing if it is retired
+-- what a row's successor adds: its key, or nothing if it is retired
 abbrev pub IsSaidOf : Row → Row → List Said → Type 0
 IsSaidOf r newer mine = (IsLive newer × ((s : Said) × IsOfSuccessor r newer s × (mine ≡ s ∷ []))) ⊎ ((¬ (IsLive newer)) × (mine ≡ []))
 

@@ -44,7 +44,7 @@ IsRival d r = ((k : KeyBytes) × HasKey d k × HasKey r.definition k) × IsLive 
 abbrev pub IsPairWith : Version → Row → List ℕ → Type 0
 IsPairWith given r pair = (v : Version) × IsVersionOf r v × IsPair v given pair
 
--- the head in the place of an entry that is not there
+-- the header line, if no entry has the key
 abbrev pub IsNoHead : List ℕ → List ℕ → Type 0
 IsNoHead d head = (key : KeyBytes) × HasKey d key × (head ≡ key_text key ++ codes " none")
 
@@ -78,12 +78,12 @@ IsTextAgainst name rs c text = (d : List ℕ) × Defines c.bytes d × IsGivenAga
 abbrev pub IsFileAgainst : List ℕ → List ℕ → Content → List ℕ → Type 0
 IsFileAgainst name file x text = (cuts : List Piece) × IsCutInto file cuts × Each (IsTextAgainst name (rows x.ops)) cuts text
 
--- the text is no definition, for this reason, with the place in the file of its fault, or of its first byte; or memory ran out
+-- the text is not a definition, for this reason, with the place of its fault, or of its first byte, in the file; or memory ran out
 abbrev pub IsUnread : Piece → Unread → Type 0
 IsUnread c (unread.Refused f at place len) = IsTextFault c.bytes f × (f ≢ NoMemory) × (at ≡ c.place + unwrap_or (fault_place f) 0) × (place ≡ c.place) × (len ≡ length c.bytes)
 IsUnread c unread.Memory = Unit {0}
 
--- why the first of some texts that is no definition is none
+-- why the first of some texts that are not definitions is not one
 abbrev pub IsFirstUnread : List Piece → Unread → Type 0
 IsFirstUnread [] f = f ≡ unread.Memory
 IsFirstUnread (c ∷ cs) f = IsUnread c f ⊎ (((d : List ℕ) × Defines c.bytes d) × IsFirstUnread cs f)

@@ -25,7 +25,7 @@ abbrev pub spaced_key : Option KeyBytes → List ℕ
 spaced_key None = []
 spaced_key (Some k) = 32 ∷ key_text k
 
--- a space and the key of a successor, if one is said
+-- a space and the key of a successor, if the statement has one
 abbrev pub successor_text : Said → List ℕ
 successor_text s = spaced_key s.by
 
@@ -33,8 +33,8 @@ successor_text s = spaced_key s.by
 abbrev pub by_text : List Said → List ℕ
 by_text ss = if list_any names_successor ss then codes " by" ++ flat_map successor_text ss else []
 
--- the status of a text of which this is said first, and then the others: a text is valid if some entry has it as valid, even if
--- another has it as superseded
+-- the status of a text, given the statements about it: a text is valid if some entry with it is valid, even if another one is
+-- superseded
 abbrev pub status_text : Said → List Said → List ℕ
 status_text s others = if s.superseded then codes "superseded" ++ by_text others else codes "valid"
 
@@ -57,12 +57,12 @@ pub record Run : Type 0 where
   pub first : Said
   pub others : List Said
 
--- what is said is put before the first run, if that is about its text; else it is a run of its own
+-- a statement is put in front of the first run, if that is about its text; otherwise it becomes a run of its own
 abbrev pub before_runs : Said → List Run → List Run
 before_runs s [] = record { first = s; others = [] } ∷ []
 before_runs s (r ∷ rs) = if is_about s r.first then record { first = s; others = r.first ∷ r.others } ∷ rs else record { first = s; others = [] } ∷ r ∷ rs
 
--- what is said one after another of one text, together
+-- runs of statements about one text
 abbrev pub runs : List Said → List Run
 runs [] = []
 runs (s ∷ ss) = before_runs s (runs ss)
@@ -72,6 +72,6 @@ abbrev pub AreBlocks : List Run → List ℕ → Type 0
 AreBlocks [] text = text ≡ []
 AreBlocks (r ∷ rs) text = (block : List ℕ) × (rest : List ℕ) × IsBlock r.first r.others block × AreBlocks rs rest × (text ≡ block ++ rest)
 
--- the listing of what is said: a block for each text
+-- the listing of some statements: a block for each text
 abbrev pub IsListing : List Said → List ℕ → Type 0
 IsListing ss text = AreBlocks (runs ss) text

@@ -1,4 +1,4 @@
--- What a register says of its texts.
+-- The statements of a register about its texts.
 use Rattle.std.specs.Prelude.{◌≡◌, ◌≢◌, ◌⊎◌, ◌↔◌, ℕ, Bool, true, List, Contains, Option, Some, None, IsTrue}
 use Rattle.std.specs.declared.cmp.Ordering.{Ordering}
 use Rattle.std.specs.Ordering.{nat_cmp, bool_cmp, ordering_then}
@@ -12,7 +12,7 @@ use Rattle.reg_report.specs.Conflicts.{KeyBytes, key_cmp, HasKey}
 use Rattle.reg_texts.specs.declared.key.KeyText.{KeyText}
 use Rattle.reg_texts.specs.declared.saying.Saying.{Saying}
 
--- a statement about a text under a key: that it is valid; or that it is superseded, and by an entry of which key
+-- a statement about a text with a key: that it is valid, or that it is superseded, with the key of a superseding entry
 pub record Said : Type 0 where
   pub key : KeyBytes
   pub text : List ℕ
@@ -34,13 +34,13 @@ pub record IsOf (r : Row) (s : Said) : Type 0 where
   pub text : s.text ≡ r.definition
   pub keyed : HasKey r.definition s.key
 
--- whether the row's entry is superseded is said
+-- it says whether the row's entry is superseded
 pub record SaysStatus (r : Row) (s : Said) : Type 0 where
   pub of : IsOf r s
   pub status : IsTrue s.superseded ↔ (r.status ≡ Some Superseded)
   pub by : s.by ≡ None
 
--- the key of an entry that supersedes the row's, and is not retired, is said
+-- it has the key of an entry that supersedes the row's entry and is not retired
 pub record SaysSuccessor (rs : List Row) (r : Row) (s : Said) : Type 0 where
   pub of : IsOf r s
   pub superseded : s.superseded ≡ true
@@ -50,22 +50,22 @@ pub record SaysSuccessor (rs : List Row) (r : Row) (s : Said) : Type 0 where
   pub live : IsLive newer
   pub by : (k : KeyBytes) × (s.by ≡ Some k) × HasKey newer.definition k
 
--- the rows say this of the text of some row
+-- some row has this statement about its text
 abbrev pub Says : List Row → Said → Type 0
 Says rs s = (r : Row) × Contains rs r × (SaysStatus r s ⊎ SaysSuccessor rs r s)
 
--- by key, then by text, then by what is said: that a text is valid comes first
+-- by key, then by text, then by statement: that a text is valid comes first
 abbrev pub said_cmp : Said → Said → Ordering
 said_cmp a b =
     ordering_then (key_cmp a.key b.key)
     (ordering_then (slice_cmp nat_cmp a.text b.text) (ordering_then (bool_cmp a.superseded b.superseded) (option_cmp key_cmp a.by b.by)))
 
--- all that the rows say, in order, each once
+-- all statements of the rows, in order, each once
 pub record AreSaid (rs : List Row) (ss : List Said) : Type 0 where
   pub ascend : Ascends said_cmp ss
   pub each : (s : Said) → Contains ss s ↔ Says rs s
 
--- ---- the sayings of the program
+-- ---- the statements of the program
 
 abbrev pub key_bytes : KeyText → KeyBytes
 key_bytes k = record { authority = k.authority.now; code = k.code.now }

@@ -11,7 +11,7 @@ pub record IsInOrder (all once : List Said) : Type 0 where
   pub ascend : Ascends said_cmp once
   pub same : (s : Said) → Contains once s ↔ Contains all s
 
--- the text is the listing of all that the register says
+-- the text is the listing of all statements of the register
 pub record IsTextsOf (x : Content) (text : List ℕ) : Type 0 where
   pub said : List Said
   pub are : AreSaid (rows x.ops) said

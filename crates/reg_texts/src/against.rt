@@ -22,7 +22,7 @@ use wkt_texts::{Cut, texts};
 /// Why the texts of a file are not compared.
 #[derive(Clone, Copy, Debug, PartialEq, Eq)]
 pub enum Unread {
-    /// A text is no definition, for this reason.
+    /// A text is not a definition, for this reason.
     Refused {
         fault: DefinitionFault,
         /// The offset in the file of the fault, or of the text's first byte if the fault has no place.
@@ -36,8 +36,8 @@ pub enum Unread {
 }
 
 /// What differs between each text of a file and the entries of its key that are not retired: unified diffs from the text of the
-/// entry to the given one, text by text and then by id. A text whose key no such entry has is added as a whole. `name` names the
-/// file in the heads.
+/// entry to the given one, text by text and then by id. If no such entry has the key, all lines of the text are added. `name` is
+/// the file's name in the header lines.
 pub fn compared_texts(
     alloc: Global,
     register: &Register,

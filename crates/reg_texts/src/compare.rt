@@ -75,8 +75,8 @@ fn pair_text(alloc: Global, one: &Row, other: &Row) -> Result<Vec<u8>, AllocErro
     Ok(text)
 }
 
-/// What differs between the text of the least entry of a key that is not retired and that of each other, by id. Without such an
-/// entry there is no text.
+/// Of the entries of a key that are not retired, what differs between the text of the one with the least id and those of the
+/// others, by id. None if there is no such entry.
 pub fn compared_key(
     alloc: Global,
     register: &Register,

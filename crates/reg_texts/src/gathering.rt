@@ -1,4 +1,4 @@
-//! Gathers what a register says of its texts.
+//! Gathers the statements of a register about its texts.
 
 ghost use Rattle.std.specs.Prelude.{◌≡◌, ◌++◌, List, map, IfOk, OnOk};
 ghost use Rattle.reg_op.specs.Set.{Ascends};
@@ -14,7 +14,7 @@ use reg_op::{OpId, Status};
 use reg_report::Row;
 use std::alloc::{AllocError, Global};
 
-/// What the register says of the text of each row, row by row.
+/// The statements of the register about the text of each row, row by row.
 pub fn sayings<'a>(alloc: Global, rows: &'a [Row]) -> Result<Vec<Saying<'a>>, AllocError>
     requires { Ascends row_cmp (map row_seen rows.now) }
     ensures { IfOk result (λ made. AreGathered (map row_seen rows.now) (map said made.items)) }

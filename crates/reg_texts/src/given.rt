@@ -1,4 +1,4 @@
-//! A text of a file: its version in a diff, and what it adds where no entry has its key.
+//! A text of a file: its version in a diff, and the lines that it adds if no entry has its key.
 
 ghost use Rattle.std.specs.Prelude.{◌≡◌, ◌++◌, decimal, IfOk, OnOk};
 ghost use Rattle.reg_texts.specs.Given.{IsGivenHead, IsGiven, IsNoHead, IsNew};
@@ -49,7 +49,7 @@ fn push_number(text: &mut Vec<u8>, number: usize) -> Result<(), AllocError>
     Ok(())
 }
 
-// The head of an entry that is not there.
+// The header line, if no entry has the key.
 fn no_head(alloc: Global, definition: &Definition) -> Result<Vec<u8>, AllocError>
     ensures { IfOk result (λ head. IsNoHead definition.now head.items) }
 {

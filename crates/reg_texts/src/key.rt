@@ -52,7 +52,7 @@ pub fn push_key(text: &mut Vec<u8>, key: &KeyText) -> Result<(), AllocError>
     Ok(())
 }
 
-/// Appends the bytes, with a space in the place of each line break.
+/// Appends the bytes, with a space instead of each line break.
 pub fn push_on_line(text: &mut Vec<u8>, bytes: &[u8]) -> Result<(), AllocError>
     ensures { OnOk result (text.new.items ≡ text.old.items ++ map on_line bytes.now) }
 {

@@ -1,4 +1,4 @@
-//! What a register says: its texts, by key, each with its status; and what differs between the texts of entries.
+//! The texts of a register by key, each with its status; and what differs between the texts of entries.
 #![tactic(auto)]
 
 mod against;

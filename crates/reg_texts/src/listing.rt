@@ -12,7 +12,7 @@ use crate::saying::Saying;
 use std::alloc::{AllocError, Global};
 use wkt_crs::{read_crs, write_pretty};
 
-/// For each text of which something is said, in order: its key and its status, the indented text, and an empty line.
+/// For each text with a statement, in order: its key and its status, the indented text, and an empty line.
 pub fn listing(alloc: Global, sayings: &[Saying]) -> Result<Vec<u8>, AllocError>
     ensures { IfOk result (λ text. IsListing (map said sayings.now) text.items) }
 {
@@ -34,7 +34,7 @@ fn is_about(one: &Saying, other: &Saying) -> bool
     one.text == other.text
 }
 
-// How many of the first sayings are about the text of this one.
+// How many of the first statements are about the text of this one.
 fn run_len(first: &Saying, others: &[Saying]) -> usize
     ensures { result ≡ prefix_len (both_about first.now) others.now }
 {
@@ -119,7 +119,7 @@ fn push_successor(text: &mut Vec<u8>, saying: &Saying) -> Result<(), AllocError>
     }
 }
 
-// Appends the indented text. The text of a definition spells a value: only memory can be short.
+// Appends the indented text. The text of a definition spells a value, so this fails only if memory runs out.
 fn push_indented(alloc: Global, text: &mut Vec<u8>, canonical: &[u8]) -> Result<(), AllocError>
     ensures { OnOk result ((crs : Crs) × Spells canonical.now crs × (text.new.items ≡ text.old.items ++ pretty crs)) }
 {

@@ -1,4 +1,4 @@
-//! Texts under heads, and what differs between two of them.
+//! Texts with their header lines, and what differs between two of them.
 
 ghost use Rattle.std.specs.Prelude.{◌≡◌, ◌≢◌, ◌++◌, ◌∷◌, [], true, false, ℕ, List, IfOk, OnOk};
 ghost use Rattle.crs_value.specs.declared.crs.Crs.{Crs};

@@ -8,8 +8,7 @@ ghost use Rattle.reg_state.specs.ManyLaws.{all_seen};
 ghost use Rattle.reg_tree.specs.Chain.{AllHeld};
 
 use reg_join::Join;
-use reg_seen::Seen;
-use reg_state::Piece;
+use reg_state::{Piece, Seen};
 use std::alloc::{AllocError, Global};
 
 /// What pieces need if they are joined one after another.

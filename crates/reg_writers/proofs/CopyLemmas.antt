@@ -13,8 +13,8 @@ use Rattle.reg_op.specs.Contents.{Content, state, joined}
 use Rattle.reg_op.specs.Lists.{has}
 use Rattle.reg_op.proofs.OpLemmas.{op_total}
 use Rattle.reg_op.proofs.ContentLemmas.{contains_op-union, ids_has, OneBody-within, union_within, union_left, union_right, joined-state, state-empty}
-use Rattle.reg_seen.specs.Runs.{replica_cmp, id_at}
-use Rattle.reg_seen.proofs.RunLemmas.{same_replica, replica_itself}
+use Rattle.reg_state.specs.Runs.{replica_cmp, id_at}
+use Rattle.reg_state.proofs.RunLemmas.{same_replica, replica_itself}
 use Rattle.reg_office.specs.declared.fault.OfficeFault.{OfficeFault}
 use Rattle.reg_office.specs.Making.{greatest, made}
 use Rattle.reg_office.proofs.NumberLemmas.{numbered_on, count-greatest}

@@ -2,7 +2,9 @@
 #![tactic(auto)]
 
 mod copies;
+mod refused;
 mod registers;
 
 pub use copies::office_files_suffice;
+pub use refused::what_is_behind_is_refused;
 pub use registers::nothing_printed_is_lost;

@@ -1,8 +1,8 @@
 //! Tests of marks and their joins.
 
 use reg_join::{Join, join_all};
-use reg_marks::{Mark, Marks, Target};
 use reg_op::OpId;
+use reg_state::{Mark, Marks, Target};
 use std::alloc::Global;
 use std::process::Abort;
 

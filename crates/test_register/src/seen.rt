@@ -2,7 +2,7 @@
 
 use reg_join::{Join, join_all};
 use reg_op::OpId;
-use reg_seen::{Run, Seen};
+use reg_state::{Run, Seen};
 use std::alloc::Global;
 use std::process::Abort;
 use uuid::Uuid;

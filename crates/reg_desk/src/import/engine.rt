@@ -1,13 +1,14 @@
 //! The command `import` on a register in a file or on a shelf.
 
 ghost use Rattle.std.specs.Prelude.{map, OnOk, IfErr};
-ghost use Rattle.reg_desk.specs.ImportEngines.{IsTold, IsUntold, kept_in, only_read, IsImported, IsUnimported};
+ghost use Rattle.reg_desk.specs.ImportEngines.{IsTold, IsUntold, kept_in, tried_in, IsImported, IsUnimported};
 
 use super::fault::Unimported;
 use super::order::Order;
 use super::ready::{Ready, make_ready};
+use super::room::HasRoom;
 use byte_io::{Sink, Source, write_all};
-use reg_engine::{CliFault, Keep, OutFault, Store};
+use reg_engine::{CliFault, Keep, OutFault};
 use std::alloc::Global;
 
 // Writes the lines, and returns the fault of the texts that were passed over.
@@ -74,8 +75,8 @@ pub fn run_import<T: Keep, F: Source, K: Sink>(
     }
 }
 
-/// The same without keeping the register: the lines are those of the import.
-pub fn try_import<T: Store, F: Source, K: Sink>(
+/// The same without keeping the register: if the store has room for it, the lines are those of the import.
+pub fn try_import<T: HasRoom, F: Source, K: Sink>(
     alloc: Global,
     store: &mut T,
     files: &mut [F],
@@ -83,9 +84,9 @@ pub fn try_import<T: Store, F: Source, K: Sink>(
     sink: &mut K,
 ) -> Result<(), Unimported>
     ensures same { T.same store.old store.new }
-    ensures imported { OnOk result (IsImported (only_read (T.around store.old store.new) (K.state sink.old) (K.state sink.new))
+    ensures imported { OnOk result (IsImported (tried_in (T.around store.old store.new) (T.room store.old store.new) (K.state sink.old) (K.state sink.new))
         order.now (T.next store.old) (map F.state files.old) (map F.state files.new)) }
-    ensures fault { IfErr result (IsUnimported (only_read (T.around store.old store.new) (K.state sink.old) (K.state sink.new))
+    ensures fault { IfErr result (IsUnimported (tried_in (T.around store.old store.new) (T.room store.old store.new) (K.state sink.old) (K.state sink.new))
         order.now (T.next store.old) (map F.state files.old) (map F.state files.new)) }
 {
     let next = store.next();
@@ -94,13 +95,16 @@ pub fn try_import<T: Store, F: Source, K: Sink>(
         Err(fault) => return Err(Unimported::plain(alloc, fault)),
     };
     let Ready {
-        register: _,
+        register,
         lines,
         passed,
     } = match make_ready(alloc, register, next, order, files) {
         Ok(ready) => ready,
         Err(why) => return Err(why),
     };
+    if let Err(fault) = store.has_room(alloc, &register) {
+        return Err(Unimported::plain(alloc, fault));
+    }
     match tell(alloc, &lines, passed, sink) {
         Ok(()) => Ok(()),
         Err(why) => Err(why),

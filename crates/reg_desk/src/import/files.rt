@@ -4,8 +4,7 @@ ghost use Rattle.std.specs.Prelude.{◌≡◌, ◌++◌, ◌∷◌, [], map, IfO
 ghost use Rattle.reg_desk.specs.ImportFiles.{bytes_of, GiveAll, AreUnread};
 
 use byte_io::Source;
-use desk_files::read_whole;
-use reg_engine::CliFault;
+use reg_engine::{CliFault, read_whole};
 use std::alloc::Global;
 
 /// The bytes of each file, in order; the first file has this number.

@@ -6,13 +6,13 @@ ghost use Rattle.std.specs.List.{count_by, prefix_len};
 ghost use Rattle.std.specs.List.Sorted.{IsPartitionPoint};
 ghost use Rattle.reg_op.specs.Lists.{ById};
 ghost use Rattle.reg_op.specs.Operations.{Op as Operation};
-ghost use Rattle.reg_seen.specs.Runs.{ids_of_runs, AreRuns};
-ghost use Rattle.reg_seen.specs.Walks.{spans_of};
-ghost use Rattle.reg_seen.specs.declared.run.Run.{Run as OneRun};
+ghost use Rattle.reg_state.specs.Runs.{ids_of_runs, AreRuns};
+ghost use Rattle.reg_state.specs.Walks.{spans_of};
+ghost use Rattle.reg_state.specs.declared.run.Run.{Run as OneRun};
 ghost use Rattle.reg_query.specs.Offices.{is_of, is_op_of, is_below, is_same_replica};
 
 use reg_op::Op;
-use reg_seen::Run;
+use reg_state::Run;
 use uuid::Uuid;
 
 fn is_run_below(run: &Run, replica: Uuid) -> bool

@@ -2,10 +2,10 @@
 
 ghost use Rattle.std.specs.Prelude.{◌≡◌, IfOk};
 ghost use Rattle.reg_op.specs.Set as set;
-ghost use Rattle.reg_seen.specs.Runs.{replica_cmp, seen_of, AreRuns};
+ghost use Rattle.reg_state.specs.Runs.{replica_cmp, seen_of, AreRuns};
 ghost use Rattle.reg_query.specs.Offices.{replicas_of};
 
-use reg_seen::Run;
+use reg_state::Run;
 use std::alloc::{AllocError, Global};
 use uuid::Uuid;
 

@@ -1,7 +1,7 @@
 use Rattle.std.specs.Prelude.{◌≢◌, ◌↔◌, [], ℕ, List, IsTrue}
 use Rattle.std.proofs.Common.{refl, inl, inr, subst}
 use Rattle.byte_io.specs.Whole.{WritesAll, IsCutAt}
-use Rattle.desk_files.specs.Bytes.{IsUnread}
+use Rattle.reg_engine.specs.WholeFile.{IsUnread}
 use Rattle.reg_texts.specs.Given.{IsFileAgainst, IsFileUnread}
 use Rattle.desk_texts.specs.With.{IsRefusedIn}
 use Rattle.desk_texts.proofs.with.run_compared_with.Goals as goal

@@ -1,5 +1,5 @@
 use Rattle.std.proofs.Common.{ℕ, ◌+◌, ◌++◌, ◌≤◌, List, length, ap, sym, subst, ◌∙◌}
-use Rattle.reg_seen.specs.Runs.{id_at}
+use Rattle.reg_state.specs.Runs.{id_at}
 use Rattle.reg_office.specs.Making.{numbered}
 use Rattle.reg_import.specs.declared.known.Known.{Known}
 use Rattle.reg_import.specs.declared.reading.Reading.TheVariants as reading

@@ -1,4 +1,4 @@
-use Rattle.reg_seen.specs.Runs.{id_at}
+use Rattle.reg_state.specs.Runs.{id_at}
 use Rattle.reg_import.specs.Index.{bucket_seen}
 use Rattle.reg_import.proofs.StepLemmas.{told_is}
 use Rattle.reg_import.proofs.told.told_of.Goals as goal

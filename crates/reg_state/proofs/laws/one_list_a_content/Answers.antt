@@ -1,4 +1,4 @@
-use Rattle.reg_seen.proofs.CanonLemmas.{same_runs}
+use Rattle.reg_state.proofs.CanonLemmas.{same_runs}
 use Rattle.reg_state.proofs.ManyLemmas.{same_ops}
 use Rattle.reg_state.proofs.laws.one_list_a_content.Goals as goal
 

@@ -1,5 +1,5 @@
 use Rattle.std.proofs.Common.{sym}
-use Rattle.reg_marks.proofs.OrderLemmas.{any_at}
+use Rattle.reg_state.proofs.OrderLemmas.{any_at}
 use Rattle.reg_state.proofs.marks.is_marked.Goals as goal
 
 pub returns-in-Some : goal.returns-in-Some

@@ -3,7 +3,7 @@ use Rattle.reg_op.specs.Set as set
 use Rattle.reg_op.specs.Ids.{is_before}
 use Rattle.reg_op.specs.Operations.{replaces}
 use Rattle.std.specs.List.{list_any}
-use Rattle.reg_marks.specs.Marks.{is_at}
+use Rattle.reg_state.specs.MarkSets.{is_at}
 use Rattle.reg_state.specs.Marks.{op_of}
 use Rattle.reg_state.proofs.MarkLemmas.{replaced_enter, replaced_supersede}
 use Rattle.reg_state.proofs.marks.is_replaced.Goals as goal

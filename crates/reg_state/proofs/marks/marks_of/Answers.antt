@@ -1,8 +1,8 @@
 use Rattle.std.proofs.Common.{List, ap, ◌∙◌}
 use Rattle.std.proofs.lemmas.Result.{IfOk-weaker}
 use Rattle.reg_op.specs.Set as set
-use Rattle.reg_marks.specs.declared.mark.Mark.{Mark}
-use Rattle.reg_marks.specs.Marks.{mark_cmp, least}
+use Rattle.reg_state.specs.declared.mark.Mark.{Mark}
+use Rattle.reg_state.specs.MarkSets.{mark_cmp, least}
 use Rattle.reg_state.proofs.MarkLemmas.{marks_whole}
 use Rattle.reg_state.proofs.marks.marks_of.Goals as goal
 

@@ -1,6 +1,6 @@
 use Rattle.std.proofs.Common.{◌≡◌, ◌+◌, ◌≤◌, subst, Err, sym, ap, ◌∙◌}
 use Rattle.reg_op.specs.declared.operation.OpBody.TheVariants as body
-use Rattle.reg_seen.specs.Runs.{id_at}
+use Rattle.reg_state.specs.Runs.{id_at}
 use Rattle.reg_office.specs.Making.{greatest}
 use Rattle.reg_office.proofs.NumberLemmas.{one_made, one_joins, enter_done}
 use Rattle.reg_state.proofs.TableLemmas.{ok_not_err}

@@ -1,5 +1,5 @@
 use Rattle.std.proofs.Common.{◌≡◌, ◌-◌, length}
-use Rattle.reg_seen.specs.Walks.{spans_of}
+use Rattle.reg_state.specs.Walks.{spans_of}
 use Rattle.reg_query.proofs.figures.counting.less.Given as goal
 
 abbrev pub invariant-loop-run : goal.invariant-loop-run

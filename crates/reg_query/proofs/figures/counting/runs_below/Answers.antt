@@ -1,6 +1,6 @@
 use Rattle.std.proofs.Common.{rules}
 use Rattle.std.proofs.lemmas.List.Sorted.{IsPartitionPoint-from_clause}
-use Rattle.reg_seen.specs.declared.run.Run.{Run}
+use Rattle.reg_state.specs.declared.run.Run.{Run}
 use Rattle.reg_query.specs.Offices.{is_below}
 use Rattle.reg_query.proofs.SeenLemmas.{runs_parted}
 use Rattle.reg_query.proofs.figures.counting.runs_below.Goals as goal

@@ -3,7 +3,7 @@ use Rattle.std.specs.List.{count_by}
 use Rattle.reg_op.specs.Set as set
 use Rattle.reg_op.specs.Ids.{Id, Ids}
 use Rattle.reg_op.specs.Operations.{Op}
-use Rattle.reg_seen.specs.Runs.{IsGreatest}
+use Rattle.reg_state.specs.Runs.{IsGreatest}
 use Rattle.reg_query.specs.Offices.{is_of, is_op_of}
 use Rattle.reg_query.proofs.SeenLemmas.{ids_are}
 use Rattle.reg_query.proofs.figures.office.office_of.Goals as goal

@@ -1,5 +1,5 @@
 use Rattle.std.proofs.Common.{◌≡◌, map, take}
-use Rattle.reg_seen.specs.declared.run.Run.{Run}
+use Rattle.reg_state.specs.declared.run.Run.{Run}
 use Rattle.reg_query.proofs.figures.replicas.replicas_of.Given as goal
 
 abbrev pub invariant-loop-run : goal.invariant-loop-run

@@ -4,8 +4,8 @@ use Rattle.reg_op.specs.Finite.{any}
 use Rattle.reg_op.specs.Operations.{Op}
 use Rattle.reg_op.specs.Ids.{is_same}
 use Rattle.reg_op.specs.Status.{status, is_enter}
-use Rattle.reg_marks.specs.declared.mark.Mark.{Mark}
-use Rattle.reg_marks.specs.Marks.{is_at}
+use Rattle.reg_state.specs.declared.mark.Mark.{Mark}
+use Rattle.reg_state.specs.MarkSets.{is_at}
 use Rattle.reg_state.proofs.TableLemmas.{status_at, status_by}
 use Rattle.reg_state.proofs.register.Register.status.Goals as goal
 

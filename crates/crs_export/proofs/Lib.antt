@@ -1,0 +1,3 @@
+mod JoinLemmas
+mod EndLemmas
+mod HeldLemmas

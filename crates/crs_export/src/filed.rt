@@ -1,0 +1,26 @@
+//! What PROJ's tables take of an entry.
+
+use crate::table::Table;
+use crs_number::Decimal;
+
+/// An entry's key and text.
+#[derive(Clone, Copy)]
+pub struct Keyed<'a> {
+    pub authority: &'a [u8],
+    pub code: &'a [u8],
+    /// The canonical text.
+    pub text: &'a [u8],
+    /// The number that SQLite reads in the code.
+    pub number: Option<Decimal>,
+}
+
+/// What PROJ's tables take of an entry.
+#[derive(Drop)]
+pub struct Filed<'a> {
+    /// The printed id.
+    pub entry: Vec<u8>,
+    pub name: &'a [u8],
+    pub keyed: Keyed<'a>,
+    /// The table, if there is one for the kind of the reference system.
+    pub table: Option<Table>,
+}

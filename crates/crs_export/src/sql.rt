@@ -1,0 +1,143 @@
+//! Statements that put reference systems into PROJ's tables.
+
+ghost use Rattle.std.specs.Prelude.{◌≡◌, ◌++◌, ◌∷◌, [], map, IfOk, OnOk};
+ghost use Rattle.text_quotes.specs.Sql.{quoted};
+ghost use Rattle.crs_export.specs.declared.markup.TheConstants as markup;
+ghost use Rattle.crs_export.specs.Sql.{start_of, type_of, row, insertion, on_line, comment, inserted_as, line_as, lines, sql};
+
+use crate::filed::Filed;
+use crate::markup::{
+    COMMA, GEOCENTRIC, GEODETIC, GEOGRAPHIC_2D, GEOGRAPHIC_3D, LEFT_OUT, OTHER, PROJECTED, ROW_END,
+    SQL_END, SQL_START,
+};
+use crate::table::Table;
+use crate::verdict::{Verdict, judge};
+use std::alloc::{AllocError, Global};
+use std::collections::BTreeMap;
+use text_quotes::push_sql;
+
+fn start_of(table: Table) -> &'static [u8]
+    ensures { result.now ≡ start_of table }
+{
+    match table {
+        Table::Geographic2d | Table::Geographic3d | Table::Geocentric | Table::OtherGeodetic => {
+            GEODETIC
+        }
+        Table::Projected => PROJECTED,
+    }
+}
+
+fn type_of(table: Table) -> &'static [u8]
+    ensures { result.now ≡ type_of table }
+{
+    match table {
+        Table::Geographic2d => GEOGRAPHIC_2D,
+        Table::Geographic3d => GEOGRAPHIC_3D,
+        Table::Geocentric => GEOCENTRIC,
+        Table::OtherGeodetic => OTHER,
+        Table::Projected => COMMA,
+    }
+}
+
+// Appends constant bytes and a text.
+fn push_field(text: &mut Vec<u8>, before: &[u8], value: &[u8]) -> Result<(), AllocError>
+    ensures { OnOk result (text.new.items ≡ text.old.items ++ (before.now ++ quoted value.now)) }
+{
+    text.extend_from_slice(before)?;
+    push_sql(text, value)?;
+    Ok(())
+}
+
+// Appends a row between the start of a statement and the type of the row.
+fn push_between(
+    text: &mut Vec<u8>,
+    start: &[u8],
+    filed: &Filed<'_>,
+    kind: &[u8],
+) -> Result<(), AllocError>
+    ensures { OnOk result (text.new.items ≡ text.old.items ++ row start.now filed.now kind.now) }
+{
+    push_field(text, start, filed.keyed.authority)?;
+    push_field(text, COMMA, filed.keyed.code)?;
+    push_field(text, COMMA, filed.name)?;
+    push_field(text, kind, filed.keyed.text)?;
+    text.extend_from_slice(ROW_END)?;
+    Ok(())
+}
+
+fn push_insertion(text: &mut Vec<u8>, filed: &Filed<'_>, table: Table) -> Result<(), AllocError>
+    ensures { OnOk result (text.new.items ≡ text.old.items ++ insertion filed.now table) }
+{
+    push_between(text, start_of(table), filed, type_of(table))?;
+    Ok(())
+}
+
+fn on_line(byte: u8) -> u8
+    ensures { result ≡ on_line byte }
+{
+    if byte < 32 { b' ' } else { byte }
+}
+
+fn push_on_line(text: &mut Vec<u8>, bytes: &[u8]) -> Result<(), AllocError>
+    ensures { OnOk result (text.new.items ≡ text.old.items ++ map on_line bytes.now) }
+{
+    for byte in bytes {
+        text.push(on_line(*byte))?;
+    }
+    Ok(())
+}
+
+fn push_comment(text: &mut Vec<u8>, filed: &Filed<'_>) -> Result<(), AllocError>
+    ensures { OnOk result (text.new.items ≡ text.old.items ++ comment filed.now) }
+{
+    text.extend_from_slice(LEFT_OUT)?;
+    text.extend_from_slice(&filed.entry)?;
+    text.push(b' ')?;
+    push_on_line(text, filed.name)?;
+    text.push(b'\n')?;
+    Ok(())
+}
+
+fn push_inserted(text: &mut Vec<u8>, filed: &Filed<'_>) -> Result<(), AllocError>
+    ensures { OnOk result (text.new.items ≡ text.old.items ++ inserted_as filed.now filed.now.table) }
+{
+    match filed.table {
+        Some(table) => push_insertion(text, filed, table),
+        None => Ok(()),
+    }
+}
+
+fn push_line(text: &mut Vec<u8>, filed: &Filed<'_>, as_is: Verdict) -> Result<(), AllocError>
+    ensures { OnOk result (text.new.items ≡ text.old.items ++ line_as filed.now as_is) }
+{
+    match as_is {
+        Verdict::Insert => push_inserted(text, filed),
+        Verdict::Again => Ok(()),
+        Verdict::LeftOut => push_comment(text, filed),
+    }
+}
+
+fn push_lines(alloc: Global, text: &mut Vec<u8>, filed: &[Filed<'_>]) -> Result<(), AllocError>
+    ensures { OnOk result (text.new.items ≡ text.old.items ++ lines [] filed.now) }
+{
+    let mut held = BTreeMap::new(alloc);
+    let mut index = 0;
+    while index < filed.len() {
+        let one = &filed[index];
+        let verdict = judge(&mut held, one)?;
+        push_line(text, one, verdict)?;
+        index += 1;
+    }
+    Ok(())
+}
+
+/// The statements that insert these entries, between `BEGIN` and `COMMIT`.
+pub fn sql_text(alloc: Global, filed: &[Filed<'_>]) -> Result<Vec<u8>, AllocError>
+    ensures { IfOk result (λ text. text.items ≡ sql filed.now) }
+{
+    let mut text = Vec::new(alloc);
+    text.extend_from_slice(SQL_START)?;
+    push_lines(alloc, &mut text, filed)?;
+    text.extend_from_slice(SQL_END)?;
+    Ok(text)
+}

@@ -1,0 +1,157 @@
+//! Who changes a register: an office by its UUID, or one that works through its office file.
+use crate::stopped::put_left;
+use crate::words::{replica, word};
+use byte_out::Place;
+use clap::ArgMatches;
+use clap::parser::ValueSource;
+use reg_desk::{CliFault, FileId, Lockable, OutFault, Reading, Writing};
+use reg_guard::{GuardFault, LastNumber, OfficePlace, last_of, lock_office, run_office, unopened};
+use std::alloc::Global;
+use std::random::RandomSource;
+use std::rt::Files;
+use std::{fs, io};
+use uuid::Uuid;
+
+/// The office file of a command, if it has one. The command line comes before the environment, where an office file comes before a
+/// UUID.
+pub fn office_file<'a>(matches: &ArgMatches<'a>) -> Option<&'a str> {
+    match matches.get_str("office") {
+        Some(file) if matches.value_source("as") != Some(ValueSource::CommandLine) => Some(file),
+        _ => None,
+    }
+}
+
+/// The UUID of the office, unless it is in the office file.
+pub fn office_named(matches: &ArgMatches<'_>) -> Result<Option<Uuid>, CliFault> {
+    if office_file(matches).is_some() {
+        return Ok(None);
+    }
+    match replica(word(matches, "as")) {
+        Ok(replica) => Ok(Some(replica)),
+        Err(fault) => Err(fault),
+    }
+}
+
+/// How many files are numbered before the register: the office file is file 1.
+pub fn files_before(matches: &ArgMatches<'_>) -> usize {
+    match office_file(matches) {
+        Some(_) => 1,
+        None => 0,
+    }
+}
+
+/// An office that can make operations.
+#[derive(Drop)]
+pub struct Desk<Q> {
+    pub replica: Uuid,
+    pub file: Option<OfficeFile<Q>>,
+}
+
+/// The last number of an office, and the place of its office file, where the new one is made already.
+#[derive(Drop)]
+pub struct OfficeFile<Q> {
+    pub last: LastNumber,
+    pub place: Q,
+}
+
+impl<Q: Place> Desk<Q> {
+    /// Removes the new office file, unless it has replaced the old one.
+    pub fn close(&mut self) {
+        if let Some(file) = &mut self.file {
+            file.place.remove();
+        }
+    }
+}
+
+/// The desk of the office with this UUID, or else of the command's office file. The new office file is made first, and the old one
+/// is read then: otherwise two commands could read one number. Then OUT is as the last command of the office meant to leave it.
+pub fn open_desk<'a, R: Files>(
+    rt: &'a R,
+    alloc: Global,
+    matches: &ArgMatches<'_>,
+    named: Option<Uuid>,
+) -> Result<Desk<OfficePlace<'a, R>>, GuardFault>
+where
+    R::File: Lockable,
+{
+    if let Some(replica) = named {
+        return Ok(Desk {
+            replica,
+            file: None,
+        });
+    }
+    let path = word(matches, "office");
+    let Ok(mut place) = OfficePlace::beside(alloc, rt, path) else {
+        return Err(GuardFault::Command(CliFault::Memory));
+    };
+    if let Err(fault) = lock_office(&mut place) {
+        return Err(fault);
+    }
+    let last = match read(rt, alloc, path) {
+        Ok(last) => last,
+        Err(fault) => {
+            place.remove();
+            return Err(fault);
+        }
+    };
+    if !matches.get_flag("shelf") && !matches.get_flag("dry-run") {
+        put_left(rt, alloc, &last, word(matches, "out"));
+    }
+    Ok(Desk {
+        replica: last.replica(),
+        file: Some(OfficeFile { last, place }),
+    })
+}
+
+fn read<R: Files>(rt: &R, alloc: Global, path: &str) -> Result<LastNumber, GuardFault> {
+    match fs::open(rt, path) {
+        Ok(file) => last_of(alloc, &mut Reading::new(file)),
+        Err(_) => Err(unopened()),
+    }
+}
+
+/// Whether OUT is the office file or its new one, by any name.
+pub fn is_out<R: Files>(rt: &R, alloc: Global, out: &str, path: &str) -> Result<bool, CliFault> {
+    let Ok(place) = OfficePlace::beside(alloc, rt, path) else {
+        return Err(CliFault::Memory);
+    };
+    Ok(is_same(rt, out, place.path()) || is_same(rt, out, place.made()))
+}
+
+// Whether two paths name one file, which may not exist yet.
+fn is_same<R: Files>(rt: &R, a: &str, b: &str) -> bool {
+    if a == b {
+        return true;
+    }
+    match (FileId::at(rt, a), FileId::at(rt, b)) {
+        (Some(file), Some(other)) => file == other,
+        (None, None) => {
+            let (folder, name) = parts(a);
+            let (other, other_name) = parts(b);
+            name == other_name && FileId::at(rt, folder) == FileId::at(rt, other)
+        }
+        _ => false,
+    }
+}
+
+// The folder of a path, and its last part.
+fn parts(path: &str) -> (&str, &str) {
+    match path.rsplit_once('/') {
+        Some(("", name)) => ("/", name),
+        Some((folder, name)) => (folder, name),
+        None => (".", path),
+    }
+}
+
+/// `office`.
+pub fn office(rt: &HostRuntime, matches: &ArgMatches<'_>) -> Result<(), CliFault> {
+    let mut random = [0; 16];
+    if rt.fill_bytes(&mut random).is_err() {
+        return Err(CliFault::Out(OutFault::NotOpened));
+    }
+    let Ok(mut place) = OfficePlace::anew(rt.alloc(), rt, word(matches, "NEW")) else {
+        return Err(CliFault::Memory);
+    };
+    let mut sink = Writing::new(io::writer(rt));
+    run_office(rt.alloc(), random, &mut place, &mut sink)
+}

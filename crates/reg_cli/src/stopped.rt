@@ -1,0 +1,79 @@
+//! Puts a new register in place that a stopped command of the office left beside OUT.
+use crate::inputs::real_path;
+use reg_desk::{FileId, Lock, Lockable, Reading};
+use reg_guard::{LastNumber, has_last};
+use std::alloc::Global;
+use std::fs::{self, OpenOptions};
+use std::io::ErrorKind;
+use std::os::unix::fs::MetadataExt;
+use std::rt::Files;
+
+/// Renames `OUT.new` to OUT if a command of the office was stopped just before that: `OUT.new` has seen the number in the office
+/// file, and OUT has not, or is not there. Otherwise it does nothing.
+pub fn put_left<R: Files>(rt: &R, alloc: Global, last: &LastNumber, out: &str)
+where
+    R::File: Lockable,
+{
+    // An office that has given no number was not stopped after one.
+    if last.count() == 0 || out.starts_with("/dev/") || out.starts_with("/proc/") {
+        return;
+    }
+    match real_path(rt, alloc, out) {
+        Ok(Some(path)) => put_left_at(rt, alloc, last, path.as_str()),
+        Ok(None) => put_left_at(rt, alloc, last, out),
+        Err(_) => {}
+    }
+}
+
+fn put_left_at<R: Files>(rt: &R, alloc: Global, last: &LastNumber, path: &str)
+where
+    R::File: Lockable,
+{
+    let Ok(beside) = format!(in alloc; "{path}.new") else {
+        return;
+    };
+    let Some(file) = left_file(rt, beside.as_str()) else {
+        return;
+    };
+    // The lock ends with the file.
+    let mut left = Reading::new(file);
+    if has_last(alloc, last, &mut left).unwrap_or(false) && lacks_last(rt, alloc, last, path) {
+        let _ = fs::rename(rt, beside.as_str(), path);
+    }
+}
+
+// The file with this name, locked, if a command that has ended may have left it. A link, or a file with a second name, is another
+// file.
+fn left_file<R: Files>(rt: &R, path: &str) -> Option<R::File>
+where
+    R::File: Lockable,
+{
+    match fs::symlink_metadata(rt, path) {
+        Ok(there) if there.is_file() && there.nlink() == 1 => {}
+        _ => return None,
+    }
+    let file = OpenOptions::new()
+        .read(true)
+        .write(true)
+        .open(rt, path)
+        .ok()?;
+    if file.lock_alone() != Lock::Taken {
+        return None;
+    }
+    match FileId::at(rt, path) {
+        Some(id) if id.is_of(&file) => Some(file),
+        _ => None,
+    }
+}
+
+// Whether there is no file with this name, or one with a register that has not seen the number.
+fn lacks_last<R: Files>(rt: &R, alloc: Global, last: &LastNumber, path: &str) -> bool {
+    match fs::symlink_metadata(rt, path) {
+        Ok(there) if there.is_file() => match fs::open(rt, path) {
+            Ok(file) => !has_last(alloc, last, &mut Reading::new(file)).unwrap_or(true),
+            Err(_) => false,
+        },
+        Ok(_) => false,
+        Err(error) => error.kind() == ErrorKind::NotFound,
+    }
+}

@@ -1,0 +1,3 @@
+mod EachLemmas
+mod AmongLemmas
+mod DrawnLemmas

@@ -1,0 +1,30 @@
+-- What is handed on of a content as a text.
+use Rattle.std.specs.Prelude.{◌≡◌, ℕ, Bool, false, List, Option, None}
+use Rattle.reg_op.specs.Contents.{Content}
+use Rattle.reg_op.specs.Ids.{Id}
+use Rattle.reg_op.specs.Rows.{Row}
+use Rattle.reg_query.specs.Found.{AreFoundIn}
+use Rattle.reg_handing.specs.declared.choice.Choice.{Choice}
+use Rattle.reg_handing.specs.Choice.{asked}
+use Rattle.reg_handing.specs.Chosen.{AreChosen}
+use Rattle.reg_formats.specs.declared.engine.Format.{Format}
+use Rattle.reg_formats.specs.declared.engine.Format.TheVariants as format
+use Rattle.reg_formats.specs.Geojson.{IsGeojson}
+use Rattle.reg_formats.specs.ProjSql.{IsSql}
+
+-- the text of some rows
+abbrev pub IsTextIn : Format → List Row → List ℕ → Type 0
+IsTextIn format.Geojson rs text = IsGeojson rs text
+IsTextIn format.ProjSql rs text = IsSql rs text
+
+-- the text of the rows whose keys have one text. Only with `keep_going` may there be others, and the least entry of the least such
+-- key is named
+pub record IsHanded (format : Format) (keep_going : Bool) (found : List Row) (taken : Option Id) (text : List ℕ) : Type 0 where
+  pub kept : List Row
+  pub chosen : AreChosen found kept taken
+  pub all : keep_going ≡ false → taken ≡ None
+  pub is : IsTextIn format kept text
+
+-- the same of the chosen entries of a content
+abbrev pub HandsText : Format → Choice → Bool → Option Id → Content → List ℕ → Type 0
+HandsText format c keep_going taken x text = (found : List Row) × AreFoundIn x (asked c) found × IsHanded format keep_going found taken text

@@ -1,0 +1,5 @@
+pub mod Titles
+pub mod Geojson
+pub mod ProjSql
+pub mod Graph
+pub mod Handed

@@ -1,0 +1,10 @@
+//! A register for other programs: as GeoJSON, as SQL for PROJ, and as a graph.
+#![tactic(auto)]
+
+mod engine;
+mod geojson;
+mod graph;
+mod proj_sql;
+mod title;
+
+pub use engine::{Format, Graph, run_handed};

@@ -1,5 +1,0 @@
-pub mod CoverLemmas
-pub mod FirstLemmas
-pub mod InsertLemmas
-pub mod OrderLemmas
-pub mod MergeLemmas

@@ -1,9 +1,0 @@
-use Rattle.std.proofs.Common.{List, sym, subst}
-use Rattle.reg_marks.specs.declared.mark.Mark.{Mark}
-use Rattle.reg_marks.specs.Marks.{AreMarks}
-use Rattle.reg_marks.specs.MarkLaws.{least-empty}
-use Rattle.reg_marks.proofs.FirstLemmas.{empty_sorted}
-use Rattle.reg_marks.proofs.marks.Marks.new.Goals as goal
-
-pub invariant_of-result : goal.invariant_of-result
-invariant_of-result c = subst (λ (xs : List Mark). AreMarks xs) (sym c.new.ensures.items) (record { sorted = empty_sorted; are_least = least-empty })

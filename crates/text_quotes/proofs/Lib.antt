@@ -1,0 +1,3 @@
+pub mod DotLemmas
+pub mod JsonLemmas
+pub mod SqlLemmas

@@ -1,0 +1,4 @@
+pub mod Scanned
+pub mod Json
+pub mod Dot
+pub mod Sql

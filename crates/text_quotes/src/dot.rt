@@ -1,0 +1,33 @@
+//! Labels of DOT.
+
+ghost use Rattle.std.specs.Prelude.{◌≡◌, ◌++◌, OnOk};
+ghost use Rattle.text_quotes.specs.Dot.{escaped_byte, escaped, quoted};
+
+use std::alloc::AllocError;
+
+fn push_byte(text: &mut Vec<u8>, byte: u8) -> Result<(), AllocError>
+    ensures { OnOk result (text.new.items ≡ text.old.items ++ escaped_byte byte) }
+{
+    match byte {
+        b'"' => text.extend_from_slice(b"\\\""),
+        b'\\' => text.extend_from_slice(b"\\\\"),
+        b'\n' => text.extend_from_slice(b"\\n"),
+        b'&' => text.extend_from_slice(b"&amp;"),
+        _ => {
+            text.push(byte)?;
+            Ok(())
+        }
+    }
+}
+
+/// Appends a text of a label, without quotation marks.
+pub fn push_dot(text: &mut Vec<u8>, bytes: &[u8]) -> Result<(), AllocError>
+    ensures { OnOk result (text.new.items ≡ text.old.items ++ escaped bytes.now) }
+{
+    let mut rest = bytes;
+    while let Some((byte, others)) = rest.split_first() {
+        push_byte(text, *byte)?;
+        rest = others;
+    }
+    Ok(())
+}

@@ -1,0 +1,11 @@
+//! Texts between quotation marks in JSON, SQL and DOT.
+#![tactic(auto)]
+
+mod dot;
+mod json;
+pub mod laws;
+mod sql;
+
+pub use dot::push_dot;
+pub use json::push_json;
+pub use sql::push_sql;
