@@ -10,24 +10,24 @@ use Rattle.byte_io.specs.Whole.{FailedOrTookNone}
 use Rattle.byte_io.specs.Publish.{Publishes, IsPublishFault}
 use Rattle.byte_io.specs.declared.fault.PublishFault.{PublishFault}
 use Rattle.byte_io.specs.declared.fault.PublishFault.TheVariants as out
-use Rattle.byte_folder.specs.Folder.{File, Folders, FolderState, Told, IsAdded, Gains, contents}
+use Rattle.byte_folder.specs.Folder.{File, Folders, FolderState, IfReported, IsAdded, Gains, contents}
 use Rattle.byte_folder.specs.Put.{WritesFiles, FailsAfter, IsCut, IsFilled, Stays, Adds, IsAddFault}
 use Rattle.byte_folder.specs.declared.fault.FolderFault.TheVariants as put
 
 -- ---- folders that a place reports
 
-pub told_then : {P Q R : Folders → Folders → Type 0} → ((f g h : Folders) → P f g → Q g h → R f h) → (a b c : Option Folders) → Told P a b → Told Q b c → Told R a c
+pub told_then : {P Q R : Folders → Folders → Type 0} → ((f g h : Folders) → P f g → Q g h → R f h) → (a b c : Option Folders) → IfReported P a b → IfReported Q b c → IfReported R a c
 told_then both None b c p q = tt
 told_then both (Some f) None c p q = absurd p
 told_then both (Some f) (Some g) None p q = absurd q
 told_then both (Some f) (Some g) (Some h) p q = both f g h p q
 
-pub told_as : {P Q : Folders → Folders → Type 0} → ((f g : Folders) → P f g → Q f g) → (a b : Option Folders) → Told P a b → Told Q a b
+pub told_as : {P Q : Folders → Folders → Type 0} → ((f g : Folders) → P f g → Q f g) → (a b : Option Folders) → IfReported P a b → IfReported Q a b
 told_as weaker None b p = tt
 told_as weaker (Some f) None p = absurd p
 told_as weaker (Some f) (Some g) p = weaker f g p
 
-told_itself : (P : Folders → Folders → Type 0) → ((f : Folders) → P f f) → (a : Option Folders) → Told P a a
+told_itself : (P : Folders → Folders → Type 0) → ((f : Folders) → P f f) → (a : Option Folders) → IfReported P a a
 told_itself P self None = tt
 told_itself P self (Some f) = self f
 
@@ -67,7 +67,7 @@ added_none fs s = record {
 
 -- one more file
 pub added_more : (fs rest : List File) (f : File) (written : ℕ) (old mid new : FolderState) → Added fs (f ∷ rest) written old mid → Publishes f.bytes mid.sink new.sink
-    → Told (λ g h. Gains f g.beside h.beside × (h.stands ≡ g.stands) × (h.stuck ≡ g.stuck)) mid.folders new.folders → Added fs rest (written + length f.bytes) old new
+    → IfReported (λ g h. Gains f g.beside h.beside × (h.stands ≡ g.stands) × (h.stuck ≡ g.stuck)) mid.folders new.folders → Added fs rest (written + length f.bytes) old new
 added_more fs rest f written old mid new before published told =
     let w = before.adds.0 in
     record {
@@ -92,12 +92,12 @@ added_more fs rest f written old mid new before published told =
       );
     }
 
-stays_then : (fs : List File) (old mid new : Option Folders) → Told (IsFilled fs) old mid → Told (λ g h. (h.stands ≡ g.stands) × (h.stuck ≡ g.stuck)) mid new → Told Stays old new
+stays_then : (fs : List File) (old mid new : Option Folders) → IfReported (IsFilled fs) old mid → IfReported (λ g h. (h.stands ≡ g.stands) × (h.stuck ≡ g.stuck)) mid new → IfReported Stays old new
 stays_then fs = told_then {Q = λ g h. (h.stands ≡ g.stands) × (h.stuck ≡ g.stuck)} (λ a b c p q. (q.0 ∙ p.1, q.1 ∙ p.2))
 
 -- a file that was not made
 pub not_made : (fs rest : List File) (f : File) (written : ℕ) (old mid new : FolderState) → Added fs (f ∷ rest) written old mid → IsPublishFault f.bytes mid.sink new.sink out.NotOpened
-    → Told (λ g h. (h.stands ≡ g.stands) × (h.stuck ≡ g.stuck)) mid.folders new.folders → IsAddFault fs old new put.NotOpened
+    → IfReported (λ g h. (h.stands ≡ g.stands) × (h.stuck ≡ g.stuck)) mid.folders new.folders → IsAddFault fs old new put.NotOpened
 not_made fs rest f written old mid new before failed told =
     let w = before.adds.0 in (
       record {
@@ -116,7 +116,7 @@ cut_later a b rest n short = take-append-add a (b ++ contents rest) n ∙ ap (λ
 
 -- a file that was written in part
 pub cut_short : (fs rest : List File) (f : File) (written n : ℕ) (old mid new : FolderState) → Added fs (f ∷ rest) written old mid
-    → IsPublishFault f.bytes mid.sink new.sink (out.WriteFailed n) → Told (λ g h. (h.stands ≡ g.stands) × (h.stuck ≡ g.stuck)) mid.folders new.folders
+    → IsPublishFault f.bytes mid.sink new.sink (out.WriteFailed n) → IfReported (λ g h. (h.stands ≡ g.stands) × (h.stuck ≡ g.stuck)) mid.folders new.folders
     → IsAddFault fs old new (put.WriteFailed (written + n))
 cut_short fs rest f written n old mid new before failed told =
     let w = before.adds.0 in
@@ -154,7 +154,7 @@ one_file name bytes f n b = λ j. record { name = sym n j; bytes = sym b j }
 
 pub loop_more : (fs here rest : List File) (f : File) (name bytes : List ℕ) (written len : ℕ) (old mid new : FolderState) → Added fs here written old mid → here ≡ f ∷ rest → name ≡ f.name
     → bytes ≡ f.bytes → len ≡ length bytes → Publishes bytes mid.sink new.sink
-    → Told (λ g h. Gains (record { name = name; bytes = bytes }) g.beside h.beside × (h.stands ≡ g.stands) × (h.stuck ≡ g.stuck)) mid.folders new.folders
+    → IfReported (λ g h. Gains (record { name = name; bytes = bytes }) g.beside h.beside × (h.stands ≡ g.stands) × (h.stuck ≡ g.stuck)) mid.folders new.folders
     → Added fs rest (written + len) old new
 loop_more fs here rest f name bytes written len old mid new before split n b l published told =
     let f' : File = record { name = name; bytes = bytes } in
@@ -162,7 +162,7 @@ loop_more fs here rest f name bytes written len old mid new before split n b l p
     subst (λ m. Added fs rest (written + m) old new) (sym l) (added_more fs rest f' written old mid new first published told)
 
 pub loop_cut : (fs here rest : List File) (f : File) (name bytes : List ℕ) (written n : ℕ) (old mid new : FolderState) → Added fs here written old mid → here ≡ f ∷ rest → name ≡ f.name
-    → bytes ≡ f.bytes → IsPublishFault bytes mid.sink new.sink (out.WriteFailed n) → Told (λ g h. (h.stands ≡ g.stands) × (h.stuck ≡ g.stuck)) mid.folders new.folders
+    → bytes ≡ f.bytes → IsPublishFault bytes mid.sink new.sink (out.WriteFailed n) → IfReported (λ g h. (h.stands ≡ g.stands) × (h.stuck ≡ g.stuck)) mid.folders new.folders
     → IsAddFault fs old new (put.WriteFailed (written + n))
 loop_cut fs here rest f name bytes written n old mid new before split e b failed told =
     let f' : File = record { name = name; bytes = bytes } in

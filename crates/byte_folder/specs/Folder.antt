@@ -41,10 +41,10 @@ abbrev pub untold : SinkState → FolderState
 untold sink = record { sink = sink; folders = None }
 
 -- the folders changed in this way, if the place reports them
-abbrev pub Told : (Folders → Folders → Type 0) → Option Folders → Option Folders → Type 0
-Told P None new = ⊤
-Told P (Some old) None = ⊥
-Told P (Some old) (Some new) = P old new
+abbrev pub IfReported : (Folders → Folders → Type 0) → Option Folders → Option Folders → Type 0
+IfReported P None new = ⊤
+IfReported P (Some old) None = ⊥
+IfReported P (Some old) (Some new) = P old new
 
 -- there is no folder, or an empty one
 abbrev pub IsFree : Option (List File) → Type 0

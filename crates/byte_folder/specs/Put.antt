@@ -3,7 +3,7 @@ use Rattle.std.specs.Prelude.{◌≡◌, ◌⊎◌, ◌<◌, ◌≤◌, ◌+◌,
 use Rattle.std.specs.List.{list_any}
 use Rattle.byte_io.specs.Device.{SinkState}
 use Rattle.byte_io.specs.Whole.{FailedOrTookNone}
-use Rattle.byte_folder.specs.Folder.{File, Folders, FolderState, Told, IsFree, IsCleared, contents, is_long}
+use Rattle.byte_folder.specs.Folder.{File, Folders, FolderState, IfReported, IsFree, IsCleared, contents, is_long}
 use Rattle.byte_folder.specs.declared.fault.FolderFault.{FolderFault}
 use Rattle.byte_folder.specs.declared.fault.FolderFault.TheVariants as put
 
@@ -47,12 +47,12 @@ abbrev pub Stays : Folders → Folders → Type 0
 Stays old new = (new.stands ≡ old.stands) × (new.stuck ≡ old.stuck)
 
 abbrev pub Adds : List File → FolderState → FolderState → Type 0
-Adds fs old new = WritesFiles fs old.sink new.sink × Told (IsFilled fs) old.folders new.folders
+Adds fs old new = WritesFiles fs old.sink new.sink × IfReported (IsFilled fs) old.folders new.folders
 
 abbrev pub IsAddFault : List File → FolderState → FolderState → FolderFault → Type 0
-IsAddFault fs old new put.NotOpened = FailsAfter fs old.sink new.sink × Told Stays old.folders new.folders
+IsAddFault fs old new put.NotOpened = FailsAfter fs old.sink new.sink × IfReported Stays old.folders new.folders
 IsAddFault fs old new put.NewExists = ⊥
-IsAddFault fs old new (put.WriteFailed n) = IsCut n fs old.sink new.sink × Told Stays old.folders new.folders
+IsAddFault fs old new (put.WriteFailed n) = IsCut n fs old.sink new.sink × IfReported Stays old.folders new.folders
 
 -- ---- the folder, put in place
 
@@ -70,7 +70,7 @@ pub record IsKept (old new : Folders) : Type 0 where
   pub cleared : IsCleared old new
 
 abbrev pub Puts : List File → FolderState → FolderState → Type 0
-Puts fs old new = (list_any is_long fs ≡ false) × WritesFiles fs old.sink new.sink × Told (IsInPlace fs) old.folders new.folders
+Puts fs old new = (list_any is_long fs ≡ false) × WritesFiles fs old.sink new.sink × IfReported (IsInPlace fs) old.folders new.folders
 
 -- a name is too long, or the number of bytes is no number of 64 bits
 abbrev pub IsImpossible : List File → Type 0
@@ -80,8 +80,8 @@ IsImpossible fs = IsTrue (list_any is_long fs) ⊎ (2 ^ 64 ≤ length (contents 
 abbrev pub IsPutFault : List File → FolderState → FolderState → FolderFault → Type 0
 -- no folder can have the files, and nothing changed; or no new folder was made; or one was, and was removed
 IsPutFault fs old new put.NotOpened = ((new ≡ old) × IsImpossible fs)
-    ⊎ ((Fails old.sink new.sink × Told (λ f g. g ≡ f) old.folders new.folders) ⊎ (FailsAfter fs old.sink new.sink × Told IsKept old.folders new.folders))
+    ⊎ ((Fails old.sink new.sink × IfReported (λ f g. g ≡ f) old.folders new.folders) ⊎ (FailsAfter fs old.sink new.sink × IfReported IsKept old.folders new.folders))
 -- there was a new folder
-IsPutFault fs old new put.NewExists = Fails old.sink new.sink × Told (λ f g. (g ≡ f) × IsSome f.beside) old.folders new.folders
+IsPutFault fs old new put.NewExists = Fails old.sink new.sink × IfReported (λ f g. (g ≡ f) × IsSome f.beside) old.folders new.folders
 -- not all bytes were written, and the new folder was removed
-IsPutFault fs old new (put.WriteFailed n) = IsCut n fs old.sink new.sink × Told IsKept old.folders new.folders
+IsPutFault fs old new (put.WriteFailed n) = IsCut n fs old.sink new.sink × IfReported IsKept old.folders new.folders

@@ -2,7 +2,7 @@
 
 ghost use Rattle.std.specs.Prelude.{◌≡◌, OnOk, IfErr};
 ghost use Rattle.byte_io.specs.Publish.{Publishes, IsPublishFault};
-ghost use Rattle.byte_folder.specs.Folder.{FolderState, Told, CountsOnly, IsMade, IsAdded, IsPut, IsRemoved};
+ghost use Rattle.byte_folder.specs.Folder.{FolderState, IfReported, CountsOnly, IsMade, IsAdded, IsPut, IsRemoved};
 
 use crate::fault::MakeFault;
 use byte_io::{NotOpened, PublishFault};
@@ -15,23 +15,23 @@ pub trait FolderPlace {
     /// Makes the new folder, empty, if there is no folder with the name, or an empty one.
     fn make(&mut self) -> Result<(), MakeFault>
         ensures calls { CountsOnly result (state self.old).sink (state self.new).sink }
-        ensures folders { Told (IsMade result) (state self.old).folders (state self.new).folders };
+        ensures folders { IfReported (IsMade result) (state self.old).folders (state self.new).folders };
 
     /// Makes a file with this name in the new folder, and writes the bytes to it.
     fn add(&mut self, name: &[u8], bytes: &[u8]) -> Result<(), PublishFault>
         ensures ok { OnOk result (Publishes bytes.now (state self.old).sink (state self.new).sink) }
         ensures fault { IfErr result
             (IsPublishFault bytes.now (state self.old).sink (state self.new).sink) }
-        ensures folders { Told (IsAdded result name.now bytes.now)
+        ensures folders { IfReported (IsAdded result name.now bytes.now)
             (state self.old).folders (state self.new).folders };
 
     /// Renames the new folder to the old one, which it replaces.
     fn put(&mut self) -> Result<(), NotOpened>
         ensures calls { CountsOnly result (state self.old).sink (state self.new).sink }
-        ensures folders { Told (IsPut result) (state self.old).folders (state self.new).folders };
+        ensures folders { IfReported (IsPut result) (state self.old).folders (state self.new).folders };
 
     /// Removes the new folder with its files, if it can.
     fn remove(&mut self)
         ensures calls { (state self.new).sink ≡ (state self.old).sink }
-        ensures folders { Told IsRemoved (state self.old).folders (state self.new).folders };
+        ensures folders { IfReported IsRemoved (state self.old).folders (state self.new).folders };
 }

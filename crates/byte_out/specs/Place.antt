@@ -34,10 +34,10 @@ abbrev pub untold : SinkState → PlaceState
 untold sink = record { sink = sink; files = None }
 
 -- the files changed in this way, if the place reports them
-abbrev pub Told : (Files → Files → Type 0) → Option Files → Option Files → Type 0
-Told P None new = ⊤
-Told P (Some old) None = ⊥
-Told P (Some old) (Some new) = P old new
+abbrev pub IfReported : (Files → Files → Type 0) → Option Files → Option Files → Type 0
+IfReported P None new = ⊤
+IfReported P (Some old) None = ⊥
+IfReported P (Some old) (Some new) = P old new
 
 -- the file with the name is unchanged, and so are the files that a stop might have left there
 pub record Stays (old new : Files) : Type 0 where

@@ -4,7 +4,7 @@ use Rattle.std.specs.Io.KnownBytes.{Appends}
 use Rattle.byte_io.specs.Device.{SinkState}
 use Rattle.byte_io.specs.Publish.{Publishes, IsPublishFault}
 use Rattle.byte_io.specs.declared.fault.PublishFault.TheVariants as publish
-use Rattle.byte_out.specs.Place.{Files, PlaceState, Told, Stays, IsCleared}
+use Rattle.byte_out.specs.Place.{Files, PlaceState, IfReported, Stays, IsCleared}
 use Rattle.byte_out.specs.declared.fault.ReplaceFault.{ReplaceFault}
 use Rattle.byte_out.specs.declared.fault.ReplaceFault.TheVariants as replace
 
@@ -53,23 +53,23 @@ pub record FailsWhole (bytes : List ℕ) (old new : SinkState) : Type 0 where
 
 -- all the bytes were written to the new file
 abbrev pub Prepares : Option (List ℕ) → List ℕ → PlaceState → PlaceState → Type 0
-Prepares read bytes old new = Publishes bytes old.sink new.sink × Told (IsPrepared read bytes) old.files new.files
+Prepares read bytes old new = Publishes bytes old.sink new.sink × IfReported (IsPrepared read bytes) old.files new.files
 
 -- all the bytes were written, and the new file has the name, in place of the one that was read; it has it after a stop, too
 abbrev pub Replaces : Option (List ℕ) → List ℕ → PlaceState → PlaceState → Type 0
-Replaces read bytes old new = Publishes bytes old.sink new.sink × Told (λ f g. IsReplaced read bytes f g × (g.landed ≡ true)) old.files new.files
+Replaces read bytes old new = Publishes bytes old.sink new.sink × IfReported (λ f g. IsReplaced read bytes f g × (g.landed ≡ true)) old.files new.files
 
 -- the outcome of each fault. In each case but the last one the old file still has the name
 abbrev pub IsReplaceFault : Option (List ℕ) → List ℕ → PlaceState → PlaceState → ReplaceFault → Type 0
 -- nothing was beside, and nothing was made; or the new file was whole, and did not get to its name
-IsReplaceFault read bytes old new replace.NotOpened = (IsPublishFault bytes old.sink new.sink publish.NotOpened × Told (λ f g. (g ≡ f) × (f.beside ≡ None)) old.files new.files)
-    ⊎ (FailsWhole bytes old.sink new.sink × Told (λ f g. IsKept f g × (f.beside ≡ None)) old.files new.files)
+IsReplaceFault read bytes old new replace.NotOpened = (IsPublishFault bytes old.sink new.sink publish.NotOpened × IfReported (λ f g. (g ≡ f) × (f.beside ≡ None)) old.files new.files)
+    ⊎ (FailsWhole bytes old.sink new.sink × IfReported (λ f g. IsKept f g × (f.beside ≡ None)) old.files new.files)
 -- there was a new file
-IsReplaceFault read bytes old new replace.NewExists = IsPublishFault bytes old.sink new.sink publish.NotOpened × Told (λ f g. (g ≡ f) × IsSome f.beside) old.files new.files
+IsReplaceFault read bytes old new replace.NewExists = IsPublishFault bytes old.sink new.sink publish.NotOpened × IfReported (λ f g. (g ≡ f) × IsSome f.beside) old.files new.files
 -- exactly the first n bytes were written, not all; or all were, and the sync failed
-IsReplaceFault read bytes old new (replace.WriteFailed n) = (IsPublishFault bytes old.sink new.sink (publish.WriteFailed n) × Told IsKept old.files new.files)
-    ⊎ ((n ≡ length bytes) × FailsWhole bytes old.sink new.sink × Told IsKept old.files new.files)
+IsReplaceFault read bytes old new (replace.WriteFailed n) = (IsPublishFault bytes old.sink new.sink (publish.WriteFailed n) × IfReported IsKept old.files new.files)
+    ⊎ ((n ≡ length bytes) × FailsWhole bytes old.sink new.sink × IfReported IsKept old.files new.files)
 -- the new file was whole, and the file with the name is not the one that was read
-IsReplaceFault read bytes old new replace.Changed = IsSome read × Publishes bytes old.sink new.sink × Told (λ f g. IsKept f g × (Has read f → ⊥)) old.files new.files
+IsReplaceFault read bytes old new replace.Changed = IsSome read × Publishes bytes old.sink new.sink × IfReported (λ f g. IsKept f g × (Has read f → ⊥)) old.files new.files
 -- the new file has the name; a stop may leave the old one
-IsReplaceFault read bytes old new replace.NotSynced = FailsWhole bytes old.sink new.sink × Told (IsReplaced read bytes) old.files new.files
+IsReplaceFault read bytes old new replace.NotSynced = FailsWhole bytes old.sink new.sink × IfReported (IsReplaced read bytes) old.files new.files

@@ -8,16 +8,18 @@ use crate::beside::WholeFiles;
 use crate::fault::MakeFault;
 use crate::lock::Lockable;
 use crate::place::Place;
-use crate::way::{FileId, Put, has_bytes, linked_file, open_for, put_beside, sync_folder};
+use crate::way::{
+    FileId, Held, Put, has_bytes, linked_file, open_for, put_beside, sync_folder, write_within,
+};
 use byte_io::{DeviceFault, Log, NotOpened, Sink, Tally, WriteFault, write_all};
 use std::alloc::{AllocError, Global};
 use std::fs::{self, OpenFile};
-use std::io::Write;
+use std::io::{self, ErrorKind, Write};
 use std::os::fd::AsFd;
 use std::rt::Files;
 
 /// The place of a path; if the path is a link to a plain file, the place of that file. The new file has its name with `.new`.
-/// If it cannot be made or renamed, the file itself is overwritten.
+/// If it cannot be made or renamed, the file itself is overwritten: with each `write`, or, at a place that is `late`, with `put`.
 #[derive(Drop)]
 pub struct FilePlace<'a, R: Files, W> {
     alloc: Global,
@@ -29,6 +31,8 @@ pub struct FilePlace<'a, R: Files, W> {
     avoided: Option<FileId>,
     file: Option<R::File>,
     is_beside: bool,
+    held: Option<Vec<u8>>,
+    trouble: Option<Held>,
     taken: Log,
     failures: Tally,
     stalls: Tally,
@@ -68,11 +72,29 @@ where
             avoided,
             file: None,
             is_beside: false,
+            held: None,
+            trouble: None,
             taken: Log::empty(),
             failures: Tally::none(),
             stalls: Tally::none(),
             openings: Tally::none(),
         })
+    }
+
+    /// The same place, but a file that is overwritten is not changed before `put`: until then its new bytes are kept in memory.
+    pub fn late(mut self) -> FilePlace<'a, R, W>
+        ensures path { result.path ≡ self.entry.path }
+        ensures same { ⟦<FilePlace<'a, R, W> as Place>⟧.state result ≡ ⟦<FilePlace<'a, R, W> as Place>⟧.state self.entry }
+    {
+        self.held = Some(Vec::new(self.alloc));
+        self
+    }
+
+    /// Why the bytes that were kept in memory are not in the file, if `write` or `put` failed for that reason.
+    pub fn trouble(&self) -> Option<Held>
+        ensures { result ≡ self.now.trouble }
+    {
+        self.trouble
     }
 }
 
@@ -86,9 +108,16 @@ impl<R: Files, W> Sink for FilePlace<'_, R, W> {
     } };
 
     fn write_some(&mut self, buf: &[u8]) -> Result<usize, DeviceFault> {
-        let written = match &mut self.file {
-            None => Ok(0),
-            Some(file) => file.write(buf),
+        let written = match (&mut self.file, &mut self.held) {
+            (None, _) => Ok(0),
+            (Some(_), Some(held)) if !self.is_beside => match held.extend_from_slice(buf) {
+                Ok(()) => Ok(buf.len()),
+                Err(_) => {
+                    self.trouble = Some(Held::Memory);
+                    Err(io::Error::from(ErrorKind::OutOfMemory))
+                }
+            },
+            (Some(file), _) => file.write(buf),
         };
         match written {
             Ok(n) => {
@@ -126,7 +155,15 @@ where
             self.failures = Tally::after(&self.failures);
             return Err(MakeFault::NotOpened);
         }
-        match open_for(self.alloc, self.rt, &self.real, &self.beside, self.whole) {
+        let empties = self.held.is_none();
+        match open_for(
+            self.alloc,
+            self.rt,
+            &self.real,
+            &self.beside,
+            empties,
+            self.whole,
+        ) {
             Ok((file, is_beside)) => {
                 self.is_beside = is_beside;
                 self.openings = Tally::after(&self.openings);
@@ -160,14 +197,21 @@ where
     }
 
     fn put(&mut self) -> Result<(), NotOpened> {
-        if !self.is_beside {
-            return Ok(());
-        }
-        match put_beside(self.rt, &self.beside, &self.real) {
-            Put::Done => return Ok(()),
-            Put::Not => {}
-            // The new file stays: it may be the only whole one.
-            Put::Partly => self.is_beside = false,
+        if self.is_beside {
+            match put_beside(self.rt, &self.beside, &self.real) {
+                Put::Done => return Ok(()),
+                Put::Not => {}
+                // The new file stays: it may be the only whole one.
+                Put::Partly => self.is_beside = false,
+            }
+        } else {
+            let (Some(file), Some(held)) = (self.file.take(), &self.held) else {
+                return Ok(());
+            };
+            match write_within(file, held) {
+                Ok(()) => return Ok(()),
+                Err(trouble) => self.trouble = Some(trouble),
+            }
         }
         self.failures = Tally::after(&self.failures);
         Err(NotOpened)

@@ -20,4 +20,4 @@ pub use lock::{Lock, Lockable};
 pub use mem_place::{MemPlace, Step};
 pub use place::Place;
 pub use replacing::{prepare, replace};
-pub use way::FileId;
+pub use way::{FileId, Held};

@@ -3,7 +3,7 @@
 ghost use Rattle.std.specs.Prelude.{◌≡◌, OnOk, IfErr};
 ghost use Rattle.byte_io.specs.Device.{Opens};
 ghost use Rattle.byte_io.specs.Whole.{WritesAll, IsCutAt};
-ghost use Rattle.byte_out.specs.Place.{PlaceState, Told, IsMade, IsFilled, IsSynced, IsCompared, IsPut, IsLanded, IsRemoved, CountsOnly};
+ghost use Rattle.byte_out.specs.Place.{PlaceState, IfReported, IsMade, IsFilled, IsSynced, IsCompared, IsPut, IsLanded, IsRemoved, CountsOnly};
 
 use crate::fault::MakeFault;
 use byte_io::{DeviceFault, NotOpened, WriteFault};
@@ -16,7 +16,7 @@ pub trait Place {
     /// Makes the new file, empty.
     fn make(&mut self) -> Result<(), MakeFault>
         ensures calls { Opens result (state self.old).sink (state self.new).sink }
-        ensures files { Told (IsMade result) (state self.old).files (state self.new).files };
+        ensures files { IfReported (IsMade result) (state self.old).files (state self.new).files };
 
     /// Writes all the bytes to the new file.
     fn write(&mut self, bytes: &[u8]) -> Result<(), WriteFault>
@@ -24,31 +24,31 @@ pub trait Place {
             (WritesAll bytes.now (state self.old).sink (state self.new).sink) }
         ensures fault { IfErr result
             (λ e. IsCutAt e.written bytes.now (state self.old).sink (state self.new).sink) }
-        ensures files { Told (IsFilled result bytes.now)
+        ensures files { IfReported (IsFilled result bytes.now)
             (state self.old).files (state self.new).files };
 
     /// Syncs the new file.
     fn sync(&mut self) -> Result<(), DeviceFault>
         ensures calls { CountsOnly result (state self.old).sink (state self.new).sink }
-        ensures files { Told (IsSynced result) (state self.old).files (state self.new).files };
+        ensures files { IfReported (IsSynced result) (state self.old).files (state self.new).files };
 
     /// Whether the file with the name has exactly these bytes, which were read from it.
     fn still_has(&mut self, read: &[u8]) -> bool
         ensures calls { (state self.new).sink ≡ (state self.old).sink }
-        ensures files { Told (IsCompared result read.now) (state self.old).files (state self.new).files };
+        ensures files { IfReported (IsCompared result read.now) (state self.old).files (state self.new).files };
 
     /// Renames the new file to the old one, which it replaces.
     fn put(&mut self) -> Result<(), NotOpened>
         ensures calls { CountsOnly result (state self.old).sink (state self.new).sink }
-        ensures files { Told (IsPut result) (state self.old).files (state self.new).files };
+        ensures files { IfReported (IsPut result) (state self.old).files (state self.new).files };
 
     /// Makes sure that the renamed file keeps its name after a stop.
     fn land(&mut self) -> Result<(), DeviceFault>
         ensures calls { CountsOnly result (state self.old).sink (state self.new).sink }
-        ensures files { Told (IsLanded result) (state self.old).files (state self.new).files };
+        ensures files { IfReported (IsLanded result) (state self.old).files (state self.new).files };
 
     /// Removes the new file, if it can.
     fn remove(&mut self)
         ensures calls { (state self.new).sink ≡ (state self.old).sink }
-        ensures files { Told IsRemoved (state self.old).files (state self.new).files };
+        ensures files { IfReported IsRemoved (state self.old).files (state self.new).files };
 }

@@ -3,6 +3,7 @@
 use crate::beside::{WholeFiles, make_beside};
 use crate::fault::MakeFault;
 use crate::lock::{Lock, Lockable};
+use byte_io::{Writing, write_all};
 use std::alloc::{AllocError, Global};
 use std::fs::{self, Metadata, OpenFile, OpenOptions};
 use std::io::{self, ErrorKind, Read, Write};
@@ -78,12 +79,13 @@ enum Way {
     Within(bool),
 }
 
-/// The file to be written, and whether it is a new one beside.
+/// The file to be written, and whether it is a new one beside. If not, it is emptied, if that is asked for.
 pub(crate) fn open_for<R: Files, W: WholeFiles>(
     alloc: Global,
     rt: &R,
     path: &str,
     beside: &str,
+    empties: bool,
     whole: &W,
 ) -> Result<(R::File, bool), MakeFault>
 where
@@ -98,15 +100,15 @@ where
             old.is_some()
         }
     };
-    match open_within(rt, path, is_there) {
+    match open_within(rt, path, is_there, empties) {
         Ok(file) => Ok((file, false)),
         Err(_) => Err(MakeFault::NotOpened),
     }
 }
 
 // An existing file is opened without the flag to create it: a folder may forbid that for another user's file. A plain file is
-// locked, and then emptied.
-fn open_within<R: Files>(rt: &R, path: &str, is_there: bool) -> io::Result<R::File>
+// locked, and then emptied if that is asked for.
+fn open_within<R: Files>(rt: &R, path: &str, is_there: bool, empties: bool) -> io::Result<R::File>
 where
     R::File: Lockable,
 {
@@ -118,9 +120,35 @@ where
         if file.lock_alone() == Lock::Held {
             return Err(io::Error::from(ErrorKind::WouldBlock));
         }
-        file.set_len(0)?;
+        if empties {
+            file.set_len(0)?;
+        }
     }
     Ok(file)
+}
+
+/// Why bytes that were kept in memory are not in their file.
+#[derive(Clone, Copy, Debug, PartialEq, Eq)]
+pub enum Held {
+    /// There was not enough memory for them.
+    Memory,
+    /// Writing failed after this number of bytes.
+    Cut(usize),
+}
+
+/// Overwrites an open file with these bytes. A plain file is emptied first.
+pub(crate) fn write_within<F: Write + OpenFile + Drop>(file: F, bytes: &[u8]) -> Result<(), Held> {
+    let emptied = match file.metadata() {
+        Ok(there) if there.is_file() => file.set_len(0),
+        _ => Ok(()),
+    };
+    if emptied.is_err() {
+        return Err(Held::Cut(0));
+    }
+    match write_all(&mut Writing::new(file), bytes) {
+        Ok(()) => Ok(()),
+        Err(fault) => Err(Held::Cut(fault.written)),
+    }
 }
 
 // A folder, a device, a pipe or a link is not replaced. A file has to open for writing, as if it were overwritten.

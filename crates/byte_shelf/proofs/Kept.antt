@@ -1,40 +1,47 @@
--- A whole run that keeps bytes.
-use Rattle.std.proofs.Common.{◌≡◌, ◌⊎◌, inl, inr, ℕ, ◌-◌, ◌%◌, ◌≤◌, List, [], ◌∷◌, length, subst, ◌∙◌}
+-- A whole run that puts a frame on a shelf.
+use Rattle.std.proofs.Common.{◌≡◌, ◌⊎◌, inl, inr, ℕ, ◌-◌, ◌%◌, List, [], ◌∷◌, subst, ◌∙◌}
 use Rattle.byte_disk.specs.Disk.{LeavesOnly, InTwo, AreBothWritten}
 use Rattle.byte_disk.proofs.Moments.{weaker, joined}
-use Rattle.byte_shelf.specs.Shelf.{HasHead, IsShelf, IsShelfOf, EndsWithin, place, framed}
+use Rattle.byte_shelf.specs.Shelf.{IsShelf, IsShelfOf, EndsWithin, place, framed}
+use Rattle.byte_shelf.specs.Keep.{AddsNothing}
+use Rattle.byte_shelf.specs.Ready.{IsReady}
+use Rattle.byte_shelf.specs.declared.keeping.Frame.{Frame}
 use Rattle.byte_shelf.proofs.Steps.{each_stop, whole, ends_within, one_size}
 
-pub moments_of : {D : Type 0} (moment : D → ℕ) (since : D → ℕ → List ℕ → Type 0) (images : List ℕ → Type 0) (old mid new : D) (s s' was bytes frame : List ℕ) (gate size at : ℕ)
-    → LeavesOnly moment since old mid images → LeavesOnly moment since mid new (InTwo at frame 0 1 s')
-    → s' ≡ s → at ≡ place size (1 - gate % 2) → frame ≡ framed bytes → HasHead s gate size → IsShelf s was → length bytes ≤ size
-    → LeavesOnly moment since old new (λ c. images c ⊎ (IsShelf c was ⊎ IsShelf c bytes))
-moments_of moment since images old mid new s s' was bytes frame gate size at first second same at-is frame-is head shelf fits =
-    let P : List ℕ → Type 0 = λ c. images c ⊎ (IsShelf c was ⊎ IsShelf c bytes) in
-    let on_same = subst (λ (t : List ℕ). LeavesOnly moment since mid new (InTwo at frame 0 1 t)) same second in
-    let in_place = subst (λ (a : ℕ). LeavesOnly moment since mid new (InTwo a frame 0 1 s)) at-is on_same in
-    let of_frame = subst (λ (f : List ℕ). LeavesOnly moment since mid new (InTwo (place size (1 - gate % 2)) f 0 1 s)) frame-is in_place in
-    joined moment since old mid new P (weaker moment since old mid images P first (λ c may. inl may))
-    (weaker moment since mid new (InTwo (place size (1 - gate % 2)) (framed bytes) 0 1 s) P of_frame (λ c left. inr (each_stop s was bytes gate size head shelf fits c left)))
+pub moments_of : {D : Type 0} (moment : D → ℕ) (since : D → ℕ → List ℕ → Type 0) (old new : D) (s was bytes sent : List ℕ) (frame : Frame)
+    → LeavesOnly moment since old new (InTwo frame.at sent 0 1 s) → sent ≡ frame.bytes.items → IsShelf s was → IsReady s bytes frame
+    → LeavesOnly moment since old new (λ c. IsShelf c was ⊎ IsShelf c bytes)
+moments_of moment since old new s was bytes sent frame leaves is shelf r =
+    let in_place = subst (λ (a : ℕ). LeavesOnly moment since old new (InTwo a sent 0 1 s)) r.spare leaves in
+    let of_frame = subst (λ (f : List ℕ). LeavesOnly moment since old new (InTwo (place r.size (1 - r.gate % 2)) f 0 1 s)) (is ∙ r.whole) in_place in
+    weaker moment since old new (InTwo (place r.size (1 - r.gate % 2)) (framed bytes) 0 1 s) (λ c. IsShelf c was ⊎ IsShelf c bytes) of_frame
+    (each_stop s was bytes r.gate r.size r.head shelf r.fits)
 
--- where the two writes of a run are those of the bytes into the spare slot, and of its number
-written_of : (s s' new bytes frame : List ℕ) (gate size at : ℕ) → AreBothWritten at frame 0 ((1 - gate % 2) ∷ []) s' new
-    → s' ≡ s → at ≡ place size (1 - gate % 2) → frame ≡ framed bytes → AreBothWritten (place size (1 - gate % 2)) (framed bytes) 0 ((1 - gate % 2) ∷ []) s new
-written_of s s' new bytes frame gate size at both same at-is frame-is =
-    subst (λ (f : List ℕ). AreBothWritten (place size (1 - gate % 2)) f 0 ((1 - gate % 2) ∷ []) s new) frame-is
-    (subst (λ (a : ℕ). AreBothWritten a frame 0 ((1 - gate % 2) ∷ []) s new) at-is
-    (subst (λ (t : List ℕ). AreBothWritten at frame 0 ((1 - gate % 2) ∷ []) t new) same both))
+-- the two writes are those of the bytes into the spare slot, and of its number
+written_of : (s new bytes sent : List ℕ) (frame : Frame) → AreBothWritten frame.at sent 0 (frame.gate ∷ []) s new → sent ≡ frame.bytes.items
+    → (r : IsReady s bytes frame) → AreBothWritten (place r.size (1 - r.gate % 2)) (framed bytes) 0 ((1 - r.gate % 2) ∷ []) s new
+written_of s new bytes sent frame both is r =
+    subst (λ (g : ℕ). AreBothWritten (place r.size (1 - r.gate % 2)) (framed bytes) 0 (g ∷ []) s new) r.turned
+    (subst (λ (f : List ℕ). AreBothWritten (place r.size (1 - r.gate % 2)) f 0 (frame.gate ∷ []) s new) (is ∙ r.whole)
+    (subst (λ (a : ℕ). AreBothWritten a sent 0 (frame.gate ∷ []) s new) r.spare both))
 
-pub kept_of : (s s' new was bytes frame : List ℕ) (gate size at : ℕ) → AreBothWritten at frame 0 ((1 - gate % 2) ∷ []) s' new
-    → s' ≡ s → at ≡ place size (1 - gate % 2) → frame ≡ framed bytes → HasHead s gate size → IsShelf s was → length bytes ≤ size → IsShelf new bytes
-kept_of s s' new was bytes frame gate size at both same at-is frame-is head shelf fits =
-    (whole s was bytes new gate size head shelf fits (written_of s s' new bytes frame gate size at both same at-is frame-is)).0
+pub kept_of : (s new was bytes sent : List ℕ) (frame : Frame) → AreBothWritten frame.at sent 0 (frame.gate ∷ []) s new → sent ≡ frame.bytes.items
+    → IsShelf s was → IsReady s bytes frame → IsShelf new bytes
+kept_of s new was bytes sent frame both is shelf r = (whole s was bytes new r.gate r.size r.head shelf r.fits (written_of s new bytes sent frame both is r)).0
 
 -- the shelf has the size that it had, and ends within it
-pub sized_of : (s s' new was bytes frame : List ℕ) (gate size at want : ℕ) → AreBothWritten at frame 0 ((1 - gate % 2) ∷ []) s' new
-    → s' ≡ s → at ≡ place size (1 - gate % 2) → frame ≡ framed bytes → HasHead s gate size → IsShelfOf s want was → length bytes ≤ size
-    → IsShelfOf new want bytes × EndsWithin want s new
-sized_of s s' new was bytes frame gate size at want both same at-is frame-is head (shelf, size-is) fits =
-    let writes = written_of s s' new bytes frame gate size at both same at-is frame-is in
-    let same_size : size ≡ want = one_size s size shelf.size head.size_fits shelf.head.size_fits head.size_stands shelf.head.size_stands ∙ size-is in
-    subst (λ (n : ℕ). IsShelfOf new n bytes × EndsWithin n s new) same_size (whole s was bytes new gate size head shelf fits writes, ends_within s bytes new gate size fits writes)
+pub sized_of : (s new was bytes sent : List ℕ) (frame : Frame) (want : ℕ) → AreBothWritten frame.at sent 0 (frame.gate ∷ []) s new → sent ≡ frame.bytes.items
+    → IsShelfOf s want was → IsReady s bytes frame → IsShelfOf new want bytes × EndsWithin want s new
+sized_of s new was bytes sent frame want both is (shelf, size-is) r =
+    let writes = written_of s new bytes sent frame both is r in
+    let same_size : r.size ≡ want = one_size s r.size shelf.size r.head.size_fits shelf.head.size_fits r.head.size_stands shelf.head.size_stands ∙ size-is in
+    subst (λ (n : ℕ). IsShelfOf new n bytes × EndsWithin n s new) same_size (whole s was bytes new r.gate r.size r.head shelf r.fits writes, ends_within s bytes new r.gate r.size r.fits writes)
+
+-- what a stop leaves where a frame was made ready, and then put
+pub moments_then : {D : Type 0} (seen : D → List ℕ) (images : D → List ℕ → Type 0) (moment : D → ℕ) (since : D → ℕ → List ℕ → Type 0) (old mid new : D) (was bytes : List ℕ)
+    → AddsNothing seen images moment since old mid → LeavesOnly moment since mid new (λ c. IsShelf c was ⊎ IsShelf c bytes)
+    → LeavesOnly moment since old new (λ c. images old c ⊎ (IsShelf c was ⊎ IsShelf c bytes))
+moments_then seen images moment since old mid new was bytes nothing leaves =
+    let P : List ℕ → Type 0 = λ c. images old c ⊎ (IsShelf c was ⊎ IsShelf c bytes) in
+    joined moment since old mid new P (weaker moment since old mid (images old) P nothing.any_moment (λ c may. inl may))
+    (weaker moment since mid new (λ c. IsShelf c was ⊎ IsShelf c bytes) P leaves (λ c left. inr left))

@@ -1,3 +1,4 @@
 pub mod Shelf
 pub mod Keep
 pub mod Names
+pub mod Ready

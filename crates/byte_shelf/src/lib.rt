@@ -12,5 +12,5 @@ mod restoring;
 pub use fault::ShelfFault;
 pub use formatting::format;
 pub use head::{LEAST, MOST};
-pub use keeping::keep;
+pub use keeping::{Frame, keep, put, ready};
 pub use restoring::restore;

@@ -1,6 +1,6 @@
 //! The sentence for a refused import.
 use crate::paths::{Head, Shown};
-use reg_engine::operations::OpId;
+use reg_guard::engine::operations::OpId;
 use std::fmt;
 
 /// The sentence of `KeyTaken`, and the way out. A text that cannot be read has none: it is explained at its place.

@@ -1,7 +1,7 @@
 //! Sentences for files that cannot be read.
 use crate::paths::{Paths, Shown};
-use reg_engine::InputFault;
-use reg_engine::files::FileFault;
+use reg_guard::engine::InputFault;
+use reg_guard::engine::files::FileFault;
 use std::fmt;
 
 /// Writes the sentence for a fault of the file with this number.

@@ -12,7 +12,7 @@ mod shelves;
 pub use guard::GuardSentence;
 pub use imports::KeyTaken;
 pub use paths::{Paths, Shown};
-use reg_engine::CliFault;
+use reg_guard::engine::CliFault;
 use std::fmt;
 
 /// The sentence for a fault and, below it, the way out if there is one. Each is a line.

@@ -1,6 +1,6 @@
 //! Sentences for files that cannot be written.
 use crate::paths::{Paths, Shown};
-use reg_engine::OutFault;
+use reg_guard::engine::OutFault;
 use std::fmt;
 
 /// Writes the sentence for a fault of the output.

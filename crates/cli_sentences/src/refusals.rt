@@ -1,8 +1,8 @@
 //! Sentences for refusals.
 use crate::paths::{Head, Paths, Shown};
-use reg_engine::Refusal;
-use reg_engine::offices::OfficeFault;
-use reg_engine::operations::OpId;
+use reg_guard::engine::Refusal;
+use reg_guard::engine::offices::OfficeFault;
+use reg_guard::engine::operations::OpId;
 use std::fmt;
 
 /// Writes the sentence for a refusal. Faults of texts have none: `--explain` explains them at their place.

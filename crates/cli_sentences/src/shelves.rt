@@ -1,6 +1,6 @@
 //! Sentences for shelves that cannot be read or changed.
 use crate::paths::{Paths, Shown};
-use reg_engine::ShelfProblem;
+use reg_guard::engine::ShelfProblem;
 use std::fmt;
 
 /// Writes the sentence for a problem of the shelf.

@@ -2,14 +2,14 @@
 use Rattle.std.specs.Prelude.{◌≡◌, ℕ, List, Option, Some, None, if◌then◌else◌}
 use Rattle.std.specs.BTreeMap.{BTreeMap, get}
 use Rattle.std.specs.declared.cmp.Ordering.{Ordering}
-use Rattle.crs_export.specs.declared.held.Place.{Place}
+use Rattle.crs_export.specs.declared.held.RowPlace.{RowPlace}
 use Rattle.crs_export.specs.declared.held.Held.{Held}
 use Rattle.crs_export.specs.Places.{PlaceBytes, place_cmp, is_same_place}
 
-abbrev pub place_bytes : Place → PlaceBytes
+abbrev pub place_bytes : RowPlace → PlaceBytes
 place_bytes p = record { authority = p.authority.now; number = p.number; code = p.code.now }
 
-abbrev pub by_place : Place → Place → Ordering
+abbrev pub by_place : RowPlace → RowPlace → Ordering
 by_place a b = place_cmp (place_bytes a) (place_bytes b)
 
 abbrev pub text_in : Option Held → Option (List ℕ)
@@ -21,8 +21,8 @@ abbrev pub At : Type 0
 At = PlaceBytes → Option (List ℕ)
 
 -- the map has these texts
-abbrev pub Holds : BTreeMap Place Held → At → Type 0
-Holds m at = (q : Place) → text_in (get by_place m q) ≡ at (place_bytes q)
+abbrev pub Holds : BTreeMap RowPlace Held → At → Type 0
+Holds m at = (q : RowPlace) → text_in (get by_place m q) ≡ at (place_bytes q)
 
 -- the place has this text, and every other place its old one
 abbrev pub with_text : PlaceBytes → List ℕ → At → At

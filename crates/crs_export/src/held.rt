@@ -11,7 +11,7 @@ use std::collections::BTreeMap;
 
 /// What identifies a row for SQLite: its authority, and the number that it reads in the code, or else the code.
 #[derive(Clone, Copy, PartialEq, Eq, PartialOrd, Ord)]
-pub struct Place<'a> {
+pub struct RowPlace<'a> {
     pub authority: &'a [u8],
     pub number: Option<Decimal>,
     pub code: &'a [u8],
@@ -33,10 +33,10 @@ fn unless_number<'a>(number: Option<Decimal>, code: &'a [u8]) -> &'a [u8]
 }
 
 /// The place of an entry with this key.
-pub fn place_of<'a>(keyed: &Keyed<'a>) -> Place<'a>
+pub fn place_of<'a>(keyed: &Keyed<'a>) -> RowPlace<'a>
     ensures { place_bytes result ≡ place_of keyed.now }
 {
-    Place {
+    RowPlace {
         authority: keyed.authority,
         number: keyed.number,
         code: unless_number(keyed.number, keyed.code),
@@ -44,7 +44,10 @@ pub fn place_of<'a>(keyed: &Keyed<'a>) -> Place<'a>
 }
 
 /// What is held in a place.
-pub fn held_at<'a>(held: &BTreeMap<Place<'a>, Held<'a>>, place: &Place<'a>) -> Option<Held<'a>>
+pub fn held_at<'a>(
+    held: &BTreeMap<RowPlace<'a>, Held<'a>>,
+    place: &RowPlace<'a>,
+) -> Option<Held<'a>>
     ensures { (at : At) → Holds held.now at → text_in result ≡ at (place_bytes place.now) }
 {
     match held.get(place) {
@@ -55,8 +58,8 @@ pub fn held_at<'a>(held: &BTreeMap<Place<'a>, Held<'a>>, place: &Place<'a>) -> O
 
 /// Holds a text in a place.
 pub fn hold<'a>(
-    held: &mut BTreeMap<Place<'a>, Held<'a>>,
-    place: Place<'a>,
+    held: &mut BTreeMap<RowPlace<'a>, Held<'a>>,
+    place: RowPlace<'a>,
     text: &'a [u8],
 ) -> Result<(), AllocError>
     ensures { (at : At) → Holds held.old at → OnOk result (Holds held.new (with_text (place_bytes place.entry) text.now at)) }

@@ -7,7 +7,7 @@ ghost use Rattle.crs_export.specs.Held.{Holds};
 ghost use Rattle.crs_export.specs.Sql.{starts, is_long, is_zero, is_some_text, fits, text_at, by_text, judged};
 
 use crate::filed::Filed;
-use crate::held::{Held, Place, held_at, hold, place_of};
+use crate::held::{Held, RowPlace, held_at, hold, place_of};
 use std::alloc::AllocError;
 use std::collections::BTreeMap;
 
@@ -82,7 +82,7 @@ fn by_text(text: &[u8], earlier: &[u8]) -> Verdict
 
 /// Whether an entry is inserted after others, whose texts these are. If it is, its text is held, too.
 pub fn judge<'a>(
-    held: &mut BTreeMap<Place<'a>, Held<'a>>,
+    held: &mut BTreeMap<RowPlace<'a>, Held<'a>>,
     filed: &Filed<'a>,
 ) -> Result<Verdict, AllocError>
     ensures { (before : List OneFiled) → Holds held.old (λ p. text_at p before)

@@ -4,7 +4,7 @@ use Rattle.std.specs.List.{flat_map}
 use Rattle.std.proofs.lemmas.Grind.{flat_map-append}
 use Rattle.std.proofs.lemmas.List.{map-append}
 use Rattle.html_text.specs.Pieces.{Piece, bytes_of, html, Appends, blank}
-use Rattle.html_text.specs.Places.{Place, Content, past, past_all}
+use Rattle.html_text.specs.Places.{Context, Content, past, past_all}
 use Rattle.html_text.proofs.PlaceLemmas.{past_none}
 
 -- ---- bytes
@@ -24,7 +24,7 @@ nothing page = record { is = sym (append-nil page) }
 
 -- ---- places
 
-pub past_all-append : (o : Option Place) (ps qs : List Piece) → past_all o (ps ++ qs) ≡ past_all (past_all o ps) qs
+pub past_all-append : (o : Option Context) (ps qs : List Piece) → past_all o (ps ++ qs) ≡ past_all (past_all o ps) qs
 past_all-append o [] qs = refl
 past_all-append None (p ∷ ps) qs = sym (past_none qs)
 past_all-append (Some here) (p ∷ ps) qs = past_all-append (past here p) ps qs

@@ -3,21 +3,21 @@ use Rattle.std.proofs.Common.{◌≡◌, ℕ, ◌==◌, Bool, true, false, not, 
 use Rattle.std.proofs.lemmas.Bool.Decides.{Decides-eqb}
 use Rattle.html_text.specs.Escaped.{escaped, reference, is_inert}
 use Rattle.html_text.specs.Pieces.{Piece, Markup, Text, Lines, Attribute, bytes_of, html, blank}
-use Rattle.html_text.specs.Places.{Place, Content, Tag, Quoted, step, after, tag_byte, tags_from, past, past_all}
+use Rattle.html_text.specs.Places.{Context, Content, Tag, Quoted, step, after, tag_byte, tags_from, past, past_all}
 use Rattle.html_text.specs.declared.marks.Feeds.TheVariants.{Marked, Kept}
 use Rattle.html_text.specs.Marks.{marked}
 use Rattle.html_text.proofs.EscapedLemmas.{inert}
 
-after-append : (p : Place) (xs ys : List ℕ) → after p (xs ++ ys) ≡ after (after p xs) ys
+after-append : (p : Context) (xs ys : List ℕ) → after p (xs ++ ys) ≡ after (after p xs) ys
 after-append p [] ys = refl
 after-append p (x ∷ xs) ys = after-append (step p x) xs ys
 
-tags-append : (p : Place) (xs ys : List ℕ) → tags_from p (xs ++ ys) ≡ tags_from p xs ++ tags_from (after p xs) ys
+tags-append : (p : Context) (xs ys : List ℕ) → tags_from p (xs ++ ys) ≡ tags_from p xs ++ tags_from (after p xs) ys
 tags-append p [] ys = refl
 tags-append p (x ∷ xs) ys = ap (λ ts. tag_byte p x ++ ts) (tags-append (step p x) xs ys) ∙ sym (append_assoc (tag_byte p x) _ _)
 
 -- bytes that stay in one place, and belong to no tag
-pub record Stays (p : Place) (xs : List ℕ) : Type 0 where
+pub record Stays (p : Context) (xs : List ℕ) : Type 0 where
   pub place : after p xs ≡ p
   pub no_tag : tags_from p xs ≡ []
 
@@ -53,30 +53,30 @@ in_quotes (b ∷ bs) e =
     record { place = rw here.1 rest.place; no_tag = rw here.1 rest.no_tag }
 
 -- a piece leads from one place to another, with its text and without, and the tags are the same
-record Passes (here there : Place) (p : Piece) : Type 0 where
+record Passes (here there : Context) (p : Piece) : Type 0 where
   place : after here (bytes_of p) ≡ there
   blank_place : after here (bytes_of (blank p)) ≡ there
   tags : tags_from here (bytes_of p) ≡ tags_from here (bytes_of (blank p))
 
-text_passes : (text : List ℕ) (there : Place) → Some Content ≡ Some there → Passes Content there (Text text)
+text_passes : (text : List ℕ) (there : Context) → Some Content ≡ Some there → Passes Content there (Text text)
 unfolding bytes_of
 text_passes text there e =
     let stays = in_content (escaped (marked Marked text)) (inert (marked Marked text)) in
     record { place = stays.place ∙ cc; blank_place = cc; tags = stays.no_tag }
 
-lines_pass : (text : List ℕ) (there : Place) → Some Content ≡ Some there → Passes Content there (Lines text)
+lines_pass : (text : List ℕ) (there : Context) → Some Content ≡ Some there → Passes Content there (Lines text)
 unfolding bytes_of
 lines_pass text there e =
     let stays = in_content (escaped (marked Kept text)) (inert (marked Kept text)) in
     record { place = stays.place ∙ cc; blank_place = cc; tags = stays.no_tag }
 
-attribute_passes : (text : List ℕ) (there : Place) → Some Quoted ≡ Some there → Passes Quoted there (Attribute text)
+attribute_passes : (text : List ℕ) (there : Context) → Some Quoted ≡ Some there → Passes Quoted there (Attribute text)
 unfolding bytes_of
 attribute_passes text there e =
     let stays = in_quotes (escaped (marked Marked text)) (inert (marked Marked text)) in
     record { place = stays.place ∙ cc; blank_place = cc; tags = stays.no_tag }
 
-piece_passes : (here there : Place) (p : Piece) → past here p ≡ Some there → Passes here there p
+piece_passes : (here there : Context) (p : Piece) → past here p ≡ Some there → Passes here there p
 unfolding bytes_of
 piece_passes here there (Markup constant) e = record { place = cc; blank_place = cc; tags = refl }
 piece_passes Content there (Text text) e = text_passes text there e
@@ -93,11 +93,11 @@ pub past_none : (ps : List Piece) → past_all None ps ≡ None
 past_none [] = refl
 past_none (p ∷ ps) = refl
 
-abbrev SameTags : Place → Place → List Piece → Type 0
+abbrev SameTags : Context → Context → List Piece → Type 0
 SameTags here last ps = (tags_from here (html ps) ≡ tags_from here (html (map blank ps))) × (after here (html ps) ≡ last)
 
 -- a first piece, and the others
-joined : (here there last : Place) (p : Piece) (ps : List Piece) → Passes here there p → SameTags there last ps → SameTags here last (p ∷ ps)
+joined : (here there last : Context) (p : Piece) (ps : List Piece) → Passes here there p → SameTags there last ps → SameTags here last (p ∷ ps)
 unfolding html
 joined here there last p ps first rest =
     let whole = tags-append here (bytes_of p) (html ps) in
@@ -110,7 +110,7 @@ joined here there last p ps first rest =
     let end : after (after here (bytes_of p)) (html ps) ≡ last = cc (place, rest.1) in
     (whole ∙ same ∙ sym bare, led ∙ end)
 
-pub same_tags : (ps : List Piece) (here last : Place) → past_all (Some here) ps ≡ Some last → SameTags here last ps
+pub same_tags : (ps : List Piece) (here last : Context) → past_all (Some here) ps ≡ Some last → SameTags here last ps
 unfolding html
 same_tags [] here last e = (refl, cc)
 same_tags (p ∷ ps) here last e =

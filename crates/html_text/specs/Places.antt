@@ -3,29 +3,29 @@ use Rattle.std.specs.Prelude.{ℕ, ◌==◌, List, [], ◌∷◌, ◌++◌, Opti
 use Rattle.html_text.specs.Pieces.{Piece, Markup, Text, Lines, Attribute}
 
 -- between tags, in a tag, between the quotation marks of an attribute
-pub data Place : Type 0 where
-  Content : Place
-  Tag : Place
-  Quoted : Place
+pub data Context : Type 0 where
+  Content : Context
+  Tag : Context
+  Quoted : Context
 
 -- where the next byte stands
-abbrev pub step : Place → ℕ → Place
+abbrev pub step : Context → ℕ → Context
 step Content b = if b == 60 then Tag else Content
 step Tag b = if b == 62 then Content else (if b == 34 then Quoted else Tag)
 step Quoted b = if b == 34 then Tag else Quoted
 
 -- where what follows these bytes stands
-abbrev pub after : Place → List ℕ → Place
+abbrev pub after : Context → List ℕ → Context
 after p [] = p
 after p (b ∷ bs) = after (step p b) bs
 
 -- the bytes of the tags, from `<` to `>`, without the values of attributes
-abbrev pub tag_byte : Place → ℕ → List ℕ
+abbrev pub tag_byte : Context → ℕ → List ℕ
 tag_byte Content b = if b == 60 then b ∷ [] else []
 tag_byte Tag b = b ∷ []
 tag_byte Quoted b = if b == 34 then b ∷ [] else []
 
-abbrev pub tags_from : Place → List ℕ → List ℕ
+abbrev pub tags_from : Context → List ℕ → List ℕ
 tags_from p [] = []
 tags_from p (b ∷ bs) = tag_byte p b ++ tags_from (step p b) bs
 
@@ -33,7 +33,7 @@ abbrev pub tags : List ℕ → List ℕ
 tags page = tags_from Content page
 
 -- where what follows a piece stands, if the piece may stand here: texts stand between tags, or between quotation marks
-abbrev pub past : Place → Piece → Option Place
+abbrev pub past : Context → Piece → Option Context
 past p (Markup constant) = Some (after p constant)
 past Content (Text text) = Some Content
 past Tag (Text text) = None
@@ -46,7 +46,7 @@ past Tag (Attribute text) = None
 past Quoted (Attribute text) = Some Quoted
 
 -- the same of pieces
-abbrev pub past_all : Option Place → List Piece → Option Place
+abbrev pub past_all : Option Context → List Piece → Option Context
 past_all here [] = here
 past_all None (p ∷ ps) = None
 past_all (Some here) (p ∷ ps) = past_all (past here p) ps

@@ -5,7 +5,7 @@ ghost use Rattle.html_text.specs.declared.marks.Feeds.{Feeds};
 ghost use Rattle.html_text.specs.Escaped.{escaped, unescaped, is_inert};
 ghost use Rattle.html_text.specs.Marks.{marked, has_none};
 ghost use Rattle.html_text.specs.Pieces.{Piece, html, blank};
-ghost use Rattle.html_text.specs.Places.{Place, Content, tags, past_all};
+ghost use Rattle.html_text.specs.Places.{Context, Content, tags, past_all};
 
 /// An escaped text has no `<`, `>` or quotation mark, and `&` only in references; a browser reads it as the text.
 pub fn texts_stay_texts()
@@ -21,5 +21,5 @@ pub fn nothing_else_is_marked()
 /// If each text of a page stands between tags or in quotation marks, the tags of the page are those of the page
 /// without its texts.
 pub fn tags_are_of_markup()
-    ensures { (pieces : List Piece) (last : Place) → past_all (Some Content) pieces ≡ Some last → tags (html pieces) ≡ tags (html (map blank pieces)) }
+    ensures { (pieces : List Piece) (last : Context) → past_all (Some Content) pieces ≡ Some last → tags (html pieces) ≡ tags (html (map blank pieces)) }
 {}

@@ -8,7 +8,7 @@ use crate::words::{
 use byte_out::Place;
 use clap::ArgMatches;
 use reg_desk::{
-    ByWords, Change, ChangeOf, CliFault, Enter, Kept, Retire, RetireOf, Settle, SettleEqual,
+    ByWords, Change, ChangeOf, CliFault, Enter, Recorded, Retire, RetireOf, Settle, SettleEqual,
     Source, Supersede, SupersedeOf, explained_fault,
 };
 use reg_guard::GuardFault;
@@ -45,7 +45,7 @@ fn enter_at<Q: Place>(rt: &HostRuntime, matches: &ArgMatches<'_>, desk: &mut Des
     };
     let number = next_file(&register).saturating_add(files_before(matches));
     let mut text = match open(rt, number, path) {
-        Ok(file) => Kept::new(rt.alloc(), file),
+        Ok(file) => Recorded::new(rt.alloc(), file),
         Err(fault) => return Outcome::Fault(fault),
     };
     match enter_text(rt, matches, desk, &mut register, &mut text) {
@@ -75,7 +75,7 @@ fn not_entered<X: Source>(
     rt: &HostRuntime,
     matches: &ArgMatches<'_>,
     path: &str,
-    text: &Kept<X>,
+    text: &Recorded<X>,
     fault: GuardFault,
 ) -> Outcome {
     if matches.get_flag("explain") {

@@ -18,6 +18,7 @@ use clap::ArgMatches;
 use clap::error::ErrorKind;
 use cli_words::command_line;
 use reg_desk::CliFault;
+use std::alloc::AllocError;
 use std::{env, io};
 
 const NO_TEXT: &str = "error: a word of the command line is not UTF-8";
@@ -51,10 +52,7 @@ pub fn answer(rt: &HostRuntime, words: &[String]) -> u8 {
         return failed(rt, &CliFault::Memory);
     };
     match command.try_get_matches_from(words) {
-        Ok(matches) => match perform(rt, &matches) {
-            Some(outcome) => status(rt, outcome, named(rt, &matches)),
-            None => complain(rt, &NO_COMMAND, MISUSE),
-        },
+        Ok(matches) => perform_explained(rt, &matches),
         Err(error) if error.kind() == ErrorKind::OutOfMemory => failed(rt, &CliFault::Memory),
         Err(error) if error.use_stderr() => {
             let _ = error.print(rt);
@@ -64,13 +62,26 @@ pub fn answer(rt: &HostRuntime, words: &[String]) -> u8 {
     }
 }
 
-// The files of the command, if a refusal is to be explained, and there is memory for their names.
-fn named<'a>(rt: &HostRuntime, matches: &ArgMatches<'a>) -> Option<Named<'a>> {
-    let (name, inner) = matches.subcommand()?;
-    if !inner.get_flag("explain") {
-        return None;
+// Runs the command. The names of its files, which explain a refusal, are found first: afterwards memory may be out.
+fn perform_explained(rt: &HostRuntime, matches: &ArgMatches<'_>) -> u8 {
+    let Ok(named) = named(rt, matches) else {
+        return failed(rt, &CliFault::Memory);
+    };
+    match perform(rt, matches) {
+        Some(outcome) => status(rt, outcome, named),
+        None => complain(rt, &NO_COMMAND, MISUSE),
     }
-    Named::of(rt.alloc(), name, inner).ok()
+}
+
+// The files of the command, if a refusal is to be explained.
+fn named<'a>(rt: &HostRuntime, matches: &ArgMatches<'a>) -> Result<Option<Named<'a>>, AllocError> {
+    match matches.subcommand() {
+        Some((name, inner)) if inner.get_flag("explain") => {
+            let named = Named::of(rt.alloc(), name, inner)?;
+            Ok(Some(named))
+        }
+        _ => Ok(None),
+    }
 }
 
 // Runs the command. clap rejects unknown commands.

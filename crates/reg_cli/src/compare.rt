@@ -6,7 +6,7 @@ use crate::words::{entry, open_text, word};
 use clap::ArgMatches;
 use desk_texts::{Compare, CompareKey, CompareWith, WithFault, run_compared_with};
 use reg_desk::{
-    ByWord, CliFault, ImportFault, Kept, OfFile, OnShelf, OpId, Problem, Source, Unimported,
+    ByWord, CliFault, ImportFault, OfFile, OnShelf, OpId, Problem, Recorded, Source, Unimported,
     Writing, explain_within,
 };
 use std::alloc::Global;
@@ -77,7 +77,7 @@ fn compare_with(rt: &HostRuntime, matches: &ArgMatches<'_>, path: &str) -> Outco
         Err(fault) => return Outcome::Fault(fault),
     };
     let mut text = match open_text(rt, next_file(&register), path) {
-        Ok(file) => Kept::new(rt.alloc(), file),
+        Ok(file) => Recorded::new(rt.alloc(), file),
         Err(fault) => return Outcome::Fault(fault),
     };
     let mut sink = Writing::new(io::writer(rt));
@@ -111,7 +111,7 @@ fn uncompared<S: Source>(
     alloc: Global,
     matches: &ArgMatches<'_>,
     path: &str,
-    text: &Kept<S>,
+    text: &Recorded<S>,
     why: WithFault,
 ) -> Outcome {
     match why {

@@ -1,56 +1,76 @@
 //! A store with an office file that a command only reads.
 
-use reg_desk::{CliFault, HasRoom, Store};
-use reg_file::{Register, WriteFileFault, write_bytes};
-use reg_guard::Guarded;
+use reg_desk::{CliFault, HasRoom, OpId, Store};
+use reg_file::Register;
+use reg_guard::{LastNumber, behind};
 use std::alloc::Global;
 
-/// A store with an office file for a dry run: no register is kept on it.
+/// A store of an office for a dry run: no register is kept on it. The office file is file 1, so the files of the store have the next
+/// numbers.
 #[derive(Drop)]
-pub struct Dry<'a, G> {
-    store: &'a mut G,
-    /// The fault if the file of a register would be too large.
-    large: CliFault,
+pub struct Dry<'a, S> {
+    store: &'a mut S,
+    last: LastNumber,
+    lag: Option<OpId>,
+    next: usize,
 }
 
-impl<'a, G> Dry<'a, G> {
-    pub fn new(store: &'a mut G, large: CliFault) -> Dry<'a, G> {
-        Dry { store, large }
+impl<'a, S: HasRoom> Dry<'a, S> {
+    /// The store of the office that has given this last number.
+    pub fn new(store: &'a mut S, last: LastNumber) -> Dry<'a, S> {
+        let next = store.next().saturating_add(1);
+        Dry {
+            store,
+            last,
+            lag: None,
+            next,
+        }
+    }
+
+    /// The number that the loaded register is behind, if it is.
+    pub fn lag(&self) -> Option<OpId> {
+        self.lag
     }
 }
 
-impl<G: Guarded> Store for Dry<'_, G> {
+impl<S: HasRoom> Store for Dry<'_, S> {
     ghost use Rattle.std.specs.Prelude.{◌≡◌};
     ghost use Rattle.std.proofs.Common.{◌∙◌};
 
-    ghost around = { λ old. λ new. G.around old.store.now new.store.now };
+    ghost around = { λ old. λ new. record { came = λ x. Unit {0}; none = λ f. Unit {0}; left = λ x y. Unit {0}; unleft = λ x y f. Unit {0} } };
 
-    ghost next = { λ s. G.next s.store.now };
+    ghost next = { λ s. s.next };
 
     ghost same = { λ old. λ new. new.store.ghost_name ≡ old.store.ghost_name };
 
     ghost still = { λ a b c e f. f ∙ e };
 
     fn next(&self) -> usize {
-        self.store.next()
+        self.next
     }
 
     fn load(&mut self, alloc: Global) -> Result<Register, CliFault> {
         match self.store.load(alloc) {
-            Ok(register) => Ok(register),
+            Ok(register) => {
+                self.lag = behind(&self.last, &register);
+                Ok(register)
+            }
+            Err(CliFault::File { number, fault }) => Err(CliFault::File {
+                number: number.saturating_add(1),
+                fault,
+            }),
             Err(fault) => Err(fault),
         }
     }
 }
 
-impl<G: Guarded> HasRoom for Dry<'_, G> {
+impl<S: HasRoom> HasRoom for Dry<'_, S> {
     ghost room = { λ old. λ new. record { fits = λ x y. Unit {0}; full = λ x y f. Unit {0} } };
 
     fn has_room(&mut self, alloc: Global, register: &Register) -> Result<(), CliFault> {
-        match write_bytes(alloc, register) {
-            Ok(_) => Ok(()),
-            Err(WriteFileFault::TooLarge) => Err(self.large),
-            Err(_) => Err(CliFault::Memory),
+        match self.store.has_room(alloc, register) {
+            Ok(()) => Ok(()),
+            Err(fault) => Err(fault),
         }
     }
 }

@@ -5,14 +5,15 @@ use crate::office::{Desk, OfficeFile, files_before, office_named, open_desk};
 use crate::outcome::Outcome;
 use crate::stores::{Opened, next_file, open_to_change};
 use crate::table::{Rows, answered};
-use crate::words::{differs, is_twice, open_texts, printing_place, word};
+use crate::words::{differs, is_twice, late_fault, open_texts, printing_place, word};
 use byte_out::Place;
 use clap::ArgMatches;
 use reg_desk::{
-    CliFault, FileDisk, ImportFault, InFile, Input, InputOf, OfFile, OnShelf, Order, OutFault,
-    Reading, ShelfProblem, Source, Unimported, Writing, run_import, try_import, write_all,
+    CliFault, FileDisk, HasRoom, ImportFault, ImportOptions, InFile, Input, InputOf, OfFile,
+    OnShelf, OpId, OutFault, Reading, Source, Unimported, Writing, run_import, try_import,
+    write_all,
 };
-use reg_guard::{GuardFault, Guarded, GuardedFile, GuardedShelf, LastNumber};
+use reg_guard::{GuardFault, Guarded, GuardedFile, GuardedShelf, LastNumber, why};
 use std::alloc::{AllocError, Global};
 use std::fs::OpenFile;
 use std::io::{self, Read, Seek, Write};
@@ -65,7 +66,7 @@ fn import_at<Q: Place>(
         Ok(files) => files,
         Err(fault) => return Outcome::Fault(fault),
     };
-    let order = Order {
+    let order = ImportOptions {
         replica: desk.replica,
         differs: differs(word(matches, "differs")),
         keep_going: matches.get_flag("keep-going"),
@@ -102,7 +103,7 @@ fn import_to<F: Read + Write + Seek + OpenFile, W: Write>(
     matches: &ArgMatches<'_>,
     register: &mut Opened<F>,
     files: &mut [Reading<F>],
-    order: &Order<'_>,
+    order: &ImportOptions<'_>,
     sink: &mut Writing<W>,
 ) -> Outcome {
     if matches.get_flag("dry-run") {
@@ -122,7 +123,7 @@ fn import_tried<F: Read + Write + Seek + OpenFile, W: Write>(
     alloc: Global,
     register: &mut Opened<F>,
     files: &mut [Reading<F>],
-    order: &Order<'_>,
+    order: &ImportOptions<'_>,
     sink: &mut Writing<W>,
 ) -> Result<(), Unimported> {
     match register {
@@ -143,7 +144,7 @@ fn import_into<F: Read + Write + Seek + OpenFile, W: Write>(
     matches: &ArgMatches<'_>,
     source: &mut InputOf<Reading<F>>,
     files: &mut [Reading<F>],
-    order: &Order<'_>,
+    order: &ImportOptions<'_>,
     sink: &mut Writing<W>,
 ) -> Outcome {
     let mut place = match printing_place(rt, rt.alloc(), word(matches, "out")) {
@@ -160,35 +161,36 @@ fn import_file<'a, S: Input, T: Source, P: Place, W: Write>(
     source: &'a mut S,
     place: &'a mut P,
     files: &mut [T],
-    order: &Order<'_>,
+    order: &ImportOptions<'_>,
     sink: &mut Writing<W>,
 ) -> Result<(), Unimported> {
     let mut store = InFile { source, place };
     run_import(alloc, &mut store, files, order, sink)
 }
 
-// `import` with an office file. A dry run does not open the place.
+// `import` with an office file.
 fn import_numbered<Q: Place, F: Read + Write + Seek + OpenFile, W: Write>(
     rt: &HostRuntime,
     matches: &ArgMatches<'_>,
     office: &mut OfficeFile<Q>,
     register: &mut Opened<F>,
     files: &mut [Reading<F>],
-    order: &Order<'_>,
+    order: &ImportOptions<'_>,
     sink: &mut Writing<W>,
 ) -> Outcome {
-    let is_tried = matches.get_flag("dry-run");
     let last = office.last;
+    if matches.get_flag("dry-run") {
+        return tried_numbered(rt.alloc(), last, register, files, order, sink);
+    }
     let noted = &mut office.place;
     match register {
         Opened::File(source) => {
             let mut place = match printing_place(rt, rt.alloc(), word(matches, "out")) {
-                Ok(place) => place,
+                Ok(place) => place.late(),
                 Err(fault) => return Outcome::Fault(fault),
             };
-            guarded_file(
+            let outcome = guarded_file(
                 rt.alloc(),
-                is_tried,
                 source,
                 &mut place,
                 noted,
@@ -196,73 +198,86 @@ fn import_numbered<Q: Place, F: Read + Write + Seek + OpenFile, W: Write>(
                 files,
                 order,
                 sink,
-            )
+            );
+            match late_fault(&place) {
+                Some(fault) => Outcome::Fault(fault),
+                None => outcome,
+            }
         }
-        Opened::Shelf(disk) => guarded_shelf(
-            rt.alloc(),
-            is_tried,
-            disk,
-            noted,
-            last,
-            files,
-            order,
-            sink,
-        ),
+        Opened::Shelf(disk) => guarded_shelf(rt.alloc(), disk, noted, last, files, order, sink),
     }
 }
 
 fn guarded_file<'a, S: Input, P: Place, Q: Place, T: Source, W: Write>(
     alloc: Global,
-    is_tried: bool,
     source: &'a mut S,
     place: &'a mut P,
     office: &'a mut Q,
     last: LastNumber,
     files: &mut [T],
-    order: &Order<'_>,
+    order: &ImportOptions<'_>,
     sink: &mut Writing<W>,
 ) -> Outcome {
     let mut store = GuardedFile::new(source, place, office, last);
-    if is_tried {
-        let large = CliFault::Out(OutFault::TooLarge);
-        return tried(alloc, &mut store, large, files, order, sink);
-    }
     let answer = run_import(alloc, &mut store, files, order, sink);
     outcome_on(&store, answer)
 }
 
 fn guarded_shelf<'a, Q: Place, F: Read + Write + Seek + OpenFile, T: Source, W: Write>(
     alloc: Global,
-    is_tried: bool,
     disk: &'a mut FileDisk<F>,
     office: &'a mut Q,
     last: LastNumber,
     files: &mut [T],
-    order: &Order<'_>,
+    order: &ImportOptions<'_>,
     sink: &mut Writing<W>,
 ) -> Outcome {
     let mut store = GuardedShelf::new(disk, office, last);
-    if is_tried {
-        let large = CliFault::Shelf(ShelfProblem::TooLarge);
-        return tried(alloc, &mut store, large, files, order, sink);
-    }
     let answer = run_import(alloc, &mut store, files, order, sink);
     outcome_on(&store, answer)
 }
 
-// `import --dry-run` with an office file. Nothing is printed of a register that is behind.
-fn tried<G: Guarded, T: Source, W: Write>(
+// `import --dry-run` with an office file, which opens no OUT.
+fn tried_numbered<F: Read + Write + Seek + OpenFile, W: Write>(
     alloc: Global,
-    store: &mut G,
-    large: CliFault,
-    files: &mut [T],
-    order: &Order<'_>,
+    last: LastNumber,
+    register: &mut Opened<F>,
+    files: &mut [Reading<F>],
+    order: &ImportOptions<'_>,
     sink: &mut Writing<W>,
 ) -> Outcome {
+    match register {
+        Opened::File(source) => {
+            let mut store = OfFile { source };
+            tried(alloc, &mut store, last, files, order, sink)
+        }
+        Opened::Shelf(disk) => {
+            let mut store = OnShelf { disk };
+            tried(alloc, &mut store, last, files, order, sink)
+        }
+    }
+}
+
+// Nothing is printed of a register that is behind, so the rows are kept in memory first.
+fn tried<'a, S: HasRoom, T: Source, W: Write>(
+    alloc: Global,
+    store: &'a mut S,
+    last: LastNumber,
+    files: &mut [T],
+    order: &ImportOptions<'_>,
+    sink: &mut Writing<W>,
+) -> Outcome {
+    let mut dry = Dry::new(store, last);
     let mut rows = Writing::new(Vec::new(alloc));
-    let answer = try_on(alloc, store, large, files, order, &mut rows);
-    let outcome = outcome_on(store, answer);
-    if store.lag().is_some() {
+    let answer = try_import(alloc, &mut dry, files, order, &mut rows);
+    let lag = dry.lag();
+    let reason = match fault_of(&answer) {
+        Some(CliFault::Out(OutFault::WriteFailed(_))) => return Outcome::Fault(CliFault::Memory),
+        Some(fault) => Some(why(lag, None, fault)),
+        None => None,
+    };
+    let outcome = outcome_by(lag, reason, answer);
+    if lag.is_some() {
         return outcome;
     }
     match write_all(sink, &rows.into_inner()) {
@@ -271,31 +286,44 @@ fn tried<G: Guarded, T: Source, W: Write>(
     }
 }
 
-fn try_on<'a, G: Guarded, T: Source, W: Write>(
-    alloc: Global,
-    store: &'a mut G,
-    large: CliFault,
-    files: &mut [T],
-    order: &Order<'_>,
-    rows: &mut Writing<W>,
-) -> Result<(), Unimported> {
-    let mut dry = Dry::new(store, large);
-    try_import(alloc, &mut dry, files, order, rows)
+// The outcome of an import on a store with an office file.
+fn outcome_on<G: Guarded>(store: &G, answer: Result<(), Unimported>) -> Outcome {
+    let reason = match fault_of(&answer) {
+        Some(fault) => Some(store.why(fault)),
+        None => None,
+    };
+    outcome_by(store.lag(), reason, answer)
 }
 
-// The outcome of an import on a store with an office file. A register that is behind comes before a refused text.
-fn outcome_on<G: Guarded>(store: &G, answer: Result<(), Unimported>) -> Outcome {
+// The fault of an import, unless it is about a text.
+fn fault_of(answer: &Result<(), Unimported>) -> Option<CliFault> {
     match answer {
-        Ok(()) => match store.lag() {
-            Some(id) => Outcome::Guard(GuardFault::Behind(id)),
-            None => Outcome::Done,
+        Ok(()) => None,
+        Err(why) => match why.fault {
+            ImportFault::Cli(fault) => Some(fault),
+            ImportFault::Refused { .. } => None,
         },
-        Err(why) => match (why.fault, store.lag()) {
-            (ImportFault::Refused { .. }, Some(id)) => Outcome::Guard(GuardFault::Behind(id)),
-            (ImportFault::Refused { .. }, None) => Outcome::Import(why),
-            (ImportFault::Cli(fault), _) => match store.why(fault) {
+    }
+}
+
+// The outcome of an import on a register with this lag, and with this reason for its fault. A register that is behind comes before a
+// refused text.
+fn outcome_by(
+    lag: Option<OpId>,
+    reason: Option<GuardFault>,
+    answer: Result<(), Unimported>,
+) -> Outcome {
+    match (answer, lag) {
+        (Ok(()), None) => Outcome::Done,
+        (Ok(()), Some(id)) => Outcome::Guard(GuardFault::Behind(id)),
+        (Err(why), _) => match reason {
+            Some(reason) => match reason {
                 GuardFault::Command(_) => Outcome::Import(why),
                 reason => Outcome::Guard(reason),
+            },
+            None => match lag {
+                Some(id) => Outcome::Guard(GuardFault::Behind(id)),
+                None => Outcome::Import(why),
             },
         },
     }

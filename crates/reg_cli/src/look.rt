@@ -9,9 +9,9 @@ use crate::words::{
 use clap::ArgMatches;
 use desk_texts::Texts;
 use reg_desk::{
-    ByWord, CliFault, FileAt, FileDisk, Find, FindIds, Kept, Kind, Lockable, LogAll, LogByWords,
-    LogOf, OfFile, Offices, OnShelf, Opened, Ops, PrintOf, Query, Reading, Report, ShelfAt, Show,
-    ShowOf, Source, Wanted, Wkt, WktOf, Writing, run_check, run_check_explained, run_diff,
+    ByWord, CliFault, FileAt, FileDisk, Find, FindIds, Kind, Lockable, LogAll, LogByWords, LogOf,
+    OfFile, Offices, OnShelf, Opened, Ops, PrintOf, Query, Reading, Recorded, Report, ShelfAt,
+    Show, ShowOf, Source, Wanted, Wkt, WktOf, Writing, run_check, run_check_explained, run_diff,
     run_status,
 };
 use reg_page::Page;
@@ -43,7 +43,7 @@ fn check_from<S: Source + Drop>(
     name: &str,
     source: S,
 ) -> Outcome {
-    let mut text = Kept::new(rt.alloc(), source);
+    let mut text = Recorded::new(rt.alloc(), source);
     let mut sink = Writing::new(io::writer(rt));
     if matches.get_flag("explain") {
         let answer = run_check_explained(rt.alloc(), name, &mut text, &mut sink);

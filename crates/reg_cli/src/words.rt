@@ -1,10 +1,11 @@
 //! The arguments of a command: replicas, entries, files.
 use crate::office::files_before;
 use byte_io::{InFault, read_up_to};
+use byte_out::{Held, WholeFiles};
 use clap::ArgMatches;
 use reg_desk::{
     CliFault, Decimal, Differs, FileDisk, FileId, FilePlace, Form, InputFault, Lock, Lockable,
-    MAX_FILE, OpId, Point, Reading, Refusal, RegisterFiles, ReportKind, ShelfProblem,
+    MAX_FILE, OpId, OutFault, Point, Reading, Refusal, RegisterFiles, ReportKind, ShelfProblem,
 };
 use std::alloc::{AllocError, Global};
 use std::fs::{self, OpenFile, OpenOptions};
@@ -302,6 +303,17 @@ where
         return place(rt, alloc, path);
     }
     printing_place(rt, alloc, path)
+}
+
+/// The fault of a late place, if its bytes did not get into OUT.
+pub fn late_fault<R: Files, W: WholeFiles>(place: &FilePlace<'_, R, W>) -> Option<CliFault>
+where
+    R::File: AsFd + Lockable,
+{
+    match place.trouble()? {
+        Held::Memory => Some(CliFault::Memory),
+        Held::Cut(written) => Some(CliFault::Out(OutFault::WriteFailed(written))),
+    }
 }
 
 fn place_beside<'a, R: Files>(

@@ -5,7 +5,7 @@ use Rattle.std.proofs.lemmas.List.{length-map}
 use Rattle.wkt_tree.specs.Tree.{Piece}
 use Rattle.wkt_texts.specs.Texts.{IsCutInto}
 use Rattle.reg_import.specs.declared.reading.FileText.{FileText}
-use Rattle.reg_import.specs.declared.told.Told.{Told}
+use Rattle.reg_import.specs.declared.action.TextAction.{TextAction}
 use Rattle.reg_import.specs.Readings.{IsFileText}
 use Rattle.reg_desk.specs.declared.import.texts.FileCut.{FileCut}
 use Rattle.reg_desk.specs.ImportTexts.{TextAt, text_at, in_file, AreCuts, AreRead}
@@ -54,16 +54,16 @@ no_notes : (names files : List (List ℕ)) (cuts : List TextAt) → notes_of nam
 no_notes names files [] = refl
 no_notes names files (c ∷ cs) = refl
 
-no_text_left : (names files : List (List ℕ)) (cuts : List TextAt) (ts : List Told) → length cuts ≡ 0 → notes_of names files cuts ts ≡ []
+no_text_left : (names files : List (List ℕ)) (cuts : List TextAt) (ts : List TextAction) → length cuts ≡ 0 → notes_of names files cuts ts ≡ []
 no_text_left names files [] ts h = refl
 no_text_left names files (c ∷ cs) ts h = absurd (omega arith)
 
-nothing_told : (names files : List (List ℕ)) (cuts : List TextAt) (ts : List Told) → length ts ≡ 0 → notes_of names files cuts ts ≡ []
+nothing_told : (names files : List (List ℕ)) (cuts : List TextAt) (ts : List TextAction) → length ts ≡ 0 → notes_of names files cuts ts ≡ []
 nothing_told names files cuts [] h = no_notes names files cuts
 nothing_told names files cuts (t ∷ ts) h = absurd (omega arith)
 
 -- none is left of one of the lists
-pub none_left : (names files : List (List ℕ)) (cuts : List FileCut) (ts : List Told) (i : ℕ) → min (length cuts) (length ts) ≤ i → notes_of names files (map text_at (drop i cuts)) (drop i ts) ≡ []
+pub none_left : (names files : List (List ℕ)) (cuts : List FileCut) (ts : List TextAction) (i : ℕ) → min (length cuts) (length ts) ≤ i → notes_of names files (map text_at (drop i cuts)) (drop i ts) ≡ []
 none_left names files cuts ts i past = elim (cases_lt (length cuts) (length ts)) [
   | inl l ↦ no_text_left names files (map text_at (drop i cuts)) (drop i ts) (length-map (drop i cuts) text_at ∙ length-drop i cuts ∙ omega (arith, l, past))
   | inr l ↦ nothing_told names files (map text_at (drop i cuts)) (drop i ts) (length-drop i ts ∙ omega (arith, l, past))

@@ -7,10 +7,10 @@ use Rattle.byte_io.specs.Device.{SourceState}
 use Rattle.reg_op.specs.Contents.{Content, nothing, IsContent}
 use Rattle.reg_report.specs.Exports.{export}
 use Rattle.reg_import.specs.declared.reading.FileText.{FileText}
-use Rattle.reg_import.specs.declared.reading.Reading.{Reading}
-use Rattle.reg_import.specs.declared.told.Differs.{Differs}
-use Rattle.reg_import.specs.declared.told.Differs.TheVariants.{Beside}
-use Rattle.reg_import.specs.declared.told.Problem.{Problem}
+use Rattle.reg_import.specs.declared.reading.ReadText.{ReadText}
+use Rattle.reg_import.specs.declared.action.Differs.{Differs}
+use Rattle.reg_import.specs.declared.action.Differs.TheVariants.{Beside}
+use Rattle.reg_import.specs.declared.action.Problem.{Problem}
 use Rattle.reg_import.specs.declared.import.ImportRefusal.{ImportRefusal}
 use Rattle.reg_import.specs.declared.import.ImportRefusal.TheVariants as refused
 use Rattle.reg_import.specs.Readings.{readings}
@@ -21,7 +21,7 @@ use Rattle.reg_office.specs.declared.fault.OfficeFault.TheVariants as office
 use Rattle.reg_engine.specs.declared.fault.Refusal.TheVariants as refusal
 use Rattle.reg_engine.specs.declared.fault.CliFault.{CliFault}
 use Rattle.reg_engine.specs.declared.fault.CliFault.TheVariants as cli
-use Rattle.reg_desk.specs.declared.import.order.Order.{Order}
+use Rattle.reg_desk.specs.declared.import.options.ImportOptions.{ImportOptions}
 use Rattle.reg_desk.specs.declared.import.fault.Unimported.{Unimported}
 use Rattle.reg_desk.specs.ImportFiles.{GiveAll}
 use Rattle.reg_desk.specs.ImportTexts.{TextAt, in_file, HaveTexts}
@@ -31,9 +31,9 @@ use Rattle.reg_desk.proofs.SameTexts.{one_given, same_readings, are_readings}
 
 -- ---- the same files again
 
-module _ (o p : Order) (m n : ℕ) (x y : Content) (files : List (List ℕ)) (lines : List ℕ) (passed : Option Unimported) (is : IsContent x) (ahead : RetiresNoneAhead x o.replica)
+module _ (o p : ImportOptions) (m n : ℕ) (x y : Content) (files : List (List ℕ)) (lines : List ℕ) (passed : Option Unimported) (is : IsContent x) (ahead : RetiresNoneAhead x o.replica)
     (differs : p.differs ≡ o.differs) (keep_going : p.keep_going ≡ o.keep_going) (made : Makes o m x files y lines passed) where
-  abbrev rs : List Reading
+  abbrev rs : List ReadText
   rs = readings made.1
 
   abbrev once : Imports x o.replica o.note.now o.differs o.keep_going rs y made.3.0
@@ -45,7 +45,7 @@ module _ (o p : Order) (m n : ℕ) (x y : Content) (files : List (List ℕ)) (li
       (import_again x y o.replica o.note.now p.replica p.note.now o.differs o.keep_going rs made.3.0 is ahead (are_keyed (map (λ (c : TextAt). c.bytes) made.0) rs (are_readings made.0 made.1 made.2.read)) once z us
       (subst (λ (d : Differs). Imports y p.replica p.note.now d o.keep_going rs z us) differs
       (subst (λ (k : Bool). Imports y p.replica p.note.now p.differs k rs z us) keep_going
-      (subst (λ (l : List Reading). Imports y p.replica p.note.now p.differs p.keep_going l z us) same second)))).0
+      (subst (λ (l : List ReadText). Imports y p.replica p.note.now p.differs p.keep_going l z us) same second)))).0
 
   refused_then : (texts : List FileText) (cuts : List TextAt) (r : ImportRefusal) → HaveTexts files cuts texts → Refuses p y texts r → (r ≡ refused.NoteTooLong) ⊎ (r ≡ refused.Memory)
   refused_then texts cuts r have h =
@@ -53,7 +53,7 @@ module _ (o p : Order) (m n : ℕ) (x y : Content) (files : List (List ℕ)) (li
       refused_again x y o.replica o.note.now p.replica p.note.now o.differs o.keep_going rs made.3.0 is ahead (are_keyed (map (λ (c : TextAt). c.bytes) made.0) rs (are_readings made.0 made.1 made.2.read)) once r
       (subst (λ (d : Differs). IsImportRefusal y p.replica p.note.now d o.keep_going rs r) differs
       (subst (λ (k : Bool). IsImportRefusal y p.replica p.note.now p.differs k rs r) keep_going
-      (subst (λ (l : List Reading). IsImportRefusal y p.replica p.note.now p.differs p.keep_going l r) same h)))
+      (subst (λ (l : List ReadText). IsImportRefusal y p.replica p.note.now p.differs p.keep_going l r) same h)))
 
   abbrev IsNote : CliFault → Type 0
   IsNote f = (f ≡ cli.Refused (refusal.Office office.NoteTooLong)) ⊎ (f ≡ cli.Memory)
@@ -68,17 +68,17 @@ module _ (o p : Order) (m n : ℕ) (x y : Content) (files : List (List ℕ)) (li
   unmade_again u (inr (cuts, texts, have, (r, h, by))) = of_refusal cuts texts r u (refused_then texts cuts r have h) by
 
 -- what was ready is made of the bytes that the sources gave
-pub made_of : (o : Order) (m : ℕ) (x y : Content) (a b : List SourceState) (files : List (List ℕ)) (lines : List ℕ) (passed : Option Unimported) → GiveAll a b files
+pub made_of : (o : ImportOptions) (m : ℕ) (x y : Content) (a b : List SourceState) (files : List (List ℕ)) (lines : List ℕ) (passed : Option Unimported) → GiveAll a b files
     → IsReady o m x a b y lines passed → Makes o m x files y lines passed
 made_of o m x y a b files lines passed gave (those, given, made) = subst (λ (bs : List (List ℕ)). Makes o m x bs y lines passed) (one_given a b those files given gave) made
 
-pub ready_again : (o p : Order) (m n : ℕ) (x y z : Content) (a b c d : List SourceState) (files : List (List ℕ)) (lines others : List ℕ) (passed skipped : Option Unimported)
+pub ready_again : (o p : ImportOptions) (m n : ℕ) (x y z : Content) (a b c d : List SourceState) (files : List (List ℕ)) (lines others : List ℕ) (passed skipped : Option Unimported)
     → IsContent x → RetiresNoneAhead x o.replica → p.differs ≡ o.differs → p.keep_going ≡ o.keep_going → GiveAll a b files → GiveAll c d files
     → IsReady o m x a b y lines passed → IsReady p n y c d z others skipped → z ≡ y
 ready_again o p m n x y z a b c d files lines others passed skipped is ahead differs going given gave first second =
     made_again o p m n x y files lines passed is ahead differs going (made_of o m x y a b files lines passed given first) z others skipped (made_of p n y z c d files others skipped gave second)
 
-pub unready_again : (o p : Order) (m n : ℕ) (x y : Content) (a b : List SourceState) (files : List (List ℕ)) (lines : List ℕ) (passed : Option Unimported) (u : Unimported)
+pub unready_again : (o p : ImportOptions) (m n : ℕ) (x y : Content) (a b : List SourceState) (files : List (List ℕ)) (lines : List ℕ) (passed : Option Unimported) (u : Unimported)
     → IsContent x → RetiresNoneAhead x o.replica → p.differs ≡ o.differs → p.keep_going ≡ o.keep_going → GiveAll a b files → IsReady o m x a b y lines passed → IsUnmade p n y files u
     → IsPlain (λ f. (f ≡ cli.Refused (refusal.Office office.NoteTooLong)) ⊎ (f ≡ cli.Memory)) u
 unready_again o p m n x y a b files lines passed u is ahead differs going given first h =
@@ -96,18 +96,18 @@ of_one bytes cuts texts h =
     let all : cuts ≡ map (in_file 0) h.cut.0 = h.cut.4 ∙ ap (λ rest. map (in_file 0) h.cut.0 ++ rest) h.cut.3 ∙ append-nil (map (in_file 0) h.cut.0) in
     subst (λ bs. AreReadings bs (readings texts)) (ap (map (λ (c : TextAt). c.bytes)) all ∙ same_bytes h.cut.0) (are_readings cuts texts h.read)
 
-exported_made : (o : Order) (first : ℕ) (x y : Content) (lines : List ℕ) (passed : Option Unimported) → IsContent x → o.differs ≡ Beside
+exported_made : (o : ImportOptions) (first : ℕ) (x y : Content) (lines : List ℕ) (passed : Option Unimported) → IsContent x → o.differs ≡ Beside
     → Makes o first nothing (export x.ops ∷ []) y lines passed → (text : List ℕ) → HasStanding y.ops text ↔ HasStanding x.ops text
 exported_made o first x y lines passed is beside (cuts, texts, have, (ts, m, told, over)) =
     import_exported x y o.replica o.note.now o.keep_going have.cut.0 (readings texts) ts is have.cut.2 (of_one (export x.ops) cuts texts have)
     (subst (λ (d : Differs). Imports nothing o.replica o.note.now d o.keep_going (readings texts) y ts) beside m)
 
-pub exported_ready : (o : Order) (first : ℕ) (x y : Content) (a b : List SourceState) (lines : List ℕ) (passed : Option Unimported) → IsContent x → o.differs ≡ Beside
+pub exported_ready : (o : ImportOptions) (first : ℕ) (x y : Content) (a b : List SourceState) (lines : List ℕ) (passed : Option Unimported) → IsContent x → o.differs ≡ Beside
     → GiveAll a b (export x.ops ∷ []) → IsReady o first nothing a b y lines passed → (text : List ℕ) → HasStanding y.ops text ↔ HasStanding x.ops text
 exported_ready o first x y a b lines passed is beside given ready =
     exported_made o first x y lines passed is beside (made_of o first nothing y a b (export x.ops ∷ []) lines passed given ready)
 
-exported_passes : (o : Order) (x : Content) (cuts : List TextAt) (texts : List FileText) (at : ℕ) (p : Problem) → IsContent x → o.differs ≡ Beside
+exported_passes : (o : ImportOptions) (x : Content) (cuts : List TextAt) (texts : List FileText) (at : ℕ) (p : Problem) → IsContent x → o.differs ≡ Beside
     → HaveTexts (export x.ops ∷ []) cuts texts → Refuses o nothing texts (refused.Refused at p) → ⊥
 exported_passes o x cuts texts at p is beside have h =
     exported_pass x o.replica o.note.now o.keep_going have.cut.0 (readings texts) at p is have.cut.2 (of_one (export x.ops) cuts texts have)
@@ -117,7 +117,7 @@ exported_passes o x cuts texts at p is beside have h =
 abbrev pub IsOther : CliFault → Type 0
 IsOther f = (f ≡ cli.Refused (refusal.Office office.NoteTooLong)) ⊎ ((f ≡ cli.Refused (refusal.Office office.CountSpent)) ⊎ (f ≡ cli.Memory))
 
-exported_refusal : (o : Order) (first : ℕ) (x : Content) (cuts : List TextAt) (texts : List FileText) (r : ImportRefusal) (u : Unimported) → IsContent x → o.differs ≡ Beside
+exported_refusal : (o : ImportOptions) (first : ℕ) (x : Content) (cuts : List TextAt) (texts : List FileText) (r : ImportRefusal) (u : Unimported) → IsContent x → o.differs ≡ Beside
     → HaveTexts (export x.ops ∷ []) cuts texts → Refuses o nothing texts r → IsRefusedBy o first (export x.ops ∷ []) cuts texts r u → IsPlain IsOther u
 exported_refusal o first x cuts texts refused.NoteTooLong u is beside have h by =
     weaker (λ f. f ≡ cli.Refused (refusal.Office office.NoteTooLong)) IsOther u.fault u.notes.items (λ f e. inl e) by
@@ -126,6 +126,6 @@ exported_refusal o first x cuts texts refused.CountSpent u is beside have h by =
     weaker (λ f. f ≡ cli.Refused (refusal.Office office.CountSpent)) IsOther u.fault u.notes.items (λ f e. inr (inl e)) by
 exported_refusal o first x cuts texts refused.Memory u is beside have h by = weaker (λ f. f ≡ cli.Memory) IsOther u.fault u.notes.items (λ f e. inr (inr e)) by
 
-pub exported_unmade : (o : Order) (first : ℕ) (x : Content) (u : Unimported) → IsContent x → o.differs ≡ Beside → IsUnmade o first nothing (export x.ops ∷ []) u → IsPlain IsOther u
+pub exported_unmade : (o : ImportOptions) (first : ℕ) (x : Content) (u : Unimported) → IsContent x → o.differs ≡ Beside → IsUnmade o first nothing (export x.ops ∷ []) u → IsPlain IsOther u
 exported_unmade o first x u is beside (inl memory) = weaker (λ f. f ≡ cli.Memory) IsOther u.fault u.notes.items (λ f e. inr (inr e)) memory
 exported_unmade o first x u is beside (inr (cuts, texts, have, (r, h, by))) = exported_refusal o first x cuts texts r u is beside have h by

@@ -8,8 +8,8 @@ use Rattle.wkt_texts.proofs.OneCut.{one_cut}
 use Rattle.byte_io.specs.Device.{SourceState}
 use Rattle.reg_report.specs.Conflicts.{KeyBytes, bytes_of}
 use Rattle.reg_import.specs.declared.reading.FileText.{FileText}
-use Rattle.reg_import.specs.declared.reading.Reading.{Reading}
-use Rattle.reg_import.specs.declared.reading.Reading.TheVariants as reading
+use Rattle.reg_import.specs.declared.reading.ReadText.{ReadText}
+use Rattle.reg_import.specs.declared.reading.ReadText.TheVariants as reading
 use Rattle.reg_import.specs.Readings.{readings}
 use Rattle.reg_import.specs.Again.{IsSameReading, AreReadings}
 use Rattle.reg_import.proofs.ReadingLemmas.{one_reading}
@@ -38,7 +38,7 @@ same_key key other e =
     ap (λ a. make a key.code) (same_text key.authority other.authority (ap (λ (k : KeyBytes). k.authority) e))
     ∙ ap (make other.authority) (same_text key.code other.code (ap (λ (k : KeyBytes). k.code) e))
 
-same_reading : (r s : Reading) → IsSameReading r s → r ≡ s
+same_reading : (r s : ReadText) → IsSameReading r s → r ≡ s
 same_reading (reading.Defined text key) (reading.Defined other its) h = ap (λ t. reading.Defined t key) h.0 ∙ ap (reading.Defined other) (same_key key its h.1)
 same_reading (reading.Defined text key) (reading.Unread g) h = absurd h
 same_reading (reading.Unread f) (reading.Defined other its) h = absurd h

@@ -8,10 +8,10 @@ use Rattle.reg_op.specs.Operations.{Ops}
 use Rattle.reg_op.specs.Contents.{Content}
 use Rattle.reg_office.specs.declared.fault.OfficeFault.TheVariants as office
 use Rattle.reg_import.specs.declared.reading.FileText.{FileText}
-use Rattle.reg_import.specs.declared.told.Problem.{Problem}
-use Rattle.reg_import.specs.declared.told.Problem.TheVariants as problem
-use Rattle.reg_import.specs.declared.told.Told.{Told}
-use Rattle.reg_import.specs.declared.told.Told.TheVariants as told
+use Rattle.reg_import.specs.declared.action.Problem.{Problem}
+use Rattle.reg_import.specs.declared.action.Problem.TheVariants as problem
+use Rattle.reg_import.specs.declared.action.TextAction.{TextAction}
+use Rattle.reg_import.specs.declared.action.TextAction.TheVariants as told
 use Rattle.reg_import.specs.declared.import.ImportRefusal.{ImportRefusal}
 use Rattle.reg_import.specs.declared.import.ImportRefusal.TheVariants as refused
 use Rattle.reg_import.specs.Readings.{readings}
@@ -23,7 +23,7 @@ use Rattle.reg_engine.specs.declared.fault.Refusal.TheVariants as refusal
 use Rattle.reg_engine.specs.Fault.{status_of}
 use Rattle.reg_engine.specs.declared.fault.CliFault.{CliFault}
 use Rattle.reg_engine.specs.declared.fault.CliFault.TheVariants as cli
-use Rattle.reg_desk.specs.declared.import.order.Order.{Order}
+use Rattle.reg_desk.specs.declared.import.options.ImportOptions.{ImportOptions}
 use Rattle.reg_desk.specs.declared.import.fault.ImportFault.{ImportFault}
 use Rattle.reg_desk.specs.declared.import.fault.ImportFault.TheVariants as import
 use Rattle.reg_desk.specs.declared.import.fault.Unimported.{Unimported}
@@ -31,7 +31,7 @@ use Rattle.reg_desk.specs.ImportFiles.{GiveAll, AreUnread}
 use Rattle.reg_desk.specs.ImportTexts.{TextAt, HaveTexts}
 use Rattle.reg_desk.specs.ImportNotes.{note_of, notes_of}
 
-abbrev pub names_of : Order → List (List ℕ)
+abbrev pub names_of : ImportOptions → List (List ℕ)
 names_of o = map string_bytes o.names.now
 
 -- ---- faults
@@ -60,22 +60,22 @@ abbrev pub IsAgainst : ℕ → List FileText → ℕ → Problem → ImportFault
 IsAgainst first texts at p (import.Cli f) = ⊥
 IsAgainst first texts at p (import.Refused q place file) = (text : FileText) × (slice_get texts at ≡ Some text) × (q ≡ p) × (place ≡ text.at) × (file ≡ first + text.file)
 
-abbrev pub if_explained : Order → List ℕ → List ℕ
+abbrev pub if_explained : ImportOptions → List ℕ → List ℕ
 if_explained o note = if o.explain then note else []
 
 -- the explanation of the text at this index, which is refused for this reason
-abbrev pub note_at : Order → List (List ℕ) → List TextAt → ℕ → Problem → List ℕ
+abbrev pub note_at : ImportOptions → List (List ℕ) → List TextAt → ℕ → Problem → List ℕ
 note_at o files cuts at p = unwrap_or (option_map (λ c. note_of (names_of o) files c (told.Refused p)) (slice_get cuts at)) []
 
-abbrev pub all_notes : Order → List (List ℕ) → List TextAt → List Told → List ℕ
+abbrev pub all_notes : ImportOptions → List (List ℕ) → List TextAt → List TextAction → List ℕ
 all_notes o files cuts ts = notes_of (names_of o) files cuts ts
 
 -- the fault is that this text is refused, with its explanation
-abbrev pub IsRefusedAt : Order → ℕ → List (List ℕ) → List TextAt → List FileText → ℕ → Problem → Unimported → Type 0
+abbrev pub IsRefusedAt : ImportOptions → ℕ → List (List ℕ) → List TextAt → List FileText → ℕ → Problem → Unimported → Type 0
 IsRefusedAt o first files cuts texts at p u = IsAgainst first texts at p u.fault × (u.notes.items ≡ if_explained o (note_at o files cuts at p))
 
 -- the fault is that of the first refused text, with the explanations of all; without a refused text there is no fault
-abbrev pub IsPassed : Order → ℕ → List (List ℕ) → List TextAt → List FileText → List Told → Option Unimported → Type 0
+abbrev pub IsPassed : ImportOptions → ℕ → List (List ℕ) → List TextAt → List FileText → List TextAction → Option Unimported → Type 0
 IsPassed o first files cuts texts ts None = NoneRefused ts
 IsPassed o first files cuts texts ts (Some u) = (at : ℕ) × (p : Problem) × IsFirstRefused ts at p × IsAgainst first texts at p u.fault
     × (u.notes.items ≡ if_explained o (all_notes o files cuts ts))
@@ -83,50 +83,50 @@ IsPassed o first files cuts texts ts (Some u) = (at : ℕ) × (p : Problem) × I
 -- ---- texts that were read
 
 -- the options of the output
-abbrev pub listing_of : Order → Listing
+abbrev pub listing_of : ImportOptions → Listing
 listing_of o = record { names = o.names; changes = o.changes; gone = o.gone }
 
 -- the lines are a header, a line for each text with its action, and a line for each entry that is listed, where the new content
 -- has these operations
-abbrev pub AreLines : Order → Ops → List FileText → List Told → List ℕ → Type 0
+abbrev pub AreLines : ImportOptions → Ops → List FileText → List TextAction → List ℕ → Type 0
 AreLines o s texts ts lines = IsListing (listing_of o) s texts ts lines
 
 -- importing the texts into the content gives the second one and these lines, and this fault of those that were passed over
-abbrev pub MakesOf : Order → ℕ → Content → List (List ℕ) → List TextAt → List FileText → Content → List ℕ → Option Unimported → Type 0
-MakesOf o first x files cuts texts y lines passed = (ts : List Told) × Imports x o.replica o.note.now o.differs o.keep_going (readings texts) y ts
+abbrev pub MakesOf : ImportOptions → ℕ → Content → List (List ℕ) → List TextAt → List FileText → Content → List ℕ → Option Unimported → Type 0
+MakesOf o first x files cuts texts y lines passed = (ts : List TextAction) × Imports x o.replica o.note.now o.differs o.keep_going (readings texts) y ts
     × AreLines o y.ops texts ts lines × IsPassed o first files cuts texts ts passed
 
 -- they are refused for this reason
-abbrev pub Refuses : Order → Content → List FileText → ImportRefusal → Type 0
+abbrev pub Refuses : ImportOptions → Content → List FileText → ImportRefusal → Type 0
 Refuses o x texts r = IsImportRefusal x o.replica o.note.now o.differs o.keep_going (readings texts) r
 
 -- the fault for this reason
-abbrev pub IsRefusedBy : Order → ℕ → List (List ℕ) → List TextAt → List FileText → ImportRefusal → Unimported → Type 0
+abbrev pub IsRefusedBy : ImportOptions → ℕ → List (List ℕ) → List TextAt → List FileText → ImportRefusal → Unimported → Type 0
 IsRefusedBy o first files cuts texts refused.NoteTooLong u = IsPlain (λ f. f ≡ cli.Refused (refusal.Office office.NoteTooLong)) u
 IsRefusedBy o first files cuts texts (refused.Refused at p) u = IsRefusedAt o first files cuts texts at p u ⊎ IsPlain (λ f. f ≡ cli.Memory) u
 IsRefusedBy o first files cuts texts refused.CountSpent u = IsPlain (λ f. f ≡ cli.Refused (refusal.Office office.CountSpent)) u
 IsRefusedBy o first files cuts texts refused.Memory u = IsPlain (λ f. f ≡ cli.Memory) u
 
 -- why they are not imported
-abbrev pub IsUnmadeOf : Order → ℕ → Content → List (List ℕ) → List TextAt → List FileText → Unimported → Type 0
+abbrev pub IsUnmadeOf : ImportOptions → ℕ → Content → List (List ℕ) → List TextAt → List FileText → Unimported → Type 0
 IsUnmadeOf o first x files cuts texts u = (r : ImportRefusal) × Refuses o x texts r × IsRefusedBy o first files cuts texts r u
 
 -- ---- files of these bytes
 
-abbrev pub Makes : Order → ℕ → Content → List (List ℕ) → Content → List ℕ → Option Unimported → Type 0
+abbrev pub Makes : ImportOptions → ℕ → Content → List (List ℕ) → Content → List ℕ → Option Unimported → Type 0
 Makes o first x files y lines passed = (cuts : List TextAt) × (texts : List FileText) × HaveTexts files cuts texts × MakesOf o first x files cuts texts y lines passed
 
 -- out of memory before they were read, or not imported
-abbrev pub IsUnmade : Order → ℕ → Content → List (List ℕ) → Unimported → Type 0
+abbrev pub IsUnmade : ImportOptions → ℕ → Content → List (List ℕ) → Unimported → Type 0
 IsUnmade o first x files u = IsPlain (λ f. f ≡ cli.Memory) u
     ⊎ ((cuts : List TextAt) × (texts : List FileText) × HaveTexts files cuts texts × IsUnmadeOf o first x files cuts texts u)
 
 -- ---- files
 
 -- the files gave bytes, and this is the result
-abbrev pub IsReady : Order → ℕ → Content → List SourceState → List SourceState → Content → List ℕ → Option Unimported → Type 0
+abbrev pub IsReady : ImportOptions → ℕ → Content → List SourceState → List SourceState → Content → List ℕ → Option Unimported → Type 0
 IsReady o first x old new y lines passed = (files : List (List ℕ)) × GiveAll old new files × Makes o first x files y lines passed
 
 -- a file was not read, or nothing is made
-abbrev pub IsUnready : Order → ℕ → Content → List SourceState → List SourceState → Unimported → Type 0
+abbrev pub IsUnready : ImportOptions → ℕ → Content → List SourceState → List SourceState → Unimported → Type 0
 IsUnready o first x old new u = IsPlain (AreUnread first old new) u ⊎ ((files : List (List ℕ)) × GiveAll old new files × IsUnmade o first x files u)

@@ -6,7 +6,7 @@ use Rattle.reg_op.specs.Contents.{Content}
 use Rattle.reg_engine.specs.declared.fault.CliFault.{CliFault}
 use Rattle.reg_engine.specs.Fault.{is_after}
 use Rattle.reg_engine.specs.Store.{Around, AreCut, WritesIf, IsKeptIn}
-use Rattle.reg_desk.specs.declared.import.order.Order.{Order}
+use Rattle.reg_desk.specs.declared.import.options.ImportOptions.{ImportOptions}
 use Rattle.reg_desk.specs.declared.import.fault.Unimported.{Unimported}
 use Rattle.reg_desk.specs.Import.{IsPlain, IsReady, IsUnready}
 use Rattle.reg_desk.specs.ImportRoom.{Room}
@@ -52,7 +52,7 @@ tried_in a r before after = record {
 -- ---- the effect of an import
 
 -- a register and texts were read; the texts were imported, none was passed over, and the result was written
-abbrev pub IsImported : Way → Order → ℕ → List SourceState → List SourceState → Type 0
+abbrev pub IsImported : Way → ImportOptions → ℕ → List SourceState → List SourceState → Type 0
 IsImported w o next old new = (x : Content) × (y : Content) × (lines : List ℕ) × IsReady o next x old new y lines None × w.gave x y lines
 
 -- the fault after an import: everything was written, and it is that of the texts that were passed over; or not everything
@@ -61,7 +61,7 @@ abbrev pub IsAnswer : Way → Content → Content → List ℕ → Option Unimpo
 IsAnswer w x y lines passed u = ((passed ≡ Some u) × w.gave x y lines) ⊎ IsPlain (w.failed x y lines) u
 
 -- no register was read, and no file of texts was; or one was, and there is no result, or this is the fault afterwards
-abbrev pub IsUnimported : Way → Order → ℕ → List SourceState → List SourceState → Unimported → Type 0
+abbrev pub IsUnimported : Way → ImportOptions → ℕ → List SourceState → List SourceState → Unimported → Type 0
 IsUnimported w o next old new u = (IsPlain w.none u × (new ≡ old))
     ⊎ (((x : Content) × w.came x × IsUnready o next x old new u)
     ⊎ ((x : Content) × (y : Content) × (lines : List ℕ) × (passed : Option Unimported) × IsReady o next x old new y lines passed × IsAnswer w x y lines passed u))

@@ -10,7 +10,7 @@ use byte_io::{Sink, Source};
 use reg_engine::{CliFault, Refusal, run_check};
 use std::alloc::{AllocError, Global};
 use wkt_crs::{DefinitionFault, Unspelled};
-use wkt_explain::{Kept, explain_text};
+use wkt_explain::{Recorded, explain_text};
 
 /// Why a command failed, with an explanation if the text is the reason.
 #[derive(Drop)]
@@ -48,10 +48,10 @@ pub fn problem_of(fault: &CliFault) -> Option<DefinitionFault>
 fn note_of<S: Source>(
     alloc: Global,
     name: &str,
-    text: &Kept<S>,
+    text: &Recorded<S>,
     problem: DefinitionFault,
 ) -> Result<Vec<u8>, AllocError>
-    ensures { IfOk result (λ note. note.items ≡ note_text name.now (⟦<Kept<S> as Source>⟧.state text.now).given (Some problem)) }
+    ensures { IfOk result (λ note. note.items ≡ note_text name.now (⟦<Recorded<S> as Source>⟧.state text.now).given (Some problem)) }
 {
     let Some(bytes) = text.bytes() else {
         return Err(AllocError);
@@ -64,11 +64,11 @@ fn note_of<S: Source>(
 pub fn explained_fault<S: Source>(
     alloc: Global,
     name: &str,
-    text: &Kept<S>,
+    text: &Recorded<S>,
     fault: CliFault,
 ) -> Explained
     ensures fault { (result.fault ≡ fault) ⊎ ((result.fault ≡ cli.Memory) × IsSome (problem_of fault)) }
-    ensures note { result.note.items ≡ note_text name.now (⟦<Kept<S> as Source>⟧.state text.now).given (problem_of result.fault) }
+    ensures note { result.note.items ≡ note_text name.now (⟦<Recorded<S> as Source>⟧.state text.now).given (problem_of result.fault) }
 {
     let Some(problem) = problem_of(&fault) else {
         return Explained {
@@ -89,16 +89,16 @@ pub fn explained_fault<S: Source>(
 pub fn run_check_explained<S: Source, K: Sink>(
     alloc: Global,
     name: &str,
-    text: &mut Kept<S>,
+    text: &mut Recorded<S>,
     sink: &mut K,
 ) -> Result<(), Explained>
     ensures printed { OnOk result (IsPrinted
-        (devices (⟦<Kept<S> as Source>⟧.state text.old) (K.state sink.old))
-        (devices (⟦<Kept<S> as Source>⟧.state text.new) (K.state sink.new))) }
+        (devices (⟦<Recorded<S> as Source>⟧.state text.old) (K.state sink.old))
+        (devices (⟦<Recorded<S> as Source>⟧.state text.new) (K.state sink.new))) }
     ensures fault { IfErr result (λ e. IsExplained (IsCheckFault
-        (devices (⟦<Kept<S> as Source>⟧.state text.old) (K.state sink.old))
-        (devices (⟦<Kept<S> as Source>⟧.state text.new) (K.state sink.new))) e.fault) }
-    ensures note { IfErr result (λ e. e.note.items ≡ note_text name.now (⟦<Kept<S> as Source>⟧.state text.new).given (problem_of e.fault)) }
+        (devices (⟦<Recorded<S> as Source>⟧.state text.old) (K.state sink.old))
+        (devices (⟦<Recorded<S> as Source>⟧.state text.new) (K.state sink.new))) e.fault) }
+    ensures note { IfErr result (λ e. e.note.items ≡ note_text name.now (⟦<Recorded<S> as Source>⟧.state text.new).given (problem_of e.fault)) }
 {
     match run_check(alloc, text, sink) {
         Ok(()) => Ok(()),

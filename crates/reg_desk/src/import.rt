@@ -5,12 +5,12 @@ mod engine;
 mod fault;
 mod files;
 mod notes;
-mod order;
+mod options;
 mod ready;
 mod room;
 mod texts;
 
 pub use engine::{run_import, try_import};
 pub use fault::{ImportFault, Unimported};
-pub use order::Order;
+pub use options::ImportOptions;
 pub use room::HasRoom;

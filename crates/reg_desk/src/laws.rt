@@ -13,13 +13,13 @@ ghost use Rattle.reg_report.specs.Conflicts.{KeyBytes, HasKey};
 ghost use Rattle.reg_report.specs.Exports.{export};
 ghost use Rattle.reg_settle.specs.Settling.{IsSettled};
 ghost use Rattle.reg_settle.specs.Doubles.{AreDoubles, HasLesser};
-ghost use Rattle.reg_import.specs.declared.told.Differs.TheVariants.{Beside};
+ghost use Rattle.reg_import.specs.declared.action.Differs.TheVariants.{Beside};
 ghost use Rattle.reg_import.specs.Again.{HasStanding, RetiresNoneAhead};
 ghost use Rattle.reg_keys.specs.Told.{TellOf};
 ghost use Rattle.reg_engine.specs.declared.fault.Refusal.TheVariants as refusal;
 ghost use Rattle.reg_engine.specs.declared.fault.CliFault.{CliFault};
 ghost use Rattle.reg_engine.specs.declared.fault.CliFault.TheVariants as cli;
-ghost use Rattle.reg_desk.specs.declared.import.order.Order.{Order};
+ghost use Rattle.reg_desk.specs.declared.import.options.ImportOptions.{ImportOptions};
 ghost use Rattle.reg_desk.specs.declared.import.fault.Unimported.{Unimported};
 ghost use Rattle.reg_desk.specs.ImportFiles.{GiveAll};
 ghost use Rattle.reg_desk.specs.Import.{IsPlain, IsUnmade, IsReady};
@@ -54,10 +54,10 @@ pub fn the_least_stays()
 /// The same files, imported again in the same mode into the register that their import made, make nothing: whatever the office,
 /// the note and the other options are. The second import is refused only for a long note or for memory.
 pub fn the_same_files_make_nothing()
-    ensures nothing { (o p : Order) (m n : ℕ) (x y z : Content) (a b c d : List SourceState) (files : List (List ℕ)) (lines others : List ℕ) (passed skipped : Option Unimported)
+    ensures nothing { (o p : ImportOptions) (m n : ℕ) (x y z : Content) (a b c d : List SourceState) (files : List (List ℕ)) (lines others : List ℕ) (passed skipped : Option Unimported)
         → IsContent x → RetiresNoneAhead x o.replica → p.differs ≡ o.differs → p.keep_going ≡ o.keep_going → GiveAll a b files → GiveAll c d files
         → IsReady o m x a b y lines passed → IsReady p n y c d z others skipped → z ≡ y }
-    ensures passes { (o p : Order) (m n : ℕ) (x y : Content) (a b : List SourceState) (files : List (List ℕ)) (lines : List ℕ) (passed : Option Unimported) (u : Unimported)
+    ensures passes { (o p : ImportOptions) (m n : ℕ) (x y : Content) (a b : List SourceState) (files : List (List ℕ)) (lines : List ℕ) (passed : Option Unimported) (u : Unimported)
         → IsContent x → RetiresNoneAhead x o.replica → p.differs ≡ o.differs → p.keep_going ≡ o.keep_going → GiveAll a b files
         → IsReady o m x a b y lines passed → IsUnmade p n y files u
         → IsPlain (λ f. (f ≡ cli.Refused (refusal.Office office.NoteTooLong)) ⊎ (f ≡ cli.Memory)) u }
@@ -66,9 +66,9 @@ pub fn the_same_files_make_nothing()
 /// The file that `Export` prints of a register, imported in mode `beside` into an empty one, gives a register with the same texts.
 /// No text is refused.
 pub fn an_exported_file_is_imported()
-    ensures same { (o : Order) (first : ℕ) (x y : Content) (a b : List SourceState) (lines : List ℕ) (passed : Option Unimported) → IsContent x → o.differs ≡ Beside
+    ensures same { (o : ImportOptions) (first : ℕ) (x y : Content) (a b : List SourceState) (lines : List ℕ) (passed : Option Unimported) → IsContent x → o.differs ≡ Beside
         → GiveAll a b (export x.ops ∷ []) → IsReady o first nothing a b y lines passed → (text : List ℕ) → HasStanding y.ops text ↔ HasStanding x.ops text }
-    ensures passes { (o : Order) (first : ℕ) (x : Content) (u : Unimported) → IsContent x → o.differs ≡ Beside → IsUnmade o first nothing (export x.ops ∷ []) u
+    ensures passes { (o : ImportOptions) (first : ℕ) (x : Content) (u : Unimported) → IsContent x → o.differs ≡ Beside → IsUnmade o first nothing (export x.ops ∷ []) u
         → IsPlain (λ f. (f ≡ cli.Refused (refusal.Office office.NoteTooLong)) ⊎ ((f ≡ cli.Refused (refusal.Office office.CountSpent)) ⊎ (f ≡ cli.Memory))) u }
 {}
 

@@ -17,7 +17,7 @@ mod words;
 pub use diff::run_diff;
 pub use explained::{Explained, explained_fault, problem_of, run_check_explained};
 pub use find::{Find, FindIds};
-pub use import::{HasRoom, ImportFault, Order, Unimported, run_import, try_import};
+pub use import::{HasRoom, ImportFault, ImportOptions, Unimported, run_import, try_import};
 pub use logging::{LogAll, LogByWords, LogOf};
 pub use look::{FileAt, Inspect, Look, Opened, ShelfAt};
 pub use offices::Offices;
@@ -44,4 +44,4 @@ pub use reg_keyed::{ByWord, ByWords, ChangeOf, PrintOf, RetireOf, ShowOf, Supers
 pub use reg_op::OpId;
 pub use reg_query::{Query, Wanted};
 pub use reg_report::ReportKind;
-pub use wkt_explain::{Kept, explain_within};
+pub use wkt_explain::{Recorded, explain_within};

@@ -7,16 +7,18 @@ use Rattle.byte_disk.specs.Disk.{Only, LeavesOnly}
 use Rattle.byte_disk.proofs.Moments.{weaker, joined}
 use Rattle.byte_shelf.specs.Shelf.{StandAt, HasNoHead, IsSize, EndsWithin}
 use Rattle.byte_shelf.specs.Keep.{AddsNothing, CountsFault}
+use Rattle.byte_shelf.specs.declared.keeping.Frame.{Frame}
 use Rattle.byte_shelf.specs.declared.fault.ShelfFault.{ShelfFault}
 use Rattle.byte_shelf.specs.declared.fault.ShelfFault.TheVariants as shelf
 use Rattle.reg_op.specs.Contents.{Content}
 use Rattle.reg_shelf.specs.Shelf.{IsShelf, IsShelfOf, IsNoShelf, HasFile}
 use Rattle.reg_shelf.specs.Keep.{IsTooLarge, IsRestoreFault}
+use Rattle.reg_shelf.specs.Ready.{IsReady}
 use Rattle.reg_engine.specs.declared.fault.ShelfProblem.TheVariants as problem
 use Rattle.reg_engine.specs.declared.fault.CliFault.{CliFault}
 use Rattle.reg_engine.specs.declared.fault.CliFault.TheVariants as cli
 use Rattle.reg_engine.specs.Fault.{shelf_fault}
-use Rattle.reg_engine.specs.Shelf.{Disks, Has, IsSure, AddsNothingTo, StaysOn, PassesOn, KeepsSize, KeepsOn, HasNoRoom, IsUnrestored, IsUnkept}
+use Rattle.reg_engine.specs.Shelf.{Disks, Has, IsSure, AddsNothingTo, StaysOn, PassesOn, KeepsSize, KeepsOn, HasNoRoom, IsUnrestored, IsUnkept, IsReadyOn, IsUnready, IsUnput}
 
 -- ---- faults
 
@@ -63,6 +65,16 @@ unkept d old new x y shelf.NotShelf has good counts head large refused passes =
 unkept d old new x y shelf.Memory has good counts head large refused passes = record { quiet = counts; nothing = λ told. refused told counts }
 unkept d old new x y shelf.DiskFailed has good counts head large refused passes = (counts, passes)
 
+pub unready : {D T : Type 0} (d : Disks D) (old new : D) (x y : Content) (f : ShelfFault) → Has d old x → (IsErrOf {T = T} (Err f) shelf.BadSize → ⊥)
+    → CountsFault {T = T} (Err f) (d.failures old) (d.failures new) → (IsTrue (d.tells old) → IsErrOf {T = T} (Err f) shelf.NotShelf → HasNoHead (d.seen old))
+    → (IsTrue (d.tells old) → IsErrOf {T = T} (Err f) shelf.TooLarge → IsTooLarge (d.seen old) y)
+    → AddsNothingTo d old new → IsUnready d y old new (shelf_fault f)
+unready d old new x y shelf.BadSize has good counts head large nothing = absurd (good refl)
+unready d old new x y shelf.TooLarge has good counts head large nothing = (λ told. large told refl, record { quiet = counts; nothing = nothing })
+unready d old new x y shelf.NotShelf has good counts head large nothing = (λ told. no_head (d.seen old) x (head told refl) (has told), record { quiet = counts; nothing = nothing })
+unready d old new x y shelf.Memory has good counts head large nothing = record { quiet = counts; nothing = nothing }
+unready d old new x y shelf.DiskFailed has good counts head large nothing = (counts, nothing)
+
 -- ---- what a stop leaves where nothing but a shelf was sure
 
 all_shelves : {D : Type 0} (d : Disks D) (old : D) (x : Content) → Has d old x → IsSure d old → IsTrue (d.tells old) → (c : List ℕ) → d.images old c → IsShelf c x
@@ -81,6 +93,43 @@ keeps_on d old new x y has sure tells quiet file kept sized passes =
     let before : IsTrue (d.tells new) → IsTrue (d.tells old) = λ told. subst (λ (b : Bool). IsTrue b) tells told in
     let now : IsTrue (d.tells new) → Only (d.seen new) (d.images new) × IsShelf (d.seen new) y = λ told. kept (before told) x (all_shelves d old x has sure (before told)) in
     record { quiet = quiet; file = file; has = λ told. (now told).1; sized = sized; sure = λ told. (now told).0; passes = passes }
+
+-- ---- a frame that is put on a shelf
+
+put_passes : {D : Type 0} (d : Disks D) (old new : D) (x y : Content) (frame : Frame) → Has d old x → IsSure d old → IsReadyOn d old y frame
+    → (IsTrue (d.tells old) → Only (d.seen old) (d.images old) → (was next : Content) → IsShelf (d.seen old) was → IsReady (d.seen old) next frame
+    → LeavesOnly d.moment d.since old new (λ c. IsShelf c was ⊎ IsShelf c next)) → PassesOn d x y old new
+put_passes d old new x y frame has sure ready leaves = λ told.
+    weaker d.moment d.since old new (λ c. IsShelf c x ⊎ IsShelf c y) (λ c. d.images old c ⊎ (IsShelf c x ⊎ IsShelf c y)) (leaves told (sure told) x y (has told) (ready.1 told)) (λ c left. inr left)
+
+pub unput : {D : Type 0} (d : Disks D) (old new : D) (x y : Content) (frame : Frame) (f : ShelfFault) → Has d old x → IsSure d old → IsReadyOn d old y frame
+    → f ≡ shelf.DiskFailed → CountsFault {T = Unit {0}} (Err f) (d.failures old) (d.failures new)
+    → (IsTrue (d.tells old) → Only (d.seen old) (d.images old) → (was next : Content) → IsShelf (d.seen old) was → IsReady (d.seen old) next frame
+    → LeavesOnly d.moment d.since old new (λ c. IsShelf c was ⊎ IsShelf c next)) → IsUnput d x y old new (shelf_fault f)
+unput d old new x y frame f has sure ready is counts leaves = (
+  ap shelf_fault is,
+  subst (λ (g : ShelfFault). CountsFault {T = Unit {0}} (Err g) (d.failures old) (d.failures new)) is counts,
+  put_passes d old new x y frame has sure ready leaves,
+)
+
+pub puts_on : {D : Type 0} (d : Disks D) (old new : D) (x y : Content) (frame : Frame) → Has d old x → IsSure d old → IsReadyOn d old y frame → d.tells new ≡ d.tells old → d.failures new ≡ d.failures old
+    → (IsTrue (d.tells old) → Only (d.seen old) (d.images old) → (was next : Content) → IsShelf (d.seen old) was → IsReady (d.seen old) next frame
+    → LeavesOnly d.moment d.since old new (λ c. IsShelf c was ⊎ IsShelf c next))
+    → (IsTrue (d.tells old) → (was next : Content) → IsShelf (d.seen old) was → IsReady (d.seen old) next frame → Only (d.seen new) (d.images new) × IsShelf (d.seen new) next)
+    → (IsTrue (d.tells old) → (was next : Content) (size : ℕ) → IsShelfOf (d.seen old) size was → IsReady (d.seen old) next frame
+    → IsShelfOf (d.seen new) size next × EndsWithin size (d.seen old) (d.seen new))
+    → KeepsOn d x y old new
+puts_on d old new x y frame has sure ready tells quiet leaves kept sized =
+    let before : IsTrue (d.tells new) → IsTrue (d.tells old) = λ told. subst (λ (b : Bool). IsTrue b) tells told in
+    let now : IsTrue (d.tells new) → Only (d.seen new) (d.images new) × IsShelf (d.seen new) y = λ told. kept (before told) x y (has (before told)) (ready.1 (before told)) in
+    record {
+      quiet = quiet;
+      file = ready.0;
+      has = λ told. (now told).1;
+      sized = λ told size was. sized told x y size was (ready.1 told);
+      sure = λ told. (now told).0;
+      passes = put_passes d old new x y frame has sure ready leaves;
+    }
 
 -- ---- one step after another
 
@@ -135,6 +184,20 @@ module _ {D : Type 0} (d : Disks D) (old mid new : D) (tells : d.tells mid ≡ d
   then_unkept x y (cli.Shelf problem.NotShelf) h = (λ told. h.0 (then_told told), then_stays h.1)
   then_unkept x y (cli.Shelf problem.TooLarge) h = (room_before y h.0, then_stays h.1)
   then_unkept x y (cli.Shelf problem.DiskFailed) h = (h.0 ∙ ap (λ (n : ℕ). n + 1) stays.quiet, then_passes x y h.1)
+
+  pub then_unready : (y : Content) (f : CliFault) → IsUnready d y mid new f → IsUnready d y old new f
+  then_unready y (cli.Refused r) h = h
+  then_unready y (cli.File k f) h = h
+  then_unready y (cli.Out f) h = h
+  then_unready y cli.Memory h = then_stays h
+  then_unready y (cli.Shelf problem.NotOpened) h = h
+  then_unready y (cli.Shelf problem.Busy) h = h
+  then_unready y (cli.Shelf problem.NotShelf) h = (λ told. h.0 (then_told told), then_stays h.1)
+  then_unready y (cli.Shelf problem.TooLarge) h = (room_before y h.0, then_stays h.1)
+  then_unready y (cli.Shelf problem.DiskFailed) h = (h.0 ∙ ap (λ (n : ℕ). n + 1) stays.quiet, then_nothing h.1)
+
+  pub then_unput : (x y : Content) (f : CliFault) → IsUnput d x y mid new f → IsUnput d x y old new f
+  then_unput x y f h = (h.0, h.1 ∙ ap (λ (n : ℕ). n + 1) stays.quiet, then_passes x y h.2)
 
 -- a content that was restored, and another of equal value that is kept then
 module _ {D : Type 0} (d : Disks D) (old mid new : D) (tells : d.tells mid ≡ d.tells old) (stays : StaysOn d old mid) (sure : IsSure d mid) (x : Content) (has : Has d old x) where

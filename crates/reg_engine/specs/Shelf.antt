@@ -3,9 +3,11 @@ use Rattle.std.specs.Prelude.{◌≡◌, ◌⊎◌, ◌+◌, Bool, IsTrue, List,
 use Rattle.byte_disk.specs.Disk.{Only, SameImages, LeavesOnly}
 use Rattle.byte_shelf.specs.Shelf.{IsSize, EndsWithin}
 use Rattle.byte_shelf.specs.Keep.{AddsNothing}
+use Rattle.byte_shelf.specs.declared.keeping.Frame.{Frame}
 use Rattle.reg_op.specs.Contents.{Content, nothing}
 use Rattle.reg_shelf.specs.Shelf.{IsShelf, IsShelfOf, IsNoShelf, HasFile}
 use Rattle.reg_shelf.specs.Keep.{IsTooLarge}
+use Rattle.reg_shelf.specs.Ready.{IsReady}
 use Rattle.reg_engine.specs.declared.fault.Refusal.TheVariants as refusal
 use Rattle.reg_engine.specs.declared.fault.ShelfProblem.{ShelfProblem}
 use Rattle.reg_engine.specs.declared.fault.ShelfProblem.TheVariants as problem
@@ -98,6 +100,26 @@ IsUnkept d x y old new (cli.Shelf problem.Busy) = ⊥
 IsUnkept d x y old new (cli.Shelf problem.NotShelf) = (IsTrue (d.tells old) → ⊥) × StaysOn d old new
 IsUnkept d x y old new (cli.Shelf problem.TooLarge) = HasNoRoom d old y × StaysOn d old new
 IsUnkept d x y old new (cli.Shelf problem.DiskFailed) = Fails d old new × PassesOn d x y old new
+
+-- the content has a file, and on a disk that tells the frame is ready with it
+abbrev pub IsReadyOn : {D : Type 0} → Disks D → D → Content → Frame → Type 0
+IsReadyOn d now y frame = HasFile y × (IsTrue (d.tells now) → IsReady (d.seen now) y frame)
+
+-- why no frame was made ready for the content; nothing was written
+abbrev pub IsUnready : {D : Type 0} → Disks D → Content → D → D → CliFault → Type 0
+IsUnready d y old new (cli.Refused r) = ⊥
+IsUnready d y old new (cli.File k f) = ⊥
+IsUnready d y old new (cli.Out f) = ⊥
+IsUnready d y old new cli.Memory = StaysOn d old new
+IsUnready d y old new (cli.Shelf problem.NotOpened) = ⊥
+IsUnready d y old new (cli.Shelf problem.Busy) = ⊥
+IsUnready d y old new (cli.Shelf problem.NotShelf) = (IsTrue (d.tells old) → ⊥) × StaysOn d old new
+IsUnready d y old new (cli.Shelf problem.TooLarge) = HasNoRoom d old y × StaysOn d old new
+IsUnready d y old new (cli.Shelf problem.DiskFailed) = Fails d old new × AddsNothingTo d old new
+
+-- why the frame with the second content was not put on the shelf: the disk failed, and nothing else can be the reason
+abbrev pub IsUnput : {D : Type 0} → Disks D → Content → Content → D → D → CliFault → Type 0
+IsUnput d x y old new f = (f ≡ cli.Shelf problem.DiskFailed) × Fails d old new × PassesOn d x y old new
 
 -- ---- a command that makes one content of another
 

@@ -36,7 +36,7 @@ pub use merge_on::run_merge_on;
 pub use outputs::{id_lines, publish_register};
 pub use register_files::RegisterFiles;
 pub use reports::{Ops, Report, Show, run_ops, run_report, run_show};
-pub use shelf_steps::{keep_on, restore_from};
+pub use shelf_steps::{keep_on, put_on, ready_on, restore_from};
 pub use shelves::run_shelf;
 pub use store::{Base, InFile, Keep, OfFile, OnShelf, Store};
 pub use whole_file::read_whole;

@@ -1,12 +1,12 @@
 -- A definition's text has no fault, and another text has one.
 use Rattle.std.proofs.Common.{◌≡◌, ℕ, ◌≤◌, List, length, refl, ap, subst, arith}
-use Rattle.wkt_crs.specs.declared.definition.DefinitionFault.{DefinitionFault}
-use Rattle.wkt_crs.specs.declared.definition.DefinitionFault.TheVariants as definition
-use Rattle.wkt_crs.specs.Definition.{IsDefinition, IsCanonicalFault, HasNone}
-use Rattle.wkt_crs.proofs.Texts.{one_value}
-use Rattle.wkt_crs.proofs.Verdicts.{one_first_fault, value_or_fault}
-use Rattle.wkt_crs.specs.Unspelled.{as_read}
-use Rattle.wkt_crs.proofs.Defining.{of_definition, spelled_by_definition, not_memory, one_refusal}
+use Rattle.reg_op.specs.DefinitionFault.{DefinitionFault}
+use Rattle.reg_op.specs.DefinitionFault.TheVariants as definition
+use Rattle.reg_op.specs.Definition.{IsDefinition, IsCanonicalFault, HasNone}
+use Rattle.reg_op.proofs.Texts.{one_value}
+use Rattle.reg_op.proofs.Verdicts.{one_first_fault, value_or_fault}
+use Rattle.reg_op.specs.Unspelled.{as_read}
+use Rattle.reg_op.proofs.Defining.{of_definition, spelled_by_definition, not_memory, one_refusal}
 use Rattle.reg_file.specs.declared.fault.FileFault.{FileFault}
 use Rattle.reg_file.specs.declared.fault.FileFault.TheVariants as fault
 use Rattle.reg_file.specs.Reading.{IsOfText, IsTextFault}

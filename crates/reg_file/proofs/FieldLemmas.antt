@@ -9,7 +9,7 @@ use Rattle.std.proofs.lemmas.Nat.{be_bytes_4, from_be_bytes-to_be_bytes_4}
 use Rattle.reg_op.specs.Set as set
 use Rattle.reg_op.specs.Ids.{Id, Ids, IsId, is_same}
 use Rattle.reg_state.specs.Runs.{meets}
-use Rattle.wkt_crs.specs.declared.definition.DefinitionFault.TheVariants as definition
+use Rattle.reg_op.specs.DefinitionFault.TheVariants as definition
 use Rattle.reg_file.specs.declared.span.Span.{Span}
 use Rattle.reg_file.specs.declared.fault.Refused.{Refused}
 use Rattle.reg_file.specs.declared.fault.FileFault.{FileFault}

@@ -23,3 +23,4 @@ pub mod SpellLemmas
 pub mod SummaryLemmas
 pub mod VersionLemmas
 pub mod WholeLemmas
+pub use Rattle.reg_op.proofs.OpLemmas

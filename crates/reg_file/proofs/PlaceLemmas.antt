@@ -5,11 +5,11 @@ use Rattle.std.proofs.lemmas.List.{append-nil}
 use Rattle.std.proofs.lemmas.List.Concat.{flat_map-cons}
 use Rattle.reg_op.specs.Ids.{Id, is_same}
 use Rattle.reg_op.specs.Operations.{Op}
-use Rattle.reg_file.specs.declared.place.Place.{Place}
+use Rattle.reg_file.specs.declared.op_offset.OpOffset.{OpOffset}
 use Rattle.reg_file.specs.Layout.{op_bytes}
 use Rattle.reg_file.specs.Reading.{places_of, left_in}
 
-abbrev place_at : Id → ℕ → Place
+abbrev place_at : Id → ℕ → OpOffset
 place_at id left = record { id = id; left = left }
 
 pub flat-push : (version : ℕ) (os : List Op) (o : Op) (rest : List ℕ) → flat_map (op_bytes version) (os ++ o ∷ []) ++ rest ≡ flat_map (op_bytes version) os ++ (op_bytes version o ++ rest)
@@ -24,8 +24,8 @@ places-push version [] o rest = ap (λ (t : List ℕ). place_at o.id (length t) 
 places-push version (x ∷ os) o rest = λ k. place_at x.id (length (flat-push version (x ∷ os) o rest k)) ∷ places-push version os o rest k
 
 -- the first of an id is found
-pub left_in_first : (id : Id) (p : Place) (ps : List Place) → is_same p.id id ≡ true → left_in (p ∷ ps) id ≡ p.left
+pub left_in_first : (id : Id) (p : OpOffset) (ps : List OpOffset) → is_same p.id id ≡ true → left_in (p ∷ ps) id ≡ p.left
 left_in_first id p ps h = rw h refl
 
-pub left_in_later : (id : Id) (p : Place) (ps : List Place) → is_same p.id id ≡ false → left_in (p ∷ ps) id ≡ left_in ps id
+pub left_in_later : (id : Id) (p : OpOffset) (ps : List OpOffset) → is_same p.id id ≡ false → left_in (p ∷ ps) id ≡ left_in ps id
 left_in_later id p ps h = rw h refl

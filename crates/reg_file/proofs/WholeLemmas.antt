@@ -10,7 +10,7 @@ use Rattle.reg_op.specs.Pieces.{Piece, part_of}
 use Rattle.reg_state.specs.Runs.{AllIds, seen_of}
 use Rattle.reg_file.specs.declared.fault.Stop.{Stop}
 use Rattle.reg_file.specs.declared.fault.Stop.TheVariants as stop
-use Rattle.reg_file.specs.declared.place.Place.{Place}
+use Rattle.reg_file.specs.declared.op_offset.OpOffset.{OpOffset}
 use Rattle.reg_file.specs.Layout.{runs_of}
 use Rattle.reg_file.specs.Fields.{Fails, head_at, number_at}
 use Rattle.reg_file.specs.Readers.{field, ◌behind◌, StopsIn}
@@ -40,7 +40,7 @@ module _ (version : ℕ) (basis : Ids) (bytes : List ℕ) where
       stops_in_ops s h =
           in_operations s (stops_back (field (number_at w32)) (operations version (seen_of (runs_of a.all))) r2 n r3 s count (subst (λ v. StopsIn (operations version v n) r3 s) a.ids h))
 
-      pub ops_read : (os : List Op) (places : List Place) (rest : List ℕ) → (operations version seen n).Reads r3 os rest → places ≡ places_of version os rest → IsBytes bytes → ReadsOps version basis bytes os places seen rest
+      pub ops_read : (os : List Op) (places : List OpOffset) (rest : List ℕ) → (operations version seen n).Reads r3 os rest → places ≡ places_of version os rest → IsBytes bytes → ReadsOps version basis bytes os places seen rest
       ops_read os places rest reads placed fits =
           let second = ranges_take basis bytes a.count a.all r2 fits a.reads in
           let third = number_takes r2 n r3 second.0.rest_fits count in
@@ -62,7 +62,7 @@ module _ (version : ℕ) (basis : Ids) (bytes : List ℕ) where
 pub stops_before : (version : ℕ) (basis : Ids) (bytes : List ℕ) (s : Stop) → StopsIn (seen_and_ops version basis) bytes s → StopsIn (seen_and_kept version basis) bytes s
 stops_before version basis bytes s h = stops_front (seen_and_ops version basis) (λ x. ending version x.1.1) bytes s h
 
-module _ (version : ℕ) (basis : Ids) (bytes : List ℕ) (os : List Op) (places : List Place) (seen : Ids) (rest : List ℕ) where
+module _ (version : ℕ) (basis : Ids) (bytes : List ℕ) (os : List Op) (places : List OpOffset) (seen : Ids) (rest : List ℕ) where
   module _ (a : ReadsOps version basis bytes os places seen rest) where
     ending_stops : (s : Stop) → StopsAtEnd os places rest s → StopsIn (ending version os) rest s
     ending_stops stop.Memory h = tt
@@ -128,7 +128,7 @@ module _ (version : ℕ) (bytes : List ℕ) (none : Ids) (is_none : none ≡ set
     stops_behind_basis s h =
         stops_back (ranges set.empty) (λ gs. seen_and_kept version (seen_of (runs_of gs.1))) bytes (a'.count, a'.all) rest s a'.reads (subst (λ v. StopsIn (seen_and_kept version v) rest s) a'.ids h)
 
-    pub reads_based : (p : Piece) (os : List Op) (places : List Place) (seen : Ids) (r4 : List ℕ) → ReadsOps version basis rest os places seen r4 → EndsPiece os basis seen r4 p → ReadsBased version bytes p
+    pub reads_based : (p : Piece) (os : List Op) (places : List OpOffset) (seen : Ids) (r4 : List ℕ) → ReadsOps version basis rest os places seen r4 → EndsPiece os basis seen r4 p → ReadsBased version bytes p
     reads_based p os places seen r4 o w = record {
       rest = rest;
       basis = subst (λ b. ReadsSeen set.empty bytes b rest) (sym w.basis_is) a';

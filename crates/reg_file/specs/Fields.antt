@@ -8,7 +8,7 @@ use Rattle.reg_op.specs.Ids.{Id, Ids, is_before, is_same}
 use Rattle.reg_op.specs.declared.operation.OpBody.{OpBody as Body}
 use Rattle.reg_op.specs.declared.operation.OpBody.TheVariants.{Enter, Supersede, Retire}
 use Rattle.reg_state.specs.Runs.{replica_cmp, meets}
-use Rattle.wkt_crs.specs.declared.definition.DefinitionFault.TheVariants as definition
+use Rattle.reg_op.specs.DefinitionFault.TheVariants as definition
 use Rattle.reg_file.specs.declared.span.Span.{Span}
 use Rattle.reg_file.specs.declared.fault.Refused.{Refused}
 use Rattle.reg_file.specs.declared.fault.FileFault.{FileFault}

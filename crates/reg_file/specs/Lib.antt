@@ -7,3 +7,6 @@ pub mod Readers
 pub mod Reading
 pub mod Spelling
 pub mod Steps
+pub use Rattle.reg_op.specs.Contents
+pub use Rattle.reg_op.specs.Operations
+pub use Rattle.reg_op.specs.Set

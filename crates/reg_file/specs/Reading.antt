@@ -10,14 +10,14 @@ use Rattle.reg_op.specs.declared.operation.OpBody.{OpBody as Body}
 use Rattle.reg_op.specs.declared.operation.OpBody.TheVariants.{Enter, Supersede, Retire}
 use Rattle.reg_state.specs.Runs.{seen_of}
 use Rattle.reg_op.specs.Kept.{first_dropped}
-use Rattle.wkt_crs.specs.Definition.{IsCanonicalFault}
-use Rattle.wkt_crs.specs.declared.definition.DefinitionFault.{DefinitionFault}
-use Rattle.wkt_crs.specs.declared.definition.DefinitionFault.TheVariants as definition
+use Rattle.reg_op.specs.Definition.{IsCanonicalFault}
+use Rattle.reg_op.specs.DefinitionFault.{DefinitionFault}
+use Rattle.reg_op.specs.DefinitionFault.TheVariants as definition
 use Rattle.reg_file.specs.declared.span.Span.{Span}
 use Rattle.reg_file.specs.declared.fault.Refused.{Refused}
 use Rattle.reg_file.specs.declared.fault.FileFault.{FileFault}
 use Rattle.reg_file.specs.declared.fault.FileFault.TheVariants as fault
-use Rattle.reg_file.specs.declared.place.Place.{Place}
+use Rattle.reg_file.specs.declared.op_offset.OpOffset.{OpOffset}
 use Rattle.reg_file.specs.Layout.{Group, runs_of, kind_byte, op_bytes}
 use Rattle.reg_file.specs.Fields.{number_at, head_at, span_at, group_at, heading_at, body_at}
 use Rattle.reg_file.specs.Readers.{Portion, field, ◌behind◌, repeated}
@@ -108,17 +108,17 @@ counted_operations version seen = field (number_at w32) behind operations versio
 -- ---- the end
 
 -- the places of operations with these bytes after them
-abbrev pub places_of : ℕ → List Op → List ℕ → List Place
+abbrev pub places_of : ℕ → List Op → List ℕ → List OpOffset
 places_of version [] rest = []
 places_of version (o ∷ os) rest = record { id = o.id; left = length (flat_map (op_bytes version) (o ∷ os) ++ rest) } ∷ places_of version os rest
 
 -- the place of the first one of an id
-abbrev pub left_in : List Place → Id → ℕ
+abbrev pub left_in : List OpOffset → Id → ℕ
 left_in [] id = 0
 left_in (p ∷ ps) id = if is_same p.id id then p.left else left_in ps id
 
 -- the least id that kept drops, reported where its operation was read
-abbrev pub IsDropped : List Op → List Place → Refused → Type 0
+abbrev pub IsDropped : List Op → List OpOffset → Refused → Type 0
 IsDropped os places r = (id : Id) × (first_dropped (set.from_list {R = op_cmp} os) ≡ Some id) × (r ≡ record { fault = fault.NotKept; left = left_in places id })
 
 abbrev pub IsTrailing : List Op → List ℕ → Refused → Type 0

@@ -15,7 +15,7 @@ use Rattle.reg_file.specs.declared.fault.Refused.{Refused}
 use Rattle.reg_file.specs.declared.fault.Stop.{Stop}
 use Rattle.reg_file.specs.declared.fault.Stop.TheVariants as stop
 use Rattle.reg_file.specs.declared.fault.FileFault.TheVariants as fault
-use Rattle.reg_file.specs.declared.place.Place.{Place}
+use Rattle.reg_file.specs.declared.op_offset.OpOffset.{OpOffset}
 use Rattle.reg_state.specs.declared.run.Run.{Run}
 use Rattle.reg_state.specs.Runs.{IsBelow, AllIds, ids_of_run, seen_of}
 use Rattle.reg_file.specs.declared.span.Span.{Span}
@@ -105,19 +105,19 @@ pub record EndsWell (os : List Op) (seen : Ids) (rest : List ℕ) (x : Content) 
   pub content : IsContent x
 
 -- with the places of the operations
-abbrev pub StopsAtEnd : List Op → List Place → List ℕ → Stop → Type 0
+abbrev pub StopsAtEnd : List Op → List OpOffset → List ℕ → Stop → Type 0
 StopsAtEnd os places rest stop.Memory = Unit {0}
 StopsAtEnd os places rest (stop.Refused r) = IsDropped os places r ⊎ IsTrailing os rest r
 
 -- the fault of a refused content
-abbrev pub IsStopOf : ContentFault → List Place → Stop → Type 0
+abbrev pub IsStopOf : ContentFault → List OpOffset → Stop → Type 0
 IsStopOf (content.NotKept id) places s = s ≡ stop.Refused (record { fault = fault.NotKept; left = left_in places id })
 IsStopOf content.Memory places s = s ≡ stop.Memory
 
 -- ---- after the head
 
 -- the seen ids, without the basis, and operations in order: ascending by id, and each of them seen
-pub record ReadsOps (version : ℕ) (basis : Ids) (bytes : List ℕ) (os : List Op) (places : List Place) (seen : Ids) (rest : List ℕ) : Type 0 where
+pub record ReadsOps (version : ℕ) (basis : Ids) (bytes : List ℕ) (os : List Op) (places : List OpOffset) (seen : Ids) (rest : List ℕ) : Type 0 where
   pub replicas : ℕ
   pub groups : List Group
   pub count : ℕ

@@ -10,8 +10,8 @@ ghost use Rattle.reg_file.specs.Steps.{EndsWell, IsStopOf, ReadsKept, ReadsOps, 
 
 use crate::fault::{FileFault, Stop};
 use crate::fields::{number_of, refused};
+use crate::op_offset::OpOffset;
 use crate::operations::{left_of, ops_of};
-use crate::place::Place;
 use crate::ranges::seen_of;
 use reg_op::Op;
 use reg_state::{ContentFault, Register, Seen};
@@ -24,7 +24,7 @@ pub fn seen_and_ops_of<'a>(
     version: u8,
     basis: &Seen,
     bytes: &'a [u8],
-) -> Result<(Vec<Op>, Vec<Place>, Seen, &'a [u8]), Stop>
+) -> Result<(Vec<Op>, Vec<OpOffset>, Seen, &'a [u8]), Stop>
     ensures ok { IfOk result (λ x. ReadsOps version basis.now bytes.now x.0.items x.1.items x.2 x.3.now) }
     ensures err { IfErr result (StopsIn (seen_and_ops version basis.now) bytes.now) }
 {
@@ -44,7 +44,7 @@ pub fn seen_and_ops_of<'a>(
 }
 
 /// The fault of operations that are not a content, at the place of the one that it names.
-pub fn stop_of(fault: ContentFault, places: &[Place]) -> Stop
+pub fn stop_of(fault: ContentFault, places: &[OpOffset]) -> Stop
     ensures { IsStopOf fault places.now result }
 {
     match fault {
@@ -58,7 +58,7 @@ fn register_of(
     alloc: Global,
     ops: Vec<Op>,
     seen: Seen,
-    places: &[Place],
+    places: &[OpOffset],
     rest: &[u8],
 ) -> Result<Register, Stop>
     requires by_id { ById ops.items }

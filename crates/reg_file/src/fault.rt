@@ -3,10 +3,9 @@
 ghost use Rattle.std.specs.Prelude.{◌≡◌};
 ghost use Rattle.reg_file.specs.declared.fault.Stop.TheVariants.{Memory};
 
-use reg_op::OpId;
+use reg_op::{DefinitionFault, OpId};
 use std::alloc::{AllocError, AllocFailed};
 use std::fmt;
-use wkt_crs::DefinitionFault;
 
 /// Why some bytes are not a file.
 #[derive(Clone, Copy, Debug, PartialEq, Eq)]

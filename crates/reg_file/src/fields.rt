@@ -8,11 +8,10 @@ ghost use Rattle.reg_file.specs.Fields.{Gives, byte_at, cut_at, count_at, group_
 use crate::fault::{FileFault, Refused, Stop};
 use crate::heads::FIRST_VERSION;
 use crate::span::Span;
-use reg_op::{Note, NoteFault, OpId};
+use reg_op::{Definition, DefinitionFault, Note, NoteFault, OpId};
 use reg_state::{Run, Seen};
 use std::alloc::Global;
 use uuid::Uuid;
-use wkt_crs::{Definition, DefinitionFault};
 
 pub fn refused(fault: FileFault, left: usize) -> Stop
     ensures { result ≡ Stop.Refused (record { fault = fault; left = left }) }

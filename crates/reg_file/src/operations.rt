@@ -8,11 +8,10 @@ ghost use Rattle.reg_file.specs.Steps.{StopsInText, StopsAs};
 
 use crate::fault::{FileFault, Stop};
 use crate::fields::{heading_of, id_of, pair_of, refused, text_of};
-use crate::place::Place;
-use reg_op::{Op, OpBody, OpId, SameEntry};
+use crate::op_offset::OpOffset;
+use reg_op::{Definition, DefinitionFault, Op, OpBody, OpId, SameEntry};
 use reg_state::{Register, Seen};
 use std::alloc::Global;
-use wkt_crs::{Definition, DefinitionFault};
 
 /// The known definition, if it has this text.
 fn known_as(alloc: Global, known: Option<&Definition>, text: &[u8]) -> Option<Definition>
@@ -152,7 +151,7 @@ pub fn ops_of<'a>(
     seen: &Seen,
     count: u32,
     bytes: &'a [u8],
-) -> Result<(Vec<Op>, Vec<Place>, &'a [u8]), Stop>
+) -> Result<(Vec<Op>, Vec<OpOffset>, &'a [u8]), Stop>
     ensures ok { IfOk result (λ x. (operations version seen.now count).Reads bytes.now x.0.items x.2.now × (x.1.items ≡ places_of version x.0.items x.2.now)) }
     ensures err { IfErr result (StopsIn (operations version seen.now count) bytes.now) }
 {
@@ -166,7 +165,7 @@ pub fn ops_of<'a>(
             Err(stop) => return Err(stop),
         };
         let id = op.id();
-        places.push(Place {
+        places.push(OpOffset {
             id,
             left: rest.len(),
         })?;
@@ -178,7 +177,7 @@ pub fn ops_of<'a>(
 }
 
 /// The place of the first operation of an id.
-pub fn left_of(places: &[Place], id: OpId) -> usize
+pub fn left_of(places: &[OpOffset], id: OpId) -> usize
     ensures { result ≡ left_in places.now id }
 {
     let mut rest = places;

@@ -17,7 +17,7 @@ use crate::fault::{FileFault, ReadFileFault, Stop, WriteFileFault};
 use crate::fields::{head_of, refused};
 use crate::heads::{MAX_FILE, PIECE, VERSION, version_in};
 use crate::length::length_of_piece;
-use crate::place::Place;
+use crate::op_offset::OpOffset;
 use crate::ranges::seen_of;
 use crate::spelling::{put_head, put_ops, put_ranges};
 use byte_io::{InFault, Sink, Source, read_up_to, write_all};
@@ -31,7 +31,7 @@ fn piece_of(
     ops: Vec<Op>,
     basis: Seen,
     seen: Seen,
-    places: &[Place],
+    places: &[OpOffset],
     rest: &[u8],
 ) -> Result<Piece, Stop>
     requires by_id { ById ops.items }

@@ -3,7 +3,7 @@
 ghost use Rattle.std.specs.Prelude.{map, Option, IfOk, IfErr};
 ghost use Rattle.reg_op.specs.Ids.{Id};
 ghost use Rattle.reg_report.specs.Seen.{row_seen};
-ghost use Rattle.reg_engine.specs.Store.{IsPrinted, IsUnprinted};
+ghost use Rattle.reg_handing.specs.Store.{IsPrinted, IsUnprinted};
 ghost use Rattle.reg_handing.specs.Handed.{IsNoText, CannotHand};
 ghost use Rattle.reg_handing.specs.Kept.{row_at};
 ghost use Rattle.reg_formats.specs.Handed.{IsTextIn, IsHanded, HandsText};
@@ -12,7 +12,7 @@ use crate::geojson::geojson_text;
 use crate::graph::graph_text;
 use crate::proj_sql::proj_sql_text;
 use byte_io::{Sink, write_all};
-use reg_engine::{CliFault, OutFault, Print, Store};
+use reg_handing::engine::{CliFault, OutFault, Print, Store};
 use reg_handing::{Choice, found_for, pass, uncontested};
 use reg_op::OpId;
 use reg_report::Row;
@@ -127,7 +127,7 @@ pub struct Graph {
 }
 
 impl Print for Graph {
-    ghost use Rattle.reg_engine.specs.Report.{Never};
+    ghost use Rattle.reg_handing.specs.Report.{Never};
     ghost use Rattle.reg_formats.specs.Graph.{IsGraph};
 
     ghost prints = { λ c. λ x. λ text. IsGraph c.all x text };

@@ -7,8 +7,8 @@ use Rattle.reg_op.specs.Contents.{Content}
 use Rattle.reg_number.specs.Text.{Last}
 use Rattle.reg_number.specs.declared.fault.NoteFault.{NoteFault}
 use Rattle.reg_engine.specs.declared.fault.CliFault.{CliFault}
-use Rattle.reg_engine.specs.Shelf.{Disks, Has, IsSure, StaysOn}
-use Rattle.reg_engine.proofs.ShelfLemmas.{then_has, then_keeps, then_unkept}
+use Rattle.reg_engine.specs.Shelf.{Disks, Has, IsSure}
+use Rattle.reg_engine.proofs.ShelfLemmas.{then_has, then_stays, then_keeps, then_unready, then_unput}
 use Rattle.reg_guard.specs.Guard.{unnoted}
 use Rattle.reg_guard.specs.Stores.{Numbers, IsUnnumberedBy, IsUnleftShelf, guarded_shelf}
 use Rattle.reg_guard.specs.Keeping.{KeepsNumbered, IsUnkeptNumbered}
@@ -28,8 +28,8 @@ module _ {D : Type 0} (l : Last) (d : Disks D) (x y : Content) (old mid new : D)
       )
 
   unkept_by : (f : CliFault) → IsUnkeptNumbered d l x y mid new still noted (unkept.Store f) → IsUnleftShelf None None l d x y old new office noted f
-  unkept_by f (inl h) = inl (h.0, subst (λ (n : D). StaysOn d old n) (sym h.1) came.0.1, h.2 ∙ came.1)
-  unkept_by f (inr h) = inr (then_unkept d old mid new tells came.0.1 x y f h.0, subst (λ (o : PlaceState). Numbers l y o noted) came.1 h.1)
+  unkept_by f (inl h) = inl (then_unready d old mid new tells came.0.1 y f h.0, h.1 ∙ came.1)
+  unkept_by f (inr h) = inr (then_unput d old mid new tells came.0.1 x y f h.0, subst (λ (o : PlaceState). Numbers l y o noted) came.1 h.1)
 
   pub on_unleft_by : (f : CliFault) → lag ≡ None → ((was : Content) → Has d mid was → IsSure d mid → IsUnkeptNumbered d l was y mid new still noted (unkept.Store f))
       → (guarded_shelf l d old office new noted lag trouble).unleft x y f
@@ -47,5 +47,5 @@ module _ {D : Type 0} (l : Last) (d : Disks D) (x y : Content) (old mid new : D)
         came.0.0,
         came.2,
         subst (λ (g : Option Id). IsUnleftShelf g (Some t) l d x y old new office noted (unnoted t)) (sym none)
-            (refl, subst (λ (n : D). StaysOn d old n) (sym told.0) came.0.1, subst (λ (o : PlaceState). IsUnnumberedBy l y o noted t) came.1 told.1),
+            (refl, then_stays d old mid new tells came.0.1 told.0, subst (λ (o : PlaceState). IsUnnumberedBy l y o noted t) came.1 told.1),
       )

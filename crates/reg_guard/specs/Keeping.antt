@@ -5,10 +5,9 @@ use Rattle.reg_op.specs.Contents.{Content}
 use Rattle.reg_number.specs.Text.{Last}
 use Rattle.reg_number.specs.declared.fault.NumberedFault.{NumberedFault}
 use Rattle.reg_number.specs.declared.fault.NumberedFault.TheVariants as numbered
-use Rattle.reg_engine.specs.declared.fault.CliFault.TheVariants as cli
 use Rattle.reg_engine.specs.Fault.{replace_fault}
 use Rattle.reg_engine.specs.Outputs.{PublishesFile, IsUnpublished}
-use Rattle.reg_engine.specs.Shelf.{Disks, KeepsOn, IsUnkept}
+use Rattle.reg_engine.specs.Shelf.{Disks, StaysOn, KeepsOn, IsUnready, IsUnput}
 use Rattle.reg_guard.specs.Stores.{Numbers, IsUnnumberedBy, IsWithdrawnFile, IsLateFile}
 use Rattle.reg_guard.specs.declared.keeping.Unkept.{Unkept}
 use Rattle.reg_guard.specs.declared.keeping.Unkept.TheVariants as unkept
@@ -31,7 +30,8 @@ IsUnpublishedNumbered l y read place after office noted (unkept.Unnoted t) = IsW
 abbrev pub KeepsNumbered : {D : Type 0} → Disks D → Last → Content → Content → D → D → PlaceState → PlaceState → Type 0
 KeepsNumbered d l x y old new office noted = Numbers l y office noted × KeepsOn d x y old new
 
+-- nothing was written to the shelf, and the office file is unchanged; or that has the number, and the disk failed
 abbrev pub IsUnkeptNumbered : {D : Type 0} → Disks D → Last → Content → Content → D → D → PlaceState → PlaceState → Unkept → Type 0
-IsUnkeptNumbered d l x y old new office noted (unkept.Store f) = ((f ≡ cli.Memory) × (new ≡ old) × (noted ≡ office))
-    ⊎ (IsUnkept d x y old new f × Numbers l y office noted)
-IsUnkeptNumbered d l x y old new office noted (unkept.Unnoted t) = (new ≡ old) × IsUnnumberedBy l y office noted t
+IsUnkeptNumbered d l x y old new office noted (unkept.Store f) = (IsUnready d y old new f × (noted ≡ office))
+    ⊎ (IsUnput d x y old new f × Numbers l y office noted)
+IsUnkeptNumbered d l x y old new office noted (unkept.Unnoted t) = StaysOn d old new × IsUnnumberedBy l y office noted t

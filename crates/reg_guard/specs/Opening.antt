@@ -1,7 +1,7 @@
 -- Taking an office file before a command.
 use Rattle.std.specs.Prelude.{◌≡◌, ◌+◌, [], Some, None, IsSome}
 use Rattle.byte_io.specs.Device.{SourceState}
-use Rattle.byte_out.specs.Place.{PlaceState, Told}
+use Rattle.byte_out.specs.Place.{PlaceState, IfReported}
 use Rattle.reg_number.specs.Source.{IsLastUnread}
 use Rattle.reg_number.specs.declared.fault.NumberFault.{NumberFault}
 use Rattle.reg_guard.specs.Guard.{number_fault}
@@ -12,12 +12,12 @@ use Rattle.reg_guard.specs.declared.fault.GuardFault.TheVariants as guard
 -- an empty new file was made, and there was none before
 abbrev pub Locks : PlaceState → PlaceState → Type 0
 Locks old new = (new.sink.openings ≡ old.sink.openings + 1)
-    × Told (λ f g. (f.beside ≡ None) × (g.beside ≡ Some []) × (g.stands ≡ f.stands)) old.files new.files
+    × IfReported (λ f g. (f.beside ≡ None) × (g.beside ≡ Some []) × (g.stands ≡ f.stands)) old.files new.files
 
 -- there was one, or none could be made; nothing changed
 abbrev pub IsUnlocked : PlaceState → PlaceState → GuardFault → Type 0
-IsUnlocked old new (guard.File problem.Busy) = (new.sink.openings ≡ old.sink.openings) × Told (λ f g. (g ≡ f) × IsSome f.beside) old.files new.files
-IsUnlocked old new (guard.File problem.NotOpened) = (new.sink.openings ≡ old.sink.openings) × Told (λ f g. (g ≡ f) × (f.beside ≡ None)) old.files new.files
+IsUnlocked old new (guard.File problem.Busy) = (new.sink.openings ≡ old.sink.openings) × IfReported (λ f g. (g ≡ f) × IsSome f.beside) old.files new.files
+IsUnlocked old new (guard.File problem.NotOpened) = (new.sink.openings ≡ old.sink.openings) × IfReported (λ f g. (g ≡ f) × (f.beside ≡ None)) old.files new.files
 IsUnlocked old new f = ⊥
 
 -- no office file was read, for this reason

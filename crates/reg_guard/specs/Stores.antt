@@ -15,7 +15,7 @@ use Rattle.reg_engine.specs.declared.fault.CliFault.{CliFault}
 use Rattle.reg_engine.specs.declared.fault.CliFault.TheVariants as cli
 use Rattle.reg_engine.specs.Inputs.{IsUnread}
 use Rattle.reg_engine.specs.Outputs.{PublishesFile, IsUnpublished}
-use Rattle.reg_engine.specs.Shelf.{Disks, Has, IsSure, StaysOn, KeepsOn, IsUnrestored, IsUnkept}
+use Rattle.reg_engine.specs.Shelf.{Disks, Has, IsSure, StaysOn, KeepsOn, IsUnrestored, IsUnready, IsUnput}
 use Rattle.reg_engine.specs.Store.{Around, IsUnchanged}
 use Rattle.reg_guard.specs.Behind.{behind, next_of}
 use Rattle.reg_guard.specs.Guard.{no_number, unnoted, why}
@@ -67,9 +67,9 @@ abbrev pub IsUnleftShelf : Option Id → Option NoteFault → Last → {D : Type
 IsUnleftShelf (Some id) None l d x y old new office noted f = (f ≡ no_number) × StaysOn d old new × (noted ≡ office)
 IsUnleftShelf (Some id) (Some t) l d x y old new office noted f = ⊥
 IsUnleftShelf None (Some t) l d x y old new office noted f = (f ≡ unnoted t) × StaysOn d old new × IsUnnumberedBy l y office noted t
--- there was no memory for the number; or the office file has it, and the shelf did not keep the register
-IsUnleftShelf None None l d x y old new office noted f = ((f ≡ cli.Memory) × StaysOn d old new × (noted ≡ office))
-    ⊎ (IsUnkept d x y old new f × Numbers l y office noted)
+-- nothing was written to the shelf, and the office file is unchanged; or that has the number, and the disk failed
+IsUnleftShelf None None l d x y old new office noted f = (IsUnready d y old new f × (noted ≡ office))
+    ⊎ (IsUnput d x y old new f × Numbers l y office noted)
 
 -- a shelf, and the office file, which is file 1
 abbrev pub guarded_shelf : Last → {D : Type 0} → Disks D → D → PlaceState → D → PlaceState → Option Id → Option NoteFault → Around

@@ -73,7 +73,7 @@ impl GuardFault {
 }
 
 /// The reason for the fault of a command on a store that has found this lag and this trouble.
-pub(crate) fn why(lag: Option<OpId>, trouble: Option<NoteFault>, fault: CliFault) -> GuardFault
+pub fn why(lag: Option<OpId>, trouble: Option<NoteFault>, fault: CliFault) -> GuardFault
     ensures { result ≡ why lag trouble fault }
 {
     if let Some(fault) = trouble {

@@ -10,7 +10,7 @@ ghost use Rattle.reg_guard.specs.Keeping.{PublishesNumbered, IsUnpublishedNumber
 use crate::lag::next_number;
 use byte_disk::Disk;
 use byte_out::Place;
-use reg_engine::{CliFault, OutFault, keep_on};
+use reg_engine::{CliFault, OutFault, put_on, ready_on};
 use reg_file::{WriteFileFault, write_bytes};
 use reg_number::{LastNumber, NoteFault, NumberedFault, put_number, replace_numbered};
 use reg_state::Register;
@@ -74,7 +74,8 @@ fn unkept_by(fault: NumberedFault) -> Unkept
     }
 }
 
-/// Replaces the office file, and keeps the register on the shelf from which another one was restored.
+/// Makes the register ready for the shelf from which another one was restored, replaces the office file, and then changes the
+/// shelf.
 pub fn keep_on_numbered<D: Disk, Q: Place>(
     alloc: Global,
     last: &LastNumber,
@@ -95,10 +96,14 @@ pub fn keep_on_numbered<D: Disk, Q: Place>(
     let Ok(text) = number_text(alloc, last, register) else {
         return Err(Unkept::Store(CliFault::Memory));
     };
+    let frame = match ready_on(alloc, disk, register) {
+        Ok(frame) => frame,
+        Err(fault) => return Err(Unkept::Store(fault)),
+    };
     if let Err(fault) = put_number(office, &text) {
         return Err(Unkept::Unnoted(fault));
     }
-    match keep_on(alloc, disk, register) {
+    match put_on(disk, &frame) {
         Ok(()) => Ok(()),
         Err(fault) => Err(Unkept::Store(fault)),
     }

@@ -11,10 +11,11 @@ mod opening;
 mod store;
 
 pub use driver::run_guarded;
-pub use fault::{FileProblem, GuardFault};
+pub use fault::{FileProblem, GuardFault, why};
 pub use lag::behind;
 pub use left::has_last;
 pub use making::run_office;
 pub use opening::{last_of, lock_office, unopened};
+pub use reg_engine as engine;
 pub use reg_number::{LastNumber, OfficePlace};
 pub use store::{Guarded, GuardedFile, GuardedShelf};

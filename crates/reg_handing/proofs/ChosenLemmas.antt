@@ -12,7 +12,7 @@ use Rattle.reg_op.proofs.OpLemmas.{id_total}
 use Rattle.reg_report.specs.Conflicts.{KeyBytes, HasKey}
 use Rattle.reg_report.proofs.ConflictLemmas.{key_total, none_in, in_cons, in_head}
 use Rattle.reg_report.proofs.ContenderLemmas.{one_key}
-use Rattle.reg_handing.specs.Chosen.{IsContested, AreUncontested, Place, place_cmp, IsPlaceOf, IsLeast, IsTaken}
+use Rattle.reg_handing.specs.Chosen.{IsContested, AreUncontested, KeyThenEntry, place_cmp, IsPlaceOf, IsLeast, IsTaken}
 use Rattle.reg_handing.specs.Kept.{lesser, least_with, option_entry}
 use Rattle.reg_handing.proofs.NotedLemmas.{in_last}
 
@@ -39,29 +39,29 @@ keeps_all all rest made e g = subst (λ l. AreUncontested all all l) (append-nil
 -- ---- the least place
 
 place_total : IsTotalOrder place_cmp
-place_total = then_total (on_total (λ (p : Place). p.key) key_total) (on_total (λ (p : Place). p.entry) id_total)
+place_total = then_total (on_total (λ (p : KeyThenEntry). p.key) key_total) (on_total (λ (p : KeyThenEntry). p.entry) id_total)
 
 by_place : IsStrictWeakOrder (λ a b. is_lt (place_cmp a b))
-by_place = ranks_by place_total (λ (p : Place). p)
+by_place = ranks_by place_total (λ (p : KeyThenEntry). p)
 
-not_itself : (p : Place) → is_lt (place_cmp p p) ≡ false
+not_itself : (p : KeyThenEntry) → is_lt (place_cmp p p) ≡ false
 not_itself p = ap is_lt (tied_itself place_total p)
 
-one_place : (r : Row) (p q : Place) → IsPlaceOf r p → IsPlaceOf r q → p ≡ q
+one_place : (r : Row) (p q : KeyThenEntry) → IsPlaceOf r p → IsPlaceOf r q → p ≡ q
 one_place r p q a b =
     let key : p.key ≡ q.key = one_key r.definition p.key q.key a.0 b.0 in
     let entry : p.entry ≡ q.entry = a.1 ∙ sym b.1 in
     λ j. record { key = key j; entry = entry j }
 
 -- the least place of the contested rows so far, if there are some
-abbrev pub Best : List Row → List Row → Option Place → Type 0
+abbrev pub Best : List Row → List Row → Option KeyThenEntry → Type 0
 Best all done None = (r : Row) → Contains done r → ¬ (IsContested all r)
 Best all done (Some p) = IsLeast all done p
 
 pub best_none : (all : List Row) → Best all [] None
 best_none all r there = absurd (none_in r there)
 
-pub best_same : (all done : List Row) (r : Row) (o : Option Place) → ¬ (IsContested all r) → Best all done o → Best all (done ++ r ∷ []) o
+pub best_same : (all done : List Row) (r : Row) (o : Option KeyThenEntry) → ¬ (IsContested all r) → Best all done o → Best all (done ++ r ∷ []) o
 best_same all done r None never best = λ q h. elim (in_last done r q h) [
   | inl early ↦ best q early
   | inr same ↦ λ c. never (subst (IsContested all) same c)
@@ -77,9 +77,9 @@ best_same all done r (Some p) never best = record {
   ];
 }
 
-module _ (all done : List Row) (r : Row) (p : Place) (is : IsContested all r) (placed : IsPlaceOf r p) where
+module _ (all done : List Row) (r : Row) (p : KeyThenEntry) (is : IsContested all r) (placed : IsPlaceOf r p) where
   -- the row's place, where no earlier one is before it
-  here : ((q : Row) (s : Place) → Contains done q → IsContested all q → IsPlaceOf q s → is_lt (place_cmp s p) ≡ false) → IsLeast all (done ++ r ∷ []) p
+  here : ((q : Row) (s : KeyThenEntry) → Contains done q → IsContested all q → IsPlaceOf q s → is_lt (place_cmp s p) ≡ false) → IsLeast all (done ++ r ∷ []) p
   here earlier = record {
     row = r;
     there = Contains-append_right done (r ∷ []) r (in_head r []);
@@ -91,7 +91,7 @@ module _ (all done : List Row) (r : Row) (p : Place) (is : IsContested all r) (p
     ];
   }
 
-  pub best_more : (o : Option Place) → Best all done o → Best all (done ++ r ∷ []) (Some (lesser o p))
+  pub best_more : (o : Option KeyThenEntry) → Best all done o → Best all (done ++ r ∷ []) (Some (lesser o p))
   best_more None best = here (λ q s h c its. absurd (best q h c))
   best_more (Some least) best = by (is_lt (place_cmp p least)) refl
     where
@@ -108,13 +108,13 @@ module _ (all done : List Row) (r : Row) (p : Place) (is : IsContested all r) (p
         ];
       }
 
-pub taken_is : (all done : List Row) (o : Option Place) → all ≡ done → Best all done o → IsTaken all (option_entry o)
+pub taken_is : (all done : List Row) (o : Option KeyThenEntry) → all ≡ done → Best all done o → IsTaken all (option_entry o)
 taken_is all done None e best = λ r h. best r (subst (λ l. Contains l r) e h)
 taken_is all done (Some p) e best = (p, subst (λ l. IsLeast all l p) (sym e) best, refl)
 
 -- ---- both, with one row more
 
-pub with_row : (all done rest others : List Row) (r : Row) (p : Place) (t : Bool) (kept new : List Row) (o : Option Place) → rest ≡ r ∷ others → IsTrue t ↔ IsContested all r → IsPlaceOf r p
+pub with_row : (all done rest others : List Row) (r : Row) (p : KeyThenEntry) (t : Bool) (kept new : List Row) (o : Option KeyThenEntry) → rest ≡ r ∷ others → IsTrue t ↔ IsContested all r → IsPlaceOf r p
     → new ≡ kept ++ cond t [] (r ∷ []) → Keeps all rest kept → Best all done o → Keeps all others new × Best all (done ++ r ∷ []) (least_with t o p)
 with_row all done rest others r p true kept new o e is placed pushed keeps best =
     (subst (λ l. Keeps all others l) (sym (pushed ∙ append-nil kept)) (keeps_other all rest others r kept e (is.0 refl) keeps), best_more all done r p (is.0 refl) placed o best)

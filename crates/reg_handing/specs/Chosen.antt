@@ -22,28 +22,28 @@ AreUncontested all (r ∷ some) kept =
     ((¬ (IsContested all r)) × ((later : List Row) × AreUncontested all some later × (kept ≡ r ∷ later))) ⊎ (IsContested all r × AreUncontested all some kept)
 
 -- rows are ordered by key, and then by id
-pub record Place : Type 0 where
+pub record KeyThenEntry : Type 0 where
   pub key : KeyBytes
   pub entry : Id
 
-abbrev pub place_cmp : Place → Place → Ordering
+abbrev pub place_cmp : KeyThenEntry → KeyThenEntry → Ordering
 place_cmp a b = ordering_then (key_cmp a.key b.key) (id_cmp a.entry b.entry)
 
-abbrev pub IsPlaceOf : Row → Place → Type 0
+abbrev pub IsPlaceOf : Row → KeyThenEntry → Type 0
 IsPlaceOf r p = HasKey r.definition p.key × (p.entry ≡ r.entry)
 
 -- the entry of a contested row, and no contested row has a lesser place
-pub record IsLeast (all some : List Row) (least : Place) : Type 0 where
+pub record IsLeast (all some : List Row) (least : KeyThenEntry) : Type 0 where
   pub row : Row
   pub there : Contains some row
   pub contested : IsContested all row
   pub placed : IsPlaceOf row least
-  pub first : (r : Row) (p : Place) → Contains some r → IsContested all r → IsPlaceOf r p → is_lt (place_cmp p least) ≡ false
+  pub first : (r : Row) (p : KeyThenEntry) → Contains some r → IsContested all r → IsPlaceOf r p → is_lt (place_cmp p least) ≡ false
 
 -- the least entry of the least key that has two texts, if there is such a key
 abbrev pub IsTaken : List Row → Option Id → Type 0
 IsTaken rs None = (r : Row) → Contains rs r → ¬ (IsContested rs r)
-IsTaken rs (Some id) = (least : Place) × IsLeast rs rs least × (least.entry ≡ id)
+IsTaken rs (Some id) = (least : KeyThenEntry) × IsLeast rs rs least × (least.entry ≡ id)
 
 -- of these rows, those that are handed on, and the entry that names the first key with two texts
 pub record AreChosen (found rows : List Row) (least : Option Id) : Type 0 where

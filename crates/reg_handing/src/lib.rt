@@ -9,3 +9,4 @@ mod notes;
 pub use choice::{Choice, found_for};
 pub use chosen::{Chosen, uncontested};
 pub use keep::pass;
+pub use reg_engine as engine;

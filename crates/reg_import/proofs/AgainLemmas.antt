@@ -8,11 +8,11 @@ use Rattle.reg_op.specs.Ids.{Id}
 use Rattle.reg_op.specs.declared.operation.OpBody.{OpBody as Body}
 use Rattle.reg_state.specs.Runs.{id_at}
 use Rattle.reg_report.specs.Conflicts.{KeyBytes, bytes_of}
-use Rattle.reg_import.specs.declared.known.Known.{Known}
-use Rattle.reg_import.specs.declared.reading.Reading.{Reading}
-use Rattle.reg_import.specs.declared.reading.Reading.TheVariants as reading
-use Rattle.reg_import.specs.declared.told.Differs.{Differs}
-use Rattle.reg_import.specs.declared.told.Told.{Told}
+use Rattle.reg_import.specs.declared.standing_entry.StandingEntry.{StandingEntry}
+use Rattle.reg_import.specs.declared.reading.ReadText.{ReadText}
+use Rattle.reg_import.specs.declared.reading.ReadText.TheVariants as reading
+use Rattle.reg_import.specs.declared.action.Differs.{Differs}
+use Rattle.reg_import.specs.declared.action.TextAction.{TextAction}
 use Rattle.reg_import.specs.Known.{OfKey, At, is_key, with_key}
 use Rattle.reg_import.specs.Imports.{least, any_entry, told_of, bodies_of, then_of, told_at, bodies_at, then_at, imports, tolds, effects, is_refused, is_spent, NoneSpent}
 use Rattle.reg_import.specs.Again.{is_there, IsToldAgain}
@@ -27,7 +27,7 @@ at_key P key k new at f g = elim (is_key key k) as (λ b. is_key key k ≡ b →
 ] refl
 
 -- what there is of each key after some texts
-abbrev pub finally : Differs → List ℕ → ℕ → At → List Reading → At
+abbrev pub finally : Differs → List ℕ → ℕ → At → List ReadText → At
 finally d r n at [] = at
 finally d r n at (text ∷ texts) =
     let t = told_at d r n at text in
@@ -35,7 +35,7 @@ finally d r n at (text ∷ texts) =
 
 -- ---- what stays
 
-ours_then : (d : Differs) (r : List ℕ) (n : ℕ) (at : At) (text : Reading) (k : KeyBytes) (e : Known) → (at k).ours ≡ true → Contains (at k).known e
+ours_then : (d : Differs) (r : List ℕ) (n : ℕ) (at : At) (text : ReadText) (k : KeyBytes) (e : StandingEntry) → (at k).ours ≡ true → Contains (at k).known e
     → Contains (then_at (told_at d r n at text) at text k).known e × ((then_at (told_at d r n at text) at text k).ours ≡ true)
 ours_then d r n at (reading.Unread f) k e o c = (c, o)
 ours_then d r n at (reading.Defined text key) k e o c =
@@ -44,10 +44,10 @@ ours_then d r n at (reading.Defined text key) k e o c =
     (λ _. (c, o))
 
 -- an entry of a key that is ours stays to the end
-pub ours_stay : (d : Differs) (r : List ℕ) (n : ℕ) (at : At) (texts : List Reading) (k : KeyBytes) (e : Known) → (at k).ours ≡ true → Contains (at k).known e → Contains (finally d r n at texts k).known e
+pub ours_stay : (d : Differs) (r : List ℕ) (n : ℕ) (at : At) (texts : List ReadText) (k : KeyBytes) (e : StandingEntry) → (at k).ours ≡ true → Contains (at k).known e → Contains (finally d r n at texts k).known e
 ours_stay d r n at [] k e o c = c
 ours_stay d r n at (text ∷ texts) k e o c =
-    let t : Told = told_at d r n at text in
+    let t : TextAction = told_at d r n at text in
     let next = ours_then d r n at text k e o c in
     ours_stay d r (n + length (bodies_at t at text)) (then_at t at text) texts k e next.1 next.0
 
@@ -55,7 +55,7 @@ ours_stay d r n at (text ∷ texts) k e o c =
 abbrev Closed : Differs → OfKey → Type 0
 Closed d there = blocks (least any_entry there.known) d there.ours ≡ true
 
-closed_then : (d : Differs) (r : List ℕ) (n : ℕ) (at : At) (text : Reading) (k : KeyBytes) → Closed d (at k)
+closed_then : (d : Differs) (r : List ℕ) (n : ℕ) (at : At) (text : ReadText) (k : KeyBytes) → Closed d (at k)
     → ((then_at (told_at d r n at text) at text k).known ≡ (at k).known) × Closed d (then_at (told_at d r n at text) at text k)
 closed_then d r n at (reading.Unread f) k h = (refl, h)
 closed_then d r n at (reading.Defined text key) k h =
@@ -65,17 +65,17 @@ closed_then d r n at (reading.Defined text key) k h =
     (on.0 ∙ ap (λ l. (at l).known) same, on.1))
     (λ _. (refl, h))
 
-closed_stay : (d : Differs) (r : List ℕ) (n : ℕ) (at : At) (texts : List Reading) (k : KeyBytes) → Closed d (at k) → (finally d r n at texts k).known ≡ (at k).known
+closed_stay : (d : Differs) (r : List ℕ) (n : ℕ) (at : At) (texts : List ReadText) (k : KeyBytes) → Closed d (at k) → (finally d r n at texts k).known ≡ (at k).known
 closed_stay d r n at [] k h = refl
 closed_stay d r n at (text ∷ texts) k h =
-    let t : Told = told_at d r n at text in
+    let t : TextAction = told_at d r n at text in
     let next = closed_then d r n at text k h in
     closed_stay d r (n + length (bodies_at t at text)) (then_at t at text) texts k next.1 ∙ next.0
 
 -- ---- one text again
 
 -- of a text this is told again, and nothing is made of it
-record IsQuiet (t u : Told) (key : Key) (text : List ℕ) (there over : OfKey) : Type 0 where
+record IsQuiet (t u : TextAction) (key : Key) (text : List ℕ) (there over : OfKey) : Type 0 where
   refused : is_refused u ≡ is_refused t
   found : is_there u ≡ not (is_refused t)
   nothing : bodies_of u text over.known ≡ []
@@ -83,15 +83,15 @@ record IsQuiet (t u : Told) (key : Key) (text : List ℕ) (there over : OfKey) :
   ours : (then_of t key text there).ours ≡ true → (then_of u key text over).ours ≡ true
 
 -- those that have come at the end have the same texts as these
-pub record SameTexts (last over : List Known) : Type 0 where
+pub record SameTexts (last over : List StandingEntry) : Type 0 where
   pub all : (text : List ℕ) → HasText last text → HasText over text
   pub no_more : (text : List ℕ) → HasText over text → HasText last text
 
-module _ (d : Differs) (new again : Id) (there over : OfKey) (key : Key) (text : List ℕ) (last : List Known) where
-  abbrev t : Told
+module _ (d : Differs) (new again : Id) (there over : OfKey) (key : Key) (text : List ℕ) (last : List StandingEntry) where
+  abbrev t : TextAction
   t = told_of d new there text
 
-  abbrev u : Told
+  abbrev u : TextAction
   u = told_of d again over text
 
   quiet_there : is_refused t ≡ false → is_there u ≡ true → IsQuiet t u key text there over
@@ -113,7 +113,7 @@ module _ (d : Differs) (new again : Id) (there over : OfKey) (key : Key) (text :
   }
 
   quiet : (there.ours ≡ true → over.ours ≡ true) → SameTexts last over.known → is_spent t ≡ false
-      → ((e : Known) → (then_of t key text there).ours ≡ true → Contains (then_of t key text there).known e → Contains last e)
+      → ((e : StandingEntry) → (then_of t key text there).ours ≡ true → Contains (then_of t key text there).known e → Contains last e)
       → (Closed d there → last ≡ there.known) → IsQuiet t u key text there over
   quiet o same unspent stay closed = elim (is_refused t) as (λ b. is_refused t ≡ b → IsQuiet t u key text there over) [
     | false ↦ λ r.
@@ -130,11 +130,11 @@ module _ (d : Differs) (new again : Id) (there over : OfKey) (key : Key) (text :
 -- ---- all texts again
 
 -- this is told of texts again, and nothing is made of them
-pub record AreQuiet (d : Differs) (r : List ℕ) (n : ℕ) (at : At) (s : List ℕ) (m : ℕ) (over : At) (texts : List Reading) : Type 0 where
+pub record AreQuiet (d : Differs) (r : List ℕ) (n : ℕ) (at : At) (s : List ℕ) (m : ℕ) (over : At) (texts : List ReadText) : Type 0 where
   pub told : IsToldAgain (tolds (imports d r n at texts)) (tolds (imports d s m over texts))
   pub nothing : effects (imports d s m over texts) ≡ []
 
-pub quiet_all : (d : Differs) (r : List ℕ) (n : ℕ) (at : At) (s : List ℕ) (m : ℕ) (over : At) (texts : List Reading) → ((k : KeyBytes) → (at k).ours ≡ true → (over k).ours ≡ true)
+pub quiet_all : (d : Differs) (r : List ℕ) (n : ℕ) (at : At) (s : List ℕ) (m : ℕ) (over : At) (texts : List ReadText) → ((k : KeyBytes) → (at k).ours ≡ true → (over k).ours ≡ true)
     → ((k : KeyBytes) → SameTexts (finally d r n at texts k).known (over k).known) → NoneSpent (tolds (imports d r n at texts)) → AreQuiet d r n at s m over texts
 quiet_all d r n at s m over [] ours same unspent = record { told = record { refused = refl; others = refl }; nothing = refl }
 quiet_all d r n at s m over (reading.Unread f ∷ texts) ours same unspent =
@@ -144,8 +144,8 @@ quiet_all d r n at s m over (reading.Unread f ∷ texts) ours same unspent =
     }
 quiet_all d r n at s m over (reading.Defined text key ∷ texts) ours same unspent =
     let k : KeyBytes = bytes_of key in
-    let t : Told = told_of d (id_at r n) (at k) text in
-    let u : Told = told_of d (id_at s m) (over k) text in
+    let t : TextAction = told_of d (id_at r n) (at k) text in
+    let u : TextAction = told_of d (id_at s m) (over k) text in
     let bs : List Body = bodies_of t text (at k).known in
     let cs : List Body = bodies_of u text (over k).known in
     let next : At = with_key k (then_of t key text (at k)) at in

@@ -21,11 +21,11 @@ use Rattle.reg_report.specs.Conflicts.{KeyBytes, bytes_of}
 use Rattle.reg_report.specs.Exports.{is_retired}
 use Rattle.reg_office.proofs.NumberLemmas.{op_cases}
 use Rattle.reg_report.proofs.PairLemmas.{it_enters}
-use Rattle.reg_import.specs.declared.known.Known.{Known}
-use Rattle.reg_import.specs.declared.reading.Reading.{Reading}
-use Rattle.reg_import.specs.declared.reading.Reading.TheVariants as reading
-use Rattle.reg_import.specs.declared.told.Differs.{Differs}
-use Rattle.reg_import.specs.declared.told.Told.{Told}
+use Rattle.reg_import.specs.declared.standing_entry.StandingEntry.{StandingEntry}
+use Rattle.reg_import.specs.declared.reading.ReadText.{ReadText}
+use Rattle.reg_import.specs.declared.reading.ReadText.TheVariants as reading
+use Rattle.reg_import.specs.declared.action.Differs.{Differs}
+use Rattle.reg_import.specs.declared.action.TextAction.{TextAction}
 use Rattle.reg_import.specs.Known.{AreKnown, AreStanding, stands, OfKey, At, is_key, key_of, by_key, with_key}
 use Rattle.reg_import.specs.Imports.{told_of, bodies_of, then_of, imports, effects}
 use Rattle.reg_import.specs.Plans.{retired}
@@ -37,16 +37,16 @@ same_itself : (i : Id) → is_same i i ≡ true
 same_itself i = ap is_eq (tied_itself id_total i)
 
 -- one of the entries has the id
-abbrev among : Id → List Known → Bool
-among i es = list_any (λ (e : Known). is_same i e.entry) es
+abbrev among : Id → List StandingEntry → Bool
+among i es = list_any (λ (e : StandingEntry). is_same i e.entry) es
 
 -- the entries can be retired: each is one of the register, not retired, none of those before, and there once
-abbrev CanRetire : Ops → List Id → List Known → Type 0
+abbrev CanRetire : Ops → List Id → List StandingEntry → Type 0
 CanRetire ops before es = Once ops before (retired es)
 
 -- ---- what can be retired still can, where others were
 
-can_still : (ops : Ops) (b1 b2 : List Id) (es : List Known) → CanRetire ops b1 es → ((i : Id) → among i es ≡ true → list_any (is_same i) b2 ≡ true → list_any (is_same i) b1 ≡ true) → CanRetire ops b2 es
+can_still : (ops : Ops) (b1 b2 : List Id) (es : List StandingEntry) → CanRetire ops b1 es → ((i : Id) → among i es ≡ true → list_any (is_same i) b2 ≡ true → list_any (is_same i) b1 ≡ true) → CanRetire ops b2 es
 can_still ops b1 b2 [] h w = tt
 can_still ops b1 b2 (e ∷ es) h w = (
   h.0,
@@ -58,7 +58,7 @@ can_still ops b1 b2 (e ∷ es) h w = (
   ]),
 )
 
-can_filter : (ops : Ops) (p : Known → Bool) (before : List Id) (es : List Known) → CanRetire ops before es → CanRetire ops before (filter p es)
+can_filter : (ops : Ops) (p : StandingEntry → Bool) (before : List Id) (es : List StandingEntry) → CanRetire ops before es → CanRetire ops before (filter p es)
 can_filter ops p before [] h = tt
 can_filter ops p before (e ∷ es) h =
     elim (p e) as (λ b. CanRetire ops before (cond b (e ∷ filter p es) (filter p es))) [
@@ -67,7 +67,7 @@ can_filter ops p before (e ∷ es) h =
     ]
 
 -- those before, and the entries
-after_cases : (before : List Id) (es : List Known) (i : Id) → list_any (is_same i) (and_retired before (retired es)) ≡ true → (list_any (is_same i) before ≡ true) ⊎ (among i es ≡ true)
+after_cases : (before : List Id) (es : List StandingEntry) (i : Id) → list_any (is_same i) (and_retired before (retired es)) ≡ true → (list_any (is_same i) before ≡ true) ⊎ (among i es ≡ true)
 after_cases before [] i h = inl h
 after_cases before (e ∷ es) i h = elim (after_cases (e.entry ∷ before) es i h) [
   | inl a ↦ elim (or_cases (is_same i e.entry) (list_any (is_same i) before) a) [
@@ -122,7 +122,7 @@ fresh_revised ops before at key new free ours f =
 
 -- ---- one text, and all
 
-record Goes (ops : Ops) (before : List Id) (at : At) (key : Key) (text : List ℕ) (t : Told) : Type 0 where
+record Goes (ops : Ops) (before : List Id) (at : At) (key : Key) (text : List ℕ) (t : TextAction) : Type 0 where
   once : Once ops before (bodies_of t text (at (bytes_of key)).known)
   fresh : Fresh ops (and_retired before (bodies_of t text (at (bytes_of key)).known)) (with_key (bytes_of key) (then_of t key text (at (bytes_of key))) at)
 
@@ -144,12 +144,12 @@ goes d ops before at new key text f =
     same : Fresh ops before (with_key (bytes_of key) (at (bytes_of key)) at)
     same = fresh_same ops before at (bytes_of key) (at (bytes_of key)) (λ o. refl) f
 
-pub all_once : (d : Differs) (ops : Ops) (before : List Id) (at : At) (r : List ℕ) (n : ℕ) (texts : List Reading) → Fresh ops before at → Once ops before (effects (imports d r n at texts))
+pub all_once : (d : Differs) (ops : Ops) (before : List Id) (at : At) (r : List ℕ) (n : ℕ) (texts : List ReadText) → Fresh ops before at → Once ops before (effects (imports d r n at texts))
 all_once d ops before at r n [] f = tt
 all_once d ops before at r n (reading.Unread g ∷ texts) f = all_once d ops before at r (n + 0) texts f
 all_once d ops before at r n (reading.Defined text key ∷ texts) f =
     let there : OfKey = at (bytes_of key) in
-    let t : Told = told_of d (id_at r n) there text in
+    let t : TextAction = told_of d (id_at r n) there text in
     let bs : List Body = bodies_of t text there.known in
     let g = goes d ops before at (id_at r n) key text f in
     once_append ops before bs (effects (imports d r (n + length bs) (with_key (bytes_of key) (then_of t key text there) at) texts)) g.once
@@ -193,9 +193,9 @@ rows_of s os = flat_map (λ (o : Op). rows_at s o.id o.body) os
 
 -- what the entries of the rows of later operations can be
 abbrev CanLater : Ops → List Op → Type 0
-CanLater s os = (before : List Id) (es : List Known) → Apart before os → AreKnown (filter stands (rows_of s os)) es → CanRetire s before es
+CanLater s os = (before : List Id) (es : List StandingEntry) → Apart before os → AreKnown (filter stands (rows_of s os)) es → CanRetire s before es
 
-module _ (s : Ops) (before : List Id) (o : Op) (os : List Op) (es : List Known) (there : contains s o ≡ true) (after : AllAfter o.id os) (apart : Apart before (o ∷ os)) (later : CanLater s os) where
+module _ (s : Ops) (before : List Id) (o : Op) (os : List Op) (es : List StandingEntry) (there : contains s o ≡ true) (after : AllAfter o.id os) (apart : Apart before (o ∷ os)) (later : CanLater s os) where
   apart_rest : Apart before os
   apart_rest i m p h = apart i m p (has_later o p os h)
 
@@ -228,11 +228,11 @@ can_rows s [] there up before es apart are = subst (CanRetire s before) (sym are
 can_rows s (o ∷ os) there up before es apart are =
     can_body s before o os es (there o (itself o os)) up.0 apart (can_rows s os (λ p h. there p (has_later o p os h)) up.1) o.body refl are
 
-pub can_standing : (s : Ops) (es : List Known) → ById (set.items s) → AreStanding s es → CanRetire s [] es
+pub can_standing : (s : Ops) (es : List StandingEntry) → ById (set.items s) → AreStanding s es → CanRetire s [] es
 can_standing s es up are = can_rows s (set.items s) (λ o h. contains-items s o ∙ h) up [] es (λ i m o h. absurd (true≢false (sym m))) are
 
 -- behind an entry that can be retired beside them, others have another id
-not_again : (s : Ops) (before : List Id) (e : Known) (i : Id) (fs : List Known) → CanRetire s (e.entry ∷ before) fs → is_same i e.entry ≡ true → among i fs ≡ true → ⊥
+not_again : (s : Ops) (before : List Id) (e : StandingEntry) (i : Id) (fs : List StandingEntry) → CanRetire s (e.entry ∷ before) fs → is_same i e.entry ≡ true → among i fs ≡ true → ⊥
 not_again s before e i [] c same m = true≢false (sym m)
 not_again s before e i (f ∷ fs) c same m = elim (or_cases (is_same i f.entry) (among i fs) m) [
   | inl k ↦
@@ -242,10 +242,10 @@ not_again s before e i (f ∷ fs) c same m = elim (or_cases (is_same i f.entry) 
 ]
 
 -- of an entry and others, one passes both tests
-abbrev PassesBoth : (Known → Bool) → (Known → Bool) → Type 0
-PassesBoth p q = (f : Known) × (p f ≡ true) × (q f ≡ true)
+abbrev PassesBoth : (StandingEntry → Bool) → (StandingEntry → Bool) → Type 0
+PassesBoth p q = (f : StandingEntry) × (p f ≡ true) × (q f ≡ true)
 
-module _ (s : Ops) (before : List Id) (e : Known) (es : List Known) (p q : Known → Bool) (i : Id) (h : CanRetire s before (e ∷ es)) (later : among i (filter p es) ≡ true → among i (filter q es) ≡ true → PassesBoth p q) where
+module _ (s : Ops) (before : List Id) (e : StandingEntry) (es : List StandingEntry) (p q : StandingEntry → Bool) (i : Id) (h : CanRetire s before (e ∷ es)) (later : among i (filter p es) ≡ true → among i (filter q es) ≡ true → PassesBoth p q) where
   one_of_both : (x y : Bool) → p e ≡ x → q e ≡ y → among i (cond x (e ∷ filter p es) (filter p es)) ≡ true → among i (cond y (e ∷ filter q es) (filter q es)) ≡ true → PassesBoth p q
   one_of_both true true x y a b = (e, x, y)
   one_of_both true false x y a b = elim (or_cases (is_same i e.entry) (among i (filter p es)) a) [
@@ -259,18 +259,18 @@ module _ (s : Ops) (before : List Id) (e : Known) (es : List Known) (p q : Known
   one_of_both false false x y a b = later a b
 
 -- entries of one id that pass two tests, among those that can be retired, are one entry
-same_entry : (s : Ops) (before : List Id) (es : List Known) (p q : Known → Bool) (i : Id) → CanRetire s before es → among i (filter p es) ≡ true → among i (filter q es) ≡ true → PassesBoth p q
+same_entry : (s : Ops) (before : List Id) (es : List StandingEntry) (p q : StandingEntry → Bool) (i : Id) → CanRetire s before es → among i (filter p es) ≡ true → among i (filter q es) ≡ true → PassesBoth p q
 same_entry s before [] p q i h a b = absurd (true≢false (sym a))
 same_entry s before (e ∷ es) p q i h a b = one_of_both s before e es p q i h (same_entry s (e.entry ∷ before) es p q i h.3) (p e) (q e) refl refl a b
 
-pub fresh_start : (s : Ops) (es : List Known) → CanRetire s [] es → Fresh s [] (by_key es)
+pub fresh_start : (s : Ops) (es : List StandingEntry) → CanRetire s [] es → Fresh s [] (by_key es)
 fresh_start s es h = record {
-  can = λ k o. can_filter s (λ (e : Known). is_key k (key_of e)) [] es h;
+  can = λ k o. can_filter s (λ (e : StandingEntry). is_key k (key_of e)) [] es h;
   apart = λ k l i o p a b.
-      let both = same_entry s [] es (λ (e : Known). is_key k (key_of e)) (λ (e : Known). is_key l (key_of e)) i h a b in
+      let both = same_entry s [] es (λ (e : StandingEntry). is_key k (key_of e)) (λ (e : StandingEntry). is_key l (key_of e)) i h a b in
       key_itself k l (same_key k (key_of both.0) both.1 ∙ sym (same_key l (key_of both.0) both.2));
 }
 
 -- what an import of texts into a content does, is done once
-pub imports_once : (s : Ops) (es : List Known) (d : Differs) (r : List ℕ) (n : ℕ) (texts : List Reading) → ById (set.items s) → AreStanding s es → Once s [] (effects (imports d r n (by_key es) texts))
+pub imports_once : (s : Ops) (es : List StandingEntry) (d : Differs) (r : List ℕ) (n : ℕ) (texts : List ReadText) → ById (set.items s) → AreStanding s es → Once s [] (effects (imports d r n (by_key es) texts))
 imports_once s es d r n texts up are = all_once d s [] (by_key es) r n texts (fresh_start s es (can_standing s es up are))

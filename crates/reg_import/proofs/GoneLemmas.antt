@@ -15,8 +15,8 @@ use Rattle.reg_report.specs.Conflicts.{KeyBytes, bytes_of, key_cmp, HasKey}
 use Rattle.reg_report.specs.Seen.{row_seen}
 use Rattle.reg_report.proofs.ConflictLemmas.{key_total, key_exact, none_in, in_cons, in_head, in_tail}
 use Rattle.reg_import.specs.declared.index.KeyText.{KeyText}
-use Rattle.reg_import.specs.declared.reading.Reading.{Reading}
-use Rattle.reg_import.specs.declared.reading.Reading.TheVariants as reading
+use Rattle.reg_import.specs.declared.reading.ReadText.{ReadText}
+use Rattle.reg_import.specs.declared.reading.ReadText.TheVariants as reading
 use Rattle.reg_import.specs.Known.{stands}
 use Rattle.reg_import.specs.Readings.{keys_in}
 use Rattle.reg_import.specs.Index.{key_bytes, text_cmp}
@@ -46,7 +46,7 @@ key_added keys k q old new e is = by (is_eq (key_cmp k q)) refl
           ],
         )
 
-pub keys_in-append : (rs ss : List Reading) → keys_in (rs ++ ss) ≡ keys_in rs ++ keys_in ss
+pub keys_in-append : (rs ss : List ReadText) → keys_in (rs ++ ss) ≡ keys_in rs ++ keys_in ss
 keys_in-append [] ss = refl
 keys_in-append (reading.Defined text key ∷ rs) ss = ap (λ ks. bytes_of key ∷ ks) (keys_in-append rs ss)
 keys_in-append (reading.Unread f ∷ rs) ss = keys_in-append rs ss

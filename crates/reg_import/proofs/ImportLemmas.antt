@@ -10,9 +10,9 @@ use Rattle.reg_state.specs.Tables.{first_dropped}
 use Rattle.reg_office.specs.declared.fault.OfficeFault.TheVariants as fault
 use Rattle.reg_office.specs.Making.{greatest, note_fault}
 use Rattle.reg_office.proofs.NumberLemmas.{made_ok}
-use Rattle.reg_import.specs.declared.reading.Reading.{Reading}
-use Rattle.reg_import.specs.declared.told.Differs.{Differs}
-use Rattle.reg_import.specs.declared.told.Told.{Told}
+use Rattle.reg_import.specs.declared.reading.ReadText.{ReadText}
+use Rattle.reg_import.specs.declared.action.Differs.{Differs}
+use Rattle.reg_import.specs.declared.action.TextAction.{TextAction}
 use Rattle.reg_import.specs.declared.import.ImportRefusal.{ImportRefusal}
 use Rattle.reg_import.specs.declared.import.ImportRefusal.TheVariants as refusal
 use Rattle.reg_import.specs.Imports.{Step, effects}
@@ -27,7 +27,7 @@ not_long n h = grind (arith, nat_tests)
 no_note_fault : (note : List ℕ) → length note ≤ 200 → note_fault note ≡ None
 no_note_fault note h = λ j. cond (not_long (length note) h j) (Some fault.NoteTooLong) None
 
-module _ (x : Content) (r note : List ℕ) (d : Differs) (texts : List Reading) (ts : List Told) (ops : List Op) where
+module _ (x : Content) (r note : List ℕ) (d : Differs) (texts : List ReadText) (ts : List TextAction) (ops : List Op) where
   steps_once : (steps : List Step) → ById (set.items x.ops) → AreSteps x r d texts steps → Once x.ops [] (effects steps)
   steps_once steps up are = subst (λ s. Once x.ops [] (effects s)) (sym are.2) (imports_once x.ops are.0 d r (greatest r x.seen + 1) texts up are.1)
 

@@ -8,7 +8,7 @@ use Rattle.reg_report.specs.declared.row.Row.{Row as MadeRow}
 use Rattle.reg_report.specs.Seen.{row_seen}
 use Rattle.reg_report.specs.Conflicts.{KeyBytes, key_cmp}
 use Rattle.reg_report.proofs.ConflictLemmas.{key_total, key_exact}
-use Rattle.reg_import.specs.declared.known.Known.{Known}
+use Rattle.reg_import.specs.declared.standing_entry.StandingEntry.{StandingEntry}
 use Rattle.reg_import.specs.Known.{IsKnown, AreKnown, stands, OfKey, At, is_key, key_of, by_key, with_key}
 use Rattle.reg_import.specs.Index.{with_entry}
 
@@ -34,13 +34,13 @@ other_key a b h = elim (is_key b a) as (λ v. is_key b a ≡ v → v ≡ false) 
   | false ↦ λ _. refl
 ] refl
 
-abbrev is_of : KeyBytes → Known → Bool
+abbrev is_of : KeyBytes → StandingEntry → Bool
 is_of k e = is_key k (key_of e)
 
-of_key_push : (es : List Known) (e : Known) (q : KeyBytes) → filter (is_of q) (es ++ e ∷ []) ≡ filter (is_of q) es ++ cond (is_of q e) (e ∷ []) []
+of_key_push : (es : List StandingEntry) (e : StandingEntry) (q : KeyBytes) → filter (is_of q) (es ++ e ∷ []) ≡ filter (is_of q) es ++ cond (is_of q e) (e ∷ []) []
 of_key_push es e q = filter-append (is_of q) es (e ∷ [])
 
-pub by_key_push : (es : List Known) (e : Known) (q : KeyBytes) → with_entry e (by_key es) q ≡ by_key (es ++ e ∷ []) q
+pub by_key_push : (es : List StandingEntry) (e : StandingEntry) (q : KeyBytes) → with_entry e (by_key es) q ≡ by_key (es ++ e ∷ []) q
 by_key_push es e q = elim (is_key (key_of e) q) as (λ b. is_key (key_of e) q ≡ b → cond b (record { known = filter (is_of (key_of e)) es ++ e ∷ []; ours = false }) (by_key es q) ≡ by_key (es ++ e ∷ []) q) [
   | true ↦ λ h.
       let k : key_of e ≡ q = same_key (key_of e) q h in
@@ -56,20 +56,20 @@ by_key_push es e q = elim (is_key (key_of e) q) as (λ b. is_key (key_of e) q �
 -- ---- one row after another
 
 -- the entries so far, with those of the rows that are still to come, are those of all
-pub record KnowsAll (all rest : List MadeRow) (es : List Known) : Type 0 where
-  pub completes : (more : List Known) → AreKnown (map row_seen rest) more → AreKnown (map row_seen all) (es ++ more)
+pub record KnowsAll (all rest : List MadeRow) (es : List StandingEntry) : Type 0 where
+  pub completes : (more : List StandingEntry) → AreKnown (map row_seen rest) more → AreKnown (map row_seen all) (es ++ more)
 
 pub knows_none : (all : List MadeRow) → KnowsAll all all []
 knows_none all = record { completes = λ more h. h }
 
-pub knows_more : (all rest others : List MadeRow) (row : MadeRow) (es : List Known) (e : Known) → rest ≡ row ∷ others → IsKnown (row_seen row) e → KnowsAll all rest es → KnowsAll all others (es ++ e ∷ [])
+pub knows_more : (all rest others : List MadeRow) (row : MadeRow) (es : List StandingEntry) (e : StandingEntry) → rest ≡ row ∷ others → IsKnown (row_seen row) e → KnowsAll all rest es → KnowsAll all others (es ++ e ∷ [])
 knows_more all rest others row es e at is done = record {
   completes = λ more h.
       subst (AreKnown (map row_seen all)) (sym (append_assoc es (e ∷ []) more))
       (done.completes (e ∷ more) (subst (λ l. AreKnown (map row_seen l) (e ∷ more)) (sym at) (e, more, is, h, refl)));
 }
 
-pub knows_all : (all rest : List MadeRow) (es : List Known) → length rest ≡ 0 → KnowsAll all rest es → AreKnown (map row_seen all) es
+pub knows_all : (all rest : List MadeRow) (es : List StandingEntry) → length rest ≡ 0 → KnowsAll all rest es → AreKnown (map row_seen all) es
 knows_all all [] es e done = subst (AreKnown (map row_seen all)) (append-nil es) (done.completes [] refl)
 knows_all all (row ∷ rest) es e done = absurd (omega arith)
 

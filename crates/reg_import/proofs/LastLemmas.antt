@@ -27,12 +27,12 @@ use Rattle.reg_office.specs.Commands.{Does}
 use Rattle.reg_report.proofs.ConflictLemmas.{none_in, in_cons, in_head, in_tail}
 use Rattle.reg_office.proofs.LawLemmas.{made_are, are_unseen}
 use Rattle.reg_office.proofs.NumberLemmas.{op_cases, numbered_on}
-use Rattle.reg_import.specs.declared.known.Known.{Known}
-use Rattle.reg_import.specs.declared.reading.Reading.{Reading}
-use Rattle.reg_import.specs.declared.reading.Reading.TheVariants as reading
-use Rattle.reg_import.specs.declared.told.Differs.{Differs}
-use Rattle.reg_import.specs.declared.told.Told.{Told}
-use Rattle.reg_import.specs.declared.told.Told.TheVariants as told
+use Rattle.reg_import.specs.declared.standing_entry.StandingEntry.{StandingEntry}
+use Rattle.reg_import.specs.declared.reading.ReadText.{ReadText}
+use Rattle.reg_import.specs.declared.reading.ReadText.TheVariants as reading
+use Rattle.reg_import.specs.declared.action.Differs.{Differs}
+use Rattle.reg_import.specs.declared.action.TextAction.{TextAction}
+use Rattle.reg_import.specs.declared.action.TextAction.TheVariants as told
 use Rattle.reg_import.specs.Known.{AreStanding, OfKey, At, is_key, key_of, by_key, with_key}
 use Rattle.reg_import.specs.Imports.{told_of, bodies_of, entered, then_of, imports, effects, is_refused, is_spent}
 use Rattle.reg_import.specs.Plans.{retired}
@@ -47,11 +47,11 @@ use Rattle.reg_import.proofs.AgainLemmas.{at_key, finally, ours_stay, SameTexts}
 use Rattle.reg_import.proofs.StandingLemmas.{in_filter, to_filter, one_key, IsOld, standing_is_old, old_is_standing, one_key_an_id, entry_stands, standing_entry, gone, still_entered, now_entered, was_entered, then_retired}
 
 -- the key of a text that was read is the one in it
-abbrev pub IsKeyed : Reading → Type 0
+abbrev pub IsKeyed : ReadText → Type 0
 IsKeyed (reading.Unread f) = Unit {0}
 IsKeyed (reading.Defined text key) = IsKeyIn key text
 
-abbrev pub AreKeyed : List Reading → Type 0
+abbrev pub AreKeyed : List ReadText → Type 0
 AreKeyed [] = Unit {0}
 AreKeyed (text ∷ texts) = IsKeyed text × AreKeyed texts
 
@@ -63,26 +63,26 @@ gone_both i bs cs h k = list_any-append (is_retirement i) bs cs ∙ (λ j. h j |
 gone_parts : (i : Id) (bs cs : List Body) → gone i (bs ++ cs) ≡ false → (gone i bs ≡ false) × (gone i cs ≡ false)
 gone_parts i bs cs h = or_parts (gone i bs) (gone i cs) (sym (list_any-append (is_retirement i) bs cs) ∙ h)
 
-gone_retired : (i : Id) (es : List Known) → gone i (retired es) ≡ true → (e : Known) × Contains es e × (i ≡ e.entry)
+gone_retired : (i : Id) (es : List StandingEntry) → gone i (retired es) ≡ true → (e : StandingEntry) × Contains es e × (i ≡ e.entry)
 gone_retired i [] h = absurd (true≢false (sym h))
 gone_retired i (e ∷ es) h = elim (or_cases (is_same i e.entry) (gone i (retired es)) h) [
   | inl same ↦ (e, in_head e es, is_same_exact i e.entry same)
   | inr later ↦ let m = gone_retired i es later in (m.0, in_tail m.0 e es m.1, m.2)
 ]
 
-retired_gone : (es : List Known) (e : Known) → Contains es e → gone e.entry (retired es) ≡ true
+retired_gone : (es : List StandingEntry) (e : StandingEntry) → Contains es e → gone e.entry (retired es) ≡ true
 retired_gone [] e c = absurd (none_in e c)
 retired_gone (f ∷ es) e c = elim (in_cons e f es c) [
-  | inl same ↦ or_left (is_same e.entry f.entry) _ (subst (λ (g : Known). is_same e.entry g.entry ≡ true) same (ap is_eq (tied_itself id_total e.entry)))
+  | inl same ↦ or_left (is_same e.entry f.entry) _ (subst (λ (g : StandingEntry). is_same e.entry g.entry ≡ true) same (ap is_eq (tied_itself id_total e.entry)))
   | inr later ↦ or_right (is_same e.entry f.entry) _ (retired_gone es e later)
 ]
 
-gone_of : (t : Told) (text : List ℕ) (es : List Known) (i : Id) → gone i (bodies_of t text es) ≡ true → (e : Known) × Contains es e × (i ≡ e.entry)
+gone_of : (t : TextAction) (text : List ℕ) (es : List StandingEntry) (i : Id) → gone i (bodies_of t text es) ≡ true → (e : StandingEntry) × Contains es e × (i ≡ e.entry)
 gone_of (told.Revised j) text es i h = gone_retired i es h
 gone_of t text es i h = absurd cc
 
 -- an entry that is not retired stays
-stays_of : (t : Told) (key : Key) (text : List ℕ) (there : OfKey) (e : Known) → Contains there.known e → gone e.entry (bodies_of t text there.known) ≡ false → Contains (then_of t key text there).known e
+stays_of : (t : TextAction) (key : Key) (text : List ℕ) (there : OfKey) (e : StandingEntry) → Contains there.known e → gone e.entry (bodies_of t text there.known) ≡ false → Contains (then_of t key text there).known e
 stays_of (told.Same j) key text there e c h = c
 stays_of (told.Superseded j) key text there e c h = c
 stays_of (told.Entered j) key text there e c h = Contains-append_left there.known (entered j key text ∷ []) e c
@@ -91,12 +91,12 @@ stays_of (told.Revised j) key text there e c h = absurd (true≢false (sym (reti
 stays_of (told.Refused p) key text there e c h = c
 stays_of told.Spent key text there e c h = c
 
-old_stay : (d : Differs) (r : List ℕ) (n : ℕ) (at : At) (texts : List Reading) (k : KeyBytes) (e : Known) → Contains (at k).known e → gone e.entry (effects (imports d r n at texts)) ≡ false → Contains (finally d r n at texts k).known e
+old_stay : (d : Differs) (r : List ℕ) (n : ℕ) (at : At) (texts : List ReadText) (k : KeyBytes) (e : StandingEntry) → Contains (at k).known e → gone e.entry (effects (imports d r n at texts)) ≡ false → Contains (finally d r n at texts k).known e
 old_stay d r n at [] k e c h = c
 old_stay d r n at (reading.Unread f ∷ texts) k e c h = old_stay d r (n + 0) at texts k e c h
 old_stay d r n at (reading.Defined text key ∷ texts) k e c h =
     let there : OfKey = at (bytes_of key) in
-    let t : Told = told_of d (id_at r n) there text in
+    let t : TextAction = told_of d (id_at r n) there text in
     let bs : List Body = bodies_of t text there.known in
     let next : At = with_key (bytes_of key) (then_of t key text there) at in
     let parts = gone_parts e.entry bs (effects (imports d r (n + length bs) next texts)) h in
@@ -118,7 +118,7 @@ module _ (r : List ℕ) (note : List ℕ) where
   has_both : (n : ℕ) (bs cs : List Body) (o : Op) → has (numbered r n note (bs ++ cs)) o ≡ (has (numbered r n note bs) o || has (numbered r (n + length bs) note cs) o)
   has_both n bs cs o = ap (λ l. has l o) (numbered_append r n note bs cs) ∙ list_any-append (eq_by_cmp op_cmp o) (numbered r n note bs) (numbered r (n + length bs) note cs)
 
-  no_enter : (n : ℕ) (es : List Known) (i : Id) (text noted : List ℕ) → has (numbered r n note (retired es)) (entering i text noted) ≡ true → ⊥
+  no_enter : (n : ℕ) (es : List StandingEntry) (i : Id) (text noted : List ℕ) → has (numbered r n note (retired es)) (entering i text noted) ≡ true → ⊥
   no_enter n [] i text noted h = true≢false (sym h)
   no_enter n (e ∷ es) i text noted h = elim (op_cases (entering i text noted) (record { id = id_at r n; body = Retire e.entry; note = note }) (numbered r (n + 1) note (retired es)) h) [
     | inl same ↦ let is : ◌≡◌ {A = Body} (Enter text) (Retire e.entry) = ap (λ (o : Op). o.body) same in absurd cc
@@ -129,11 +129,11 @@ module _ (r : List ℕ) (note : List ℕ) where
   itself n text bs = or_left _ (has (numbered r (n + 1) note bs) (entering (id_at r n) text note)) (ap is_eq (tied_itself op_total (entering (id_at r n) text note)))
 
   -- an entry that there is then was there, and nothing was retired of the key, or it is new
-  abbrev IsThen : Told → ℕ → Key → List ℕ → OfKey → Known → Type 0
+  abbrev IsThen : TextAction → ℕ → Key → List ℕ → OfKey → StandingEntry → Type 0
   IsThen t n key text there e = (Contains there.known e × ((i : Id) → gone i (bodies_of t text there.known) ≡ false))
       ⊎ ((e ≡ entered (id_at r n) key text) × (has (numbered r n note (bodies_of t text there.known)) (entering (id_at r n) text note) ≡ true))
 
-  then_is : (d : Differs) (n : ℕ) (key : Key) (text : List ℕ) (there : OfKey) (e : Known) → Contains (then_of (told_of d (id_at r n) there text) key text there).known e → IsThen (told_of d (id_at r n) there text) n key text there e
+  then_is : (d : Differs) (n : ℕ) (key : Key) (text : List ℕ) (there : OfKey) (e : StandingEntry) → Contains (then_of (told_of d (id_at r n) there text) key text there).known e → IsThen (told_of d (id_at r n) there text) n key text there e
   then_is d n key text there e = told_has (λ t. Contains (then_of t key text there).known e → IsThen t n key text there e) d (id_at r n) there text (record {
     same = λ i c. inl (c, λ j. refl);
     superseded = λ i c. inl (c, λ j. refl);
@@ -157,7 +157,7 @@ module _ (r : List ℕ) (note : List ℕ) where
       ]
 
   -- what is entered is the text, which is neither refused nor spent
-  abbrev IsEntered : Told → List ℕ → List ℕ → Type 0
+  abbrev IsEntered : TextAction → List ℕ → List ℕ → Type 0
   IsEntered t text other = (other ≡ text) × (is_refused t ≡ false) × (is_spent t ≡ false)
 
   entered_is : (d : Differs) (n : ℕ) (text : List ℕ) (there : OfKey) (i : Id) (other noted : List ℕ) → has (numbered r n note (bodies_of (told_of d (id_at r n) there text) text there.known)) (entering i other noted) ≡ true
@@ -179,23 +179,23 @@ module _ (r : List ℕ) (note : List ℕ) where
       ]
 
   -- a text that was entered is one of those that were read, and is there at the end
-  pub record IsAtEnd (last : At) (texts : List Reading) (text : List ℕ) : Type 0 where
+  pub record IsAtEnd (last : At) (texts : List ReadText) (text : List ℕ) : Type 0 where
     pub key : Key
     pub read : Contains texts (reading.Defined text key)
     pub keyed : IsKeyIn key text
     pub there : HasText (last (bytes_of key)).known text
 
-  later : (last : At) (first : Reading) (texts : List Reading) (text : List ℕ) → IsAtEnd last texts text → IsAtEnd last (first ∷ texts) text
+  later : (last : At) (first : ReadText) (texts : List ReadText) (text : List ℕ) → IsAtEnd last texts text → IsAtEnd last (first ∷ texts) text
   later last first texts text h = record { key = h.key; read = in_tail (reading.Defined text h.key) first texts h.read; keyed = h.keyed; there = h.there }
 
-  enters_there : (d : Differs) (n : ℕ) (at : At) (texts : List Reading) (i : Id) (text noted : List ℕ) → AreKeyed texts → has (numbered r n note (effects (imports d r n at texts))) (entering i text noted) ≡ true → IsAtEnd (finally d r n at texts) texts text
+  enters_there : (d : Differs) (n : ℕ) (at : At) (texts : List ReadText) (i : Id) (text noted : List ℕ) → AreKeyed texts → has (numbered r n note (effects (imports d r n at texts))) (entering i text noted) ≡ true → IsAtEnd (finally d r n at texts) texts text
   enters_there d n at [] i text noted keyed h = absurd (true≢false (sym h))
   enters_there d n at (reading.Unread f ∷ texts) i text noted keyed h =
       later (finally d r (n + 0) at texts) (reading.Unread f) texts text (enters_there d (n + 0) at texts i text noted keyed.1
       (subst (λ m. has (numbered r m note (effects (imports d r (n + 0) at texts))) (entering i text noted) ≡ true) (sym (add-zero n)) h))
   enters_there d n at (reading.Defined text key ∷ texts) i other noted keyed h =
       let there : OfKey = at (bytes_of key) in
-      let t : Told = told_of d (id_at r n) there text in
+      let t : TextAction = told_of d (id_at r n) there text in
       let bs : List Body = bodies_of t text there.known in
       let now : OfKey = then_of t key text there in
       let next : At = with_key (bytes_of key) now at in
@@ -218,26 +218,26 @@ module _ (r : List ℕ) (note : List ℕ) where
 -- ---- all that there is of a key stands
 
 -- it is one of these operations that enters it, and it has the key of its text
-pub record IsNew (os : List Op) (note : List ℕ) (e : Known) : Type 0 where
+pub record IsNew (os : List Op) (note : List ℕ) (e : StandingEntry) : Type 0 where
   pub entered : has os (entering e.entry e.definition note) ≡ true
   pub keyed : IsKeyIn e.key e.definition
 
 -- each was there and is not retired by the effects, or is new
 pub record Stand (x : Content) (os : List Op) (note : List ℕ) (before : List Body) (at : At) : Type 0 where
-  pub each : (k : KeyBytes) (e : Known) → Contains (at k).known e → ((IsOld x e × (gone e.entry before ≡ false)) ⊎ IsNew os note e) × (key_of e ≡ k)
+  pub each : (k : KeyBytes) (e : StandingEntry) → Contains (at k).known e → ((IsOld x e × (gone e.entry before ≡ false)) ⊎ IsNew os note e) × (key_of e ≡ k)
 
-module _ (x : Content) (one : OneBody x.ops) (os : List Op) (r note : List ℕ) (apart : (e f : Known) → IsOld x e → IsNew os note f → e.entry ≡ f.entry → ⊥) (d : Differs) where
-  abbrev Holds : List Body → Known → Type 0
+module _ (x : Content) (one : OneBody x.ops) (os : List Op) (r note : List ℕ) (apart : (e f : StandingEntry) → IsOld x e → IsNew os note f → e.entry ≡ f.entry → ⊥) (d : Differs) where
+  abbrev Holds : List Body → StandingEntry → Type 0
   Holds before e = (IsOld x e × (gone e.entry before ≡ false)) ⊎ IsNew os note e
 
-  still : (before bs : List Body) (e : Known) → Holds before e → (IsOld x e → gone e.entry bs ≡ false) → Holds (before ++ bs) e
+  still : (before bs : List Body) (e : StandingEntry) → Holds before e → (IsOld x e → gone e.entry bs ≡ false) → Holds (before ++ bs) e
   still before bs e h n = elim h [
     | inl a ↦ inl (a.0, gone_both e.entry before bs a.1 (n a.0))
     | inr b ↦ inr b
   ]
 
   -- of another key nothing is retired
-  others_stand : (before : List Body) (n : ℕ) (at : At) (key : Key) (text : List ℕ) (k : KeyBytes) (e : Known) → Stand x os note before at → is_key (bytes_of key) k ≡ false → Contains (at k).known e
+  others_stand : (before : List Body) (n : ℕ) (at : At) (key : Key) (text : List ℕ) (k : KeyBytes) (e : StandingEntry) → Stand x os note before at → is_key (bytes_of key) k ≡ false → Contains (at k).known e
       → IsOld x e → gone e.entry (bodies_of (told_of d (id_at r n) (at (bytes_of key)) text) text (at (bytes_of key)).known) ≡ false
   others_stand before n at key text k e s other c old = false_from_ne_true _ (λ g.
       let f = gone_of (told_of d (id_at r n) (at (bytes_of key)) text) text (at (bytes_of key)).known e.entry g in
@@ -252,7 +252,7 @@ module _ (x : Content) (one : OneBody x.ops) (os : List Op) (r note : List ℕ) 
       → Stand x os note (before ++ bodies_of (told_of d (id_at r n) (at (bytes_of key)) text) text (at (bytes_of key)).known) (with_key (bytes_of key) (then_of (told_of d (id_at r n) (at (bytes_of key)) text) key text (at (bytes_of key))) at)
   stand_on before n at key text keyed s within =
       let there : OfKey = at (bytes_of key) in
-      let t : Told = told_of d (id_at r n) there text in
+      let t : TextAction = told_of d (id_at r n) there text in
       let bs : List Body = bodies_of t text there.known in
       record {
         each = λ k e. at_key (λ o. Contains o.known e → Holds (before ++ bs) e × (key_of e ≡ k)) (bytes_of key) k (then_of t key text there) at
@@ -263,14 +263,14 @@ module _ (x : Content) (one : OneBody x.ops) (os : List Op) (r note : List ℕ) 
             (λ other c. let h = s.each k e c in (still before bs e h.0 (others_stand before n at key text k e s other c), h.1));
       }
 
-  pub all_stand : (before : List Body) (n : ℕ) (at : At) (texts : List Reading) → AreKeyed texts → Stand x os note before at → ((o : Op) → has (numbered r n note (effects (imports d r n at texts))) o ≡ true → has os o ≡ true)
+  pub all_stand : (before : List Body) (n : ℕ) (at : At) (texts : List ReadText) → AreKeyed texts → Stand x os note before at → ((o : Op) → has (numbered r n note (effects (imports d r n at texts))) o ≡ true → has os o ≡ true)
       → Stand x os note (before ++ effects (imports d r n at texts)) (finally d r n at texts)
   all_stand before n at [] keyed s within = subst (λ bs. Stand x os note bs at) (sym (append-nil before)) s
   all_stand before n at (reading.Unread f ∷ texts) keyed s within =
       all_stand before (n + 0) at texts keyed.1 s (λ o h. within o (subst (λ m. has (numbered r m note (effects (imports d r (n + 0) at texts))) o ≡ true) (add-zero n) h))
   all_stand before n at (reading.Defined text key ∷ texts) keyed s within =
       let there : OfKey = at (bytes_of key) in
-      let t : Told = told_of d (id_at r n) there text in
+      let t : TextAction = told_of d (id_at r n) there text in
       let bs : List Body = bodies_of t text there.known in
       let next : At = with_key (bytes_of key) (then_of t key text there) at in
       let rest : List Body = effects (imports d r (n + length bs) next texts) in
@@ -281,7 +281,7 @@ module _ (x : Content) (one : OneBody x.ops) (os : List Op) (r note : List ℕ) 
 
 -- ---- an import
 
-module _ (x y : Content) (replica note : List ℕ) (d : Differs) (texts : List Reading) (es : List Known) (ids : List Id) (is : IsContent x) (ahead : RetiresNoneAhead x replica) (keyed : AreKeyed texts)
+module _ (x y : Content) (replica note : List ℕ) (d : Differs) (texts : List ReadText) (es : List StandingEntry) (ids : List Id) (is : IsContent x) (ahead : RetiresNoneAhead x replica) (keyed : AreKeyed texts)
     (are : AreStanding x.ops es) (does : Does x replica note (effects (imports d replica (greatest replica x.seen + 1) (by_key es) texts)) y ids) where
   abbrev first : ℕ
   first = greatest replica x.seen + 1
@@ -296,13 +296,13 @@ module _ (x y : Content) (replica note : List ℕ) (d : Differs) (texts : List R
   made = made_are x replica note all does.ops does.are_made
 
   -- a new id was not entered
-  unseen : (e : Known) → IsNew does.ops note e → enters x.ops e.entry ≡ false
+  unseen : (e : StandingEntry) → IsNew does.ops note e → enters x.ops e.entry ≡ false
   unseen e new = false_from_ne_true _ (λ h.
       let m = member_from_any op_total op_exact (λ (o : Op). is_same e.entry o.id && is_enter o.body) x.ops h in
       let same : e.entry ≡ m.0.id = is_same_exact e.entry m.0.id (and_parts _ _ m.2).0 in
       true≢false (sym (subst (λ i. contains x.seen i ≡ true) (sym same) (is.are_seen m.0 m.1)) ∙ are_unseen x replica note all does.ops (entering e.entry e.definition note) does.are_made new.entered))
 
-  no_both : (e f : Known) → IsOld x e → IsNew does.ops note f → e.entry ≡ f.entry → ⊥
+  no_both : (e f : StandingEntry) → IsOld x e → IsNew does.ops note f → e.entry ≡ f.entry → ⊥
   no_both e f old new same =
       true≢false (sym (subst (λ i. contains x.seen i ≡ true) same (is.are_seen (entering e.entry e.definition old.note) old.entered))
       ∙ are_unseen x replica note all does.ops (entering f.entry f.definition note) does.are_made new.entered)
@@ -310,7 +310,7 @@ module _ (x y : Content) (replica note : List ℕ) (d : Differs) (texts : List R
   at_first : Stand x does.ops note [] (by_key es)
   at_first = record {
     each = λ k e c.
-        let f = in_filter (λ (g : Known). is_key k (key_of g)) es e c in
+        let f = in_filter (λ (g : StandingEntry). is_key k (key_of g)) es e c in
         (inl (standing_is_old x es e are f.0, refl), sym (same_key k (key_of e) f.1));
   }
 
@@ -318,13 +318,13 @@ module _ (x y : Content) (replica note : List ℕ) (d : Differs) (texts : List R
   at_last = all_stand x is.one_body does.ops replica note no_both d [] first (by_key es) texts keyed at_first (λ o h. subst (λ l. has l o ≡ true) (sym made) h)
 
   -- an entry of the last ones stands, and has the key of its text
-  record IsUp (e : Known) : Type 0 where
+  record IsUp (e : StandingEntry) : Type 0 where
     noted : List ℕ
     entered : contains y.ops (entering e.entry e.definition noted) ≡ true
     stands : retires y.ops e.entry ≡ false
     of_key : IsKeyIn e.key e.definition
 
-  old_up : (e : Known) → IsOld x e → gone e.entry all ≡ false → IsUp e
+  old_up : (e : StandingEntry) → IsOld x e → gone e.entry all ≡ false → IsUp e
   old_up e old n = record {
     noted = old.note;
     entered = still_entered x y replica note all ids does e.entry e.definition old.note old.entered;
@@ -332,7 +332,7 @@ module _ (x y : Content) (replica note : List ℕ) (d : Differs) (texts : List R
     of_key = old.keyed;
   }
 
-  new_up : (e : Known) → IsNew does.ops note e → IsUp e
+  new_up : (e : StandingEntry) → IsNew does.ops note e → IsUp e
   new_up e new =
       let on = numbered_on replica first note all (entering e.entry e.definition note) (subst (λ l. has l (entering e.entry e.definition note) ≡ true) made new.entered) in
       let id : e.entry ≡ id_at replica e.entry.count = λ j. record { replica = on.0 j; count = e.entry.count } in
@@ -346,7 +346,7 @@ module _ (x y : Content) (replica note : List ℕ) (d : Differs) (texts : List R
         of_key = new.keyed;
       }
 
-  up : (k : KeyBytes) (e : Known) → Contains (last k).known e → IsUp e × (key_of e ≡ k)
+  up : (k : KeyBytes) (e : StandingEntry) → Contains (last k).known e → IsUp e × (key_of e ≡ k)
   up k e c = let h = at_last.each k e c in (elim h.0 [ inl a ↦ old_up e a.0 a.1 | inr b ↦ new_up e b ], h.1)
 
   -- a text that there is of a key at the end, stands
@@ -368,18 +368,18 @@ module _ (x y : Content) (replica note : List ℕ) (d : Differs) (texts : List R
         | inr new ↦ let end = enters_there replica note d first (by_key es) texts i text o.note keyed (subst (λ l. has l (entering i text o.note) ≡ true) made new) in inr (end.key, end.read)
       ]
 
-  module _ (fs : List Known) (then_are : AreStanding y.ops fs) where
-    last_text_stands : (k : KeyBytes) (e : Known) → Contains (last k).known e → HasText (by_key fs k).known e.definition
+  module _ (fs : List StandingEntry) (then_are : AreStanding y.ops fs) where
+    last_text_stands : (k : KeyBytes) (e : StandingEntry) → Contains (last k).known e → HasText (by_key fs k).known e.definition
     last_text_stands k e c =
         let h = up k e c in
         let its = h.0 in
         let f = old_is_standing y.ops fs e.entry e.definition its.noted then_are its.entered its.stands in
         let same : key_of f.e ≡ key_of e = one_key e.definition f.e.key e.key f.keyed its.of_key in
-        (f.e, to_filter (λ (g : Known). is_key k (key_of g)) fs f.e f.there (key_itself k (key_of f.e) (sym (same ∙ h.1))), f.definition)
+        (f.e, to_filter (λ (g : StandingEntry). is_key k (key_of g)) fs f.e f.there (key_itself k (key_of f.e) (sym (same ∙ h.1))), f.definition)
 
-    standing_is_last : (k : KeyBytes) (f : Known) → Contains (by_key fs k).known f → HasText (last k).known f.definition
+    standing_is_last : (k : KeyBytes) (f : StandingEntry) → Contains (by_key fs k).known f → HasText (last k).known f.definition
     standing_is_last k f c =
-        let m = in_filter (λ (g : Known). is_key k (key_of g)) fs f c in
+        let m = in_filter (λ (g : StandingEntry). is_key k (key_of g)) fs f c in
         let its : key_of f ≡ k = sym (same_key k (key_of f) m.1) in
         let old : IsOld y f = standing_is_old y fs f then_are m.0 in
         let parts = or_parts (retires x.ops f.entry) (gone f.entry all) (sym (then_retired x y replica note all ids does f.entry) ∙ old.stands) in
@@ -387,7 +387,7 @@ module _ (x y : Content) (replica note : List ℕ) (d : Differs) (texts : List R
           | inl before ↦
               let e = old_is_standing x.ops es f.entry f.definition old.note are before parts.0 in
               let same : key_of e.e ≡ key_of f = one_key f.definition e.e.key f.key e.keyed old.keyed in
-              let there : Contains (by_key es k).known e.e = to_filter (λ (g : Known). is_key k (key_of g)) es e.e e.there (key_itself k (key_of e.e) (sym (same ∙ its))) in
+              let there : Contains (by_key es k).known e.e = to_filter (λ (g : StandingEntry). is_key k (key_of g)) es e.e e.there (key_itself k (key_of e.e) (sym (same ∙ its))) in
               (e.e, old_stay d replica first (by_key es) texts k e.e there (subst (λ i. gone i all ≡ false) (sym e.entry) parts.1), e.definition)
           | inr new ↦
               let end = enters_there replica note d first (by_key es) texts f.entry f.definition old.note keyed (subst (λ l. has l (entering f.entry f.definition old.note) ≡ true) made new) in

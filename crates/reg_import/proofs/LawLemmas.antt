@@ -34,14 +34,14 @@ use Rattle.reg_office.specs.Making.{greatest}
 use Rattle.reg_office.specs.Commands.{Does}
 use Rattle.reg_report.proofs.ConflictLemmas.{none_in, in_cons, in_head, in_tail, in_map, from_map}
 use Rattle.reg_report.proofs.EntryLemmas.{row_is_entered}
-use Rattle.reg_import.specs.declared.known.Known.{Known}
-use Rattle.reg_import.specs.declared.reading.Reading.{Reading}
-use Rattle.reg_import.specs.declared.reading.Reading.TheVariants as reading
-use Rattle.reg_import.specs.declared.told.Differs.{Differs}
-use Rattle.reg_import.specs.declared.told.Differs.TheVariants as differs
-use Rattle.reg_import.specs.declared.told.Problem.{Problem}
-use Rattle.reg_import.specs.declared.told.Told.{Told}
-use Rattle.reg_import.specs.declared.told.Told.TheVariants as told
+use Rattle.reg_import.specs.declared.standing_entry.StandingEntry.{StandingEntry}
+use Rattle.reg_import.specs.declared.reading.ReadText.{ReadText}
+use Rattle.reg_import.specs.declared.reading.ReadText.TheVariants as reading
+use Rattle.reg_import.specs.declared.action.Differs.{Differs}
+use Rattle.reg_import.specs.declared.action.Differs.TheVariants as differs
+use Rattle.reg_import.specs.declared.action.Problem.{Problem}
+use Rattle.reg_import.specs.declared.action.TextAction.{TextAction}
+use Rattle.reg_import.specs.declared.action.TextAction.TheVariants as told
 use Rattle.reg_import.specs.declared.import.ImportRefusal.{ImportRefusal}
 use Rattle.reg_import.specs.declared.import.ImportRefusal.TheVariants as refusal
 use Rattle.reg_import.specs.Known.{stands, OfKey, At, by_key, with_key}
@@ -57,22 +57,22 @@ use Rattle.reg_import.proofs.LastLemmas.{IsKeyed, AreKeyed, same_texts, last_sta
 
 -- ---- texts that were read
 
-keyed_reading : (text : List ℕ) (r : Reading) → IsReading text r → IsKeyed r
+keyed_reading : (text : List ℕ) (r : ReadText) → IsReading text r → IsKeyed r
 keyed_reading text (reading.Defined definition key) h = h.2
 keyed_reading text (reading.Unread f) h = tt
 
-pub are_keyed : (texts : List (List ℕ)) (readings : List Reading) → AreReadings texts readings → AreKeyed readings
+pub are_keyed : (texts : List (List ℕ)) (readings : List ReadText) → AreReadings texts readings → AreKeyed readings
 are_keyed [] readings h = subst AreKeyed (sym h) tt
 are_keyed (text ∷ texts) readings h = subst AreKeyed (sym h.4) (keyed_reading text h.0 h.2, are_keyed texts h.1 h.3)
 
-read_of : (texts : List (List ℕ)) (readings : List Reading) (text : List ℕ) → AreReadings texts readings → Contains texts text → (r : Reading) × Contains readings r × IsReading text r
+read_of : (texts : List (List ℕ)) (readings : List ReadText) (text : List ℕ) → AreReadings texts readings → Contains texts text → (r : ReadText) × Contains readings r × IsReading text r
 read_of [] readings text h c = absurd (none_in text c)
 read_of (w ∷ texts) readings text h c = elim (in_cons text w texts c) [
   | inl same ↦ (h.0, subst (λ l. Contains l h.0) (sym h.4) (in_head h.0 h.1), subst (λ v. IsReading v h.0) (sym same) h.2)
   | inr later ↦ let m = read_of texts h.1 text h.3 later in (m.0, subst (λ l. Contains l m.0) (sym h.4) (in_tail m.0 h.0 h.1 m.1), m.2)
 ]
 
-text_of : (texts : List (List ℕ)) (readings : List Reading) (r : Reading) → AreReadings texts readings → Contains readings r → (text : List ℕ) × Contains texts text × IsReading text r
+text_of : (texts : List (List ℕ)) (readings : List ReadText) (r : ReadText) → AreReadings texts readings → Contains readings r → (text : List ℕ) × Contains texts text × IsReading text r
 text_of [] readings r h c = absurd (none_in r (subst (λ l. Contains l r) h c))
 text_of (w ∷ texts) readings r h c = elim (in_cons r h.0 h.1 (subst (λ l. Contains l r) h.4 c)) [
   | inl same ↦ (w, in_head w texts, subst (IsReading w) (sym same) h.2)
@@ -81,9 +81,9 @@ text_of (w ∷ texts) readings r h c = elim (in_cons r h.0 h.1 (subst (λ l. Con
 
 -- ---- importing again
 
-module _ (x y : Content) (replica note again noted : List ℕ) (d : Differs) (keep_going : Bool) (readings : List Reading) (ts : List Told) (is : IsContent x) (ahead : RetiresNoneAhead x replica) (keyed : AreKeyed readings)
+module _ (x y : Content) (replica note again noted : List ℕ) (d : Differs) (keep_going : Bool) (readings : List ReadText) (ts : List TextAction) (is : IsContent x) (ahead : RetiresNoneAhead x replica) (keyed : AreKeyed readings)
     (m : Imports x replica note d keep_going readings y ts) where
-  abbrev es : List Known
+  abbrev es : List StandingEntry
   es = m.are_steps.0
 
   abbrev ran : List Step
@@ -102,7 +102,7 @@ module _ (x y : Content) (replica note again noted : List ℕ) (d : Differs) (ke
       let q = quiet_all d replica (greatest replica x.seen + 1) (by_key es) again (greatest again y.seen + 1) (by_key are.0) readings (λ k o. absurd (true≢false (sym o))) same unspent in
       subst ToldAgain (sym are.2) (subst (λ l. IsToldAgain l (tolds (imports d again (greatest again y.seen + 1) (by_key are.0) readings))) (sym (m.told ∙ ap tolds m.are_steps.2)) q.told, q.nothing)
 
-  pub import_again : (z : Content) (us : List Told) → Imports y again noted d keep_going readings z us → (z ≡ y) × IsToldAgain ts us
+  pub import_again : (z : Content) (us : List TextAction) → Imports y again noted d keep_going readings z us → (z ≡ y) × IsToldAgain ts us
   import_again z us n =
       let s = steps_again n.steps n.are_steps in (
         nothing_done y z again noted n.ids (then_one_body x y replica note (effects ran) m.ids does) (then_kept x y replica note (effects ran) m.ids does) (subst (λ bs. Does y again noted bs z n.ids) s.1 n.does),
@@ -115,33 +115,33 @@ any_mapped : {X : Type 0} (p : X → Bool) (xs : List X) → list_any p xs ≡ l
 any_mapped p [] = refl
 any_mapped p (x ∷ xs) = ap (λ b. p x || b) (any_mapped p xs)
 
-passes_at : (us : List Told) (at : ℕ) (t : Told) → slice_get us at ≡ Some t → is_refused t ≡ true → list_any is_refused us ≡ true
+passes_at : (us : List TextAction) (at : ℕ) (t : TextAction) → slice_get us at ≡ Some t → is_refused t ≡ true → list_any is_refused us ≡ true
 passes_at [] at t h r = absurd cc
 passes_at (u ∷ us) zero t h r = let same : u ≡ t = cc in ap (λ v. is_refused v || list_any is_refused us) same ∙ ap (λ b. b || list_any is_refused us) r
 passes_at (u ∷ us) (suc at) t h r = or_right (is_refused u) _ (passes_at us at t h r)
 
-not_spent : (t : Told) → is_there t ≡ not (is_refused t) → is_spent t ≡ false
+not_spent : (t : TextAction) → is_there t ≡ not (is_refused t) → is_spent t ≡ false
 not_spent told.Spent h = absurd cc
 not_spent t h = refl
 
-none_spent_again : (us : List Told) → map is_there us ≡ map (λ u. not (is_refused u)) us → NoneSpent us
+none_spent_again : (us : List TextAction) → map is_there us ≡ map (λ u. not (is_refused u)) us → NoneSpent us
 none_spent_again [] h = refl
 none_spent_again (u ∷ us) h =
     let first : is_there u ≡ not (is_refused u) = cc in
     let rest : map is_there us ≡ map (λ u. not (is_refused u)) us = cc in
     (λ j. not_spent u first j || none_spent_again us rest j)
 
-map_not : (ts : List Told) → map (λ t. not (is_refused t)) ts ≡ map not (map is_refused ts)
+map_not : (ts : List TextAction) → map (λ t. not (is_refused t)) ts ≡ map not (map is_refused ts)
 map_not [] = refl
 map_not (t ∷ ts) = ap (λ l. not (is_refused t) ∷ l) (map_not ts)
 
-told_unspent : (ts us : List Told) → IsToldAgain ts us → NoneSpent us
+told_unspent : (ts us : List TextAction) → IsToldAgain ts us → NoneSpent us
 told_unspent ts us a = none_spent_again us (a.others ∙ map_not ts ∙ sym (ap (map not) a.refused) ∙ sym (map_not us))
 
-told_unrefused : (ts us : List Told) → IsToldAgain ts us → NoneRefused ts → NoneRefused us
+told_unrefused : (ts us : List TextAction) → IsToldAgain ts us → NoneRefused ts → NoneRefused us
 told_unrefused ts us a n = any_mapped is_refused us ∙ ap (list_any (λ b. b)) a.refused ∙ sym (any_mapped is_refused ts) ∙ n
 
-pub refused_again : (x y : Content) (replica note again noted : List ℕ) (d : Differs) (keep_going : Bool) (readings : List Reading) (ts : List Told) → IsContent x → RetiresNoneAhead x replica → AreKeyed readings
+pub refused_again : (x y : Content) (replica note again noted : List ℕ) (d : Differs) (keep_going : Bool) (readings : List ReadText) (ts : List TextAction) → IsContent x → RetiresNoneAhead x replica → AreKeyed readings
     → Imports x replica note d keep_going readings y ts → (f : ImportRefusal) → IsImportRefusal y again noted d keep_going readings f → (f ≡ refusal.NoteTooLong) ⊎ (f ≡ refusal.Memory)
 refused_again x y replica note again noted d keep_going readings ts is ahead keyed m refusal.NoteTooLong h = inl refl
 refused_again x y replica note again noted d keep_going readings ts is ahead keyed m refusal.Memory h = inr refl
@@ -208,14 +208,14 @@ no_fault w d fault.CanonicalTooLong h n =
 no_fault w d fault.NotCanonical h n = absurd h
 no_fault w d fault.Memory h n = n refl
 
-defined_as : (w : List ℕ) (r : Reading) → IsReading w r → IsDefinition w → (key : Key) × (r ≡ reading.Defined w key)
+defined_as : (w : List ℕ) (r : ReadText) → IsReading w r → IsDefinition w → (key : Key) × (r ≡ reading.Defined w key)
 defined_as w (reading.Defined text key) h d = (key, ap (λ t. reading.Defined t key) (same_definition w text key h d))
 defined_as w (reading.Unread f) h d = absurd (no_fault w d f h.0 h.1)
 
 -- ---- beside one another
 
 -- beside others, each definition is there at the end
-beside_there : (r : List ℕ) (n : ℕ) (at : At) (readings : List Reading) (text : List ℕ) (key : Key) → NoneSpent (tolds (imports differs.Beside r n at readings)) → Contains readings (reading.Defined text key)
+beside_there : (r : List ℕ) (n : ℕ) (at : At) (readings : List ReadText) (text : List ℕ) (key : Key) → NoneSpent (tolds (imports differs.Beside r n at readings)) → Contains readings (reading.Defined text key)
     → HasText (finally differs.Beside r n at readings (bytes_of key)).known text
 beside_there r n at [] text key unspent c = absurd (none_in (reading.Defined text key) c)
 beside_there r n at (reading.Unread f ∷ readings) text key unspent c = elim (in_cons (reading.Defined text key) (reading.Unread f) readings c) [
@@ -224,7 +224,7 @@ beside_there r n at (reading.Unread f ∷ readings) text key unspent c = elim (i
 ]
 beside_there r n at (reading.Defined text key ∷ readings) other its unspent c =
     let there : OfKey = at (bytes_of key) in
-    let t : Told = told_of differs.Beside (id_at r n) there text in
+    let t : TextAction = told_of differs.Beside (id_at r n) there text in
     let now : OfKey = then_of t key text there in
     let next : At = with_key (bytes_of key) now at in
     let m : ℕ = n + length (bodies_of t text there.known) in
@@ -241,28 +241,28 @@ beside_there r n at (reading.Defined text key ∷ readings) other its unspent c 
     ]
 
 -- each reading is a definition
-abbrev AllDefined : List Reading → Type 0
+abbrev AllDefined : List ReadText → Type 0
 AllDefined [] = Unit {0}
 AllDefined (reading.Unread f ∷ readings) = ⊥
 AllDefined (reading.Defined text key ∷ readings) = AllDefined readings
 
-all_defined : (texts : List (List ℕ)) (readings : List Reading) → ((text : List ℕ) → Contains texts text → IsDefinition text) → AreReadings texts readings → AllDefined readings
+all_defined : (texts : List (List ℕ)) (readings : List ReadText) → ((text : List ℕ) → Contains texts text → IsDefinition text) → AreReadings texts readings → AllDefined readings
 all_defined [] readings are h = subst AllDefined (sym h) tt
 all_defined (text ∷ texts) readings are h =
     let k = defined_as text h.0 h.2 (are text (in_head text texts)) in
     let rest = all_defined texts h.1 (λ w c. are w (in_tail w text texts c)) h.3 in
     subst AllDefined (sym (h.4 ∙ ap (λ r. r ∷ h.1) k.1)) rest
 
-beside_unrefused : (r : List ℕ) (n : ℕ) (at : At) (readings : List Reading) → AllDefined readings → NoneRefused (tolds (imports differs.Beside r n at readings))
+beside_unrefused : (r : List ℕ) (n : ℕ) (at : At) (readings : List ReadText) → AllDefined readings → NoneRefused (tolds (imports differs.Beside r n at readings))
 beside_unrefused r n at [] h = refl
 beside_unrefused r n at (reading.Unread f ∷ readings) h = absurd h
 beside_unrefused r n at (reading.Defined text key ∷ readings) h =
     let there : OfKey = at (bytes_of key) in
-    let t : Told = told_of differs.Beside (id_at r n) there text in
+    let t : TextAction = told_of differs.Beside (id_at r n) there text in
     let rest = beside_unrefused r (n + length (bodies_of t text there.known)) (with_key (bytes_of key) (then_of t key text there) at) readings h in
     λ j. refused_of_beside (id_at r n) there text j || rest j
 
-pub exported_pass : (x : Content) (replica note : List ℕ) (keep_going : Bool) (cuts : List Piece) (readings : List Reading) (at : ℕ) (p : Problem) → IsContent x → IsCutInto (export x.ops) cuts
+pub exported_pass : (x : Content) (replica note : List ℕ) (keep_going : Bool) (cuts : List Piece) (readings : List ReadText) (at : ℕ) (p : Problem) → IsContent x → IsCutInto (export x.ops) cuts
     → AreReadings (map (λ (c : Piece). c.bytes) cuts) readings → IsImportRefusal nothing replica note differs.Beside keep_going readings (refusal.Refused at p) → ⊥
 exported_pass x replica note keep_going cuts readings at p is cut read h =
     let are : AreReadings (standing_texts x.ops) readings = subst (λ l. AreReadings l readings) (cut_texts x is cuts cut) read in
@@ -278,12 +278,12 @@ none_retired replica count h = false_from_ne_true _ (λ r.
 nothing_stands : (text : List ℕ) → HasStanding nothing.ops text → ⊥
 nothing_stands text h = let p = row_is_entered nothing.ops h.row h.there in true≢false (sym p.1 ∙ contains-empty op_cmp (entering h.row.entry h.row.definition p.0))
 
-pub import_exported : (x y : Content) (replica note : List ℕ) (keep_going : Bool) (cuts : List Piece) (readings : List Reading) (ts : List Told) → IsContent x → IsCutInto (export x.ops) cuts
+pub import_exported : (x y : Content) (replica note : List ℕ) (keep_going : Bool) (cuts : List Piece) (readings : List ReadText) (ts : List TextAction) → IsContent x → IsCutInto (export x.ops) cuts
     → AreReadings (map (λ (c : Piece). c.bytes) cuts) readings → Imports nothing replica note differs.Beside keep_going readings y ts → (text : List ℕ) → HasStanding y.ops text ↔ HasStanding x.ops text
 import_exported x y replica note keep_going cuts readings ts is cut read m text =
     let are : AreReadings (standing_texts x.ops) readings = subst (λ l. AreReadings l readings) (cut_texts x is cuts cut) read in
     let keyed : AreKeyed readings = are_keyed (standing_texts x.ops) readings are in
-    let es : List Known = m.are_steps.0 in
+    let es : List StandingEntry = m.are_steps.0 in
     let first : ℕ = greatest replica nothing.seen + 1 in
     let done : Does nothing replica note (effects (imports differs.Beside replica first (by_key es) readings)) y m.ids = subst (λ s. Does nothing replica note (effects s) y m.ids) m.are_steps.2 m.does in
     let unspent : NoneSpent (tolds (imports differs.Beside replica first (by_key es) readings)) = subst NoneSpent (m.told ∙ ap tolds m.are_steps.2) m.none_spent in (

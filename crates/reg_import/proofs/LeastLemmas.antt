@@ -1,19 +1,19 @@
 -- The least of some entries, from the last of them on.
 use Rattle.std.proofs.Common.{◌≡◌, Bool, true, false, cond, List, [], ◌∷◌, ◌++◌, append_assoc, append-nil, length, Option, Some, None, refl, sym, ap, ◌∙◌, arith}
 use Rattle.reg_op.specs.Ids.{Id}
-use Rattle.reg_import.specs.declared.known.Known.{Known}
+use Rattle.reg_import.specs.declared.standing_entry.StandingEntry.{StandingEntry}
 use Rattle.reg_import.specs.Imports.{least, sooner}
 
 -- the least of those behind the ones that are left
-pub record IsLeastBehind (passes : Known → Bool) (all front : List Known) (so_far : Option Id) : Type 0 where
-  pub behind : List Known
+pub record IsLeastBehind (passes : StandingEntry → Bool) (all front : List StandingEntry) (so_far : Option Id) : Type 0 where
+  pub behind : List StandingEntry
   pub are : all ≡ front ++ behind
   pub is : so_far ≡ least passes behind
 
-pub none_behind : (passes : Known → Bool) (all : List Known) → IsLeastBehind passes all all None
+pub none_behind : (passes : StandingEntry → Bool) (all : List StandingEntry) → IsLeastBehind passes all all None
 none_behind passes all = record { behind = []; are = sym (append-nil all); is = refl }
 
-module _ (passes : Known → Bool) (all front others : List Known) (e : Known) (so_far : Option Id) (at : front ≡ others ++ e ∷ []) (done : IsLeastBehind passes all front so_far) where
+module _ (passes : StandingEntry → Bool) (all front others : List StandingEntry) (e : StandingEntry) (so_far : Option Id) (at : front ≡ others ++ e ∷ []) (done : IsLeastBehind passes all front so_far) where
   whole : all ≡ others ++ (e ∷ done.behind)
   whole = done.are ∙ ap (λ l. l ++ done.behind) at ∙ append_assoc others (e ∷ []) done.behind
 
@@ -31,6 +31,6 @@ module _ (passes : Known → Bool) (all front others : List Known) (e : Known) (
     is = done.is ∙ (λ j. cond (sym h j) (Some (sooner e.entry (least passes done.behind))) (least passes done.behind));
   }
 
-pub least_is : (passes : Known → Bool) (all front : List Known) (so_far : Option Id) → length front ≡ 0 → IsLeastBehind passes all front so_far → so_far ≡ least passes all
+pub least_is : (passes : StandingEntry → Bool) (all front : List StandingEntry) (so_far : Option Id) → length front ≡ 0 → IsLeastBehind passes all front so_far → so_far ≡ least passes all
 least_is passes all [] so_far e done = done.is ∙ ap (least passes) (sym done.are)
 least_is passes all (x ∷ front) so_far e done = absurd (omega arith)

@@ -4,7 +4,7 @@ use Rattle.std.proofs.lemmas.List.Elements.{filter-append}
 use Rattle.csv.specs.Writing.{row_text, default_writer}
 use Rattle.reg_report.specs.Lines.{Sheet, sheet_text, IsReady, WritesRow, AreLines}
 use Rattle.reg_import.specs.declared.reading.FileText.{FileText}
-use Rattle.reg_import.specs.declared.told.Told.{Told}
+use Rattle.reg_import.specs.declared.action.TextAction.{TextAction}
 use Rattle.reg_import.specs.Lines.{Line, lines_of, is_same, is_shown, IsImportLine}
 use Rattle.reg_import.specs.Listing.{WritesLines}
 
@@ -29,13 +29,13 @@ module _ {T : Type 0} (R : T → List (List ℕ) → Type 0) where
 -- ---- one text after another
 
 -- the lines of the texts so far were written, and these are left
-pub record SoFar (names : List (List ℕ)) (changes : Bool) (all : List Line) (texts : List FileText) (told : List Told) (old now : Sheet) : Type 0 where
+pub record SoFar (names : List (List ℕ)) (changes : Bool) (all : List Line) (texts : List FileText) (told : List TextAction) (old now : Sheet) : Type 0 where
   pub done : List Line
   pub split : all ≡ done ++ lines_of texts told
   pub writes : WritesLines (IsImportLine names) (filter (is_shown changes) done) old now
 
 module _ (names : List (List ℕ)) (changes : Bool) (all : List Line) where
-  pub one_more : (texts others : List FileText) (told later : List Told) (x : FileText) (t : Told) (old now new : Sheet) → texts ≡ x ∷ others → told ≡ t ∷ later
+  pub one_more : (texts others : List FileText) (told later : List TextAction) (x : FileText) (t : TextAction) (old now new : Sheet) → texts ≡ x ∷ others → told ≡ t ∷ later
       → WritesLines (IsImportLine names) (filter (is_shown changes) (record { text = x; told = t } ∷ [])) now new → SoFar names changes all texts told old now → SoFar names changes all others later old new
   one_more texts others told later x t old now new e f w s =
       let line : Line = record { text = x; told = t } in record {

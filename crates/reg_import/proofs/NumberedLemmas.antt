@@ -6,7 +6,7 @@ use Rattle.reg_op.specs.declared.operation.OpBody.{OpBody as Body}
 use Rattle.reg_op.specs.declared.operation.OpBody.TheVariants.{Retire}
 use Rattle.reg_state.specs.Runs.{id_at}
 use Rattle.reg_office.specs.Making.{numbered}
-use Rattle.reg_import.specs.declared.known.Known.{Known}
+use Rattle.reg_import.specs.declared.standing_entry.StandingEntry.{StandingEntry}
 use Rattle.reg_import.specs.Plans.{retired}
 
 pub numbered_append : (r : List ℕ) (n : ℕ) (note : List ℕ) (bs cs : List Body) → numbered r n note (bs ++ cs) ≡ numbered r n note bs ++ numbered r (n + length bs) note cs
@@ -25,7 +25,7 @@ pub numbered_next : (r : List ℕ) (n : ℕ) (note : List ℕ) (b : Body) (bs : 
 numbered_next r n note b bs old new h = ap (λ os. os ++ numbered r (n + 1) note bs) h ∙ append_assoc old (numbered r n note (b ∷ [])) (numbered r (n + 1) note bs)
 
 -- the retirement of an entry, where others are still to come
-pub retirement_next : (r : List ℕ) (n : ℕ) (note : List ℕ) (e : Known) (rest others : List Known) (old new start : List Op) → rest ≡ e ∷ others → new ≡ old ++ numbered r n note (Retire e.entry ∷ []) → old ++ numbered r n note (retired rest) ≡ start
+pub retirement_next : (r : List ℕ) (n : ℕ) (note : List ℕ) (e : StandingEntry) (rest others : List StandingEntry) (old new start : List Op) → rest ≡ e ∷ others → new ≡ old ++ numbered r n note (Retire e.entry ∷ []) → old ++ numbered r n note (retired rest) ≡ start
     → new ++ numbered r (n + 1) note (retired others) ≡ start
 retirement_next r n note e rest others old new start at h done =
     numbered_next r n note (Retire e.entry) (retired others) old new h ∙ sym (ap (λ es. old ++ numbered r n note (retired es)) at) ∙ done

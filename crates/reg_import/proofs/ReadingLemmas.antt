@@ -14,8 +14,8 @@ use Rattle.wkt_crs.specs.Definition.{HasNone, IsDefinition, IsKeyIn, IsTextFault
 use Rattle.wkt_crs.proofs.Texts.{one_value}
 use Rattle.wkt_crs.proofs.Verdicts.{value_or_fault, one_first_fault}
 use Rattle.wkt_crs.proofs.Written.{canonical_spells}
-use Rattle.reg_import.specs.declared.reading.Reading.{Reading}
-use Rattle.reg_import.specs.declared.reading.Reading.TheVariants as reading
+use Rattle.reg_import.specs.declared.reading.ReadText.{ReadText}
+use Rattle.reg_import.specs.declared.reading.ReadText.TheVariants as reading
 use Rattle.reg_import.specs.Readings.{IsReading}
 use Rattle.reg_import.specs.Again.{IsSameReading}
 use Rattle.reg_import.proofs.StandingLemmas.{one_key}
@@ -69,7 +69,7 @@ one_fault text fault.CanonicalTooLong (fault.Read g) h k m n = absurd (spelled t
 one_fault text fault.CanonicalTooLong fault.NoIdentifier h k m n = absurd (h.2 (subst HasNone (one_value text k.0 h.0 k.1 h.1) k.2))
 one_fault text fault.CanonicalTooLong fault.CanonicalTooLong h k m n = refl
 
-pub one_reading : (text : List ℕ) (r s : Reading) → IsReading text r → IsReading text s → IsSameReading r s
+pub one_reading : (text : List ℕ) (r s : ReadText) → IsReading text r → IsReading text s → IsSameReading r s
 one_reading text (reading.Defined definition key) (reading.Defined other its) h k =
     let same : definition ≡ other = h.0.is ∙ ap canon (one_value text h.0.value k.0.value h.0.spells k.0.spells) ∙ sym k.0.is in
     (same, one_key definition key its h.2 (subst (IsKeyIn its) (sym same) k.2))

@@ -37,7 +37,7 @@ use Rattle.reg_report.proofs.EntryLemmas.{row_is_entered}
 use Rattle.reg_office.proofs.LawLemmas.{made_are}
 use Rattle.reg_office.proofs.NumberLemmas.{op_cases}
 use Rattle.reg_report.proofs.PairLemmas.{it_enters}
-use Rattle.reg_import.specs.declared.known.Known.{Known}
+use Rattle.reg_import.specs.declared.standing_entry.StandingEntry.{StandingEntry}
 use Rattle.reg_import.specs.Known.{IsKnown, AreKnown, AreStanding, stands, key_of}
 use Rattle.reg_import.specs.Again.{HasStanding}
 use Rattle.reg_import.proofs.FreshLemmas.{not_retired}
@@ -121,14 +121,14 @@ stays_up false r u h = refl
 pub entered_stands : (s : Ops) (i : Id) (text note : List ℕ) → contains s (entering i text note) ≡ true → retires s i ≡ false → Contains (rows s) (row_of s i text) × (stands (row_of s i text) ≡ true)
 entered_stands s i text note h n = (row_in s (set.items s) i text note (sym (contains-items s (entering i text note)) ∙ h), stays_up (enters s i) (retires s i) (supersedes s i) n)
 
-known_row : (rs : List Row) (es : List Known) (e : Known) → AreKnown rs es → Contains es e → (r : Row) × Contains rs r × IsKnown r e
+known_row : (rs : List Row) (es : List StandingEntry) (e : StandingEntry) → AreKnown rs es → Contains es e → (r : Row) × Contains rs r × IsKnown r e
 known_row [] es e a c = absurd (none_in e (subst (λ l. Contains l e) a c))
 known_row (r ∷ rs) es e a c = elim (in_cons e a.0 a.1 (subst (λ l. Contains l e) a.4 c)) [
   | inl same ↦ (r, in_head r rs, subst (IsKnown r) (sym same) a.2)
   | inr later ↦ let m = known_row rs a.1 e a.3 later in (m.0, in_tail m.0 r rs m.1, m.2)
 ]
 
-row_known : (rs : List Row) (es : List Known) (r : Row) → AreKnown rs es → Contains rs r → (e : Known) × Contains es e × IsKnown r e
+row_known : (rs : List Row) (es : List StandingEntry) (r : Row) → AreKnown rs es → Contains rs r → (e : StandingEntry) × Contains es e × IsKnown r e
 row_known [] es r a c = absurd (none_in r c)
 row_known (q ∷ rs) es r a c = elim (in_cons r q rs c) [
   | inl same ↦ (a.0, subst (λ l. Contains l a.0) (sym a.4) (in_head a.0 a.1), subst (λ p. IsKnown p a.0) (sym same) a.2)
@@ -150,13 +150,13 @@ row_stands s r c up =
 -- ---- entries
 
 -- it is entered there, not retired, and has the key of its text
-pub record IsOld (x : Content) (e : Known) : Type 0 where
+pub record IsOld (x : Content) (e : StandingEntry) : Type 0 where
   pub note : List ℕ
   pub entered : contains x.ops (entering e.entry e.definition note) ≡ true
   pub stands : retires x.ops e.entry ≡ false
   pub keyed : IsKeyIn e.key e.definition
 
-pub standing_is_old : (x : Content) (es : List Known) (e : Known) → AreStanding x.ops es → Contains es e → IsOld x e
+pub standing_is_old : (x : Content) (es : List StandingEntry) (e : StandingEntry) → AreStanding x.ops es → Contains es e → IsOld x e
 standing_is_old x es e are c =
     let m = known_row (filter stands (rows x.ops)) es e are c in
     let f = in_filter stands (rows x.ops) m.0 m.1 in
@@ -169,14 +169,14 @@ standing_is_old x es e are c =
     }
 
 -- an entry of some has this id and this text, and the key of that
-pub record IsOneOf (es : List Known) (i : Id) (text : List ℕ) : Type 0 where
-  pub e : Known
+pub record IsOneOf (es : List StandingEntry) (i : Id) (text : List ℕ) : Type 0 where
+  pub e : StandingEntry
   pub there : Contains es e
   pub entry : e.entry ≡ i
   pub definition : e.definition ≡ text
   pub keyed : IsKeyIn e.key text
 
-pub old_is_standing : (s : Ops) (es : List Known) (i : Id) (text note : List ℕ) → AreStanding s es → contains s (entering i text note) ≡ true → retires s i ≡ false → IsOneOf es i text
+pub old_is_standing : (s : Ops) (es : List StandingEntry) (i : Id) (text note : List ℕ) → AreStanding s es → contains s (entering i text note) ≡ true → retires s i ≡ false → IsOneOf es i text
 old_is_standing s es i text note are h n =
     let r : Row = row_of s i text in
     let up = entered_stands s i text note h n in
@@ -184,7 +184,7 @@ old_is_standing s es i text note are h n =
     record { e = m.0; there = m.1; entry = m.2.entry; definition = m.2.definition; keyed = m.2.keyed }
 
 -- entries of one id have one key
-pub one_key_an_id : (x : Content) (e f : Known) → OneBody x.ops → IsOld x e → IsOld x f → e.entry ≡ f.entry → key_of e ≡ key_of f
+pub one_key_an_id : (x : Content) (e f : StandingEntry) → OneBody x.ops → IsOld x e → IsOld x f → e.entry ≡ f.entry → key_of e ≡ key_of f
 one_key_an_id x e f one a b same =
     let ops : entering e.entry e.definition a.note ≡ entering f.entry f.definition b.note = one (entering e.entry e.definition a.note) (entering f.entry f.definition b.note) a.entered b.entered same in
     let bodies : ◌≡◌ {A = Body} (Enter e.definition) (Enter f.definition) = ap (λ (o : Op). o.body) ops in

@@ -10,15 +10,15 @@ use Rattle.reg_state.specs.Runs.{id_at}
 use Rattle.reg_report.specs.Conflicts.{bytes_of}
 use Rattle.reg_office.specs.Making.{numbered}
 use Rattle.reg_office.proofs.NumberLemmas.{length_map}
-use Rattle.reg_import.specs.declared.known.Known.{Known}
+use Rattle.reg_import.specs.declared.standing_entry.StandingEntry.{StandingEntry}
 use Rattle.reg_import.specs.declared.index.KeyText.{KeyText}
-use Rattle.reg_import.specs.declared.bucket.Bucket.{Bucket}
-use Rattle.reg_import.specs.declared.reading.Reading.{Reading}
-use Rattle.reg_import.specs.declared.reading.Reading.TheVariants as reading
-use Rattle.reg_import.specs.declared.told.Differs.{Differs}
-use Rattle.reg_import.specs.declared.told.Problem.TheVariants as problem
-use Rattle.reg_import.specs.declared.told.Told.{Told}
-use Rattle.reg_import.specs.declared.told.Told.TheVariants as told
+use Rattle.reg_import.specs.declared.entries_of_key.EntriesOfKey.{EntriesOfKey}
+use Rattle.reg_import.specs.declared.reading.ReadText.{ReadText}
+use Rattle.reg_import.specs.declared.reading.ReadText.TheVariants as reading
+use Rattle.reg_import.specs.declared.action.Differs.{Differs}
+use Rattle.reg_import.specs.declared.action.Problem.TheVariants as problem
+use Rattle.reg_import.specs.declared.action.TextAction.{TextAction}
+use Rattle.reg_import.specs.declared.action.TextAction.TheVariants as told
 use Rattle.reg_import.specs.Known.{OfKey, At, key_of, with_key}
 use Rattle.reg_import.specs.Index.{key_bytes, bucket_seen, nothing_there, Indexes, and_entry, with_entry}
 use Rattle.reg_op.specs.Ids.{Id}
@@ -34,31 +34,31 @@ use Rattle.reg_import.proofs.ToldLemmas.{told_has}
 
 pub fits_told : (d : Differs) (r : List ℕ) (n : ℕ) (there : OfKey) (text : List ℕ) → n ≤ 4294967296 → n + length (bodies_of (told_of d (id_at r n) there text) text there.known) ≤ 4294967296
 fits_told d r n there text h =
-    let P : Told → Type 0 = λ t. n + length (bodies_of t text there.known) ≤ 4294967296 in
+    let P : TextAction → Type 0 = λ t. n + length (bodies_of t text there.known) ≤ 4294967296 in
     told_has P d (id_at r n) there text (record {
       same = λ i. omega arith;
       superseded = λ i. omega arith;
       entered = λ l. omega arith;
       beside = λ l. omega arith;
-      revised = λ o l. omega (arith, l, length_map (λ (e : Known). Retire e.entry) there.known);
+      revised = λ o l. omega (arith, l, length_map (λ (e : StandingEntry). Retire e.entry) there.known);
       taken = λ i. omega arith;
       spent = omega arith;
     })
 
 -- by what is found of the text
-pub told_is : (d : Differs) (new : Id) (there : OfKey) (text : List ℕ) (f : Found) (t : Told) → f ≡ found text there.known → t ≡ told_by f (least any_entry there.known) d new there → t ≡ told_of d new there text
+pub told_is : (d : Differs) (new : Id) (there : OfKey) (text : List ℕ) (f : Found) (t : TextAction) → f ≡ found text there.known → t ≡ told_by f (least any_entry there.known) d new there → t ≡ told_of d new there text
 told_is d new there text f t e is = is ∙ ap (λ g. told_by g (least any_entry there.known) d new there) e
 
-pub told_fits : (d : Differs) (r : List ℕ) (n : ℕ) (there : OfKey) (text given : List ℕ) (t : Told) → t ≡ told_of d (id_at r n) there given → given ≡ text → n ≤ 4294967296 → n + length (bodies_of t text there.known) ≤ 4294967296
+pub told_fits : (d : Differs) (r : List ℕ) (n : ℕ) (there : OfKey) (text given : List ℕ) (t : TextAction) → t ≡ told_of d (id_at r n) there given → given ≡ text → n ≤ 4294967296 → n + length (bodies_of t text there.known) ≤ 4294967296
 told_fits d r n there text given t e same h = subst (λ u. n + length (bodies_of u text there.known) ≤ 4294967296) (sym (e ∙ ap (told_of d (id_at r n) there) same)) (fits_told d r n there text h)
 
-pub fits_at : (d : Differs) (r : List ℕ) (n : ℕ) (at : At) (text : Reading) → n ≤ 4294967296 → n + length (bodies_at (told_at d r n at text) at text) ≤ 4294967296
+pub fits_at : (d : Differs) (r : List ℕ) (n : ℕ) (at : At) (text : ReadText) → n ≤ 4294967296 → n + length (bodies_at (told_at d r n at text) at text) ≤ 4294967296
 fits_at d r n at (reading.Unread f) h = omega arith
 fits_at d r n at (reading.Defined text key) h = fits_told d r n (at (bytes_of key)) text h
 
 -- ---- one text
 
-module _ (d : Differs) (r : List ℕ) (n : ℕ) (note text : List ℕ) (key : Key) (at : At) (kt : KeyText) (b b' : Bucket) (m : BTreeMap KeyText Bucket) (old new : List Op) (t : Told) where
+module _ (d : Differs) (r : List ℕ) (n : ℕ) (note text : List ℕ) (key : Key) (at : At) (kt : KeyText) (b b' : EntriesOfKey) (m : BTreeMap KeyText EntriesOfKey) (old new : List Op) (t : TextAction) where
   pub step_is : key_bytes kt ≡ bytes_of key → bucket_seen b ≡ at (key_bytes kt) → t ≡ told_of d (id_at r n) (bucket_seen b) text → new ≡ old ++ numbered r n note (bodies_of t text b.known.items)
       → bucket_seen b' ≡ then_of t key text (bucket_seen b) → Indexes m (with_key (key_bytes kt) (bucket_seen b') (with_key (key_bytes kt) nothing_there at))
       → StepsOn d r n note (reading.Defined text key) at m old new t
@@ -72,14 +72,14 @@ module _ (d : Differs) (r : List ℕ) (n : ℕ) (note text : List ℕ) (key : Ke
 -- ---- one after another
 
 -- what there is in the midst of it: with what is still to come it is what comes of all
-pub record Planned (d : Differs) (r : List ℕ) (first : ℕ) (note : List ℕ) (start : At) (all rest : List Reading) (m : BTreeMap KeyText Bucket) (ts : List Told) (ops : List Op) : Type 0 where
+pub record Planned (d : Differs) (r : List ℕ) (first : ℕ) (note : List ℕ) (start : At) (all rest : List ReadText) (m : BTreeMap KeyText EntriesOfKey) (ts : List TextAction) (ops : List Op) : Type 0 where
   pub at : At
   pub index : Indexes m at
   pub fits : first + length ops ≤ 4294967296
   pub told : ts ++ tolds (imports d r (first + length ops) at rest) ≡ tolds (imports d r first start all)
   pub made : ops ++ numbered r (first + length ops) note (effects (imports d r (first + length ops) at rest)) ≡ numbered r first note (effects (imports d r first start all))
 
-pub planned_none : (d : Differs) (r : List ℕ) (first : ℕ) (note : List ℕ) (start : At) (all : List Reading) (m : BTreeMap KeyText Bucket) (ts : List Told) (ops : List Op) → ts ≡ [] → ops ≡ [] → first ≤ 4294967296 → Indexes m start → Planned d r first note start all all m ts ops
+pub planned_none : (d : Differs) (r : List ℕ) (first : ℕ) (note : List ℕ) (start : At) (all : List ReadText) (m : BTreeMap KeyText EntriesOfKey) (ts : List TextAction) (ops : List Op) → ts ≡ [] → ops ≡ [] → first ≤ 4294967296 → Indexes m start → Planned d r first note start all all m ts ops
 planned_none d r first note start all m ts ops t0 o0 h i =
     let e : first + length ops ≡ first = (λ j. first + length (o0 j)) ∙ add-zero first in record {
       at = start;
@@ -89,12 +89,12 @@ planned_none d r first note start all m ts ops t0 o0 h i =
       made = (λ j. o0 j ++ numbered r (e j) note (effects (imports d r (e j) start all)));
     }
 
-module _ (d : Differs) (r : List ℕ) (first : ℕ) (note : List ℕ) (start : At) (all rest others : List Reading) (text : Reading) (m m' : BTreeMap KeyText Bucket) (ts : List Told) (old new : List Op) (t : Told) (count : ℕ) (ts' : List Told) where
+module _ (d : Differs) (r : List ℕ) (first : ℕ) (note : List ℕ) (start : At) (all rest others : List ReadText) (text : ReadText) (m m' : BTreeMap KeyText EntriesOfKey) (ts : List TextAction) (old new : List Op) (t : TextAction) (count : ℕ) (ts' : List TextAction) where
   pub planned_more : rest ≡ text ∷ others → (p : Planned d r first note start all rest m ts old) → count ≡ first + length old → StepsOn d r count note text p.at m' old new t → ts' ≡ ts ++ t ∷ [] → Planned d r first note start all others m' ts' new
   planned_more at_rest p same given told_then =
       let n : ℕ = first + length old in
       let s : StepsOn d r n note text p.at m' old new t = subst (λ k. StepsOn d r k note text p.at m' old new t) same given in
-      let t0 : Told = told_at d r n p.at text in
+      let t0 : TextAction = told_at d r n p.at text in
       let bs : List Body = bodies_at t0 p.at text in
       let now : At = then_at t0 p.at text in
       let made_now : new ≡ old ++ numbered r n note bs = subst (λ u. new ≡ old ++ numbered r n note (bodies_at u p.at text)) s.told s.made in
@@ -119,20 +119,20 @@ module _ (d : Differs) (r : List ℕ) (first : ℕ) (note : List ℕ) (start : A
             ∙ p.made;
       }
 
-pub planned_all : (d : Differs) (r : List ℕ) (first : ℕ) (note : List ℕ) (start : At) (all rest : List Reading) (m : BTreeMap KeyText Bucket) (ts : List Told) (ops : List Op) → length rest ≡ 0 → Planned d r first note start all rest m ts ops → Lists r first note (imports d r first start all) ts ops
+pub planned_all : (d : Differs) (r : List ℕ) (first : ℕ) (note : List ℕ) (start : At) (all rest : List ReadText) (m : BTreeMap KeyText EntriesOfKey) (ts : List TextAction) (ops : List Op) → length rest ≡ 0 → Planned d r first note start all rest m ts ops → Lists r first note (imports d r first start all) ts ops
 planned_all d r first note start all [] m ts ops e p = record { told = sym (append-nil ts) ∙ p.told; made = sym (append-nil ops) ∙ p.made }
 planned_all d r first note start all (x ∷ rest) m ts ops e p = absurd (omega arith)
 
 -- the numbers of all operations fit
-pub imports_fit : (d : Differs) (r : List ℕ) (n : ℕ) (at : At) (texts : List Reading) → n ≤ 4294967296 → n + length (effects (imports d r n at texts)) ≤ 4294967296
+pub imports_fit : (d : Differs) (r : List ℕ) (n : ℕ) (at : At) (texts : List ReadText) → n ≤ 4294967296 → n + length (effects (imports d r n at texts)) ≤ 4294967296
 imports_fit d r n at [] h = omega arith
 imports_fit d r n at (text ∷ texts) h =
-    let t : Told = told_at d r n at text in
+    let t : TextAction = told_at d r n at text in
     let bs : List Body = bodies_at t at text in
     let rest = imports_fit d r (n + length bs) (then_at t at text) texts (fits_at d r n at text h) in
     omega (arith, rest, length-append bs (effects (imports d r (n + length bs) (then_at t at text) texts)))
 
 -- an entry more in the index
-pub entry_put : (kt : KeyText) (b b' : Bucket) (e : Known) (m : BTreeMap KeyText Bucket) (at : At) → key_bytes kt ≡ key_of e → bucket_seen b ≡ at (key_bytes kt) → bucket_seen b' ≡ and_entry e (bucket_seen b)
+pub entry_put : (kt : KeyText) (b b' : EntriesOfKey) (e : StandingEntry) (m : BTreeMap KeyText EntriesOfKey) (at : At) → key_bytes kt ≡ key_of e → bucket_seen b ≡ at (key_bytes kt) → bucket_seen b' ≡ and_entry e (bucket_seen b)
     → Indexes m (with_key (key_bytes kt) (bucket_seen b') (with_key (key_bytes kt) nothing_there at)) → Indexes m (with_entry e at)
 entry_put kt b b' e m at k there now index q = index q ∙ put_again (key_bytes kt) (key_of e) (bucket_seen b') (and_entry e (at (key_of e))) nothing_there at (key_bytes q) k (now ∙ ap (and_entry e) (there ∙ ap at k))

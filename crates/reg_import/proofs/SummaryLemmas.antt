@@ -12,7 +12,7 @@ use Rattle.std.specs.declared.cmp.Ordering.{Ordering}
 use Rattle.std.specs.declared.cmp.Ordering.TheVariants.{Less, Equal, Greater}
 use Rattle.reg_op.specs.Ids.{Id, id_cmp, is_before}
 use Rattle.reg_op.proofs.OpLemmas.{id_total}
-use Rattle.reg_import.specs.declared.known.Known.{Known}
+use Rattle.reg_import.specs.declared.standing_entry.StandingEntry.{StandingEntry}
 use Rattle.reg_import.specs.declared.summary.Found.{Found}
 use Rattle.reg_import.specs.declared.summary.Summary.{Summary}
 use Rattle.reg_import.specs.Imports.{least, sooner, lesser, and_least, has_text, has_text_and_is_valid, any_entry}
@@ -67,7 +67,7 @@ push_step true true a e (Some m) = ap Some (sooner_of_three a m e)
 push_step true false a e l = refl
 push_step false y a e l = refl
 
-least_push : (passes : Known → Bool) (es : List Known) (e : Known) → least passes (es ++ e ∷ []) ≡ and_least (passes e) (least passes es) e.entry
+least_push : (passes : StandingEntry → Bool) (es : List StandingEntry) (e : StandingEntry) → least passes (es ++ e ∷ []) ≡ and_least (passes e) (least passes es) e.entry
 least_push passes [] e = refl
 least_push passes (a ∷ es) e =
     (λ j. cond (passes a) (Some (sooner a.entry (least_push passes es e j))) (least_push passes es e j))
@@ -79,7 +79,7 @@ and_false : (b : Bool) → (b && false) ≡ false
 and_false true = refl
 and_false false = refl
 
-module _ (es : List Known) (e : Known) (k q : Vec ℕ) (before : Option Found) (v : Found) where
+module _ (es : List StandingEntry) (e : StandingEntry) (k q : Vec ℕ) (before : Option Found) (v : Found) where
   found_of : (b : Bool) → is_eq (slice_cmp nat_cmp k.items q.items) ≡ b → k.items ≡ e.definition → found_in before ≡ found q.items es
       → (at : Found) → at ≡ found k.items es → v.any ≡ and_least true at.any e.entry → v.valid ≡ and_least e.valid at.valid e.entry
       → found_in (cond b (Some v) before) ≡ found q.items (es ++ e ∷ [])
@@ -105,7 +105,7 @@ module _ (es : List Known) (e : Known) (k q : Vec ℕ) (before : Option Found) (
 pub sums_none : (s : Summary) → s.least ≡ None → ((q : Vec ℕ) → get bytes_cmp s.texts q ≡ None) → SumsUp s []
 sums_none s l n = record { least_of_all = l; each = λ q. ap found_in (n q) }
 
-module _ (s s' : Summary) (es : List Known) (e : Known) (k : Vec ℕ) (v : Found) where
+module _ (s s' : Summary) (es : List StandingEntry) (e : StandingEntry) (k : Vec ℕ) (v : Found) where
   pub sums_more : SumsUp s es → k.items ≡ e.definition → v.any ≡ and_least true (found_in (get bytes_cmp s.texts k)).any e.entry → v.valid ≡ and_least e.valid (found_in (get bytes_cmp s.texts k)).valid e.entry
       → s'.least ≡ and_least true s.least e.entry → ((q : Vec ℕ) → get bytes_cmp s'.texts q ≡ cond (is_eq (bytes_cmp k q)) (Some v) (get bytes_cmp s.texts q))
       → SumsUp s' (es ++ e ∷ [])

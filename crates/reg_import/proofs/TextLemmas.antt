@@ -9,31 +9,31 @@ use Rattle.crs_value.specs.declared.key.Key.{Key}
 use Rattle.wkt_crs.proofs.Defining.{same_bytes, not_same}
 use Rattle.reg_op.specs.Ids.{Id}
 use Rattle.reg_report.proofs.ConflictLemmas.{none_in, in_cons, in_head, in_tail}
-use Rattle.reg_import.specs.declared.known.Known.{Known}
-use Rattle.reg_import.specs.declared.told.Differs.{Differs}
-use Rattle.reg_import.specs.declared.told.Differs.TheVariants as differs
-use Rattle.reg_import.specs.declared.told.Problem.TheVariants as problem
-use Rattle.reg_import.specs.declared.told.Told.{Told}
-use Rattle.reg_import.specs.declared.told.Told.TheVariants as told
+use Rattle.reg_import.specs.declared.standing_entry.StandingEntry.{StandingEntry}
+use Rattle.reg_import.specs.declared.action.Differs.{Differs}
+use Rattle.reg_import.specs.declared.action.Differs.TheVariants as differs
+use Rattle.reg_import.specs.declared.action.Problem.TheVariants as problem
+use Rattle.reg_import.specs.declared.action.TextAction.{TextAction}
+use Rattle.reg_import.specs.declared.action.TextAction.TheVariants as told
 use Rattle.reg_import.specs.Known.{OfKey}
 use Rattle.reg_import.specs.Imports.{has_text, has_text_and_is_valid, any_entry, sooner, least, unless_spent, told_of_new, told_of, bodies_of, entered, then_of, is_refused, is_spent}
 use Rattle.reg_import.specs.Again.{is_there}
 use Rattle.reg_import.proofs.ToldLemmas.{told_has}
 
 -- an entry has the text
-abbrev pub HasText : List Known → List ℕ → Type 0
-HasText es text = (e : Known) × Contains es e × (e.definition ≡ text)
+abbrev pub HasText : List StandingEntry → List ℕ → Type 0
+HasText es text = (e : StandingEntry) × Contains es e × (e.definition ≡ text)
 
 -- ---- the least of some entries
 
-least_some : (passes : Known → Bool) (es : List Known) (i : Id) → least passes es ≡ Some i → (e : Known) × Contains es e × (passes e ≡ true)
+least_some : (passes : StandingEntry → Bool) (es : List StandingEntry) (i : Id) → least passes es ≡ Some i → (e : StandingEntry) × Contains es e × (passes e ≡ true)
 least_some passes [] i h = absurd cc
-least_some passes (e ∷ es) i h = elim (passes e) as (λ b. passes e ≡ b → cond b (Some (sooner e.entry (least passes es))) (least passes es) ≡ Some i → (f : Known) × Contains (e ∷ es) f × (passes f ≡ true)) [
+least_some passes (e ∷ es) i h = elim (passes e) as (λ b. passes e ≡ b → cond b (Some (sooner e.entry (least passes es))) (least passes es) ≡ Some i → (f : StandingEntry) × Contains (e ∷ es) f × (passes f ≡ true)) [
   | true ↦ λ t _. (e, in_head e es, t)
   | false ↦ λ _ g. let m = least_some passes es i g in (m.0, in_tail m.0 e es m.1, m.2)
 ] refl h
 
-least_none : (passes : Known → Bool) (es : List Known) → least passes es ≡ None → (e : Known) → Contains es e → passes e ≡ true → ⊥
+least_none : (passes : StandingEntry → Bool) (es : List StandingEntry) → least passes es ≡ None → (e : StandingEntry) → Contains es e → passes e ≡ true → ⊥
 least_none passes [] h e c t = none_in e c
 least_none passes (f ∷ es) h e c t = elim (passes f) as (λ b. passes f ≡ b → cond b (Some (sooner f.entry (least passes es))) (least passes es) ≡ None → ⊥) [
   | true ↦ λ _ g. cc
@@ -48,30 +48,30 @@ text_itself text other e = true_from_ne_false _ (λ n. not_same other text n e)
 
 -- ---- what is told where an entry has the text, and where the text is refused
 
-pub there_then : (t : Told) (key : Key) (text : List ℕ) (there : OfKey) → is_there t ≡ true → then_of t key text there ≡ record { known = there.known; ours = true }
+pub there_then : (t : TextAction) (key : Key) (text : List ℕ) (there : OfKey) → is_there t ≡ true → then_of t key text there ≡ record { known = there.known; ours = true }
 there_then (told.Same i) key text there h = refl
 there_then (told.Superseded i) key text there h = refl
 there_then t key text there h = absurd cc
 
-pub there_makes_nothing : (t : Told) (text : List ℕ) (es : List Known) → is_there t ≡ true → bodies_of t text es ≡ []
+pub there_makes_nothing : (t : TextAction) (text : List ℕ) (es : List StandingEntry) → is_there t ≡ true → bodies_of t text es ≡ []
 there_makes_nothing (told.Same i) text es h = refl
 there_makes_nothing (told.Superseded i) text es h = refl
 there_makes_nothing t text es h = absurd cc
 
-pub there_not_refused : (t : Told) → is_there t ≡ true → is_refused t ≡ false
+pub there_not_refused : (t : TextAction) → is_there t ≡ true → is_refused t ≡ false
 there_not_refused (told.Same i) h = refl
 there_not_refused (told.Superseded i) h = refl
 there_not_refused t h = absurd cc
 
-pub refused_then : (t : Told) (key : Key) (text : List ℕ) (there : OfKey) → is_refused t ≡ true → then_of t key text there ≡ there
+pub refused_then : (t : TextAction) (key : Key) (text : List ℕ) (there : OfKey) → is_refused t ≡ true → then_of t key text there ≡ there
 refused_then (told.Refused p) key text there h = refl
 refused_then t key text there h = absurd cc
 
-pub refused_makes_nothing : (t : Told) (text : List ℕ) (es : List Known) → is_refused t ≡ true → bodies_of t text es ≡ []
+pub refused_makes_nothing : (t : TextAction) (text : List ℕ) (es : List StandingEntry) → is_refused t ≡ true → bodies_of t text es ≡ []
 refused_makes_nothing (told.Refused p) text es h = refl
 refused_makes_nothing t text es h = absurd cc
 
-pub refused_not_there : (t : Told) → is_refused t ≡ true → is_there t ≡ false
+pub refused_not_there : (t : TextAction) → is_refused t ≡ true → is_there t ≡ false
 refused_not_there (told.Refused p) h = refl
 refused_not_there t h = absurd cc
 
@@ -100,7 +100,7 @@ some_blocks : (o : Option Id) (d : Differs) (ours : Bool) → blocks o d ours �
 some_blocks None d ours h = absurd (true≢false (sym h))
 some_blocks (Some i) d ours h = (i, refl)
 
-unless_not : (p : Told → Bool) (last : ℕ) (t : Told) → p t ≡ false → p told.Spent ≡ false → p (unless_spent last t) ≡ false
+unless_not : (p : TextAction → Bool) (last : ℕ) (t : TextAction) → p t ≡ false → p told.Spent ≡ false → p (unless_spent last t) ≡ false
 unless_not p last t h k = elim (nat_le last 4294967295) as (λ b. p (cond b t told.Spent) ≡ false) [ true ↦ h | false ↦ k ]
 
 new_refused : (o : Option Id) (d : Differs) (new : Id) (there : OfKey) → is_refused (told_of_new o d new there) ≡ blocks o d there.ours
@@ -126,14 +126,14 @@ new_not_there (Some other) differs.Revise new there =
 -- ---- one text
 
 module _ (d : Differs) (new : Id) (there : OfKey) (text : List ℕ) where
-  abbrev its : Told
+  abbrev its : TextAction
   its = told_of d new there text
 
-  abbrev otherwise : Told
+  abbrev otherwise : TextAction
   otherwise = told_of_new (least any_entry there.known) d new there
 
   -- whether an entry of its key has it
-  abbrev AsThere : Told → Type 0
+  abbrev AsThere : TextAction → Type 0
   AsThere t = ((is_there t ≡ true) × HasText there.known text) ⊎ ((HasText there.known text → ⊥) × (t ≡ otherwise))
 
   by_entries : (v a : Option Id) → least (has_text_and_is_valid text) there.known ≡ v → least (has_text text) there.known ≡ a → AsThere (unwrap_or (option_map told.Same v) (unwrap_or (option_map told.Superseded a) otherwise))
@@ -179,7 +179,7 @@ module _ (d : Differs) (new : Id) (there : OfKey) (text : List ℕ) where
     | inr b ↦ subst Closed (sym (refused_then its key text there (ap is_refused b.1 ∙ new_refused (least any_entry there.known) d new there ∙ h))) (refl, h)
   ]
 
-  abbrev Comes : Key → Told → Type 0
+  abbrev Comes : Key → TextAction → Type 0
   Comes key t = is_refused t ≡ false → is_spent t ≡ false → (is_there t ≡ true → HasText there.known text) → HasText (then_of t key text there).known text × ((then_of t key text there).ours ≡ true)
 
   -- a text that is neither refused nor spent has an entry then, which is ours
@@ -198,7 +198,7 @@ module _ (d : Differs) (new : Id) (there : OfKey) (text : List ℕ) where
       behind = (entered new key text, Contains-append_right there.known (entered new key text ∷ []) (entered new key text) (in_head (entered new key text) []), refl)
 
   -- an entry of a key that is ours stays
-  pub ours_on : (key : Key) (e : Known) → there.ours ≡ true → Contains there.known e → Contains (then_of its key text there).known e × ((then_of its key text there).ours ≡ true)
+  pub ours_on : (key : Key) (e : StandingEntry) → there.ours ≡ true → Contains there.known e → Contains (then_of its key text there).known e × ((then_of its key text there).ours ≡ true)
   ours_on key e o c = told_has (λ t. Contains (then_of t key text there).known e × ((then_of t key text there).ours ≡ true)) d new there text (record {
     same = λ i. (c, refl);
     superseded = λ i. (c, refl);
@@ -210,7 +210,7 @@ module _ (d : Differs) (new : Id) (there : OfKey) (text : List ℕ) where
   })
 
 -- where an entry has the key, another text is against those that no entry has, as before or more
-pub blocks_on : (d : Differs) (es fs : List Known) (ours more : Bool) → blocks (least any_entry es) d ours ≡ true → ((text : List ℕ) → HasText es text → HasText fs text) → (ours ≡ true → more ≡ true) → blocks (least any_entry fs) d more ≡ true
+pub blocks_on : (d : Differs) (es fs : List StandingEntry) (ours more : Bool) → blocks (least any_entry es) d ours ≡ true → ((text : List ℕ) → HasText es text → HasText fs text) → (ours ≡ true → more ≡ true) → blocks (least any_entry fs) d more ≡ true
 blocks_on d es fs ours more h within k =
     let some = some_blocks (least any_entry es) d ours h in
     let e = least_some any_entry es some.0 some.1 in

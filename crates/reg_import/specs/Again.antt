@@ -7,10 +7,10 @@ use Rattle.reg_op.specs.Status.{retires, supersedes}
 use Rattle.reg_state.specs.Runs.{id_at}
 use Rattle.reg_report.specs.Conflicts.{bytes_of}
 use Rattle.reg_office.specs.Making.{greatest}
-use Rattle.reg_import.specs.declared.reading.Reading.{Reading}
-use Rattle.reg_import.specs.declared.reading.Reading.TheVariants as reading
-use Rattle.reg_import.specs.declared.told.Told.{Told}
-use Rattle.reg_import.specs.declared.told.Told.TheVariants as told
+use Rattle.reg_import.specs.declared.reading.ReadText.{ReadText}
+use Rattle.reg_import.specs.declared.reading.ReadText.TheVariants as reading
+use Rattle.reg_import.specs.declared.action.TextAction.{TextAction}
+use Rattle.reg_import.specs.declared.action.TextAction.TheVariants as told
 use Rattle.reg_import.specs.Known.{stands}
 use Rattle.reg_import.specs.Readings.{IsReading}
 use Rattle.reg_import.specs.Imports.{is_refused}
@@ -27,16 +27,16 @@ abbrev pub standing_texts : Ops → List (List ℕ)
 standing_texts s = map (λ (r : Row). r.definition) (filter stands (rows s))
 
 -- the same definition with the same key, or the same fault
-abbrev pub IsSameReading : Reading → Reading → Type 0
+abbrev pub IsSameReading : ReadText → ReadText → Type 0
 IsSameReading (reading.Defined text key) (reading.Defined other its) = (text ≡ other) × (bytes_of key ≡ bytes_of its)
 IsSameReading (reading.Defined text key) (reading.Unread g) = ⊥
 IsSameReading (reading.Unread f) (reading.Defined other its) = ⊥
 IsSameReading (reading.Unread f) (reading.Unread g) = f ≡ g
 
 -- each text is read so
-abbrev pub AreReadings : List (List ℕ) → List Reading → Type 0
+abbrev pub AreReadings : List (List ℕ) → List ReadText → Type 0
 AreReadings [] readings = readings ≡ []
-AreReadings (text ∷ texts) readings = (reading : Reading) × (rest : List Reading) × IsReading text reading × AreReadings texts rest × (readings ≡ reading ∷ rest)
+AreReadings (text ∷ texts) readings = (reading : ReadText) × (rest : List ReadText) × IsReading text reading × AreReadings texts rest × (readings ≡ reading ∷ rest)
 
 -- no entry that the replica has still to number is retired already
 abbrev pub RetiresNoneAhead : Content → List ℕ → Type 0
@@ -47,7 +47,7 @@ abbrev pub SupersedesNoneAhead : Content → List ℕ → Type 0
 SupersedesNoneAhead x replica = (count : ℕ) → greatest replica x.seen < count → supersedes x.ops (id_at replica count) ≡ false
 
 -- an entry had the text already
-abbrev pub is_there : Told → Bool
+abbrev pub is_there : TextAction → Bool
 is_there (told.Same i) = true
 is_there (told.Superseded i) = true
 is_there (told.Entered i) = false
@@ -57,6 +57,6 @@ is_there (told.Refused p) = false
 is_there told.Spent = false
 
 -- the texts that were refused are refused again, and of all others an entry has the text
-pub record IsToldAgain (ts us : List Told) : Type 0 where
+pub record IsToldAgain (ts us : List TextAction) : Type 0 where
   pub refused : map is_refused us ≡ map is_refused ts
   pub others : map is_there us ≡ map (λ t. not (is_refused t)) ts

@@ -9,24 +9,24 @@ use Rattle.reg_op.specs.declared.operation.OpBody.{OpBody as Body}
 use Rattle.reg_op.specs.declared.operation.OpBody.TheVariants.{Enter, Retire}
 use Rattle.reg_state.specs.Runs.{id_at}
 use Rattle.reg_report.specs.Conflicts.{bytes_of}
-use Rattle.reg_import.specs.declared.known.Known.{Known}
-use Rattle.reg_import.specs.declared.reading.Reading.{Reading}
-use Rattle.reg_import.specs.declared.reading.Reading.TheVariants as reading
-use Rattle.reg_import.specs.declared.told.Differs.{Differs}
-use Rattle.reg_import.specs.declared.told.Differs.TheVariants as differs
-use Rattle.reg_import.specs.declared.told.Problem.TheVariants as problem
-use Rattle.reg_import.specs.declared.told.Told.{Told}
-use Rattle.reg_import.specs.declared.told.Told.TheVariants as told
+use Rattle.reg_import.specs.declared.standing_entry.StandingEntry.{StandingEntry}
+use Rattle.reg_import.specs.declared.reading.ReadText.{ReadText}
+use Rattle.reg_import.specs.declared.reading.ReadText.TheVariants as reading
+use Rattle.reg_import.specs.declared.action.Differs.{Differs}
+use Rattle.reg_import.specs.declared.action.Differs.TheVariants as differs
+use Rattle.reg_import.specs.declared.action.Problem.TheVariants as problem
+use Rattle.reg_import.specs.declared.action.TextAction.{TextAction}
+use Rattle.reg_import.specs.declared.action.TextAction.TheVariants as told
 use Rattle.reg_import.specs.Known.{OfKey, At, with_key}
 
 -- the entry has this canonical text
-abbrev pub has_text : List ℕ → Known → Bool
+abbrev pub has_text : List ℕ → StandingEntry → Bool
 has_text text e = pointwise nat_eq e.definition text
 
-abbrev pub has_text_and_is_valid : List ℕ → Known → Bool
+abbrev pub has_text_and_is_valid : List ℕ → StandingEntry → Bool
 has_text_and_is_valid text e = has_text text e && e.valid
 
-abbrev pub any_entry : Known → Bool
+abbrev pub any_entry : StandingEntry → Bool
 any_entry e = true
 
 abbrev pub sooner : Id → Option Id → Id
@@ -34,7 +34,7 @@ sooner i None = i
 sooner i (Some j) = if is_before j i then j else i
 
 -- the least id of the entries that pass
-abbrev pub least : (Known → Bool) → List Known → Option Id
+abbrev pub least : (StandingEntry → Bool) → List StandingEntry → Option Id
 least passes [] = None
 least passes (e ∷ es) = if passes e then Some (sooner e.entry (least passes es)) else least passes es
 
@@ -48,11 +48,11 @@ abbrev pub and_least : Bool → Option Id → Id → Option Id
 and_least passes first i = if passes then Some (lesser first i) else first
 
 -- the last number that would be given is a number
-abbrev pub unless_spent : ℕ → Told → Told
+abbrev pub unless_spent : ℕ → TextAction → TextAction
 unless_spent last t = if nat_le last 4294967295 then t else told.Spent
 
 -- the action for a text that no entry has: no entry has its key, or this is the least that has
-abbrev pub told_of_new : Option Id → Differs → Id → OfKey → Told
+abbrev pub told_of_new : Option Id → Differs → Id → OfKey → TextAction
 told_of_new None d new there = unless_spent new.count (told.Entered new)
 told_of_new (Some other) differs.Refuse new there = told.Refused (problem.KeyTaken other)
 told_of_new (Some other) differs.Beside new there = unless_spent new.count (told.Beside new)
@@ -60,26 +60,26 @@ told_of_new (Some other) differs.Revise new there =
     if there.ours then told.Refused (problem.KeyTaken other) else unless_spent (new.count + length there.known) (told.Revised new)
 
 -- the action for a text, given the entries of its key. A text has one key, so each entry that has the text is among these
-abbrev pub told_of : Differs → Id → OfKey → List ℕ → Told
+abbrev pub told_of : Differs → Id → OfKey → List ℕ → TextAction
 told_of d new there text =
     unwrap_or (option_map told.Same (least (has_text_and_is_valid text) there.known))
     (unwrap_or (option_map told.Superseded (least (has_text text) there.known)) (told_of_new (least any_entry there.known) d new there))
 
 -- the effects of the action
-abbrev pub bodies_of : Told → List ℕ → List Known → List Body
+abbrev pub bodies_of : TextAction → List ℕ → List StandingEntry → List Body
 bodies_of (told.Same i) text others = []
 bodies_of (told.Superseded i) text others = []
 bodies_of (told.Entered i) text others = Enter text ∷ []
 bodies_of (told.Beside i) text others = Enter text ∷ []
-bodies_of (told.Revised i) text others = Enter text ∷ map (λ (e : Known). Retire e.entry) others
+bodies_of (told.Revised i) text others = Enter text ∷ map (λ (e : StandingEntry). Retire e.entry) others
 bodies_of (told.Refused p) text others = []
 bodies_of told.Spent text others = []
 
-abbrev pub entered : Id → Key → List ℕ → Known
+abbrev pub entered : Id → Key → List ℕ → StandingEntry
 entered i key text = record { entry = i; key = key; definition = text; valid = true }
 
 -- the entries of the key after it
-abbrev pub then_of : Told → Key → List ℕ → OfKey → OfKey
+abbrev pub then_of : TextAction → Key → List ℕ → OfKey → OfKey
 then_of (told.Same i) key text there = record { known = there.known; ours = true }
 then_of (told.Superseded i) key text there = record { known = there.known; ours = true }
 then_of (told.Entered i) key text there = record { known = there.known ++ entered i key text ∷ []; ours = true }
@@ -89,39 +89,39 @@ then_of (told.Refused p) key text there = there
 then_of told.Spent key text there = there
 
 -- the action for a reading, given the entries of each key and the number of the next operation
-abbrev pub told_at : Differs → List ℕ → ℕ → At → Reading → Told
+abbrev pub told_at : Differs → List ℕ → ℕ → At → ReadText → TextAction
 told_at d replica n at (reading.Unread f) = told.Refused (problem.Unread f)
 told_at d replica n at (reading.Defined text key) = told_of d (id_at replica n) (at (bytes_of key)) text
 
-abbrev pub bodies_at : Told → At → Reading → List Body
+abbrev pub bodies_at : TextAction → At → ReadText → List Body
 bodies_at t at (reading.Unread f) = []
 bodies_at t at (reading.Defined text key) = bodies_of t text (at (bytes_of key)).known
 
-abbrev pub then_at : Told → At → Reading → At
+abbrev pub then_at : TextAction → At → ReadText → At
 then_at t at (reading.Unread f) = at
 then_at t at (reading.Defined text key) = with_key (bytes_of key) (then_of t key text (at (bytes_of key))) at
 
 -- the action for a text, and its effects
 pub record Step : Type 0 where
-  pub told : Told
+  pub told : TextAction
   pub bodies : List Body
 
 -- one text after another, each given the entries that the ones before it made; the operations are numbered in order
-abbrev pub imports : Differs → List ℕ → ℕ → At → List Reading → List Step
+abbrev pub imports : Differs → List ℕ → ℕ → At → List ReadText → List Step
 imports d replica n at [] = []
 imports d replica n at (text ∷ texts) =
     let t = told_at d replica n at text in
     let bodies = bodies_at t at text in
     record { told = t; bodies = bodies } ∷ imports d replica (n + length bodies) (then_at t at text) texts
 
-abbrev pub tolds : List Step → List Told
+abbrev pub tolds : List Step → List TextAction
 tolds steps = map (λ (s : Step). s.told) steps
 
 -- all effects, in order
 abbrev pub effects : List Step → List Body
 effects steps = flat_map (λ (s : Step). s.bodies) steps
 
-abbrev pub is_refused : Told → Bool
+abbrev pub is_refused : TextAction → Bool
 is_refused (told.Same i) = false
 is_refused (told.Superseded i) = false
 is_refused (told.Entered i) = false
@@ -130,7 +130,7 @@ is_refused (told.Revised i) = false
 is_refused (told.Refused p) = true
 is_refused told.Spent = false
 
-abbrev pub is_spent : Told → Bool
+abbrev pub is_spent : TextAction → Bool
 is_spent (told.Same i) = false
 is_spent (told.Superseded i) = false
 is_spent (told.Entered i) = false
@@ -140,8 +140,8 @@ is_spent (told.Refused p) = false
 is_spent told.Spent = true
 
 -- no text is refused
-abbrev pub NoneRefused : List Told → Type 0
+abbrev pub NoneRefused : List TextAction → Type 0
 NoneRefused ts = list_any is_refused ts ≡ false
 
-abbrev pub NoneSpent : List Told → Type 0
+abbrev pub NoneSpent : List TextAction → Type 0
 NoneSpent ts = list_any is_spent ts ≡ false

@@ -8,7 +8,7 @@ use Rattle.reg_op.specs.declared.status.Status.{Status}
 use Rattle.reg_op.specs.declared.status.Status.TheVariants.{Valid, Superseded, Retired}
 use Rattle.reg_report.specs.Conflicts.{KeyBytes, bytes_of, key_cmp}
 use Rattle.reg_report.specs.Exports.{is_retired}
-use Rattle.reg_import.specs.declared.known.Known.{Known}
+use Rattle.reg_import.specs.declared.standing_entry.StandingEntry.{StandingEntry}
 
 abbrev pub is_valid : Option Status → Bool
 is_valid None = false
@@ -17,27 +17,27 @@ is_valid (Some Superseded) = false
 is_valid (Some Retired) = false
 
 -- it is the entry of the row: its text, the key of that, and whether nothing supersedes it
-pub record IsKnown (r : Row) (e : Known) : Type 0 where
+pub record IsKnown (r : Row) (e : StandingEntry) : Type 0 where
   pub entry : e.entry ≡ r.entry
   pub definition : e.definition ≡ r.definition
   pub keyed : IsKeyIn e.key r.definition
   pub valid : e.valid ≡ is_valid r.status
 
 -- one for each row
-abbrev pub AreKnown : List Row → List Known → Type 0
+abbrev pub AreKnown : List Row → List StandingEntry → Type 0
 AreKnown [] es = es ≡ []
-AreKnown (r ∷ rs) es = (e : Known) × (rest : List Known) × IsKnown r e × AreKnown rs rest × (es ≡ e ∷ rest)
+AreKnown (r ∷ rs) es = (e : StandingEntry) × (rest : List StandingEntry) × IsKnown r e × AreKnown rs rest × (es ≡ e ∷ rest)
 
 abbrev pub stands : Row → Bool
 stands r = not (is_retired r.status)
 
 -- those of a set of operations that are not retired, by id
-abbrev pub AreStanding : Ops → List Known → Type 0
+abbrev pub AreStanding : Ops → List StandingEntry → Type 0
 AreStanding s es = AreKnown (filter stands (rows s)) es
 
 -- the bucket of a key: its entries that are not retired, and whether this command entered or found one of them
 pub record OfKey : Type 0 where
-  pub known : List Known
+  pub known : List StandingEntry
   pub ours : Bool
 
 -- the bucket of each key
@@ -47,12 +47,12 @@ At = KeyBytes → OfKey
 abbrev pub is_key : KeyBytes → KeyBytes → Bool
 is_key a b = is_eq (key_cmp a b)
 
-abbrev pub key_of : Known → KeyBytes
+abbrev pub key_of : StandingEntry → KeyBytes
 key_of e = bytes_of e.key
 
 -- the entries of each key among some, before the command
-abbrev pub by_key : List Known → At
-by_key es = λ k. record { known = filter (λ (e : Known). is_key k (key_of e)) es; ours = false }
+abbrev pub by_key : List StandingEntry → At
+by_key es = λ k. record { known = filter (λ (e : StandingEntry). is_key k (key_of e)) es; ours = false }
 
 -- this key has a new bucket, and every other key its old one
 abbrev pub with_key : KeyBytes → OfKey → At → At

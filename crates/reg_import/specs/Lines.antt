@@ -14,17 +14,17 @@ use Rattle.wkt_crs.specs.Definition.{IsCrsOf, IsKeyIn, fault_name}
 use Rattle.reg_op.specs.Rows.{Row}
 use Rattle.reg_op.specs.Text.{printed}
 use Rattle.reg_import.specs.declared.reading.FileText.{FileText}
-use Rattle.reg_import.specs.declared.reading.Reading.{Reading}
-use Rattle.reg_import.specs.declared.reading.Reading.TheVariants as reading
-use Rattle.reg_import.specs.declared.told.Problem.{Problem}
-use Rattle.reg_import.specs.declared.told.Problem.TheVariants as problem
-use Rattle.reg_import.specs.declared.told.Told.{Told}
-use Rattle.reg_import.specs.declared.told.Told.TheVariants as told
+use Rattle.reg_import.specs.declared.reading.ReadText.{ReadText}
+use Rattle.reg_import.specs.declared.reading.ReadText.TheVariants as reading
+use Rattle.reg_import.specs.declared.action.Problem.{Problem}
+use Rattle.reg_import.specs.declared.action.Problem.TheVariants as problem
+use Rattle.reg_import.specs.declared.action.TextAction.{TextAction}
+use Rattle.reg_import.specs.declared.action.TextAction.TheVariants as told
 
 abbrev pub import_header : List (List ℕ)
 import_header = codes "file" ∷ codes "place" ∷ codes "action" ∷ codes "entry" ∷ codes "authority" ∷ codes "code" ∷ codes "name" ∷ codes "fault" ∷ []
 
-abbrev pub action_word : Told → List ℕ
+abbrev pub action_word : TextAction → List ℕ
 action_word (told.Same i) = codes "same"
 action_word (told.Superseded i) = codes "superseded"
 action_word (told.Entered i) = codes "entered"
@@ -34,7 +34,7 @@ action_word (told.Refused p) = codes "refused"
 action_word told.Spent = []
 
 -- the new entry, or the one that has the text
-abbrev pub entry_text : Told → List ℕ
+abbrev pub entry_text : TextAction → List ℕ
 entry_text (told.Same i) = printed i
 entry_text (told.Superseded i) = printed i
 entry_text (told.Entered i) = printed i
@@ -57,7 +57,7 @@ problem_words (problem.KeyTaken i) = codes "KeyTaken" ++ 32 ∷ printed i
 abbrev pub problem_text : Problem → ℕ → List ℕ
 problem_text p at = problem_words p ++ codes " at " ++ decimal at
 
-abbrev pub fault_text : Told → ℕ → List ℕ
+abbrev pub fault_text : TextAction → ℕ → List ℕ
 fault_text (told.Same i) at = []
 fault_text (told.Superseded i) at = []
 fault_text (told.Entered i) at = []
@@ -72,11 +72,11 @@ name_at names file = unwrap_or (slice_get names file) []
 
 -- the fields of a text with this authority, code and name: its file and place, its action, its entry, these, and why it is
 -- rejected
-abbrev pub line_fields : List (List ℕ) → FileText → Told → List ℕ → List ℕ → List ℕ → List (List ℕ)
+abbrev pub line_fields : List (List ℕ) → FileText → TextAction → List ℕ → List ℕ → List ℕ → List (List ℕ)
 line_fields names x t authority code name =
     name_at names x.file ∷ decimal x.place ∷ action_word t ∷ entry_text t ∷ authority ∷ code ∷ name ∷ fault_text t x.at ∷ []
 
-abbrev pub is_same : Told → Bool
+abbrev pub is_same : TextAction → Bool
 is_same (told.Same i) = true
 is_same (told.Superseded i) = false
 is_same (told.Entered i) = false
@@ -88,9 +88,9 @@ is_same told.Spent = false
 -- a text, and its action
 pub record Line : Type 0 where
   pub text : FileText
-  pub told : Told
+  pub told : TextAction
 
-abbrev pub lines_of : List FileText → List Told → List Line
+abbrev pub lines_of : List FileText → List TextAction → List Line
 lines_of [] ts = []
 lines_of (x ∷ xs) [] = []
 lines_of (x ∷ xs) (t ∷ ts) = record { text = x; told = t } ∷ lines_of xs ts
@@ -101,7 +101,7 @@ is_shown changes l = not (changes && is_same l.told)
 
 -- they are the fields of such a line, with the key and the name of the definition; if there is none, with the first text in
 -- quotation marks as the name
-abbrev pub IsLineOf : List (List ℕ) → FileText → Told → Reading → List (List ℕ) → Type 0
+abbrev pub IsLineOf : List (List ℕ) → FileText → TextAction → ReadText → List (List ℕ) → Type 0
 IsLineOf names x t (reading.Defined definition key) fields =
     (crs : Crs) × IsCrsOf crs definition × (fields ≡ line_fields names x t key.authority.bytes key.code.bytes (name_of crs.parts).bytes)
 IsLineOf names x t (reading.Unread f) fields = fields ≡ line_fields names x t [] [] x.quoted.items

@@ -8,8 +8,8 @@ use Rattle.reg_op.specs.Rows.{Row, rows}
 use Rattle.reg_report.specs.Lines.{Sheet, sheet_text, IsReady, AreLines}
 use Rattle.reg_import.specs.declared.listing.Listing.{Listing}
 use Rattle.reg_import.specs.declared.reading.FileText.{FileText}
-use Rattle.reg_import.specs.declared.reading.Reading.{Reading}
-use Rattle.reg_import.specs.declared.told.Told.{Told}
+use Rattle.reg_import.specs.declared.reading.ReadText.{ReadText}
+use Rattle.reg_import.specs.declared.action.TextAction.{TextAction}
 use Rattle.reg_import.specs.Readings.{readings, keys_in}
 use Rattle.reg_import.specs.Gone.{AreGone}
 use Rattle.reg_import.specs.Lines.{lines_of, is_shown, import_header, IsImportLine, IsGoneLine}
@@ -22,12 +22,12 @@ pub record WritesLines {T : Type 0} (R : T → List (List ℕ) → Type 0) (item
   pub ready : IsReady new
 
 -- the entries of this authority that no text has, if one is asked for
-abbrev pub AreGoneOf : Option (Bor (List ℕ)) → List Reading → List Row → List Row → Type 0
+abbrev pub AreGoneOf : Option (Bor (List ℕ)) → List ReadText → List Row → List Row → Type 0
 AreGoneOf None rs all gone = gone ≡ []
 AreGoneOf (Some authority) rs all gone = AreGone authority.now (keys_in rs) all gone
 
 -- a header; a line for each text that is not left out; a line for each entry that no text has
-pub record IsListing (l : Listing) (s : Ops) (texts : List FileText) (ts : List Told) (text : List ℕ) : Type 0 where
+pub record IsListing (l : Listing) (s : Ops) (texts : List FileText) (ts : List TextAction) (text : List ℕ) : Type 0 where
   pub gone : List Row
   pub are_gone : AreGoneOf l.gone (readings texts) (rows s) gone
   pub lines : List ℕ

@@ -8,73 +8,73 @@ use Rattle.reg_op.specs.declared.operation.OpBody.TheVariants.{Retire}
 use Rattle.reg_op.specs.Contents.{Content}
 use Rattle.reg_office.specs.Making.{greatest, numbered}
 use Rattle.reg_office.specs.Commands.{Does}
-use Rattle.reg_import.specs.declared.known.Known.{Known}
-use Rattle.reg_import.specs.declared.reading.Reading.{Reading}
-use Rattle.reg_import.specs.declared.told.Differs.{Differs}
-use Rattle.reg_import.specs.declared.told.Problem.{Problem}
-use Rattle.reg_import.specs.declared.told.Told.{Told}
-use Rattle.reg_import.specs.declared.told.Told.TheVariants as told
+use Rattle.reg_import.specs.declared.standing_entry.StandingEntry.{StandingEntry}
+use Rattle.reg_import.specs.declared.reading.ReadText.{ReadText}
+use Rattle.reg_import.specs.declared.action.Differs.{Differs}
+use Rattle.reg_import.specs.declared.action.Problem.{Problem}
+use Rattle.reg_import.specs.declared.action.TextAction.{TextAction}
+use Rattle.reg_import.specs.declared.action.TextAction.TheVariants as told
 use Rattle.reg_import.specs.declared.import.ImportRefusal.{ImportRefusal}
 use Rattle.reg_import.specs.declared.import.ImportRefusal.TheVariants as refusal
 use Rattle.reg_import.specs.declared.index.KeyText.{KeyText}
-use Rattle.reg_import.specs.declared.bucket.Bucket.{Bucket}
+use Rattle.reg_import.specs.declared.entries_of_key.EntriesOfKey.{EntriesOfKey}
 use Rattle.reg_import.specs.Known.{At, AreStanding, by_key}
 use Rattle.reg_import.specs.Index.{Indexes}
 use Rattle.reg_import.specs.Imports.{told_at, bodies_at, then_at, Step, imports, tolds, effects, NoneRefused, NoneSpent}
 
-abbrev pub retired : List Known → List Body
-retired entries = map (λ (e : Known). Retire e.entry) entries
+abbrev pub retired : List StandingEntry → List Body
+retired entries = map (λ (e : StandingEntry). Retire e.entry) entries
 
 -- the steps of importing texts into a content, numbered on from the greatest own count seen
-abbrev pub AreSteps : Content → List ℕ → Differs → List Reading → List Step → Type 0
+abbrev pub AreSteps : Content → List ℕ → Differs → List ReadText → List Step → Type 0
 AreSteps x replica differs readings steps =
-    (es : List Known) × AreStanding x.ops es × (steps ≡ imports differs replica (greatest replica x.seen + 1) (by_key es) readings)
+    (es : List StandingEntry) × AreStanding x.ops es × (steps ≡ imports differs replica (greatest replica x.seen + 1) (by_key es) readings)
 
 -- the actions, and the operations of all, with their note
-pub record Lists (replica : List ℕ) (first : ℕ) (note : List ℕ) (steps : List Step) (ts : List Told) (ops : List Op) : Type 0 where
+pub record Lists (replica : List ℕ) (first : ℕ) (note : List ℕ) (steps : List Step) (ts : List TextAction) (ops : List Op) : Type 0 where
   pub told : ts ≡ tolds steps
   pub made : ops ≡ numbered replica first note (effects steps)
 
-abbrev pub Plans : Content → List ℕ → List ℕ → Differs → List Reading → List Told → List Op → Type 0
+abbrev pub Plans : Content → List ℕ → List ℕ → Differs → List ReadText → List TextAction → List Op → Type 0
 Plans x replica note differs readings ts ops =
     (steps : List Step) × AreSteps x replica differs readings steps × Lists replica (greatest replica x.seen + 1) note steps ts ops
 
 -- one more text: this is its action, its operations are appended, and the index has the entries of its key afterwards
-pub record StepsOn (differs : Differs) (replica : List ℕ) (count : ℕ) (note : List ℕ) (text : Reading) (at : At) (m : BTreeMap KeyText Bucket) (old new : List Op) (t : Told) : Type 0 where
+pub record StepsOn (differs : Differs) (replica : List ℕ) (count : ℕ) (note : List ℕ) (text : ReadText) (at : At) (m : BTreeMap KeyText EntriesOfKey) (old new : List Op) (t : TextAction) : Type 0 where
   pub told : t ≡ told_at differs replica count at text
   pub made : new ≡ old ++ numbered replica count note (bodies_at t at text)
   pub index : Indexes m (then_at t at text)
 
 -- and its action is appended
-abbrev pub StepTold : Differs → List ℕ → ℕ → List ℕ → Reading → At → BTreeMap KeyText Bucket → List Op → List Op → List Told → List Told → Type 0
-StepTold differs replica count note text at m old new before after = (t : Told) × StepsOn differs replica count note text at m old new t × (after ≡ before ++ t ∷ [])
+abbrev pub StepTold : Differs → List ℕ → ℕ → List ℕ → ReadText → At → BTreeMap KeyText EntriesOfKey → List Op → List Op → List TextAction → List TextAction → Type 0
+StepTold differs replica count note text at m old new before after = (t : TextAction) × StepsOn differs replica count note text at m old new t × (after ≡ before ++ t ∷ [])
 
 -- the operations are numbered on from a count, with one note
 abbrev pub AreNumbered : List ℕ → ℕ → List Op → Type 0
 AreNumbered replica first ops = (note : List ℕ) × ((bodies : List Body) × (ops ≡ numbered replica first note bodies))
 
 -- the text at this place is the first that is refused, for this reason
-pub record IsFirstRefused (ts : List Told) (at : ℕ) (p : Problem) : Type 0 where
+pub record IsFirstRefused (ts : List TextAction) (at : ℕ) (p : Problem) : Type 0 where
   pub refused : slice_get ts at ≡ Some (told.Refused p)
   pub first : NoneRefused (take at ts)
 
 -- none is refused, unless refused ones are passed over
-abbrev pub PassesAll : Bool → List Told → Type 0
+abbrev pub PassesAll : Bool → List TextAction → Type 0
 PassesAll keep_going ts = keep_going ≡ false → NoneRefused ts
 
 -- why a plan is refused, and one that is not
-abbrev pub IsRefusedPlan : Bool → List Told → ImportRefusal → Type 0
+abbrev pub IsRefusedPlan : Bool → List TextAction → ImportRefusal → Type 0
 IsRefusedPlan keep_going ts refusal.NoteTooLong = ⊥
 IsRefusedPlan keep_going ts (refusal.Refused at p) = (keep_going ≡ false) × IsFirstRefused ts at p
 IsRefusedPlan keep_going ts refusal.CountSpent = PassesAll keep_going ts × ¬ (NoneSpent ts)
 IsRefusedPlan keep_going ts refusal.Memory = ⊥
 
-abbrev pub IsPassedPlan : Bool → List Told → Type 0
+abbrev pub IsPassedPlan : Bool → List TextAction → Type 0
 IsPassedPlan keep_going ts = PassesAll keep_going ts × NoneSpent ts
 
 -- the texts are imported: the operations of the steps have joined the content, these are the actions, and there were enough
 -- numbers
-pub record Imports (x : Content) (replica note : List ℕ) (differs : Differs) (keep_going : Bool) (readings : List Reading) (new : Content) (ts : List Told) : Type 0 where
+pub record Imports (x : Content) (replica note : List ℕ) (differs : Differs) (keep_going : Bool) (readings : List ReadText) (new : Content) (ts : List TextAction) : Type 0 where
   pub steps : List Step
   pub are_steps : AreSteps x replica differs readings steps
   pub told : ts ≡ tolds steps
@@ -84,7 +84,7 @@ pub record Imports (x : Content) (replica note : List ℕ) (differs : Differs) (
   pub does : Does x replica note (effects steps) new ids
 
 -- why they are not: the note, then the first text that is refused and not passed over, then the numbers
-abbrev pub IsImportRefusal : Content → List ℕ → List ℕ → Differs → Bool → List Reading → ImportRefusal → Type 0
+abbrev pub IsImportRefusal : Content → List ℕ → List ℕ → Differs → Bool → List ReadText → ImportRefusal → Type 0
 IsImportRefusal x replica note differs keep_going readings refusal.NoteTooLong = 200 < length note
 IsImportRefusal x replica note differs keep_going readings (refusal.Refused at p) = (length note ≤ 200)
     × ((steps : List Step) × AreSteps x replica differs readings steps × IsRefusedPlan keep_going (tolds steps) (refusal.Refused at p))

@@ -7,21 +7,21 @@ use Rattle.wkt_crs.specs.declared.definition.DefinitionFault.TheVariants.{Memory
 use Rattle.reg_report.specs.Conflicts.{KeyBytes, bytes_of}
 use Rattle.reg_import.specs.Quoted.{first_quoted}
 use Rattle.reg_import.specs.declared.reading.FileText.{FileText}
-use Rattle.reg_import.specs.declared.reading.Reading.{Reading}
-use Rattle.reg_import.specs.declared.reading.Reading.TheVariants as reading
+use Rattle.reg_import.specs.declared.reading.ReadText.{ReadText}
+use Rattle.reg_import.specs.declared.reading.ReadText.TheVariants as reading
 
 -- the text spells a value with this canonical text, which is a definition with this key; or it gives none, for this reason
-abbrev pub IsReading : List ℕ → Reading → Type 0
+abbrev pub IsReading : List ℕ → ReadText → Type 0
 IsReading text (reading.Defined definition key) = SpellsCanon text definition × IsDefinition definition × IsKeyIn key definition
 IsReading text (reading.Unread f) = IsTextFault text f × (f ≢ Memory)
 
 -- the place in the text that is reported if it is rejected: that of its fault, or its first byte
-abbrev pub place_in : Reading → ℕ
+abbrev pub place_in : ReadText → ℕ
 place_in (reading.Defined definition key) = 0
 place_in (reading.Unread f) = unwrap_or (fault_place f) 0
 
 -- its first text in quotation marks, if it is no definition
-abbrev pub quoted_in : List ℕ → Reading → List ℕ
+abbrev pub quoted_in : List ℕ → ReadText → List ℕ
 quoted_in text (reading.Defined definition key) = []
 quoted_in text (reading.Unread f) = first_quoted text
 
@@ -33,11 +33,11 @@ pub record IsFileText (file place : ℕ) (bytes : List ℕ) (t : FileText) : Typ
   pub reads : IsReading bytes t.reading
   pub quotes : t.quoted.items ≡ quoted_in bytes t.reading
 
-abbrev pub readings : List FileText → List Reading
+abbrev pub readings : List FileText → List ReadText
 readings texts = map (λ (t : FileText). t.reading) texts
 
 -- the keys of those that are definitions
-abbrev pub keys_in : List Reading → List KeyBytes
+abbrev pub keys_in : List ReadText → List KeyBytes
 keys_in [] = []
 keys_in (reading.Defined definition key ∷ rs) = bytes_of key ∷ keys_in rs
 keys_in (reading.Unread f ∷ rs) = keys_in rs

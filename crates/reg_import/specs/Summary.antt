@@ -6,18 +6,18 @@ use Rattle.std.specs.Ordering.{nat_cmp}
 use Rattle.std.specs.Cmp.Lexicographic.{slice_cmp}
 use Rattle.std.specs.Global.{Vec}
 use Rattle.std.specs.declared.cmp.Ordering.{Ordering}
-use Rattle.reg_import.specs.declared.known.Known.{Known}
+use Rattle.reg_import.specs.declared.standing_entry.StandingEntry.{StandingEntry}
 use Rattle.reg_import.specs.declared.summary.Found.{Found}
 use Rattle.reg_import.specs.declared.summary.Summary.{Summary}
 use Rattle.reg_op.specs.Ids.{Id}
-use Rattle.reg_import.specs.declared.told.Differs.{Differs}
-use Rattle.reg_import.specs.declared.told.Told.{Told}
-use Rattle.reg_import.specs.declared.told.Told.TheVariants as told
+use Rattle.reg_import.specs.declared.action.Differs.{Differs}
+use Rattle.reg_import.specs.declared.action.TextAction.{TextAction}
+use Rattle.reg_import.specs.declared.action.TextAction.TheVariants as told
 use Rattle.reg_import.specs.Known.{OfKey}
 use Rattle.reg_import.specs.Imports.{least, has_text, has_text_and_is_valid, any_entry, told_of_new}
 
 -- the least entry with the text, and the least valid one
-abbrev pub found : List ℕ → List Known → Found
+abbrev pub found : List ℕ → List StandingEntry → Found
 found text es = record { any = least (has_text text) es; valid = least (has_text_and_is_valid text) es }
 
 abbrev pub bytes_cmp : Vec ℕ → Vec ℕ → Ordering
@@ -28,10 +28,10 @@ found_in None = record { any = None; valid = None }
 found_in (Some f) = f
 
 -- it is the summary of these entries: the least of all, and the least entries of each text
-pub record SumsUp (s : Summary) (es : List Known) : Type 0 where
+pub record SumsUp (s : Summary) (es : List StandingEntry) : Type 0 where
   pub least_of_all : s.least ≡ least any_entry es
   pub each : (text : Vec ℕ) → found_in (get bytes_cmp s.texts text) ≡ found text.items es
 
 -- the action for a text with these least entries, if this entry is the least of its key
-abbrev pub told_by : Found → Option Id → Differs → Id → OfKey → Told
+abbrev pub told_by : Found → Option Id → Differs → Id → OfKey → TextAction
 told_by f first d new there = unwrap_or (option_map told.Same f.valid) (unwrap_or (option_map told.Superseded f.any) (told_of_new first d new there))

@@ -8,8 +8,8 @@ ghost use Rattle.reg_import.specs.Readings.{readings, keys_in};
 ghost use Rattle.reg_import.specs.Gone.{HasKeys, IsGone, AreGone};
 
 use crate::index::{KeyText, text_of};
-use crate::known::stands;
-use crate::reading::{FileText, Reading};
+use crate::reading::{FileText, ReadText};
+use crate::standing_entry::stands;
 use crs_search::is_alike;
 use reg_report::{Row, rows};
 use reg_state::Register;
@@ -17,16 +17,20 @@ use std::alloc::{AllocError, Global};
 use std::collections::BTreeSet;
 
 // Adds the key of a text, if it was read.
-fn put_key(alloc: Global, keys: &mut BTreeSet<KeyText>, reading: &Reading) -> Result<(), AllocError>
+fn put_key(
+    alloc: Global,
+    keys: &mut BTreeSet<KeyText>,
+    reading: &ReadText,
+) -> Result<(), AllocError>
     ensures { (before : List KeyBytes) → HasKeys keys.old before → OnOk result (HasKeys keys.new (before ++ keys_in (reading.now ∷ []))) }
 {
     match reading {
-        Reading::Defined { definition: _, key } => {
+        ReadText::Defined { definition: _, key } => {
             let key = text_of(alloc, key)?;
             let _ = keys.insert(key)?;
             Ok(())
         }
-        Reading::Unread(_) => Ok(()),
+        ReadText::Unread(_) => Ok(()),
     }
 }
 

@@ -9,10 +9,10 @@ ghost use Rattle.reg_import.specs.Readings.{readings};
 ghost use Rattle.reg_import.specs.Imports.{is_spent, NoneRefused};
 ghost use Rattle.reg_import.specs.Plans.{IsFirstRefused, IsRefusedPlan, IsPassedPlan, Plans, Imports, IsImportRefusal};
 
+use crate::action::{Differs, Problem, TextAction};
 use crate::making::join_ops;
 use crate::plan::{Plan, plan_of};
 use crate::reading::FileText;
-use crate::told::{Differs, Problem, Told};
 use reg_office::note_of;
 use reg_op::Note;
 use reg_state::Register;
@@ -23,7 +23,7 @@ use uuid::Uuid;
 #[derive(Drop)]
 pub struct Imported {
     pub register: Register,
-    pub told: Vec<Told>,
+    pub told: Vec<TextAction>,
 }
 
 /// Why an import is refused.
@@ -46,26 +46,26 @@ pub struct Refused {
 }
 
 /// The first text that is refused.
-pub fn first_refused(told: &[Told]) -> Option<Refused>
+pub fn first_refused(told: &[TextAction]) -> Option<Refused>
     ensures some { IfSome result (λ f. IsFirstRefused told.now f.at f.problem) }
     ensures none { IfNone result (NoneRefused told.now) }
 {
     for (at, this) in told.iter().enumerate() {
-        if let Told::Refused(problem) = *this {
+        if let TextAction::Refused(problem) = *this {
             return Some(Refused { at, problem });
         }
     }
     None
 }
 
-fn some_spent(told: &[Told]) -> bool
+fn some_spent(told: &[TextAction]) -> bool
     ensures { result ≡ list_any is_spent told.now }
 {
     told.iter().any(|this| this.is_spent())
 }
 
 // Why the plan is refused.
-fn refusal_of(told: &[Told], keep_going: bool) -> Option<ImportRefusal>
+fn refusal_of(told: &[TextAction], keep_going: bool) -> Option<ImportRefusal>
     ensures some { IfSome result (IsRefusedPlan keep_going told.now) }
     ensures none { IfNone result (IsPassedPlan keep_going told.now) }
 {

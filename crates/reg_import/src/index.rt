@@ -3,12 +3,12 @@
 ghost use Rattle.std.specs.Prelude.{◌≡◌, List, map, IfOk, OnOk};
 ghost use Rattle.reg_report.specs.Conflicts.{bytes_of};
 ghost use Rattle.reg_report.specs.Seen.{row_seen};
-ghost use Rattle.reg_import.specs.declared.known.Known.{Known};
+ghost use Rattle.reg_import.specs.declared.standing_entry.StandingEntry.{StandingEntry};
 ghost use Rattle.reg_import.specs.Known.{At, AreKnown, AreStanding, with_key, by_key};
 ghost use Rattle.reg_import.specs.Index.{key_bytes, bucket_seen, nothing_there, with_entry, Indexes};
 
-use crate::bucket::Bucket;
-use crate::known::{Known, known_of, standing};
+use crate::entries_of_key::EntriesOfKey;
+use crate::standing_entry::{StandingEntry, known_of, standing};
 use crs_value::Key;
 use reg_report::Row;
 use reg_state::Register;
@@ -33,21 +33,25 @@ pub fn text_of(alloc: Global, key: &Key) -> Result<KeyText, AllocError>
 }
 
 /// Removes the bucket of a key.
-pub fn take(alloc: Global, index: &mut BTreeMap<KeyText, Bucket>, key: &KeyText) -> Bucket
+pub fn take(
+    alloc: Global,
+    index: &mut BTreeMap<KeyText, EntriesOfKey>,
+    key: &KeyText,
+) -> EntriesOfKey
     ensures found { (at : At) → Indexes index.old at → bucket_seen result ≡ at (key_bytes key.now) }
     ensures rest { (at : At) → Indexes index.old at → Indexes index.new (with_key (key_bytes key.now) nothing_there at) }
 {
     match index.remove(key) {
         Some(bucket) => bucket,
-        None => Bucket::empty(alloc),
+        None => EntriesOfKey::empty(alloc),
     }
 }
 
 /// Inserts the bucket of a key.
 pub fn put(
-    index: &mut BTreeMap<KeyText, Bucket>,
+    index: &mut BTreeMap<KeyText, EntriesOfKey>,
     key: KeyText,
-    bucket: Bucket,
+    bucket: EntriesOfKey,
 ) -> Result<(), AllocError>
     ensures { OnOk result ((at : At) → Indexes index.old at → Indexes index.new (with_key (key_bytes key) (bucket_seen bucket) at)) }
 {
@@ -58,8 +62,8 @@ pub fn put(
 // Inserts an entry.
 fn put_known(
     alloc: Global,
-    index: &mut BTreeMap<KeyText, Bucket>,
-    entry: Known,
+    index: &mut BTreeMap<KeyText, EntriesOfKey>,
+    entry: StandingEntry,
 ) -> Result<(), AllocError>
     ensures { OnOk result ((at : At) → Indexes index.old at → Indexes index.new (with_entry entry at)) }
 {
@@ -72,8 +76,8 @@ fn put_known(
 }
 
 // The index of the entries of rows.
-fn index_of_rows(alloc: Global, rows: &[Row]) -> Result<BTreeMap<KeyText, Bucket>, AllocError>
-    ensures { IfOk result (λ index. (es : List Known) × AreKnown (map row_seen rows.now) es × Indexes index (by_key es)) }
+fn index_of_rows(alloc: Global, rows: &[Row]) -> Result<BTreeMap<KeyText, EntriesOfKey>, AllocError>
+    ensures { IfOk result (λ index. (es : List StandingEntry) × AreKnown (map row_seen rows.now) es × Indexes index (by_key es)) }
 {
     let mut index = BTreeMap::new(alloc);
     let mut rest = rows;
@@ -86,8 +90,11 @@ fn index_of_rows(alloc: Global, rows: &[Row]) -> Result<BTreeMap<KeyText, Bucket
 }
 
 /// The index of the register's entries that are not retired.
-pub fn index_of(alloc: Global, register: &Register) -> Result<BTreeMap<KeyText, Bucket>, AllocError>
-    ensures { IfOk result (λ index. (es : List Known) × AreStanding register.now.ops es × Indexes index (by_key es)) }
+pub fn index_of(
+    alloc: Global,
+    register: &Register,
+) -> Result<BTreeMap<KeyText, EntriesOfKey>, AllocError>
+    ensures { IfOk result (λ index. (es : List StandingEntry) × AreStanding register.now.ops es × Indexes index (by_key es)) }
 {
     let rows = standing(alloc, register)?;
     let index = index_of_rows(alloc, &rows)?;

@@ -9,11 +9,11 @@ ghost use Rattle.reg_op.specs.Rows.{Row};
 ghost use Rattle.reg_report.specs.Conflicts.{KeyBytes};
 ghost use Rattle.reg_report.specs.Exports.{export};
 ghost use Rattle.reg_office.specs.World.{World, IsWorld};
-ghost use Rattle.reg_import.specs.declared.reading.Reading.{Reading};
-ghost use Rattle.reg_import.specs.declared.told.Differs.{Differs};
-ghost use Rattle.reg_import.specs.declared.told.Differs.TheVariants.{Beside};
-ghost use Rattle.reg_import.specs.declared.told.Problem.{Problem};
-ghost use Rattle.reg_import.specs.declared.told.Told.{Told};
+ghost use Rattle.reg_import.specs.declared.reading.ReadText.{ReadText};
+ghost use Rattle.reg_import.specs.declared.action.Differs.{Differs};
+ghost use Rattle.reg_import.specs.declared.action.Differs.TheVariants.{Beside};
+ghost use Rattle.reg_import.specs.declared.action.Problem.{Problem};
+ghost use Rattle.reg_import.specs.declared.action.TextAction.{TextAction};
 ghost use Rattle.reg_import.specs.declared.import.ImportRefusal.{ImportRefusal};
 ghost use Rattle.reg_import.specs.declared.import.ImportRefusal.TheVariants as refusal;
 ghost use Rattle.reg_import.specs.Readings.{IsReading};
@@ -23,17 +23,17 @@ ghost use Rattle.reg_import.specs.Again.{HasStanding, standing_texts, IsSameRead
 
 /// A text has one reading: the same bytes are read as the same definition with the same key, or refused for the same reason.
 pub fn one_reading()
-    ensures { (text : List ℕ) (r s : Reading) → IsReading text r → IsReading text s → IsSameReading r s }
+    ensures { (text : List ℕ) (r s : ReadText) → IsReading text r → IsReading text s → IsSameReading r s }
 {}
 
 /// Importing the same readings again in the same mode makes nothing: the content is unchanged, and each text that was not
 /// refused is reported with an entry that has it. The second import is refused only for a long note or for memory.
 pub fn importing_again_makes_nothing()
-    ensures nothing { (x y z : Content) (replica note again noted : List ℕ) (differs : Differs) (keep_going : Bool) (texts : List (List ℕ)) (readings : List Reading) (ts us : List Told)
+    ensures nothing { (x y z : Content) (replica note again noted : List ℕ) (differs : Differs) (keep_going : Bool) (texts : List (List ℕ)) (readings : List ReadText) (ts us : List TextAction)
         → IsContent x → RetiresNoneAhead x replica → AreReadings texts readings
         → Imports x replica note differs keep_going readings y ts → Imports y again noted differs keep_going readings z us
         → (z ≡ y) × IsToldAgain ts us }
-    ensures passes { (x y : Content) (replica note again noted : List ℕ) (differs : Differs) (keep_going : Bool) (texts : List (List ℕ)) (readings : List Reading) (ts : List Told) (f : ImportRefusal)
+    ensures passes { (x y : Content) (replica note again noted : List ℕ) (differs : Differs) (keep_going : Bool) (texts : List (List ℕ)) (readings : List ReadText) (ts : List TextAction) (f : ImportRefusal)
         → IsContent x → RetiresNoneAhead x replica → AreReadings texts readings
         → Imports x replica note differs keep_going readings y ts → IsImportRefusal y again noted differs keep_going readings f
         → (f ≡ refusal.NoteTooLong) ⊎ (f ≡ refusal.Memory) }
@@ -43,10 +43,10 @@ pub fn importing_again_makes_nothing()
 /// the new register has the same texts.
 pub fn exported_texts_are_imported()
     ensures found { (x : Content) → IsContent x → AreFound (export x.ops) (standing_texts x.ops) }
-    ensures passes { (x : Content) (replica note : List ℕ) (keep_going : Bool) (cuts : List Piece) (readings : List Reading) (at : ℕ) (problem : Problem)
+    ensures passes { (x : Content) (replica note : List ℕ) (keep_going : Bool) (cuts : List Piece) (readings : List ReadText) (at : ℕ) (problem : Problem)
         → IsContent x → IsCutInto (export x.ops) cuts → AreReadings (map (λ c. c.bytes) cuts) readings
         → ¬ (IsImportRefusal nothing replica note Beside keep_going readings (refusal.Refused at problem)) }
-    ensures same { (x y : Content) (replica note : List ℕ) (keep_going : Bool) (cuts : List Piece) (readings : List Reading) (ts : List Told)
+    ensures same { (x y : Content) (replica note : List ℕ) (keep_going : Bool) (cuts : List Piece) (readings : List ReadText) (ts : List TextAction)
         → IsContent x → IsCutInto (export x.ops) cuts → AreReadings (map (λ c. c.bytes) cuts) readings
         → Imports nothing replica note Beside keep_going readings y ts
         → (text : List ℕ) → HasStanding y.ops text ↔ HasStanding x.ops text }

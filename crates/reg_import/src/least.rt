@@ -3,7 +3,7 @@
 ghost use Rattle.std.specs.Prelude.{◌≡◌, Some};
 ghost use Rattle.reg_import.specs.Imports.{least, has_text, has_text_and_is_valid, any_entry, sooner};
 
-use crate::known::Known;
+use crate::standing_entry::StandingEntry;
 use reg_op::OpId;
 
 fn sooner(entry: OpId, other: Option<OpId>) -> OpId
@@ -20,14 +20,14 @@ fn sooner(entry: OpId, other: Option<OpId>) -> OpId
     }
 }
 
-fn has_text(entry: &Known, text: &[u8]) -> bool
+fn has_text(entry: &StandingEntry, text: &[u8]) -> bool
     ensures { result ≡ has_text text.now entry.now }
 {
     entry.definition.as_bytes() == text
 }
 
 /// The least of the entries that have the text and are valid.
-pub fn least_valid(entries: &[Known], text: &[u8]) -> Option<OpId>
+pub fn least_valid(entries: &[StandingEntry], text: &[u8]) -> Option<OpId>
     ensures { result ≡ least (has_text_and_is_valid text.now) entries.now }
 {
     let mut best = None;
@@ -42,7 +42,7 @@ pub fn least_valid(entries: &[Known], text: &[u8]) -> Option<OpId>
 }
 
 /// The least of the entries that have the text.
-pub fn least_same(entries: &[Known], text: &[u8]) -> Option<OpId>
+pub fn least_same(entries: &[StandingEntry], text: &[u8]) -> Option<OpId>
     ensures { result ≡ least (has_text text.now) entries.now }
 {
     let mut best = None;
@@ -57,7 +57,7 @@ pub fn least_same(entries: &[Known], text: &[u8]) -> Option<OpId>
 }
 
 /// The least of all entries.
-pub fn least_of_all(entries: &[Known]) -> Option<OpId>
+pub fn least_of_all(entries: &[StandingEntry]) -> Option<OpId>
     ensures { result ≡ least any_entry entries.now }
 {
     let mut best = None;

@@ -1,11 +1,11 @@
 //! Imports many texts: the action for each, given the register so far.
 #![tactic(auto)]
 
-mod bucket;
+mod action;
+mod entries_of_key;
 mod gone;
 mod import;
 mod index;
-mod known;
 pub mod laws;
 mod least;
 mod lines;
@@ -14,10 +14,10 @@ mod making;
 mod plan;
 mod quoted;
 mod reading;
+mod standing_entry;
 mod summary;
-mod told;
 
+pub use action::{Differs, Problem, TextAction};
 pub use import::{ImportRefusal, Imported, Refused, first_refused, import_texts};
 pub use listing::{Listing, lines_text};
-pub use reading::{FileText, Reading, read_at};
-pub use told::{Differs, Problem, Told};
+pub use reading::{FileText, ReadText, read_at};

@@ -6,39 +6,39 @@ ghost use Rattle.reg_op.specs.Text.{printed};
 ghost use Rattle.reg_report.specs.Lines.{IsSheet, IsReady, WritesRow};
 ghost use Rattle.reg_import.specs.Lines.{Line, lines_of, action_word, entry_text, fault_words, problem_words, problem_text, fault_text, name_at, import_header, line_fields, IsImportLine};
 
-use crate::reading::{FileText, Reading};
-use crate::told::{Problem, Told};
+use crate::action::{Problem, TextAction};
+use crate::reading::{FileText, ReadText};
 use csv::Writer;
 use reg_op::OpId;
 use reg_report::printed;
 use std::alloc::{AllocError, Global};
 use wkt_crs::{DefinitionFault, SlotFault, Unspelled};
 
-fn action_word(told: &Told) -> &'static [u8]
+fn action_word(told: &TextAction) -> &'static [u8]
     ensures { result.now ≡ action_word told.now }
 {
     match told {
-        Told::Same(_) => b"same",
-        Told::Superseded(_) => b"superseded",
-        Told::Entered(_) => b"entered",
-        Told::Beside(_) => b"beside",
-        Told::Revised(_) => b"revised",
-        Told::Refused(_) => b"refused",
-        Told::Spent => b"",
+        TextAction::Same(_) => b"same",
+        TextAction::Superseded(_) => b"superseded",
+        TextAction::Entered(_) => b"entered",
+        TextAction::Beside(_) => b"beside",
+        TextAction::Revised(_) => b"revised",
+        TextAction::Refused(_) => b"refused",
+        TextAction::Spent => b"",
     }
 }
 
-fn entry_text(alloc: Global, told: &Told) -> Result<Vec<u8>, AllocError>
+fn entry_text(alloc: Global, told: &TextAction) -> Result<Vec<u8>, AllocError>
     ensures { IfOk result (λ text. text.items ≡ entry_text told.now) }
 {
     match told {
-        Told::Same(entry) => printed(alloc, *entry),
-        Told::Superseded(entry) => printed(alloc, *entry),
-        Told::Entered(entry) => printed(alloc, *entry),
-        Told::Beside(entry) => printed(alloc, *entry),
-        Told::Revised(entry) => printed(alloc, *entry),
-        Told::Refused(_) => Ok(Vec::new(alloc)),
-        Told::Spent => Ok(Vec::new(alloc)),
+        TextAction::Same(entry) => printed(alloc, *entry),
+        TextAction::Superseded(entry) => printed(alloc, *entry),
+        TextAction::Entered(entry) => printed(alloc, *entry),
+        TextAction::Beside(entry) => printed(alloc, *entry),
+        TextAction::Revised(entry) => printed(alloc, *entry),
+        TextAction::Refused(_) => Ok(Vec::new(alloc)),
+        TextAction::Spent => Ok(Vec::new(alloc)),
     }
 }
 
@@ -118,17 +118,17 @@ fn problem_text(alloc: Global, problem: &Problem, at: usize) -> Result<Vec<u8>, 
     Ok(text)
 }
 
-fn fault_text(alloc: Global, told: &Told, at: usize) -> Result<Vec<u8>, AllocError>
+fn fault_text(alloc: Global, told: &TextAction, at: usize) -> Result<Vec<u8>, AllocError>
     ensures { IfOk result (λ text. text.items ≡ fault_text told.now at) }
 {
     match told {
-        Told::Refused(problem) => problem_text(alloc, problem, at),
-        Told::Same(_) => Ok(Vec::new(alloc)),
-        Told::Superseded(_) => Ok(Vec::new(alloc)),
-        Told::Entered(_) => Ok(Vec::new(alloc)),
-        Told::Beside(_) => Ok(Vec::new(alloc)),
-        Told::Revised(_) => Ok(Vec::new(alloc)),
-        Told::Spent => Ok(Vec::new(alloc)),
+        TextAction::Refused(problem) => problem_text(alloc, problem, at),
+        TextAction::Same(_) => Ok(Vec::new(alloc)),
+        TextAction::Superseded(_) => Ok(Vec::new(alloc)),
+        TextAction::Entered(_) => Ok(Vec::new(alloc)),
+        TextAction::Beside(_) => Ok(Vec::new(alloc)),
+        TextAction::Revised(_) => Ok(Vec::new(alloc)),
+        TextAction::Spent => Ok(Vec::new(alloc)),
     }
 }
 
@@ -185,7 +185,7 @@ fn write_named(
     wtr: &mut Writer<Vec<u8>>,
     names: &[String],
     text: &FileText,
-    told: &Told,
+    told: &TextAction,
     authority: &[u8],
     code: &[u8],
     name: &[u8],
@@ -216,20 +216,20 @@ pub fn write_line(
     wtr: &mut Writer<Vec<u8>>,
     names: &[String],
     text: &FileText,
-    told: &Told,
+    told: &TextAction,
 ) -> Result<(), AllocError>
     requires { IsReady wtr.old }
     ensures { OnOk result ((fields : List (List ℕ)) × IsImportLine (map string_bytes names.now) (record { text = text.now; told = told.now }) fields × WritesRow wtr.old wtr.new fields) }
 {
     match &text.reading {
-        Reading::Defined { definition, key } => {
+        ReadText::Defined { definition, key } => {
             let authority = key.authority.as_bytes();
             let code = key.code.as_bytes();
             let name = definition.name().as_bytes();
             write_named(alloc, wtr, names, text, told, authority, code, name)?;
             Ok(())
         }
-        Reading::Unread(_) => {
+        ReadText::Unread(_) => {
             write_named(alloc, wtr, names, text, told, b"", b"", &text.quoted)?;
             Ok(())
         }

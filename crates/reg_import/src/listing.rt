@@ -9,10 +9,10 @@ ghost use Rattle.reg_import.specs.Readings.{readings};
 ghost use Rattle.reg_import.specs.Lines.{lines_of, is_same, is_shown, IsImportLine, IsGoneLine};
 ghost use Rattle.reg_import.specs.Listing.{AreGoneOf, WritesLines, IsListing};
 
+use crate::action::TextAction;
 use crate::gone::gone;
 use crate::lines::{write_header, write_line};
 use crate::reading::FileText;
-use crate::told::Told;
 use csv::Writer;
 use reg_report::{Row, printed, write_fields};
 use reg_state::Register;
@@ -28,7 +28,7 @@ pub struct Listing<'a> {
 }
 
 // Whether a text with this action has a line.
-fn is_shown(listing: &Listing<'_>, told: &Told) -> bool
+fn is_shown(listing: &Listing<'_>, told: &TextAction) -> bool
     ensures { result ≡ not (listing.now.changes && is_same told.now) }
 {
     !(listing.changes && told.is_same())
@@ -40,7 +40,7 @@ fn write_where_shown(
     wtr: &mut Writer<Vec<u8>>,
     listing: &Listing<'_>,
     text: &FileText,
-    told: &Told,
+    told: &TextAction,
 ) -> Result<(), AllocError>
     requires { IsReady wtr.old }
     ensures { OnOk result (WritesLines (IsImportLine (map string_bytes listing.now.names.now)) (filter (is_shown listing.now.changes) (record { text = text.now; told = told.now } ∷ [])) wtr.old wtr.new) }
@@ -57,7 +57,7 @@ fn write_texts(
     wtr: &mut Writer<Vec<u8>>,
     listing: &Listing<'_>,
     texts: &[FileText],
-    told: &[Told],
+    told: &[TextAction],
 ) -> Result<(), AllocError>
     requires { IsReady wtr.old }
     ensures { OnOk result (WritesLines (IsImportLine (map string_bytes listing.now.names.now)) (filter (is_shown listing.now.changes) (lines_of texts.now told.now)) wtr.old wtr.new) }
@@ -133,7 +133,7 @@ pub fn lines_text(
     listing: &Listing<'_>,
     register: &Register,
     texts: &[FileText],
-    told: &[Told],
+    told: &[TextAction],
 ) -> Result<Vec<u8>, AllocError>
     ensures { IfOk result (λ text. IsListing listing.now register.now.ops texts.now told.now text.items) }
 {

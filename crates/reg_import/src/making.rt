@@ -12,8 +12,8 @@ ghost use Rattle.reg_office.specs.Making.{greatest, numbered, objections};
 ghost use Rattle.reg_import.specs.Imports.{bodies_of};
 ghost use Rattle.reg_import.specs.Plans.{retired, AreNumbered};
 
-use crate::known::Known;
-use crate::told::Told;
+use crate::action::TextAction;
+use crate::standing_entry::StandingEntry;
 use reg_office::{last_count, register_of};
 use reg_op::{Note, Op, OpBody, OpId};
 use reg_state::{Join, JoinFault, Register, Run};
@@ -51,7 +51,7 @@ fn push_retirements(
     replica: Uuid,
     first: u64,
     note: &Note,
-    entries: &[Known],
+    entries: &[StandingEntry],
 ) -> Result<(), AllocError>
     requires positive { 0 < first }
     requires fits { first + length entries.now ≤ 4294967296 }
@@ -96,25 +96,25 @@ pub fn push_ops(
     replica: Uuid,
     count: u64,
     note: &Note,
-    told: &Told,
+    told: &TextAction,
     definition: &Definition,
-    others: &[Known],
+    others: &[StandingEntry],
 ) -> Result<(), AllocError>
     requires positive { 0 < count }
     requires fits { count + length (bodies_of told.now definition.now others.now) ≤ 4294967296 }
     ensures { OnOk result (ops.new.items ≡ ops.old.items ++ numbered replica count note.now (bodies_of told.now definition.now others.now)) }
 {
     match told {
-        Told::Entered(_) => push_entered(alloc, ops, replica, count, note, definition),
-        Told::Beside(_) => push_entered(alloc, ops, replica, count, note, definition),
-        Told::Revised(_) => {
+        TextAction::Entered(_) => push_entered(alloc, ops, replica, count, note, definition),
+        TextAction::Beside(_) => push_entered(alloc, ops, replica, count, note, definition),
+        TextAction::Revised(_) => {
             push_entered(alloc, ops, replica, count, note, definition)?;
             push_retirements(ops, replica, count + 1, note, others)
         }
-        Told::Same(_) => Ok(()),
-        Told::Superseded(_) => Ok(()),
-        Told::Refused(_) => Ok(()),
-        Told::Spent => Ok(()),
+        TextAction::Same(_) => Ok(()),
+        TextAction::Superseded(_) => Ok(()),
+        TextAction::Refused(_) => Ok(()),
+        TextAction::Spent => Ok(()),
     }
 }
 

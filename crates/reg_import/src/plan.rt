@@ -8,12 +8,12 @@ ghost use Rattle.reg_import.specs.Imports.{entered, then_of, imports};
 ghost use Rattle.reg_import.specs.Index.{bucket_seen, Indexes};
 ghost use Rattle.reg_import.specs.Plans.{StepsOn, StepTold, Lists, Plans};
 
-use crate::bucket::Bucket;
+use crate::action::{Differs, Problem, TextAction, told_of};
+use crate::entries_of_key::EntriesOfKey;
 use crate::index::{KeyText, index_of, put, take, text_of};
-use crate::known::Known;
 use crate::making::{count_of, push_ops};
-use crate::reading::{FileText, Reading};
-use crate::told::{Differs, Problem, Told, told_of};
+use crate::reading::{FileText, ReadText};
+use crate::standing_entry::StandingEntry;
 use crs_part::TryClone;
 use crs_value::Key;
 use reg_office::last_count;
@@ -27,7 +27,7 @@ use wkt_crs::Definition;
 /// The actions, and all operations.
 #[derive(Drop)]
 pub struct Plan {
-    pub told: Vec<Told>,
+    pub told: Vec<TextAction>,
     pub ops: Vec<Op>,
 }
 
@@ -44,23 +44,23 @@ pub struct Rules<'a> {
 /// The state of an import: the entries of each key, and the operations so far.
 #[derive(Drop)]
 pub struct Made {
-    pub index: BTreeMap<KeyText, Bucket>,
+    pub index: BTreeMap<KeyText, EntriesOfKey>,
     pub ops: Vec<Op>,
 }
 
 // These entries and a new one of this command.
 fn with_entered(
     alloc: Global,
-    bucket: Bucket,
+    bucket: EntriesOfKey,
     entry: OpId,
     key: &Key,
     definition: &Definition,
-) -> Result<Bucket, AllocError>
+) -> Result<EntriesOfKey, AllocError>
     ensures { IfOk result (λ b. bucket_seen b ≡ record { known = bucket.known.items ++ entered entry key.now definition.now ∷ []; ours = true }) }
 {
     let key = key.try_clone(alloc)?;
     let definition = definition.try_clone(alloc)?;
-    let entry = Known {
+    let entry = StandingEntry {
         entry,
         key,
         definition,
@@ -73,21 +73,27 @@ fn with_entered(
 // The bucket of a text's key after this action.
 fn then_of(
     alloc: Global,
-    told: &Told,
+    told: &TextAction,
     key: &Key,
     definition: &Definition,
-    bucket: Bucket,
-) -> Result<Bucket, AllocError>
+    bucket: EntriesOfKey,
+) -> Result<EntriesOfKey, AllocError>
     ensures { IfOk result (λ b. bucket_seen b ≡ then_of told.now key.now definition.now (bucket_seen bucket)) }
 {
     match told {
-        Told::Same(_) => Ok(bucket.found()),
-        Told::Superseded(_) => Ok(bucket.found()),
-        Told::Entered(entry) => with_entered(alloc, bucket, *entry, key, definition),
-        Told::Beside(entry) => with_entered(alloc, bucket, *entry, key, definition),
-        Told::Revised(entry) => with_entered(alloc, Bucket::empty(alloc), *entry, key, definition),
-        Told::Refused(_) => Ok(bucket),
-        Told::Spent => Ok(bucket),
+        TextAction::Same(_) => Ok(bucket.found()),
+        TextAction::Superseded(_) => Ok(bucket.found()),
+        TextAction::Entered(entry) => with_entered(alloc, bucket, *entry, key, definition),
+        TextAction::Beside(entry) => with_entered(alloc, bucket, *entry, key, definition),
+        TextAction::Revised(entry) => with_entered(
+            alloc,
+            EntriesOfKey::empty(alloc),
+            *entry,
+            key,
+            definition,
+        ),
+        TextAction::Refused(_) => Ok(bucket),
+        TextAction::Spent => Ok(bucket),
     }
 }
 
@@ -112,11 +118,11 @@ fn step_defined(
     made: &mut Made,
     definition: &Definition,
     key: &Key,
-) -> Result<Told, AllocError>
+) -> Result<TextAction, AllocError>
     requires positive { 0 < rules.now.first }
     requires fits { rules.now.first + length made.old.ops.items ≤ 4294967296 }
     ensures { IfOk result (λ t. (at : At) → Indexes made.old.index at
-        → StepsOn rules.now.differs rules.now.replica (rules.now.first + length made.old.ops.items) rules.now.note.now (Reading.Defined definition.now key.now) at made.new.index made.old.ops.items made.new.ops.items t) }
+        → StepsOn rules.now.differs rules.now.replica (rules.now.first + length made.old.ops.items) rules.now.note.now (ReadText.Defined definition.now key.now) at made.new.index made.old.ops.items made.new.ops.items t) }
 {
     let count = count_after(rules, made);
     let text = text_of(alloc, key)?;
@@ -144,8 +150,8 @@ fn step(
     alloc: Global,
     rules: &Rules<'_>,
     made: &mut Made,
-    reading: &Reading,
-    told: &mut Vec<Told>,
+    reading: &ReadText,
+    told: &mut Vec<TextAction>,
 ) -> Result<(), AllocError>
     requires positive { 0 < rules.now.first }
     requires fits { rules.now.first + length made.old.ops.items ≤ 4294967296 }
@@ -153,11 +159,11 @@ fn step(
         → StepTold rules.now.differs rules.now.replica (rules.now.first + length made.old.ops.items) rules.now.note.now reading.now at made.new.index made.old.ops.items made.new.ops.items told.old.items told.new.items) }
 {
     match reading {
-        Reading::Unread(fault) => {
-            told.push(Told::Refused(Problem::Unread(*fault)))?;
+        ReadText::Unread(fault) => {
+            told.push(TextAction::Refused(Problem::Unread(*fault)))?;
             Ok(())
         }
-        Reading::Defined { definition, key } => {
+        ReadText::Defined { definition, key } => {
             let this = step_defined(alloc, rules, made, definition, key)?;
             told.push(this)?;
             Ok(())
@@ -168,7 +174,7 @@ fn step(
 // Imports one text after another.
 fn plan_over(
     alloc: Global,
-    index: BTreeMap<KeyText, Bucket>,
+    index: BTreeMap<KeyText, EntriesOfKey>,
     rules: &Rules<'_>,
     texts: &[FileText],
 ) -> Result<Plan, AllocError>

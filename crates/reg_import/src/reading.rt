@@ -11,7 +11,7 @@ use wkt_crs::{Definition, DefinitionFault};
 
 /// The reading of a text.
 #[derive(Drop)]
-pub enum Reading {
+pub enum ReadText {
     /// A definition, and its key.
     Defined { definition: Definition, key: Key },
     /// Not a definition, for this reason.
@@ -25,20 +25,20 @@ pub struct FileText {
     pub file: usize,
     pub place: usize,
     pub at: usize,
-    pub reading: Reading,
+    pub reading: ReadText,
     pub quoted: Vec<u8>,
 }
 
 // The place of a text's fault, or its first byte, in the file. The text begins at this place.
-fn told_at(place: usize, reading: &Reading) -> Option<usize>
+fn told_at(place: usize, reading: &ReadText) -> Option<usize>
     ensures { IfSome result (λ at. at ≡ place + place_in reading.now) }
 {
     match reading {
-        Reading::Defined {
+        ReadText::Defined {
             definition: _,
             key: _,
         } => Some(place),
-        Reading::Unread(fault) => match fault.place() {
+        ReadText::Unread(fault) => match fault.place() {
             Some(inner) => place.checked_add(inner),
             None => Some(place),
         },
@@ -70,28 +70,28 @@ pub fn read_at(
 }
 
 // The first text in quotation marks, in a text that is no definition.
-fn quoted_in(alloc: Global, text: &[u8], reading: &Reading) -> Result<Vec<u8>, AllocError>
+fn quoted_in(alloc: Global, text: &[u8], reading: &ReadText) -> Result<Vec<u8>, AllocError>
     ensures { IfOk result (λ quoted. quoted.items ≡ quoted_in text.now reading.now) }
 {
     match reading {
-        Reading::Defined {
+        ReadText::Defined {
             definition: _,
             key: _,
         } => Ok(Vec::new(alloc)),
-        Reading::Unread(_) => first_quoted(alloc, text),
+        ReadText::Unread(_) => first_quoted(alloc, text),
     }
 }
 
 // Reads a text.
-fn read_text(alloc: Global, text: &[u8]) -> Result<Reading, AllocError>
+fn read_text(alloc: Global, text: &[u8]) -> Result<ReadText, AllocError>
     ensures { IfOk result (IsReading text.now) }
 {
     match Definition::from_text(alloc, text) {
         Ok(definition) => {
             let key = definition.key().try_clone(alloc)?;
-            Ok(Reading::Defined { definition, key })
+            Ok(ReadText::Defined { definition, key })
         }
         Err(DefinitionFault::Memory) => Err(AllocError),
-        Err(fault) => Ok(Reading::Unread(fault)),
+        Err(fault) => Ok(ReadText::Unread(fault)),
     }
 }

@@ -1,12 +1,12 @@
 //! The least entries of a key, and of each text, for keys with many entries.
 
 ghost use Rattle.std.specs.Prelude.{◌≡◌, ◌++◌, ◌∷◌, [], List, true, IfOk, OnOk};
-ghost use Rattle.reg_import.specs.declared.known.Known.{Known};
+ghost use Rattle.reg_import.specs.declared.standing_entry.StandingEntry.{StandingEntry};
 ghost use Rattle.std.specs.BTreeMap.{get};
 ghost use Rattle.reg_import.specs.Imports.{and_least};
 ghost use Rattle.reg_import.specs.Summary.{found, found_in, bytes_cmp, SumsUp};
 
-use crate::known::Known;
+use crate::standing_entry::StandingEntry;
 use reg_op::OpId;
 use std::alloc::{AllocError, Global};
 use std::collections::BTreeMap;
@@ -42,7 +42,7 @@ fn and_least(passes: bool, least: Option<OpId>, entry: OpId) -> Option<OpId>
 }
 
 // The least entries of the text, after one more entry that has it.
-fn and_found(found: Found, entry: &Known) -> Found
+fn and_found(found: Found, entry: &StandingEntry) -> Found
     ensures any { result.any ≡ and_least true found.any entry.now.entry }
     ensures valid { result.valid ≡ and_least entry.now.valid found.valid entry.now.entry }
 {
@@ -82,7 +82,7 @@ impl Summary {
     }
 
     /// The summary of some entries.
-    pub fn of(alloc: Global, entries: &[Known]) -> Result<Summary, AllocError>
+    pub fn of(alloc: Global, entries: &[StandingEntry]) -> Result<Summary, AllocError>
         ensures { IfOk result (λ s. SumsUp s entries.now) }
     {
         let mut summary = Summary::new(alloc);
@@ -95,8 +95,8 @@ impl Summary {
     }
 
     /// Adds an entry.
-    pub fn add(&mut self, alloc: Global, entry: &Known) -> Result<(), AllocError>
-        ensures { OnOk result ((es : List Known) → SumsUp self.old es → SumsUp self.new (es ++ entry.now ∷ [])) }
+    pub fn add(&mut self, alloc: Global, entry: &StandingEntry) -> Result<(), AllocError>
+        ensures { OnOk result ((es : List StandingEntry) → SumsUp self.old es → SumsUp self.new (es ++ entry.now ∷ [])) }
     {
         let text = text_of(alloc, entry.definition.as_bytes())?;
         let found = and_found(found_at(&self.texts, &text), entry);
@@ -107,7 +107,7 @@ impl Summary {
 
     /// The least entries of the text.
     pub fn found(&self, text: &Vec<u8>) -> Found
-        ensures { (es : List Known) → SumsUp self.now es → result ≡ found text.now.items es }
+        ensures { (es : List StandingEntry) → SumsUp self.now es → result ≡ found text.now.items es }
     {
         found_at(&self.texts, text)
     }

@@ -5,10 +5,10 @@ use Rattle.byte_folder.specs.Put.{Puts, IsPutFault}
 use Rattle.byte_folder.specs.declared.fault.FolderFault.TheVariants as put
 use Rattle.reg_op.specs.Contents.{Content}
 use Rattle.reg_op.specs.Ids.{Id}
-use Rattle.reg_engine.specs.declared.fault.OutFault.TheVariants as out
-use Rattle.reg_engine.specs.declared.fault.CliFault.{CliFault}
-use Rattle.reg_engine.specs.declared.fault.CliFault.TheVariants as cli
-use Rattle.reg_engine.specs.Store.{Around}
+use Rattle.reg_handing.specs.OutFault.TheVariants as out
+use Rattle.reg_handing.specs.CliFault.{CliFault}
+use Rattle.reg_handing.specs.CliFault.TheVariants as cli
+use Rattle.reg_handing.specs.Store.{Around}
 use Rattle.reg_handing.specs.declared.choice.Choice.{Choice}
 use Rattle.reg_handing.specs.Handed.{CannotHand}
 use Rattle.reg_into.specs.Files.{HandsFiles}

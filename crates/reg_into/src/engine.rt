@@ -9,7 +9,7 @@ ghost use Rattle.reg_into.specs.Into.{IsPutInto, IsNotPutInto, IsNotOut};
 
 use crate::rows::{Handed, files_of_found};
 use byte_folder::{FolderFault, FolderPlace, NamedFile, put_folder};
-use reg_engine::{CliFault, OutFault, Store};
+use reg_handing::engine::{CliFault, OutFault, Store};
 use reg_handing::{Choice, found_for};
 use reg_op::OpId;
 use reg_state::Register;

@@ -11,7 +11,7 @@ ghost use Rattle.reg_into.specs.Files.{IsKeyedOf, AreFilesOfRows, AreHanded};
 
 use byte_folder::NamedFile;
 use key_names::{Keyed, files_of};
-use reg_engine::CliFault;
+use reg_handing::engine::CliFault;
 use reg_handing::{pass, uncontested};
 use reg_op::OpId;
 use reg_report::Row;

@@ -3,7 +3,7 @@ use Rattle.std.specs.Prelude.{◌≡◌, ◌⊎◌, ◌+◌, ◌++◌, true, ℕ
 use Rattle.std.specs.Io.KnownBytes.{Appends}
 use Rattle.byte_io.specs.Device.{SinkState}
 use Rattle.byte_io.specs.Whole.{WritesAll, IsCutAt}
-use Rattle.byte_out.specs.Place.{Files, PlaceState, Told}
+use Rattle.byte_out.specs.Place.{Files, PlaceState, IfReported}
 use Rattle.byte_out.specs.Replace.{IsKept}
 use Rattle.reg_number.specs.declared.fault.NoteFault.{NoteFault}
 use Rattle.reg_number.specs.declared.fault.NoteFault.TheVariants as fault
@@ -26,12 +26,12 @@ pub record FailsAtEnd (text : List ℕ) (old new : SinkState) : Type 0 where
 -- the text was written to the new file, which is the office file now, also after a stop
 abbrev pub Notes : List ℕ → PlaceState → PlaceState → Type 0
 Notes text old new = WritesAll text old.sink new.sink
-    × Told (λ f g. f.beside ≡ Some [] → HasText text f g × (g.landed ≡ true)) old.files new.files
+    × IfReported (λ f g. f.beside ≡ Some [] → HasText text f g × (g.landed ≡ true)) old.files new.files
 
 -- the old office file is there: the new one did not get its name, or exactly its first n bytes were written, or its sync
 -- failed; or the new one is there, and a stop may leave the old one
 abbrev pub IsUnnoted : List ℕ → PlaceState → PlaceState → NoteFault → Type 0
-IsUnnoted text old new fault.NotOpened = FailsAtEnd text old.sink new.sink × Told IsKept old.files new.files
-IsUnnoted text old new (fault.WriteFailed n) = (IsCutAt n text old.sink new.sink × Told IsKept old.files new.files)
+IsUnnoted text old new fault.NotOpened = FailsAtEnd text old.sink new.sink × IfReported IsKept old.files new.files
+IsUnnoted text old new (fault.WriteFailed n) = (IsCutAt n text old.sink new.sink × IfReported IsKept old.files new.files)
     ⊎ ((n ≡ length text) × FailsAtEnd text old.sink new.sink
-    × (Told IsKept old.files new.files ⊎ Told (λ f g. f.beside ≡ Some [] → HasText text f g) old.files new.files))
+    × (IfReported IsKept old.files new.files ⊎ IfReported (λ f g. f.beside ≡ Some [] → HasText text f g) old.files new.files))

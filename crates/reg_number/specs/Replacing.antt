@@ -1,7 +1,7 @@
 -- Replacing a file, and an office file before it.
 use Rattle.std.specs.Prelude.{◌≡◌, List, ℕ, Option, None}
 use Rattle.byte_io.specs.Publish.{Publishes}
-use Rattle.byte_out.specs.Place.{PlaceState, Told}
+use Rattle.byte_out.specs.Place.{PlaceState, IfReported}
 use Rattle.byte_out.specs.Replace.{Replaces, IsReplaceFault, IsKept, FailsWhole}
 use Rattle.byte_out.specs.declared.fault.ReplaceFault.{ReplaceFault}
 use Rattle.byte_out.specs.declared.fault.ReplaceFault.TheVariants as replaced
@@ -11,11 +11,11 @@ use Rattle.reg_number.specs.declared.fault.NumberedFault.TheVariants as fault
 
 -- the new file was whole, and was removed: the old one still has the name
 abbrev pub IsWithdrawn : List ℕ → PlaceState → PlaceState → Type 0
-IsWithdrawn bytes old new = Publishes bytes old.sink new.sink × Told IsKept old.files new.files
+IsWithdrawn bytes old new = Publishes bytes old.sink new.sink × IfReported IsKept old.files new.files
 
 -- the new file was whole, and could not be renamed; or it was, and a stop may leave the old one
 abbrev pub IsLate : Option (List ℕ) → List ℕ → PlaceState → PlaceState → ReplaceFault → Type 0
-IsLate read bytes old new replaced.NotOpened = FailsWhole bytes old.sink new.sink × Told (λ f g. IsKept f g × (f.beside ≡ None)) old.files new.files
+IsLate read bytes old new replaced.NotOpened = FailsWhole bytes old.sink new.sink × IfReported (λ f g. IsKept f g × (f.beside ≡ None)) old.files new.files
 IsLate read bytes old new replaced.NewExists = ⊥
 IsLate read bytes old new (replaced.WriteFailed n) = ⊥
 IsLate read bytes old new replaced.Changed = ⊥

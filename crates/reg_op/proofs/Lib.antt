@@ -14,3 +14,6 @@ pub mod PieceLemmas
 pub mod RefusalLemmas
 pub mod DroppedLemmas
 pub mod ItemLemmas
+pub use Rattle.wkt_crs.proofs.Defining
+pub use Rattle.wkt_crs.proofs.Texts
+pub use Rattle.wkt_crs.proofs.Verdicts

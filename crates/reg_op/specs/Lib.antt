@@ -11,3 +11,6 @@ pub mod Rows
 pub mod Set
 pub mod Status
 pub mod Text
+pub use Rattle.wkt_crs.specs.Definition
+pub use Rattle.wkt_crs.specs.Unspelled
+pub use Rattle.wkt_crs.specs.declared.definition.DefinitionFault

@@ -12,4 +12,4 @@ pub use note::{Note, NoteFault};
 pub use op_id::OpId;
 pub use operation::{Op, OpBody, SameEntry};
 pub use status::Status;
-pub use wkt_crs::Definition;
+pub use wkt_crs::{Definition, DefinitionFault};

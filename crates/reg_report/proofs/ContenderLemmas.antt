@@ -10,9 +10,9 @@ use Rattle.crs_part.specs.Slots.{ids_of}
 use Rattle.crs_value.specs.declared.crs.Crs.{Crs}
 use Rattle.crs_value.specs.declared.key.Key.{Key}
 use Rattle.crs_value.specs.Keys.{IsKeyOf}
-use Rattle.wkt_crs.specs.Definition.{HasNone, IsKeyIn}
-use Rattle.wkt_crs.specs.Definition as definition
-use Rattle.wkt_crs.proofs.Texts.{one_value}
+use Rattle.reg_op.specs.Definition.{HasNone, IsKeyIn}
+use Rattle.reg_op.specs.Definition as definition
+use Rattle.reg_op.proofs.Texts.{one_value}
 use Rattle.reg_op.specs.Ids.{Id}
 use Rattle.reg_op.specs.Rows.{Row, IsInConflict}
 use Rattle.reg_report.specs.declared.row.Row.{Row as MadeRow}

@@ -6,8 +6,8 @@ use Rattle.std.specs.List.{Contains, flat_map, filter}
 use Rattle.std.specs.Cmp.{Equal-is, tied_itself}
 use Rattle.std.specs.Ordering.{is_eq, eq_by_cmp}
 use Rattle.csv.specs.Writing.{row_text, default_writer}
-use Rattle.wkt_crs.specs.Definition.{IsCrsOf}
-use Rattle.wkt_crs.proofs.Defining.{spelled_by_definition}
+use Rattle.reg_op.specs.Definition.{IsCrsOf}
+use Rattle.reg_op.proofs.Defining.{spelled_by_definition}
 use Rattle.crs_value.specs.declared.crs.Crs.{Crs}
 use Rattle.reg_op.specs.Set as set
 use Rattle.reg_op.specs.Set.{contains, contains-items}

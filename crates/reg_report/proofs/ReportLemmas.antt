@@ -5,8 +5,8 @@ use Rattle.crs_part.specs.declared.identifiers.Ident.{Ident}
 use Rattle.crs_part.specs.Slots.{ids_of, name_of}
 use Rattle.crs_value.specs.declared.key.Key.{Key}
 use Rattle.crs_value.specs.Keys.{IsKeyOf}
-use Rattle.wkt_crs.specs.Definition.{HasKey, IsKeyIn}
-use Rattle.wkt_crs.proofs.Texts.{one_value}
+use Rattle.reg_op.specs.Definition.{HasKey, IsKeyIn}
+use Rattle.reg_op.proofs.Texts.{one_value}
 use Rattle.reg_op.specs.Text.{printed}
 use Rattle.reg_op.specs.Contents.{Content}
 use Rattle.reg_op.specs.Rows.{Row, rows}

@@ -4,7 +4,7 @@ use Rattle.std.specs.declared.cmp.Ordering.{Ordering}
 use Rattle.std.specs.Ordering.{nat_cmp, ordering_then}
 use Rattle.std.specs.Cmp.Lexicographic.{slice_cmp}
 use Rattle.crs_value.specs.declared.key.Key.{Key}
-use Rattle.wkt_crs.specs.Definition.{IsKeyIn}
+use Rattle.reg_op.specs.Definition.{IsKeyIn}
 use Rattle.reg_op.specs.Set as set
 use Rattle.reg_op.specs.Set.{Ascends}
 use Rattle.reg_op.specs.Ids.{Id, Ids}

@@ -4,7 +4,7 @@ use Rattle.std.specs.List.{list_any}
 use Rattle.std.specs.declared.cmp.Ordering.{Ordering}
 use Rattle.std.specs.Ordering.{is_eq}
 use Rattle.std.specs.Cmp.Lexicographic.{pointwise}
-use Rattle.wkt_crs.specs.Definition.{IsKeyIn}
+use Rattle.reg_op.specs.Definition.{IsKeyIn}
 use Rattle.reg_op.specs.Set as set
 use Rattle.reg_op.specs.Set.{Ascends}
 use Rattle.reg_op.specs.Ids.{Id, Ids, id_cmp}

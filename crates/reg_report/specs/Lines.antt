@@ -16,7 +16,7 @@ use Rattle.reg_op.specs.declared.status.Status.TheVariants.{Valid, Superseded, R
 use Rattle.crs_part.specs.Slots.{name_of}
 use Rattle.crs_value.specs.declared.crs.Crs.{Crs}
 use Rattle.crs_value.specs.declared.key.Key.{Key}
-use Rattle.wkt_crs.specs.Definition.{IsCrsOf, IsKeyIn}
+use Rattle.reg_op.specs.Definition.{IsCrsOf, IsKeyIn}
 use Rattle.reg_report.specs.declared.gap.Gap.{Gap}
 use Rattle.reg_report.specs.Conflicts.{Contested}
 

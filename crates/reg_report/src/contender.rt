@@ -8,10 +8,9 @@ ghost use Rattle.reg_report.specs.Seen.{row_seen};
 use crate::row::Row;
 use crs_part::TryClone;
 use crs_value::Key;
-use reg_op::{OpId, Status};
+use reg_op::{Definition, OpId, Status};
 use std::alloc::{AllocError, Global};
 use std::cmp::Ordering;
-use wkt_crs::Definition;
 
 /// An entry that is not retired.
 #[derive(Drop)]

@@ -3,7 +3,7 @@
 ghost use Rattle.std.specs.Prelude.{◌≡◌, ◌↔◌, ◌++◌, ℕ, List, [], ◌∷◌, Contains, true, false};
 ghost use Rattle.csv.specs.Writing.{row_text, default_writer};
 ghost use Rattle.crs_value.specs.declared.crs.Crs.{Crs};
-ghost use Rattle.wkt_crs.specs.Definition.{IsCrsOf};
+ghost use Rattle.reg_op.specs.Definition.{IsCrsOf};
 ghost use Rattle.reg_op.specs.Set as set;
 ghost use Rattle.reg_op.specs.Ids.{Id};
 ghost use Rattle.reg_op.specs.Operations.{Ops, kept};

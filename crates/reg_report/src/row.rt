@@ -13,10 +13,9 @@ ghost use Rattle.reg_report.specs.Seen.{row_seen};
 use crate::distinct::distinct;
 use crate::entry::is_retired;
 use crate::supersession::{Pair, newer_among, pairs_of};
-use reg_op::{Op, OpBody, OpId, Status};
+use reg_op::{Definition, Op, OpBody, OpId, Status};
 use reg_state::Register;
 use std::alloc::{AllocError, Global};
-use wkt_crs::Definition;
 
 /// An entry with its status and, if it is superseded, the newer entries. Its definition has the key and the name.
 #[derive(Drop)]

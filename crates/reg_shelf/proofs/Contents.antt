@@ -5,10 +5,10 @@ use Rattle.std.proofs.lemmas.Nat.{from_be_bytes-to_be_bytes_4}
 use Rattle.byte_shelf.specs.Shelf as slots
 use Rattle.byte_shelf.proofs.OneShelf.{one_bytes}
 use Rattle.byte_shelf.proofs.Slots.{at_front}
-use Rattle.reg_op.specs.Set as set
-use Rattle.reg_op.specs.Operations.{Op}
-use Rattle.reg_op.specs.Contents.{Content, nothing}
-use Rattle.reg_op.proofs.OpLemmas.{op_total}
+use Rattle.reg_file.specs.Set as set
+use Rattle.reg_file.specs.Operations.{Op}
+use Rattle.reg_file.specs.Contents.{Content, nothing}
+use Rattle.reg_file.proofs.OpLemmas.{op_total}
 use Rattle.reg_file.specs.Files.{Holds, ReadsAs, IsFileOf, IsTooLarge}
 use Rattle.reg_file.specs.Layout.{register_file}
 use Rattle.reg_file.proofs.HoldLemmas as files

@@ -3,7 +3,7 @@ use Rattle.std.proofs.Common.{◌≡◌, ◌⊎◌, inl, ⊎_elim, ℕ, List, sy
 use Rattle.byte_disk.specs.Disk.{LeavesOnly}
 use Rattle.byte_disk.proofs.Moments.{weaker}
 use Rattle.byte_shelf.specs.Shelf as slots
-use Rattle.reg_op.specs.Contents.{Content}
+use Rattle.reg_file.specs.Contents.{Content}
 use Rattle.reg_file.specs.Files.{Holds, ReadsAs}
 use Rattle.reg_shelf.specs.Shelf.{IsShelf, IsShelfOf}
 use Rattle.reg_shelf.proofs.Contents.{either_of, shelf_of}
@@ -24,3 +24,11 @@ kept_of image sent file x shelf is holds = shelf_of image sent x shelf (inl (sen
 
 pub sized_of : (image sent file : List ℕ) (size : ℕ) (x : Content) → slots.IsShelfOf image size sent → sent ≡ file → Holds file x → IsShelfOf image size x
 sized_of image sent file size x (shelf, is-size) is holds = (record { bytes = sent; shelf = shelf; held = inl (sent_holds sent file x is holds) }, is-size)
+
+-- a frame that is put on a shelf
+pub put_moments : {D : Type 0} (moment : D → ℕ) (since : D → ℕ → List ℕ → Type 0) (old new : D) (before after : List ℕ) (was x : Content)
+    → LeavesOnly moment since old new (λ c. slots.IsShelf c before ⊎ slots.IsShelf c after) → ReadsAs before was → Holds after x
+    → LeavesOnly moment since old new (λ c. IsShelf c was ⊎ IsShelf c x)
+put_moments moment since old new before after was x leaves held holds =
+    weaker moment since old new (λ c. slots.IsShelf c before ⊎ slots.IsShelf c after) (λ c. IsShelf c was ⊎ IsShelf c x) leaves
+    (either_of was x before after held (inl holds))

@@ -3,7 +3,7 @@ use Rattle.std.specs.Prelude.{◌≡◌, ◌⊎◌, ℕ, List}
 use Rattle.byte_shelf.specs.Keep as slots
 use Rattle.byte_shelf.specs.declared.fault.ShelfFault.{ShelfFault}
 use Rattle.byte_shelf.specs.declared.fault.ShelfFault.TheVariants as fault
-use Rattle.reg_op.specs.Contents.{Content}
+use Rattle.reg_file.specs.Contents.{Content}
 use Rattle.reg_file.specs.Files.{IsFileOf}
 
 -- the content's file has more bytes than any slot takes, or than those of this shelf do

@@ -1,2 +1,3 @@
 pub mod Shelf
 pub mod Keep
+pub mod Ready

@@ -1,7 +1,7 @@
 -- A shelf with a register's file in the slot in use.
 use Rattle.std.specs.Prelude.{◌≡◌, ℕ, List}
 use Rattle.byte_shelf.specs.Shelf as slots
-use Rattle.reg_op.specs.Contents.{Content}
+use Rattle.reg_file.specs.Contents.{Content}
 use Rattle.reg_file.specs.Files.{ReadsAs}
 
 -- the bytes in the slot in use are a file of the content, of either version

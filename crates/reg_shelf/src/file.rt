@@ -1,7 +1,7 @@
 //! The file in a slot.
 
 ghost use Rattle.std.specs.Prelude.{◌≡◌, ◌⊎◌, IfOk, IfErr, IsErrOf};
-ghost use Rattle.reg_op.specs.Contents.{Content};
+ghost use Rattle.reg_file.specs.Contents.{Content};
 ghost use Rattle.reg_file.specs.Files.{Holds, ReadsAs, IsTooLarge};
 
 use byte_shelf::ShelfFault;

@@ -4,7 +4,7 @@ ghost use Rattle.std.specs.Prelude.{◌≡◌, ◌↔◌, ◌⊎◌, IsTrue, OnO
 ghost use Rattle.byte_disk.specs.Disk.{Only};
 ghost use Rattle.byte_shelf.specs.Shelf.{IsSize};
 ghost use Rattle.byte_shelf.specs.Keep.{CountsFault};
-ghost use Rattle.reg_op.specs.Contents.{nothing};
+ghost use Rattle.reg_file.specs.Contents.{nothing};
 ghost use Rattle.reg_shelf.specs.Shelf.{IsShelfOf};
 
 use crate::file::file_of;

@@ -4,7 +4,7 @@ ghost use Rattle.std.specs.Prelude.{◌≡◌, ◌⊎◌, List, ℕ, IsTrue, OnO
 ghost use Rattle.byte_disk.specs.Disk.{Only, LeavesOnly};
 ghost use Rattle.byte_shelf.specs.Shelf.{EndsWithin, HasNoHead};
 ghost use Rattle.byte_shelf.specs.Keep.{AddsNothing, CountsFault};
-ghost use Rattle.reg_op.specs.Contents.{Content};
+ghost use Rattle.reg_file.specs.Contents.{Content};
 ghost use Rattle.reg_shelf.specs.Shelf.{HasFile, IsShelf, IsShelfOf};
 ghost use Rattle.reg_shelf.specs.Keep.{IsTooLarge};
 

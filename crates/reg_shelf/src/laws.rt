@@ -2,7 +2,7 @@
 
 ghost use Rattle.std.specs.Prelude.{◌≡◌, ◌≤◌, List, ℕ, length};
 ghost use Rattle.byte_shelf.specs.Shelf.{IsSize};
-ghost use Rattle.reg_op.specs.Contents.{Content};
+ghost use Rattle.reg_file.specs.Contents.{Content};
 ghost use Rattle.reg_file.specs.Files.{Holds};
 ghost use Rattle.reg_shelf.specs.Shelf.{IsShelf, IsShelfOf};
 

@@ -7,9 +7,11 @@ mod keeping;
 pub mod laws;
 mod restoring;
 mod size;
+mod steps;
 
-pub use byte_shelf::{LEAST, MOST, ShelfFault};
+pub use byte_shelf::{Frame, LEAST, MOST, ShelfFault};
 pub use formatting::format;
 pub use keeping::keep;
 pub use restoring::restore;
 pub use size::is_size;
+pub use steps::{put, ready};

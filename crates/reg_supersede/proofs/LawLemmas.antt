@@ -9,8 +9,8 @@ use Rattle.reg_keys.proofs.LawLemmas as law
 use Rattle.reg_office.specs.declared.fault.OfficeFault.{OfficeFault}
 use Rattle.reg_office.specs.Making.{made}
 use Rattle.reg_office.specs.Commands.{supersessions, Does}
-use Rattle.reg_supersede.specs.declared.order.LineFault.{LineFault}
-use Rattle.reg_supersede.specs.declared.order.LineFault.TheVariants as line
+use Rattle.reg_supersede.specs.declared.list_options.LineFault.{LineFault}
+use Rattle.reg_supersede.specs.declared.list_options.LineFault.TheVariants as line
 use Rattle.reg_supersede.specs.Lines.{words}
 use Rattle.reg_supersede.specs.Lists.{Task, DoesFor, RefusesFor, DoesAll, StopsAt, word_fault}
 

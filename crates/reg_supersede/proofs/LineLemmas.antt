@@ -28,8 +28,8 @@ use Rattle.reg_office.proofs.EffectLemmas.{faults}
 use Rattle.reg_office.proofs.NumberLemmas.{made_ok, made_refused, made_spent, length_map}
 use Rattle.reg_office.proofs.LawLemmas.{made_are, is_greatest}
 use Rattle.reg_keys.specs.Named.{StandFor}
-use Rattle.reg_supersede.specs.declared.order.Pair.{Pair}
-use Rattle.reg_supersede.specs.declared.order.RefusedLine.{RefusedLine}
+use Rattle.reg_supersede.specs.declared.list_options.Pair.{Pair}
+use Rattle.reg_supersede.specs.declared.list_options.RefusedLine.{RefusedLine}
 use Rattle.reg_supersede.specs.Lines.{words}
 use Rattle.reg_supersede.specs.Lists.{Task}
 use Rattle.reg_supersede.specs.Effects.{after, ids_of, AreSupersessions, has_pair, pair_cmp, ArePairs, CanMake, CanAdd, AreAllowed, effects_of, StepsOn}

@@ -15,13 +15,13 @@ use Rattle.reg_report.specs.Seen.{row_seen}
 use Rattle.reg_office.specs.declared.fault.OfficeFault.{OfficeFault}
 use Rattle.reg_office.specs.Making.{greatest, numbered, new_ops, objections, note_fault}
 use Rattle.reg_office.specs.Commands.{supersessions}
-use Rattle.reg_supersede.specs.declared.order.Order.{Order}
-use Rattle.reg_supersede.specs.declared.order.Pair.{Pair}
-use Rattle.reg_supersede.specs.declared.order.RefusedLine.{RefusedLine}
-use Rattle.reg_supersede.specs.declared.order.LineFault.{LineFault}
+use Rattle.reg_supersede.specs.declared.list_options.ListOptions.{ListOptions}
+use Rattle.reg_supersede.specs.declared.list_options.Pair.{Pair}
+use Rattle.reg_supersede.specs.declared.list_options.RefusedLine.{RefusedLine}
+use Rattle.reg_supersede.specs.declared.list_options.LineFault.{LineFault}
 use Rattle.reg_supersede.specs.Lists.{Task, IsRefusal, DoesLine, RefusesFor, RefusesLine, RefusesAll}
 
-abbrev pub task_of : Order → Task
+abbrev pub task_of : ListOptions → Task
 task_of o = record { replica = o.replica; note = o.note.now; keys = o.keys; rows = map row_seen o.rows.now; keep_going = o.keep_going }
 
 -- ---- effects on a content

@@ -9,9 +9,9 @@ use Rattle.reg_engine.specs.declared.fault.CliFault.TheVariants as cli
 use Rattle.reg_engine.specs.declared.fault.Refusal.TheVariants as refusal
 use Rattle.reg_engine.specs.Fault.{office_fault}
 use Rattle.reg_engine.specs.Outputs.{id_lines}
-use Rattle.reg_supersede.specs.declared.order.LineFault.{LineFault}
-use Rattle.reg_supersede.specs.declared.order.LineFault.TheVariants as line
-use Rattle.reg_supersede.specs.declared.order.RefusedLine.{RefusedLine}
+use Rattle.reg_supersede.specs.declared.list_options.LineFault.{LineFault}
+use Rattle.reg_supersede.specs.declared.list_options.LineFault.TheVariants as line
+use Rattle.reg_supersede.specs.declared.list_options.RefusedLine.{RefusedLine}
 use Rattle.reg_supersede.specs.Lines.{lines}
 use Rattle.reg_supersede.specs.Lists.{Task, rows_if, DoesAll, RefusesAll}
 

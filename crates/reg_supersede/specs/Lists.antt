@@ -9,9 +9,9 @@ use Rattle.reg_office.specs.Commands.{supersessions, Does}
 use Rattle.reg_keys.specs.declared.fault.KeyFault.{KeyFault}
 use Rattle.reg_keys.specs.declared.fault.KeyFault.TheVariants as key
 use Rattle.reg_keys.specs.Named.{StandFor, Object}
-use Rattle.reg_supersede.specs.declared.order.LineFault.{LineFault}
-use Rattle.reg_supersede.specs.declared.order.LineFault.TheVariants as line
-use Rattle.reg_supersede.specs.declared.order.RefusedLine.{RefusedLine}
+use Rattle.reg_supersede.specs.declared.list_options.LineFault.{LineFault}
+use Rattle.reg_supersede.specs.declared.list_options.LineFault.TheVariants as line
+use Rattle.reg_supersede.specs.declared.list_options.RefusedLine.{RefusedLine}
 use Rattle.reg_supersede.specs.Lines.{words}
 
 -- the office and its note; whether keys are taken, the rows in which they are looked up, and whether refused lines are left out

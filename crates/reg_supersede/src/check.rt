@@ -7,7 +7,7 @@ ghost use Rattle.reg_office.specs.Effects.{fault_of};
 ghost use Rattle.reg_office.specs.Making.{greatest, numbered, objections, note_fault, made};
 ghost use Rattle.reg_supersede.specs.Effects.{task_of, after, next, has_pair, ArePairs, CanMake, CanAdd};
 
-use crate::order::{Effects, Order, Pair};
+use crate::list_options::{Effects, ListOptions, Pair};
 use reg_office::OfficeFault;
 use reg_op::{Note, OpId};
 use reg_report::{is_entered, is_retired};
@@ -51,7 +51,7 @@ fn is_again(effects: &Effects, pair: Pair, is_first: bool) -> bool
 // The first refusal among the entries that supersede the old one.
 fn first_fault(
     alloc: Global,
-    order: &Order<'_>,
+    order: &ListOptions<'_>,
     effects: &Effects,
     old: OpId,
     newer: &[OpId],
@@ -74,14 +74,14 @@ fn first_fault(
 }
 
 // The greatest own count seen before the first line.
-fn last_count(order: &Order<'_>) -> u32
+fn last_count(order: &ListOptions<'_>) -> u32
     ensures { result ≡ greatest order.now.replica order.now.register.now.seen }
 {
     order.register.seen().greatest(order.replica)
 }
 
 // Whether the last number would be out of range.
-fn is_spent(order: &Order<'_>, effects: &Effects, newer: &[OpId]) -> bool
+fn is_spent(order: &ListOptions<'_>, effects: &Effects, newer: &[OpId]) -> bool
     requires { greatest order.now.replica order.now.register.now.seen + length effects.now.bodies.items ≤ 4294967295 }
     ensures { result ≡ nat_lt 4294967295 (greatest order.now.replica order.now.register.now.seen + length effects.now.bodies.items + length newer.now) }
 {
@@ -102,7 +102,7 @@ fn note_fault(note: &str) -> Option<OfficeFault>
 /// Why the office refuses the supersession of an entry by others.
 pub fn office_fault(
     alloc: Global,
-    order: &Order<'_>,
+    order: &ListOptions<'_>,
     effects: &Effects,
     old: OpId,
     newer: &[OpId],

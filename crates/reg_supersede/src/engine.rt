@@ -10,8 +10,8 @@ ghost use Rattle.reg_supersede.specs.Engine.{task};
 
 use crate::lines::lines_of;
 use crate::list::{Listed, all_lines, leave_out};
+use crate::list_options::{LineFault, ListOptions, RefusedLine};
 use crate::naming::rows_for;
-use crate::order::{LineFault, Order, RefusedLine};
 use byte_io::Source;
 use reg_engine::{Change, CliFault, Made, id_lines, read_whole};
 use reg_office::Office;
@@ -59,7 +59,7 @@ fn planned(
     let Ok(lines) = lines_of(alloc, bytes) else {
         return Err(OUT_OF_MEMORY);
     };
-    let order = Order {
+    let order = ListOptions {
         register,
         rows: &rows,
         keys,

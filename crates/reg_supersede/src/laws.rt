@@ -7,7 +7,7 @@ ghost use Rattle.reg_keys.specs.Named.{StandFor};
 ghost use Rattle.reg_office.specs.declared.fault.OfficeFault.{OfficeFault};
 ghost use Rattle.reg_office.specs.Making.{made};
 ghost use Rattle.reg_office.specs.Commands.{supersessions, Does};
-ghost use Rattle.reg_supersede.specs.declared.order.LineFault.TheVariants as line;
+ghost use Rattle.reg_supersede.specs.declared.list_options.LineFault.TheVariants as line;
 ghost use Rattle.reg_supersede.specs.Lines.{words};
 ghost use Rattle.reg_supersede.specs.Lists.{Task, DoesAll, StopsAt};
 

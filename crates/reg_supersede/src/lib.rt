@@ -6,9 +6,9 @@ mod engine;
 pub mod laws;
 mod lines;
 mod list;
+mod list_options;
 mod naming;
-mod order;
 mod told;
 
 pub use engine::SupersedeFrom;
-pub use order::{LineFault, RefusedLine};
+pub use list_options::{LineFault, RefusedLine};

@@ -12,8 +12,8 @@ ghost use Rattle.reg_supersede.specs.Effects.{task_of, after, ids_of, ArePairs, 
 
 use crate::check::office_fault;
 use crate::lines::words_of;
+use crate::list_options::{Effects, LineFault, ListOptions, Pair, RefusedLine};
 use crate::naming::fault_of_word;
-use crate::order::{Effects, LineFault, Order, Pair, RefusedLine};
 use reg_keys::entries_of;
 use reg_op::{OpBody, OpId};
 use std::alloc::{AllocError, Global};
@@ -22,7 +22,7 @@ use std::collections::BTreeSet;
 // The entries of a line that is not refused.
 fn allowed(
     alloc: Global,
-    order: &Order<'_>,
+    order: &ListOptions<'_>,
     effects: &Effects,
     line: &[u8],
 ) -> Result<Vec<OpId>, LineFault>
@@ -49,7 +49,7 @@ fn allowed(
 // Why a line with these entries is refused.
 fn fault_of(
     alloc: Global,
-    order: &Order<'_>,
+    order: &ListOptions<'_>,
     effects: &Effects,
     entries: &[OpId],
 ) -> Option<LineFault>
@@ -92,7 +92,7 @@ fn push_line(effects: &mut Effects, entries: &[OpId]) -> Result<(), AllocError>
 // One line, with this number. If it is refused and left out, it is listed.
 fn step(
     alloc: Global,
-    order: &Order<'_>,
+    order: &ListOptions<'_>,
     effects: &mut Effects,
     left: &mut Vec<RefusedLine>,
     number: usize,
@@ -161,7 +161,11 @@ pub struct Listed {
 }
 
 /// One line after the other.
-pub fn all_lines(alloc: Global, order: &Order<'_>, lines: &[&[u8]]) -> Result<Listed, RefusedLine>
+pub fn all_lines(
+    alloc: Global,
+    order: &ListOptions<'_>,
+    lines: &[&[u8]],
+) -> Result<Listed, RefusedLine>
     requires { Ascends row_cmp (map row_seen order.now.rows.now) }
     ensures done { IfOk result (λ l. DoesAll (task_of order.now) 1 order.now.register.now (map (λ w. w.now) lines.now)
         (after (task_of order.now) order.now.register.now l.bodies.items) (ids_of (task_of order.now) order.now.register.now l.bodies.items) l.left.items) }

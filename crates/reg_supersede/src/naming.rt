@@ -6,7 +6,7 @@ ghost use Rattle.reg_report.specs.Seen.{row_seen};
 ghost use Rattle.reg_keys.specs.Rows.{row_cmp};
 ghost use Rattle.reg_supersede.specs.Lists.{rows_if, word_fault};
 
-use crate::order::LineFault;
+use crate::list_options::LineFault;
 use reg_keys::{KeyFault, rows_in_order};
 use reg_report::Row;
 use reg_state::Register;

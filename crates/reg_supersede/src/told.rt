@@ -3,7 +3,7 @@
 ghost use Rattle.std.specs.Prelude.{◌≡◌};
 ghost use Rattle.reg_supersede.specs.Engine.{cause_of};
 
-use crate::order::{LineFault, RefusedLine};
+use crate::list_options::{LineFault, RefusedLine};
 use reg_engine::{CliFault, Refusal};
 use std::fmt::{self, Display};
 

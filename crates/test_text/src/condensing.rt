@@ -2,7 +2,7 @@
 
 use std::alloc::Global;
 use wkt_canonical::is_canonical;
-use wkt_condense::condense;
+use wkt_write::condense;
 
 fn is_condensed(alloc: Global, text: &[u8], wanted: &[u8]) -> bool {
     match condense(alloc, text) {

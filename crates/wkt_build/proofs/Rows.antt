@@ -129,13 +129,13 @@ behind_come : (xs : List Bare) (toks rest : List Tok) → Behind xs toks rest �
 behind_come [] toks rest b = b
 behind_come (x ∷ xs) toks rest b = (tok Comma b.0, b.1, b.2, b.3, b.4, b.5)
 
-pub first_one : {A : Type 0} {t : Takes} {h : ℕ} {D : Bare → A → Type 0} {tree : A → Bare} {row : List Slot} {fields : Fields} {mid new : List Tok} (n : SlotName) → Law t h D tree → (old : List Tok) (v : A)
+pub first_one : {A : Type 0} {t : Takes} {D : Bare → A → Type 0} {tree : A → Bare} {row : List Slot} {fields : Fields} {mid new : List Tok} (n : SlotName) → Law t D tree → (old : List Tok) (v : A)
     → Made t D old mid v → Reads row fields mid new → ReadsAll (slot n t Once ∷ row) (One D v & fields) old new
-first_one {A} {t} {h} {D} {tree} {row} {fields} {mid} {new} n law old v m r = record { of = one_read t D row fields old mid new v n m r }
+first_one {A} {t} {D} {tree} {row} {fields} {mid} {new} n law old v m r = record { of = one_read t D row fields old mid new v n m r }
 
-pub then_one : {A : Type 0} {t : Takes} {h : ℕ} {D : Bare → A → Type 0} {tree : A → Bare} {row : List Slot} {fields : Fields} {mid new : List Tok} (n : SlotName) → Law t h D tree → (old : List Tok) (v : A)
+pub then_one : {A : Type 0} {t : Takes} {D : Bare → A → Type 0} {tree : A → Bare} {row : List Slot} {fields : Fields} {mid new : List Tok} (n : SlotName) → Law t D tree → (old : List Tok) (v : A)
     → Made t D old mid v → Reads row fields mid new → Reads (slot n t Once ∷ row) (One D v & fields) old new
-then_one {A} {t} {h} {D} {tree} {row} {fields} {mid} {new} n law old v m r = record { of = λ xs end rest c b e. one_read t D row fields old mid new v n m r xs end rest c (behind_come xs old end b) e }
+then_one {A} {t} {D} {tree} {row} {fields} {mid} {new} n law old v m r = record { of = λ xs end rest c b e. one_read t D row fields old mid new v n m r xs end rest c (behind_come xs old end b) e }
 
 -- ---- slots that may be empty
 
@@ -182,9 +182,9 @@ module _ {A : Type 0} (t : Takes) (D : Bare → A → Type 0) (row : List Slot) 
       let o = maybe_run c.0 c.1 c.3 c.4 c.5 end rest (subst (λ l. Behind l old end) c.2 b) e in
       ((c.0, c.1, c.2, (o.1.0, c.4), o.0, o.1.1), o.1.2)
 
-pub then_maybe : {A : Type 0} {t : Takes} {h : ℕ} {D : Bare → A → Type 0} {tree : A → Bare} {row : List Slot} {fields : Fields} {mid new : List Tok} (n : SlotName) → Law t h D tree → is_clear (slot n t AtMostOnce ∷ row) ≡ true → (old : List Tok) (v : Option A)
+pub then_maybe : {A : Type 0} {t : Takes} {D : Bare → A → Type 0} {tree : A → Bare} {row : List Slot} {fields : Fields} {mid new : List Tok} (n : SlotName) → Law t D tree → is_clear (slot n t AtMostOnce ∷ row) ≡ true → (old : List Tok) (v : Option A)
     → MadeSome t D old mid v → (comes t old ≡ false → mid ≡ old) → (comes t old ≡ false → v ≡ None) → Reads row fields mid new → Reads (slot n t AtMostOnce ∷ row) (Maybe D v & fields) old new
-then_maybe {A} {t} {h} {D} {tree} {row} {fields} {mid} {new} n law clear old v some left absent r = record { of = maybe_read t D row fields old mid new v n clear some left absent r }
+then_maybe {A} {t} {D} {tree} {row} {fields} {mid} {new} n law clear old v some left absent r = record { of = maybe_read t D row fields old mid new v n clear some left absent r }
 
 -- ---- slots that are filled many times
 
@@ -211,9 +211,9 @@ module _ {A : Type 0} (t : Takes) (D : Bare → A → Type 0) (row : List Slot) 
       let others = r.of c.1 end rest c.5 (subst (λ toks. Behind c.1 toks end) (sym made.1) s.back) e in
       ((c.0, c.1, c.2, (passes_of editions.Second t c.0 c.3, c.4), made.0, others.0), others.1)
 
-pub then_each : {A : Type 0} {t : Takes} {h : ℕ} {D : Bare → A → Type 0} {tree : A → Bare} {row : List Slot} {fields : Fields} {mid new : List Tok} (n : SlotName) → Law t h D tree → is_clear (slot n t Any ∷ row) ≡ true → (old : List Tok) (vs : List A)
+pub then_each : {A : Type 0} {t : Takes} {D : Bare → A → Type 0} {tree : A → Bare} {row : List Slot} {fields : Fields} {mid new : List Tok} (n : SlotName) → Law t D tree → is_clear (slot n t Any ∷ row) ≡ true → (old : List Tok) (vs : List A)
     → MadeEach t D old mid vs → Reads row fields mid new → Reads (slot n t Any ∷ row) (Each D vs & fields) old new
-then_each {A} {t} {h} {D} {tree} {row} {fields} {mid} {new} n law clear old vs m r = record { of = each_read t D row fields old mid new vs n clear m r }
+then_each {A} {t} {D} {tree} {row} {fields} {mid} {new} n law clear old vs m r = record { of = each_read t D row fields old mid new vs n clear m r }
 
 module _ {A : Type 0} (t : Takes) (D : Bare → A → Type 0) (row : List Slot) (fields : Fields) (old one mid new : List Tok) (v : NonEmpty A) (n : SlotName) (clear : is_clear (slot n t AtLeastOnce ∷ row) ≡ true) (p : Made t D old one v.first) (q : MadeEach t D one mid v.others) (r : Reads row fields mid new) where
   some_run : (run rest' : List Bare) → AllFitting t run → 1 ≤ length run → Cuts row rest' → (end rest : List Tok) → Behind (run ++ rest') old end → Ends end rest → AtLeastOne D v run × (Runs row fields rest' × (new ≡ end))
@@ -231,9 +231,9 @@ module _ {A : Type 0} (t : Takes) (D : Bare → A → Type 0) (row : List Slot) 
       let o = some_run c.0 c.1 c.3 c.4 c.5 end rest (subst (λ l. Behind l old end) c.2 b) e in
       ((c.0, c.1, c.2, (passes_of editions.Second t c.0 c.3, c.4), o.0, o.1.0), o.1.1)
 
-pub then_some : {A : Type 0} {t : Takes} {h : ℕ} {D : Bare → A → Type 0} {tree : A → Bare} {row : List Slot} {fields : Fields} {mid new : List Tok} (n : SlotName) → Law t h D tree → is_clear (slot n t AtLeastOnce ∷ row) ≡ true → (old one : List Tok) (v : NonEmpty A)
+pub then_some : {A : Type 0} {t : Takes} {D : Bare → A → Type 0} {tree : A → Bare} {row : List Slot} {fields : Fields} {mid new : List Tok} (n : SlotName) → Law t D tree → is_clear (slot n t AtLeastOnce ∷ row) ≡ true → (old one : List Tok) (v : NonEmpty A)
     → Made t D old one v.first → MadeEach t D one mid v.others → Reads row fields mid new → Reads (slot n t AtLeastOnce ∷ row) (AtLeastOne D v & fields) old new
-then_some {A} {t} {h} {D} {tree} {row} {fields} {mid} {new} n law clear old one v p q r = record { of = some_read t D row fields old one mid new v n clear p q r }
+then_some {A} {t} {D} {tree} {row} {fields} {mid} {new} n law clear old one v p q r = record { of = some_read t D row fields old one mid new v n clear p q r }
 
 -- ---- nodes
 
@@ -315,11 +315,11 @@ argument_result K n F old new (Err e) m x rest f next = tt
 
 -- ---- the same value under another name
 
-pub made_as : {A : Type 0} {t : Takes} {h : ℕ} {D : Bare → A → Type 0} {tree : A → Bare} → Law t h D tree → (old mid : List Tok) (v w : A) → w ≡ v → Made t D old mid v → Made t D old mid w
-made_as {A} {t} {h} {D} law old mid v w e b x first behind rest f p q = let made = b x first behind rest f p q in (subst (D x) (sym e) made.0, made.1)
+pub made_as : {A : Type 0} {t : Takes} {D : Bare → A → Type 0} {tree : A → Bare} → Law t D tree → (old mid : List Tok) (v w : A) → w ≡ v → Made t D old mid v → Made t D old mid w
+made_as {A} {t} {D} law old mid v w e b x first behind rest f p q = let made = b x first behind rest f p q in (subst (D x) (sym e) made.0, made.1)
 
-pub each_as : {A : Type 0} {t : Takes} {h : ℕ} {D : Bare → A → Type 0} {tree : A → Bare} → Law t h D tree → (old mid : List Tok) (vs ws : List A) → ws ≡ vs → MadeEach t D old mid vs → MadeEach t D old mid ws
-each_as {A} {t} {h} {D} law old mid vs ws e b run end f p q r = let made = b run end f p q r in (subst (λ us. Each D us run) (sym e) made.0, made.1)
+pub each_as : {A : Type 0} {t : Takes} {D : Bare → A → Type 0} {tree : A → Bare} → Law t D tree → (old mid : List Tok) (vs ws : List A) → ws ≡ vs → MadeEach t D old mid vs → MadeEach t D old mid ws
+each_as {A} {t} {D} law old mid vs ws e b run end f p q r = let made = b run end f p q r in (subst (λ us. Each D us run) (sym e) made.0, made.1)
 
 pub count_as : (old mid : List Tok) (n m : ℕ) (h : m < 2 ^ 32) → m ≡ n → Made kinds.Count DenotesCount old mid n → Made kinds.Count DenotesSmall old mid (record { value = m; small = h })
 count_as old mid n m h e b x first behind rest f p q = let made = b x first behind rest f p q in (subst (DenotesCount x) (sym e) made.0, made.1)

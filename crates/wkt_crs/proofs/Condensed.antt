@@ -1,7 +1,7 @@
 -- What a condensed text spells, the text spells.
 use Rattle.std.proofs.Common.{ℕ, List}
 use Rattle.crs_value.specs.declared.crs.Crs.{Crs}
-use Rattle.wkt_condense.specs.Law.{IsReadAs}
+use Rattle.wkt_write.specs.CondensedLaw.{IsReadAs}
 use Rattle.wkt_crs.specs.Spells.{Spells, SpellsCanon}
 
 pub spells_as : (text bytes : List ℕ) (v : Crs) → IsReadAs text bytes → Spells bytes v → Spells text v

@@ -11,7 +11,7 @@ use Rattle.wkt_crs.specs.declared.definition.DefinitionFault.TheVariants as faul
 use Rattle.wkt_crs.specs.Spells.{Spells, SpellsCanon, canon}
 use Rattle.wkt_crs.specs.Faults.{FirstFault}
 use Rattle.wkt_crs.specs.Definition.{IsDefinition, IsNewFault, IsCanonicalFault, IsSeenFault, IsTextFault, of_read}
-use Rattle.wkt_condense.specs.Law.{IsReadAs}
+use Rattle.wkt_write.specs.CondensedLaw.{IsReadAs}
 use Rattle.wkt_crs.proofs.Condensed.{spells_as, canon_as}
 use Rattle.wkt_crs.proofs.Texts.{one_value}
 use Rattle.wkt_crs.proofs.Defining.{of_definition}

@@ -14,8 +14,8 @@ use crate::reading::read_crs;
 use crate::writing::write_crs;
 use std::alloc::Global;
 use wkt_canonical::is_canonical;
-use wkt_condense::condense;
 use wkt_tree::MAX_TEXT;
+use wkt_write::condense;
 
 /// The canonical text of the value that the text spells, or the first fault of the text. No value is built if the text, or
 /// its condensed form, is recognized as canonical, as most are.

@@ -23,7 +23,7 @@ use std::fmt;
 use std::marker::Model;
 use std::rc::Rc;
 use wkt_canonical::{Identifier, Seen, recognize};
-use wkt_condense::condense;
+use wkt_write::condense;
 
 /// Why a reference system, or a text, is not a definition.
 #[derive(Clone, Copy, Debug, PartialEq, Eq)]

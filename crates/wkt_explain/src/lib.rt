@@ -4,14 +4,14 @@
 mod characters;
 mod explain;
 mod hints;
-mod kept;
 pub mod laws;
 mod path;
 mod position;
+mod recorded;
 mod sentences;
 mod shown;
 mod walk;
 
 pub use explain::{Explainer, explain_text, explain_within};
 pub use hints::Hint;
-pub use kept::Kept;
+pub use recorded::Recorded;

@@ -73,7 +73,7 @@ text_once x v w d e =
     let same = text_injective (quoted v.bytes) (quoted w.bytes) (sym d ∙ e) in
     same_text v w (sym (undoubled-quoted v.bytes) ∙ (ap (λ l. undoubled false (drop 1 l)) same ∙ undoubled-quoted w.bytes))
 
-pub text_law : Law kinds.Text 0 DenotesText text_tree
+pub text_law : Law kinds.Text DenotesText text_tree
 text_law = record { fits = λ x v d. subst (Fitting kinds.Text) (sym d) (record { taken = refl; sound = tt }); once = text_once; spelled = λ v. refl }
 
 -- ---- numbers
@@ -87,7 +87,7 @@ number_once x v w d e =
     let s = spells_once d.bytes v.coefficient w.coefficient v.exponent w.exponent d.spells (subst (λ b. Spells b w.coefficient w.exponent) (sym same) e.spells) in
     same_decimal v w s.0 s.1
 
-pub number_law : Law kinds.Number 0 DenotesNumber number_tree
+pub number_law : Law kinds.Number DenotesNumber number_tree
 number_law = record {
   fits = λ x v d. subst (Fitting kinds.Number) (sym d.is) (record { taken = number_taken kinds.Number d.bytes refl refl; sound = tt });
   once = number_once;
@@ -113,7 +113,7 @@ same_value x n m d e =
 same_small : (n m : Small) → n.value ≡ m.value → n ≡ m
 same_small n m e = λ i. record { value = e i; small = is_prop→PathP (λ j. e j < 2 ^ 32) (λ j. hlevel props) n.small m.small i }
 
-pub count_law : Law kinds.Count 0 DenotesSmall (λ n. count_tree n.value)
+pub count_law : Law kinds.Count DenotesSmall (λ n. count_tree n.value)
 count_law = record {
   fits = λ x v d. subst (Fitting kinds.Count) (sym d.is) (record { taken = count_taken d.bytes v.value d.spells d.small; sound = tt });
   once = λ x v w d e. same_small v w (same_value x v.value w.value d e);
@@ -139,7 +139,7 @@ code_spelled : (v : NumberOrText) → DenotesCode (code_tree v) v
 code_spelled (code.Number n) = number_law.spelled n
 code_spelled (code.Text t) = refl
 
-pub code_law : Law kinds.NumberOrText 0 DenotesCode code_tree
+pub code_law : Law kinds.NumberOrText DenotesCode code_tree
 code_law = record { fits = code_fits; once = code_once; spelled = code_spelled }
 
 -- ---- words
@@ -233,14 +233,14 @@ word_once f all found x v w d e =
     let letters = d.spells ∙ (ap small_letters same ∙ sym e.spells) in
     some_same v w (sym (found v) ∙ (ap (first_word f all) letters ∙ found w))
 
-pub kind_law : Law kinds.CsKind 0 (DenotesWord system_word) kind_tree
+pub kind_law : Law kinds.CsKind (DenotesWord system_word) kind_tree
 kind_law = record {
   fits = λ x v d. subst (Fitting kinds.CsKind) (sym d.is) (record { taken = ap (takes kinds.CsKind) (sym (same_argument (system_word v) d.bytes d.spells) ∙ kind_argument v); sound = tt });
   once = word_once system_word kinds_listed kind_found;
   spelled = λ v. record { bytes = system_word v; is = refl; spells = refl };
 }
 
-pub direction_law : Law kinds.Direction 0 (DenotesWord direction_word) direction_tree
+pub direction_law : Law kinds.Direction (DenotesWord direction_word) direction_tree
 direction_law = record {
   fits = λ x v d. subst (Fitting kinds.Direction) (sym d.is) (record { taken = ap (takes kinds.Direction) (sym (same_argument (direction_word v) d.bytes d.spells) ∙ direction_argument v); sound = tt });
   once = word_once direction_word directions_listed direction_found;

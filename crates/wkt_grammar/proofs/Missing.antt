@@ -9,7 +9,7 @@ use Rattle.wkt_grammar.specs.declared.table.SlotName.{SlotName}
 use Rattle.wkt_grammar.specs.declared.table.Argument.{Argument}
 use Rattle.wkt_grammar.specs.declared.table.Node.{Node}
 use Rattle.wkt_grammar.specs.Rows.{row_of, takes, Fits, is_required, FirstMissing}
-use Rattle.wkt_grammar.specs.declared.walk.Place.{Place}
+use Rattle.wkt_grammar.specs.declared.walk.RowPosition.{RowPosition}
 use Rattle.std.specs.Prelude.{IfSome}
 use Rattle.wkt_grammar.specs.Walk.{IsAt, is_many, next, walk, missing, may_begin, all_arguments, is_clear}
 use Rattle.wkt_grammar.proofs.Walks.{Left, Passes, Stands, Taken, and_parts, begins, both_true, clash_free, clear_next, each_argument, fits_left, left_fits, may_leave, may_left, may_take, once_full, one_less, one_more}
@@ -102,7 +102,7 @@ first_missing_is row args at n e m =
     let h = lacks_walk args row false at n e m in
     record { before = h.before; slot = h.slot; after = h.after; parts = h.parts; fit = left_fits h.before args h.fit; required = h.required; is = h.is }
 
-pub ended_missing : (ed : Edition) (node : Node) (place : Place) (r : Option SlotName) → r ≡ missing (drop place.slot (row_of ed node)) place.filled → IfSome r (λ n. (args : List Argument) → IsAt ed node args place → FirstMissing (row_of ed node) args n)
+pub ended_missing : (ed : Edition) (node : Node) (place : RowPosition) (r : Option SlotName) → r ≡ missing (drop place.slot (row_of ed node)) place.filled → IfSome r (λ n. (args : List Argument) → IsAt ed node args place → FirstMissing (row_of ed node) args n)
 ended_missing ed node place None h = tt
 ended_missing ed node place (Some p) h = λ args e. first_missing_is (row_of ed node) args _ p e (sym h)
 

@@ -1,6 +1,6 @@
 -- The laws of a node follow from those of its slots.
 use Rattle.std.proofs.Common.{◌≡◌, ℕ, zero, suc, ◌+◌, ◌≤◌, Bool, true, false, List, [], ◌∷◌, ◌++◌, length, map, Option, Some, None, refl, sym, ap, ◌∙◌, subst, arith}
-use Rattle.std.specs.Prelude.{◌&&◌, not, max}
+use Rattle.std.specs.Prelude.{◌&&◌, not}
 use Rattle.std.specs.Option.{is_some}
 use Rattle.std.specs.List.{AllPass, list_all}
 use Rattle.std.proofs.lemmas.List.Elements.{All-nil, All-cons, All-head, All-tail}
@@ -94,13 +94,13 @@ same_cut s row (x ∷ r) (y ∷ r') rest rest' k c a a' t t' f f' e =
 
 -- ---- laws of an argument, of a slot, of a row
 
--- What is denoted by an argument of a slot of this kind, and the canonical tree of a value, of at most this height.
-pub record Law {A : Type 0} (t : Takes) (height : ℕ) (D : Bare → A → Type 0) (tree : A → Bare) : Type 0 where
+-- What is denoted by an argument of a slot of this kind, and the canonical tree of a value.
+pub record Law {A : Type 0} (t : Takes) (D : Bare → A → Type 0) (tree : A → Bare) : Type 0 where
   pub fits : (x : Bare) (v : A) → D x v → Fitting t x
   pub once : (x : Bare) (v w : A) → D x v → D x w → v ≡ w
   pub spelled : (v : A) → D (tree v) v
 
-pub record SlotLaw {A : Type 0} (s : Slot) (height : ℕ) (P : A → List Bare → Type 0) (run : A → List Bare) : Type 0 where
+pub record SlotLaw {A : Type 0} (s : Slot) (P : A → List Bare → Type 0) (run : A → List Bare) : Type 0 where
   pub fits : (v : A) (xs : List Bare) → P v xs → AllFitting s.takes xs
   pub once : (xs : List Bare) (v w : A) → P v xs → P w xs → v ≡ w
   pub spelled : (v : A) → P v (run v)
@@ -109,77 +109,77 @@ pub record SlotLaw {A : Type 0} (s : Slot) (height : ℕ) (P : A → List Bare �
 abbrev pub slot : SlotName → Takes → Often → Slot
 slot n t o = record { name = n; takes = t; often = o }
 
-one_fits : {A : Type 0} (t : Takes) (h : ℕ) (D : Bare → A → Type 0) (tree : A → Bare) → Law t h D tree → (v : A) (xs : List Bare) → One D v xs → AllFitting t xs
-one_fits t h D tree law v [] p = absurd p
-one_fits t h D tree law v (x ∷ []) p = (law.fits x v p, tt)
-one_fits t h D tree law v (x ∷ y ∷ xs) p = absurd p
+one_fits : {A : Type 0} (t : Takes) (D : Bare → A → Type 0) (tree : A → Bare) → Law t D tree → (v : A) (xs : List Bare) → One D v xs → AllFitting t xs
+one_fits t D tree law v [] p = absurd p
+one_fits t D tree law v (x ∷ []) p = (law.fits x v p, tt)
+one_fits t D tree law v (x ∷ y ∷ xs) p = absurd p
 
-one_once : {A : Type 0} (t : Takes) (h : ℕ) (D : Bare → A → Type 0) (tree : A → Bare) → Law t h D tree → (xs : List Bare) (v w : A) → One D v xs → One D w xs → v ≡ w
-one_once t h D tree law [] v w p q = absurd p
-one_once t h D tree law (x ∷ []) v w p q = law.once x v w p q
-one_once t h D tree law (x ∷ y ∷ xs) v w p q = absurd p
+one_once : {A : Type 0} (t : Takes) (D : Bare → A → Type 0) (tree : A → Bare) → Law t D tree → (xs : List Bare) (v w : A) → One D v xs → One D w xs → v ≡ w
+one_once t D tree law [] v w p q = absurd p
+one_once t D tree law (x ∷ []) v w p q = law.once x v w p q
+one_once t D tree law (x ∷ y ∷ xs) v w p q = absurd p
 
-pub one : {A : Type 0} {t : Takes} {h : ℕ} {D : Bare → A → Type 0} {tree : A → Bare} (n : SlotName) → Law t h D tree → SlotLaw (slot n t Once) h (One D) (λ v. tree v ∷ [])
-one {A} {t} {h} {D} {tree} n law = record {
-  fits = one_fits t h D tree law;
-  once = one_once t h D tree law;
+pub one : {A : Type 0} {t : Takes} {D : Bare → A → Type 0} {tree : A → Bare} (n : SlotName) → Law t D tree → SlotLaw (slot n t Once) (One D) (λ v. tree v ∷ [])
+one {A} {t} {D} {tree} n law = record {
+  fits = one_fits t D tree law;
+  once = one_once t D tree law;
   spelled = law.spelled;
   times = λ v. refl;
 }
 
-maybe_fits : {A : Type 0} (t : Takes) (h : ℕ) (D : Bare → A → Type 0) (tree : A → Bare) → Law t h D tree → (v : Option A) (xs : List Bare) → Maybe D v xs → AllFitting t xs
-maybe_fits t h D tree law None [] p = tt
-maybe_fits t h D tree law None (x ∷ xs) p = absurd p
-maybe_fits t h D tree law (Some v) xs p = one_fits t h D tree law v xs p
+maybe_fits : {A : Type 0} (t : Takes) (D : Bare → A → Type 0) (tree : A → Bare) → Law t D tree → (v : Option A) (xs : List Bare) → Maybe D v xs → AllFitting t xs
+maybe_fits t D tree law None [] p = tt
+maybe_fits t D tree law None (x ∷ xs) p = absurd p
+maybe_fits t D tree law (Some v) xs p = one_fits t D tree law v xs p
 
-maybe_once : {A : Type 0} (t : Takes) (h : ℕ) (D : Bare → A → Type 0) (tree : A → Bare) → Law t h D tree → (xs : List Bare) (v w : Option A) → Maybe D v xs → Maybe D w xs → v ≡ w
-maybe_once t h D tree law [] None None p q = refl
-maybe_once t h D tree law (x ∷ xs) None None p q = refl
-maybe_once t h D tree law [] None (Some w) p q = absurd q
-maybe_once t h D tree law (x ∷ xs) None (Some w) p q = absurd p
-maybe_once t h D tree law [] (Some v) None p q = absurd p
-maybe_once t h D tree law (x ∷ xs) (Some v) None p q = absurd q
-maybe_once t h D tree law xs (Some v) (Some w) p q = ap Some (one_once t h D tree law xs v w p q)
+maybe_once : {A : Type 0} (t : Takes) (D : Bare → A → Type 0) (tree : A → Bare) → Law t D tree → (xs : List Bare) (v w : Option A) → Maybe D v xs → Maybe D w xs → v ≡ w
+maybe_once t D tree law [] None None p q = refl
+maybe_once t D tree law (x ∷ xs) None None p q = refl
+maybe_once t D tree law [] None (Some w) p q = absurd q
+maybe_once t D tree law (x ∷ xs) None (Some w) p q = absurd p
+maybe_once t D tree law [] (Some v) None p q = absurd p
+maybe_once t D tree law (x ∷ xs) (Some v) None p q = absurd q
+maybe_once t D tree law xs (Some v) (Some w) p q = ap Some (one_once t D tree law xs v w p q)
 
-maybe_spelled : {A : Type 0} (t : Takes) (h : ℕ) (D : Bare → A → Type 0) (tree : A → Bare) → Law t h D tree → (v : Option A) → Maybe D v (trees.maybe tree v)
-maybe_spelled t h D tree law None = tt
-maybe_spelled t h D tree law (Some v) = law.spelled v
+maybe_spelled : {A : Type 0} (t : Takes) (D : Bare → A → Type 0) (tree : A → Bare) → Law t D tree → (v : Option A) → Maybe D v (trees.maybe tree v)
+maybe_spelled t D tree law None = tt
+maybe_spelled t D tree law (Some v) = law.spelled v
 
 maybe_times : {A : Type 0} (tree : A → Bare) (v : Option A) → length (trees.maybe tree v) ≤ 1
 maybe_times tree None = omega arith
 maybe_times tree (Some v) = omega arith
 
-pub maybe : {A : Type 0} {t : Takes} {h : ℕ} {D : Bare → A → Type 0} {tree : A → Bare} (n : SlotName) → Law t h D tree → SlotLaw (slot n t AtMostOnce) h (Maybe D) (trees.maybe tree)
-maybe {A} {t} {h} {D} {tree} n law = record {
-  fits = maybe_fits t h D tree law;
-  once = maybe_once t h D tree law;
-  spelled = maybe_spelled t h D tree law;
+pub maybe : {A : Type 0} {t : Takes} {D : Bare → A → Type 0} {tree : A → Bare} (n : SlotName) → Law t D tree → SlotLaw (slot n t AtMostOnce) (Maybe D) (trees.maybe tree)
+maybe {A} {t} {D} {tree} n law = record {
+  fits = maybe_fits t D tree law;
+  once = maybe_once t D tree law;
+  spelled = maybe_spelled t D tree law;
   times = maybe_times tree;
 }
 
-each_fits : {A : Type 0} (t : Takes) (h : ℕ) (D : Bare → A → Type 0) (tree : A → Bare) → Law t h D tree → (vs : List A) (xs : List Bare) → Each D vs xs → AllFitting t xs
-each_fits t h D tree law [] [] p = tt
-each_fits t h D tree law [] (x ∷ xs) p = absurd p
-each_fits t h D tree law (v ∷ vs) [] p = absurd p
-each_fits t h D tree law (v ∷ vs) (x ∷ xs) p = (law.fits x v p.0, each_fits t h D tree law vs xs p.1)
+each_fits : {A : Type 0} (t : Takes) (D : Bare → A → Type 0) (tree : A → Bare) → Law t D tree → (vs : List A) (xs : List Bare) → Each D vs xs → AllFitting t xs
+each_fits t D tree law [] [] p = tt
+each_fits t D tree law [] (x ∷ xs) p = absurd p
+each_fits t D tree law (v ∷ vs) [] p = absurd p
+each_fits t D tree law (v ∷ vs) (x ∷ xs) p = (law.fits x v p.0, each_fits t D tree law vs xs p.1)
 
-each_once : {A : Type 0} (t : Takes) (h : ℕ) (D : Bare → A → Type 0) (tree : A → Bare) → Law t h D tree → (xs : List Bare) (vs ws : List A) → Each D vs xs → Each D ws xs → vs ≡ ws
-each_once t h D tree law [] [] [] p q = refl
-each_once t h D tree law [] [] (w ∷ ws) p q = absurd q
-each_once t h D tree law [] (v ∷ vs) ws p q = absurd p
-each_once t h D tree law (x ∷ xs) [] ws p q = absurd p
-each_once t h D tree law (x ∷ xs) (v ∷ vs) [] p q = absurd q
-each_once t h D tree law (x ∷ xs) (v ∷ vs) (w ∷ ws) p q = ap (λ z. z ∷ vs) (law.once x v w p.0 q.0) ∙ ap (λ (l : List _). w ∷ l) (each_once t h D tree law xs vs ws p.1 q.1)
+each_once : {A : Type 0} (t : Takes) (D : Bare → A → Type 0) (tree : A → Bare) → Law t D tree → (xs : List Bare) (vs ws : List A) → Each D vs xs → Each D ws xs → vs ≡ ws
+each_once t D tree law [] [] [] p q = refl
+each_once t D tree law [] [] (w ∷ ws) p q = absurd q
+each_once t D tree law [] (v ∷ vs) ws p q = absurd p
+each_once t D tree law (x ∷ xs) [] ws p q = absurd p
+each_once t D tree law (x ∷ xs) (v ∷ vs) [] p q = absurd q
+each_once t D tree law (x ∷ xs) (v ∷ vs) (w ∷ ws) p q = ap (λ z. z ∷ vs) (law.once x v w p.0 q.0) ∙ ap (λ (l : List _). w ∷ l) (each_once t D tree law xs vs ws p.1 q.1)
 
-each_spelled : {A : Type 0} (t : Takes) (h : ℕ) (D : Bare → A → Type 0) (tree : A → Bare) → Law t h D tree → (vs : List A) → Each D vs (map tree vs)
-each_spelled t h D tree law [] = tt
-each_spelled t h D tree law (v ∷ vs) = (law.spelled v, each_spelled t h D tree law vs)
+each_spelled : {A : Type 0} (t : Takes) (D : Bare → A → Type 0) (tree : A → Bare) → Law t D tree → (vs : List A) → Each D vs (map tree vs)
+each_spelled t D tree law [] = tt
+each_spelled t D tree law (v ∷ vs) = (law.spelled v, each_spelled t D tree law vs)
 
-pub each : {A : Type 0} {t : Takes} {h : ℕ} {D : Bare → A → Type 0} {tree : A → Bare} (n : SlotName) → Law t h D tree → SlotLaw (slot n t Any) h (Each D) (map tree)
-each {A} {t} {h} {D} {tree} n law = record {
-  fits = each_fits t h D tree law;
-  once = each_once t h D tree law;
-  spelled = each_spelled t h D tree law;
+pub each : {A : Type 0} {t : Takes} {D : Bare → A → Type 0} {tree : A → Bare} (n : SlotName) → Law t D tree → SlotLaw (slot n t Any) (Each D) (map tree)
+each {A} {t} {D} {tree} n law = record {
+  fits = each_fits t D tree law;
+  once = each_once t D tree law;
+  spelled = each_spelled t D tree law;
   times = λ v. tt;
 }
 
@@ -189,27 +189,27 @@ same_listed v w e =
     let others : v.others ≡ w.others = cc in
     λ i. record { first = first i; others = others i }
 
-pub some : {A : Type 0} {t : Takes} {h : ℕ} {D : Bare → A → Type 0} {tree : A → Bare} (n : SlotName) → Law t h D tree → SlotLaw (slot n t AtLeastOnce) h (AtLeastOne D) (λ v. map tree (listed v))
-some {A} {t} {h} {D} {tree} n law = record {
-  fits = λ v xs p. each_fits t h D tree law (listed v) xs p;
-  once = λ xs v w p q. same_listed v w (each_once t h D tree law xs (listed v) (listed w) p q);
-  spelled = λ v. each_spelled t h D tree law (listed v);
+pub some : {A : Type 0} {t : Takes} {D : Bare → A → Type 0} {tree : A → Bare} (n : SlotName) → Law t D tree → SlotLaw (slot n t AtLeastOnce) (AtLeastOne D) (λ v. map tree (listed v))
+some {A} {t} {D} {tree} n law = record {
+  fits = λ v xs p. each_fits t D tree law (listed v) xs p;
+  once = λ xs v w p q. same_listed v w (each_once t D tree law xs (listed v) (listed w) p q);
+  spelled = λ v. each_spelled t D tree law (listed v);
   times = λ v. omega arith;
 }
 
-pub record RowLaw {A : Type 0} (row : List Slot) (height : ℕ) (F : A → Fields) (run : A → List Bare) : Type 0 where
+pub record RowLaw {A : Type 0} (row : List Slot) (F : A → Fields) (run : A → List Bare) : Type 0 where
   pub fits : (v : A) (xs : List Bare) → Runs row (F v) xs → Cuts row xs
   pub once : is_clear row ≡ true → (xs : List Bare) (v w : A) → Runs row (F v) xs → Runs row (F w) xs → v ≡ w
   pub spelled : (v : A) → Runs row (F v) (run v)
 
-pub done : RowLaw {A = Unit {0}} [] 0 (λ u. nothing) (λ u. [])
+pub done : RowLaw {A = Unit {0}} [] (λ u. nothing) (λ u. [])
 done = record { fits = λ v xs r. r; once = λ c xs v w r q. refl; spelled = λ v. refl }
 
 passes_of : (t : Takes) (xs : List Bare) → AllFitting t xs → AllPass (takes t) (map shape xs)
 passes_of t [] f = All-nil (Passes t)
 passes_of t (x ∷ xs) f = All-cons (Passes t) (shape x) (map shape xs) f.0.taken (passes_of t xs f.1)
 
-module _ {A B : Type 0} (s : Slot) (row : List Slot) (h k : ℕ) (P : A → List Bare → Type 0) (run : A → List Bare) (F : B → Fields) (others : B → List Bare) (law : SlotLaw s h P run) (rest : RowLaw row k F others) where
+module _ {A B : Type 0} (s : Slot) (row : List Slot) (P : A → List Bare → Type 0) (run : A → List Bare) (F : B → Fields) (others : B → List Bare) (law : SlotLaw s P run) (rest : RowLaw row F others) where
   then_once : is_clear (s ∷ row) ≡ true → (xs : List Bare) (v w : A × B) → Runs (s ∷ row) (P v.0 & F v.1) xs → Runs (s ∷ row) (P w.0 & F w.1) xs → v ≡ w
   then_once c xs v w (r, b, e, m, p, q) (r', b', e', m', p', q') =
       let z : length r ≡ length r + 0 = omega arith in
@@ -220,7 +220,7 @@ module _ {A B : Type 0} (s : Slot) (row : List Slot) (h k : ℕ) (P : A → List
       let second = rest.once parts.1 b v.1 w.1 q (subst (λ l. Runs row (F w.1) l) (sym same.rest_is) q') in
       λ i. (first i, second i)
 
-  pub then : RowLaw {A = A × B} (s ∷ row) (max h k) (λ p. P p.0 & F p.1) (λ p. run p.0 ++ others p.1)
+  pub then : RowLaw {A = A × B} (s ∷ row) (λ p. P p.0 & F p.1) (λ p. run p.0 ++ others p.1)
   then = record {
     fits = λ v xs r. (r.0, r.1, r.2, law.fits v.0 r.0 r.4, r.3.1, rest.fits v.1 r.1 r.5);
     once = then_once;
@@ -228,9 +228,9 @@ module _ {A B : Type 0} (s : Slot) (row : List Slot) (h k : ℕ) (P : A → List
   }
 
 infixr 5 ◌>>◌
-pub ◌>>◌ : {A B : Type 0} {s : Slot} {row : List Slot} {h k : ℕ} {P : A → List Bare → Type 0} {run : A → List Bare} {F : B → Fields} {others : B → List Bare} → SlotLaw s h P run → RowLaw row k F others
-    → RowLaw {A = A × B} (s ∷ row) (max h k) (λ p. P p.0 & F p.1) (λ p. run p.0 ++ others p.1)
-◌>>◌ {A} {B} {s} {row} {h} {k} {P} {run} {F} {others} law rest = then s row h k P run F others law rest
+pub ◌>>◌ : {A B : Type 0} {s : Slot} {row : List Slot} {P : A → List Bare → Type 0} {run : A → List Bare} {F : B → Fields} {others : B → List Bare} → SlotLaw s P run → RowLaw row F others
+    → RowLaw {A = A × B} (s ∷ row) (λ p. P p.0 & F p.1) (λ p. run p.0 ++ others p.1)
+◌>>◌ {A} {B} {s} {row} {P} {run} {F} {others} law rest = then s row P run F others law rest
 
 -- ---- nodes
 
@@ -254,10 +254,10 @@ some_keyword : (a b : Keyword) → Some a ≡ Some b → a ≡ b
 some_keyword a b h = cc
 
 -- A value is what it says of the keyword, and the fields.
-pub node_law : {A B : Type 0} {h : ℕ} {F : B → Fields} {run : B → List Bare} (t : Takes) (K : A → Keyword) (n : Node) (to : A → B)
-    → ((v : A) → enters t (K v) ≡ Some n) → ((v w : A) → K v ≡ K w → to v ≡ to w → v ≡ w) → RowLaw (row_of n) h F run
-    → Law t (suc h) (λ x v. IsNode (K v) n (F (to v)) x) (λ v. node (spelling (K v)) (bares (run (to v))))
-node_law {A} {B} {h} {F} {run} t K n to enter same row = record {
+pub node_law : {A B : Type 0} {F : B → Fields} {run : B → List Bare} (t : Takes) (K : A → Keyword) (n : Node) (to : A → B)
+    → ((v : A) → enters t (K v) ≡ Some n) → ((v w : A) → K v ≡ K w → to v ≡ to w → v ≡ w) → RowLaw (row_of n) F run
+    → Law t (λ x v. IsNode (K v) n (F (to v)) x) (λ v. node (spelling (K v)) (bares (run (to v))))
+node_law {A} {B} {F} {run} t K n to enter same row = record {
   fits = λ x v d. subst (Fitting t) (sym d.is) (node_fitting t (K v) n d.keyword d.items d.meaning (enter v) (cuts_fitted editions.Second n d.items (row.fits (to v) (args d.items) d.runs)));
   once = λ x v w d e.
       let items = same_items d.keyword e.keyword d.items e.items (sym d.is ∙ e.is) in

@@ -39,58 +39,58 @@ use Rattle.wkt_grammar.proofs.Leaves.{text_law, number_law, code_law, kind_law, 
 
 -- ---- values, identifiers
 
-pub value_law : (t : Takes) (K : Keyword) → enters t K ≡ Some nodes.Value → Law t 1 (DenotesValue K) (value_tree K)
+pub value_law : (t : Takes) (K : Keyword) → enters t K ≡ Some nodes.Value → Law t (DenotesValue K) (value_tree K)
 value_law t K e =
     node_law t (λ v. K) nodes.Value (λ v. (v, tt)) (λ v. e) (λ v w k h. λ i. (h i).0)
     (one slots.Value text_law >> done)
 
-pub citation_law : Law (kinds.Node keywords.Citation nodes.Value) 1 (DenotesValue keywords.Citation) (value_tree keywords.Citation)
+pub citation_law : Law (kinds.Node keywords.Citation nodes.Value) (DenotesValue keywords.Citation) (value_tree keywords.Citation)
 citation_law = value_law (kinds.Node keywords.Citation nodes.Value) keywords.Citation refl
 
-pub uri_law : Law (kinds.Node keywords.Uri nodes.Value) 1 (DenotesValue keywords.Uri) (value_tree keywords.Uri)
+pub uri_law : Law (kinds.Node keywords.Uri nodes.Value) (DenotesValue keywords.Uri) (value_tree keywords.Uri)
 uri_law = value_law (kinds.Node keywords.Uri nodes.Value) keywords.Uri refl
 
-pub ident_law : Law (kinds.Node keywords.Identifier nodes.Identifier) 2 DenotesIdent ident_tree
+pub ident_law : Law (kinds.Node keywords.Identifier nodes.Identifier) DenotesIdent ident_tree
 ident_law =
     node_law (kinds.Node keywords.Identifier nodes.Identifier) (λ v. keywords.Identifier) nodes.Identifier (λ v. (v.authority, (v.code, (v.version, (v.citation, (v.uri, tt)))))) (λ v. refl)
     (λ v w k h. λ i. record { authority = (h i).0; code = (h i).1.0; version = (h i).1.1.0; citation = (h i).1.1.1.0; uri = (h i).1.1.1.1.0 })
     (one slots.Authority text_law >> one slots.Code code_law >> maybe slots.Version code_law >> maybe slots.Citation citation_law >> maybe slots.Uri uri_law >> done)
 
-pub scope_law : Law (kinds.Node keywords.Scope nodes.Value) 1 (DenotesValue keywords.Scope) (value_tree keywords.Scope)
+pub scope_law : Law (kinds.Node keywords.Scope nodes.Value) (DenotesValue keywords.Scope) (value_tree keywords.Scope)
 scope_law = value_law (kinds.Node keywords.Scope nodes.Value) keywords.Scope refl
 
-pub area_law : Law (kinds.Node keywords.Area nodes.Value) 1 (DenotesValue keywords.Area) (value_tree keywords.Area)
+pub area_law : Law (kinds.Node keywords.Area nodes.Value) (DenotesValue keywords.Area) (value_tree keywords.Area)
 area_law = value_law (kinds.Node keywords.Area nodes.Value) keywords.Area refl
 
-pub anchor_law : Law (kinds.Node keywords.Anchor nodes.Value) 1 (DenotesValue keywords.Anchor) (value_tree keywords.Anchor)
+pub anchor_law : Law (kinds.Node keywords.Anchor nodes.Value) (DenotesValue keywords.Anchor) (value_tree keywords.Anchor)
 anchor_law = value_law (kinds.Node keywords.Anchor nodes.Value) keywords.Anchor refl
 
-pub remark_law : Law (kinds.Node keywords.Remark nodes.Value) 1 (DenotesValue keywords.Remark) (value_tree keywords.Remark)
+pub remark_law : Law (kinds.Node keywords.Remark nodes.Value) (DenotesValue keywords.Remark) (value_tree keywords.Remark)
 remark_law = value_law (kinds.Node keywords.Remark nodes.Value) keywords.Remark refl
 
-named_law : (t : Takes) (K : Keyword) → enters t K ≡ Some nodes.Named → Law t 3 (DenotesNamed K) (named_tree K)
+named_law : (t : Takes) (K : Keyword) → enters t K ≡ Some nodes.Named → Law t (DenotesNamed K) (named_tree K)
 named_law t K e =
     node_law t (λ v. K) nodes.Named (λ v. (v.name, (v.ids, tt))) (λ v. e) (λ v w k h. λ i. record { name = (h i).0; ids = (h i).1.0 })
     (one slots.Name text_law >> each slots.Id ident_law >> done)
 
-pub member_law : Law (kinds.Node keywords.Member nodes.Named) 3 (DenotesNamed keywords.Member) (named_tree keywords.Member)
+pub member_law : Law (kinds.Node keywords.Member nodes.Named) (DenotesNamed keywords.Member) (named_tree keywords.Member)
 member_law = named_law (kinds.Node keywords.Member nodes.Named) keywords.Member refl
 
-pub method_law : Law (kinds.Node keywords.Method nodes.Named) 3 (DenotesNamed keywords.Method) (named_tree keywords.Method)
+pub method_law : Law (kinds.Node keywords.Method nodes.Named) (DenotesNamed keywords.Method) (named_tree keywords.Method)
 method_law = named_law (kinds.Node keywords.Method nodes.Named) keywords.Method refl
 
-pub geoid_model_law : Law (kinds.Node keywords.GeoidModel nodes.Named) 3 (DenotesNamed keywords.GeoidModel) (named_tree keywords.GeoidModel)
+pub geoid_model_law : Law (kinds.Node keywords.GeoidModel nodes.Named) (DenotesNamed keywords.GeoidModel) (named_tree keywords.GeoidModel)
 geoid_model_law = named_law (kinds.Node keywords.GeoidModel nodes.Named) keywords.GeoidModel refl
 
 -- ---- units
 
-unit_of_law : (t : Takes) (K : Keyword) → enters t K ≡ Some nodes.Unit → Law t 3 (DenotesUnitOf K) (unit_of_tree K)
+unit_of_law : (t : Takes) (K : Keyword) → enters t K ≡ Some nodes.Unit → Law t (DenotesUnitOf K) (unit_of_tree K)
 unit_of_law t K e =
     node_law t (λ v. K) nodes.Unit (λ v. (v.name, (v.factor, (v.ids, tt)))) (λ v. e) (λ v w k h. λ i. record { name = (h i).0; factor = (h i).1.0; ids = (h i).1.1.0 })
     (one slots.Name text_law >> one slots.Factor number_law >> each slots.Id ident_law >> done)
 
 abbrev Units : Takes → Keyword → Type 0
-Units t K = Law t 3 (DenotesUnitOf K) (unit_of_tree K)
+Units t K = Law t (DenotesUnitOf K) (unit_of_tree K)
 
 any_length : Units kinds.AnyUnit keywords.LengthUnit
 any_length = unit_of_law kinds.AnyUnit keywords.LengthUnit refl
@@ -150,7 +150,7 @@ unit_spelled (unit.Angle v) = any_angle.spelled v
 unit_spelled (unit.Scale v) = any_scale.spelled v
 unit_spelled (unit.Generic v) = any_generic.spelled v
 
-pub unit_law : Law kinds.AnyUnit 3 DenotesUnit unit_tree
+pub unit_law : Law kinds.AnyUnit DenotesUnit unit_tree
 unit_law = record { fits = unit_fits; once = unit_once; spelled = unit_spelled }
 
 length_unit_fits : (x : Bare) (v : LengthUnit) → DenotesLengthUnit x v → Fitting kinds.LengthUnit x
@@ -167,7 +167,7 @@ length_unit_spelled : (v : LengthUnit) → DenotesLengthUnit (length_unit_tree v
 length_unit_spelled (length_unit.Length v) = length_length.spelled v
 length_unit_spelled (length_unit.Generic v) = length_generic.spelled v
 
-pub length_unit_law : Law kinds.LengthUnit 3 DenotesLengthUnit length_unit_tree
+pub length_unit_law : Law kinds.LengthUnit DenotesLengthUnit length_unit_tree
 length_unit_law = record { fits = length_unit_fits; once = length_unit_once; spelled = length_unit_spelled }
 
 angle_unit_fits : (x : Bare) (v : AngleUnit) → DenotesAngleUnit x v → Fitting kinds.AngleUnit x
@@ -184,59 +184,59 @@ angle_unit_spelled : (v : AngleUnit) → DenotesAngleUnit (angle_unit_tree v) v
 angle_unit_spelled (angle_unit.Angle v) = angle_angle.spelled v
 angle_unit_spelled (angle_unit.Generic v) = angle_generic.spelled v
 
-pub angle_unit_law : Law kinds.AngleUnit 3 DenotesAngleUnit angle_unit_tree
+pub angle_unit_law : Law kinds.AngleUnit DenotesAngleUnit angle_unit_tree
 angle_unit_law = record { fits = angle_unit_fits; once = angle_unit_once; spelled = angle_unit_spelled }
 
 -- ---- usages
 
-pub bounding_box_law : Law (kinds.Node keywords.BoundingBox nodes.BoundingBox) 1 DenotesBoundingBox bounding_box_tree
+pub bounding_box_law : Law (kinds.Node keywords.BoundingBox nodes.BoundingBox) DenotesBoundingBox bounding_box_tree
 bounding_box_law =
     node_law (kinds.Node keywords.BoundingBox nodes.BoundingBox) (λ v. keywords.BoundingBox) nodes.BoundingBox (λ v. (v.south, (v.west, (v.north, (v.east, tt))))) (λ v. refl) (λ v w k h. λ i. record { south = (h i).0; west = (h i).1.0; north = (h i).1.1.0; east = (h i).1.1.1.0 })
     (one slots.South number_law >> one slots.West number_law >> one slots.North number_law >> one slots.East number_law >> done)
 
-pub vertical_extent_law : Law (kinds.Node keywords.VerticalExtent nodes.VerticalExtent) 4 DenotesVerticalExtent vertical_extent_tree
+pub vertical_extent_law : Law (kinds.Node keywords.VerticalExtent nodes.VerticalExtent) DenotesVerticalExtent vertical_extent_tree
 vertical_extent_law =
     node_law (kinds.Node keywords.VerticalExtent nodes.VerticalExtent) (λ v. keywords.VerticalExtent) nodes.VerticalExtent (λ v. (v.low, (v.high, (v.unit, tt)))) (λ v. refl) (λ v w k h. λ i. record { low = (h i).0; high = (h i).1.0; unit = (h i).1.1.0 })
     (one slots.Low number_law >> one slots.High number_law >> maybe slots.Unit length_unit_law >> done)
 
-pub usage_law : Law (kinds.Node keywords.Usage nodes.Usage) 5 DenotesUsage usage_tree
+pub usage_law : Law (kinds.Node keywords.Usage nodes.Usage) DenotesUsage usage_tree
 usage_law =
     node_law (kinds.Node keywords.Usage nodes.Usage) (λ v. keywords.Usage) nodes.Usage (λ v. (v.scope, (v.area, (v.bounding_box, (v.vertical_extent, tt))))) (λ v. refl) (λ v w k h. λ i. record { scope = (h i).0; area = (h i).1.0; bounding_box = (h i).1.1.0; vertical_extent = (h i).1.1.1.0 })
     (one slots.Scope scope_law >> maybe slots.Area area_law >> maybe slots.BoundingBox bounding_box_law >> maybe slots.VerticalExtent vertical_extent_law >> done)
 
 -- ---- datums
 
-pub ellipsoid_law : Law (kinds.Node keywords.Ellipsoid nodes.Ellipsoid) 4 DenotesEllipsoid ellipsoid_tree
+pub ellipsoid_law : Law (kinds.Node keywords.Ellipsoid nodes.Ellipsoid) DenotesEllipsoid ellipsoid_tree
 ellipsoid_law =
     node_law (kinds.Node keywords.Ellipsoid nodes.Ellipsoid) (λ v. keywords.Ellipsoid) nodes.Ellipsoid (λ v. (v.name, (v.radius, (v.flattening, (v.unit, (v.ids, tt)))))) (λ v. refl) (λ v w k h. λ i. record { name = (h i).0; radius = (h i).1.0; flattening = (h i).1.1.0; unit = (h i).1.1.1.0; ids = (h i).1.1.1.1.0 })
     (one slots.Name text_law >> one slots.Radius number_law >> one slots.Flattening number_law >> maybe slots.Unit length_unit_law >> each slots.Id ident_law >> done)
 
-pub prime_meridian_law : Law (kinds.Node keywords.PrimeMeridian nodes.PrimeMeridian) 4 DenotesPrimeMeridian prime_meridian_tree
+pub prime_meridian_law : Law (kinds.Node keywords.PrimeMeridian nodes.PrimeMeridian) DenotesPrimeMeridian prime_meridian_tree
 prime_meridian_law =
     node_law (kinds.Node keywords.PrimeMeridian nodes.PrimeMeridian) (λ v. keywords.PrimeMeridian) nodes.PrimeMeridian (λ v. (v.name, (v.longitude, (v.unit, (v.ids, tt))))) (λ v. refl) (λ v w k h. λ i. record { name = (h i).0; longitude = (h i).1.0; unit = (h i).1.1.0; ids = (h i).1.1.1.0 })
     (one slots.Name text_law >> one slots.Longitude number_law >> maybe slots.Unit angle_unit_law >> each slots.Id ident_law >> done)
 
-pub accuracy_law : Law (kinds.Node keywords.EnsembleAccuracy nodes.EnsembleAccuracy) 1 DenotesAccuracy accuracy_tree
+pub accuracy_law : Law (kinds.Node keywords.EnsembleAccuracy nodes.EnsembleAccuracy) DenotesAccuracy accuracy_tree
 accuracy_law =
     node_law (kinds.Node keywords.EnsembleAccuracy nodes.EnsembleAccuracy) (λ v. keywords.EnsembleAccuracy) nodes.EnsembleAccuracy (λ v. (v, tt)) (λ v. refl) (λ v w k h. λ i. (h i).0)
     (one slots.Value number_law >> done)
 
-pub datum_law : Law kinds.GeodeticDatum 5 DenotesDatum datum_tree
+pub datum_law : Law kinds.GeodeticDatum DenotesDatum datum_tree
 datum_law =
     node_law kinds.GeodeticDatum (λ v. keywords.Datum) nodes.Datum (λ v. (v.name, (v.ellipsoid, (v.anchor, (v.ids, tt))))) (λ v. refl) (λ v w k h. λ i. record { name = (h i).0; ellipsoid = (h i).1.0; anchor = (h i).1.1.0; ids = (h i).1.1.1.0 })
     (one slots.Name text_law >> one slots.Ellipsoid ellipsoid_law >> maybe slots.Anchor anchor_law >> each slots.Id ident_law >> done)
 
-pub geodetic_ensemble_law : Law kinds.GeodeticDatum 5 DenotesGeodeticEnsemble geodetic_ensemble_tree
+pub geodetic_ensemble_law : Law kinds.GeodeticDatum DenotesGeodeticEnsemble geodetic_ensemble_tree
 geodetic_ensemble_law =
     node_law kinds.GeodeticDatum (λ v. keywords.Ensemble) nodes.GeodeticEnsemble (λ v. (v.name, (v.members, (v.ellipsoid, (v.accuracy, (v.ids, tt)))))) (λ v. refl) (λ v w k h. λ i. record { name = (h i).0; members = (h i).1.0; ellipsoid = (h i).1.1.0; accuracy = (h i).1.1.1.0; ids = (h i).1.1.1.1.0 })
     (one slots.Name text_law >> some slots.Member member_law >> one slots.Ellipsoid ellipsoid_law >> one slots.Accuracy accuracy_law >> each slots.Id ident_law >> done)
 
-pub vertical_datum_law : Law kinds.VerticalDatum 3 DenotesVerticalDatum vertical_datum_tree
+pub vertical_datum_law : Law kinds.VerticalDatum DenotesVerticalDatum vertical_datum_tree
 vertical_datum_law =
     node_law kinds.VerticalDatum (λ v. keywords.VerticalDatum) nodes.VerticalDatum (λ v. (v.name, (v.anchor, (v.ids, tt)))) (λ v. refl) (λ v w k h. λ i. record { name = (h i).0; anchor = (h i).1.0; ids = (h i).1.1.0 })
     (one slots.Name text_law >> maybe slots.Anchor anchor_law >> each slots.Id ident_law >> done)
 
-pub vertical_ensemble_law : Law kinds.VerticalDatum 4 DenotesVerticalEnsemble vertical_ensemble_tree
+pub vertical_ensemble_law : Law kinds.VerticalDatum DenotesVerticalEnsemble vertical_ensemble_tree
 vertical_ensemble_law =
     node_law kinds.VerticalDatum (λ v. keywords.Ensemble) nodes.VerticalEnsemble (λ v. (v.name, (v.members, (v.accuracy, (v.ids, tt))))) (λ v. refl) (λ v w k h. λ i. record { name = (h i).0; members = (h i).1.0; accuracy = (h i).1.1.0; ids = (h i).1.1.1.0 })
     (one slots.Name text_law >> some slots.Member member_law >> one slots.Accuracy accuracy_law >> each slots.Id ident_law >> done)
@@ -255,7 +255,7 @@ geodetic_frame_spelled : (v : GeodeticFrame) → DenotesGeodeticFrame (geodetic_
 geodetic_frame_spelled (geodetic_frame.Datum v) = datum_law.spelled v
 geodetic_frame_spelled (geodetic_frame.Ensemble v) = geodetic_ensemble_law.spelled v
 
-pub geodetic_frame_law : Law kinds.GeodeticDatum 5 DenotesGeodeticFrame geodetic_frame_tree
+pub geodetic_frame_law : Law kinds.GeodeticDatum DenotesGeodeticFrame geodetic_frame_tree
 geodetic_frame_law = record { fits = geodetic_frame_fits; once = geodetic_frame_once; spelled = geodetic_frame_spelled }
 
 vertical_frame_fits : (x : Bare) (v : VerticalFrame) → DenotesVerticalFrame x v → Fitting kinds.VerticalDatum x
@@ -272,7 +272,7 @@ vertical_frame_spelled : (v : VerticalFrame) → DenotesVerticalFrame (vertical_
 vertical_frame_spelled (vertical_frame.Datum v) = vertical_datum_law.spelled v
 vertical_frame_spelled (vertical_frame.Ensemble v) = vertical_ensemble_law.spelled v
 
-pub vertical_frame_law : Law kinds.VerticalDatum 4 DenotesVerticalFrame vertical_frame_tree
+pub vertical_frame_law : Law kinds.VerticalDatum DenotesVerticalFrame vertical_frame_tree
 vertical_frame_law = record { fits = vertical_frame_fits; once = vertical_frame_once; spelled = vertical_frame_spelled }
 
 -- ---- coordinate systems
@@ -283,13 +283,13 @@ small n h = record { value = n; small = h }
 same_system : (v w : CoordSystem) → v.kind ≡ w.kind → v.dimension ≡ w.dimension → v.ids ≡ w.ids → v ≡ w
 same_system v w a b c = λ i. record { kind = a i; dimension = b i; ids = c i; count = is_prop→PathP (λ j. b j < 2 ^ 32) (λ j. hlevel props) v.count w.count i }
 
-pub system_law : Law (kinds.Node keywords.CoordinateSystem nodes.CoordinateSystem) 3 DenotesSystem system_tree
+pub system_law : Law (kinds.Node keywords.CoordinateSystem nodes.CoordinateSystem) DenotesSystem system_tree
 system_law =
     node_law (kinds.Node keywords.CoordinateSystem nodes.CoordinateSystem) (λ v. keywords.CoordinateSystem) nodes.CoordinateSystem (λ v. (v.kind, (small v.dimension v.count, (v.ids, tt)))) (λ v. refl)
     (λ v w k h. same_system v w (λ i. (h i).0) (λ i. (h i).1.0.value) (λ i. (h i).1.1.0))
     (one slots.Kind kind_law >> one slots.Dimension count_law >> each slots.Id ident_law >> done)
 
-pub meridian_law : Law (kinds.Node keywords.Meridian nodes.Meridian) 4 DenotesMeridian meridian_tree
+pub meridian_law : Law (kinds.Node keywords.Meridian nodes.Meridian) DenotesMeridian meridian_tree
 meridian_law =
     node_law (kinds.Node keywords.Meridian nodes.Meridian) (λ v. keywords.Meridian) nodes.Meridian (λ v. (v.longitude, (v.unit, tt))) (λ v. refl) (λ v w k h. λ i. record { longitude = (h i).0; unit = (h i).1.0 })
     (one slots.Longitude number_law >> one slots.Unit angle_unit_law >> done)
@@ -297,24 +297,24 @@ meridian_law =
 same_order : (v w : Order) → v.position ≡ w.position → v ≡ w
 same_order v w a = λ i. record { position = a i; count = is_prop→PathP (λ j. a j < 2 ^ 32) (λ j. hlevel props) v.count w.count i }
 
-pub order_law : Law (kinds.Node keywords.Order nodes.Order) 1 DenotesOrder order_tree
+pub order_law : Law (kinds.Node keywords.Order nodes.Order) DenotesOrder order_tree
 order_law =
     node_law (kinds.Node keywords.Order nodes.Order) (λ v. keywords.Order) nodes.Order (λ v. (small v.position v.count, tt)) (λ v. refl) (λ v w k h. same_order v w (λ i. (h i).0.value))
     (one slots.Position count_law >> done)
 
-pub axis_law : Law (kinds.Node keywords.Axis nodes.Axis) 5 DenotesAxis axis_tree
+pub axis_law : Law (kinds.Node keywords.Axis nodes.Axis) DenotesAxis axis_tree
 axis_law =
     node_law (kinds.Node keywords.Axis nodes.Axis) (λ v. keywords.Axis) nodes.Axis (λ v. (v.name, (v.direction, (v.meridian, (v.order, (v.unit, (v.ids, tt))))))) (λ v. refl) (λ v w k h. λ i. record { name = (h i).0; direction = (h i).1.0; meridian = (h i).1.1.0; order = (h i).1.1.1.0; unit = (h i).1.1.1.1.0; ids = (h i).1.1.1.1.1.0 })
     (one slots.Name text_law >> one slots.Direction direction_law >> maybe slots.Meridian meridian_law >> maybe slots.Order order_law >> maybe slots.Unit unit_law >> each slots.Id ident_law >> done)
 
 -- ---- conversions
 
-pub parameter_law : Law (kinds.Node keywords.Parameter nodes.Parameter) 4 DenotesParameter parameter_tree
+pub parameter_law : Law (kinds.Node keywords.Parameter nodes.Parameter) DenotesParameter parameter_tree
 parameter_law =
     node_law (kinds.Node keywords.Parameter nodes.Parameter) (λ v. keywords.Parameter) nodes.Parameter (λ v. (v.name, (v.value, (v.unit, (v.ids, tt))))) (λ v. refl) (λ v w k h. λ i. record { name = (h i).0; value = (h i).1.0; unit = (h i).1.1.0; ids = (h i).1.1.1.0 })
     (one slots.Name text_law >> one slots.Value number_law >> maybe slots.Unit unit_law >> each slots.Id ident_law >> done)
 
-pub conversion_law : Law (kinds.Node keywords.Conversion nodes.Conversion) 5 DenotesConversion conversion_tree
+pub conversion_law : Law (kinds.Node keywords.Conversion nodes.Conversion) DenotesConversion conversion_tree
 conversion_law =
     node_law (kinds.Node keywords.Conversion nodes.Conversion) (λ v. keywords.Conversion) nodes.Conversion (λ v. (v.name, (v.method, (v.parameters, (v.ids, tt))))) (λ v. refl) (λ v w k h. λ i. record { name = (h i).0; method = (h i).1.0; parameters = (h i).1.1.0; ids = (h i).1.1.1.0 })
     (one slots.Name text_law >> one slots.Method method_law >> each slots.Parameter parameter_law >> each slots.Id ident_law >> done)
@@ -331,7 +331,7 @@ base_enters : (v : GeodeticKind) → enters kinds.BaseCrs (base_keyword v) ≡ S
 base_enters geodetic_kind.Geodetic = refl
 base_enters geodetic_kind.Geographic = refl
 
-pub base_law : Law kinds.BaseCrs 6 DenotesBase base_tree
+pub base_law : Law kinds.BaseCrs DenotesBase base_tree
 base_law =
     node_law kinds.BaseCrs (λ v. base_keyword v.kind) nodes.BaseCrs (λ v. (v.name, (v.datum, (v.prime_meridian, (v.unit, (v.ids, tt)))))) (λ v. base_enters v.kind)
     (λ v w k h. λ i. record { kind = base_kind_once v.kind w.kind k i; name = (h i).0; datum = (h i).1.0; prime_meridian = (h i).1.1.0; unit = (h i).1.1.1.0; ids = (h i).1.1.1.1.0 })
@@ -361,19 +361,19 @@ singles_any = (λ v. of v, refl, refl)
     of geodetic_kind.Geodetic = refl
     of geodetic_kind.Geographic = refl
 
-geodetic_law : (t : Takes) → Singles t → Law t 6 DenotesGeodetic geodetic_tree
+geodetic_law : (t : Takes) → Singles t → Law t DenotesGeodetic geodetic_tree
 geodetic_law t s =
     node_law t (λ v. geodetic_keyword v.kind) nodes.GeodeticCrs (λ v. (v.name, (v.datum, (v.prime_meridian, (v.system, (v.axes, (v.unit, (v.usages, (v.ids, (v.remark, tt)))))))))) (λ v. s.0 v.kind)
     (λ v w k h. λ i. record { kind = geodetic_kind_once v.kind w.kind k i; name = (h i).0; datum = (h i).1.0; prime_meridian = (h i).1.1.0; system = (h i).1.1.1.0; axes = (h i).1.1.1.1.0; unit = (h i).1.1.1.1.1.0; usages = (h i).1.1.1.1.1.1.0; ids = (h i).1.1.1.1.1.1.1.0; remark = (h i).1.1.1.1.1.1.1.1.0 })
     (one slots.Name text_law >> one slots.Datum geodetic_frame_law >> maybe slots.PrimeMeridian prime_meridian_law >> one slots.Cs system_law >> some slots.Axis axis_law >> maybe slots.Unit unit_law >> each slots.Usage usage_law >> each slots.Id ident_law >> maybe slots.Remark remark_law >> done)
 
-projected_law : (t : Takes) → Singles t → Law t 7 DenotesProjected projected_tree
+projected_law : (t : Takes) → Singles t → Law t DenotesProjected projected_tree
 projected_law t s =
     node_law t (λ v. keywords.ProjectedCrs) nodes.ProjectedCrs (λ v. (v.name, (v.base, (v.conversion, (v.system, (v.axes, (v.unit, (v.usages, (v.ids, (v.remark, tt)))))))))) (λ v. s.1)
     (λ v w k h. λ i. record { name = (h i).0; base = (h i).1.0; conversion = (h i).1.1.0; system = (h i).1.1.1.0; axes = (h i).1.1.1.1.0; unit = (h i).1.1.1.1.1.0; usages = (h i).1.1.1.1.1.1.0; ids = (h i).1.1.1.1.1.1.1.0; remark = (h i).1.1.1.1.1.1.1.1.0 })
     (one slots.Name text_law >> one slots.Base base_law >> one slots.Conversion conversion_law >> one slots.Cs system_law >> some slots.Axis axis_law >> maybe slots.Unit unit_law >> each slots.Usage usage_law >> each slots.Id ident_law >> maybe slots.Remark remark_law >> done)
 
-vertical_law : (t : Takes) → Singles t → Law t 6 DenotesVertical vertical_tree
+vertical_law : (t : Takes) → Singles t → Law t DenotesVertical vertical_tree
 vertical_law t s =
     node_law t (λ v. keywords.VerticalCrs) nodes.VerticalCrs (λ v. (v.name, (v.datum, (v.system, (v.axes, (v.unit, (v.geoid_models, (v.usages, (v.ids, (v.remark, tt)))))))))) (λ v. s.2)
     (λ v w k h. λ i. record { name = (h i).0; datum = (h i).1.0; system = (h i).1.1.0; axes = (h i).1.1.1.0; unit = (h i).1.1.1.1.0; geoid_models = (h i).1.1.1.1.1.0; usages = (h i).1.1.1.1.1.1.0; ids = (h i).1.1.1.1.1.1.1.0; remark = (h i).1.1.1.1.1.1.1.1.0 })
@@ -418,13 +418,13 @@ single_spelled t s (single.Geodetic v) = (geodetic_law t s).spelled v
 single_spelled t s (single.Projected v) = (projected_law t s).spelled v
 single_spelled t s (single.Vertical v) = (vertical_law t s).spelled v
 
-single_law : (t : Takes) → Singles t → Law t 7 DenotesSingle single_tree
+single_law : (t : Takes) → Singles t → Law t DenotesSingle single_tree
 single_law t s = record { fits = single_fits t s; once = single_once t s; spelled = single_spelled t s }
 
-pub component_law : Law kinds.SingleCrs 7 DenotesSingle single_tree
+pub component_law : Law kinds.SingleCrs DenotesSingle single_tree
 component_law = single_law kinds.SingleCrs singles_single
 
-pub compound_law : Law kinds.AnyCrs 8 DenotesCompound compound_tree
+pub compound_law : Law kinds.AnyCrs DenotesCompound compound_tree
 compound_law =
     node_law kinds.AnyCrs (λ v. keywords.CompoundCrs) nodes.CompoundCrs (λ v. (v.name, (v.first, (v.second, (v.usages, (v.ids, (v.remark, tt))))))) (λ v. refl)
     (λ v w k h. λ i. record { name = (h i).0; first = (h i).1.0; second = (h i).1.1.0; usages = (h i).1.1.1.0; ids = (h i).1.1.1.1.0; remark = (h i).1.1.1.1.1.0 })
@@ -451,5 +451,5 @@ parts_spelled : (v : CrsParts) → DenotesParts (parts_tree v) v
 parts_spelled (parts.Single v) = single_spelled kinds.AnyCrs singles_any v
 parts_spelled (parts.Compound v) = compound_law.spelled v
 
-pub parts_law : Law kinds.AnyCrs 8 DenotesParts parts_tree
+pub parts_law : Law kinds.AnyCrs DenotesParts parts_tree
 parts_law = record { fits = parts_fits; once = parts_once; spelled = parts_spelled }

@@ -16,7 +16,7 @@ use Rattle.wkt_grammar.specs.declared.table.Keyword.{Keyword}
 use Rattle.wkt_grammar.specs.declared.table.Argument.{Argument}
 use Rattle.wkt_grammar.specs.declared.table.Argument.TheVariants as arguments
 use Rattle.wkt_grammar.specs.Words.{keyword_of, is_cs_kind, is_direction}
-use Rattle.wkt_grammar.specs.declared.walk.Place.{Place}
+use Rattle.wkt_grammar.specs.declared.walk.RowPosition.{RowPosition}
 use Rattle.wkt_grammar.specs.Rows.{row_of, row_in, enters, or_else, is_required}
 use Rattle.wkt_grammar.specs.Walk.{next, missing, is_many}
 use Rattle.wkt_grammar.specs.declared.fault.SlotFault.{SlotFault}
@@ -27,13 +27,13 @@ use Rattle.wkt_grammar.specs.Next.{Follows, next_is, is_open, is_comma, place_ne
 use Rattle.wkt_grammar.specs.First.{row_by, first, items_fault, item_fault, missing_fault, rest_at, refusal, taken, argument_fault, AnswersItem, AnswersNode}
 
 -- after an argument: the end of the node, or a comma and more arguments; and what is still to be answered
-abbrev pub Behind : Edition → Node → Items → Delimiter → Piece → List Tok → List Tok → Place → Type 0
+abbrev pub Behind : Edition → Node → Items → Delimiter → Piece → List Tok → List Tok → RowPosition → Type 0
 Behind ed n items d c rest cur p =
     (p.filled ≡ true)
     × (((cur ≡ tok (Close d) c ∷ rest) × (items_fault ed n (row_of ed n) false items c.place ≡ missing_fault (rest_at ed n p) c.place))
     ⊎ ((k : Piece) × (left : Items) × (cur ≡ tok Comma k ∷ (all_tokens left ++ tok (Close d) c ∷ rest)) × (items_fault ed n (row_of ed n) false items c.place ≡ items_fault ed n (rest_at ed n p) true left c.place)))
 
-abbrev pub GoesOn : Edition → Node → List Tok → List Tok → Place → Type 0
+abbrev pub GoesOn : Edition → Node → List Tok → List Tok → RowPosition → Type 0
 GoesOn ed n old cur p = (items : Items) (d : Delimiter) (c : Piece) (rest : List Tok) → old ≡ all_tokens items ++ tok (Close d) c ∷ rest → Behind ed n items d c rest cur p
 
 -- ---- the token that comes
@@ -163,7 +163,7 @@ taken_err r f inner go None e = e
 taken_err r f None go (Some l) e = absurd cc
 taken_err r f (Some g) go (Some l) e = e
 
-pub behind_item : (ed : Edition) (n : Node) (at p : Place) (left items : Items) (cur cur' : List Tok) (d : Delimiter) (c : Piece) (rest : List Tok) → AnswersItem ed n at cur cur' (Ok p) → cur ≡ all_tokens left ++ tok (Close d) c ∷ rest
+pub behind_item : (ed : Edition) (n : Node) (at p : RowPosition) (left items : Items) (cur cur' : List Tok) (d : Delimiter) (c : Piece) (rest : List Tok) → AnswersItem ed n at cur cur' (Ok p) → cur ≡ all_tokens left ++ tok (Close d) c ∷ rest
     → items_fault ed n (row_of ed n) false items c.place ≡ items_fault ed n (rest_at ed n at) at.filled left c.place → Behind ed n items d c rest cur' p
 behind_item ed n at p (last i) items cur cur' d c rest a e t =
     let x = a i (tok (Close d) c ∷ rest) e refl in
@@ -172,23 +172,23 @@ behind_item ed n at p (more i k left) items cur cur' d c rest a e t =
     let x = a i (tok Comma k ∷ (all_tokens left ++ tok (Close d) c ∷ rest)) (e ∙ append_assoc (tokens i) (tok Comma k ∷ all_tokens left) (tok (Close d) c ∷ rest)) refl in
     (x.2, inr (k, left, x.0, t ∙ taken_ok _ (item_fault ed n i) (λ l. items_fault ed n l true left c.place) _ _ x.1 x.3))
 
-item_err : (ed : Edition) (n : Node) (at : Place) (left : Items) (cur cur' : List Tok) (f : SlotFault) (d : Delimiter) (c : Piece) (rest : List Tok) → AnswersItem ed n at cur cur' (Err f) → cur ≡ all_tokens left ++ tok (Close d) c ∷ rest
+item_err : (ed : Edition) (n : Node) (at : RowPosition) (left : Items) (cur cur' : List Tok) (f : SlotFault) (d : Delimiter) (c : Piece) (rest : List Tok) → AnswersItem ed n at cur cur' (Err f) → cur ≡ all_tokens left ++ tok (Close d) c ∷ rest
     → items_fault ed n (rest_at ed n at) at.filled left c.place ≡ Some f
 item_err ed n at (last i) cur cur' f d c rest a e = taken_err _ f (item_fault ed n i) (λ l. missing_fault l c.place) _ (a i (tok (Close d) c ∷ rest) e refl)
 item_err ed n at (more i k left) cur cur' f d c rest a e =
     taken_err _ f (item_fault ed n i) (λ l. items_fault ed n l true left c.place) _ (a i (tok Comma k ∷ (all_tokens left ++ tok (Close d) c ∷ rest)) (e ∙ append_assoc (tokens i) (tok Comma k ∷ all_tokens left) (tok (Close d) c ∷ rest)) refl)
 
-abbrev pub start : Place
+abbrev pub start : RowPosition
 start = record { slot = 0; filled = false }
 
-pub goes_first : (ed : Edition) (n : Node) (p : Place) (old cur : List Tok) → AnswersItem ed n start old cur (Ok p) → GoesOn ed n old cur p
+pub goes_first : (ed : Edition) (n : Node) (p : RowPosition) (old cur : List Tok) → AnswersItem ed n start old cur (Ok p) → GoesOn ed n old cur p
 goes_first ed n p old cur a items d c rest e = behind_item ed n start p items items old cur d c rest a e refl
 
 pub err_first : (ed : Edition) (n : Node) (f : SlotFault) (old cur new : List Tok) → AnswersItem ed n start old cur (Err f) → AnswersNode ed n old new (Err f)
 err_first ed n f old cur new a items d c rest e = item_err ed n start items old cur f d c rest a e
 
 -- the arguments after a comma
-on_comma : (ed : Edition) (n : Node) (p : Place) (old cur : List Tok) (items : Items) (d : Delimiter) (c : Piece) (rest : List Tok) → GoesOn ed n old cur p → next_is is_comma cur ≡ true → old ≡ all_tokens items ++ tok (Close d) c ∷ rest
+on_comma : (ed : Edition) (n : Node) (p : RowPosition) (old cur : List Tok) (items : Items) (d : Delimiter) (c : Piece) (rest : List Tok) → GoesOn ed n old cur p → next_is is_comma cur ≡ true → old ≡ all_tokens items ++ tok (Close d) c ∷ rest
     → (left : Items) × (drop 1 cur ≡ all_tokens left ++ tok (Close d) c ∷ rest) × (items_fault ed n (row_of ed n) false items c.place ≡ items_fault ed n (rest_at ed n p) p.filled left c.place)
 on_comma ed n p old cur items d c rest g m e =
     elim (g items d c rest e).1 [
@@ -196,16 +196,16 @@ on_comma ed n p old cur items d c rest g m e =
       | inr on ↦ (on.1, ap (drop 1) on.2, on.3 ∙ ap (λ b. items_fault ed n (rest_at ed n p) b on.1 c.place) (sym (g items d c rest e).0))
     ]
 
-pub goes_more : (ed : Edition) (n : Node) (p q : Place) (old cur one cur' : List Tok) → GoesOn ed n old cur p → next_is is_comma cur ≡ true → one ≡ drop 1 cur → AnswersItem ed n p one cur' (Ok q) → GoesOn ed n old cur' q
+pub goes_more : (ed : Edition) (n : Node) (p q : RowPosition) (old cur one cur' : List Tok) → GoesOn ed n old cur p → next_is is_comma cur ≡ true → one ≡ drop 1 cur → AnswersItem ed n p one cur' (Ok q) → GoesOn ed n old cur' q
 goes_more ed n p q old cur one cur' g m s a items d c rest e =
     let x = on_comma ed n p old cur items d c rest g m e in behind_item ed n p q x.0 items one cur' d c rest a (s ∙ x.1) x.2
 
-pub err_more : (ed : Edition) (n : Node) (p : Place) (f : SlotFault) (old cur one cur' new : List Tok) → GoesOn ed n old cur p → next_is is_comma cur ≡ true → one ≡ drop 1 cur → AnswersItem ed n p one cur' (Err f) → AnswersNode ed n old new (Err f)
+pub err_more : (ed : Edition) (n : Node) (p : RowPosition) (f : SlotFault) (old cur one cur' new : List Tok) → GoesOn ed n old cur p → next_is is_comma cur ≡ true → one ≡ drop 1 cur → AnswersItem ed n p one cur' (Err f) → AnswersNode ed n old new (Err f)
 err_more ed n p f old cur one cur' new g m s a items d c rest e =
     let x = on_comma ed n p old cur items d c rest g m e in x.2 ∙ item_err ed n p x.0 one cur' f d c rest a (s ∙ x.1)
 
 -- the end of a node
-on_end : (ed : Edition) (n : Node) (p : Place) (old cur : List Tok) (items : Items) (d : Delimiter) (c : Piece) (rest : List Tok) → GoesOn ed n old cur p → next_is is_comma cur ≡ false → old ≡ all_tokens items ++ tok (Close d) c ∷ rest
+on_end : (ed : Edition) (n : Node) (p : RowPosition) (old cur : List Tok) (items : Items) (d : Delimiter) (c : Piece) (rest : List Tok) → GoesOn ed n old cur p → next_is is_comma cur ≡ false → old ≡ all_tokens items ++ tok (Close d) c ∷ rest
     → (cur ≡ tok (Close d) c ∷ rest) × (items_fault ed n (row_of ed n) false items c.place ≡ option_map (λ s. Missing s c.place) (missing (rest_at ed n p) p.filled))
 on_end ed n p old cur items d c rest g m e =
     elim (g items d c rest e).1 [
@@ -213,11 +213,11 @@ on_end ed n p old cur items d c rest g m e =
       | inr on ↦ let w = sym (ap (next_is is_comma) on.2) ∙ m in absurd cc
     ]
 
-pub ends_well : (ed : Edition) (n : Node) (p : Place) (u : Unit {0}) (old cur one : List Tok) → GoesOn ed n old cur p → next_is is_comma cur ≡ false → one ≡ drop 1 cur → None ≡ missing (rest_at ed n p) p.filled → AnswersNode ed n old one (Ok u)
+pub ends_well : (ed : Edition) (n : Node) (p : RowPosition) (u : Unit {0}) (old cur one : List Tok) → GoesOn ed n old cur p → next_is is_comma cur ≡ false → one ≡ drop 1 cur → None ≡ missing (rest_at ed n p) p.filled → AnswersNode ed n old one (Ok u)
 ends_well ed n p u old cur one g m s x items d c rest e =
     let y = on_end ed n p old cur items d c rest g m e in (s ∙ ap (drop 1) y.0, y.1 ∙ ap (option_map (λ s. Missing s c.place)) (sym x))
 
-pub ends_short : (ed : Edition) (n : Node) (p : Place) (slot : SlotName) (at : ℕ) (old cur one : List Tok) → GoesOn ed n old cur p → next_is is_comma cur ≡ false → at ≡ place_next cur → Some slot ≡ missing (rest_at ed n p) p.filled → AnswersNode ed n old one (Err (Missing slot at))
+pub ends_short : (ed : Edition) (n : Node) (p : RowPosition) (slot : SlotName) (at : ℕ) (old cur one : List Tok) → GoesOn ed n old cur p → next_is is_comma cur ≡ false → at ≡ place_next cur → Some slot ≡ missing (rest_at ed n p) p.filled → AnswersNode ed n old one (Err (Missing slot at))
 ends_short ed n p slot at old cur one g m s x items d c rest e =
     let y = on_end ed n p old cur items d c rest g m e in
     let same : c.place ≡ at = sym (s ∙ ap place_next y.0) in
@@ -225,7 +225,7 @@ ends_short ed n p slot at old cur one g m s x items d c rest e =
 
 -- ---- at the code's own lists
 
-module _ (ed : Edition) (n : Node) (at : Place) (old one : List Tok) (t : Token) (a : Argument) (opens : Bool) where
+module _ (ed : Edition) (n : Node) (at : RowPosition) (old one : List Tok) (t : Token) (a : Argument) (opens : Bool) where
   abbrev pub Seen : Type 0
   Seen = (option_map view (Some t) ≡ slice_get old 0) × (one ≡ drop 1 old) × (opens ≡ next_is is_open one) × (a ≡ argument_of t.kind t.bytes.now opens)
 
@@ -237,18 +237,18 @@ module _ (ed : Edition) (n : Node) (at : Place) (old one : List Tok) (t : Token)
   pub refused_at : Seen → next (rest_at ed n at) at.filled a ≡ None → (new : List Tok) → AnswersItem ed n at old new (Err (refusal (rest_at ed n at) at.filled a t.place))
   refused_at s x new i rest e f = let h = item_is s i rest e f in refused_item ed n (rest_at ed n at) at.filled i a t.place h.0 h.1 x
 
-  pub plain_at : Seen → (p : Place) → next (rest_at ed n at) at.filled a ≡ Some (rest_at ed n p) → p.filled ≡ true → NoNode a → AnswersItem ed n at old one (Ok p)
+  pub plain_at : Seen → (p : RowPosition) → next (rest_at ed n at) at.filled a ≡ Some (rest_at ed n p) → p.filled ≡ true → NoNode a → AnswersItem ed n at old one (Ok p)
   plain_at s p x z plain i rest e f =
       let h = item_is s i rest e f in
       let x' : next (rest_at ed n at) at.filled (argument i) ≡ Some (rest_at ed n p) = ap (next (rest_at ed n at) at.filled) (sym h.0) ∙ x in
       let y = plain_item ed n (rest_at ed n at) (rest_at ed n p) at.filled i rest old (λ k g. plain k (h.0 ∙ g)) x' e in
       (s.1 ∙ y.0, x', z, y.1)
 
-  pub rowless_at : (k : Keyword) → a ≡ arguments.Node k → (p : Place) → next (rest_at ed n at) at.filled a ≡ Some (rest_at ed n p) → row_in (row_of ed n) k ≡ None → ⊥
+  pub rowless_at : (k : Keyword) → a ≡ arguments.Node k → (p : RowPosition) → next (rest_at ed n at) at.filled a ≡ Some (rest_at ed n p) → row_in (row_of ed n) k ≡ None → ⊥
   rowless_at k g p x r = has_row (row_of ed n) at.slot at.filled k (rest_at ed n p) (ap (next (rest_at ed n at) at.filled) (sym g) ∙ x) r
 
   pub node_at : Seen → (k : Keyword) → a ≡ arguments.Node k → (m : Node) → row_in (row_of ed n) k ≡ Some m → (two new : List Tok) → two ≡ drop 1 one → (u : Unit {0}) → AnswersNode ed m two new (Ok u)
-      → (p : Place) → next (rest_at ed n at) at.filled a ≡ Some (rest_at ed n p) → p.filled ≡ true → AnswersItem ed n at old new (Ok p)
+      → (p : RowPosition) → next (rest_at ed n at) at.filled a ≡ Some (rest_at ed n p) → p.filled ≡ true → AnswersItem ed n at old new (Ok p)
   node_at s k g m r two new w u ans p x z i rest e f =
       let h = item_is s i rest e f in
       let x' : next (rest_at ed n at) at.filled (argument i) ≡ Some (rest_at ed n p) = ap (next (rest_at ed n at) at.filled) (sym h.0) ∙ x in
@@ -257,7 +257,7 @@ module _ (ed : Edition) (n : Node) (at : Place) (old one : List Tok) (t : Token)
       (b.0, x', z, y.4 ∙ b.1)
 
   pub node_err_at : Seen → (k : Keyword) → a ≡ arguments.Node k → (m : Node) → row_in (row_of ed n) k ≡ Some m → (two new : List Tok) → two ≡ drop 1 one → (v : SlotFault) → AnswersNode ed m two new (Err v)
-      → (p : Place) → next (rest_at ed n at) at.filled a ≡ Some (rest_at ed n p) → AnswersItem ed n at old new (Err v)
+      → (p : RowPosition) → next (rest_at ed n at) at.filled a ≡ Some (rest_at ed n p) → AnswersItem ed n at old new (Err v)
   node_err_at s k g m r two new w v ans p x i rest e f =
       let h = item_is s i rest e f in
       let x' : next (rest_at ed n at) at.filled (argument i) ≡ Some (rest_at ed n p) = ap (next (rest_at ed n at) at.filled) (sym h.0) ∙ x in

@@ -19,7 +19,7 @@ use Rattle.wkt_grammar.specs.declared.table.Node.{Node}
 use Rattle.wkt_grammar.specs.declared.table.Node.TheVariants as nodes
 use Rattle.wkt_grammar.specs.declared.table.Keyword.TheVariants as keywords
 use Rattle.wkt_grammar.specs.Rows.{row_of, takes, Times, Fits, Admitted, is_required}
-use Rattle.wkt_grammar.specs.declared.walk.Place.{Place}
+use Rattle.wkt_grammar.specs.declared.walk.RowPosition.{RowPosition}
 use Rattle.std.specs.Option.{is_some}
 use Rattle.wkt_grammar.proofs.Keywords.{is_same}
 use Rattle.std.specs.Prelude.{MatchOption, IfSome, IfNone}
@@ -380,25 +380,25 @@ missing_unfit ed node at n0 args h m f =
     cc
 
 -- what a step answered, by cases
-abbrev Answered : Edition → Node → Place → Argument → Option Place → Type 0
+abbrev Answered : Edition → Node → RowPosition → Argument → Option RowPosition → Type 0
 Answered ed node place a r = MatchOption r (next (drop place.slot (row_of ed node)) place.filled a ≡ None) (λ p. (next (drop place.slot (row_of ed node)) place.filled a ≡ Some (drop p.slot (row_of ed node))) × (p.slot ≤ length (row_of ed node)) × (p.filled ≡ true))
 
-pub answered_at : (ed : Edition) (node : Node) (place : Place) (a : Argument) (r : Option Place) → Answered ed node place a r → IfSome r (λ p. (args : List Argument) → IsAt ed node args place → IsAt ed node (args ++ a ∷ []) p)
+pub answered_at : (ed : Edition) (node : Node) (place : RowPosition) (a : Argument) (r : Option RowPosition) → Answered ed node place a r → IfSome r (λ p. (args : List Argument) → IsAt ed node args place → IsAt ed node (args ++ a ∷ []) p)
 answered_at ed node place a None h = tt
 answered_at ed node place a (Some p) h = λ args e. step_at ed node place.slot place.filled a (drop p.slot (row_of ed node)) h.0 args e ∙ ap (λ f. Some (drop p.slot (row_of ed node), f)) (sym h.2)
 
-pub answered_admitted : (ed : Edition) (node : Node) (place : Place) (a : Argument) (r : Option Place) → Answered ed node place a r → IfSome r (λ p. (args : List Argument) → IsAt ed node args place → Admitted (row_of ed node) (args ++ a ∷ []))
+pub answered_admitted : (ed : Edition) (node : Node) (place : RowPosition) (a : Argument) (r : Option RowPosition) → Answered ed node place a r → IfSome r (λ p. (args : List Argument) → IsAt ed node args place → Admitted (row_of ed node) (args ++ a ∷ []))
 answered_admitted ed node place a None h = tt
 answered_admitted ed node place a (Some p) h = λ args e. admits (row_of ed node) (args ++ a ∷ []) _ (step_at ed node place.slot place.filled a (drop p.slot (row_of ed node)) h.0 args e)
 
-pub answered_refused : (ed : Edition) (node : Node) (place : Place) (a : Argument) (r : Option Place) → Answered ed node place a r → IfNone r ((args : List Argument) → IsAt ed node args place → Admitted (row_of ed node) (args ++ a ∷ []) → ⊥)
+pub answered_refused : (ed : Edition) (node : Node) (place : RowPosition) (a : Argument) (r : Option RowPosition) → Answered ed node place a r → IfNone r ((args : List Argument) → IsAt ed node args place → Admitted (row_of ed node) (args ++ a ∷ []) → ⊥)
 answered_refused ed node place a None h = λ args e. step_refused ed node place.slot place.filled a h args e
 answered_refused ed node place a (Some p) h = tt
 
-pub ended_fits : (ed : Edition) (node : Node) (place : Place) (r : Option SlotName) → r ≡ missing (drop place.slot (row_of ed node)) place.filled → IfNone r ((args : List Argument) → IsAt ed node args place → Fits (row_of ed node) args)
+pub ended_fits : (ed : Edition) (node : Node) (place : RowPosition) (r : Option SlotName) → r ≡ missing (drop place.slot (row_of ed node)) place.filled → IfNone r ((args : List Argument) → IsAt ed node args place → Fits (row_of ed node) args)
 ended_fits ed node place None h = λ args e. end_fits (row_of ed node) args _ e (sym h)
 ended_fits ed node place (Some p) h = tt
 
-pub ended_unfit : (ed : Edition) (node : Node) (place : Place) (r : Option SlotName) → r ≡ missing (drop place.slot (row_of ed node)) place.filled → IfSome r (λ _. (args : List Argument) → IsAt ed node args place → Fits (row_of ed node) args → ⊥)
+pub ended_unfit : (ed : Edition) (node : Node) (place : RowPosition) (r : Option SlotName) → r ≡ missing (drop place.slot (row_of ed node)) place.filled → IfSome r (λ _. (args : List Argument) → IsAt ed node args place → Fits (row_of ed node) args → ⊥)
 ended_unfit ed node place None h = tt
 ended_unfit ed node place (Some p) h = λ args e. missing_unfit ed node _ p args e (sym h)

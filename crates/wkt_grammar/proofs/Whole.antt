@@ -12,7 +12,7 @@ use Rattle.std.specs.Option.{option_map}
 use Rattle.wkt_grammar.specs.declared.fault.SlotFault.TheVariants.{Missing}
 use Rattle.wkt_grammar.specs.declared.table.Argument.{Argument}
 use Rattle.wkt_grammar.specs.declared.table.Node.TheVariants as nodes
-use Rattle.wkt_grammar.specs.declared.walk.Place.{Place}
+use Rattle.wkt_grammar.specs.declared.walk.RowPosition.{RowPosition}
 use Rattle.wkt_grammar.specs.Rows.{row_of, takes}
 use Rattle.wkt_grammar.specs.Walk.{next, missing}
 use Rattle.wkt_grammar.specs.declared.fault.SlotFault.{SlotFault}
@@ -60,7 +60,7 @@ append-nil_at : (ts : List Tok) → ts ≡ ts ++ []
 append-nil_at ts = sym (append-nil ts)
 
 module _ (ed : Edition) (bytes : List ℕ) (ts : List Tok) (cut : Cut 0 bytes ts) (old new : List Tok) (same : old ≡ ts) where
-  pub clean : (p : Place) → AnswersItem ed nodes.Root start old new (Ok p) → IsClean ed ts
+  pub clean : (p : RowPosition) → AnswersItem ed nodes.Root start old new (Ok p) → IsClean ed ts
   clean p ans k d o items c e f h =
       let t = node k d o items c in
       let a = ans t [] (same ∙ (e ∙ append-nil_at (tokens t))) refl in

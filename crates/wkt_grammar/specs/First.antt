@@ -10,7 +10,7 @@ use Rattle.wkt_grammar.specs.declared.table.Keyword.{Keyword}
 use Rattle.wkt_grammar.specs.declared.table.Argument.{Argument}
 use Rattle.wkt_grammar.specs.declared.table.Argument.TheVariants as arguments
 use Rattle.wkt_grammar.specs.declared.table.Node.{Node}
-use Rattle.wkt_grammar.specs.declared.walk.Place.{Place}
+use Rattle.wkt_grammar.specs.declared.walk.RowPosition.{RowPosition}
 use Rattle.wkt_grammar.specs.Rows.{row_of, row_in}
 use Rattle.wkt_grammar.specs.Words.{keyword_of}
 use Rattle.wkt_grammar.specs.Walk.{next, missing}
@@ -72,14 +72,14 @@ module _ (e : Edition) where
   argument_fault n left filled i = taken (refusal left filled (argument i) (begin i)) (item_fault n i) (λ l. None) (next left filled (argument i))
 
   -- the rest of the row at a position
-  abbrev pub rest_at : Node → Place → List Slot
+  abbrev pub rest_at : Node → RowPosition → List Slot
   rest_at n p = drop p.slot (row_of e n)
 
-  abbrev pub ItemAnswer : Node → Place → Item → List Tok → List Tok → Result Place SlotFault → Type 0
+  abbrev pub ItemAnswer : Node → RowPosition → Item → List Tok → List Tok → Result RowPosition SlotFault → Type 0
   ItemAnswer n at i new rest (Err f) = argument_fault n (rest_at n at) at.filled i ≡ Some f
   ItemAnswer n at i new rest (Ok p) = (new ≡ rest) × (next (rest_at n at) at.filled (argument i) ≡ Some (rest_at n p)) × (p.filled ≡ true) × (item_fault n i ≡ None)
 
-  abbrev pub AnswersItem : Node → Place → List Tok → List Tok → Result Place SlotFault → Type 0
+  abbrev pub AnswersItem : Node → RowPosition → List Tok → List Tok → Result RowPosition SlotFault → Type 0
   AnswersItem n at old new r = (i : Item) (rest : List Tok) → old ≡ tokens i ++ rest → Follows rest → ItemAnswer n at i new rest r
 
   abbrev pub NodeAnswer : Node → Items → Piece → List Tok → List Tok → Result (Unit {0}) SlotFault → Type 0

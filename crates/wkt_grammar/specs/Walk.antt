@@ -9,7 +9,7 @@ use Rattle.wkt_grammar.specs.declared.table.Argument.TheVariants as arguments
 use Rattle.wkt_grammar.specs.declared.table.Often.{Often}
 use Rattle.wkt_grammar.specs.declared.table.Often.TheVariants.{Once, AtMostOnce, Any, AtLeastOnce}
 use Rattle.wkt_grammar.specs.declared.table.Node.{Node}
-use Rattle.wkt_grammar.specs.declared.walk.Place.{Place}
+use Rattle.wkt_grammar.specs.declared.walk.RowPosition.{RowPosition}
 use Rattle.wkt_grammar.specs.Rows.{takes, is_required, row_of}
 use Rattle.wkt_grammar.specs.Words.{all_keywords}
 
@@ -51,5 +51,5 @@ is_clear [] = true
 is_clear (s ∷ row) = list_all (λ a. not (not (is_required s.often && not (is_many s.often)) && (takes s.takes a && may_begin row a))) all_arguments && is_clear row
 
 -- the position in the row of the node in the edition after these arguments
-abbrev pub IsAt : Edition → Node → List Argument → Place → Type 0
+abbrev pub IsAt : Edition → Node → List Argument → RowPosition → Type 0
 IsAt edition node args place = walk (row_of edition node) false args ≡ Some (drop place.slot (row_of edition node), place.filled)

@@ -9,7 +9,7 @@ use crate::choice::enters;
 use crate::fault::SlotFault;
 use crate::rows::row_of;
 use crate::table::{Argument, Edition, Keyword, Node};
-use crate::walk::{Place, step};
+use crate::walk::{RowPosition, step};
 use crate::words::{is_cs_kind, is_direction, keyword_of};
 use crs_number::is_count;
 use wkt_tree::TokenKind;
@@ -65,7 +65,7 @@ pub fn argument_of(kind: TokenKind, bytes: &[u8], is_node: bool) -> Argument
 pub fn refusal(
     edition: Edition,
     node: Node,
-    place: Place,
+    place: RowPosition,
     argument: Argument,
     at: usize,
 ) -> SlotFault

@@ -19,5 +19,5 @@ pub use fault::SlotFault;
 pub use rows::row_of;
 pub use table::{Argument, Edition, Keyword, Node, Often, Slot, SlotName, Takes};
 pub use tier::{check_slots, coming, next_is_comma, next_is_open};
-pub use walk::{Place, first_missing, step};
+pub use walk::{RowPosition, first_missing, step};
 pub use words::{is_cs_kind, is_direction, keyword_of};

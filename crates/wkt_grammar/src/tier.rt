@@ -11,7 +11,7 @@ use crate::argument::{argument_of, refusal, row_in};
 use crate::fault::SlotFault;
 use crate::rows::row_of;
 use crate::table::{Argument, Edition, Node};
-use crate::walk::{Place, first_missing, step};
+use crate::walk::{RowPosition, first_missing, step};
 use wkt_tree::{Cursor, Outline, TokenKind};
 
 /// Whether an opening delimiter follows.
@@ -67,8 +67,8 @@ fn check_argument(
     edition: Edition,
     cursor: &mut Cursor<'_>,
     node: Node,
-    place: Place,
-) -> Result<Place, SlotFault>
+    place: RowPosition,
+) -> Result<RowPosition, SlotFault>
     requires { place.slot ≤ length (row_of edition node) }
     ensures shorter { length cursor.new ≤ length cursor.old }
     ensures within { IfOk result (λ p. p.slot ≤ length (row_of edition node)) }
@@ -100,7 +100,7 @@ fn check_node(edition: Edition, cursor: &mut Cursor<'_>, node: Node) -> Result<(
     ensures shorter { length cursor.new ≤ length cursor.old }
     ensures answers { AnswersNode edition node cursor.old cursor.new result }
 {
-    let start = Place {
+    let start = RowPosition {
         slot: 0,
         filled: false,
     };
@@ -129,7 +129,7 @@ pub fn check_slots(edition: Edition, outline: &Outline<'_>) -> Result<(), SlotFa
     ensures err { IfErr result (IsFirst edition (cut 0 outline.now)) }
 {
     let mut cursor = outline.cursor();
-    let start = Place {
+    let start = RowPosition {
         slot: 0,
         filled: false,
     };

@@ -9,7 +9,7 @@ use crate::table::{Argument, Often, Slot, SlotName};
 
 /// The position in a row: the next slot, and whether it has an argument already.
 #[derive(Clone, Copy, Debug)]
-pub struct Place {
+pub struct RowPosition {
     pub slot: usize,
     pub filled: bool,
 }
@@ -27,7 +27,7 @@ fn is_many(often: Often) -> bool
 }
 
 /// The position in the row after the argument.
-pub fn step(row: &[Slot], place: Place, argument: Argument) -> Option<Place>
+pub fn step(row: &[Slot], place: RowPosition, argument: Argument) -> Option<RowPosition>
     requires { place.slot ≤ length row.now }
     ensures { MatchOption result (next (drop place.slot row.now) place.filled argument ≡ None)
         (λ p. (next (drop place.slot row.now) place.filled argument ≡ Some (drop p.slot row.now)) × (p.slot ≤ length row.now) × (p.filled ≡ true)) }
@@ -37,7 +37,7 @@ pub fn step(row: &[Slot], place: Place, argument: Argument) -> Option<Place>
     while slot < row.len() {
         let often = row[slot].often;
         if takes(row[slot].takes, argument) && (!filled || is_many(often)) {
-            return Some(Place { slot, filled: true });
+            return Some(RowPosition { slot, filled: true });
         }
         if is_required(often) && !filled {
             return None;
@@ -49,7 +49,7 @@ pub fn step(row: &[Slot], place: Place, argument: Argument) -> Option<Place>
 }
 
 /// The first required slot that has no argument.
-pub fn first_missing(row: &[Slot], place: Place) -> Option<SlotName>
+pub fn first_missing(row: &[Slot], place: RowPosition) -> Option<SlotName>
     requires { place.slot ≤ length row.now }
     ensures { result ≡ missing (drop place.slot row.now) place.filled }
 {

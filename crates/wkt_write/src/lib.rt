@@ -1,7 +1,8 @@
-//! Writes coordinate reference systems as texts: canonical, or indented.
+//! Writes coordinate reference systems as texts, canonical or indented, and condenses texts.
 #![tactic(auto)]
 
 mod arguments;
+pub mod condensing;
 mod conversions;
 mod crs;
 mod datums;
@@ -16,5 +17,6 @@ mod values;
 mod write;
 mod written;
 
+pub use condensing::condense;
 pub use laws::{reading_laws, token_laws};
 pub use write::{write_crs, write_crs_with_room, write_pretty};

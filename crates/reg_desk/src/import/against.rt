@@ -7,9 +7,9 @@ ghost use Rattle.reg_desk.specs.Import.{IsAgainst, if_explained, note_at, all_no
 
 use crate::import::fault::{ImportFault, Unimported};
 use crate::import::notes::{note_of, notes_of};
-use crate::import::order::Order;
+use crate::import::options::ImportOptions;
 use crate::import::texts::FileCut;
-use reg_import::{FileText, Problem, Refused, Told, first_refused};
+use reg_import::{FileText, Problem, Refused, TextAction, first_refused};
 use std::alloc::{AllocError, Global};
 
 // Why a text is rejected. The file with index 0 has this number among the files that are read.
@@ -28,7 +28,7 @@ fn fault_of(first: usize, texts: &[FileText], refused: &Refused) -> Option<Impor
 // The explanation of the refused text, if requested.
 fn note_at(
     alloc: Global,
-    order: &Order<'_>,
+    order: &ImportOptions<'_>,
     files: &[Vec<u8>],
     cuts: &[FileCut<'_>],
     refused: &Refused,
@@ -44,7 +44,7 @@ fn note_at(
             order.names,
             files,
             cut,
-            Told::Refused(refused.problem),
+            TextAction::Refused(refused.problem),
         ),
         None => Ok(Vec::new(alloc)),
     }
@@ -54,7 +54,7 @@ fn note_at(
 pub fn refused_here(
     alloc: Global,
     first: usize,
-    order: &Order<'_>,
+    order: &ImportOptions<'_>,
     files: &[Vec<u8>],
     cuts: &[FileCut<'_>],
     texts: &[FileText],
@@ -74,10 +74,10 @@ pub fn refused_here(
 // The explanations of all refused texts, if requested.
 fn all_notes(
     alloc: Global,
-    order: &Order<'_>,
+    order: &ImportOptions<'_>,
     files: &[Vec<u8>],
     cuts: &[FileCut<'_>],
-    told: &[Told],
+    told: &[TextAction],
 ) -> Result<Vec<u8>, AllocError>
     ensures { IfOk result (λ notes. notes.items ≡ if_explained order.now (all_notes order.now (bytes_of files.now) (map text_at cuts.now) told.now)) }
 {
@@ -91,11 +91,11 @@ fn all_notes(
 pub fn passed_over(
     alloc: Global,
     first: usize,
-    order: &Order<'_>,
+    order: &ImportOptions<'_>,
     files: &[Vec<u8>],
     cuts: &[FileCut<'_>],
     texts: &[FileText],
-    told: &[Told],
+    told: &[TextAction],
 ) -> Result<Option<Unimported>, AllocError>
     ensures { IfOk result (IsPassed order.now first (bytes_of files.now) (map text_at cuts.now) texts.now told.now) }
 {

@@ -4,7 +4,7 @@ ghost use Rattle.std.specs.Prelude.{map, OnOk, IfErr};
 ghost use Rattle.reg_desk.specs.ImportEngines.{IsTold, IsUntold, kept_in, tried_in, IsImported, IsUnimported};
 
 use super::fault::Unimported;
-use super::order::Order;
+use super::options::ImportOptions;
 use super::ready::{Ready, make_ready};
 use super::room::HasRoom;
 use byte_io::{Sink, Source, write_all};
@@ -37,7 +37,7 @@ pub fn run_import<T: Keep, F: Source, K: Sink>(
     alloc: Global,
     store: &mut T,
     files: &mut [F],
-    order: &Order<'_>,
+    order: &ImportOptions<'_>,
     sink: &mut K,
 ) -> Result<(), Unimported>
     ensures same { T.same store.old store.new }
@@ -80,7 +80,7 @@ pub fn try_import<T: HasRoom, F: Source, K: Sink>(
     alloc: Global,
     store: &mut T,
     files: &mut [F],
-    order: &Order<'_>,
+    order: &ImportOptions<'_>,
     sink: &mut K,
 ) -> Result<(), Unimported>
     ensures same { T.same store.old store.new }

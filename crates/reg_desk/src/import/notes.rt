@@ -7,7 +7,7 @@ ghost use Rattle.reg_desk.specs.ImportTexts.{text_at};
 ghost use Rattle.reg_desk.specs.ImportNotes.{name_of, content_of, note_in, note_of, notes_of};
 
 use crate::import::texts::FileCut;
-use reg_import::{Problem, Told};
+use reg_import::{Problem, TextAction};
 use std::alloc::{AllocError, Global};
 use wkt_crs::DefinitionFault;
 use wkt_explain::Explainer;
@@ -38,7 +38,7 @@ fn explained(
     cut: &FileCut<'_>,
     fault: DefinitionFault,
 ) -> Result<Vec<u8>, AllocError>
-    ensures note { IfOk result (λ note. note.items ≡ note_in name.now explainer.old (text_at cut.now) (Told.Refused (Problem.Unread fault))) }
+    ensures note { IfOk result (λ note. note.items ≡ note_in name.now explainer.old (text_at cut.now) (TextAction.Refused (Problem.Unread fault))) }
     ensures file { explainer.new ≡ explainer.old }
 {
     // Places are smaller, since files are in memory.
@@ -54,13 +54,15 @@ fn note_by(
     name: &str,
     explainer: &mut Explainer<'_>,
     cut: &FileCut<'_>,
-    told: Told,
+    told: TextAction,
 ) -> Result<Vec<u8>, AllocError>
     ensures note { IfOk result (λ note. note.items ≡ note_in name.now explainer.old (text_at cut.now) told) }
     ensures file { explainer.new ≡ explainer.old }
 {
     match told {
-        Told::Refused(Problem::Unread(fault)) => explained(alloc, name, explainer, cut, fault),
+        TextAction::Refused(Problem::Unread(fault)) => explained(
+            alloc, name, explainer, cut, fault,
+        ),
         _ => Ok(Vec::new(alloc)),
     }
 }
@@ -71,7 +73,7 @@ pub fn note_of(
     names: &[String],
     files: &[Vec<u8>],
     cut: &FileCut<'_>,
-    told: Told,
+    told: TextAction,
 ) -> Result<Vec<u8>, AllocError>
     ensures { IfOk result (λ note. note.items ≡ note_of (map string_bytes names.now) (bytes_of files.now) (text_at cut.now) told) }
 {
@@ -85,7 +87,7 @@ pub fn notes_of(
     names: &[String],
     files: &[Vec<u8>],
     cuts: &[FileCut<'_>],
-    told: &[Told],
+    told: &[TextAction],
 ) -> Result<Vec<u8>, AllocError>
     ensures { IfOk result (λ notes. notes.items ≡ notes_of (map string_bytes names.now) (bytes_of files.now) (map text_at cuts.now) told.now) }
 {

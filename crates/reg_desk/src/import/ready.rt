@@ -8,7 +8,7 @@ ghost use Rattle.reg_desk.specs.Import.{IsRefusedBy, MakesOf, IsUnmadeOf, Makes,
 use crate::import::against::{passed_over, refused_here};
 use crate::import::fault::Unimported;
 use crate::import::files::read_files;
-use crate::import::order::Order;
+use crate::import::options::ImportOptions;
 use crate::import::texts::{FileCut, cut_files, read_cuts};
 use byte_io::Source;
 use reg_engine::{CliFault, Refusal};
@@ -29,7 +29,7 @@ pub struct Ready {
 fn refusal_of(
     alloc: Global,
     first: usize,
-    order: &Order<'_>,
+    order: &ImportOptions<'_>,
     files: &[Vec<u8>],
     cuts: &[FileCut<'_>],
     texts: &[FileText],
@@ -66,7 +66,7 @@ fn made_of(
     alloc: Global,
     register: Register,
     first: usize,
-    order: &Order<'_>,
+    order: &ImportOptions<'_>,
     files: &[Vec<u8>],
     cuts: &[FileCut<'_>],
     texts: &[FileText],
@@ -111,7 +111,7 @@ fn made(
     alloc: Global,
     register: Register,
     first: usize,
-    order: &Order<'_>,
+    order: &ImportOptions<'_>,
     files: &[Vec<u8>],
 ) -> Result<Ready, Unimported>
     ensures made { IfOk result (λ r. Makes order.now first register (bytes_of files.now) r.register r.lines.items r.passed) }
@@ -135,7 +135,7 @@ pub fn make_ready<F: Source>(
     alloc: Global,
     register: Register,
     first: usize,
-    order: &Order<'_>,
+    order: &ImportOptions<'_>,
     files: &mut [F],
 ) -> Result<Ready, Unimported>
     ensures ready { IfOk result (λ r. IsReady order.now first register (map F.state files.old) (map F.state files.new) r.register r.lines.items r.passed) }

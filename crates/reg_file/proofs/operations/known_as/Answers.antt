@@ -1,6 +1,6 @@
 use Rattle.std.proofs.Common.{sym, ◌∙◌, nat_eq}
 use Rattle.std.specs.Cmp.Lexicographic.{pointwise}
-use Rattle.wkt_crs.proofs.Defining.{same_bytes, told_true}
+use Rattle.reg_op.proofs.Defining.{same_bytes, told_true}
 use Rattle.reg_file.proofs.operations.known_as.Goals as goal
 
 pub returns-in-Ok : goal.returns-in-Ok

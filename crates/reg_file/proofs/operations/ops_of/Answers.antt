@@ -3,7 +3,7 @@ use Rattle.std.proofs.lemmas.List.{length_push}
 use Rattle.reg_op.specs.Ids.{Id}
 use Rattle.reg_file.specs.Readers.{ReadsEach, StopsIn, state_after}
 use Rattle.reg_file.specs.Reading.{operation, id_after, places_of}
-use Rattle.reg_file.specs.declared.place.Place.{Place}
+use Rattle.reg_file.specs.declared.op_offset.OpOffset.{OpOffset}
 use Rattle.reg_file.proofs.FieldLemmas.{IsBytes}
 use Rattle.reg_file.proofs.BodyLemmas.{op_takes}
 use Rattle.reg_file.proofs.ListLemmas.{ops_take}
@@ -11,7 +11,7 @@ use Rattle.reg_file.proofs.PlaceLemmas.{places-push}
 use Rattle.reg_file.proofs.Sequences.{each-push, state-push, stops_at_one}
 use Rattle.reg_file.proofs.operations.ops_of.Goals as goal
 
-abbrev place_of : Id → ℕ → Place
+abbrev place_of : Id → ℕ → OpOffset
 place_of id left = record { id = id; left = left }
 
 pub returns-in-Err-clause-err : goal.returns-in-Err-clause-err

@@ -1,5 +1,5 @@
 use Rattle.std.proofs.Common.{◌≤◌, List, length, subst, arith}
-use Rattle.reg_import.specs.declared.told.Told.{Told}
+use Rattle.reg_import.specs.declared.action.TextAction.{TextAction}
 use Rattle.reg_import.specs.Readings.{readings}
 use Rattle.reg_import.specs.Plans.{IsPassedPlan}
 use Rattle.reg_import.proofs.ImportLemmas.{plan_is_kept, plan_is_done}
@@ -12,4 +12,4 @@ pub returns-in-Ok-join_ops-clause-ok : goal.returns-in-Ok-join_ops-clause-ok
 returns-in-Ok-join_ops-clause-ok c =
     let short : length c.args.note.now ≤ 200 = omega arith in
     plan_is_done c.args.register c.args.replica c.args.note.now c.args.differs (readings c.args.texts.now) c.in-Ok.plan.told.items c.in-Ok.plan.ops.items c.args.keep_going c.in-Ok-join_ops.register c.in-Ok.ensures.by_id short c.in-Ok.ensures.fits c.in-Ok.ensures.plans
-    (subst (λ (l : List Told). IsPassedPlan c.args.keep_going l) c.deref.ensures.value c.in_default-refusal_of.ensures.none) c.in-Ok-join_ops.ensures
+    (subst (λ (l : List TextAction). IsPassedPlan c.args.keep_going l) c.deref.ensures.value c.in_default-refusal_of.ensures.none) c.in-Ok-join_ops.ensures

@@ -1,13 +1,13 @@
 use Rattle.std.proofs.Common.{map, ◌∙◌, sym, subst}
 use Rattle.std.specs.String.{string_bytes}
-use Rattle.reg_import.specs.declared.reading.Reading.{Reading}
+use Rattle.reg_import.specs.declared.reading.ReadText.{ReadText}
 use Rattle.reg_import.specs.Lines.{IsLineOf, line_fields}
 use Rattle.reg_import.proofs.lines.write_line.Goals as goal
 
 pub returns-in_ok-write_named-in-Defined : goal.returns-in_ok-write_named-in-Defined
 returns-in_ok-write_named-in-Defined c = (
   line_fields (map string_bytes c.args.names.now) c.args.text.now c.args.told.now c.as_bytes-authority.result.now c.as_bytes-code.result.now c.as_bytes-name.result.now,
-  subst (λ (r : Reading). IsLineOf (map string_bytes c.args.names.now) c.args.text.now c.args.told.now r (line_fields (map string_bytes c.args.names.now) c.args.text.now c.args.told.now c.as_bytes-authority.result.now c.as_bytes-code.result.now c.as_bytes-name.result.now))
+  subst (λ (r : ReadText). IsLineOf (map string_bytes c.args.names.now) c.args.text.now c.args.told.now r (line_fields (map string_bytes c.args.names.now) c.args.text.now c.args.told.now c.as_bytes-authority.result.now c.as_bytes-code.result.now c.as_bytes-name.result.now))
       (sym c.in-Defined.is) (
         c.name.ensures.0,
         c.name.ensures.1,

@@ -1,6 +1,6 @@
 use Rattle.std.proofs.Common.{rules, ◌≡◌, inr, refl, sym, subst}
 use Rattle.crs_value.specs.declared.key.Key.{Key}
-use Rattle.wkt_crs.specs.Definition.{IsKeyIn}
+use Rattle.reg_op.specs.Definition.{IsKeyIn}
 use Rattle.reg_op.specs.declared.status.Status.{Status}
 use Rattle.reg_op.specs.declared.status.Status.TheVariants.{Retired}
 use Rattle.reg_report.proofs.contender.push_contender.Goals as goal

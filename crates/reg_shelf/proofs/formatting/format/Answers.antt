@@ -2,7 +2,7 @@ use Rattle.std.proofs.Common.{◌≡◌, true, subst, rules}
 use Rattle.std.proofs.lemmas.Result.{on_ok_weaker}
 use Rattle.byte_disk.specs.Disk.{Only}
 use Rattle.byte_shelf.specs.Shelf as slots
-use Rattle.reg_op.specs.Contents.{Content, nothing}
+use Rattle.reg_file.specs.Contents.{Content, nothing}
 use Rattle.reg_file.specs.Files.{Holds, IsTooLarge}
 use Rattle.reg_shelf.proofs.Contents.{empty_fits, fresh_fits}
 use Rattle.reg_shelf.proofs.Outcomes.{file_fault}

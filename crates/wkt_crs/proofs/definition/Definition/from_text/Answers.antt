@@ -1,6 +1,6 @@
 use Rattle.std.proofs.Common.{◌≡◌, Err, sym, ap, ◌∙◌, subst, inr}
 use Rattle.wkt_tree.proofs.Exclusion.{fault_no}
-use Rattle.wkt_condense.specs.Law.{IsReadAs}
+use Rattle.wkt_write.specs.CondensedLaw.{IsReadAs}
 use Rattle.wkt_crs.specs.declared.fault.ReadFault.TheVariants as read
 use Rattle.wkt_crs.specs.Definition.{of_read}
 use Rattle.wkt_crs.proofs.FromText.{own, seen_found, seen_text_only, seen_text_fault, condensed_canon, value_found, value_fault, value_only}

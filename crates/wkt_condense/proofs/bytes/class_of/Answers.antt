@@ -1,5 +1,0 @@
-use Rattle.wkt_condense.proofs.Classes.{class_told}
-use Rattle.wkt_condense.proofs.bytes.class_of.Goals as goal
-
-pub returns : goal.returns
-returns c = class_told c.args.b c.ranges.b.fits

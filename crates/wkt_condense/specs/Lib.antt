@@ -1,4 +1,0 @@
-pub mod Alike
-pub mod Condensed
-pub mod Pieces
-pub mod Law
