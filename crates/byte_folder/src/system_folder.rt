@@ -1,6 +1,7 @@
 //! The place of a path in the file system. No contract is about the file system.
 
-ghost use Rattle.std.specs.Prelude.{◌≡◌, ◌<◌, None, IsSome, IfOk};
+ghost use Rattle.std.specs.Prelude.{◌≡◌, ◌<◌, ◌++◌, None, IsSome, IfOk, codes};
+ghost use Rattle.std.specs.String.{string_bytes};
 ghost use Rattle.byte_io.specs.Device.{target_of};
 ghost use Rattle.byte_folder.specs.Folder.{untold};
 
@@ -32,6 +33,7 @@ pub struct SystemFolder<'a, R: Files> {
 impl<'a, R: Files> SystemFolder<'a, R> {
     /// The place of a path. Nothing is made yet.
     pub fn new(alloc: Global, rt: &'a R, path: &'a str) -> Result<SystemFolder<'a, R>, AllocError>
+        ensures beside { IfOk result (λ p. string_bytes p.beside ≡ p.path.now ++ codes ".new") }
         ensures untold { IfOk result
             (λ p. ⟦<SystemFolder<'a, R> as FolderPlace>⟧.state p ≡ untold (target_of None)) }
     {

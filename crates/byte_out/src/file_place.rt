@@ -1,6 +1,7 @@
 //! The place of a path in the file system. No contract is about the file system.
 
-ghost use Rattle.std.specs.Prelude.{◌≡◌, ◌<◌, None, IsSome, IfOk};
+ghost use Rattle.std.specs.Prelude.{◌≡◌, ◌<◌, ◌++◌, None, IsSome, IfOk, codes};
+ghost use Rattle.std.specs.String.{string_bytes};
 ghost use Rattle.byte_io.specs.Device.{target_of};
 ghost use Rattle.byte_out.specs.Place.{untold};
 
@@ -45,7 +46,7 @@ where
     R::File: AsFd + Lockable,
 {
     /// The place of a path. Nothing is made or opened yet. A new file left by a stopped command is reused if it is not whole.
-    /// If the place is `other`, which the command also writes, it does not open.
+    /// If the path leads to the file `avoided`, which the command also writes, the place does not open.
     pub fn new(
         alloc: Global,
         rt: &'a R,
@@ -54,6 +55,7 @@ where
         avoided: Option<FileId>,
     ) -> Result<FilePlace<'a, R, W>, AllocError>
         ensures path { IfOk result (λ p. p.path ≡ path.entry) }
+        ensures beside { IfOk result (λ p. string_bytes p.beside ≡ string_bytes p.real ++ codes ".new") }
         ensures untold { IfOk result
             (λ p. ⟦<FilePlace<'a, R, W> as Place>⟧.state p ≡ untold (target_of None)) }
     {

@@ -1,6 +1,7 @@
 //! The place of an office file in the file system. No contract is about the file system.
 
-ghost use Rattle.std.specs.Prelude.{◌≡◌, ◌<◌, None, IsSome, IfOk};
+ghost use Rattle.std.specs.Prelude.{◌≡◌, ◌<◌, ◌++◌, None, IsSome, IfOk, codes};
+ghost use Rattle.std.specs.String.{string_bytes};
 ghost use Rattle.byte_io.specs.Device.{target_of};
 ghost use Rattle.byte_out.specs.Place.{untold};
 
@@ -30,6 +31,7 @@ impl<'a, R: Files> OfficePlace<'a, R> {
     /// The place of the office file at this path, or where its links lead. The new file has its name with `.new`: while it is
     /// there, no other command of the office goes on. Nothing is made yet.
     pub fn beside(alloc: Global, rt: &'a R, path: &str) -> Result<OfficePlace<'a, R>, AllocError>
+        ensures beside { IfOk result (λ p. string_bytes p.made ≡ string_bytes p.path ++ codes ".new") }
         ensures untold { IfOk result
             (λ p. ⟦<OfficePlace<'a, R> as Place>⟧.state p ≡ untold (target_of None)) }
     {
@@ -44,6 +46,8 @@ impl<'a, R: Files> OfficePlace<'a, R> {
 
     /// The place of an office file that does not exist yet. It is made with its name.
     pub fn anew(alloc: Global, rt: &'a R, path: &str) -> Result<OfficePlace<'a, R>, AllocError>
+        ensures path { IfOk result (λ p. string_bytes p.path ≡ path.entry.now) }
+        ensures made { IfOk result (λ p. string_bytes p.made ≡ path.entry.now) }
         ensures untold { IfOk result
             (λ p. ⟦<OfficePlace<'a, R> as Place>⟧.state p ≡ untold (target_of None)) }
     {
@@ -53,6 +57,8 @@ impl<'a, R: Files> OfficePlace<'a, R> {
     }
 
     fn of(rt: &'a R, path: String, made: String) -> OfficePlace<'a, R>
+        ensures path { result.path ≡ path }
+        ensures made { result.made ≡ made }
         ensures untold { ⟦<OfficePlace<'a, R> as Place>⟧.state result ≡ untold (target_of None) }
     {
         OfficePlace {
@@ -68,12 +74,16 @@ impl<'a, R: Files> OfficePlace<'a, R> {
     }
 
     /// The path of the office file, without links.
-    pub fn path(&self) -> &str {
+    pub fn path(&self) -> &str
+        ensures { result.now ≡ string_bytes self.now.path }
+    {
         self.path.as_str()
     }
 
     /// The path of the file that is made.
-    pub fn made(&self) -> &str {
+    pub fn made(&self) -> &str
+        ensures { result.now ≡ string_bytes self.now.made }
+    {
         self.made.as_str()
     }
 }
