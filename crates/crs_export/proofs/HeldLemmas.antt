@@ -1,4 +1,4 @@
--- Texts that are held, entry by entry.
+-- The texts in places, after each further entry.
 use Rattle.std.proofs.Common.{◌≡◌, ℕ, Bool, true, false, ◌&&◌, cond, List, [], ◌∷◌, ◌++◌, Option, Some, None, refl, sym, ap, ◌∙◌}
 use Rattle.std.specs.Cmp.{IsTotalOrder, then_total, on_total, int_cmp_total, alike_right, Equal-is}
 use Rattle.std.specs.Cmp.Lexicographic.{nat_list_cmp_total, options_total}
@@ -12,7 +12,7 @@ use Rattle.crs_export.specs.Sql.{fits, has_place, text_at}
 place_total : IsTotalOrder place_cmp
 place_total = then_total (on_total (λ p. p.authority) nat_list_cmp_total) (then_total (on_total (λ p. p.number) (options_total (on_total value_of int_cmp_total))) (on_total (λ p. p.code) nat_list_cmp_total))
 
--- one place, one text
+-- equal places have the same text
 same_text : (a p : PlaceBytes) → is_same_place a p ≡ true → (fs : List Filed) → text_at a fs ≡ text_at p fs
 same_text a p e [] = refl
 same_text a p e (f ∷ fs) =
@@ -47,11 +47,11 @@ and_no false = refl
 elsewhere : (p : PlaceBytes) (fs : List Filed) (f : Filed) → has_place p f ≡ false → text_at p (fs ++ f ∷ []) ≡ text_at p fs
 elsewhere p fs f e = appended p fs f ∙ ap (λ b. or_else (text_at p fs) (cond b (Some f.keyed.text.now) None)) e ∙ or_none (text_at p fs)
 
--- an entry that does not fit takes no place
+-- an entry that does not fit changes the text of no place
 pub skipped : (p : PlaceBytes) (fs : List Filed) (f : Filed) → fits f ≡ false → text_at p (fs ++ f ∷ []) ≡ text_at p fs
 skipped p fs f e = elsewhere p fs f (ap (λ b. b && is_same_place (place_of f.keyed) p) e)
 
--- nor one whose place has a text
+-- an entry whose place already has a text changes the text of no place
 pub taken : (p : PlaceBytes) (fs : List Filed) (f : Filed) (t : List ℕ) → text_at (place_of f.keyed) fs ≡ Some t → text_at p (fs ++ f ∷ []) ≡ text_at p fs
 taken p fs f t e = by (is_same_place (place_of f.keyed) p) refl
   where
@@ -59,7 +59,7 @@ taken p fs f t e = by (is_same_place (place_of f.keyed) p) refl
     by true same = appended p fs f ∙ or_some (text_at p fs) (text_at p (f ∷ [])) t (sym (same_text (place_of f.keyed) p same fs) ∙ e)
     by false other = elsewhere p fs f (ap (λ b. fits f && b) other ∙ and_no (fits f))
 
--- one that fits gives its place its text
+-- an entry that fits, and whose place has no text yet, gives its text to its place and to no other
 pub given : (p : PlaceBytes) (fs : List Filed) (f : Filed) → fits f ≡ true → text_at (place_of f.keyed) fs ≡ None → with_text (place_of f.keyed) f.keyed.text.now (λ q. text_at q fs) p ≡ text_at p (fs ++ f ∷ [])
 given p fs f e none = by (is_same_place (place_of f.keyed) p) refl
   where

@@ -1,4 +1,4 @@
--- The test of a count decides whether a text is one, and what a text spells is one number.
+-- `is_count` decides whether a text is a count, and a text spells at most one whole number.
 use Rattle.std.proofs.Common.{subst, ◌≡◌, ℕ, suc, ◌*◌, ◌/◌, ◌%◌, ◌^◌, ◌<◌, ◌≤◌, Bool, true, false, List, [], ◌++◌, length, decimal, ℤ, pos, negsuc, unsigned_abs, Option, Some, None, IfSome, Ok, Err, refl, sym, ap, ◌∙◌, inl, inr, arith, append-nil, mul-one}
 use Rattle.std.specs.Prelude.{nat_le, is_some}
 use Rattle.std.specs.Str.Parse.{AllDigits, digits_value}
@@ -24,7 +24,7 @@ short_enough m n h = grind (arith, nat_tests)
 passes_short : (m n : ℕ) → m ≤ n → nat_le m n ≡ true
 passes_short m n h = grind (arith, nat_tests)
 
--- a numeral with these parts, whose value is a count
+-- a text with these parts spells n if their value is n, n is below 2 ^ 32, and the text and its exponent are short enough
 spells_from : (text : List ℕ) (parts : Parts) → HasParts text parts → length text ≤ 100 → length parts.exponent ≤ 4 → (n : ℕ) → n < 2 ^ 32 → IsWhole (number_of parts) (exponent_of parts) (pos n) → SpellsWhole text n
 spells_from text parts form short short_exponent n small whole =
     let normal = normal_of_count (number_of parts) (exponent_of parts) n small whole in
@@ -40,7 +40,7 @@ spells_from text parts form short short_exponent n small whole =
       whole = normal.whole;
     }
 
--- a text that passes is a count
+-- a text that passes `is_count` is a count
 pub count_from : (text : List ℕ) → is_count text ≡ true → IsCount text
 unfolding is_count
 count_from text h =
@@ -54,7 +54,7 @@ count_from text h =
       small = at.small;
     }
 
--- a count passes
+-- a count passes `is_count`
 pub count_to : (text : List ℕ) → IsCount text → is_count text ≡ true
 unfolding is_count
 count_to text h =
@@ -65,7 +65,7 @@ count_to text h =
     let whole = whole_from_normal (number_of parts) (exponent_of parts) h.spelled.coefficient h.spelled.exponent h.count value.normal h.spelled.whole in
     and_true _ _ numeral (and_true _ _ (passes_short _ _ spells.short) (and_true _ _ (passes_short _ _ value.short_exponent) (count_at_to _ _ h.count whole h.small)))
 
--- ---- a text spells one whole number
+-- ---- a text spells at most one whole number
 
 whole_once : (c e : ℤ) (m n : ℕ) → IsWhole c e (pos m) → IsWhole c e (pos n) → m ≡ n
 whole_once c (pos k) m n h g = omega (arith, ints, h ∙ sym g)
@@ -80,7 +80,7 @@ count_once text m n s t =
     let same = spells_once text s.coefficient t.coefficient s.exponent t.exponent s.spells t.spells in
     whole_once t.coefficient t.exponent m n (rw (same.0, same.1) at s.whole) t.whole
 
--- ---- texts of digits alone
+-- ---- texts that consist of digits
 
 digits_parts : List ℕ → Parts
 digits_parts text = record { negative = false; whole = text; fraction = []; exponent_negative = false; exponent = [] }
@@ -113,7 +113,7 @@ digits_spell text digits some short small =
 few_digits : (n : ℕ) → n ≤ 9 → 10 ^ n ≤ 10 ^ 9
 few_digits n h = pow-le-pow_right (omega arith) h
 
--- up to nine digits spell a count
+-- a text of one to nine digits is a count
 pub digits_count : (text : List ℕ) → AllDigits 10 text → 0 < length text → length text ≤ 9 → is_count text ≡ true
 digits_count text digits some short =
     let below = digits_value-lt 10 text digits in
@@ -121,7 +121,7 @@ digits_count text digits some short =
     let small : digits_value 10 text < 2 ^ 32 = omega (arith, below, few) in
     count_to text (record { count = digits_value 10 text; spelled = digits_spell text digits some (omega (arith, short)) small; small = small })
 
--- ---- a count's decimal text
+-- ---- the decimal text of a count
 
 pub decimal_spells : (n : ℕ) → n < 2 ^ 32 → SpellsWhole (decimal n) n
 decimal_spells n h =
@@ -133,7 +133,7 @@ decimal_spells n h =
 pub decimal_is_count : (n : ℕ) → n < 2 ^ 32 → is_count (decimal n) ≡ true
 decimal_is_count n h = count_to (decimal n) (record { count = n; spelled = decimal_spells n h; small = h })
 
--- ---- what reading a numeral tells
+-- ---- the result of reading a numeral decides whether it is a count
 
 zero_only : (z x c e : ℤ) → IsNormalForm z x c e → unsigned_abs c % 10 ≡ 0 → (c ≡ pos 0) × (e ≡ pos 0)
 zero_only z x c e (inl h) t = (h.1, h.2)
@@ -153,7 +153,7 @@ not_count : (text : List ℕ) (b : Bool) → is_count text ≡ b → (IsCount te
 not_count text true e h = absurd (h (count_from text e))
 not_count text false e h = refl
 
--- a text that spells no decimal is no count
+-- a text that spells no decimal is not a count
 pub refused_count : (text : List ℕ) (fault : NumberFault) → ((d : Decimal) → Spells text d.coefficient d.exponent → Err fault ≡ Ok d) → false ≡ is_count text
 unfolding decimal_of
 refused_count text fault only = not_count text (is_count text) refl (λ h.
@@ -161,7 +161,7 @@ refused_count text fault only = not_count text (is_count text) refl (λ h.
     let found : Err fault ≡ Ok (decimal_of text s.coefficient s.exponent s.spells) = only (decimal_of text s.coefficient s.exponent s.spells) s.spells in
     cc)
 
--- the number of a text that spells a decimal
+-- a text that spells d is a count exactly if o is `Some`, where o is the whole number below 2 ^ 32 that d equals, if any
 pub counted : (text : List ℕ) (d : Decimal) (o : Option ℕ) → Spells text d.coefficient d.exponent → IfSome o (λ n. n < 2 ^ 32) → IfSome o (λ n. IsWhole d.coefficient d.exponent (pos n)) → ((n : ℕ) → n < 2 ^ 32 → IsWhole d.coefficient d.exponent (pos n) → o ≡ Some n) → is_some o ≡ is_count text
 counted text d (Some n) s small whole only =
     sym (count_to text (record { count = n; spelled = record { coefficient = d.coefficient; exponent = d.exponent; spells = s; whole = whole }; small = small }))

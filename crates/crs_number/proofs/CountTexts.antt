@@ -1,4 +1,4 @@
--- The test of a numeral's form finds its parts.
+-- `is_numeral` decides whether a text has the form of a numeral, and `parts_in` finds the parts.
 use Rattle.std.proofs.Common.{◌≡◌, ℕ, ◌+◌, ◌-◌, ◌<◌, Bool, true, false, ◌&&◌, ◌||◌, ◌==◌, if◌then◌else◌, List, [], ◌∷◌, ◌++◌, length, take, drop, refl, ap, ◌∙◌, inl, inr, ◌⊎◌, ⊎_elim, arith, append-nil, subst}
 use Rattle.std.specs.Prelude.{nat_lt}
 use Rattle.std.proofs.lemmas.Bool.{cases_eq}
@@ -92,7 +92,7 @@ power_to (c ∷ text) negative digits h =
     let refused = λ (bad : (length (digits_in unsigned) ≡ 0) ⊎ (0 < length (behind_digits unsigned))). power_refused (c ∷ text) _ unsigned _ _ (omega arith) cut (cuts_digits unsigned) bad negative digits h in
     and_true _ _ (letter_passes c h.0) (number_passes (length (digits_in unsigned)) (length (behind_digits unsigned)) (λ none. refused (inl none)) (λ more. refused (inr more)))
 
--- a text that passes has the parts that are found
+-- a text that passes `is_numeral` has the parts that `parts_in` computes
 pub parts_from : (text : List ℕ) → is_numeral text ≡ true → HasParts text (parts_in text)
 unfolding is_numeral parts_in
 parts_from text h =
@@ -114,7 +114,7 @@ parts_from text h =
       is_text = s.is_text ∙ ap (λ t. s.sign ++ t) (w.is_text ∙ ap (λ t. digits_in unsigned ++ t) f.is_text);
     }
 
--- a text that has parts passes
+-- a text that has the parts of a numeral passes `is_numeral`
 pub parts_to : (text : List ℕ) (parts : Parts) → HasParts text parts → is_numeral text ≡ true
 unfolding is_numeral parts_in
 parts_to text parts form =

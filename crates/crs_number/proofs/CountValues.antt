@@ -13,7 +13,7 @@ use Rattle.crs_number.specs.Laws.{power_pos, tens, ends_in_zero}
 use Rattle.crs_number.specs.Count.{is_count_at}
 use Rattle.crs_number.proofs.CountTexts.{both, and_true}
 
--- a number from 0 up: a times ten to the i
+-- c times ten to the e is n, where neither c nor e is negative
 pub record Scaled (c e : ℤ) (n : ℕ) : Type 0 where
   pub front : ℕ
   pub zeros : ℕ
@@ -21,7 +21,7 @@ pub record Scaled (c e : ℤ) (n : ℕ) : Type 0 where
   pub is_zeros : e ≡ pos zeros
   pub is : n ≡ front * 10 ^ zeros
 
--- a whole number whose coefficient is no multiple of ten has an exponent from 0 up
+-- if c times ten to the e is n, and c is not a multiple of ten, neither c nor e is negative
 scaled : (c e : ℤ) (n : ℕ) → (unsigned_abs c % 10 ≡ 0 → ⊥) → IsWhole c e (pos n) → Scaled c e n
 scaled (pos a) (pos i) n some h = record { front = a; zeros = i; is_front = refl; is_zeros = refl; is = omega (arith, ints, h) }
 scaled (negsuc a) (pos i) n some h = absurd (no_count (negsuc a) (pos i) n (λ z. absurd (some z)) (inl (omega (arith, ints))) h)
@@ -46,14 +46,14 @@ some_whole a i k n (negsuc j) h e =
     let sum : k ≡ i + suc j = omega (arith, ints, e) in
     ap pos (ap (λ t. a * 10 ^ t) sum ∙ (more_zeros a i (suc j) ∙ ap (λ t. t * 10 ^ suc j) (sym h)))
 
--- what the normal form of a number is, the number is
+-- if the normal form of a number equals n, so does the number
 pub whole_from_normal : (z x c e : ℤ) (n : ℕ) → IsNormalForm z x c e → IsWhole c e (pos n) → IsWhole z x (pos n)
 whole_from_normal z x c e n (inl h) w = zero_whole z x c e n h.0 h.1 h.2 w
 whole_from_normal z x c e n (inr h) w =
     let s = scaled c e n h.0 w in
     rw (h.1.1, s.is_front) (some_whole s.front s.zeros h.1.0 n x s.is (sym s.is_zeros ∙ h.1.2))
 
--- the test of a value answers whether it is a count
+-- z times ten to the x is a whole number from 0 to 2 ^ 32 - 1
 pub record CountAt (z x : ℤ) : Type 0 where
   pub count : ℕ
   pub whole : IsWhole z x (pos count)
@@ -92,7 +92,7 @@ count_at_to (negsuc m) (negsuc k) n h small = absurd (omega (arith, ints, h))
 
 -- ---- the normal form of a count
 
--- n is a number that is no multiple of ten with fewer than m zeros after it
+-- n is `front`, which is not a multiple of ten, followed by fewer than m zeros
 pub record Tenless (m n : ℕ) : Type 0 where
   pub front : ℕ
   pub zeros : ℕ
@@ -113,7 +113,7 @@ tenless (suc m) n h p = ⊎_elim
 front_small : (n : ℕ) (t : Tenless 10 n) → n < 2 ^ 32 → t.front < 10 ^ 34
 front_small n t h = let m = mul-le-mul_left {m = 1} {n = 10 ^ t.zeros} t.front (one-le-pow t.zeros 10 (omega arith)) in omega (arith, t.is, h, m)
 
--- the number's normal form, which is the count
+-- z times ten to the x has a normal form that a decimal can hold, and that equals n
 pub record Normal (z x : ℤ) (n : ℕ) : Type 0 where
   pub coefficient : ℤ
   pub exponent : ℤ
@@ -127,7 +127,7 @@ none_from (pos (suc m)) (pos k) h = let s = mul-pos {m = suc m} {n = 10 ^ k} (om
 none_from (negsuc m) (pos k) h = absurd (not_negative m k 0 h)
 none_from z (negsuc k) h = h ∙ ap pos (zero-mul (10 ^ suc k))
 
--- a number with this many zeros after it is a multiple of a lower power of ten
+-- m is `front` followed by `others` zeros, and `power` zeros more make `many`
 pub record Split (m front many power : ℕ) : Type 0 where
   pub others : ℕ
   pub sum : many ≡ power + others

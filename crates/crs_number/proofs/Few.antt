@@ -5,7 +5,7 @@ use Rattle.std.proofs.lemmas.Int.Digits.{digits_value-lt}
 use Rattle.std.proofs.Math.Nat.{pow-le-pow_right}
 use Rattle.crs_number.proofs.Powers.{ten_more, power_grows, value_append}
 
--- a number below 10 ^ 18 has no 18 zeros
+-- a number from 1 to 10 ^ 18 - 1 ends in fewer than 18 zeros
 few_zeros : (c z n : ℕ) → 0 < c → c * 10 ^ z ≡ n → n < 10 ^ 18 → 18 ≤ z → ⊥
 few_zeros c z n some is small more = omega (arith, some, is, small, power_grows c 18 z more)
 
@@ -14,7 +14,7 @@ pub record Stripped (c z n : ℕ) : Type 0 where
   pub zeros : z + 1 ≤ 18
   pub number : c / 10 * 10 ^ (z + 1) ≡ n
 
--- the last zero is taken off
+-- if c is a multiple of ten, one zero can be moved from c to the power of ten
 pub stripped : (c z n : ℕ) → 0 < c → c % 10 ≡ 0 → c * 10 ^ z ≡ n → n < 10 ^ 18 → z ≤ 18 → Stripped c z n
 stripped c z n some last is small zeros =
     let q = c / 10 in
@@ -36,6 +36,6 @@ pub few_both : (xs ys : List ℕ) → AllDigits 10 xs → AllDigits 10 ys → le
 few_both xs ys a b h =
     subst (λ n. n < 10 ^ 18) (value_append 0 xs ys) (few_alone (xs ++ ys) (digits_both xs ys a b) (omega (arith, h, length-append xs ys)))
 
--- the number of both
+-- reading xs and then ys gives the value of xs followed by ys
 pub both_is : (m n : ℕ) (xs ys : List ℕ) → m ≡ digits_value_after 10 0 xs → n ≡ digits_value_after 10 m ys → n ≡ digits_value 10 (xs ++ ys)
 both_is m n xs ys e f = f ∙ (ap (λ k. digits_value_after 10 k ys) e ∙ sym (value_append 0 xs ys))

@@ -1,4 +1,4 @@
--- A text spells one decimal.
+-- A text spells at most one decimal.
 use Rattle.std.proofs.Common.{◌≡◌, ℕ, ◌*◌, ◌%◌, ◌^◌, Bool, List, ◌++◌, ℤ, unsigned_abs, sym, ap, ◌∙◌, subst, arith, ⊎_elim, zero-mul}
 use Rattle.std.specs.Str.Parse.{digits_value}
 use Rattle.std.proofs.lemmas.Bool.{cases_eq}
@@ -6,7 +6,7 @@ use Rattle.crs_number.specs.Numeral.{Parts, HasValue, Spells, IsNormalForm, sign
 use Rattle.crs_number.proofs.Cuts.{parts_once}
 use Rattle.crs_number.proofs.Normal.{normal_zero, normal_once, normal_reduced}
 
--- a number has one normal form
+-- two normal forms of a number are equal
 pub normal_same : (negative : Bool) (n : ℕ) (x c d e f : ℤ) → IsNormalForm (signed negative n) x c e → IsNormalForm (signed negative n) x d f → (c ≡ d) × (e ≡ f)
 normal_same negative n x c d e f one other = ⊎_elim
     (λ z. let a = normal_zero negative n x c e z one in let b = normal_zero negative n x d f z other in (sym a.0 ∙ b.0, sym a.1 ∙ b.1))

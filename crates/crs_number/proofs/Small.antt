@@ -11,7 +11,7 @@ use Rattle.crs_number.specs.Laws.{power_pos, tens, abs_signed}
 use Rattle.crs_number.specs.Numeral.{Parts, IsFraction, HasParts, Spells, IsNormalForm, signed, number_of}
 use Rattle.crs_number.proofs.Normal.{normal_found}
 
--- a number below a power of ten is 0, or a power of ten times what is no multiple of ten
+-- n is `size`, which is not a multiple of ten, followed by at most `limit` zeros
 record Reduced (limit n : ℕ) : Type 0 where
   size : ℕ
   zeros : ℕ
@@ -38,7 +38,7 @@ reduce (suc f) n h = ⊎_elim
     (λ some. inr (record { size = n; zeros = 0; few = omega arith; number = sym (mul-one n); tenless = some }))
     (cases_eq (n % 10) 0)
 
--- a decimal that n times ten to the x is
+-- a decimal that is the normal form of n times ten to the x, with the sign
 record Found (negative : Bool) (n : ℕ) (x : ℤ) : Type 0 where
   decimal : Decimal
   normal : IsNormalForm (signed negative n) x decimal.coefficient decimal.exponent

@@ -1,4 +1,4 @@
--- Texts with the same bytes.
+-- Texts with equal bytes are equal.
 use Rattle.std.proofs.Common.{◌≡◌, ℕ, List, Bool, true, false, Result, Ok, Err, refl, sym, IsUtf8}
 use Rattle.std.specs.Prelude.{is_ok, MatchResult}
 use Rattle.std.proofs.Props.{props}

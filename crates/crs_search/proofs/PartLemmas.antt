@@ -32,7 +32,7 @@ had_later : (part others : List ℕ) (x : ℕ) (front back : List ℕ) → ¬ (B
 had_later part others x [] back not e = absurd (not (back, e))
 had_later part others x (f ∷ front) back not e = let same : lower others ≡ front ++ (lower part ++ back) = cc in (front, back, same)
 
--- what does not begin with the part has it where what follows the first byte has it
+-- a text that does not begin with the part contains it exactly if the text after its first byte does
 pub passed : (part rest others : List ℕ) (x : ℕ) → rest ≡ x ∷ others → ¬ (BeginsWith part rest) → HasPart part rest ↔ HasPart part others
 passed part rest others x e not = (
   λ h. let k = subst (HasPart part) e h in had_later part others x k.0 k.1 (λ b. not (subst (BeginsWith part) (sym e) b)) k.2,
@@ -53,7 +53,7 @@ ends part [] r h e = (
 )
 ends part (x ∷ rest) r h e = absurd (omega arith)
 
--- ---- a search in small letters
+-- ---- a search in the lowercase text
 
 occurs : (hay front needle back : List ℕ) → hay ≡ front ++ (needle ++ back) → OccursAt hay needle (length front)
 occurs hay front needle back e =

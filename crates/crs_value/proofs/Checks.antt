@@ -1,4 +1,4 @@
--- The first condition that fails, one reference system after another.
+-- The first condition that fails, over each reference system in turn.
 use Rattle.std.proofs.Common.{◌≡◌, Bool, cond, true, false, List, [], ◌∷◌, ◌++◌, Option, None, Some, refl, ap, sym, ◌∙◌}
 use Rattle.std.specs.Prelude.{not, map}
 use Rattle.std.specs.List.{find}
@@ -23,7 +23,7 @@ find-map : {X Y : Type 0} (test : Y → Bool) (f : X → Y) (xs : List X) → fi
 find-map test f [] = refl
 find-map test f (x ∷ xs) = map_step f (test (f x)) x (find test (map f xs)) (find (λ y. test (f y)) xs) (find-map test f xs)
 
--- the first condition that fails of one of the reference systems
+-- a condition that fails, together with the reference system that it fails for
 abbrev pub first_of : Whose → Option Condition → Option Broken
 first_of who condition = option_map (λ which. record { whose = who; condition = which }) condition
 

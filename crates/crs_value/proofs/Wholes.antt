@@ -1,4 +1,4 @@
--- Reference systems with the same parts.
+-- Reference systems with equal parts are equal.
 use Rattle.std.proofs.Common.{◌≡◌}
 use Rattle.std.proofs.Props.{props}
 use Rattle.crs_value.specs.Checking.{HasConditions}

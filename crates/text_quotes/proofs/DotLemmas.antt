@@ -1,10 +1,10 @@
--- What escaping leaves in labels.
+-- Escaped labels of DOT stay inside their quotation marks, and are read back as they were.
 use Rattle.std.proofs.Common.{◌≡◌, ℕ, ◌==◌, Bool, true, false, List, [], ◌∷◌, ◌++◌, codes, if◌then◌else◌, refl, sym, ap, ◌∙◌}
 use Rattle.std.proofs.lemmas.Bool.Decides.{Decides-eqb}
 use Rattle.text_quotes.specs.Scanned.{stays, read_after}
 use Rattle.text_quotes.specs.Dot.{escaped, read}
 
--- how a byte is written, by its tests
+-- the bytes that a byte is escaped to, by the results of the tests on it
 abbrev picked : ℕ → Bool → Bool → Bool → Bool → List ℕ
 picked b t u v w = if t then 92 ∷ 34 ∷ [] else (if u then 92 ∷ 92 ∷ [] else (if v then 92 ∷ 110 ∷ [] else (if w then codes "&amp;" else b ∷ [])))
 

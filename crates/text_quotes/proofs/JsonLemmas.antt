@@ -1,10 +1,10 @@
--- What escaping leaves in strings of JSON.
+-- Escaped strings of JSON stay inside their quotation marks, and are read back as they were.
 use Rattle.std.proofs.Common.{◌≡◌, ℕ, ◌+◌, ◌-◌, ◌==◌, nat_lt, Bool, true, false, List, [], ◌∷◌, ◌++◌, if◌then◌else◌, refl, sym, ap, ◌∙◌, arith}
 use Rattle.std.proofs.lemmas.Bool.Decides.{Decides-eqb, nat_tests}
 use Rattle.text_quotes.specs.Scanned.{stays, read_after}
 use Rattle.text_quotes.specs.Json.{hex_digit, digit_value, escaped, read}
 
--- ---- digits
+-- ---- hexadecimal digits
 
 no_mark : (n : ℕ) → nat_lt n 16 ≡ true → (hex_digit n == 34) ≡ false
 no_mark n h = grind (arith, nat_tests)
@@ -24,12 +24,12 @@ less b h = grind (arith, nat_tests)
 again : (b : ℕ) → nat_lt b 16 ≡ false → 16 + (b - 16) ≡ b
 again b h = grind (arith, nat_tests)
 
--- ---- bytes
+-- ---- escaped bytes
 
 abbrev written : ℕ → Bool → List ℕ
 written b s = 92 ∷ 117 ∷ 48 ∷ 48 ∷ (if s then 48 ∷ hex_digit b ∷ [] else 49 ∷ hex_digit (b - 16) ∷ [])
 
--- how a byte is written, by its tests
+-- the bytes that a byte is escaped to, by the results of the tests on it
 abbrev picked : ℕ → Bool → Bool → Bool → Bool → List ℕ
 picked b t u v s = if t then 92 ∷ 34 ∷ [] else (if u then 92 ∷ 92 ∷ [] else (if v then written b s else b ∷ []))
 

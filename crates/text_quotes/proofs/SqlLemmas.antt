@@ -1,10 +1,10 @@
--- What escaping leaves in texts of SQL.
+-- Escaped texts of SQL stay inside their quotation marks, and are read back as they were.
 use Rattle.std.proofs.Common.{◌≡◌, ℕ, ◌==◌, Bool, true, false, List, [], ◌∷◌, ◌++◌, if◌then◌else◌, refl, sym, ap, ◌∙◌}
 use Rattle.std.proofs.lemmas.Bool.Decides.{Decides-eqb}
 use Rattle.text_quotes.specs.Scanned.{read_after}
 use Rattle.text_quotes.specs.Sql.{escaped, stays, stays_after, read}
 
--- how a byte is written, by its test
+-- the bytes that a byte is escaped to, by the result of the test on it
 abbrev picked : ℕ → Bool → List ℕ
 picked b t = if t then 39 ∷ 39 ∷ [] else b ∷ []
 

@@ -29,7 +29,7 @@ use Rattle.wkt_grammar.proofs.Whole.{cut_rises}
 abbrev Stands : Type 0
 Stands = List Slot × Bool
 
--- ---- what fits has no fault, by recursion
+-- ---- arguments that fit have no fault, by recursion on the tree
 
 taken_none : (r : SlotFault) (inner : Option SlotFault) (go : List Slot → Option SlotFault) (o : Option (List Slot)) (l : List Slot) → o ≡ Some l → inner ≡ None → go l ≡ None → taken r inner go o ≡ None
 taken_none r inner go o l e f g = ap (taken r inner go) e ∙ (ap (λ x. first x (go l)) f ∙ g)

@@ -56,7 +56,7 @@ both false b e = absurd cc
 abbrev pub passes : (Slot → Bool) → Slot → Bool
 passes p s = p s || not (is_required s.often)
 
--- what fits the slots that pass fits all, where the others may stay empty
+-- arguments that fit the slots that pass p fit the whole row, if all other slots may stay empty
 fits_more : (p : Slot → Bool) (row : List Slot) (args : List Argument) → list_all (passes p) row ≡ true → Fits (filter p row) args → Fits row args
 fits_more p [] args h f = f
 fits_more p (s ∷ row) args h f =

@@ -1,4 +1,4 @@
--- What trees denoted by the first edition, and what they denote by the second.
+-- The values that trees denote by the first edition, and those that they denote by the second.
 use Rattle.std.proofs.Common.{◌≡◌, true, List, [], ◌∷◌, ◌++◌, Option, None, refl, sym, ap, ◌∙◌, subst, arith}
 use Rattle.std.proofs.lemmas.List.Elements.{All-nil, All-cons, All-head, All-tail}
 use Rattle.crs_part.specs.declared.usages.Usage.{Usage}
@@ -26,7 +26,7 @@ use Rattle.wkt_grammar.specs.FirstEdition.{first_usage_fields, FirstDenotesUsage
 
 -- ---- from one row to another, slot by slot
 
--- what is read by one row is read by the other
+-- arguments that have these fields by one row have the other fields by the other row
 record Turns (row row' : List Slot) (fields fields' : Fields) : Type 0 where
   pub of : (xs : List Bare) → Runs row fields xs → Runs row' fields' xs
 
@@ -40,18 +40,18 @@ infixr 5 ◌>>◌
 same : (P : List Bare → Type 0) (xs : List Bare) → P xs → P xs
 same P xs p = p
 
--- a slot more, which is empty
+-- the second row has one more slot, which is empty
 more : {s : Slot} {row row' : List Slot} {Q : List Bare → Type 0} {fields fields' : Fields} → Times s.often 0 → Q [] → Turns row row' fields fields' → Turns row (s ∷ row') fields (Q & fields')
 more {s} n q t = record { of = λ xs r. ([], xs, refl, (All-nil (λ (a : Argument). takes s.takes a ≡ true), n), q, t.of xs r) }
 
--- a slot less, which is empty
+-- the first row has one more slot, which is empty
 less : {s : Slot} {row row' : List Slot} {P : List Bare → Type 0} {fields fields' : Fields} → ((xs : List Bare) → P xs → xs ≡ []) → Turns row row' fields fields' → Turns (s ∷ row) row' (P & fields) fields'
 less {s} {row} {row'} {P} {fields} {fields'} f t = record { of = λ xs r. subst (Runs row' fields') (sym (r.2 ∙ ap (λ (run : List Bare). run ++ r.1) (f r.0 r.4))) (t.of r.1 r.5) }
 
 turned : (e e' : Edition) (K : Keyword) (n : Node) (F F' : Fields) (x : Bare) → Turns (row_of e n) (row_of e' n) F F' → IsNodeIn e K n F x → IsNodeIn e' K n F' x
 turned e e' K n F F' x t d = record { keyword = d.keyword; items = d.items; is = d.is; meaning = d.meaning; runs = t.of (args d.items) d.runs }
 
--- ---- runs of one, at most one, and any number
+-- ---- runs of one argument, of at most one, and of any number
 
 empty_maybe : {A : Type 0} (D : Bare → A → Type 0) (v : Option A) → v ≡ None → (xs : List Bare) → Maybe D v xs → xs ≡ []
 empty_maybe D v e xs m = by xs (subst (λ o. Maybe D o xs) e m)

@@ -29,7 +29,7 @@ use Rattle.wkt_grammar.specs.Fitted.{Inside, AllInside, Fitted, entered, IsSound
 use Rattle.wkt_grammar.proofs.Found.{items_sound}
 use Rattle.wkt_grammar.proofs.Reach.{items_has}
 
--- an argument is the same without its places
+-- an item is the same kind of argument with its places and without them
 pub shape-bare : (i : Item) → shape (bare i) ≡ argument i
 shape-bare (tree.text p) = refl
 shape-bare (tree.number p) = refl
@@ -82,7 +82,7 @@ mutual
         (item_none ed i n t.2, r.1),
       )
 
--- a tree without a slot fault
+-- a tree without a slot fault fits the row of the root
 pub clean_fitted : (ed : Edition) (ts : List Tok) → IsClean ed ts → (k : Piece) (d : Delimiter) (o : Piece) (items : Items) (c : Piece) → ts ≡ tokens (tree.node k d o items c) → Fitted ed nodes.Root (and (bare (tree.node k d o items c)) none)
 clean_fitted ed ts clean k d o items c e =
     let t = tree.node k d o items c in
@@ -129,7 +129,7 @@ split_of (a ∷ run) rest (x ∷ xs) e =
     let s = split_of run rest xs others in
     record { front = x ∷ s.front; back = s.back; parts = ap (λ (l : List Bare). x ∷ l) s.parts; front_is = let f = s.front_is in cc; back_is = s.back_is }
 
--- each slot of what is left of the row gives a keyword the row that the whole row gives it
+-- each slot of the rest of the row assigns a keyword the row that the whole row assigns to it
 abbrev Decides : Edition → Node → List Slot → Type 0
 Decides ed n row = (i : ℕ) (d : Slot) (k : Keyword) (m : Node) → i < length row → enters (get_or row i d).takes k ≡ Some m → row_in (row_of ed n) k ≡ Some m
 
@@ -178,11 +178,11 @@ cuts_from ed (s ∷ row) n xs h f i =
       cuts_from ed row n p.back (decides_rest ed n s row h) (subst (λ l. Fits row l) (sym p.back_is) f.5) inside.1,
     )
 
--- what fits, slot by slot
+-- arguments that fit a row can be cut into a run for each slot
 pub fitted_cuts : (ed : Edition) (n : Node) (xs : Bares) → Fitted ed n xs → Cuts ed (row_of ed n) (args xs)
 fitted_cuts ed n xs f = cuts_from ed (row_of ed n) n (args xs) (λ i d k m below e. decides ed n m i d k below e) f.0 (each_inside ed n xs f.1)
 
--- ---- and back
+-- ---- the converse
 
 entering : (t : Takes) (o : Option Keyword) → takes t (argument_by o) ≡ true → (m : Node) × (entered t o ≡ Some m)
 entering t None e = absurd cc

@@ -1,4 +1,4 @@
--- The fault that the recursion finds is one of the tree, and none has a lesser place.
+-- The fault that the recursion finds is a fault of the tree, and all others have greater places.
 use Rattle.std.proofs.Common.{◌≡◌, ℕ, suc, ◌≤◌, ◌<◌, Bool, true, false, cond, List, [], ◌∷◌, ◌++◌, Option, Some, None, refl, sym, ap, ◌∙◌, arith, inl, inr}
 use Rattle.std.specs.Prelude.{◌⊎◌, ◌||◌, option_and_then}
 use Rattle.std.specs.Option.{option_map, is_some}
@@ -40,7 +40,7 @@ abbrev mutual
   InItems ed n left filled (last i) end g = InTaken (refusal left filled (argument i) (begin i) ≡ g) (InItem ed n i g) (λ l. missing_fault l end ≡ Some g) (next left filled (argument i))
   InItems ed n left filled (more i c rest) end g = InTaken (refusal left filled (argument i) (begin i) ≡ g) (InItem ed n i g) (λ l. InItems ed n l true rest end g) (next left filled (argument i))
 
--- ---- what is found is a fault
+-- ---- the fault that is found is a fault of the tree
 
 first_either : (a b : Option SlotFault) (f : SlotFault) → first a b ≡ Some f → (a ≡ Some f) ⊎ (b ≡ Some f)
 first_either (Some g) b f e = inl e
@@ -70,7 +70,7 @@ mutual
 
 -- ---- places
 
--- the places rise, from one up to another, which they don't reach
+-- the places of the tokens strictly ascend; all are at least lo and below hi
 abbrev pub Rising : ℕ → List Tok → ℕ → Type 0
 Rising lo [] hi = lo ≤ hi
 Rising lo (t ∷ ts) hi = (lo ≤ t.piece.place) × Rising (suc t.piece.place) ts hi
@@ -120,7 +120,7 @@ missing_place (Some s) end f e = let same : Missing s end ≡ f = cc in ap place
 at_place : (lo n hi : ℕ) (m : ℕ) → m ≡ n → Inside lo n hi → Inside lo m hi
 at_place lo n hi m e b = (let x = b.0 in omega (arith, x, e), let y = b.1 in omega (arith, y, e))
 
--- the tokens of the arguments of a node
+-- the arguments of a node are between its opening and its closing delimiter
 inner_rising : (k : Piece) (d : Delimiter) (o : Piece) (items : Items) (c : Piece) (lo hi : ℕ) → Rising lo (tokens (node k d o items c)) hi → Rising (suc o.place) (all_tokens items) c.place × (lo ≤ suc o.place) × (suc c.place ≤ hi)
 inner_rising k d o items c lo hi r =
     let s = rising_split (all_tokens items) (tok (Close d) c ∷ []) (suc o.place) hi r.1.1 in
@@ -161,7 +161,7 @@ mutual
         ]
       ] x
 
--- ---- each fault is at the place that is found, or after it
+-- ---- each fault is the one that is found, or has a greater place
 
 abbrev pub Found : Option SlotFault → SlotFault → Type 0
 Found o g = (f : SlotFault) × (o ≡ Some f) × ((g ≡ f) ⊎ (place f < place g))

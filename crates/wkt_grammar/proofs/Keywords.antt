@@ -1,4 +1,4 @@
--- Keywords: their places, their spellings, and what these mean.
+-- Keywords: their places, their spellings, and the meanings of words.
 use Rattle.std.proofs.Common.{◌≡◌, ℕ, Bool, true, false, cond, List, [], ◌∷◌, ◌++◌, map, get_or, Option, Some, None, refl, sym, ap, ◌∙◌, arith}
 use Rattle.std.specs.Prelude.{◌==◌, ◌&&◌, ◌||◌, ◌↔◌, if◌then◌else◌}
 use Rattle.std.specs.Bool.{Decides}
@@ -68,7 +68,7 @@ same_is a b e = sym (placed a) ∙ (ap (λ i. get_or all_keywords i keywords.Uni
 pub is_same : (k : Keyword) → same_keyword k k ≡ true
 is_same k = own_place (place_of k)
 
--- a slot for a node with one keyword takes that one alone
+-- a slot for nodes with one keyword takes no other keyword
 pub node_only : (own : Keyword) (n : Node) (k : Keyword) (m : Node) → enters (kinds.Node own n) k ≡ Some m → (k ≡ own) × (m ≡ n)
 node_only own n k m e = by (same_keyword own k) refl e
   where
@@ -117,7 +117,7 @@ keyword_spelled keywords.Uri = refl
 keyword_spelled keywords.Remark = refl
 keyword_spelled keywords.Identifier = refl
 
--- a word is looked for among the spellings of some keywords, and then among others
+-- a lookup among the spellings of keywords and then among others is two searches, one after the other
 after : (ks : List Keyword) (others : List (List ℕ × Keyword)) (bytes : List ℕ)
     → lookup (λ w. same_word w bytes) (map (λ k. (spelling k, k)) ks ++ others) ≡ option_or (first_word spelling ks (map to_ascii_lowercase bytes)) (lookup (λ w. same_word w bytes) others)
 after [] others bytes = refl
@@ -131,7 +131,7 @@ pub by_spelling : (bytes : List ℕ) → keyword_of bytes ≡ option_or (first_w
 unfolding keyword_of
 by_spelling bytes = after all_keywords alternates bytes
 
--- ---- a word that is a spelling of a keyword means it
+-- ---- a word that is a spelling of a keyword means that keyword
 
 abbrev Meanings : Type 0
 Meanings = List (List ℕ × Keyword)
@@ -191,7 +191,7 @@ found bytes k e = looked_up k bytes meanings e
 pub keywords_are : (bytes : List ℕ) (k : Keyword) → (keyword_of bytes ≡ Some k) ↔ IsKeyword k bytes
 keywords_are bytes k = (found bytes k, λ h. listed k bytes meanings (each_means meanings table_means) h)
 
--- ---- the ways in which the meaning of a word is found
+-- ---- the steps of the search for the meaning of a word
 
 pub likely_means : (k : Keyword) (bytes : List ℕ) → spelling k ≡ bytes → Some k ≡ keyword_of bytes
 likely_means k bytes e = sym (keyword_spelled k) ∙ ap keyword_of e

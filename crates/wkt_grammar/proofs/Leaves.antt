@@ -55,7 +55,7 @@ undoubled-body (b ∷ c) = ⊎_elim
     (λ n. ap (λ l. undoubled false (l ++ 34 ∷ [])) (body-plain b c n.1) ∙ (undoubled_plain b (flat_map doubled c ++ 34 ∷ []) n.0 ∙ ap (λ l. b ∷ l) (undoubled-body c)))
     (by_mark b)
 
--- what stands between the marks of a quoted text is the text
+-- the text after the opening mark of a quoted text is read as its content
 pub undoubled-quoted : (c : List ℕ) → undoubled false (drop 1 (quoted c)) ≡ c
 undoubled-quoted c = undoubled-body c
 
@@ -94,7 +94,7 @@ number_law = record {
   spelled = λ v. record { bytes = canonical v.coefficient v.exponent; is = refl; spells = canonical_spells v };
 }
 
--- a number that a count can be
+-- a number from 0 to 2 ^ 32 - 1
 pub record Small : Type 0 where
   pub value : ℕ
   pub small : value < 2 ^ 32
@@ -144,7 +144,7 @@ code_law = record { fits = code_fits; once = code_once; spelled = code_spelled }
 
 -- ---- words
 
--- whether a word is listed, by its small letters
+-- a word in lowercase
 abbrev small_letters : List ℕ → List ℕ
 small_letters b = map to_ascii_lowercase b
 

@@ -16,7 +16,7 @@ use Rattle.wkt_grammar.proofs.Walks.{Left, Passes, Stands, Taken, and_parts, beg
 
 -- ---- the first slot that is missing
 
--- a row, cut before a required slot; the arguments fit what is before it
+-- the row up to a required slot n, which is empty: the arguments fit the slots before it
 pub record Lacks (row : List Slot) (filled : Bool) (args : List Argument) (n : SlotName) : Type 0 where
   pub before : List Slot
   pub slot : Slot
@@ -106,7 +106,7 @@ pub ended_missing : (ed : Edition) (node : Node) (place : RowPosition) (r : Opti
 ended_missing ed node place None h = tt
 ended_missing ed node place (Some p) h = λ args e. first_missing_is (row_of ed node) args _ p e (sym h)
 
--- ---- a row of which the arguments fill a front
+-- ---- rows whose first slots the arguments fit
 
 may_begin_front : (before tail : List Slot) (a : Argument) → may_begin before a ≡ true → may_begin (before ++ tail) a ≡ true
 may_begin_front [] tail a e = absurd cc
@@ -117,7 +117,7 @@ may_begin_front (s ∷ before) tail a e = by (takes s.takes a) (is_required s.of
     by false true g h = absurd cc
     by false false g h = h g
 
--- what is left of the front once it took an argument
+-- the walk takes the argument, and the others fit what remains of the first slots
 abbrev FrontStep : List Slot → List Slot → Bool → Argument → List Argument → Type 0
 FrontStep before tail filled a args = (s : Slot) × (left : List Slot) × (next (before ++ tail) filled a ≡ Some (s ∷ left ++ tail)) × Left (s ∷ left) true args
 
@@ -141,7 +141,7 @@ front_step (s ∷ before) tail filled a args c (b ∷ run, rest, e, all, n, f) =
     let passed = both_true (takes s.takes a) (not filled || is_many s.often) t (may_take s.often filled (length run) n) in
     (s, before, ap (λ x. Taken s row filled a x (is_required s.often && not filled)) passed, (run, rest, others, All-tail (Passes s.takes) b run all, one_less s.often filled (length run) n, f))
 
--- the front is full, and the slot after it is required
+-- if no argument remains for the first slots, and the slot after them is required, this slot is missing
 front_missing : (before : List Slot) (s : Slot) (after : List Slot) (filled : Bool) → Left before filled [] → is_required s.often ≡ true → (before ≡ [] → filled ≡ false) → missing (before ++ s ∷ after) filled ≡ Some s.name
 front_missing [] s after filled h r z = ap (λ b. cond b (Some s.name) (missing after false)) (both_true (is_required s.often) (not filled) r (ap not (z refl)))
 front_missing (x ∷ before) s after filled ([], rest, e, all, n, f) r z =
@@ -159,7 +159,7 @@ front_walk (a ∷ args) before s after filled at c h r z w =
     let on : walk (g.0 ∷ g.1 ++ s ∷ after) true args ≡ Some at = sym (ap (option_and_then (λ left. walk left true args)) g.2) ∙ w in
     front_walk args (g.0 ∷ g.1) s after true at (clear_next (before ++ s ∷ after) filled a (g.0 ∷ g.1 ++ s ∷ after) g.2 c) g.3 r (λ y. absurd cc) on
 
--- the slot that is missing is the one at which the walk stops
+-- the first missing slot is the one that is missing where the walk ends
 pub missing_is : (row : List Slot) (args : List Argument) (at : Stands) (n : SlotName) → is_clear row ≡ true → walk row false args ≡ Some at → FirstMissing row args n → missing at.0 at.1 ≡ Some n
 missing_is row args at n c w m =
     front_walk args m.before m.slot m.after false at (subst (λ l. is_clear l ≡ true) m.parts c) (fits_left m.before args m.fit) m.required (λ _. refl) (subst (λ l. walk l false args ≡ Some at) m.parts w) ∙ ap Some m.is

@@ -27,7 +27,7 @@ use Rattle.wkt_grammar.specs.Runs.{Fields, nothing, ◌&◌, Runs, IsNode, One, 
 use Rattle.crs_part.specs.declared.many.NonEmpty.{NonEmpty}
 use Rattle.wkt_grammar.specs.Trees as trees
 
--- ---- what fits
+-- ---- arguments that denote the fields of a row fit it
 
 map_shapes : (a b : List Bare) → map shape (a ++ b) ≡ map shape a ++ map shape b
 map_shapes [] b = refl
@@ -43,7 +43,7 @@ runs_fit [] (P & fields) xs r = absurd r
 runs_fit (s ∷ row) nothing xs r = absurd r
 runs_fit (s ∷ row) (P & fields) xs (run, rest, e, m, p, r) = (map shape run, map shape rest, ap (map shape) e ∙ map_shapes run rest, m.0, subst (λ k. Times s.often k) (sym (length_shapes run)) m.1, runs_fit row fields rest r)
 
--- ---- a row is cut in one way
+-- ---- arguments can be cut into the runs of a row in one way only
 
 abbrev Passes : Takes → Argument → Type 0
 Passes t a = takes t a ≡ true
@@ -53,7 +53,7 @@ and_parts true true e = (refl, refl)
 and_parts true false e = absurd cc
 and_parts false b e = absurd cc
 
--- a slot that takes one argument only takes no second one
+-- a slot that takes exactly one argument takes no second one
 once_full : (o : Often) (k n : ℕ) → (is_required o && not (is_many o)) ≡ true → Times o (zero + k) → Times o (suc n + k) → ⊥
 once_full Once k n e p q = omega (arith, p, q)
 once_full AtMostOnce k n e p q = absurd cc
@@ -66,7 +66,7 @@ not_both false true true e p q = absurd cc
 not_both false true false e p q = absurd cc
 not_both false false b e p q = absurd cc
 
--- where one cut of a row ends its first run, no other goes on
+-- the run of the first slot cannot end here in one cut of the arguments and continue in another
 ends_here : (s : Slot) (row : List Slot) (y : Bare) (r rest rest' : List Bare) (k : ℕ) → is_clear (s ∷ row) ≡ true → Passes s.takes (shape y) → Times s.often (zero + k) → Times s.often (suc (length r) + k) → Fits row (map shape rest) → rest ≡ y ∷ (r ++ rest') → ⊥
 ends_here s row y r rest rest' k c p t u f e =
     let parts = and_parts (list_all (λ x. not (not (is_required s.often && not (is_many s.often)) && (takes s.takes x && may_begin row x))) all_arguments) (is_clear row) c in
@@ -94,7 +94,7 @@ same_cut s row (x ∷ r) (y ∷ r') rest rest' k c a a' t t' f f' e =
 
 -- ---- laws of an argument, of a slot, of a row
 
--- What is denoted by an argument of a slot of this kind, and the canonical tree of a value.
+-- an argument that denotes a value fits the slot and denotes no other value, and the canonical tree of a value denotes it
 pub record Law {A : Type 0} (t : Takes) (D : Bare → A → Type 0) (tree : A → Bare) : Type 0 where
   pub fits : (x : Bare) (v : A) → D x v → Fitting t x
   pub once : (x : Bare) (v w : A) → D x v → D x w → v ≡ w
@@ -253,7 +253,7 @@ same_items k k' xs ys e = (cc, cc)
 some_keyword : (a b : Keyword) → Some a ≡ Some b → a ≡ b
 some_keyword a b h = cc
 
--- A value is what it says of the keyword, and the fields.
+-- the law of nodes whose value is determined by the keyword and the fields
 pub node_law : {A B : Type 0} {F : B → Fields} {run : B → List Bare} (t : Takes) (K : A → Keyword) (n : Node) (to : A → B)
     → ((v : A) → enters t (K v) ≡ Some n) → ((v w : A) → K v ≡ K w → to v ≡ to w → v ≡ w) → RowLaw (row_of n) F run
     → Law t (λ x v. IsNode (K v) n (F (to v)) x) (λ v. node (spelling (K v)) (bares (run (to v))))
@@ -272,6 +272,6 @@ node_law {A} {B} {F} {run} t K n to enter same row = record {
   };
 }
 
--- a tree has one keyword
+-- equal nodes have the same keyword
 pub same_keyword : (k k' : List ℕ) (xs ys : Bares) (K J : Keyword) → node k xs ≡ node k' ys → keyword_of k ≡ Some K → keyword_of k' ≡ Some J → K ≡ J
 same_keyword k k' xs ys K J e p q = some_keyword K J (sym p ∙ (ap keyword_of (same_items k k' xs ys e).0 ∙ q))

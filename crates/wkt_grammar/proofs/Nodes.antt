@@ -1,4 +1,4 @@
--- The laws of each node, from those of its slots: a line a slot, in the order of its row.
+-- The laws of each node, from those of its slots: one line for each slot, in the order of its row.
 use Rattle.std.proofs.Common.{◌≡◌, ℕ, ◌<◌, ◌^◌, Some, refl, sym, ap, ◌∙◌}
 use Rattle.std.proofs.Props.{props}
 use mathlib.Core.HLevel.{is_prop→PathP}
@@ -116,7 +116,7 @@ angle_angle = unit_of_law kinds.AngleUnit keywords.AngleUnit refl
 angle_generic : Units kinds.AngleUnit keywords.Unit
 angle_generic = unit_of_law kinds.AngleUnit keywords.Unit refl
 
--- one tree is not two nodes with other keywords
+-- a tree is a node with at most one keyword
 one_keyword : {n m : Node} {F G : Fields} (K J : Keyword) (x : Bare) → IsNode K n F x → IsNode J m G x → K ≡ J
 one_keyword K J x d e = same_keyword d.keyword e.keyword d.items e.items K J (sym d.is ∙ e.is) d.meaning e.meaning
 
@@ -343,7 +343,7 @@ geodetic_kind_once geodetic_kind.Geographic geodetic_kind.Geographic e = refl
 geodetic_kind_once geodetic_kind.Geodetic geodetic_kind.Geographic e = absurd cc
 geodetic_kind_once geodetic_kind.Geographic geodetic_kind.Geodetic e = absurd cc
 
--- the slots of a component of a compound, and of the root
+-- the slot takes every kind of single reference system, as those of a compound's components and of the root do
 abbrev Singles : Takes → Type 0
 Singles t = ((v : GeodeticKind) → enters t (geodetic_keyword v) ≡ Some nodes.GeodeticCrs) × (enters t keywords.ProjectedCrs ≡ Some nodes.ProjectedCrs) × (enters t keywords.VerticalCrs ≡ Some nodes.VerticalCrs)
 
@@ -379,7 +379,7 @@ vertical_law t s =
     (λ v w k h. λ i. record { name = (h i).0; datum = (h i).1.0; system = (h i).1.1.0; axes = (h i).1.1.1.0; unit = (h i).1.1.1.1.0; geoid_models = (h i).1.1.1.1.1.0; usages = (h i).1.1.1.1.1.1.0; ids = (h i).1.1.1.1.1.1.1.0; remark = (h i).1.1.1.1.1.1.1.1.0 })
     (one slots.Name text_law >> one slots.Datum vertical_frame_law >> one slots.Cs system_law >> some slots.Axis axis_law >> maybe slots.Unit unit_law >> each slots.GeoidModel geoid_model_law >> each slots.Usage usage_law >> each slots.Id ident_law >> maybe slots.Remark remark_law >> done)
 
--- the keyword of a component
+-- the keyword of a single reference system
 abbrev single_keyword : Single → Keyword
 single_keyword (single.Geodetic v) = geodetic_keyword v.kind
 single_keyword (single.Projected v) = keywords.ProjectedCrs

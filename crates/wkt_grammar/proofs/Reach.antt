@@ -1,4 +1,4 @@
--- The faults by recursion on the tree are those of the nodes that are reached.
+-- The faults by recursion on the tree are the faults of the nodes that are reached.
 use Rattle.std.proofs.Common.{◌≡◌, ℕ, Bool, true, false, cond, List, [], ◌∷◌, ◌++◌, map, Option, Some, None, refl, sym, ap, ◌∙◌, subst, append_assoc, inl, inr}
 use Rattle.std.specs.Prelude.{◌⊎◌, ◌||◌, option_and_then}
 use Rattle.std.specs.Option.{option_map, is_some}
@@ -54,7 +54,7 @@ next_no ed n args left filled a w e ad = let g = admit_next ed n args left fille
 front_admitted : (row : List Slot) (args : List Argument) (a : Argument) → Admitted row (args ++ a ∷ []) → Admitted row args
 front_admitted row args a ad = record { others = a ∷ ad.others; fit = subst (λ l. Fits row l) (append_assoc args (a ∷ []) ad.others) ad.fit }
 
--- ---- which fault a refused argument is
+-- ---- the fault of a refused argument
 
 module _ (ed : Edition) (n : Node) (args : List Argument) (left : List Slot) (filled : Bool) (w : At ed n args left filled) where
   abbrev Can : Argument → Bool → Type 0
@@ -108,7 +108,7 @@ same_refusal row args (word p) f g (inr x) (inl y) = absurd (x.1 y.1)
 same_refusal row args (word p) f g (inr x) (inr y) = x.0 ∙ sym y.0
 same_refusal row args (node k d o items c) f g x y = x ∙ sym y
 
--- ---- a fault by recursion is one of a node that is reached
+-- ---- a fault by recursion is a fault of a node that is reached
 
 row_by_is : (ed : Edition) (n m : Node) (o : Option Keyword) → row_by ed n o ≡ Some m → (k : Keyword) × (o ≡ Some k) × (row_in (row_of ed n) k ≡ Some m)
 row_by_is ed n m None e = absurd cc
@@ -183,9 +183,9 @@ mutual
         ]
       ] refl x
 
--- ---- and the other way round
+-- ---- a fault of a node that is reached is a fault by recursion
 
--- what is wrong at one argument
+-- a fault at one argument: it is refused, or a fault is inside it
 abbrev Here : Edition → Node → List Slot → Bool → Item → SlotFault → Type 0
 Here ed n l f i g = InTaken (refusal l f (argument i) (begin i) ≡ g) (InItem ed n i g) (λ x. ⊥) (next l f (argument i))
 

@@ -1,4 +1,4 @@
--- The walk over the tokens finds what the recursion on the tree does.
+-- The walk over the tokens finds the fault that the recursion on the tree finds.
 use Rattle.std.proofs.Common.{◌≡◌, ℕ, zero, suc, ◌≤◌, Bool, true, false, cond, List, [], ◌∷◌, ◌++◌, length, drop, Option, Some, None, refl, sym, ap, ◌∙◌, append_assoc, arith, inl, inr}
 use Rattle.std.specs.Prelude.{◌⊎◌, Ok, Err, ◌&&◌, ◌||◌, not, slice_get, option_and_then}
 use Rattle.std.specs.Option.{option_map, is_some}
@@ -26,7 +26,7 @@ use Rattle.crs_number.specs.Count.{is_count}
 use Rattle.wkt_grammar.specs.Next.{Follows, next_is, is_open, is_comma, place_next}
 use Rattle.wkt_grammar.specs.First.{row_by, first, items_fault, item_fault, missing_fault, rest_at, refusal, taken, argument_fault, AnswersItem, AnswersNode}
 
--- after an argument: the end of the node, or a comma and more arguments; and what is still to be answered
+-- after an argument, the node ends, or a comma and more arguments follow; the node has the fault of this rest
 abbrev pub Behind : Edition → Node → Items → Delimiter → Piece → List Tok → List Tok → RowPosition → Type 0
 Behind ed n items d c rest cur p =
     (p.filled ≡ true)
@@ -36,16 +36,16 @@ Behind ed n items d c rest cur p =
 abbrev pub GoesOn : Edition → Node → List Tok → List Tok → RowPosition → Type 0
 GoesOn ed n old cur p = (items : Items) (d : Delimiter) (c : Piece) (rest : List Tok) → old ≡ all_tokens items ++ tok (Close d) c ∷ rest → Behind ed n items d c rest cur p
 
--- ---- the token that comes
+-- ---- the next token
 
--- the token that was peeked
+-- the token that was peeked at is the first one
 peeked_is : (old : List Tok) (t : Token) → option_map view (Some t) ≡ slice_get old 0 → (u : Tok) (rest : List Tok) → old ≡ u ∷ rest → view t ≡ u
 peeked_is old t e u rest h = let g = e ∙ ap (λ (l : List Tok). slice_get l 0) h in cc
 
 none_peeked : (old : List Tok) → option_map view None ≡ slice_get old 0 → (u : Tok) (rest : List Tok) → old ≡ u ∷ rest → ⊥
 none_peeked old e u rest h = let g = e ∙ ap (λ (l : List Tok). slice_get l 0) h in cc
 
--- an argument has a token
+-- an argument has at least one token
 pub some_token : (old : List Tok) → option_map view None ≡ slice_get old 0 → (i : Item) (rest : List Tok) → old ≡ tokens i ++ rest → ⊥
 some_token old e (text p) rest h = none_peeked old e (tok Quoted p) rest h
 some_token old e (number p) rest h = none_peeked old e (tok Number p) rest h
@@ -55,7 +55,7 @@ some_token old e (node k d o items c) rest h = none_peeked old e (tok Word k) _ 
 abbrev pub seen : Token → Bool → Argument
 seen t opens = argument_of t.kind t.bytes.now opens
 
--- what it tells of the argument that it begins
+-- the first token of an argument, and whether a delimiter opens after it, determine its kind and its place
 pub head_is : (old : List Tok) (t : Token) → option_map view (Some t) ≡ slice_get old 0 → (i : Item) (rest : List Tok) → old ≡ tokens i ++ rest → Follows rest → (seen t (next_is is_open (drop 1 old)) ≡ argument i) × (t.place ≡ begin i)
 head_is old t e (text p) rest h f = let v = peeked_is old t e (tok Quoted p) rest h in (ap (λ (u : Tok). argument_of u.kind u.piece.bytes (next_is is_open (drop 1 old))) v, ap (λ (u : Tok). u.piece.place) v)
 head_is old t e (number p) rest h f = let v = peeked_is old t e (tok Number p) rest h in (ap (λ (u : Tok). argument_of u.kind u.piece.bytes (next_is is_open (drop 1 old))) v, ap (λ (u : Tok). u.piece.place) v)
@@ -98,7 +98,7 @@ word_plain bytes =
       | false ↦ elim (is_direction bytes) as (λ b. NoNode (cond b arguments.Direction arguments.OtherWord)) [ true ↦ λ k e. absurd cc | false ↦ λ k e. absurd cc ]
     ]
 
--- the keyword that is known
+-- an argument that is a node with a known keyword has this keyword
 known : (o : Option Keyword) (k : Keyword) → argument_by o ≡ arguments.Node k → o ≡ Some k
 known None k e = absurd cc
 known (Some j) k e = let same : j ≡ k = cc in ap Some same
@@ -107,7 +107,7 @@ unknown : (o : Option Keyword) → NoNode (argument_by o) → argument_by o ≡ 
 unknown None h = refl
 unknown (Some j) h = absurd (h j refl)
 
--- an argument that is no known node
+-- an argument that is not a known node is one token, without a fault inside it
 pub plain_item : (ed : Edition) (n : Node) (left l : List Slot) (filled : Bool) (i : Item) (rest old : List Tok) → NoNode (argument i) → next left filled (argument i) ≡ Some l → old ≡ tokens i ++ rest → (drop 1 old ≡ rest) × (item_fault ed n i ≡ None)
 plain_item ed n left l filled (text p) rest old h x e = (ap (drop 1) e, refl)
 plain_item ed n left l filled (number p) rest old h x e = (ap (drop 1) e, refl)
@@ -129,11 +129,11 @@ not_taken (s ∷ left) filled k e =
       | None ↦ λ g. elim (is_required s.often && not filled) as (λ b. cond b None (next left false (arguments.Node k)) ≡ None) [ true ↦ refl | false ↦ not_taken left false k g ]
     ] e
 
--- a node that was taken has a row
+-- a keyword that the row takes has a row of its own
 pub has_row : (row : List Slot) (s : ℕ) (filled : Bool) (k : Keyword) (l : List Slot) → next (drop s row) filled (arguments.Node k) ≡ Some l → row_in row k ≡ None → ⊥
 has_row row s filled k l e x = let g = not_taken (drop s row) filled k (row_in_drop row s k x) in cc
 
--- a node whose row is known
+-- the tokens are the arguments of a node, its closing delimiter, and the rest
 abbrev pub Goes : Node → Items → Piece → Delimiter → List Tok → List Tok → Type 0
 Goes m items c d rest two = two ≡ all_tokens items ++ tok (Close d) c ∷ rest
 
@@ -187,7 +187,7 @@ goes_first ed n p old cur a items d c rest e = behind_item ed n start p items it
 pub err_first : (ed : Edition) (n : Node) (f : SlotFault) (old cur new : List Tok) → AnswersItem ed n start old cur (Err f) → AnswersNode ed n old new (Err f)
 err_first ed n f old cur new a items d c rest e = item_err ed n start items old cur f d c rest a e
 
--- the arguments after a comma
+-- after a comma, more arguments follow, and the fault of the node is theirs
 on_comma : (ed : Edition) (n : Node) (p : RowPosition) (old cur : List Tok) (items : Items) (d : Delimiter) (c : Piece) (rest : List Tok) → GoesOn ed n old cur p → next_is is_comma cur ≡ true → old ≡ all_tokens items ++ tok (Close d) c ∷ rest
     → (left : Items) × (drop 1 cur ≡ all_tokens left ++ tok (Close d) c ∷ rest) × (items_fault ed n (row_of ed n) false items c.place ≡ items_fault ed n (rest_at ed n p) p.filled left c.place)
 on_comma ed n p old cur items d c rest g m e =
@@ -204,7 +204,7 @@ pub err_more : (ed : Edition) (n : Node) (p : RowPosition) (f : SlotFault) (old 
 err_more ed n p f old cur one cur' new g m s a items d c rest e =
     let x = on_comma ed n p old cur items d c rest g m e in x.2 ∙ item_err ed n p x.0 one cur' f d c rest a (s ∙ x.1)
 
--- the end of a node
+-- without a comma, the node ends, and its fault is that of the first missing slot
 on_end : (ed : Edition) (n : Node) (p : RowPosition) (old cur : List Tok) (items : Items) (d : Delimiter) (c : Piece) (rest : List Tok) → GoesOn ed n old cur p → next_is is_comma cur ≡ false → old ≡ all_tokens items ++ tok (Close d) c ∷ rest
     → (cur ≡ tok (Close d) c ∷ rest) × (items_fault ed n (row_of ed n) false items c.place ≡ option_map (λ s. Missing s c.place) (missing (rest_at ed n p) p.filled))
 on_end ed n p old cur items d c rest g m e =
@@ -223,7 +223,7 @@ ends_short ed n p slot at old cur one g m s x items d c rest e =
     let same : c.place ≡ at = sym (s ∙ ap place_next y.0) in
     y.1 ∙ (ap (option_map (λ s. Missing s c.place)) (sym x) ∙ ap (λ k. Some (Missing slot k)) same)
 
--- ---- at the code's own lists
+-- ---- the same statements, for the lists of tokens that the code has
 
 module _ (ed : Edition) (n : Node) (at : RowPosition) (old one : List Tok) (t : Token) (a : Argument) (opens : Bool) where
   abbrev pub Seen : Type 0

@@ -19,7 +19,7 @@ use Rattle.wkt_grammar.specs.Fitted.{Fitted, Fitting, AllFitting, Cuts}
 use Rattle.wkt_grammar.proofs.Fitting.{clean_fitted, fitted_cuts, cuts_fitted}
 use Rattle.wkt_grammar.proofs.Clean.{fitted_clean}
 
--- what fits a slot of the first edition fits it in the second
+-- an argument that fits a slot by the first edition fits it by the second
 abbrev Stays : Bare → Type 0
 Stays x = (t : Takes) → Fitting editions.First t x → Fitting editions.Second t x
 
@@ -35,7 +35,7 @@ run_stays : (t : Takes) (xs : List Bare) → EachStays xs → AllFitting edition
 run_stays t [] h f = tt
 run_stays t (x ∷ xs) h f = (h.0 t f.0, run_stays t xs h.1 f.1)
 
--- the slots that the row has besides these may stay empty
+-- arguments that fit the slots that pass p fit the whole row, if all other slots may stay empty
 cuts_stay : (p : Slot → Bool) (row : List Slot) (xs : List Bare) → list_all (passes p) row ≡ true → EachStays xs → Cuts editions.First (filter p row) xs → Cuts editions.Second row xs
 cuts_stay p [] xs h l c = c
 cuts_stay p (s ∷ row) xs h l c =

@@ -1,4 +1,4 @@
--- What is computed of the whole table.
+-- Statements about all rows, which are decided by computation.
 use Rattle.std.proofs.Common.{append_assoc, ◌≡◌, ℕ, ◌<◌, Bool, true, false, cond, List, [], ◌∷◌, ◌++◌, length, get_or, Option, Some, None, refl, sym, ap, ◌∙◌, subst, arith, nat_eq}
 use Rattle.std.specs.Prelude.{◌&&◌, ◌||◌, not, option_and_then}
 use Rattle.std.specs.Option.{is_some}
@@ -171,7 +171,7 @@ decides ed n m i d k h e =
     let all = each_keyword (agrees (row_of ed n)) k (rows_agree ed n) in
     agree_is (enters (get_or (row_of ed n) i d).takes k) (row_in (row_of ed n) k) m (AllPass-from_list_all (λ (s : Slot). agree (enters s.takes k) (row_in (row_of ed n) k)) (row_of ed n) all i d h) e
 
--- ---- what can come alone
+-- ---- arguments that are the only ones that can come next
 
 abbrev is_count : Argument → Bool
 is_count arguments.Text = false
@@ -233,7 +233,7 @@ is_direction_so arguments.OtherWord e = absurd cc
 is_direction_so arguments.OtherNode e = absurd cc
 is_direction_so (arguments.Node k) e = absurd cc
 
--- where this can come and that cannot, nothing else can
+-- if `this` can come next and `that` holds, every argument that can come next passes `is`
 abbrev alone : Argument → (Argument → Bool) → Bool → List Slot → Bool → Bool
 alone this is that left filled = list_all (λ a. not (is_some (next left filled this) && (that && (is_some (next left filled a) && not (is a))))) all_arguments
 

@@ -1,4 +1,4 @@
--- The walk goes on exactly while the arguments are admitted.
+-- The walk continues exactly while the arguments are admitted.
 use Rattle.std.proofs.Common.{◌≡◌, ℕ, zero, suc, ◌+◌, ◌≤◌, Bool, true, false, cond, List, [], ◌∷◌, ◌++◌, length, drop, Option, Some, None, refl, sym, ap, ◌∙◌, subst, arith}
 use Rattle.std.specs.Prelude.{◌&&◌, ◌||◌, not, option_and_then}
 use Rattle.std.specs.List.{AllPass, list_all}
@@ -25,14 +25,14 @@ use Rattle.wkt_grammar.proofs.Keywords.{is_same}
 use Rattle.std.specs.Prelude.{MatchOption, IfSome, IfNone}
 use Rattle.wkt_grammar.specs.Walk.{IsAt, is_many, next, walk, missing, may_begin, all_arguments, is_clear}
 
--- ---- what may still come
+-- ---- the arguments that may still follow
 
--- how many arguments the first slot has, as far as it matters
+-- 1 if the first slot has an argument, otherwise 0
 abbrev pub had : Bool → ℕ
 had true = 1
 had false = 0
 
--- the arguments fit what is left of the row, whose first slot may have one
+-- the arguments fit the rest of the row, whose first slot has an argument already if it is filled
 abbrev pub Left : List Slot → Bool → List Argument → Type 0
 Left [] filled args = args ≡ []
 Left (s ∷ row) filled args = (run : List Argument) × (rest : List Argument) × (args ≡ run ++ rest) × AllPass (takes s.takes) run × Times s.often (length run + had filled) × Fits row rest
@@ -104,7 +104,7 @@ and_parts false b e = absurd cc
 abbrev pub Taken : Slot → List Slot → Bool → Argument → Bool → Bool → Option (List Slot)
 Taken s row filled a t m = cond t (Some (s ∷ row)) (cond m None (next row false a))
 
--- ---- a step, both ways
+-- ---- one step, in both directions
 
 step_sound : (row : List Slot) (filled : Bool) (a : Argument) (left : List Slot) (args : List Argument) → next row filled a ≡ Some left → Left left true args → Left row filled (a ∷ args)
 step_sound [] filled a left args e h = absurd cc
@@ -120,7 +120,7 @@ step_sound (s ∷ row) filled a left args e h =
     by false true p q g ih = absurd cc
     by false false p q g ih = ([], a ∷ args, refl, All-nil (Passes s.takes), may_leave s.often filled q, left_fits row (a ∷ args) (ih g))
 
--- what fits begins as the row may begin
+-- a row may begin with the first of some arguments that fit it
 pub begins : (row : List Slot) (a : Argument) (args : List Argument) → Fits row (a ∷ args) → may_begin row a ≡ true
 begins [] a args h = absurd cc
 begins (s ∷ row) a args ([], rest, e, all, n, f) =
@@ -137,7 +137,7 @@ begins (s ∷ row) a args (b ∷ run, rest, e, all, n, f) =
     let t : takes s.takes a ≡ true = ap (takes s.takes) same ∙ All-head (Passes s.takes) b run all in
     ap (λ x. x || (not (is_required s.often) && may_begin row a)) t
 
--- a test of all arguments holds of each
+-- a test that all listed arguments pass is passed by every argument
 pub each_argument : (p : Argument → Bool) (a : Argument) → list_all p all_arguments ≡ true → p a ≡ true
 each_argument p arguments.Text h = AllPass-from_list_all p all_arguments h 0 arguments.Text (omega arith)
 each_argument p arguments.Number h = AllPass-from_list_all p all_arguments h 1 arguments.Text (omega arith)
@@ -249,7 +249,7 @@ walk_complete (a ∷ args) row filled others c h =
     let w = walk_complete args s.0 true others (clear_next row filled a s.0 s.1 c) s.2 in
     (w.0, ap (option_and_then (λ left. walk left true args)) s.1 ∙ w.1, w.2)
 
--- each slot takes something
+-- each kind of slot takes some argument
 some_taken : (k : Takes) → (a : Argument) × (takes k a ≡ true)
 some_taken kinds.Text = (arguments.Text, refl)
 some_taken kinds.Number = (arguments.Number, refl)
@@ -303,14 +303,14 @@ nothing_missing (s ∷ row) filled (b ∷ run, rest, e, all, n, f) = absurd cc
 
 -- ---- the theorems
 
--- the walk goes on exactly while the arguments are admitted
+-- the walk takes all arguments that are admitted
 pub goes_on : (row : List Slot) (args : List Argument) → is_clear row ≡ true → Admitted row args → (at : Stands) × (walk row false args ≡ Some at)
 goes_on row args c h = let w = walk_complete args row false h.others c (fits_left row (args ++ h.others) h.fit) in (w.0, w.1)
 
 pub admits : (row : List Slot) (args : List Argument) (at : Stands) → walk row false args ≡ Some at → Admitted row args
 admits row args at e = let o = completes at.0 at.1 in record { others = o.0; fit = left_fits row (args ++ o.0) (walk_sound args row false at o.0 e o.1) }
 
--- and they fit exactly where nothing is missing then
+-- where the walk ends after arguments that fit, no slot is missing
 pub fits_end : (row : List Slot) (args : List Argument) → is_clear row ≡ true → Fits row args → (at : Stands) × (walk row false args ≡ Some at) × (missing at.0 at.1 ≡ None)
 fits_end row args c h =
     let w = walk_complete args row false [] c (fits_left row (args ++ []) (subst (λ l. Fits row l) (sym (append-nil args)) h)) in
@@ -379,7 +379,7 @@ missing_unfit ed node at n0 args h m f =
     let n : missing at.0 at.1 ≡ None = subst (λ (x : Stands). missing x.0 x.1 ≡ None) same g.2 in
     cc
 
--- what a step answered, by cases
+-- the two results of a step, by the definition of `next`
 abbrev Answered : Edition → Node → RowPosition → Argument → Option RowPosition → Type 0
 Answered ed node place a r = MatchOption r (next (drop place.slot (row_of ed node)) place.filled a ≡ None) (λ p. (next (drop place.slot (row_of ed node)) place.filled a ≡ Some (drop p.slot (row_of ed node))) × (p.slot ≤ length (row_of ed node)) × (p.filled ≡ true))
 

@@ -1,4 +1,4 @@
--- The answer for a whole tree.
+-- The result for a whole tree.
 use Rattle.std.proofs.Common.{◌≡◌, ℕ, suc, ◌≤◌, ◌<◌, Bool, true, false, cond, List, [], ◌∷◌, ◌++◌, length, Some, None, refl, sym, ap, ◌∙◌, subst, append-nil, arith}
 use Rattle.std.specs.Prelude.{◌⊎◌, ◌&&◌, Ok, Err}
 use Rattle.wkt_tree.specs.declared.token.Delimiter.{Delimiter}
@@ -34,7 +34,7 @@ front_rises (t ∷ ts) lo place bytes place' rest h f =
     let n = ap length f.1.lexeme.parts in
     (omega (arith, a, h), front_rises ts (suc t.piece.place) (end_of t) f.0 place' rest (omega (arith, n)) f.2)
 
--- up to the last token
+-- the upper bound can be lowered to the place after that of the last token
 rising_last : (ts : List Tok) (t : Tok) (lo hi : ℕ) → Rising lo (ts ++ t ∷ []) hi → Rising lo (ts ++ t ∷ []) (suc t.piece.place)
 rising_last [] t lo hi r = (r.0, omega arith)
 rising_last (x ∷ ts) t lo hi r = (r.0, rising_last ts t (suc x.piece.place) hi r.1)

@@ -1,4 +1,4 @@
--- The names of each row, which compute.
+-- The names of the slots of each row, by computation.
 use Rattle.std.proofs.Common.{◌≡◌, refl}
 use Rattle.std.specs.Prelude.{map}
 use Rattle.wkt_grammar.specs.declared.table.Edition.{Edition}

@@ -6,7 +6,7 @@ use Rattle.std.proofs.lemmas.List.FromFn.{get_or-map-range_with_len}
 use Rattle.wkt_tree.specs.declared.bytes.TheConstants.{BLANKS, WORD_BYTES, NUMBER_BYTES, BEGINNINGS}
 use Rattle.wkt_tree.specs.Bytes.{is_blank, is_word_byte, is_number_byte, begun_by}
 
--- a table of each byte's value tells it
+-- a table of the values of f for all bytes returns the value of f at each byte
 told : {A : Type 0} (f : ℕ → A) (table : List A) (d : A) (b : ℕ) → table ≡ map f (range_with_len 0 256) → b < 256 → get_or table b d ≡ f b
 told f table d b e h = ap (λ l. get_or l b d) e ∙ get_or-map-range_with_len f 0 256 b b d h (omega arith)
 

@@ -1,4 +1,4 @@
--- The loop that looks for the mark that closes a text.
+-- The loop that finds the mark that closes a quoted text.
 use Rattle.std.proofs.Common.{◌≡◌, ℕ, zero, suc, ◌+◌, ◌<◌, ◌≤◌, true, false, not, List, length, drop, get_or, Some, None, sym, ap, ◌∙◌, subst, arith}
 use Rattle.std.specs.Prelude.{position}
 use Rattle.std.specs.List.{position_or_len}
@@ -12,7 +12,7 @@ use Rattle.wkt_tree.proofs.Lexemes.{Inside, plain_more, none_closes}
 no_mark_is : (x : ℕ) → is_mark x ≡ false → x ≡ 34 → ⊥
 no_mark_is x e h = grind arith
 
--- bytes that are no mark are of the text
+-- a position inside a quoted text stays inside it after n bytes that are not marks
 run_on : (bytes : List ℕ) (i n : ℕ) → i + n ≤ length bytes → ((k : ℕ) → k < n → is_mark (get_or (drop i bytes) k 0) ≡ false) → Inside bytes i → Inside bytes (i + n)
 run_on bytes i zero room plain w = subst (λ k. Inside bytes k) (omega arith) w
 run_on bytes i (suc n) room plain w =

@@ -1,4 +1,4 @@
--- The computed tokens are the tokens.
+-- If bytes consist of tokens, `cut` computes these tokens.
 use Rattle.std.proofs.Common.{◌≡◌, ℕ, zero, suc, ◌+◌, ◌<◌, ◌≤◌, Bool, true, false, cond, List, [], ◌∷◌, ◌++◌, length, take, drop, Option, Some, None, refl, sym, ap, ◌∙◌, subst, append_assoc, arith, inl, inr}
 use Rattle.std.specs.Prelude.{◌⊎◌, option_and_then}
 use Rattle.std.specs.Option.{option_map}
@@ -82,7 +82,7 @@ begins_unblank b k h =
       | false ↦ λ e. refl
     ] refl
 
--- what a first token is
+-- if bytes begin with a token, `first_token` and `behind` compute it and the bytes after it
 pub lexed_is : (place : ℕ) (bytes : List ℕ) (t : Tok) (rest : List ℕ) → Lexed place bytes t rest → (first_token place bytes ≡ Some t) × (behind bytes t ≡ rest)
 lexed_is place bytes t rest f =
     let l = f.lexeme in
@@ -107,7 +107,7 @@ lexed f = record { from = f.from; blank = f.blank; lexeme = f.lexeme }
 pub first_is : (place : ℕ) (bytes : List ℕ) (t : Tok) (rest : List ℕ) → First place bytes t rest → (first_token place bytes ≡ Some t) × (behind bytes t ≡ rest)
 first_is place bytes t rest f = lexed_is place bytes t rest (lexed f)
 
--- blanks alone
+-- if all elements pass, the longest prefix that passes is the whole list
 pub prefix_all : (p : ℕ → Bool) (xs : List ℕ) → AllPass p xs → prefix_len p xs ≡ length xs
 prefix_all p xs a = ap (prefix_len p) (sym (append-nil xs)) ∙ prefix_is p xs [] a tt
 
@@ -139,11 +139,11 @@ cut_is (t ∷ ts) (suc n) place bytes h c =
     ap (cut_from bytes (cut_within n)) i.0
     ∙ ap (λ (x : List Tok). t ∷ x) (ap (cut_within n (end_of t)) i.1 ∙ cut_is ts n (end_of t) c.front.0 le (record { place' = c.place'; rest = c.rest; front = c.front.2; blank = c.blank }))
 
--- bytes have one list of tokens
+-- if bytes consist of tokens, `cut` returns these tokens
 pub cut_of : (place : ℕ) (bytes : List ℕ) (ts : List Tok) → Cut place bytes ts → cut place bytes ≡ ts
 unfolding cut
 cut_of place bytes ts c = cut_is ts (length bytes) place bytes (omega arith) c
 
--- a text has one list of tokens
+-- a text consists of at most one list of tokens
 pub one_cut : (text : List ℕ) (ts us : List Tok) → Cut 0 text ts → Cut 0 text us → ts ≡ us
 one_cut text ts us f g = sym (cut_of 0 text ts f) ∙ cut_of 0 text us g

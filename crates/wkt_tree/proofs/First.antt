@@ -1,4 +1,4 @@
--- A text has one first fault.
+-- A text has at most one first fault.
 use Rattle.std.proofs.Common.{◌≡◌, ℕ, ◌<◌, ◌≤◌, List, length, refl, sym, ap, ◌∙◌, arith, IsUtf8}
 use Rattle.std.specs.Str.{IsValidUpTo}
 use Rattle.std.proofs.lemmas.Str.{utf8_valid_len-IsValidUpTo}
@@ -7,7 +7,7 @@ use Rattle.wkt_tree.specs.declared.fault.TextFault.TheVariants.{TooLong, NotUtf8
 use Rattle.wkt_tree.specs.Faults.{TokenFault, FirstFault}
 use Rattle.wkt_tree.proofs.Unique.{one_token_fault}
 
--- which tier a first fault is of
+-- a first fault is one of length, of UTF-8, or of a token
 data Tier (text : List ℕ) (fault : TextFault) : Type 0 where
   long : 1048576 < length text → fault ≡ TooLong → Tier text fault
   bad : length text ≤ 1048576 → ¬ (IsUtf8 text) → (at : ℕ) → IsValidUpTo text at → fault ≡ NotUtf8 at → Tier text fault

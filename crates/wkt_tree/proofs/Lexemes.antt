@@ -20,7 +20,7 @@ use Rattle.wkt_tree.specs.Tree.{Piece, tok}
 use Rattle.wkt_tree.specs.Tokens.{doubled, Stops, is_mark, IsUnclosed, Follow, Ends, Lexeme, Blanks, Lexed}
 use Rattle.wkt_tree.specs.Faults.{NoToken, OpenText, NoNumeral, NoDecimal, Misread, After_blanks, Unreadable, Lexes}
 
--- ---- the longest front that passes
+-- ---- the longest prefix that passes a test
 
 pub front_passes : (p : ℕ → Bool) (xs : List ℕ) → AllPass p (take (prefix_len p xs) xs)
 front_passes p xs =
@@ -57,7 +57,7 @@ body-plain b c e = ap (λ (x : List ℕ). x ++ body c) e
 no_stop : (xs ys : List ℕ) → xs ≡ 34 ∷ ys → Stops is_mark xs → ⊥
 no_stop xs ys e s = let t : Stops is_mark (34 ∷ ys) = subst (λ l. Stops is_mark l) e s in cc
 
--- a text that no single mark is in isn't closed
+-- bytes with doubled marks do not contain a single mark
 pub no_mark : (c e r : List ℕ) → body c ≡ body e ++ (34 ∷ r) → Stops is_mark r → ⊥
 no_mark [] [] r h s = cc
 no_mark [] (x ∷ e) r h s =
@@ -82,7 +82,7 @@ no_mark (b ∷ c) (x ∷ e) r h s =
       ]
     ]
 
--- one closing mark
+-- bytes begin with a quoted text and its closing mark in at most one way
 pub one_mark : (c e r s : List ℕ) → body c ++ (34 ∷ r) ≡ body e ++ (34 ∷ s) → Stops is_mark r → Stops is_mark s → (body c ≡ body e) × (r ≡ s)
 one_mark [] [] r s h u v = (refl, cc)
 one_mark [] (x ∷ e) r s h u v =
@@ -198,7 +198,7 @@ misread_is place bytes rest Number piece fault l (inr m) =
     subst (λ f. Unreadable place bytes f) (sym m.0)
     (record { from = l.from; blank = l.blank; is = record { token = piece.bytes; rest = rest; lexeme = l.lexeme; formed = m.1; spells_none = m.2 } })
 
--- ---- blanks before it
+-- ---- blanks before a token
 
 more_blanks : (place place' at : ℕ) (bytes bytes' from : List ℕ) → Blanks place bytes place' bytes' → Blanks place' bytes' at from → Blanks place bytes at from
 more_blanks place place' at bytes bytes' from a b =

@@ -1,10 +1,10 @@
--- Tokens are those of one tree at most.
+-- A list of tokens is that of at most one tree.
 use Rattle.std.proofs.Common.{◌≡◌, List, [], ◌∷◌, ◌++◌, sym, ap, ◌∙◌, append_assoc, append-nil}
 use Rattle.wkt_tree.specs.declared.token.Delimiter.{Delimiter}
 use Rattle.wkt_tree.specs.declared.token.TokenKind.TheVariants.{Word, Quoted, Number, Comma, Open, Close}
 use Rattle.wkt_tree.specs.Tree.{Piece, Tok, tok, Item, Items, text, number, word, node, last, more, tokens, all_tokens}
 
--- what follows an item opens nothing
+-- the tokens do not begin with an opening delimiter
 abbrev Shut : List Tok → Type 0
 Shut [] = Unit {0}
 Shut (t ∷ ts) = (d : Delimiter) → t.kind ≡ Open d → ⊥

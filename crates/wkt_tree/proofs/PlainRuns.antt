@@ -1,4 +1,4 @@
--- The mark that ends a text.
+-- Runs of bytes without a mark, found sixteen bytes at a time.
 use Rattle.std.proofs.Common.{◌≡◌, ℕ, ◌+◌, ◌%◌, ◌^◌, ◌<◌, ◌≤◌, eqb, true, not, cond, List, map, length, get_or, replicate, Some, None, w8, sym, ap, ◌∙◌, arith, inl, inr}
 use Rattle.std.specs.Prelude.{position}
 use Rattle.std.proofs.lemmas.Bool.{cases_lt, eq-eqb, ne_eqb, cond-true, cond-false}

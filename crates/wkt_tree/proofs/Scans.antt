@@ -1,4 +1,4 @@
--- The loop of the scanner, against the definitions.
+-- The loop of the scanner follows the definitions.
 use Rattle.std.proofs.Common.{◌≡◌, ℕ, ◌+◌, ◌-◌, ◌<◌, ◌≤◌, Bool, true, false, cond, ltb, List, [], ◌∷◌, ◌++◌, length, take, drop, Option, Some, None, refl, sym, ap, ◌∙◌, subst, append_assoc, arith}
 use Rattle.std.specs.Prelude.{option_and_then, Result}
 use Rattle.std.specs.List.{AllPass}
@@ -19,7 +19,7 @@ use Rattle.wkt_tree.specs.Faults.{Unreadable, Reads, Begun, Refused, TokenFault,
 use Rattle.wkt_tree.proofs.Cuts.{lexed}
 use Rattle.wkt_tree.proofs.Trees.{start, tree_runs, begins_runs, runs_begins, runs_tree, run_push}
 
--- ---- where the next token stands
+-- ---- where the next token begins
 
 pub record Passed (place : ℕ) (text : List ℕ) (t : Tok) (rest : List ℕ) : Type 0 where
   pub rest_is : rest ≡ drop (end_of t) text
@@ -86,9 +86,9 @@ scanned_unreadable text place phase s (Depth at) h u = absurd u
 scanned_unreadable text place phase s (EndEarly at) h u = absurd u
 scanned_unreadable text place phase s (After at) h u = absurd u
 
--- ---- a token that cannot come
+-- ---- a token that is refused
 
--- the limit decides only whether a delimiter may be opened
+-- one of the two is `None`, or they are equal: the limit decides only whether a delimiter may be opened
 abbrev AgreeAt : Option State → Option State → Type 0
 AgreeAt None b = Unit {0}
 AgreeAt (Some x) None = Unit {0}
@@ -137,7 +137,7 @@ runs_agree (t ∷ ts) m n st = both (step m st t.kind) (step n st t.kind) (steps
         right (Some y) = tt
     both (Some x) (Some y) h go = subst (λ z. AgreeAt (run m x ts) (run n z ts)) h (go x)
 
--- which tokens no limit lets come
+-- a token that the machine refuses with the limit m is not the next one of any tree with that limit
 not_deeper : (m : ℕ) (ts : List Tok) (t : Tok) (st : State) → run 16 start ts ≡ Some st → step m st t.kind ≡ None → Begins m (ts ++ t ∷ []) → ⊥
 not_deeper m ts t st e none b =
     let whole = begins_runs m (ts ++ t ∷ []) b in
@@ -228,7 +228,7 @@ deeper ts d s q e =
           ∙ ap (λ b. cond b (Some (state Begin (d ∷ s))) None) lt),
     )
 
--- ---- which fault it is
+-- ---- the fault of a refused token
 
 module _ (text : List ℕ) (place : ℕ) (q : Piece) (rest : List ℕ) where
   at_begin : (k : TokenKind) (s : List Delimiter) → First place (drop place text) (tok k q) rest → Scanned text place Begin s → step_at 16 Begin s k ≡ None → TokenFault text (Unexpected q.place)
@@ -265,7 +265,7 @@ scanned_refused text place Begin s t rest h f e = at_begin text place t.piece re
 scanned_refused text place Named s t rest h f e = at_named text place t.piece rest t.kind s f h e
 scanned_refused text place Past s t rest h f e = at_past text place t.piece rest t.kind s f h e
 
--- ---- the end
+-- ---- the end of the text
 
 cut_of : (text : List ℕ) (place : ℕ) (phase : Phase) (s : List Delimiter) → (h : Scanned text place phase s) → AllPass is_blank (drop place text) → Cut 0 text h.tokens
 cut_of text place phase s h a = record { place' = place; rest = drop place text; front = h.front; blank = a }
@@ -276,7 +276,7 @@ scanned_tree text place h a = (h.tokens, cut_of text place Past [] h a, runs_tre
 pub scanned_early : (text : List ℕ) (place : ℕ) (phase : Phase) (s : List Delimiter) → Scanned text place phase s → AllPass is_blank (drop place text) → (state phase s ≡ state Past [] → ⊥) → TokenFault text (EndEarly (length text))
 scanned_early text place phase s h a n = (refl, h.tokens, cut_of text place phase s h a, runs_begins 16 h.tokens (state phase s) (omega arith) h.runs, not_tree h.tokens (state phase s) h.runs n)
 
--- what is read from a place on
+-- reading a slice that reaches to the end of the text is reading the rest of the text
 pub reads_rest : (text : List ℕ) (place : ℕ) (r : Result (Option Token) TextFault) → Reads place (take (length text - place) (drop place text)) r → Reads place (drop place text) r
 reads_rest text place r h = subst (λ l. Reads place l r) (take_rest text place) h
 

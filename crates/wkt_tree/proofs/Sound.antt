@@ -53,7 +53,7 @@ close_begins Round b h = grind (arith, nat_tests)
 
 -- ---- one token
 
--- a token of UTF-8 is sound, and what follows it is UTF-8
+-- the token is sound, and the bytes after it are UTF-8
 abbrev Passes : TokenKind → List ℕ → List ℕ → Type 0
 Passes k token rest = IsSound k token × IsUtf8 rest
 
@@ -89,6 +89,6 @@ front_sound (t ∷ ts) place bytes place' bytes' f u =
     let s = first_sound place bytes t f.0 f.1 u in
     All-cons IsSoundToken t ts s.0 (front_sound ts (end_of t) f.0 place' bytes' f.2 s.1)
 
--- each token of a text of UTF-8 is sound
+-- each token of a UTF-8 text is sound
 pub cut_sound : (place : ℕ) (bytes : List ℕ) (ts : List Tok) → Cut place bytes ts → IsUtf8 bytes → All IsSoundToken ts
 cut_sound place bytes ts c u = front_sound ts place bytes c.place' c.rest c.front u

@@ -1,4 +1,4 @@
--- Where a cursor stands.
+-- The state of a cursor.
 use Rattle.std.proofs.Common.{◌≡◌, ℕ, ◌-◌, List, ◌∷◌, length, take, drop, Some, None, Ok, Err, sym, ap, ◌∙◌, subst, arith}
 use Rattle.std.specs.Prelude.{All, Option, Result}
 use Rattle.std.proofs.lemmas.List.{take_rest}
@@ -18,7 +18,7 @@ use Rattle.wkt_tree.proofs.Unread.{lexed_head, none_left, unreadable_no}
 pub lexes_rest : (text : List ℕ) (place : ℕ) (r : Result (Option Token) TextFault) → Lexes place (take (length text - place) (drop place text)) r → Lexes place (drop place text) r
 lexes_rest text place r h = subst (λ l. Lexes place l r) (take_rest text place) h
 
--- the cut of an outline
+-- the computed tokens of an outline are the tokens of the text, and all of them are sound
 pub sound_outline : (text : List ℕ) → IsOutline text (cut 0 text) → IsSoundCut 0 text
 sound_outline text o = record {
   within = omega arith;
@@ -27,7 +27,7 @@ sound_outline text o = record {
   sound = cut_sound 0 text (cut 0 text) o.cut o.utf8;
 }
 
--- what follows a token
+-- after the token t is read: the tokens from the old place on are t and those after it, and the new state is sound
 record Behind (place : ℕ) (text : List ℕ) (t : Token) : Type 0 where
   is : tokens_from (Some t) (end_of (view t)) text ≡ tokens_at place text
   stand : IsStand (Some t) (end_of (view t)) text

@@ -1,4 +1,4 @@
--- A text has one first fault.
+-- A text has at most one first fault.
 use Rattle.std.proofs.Common.{◌≡◌, ℕ, ◌+◌, List, [], ◌∷◌, ◌++◌, length, drop, Some, refl, sym, ap, ◌∙◌, subst, append_assoc, inl, inr}
 use Rattle.std.specs.Prelude.{◌⊎◌}
 use Rattle.std.specs.List.{AllPass, prefix_len}
@@ -14,13 +14,13 @@ use Rattle.wkt_tree.specs.Faults.{NoToken, OpenText, NoNumeral, NoDecimal, After
 use Rattle.wkt_tree.proofs.Cuts.{prefix_is, prefix_all, first_is}
 use Rattle.wkt_tree.proofs.Unread.{Unblank, unblank_stops, from_is, lexeme_unblank, unblank_no, unblank_open, same_token, Clash, no_token, open_text, no_numeral, no_decimal}
 
--- ---- two ways in which a token cannot be read
+-- ---- a token that cannot be read has one fault
 
 at_is : (place at : ℕ) (bytes from : List ℕ) → Blanks place bytes at from → Unblank from → place + prefix_len is_blank bytes ≡ at
 at_is place at bytes from b u =
     ap (λ k. place + k) (ap (prefix_len is_blank) b.whole ∙ prefix_is is_blank b.blanks from b.all (unblank_stops from u)) ∙ sym b.moved
 
--- what follows the blanks, and where
+-- `Is` and `Js` hold of the bytes after the blanks, which begin at one place
 record Meeting (Is Js : List ℕ → Type 0) (at by : ℕ) : Type 0 where
   same : at ≡ by
   from : List ℕ
@@ -141,7 +141,7 @@ same_unread place bytes (NumberRange at) (Depth by) u v = absurd v
 same_unread place bytes (NumberRange at) (EndEarly by) u v = absurd v
 same_unread place bytes (NumberRange at) (After by) u v = absurd v
 
--- ---- what comes next: nothing, a token, or what cannot be read
+-- ---- the rest of a text is blank, begins with a token that can be read, or with one that cannot
 
 clash_first : (Is : List ℕ → Type 0) → Clash Is → ((bytes : List ℕ) → Is bytes → Unblank bytes) → (place at : ℕ) (bytes : List ℕ) (t : Tok) (rest : List ℕ) → After_blanks place bytes Is at → First place bytes t rest → ⊥
 clash_first Is clash un place at bytes t rest a f =
@@ -186,7 +186,7 @@ module _ (place : ℕ) (bytes : List ℕ) where
 
 -- ---- where a scan stops
 
--- a token that cannot come, and which fault it is
+-- the machine refuses the token after the tokens us, with this fault
 abbrev Verdict : List Tok → Tok → TextFault → Type 0
 Verdict us t fault =
     ((fault ≡ After t.piece.place) × IsTree 16 us)
@@ -237,7 +237,7 @@ stop_of text (EndEarly at) f =
 stop_of text TooLong f = absurd f
 stop_of text (NotUtf8 at) f = absurd f
 
--- ---- two fronts of one text
+-- ---- two lists of tokens that a text begins with
 
 same_first : (p : ℕ) (b : List ℕ) (t u : Tok) (r s : List ℕ) → First p b t r → First p b u s → (t ≡ u) × (r ≡ s)
 same_first p b t u r s f g =
@@ -247,7 +247,7 @@ same_first p b t u r s f g =
     let same : t ≡ u = cc in
     (same, sym x.1 ∙ (ap (λ (z : Tok). drop (length z.piece.bytes) (drop (prefix_len is_blank b) b)) same ∙ y.1))
 
--- one front goes on after the other
+-- the tokens vs are the tokens us, the next token t, and others
 record Ahead (us : List Tok) (p : ℕ) (b : List ℕ) (vs : List Tok) : Type 0 where
   t : Tok
   rest : List ℕ
@@ -275,7 +275,7 @@ compare_fronts (u ∷ us) (v ∷ vs) k a p b q c f g =
       | inr (inr h) ↦ inr (inr (record { t = h.t; rest = h.rest; others = h.others; first = h.first; is = ap (λ (x : Tok). x ∷ us) s.0 ∙ ap (λ (x : List Tok). v ∷ x) h.is }))
     ]
 
--- a scan that stops doesn't go on
+-- if a scan stops after the tokens us, these and further tokens of the text do not begin a tree
 no_ahead : (text : List ℕ) (us : List Tok) (p : ℕ) (b : List ℕ) (fault : TextFault) (vs : List Tok) → Next text us p b fault → Ahead us p b vs → Begins 16 vs → ⊥
 no_ahead text us p b fault vs (unread u) h g = unread_first p b fault h.t h.rest u h.first
 no_ahead text us p b fault vs (refused t rest f bad v) h g =
@@ -305,6 +305,6 @@ same_stop text e f x y =
       | inr (inr h) ↦ absurd (no_ahead text y.us y.p y.b f x.us y.next h x.begins)
     ]
 
--- a text that can be read has one first fault among its tokens
+-- a text has at most one first fault of its tokens
 pub one_token_fault : (text : List ℕ) (e f : TextFault) → TokenFault text e → TokenFault text f → e ≡ f
 one_token_fault text e f x y = same_stop text e f (stop_of text e x) (stop_of text f y)

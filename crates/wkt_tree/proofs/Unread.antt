@@ -1,4 +1,4 @@
--- What cannot be read is no token.
+-- Bytes that cannot be read do not begin with a token.
 use Rattle.std.proofs.Common.{◌≡◌, ℕ, false, List, [], ◌∷◌, ◌++◌, length, take, drop, refl, sym, ap, ◌∙◌, subst, append_assoc}
 use Rattle.std.specs.List.{AllPass, prefix_len}
 use Rattle.std.proofs.lemmas.List.{append-nil, take_at, drop_at}
@@ -14,7 +14,7 @@ use Rattle.wkt_tree.specs.Cut.{cut}
 use Rattle.wkt_tree.proofs.Lexemes.{body}
 use Rattle.wkt_tree.proofs.Cuts.{prefix_is, prefix_all, begins_unblank, lexeme_is, found, Found, lexed, lexed_is, first_is, cut_of}
 
--- bytes that begin with no blank
+-- the bytes do not begin with a blank
 abbrev pub Unblank : List ℕ → Type 0
 Unblank [] = ⊥
 Unblank (b ∷ bs) = is_blank b ≡ false
@@ -32,7 +32,7 @@ pub lexeme_unblank : (k : TokenKind) (bytes token rest : List ℕ) → Lexeme k 
 lexeme_unblank k bytes token rest l =
     subst (λ x. Unblank x) (sym (l.whole ∙ ap (λ (x : List ℕ). x ++ rest) l.parts)) (begins_unblank l.first k l.begun)
 
--- one longest token
+-- bytes begin with at most one longest token
 pub same_token : (k j : TokenKind) (bytes token rest token' rest' : List ℕ) → Lexeme k bytes token rest → Lexeme j bytes token' rest' → (k ≡ j) × (token ≡ token')
 same_token k j bytes token rest token' rest' l m =
     let e : found k (length token) ≡ found j (length token') = sym (lexeme_is k bytes token rest l) ∙ lexeme_is j bytes token' rest' m in
@@ -41,7 +41,7 @@ same_token k j bytes token rest token' rest' l m =
       sym (take_at token rest (length token) refl) ∙ (ap (take (length token)) (sym l.whole) ∙ (ap (λ (x : Found). take x.1 bytes) pair ∙ (ap (take (length token')) m.whole ∙ take_at token' rest' (length token') refl))),
     )
 
--- each kind of what cannot be read
+-- bytes for which `Is` holds do not begin with a token that can be read
 abbrev pub Clash : (List ℕ → Type 0) → Type 0
 Clash Is = (k : TokenKind) (bytes token rest : List ℕ) → Is bytes → Lexeme k bytes token rest → IsReadable k token → ⊥
 
@@ -109,7 +109,7 @@ unreadable_no place bytes (Depth at) ts u c = u
 unreadable_no place bytes (EndEarly at) ts u c = u
 unreadable_no place bytes (After at) ts u c = u
 
--- ---- what a cursor gives
+-- ---- the result of a cursor
 
 abbrev pub Whole : ℕ → List ℕ → Type 0
 Whole place bytes = Cut place bytes (cut place bytes)
@@ -117,7 +117,7 @@ Whole place bytes = Cut place bytes (cut place bytes)
 pub whole_of : (place : ℕ) (bytes : List ℕ) (ts : List Tok) → Cut place bytes ts → Whole place bytes
 whole_of place bytes ts c = subst (λ l. Cut place bytes l) (sym (cut_of place bytes ts c)) c
 
--- the head, and what follows it
+-- if the first token of the bytes is t, their tokens are t and those of the rest
 pub lexed_head : (place : ℕ) (bytes : List ℕ) (t : Tok) (rest : List ℕ) (ts : List Tok) → Lexed place bytes t rest → Cut place bytes ts → (us : List Tok) × (ts ≡ t ∷ us) × Cut (end_of t) rest us
 lexed_head place bytes t rest [] f c =
     let all : AllPass is_blank bytes = subst (λ l. AllPass is_blank l) (sym c.front.1) c.blank in
@@ -138,7 +138,7 @@ lexed_head place bytes t rest (v ∷ us) f c =
 pub head_is : (place : ℕ) (bytes : List ℕ) (t : Tok) (rest : List ℕ) (ts : List Tok) → First place bytes t rest → Cut place bytes ts → (us : List Tok) × (ts ≡ t ∷ us) × Cut (end_of t) rest us
 head_is place bytes t rest ts f c = lexed_head place bytes t rest ts (lexed f) c
 
--- no token is left
+-- bytes that are all blanks have no tokens
 pub none_left : (place : ℕ) (bytes : List ℕ) (ts : List Tok) → AllPass is_blank bytes → Cut place bytes ts → ts ≡ []
 none_left place bytes [] a c = refl
 none_left place bytes (t ∷ ts) a c =

@@ -14,7 +14,7 @@ at_seam : (xs : List ℕ) (b : ℕ) (ys : List ℕ) → get_or (xs ++ b ∷ ys) 
 at_seam [] b ys = refl
 at_seam (x ∷ xs) b ys = at_seam xs b ys
 
--- a text is cut before a byte of ASCII
+-- UTF-8 can be split before an ASCII byte
 pub utf8_before : (xs : List ℕ) (b : ℕ) (ys : List ℕ) → b < 128 → IsUtf8 (xs ++ b ∷ ys) → IsUtf8 xs × IsUtf8 (b ∷ ys)
 utf8_before xs b ys small u =
     let e = at_seam xs b ys in
@@ -23,11 +23,11 @@ utf8_before xs b ys small u =
       subst IsUtf8 (drop_at xs (b ∷ ys) (length xs) refl) (IsUtf8-drop (xs ++ b ∷ ys) (length xs) u seam),
     )
 
--- and after one
+-- UTF-8 that begins with an ASCII byte is UTF-8 after it
 pub utf8_behind : (b : ℕ) (ys : List ℕ) → b < 128 → IsUtf8 (b ∷ ys) → IsUtf8 ys
 utf8_behind b ys small u = subst IsUtf8 (drop_at (b ∷ []) ys 1 refl) (IsUtf8-drop (b ∷ ys) 1 u (IsCharBoundary-after_ascii (b ∷ ys) 0 u (omega arith) small))
 
--- after bytes that pass a test of ASCII
+-- UTF-8 that begins with bytes that pass a test of ASCII bytes is UTF-8 after them
 pub utf8_past : (p : ℕ → Bool) → ((b : ℕ) → p b ≡ true → b < 128) → (xs ys : List ℕ) → AllPass p xs → IsUtf8 (xs ++ ys) → IsUtf8 ys
 utf8_past p small [] ys a u = u
 utf8_past p small (x ∷ xs) ys a u =
@@ -57,7 +57,7 @@ undoubled (b ∷ c) pre u =
     mark_before : (c : List ℕ) → IsUtf8 c → IsUtf8 (34 ∷ c)
     mark_before c i = IsUtf8-append (34 ∷ []) c (IsUtf8-from_ascii (34 ∷ []) one_ascii) i
 
--- the text between the marks is UTF-8 where its written form is
+-- the content of a quoted text is UTF-8 if its doubled form is
 pub utf8_content : (c : List ℕ) → IsUtf8 (body c) → IsUtf8 c
 utf8_content c u = undoubled c [] u
 
