@@ -1,4 +1,4 @@
--- What is built where the keyword that comes decides.
+-- Values that depend on the next keyword.
 use Rattle.std.proofs.Common.{◌≡◌, ℕ, Bool, true, false, List, ◌++◌, Option, Some, None, Result, Ok, Err, IfOk, refl, sym, ap, ◌∙◌, subst}
 use Rattle.crs_part.specs.declared.units.UnitDefinition.{UnitDefinition}
 use Rattle.crs_part.specs.declared.datums.Datum.{Datum}
@@ -35,7 +35,7 @@ use Rattle.wkt_build.specs.Single.{IsSingle}
 use Rattle.wkt_build.specs.Choices.{next_keyword, unit_as, length_unit_as, angle_unit_as, geodetic_kind_of, is_ensemble, is_projected, is_vertical, is_compound}
 use Rattle.wkt_build.proofs.Rows.{MadeNode, IsEntered, entered_of, takes_nodes}
 
--- ---- the keyword that comes
+-- ---- the next keyword
 
 text_no_node : (b k : List ℕ) (xs : Bares) → text b ≡ node k xs → ⊥
 text_no_node b k xs e = cc
@@ -58,7 +58,7 @@ keyword_item (tree.node p d o is c) k items old rest e h = ap next_keyword h ∙
 keyword_next : (x : Bare) (k : List ℕ) (items : Bares) (old rest : List Tok) → x ≡ node k items → Next x old rest → next_keyword old ≡ keyword_of k
 keyword_next x k items old rest e n = keyword_item n.item k items old rest (n.is ∙ e) n.tokens_are
 
--- an argument that is a node: its keyword is the one that comes
+-- the argument is a node, and its keyword is the next one
 record Comes (t : Takes) (x : Bare) (old rest : List Tok) : Type 0 where
   pub node_is : IsEntered t x
   pub comes : next_keyword old ≡ Some node_is.means
@@ -76,7 +76,7 @@ no_row A m e = absurd cc
 
 -- ---- units
 
--- a value that is made of another by the keyword
+-- each keyword that the slot takes has the row n, and the node denotes the value that the keyword chooses
 abbrev Chosen : {A B : Type 0} → Takes → Node → (A → Fields) → (Bare → B → Type 0) → (Option Keyword → A → B) → Type 0
 Chosen t n F D choose = (K : Keyword) (m : Node) → enters t K ≡ Some m → (x : Bare) (v : _) → (IsNode K n (F v) x → D x (choose (Some K) v)) × (m ≡ n)
 
@@ -115,9 +115,9 @@ length_unit_made old new v = chosen kinds.LengthUnit nodes.Unit unit_fields Deno
 pub angle_unit_made : (old new : List Tok) (v : UnitDefinition) → MadeNode nodes.Unit unit_fields old new v → (x : Bare) (rest : List Tok) → Fitting kinds.AngleUnit x → Next x old rest → DenotesAngleUnit x (angle_unit_as (next_keyword old) v) × (new ≡ rest)
 angle_unit_made old new v = chosen kinds.AngleUnit nodes.Unit unit_fields DenotesAngleUnit angle_unit_as old new v refl angle_unit_chosen
 
--- ---- one node or another
+-- ---- one of two nodes
 
--- where a test of the keyword answers this, the keyword and the row are these
+-- each keyword that the slot takes, and for which the test has this result, is K, and its row is n
 abbrev OnlyWhere : Takes → (Option Keyword → Bool) → Bool → Keyword → Node → Type 0
 OnlyWhere t test answer K n = (J : Keyword) (m : Node) → enters t J ≡ Some m → test (Some J) ≡ answer → (J ≡ K) × (m ≡ n)
 
@@ -219,7 +219,7 @@ geodetic_only keywords.ProjectedCrs m e a b = absurd cc
 geodetic_only keywords.VerticalCrs m e a b = absurd cc
 geodetic_only k m e a b = no_row _ m e
 
--- what is built of such a node
+-- if a single reference system is next, it denotes v, and the tokens after it remain
 abbrev pub MadeSingle : List Tok → List Tok → Single → Type 0
 MadeSingle old new v = (x : Bare) (rest : List Tok) → IsSingle x old → Next x old rest → DenotesSingle x v × (new ≡ rest)
 
@@ -250,7 +250,7 @@ compound_only k m e a = no_row _ m e
 pub compound_made : (old new : List Tok) (v : Compound) → is_compound (next_keyword old) ≡ true → MadeNode nodes.CompoundCrs compound_fields old new v → (x : Bare) (rest : List Tok) → Fitting kinds.AnyCrs x → Next x old rest → DenotesParts x (parts.Compound v) × (new ≡ rest)
 compound_made old new v a m = one_way kinds.AnyCrs is_compound true keywords.CompoundCrs nodes.CompoundCrs compound_fields old new v refl compound_only a m
 
--- the same of what is put in a box
+-- the same for a value w that equals v
 pub compound_placed : (old new : List Tok) (v w : Compound) → w ≡ v → is_compound (next_keyword old) ≡ true → MadeNode nodes.CompoundCrs compound_fields old new v → (x : Bare) (rest : List Tok) → Fitting kinds.AnyCrs x → Next x old rest → DenotesParts x (parts.Compound w) × (new ≡ rest)
 compound_placed old new v w e a m = compound_made old new w a (subst (λ u. MadeNode nodes.CompoundCrs compound_fields old new u) (sym e) m)
 

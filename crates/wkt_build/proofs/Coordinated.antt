@@ -1,4 +1,4 @@
--- What is built of the slots of the coordinates, before those of any row.
+-- The value of the slots of the coordinates, before those of any row.
 use Rattle.std.proofs.Common.{◌≡◌, true, false, List, ◌∷◌, None}
 use Rattle.wkt_tree.specs.Tree.{Tok}
 use Rattle.wkt_grammar.specs.declared.table.Slot.{Slot}
@@ -17,7 +17,7 @@ use Rattle.wkt_build.specs.Rest.{Reads, coordinates_fields, from_coordinates}
 use Rattle.wkt_build.specs.declared.ending.Coordinates.{Coordinates}
 use Rattle.wkt_build.proofs.Rows.{Made, MadeEach, MadeSome, then_maybe, then_one, then_some}
 
--- what was built of the unit, where it may come
+-- the unit is built from the next argument, if that is a unit; otherwise there is no unit, and no token is taken
 pub record MadeUnit (old new : List Tok) (v : Coordinates) : Type 0 where
   pub some : MadeSome kinds.AnyUnit DenotesUnit old new v.unit
   pub left : comes kinds.AnyUnit old ≡ false → new ≡ old

@@ -1,4 +1,4 @@
--- What a step says of its result it says of the value, where that is held while further steps are taken.
+-- What holds of the result of a step holds of an equal value that is kept during further steps.
 use Rattle.std.proofs.Common.{◌≡◌, Result, Ok, sym, ap, ◌∙◌, subst}
 
 pub held : {A E : Type 0} (P : Result A E → Type 0) (r : Result A E) (v w : A) → r ≡ Ok v → w ≡ v → P r → P (Ok w)

@@ -1,4 +1,4 @@
--- What is built of texts, numbers and words.
+-- The values of texts, numbers and words.
 use Rattle.std.proofs.Common.{◌≡◌, ℕ, ◌<◌, ◌^◌, Bool, true, false, List, [], ◌∷◌, ◌++◌, map, drop, slice_get, Option, Some, None, Result, Ok, Err, IfOk, refl, sym, ap, ◌∙◌, subst, pos}
 use Rattle.std.specs.Prelude.{cond, if◌then◌else◌}
 use Rattle.std.specs.Option.{is_some}
@@ -34,16 +34,16 @@ use Rattle.wkt_grammar.proofs.Leaves.{undoubled-quoted}
 use Rattle.wkt_build.specs.Reads.{Next}
 use Rattle.wkt_build.specs.Leaves.{TakesNumber, TakesText, TakesCount, TakesWord, next_is_number}
 
--- the text that a quoted token is, given its content
+-- the text with the content of a quoted token
 abbrev pub text_there : (bytes content : List ℕ) → IsQuoted bytes → content ≡ undoubled false (drop 1 bytes) → Text
 text_there bytes content q e = record {
   bytes = content;
   utf8 = ap is_utf8 (e ∙ (ap (λ l. undoubled false (drop 1 l)) q.2 ∙ undoubled-quoted q.0)) ∙ is_utf8-from_IsUtf8 q.0 q.1;
 }
 
--- ---- which items these slots take
+-- ---- the items that these slots take
 
--- a slot takes a number that is no count as a count
+-- whether the slot takes a number, given whether the number is a count
 abbrev numbered : Takes → Bool → Bool
 numbered t c = takes t (cond c arguments.Count arguments.Number)
 
@@ -117,7 +117,7 @@ count_made old new v m x rest f n =
 
 -- ---- texts
 
--- what a text token is, where the token is sound
+-- a sound text token is its content between marks
 text_is : (p : List ℕ) (v : Text) → IsQuoted p → v.bytes ≡ undoubled false (drop 1 p) → text p ≡ text (quoted v.bytes)
 text_is p v q e = ap text (q.2 ∙ ap quoted (sym (e ∙ (ap (λ l. undoubled false (drop 1 l)) q.2 ∙ undoubled-quoted q.0))))
 
@@ -167,7 +167,7 @@ same_bytes a b h = by (bytes_eq a b) (bytes_eq-Decides a b) h
     by : (t : Bool) → Decides t (a ≡ b) → t ≡ true → a ≡ b
     by t d e = d.0 e
 
--- the word of the value that was found is the one that was looked for
+-- the value that is found has the word that was looked for, in lowercase
 pub word_is : {A : Type 0} (f : A → List ℕ) (vs : List A) (l : List ℕ) (v : A) → first_word f vs l ≡ Some v → letters (f v) ≡ l
 word_is f [] l v e = absurd cc
 word_is f (w ∷ vs) l v e = by (bytes_eq (letters (f w)) l) refl e (word_is f vs l v)
@@ -176,7 +176,7 @@ word_is f (w ∷ vs) l v e = by (bytes_eq (letters (f w)) l) refl e (word_is f v
     by true h g r = let same : w ≡ v = cc in ap (λ z. letters (f z)) (sym same) ∙ same_bytes (letters (f w)) l h
     by false h g r = r g
 
--- a word is listed where some value has it
+-- `is_listed` tells whether some value has the word, in any letter case
 abbrev pub IsListed : {A : Type 0} → (List ℕ → Bool) → (A → List ℕ) → List A → Type 0
 IsListed is_listed f vs = (b : List ℕ) → is_listed b ≡ is_some (first_word f vs (letters b))
 
@@ -188,11 +188,11 @@ pub direction_listed : IsListed is_direction direction_word directions_listed
 unfolding is_direction
 direction_listed b = refl
 
--- the token that comes has these bytes, and what follows it is left
+-- the next token has these bytes, and the tokens after it remain
 abbrev pub Passed : List Tok → List Tok → List ℕ → Type 0
 Passed old new bytes = (t : Tok) (rest : List Tok) → old ≡ t ∷ rest → (t.piece.bytes ≡ bytes) × (new ≡ rest)
 
--- the token that was peeked is passed
+-- if the token that was peeked at is dropped, the tokens after it remain
 pub passed : (old new : List Tok) (t : Tok) → Some t ≡ slice_get old 0 → new ≡ drop 1 old → Passed old new t.piece.bytes
 passed old new t e n u rest h = let same : t ≡ u = peeked (e ∙ ap (λ (l : List Tok). slice_get l 0) h) in (ap (λ (v : Tok). v.piece.bytes) (sym same), n ∙ ap (drop 1) h)
   where

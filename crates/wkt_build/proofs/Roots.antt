@@ -1,4 +1,4 @@
--- What is built of a whole text.
+-- The value of a whole text.
 use Rattle.std.proofs.Common.{◌≡◌, List, [], ◌∷◌, ◌++◌, length, refl, ap, ◌∙◌, subst}
 use Rattle.std.specs.Prelude.{Result, Ok, Err, IfOk}
 use Rattle.crs_part.specs.declared.crs.CrsParts.{CrsParts}

@@ -1,4 +1,4 @@
--- What is built of a row, slot by slot.
+-- The value of a row, slot by slot.
 use Rattle.std.proofs.Common.{◌≡◌, ℕ, ◌≤◌, ◌<◌, ◌^◌, Bool, true, false, List, [], ◌∷◌, ◌++◌, length, map, drop, Option, Some, None, Result, Ok, Err, IfOk, refl, sym, ap, ◌∙◌, subst, arith, append_assoc}
 use Rattle.std.specs.Prelude.{◌&&◌, not, cond}
 use Rattle.std.specs.List.{AllPass, list_all}
@@ -93,7 +93,7 @@ behind_follows (x ∷ xs) toks end rest b e = ap (next_is is_open) b.3
 
 -- ---- the slots of a row, from the last one back
 
--- the same with the first argument after the opening delimiter
+-- if the next arguments, the first one after an opening delimiter, fit the row, this was built from them
 pub record ReadsAll (row : List Slot) (fields : Fields) (old new : List Tok) : Type 0 where
   pub of : (xs : List Bare) (end rest : List Tok) → Cuts row xs → Come xs old end → Ends end rest → Runs row fields xs × (new ≡ end)
 
@@ -107,7 +107,7 @@ all_read new (x ∷ xs) end rest c b e = absurd (no_cons x xs c)
 pub done : (new : List Tok) → Reads [] nothing new new
 done new = record { of = all_read new }
 
--- what is built of one argument
+-- if an argument that fits is next, after one token, it denotes v, and the tokens after it remain
 abbrev pub Made : {A : Type 0} → Takes → (Bare → A → Type 0) → List Tok → List Tok → A → Type 0
 Made t D old new v = (x : Bare) (first : Tok) (behind rest : List Tok) → Fitting t x → old ≡ first ∷ behind → Next x behind rest → D x v × (new ≡ rest)
 
@@ -150,7 +150,7 @@ not_both false true true e p q = absurd cc
 not_both false true false e p q = absurd cc
 not_both false false b e p q = refl
 
--- what the rest of the row begins with, a slot that may be left doesn't take
+-- a slot that may take none or several does not take an argument that the rest of a clear row begins with
 not_taken : (s : Slot) (row : List Slot) (y : Bare) (ys : List Bare) → is_clear (s ∷ row) ≡ true → (is_required s.often && not (is_many s.often)) ≡ false → Cuts row (y ∷ ys) → takes s.takes (shape y) ≡ false
 not_taken s row y ys c o k =
     let parts = and_parts (list_all (λ x. not (not (is_required s.often && not (is_many s.often)) && (takes s.takes x && may_begin row x))) all_arguments) (is_clear row) c in
@@ -186,7 +186,7 @@ pub then_maybe : {A : Type 0} {t : Takes} {D : Bare → A → Type 0} {tree : A 
     → MadeSome t D old mid v → (comes t old ≡ false → mid ≡ old) → (comes t old ≡ false → v ≡ None) → Reads row fields mid new → Reads (slot n t AtMostOnce ∷ row) (Maybe D v & fields) old new
 then_maybe {A} {t} {D} {tree} {row} {fields} {mid} {new} n law clear old v some left absent r = record { of = maybe_read t D row fields old mid new v n clear some left absent r }
 
--- ---- slots that are filled many times
+-- ---- slots that take many arguments
 
 abbrev pub MadeEach : {A : Type 0} → Takes → (Bare → A → Type 0) → List Tok → List Tok → List A → Type 0
 MadeEach t D old new vs = (run : List Bare) (end : List Tok) → AllFitting t run → Behind run old end → Follows end → comes t end ≡ false → Each D vs run × (new ≡ end)
@@ -237,7 +237,7 @@ then_some {A} {t} {D} {tree} {row} {fields} {mid} {new} n law clear old one v p 
 
 -- ---- nodes
 
--- what is built of a node with any keyword
+-- if a node that fits the row is next, with any keyword, it has the fields of v, and the tokens after it remain
 abbrev pub MadeNode : {A : Type 0} → Node → (A → Fields) → List Tok → List Tok → A → Type 0
 MadeNode n F old new v = (x : Bare) (k : List ℕ) (items : Bares) (K : Keyword) (rest : List Tok) → x ≡ node k items → keyword_of k ≡ Some K → Fitted n items → Next x old rest → IsNode K n (F v) x × (new ≡ rest)
 
@@ -247,7 +247,7 @@ made_node {A} {one} {last} n F old new v o r w x k items K rest e m f next =
     let reads = r.of (args items) all.end rest (fitted_cuts editions.Second n items f) (subst (λ l. Come (args items) l all.end) (sym o) all.come) all.ends in
     (record { keyword = k; items = items; is = e; meaning = m; runs = reads.0 }, w ∙ (ap (drop 1) reads.1 ∙ ap (drop 1) all.ends.is))
 
--- a slot that takes nodes alone
+-- the slot takes no text, no number, and no listed word
 abbrev pub takes_nodes : Takes → Bool
 takes_nodes t = not (takes t arguments.Text) && (not (takes t arguments.Number) && (not (takes t arguments.Count) && (not (takes t arguments.CsKind) && not (takes t arguments.Direction))))
 
@@ -265,7 +265,7 @@ not_false : (b : Bool) → not b ≡ true → b ≡ false
 not_false true e = absurd cc
 not_false false e = refl
 
--- the argument of such a slot is a node
+-- the argument of a slot for nodes is a node
 pub entered_of : (t : Takes) → takes_nodes t ≡ true → (x : Bare) → Fitting t x → IsEntered t x
 entered_of t e (text b) f = let p = and_parts (not (takes t arguments.Text)) _ e in let q = sym (not_false _ p.0) ∙ f.taken in absurd cc
 entered_of t e (number b) f =
@@ -300,7 +300,7 @@ entered_of t e (node k xs) f = by (keyword_of k) refl f.taken
         let m = some_of (enters t K) q in
         record { keyword = k; items = xs; means = K; row = m.0; is = refl; meaning = p; enters = m.1; fitted = f.sound m.0 (ap (entered t) p ∙ m.1) }
 
--- what is built of the argument of a slot for nodes with one keyword
+-- the argument of a slot for nodes with one keyword is a node with this keyword
 pub made_argument : {A : Type 0} (K : Keyword) (n : Node) (F : A → Fields) (old new : List Tok) (v : A) → MadeNode n F old new v
     → (x : Bare) (rest : List Tok) → Fitting (kinds.Node K n) x → Next x old rest → IsNode K n (F v) x × (new ≡ rest)
 made_argument K n F old new v m x rest f next =
@@ -313,7 +313,7 @@ pub argument_result : {A E : Type 0} (K : Keyword) (n : Node) (F : A → Fields)
 argument_result K n F old new (Ok v) m x rest f next = made_argument K n F old new v m x rest f next
 argument_result K n F old new (Err e) m x rest f next = tt
 
--- ---- the same value under another name
+-- ---- equal values
 
 pub made_as : {A : Type 0} {t : Takes} {D : Bare → A → Type 0} {tree : A → Bare} → Law t D tree → (old mid : List Tok) (v w : A) → w ≡ v → Made t D old mid v → Made t D old mid w
 made_as {A} {t} {D} law old mid v w e b x first behind rest f p q = let made = b x first behind rest f p q in (subst (D x) (sym e) made.0, made.1)

@@ -1,4 +1,4 @@
--- What the builders of arguments make of the tokens that come.
+-- The values that the builders of arguments make of the next tokens.
 use Rattle.std.proofs.Common.{◌≡◌, ◌<◌, true, false, List, [], ◌∷◌, ◌++◌, length, drop, refl, sym, ap, ◌∙◌, subst, arith, append_assoc, append-nil}
 use Rattle.wkt_tree.specs.declared.token.TokenKind.TheVariants.{Comma}
 use Rattle.wkt_tree.specs.Tree.{Piece, Tok, tok, Item, tokens}
@@ -13,7 +13,7 @@ use Rattle.wkt_grammar.proofs.Fitting.{shape-bare}
 use Rattle.wkt_grammar.specs.Runs.{Each}
 use Rattle.wkt_build.specs.Reads.{Next, Behind, comes}
 
--- ---- which argument comes
+-- ---- the next argument
 
 coming_item : (i : Item) (rest : List Tok) → Follows rest → coming (tokens i ++ rest) ≡ argument i
 coming_item (tree.text p) rest f = refl
@@ -29,7 +29,7 @@ comes_next t c x behind rest n = ap (takes t) (coming_next x behind rest n)
 
 -- ---- any number of arguments
 
--- what was taken of a run, and what is to come
+-- the arguments of a run that were built, and those that follow
 pub record Taken {A : Type 0} (t : Takes) (D : Bare → A → Type 0) (run : List Bare) (items : List A) (toks end : List Tok) : Type 0 where
   pub before : List Bare
   pub after : List Bare
@@ -81,12 +81,12 @@ taken_all t D old toks items h c run end f g o n = by w.after w.parts w.fit w.co
     by [] p q r = (subst (Each D items) (sym (p ∙ append-nil w.before)) w.made, r)
     by (x ∷ after) p q r = absurd (let z = sym c ∙ (ap (comes t) r.3 ∙ (comes_next t r.0 x r.1 r.2 r.4 ∙ q.0.taken)) in cc)
 
--- a token less
+-- without its first token, a list of tokens is shorter
 pub shorter_by_one : (t : Takes) (toks : List Tok) → comes t toks ≡ true → length (drop 1 toks) < length toks
 shorter_by_one t [] e = absurd cc
 shorter_by_one t (x ∷ toks) e = omega arith
 
--- what is built after a token
+-- if v is built from the tokens without the first one, it is built from an argument after that token
 pub made_behind : {A : Type 0} (t : Takes) (D : Bare → A → Type 0) (old one new : List Tok) (v : A) → one ≡ drop 1 old → ((x : Bare) (rest : List Tok) → Fitting t x → Next x one rest → D x v × (new ≡ rest))
     → (x : Bare) (first : Tok) (behind rest : List Tok) → Fitting t x → old ≡ first ∷ behind → Next x behind rest → D x v × (new ≡ rest)
 made_behind t D old one new v o b x first behind rest f e n = b x rest f (subst (λ l. Next x l rest) (sym (o ∙ ap (drop 1) e)) n)

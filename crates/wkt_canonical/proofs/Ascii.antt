@@ -31,7 +31,7 @@ none_high bytes room none =
       | inr past ↦ past_end (take 16 bytes) i (omega (arith, length-take-le 16 bytes room))
     ]
 
--- the same, of what the test of the mask answers
+-- if no byte of the first sixteen is in the mask of bytes above 127, these bytes are ASCII
 pub all_low : (bytes : List ℕ) → 16 ≤ length bytes → OnTrue (eqb (highs_of (chunk 0 16 bytes)) 0) (IsAscii (take 16 bytes))
 all_low bytes room =
     elim (eqb (highs_of (chunk 0 16 bytes)) 0) as (λ t. eqb (highs_of (chunk 0 16 bytes)) 0 ≡ t → OnTrue t (IsAscii (take 16 bytes))) [

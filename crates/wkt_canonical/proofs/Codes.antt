@@ -13,7 +13,7 @@ use Rattle.wkt_canonical.proofs.Runs.{closed, also, whole, behind_comma_is, no_r
 pub code_of_text : {content text inside rest : List ℕ} → text ≡ 44 ∷ inside → ReadsText content inside rest → ReadsCode content text rest
 code_of_text {rest = rest} e r = record { value = code.Text r.value; content_is = r.content_is; is = behind_comma_is (text_tree r.value) rest e r.is }
 
--- a number counts as what stands before the rest
+-- a code that is a number counts as the characters up to the rest
 pub code_of_number : {content text inside rest : List ℕ} → text ≡ 44 ∷ inside → ReadsFirst any number_tree inside rest → content ≡ take (length inside - length rest) inside → ReadsCode content text rest
 code_of_number {inside = inside} {rest = rest} e r f =
     let digits = render (number_tree r.value) in

@@ -45,7 +45,7 @@ bounding_box south west north east close = record {
   is = whole keywords.BoundingBox _ _ south.is (also _ _ west.is (also _ _ north.is (also _ _ east.is (closed close))));
 }
 
--- ---- what is asked of units
+-- ---- conditions on units
 
 pub and_true : (a b : Bool) → a ≡ true → b ≡ true → a && b ≡ true
 and_true a b p q = rw p q

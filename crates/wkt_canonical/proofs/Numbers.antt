@@ -1,4 +1,4 @@
--- Digits, with a period among them or without, are the canonical text of a number.
+-- Digits, with or without a period among them, are the canonical text of a number.
 use Rattle.std.proofs.Common.{◌≡◌, ◌≢◌, ℕ, zero, suc, ◌+◌, ◌*◌, ◌/◌, ◌%◌, ◌^◌, ◌<◌, ◌≤◌, Bool, true, not, List, [], ◌∷◌, ◌++◌, length, get_or, replicate, decimal, ℤ, pos, negsuc, ◌≤ℤ◌, unsigned_abs, refl, sym, ap, ◌∙◌, ⊎_elim, arith, div-one, pow-suc, mul_comm, append_assoc, append-nil, length-append}
 use Rattle.std.specs.Int.{is_positive, is_negative}
 use Rattle.std.specs.Char.{digit_value}
@@ -41,7 +41,7 @@ first_of_last (suc k) n =
     ap (λ ds. ds ++ ((48 + n % 10) ∷ [])) (first_of_last k (n / 10))
     ∙ ap (λ m. (48 + m % 10) ∷ last_digits (suc k) n) (fewer k n)
 
--- these digits stand after the number w
+-- s is the number w with these digits appended
 record Behind (w s : ℕ) (digits : List ℕ) : Type 0 where
   whole : s / 10 ^ length digits ≡ w
   last : last_digits (length digits) s ≡ digits
@@ -64,7 +64,7 @@ digits_behind w (c ∷ cs) d =
 
 -- ---- whole numbers
 
--- digits with no zero in front of others
+-- one to sixteen digits without a leading zero, or a single 0
 pub record IsWholePart (digits : List ℕ) : Type 0 where
   pub is_digits : AllDigits 10 digits
   pub some : 0 < length digits
@@ -79,7 +79,7 @@ short_small digits d k h =
 decimal_of_digits : (digits : List ℕ) → IsWholePart digits → decimal (digits_value 10 digits) ≡ digits
 decimal_of_digits digits h = decimal-digits_value (numerals_by_value _ tells_digits) digits h.is_digits h.some h.leads (omega (arith, short_small digits h.is_digits 16 h.short))
 
--- a number's digits are those of no multiple of ten and zeros
+-- the digits of n are those of `size`, which is not a multiple of ten, and at most `limit` zeros
 record Zeros (limit n : ℕ) : Type 0 where
   size : ℕ
   zeros : ℕ
@@ -179,7 +179,7 @@ fraction_above digits front c h d ends short =
       is = sym (λ i. (ap decimal whole ∙ decimal_of_digits digits h) i ++ (46 ∷ places i));
     }
 
--- ---- what the functions have read
+-- ---- the numbers that the functions read
 
 above : (bytes text rest : List ℕ) → IsAboveZero bytes → text ≡ bytes ++ rest → ReadsFirst is_above_zero number_tree text rest
 above bytes text rest r e = record { value = r.value; passes = r.passes; is = e ∙ ap (λ l. l ++ rest) r.is }
@@ -270,7 +270,7 @@ below_zero {text} {mid} {rest} e p r =
       is = e ∙ ((λ i. p i ∷ r.is i) ∙ ap (λ l. l ++ rest) n.1);
     }
 
--- a first argument is a further one where a comma stands before it
+-- a first argument after a comma is a further argument
 pub behind_comma : {A : Type 0} {test : A → Bool} {tree : A → Bare} {text mid rest : List ℕ} → text ≡ 44 ∷ mid → ReadsFirst test tree mid rest → ReadsOne test tree text rest
 unfolding behind
 behind_comma {A} {test} {tree} {text} {mid} {rest} e r = record {

@@ -15,7 +15,7 @@ behind_append [] ys = refl
 behind_append (x ∷ xs) ys =
     ap (λ (l : List ℕ). 44 ∷ l) (ap (λ l. render x ++ l) (behind_append xs ys) ∙ sym (append_assoc (render x) (render_behind (bares xs)) (render_behind (bares ys))))
 
--- the text goes on as these runs of arguments and the closing delimiter
+-- the text continues with these runs of arguments and the closing delimiter
 pub record Goes (runs : List (List Bare)) (text rest : List ℕ) : Type 0 where
   pub is : text ≡ behind (joined runs) ++ 93 ∷ rest
 
@@ -31,7 +31,7 @@ also {text} {mid} {rest} run runs e g = record {
       ∙ ap (λ l. l ++ 93 ∷ rest) (sym (behind_append run (joined runs)))));
 }
 
--- a whole node, from its opening delimiter on
+-- a further argument that is a node, from its opening delimiter on
 pub whole : {text mid rest : List ℕ} (keyword : Keyword) (x : Bare) (runs : List (List Bare)) → text ≡ render x ++ mid → Goes runs mid rest → opening keyword ++ text ≡ behind (one (branch keyword (one x ∷ runs))) ++ rest
 unfolding behind
 whole {text} {mid} {rest} keyword x runs e g =
@@ -40,7 +40,7 @@ whole {text} {mid} {rest} keyword x runs e g =
     let regroup : (44 ∷ (k ++ 91 ∷ [])) ++ (render x ++ (b ++ 93 ∷ rest)) ≡ (44 ∷ ((k ++ (91 ∷ ((render x ++ b) ++ 93 ∷ []))) ++ [])) ++ rest = simp (append_assoc, append-nil) in
     ap (λ l. (44 ∷ (k ++ 91 ∷ [])) ++ l) (e ∙ ap (λ l. render x ++ l) g.is) ∙ regroup
 
--- the same of the root, which no comma stands before
+-- the root, which has no comma before it, from its opening delimiter on
 pub root : {text mid rest : List ℕ} (keyword : Keyword) (x : Bare) (runs : List (List Bare)) → text ≡ render x ++ mid → Goes runs mid rest → beginning keyword ++ text ≡ render (branch keyword (one x ∷ runs)) ++ rest
 unfolding behind
 root {text} {mid} {rest} keyword x runs e g =
@@ -70,12 +70,12 @@ two_runs {text} {mid} xs ys rest e f =
 pub behind_comma : {A : Type 0} (test : A → Bool) (tree : A → Bare) {text inside rest : List ℕ} → text ≡ 44 ∷ inside → ReadsFirst test tree inside rest → ReadsOne test tree text rest
 behind_comma test tree e r = record { value = r.value; passes = r.passes; is = behind_comma_is (tree r.value) _ e r.is }
 
--- ---- nodes that come, or may come
+-- ---- nodes that are required, and nodes that are optional
 
 pub came : {A : Type 0} (test : A → Bool) (tree : A → Bare) {keyword own : Keyword} {text inside rest : List ℕ} → text ≡ opening keyword ++ inside → keyword ≡ own → ReadsInside test tree own inside rest → ReadsOne test tree text rest
 came test tree {inside = inside} e o r = record { value = r.value; passes = r.passes; is = e ∙ (ap (λ k. opening k ++ inside) o ∙ r.is) }
 
--- one that came, where it might not have come
+-- an optional node that is there
 pub maybe_came : {A : Type 0} (test : A → Bool) (tree : A → Bare) {text rest : List ℕ} → ReadsOne test tree text rest → ReadsMaybe test tree text rest
 maybe_came test tree r = record { value = Some r.value; passes = r.passes; is = r.is }
 
@@ -126,7 +126,7 @@ first_and_others test tree {text} {mid} {rest} first others =
 tail_of : (a : ℕ) (xs ys : List ℕ) → a ∷ xs ≡ a ∷ ys → xs ≡ ys
 tail_of a xs ys e = cc
 
--- a node that is the first argument
+-- a node that is a first argument
 pub first_within : {A : Type 0} (test : A → Bool) (tree : Keyword → A → Bare) (keyword : Keyword) {text inside rest : List ℕ} → text ≡ beginning keyword ++ inside → ReadsWithin test tree inside rest → ReadsFirst test (tree keyword) text rest
 unfolding behind
 first_within test tree keyword {text} {inside} {rest} e r =

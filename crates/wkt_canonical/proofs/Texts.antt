@@ -12,7 +12,7 @@ use Rattle.wkt_canonical.specs.Reads.{ReadsFirst, ReadsText, any}
 mark_is : (x : ℕ) → x ≡ 34 → is_mark x ≡ false → ⊥
 mark_is x e h = grind arith
 
--- what stands before the first mark is written as it is
+-- doubling marks does not change bytes without a mark
 unmarked : (xs : List ℕ) (i : ℕ) → ((k : ℕ) → k < i → is_mark (get_or xs k 0) ≡ false) → flat_map doubled (take i xs) ≡ take i xs
 unmarked xs zero h = refl
 unmarked [] (suc i) h = refl

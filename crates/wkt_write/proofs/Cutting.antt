@@ -1,4 +1,4 @@
--- The tokens of a text and of the condensed one.
+-- The tokens of a text and those of the condensed text.
 use Rattle.std.proofs.Common.{◌≡◌, ℕ, ◌+◌, true, List, [], ◌∷◌, ◌++◌, length, take, drop, refl, sym, ap, ◌∙◌, subst, inl, inr, IsUtf8}
 use Rattle.std.specs.List.{AllPass}
 use Rattle.std.proofs.lemmas.List.Elements.{All-nil, All-cons, All-head, All-tail}
@@ -27,7 +27,7 @@ SameBytes Comma a b = a ≡ b
 SameBytes (Open d) a b = a ≡ b
 SameBytes (Close d) a b = a ≡ b
 
--- the tokens are the same but for their places and the spelling of numerals
+-- the tokens are the same, except for their places and the spelling of numerals
 abbrev pub SameTokens : List Tok → List Tok → Type 0
 SameTokens [] [] = Unit {0}
 SameTokens [] (u ∷ us) = ⊥
@@ -42,9 +42,9 @@ own_bytes Comma a r = refl
 own_bytes (Open d) a r = refl
 own_bytes (Close d) a r = refl
 
--- ---- a token, and all of them
+-- ---- one token, and all tokens
 
--- the text begins with the same token, and what follows is condensed to the rest
+-- the text begins with the same token, except for the spelling of a numeral, and the text after it condenses to the rest
 pub record FirstAlike (place : ℕ) (text : List ℕ) (t : Tok) (rest : List ℕ) : Type 0 where
   pub token : Tok
   pub kind : token.kind ≡ t.kind
@@ -56,7 +56,7 @@ pub record FirstAlike (place : ℕ) (text : List ℕ) (t : Tok) (rest : List ℕ
   pub condenses : Condenses at behind rest
   pub utf8 : IsUtf8 t.piece.bytes → IsUtf8 token.piece.bytes
 
--- a numeral, before bytes that do not lengthen it, is a token
+-- a numeral is a token if the bytes after it do not lengthen it
 lexeme_of_numeral : (n rest : List ℕ) → HasNumeralBytes n → Stops is_number_byte rest → Lexeme Number (n ++ rest) n rest
 lexeme_of_numeral [] rest h s = absurd h
 lexeme_of_numeral (x ∷ n) rest h s =
@@ -88,7 +88,7 @@ kept_alike place place' text bytes t rest f s =
       utf8 = λ u. u;
     }
 
--- two tokens that some bytes begin with are one
+-- two tokens at the front of the same bytes are the same, and so are the bytes after them
 pub record OneToken (k j : TokenKind) (a b r s : List ℕ) : Type 0 where
   pub kind : k ≡ j
   pub token : a ≡ b
@@ -158,7 +158,7 @@ all_blank p text bytes (keep {bs = ts} {cs = ds} x h) a =
 all_blank p text bytes (leave {bs = ts} x blank may h) a = All-cons (λ z. is_blank z ≡ true) x ts blank (all_blank p ts bytes h a)
 all_blank p text bytes (respell {cs = ds} n m same shuts h) a = absurd (numeral_front m ds (form_bytes m (same.one.parts, same.one.form)) a)
 
--- the text is cut into the same tokens
+-- the text consists of the same tokens, and it is UTF-8 if the other bytes are
 pub record Alike (place : ℕ) (text : List ℕ) (bytes : List ℕ) (ts : List Tok) : Type 0 where
   pub tokens : List Tok
   pub cut : Cut place text tokens

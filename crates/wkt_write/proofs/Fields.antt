@@ -1,4 +1,4 @@
--- Arguments of a node that are alike denote the same.
+-- Arguments that are alike denote the same fields.
 use Rattle.std.proofs.Common.{◌≡◌, ℕ, List, [], ◌∷◌, ◌++◌, length, map, Option, Some, None, Bool, true, false, refl, sym, ap, ◌∙◌, subst, arith}
 use Rattle.std.specs.List.{AllPass}
 use Rattle.crs_number.specs.Numeral.{Spells}
@@ -138,7 +138,7 @@ node_moves means row fields x y f a n =
       runs = runs_move (row_of editions.Second row) fields f (args n.items) (args b.0) (list_alike n.items b.0 b.2) n.runs;
     }
 
--- ---- how often
+-- ---- slots that take one argument, at most one, and any number
 
 pub one : {A : Type 0} (D : Bare → A → Type 0) → Moves D → (v : A) → RunMoves (One D v)
 one D m v [] ys a h = absurd h

@@ -1,4 +1,4 @@
--- One token of a text and of the condensed one.
+-- The next token of a text and that of the condensed text.
 use Rattle.std.proofs.Common.{◌≡◌, ℕ, Bool, true, false, cond, List, [], ◌∷◌, ◌++◌, Some, refl, sym, ap, ◌∙◌, subst, append_assoc, arith, inl, inr}
 use Rattle.std.specs.List.{AllPass}
 use Rattle.std.proofs.lemmas.List.Elements.{All-nil, All-cons, All-head, All-tail}
@@ -16,13 +16,13 @@ use Rattle.wkt_write.specs.Alike.{SameNumber}
 use Rattle.wkt_tree.proofs.Sound.{quoted_begins, comma_begins, open_begins, close_begins, word_begins, number_begins}
 use Rattle.wkt_write.specs.Condensed.{Before, delimiter, quotation, other, is_delimiter, next, Shuts, Condenses, done, keep, leave, respell}
 
--- outside quoted texts
+-- the context is outside quoted texts
 abbrev pub Free : Before → Type 0
 Free delimiter = Unit {0}
 Free quotation = ⊥
 Free other = Unit {0}
 
--- ---- which byte is what
+-- ---- the classes of bytes
 
 blank_mark : (x : ℕ) → is_blank x ≡ true → is_mark x ≡ false
 blank_mark x h = grind (arith, nat_tests)
@@ -36,7 +36,7 @@ blank_word x h = grind (arith, nat_tests)
 blank_number : (x : ℕ) → is_blank x ≡ true → is_number_byte x ≡ false
 blank_number x h = grind (arith, nat_tests)
 
--- neither a blank nor a delimiter nor a mark
+-- the byte is neither a blank nor a delimiter nor a mark
 pub record IsSolid (x : ℕ) : Type 0 where
   pub blank : is_blank x ≡ false
   pub delimiter : is_delimiter x ≡ false
@@ -54,7 +54,7 @@ begins_word_solid x h = let w = word_begins x h in word_solid x (grind (arith, n
 begins_number_solid : (x : ℕ) → begun_by x ≡ Some Number → IsSolid x
 begins_number_solid x h = let w = number_begins x h in number_solid x (grind (arith, nat_tests))
 
--- ---- what stands before the next place
+-- ---- the context of the next place
 
 next_blank : (p : Before) (x : ℕ) → Free p → is_blank x ≡ true → next p x ≡ p
 next_blank delimiter x f h = let m = blank_mark x h in let d = blank_delimiter x h in rw (m, d, h) refl
@@ -82,7 +82,7 @@ one_more : (text : List ℕ) (x b : ℕ) (cs : List ℕ) → is_blank x ≡ true
 one_more text x b cs h s =
     record { blanks = x ∷ s.blanks; all = All-cons (λ z. is_blank z ≡ true) x s.blanks h s.all; rest = s.rest; whole = ap (λ (l : List ℕ). x ∷ l) s.whole; condenses = s.condenses }
 
--- a numeral that is spelled otherwise comes
+-- after blanks, the text has a numeral, and the other bytes begin with another spelling of its number
 pub record Renewed (text front : List ℕ) : Type 0 where
   pub blanks : List ℕ
   pub all : AllPass is_blank blanks
@@ -137,7 +137,7 @@ skip p text c [] b cs f a n e (respell {bs = ts} {cs = ds} numeral again same sh
 skip p text c (y ∷ bl) b cs f a n e (respell {bs = ts} {cs = ds} numeral again same shuts h) =
     absurd (no_blank_first again ds (bl ++ b ∷ cs) y (form_bytes again (same.one.parts, same.one.form)) e (All-head (λ z. is_blank z ≡ true) y bl a))
 
--- ---- the bytes after it
+-- ---- the bytes after the first one of a token
 
 pub record Kept (q : Before) (text : List ℕ) (b : ℕ) (cs : List ℕ) : Type 0 where
   pub rest : List ℕ
@@ -177,7 +177,7 @@ inside_at text c b cs e (leave x blank may h) = absurd may
 kept_inside : (text : List ℕ) (b : ℕ) (cs : List ℕ) → Condenses quotation text (b ∷ cs) → Kept (next quotation b) text b cs
 kept_inside text b cs h = inside_at text (b ∷ cs) b cs refl h
 
--- some bytes stand at the front of both
+-- the text begins with the token, and the text after it condenses to the rest
 pub record Run (text token rest : List ℕ) : Type 0 where
   pub behind : List ℕ
   pub whole : text ≡ token ++ behind
@@ -219,7 +219,7 @@ quoted_run text (b ∷ content) rest h =
           (quoted_run k.rest content rest (subst (λ q. Condenses q k.rest (body content ++ 34 ∷ rest)) at k.condenses)))
     ]
 
--- ---- where it ends
+-- ---- the end of a token
 
 stops : (p : ℕ → Bool) → ((b : ℕ) → is_blank b ≡ true → p b ≡ false) → (text rest : List ℕ) → Condenses other text rest → Stops p rest → Stops p text
 stops p z text rest done s = tt
@@ -234,14 +234,14 @@ shut_number [] s = tt
 shut_number (x ∷ text) (inl s) = delimiter_number x s
 shut_number (x ∷ text) (inr s) = blank_number x s.0
 
--- where blanks go before a delimiter, it comes
+-- if a delimiter or the end is next, blanks aside, the condensed text does not continue a number
 pub shut_after : (text rest : List ℕ) → Shuts text → Condenses other text rest → Stops is_number_byte rest
 shut_after text rest s done = tt
 shut_after text rest s (keep {bs = ts} x h) = shut_number (x ∷ ts) s
 shut_after text rest (inl s) (leave x blank may h) = let t = blank_delimiter x blank in absurd (cc)
 shut_after text rest (inr s) (leave {bs = ts} {cs = ds} x blank may h) = shut_after ts rest s.1 h
 
--- what follows the first byte of a token
+-- the text begins with the other bytes of a token, which ends there, and the text after it condenses to the rest
 pub record Followed (k : TokenKind) (text others rest : List ℕ) : Type 0 where
   pub behind : List ℕ
   pub whole : text ≡ others ++ behind

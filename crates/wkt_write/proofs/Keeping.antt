@@ -13,7 +13,7 @@ use Rattle.wkt_write.specs.Condensed.{Before, delimiter, quotation, other, is_de
 use Rattle.wkt_write.specs.declared.condensing.pieces.Piece.{Piece}
 use Rattle.wkt_write.specs.Pieces.{is_plain, is_inner, before, Leads, IsPiece, IsNumeralFront, IsSpelledAnew, between, IsCopied}
 
--- what stands before the place after some bytes
+-- the context of the place after some bytes
 abbrev pub after : Before → List ℕ → Before
 after p [] = p
 after p (x ∷ xs) = after (next p x) xs
@@ -67,7 +67,7 @@ all_plain p f [] a = All-nil (λ z. is_plain z ≡ true)
 all_plain p f (x ∷ xs) a =
     All-cons (λ z. is_plain z ≡ true) x xs (f x (All-head (λ z. p z ≡ true) x xs a)) (all_plain p f xs (All-tail (λ z. p z ≡ true) x xs a))
 
--- bytes that are no delimiters, and then delimiters
+-- inner bytes and the delimiters after them are neither blanks nor marks
 pub word_plain : (bytes others : List ℕ) (n m : ℕ) → n ≡ prefix_len is_inner bytes → others ≡ drop n bytes → m ≡ prefix_len is_delimiter others → AllPass is_plain (take (n + m) bytes)
 word_plain bytes others n m is back more =
     let front : AllPass is_inner (take n bytes) = subst (λ k. AllPass is_inner (take k bytes)) (sym is) (front_passes is_inner bytes) in
@@ -143,7 +143,7 @@ blank_leads s bytes n is shuts c h =
 pub leads_on : (p : Before) (bytes a : List ℕ) (q : Before) (rest b : List ℕ) (r : Before) (rest' : List ℕ) → Leads p bytes a q rest → Leads q rest b r rest' → Leads p bytes (a ++ b) r rest'
 leads_on p bytes a q rest b r rest' f g c h = subst (λ (l : List ℕ). Condenses p bytes l) (sym (append_assoc a b c)) (f (b ++ c) (g c h))
 
--- ---- what is copied late
+-- ---- bytes that are copied later
 
 between_more : (text : List ℕ) (from at n : ℕ) → from ≤ at → between text from (at + n) ≡ between text from at ++ take n (drop at text)
 between_more text from at n h =
@@ -159,13 +159,13 @@ between_none text at = let n : at - at ≡ 0 = omega arith in ap (λ k. take k (
 nothing_more : (out text : List ℕ) (at : ℕ) → out ≡ out ++ between text at at
 nothing_more out text at = sym (ap (λ (l : List ℕ). out ++ l) (between_none text at) ∙ append-nil out)
 
--- what is copied, and what is still to be, leads to what stands before a place of the text
+-- the text up to `at` condenses to the bytes that are written and those from `from` to `at`, which are copied later
 pub record Stands (text out : List ℕ) (from at : ℕ) (shut : Bool) : Type 0 where
   pub order : from ≤ at
   pub within : at ≤ length text
   pub leads : Leads delimiter text (out ++ between text from at) (before shut) (drop at text)
 
--- a piece goes on to its end
+-- the text up to the end of the piece condenses to the bytes out and first
 record OnPiece (text out : List ℕ) (at : ℕ) (shut : Bool) (piece : Piece) (first : List ℕ) : Type 0 where
   pub within : at + piece.len ≤ length text
   pub leads : Leads delimiter text (out ++ first) (before piece.shut) (drop (at + piece.len) text)
@@ -186,7 +186,7 @@ on_piece text out at s rest piece first room back f p is =
       leads = leads_on delimiter text out (before s) (drop at text) first (before piece.shut) (drop (at + piece.len) text) f h;
     }
 
--- it is kept, and copied later
+-- a piece that is kept is copied later
 pub kept_on : (text out : List ℕ) (from at : ℕ) (s : Bool) (rest : List ℕ) (piece : Piece) → Stands text out from at s → rest ≡ drop at text → IsPiece s rest piece → piece.kept ≡ true → Stands text out from (at + piece.len) piece.shut
 kept_on text out from at s rest piece st back p k =
     let front : (if piece.kept then take piece.len rest else []) ≡ take piece.len (drop at text) = rw (k) (ap (take piece.len) back) in
@@ -199,7 +199,7 @@ kept_on text out from at s rest piece st back p k =
       leads = subst (λ (l : List ℕ). Leads delimiter text l (before piece.shut) (drop (at + piece.len) text)) is o.leads;
     }
 
--- it is left out, and what was to be copied is
+-- before a piece that is left out, the bytes that are not yet copied are copied
 pub left_on : (text out : List ℕ) (from at : ℕ) (s : Bool) (rest : List ℕ) (piece : Piece) (out' : List ℕ) → Stands text out from at s → rest ≡ drop at text → IsPiece s rest piece → piece.kept ≡ false → IsCopied out text from at out' → Stands text out' (at + piece.len) (at + piece.len) piece.shut
 left_on text out from at s rest piece out' st back p k copied =
     let front : (if piece.kept then take piece.len rest else []) ≡ [] = rw (k) refl in
@@ -212,7 +212,7 @@ left_on text out from at s rest piece out' st back p k copied =
       leads = subst (λ (l : List ℕ). Leads delimiter text l (before piece.shut) (drop (at + piece.len) text)) is o.leads;
     }
 
--- a numeral is spelled anew
+-- a numeral is spelled anew, after the bytes before it are copied
 pub respelled_on : (text out : List ℕ) (from at : ℕ) (s : Bool) (rest numeral : List ℕ) (n : ℕ) (mid out' : List ℕ) → Stands text out from at s → rest ≡ drop at text → IsNumeralFront s rest n → numeral ≡ take n rest → IsCopied out text from at mid → IsSpelledAnew mid numeral out' → Stands text out' (at + n) (at + n) false
 respelled_on text out from at s rest numeral n mid out' st back f front copied a =
     let left = ap length back in
@@ -234,7 +234,7 @@ respelled_on text out from at s rest numeral n mid out' st back f front copied a
       leads = subst (λ (l : List ℕ). Leads delimiter text l other (drop (at + n) text)) is on;
     }
 
--- the text is at its end, and the rest is copied
+-- at the end of the text, when the remaining bytes are copied, the text is condensed
 pub ended : (text out : List ℕ) (from at : ℕ) (s : Bool) (out' : List ℕ) → Stands text out from at s → length text ≤ at → IsCopied out text from at out' → IsCondensed text out'
 ended text out from at s out' st end copied =
     let gone : drop at text ≡ [] = drop_all at text (omega (arith, end)) in

@@ -1,4 +1,4 @@
--- The layouts give the canonical text and the indented one.
+-- The texts in these layouts are the canonical text and the indented one.
 use Rattle.std.proofs.Common.{◌≡◌, ℕ, suc, [], ◌∷◌, ◌++◌, refl, ap, ◌∙◌}
 use Rattle.std.proofs.Math.Numerals.{add-one}
 use Rattle.wkt_grammar.specs.Bare.{Bare, Bares, text, number, word, node, none, and}

@@ -1,4 +1,4 @@
--- Marks doubled, and margins.
+-- Doubled marks, and margins.
 use Rattle.std.proofs.Common.{◌≡◌, ℕ, zero, suc, ◌+◌, ◌*◌, ◌<◌, true, false, List, [], ◌∷◌, ◌++◌, length, take, drop, get_or, replicate, Some, None, refl, sym, ap, ◌∙◌, subst, append_assoc, arith, inl, inr}
 use Rattle.std.specs.Prelude.{position, Result, Ok, Err, OnOk, is_ok, if◌then◌else◌}
 use Rattle.std.specs.List.{flat_map, position_from}
@@ -23,7 +23,7 @@ marked (x ∷ xs) (suc i) below m others =
       | inr e ↦ body-plain x xs e.1 ∙ ap (λ (l : List ℕ). x ∷ l) (marked xs i (omega arith) m (λ k h. others (suc k) (omega arith)))
     ]
 
--- up to the first mark
+-- doubling the marks of bytes with a mark: the bytes up to the first mark, a mark, and the rest with its marks doubled
 pub up_to_mark : (xs : List ℕ) (i : ℕ) → position is_mark xs ≡ Some i → flat_map doubled xs ≡ take (i + 1) xs ++ (34 ∷ flat_map doubled (drop (i + 1) xs))
 up_to_mark xs i e =
     let s = position-Some is_mark xs i 0 e in
@@ -41,7 +41,7 @@ unmarked_from i (x ∷ xs) e =
     some_none : (j : ℕ) → Some j ≡ None → ⊥
     some_none j h = cc
 
--- without a mark
+-- doubling marks does not change bytes without a mark
 pub no_mark : (xs : List ℕ) → position is_mark xs ≡ None → flat_map doubled xs ≡ xs
 no_mark xs e = unmarked_from 0 xs (sym (position_from-zero is_mark xs) ∙ e)
 
@@ -57,7 +57,7 @@ wider old mid new n e f =
     let more : replicate (4 * n) 32 ++ (32 ∷ 32 ∷ 32 ∷ 32 ∷ []) ≡ replicate (4 * (n + 1)) 32 = replicate-append-replicate (4 * n) 4 32 ∙ ap (λ k. replicate {A = ℕ} k 32) (omega arith) in
     f ∙ (ap (λ l. l ++ (32 ∷ 32 ∷ 32 ∷ 32 ∷ [])) e ∙ (append_assoc old (10 ∷ replicate (4 * n) 32) (32 ∷ 32 ∷ 32 ∷ 32 ∷ []) ∙ ap (λ l. old ++ (10 ∷ l)) more))
 
--- ---- growth
+-- ---- results
 
 pub ok_items : {E : Type 0} (r : Result (Unit {0}) E) (new a b : List ℕ) → new ≡ (if is_ok r then a else b) → OnOk r (new ≡ a)
 ok_items (Ok u) new a b e = e

@@ -1,4 +1,4 @@
--- What a tree denotes, a tree that is alike denotes too.
+-- Trees that are alike denote the same values.
 use Rattle.crs_part.specs.declared.identifiers.NumberOrText.TheVariants as code
 use Rattle.crs_part.specs.declared.units.Unit.TheVariants as unit
 use Rattle.crs_part.specs.declared.units.LengthUnit.TheVariants as length_unit

@@ -18,7 +18,7 @@ use Rattle.wkt_write.specs.Layout.{before, inner, laid, laid_all, laid_behind}
 abbrev pub piece : ℕ → List ℕ → Piece
 piece place bytes = record { place = place; bytes = bytes }
 
--- what follows lengthens no token
+-- the rest does not lengthen a token before it
 pub record StopsAll (rest : List ℕ) : Type 0 where
   pub of_word : Stops is_word_byte rest
   pub of_number : Stops is_number_byte rest
@@ -26,7 +26,7 @@ pub record StopsAll (rest : List ℕ) : Type 0 where
 
 -- ---- one token
 
--- a token that stands after blanks
+-- a token after blanks is the first token of the bytes
 first_behind : (k : TokenKind) (place : ℕ) (blanks bytes rest : List ℕ) → AllPass is_blank blanks → IsToken k bytes → Ends k rest → First place (blanks ++ (bytes ++ rest)) (tok k (piece (place + length blanks) bytes)) rest
 first_behind k place blanks bytes rest b t e = record {
   from = bytes ++ rest;
@@ -35,7 +35,7 @@ first_behind k place blanks bytes rest b t e = record {
   readable = t.readable;
 }
 
--- a token that stands at the front
+-- a token at the front is the first token of the bytes
 first_here : (k : TokenKind) (place : ℕ) (bytes rest : List ℕ) → IsToken k bytes → Ends k rest → First place (bytes ++ rest) (tok k (piece place bytes)) rest
 first_here k place bytes rest t e = record {
   from = bytes ++ rest;
@@ -64,7 +64,7 @@ spaces_blank : (n : ℕ) → AllPass is_blank (replicate n 32)
 spaces_blank zero = All-nil _
 spaces_blank (suc n) = All-cons (λ b. is_blank b ≡ true) 32 (replicate n 32) refl (spaces_blank n)
 
--- nothing but blanks stands before a keyword
+-- a layout puts only blanks before a keyword
 pub before_blank : (layout : layouts.Layout) → AllPass is_blank (before layout)
 before_blank OneLine = All-nil _
 before_blank Root = All-nil _
@@ -84,7 +84,7 @@ closing_stops rest = record { of_word = refl; of_number = refl; of_text = refl }
 
 -- ---- trees
 
--- a tree whose tokens are those of the text of t
+-- an item that is t without its places, and whose tokens are those of the text of t
 pub record Placed (layout : layouts.Layout) (n place : ℕ) (t : Bare) (rest : List ℕ) : Type 0 where
   pub item : Item
   pub end : ℕ
@@ -92,7 +92,7 @@ pub record Placed (layout : layouts.Layout) (n place : ℕ) (t : Bare) (rest : L
   pub within : Within n item
   pub front : Front place (laid layout t ++ rest) (tokens item) end rest
 
--- how an item goes on with those of the text of r
+-- the arguments r as items after any first item, and their tokens, which are those of the text of r
 pub record Behind (layout : layouts.Layout) (n place : ℕ) (r : Bares) (rest : List ℕ) : Type 0 where
   pub items : Item → Items
   pub added : List Tok
@@ -131,7 +131,7 @@ one_behind layout n place i r rest head tail =
       front = subst (λ b. Front place b added tail.end rest) (sym regroup) (text, comma, front_join (place + 1) _ (tokens head.item) head.end _ tail.added tail.end rest head.front tail.front);
     }
 
--- a node, from its first item and those after it
+-- a node is placed if its first argument is, and the arguments after it are
 place_node : (layout : layouts.Layout) (n place : ℕ) (k : List ℕ) (i : Bare) (r : Bares) (rest : List ℕ) → IsToken Word k → (head : Placed (inner layout) n (place + length (before layout) + length k + 1) i (laid_behind (inner layout) r ++ 93 ∷ rest)) → Behind (inner layout) n head.end r (93 ∷ rest) → Placed layout (suc n) place (node k (and i r)) rest
 unfolding laid laid_all
 place_node layout n place k i r rest name_is head tail =

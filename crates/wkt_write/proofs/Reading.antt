@@ -25,10 +25,10 @@ laid_reads layout t g =
       cut = record { place' = p.end; rest = []; front = subst (λ b. Front 0 b (tokens p.item) p.end []) (append-nil (laid layout t)) p.front; blank = All-nil _ };
     }
 
--- the canonical text
+-- the canonical text of a tree is read back as the tree
 pub rendered : (t : Bare) → WellFormed 16 t → ReadsAs (render t) t
 rendered t g = subst (λ b. ReadsAs b t) (on_one_line t) (laid_reads OneLine t g)
 
--- the indented text
+-- the indented text of a tree is read back as the tree
 pub indented_reads : (t : Bare) → WellFormed 16 t → ReadsAs (indented t) t
 indented_reads t g = subst (λ b. ReadsAs b t) (at_the_root t) (laid_reads Root t g)

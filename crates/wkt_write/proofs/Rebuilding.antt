@@ -1,4 +1,4 @@
--- The tree of the same tokens.
+-- If tokens are the same as those of a tree, they are the tokens of a tree that is alike.
 use Rattle.std.proofs.Common.{◌≡◌, ℕ, zero, suc, ◌≤◌, List, [], ◌∷◌, ◌++◌, length, refl, sym, ap, ◌∙◌, subst, append_assoc, append-nil}
 use Rattle.wkt_tree.specs.declared.token.Delimiter.{Delimiter}
 use Rattle.wkt_tree.specs.declared.token.TokenKind.{TokenKind}
@@ -14,7 +14,7 @@ use Rattle.wkt_write.proofs.Moving.{parts_moves}
 use Rattle.wkt_write.proofs.Cutting.{SameBytes, SameTokens, cut_alike}
 use Rattle.wkt_write.specs.Alike.{Alike, AllAlike}
 
--- the first token
+-- the first of the tokens is the same as this one, and the others are the same as the rest
 record One (k : TokenKind) (p : Piece) (rest us : List Tok) : Type 0 where
   pub piece : Piece
   pub others : List Tok
@@ -26,7 +26,7 @@ one : (k : TokenKind) (p : Piece) (rest us : List Tok) → SameTokens us (tok k 
 one k p rest [] h = absurd h
 one k p rest (u ∷ us) h = record { piece = u.piece; others = us; whole = ap (λ kind. tok kind u.piece ∷ us) h.0; bytes = h.1; behind = h.2 }
 
--- the tokens of an item, and others
+-- the tokens begin with those of an item that is alike, and the others are the same as the rest
 pub record Rebuilt (i : Item) (rest us : List Tok) : Type 0 where
   pub item : Item
   pub others : List Tok
@@ -112,7 +112,7 @@ no_others : (us : List Tok) → SameTokens us [] → us ≡ []
 no_others [] h = refl
 no_others (u ∷ us) h = absurd h
 
--- the text is written with the tokens of the same tree
+-- if a condensed text has the tokens of a tree, the text has the tokens of a tree that is alike
 pub written_as : (bytes condensed : List ℕ) → length bytes ≤ 1048576 → IsCondensed bytes condensed → IsWrittenAs bytes condensed
 written_as bytes condensed short h i o =
     let a = cut_alike (tokens i) delimiter 0 0 bytes condensed tt h o.cut in
@@ -124,7 +124,7 @@ written_as bytes condensed short h i o =
       same = r.same;
     }
 
--- and spells the same values
+-- the text spells each value that the condensed text spells
 pub read_as : (bytes condensed : List ℕ) → length bytes ≤ 1048576 → IsCondensed bytes condensed → IsReadAs bytes condensed
 read_as bytes condensed short h v d =
     let t = written_as bytes condensed short h d.item d.outline in

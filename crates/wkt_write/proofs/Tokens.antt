@@ -59,7 +59,7 @@ begun_point : begun_by 46 ≡ Some Number
 unfolding begun_by
 begun_point = refl
 
--- the byte may stand in a number
+-- the byte may be a part of a number
 abbrev pub Passes : ℕ → Type 0
 Passes b = is_number_byte b ≡ true
 
@@ -82,7 +82,7 @@ power_passes (c ∷ r) n digits p =
     All-cons Passes c r (⊎_elim (λ a. rw a refl) (λ b. rw b refl) p.0)
     (subst (AllPass is_number_byte) (sym p.1.is_text) (All-append Passes p.1.sign digits (sign_passes p.1.sign n p.1.is_sign) (digits_pass digits p.1.is_digits.1)))
 
--- the first byte of a numeral
+-- the bytes have a first byte, and it begins a number
 record Begins (b : List ℕ) : Type 0 where
   pub first : ℕ
   pub others : List ℕ
@@ -114,7 +114,7 @@ spelled text c e s = record {
 pub is_number : (text : List ℕ) (c e : ℤ) → Spells text c e → IsNumber text
 is_number text c e s = (spelled text c e s, s)
 
--- a numeral is a token
+-- bytes that spell a decimal are a number token
 pub numeral_token : (b : List ℕ) (c e : ℤ) → Spells b c e → IsToken Number b
 numeral_token b c e s =
     let f = s.form in

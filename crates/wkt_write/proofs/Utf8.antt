@@ -36,7 +36,7 @@ ascii_cons b bs h u = IsUtf8-append (b ∷ []) bs (ascii_one b h) u
 
 -- ---- quoted texts
 
--- a text without marks is written as it is
+-- doubling marks does not change bytes without a mark
 undoubled : (xs : List ℕ) → ((k : ℕ) → k < length xs → get_or xs k 0 ≡ 34 → ⊥) → flat_map doubled xs ≡ xs
 undoubled [] h = refl
 undoubled (x ∷ xs) h = ⊎_elim
