@@ -1,4 +1,4 @@
--- What a condensed text spells, the text spells.
+-- A text spells what its condensed text spells.
 use Rattle.std.proofs.Common.{ℕ, List}
 use Rattle.crs_value.specs.declared.crs.Crs.{Crs}
 use Rattle.wkt_write.specs.CondensedLaw.{IsReadAs}

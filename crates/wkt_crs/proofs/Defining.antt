@@ -1,4 +1,4 @@
--- What makes a definition.
+-- Bytes that are definitions.
 use Rattle.std.proofs.Common.{◌≡◌, ℕ, nat_eq, ◌≤◌, Bool, true, false, List, [], ◌∷◌, length, refl, sym, ap, ◌∙◌, subst, arith, inl, inr}
 use Rattle.std.proofs.Math.Logic.{∥∥₁_elim}
 use Rattle.std.proofs.Math.Bridge.{le_prop}
@@ -36,7 +36,7 @@ spelled_by_definition bytes d = canonical_text d.crs bytes d.canonical d.short
 
 -- ---- a definition, its key and its name
 
--- bytes are a definition in one way, as they spell one value
+-- bytes are a definition in at most one way
 one_definition : (bytes : List ℕ) → IsProp (IsDefinition bytes)
 one_definition bytes d e =
     let p = one_value bytes d.crs e.crs (spelled_by_definition bytes d) (spelled_by_definition bytes e) in
@@ -71,7 +71,7 @@ some_first [] o e n h = n refl
 some_first (x ∷ xs) None e n h = absurd h
 some_first (x ∷ xs) (Some key) e n h = absurd cc
 
--- what is a definition is not refused
+-- `Memory` is the only possible fault of a definition
 pub never_refused : (bytes : List ℕ) (f : ReadFault) → IsDefinition bytes → FirstFault bytes f → f ≡ read.Memory
 never_refused bytes f d h = value_or_fault bytes d.crs f (spelled_by_definition bytes d) h
 
@@ -115,9 +115,9 @@ pub told_false : (b : Bool) → not b ≡ true → b ≡ false
 told_false false h = refl
 told_false true h = absurd cc
 
--- ---- where a text is a definition
+-- ---- texts that are definitions
 
--- it spells the value that is defined
+-- a definition that spells a value is its canonical text, and the value has an identifier
 pub of_definition : (bytes : List ℕ) (crs : Crs) → IsDefinition bytes → Spells bytes crs → (bytes ≡ canon crs) × (HasNone crs → ⊥)
 of_definition bytes crs d s =
     let same : d.crs ≡ crs = one_value bytes d.crs crs (canonical_text d.crs bytes d.canonical d.short) s in
@@ -143,7 +143,7 @@ read_refused bytes (read.Slot f) short h = (short, h)
 read_refused bytes (read.Broken condition at) short h = (short, h)
 read_refused bytes read.Memory short h = tt
 
--- what is wrong with a text is no want of memory
+-- a fault of a text is not `Memory`
 pub not_memory : (f : Unspelled) → as_read f ≡ read.Memory → ⊥
 not_memory (refused.Text f) e = cc
 not_memory (refused.Slot f) e = cc
@@ -158,7 +158,7 @@ unspelled_read (refused.Text f) = refl
 unspelled_read (refused.Slot f) = refl
 unspelled_read (refused.Broken condition at) = refl
 
--- two refusals that read as one are one
+-- faults with the same result of reading are the same
 pub one_refusal : (f g : Unspelled) → as_read f ≡ as_read g → f ≡ g
 unfolding known
 one_refusal f g e = ap (λ o. known o f) (sym (unspelled_read f) ∙ (ap unspelled e ∙ unspelled_read g))

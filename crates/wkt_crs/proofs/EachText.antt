@@ -99,7 +99,7 @@ denoted_verdict bytes parts d = by (first_broken parts) refl
 pub clean_verdict : (bytes : List ℕ) (ts : List Tok) → IsOutline bytes ts → IsClean editions.Second ts → HasVerdict bytes
 clean_verdict bytes ts o clean = let d = clean_denotes bytes ts o clean in denoted_verdict bytes d.0 d.1
 
--- ---- what the steps of reading tell
+-- ---- the verdict that each step of reading gives
 
 pub text_verdict : (bytes : List ℕ) (f : TextFault) → text.FirstFault bytes f → HasVerdict bytes
 text_verdict bytes f h = inr (fault.Text f, (λ m. cc), h)

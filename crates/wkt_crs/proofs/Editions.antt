@@ -1,4 +1,4 @@
--- What texts spelled by the first edition of the grammar, and what they spell.
+-- The values that texts spell by the first edition of the grammar, and by the second.
 use Rattle.std.proofs.Common.{ℕ, List}
 use Rattle.crs_value.specs.declared.crs.Crs.{Crs}
 use Rattle.wkt_grammar.specs.Bare.{bare}

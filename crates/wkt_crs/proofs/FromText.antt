@@ -1,4 +1,4 @@
--- What gives the definition of a text: a text that is seen to be canonical, or the value that it spells.
+-- The definition of a text: of bytes that are seen to be canonical, or of the value that the text spells.
 use Rattle.std.proofs.Common.{◌≡◌, ◌≤◌, ℕ, List, length, refl, sym, ap, ◌∙◌, subst, inl, inr}
 use Rattle.std.specs.Prelude.{◌⊎◌, Result, Ok, Err, IfOk, IfErr}
 use Rattle.crs_value.specs.declared.crs.Crs.{Crs}
@@ -17,11 +17,11 @@ use Rattle.wkt_crs.proofs.Texts.{one_value}
 use Rattle.wkt_crs.proofs.Defining.{of_definition}
 use Rattle.wkt_crs.proofs.Recognized.{crs_seen, seen_spells}
 
--- what a call gives
+-- the result of a call
 abbrev Given : Type 0
 Given = Result (List ℕ) DefinitionFault
 
--- ---- of bytes that are seen to be canonical
+-- ---- bytes that are seen to be canonical
 
 canonical_fault : (bytes : List ℕ) (f : DefinitionFault) → length bytes ≤ 65536 → IsSeenFault bytes f → IsCanonicalFault bytes f
 canonical_fault bytes (fault.Read f) short h = absurd h
@@ -45,7 +45,7 @@ pub seen_only : (r : Given) (bytes : List ℕ) → IfOk r (λ d. d ≡ bytes) �
 seen_only (Ok d) bytes e h is = inl (ap Ok e)
 seen_only (Err f) bytes e h is = inr (ap Err (only_memory bytes f is h))
 
--- such bytes are their own canonical text
+-- these bytes are their own canonical text
 
 pub own : {seen : Seen} {bytes : List ℕ} → (length bytes ≤ 65536) × IsCanonicalOf seen bytes → SpellsCanon bytes bytes
 own (short, r) = record { value = crs_seen r; spells = seen_spells r short; is = r.is }
@@ -63,7 +63,7 @@ seen_text_only r text bytes v c e h s d =
     let same = is_canon text bytes v c s in
     subst (λ t. (r ≡ Ok t) ⊎ (r ≡ Err fault.Memory)) same (seen_only r bytes e h (subst (λ t. IsDefinition t) (sym same) d))
 
--- a text is condensed to such bytes
+-- a text that condenses to such bytes
 
 condensed_fault : (text bytes : List ℕ) (f : DefinitionFault) → IsReadAs text bytes → IsSeenFault bytes f → IsTextFault text f
 condensed_fault text bytes (fault.Read f) r h = absurd h
@@ -72,7 +72,7 @@ condensed_fault text bytes fault.CanonicalTooLong r h = absurd h
 condensed_fault text bytes fault.NotCanonical r h = absurd h
 condensed_fault text bytes fault.Memory r h = tt
 
--- which is read as two slices of it
+-- the condensed bytes may be read as two slices, a and b
 pub condensed_canon : (text bytes a b : List ℕ) (seen : Seen) → a ≡ bytes → b ≡ bytes → IsReadAs text bytes → (length a ≤ 65536) × IsCanonicalOf seen a → SpellsCanon text b
 condensed_canon text bytes a b seen e g r s =
     canon_as text b b (subst (IsReadAs text) (sym g) r) (own (subst (λ l. (length l ≤ 65536) × IsCanonicalOf seen l) (e ∙ sym g) s))
@@ -81,7 +81,7 @@ pub seen_text_fault : (r : Given) (text bytes : List ℕ) → IsReadAs text byte
 seen_text_fault (Ok d) text bytes read h = tt
 seen_text_fault (Err f) text bytes read h = condensed_fault text bytes f read h
 
--- ---- of the value that a text spells
+-- ---- the value that a text spells
 
 pub value_found : (r : Given) (text : List ℕ) (v : Crs) → Spells text v → IfOk r (λ d. d ≡ canon v) → IfOk r (SpellsCanon text)
 value_found (Ok d) text v s e = record { value = v; spells = s; is = e }
@@ -102,7 +102,7 @@ pub value_only : (r : Given) (text : List ℕ) (v w : Crs) → Spells text v →
     → (r ≡ Ok (canon w)) ⊎ (r ≡ Err fault.Memory)
 value_only r text v w s only t d = subst (λ u. IsDefinition (canon u) → (r ≡ Ok (canon u)) ⊎ (r ≡ Err fault.Memory)) (one_value text v w s t) only d
 
--- ---- of a text that spells none
+-- ---- a text that spells no value
 
 pub text_refused : (text : List ℕ) (f : ReadFault) → FirstFault text f → IsTextFault text (of_read f)
 text_refused text (read.Text f) h = h

@@ -1,4 +1,4 @@
--- The canonical tree of each value is good: its leaves are tokens, and it is not too deep. A line a slot.
+-- The canonical tree of each value is well-formed: its leaves are tokens, and it is not too deep. One line for each slot.
 use Rattle.std.proofs.Common.{◌≡◌, ℕ, zero, suc, ◌≤◌, true, List, [], ◌∷◌, ◌++◌, map, Option, Some, None, refl, arith}
 use Rattle.std.specs.Prelude.{max}
 use Rattle.crs_part.specs.declared.many.NonEmpty.{NonEmpty}
@@ -27,11 +27,11 @@ use Rattle.wkt_grammar.specs.Denotes.{geodetic_keyword, base_keyword}
 use Rattle.wkt_grammar.specs.Trees as trees
 use Rattle.wkt_grammar.proofs.Leaves.{Small}
 
--- the trees of all values are good where this many delimiters may be open
+-- if at least h delimiters may be open, the trees of all values are well-formed
 abbrev Goods : {A : Type 0} → ℕ → (A → Bare) → Type 0
 Goods {A} h tree = (n : ℕ) → h ≤ n → (v : A) → WellFormed n (tree v)
 
--- the runs of a slot, all good
+-- the arguments of a slot are well-formed if at least h delimiters may be open
 record Run (A : Type 0) (h : ℕ) : Type 0 where
   run : A → List Bare
   good : (n : ℕ) → h ≤ n → (v : A) → AllWellFormed n (bares (run v))
@@ -296,6 +296,6 @@ parts_good : Goods 8 trees.parts_tree
 parts_good n l (parts.Single v) = component_good n (omega (arith, l)) v
 parts_good n l (parts.Compound v) = compound_good n (omega (arith, l)) v
 
--- the canonical tree of a value
+-- the canonical tree of each value is well-formed
 pub canonical_good : (v : CrsParts) → WellFormed 16 (trees.parts_tree v)
 canonical_good v = parts_good 16 (omega arith) v

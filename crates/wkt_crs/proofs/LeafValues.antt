@@ -26,7 +26,7 @@ use Rattle.wkt_grammar.proofs.Leaves.{DenotesSmall, Small}
 use Rattle.wkt_build.proofs.LeafLemmas.{letters, word_is, kind_listed, direction_listed}
 use Rattle.wkt_crs.proofs.Values.{IsRead, Has}
 
--- ---- what a slot doesn't take
+-- ---- arguments that a slot does not take
 
 abbrev numbered : Takes → Bool → Bool
 numbered t c = takes t (cond c arguments.Count arguments.Number)
@@ -97,7 +97,7 @@ count_has = record { of = count_in }
 
 -- ---- words
 
--- a word that is listed is that of some value
+-- a listed word is the word of some value
 word_of : {A : Type 0} (f : A → List ℕ) (vs : List A) (b : List ℕ) → is_some (first_word f vs (letters b)) ≡ true → (v : A) × DenotesWord f (word b) v
 word_of {A} f vs b h = by (first_word f vs (letters b)) refl h
   where

@@ -1,4 +1,4 @@
--- Nodes that fit a slot have a value: a line a slot, in the order of its row.
+-- Nodes that fit a slot have a value: one line for each slot, in the order of its row.
 use Rattle.std.proofs.Common.{◌≡◌, Option, Some, None, refl}
 use Rattle.crs_part.specs.declared.units.UnitDefinition.{UnitDefinition}
 use Rattle.crs_part.specs.declared.units.Unit as units

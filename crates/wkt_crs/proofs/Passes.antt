@@ -1,4 +1,4 @@
--- Going over the tokens of a tree, without the tree.
+-- Skipping items by their tokens, without a tree.
 use Rattle.std.proofs.Common.{◌≡◌, ℕ, ◌≤◌, Bool, true, false, List, [], ◌∷◌, ◌++◌, length, drop, refl, sym, ap, ◌∙◌, subst, append_assoc, arith, inl, inr}
 use Rattle.std.specs.Prelude.{◌⊎◌}
 use Rattle.std.proofs.lemmas.List.{length-drop}
@@ -28,11 +28,11 @@ node_goes old new w o h (node k d b items c) rest e f = h items d c rest (ap (λ
 
 -- ---- the items of a node
 
--- after an item: the end of the node, or a comma and more items
+-- after an item, the node ends, or a comma and more items follow
 abbrev pub Behind : List Tok → Delimiter → Piece → List Tok → Type 0
 Behind cur d c rest = (cur ≡ tok (Close d) c ∷ rest) ⊎ ((k : Piece) × (left : Items) × (cur ≡ tok Comma k ∷ (all_tokens left ++ tok (Close d) c ∷ rest)))
 
--- where the node's items are those from old on, cur is after one of them
+-- if the tokens old are the items of a node and the rest, cur is the tokens after one of these items
 abbrev pub GoesOn : List Tok → List Tok → Type 0
 GoesOn old cur = (items : Items) (d : Delimiter) (c : Piece) (rest : List Tok) → old ≡ all_tokens items ++ tok (Close d) c ∷ rest → Behind cur d c rest
 
@@ -58,7 +58,7 @@ goes_end old cur g n items d c rest e =
       | inr next ↦ let m = sym (ap (next_is is_comma) next.2) ∙ n in absurd cc
     ]
 
--- ---- the same, at the code's own lists
+-- ---- the same statements, for the lists of tokens that the code has
 
 pub node_goes_at : (old one two new : List Tok) (a b : Bool) → a ≡ next_is is_word old → one ≡ drop 1 old → a ≡ true → b ≡ next_is is_open one → b ≡ true → two ≡ drop 1 one → PassesItems two new → PassesItem old new
 node_goes_at old one two new a b ea e1 ta eb tb e2 h =

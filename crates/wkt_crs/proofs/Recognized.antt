@@ -26,14 +26,14 @@ use Rattle.wkt_crs.specs.Definition.{HasNone, IsDefinedBy, IsDefinition}
 use Rattle.wkt_crs.proofs.Texts.{no_slot}
 use Rattle.wkt_crs.proofs.Defining.{canonical_text, defines, of_definition}
 
--- the reference system that is seen
+-- the reference system whose canonical text the bytes are
 abbrev pub crs_seen : {seen : Seen} {bytes : List ℕ} → IsCanonicalOf seen bytes → Crs
 crs_seen r = record { parts = r.value; conditions = r.conditions }
 
 pub seen_spells : {seen : Seen} {bytes : List ℕ} (r : IsCanonicalOf seen bytes) → length bytes ≤ 65536 → Spells bytes (crs_seen r)
 seen_spells {bytes = bytes} r short = canonical_text (crs_seen r) bytes r.is short
 
--- ---- such a text has no fault
+-- ---- such a text has no fault of its tokens or its slots
 
 pub no_text_fault : {seen : Seen} {bytes : List ℕ} (f : TextFault) → IsCanonicalOf seen bytes → length bytes ≤ 65536 → tree.FirstFault bytes f → ⊥
 no_text_fault {bytes = bytes} f r short h = let s = seen_spells r short in fault_no bytes _ f h s.outline
@@ -41,7 +41,7 @@ no_text_fault {bytes = bytes} f r short h = let s = seen_spells r short in fault
 pub no_slot_fault : {seen : Seen} {bytes : List ℕ} (f : SlotFault) → IsCanonicalOf seen bytes → length bytes ≤ 65536 → FirstSlot bytes f → ⊥
 no_slot_fault {bytes = bytes} f r short h = no_slot bytes (crs_seen r) f (seen_spells r short) h
 
--- ---- where no identifier is seen, there is none
+-- ---- if no identifier is seen, there is none
 
 none_first : (ids : List Ident) (seen : Option Identifier) → seen ≡ None → IsFirst ids seen → ids ≡ []
 none_first [] seen e h = refl
@@ -54,7 +54,7 @@ has_none {seen} r e = none_first (ids_of r.value) seen.identifier e r.seen_of.id
 pub undefined : {seen : Seen} {bytes : List ℕ} → IsCanonicalOf seen bytes → length bytes ≤ 65536 → seen.identifier ≡ None → IsDefinition bytes → ⊥
 undefined {bytes = bytes} r short e d = (of_definition bytes (crs_seen r) d (seen_spells r short)).1 (has_none r e)
 
--- ---- where one is seen, it is the first
+-- ---- if an identifier is seen, it is the first one
 
 pub record First (seen : Identifier) (ids : List Ident) : Type 0 where
   pub id : Ident
@@ -75,7 +75,7 @@ first_seen {seen} first r e = some_first (ids_of r.value) seen.identifier first 
 pub has_one : (first : Identifier) (ids : List Ident) → First first ids → ids ≡ [] → ⊥
 has_one first ids f e = let is = f.is in absurd (cc)
 
--- ---- its texts are UTF-8
+-- ---- the authority, the code and the name are UTF-8
 
 code_utf8 : (v : NumberOrText) → is_utf8 (text_of v) ≡ true
 code_utf8 (code.Number d) = spelled_is_utf8 _ _ _ (numeral_spells d)
@@ -90,7 +90,7 @@ key_code_utf8 first r e = let f = first_seen first r e in ap is_utf8 (sym f.iden
 pub name_utf8 : {seen : Seen} {bytes : List ℕ} → IsCanonicalOf seen bytes → is_utf8 seen.name.now ≡ true
 name_utf8 r = ap is_utf8 (sym r.seen_of.name) ∙ (name_of r.value).utf8
 
--- ---- what they define
+-- ---- the definition that such a text is
 
 key_of_first : (first : Identifier) (ids : List Ident) (key : Key) → First first ids → key.authority.bytes ≡ first.authority.now → key.code.bytes ≡ first.code.now → (id : Ident) (others : List Ident) → ids ≡ id ∷ others → IsKeyOf id key
 key_of_first first ids key f a k id others e =

@@ -1,4 +1,4 @@
--- What a fault of a source's text says.
+-- The faults of the text of a source.
 use Rattle.std.proofs.Common.{◌≡◌, List, ℕ, inr, refl}
 use Rattle.byte_io.specs.Device.{SourceState}
 use Rattle.wkt_crs.specs.declared.fault.ReadFault.{ReadFault}
@@ -14,11 +14,11 @@ use Rattle.wkt_crs.specs.Source.{ReadsText, Refuses, IsReadFromFault, IsDefineFr
 use Rattle.wkt_crs.proofs.Defining.{not_memory}
 use Rattle.wkt_crs.proofs.Verdicts.{value_or_fault}
 
--- a text with a first fault but `Memory` spells nothing
+-- a text with a first fault other than `Memory` spells no value
 refuses : (old new : SourceState) (text : List ℕ) (f : ReadFault) → ¬ (f ≡ fault.Memory) → ReadsText old new text → FirstFault text f → Refuses old new f
 refuses old new text f other r h = (text, r, h, λ v s. other (value_or_fault text v f s h))
 
--- where memory ran out over a text, that is grammatical
+-- a first fault of the text is a fault of reading it from the source, if `Memory` occurs only for grammatical texts
 pub read_told : (old new : SourceState) (text : List ℕ) (f : ReadFault) → ReadsText old new text → FirstFault text f → (f ≡ fault.Memory → IsGrammatical text) → IsReadFromFault old new (from.Refused f)
 read_told old new text (fault.Text f) r h g = refuses old new text (fault.Text f) (λ e. absurd cc) r h
 read_told old new text (fault.Slot f) r h g = refuses old new text (fault.Slot f) (λ e. absurd cc) r h

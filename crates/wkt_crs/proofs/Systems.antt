@@ -1,4 +1,4 @@
--- Where the system begins that a condition is about.
+-- The place of the system that a condition is about.
 use Rattle.std.proofs.Common.{◌≡◌, ℕ, List, [], ◌∷◌, ◌++◌, Option, Some, None, refl, sym, ap, ◌∙◌, subst}
 use Rattle.crs_part.specs.declared.crs.CrsParts.{CrsParts}
 use Rattle.crs_part.specs.declared.crs.CrsParts.TheVariants as parts
@@ -61,7 +61,7 @@ three (tree.node k d o items c) v h =
     three_of k d o items c x.0 y.0 z.0 r.5.5.1
     (ap args (sym same) ∙ (behind_one (args h.items) r.0 r.1 x.0 r.2 x.1 ∙ ap (λ (l : List Bare). x.0 ∷ l) (behind_one r.1 r.5.0 r.5.1 y.0 r.5.2 y.1 ∙ ap (λ (l : List Bare). y.0 ∷ l) (behind_one r.5.1 r.5.5.0 r.5.5.1 z.0 r.5.5.2 z.1))))
 
--- ---- and only a compound has components with conditions
+-- ---- only a compound has components with conditions
 
 who_of : Option Broken → Whose
 who_of None = Whole

@@ -1,4 +1,4 @@
--- A text spells one value at most, and none where it has a fault.
+-- A text spells at most one value, and none if it has a fault.
 use Rattle.std.proofs.Common.{◌≡◌, ℕ, suc, List, Some, sym, ap, ◌∙◌, subst, arith}
 use Rattle.std.proofs.Common.{inl, inr}
 use Rattle.crs_part.specs.declared.crs.CrsParts.{CrsParts}
@@ -28,14 +28,14 @@ use Rattle.wkt_grammar.proofs.Clean.{fits_clean}
 pub one_item : (text : List ℕ) (i j : Item) → Cut 0 text (tokens i) → Cut 0 text (tokens j) → i ≡ j
 one_item text i j f g = one_tree i j (one_cut text (tokens i) (tokens j) f g)
 
--- what the tree of the text denotes is what it spells
+-- the tree of a text denotes the parts of the value that the text spells
 pub one_parts : (text : List ℕ) (v : Crs) (i : Item) (parts : CrsParts) → Spells text v → Cut 0 text (tokens i) → DenotesParts (bare i) parts → v.parts ≡ parts
 one_parts text v i parts s cut d = parts_law.once (bare i) v.parts parts (subst (λ j. DenotesParts (bare j) v.parts) (one_item text s.item i s.outline.cut cut) s.denotes) d
 
 pub one_value : (text : List ℕ) (v w : Crs) → Spells text v → Spells text w → v ≡ w
 one_value text v w s t = same_crs v w (one_parts text v t.item w.parts s t.outline.cut t.denotes)
 
--- the text's tree, which denotes the parts
+-- the text has the tokens of a tree that denotes the parts
 pub record Denoted (text : List ℕ) (parts : CrsParts) : Type 0 where
   pub item : Item
   pub outline : IsOutline text (tokens item)
@@ -76,7 +76,7 @@ one_slot text f g a b =
       ]
     ]
 
--- ---- what the steps of reading tell
+-- ---- the results of the steps of reading
 
 pub slot_told : (text outline : List ℕ) (f : SlotFault) → outline ≡ text → IsOutline text (cut 0 text) → IsFirst editions.Second (cut 0 outline) f → FirstSlot text f
 slot_told text outline f e o h = record { toks = cut 0 text; outline = o; first = subst (λ b. IsFirst editions.Second (cut 0 b) f) e h }
@@ -101,7 +101,7 @@ spells_of text parts crs d e = record { item = d.item; outline = d.outline; deno
 pub parts_of : (text : List ℕ) (parts : CrsParts) (v : Crs) → Denoted text parts → Spells text v → v.parts ≡ parts
 parts_of text parts v d s = one_parts text v d.item parts s d.outline.cut d.denotes
 
--- the condition that fails, and its place
+-- the first condition that fails, and its place
 pub broken_told : (text outline : List ℕ) (parts : CrsParts) (b : Broken) (at : ℕ) → outline ≡ text → IsOutline text (cut 0 text) → Denoted text parts → first_broken parts ≡ Some b → TellsPlace (cut 0 outline) b.whose at → FirstBroken text b.condition at
 broken_told text outline parts b at e o d broken h =
     let same : cut 0 outline ≡ tokens d.item = ap (cut 0) e ∙ one_cut text (cut 0 text) (tokens d.item) o.cut d.outline.cut in

@@ -1,4 +1,4 @@
--- Arguments that fit a slot have a value, and so do those that fit a row: there is something that they denote.
+-- Arguments that fit a slot denote some value, and so do those that fit a row.
 use Rattle.std.proofs.Common.{◌≡◌, ℕ, zero, suc, ◌≤◌, true, List, [], ◌∷◌, ◌++◌, length, Option, Some, None, refl, subst, arith}
 use Rattle.crs_part.specs.declared.many.NonEmpty.{NonEmpty}
 use Rattle.wkt_tree.specs.Tokens.{IsNumber}
@@ -21,7 +21,7 @@ use Rattle.wkt_grammar.specs.Runs.{Fields, nothing, ◌&◌, Runs, IsNode, One, 
 use Rattle.wkt_grammar.proofs.NodeRows.{slot}
 use Rattle.wkt_build.proofs.Rows.{takes_nodes, entered_of}
 
--- ---- trees of which all texts and numbers can be read
+-- ---- trees in which all texts and numbers can be read
 
 abbrev mutual
   pub IsRead : Bare → Type 0
@@ -64,7 +64,7 @@ front_read (x ∷ a) b h = let r = front_read a b h.1 in ((h.0, r.0), r.1)
 
 -- ---- arguments, slots, rows
 
--- what fits a slot of this kind denotes some value
+-- an argument that fits a slot of this kind denotes some value
 pub record Has {A : Type 0} (t : Takes) (D : Bare → A → Type 0) : Type 0 where
   pub of : (x : Bare) → IsRead x → Fitting t x → (v : A) × D x v
 
@@ -132,13 +132,13 @@ pub record Entered (K : Keyword) (n : Node) (x : Bare) : Type 0 where
 read_items : (x : Bare) (k : List ℕ) (items : Bares) → x ≡ node k items → IsRead x → EachRead (args items)
 read_items x k items e r = each_read items (subst IsRead e r)
 
--- its arguments are the runs of the row
+-- the node has the fields of some value
 pub node_has : {B : Type 0} {F : B → Fields} (n : Node) → RowHas (row_of n) F → (K : Keyword) (m : Node) → m ≡ n → (x : Bare) → Entered K m x → (v : B) × IsNode K n (F v) x
 node_has {B} {F} n row K m same x e =
     let v = row.of (args e.items) e.read (fitted_cuts editions.Second n e.items (subst (λ r. Fitted r e.items) same e.fitted)) in
     (v.0, record { keyword = e.keyword; items = e.items; is = e.is; meaning = e.meaning; runs = v.1 })
 
--- what fits a slot for nodes denotes some value, where each keyword that the slot takes gives one
+-- if each keyword that a slot for nodes takes gives a value, each argument that fits the slot denotes one
 pub by_keyword : {A : Type 0} {D : Bare → A → Type 0} (t : Takes) → takes_nodes t ≡ true → ((K : Keyword) (m : Node) → enters t K ≡ Some m → (x : Bare) → Entered K m x → (v : A) × D x v) → Has t D
 by_keyword {A} {D} t nodes choose = record {
   of = λ x r f.
@@ -146,7 +146,7 @@ by_keyword {A} {D} t nodes choose = record {
       choose e.means e.row e.enters x (record { keyword = e.keyword; items = e.items; is = e.is; meaning = e.meaning; fitted = e.fitted; read = read_items x e.keyword e.items e.is r });
 }
 
--- the same, where the slot takes one keyword alone
+-- the same, for a slot that takes only one keyword
 pub alone : {A B : Type 0} {F : B → Fields} {D : Bare → A → Type 0} (K : Keyword) (n : Node) → RowHas (row_of n) F → (make : B → A) → ((x : Bare) (v : B) → IsNode K n (F v) x → D x (make v)) → Has (kinds.Node K n) D
 alone {A} {B} {F} {D} K n row make is = by_keyword (kinds.Node K n) refl choose
   where

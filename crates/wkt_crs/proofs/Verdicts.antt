@@ -1,4 +1,4 @@
--- A text has a value or one first fault.
+-- A text that spells a value has no fault, and a text has at most one first fault; `Memory` says nothing about the text.
 use Rattle.std.proofs.Common.{◌≡◌, ℕ, List, Option, Some, None, refl, sym, ap, ◌∙◌, subst}
 use Rattle.crs_value.specs.declared.crs.Crs.{Crs}
 use Rattle.crs_value.specs.declared.broken.Broken.{Broken}

@@ -1,4 +1,4 @@
--- The first character is as long as it is said to be, and the others come after it.
+-- The length of the first character, and the characters after it.
 use Rattle.std.proofs.Common.{◌≡◌, ℕ, zero, suc, ◌+◌, ◌-◌, ◌<◌, ◌≤◌, Bool, true, false, ◌&&◌, cond, List, [], ◌∷◌, length, take, drop, nat_le, nat_lt, refl, ap, sym, ◌∙◌, ◌==◌, arith, length-drop}
 use Rattle.std.specs.Str.{is_utf8, IsUtf8}
 use Rattle.std.proofs.lemmas.Str.{IsUtf8-from_is_utf8}
@@ -12,7 +12,7 @@ no_text bytes never =
 fits_if : (n m : ℕ) (b : Bool) → (nat_le n m && b) ≡ true → n ≤ m
 fits_if n m b h = grind (arith, nat_tests)
 
--- the length that the tests pick
+-- n is at least 1 and at most len
 abbrev Bounded : ℕ → ℕ → Type 0
 Bounded n len = (0 < n) × (n ≤ len)
 

@@ -1,4 +1,4 @@
--- An explanation is put together from its parts.
+-- The parts of an explanation make up the explanation.
 use Rattle.std.proofs.Common.{◌≡◌, ℕ, zero, suc, ◌+◌, List, [], ◌∷◌, length, take, drop, min, ap, ◌∙◌, arith}
 use Rattle.std.proofs.lemmas.List.{take_min}
 use Rattle.wkt_crs.specs.declared.definition.DefinitionFault.{DefinitionFault}
@@ -27,7 +27,7 @@ spot_explained name file text at to path f spot place p e s =
     (s.shown ∙ ap (λ b. shown_lines (chars (last_line b)) (chars (first_line (drop place file)))) before ∙ ap (λ b. shown_lines (chars (last_line (take to file))) (chars (first_line b))) after)
     ∙ ap (λ q. said name (line_number (take to file)) (column (take to file)) q (shown_lines (chars (last_line (take to file))) (chars (first_line (drop to file)))) text f) p
 
--- the explanation at the place of a text's fault is that of the text
+-- what is said at the place of the fault of a text is the explanation of the fault
 pub is_explanation : (name file text : List ℕ) (start end at place : ℕ) (path : List (List ℕ)) (f : DefinitionFault) (spot : Spot) (note : List ℕ)
     → text ≡ text_in file start end → at ≡ told_at text f → path ≡ path_at (take at text) → place ≡ min (start + at) (length file) → IsSpot spot file place
     → note ≡ said name spot.line spot.column path (shown_lines (chars spot.before.now) (chars spot.after.now)) text f → note ≡ explanation name file start end f

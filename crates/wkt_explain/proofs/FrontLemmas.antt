@@ -1,4 +1,4 @@
--- The characters of the front of some bytes are those of the whole, up to the last of them.
+-- The first characters of a prefix of some bytes are those of the bytes.
 use Rattle.std.proofs.Common.{◌≡◌, ℕ, zero, suc, ◌+◌, ◌-◌, ◌*◌, ◌<◌, ◌≤◌, Bool, true, false, ◌&&◌, cond, List, [], ◌∷◌, ◌++◌, length, take, drop, min, nat_le, nat_lt, refl, ap, sym, ◌∙◌, arith, append_assoc, length-drop}
 use Rattle.std.specs.Str.{is_utf8}
 use Rattle.std.proofs.lemmas.Bool.Decides.{nat_tests}
@@ -20,7 +20,7 @@ nothing_taken : (n : ℕ) → take {A = ℕ} n [] ≡ []
 nothing_taken zero = refl
 nothing_taken (suc n) = refl
 
--- ---- how wide the first character is
+-- ---- the length of the first character
 
 both_hold : (a b : Bool) → a ≡ true → b ≡ true → (a && b) ≡ true
 both_hold a b h k = ap (λ x. x && b) h ∙ k
@@ -54,7 +54,7 @@ wide_only k n bytes h = elim (is_wide k (take n bytes)) as (λ b. is_wide k (tak
   | false ↦ λ e. refl
 ] refl
 
--- the first of four tests that holds
+-- the position of the first of four tests that holds, from 1; otherwise 1
 abbrev picked : Bool → Bool → Bool → Bool → ℕ
 picked a b c d = cond a 1 (cond b 2 (cond c 3 (cond d 4 1)))
 
@@ -104,7 +104,7 @@ some_left (suc n) (b ∷ bs) some h = omega arith
 back_of_front : (k m : ℕ) (xs : List ℕ) → k ≤ m → drop k (take m xs) ≡ take (m - k) (drop k xs)
 back_of_front k m xs le = let e : m ≡ k + (m - k) = omega arith in ap (λ n. drop k (take n xs)) e ∙ drop-take k (m - k) xs
 
--- a front that has the first character begins with it
+-- a prefix that contains the first character begins with it
 front_split : (bytes : List ℕ) (k m : ℕ) → 0 < length bytes → k ≡ first_len bytes → k ≤ m
     → chars (take m bytes) ≡ take k bytes ∷ chars (take (m - k) (drop k bytes))
 front_split bytes k m some e le =
@@ -116,7 +116,7 @@ front_split bytes k m some e le =
     ∙ ap (λ c. c ∷ chars (drop k (take m bytes))) (front_of_front k m bytes le)
     ∙ ap (λ x. take k bytes ∷ chars x) (back_of_front k m bytes le)
 
--- the first n characters are within the first 4 n bytes
+-- a prefix of 4 n bytes or more has the same first n characters
 pub first_chars_of_front : (n m : ℕ) (bytes : List ℕ) → 4 * n ≤ m → take n (chars (take m bytes)) ≡ take n (chars bytes)
 first_chars_of_front zero m bytes le = refl
 first_chars_of_front (suc n) m [] le = ap (λ x. take (suc n) (chars x)) (nothing_taken m)
@@ -141,7 +141,7 @@ many (suc n) (b ∷ bs) le =
     let count : length (chars (b ∷ bs)) ≡ suc (length (chars rest)) = ap length (chars-split (b ∷ bs) (omega arith)) in
     omega (arith, len, more, count, bounds.1)
 
--- there are a quarter as many characters as bytes, or more
+-- there are at most four bytes to a character
 pub many_chars : (bytes : List ℕ) → length bytes ≤ 4 * length (chars bytes)
 many_chars bytes = many (length bytes) bytes (omega arith)
 
@@ -150,7 +150,7 @@ many_chars bytes = many (length bytes) bytes (omega arith)
 pub none_whole : (behind : List ℕ) → AreWhole [] behind
 none_whole behind n = sym (ap (λ cs. cs ++ chars (take n behind)) chars-nil)
 
--- a line that is whole characters goes on with the next one
+-- a line of whole characters, extended by the next character, is one of whole characters, with one more
 pub one_more_whole : (line rest : List ℕ) (k : ℕ) → AreWhole line rest → 0 < length rest → k ≡ first_len rest
     → AreWhole (line ++ take k rest) (drop k rest) × (length (chars (line ++ take k rest)) ≡ length (chars line) + 1)
 one_more_whole line rest k whole some e =

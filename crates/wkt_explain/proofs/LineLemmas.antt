@@ -1,4 +1,4 @@
--- Lines: what is behind the last line feed, and how it grows.
+-- The last line of some bytes, and how it grows.
 use Rattle.std.proofs.Common.{◌≡◌, ℕ, suc, ◌+◌, ◌-◌, ◌<◌, ◌≤◌, Bool, true, false, not, ◌==◌, ◌&&◌, cond, List, [], ◌∷◌, ◌++◌, length, take, drop, reverse, refl, ap, sym, ◌∙◌, arith, append_assoc, length-drop}
 use Rattle.std.specs.List.{list_all, prefix_len, suffix_len}
 use Rattle.std.proofs.lemmas.List.{append-nil, drop_all, reverse-append, reverse-reverse, length-reverse, length-append, drop-append-le, take-append-drop, take_at, drop_at}
@@ -47,7 +47,7 @@ still_none p (x ∷ xs) ys some h = elim (p x) as (λ b. p x ≡ b → cond b (1
   | false ↦ λ e k. refl
 ] refl h
 
--- ---- the parts of some bytes, where n of them pass at the end
+-- ---- bytes, split before the longest suffix of bytes that pass
 
 abbrev Parts : (ℕ → Bool) → List ℕ → Type 0
 Parts p xs = (reverse (drop (length xs - suffix_len p xs) xs) ≡ take (suffix_len p xs) (reverse xs))
@@ -63,7 +63,7 @@ parts_of p xs =
       sym (ap (drop (suffix_len p xs)) whole ∙ drop_at (reverse (drop n xs)) (reverse (take n xs)) (suffix_len p xs) len),
     )
 
--- what is behind the last line feed has none
+-- the last line contains no line feed
 pub last_line-goes_on : (xs : List ℕ) → list_all goes_on (last_line xs) ≡ true
 last_line-goes_on xs =
     let e = (parts_of goes_on xs).0 in
@@ -71,7 +71,7 @@ last_line-goes_on xs =
     ap (list_all goes_on) (sym (reverse-reverse (drop n xs)))
     ∙ all_reversed goes_on (reverse (drop n xs)) (ap (list_all goes_on) e ∙ front_passes goes_on (reverse xs))
 
--- the lines before it end with a line feed, so nothing is behind the last one of them
+-- the complete lines of some bytes, if there are any, are followed by an empty last line
 pub lines_end : (before xs lines : List ℕ) → lines ≡ take (length xs - suffix_len goes_on xs) xs → 0 < length lines → last_line (before ++ lines) ≡ []
 lines_end before xs lines e some =
     let none : suffix_len goes_on lines ≡ 0 =
@@ -81,7 +81,7 @@ lines_end before xs lines e some =
     ∙ still_none goes_on (reverse lines) (reverse before) (rw length-reverse some) none in
     ap (λ n. drop (length (before ++ lines) - n) (before ++ lines)) none_of_all ∙ drop_all (length (before ++ lines) - 0) (before ++ lines) (omega arith)
 
--- bytes that end no line come to the last line
+-- a byte that ends no line is appended to the last line
 one_more : (before : List ℕ) (b : ℕ) → goes_on b ≡ true → last_line (before ++ b ∷ []) ≡ last_line before ++ b ∷ []
 one_more before b h =
     let s = suffix_len goes_on before in

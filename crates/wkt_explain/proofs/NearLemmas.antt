@@ -1,4 +1,4 @@
--- What is shown of a line does not depend on what is far from the place.
+-- The part of a line that is shown does not depend on what is far from the place.
 use Rattle.std.proofs.Common.{◌≡◌, ◌⊎◌, inl, inr, ℕ, zero, suc, ◌+◌, ◌-◌, ◌≤◌, true, false, cond, List, [], ◌∷◌, ◌++◌, length, take, drop, min, max, refl, ap, sym, ◌∙◌, arith}
 use Rattle.std.specs.List.{prefix_len}
 use Rattle.std.proofs.lemmas.List.{length-append, length-take}
@@ -14,7 +14,7 @@ use Rattle.wkt_explain.proofs.WalkLemmas.{between_is, between_len, up_to}
 
 -- ---- from the place on
 
--- the first line of a front is the front of the first line
+-- the first line of a prefix is a prefix of the first line
 first_line-front : (n : ℕ) (xs : List ℕ) → first_line (take n xs) ≡ take n (first_line xs)
 first_line-front zero xs = refl
 first_line-front (suc n) [] = refl
@@ -57,7 +57,7 @@ behind_shown (c ∷ cs) near ahead (inr h) =
     (sym (drop-append-add far near (length near - n)) ∙ ap (λ k. drop k (far ++ near)) from)
     ∙ ap (λ m. around m (far ++ near) ahead) same
 
--- ---- a place, from another one in its line
+-- ---- a place, from an earlier one in its line
 
 pub spot_line : (file : List ℕ) (at place line : ℕ) → IsInLine file at place → line ≡ line_number (take at file) → line ≡ line_number (take place file)
 spot_line file at place line inside e =

@@ -1,4 +1,4 @@
--- What is read of the bytes of tokens.
+-- The state after the bytes of tokens are read.
 use Rattle.std.proofs.Common.{◌≡◌, ℕ, suc, ◌-◌, ◌<◌, ◌==◌, ◌||◌, Bool, true, false, cond, Some, List, [], ◌∷◌, ◌++◌, length, refl, ap, sym, ◌∙◌, subst, arith, append_assoc, ◌⊎◌, inl, inr, filter}
 use Rattle.std.specs.List.{AllPass, flat_map}
 use Rattle.std.specs.Char.{is_ascii_alphabetic}
@@ -17,7 +17,7 @@ use Rattle.wkt_explain.specs.declared.path.Piece.TheVariants.{Mark, Opens, Close
 use Rattle.wkt_explain.specs.Path.{Read, start as fresh, piece_of, outside, takes, reads_on, is_named, path_at}
 use Rattle.wkt_explain.specs.Opened.{behind, opened_by, opened_by_all}
 
--- outside quotation marks, and inside them
+-- the state outside quotation marks, and the state inside them
 abbrev pub out : Bool → List ℕ → List (List ℕ) → Read
 out w v o = record { quoted = false; whole = w; word = v; opened = o }
 
@@ -97,7 +97,7 @@ quoted_passes content more w v o =
 
 -- ---- a token
 
--- what a token of this kind says of the word that was read last, where it has these bytes
+-- the last word that was read, after a token of this kind with these bytes, and whether that word is complete
 abbrev IsAfter : TokenKind → Bool → List ℕ → List ℕ → Type 0
 IsAfter Word w v word = (v ≡ word) × (0 < length word)
 IsAfter Quoted w v word = Unit {0}
@@ -179,7 +179,7 @@ passes (Close Round) first others rest w v o word g f y = record {
   after = tt;
 }
 
--- ---- tokens of a tree: a word comes first, or after a comma or an opening delimiter, and that after a word
+-- ---- tokens of a tree: a word is first or after a comma or an opening delimiter, which is after a word
 
 abbrev BeginsItem : TokenKind → Type 0
 BeginsItem Word = ⊥
@@ -236,7 +236,7 @@ begun_linked n ts b =
     let i = node t.keyword t.delimiter t.opening t.items t.closing in
     front_linked ts b.others Comma (subst (λ l. Linked Comma l) (no_more (tokens i) ∙ sym t.spelled) (tree_linked i Comma [] tt (λ j. tt)))
 
--- ---- some tokens
+-- ---- lists of tokens
 
 ready_at : (p k : TokenKind) (w : Bool) (v word : List ℕ) → May p k → IsAfter p w v word → IsReady k w v word
 ready_at Word Word w v word m a = absurd m

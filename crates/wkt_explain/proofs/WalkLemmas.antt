@@ -37,7 +37,7 @@ drop_more (suc n) m (x ∷ xs) = ap (λ k. drop k (x ∷ xs)) (let e : suc n + m
 pub between_behind : (file : List ℕ) (at n place : ℕ) → text_in file (at + n) place ≡ drop n (text_in file at place)
 between_behind file at n place = drop_more at n (take place file)
 
--- the first bytes between two places, behind those before them
+-- the bytes up to n after a place are those before it and the first n between the two places
 begun : (file : List ℕ) (at place n : ℕ) → at ≤ place → n ≤ place - at → take (at + n) file ≡ take at file ++ take n (text_in file at place)
 begun file at place n le fits =
     take-add at n file ∙ ap (λ x. take at file ++ x) (sym (front_of_front n (place - at) (drop at file) fits) ∙ ap (take n) (sym (between_is file at place le)))
@@ -65,7 +65,7 @@ lines_passed file at place b lines le within e l =
 pub rest_goes_on : (file : List ℕ) (at place : ℕ) (lines : List ℕ) → Passed file at place lines → list_all goes_on (text_in file (at + length lines) place) ≡ true
 rest_goes_on file at place lines p = ap (list_all goes_on) p.behind ∙ last_line-goes_on (text_in file at place)
 
--- where no line ends, all goes on
+-- if no line ends between two places, no byte between them ends a line
 pub all_goes_on : (file : List ℕ) (at place : ℕ) (lines : List ℕ) → Passed file at place lines → length lines ≡ 0 → list_all goes_on (text_in file at place) ≡ true
 all_goes_on file at place lines p none =
     let same : at + length lines ≡ at = omega (arith, none) in
@@ -81,7 +81,7 @@ pub line_begun : (file : List ℕ) (at place : ℕ) (b lines : List ℕ) → Pas
     → last_line (take (at + length lines) file) ≡ []
 line_begun file at place b lines p l some = ap last_line p.before ∙ lines_end (take at file) b lines l some
 
--- nothing is before the place in its line
+-- an empty line has no characters
 pub none_passed : (line : List ℕ) → line ≡ [] → 0 ≡ length (chars line)
 none_passed line e = sym (ap (λ l. length (chars l)) e ∙ ap length chars-nil)
 
@@ -117,7 +117,7 @@ char_stepped file at place k inside ahead within e =
       last = ap last_line grown ∙ line_grows (take at file) (take k b) parts.0 ∙ ap (λ x. last_line (take at file) ++ x) front;
     }
 
--- what is before the next place is whole characters, one more
+-- the line up to the place after the next character has one more character
 pub char_counted : (file : List ℕ) (at place k passed : ℕ) → Stepped file at place k → 0 < length (drop at file) → k ≡ first_len (drop at file)
     → AreWhole (last_line (take at file)) (drop at file) → passed ≡ length (chars (last_line (take at file)))
     → passed + 1 ≡ length (chars (last_line (take (at + k) file)))

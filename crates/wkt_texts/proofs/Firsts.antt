@@ -5,12 +5,12 @@ use Rattle.wkt_texts.specs.Texts.{is_opening, is_closing, outside, IsFirstText}
 use Rattle.wkt_texts.specs.Counting.{text_len}
 use Rattle.wkt_texts.proofs.Steps.{Goes, Stands, does}
 
--- with so many opened and closed before, the bytes close
+-- the bytes are closed, given the numbers of delimiters that were opened and closed before them
 record Closed (opened closed : ℕ) (quoted : Bool) (bytes : List ℕ) : Type 0 where
   closes : 0 < closed + count_by is_closing (outside quoted bytes)
   enough : opened + count_by is_opening (outside quoted bytes) ≤ closed + count_by is_closing (outside quoted bytes)
 
--- the count is what is open, and nothing has closed the text
+-- the count is the number of open delimiters, and the text is not closed yet
 record Going (count opened closed : ℕ) : Type 0 where
   balance : opened ≡ closed + count
   alive : (closed ≡ 0) ⊎ (0 < count)

@@ -1,4 +1,4 @@
--- Canonical texts, one after another, are found again.
+-- Canonical texts that are printed one after another are found again.
 use Rattle.std.proofs.Common.{◌≡◌, ℕ, zero, suc, ◌+◌, ◌<◌, true, false, List, [], ◌∷◌, ◌++◌, length, drop, map, refl, arith, sym, ◌∙◌, ap, subst, append_assoc, append-nil}
 use Rattle.std.specs.Prelude.{All}
 use Rattle.std.specs.List.{AllPass}
@@ -24,7 +24,7 @@ use Rattle.wkt_texts.specs.Printed.{IsCanonical, printed, AreFound}
 use Rattle.wkt_texts.proofs.Firsts.{first_text}
 use Rattle.wkt_texts.proofs.Skips.{one_text}
 
--- the text is whole, whatever follows, and begins with a letter
+-- the text begins with an ASCII byte other than a blank, and is the first text of these bytes and any others
 record IsWhole (text : List ℕ) : Type 0 where
   first : ℕ
   others : List ℕ
@@ -68,7 +68,7 @@ all_whole : (texts : List (List ℕ)) → All IsCanonical texts → All IsWhole 
 all_whole [] a = All-nil IsWhole
 all_whole (t ∷ ts) a = All-cons IsWhole t ts (canonical_whole t (All-head IsCanonical t ts a)) (all_whole ts (All-tail IsCanonical t ts a))
 
--- where the texts stand
+-- the texts with their places, where one byte separates two of them
 pieces : ℕ → List (List ℕ) → List Piece
 pieces place [] = []
 pieces place (t ∷ ts) = record { place = place; bytes = t } ∷ pieces (place + length t + 1) ts

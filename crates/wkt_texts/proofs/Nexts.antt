@@ -19,11 +19,11 @@ next_is place n m bytes from text rest within all stops e some first et er = rec
   text = subst (λ k. IsFirstText from k) (sym (ap length et ∙ length-take-le m from first.within)) first;
 }
 
--- nothing is closed by no bytes
+-- the empty text is not closed
 pub none_closed : ¬ (IsClosed [])
 none_closed h = omega (arith, h.closes)
 
--- a text has a byte
+-- the first text of some bytes is not empty
 pub text_some : (bytes : List ℕ) (n : ℕ) → 0 < length bytes → IsFirstText bytes n → 0 < n
 text_some bytes zero some first = elim first.ends [ inl h ↦ absurd (none_closed h) | inr e ↦ absurd (omega (arith, e, some)) ]
 text_some bytes (suc n) some first = omega arith
@@ -34,7 +34,7 @@ next_len place bytes cut rest h = omega (arith, h.blank.moved, ap length h.blank
 pub next_less : (place : ℕ) (bytes : List ℕ) (cut : Piece) (rest : List ℕ) → IsNext place bytes cut rest → length rest < length bytes
 next_less place bytes cut rest h = omega (arith, text_some h.from (length cut.bytes) h.some h.text, ap length h.blank.whole ∙ length-append h.blank.blanks h.from, ap length h.whole ∙ length-append cut.bytes rest)
 
--- one text more of those that are to come
+-- the next text is appended to the texts so far
 pub one_more : (file rest later : List ℕ) (place : ℕ) (cut : Piece) (made new : List Piece) → new ≡ made ++ cut ∷ []
     → ((more : List Piece) → AreTexts place rest more → IsCutInto file (made ++ more)) → IsNext place rest cut later
     → (more : List Piece) → AreTexts (cut.place + length cut.bytes) later more → IsCutInto file (new ++ more)

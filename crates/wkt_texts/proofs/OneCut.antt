@@ -1,4 +1,4 @@
--- A file is cut into texts in one way.
+-- A file can be cut into texts in at most one way.
 use Rattle.std.proofs.Common.{◌≡◌, ℕ, ◌+◌, ◌<◌, inl, inr, List, [], ◌∷◌, length, take, drop, refl, arith, sym, ◌∙◌, ap, subst, length-append}
 use Rattle.std.specs.List.{AllPass, prefix_len}
 use Rattle.std.proofs.lemmas.Bool.{cases_order}
@@ -17,7 +17,7 @@ one_len bytes n m f g = elim (cases_order n m) [
   | inr h ↦ elim h [ inl l ↦ absurd (shorter bytes n m l f g) | inr l ↦ absurd (shorter bytes m n l g f) ]
 ]
 
--- how many blanks there are
+-- the blanks before the next text are all that the bytes begin with
 blanks_are : (place : ℕ) (bytes : List ℕ) (a : Piece) (rest : List ℕ) (h : IsNext place bytes a rest) → prefix_len is_blank bytes ≡ length h.blank.blanks
 blanks_are place bytes a rest h = ap (prefix_len is_blank) h.blank.whole ∙ prefix_is is_blank h.blank.blanks h.from h.blank.all h.begins
 

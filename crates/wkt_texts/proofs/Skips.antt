@@ -1,4 +1,4 @@
--- A tree's text is one text.
+-- The text of a tree is one text.
 use Rattle.std.proofs.Common.{◌≡◌, ℕ, zero, suc, ◌+◌, ◌<◌, true, false, List, [], ◌∷◌, ◌++◌, length, refl, arith, sym, ◌∙◌, ap, subst, inl, inr, length-append, append_assoc}
 use Rattle.std.specs.List.{AllPass}
 use Rattle.std.specs.Char.{is_ascii_alphabetic}
@@ -16,11 +16,11 @@ use Rattle.wkt_texts.specs.Texts.{is_opening, is_closing}
 use Rattle.wkt_texts.specs.Counting.{text_len}
 use Rattle.wkt_texts.proofs.Steps.{at_other, at_closing, at_last}
 
--- a text goes on after the bytes, with the same count
+-- the text continues after the bytes, with the same count
 abbrev Passes : ℕ → List ℕ → Type 0
 Passes count bytes = (rest : List ℕ) → text_len count false (bytes ++ rest) ≡ length bytes + text_len count false rest
 
--- so it does wherever something is open
+-- the same, for every count above 0
 abbrev Skips : List ℕ → Type 0
 Skips bytes = (count : ℕ) → 0 < count → Passes count bytes
 
@@ -28,7 +28,7 @@ passes_append : (count : ℕ) (xs ys : List ℕ) → Passes count xs → Passes 
 passes_append count xs ys p q rest =
     ap (text_len count false) (append_assoc xs ys rest) ∙ (p (ys ++ rest) ∙ omega (arith, q rest, length-append xs ys))
 
--- a byte that is no mark and no delimiter
+-- the byte is neither a mark nor a delimiter
 record IsQuiet (b : ℕ) : Type 0 where
   mark : is_mark b ≡ false
   opening : is_opening b ≡ false
@@ -54,7 +54,7 @@ passes_numbers : (bs : List ℕ) (count : ℕ) → AllPass is_number_byte bs →
 passes_numbers [] count a = passes_nothing count
 passes_numbers (b ∷ bs) count a = passes_byte count b bs (number_quiet b (All-head (λ z. is_number_byte z ≡ true) b bs a)) (passes_numbers bs count (All-tail (λ z. is_number_byte z ≡ true) b bs a))
 
--- the first byte of a word and of a number
+-- the first byte of a word or of a number is neither a mark nor a delimiter
 letter_quiet : (b : ℕ) → is_ascii_alphabetic b ≡ true → IsQuiet b
 letter_quiet b h = record { mark = grind (arith, nat_tests); opening = grind (arith, nat_tests); closing = grind (arith, nat_tests) }
 
@@ -70,7 +70,7 @@ passes_number count bs t = subst (λ l. Passes count l) (sym t.parts) (passes_by
 no_mark : (b : ℕ) → (b ≡ 34 → ⊥) → is_mark b ≡ false
 no_mark b h = grind (arith, nat_tests)
 
--- inside marks
+-- inside marks, the text continues after the content
 inside : (content : List ℕ) (count : ℕ) (rest : List ℕ) → text_len count true (body content ++ rest) ≡ length (body content) + text_len count true rest
 inside [] count rest = omega arith
 inside (b ∷ bs) count rest = elim (by_mark b) [
@@ -83,7 +83,7 @@ passes_text count bs t = subst (λ l. Passes count l) (sym t.is) (λ rest.
     ap (λ l. suc (text_len count true l)) (append_assoc (body t.content) (34 ∷ []) rest)
     ∙ omega (arith, inside t.content count (34 ∷ rest), length-append (body t.content) (34 ∷ [])))
 
--- between delimiters
+-- bytes between delimiters are skipped if they are skipped without these
 skips_node : (bs : List ℕ) → Skips bs → Skips (91 ∷ (bs ++ (93 ∷ [])))
 skips_node bs s count l rest =
     let inner : text_len (count + 1) false (bs ++ (93 ∷ rest)) ≡ length bs + text_len (count + 1) false (93 ∷ rest) = s (count + 1) (omega arith) (93 ∷ rest) in
@@ -108,7 +108,7 @@ mutual
   later_items (and i r) n g count l = passes_byte count 44 (render i ++ render_behind r) (record { mark = refl; opening = refl; closing = refl })
       (passes_append count (render i) (render_behind r) (item i n g.0 count l) (later_items r n g.1 count l))
 
--- the text of a node is one text, whatever follows
+-- the text of a node is one text, whatever follows it
 pub one_text : (k : List ℕ) (xs : Bares) (n : ℕ) → WellFormed n (node k xs) → (rest : List ℕ) → text_len 0 false (render (node k xs) ++ rest) ≡ length (render (node k xs))
 one_text k xs zero g rest = absurd g
 one_text k xs (suc n) g rest =

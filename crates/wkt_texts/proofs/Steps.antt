@@ -1,4 +1,4 @@
--- What one byte does to the count of what is open.
+-- The effect of one byte on the count of open delimiters.
 use Rattle.std.proofs.Common.{◌≡◌, ℕ, suc, cond, ◌+◌, ◌-◌, ◌<◌, ◌≤◌, ◌⊎◌, Bool, true, false, not, List, [], ◌∷◌, refl, arith, inl, inr, ap, ◌∙◌}
 use Rattle.std.specs.Prelude.{count_by, nat_le}
 use Rattle.std.proofs.lemmas.Grind.{common_steps}
@@ -7,7 +7,7 @@ use Rattle.wkt_tree.specs.Tokens.{is_mark}
 use Rattle.wkt_texts.specs.Texts.{is_opening, is_closing, outside}
 use Rattle.wkt_texts.specs.Counting.{text_len}
 
--- after the byte the text goes on with this count, and the byte opens and closes so much outside marks
+-- the text continues after the byte, with this count; outside marks, the byte opens and closes this many delimiters
 pub record Goes (count : ℕ) (quoted : Bool) (b count' : ℕ) (quoted' : Bool) (opens closes : ℕ) : Type 0 where
   pub len : (bs : List ℕ) → text_len count quoted (b ∷ bs) ≡ suc (text_len count' quoted' bs)
   pub opened : (bs : List ℕ) → count_by is_opening (outside quoted (b ∷ bs)) ≡ opens + count_by is_opening (outside quoted' bs)
@@ -88,11 +88,11 @@ at_other count b h o c = record {
   alive = inl (refl, omega arith);
 }
 
--- no byte opens and closes
+-- no byte both opens and closes
 one_way : (b : ℕ) → is_opening b ≡ true → is_closing b ≡ false
 one_way b o = grind (arith, common_steps)
 
--- what a byte does
+-- the effect of a byte after which the text continues
 pub record Passes (count : ℕ) (quoted : Bool) (b : ℕ) : Type 0 where
   pub count' : ℕ
   pub quoted' : Bool

@@ -7,7 +7,7 @@ use Rattle.wkt_crs.proofs.canonical.canonical_text.Goals as goal
 pub returns-then-is_seen-clause-found : goal.returns-then-is_seen-clause-found
 returns-then-is_seen-clause-found c = subst (λ t. SpellsCanon c.args.text.now t) (sym c.in-Ok.ensures.items) (c.is_seen.ensures c.if-is_seen.true)
 
--- such a text spells a value, so it has no fault
+-- a text that is seen to be canonical spells a value, so it has no fault
 
 pub returns-in_default-clause-text : goal.returns-in_default-clause-text
 returns-in_default-clause-text c = λ f first.

@@ -6,7 +6,7 @@ use Rattle.wkt_crs.proofs.definition.Definition.from_canonical.Goals as goal
 pub returns-in_default-clause-slot : goal.returns-in_default-clause-slot
 returns-in_default-clause-slot c = λ f short first. c.read_canonical.ensures.slot f first
 
--- what is recognized has no fault of its text or its slots
+-- bytes that are recognized as canonical have no fault of their tokens or slots
 
 pub returns-clause-fault : goal.returns-clause-fault
 returns-clause-fault c =

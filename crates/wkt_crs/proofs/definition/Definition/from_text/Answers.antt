@@ -9,7 +9,7 @@ use Rattle.wkt_crs.proofs.Texts.{no_slot}
 use Rattle.wkt_crs.proofs.Verdicts.{value_or_fault}
 use Rattle.wkt_crs.proofs.definition.Definition.from_text.Goals as goal
 
--- what is recognized has no fault of its text or its slots
+-- a text that is recognized as canonical has no fault of its tokens or slots
 
 pub returns-in-Some-clause-ok : goal.returns-in-Some-clause-ok
 returns-in-Some-clause-ok c = seen_found c.of_seen.result c.args.text.now c.args.text.now (own c.in-Some.ensures) c.of_seen.ensures.ok
@@ -23,7 +23,7 @@ returns-in-Some-clause-text c = λ f first. absurd (recognized.no_text_fault f c
 pub returns-in-Some-clause-slot : goal.returns-in-Some-clause-slot
 returns-in-Some-clause-slot c = λ f first. absurd (recognized.no_slot_fault f c.in-Some.ensures.1 c.in-Some.ensures.0 first)
 
--- what is recognized of the condensed text, the text spells
+-- the text spells what the recognized condensed text spells
 
 pub returns-in-Some-seen_in-clause-ok : goal.returns-in-Some-seen_in-clause-ok
 returns-in-Some-seen_in-clause-ok c =
@@ -55,7 +55,7 @@ returns-in-Some-seen_in-clause-slot c = λ f first.
     let canon = condensed_canon c.args.text.now c.in-Some-condense.condensed.items c.deref.result.now bytes c.in-Some-seen_in.seen c.deref.ensures.value c.deref-in-Some-seen_in.ensures.value c.in-Some-condense.ensures.reads c.in-Some-seen_in.ensures in
     absurd (no_slot c.args.text.now canon.value f canon.spells first)
 
--- what is read is the value
+-- the text spells the value that is read
 
 pub returns-in-Ok-clause-ok : goal.returns-in-Ok-clause-ok
 returns-in-Ok-clause-ok c = value_found c.new.result c.args.text.now c.in-Ok.crs c.in-Ok.ensures.found c.new.ensures.ok
