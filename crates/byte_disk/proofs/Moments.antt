@@ -1,14 +1,14 @@
--- How a run of calls goes on.
+-- What a stop may leave during a run of calls.
 use Rattle.std.proofs.Common.{inl, inr, ⊎_elim, ℕ, List, sym, subst, arith}
 use Rattle.byte_disk.specs.Disk.{Elapses, LeavesOnly, Torn, Follows, Only}
 use Rattle.byte_disk.specs.RecordLaws.{torn_none}
 
 module _ {D : Type 0} (moment : D → ℕ) (since : D → ℕ → List ℕ → Type 0) where
-  -- before the first call
+  -- a run without calls
   pub started : (old : D) (P : List ℕ → Type 0) → ((c : List ℕ) → since old (moment old) c → P c) → LeavesOnly moment since old old P
   started old P here = record { later = omega arith; each = here; before = λ t c le left. inl left }
 
-  -- one call more, after which a stop leaves what has P
+  -- one more call, after which a stop leaves only what has P
   pub goes_on : (old mid new : D) (P images : List ℕ → Type 0) → LeavesOnly moment since old mid P → Elapses (moment mid) (moment new) (since mid) (since new) images
       → ((c : List ℕ) → images c → P c) → LeavesOnly moment since old new P
   goes_on old mid new P images so_far time here = record {
@@ -17,7 +17,7 @@ module _ {D : Type 0} (moment : D → ℕ) (since : D → ℕ → List ℕ → T
     before = λ t c le left. ⊎_elim (so_far.before t c le) (λ now. inr (here c now)) (time.nothing_else t c (omega (arith, le, so_far.later)) left);
   }
 
-  -- what has P has Q too
+  -- if all that has P has Q, a stop leaves only what has Q
   pub weaker : (old new : D) (P Q : List ℕ → Type 0) → LeavesOnly moment since old new P → ((c : List ℕ) → P c → Q c) → LeavesOnly moment since old new Q
   weaker old new P Q leaves so = record {
     later = leaves.later;
@@ -25,7 +25,7 @@ module _ {D : Type 0} (moment : D → ℕ) (since : D → ℕ → List ℕ → T
     before = λ t c le left. ⊎_elim inl (λ p. inr (so c p)) (leaves.before t c le left);
   }
 
-  -- one run after another
+  -- two runs, one after the other
   pub joined : (old mid new : D) (P : List ℕ → Type 0) → LeavesOnly moment since old mid P → LeavesOnly moment since mid new P → LeavesOnly moment since old new P
   joined old mid new P first second = record {
     later = omega (arith, first.later, second.later);

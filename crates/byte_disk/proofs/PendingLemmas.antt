@@ -1,4 +1,4 @@
--- What is told of the bytes that are not sure is one of the things that a stop may leave.
+-- The bytes that a stop leaves, by its effect on unsynced bytes, are among those that it may leave.
 use Rattle.std.proofs.Common.{◌≡◌, ℕ, ◌≤◌, List, [], ◌∷◌, length, replicate, drop, refl, sym, ap, ◌∙◌, subst}
 use Rattle.std.proofs.lemmas.List.{length-replicate, drop_all}
 use Rattle.byte_disk.specs.Disk.{Torn}
@@ -20,7 +20,7 @@ pub reaches_left : (pending : Pending) (base : List ℕ) (writes : List Write) �
 reaches_left pending base [] = refl
 reaches_left pending base (w ∷ writes) = (cut_by pending base w, torn_cut pending base w, reaches_left pending (cut_by pending base w) writes)
 
--- at the end of the writes
+-- the bytes after all writes are among those that a stop may leave
 pub reaches_all : (pending : Pending) (content base : List ℕ) (writes : List Write) (i : ℕ) → length writes ≤ i → left_by pending content (drop i writes) ≡ left_by pending base writes → Reaches base writes content
 reaches_all pending content base writes i le is =
     let all : content ≡ left_by pending base writes = sym (ap (λ (ws : List Write). left_by pending content ws) (drop_all i writes le)) ∙ is in

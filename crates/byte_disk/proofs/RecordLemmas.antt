@@ -1,4 +1,4 @@
--- What one more write does to the record.
+-- The effect of one more write on the record.
 use Rattle.std.proofs.Common.{◌≡◌, ◌⊎◌, inl, inr, ℕ, ◌++◌, ◌∷◌, [], Bool, true, false, List, length, refl, sym, ap, ◌∙◌, subst}
 use Rattle.std.specs.Prelude.{if◌then◌else◌, Ok, Err, OnOk, OnErr, is_err}
 use Rattle.std.proofs.lemmas.Bool.{false≢true}
@@ -9,17 +9,17 @@ use Rattle.byte_disk.specs.RecordLaws.{torn_none}
 use Rattle.byte_disk.specs.declared.span.Write.{Write}
 use Rattle.byte_disk.specs.declared.span.Span.{Span}
 
--- one of the two outcomes
+-- what holds at `Ok` holds, or what holds at `Err` does
 pub either_way : {T E : Type 0} {P Q : Type 0} (r : Result T E) → OnOk r P → OnErr r Q → P ⊎ Q
 either_way (Ok x) p q = inl p
 either_way (Err e) p q = inr q
 
--- where there is no error, what holds at `Ok`
+-- if the result is not an error, what holds at `Ok` holds
 pub at_ok : {T E : Type 0} {P : Type 0} (r : Result T E) → is_err r ≡ false → OnOk r P → P
 at_ok (Ok x) is p = p
 at_ok (Err e) is p = absurd (false≢true (sym is))
 
--- where there is one, what holds at `Err`
+-- if the result is an error, what holds at `Err` holds
 pub at_err : {T E : Type 0} {P : Type 0} (r : Result T E) → is_err r ≡ true → OnErr r P → P
 at_err (Ok x) is p = absurd (false≢true is)
 at_err (Err e) is p = p
@@ -65,7 +65,7 @@ reach_after : (base : List ℕ) (writes : List Write) (w : Write) (c d : List �
 reach_after base [] w c d is torn = (c, subst (λ (s : List ℕ). Torn w.at (length w.bytes.items) s c) is torn, refl)
 reach_after base (v ∷ writes) w c d (e, first, rest) torn = (e, first, reach_after e writes w c d rest torn)
 
--- what the span leaves, by its parts
+-- the bytes that a stop in a span may leave, by the base and the writes of the span
 leaves_by : (old new : Span) (writes : List Write) (c : List ℕ) → new.base.items ≡ old.base.items → new.writes.items ≡ writes → Reaches old.base.items writes c → SpanLeaves new c
 leaves_by old new writes c base is reached =
     subst (λ (b : List ℕ). Reaches b new.writes.items c) (sym base) (subst (λ (ws : List Write). Reaches old.base.items ws c) (sym is) reached)

@@ -1,4 +1,4 @@
--- How time goes on for a disk in memory.
+-- How time advances for a disk in memory.
 use Rattle.std.proofs.Common.{◌≡◌, ◌⊎◌, inl, inr, ⊎_elim, ℕ, ◌≤◌, ◌<◌, ◌++◌, ◌∷◌, [], true, IsTrue, List, refl, sym, ap, ◌∙◌, subst, arith}
 use Rattle.std.specs.Prelude.{nat_lt}
 use Rattle.std.proofs.lemmas.Bool.{and_parts, and_from, lt-ltb, ltb-true}
@@ -9,7 +9,7 @@ use Rattle.byte_disk.specs.declared.span.Write.{Write}
 use Rattle.byte_disk.specs.declared.span.Span.{Span}
 use Rattle.byte_disk.specs.declared.span.Past.{Past}
 
--- what a stop since t might have left
+-- the bytes that a stop at the moment t or later might have left
 abbrev pub Since : Span → List Past → ℕ → List ℕ → Type 0
 Since span past t c = SpanLeaves span c ⊎ WasLeft past t c
 

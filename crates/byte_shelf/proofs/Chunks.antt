@@ -1,4 +1,4 @@
--- A chunk more of the bytes from an offset on.
+-- One more chunk of the bytes from an offset on.
 use Rattle.std.proofs.Common.{◌≡◌, ℕ, ◌+◌, ◌++◌, List, length, take, drop, sym, ap, ◌∙◌, take-add}
 use Rattle.std.proofs.lemmas.List.{drop-drop}
 

@@ -17,7 +17,7 @@ moments_of moment since old new s was bytes sent frame leaves is shelf r =
     weaker moment since old new (InTwo (place r.size (1 - r.gate % 2)) (framed bytes) 0 1 s) (λ c. IsShelf c was ⊎ IsShelf c bytes) of_frame
     (each_stop s was bytes r.gate r.size r.head shelf r.fits)
 
--- the two writes are those of the bytes into the spare slot, and of its number
+-- the two writes are that of the bytes into the spare slot, and that of the number of this slot
 written_of : (s new bytes sent : List ℕ) (frame : Frame) → AreBothWritten frame.at sent 0 (frame.gate ∷ []) s new → sent ≡ frame.bytes.items
     → (r : IsReady s bytes frame) → AreBothWritten (place r.size (1 - r.gate % 2)) (framed bytes) 0 ((1 - r.gate % 2) ∷ []) s new
 written_of s new bytes sent frame both is r =
@@ -29,7 +29,7 @@ pub kept_of : (s new was bytes sent : List ℕ) (frame : Frame) → AreBothWritt
     → IsShelf s was → IsReady s bytes frame → IsShelf new bytes
 kept_of s new was bytes sent frame both is shelf r = (whole s was bytes new r.gate r.size r.head shelf r.fits (written_of s new bytes sent frame both is r)).0
 
--- the shelf has the size that it had, and ends within it
+-- the new image is a shelf of the same size, and has grown at most to the end of its second slot
 pub sized_of : (s new was bytes sent : List ℕ) (frame : Frame) (want : ℕ) → AreBothWritten frame.at sent 0 (frame.gate ∷ []) s new → sent ≡ frame.bytes.items
     → IsShelfOf s want was → IsReady s bytes frame → IsShelfOf new want bytes × EndsWithin want s new
 sized_of s new was bytes sent frame want both is (shelf, size-is) r =
@@ -37,7 +37,7 @@ sized_of s new was bytes sent frame want both is (shelf, size-is) r =
     let same_size : r.size ≡ want = one_size s r.size shelf.size r.head.size_fits shelf.head.size_fits r.head.size_stands shelf.head.size_stands ∙ size-is in
     subst (λ (n : ℕ). IsShelfOf new n bytes × EndsWithin n s new) same_size (whole s was bytes new r.gate r.size r.head shelf r.fits writes, ends_within s bytes new r.gate r.size r.fits writes)
 
--- what a stop leaves where a frame was made ready, and then put
+-- what a stop leaves when a frame is made ready and then put
 pub moments_then : {D : Type 0} (seen : D → List ℕ) (images : D → List ℕ → Type 0) (moment : D → ℕ) (since : D → ℕ → List ℕ → Type 0) (old mid new : D) (was bytes : List ℕ)
     → AddsNothing seen images moment since old mid → LeavesOnly moment since mid new (λ c. IsShelf c was ⊎ IsShelf c bytes)
     → LeavesOnly moment since old new (λ c. images old c ⊎ (IsShelf c was ⊎ IsShelf c bytes))

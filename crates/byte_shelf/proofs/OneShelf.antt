@@ -1,4 +1,4 @@
--- A shelf has one content.
+-- A shelf has at most one content.
 use Rattle.std.proofs.Common.{◌≡◌, ℕ, ◌%◌, ◌<◌, ◌^◌, List, length, take, drop, sym, ap, ◌∙◌, arith}
 use Rattle.byte_shelf.specs.Shelf.{place, framed, IsShelf}
 use Rattle.byte_shelf.proofs.Steps.{slot_of, long_frame}

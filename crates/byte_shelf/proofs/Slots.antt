@@ -1,4 +1,4 @@
--- What is read of a slot, and what a new shelf is.
+-- The bytes that are read from a slot, and new shelves.
 use Rattle.std.proofs.Common.{◌≡◌, inl, inr, ℕ, ◌+◌, ◌-◌, ◌%◌, ◌≤◌, ◌<◌, ◌^◌, ◌++◌, List, length, take, drop, refl, sym, ap, subst, ◌∙◌, arith, take-add, take-take}
 use Rattle.std.specs.Int.{w32, to_be_bytes, from_be_bytes}
 use Rattle.std.proofs.lemmas.Nat.{from_be_bytes-to_be_bytes_4}
@@ -8,7 +8,7 @@ use Rattle.byte_shelf.specs.Shelf.{StandAt, place, framed, fresh, HasHead, HasNo
 use Rattle.byte_shelf.proofs.Windows.{within_length}
 use Rattle.byte_shelf.proofs.Steps.{long_frame, range_of, slot_of}
 
--- a new shelf, and what may follow
+-- the bytes of a new shelf, with any bytes after them, are a shelf
 pub at_front : (size : ℕ) (bytes rest : List ℕ) → size < 2 ^ 32 → IsSize size → length bytes ≤ size → IsShelfOf (fresh size bytes ++ rest) size bytes
 at_front size bytes rest fits range within =
     let slot : StandAt (fresh size bytes ++ rest) 5 (framed bytes) = ap (λ (t : List ℕ). to_be_bytes w32 (length bytes) ++ t) (take_at bytes rest (length bytes) refl) in
@@ -36,7 +36,7 @@ slot_stands s v at len stands long is =
     let parts : take (4 + length v) (drop at s) ≡ framed v = take-add 4 (length v) (drop at s) ∙ ap (λ (t : List ℕ). t ++ take (length v) (drop 4 (drop at s))) first ∙ ap (λ (t : List ℕ). to_be_bytes w32 (length v) ++ t) rest in
     subst (λ (k : ℕ). take k (drop at s) ≡ framed v) (sym (long_frame v)) parts
 
--- the length in front of a slot
+-- a slot begins with the length of its bytes
 pub length_stands : (s bytes : List ℕ) (at : ℕ) → StandAt s at (framed bytes) → StandAt s at (to_be_bytes w32 (length bytes))
 length_stands s bytes at slot = sym (take-take 4 (length (framed bytes)) (drop at s) (omega (arith, long_frame bytes))) ∙ ap (λ (t : List ℕ). take 4 t) slot
 

@@ -8,14 +8,14 @@ use Rattle.byte_disk.specs.Disk.{ReadsAt, Torn, InTwo, AreBothWritten}
 use Rattle.byte_shelf.specs.Shelf.{StandAt, place, framed, HasHead, IsSize, IsShelf, IsShelfOf, EndsWithin}
 use Rattle.byte_shelf.proofs.Windows.{stays_before, stays_after}
 
--- what was read of the head is what the shelf has
+-- an image has at most one gate
 pub one_gate : (s : List ℕ) (a b : ℕ) → StandAt s 0 (a ∷ []) → StandAt s 0 (b ∷ []) → a ≡ b
 one_gate s a b x y = cc
 
 pub one_size : (s : List ℕ) (a b : ℕ) → a < 2 ^ 32 → b < 2 ^ 32 → StandAt s 1 (to_be_bytes w32 a) → StandAt s 1 (to_be_bytes w32 b) → a ≡ b
 one_size s a b p q x y = sym (from_be_bytes-to_be_bytes_4 a p) ∙ ap (λ (t : List ℕ). from_be_bytes w32 t) (sym x ∙ y) ∙ from_be_bytes-to_be_bytes_4 b q
 
--- the bytes in the slot of a known head
+-- these bytes are in the slot that a known head selects
 abbrev pub HasSlot : List ℕ → ℕ → ℕ → List ℕ → Type 0
 HasSlot s gate size bytes = (length bytes ≤ size) × StandAt s (place size (gate % 2)) (framed bytes)
 
@@ -27,7 +27,7 @@ slot_of s was gate size head shelf =
       subst (λ (n : ℕ). StandAt s (place n (gate % 2)) (framed was)) z (subst (λ (k : ℕ). StandAt s (place shelf.size (k % 2)) (framed was)) g shelf.slot),
     )
 
--- the size of a known head is that of a shelf
+-- the size in the head of a shelf is one that a shelf may have
 pub range_of : (s was : List ℕ) (gate size : ℕ) → HasHead s gate size → IsShelf s was → IsSize size
 range_of s was gate size head shelf =
     subst (λ (n : ℕ). IsSize n) (one_size s shelf.size size shelf.head.size_fits head.size_fits shelf.head.size_stands head.size_stands) shelf.in_range
@@ -35,7 +35,7 @@ range_of s was gate size head shelf =
 pub long_frame : (bytes : List ℕ) → length (framed bytes) ≡ 4 + length bytes
 long_frame bytes = length-append (to_be_bytes w32 (length bytes)) bytes
 
--- the two slots lie apart, behind the head
+-- the two slots do not overlap
 apart : (size k m n : ℕ) → k < 2 → m ≤ size → n ≤ size → (place size k + (4 + m) ≤ place size (1 - k)) ⊎ (place size (1 - k) + (4 + n) ≤ place size k)
 apart size zero m n lt p q = inl (omega arith)
 apart size (suc zero) m n lt p q = inr (omega arith)
@@ -44,7 +44,7 @@ apart size (suc (suc k)) m n lt p q = absurd (omega arith)
 behind : (size k : ℕ) → 5 ≤ place size k
 behind size k = grind (arith, nat_tests)
 
--- of two low bits, one is the other or its opposite
+-- two bits are equal or opposite
 two_ways : (a b : ℕ) → a < 2 → b < 2 → (a ≡ b) ⊎ (a ≡ 1 - b)
 two_ways zero zero p q = inl refl
 two_ways zero (suc zero) p q = inr (omega arith)
@@ -53,7 +53,7 @@ two_ways (suc zero) (suc zero) p q = inl refl
 two_ways (suc (suc a)) b p q = absurd (omega arith)
 two_ways a (suc (suc b)) p q = absurd (omega arith)
 
--- the first write leaves the slot in use and the head
+-- a write to the spare slot, even if it is cut short, keeps the head and the slot in use
 pub first_write : (s c was bytes : List ℕ) (gate size : ℕ) → HasHead s gate size → HasSlot s gate size was → length bytes ≤ size
     → Torn (place size (1 - gate % 2)) (length (framed bytes)) s c → HasHead c gate size × HasSlot c gate size was
 first_write s c was bytes gate size head slot fits torn =
@@ -72,7 +72,7 @@ first_write s c was bytes gate size head slot fits torn =
       (slot.0, kept),
     )
 
--- after a write of one byte at the front: some gate, and all else as it was
+-- after a write of the gate, even if it is cut short, the image is a shelf with the old bytes or with the new ones
 pub second_write : (d c was bytes : List ℕ) (gate size : ℕ) → HasHead d gate size → HasSlot d gate size was → IsSize size → length bytes ≤ size
     → StandAt d (place size (1 - gate % 2)) (framed bytes) → Torn 0 1 d c → IsShelf c was ⊎ IsShelf c bytes
 second_write d c was bytes gate size head slot range fits there torn =
@@ -114,7 +114,7 @@ whole s was bytes new gate size head shelf fits (d, holds, turned) =
       refl,
     )
 
--- the second slot ends at 13 and twice the size
+-- writes to a slot and to the gate extend an image at most to the end of the second slot, at 13 and twice the size
 within_slots : (s d new at n size : ℕ) → at ≤ 9 + size → n ≤ 4 + size → d ≤ max s (at + n) → new ≤ max d 1 → (new ≤ s) ⊎ (new ≤ 13 + (size + size))
 within_slots s d new at n size p q h k = grind (arith, nat_tests)
 
@@ -126,7 +126,7 @@ pub ends_within : (s bytes new : List ℕ) (gate size : ℕ) → length bytes �
 ends_within s bytes new gate size fits (d, holds, turned) =
     within_slots (length s) (length d) (length new) (place size (1 - gate % 2)) (length (framed bytes)) size (place_low size (1 - gate % 2)) (omega (arith, long_frame bytes)) holds.torn.no_longer turned.torn.no_longer
 
--- a head that was read
+-- a head that was read is the head of the image
 pub head_read : (s buf : List ℕ) (gate size : ℕ) → length buf ≡ 5 → ReadsAt s 0 5 buf → HasHead buf gate size → HasHead s gate size
 head_read s buf gate size long reads head =
     let same : take 5 buf ≡ take 5 s = reads.bytes in

@@ -1,4 +1,4 @@
--- What stands outside a written range stays.
+-- The bytes outside a written range stay as they are.
 use Rattle.std.proofs.Common.{◌≡◌, ℕ, ◌+◌, ◌-◌, ◌≤◌, ◌<◌, min, List, length, take, drop, sym, ap, ◌∙◌, arith, length-drop}
 use Rattle.std.proofs.lemmas.List.{drop-take, drop-drop, length-take, take-take}
 use Rattle.byte_disk.specs.Disk.{Torn}
@@ -14,7 +14,7 @@ window_after s c q m j same le =
     let there : (t : List ℕ) → drop q t ≡ drop (q - j) (drop j t) = λ t. ap (λ (n : ℕ). drop n t) (sym k) ∙ sym (drop-drop (q - j) j t) in
     ap (λ (t : List ℕ). take m t) (there c ∙ ap (λ (t : List ℕ). drop (q - j) t) same ∙ sym (there s))
 
--- what stands at a place ends within the bytes
+-- bytes that are at a place end within the image
 pub within_length : (s bytes : List ℕ) (q : ℕ) → 0 < length bytes → StandAt s q bytes → q + length bytes ≤ length s
 within_length s bytes q some stands = omega (arith, some, ap length stands, length-take (length bytes) (drop q s), length-drop q s)
 

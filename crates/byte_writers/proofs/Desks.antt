@@ -1,4 +1,4 @@
--- What each event keeps of an office's files.
+-- What each event preserves of the files of an office.
 use Rattle.std.proofs.Common.{◌≡◌, ◌⊎◌, inl, inr, ℕ, Bool, true, false, List, [], ◌∷◌, Option, Some, None, refl, sym, ap, subst, cond}
 use Rattle.std.proofs.lemmas.Bool.Decides.{eqb_tells}
 use Rattle.byte_writers.specs.Path.{Content, is_same, NewFile, Stage, Begins, HasRead, Writes, IsSynced, HasLocked, Keeps, FoundSame, Withdraws, Replaced, HasPrinted, Ended, World, Event, Goes, Locks, Fills, Fails, Stops, Clears, at_stage, makes, puts, goes, fills, locks, failed, stopped, happens}
@@ -7,7 +7,7 @@ use Rattle.byte_writers.specs.Desk.{Office, IsRead, numbers, Desk, DeskEvent, At
 use Rattle.byte_writers.proofs.Kept.{Gave, Holds, at_each, same_content, happens_keeps, start_holds}
 use Rattle.byte_writers.proofs.Numbers.{many, many_add, numbers_add}
 
--- what was noted stays so, where one command comes to a stage
+-- what the commands have noted stays noted when one command comes to a stage that keeps what it has noted
 noted_at : (w : World) (k : ℕ) (t : Stage) → ((x : Content) → has_noted (w.stage k) x ≡ true → has_noted t x ≡ true)
     → (j : ℕ) (x : Content) → has_noted (w.stage j) x ≡ true → has_noted (at_stage w.stage k t j) x ≡ true
 noted_at w k t on = at_each (λ j s. (x : Content) → has_noted (w.stage j) x ≡ true → has_noted s x ≡ true) w.stage k t on (λ j ne x h. h)
@@ -93,7 +93,7 @@ noted_on change w (Fails k) = noted_at w k (failed (w.stage k)) (noted_fails (w.
 noted_on change w (Stops k) = noted_at w k (stopped (w.stage k)) (noted_stops (w.stage k))
 noted_on change w Clears = λ j x h. h
 
--- a command replaces a file only from where it found it the same
+-- the command had replaced the file before, or this event is its next step after it found the file unchanged
 abbrev pub WasReady : (ℕ → Stage) → Event → ℕ → Type 0
 WasReady stages e j = (has_replaced (stages j) ≡ true) ⊎ ((e ≡ Goes j) × ((y : Content) × (stages j ≡ FoundSame y)))
 
@@ -173,7 +173,7 @@ ready change w (Fails k) = ready_at w (Fails k) k (failed (w.stage k)) (λ h. in
 ready change w (Stops k) = ready_at w (Stops k) k (stopped (w.stage k)) (λ h. inl (replaced_stops (w.stage k) h))
 ready change w Clears = λ j h. inl h
 
--- who has replaced a register has noted its numbers
+-- a command that has replaced a register has noted its numbers
 pub record DeskHolds (o : Office) (from : ℕ → Content) (d : Desk) : Type 0 where
   pub office : Holds (many (numbers o)) d.office
   pub noted : (p j : ℕ) → has_replaced ((d.registers p).stage j) ≡ true → has_noted (d.office.stage j) (from j) ≡ true
@@ -214,7 +214,7 @@ desk_after_keeps o reads change from (e ∷ es) d h = desk_after_keeps o reads c
 pub desk_always : (o : Office) → IsRead o → (change : ℕ → Content → List ℕ) (from : ℕ → Content) (es : List DeskEvent) (x : Content) (xs : ℕ → Content) → DeskHolds o from (desk_after o change from es (desk_start x xs))
 desk_always o reads change from es x xs = desk_after_keeps o reads change from es (desk_start x xs) (record { office = start_holds (many (numbers o)) x; noted = λ p j r. absurd (cc) })
 
--- who has noted numbers gave them
+-- a command that has noted numbers gave them
 gave_noted : {I : Type 0} (c : Commands I) (k : ℕ) (s : Stage) (x : Content) (i : I) → has_noted s x ≡ true → c.gives k x i ≡ true → Gave (many c) k s i
 gave_noted c k Begins x i n g = cc
 gave_noted c k (HasRead y) x i n g = cc

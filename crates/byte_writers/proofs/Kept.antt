@@ -1,10 +1,10 @@
--- What each event keeps.
+-- The invariant of the commands, which each event preserves.
 use Rattle.std.proofs.Common.{◌≡◌, ◌≢◌, ◌⊎◌, inl, inr, ℕ, Bool, true, false, List, [], ◌∷◌, Option, Some, None, take, eqb, refl, sym, ◌∙◌, ap, subst, cond, arith}
 use Rattle.std.proofs.lemmas.Bool.Decides.{eqb_tells, nat_tests}
 use lib.Pointwise.{bytes_decides}
 use Rattle.byte_writers.specs.Path.{Content, is_same, NewFile, Stage, Begins, HasRead, Writes, IsSynced, HasLocked, Keeps, FoundSame, Withdraws, Replaced, HasPrinted, Ended, World, Event, Goes, Locks, Fills, Fails, Stops, Clears, start, at_stage, comes_to, makes, filled, puts, goes, fills, locks, failed, stopped, is_ended, cleared, happens, after}
 
--- commands whose ids are told by any relation
+-- commands for which giving an id, and having seen one, are relations
 pub record Many (I : Type 0) : Type 1 where
   pub change : ℕ → Content → List ℕ
   pub Gives : ℕ → Content → I → Type 0
@@ -15,17 +15,17 @@ pub record OnlyAdds {I : Type 0} (c : Many I) : Type 0 where
   pub not_before : (k : ℕ) (x : Content) (i : I) → c.Gives k x i → c.Seen x i → ⊥
   pub seen_then : (k : ℕ) (x : Content) (i : I) → c.Gives k x i → c.Seen (Some (c.change k x)) i
 
--- a command has replaced OUT and so given an id
+-- the command has replaced OUT and so gave the id
 abbrev pub Gave : {I : Type 0} → Many I → ℕ → Stage → I → Type 0
 Gave c k (Replaced x) i = c.Gives k x i
 Gave c k (HasPrinted x) i = c.Gives k x i
 Gave c k s i = ⊥
 
--- OUT.new is the command's
+-- OUT.new exists, and the command made it
 abbrev pub Makes : ℕ → Option NewFile → Type 0
 Makes k new = (bytes : List ℕ) × (new ≡ Some (record { maker = k; bytes = bytes }))
 
--- what stands and what is beside fit how far a command is
+-- OUT and OUT.new are as the stage of the command demands
 abbrev pub Fits : {I : Type 0} → Many I → ℕ → Content → Option NewFile → Stage → Type 0
 Fits {I} c k out new Begins = Unit {0}
 Fits {I} c k out new (HasRead x) = Unit {0}
@@ -43,7 +43,7 @@ pub record Holds {I : Type 0} (c : Many I) (w : World) : Type 0 where
   pub each : (k : ℕ) → Fits c k w.stands w.beside (w.stage k)
   pub one : (j k : ℕ) (i : I) → Gave c j (w.stage j) i → Gave c k (w.stage k) i → j ≡ k
 
--- what holds of a stage, and of each other command's, holds of each
+-- what holds of the new stage of one command, and of the stages of all others, holds of each stage
 pub at_each : (P : ℕ → Stage → Type 0) (stages : ℕ → Stage) (k : ℕ) (s : Stage) → P k s → ((j : ℕ) → j ≢ k → P j (stages j)) → (j : ℕ) → P j (at_stage stages k s j)
 at_each P stages k s here others j =
     elim (eqb_tells j k) [
@@ -64,7 +64,7 @@ gave_is_seen c k out new (Replaced x) i f h = f i h
 gave_is_seen c k out new (HasPrinted x) i f h = f i h
 gave_is_seen c k out new Ended i f h = absurd h
 
--- an id that a command gives now, which it did not give before, nobody else gave
+-- if a command gave an id before, or OUT has not seen it, no other command gave it
 pub new_one : {I : Type 0} (c : Many I) (w : World) (k : ℕ) (s : Stage) → Holds c w
     → ((i : I) → Gave c k s i → (Gave c k (w.stage k) i) ⊎ ((c.Seen w.stands i → ⊥)))
     → (m : ℕ) (i : I) → Gave c k s i → Gave c m (w.stage m) i → k ≡ m
@@ -74,7 +74,7 @@ new_one c w k s h given m i gk gm =
       | inr unseen ↦ (let seen = gave_is_seen c m w.stands w.beside (w.stage m) i (h.each m) gm in absurd (unseen seen))
     ]
 
--- a command comes to a stage
+-- a command comes to a stage, and OUT and OUT.new change: the invariant holds if they fit all stages
 pub moved : {I : Type 0} (c : Many I) (w : World) (k : ℕ) (s : Stage) (out : Content) (new : Option NewFile) → Holds c w
     → ((j : ℕ) → j ≢ k → Fits c j w.stands w.beside (w.stage j) → Fits c j out new (w.stage j))
     → Fits c k out new s
@@ -89,11 +89,11 @@ moved c w k s out new h others here given = record {
       j;
 }
 
--- OUT.new is not the command's
+-- OUT.new does not exist, or the command did not make it
 abbrev pub IsFree : ℕ → Option NewFile → Type 0
 IsFree j new = (bytes : List ℕ) → new ≡ Some (record { maker = j; bytes = bytes }) → ⊥
 
--- what fits a command that has not made OUT.new still fits, whatever becomes of OUT.new, where OUT has seen no less
+-- a command that did not make OUT.new fits any other OUT.new, and any OUT that has seen the same ids or more
 pub other : {I : Type 0} (c : Many I) (j : ℕ) (out : Content) (new : Option NewFile) (out' : Content) (new' : Option NewFile)
     → IsFree j new → ((i : I) → c.Seen out i → c.Seen out' i)
     → (s : Stage) → Fits c j out new s → Fits c j out' new' s
@@ -113,7 +113,7 @@ abbrev pub maker_or : ℕ → Option NewFile → ℕ
 maker_or d None = d
 maker_or d (Some n) = n.maker
 
--- what one command made is not another's
+-- a file that one command made is not another's
 pub free_of_other : (j k : ℕ) (new : Option NewFile) → j ≢ k → Makes k new → IsFree j new
 free_of_other j k new ne m = λ bytes e. ne (ap (maker_or j) (sym e ∙ m.1))
 
@@ -123,7 +123,7 @@ free_of_none j new none = λ bytes e. cc
 pub same_number : (k : ℕ) → eqb k k ≡ true
 same_number k = grind (arith, nat_tests)
 
--- a command fills its own file
+-- a command that made OUT.new fills it
 pub filled_own : (k : ℕ) (bytes : List ℕ) (new : Option NewFile) → Makes k new → filled k bytes new ≡ Some (record { maker = k; bytes = bytes })
 filled_own k bytes new m = rw m.1 (subst (λ b. ◌≡◌ {A = Option NewFile} (Some (cond b (record { maker = k; bytes = bytes }) (record { maker = k; bytes = m.0 }))) (Some (record { maker = k; bytes = bytes }))) (sym (same_number k)) refl)
 
@@ -133,13 +133,13 @@ same_content None (Some b) h = cc
 same_content (Some a) None h = cc
 same_content (Some a) (Some b) h = ap Some ((bytes_decides a b).0 h)
 
--- nothing is given at a stage before OUT is replaced
+-- a command comes to a stage, and no file changes
 pub still : {I : Type 0} (c : Many I) (w : World) (k : ℕ) (s : Stage) → Holds c w → Fits c k w.stands w.beside s
     → ((i : I) → Gave c k s i → (Gave c k (w.stage k) i) ⊎ ((c.Seen w.stands i → ⊥)))
     → Holds c (comes_to w k s)
 still c w k s h here given = moved c w k s w.stands w.beside h (λ j ne f. f) here given
 
--- the file of a command becomes another
+-- a command comes to a stage, and the file that it made changes
 pub on_own : {I : Type 0} (c : Many I) (w : World) (k : ℕ) (s : Stage) (new : Option NewFile) → Holds c w → Makes k w.beside
     → Fits c k w.stands new s → ((i : I) → Gave c k s i → (Gave c k (w.stage k) i) ⊎ ((c.Seen w.stands i → ⊥)))
     → Holds c (record { stands = w.stands; beside = new; stage = at_stage w.stage k s })
@@ -209,7 +209,7 @@ locks_keeps c w k (Replaced x) at h = h
 locks_keeps c w k (HasPrinted x) at h = h
 locks_keeps c w k Ended at h = h
 
--- a command's file grows, and it stays at its stage
+-- the file that a command made changes, and the command stays at its stage
 fills_own : {I : Type 0} (c : Many I) (w : World) (k : ℕ) (new : Option NewFile) → Holds c w → Makes k w.beside → Fits c k w.stands new (w.stage k)
     → Holds c (record { stands = w.stands; beside = new; stage = w.stage })
 fills_own c w k new h m here = record {
@@ -291,7 +291,7 @@ stops_gives c k (Replaced x) i g = g
 stops_gives c k (HasPrinted x) i g = g
 stops_gives c k Ended i g = absurd g
 
--- who has ended makes nothing
+-- a command that has ended also fits if there is no OUT.new
 ended_free : {I : Type 0} (c : Many I) (out : Content) (new : Option NewFile) (n : NewFile) (s : Stage) → is_ended s ≡ true → new ≡ Some n → (j : ℕ) → j ≡ n.maker → Fits c j out new s → Fits c j out None s
 ended_free c out new n Begins e is j same f = cc
 ended_free c out new n (HasRead x) e is j same f = cc

@@ -9,7 +9,7 @@ abbrev content_of : Option NewFile → Content
 content_of None = None
 content_of (Some n) = Some n.bytes
 
--- where OUT changes, a command replaces what it had read
+-- if OUT changes, a command replaces the content that it had read
 puts_changes : {I : Type 0} (c : Many I) (w : World) (k : ℕ) (x : Content) (new : Option NewFile) → w.beside ≡ new → w.stage k ≡ FoundSame x → Holds c w
     → ((puts w k x new).stands ≡ w.stands) ⊎ IsReplacedBy c.change k w (puts w k x new)
 puts_changes c w k x None is at h = inl refl
@@ -87,7 +87,7 @@ seen_on c add (e ∷ es) w i h seen =
 pub given_on : {I : Type 0} (c : Many I) → OnlyAdds c → (w : World) (more : List Event) (k : ℕ) (i : I) → Holds c w → Gave c k (w.stage k) i → c.Seen (after c.change more w).stands i
 given_on c add w more k i h g = seen_on c add more w i h (gave_is_seen c k w.stands w.beside (w.stage k) i (h.each k) g)
 
--- who has ended stays so
+-- a command that has ended stays so
 ended_on : (stages : ℕ → Stage) (k m : ℕ) (s : Stage) → stages m ≡ Ended → (k ≡ m → s ≡ Ended) → at_stage stages k s m ≡ Ended
 ended_on stages k m s e on =
     elim (eqb_tells m k) [
@@ -98,7 +98,7 @@ ended_on stages k m s e on =
 left_on : (w : World) (n : NewFile) (k : ℕ) (s : Stage) → IsLeft w n → (w.stage k ≡ Ended → s ≡ Ended) → IsLeft (comes_to w k s) n
 left_on w n k s l on = record { there = l.there; ended = ended_on w.stage k n.maker s l.ended (λ e. on (subst (λ m. w.stage m ≡ Ended) (sym e) l.ended)) }
 
--- whose file it is has not ended
+-- if the file that a command made is left, the command has ended
 not_left : (w : World) (n : NewFile) (k : ℕ) (s : Stage) → IsLeft w n → Makes k w.beside → w.stage k ≡ s → s ≡ Ended
 not_left w n k s l m at = sym at ∙ subst (λ j. w.stage j ≡ Ended) (ap (maker_or k) (sym l.there ∙ m.1)) l.ended
 
@@ -168,7 +168,7 @@ left_stays c add (Stops k ∷ es) w n h l none =
     left_stays c add es (happens c.change w (Stops k)) n (happens_keeps c add w (Stops k) h) (left_on w n k (stopped (w.stage k)) l (λ e. ap stopped e)) none
 left_stays c add (Clears ∷ es) w n h l none = absurd none
 
--- what holds of files holds whatever commands make
+-- commands that give no ids, for statements about the files of any commands
 abbrev pub any_of : (ℕ → Content → List ℕ) → Many (Unit {0})
 any_of change = record { change = change; Gives = λ k x i. ⊥; Seen = λ x i. Unit {0} }
 

@@ -1,4 +1,4 @@
--- Commands as the laws see them, and those of an office.
+-- Commands with tests of ids as commands with relations, and the commands of an office.
 use Rattle.std.proofs.Common.{◌≡◌, ℕ, true, false, Some, arith}
 use Rattle.std.specs.Prelude.{◌+◌, ◌<◌, ◌≤◌, nat_lt, nat_le, ◌&&◌}
 use Rattle.std.proofs.lemmas.Bool.Decides.{nat_tests}
@@ -17,7 +17,7 @@ many_add c add = record {
   seen_then = add.seen_then;
 }
 
--- who gave an id by the test gave it
+-- an id that a command gave by the test, it gave by the relation
 pub gave_many : {I : Type 0} (c : Commands I) (k : ℕ) (s : Stage) (i : I) → gave c k s i ≡ true → Gave (many c) k s i
 gave_many c k Begins i g = cc
 gave_many c k (HasRead x) i g = cc
@@ -31,7 +31,7 @@ gave_many c k (Replaced x) i g = g
 gave_many c k (HasPrinted x) i g = g
 gave_many c k Ended i g = cc
 
--- numbers are given once
+-- a number that passes both tests is above m and at most b
 tests : (m b n : ℕ) → (nat_lt m n && nat_le n b) ≡ true → (m < n) × (n ≤ b)
 tests m b n h = (grind (arith, nat_tests), grind (arith, nat_tests))
 

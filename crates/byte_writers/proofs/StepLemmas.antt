@@ -1,4 +1,4 @@
--- Each call of a place is an event.
+-- Each call of a place is an event of the model.
 use Rattle.std.proofs.Common.{◌≡◌, ◌↔◌, ℕ, Bool, true, false, List, [], ◌∷◌, length, take, take_all, le_refl, Option, Some, None, Ok, Err, IsTrue, IsSome, refl, sym, ◌∙◌, ap, subst, cond}
 use Rattle.std.specs.declared.result.Result.{Result}
 use Rattle.std.specs.Io.KnownBytes.{Appends}

@@ -9,7 +9,7 @@ named_twice : (names : List (Bor (List ℕ))) → map (λ (n : Bor (List ℕ)). 
 named_twice [] = refl
 named_twice (n ∷ ns) = ap (λ cs. named n.now ∷ cs) (named_twice ns)
 
--- they are where the columns of the records begin
+-- the named columns, widened by all records, are the columns of the records
 pub started : (records : List Row) (header : Row) (rest : List Row) (names : List (Bor (List ℕ))) (made : List Column) → records ≡ header ∷ rest
     → made ≡ map (λ (n : Bor (List ℕ)). named n.now) names → map (λ (f : Bor (List ℕ)). f.now) names ≡ fields_of header
     → fold (λ cs fields. widened fields cs) made (map fields_of records) ≡ columns (map fields_of records)

@@ -16,10 +16,10 @@ drop_none [] (suc i) e = refl
 drop_none (g ∷ fs) zero e = cc
 drop_none (g ∷ fs) (suc i) e = drop_none fs i e
 
--- one more field was taken
+-- after one more field is taken, the fields so far and those that remain are still all fields
 pub took : (made fs all : List (List ℕ)) (i : ℕ) (f : List ℕ) → made ++ drop i fs ≡ all → Some f ≡ field_at fs i → (made ++ f ∷ []) ++ drop (i + 1) fs ≡ all
 took made fs all i f so_far e = ap (λ n. (made ++ f ∷ []) ++ drop n fs) (add-one i) ∙ append_assoc made (f ∷ []) (drop (suc i) fs) ∙ ap (λ l. made ++ l) (sym (drop_field fs i f e)) ∙ so_far
 
--- none is left
+-- if no field remains, the fields so far are all fields
 pub ended : (made fs all : List (List ℕ)) (i : ℕ) → made ++ drop i fs ≡ all → None ≡ field_at fs i → made ≡ all
 ended made fs all i so_far e = sym (append-nil made) ∙ ap (λ l. made ++ l) (sym (drop_none fs i e)) ∙ so_far

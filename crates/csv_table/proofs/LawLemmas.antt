@@ -1,4 +1,4 @@
--- The records of rows that were written.
+-- The records that are read from written rows.
 use Rattle.std.proofs.Common.{List, ℕ, ◌≡◌, ◌∙◌, ◌∷◌, ◌++◌, [], map, ap, refl, Some, None}
 use Rattle.std.specs.List.{flat_map}
 use Rattle.csv.specs.Machine.{Read, next_record}
@@ -8,17 +8,17 @@ use Rattle.csv.specs.declared.parser.State.{State}
 use Rattle.csv.specs.declared.parser.State.TheVariants as st
 use Rattle.csv.proofs.RoundTrip.{read-write}
 
--- nothing is read of nothing
+-- no record is read from empty bytes
 none_read : (p : Read) → next_record default_config st.StartRecord [] [] [] ≡ Some p → ⊥
 unfolding next_record
 none_read p e = cc e
 
--- the first record is the first row
+-- the first record that is read is the first row
 first_read : (row : List (List ℕ)) (tail : List ℕ) (p : Read) → next_record default_config st.StartRecord [] [] (row_text default_writer row ++ tail) ≡ Some p
     → p ≡ (read_back row, st.StartRecord, tail)
 first_read row tail p e = cc (read-write row tail)
 
--- a row is left to read
+-- while a row remains, a record can be read
 row_left : (row : List (List ℕ)) (tail : List ℕ) (s : State) (ys : List ℕ) → st.StartRecord ≡ s → row_text default_writer row ++ tail ≡ ys
     → next_record default_config s [] [] ys ≡ None → ⊥
 row_left row tail s ys a b n = cc (read-write row tail, a, b, n)

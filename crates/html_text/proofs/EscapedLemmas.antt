@@ -1,9 +1,9 @@
--- What escaping leaves.
+-- Escaped texts are inert, and are read back as they were.
 use Rattle.std.proofs.Common.{◌≡◌, ℕ, ◌==◌, Bool, true, false, List, [], ◌∷◌, ◌++◌, codes, if◌then◌else◌, refl, sym, ap, ◌∙◌}
 use Rattle.std.proofs.lemmas.Bool.Decides.{Decides-eqb}
 use Rattle.html_text.specs.Escaped.{escaped, unescaped_after, is_inert}
 
--- which reference a byte has, by its tests
+-- the bytes that a byte is escaped to, by the results of the tests on it
 abbrev picked : ℕ → Bool → Bool → Bool → Bool → Bool → List ℕ
 picked b t u v w x =
     if t then codes "&amp;" else (if u then codes "&lt;" else (if v then codes "&gt;" else (if w then codes "&#34;" else (if x then codes "&#39;" else b ∷ []))))

@@ -1,4 +1,4 @@
--- Pieces after pieces: for the crates above.
+-- Pages that are made of pieces: lemmas for the crates that use this one.
 use Rattle.std.proofs.Common.{◌≡◌, ℕ, List, [], ◌∷◌, ◌++◌, map, Option, Some, None, refl, sym, ap, ◌∙◌, append_assoc, append-nil}
 use Rattle.std.specs.List.{flat_map}
 use Rattle.std.proofs.lemmas.Grind.{flat_map-append}
@@ -13,7 +13,7 @@ pub html-append : (ps qs : List Piece) → html (ps ++ qs) ≡ html ps ++ html q
 unfolding html
 html-append ps qs = flat_map-append bytes_of ps qs
 
--- a page after two calls
+-- two calls in turn append the pieces of both
 pub next : {start middle end : List ℕ} {ps qs : List Piece} → Appends start middle ps → Appends middle end qs → Appends start end (ps ++ qs)
 next {start = start} {middle = middle} {end = end} {ps = ps} {qs = qs} one two =
     record { is = two.is ∙ ap (λ m. m ++ html qs) one.is ∙ append_assoc start (html ps) (html qs) ∙ ap (λ m. start ++ m) (sym (html-append ps qs)) }
@@ -29,7 +29,7 @@ past_all-append o [] qs = refl
 past_all-append None (p ∷ ps) qs = sym (past_none qs)
 past_all-append (Some here) (p ∷ ps) qs = past_all-append (past here p) ps qs
 
--- all texts stand in their places, from between tags to between tags
+-- the pieces lead from between tags to between tags, and each text is where it may be
 pub record Closed (ps : List Piece) : Type 0 where
   pub is : past_all (Some Content) ps ≡ Some Content
 
@@ -45,7 +45,7 @@ closed-flat_map f each (x ∷ xs) = closed-append (each x) (closed-flat_map f ea
 
 -- ---- pieces without their texts
 
--- they are the same but for their texts
+-- the pieces are the same, except for their texts
 pub record Alike (ps qs : List Piece) : Type 0 where
   pub is : map blank ps ≡ map blank qs
 
@@ -62,7 +62,7 @@ alike-flat_map f shape each (x ∷ xs) = alike-append (each x) (alike-flat_map f
 
 -- ---- loops
 
--- a page that has the pieces of each item, where those of the rest are still to come
+-- the page so far, followed by the pieces of the remaining items, is the whole page
 pub record Leads {T : Type 0} (f : T → List Piece) (page : List ℕ) (rest : List T) (all : List ℕ) : Type 0 where
   pub is : page ++ html (flat_map f rest) ≡ all
 

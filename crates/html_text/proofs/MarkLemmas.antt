@@ -30,7 +30,7 @@ none_marked feeds (b ∷ rest) e =
     let each = both _ _ e in
     first_none feeds b rest (hidden_at feeds b rest) each.0 ∙ ap (λ cs. b ∷ cs) (none_marked feeds rest each.1)
 
--- what a step of the loop keeps
+-- one iteration of the loop: the page so far and the rest of the text, marked and escaped, are still the whole page
 pub pushed : (feeds : Feeds) (page new all here rest next : List ℕ) (b more : ℕ) (hidden : Option Hidden) → page ++ escaped (marked feeds here) ≡ all → here ≡ b ∷ rest
     → hidden ≡ hidden_at feeds b rest → more ≡ more_of hidden → new ≡ page ++ escaped (shown b hidden) → next ≡ drop more rest → new ++ escaped (marked feeds next) ≡ all
 pushed feeds page new all here rest next b more hidden so_far is hidden_is more_is new_is next_is =

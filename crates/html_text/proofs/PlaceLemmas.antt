@@ -16,7 +16,7 @@ tags-append : (p : Context) (xs ys : List ℕ) → tags_from p (xs ++ ys) ≡ ta
 tags-append p [] ys = refl
 tags-append p (x ∷ xs) ys = ap (λ ts. tag_byte p x ++ ts) (tags-append (step p x) xs ys) ∙ sym (append_assoc (tag_byte p x) _ _)
 
--- bytes that stay in one place, and belong to no tag
+-- the bytes do not change the context, and belong to no tag
 pub record Stays (p : Context) (xs : List ℕ) : Type 0 where
   pub place : after p xs ≡ p
   pub no_tag : tags_from p xs ≡ []
@@ -52,7 +52,7 @@ in_quotes (b ∷ bs) e =
     let rest = in_quotes bs each.1 in
     record { place = rw here.1 rest.place; no_tag = rw here.1 rest.no_tag }
 
--- a piece leads from one place to another, with its text and without, and the tags are the same
+-- the piece leads from one context to another, with its text and without it, and its tags are the same
 record Passes (here there : Context) (p : Piece) : Type 0 where
   place : after here (bytes_of p) ≡ there
   blank_place : after here (bytes_of (blank p)) ≡ there
@@ -96,7 +96,7 @@ past_none (p ∷ ps) = refl
 abbrev SameTags : Context → Context → List Piece → Type 0
 SameTags here last ps = (tags_from here (html ps) ≡ tags_from here (html (map blank ps))) × (after here (html ps) ≡ last)
 
--- a first piece, and the others
+-- if the first piece and the other pieces have the same tags without their texts, so have all of them
 joined : (here there last : Context) (p : Piece) (ps : List Piece) → Passes here there p → SameTags there last ps → SameTags here last (p ∷ ps)
 unfolding html
 joined here there last p ps first rest =

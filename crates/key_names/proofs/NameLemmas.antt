@@ -1,4 +1,4 @@
--- What a name keeps of its key.
+-- The key that is read from a name, and the bytes of a name.
 use Rattle.std.proofs.Common.{◌≡◌, ℕ, ◌+◌, ◌-◌, ◌*◌, ◌/◌, ◌%◌, ◌<◌, ◌==◌, nat_lt, Bool, true, false, List, [], ◌∷◌, ◌++◌, All, codes, length, if◌then◌else◌, refl, sym, ap, ◌∙◌, arith, append-nil, append_assoc}
 use Rattle.std.specs.List.{list_all, AllByRecursion as ByRecursion}
 use Rattle.std.proofs.lemmas.List.Elements.{recursion_from_All}
@@ -21,7 +21,7 @@ byte_read : (b : ℕ) (rest : List ℕ) → byte_of (hex_digit (b / 16) ∷ hex_
 byte_read b rest =
     ap (λ d. d * 16 + digit_value (hex_digit (b % 16))) (digit_read (b / 16)) ∙ ap (λ e. b / 16 * 16 + e) (digit_read (b % 16)) ∙ div-add-mod' b 16
 
--- a byte that stays is none of the others
+-- a plain byte differs from each byte that is not plain
 is_other : (n b : ℕ) → is_plain n ≡ false → is_plain b ≡ true → (b == n) ≡ false
 is_other n b out plain =
     elim (b == n) as (λ t. (b == n) ≡ t → t ≡ false) [

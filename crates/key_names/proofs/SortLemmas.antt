@@ -1,4 +1,4 @@
--- What is sorted, and then loses its repeats.
+-- Sorted lists, and sorted lists without duplicates.
 use Rattle.std.proofs.Common.{◌≡◌, ◌↔◌, ◌⊎◌, Bool, true, false, List, [], ◌∷◌, map, zero, suc, refl, sym, ap, ◌∙◌, subst, inl, inr, arith}
 use Rattle.std.proofs.lemmas.Bool.{true≢false}
 use Rattle.std.proofs.lemmas.Cmp.{on_total, tied_itself, eq_by_cmp_equiv}
@@ -35,7 +35,7 @@ from_map f (x ∷ xs) y c = elim (in_cons y (f x) (map f xs) c) [
   | inr d ↦ let r = from_map f xs y d in (r.0, Contains-append_right (x ∷ []) xs r.0 r.1, r.2)
 ]
 
--- of items that are compared by what f makes of them
+-- elements that are compared by their images under f
 module _ {X K : Type 0} {R : K → K → Ordering} (o : IsTotalOrder R) (same : (a b : K) → R a b ≡ Equal → a ≡ b) (f : X → K) (E : X → X → Bool) (exact : (x y : X) → (E x y ≡ true) ↔ (f x ≡ f y)) where
   tied : (x y : X) → f x ≡ f y → is_eq (R (f x) (f y)) ≡ true
   tied x y e = subst (λ k. is_eq (R (f x) k) ≡ true) e (ap is_eq (tied_itself o (f x)))
