@@ -4,11 +4,11 @@ use Rattle.byte_disk.specs.Disk.{Elapses, LeavesOnly, Torn, Follows, Only}
 use Rattle.byte_disk.specs.RecordLaws.{torn_none}
 
 module _ {D : Type 0} (moment : D → ℕ) (since : D → ℕ → List ℕ → Type 0) where
-  -- a run without calls
+  -- a run without calls leaves only what has P, if a stop now leaves only that
   pub started : (old : D) (P : List ℕ → Type 0) → ((c : List ℕ) → since old (moment old) c → P c) → LeavesOnly moment since old old P
   started old P here = record { later = omega arith; each = here; before = λ t c le left. inl left }
 
-  -- one more call, after which a stop leaves only what has P
+  -- a run with one more call leaves only what has P, if a stop after the call leaves only that
   pub goes_on : (old mid new : D) (P images : List ℕ → Type 0) → LeavesOnly moment since old mid P → Elapses (moment mid) (moment new) (since mid) (since new) images
       → ((c : List ℕ) → images c → P c) → LeavesOnly moment since old new P
   goes_on old mid new P images so_far time here = record {
@@ -25,7 +25,7 @@ module _ {D : Type 0} (moment : D → ℕ) (since : D → ℕ → List ℕ → T
     before = λ t c le left. ⊎_elim inl (λ p. inr (so c p)) (leaves.before t c le left);
   }
 
-  -- two runs, one after the other
+  -- two runs, one after the other, leave only what has P if each of them does
   pub joined : (old mid new : D) (P : List ℕ → Type 0) → LeavesOnly moment since old mid P → LeavesOnly moment since mid new P → LeavesOnly moment since old new P
   joined old mid new P first second = record {
     later = omega (arith, first.later, second.later);
@@ -33,7 +33,7 @@ module _ {D : Type 0} (moment : D → ℕ) (since : D → ℕ → List ℕ → T
     before = λ t c le left. ⊎_elim (first.before t c le) inr (second.before t c (omega (arith, le, first.later)) left);
   }
 
-  -- a write, and then a call that adds no image
+  -- a write, and a call after it that adds no image, leave only the bytes with the written range torn
   pub write_and_more : (old mid new : D) (at n : ℕ) (seen : List ℕ) (was wrote images : List ℕ → Type 0)
       → Only seen was → ((c : List ℕ) → since old (moment old) c → was c) → Follows (Torn at n) was wrote → ((c : List ℕ) → images c → wrote c)
       → Elapses (moment old) (moment mid) (since old) (since mid) wrote → Elapses (moment mid) (moment new) (since mid) (since new) images

@@ -61,7 +61,7 @@ reaches_applied base (w ∷ writes) =
     let next : List ℕ = if w.done then overlaid base w.at w.bytes.items else base in
     (next, torn_if w.done base w.at w.bytes.items, reaches_applied next writes)
 
--- at this moment there is no other
+-- if all spans ended before this moment, none of them left bytes at this moment or later
 none_later : (past : List Past) (now : ℕ) (c : List ℕ) → IsTrue (are_before past now) → WasLeft past now c → ⊥
 none_later [] now c ordered left = left
 none_later (p ∷ past) now c ordered (inl (late, left)) = omega (arith, late, ltb-true p.last.count now (and_parts (nat_lt p.last.count now) (are_before past now) ordered).0)

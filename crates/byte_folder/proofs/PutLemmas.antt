@@ -65,7 +65,7 @@ added_none fs s = record {
   );
 }
 
--- one more file is added
+-- after one more file is written, the files after it remain
 pub added_more : (fs rest : List File) (f : File) (written : ℕ) (old mid new : FolderState) → Added fs (f ∷ rest) written old mid → Publishes f.bytes mid.sink new.sink
     → IfReported (λ g h. Gains f g.beside h.beside × (h.stands ≡ g.stands) × (h.stuck ≡ g.stuck)) mid.folders new.folders → Added fs rest (written + length f.bytes) old new
 added_more fs rest f written old mid new before published told =
@@ -95,7 +95,7 @@ added_more fs rest f written old mid new before published told =
 stays_then : (fs : List File) (old mid new : Option Folders) → IfReported (IsFilled fs) old mid → IfReported (λ g h. (h.stands ≡ g.stands) × (h.stuck ≡ g.stuck)) mid new → IfReported Stays old new
 stays_then fs = told_then {Q = λ g h. (h.stands ≡ g.stands) × (h.stuck ≡ g.stuck)} (λ a b c p q. (q.0 ∙ p.1, q.1 ∙ p.2))
 
--- the next file was not made
+-- if the next file was not made, the files were not added, with this fault
 pub not_made : (fs rest : List File) (f : File) (written : ℕ) (old mid new : FolderState) → Added fs (f ∷ rest) written old mid → IsPublishFault f.bytes mid.sink new.sink out.NotOpened
     → IfReported (λ g h. (h.stands ≡ g.stands) × (h.stuck ≡ g.stuck)) mid.folders new.folders → IsAddFault fs old new put.NotOpened
 not_made fs rest f written old mid new before failed told =
@@ -114,7 +114,7 @@ not_made fs rest f written old mid new before failed told =
 cut_later : (a b : List ℕ) (rest : List File) (n : ℕ) → n < length b → take (length a + n) (a ++ (b ++ contents rest)) ≡ a ++ take n b
 cut_later a b rest n short = take-append-add a (b ++ contents rest) n ∙ ap (λ bs. a ++ bs) (take-append-le n b (contents rest) (omega arith))
 
--- the next file was written in part
+-- if n bytes of the next file were written, the fault counts these and the bytes of the files before it
 pub cut_short : (fs rest : List File) (f : File) (written n : ℕ) (old mid new : FolderState) → Added fs (f ∷ rest) written old mid
     → IsPublishFault f.bytes mid.sink new.sink (out.WriteFailed n) → IfReported (λ g h. (h.stands ≡ g.stands) × (h.stuck ≡ g.stuck)) mid.folders new.folders
     → IsAddFault fs old new (put.WriteFailed (written + n))
@@ -142,7 +142,7 @@ cut_short fs rest f written n old mid new before failed told =
     caused f s a b u v d e (inl h) = inl (h.0 ∙ ap (λ n. n + 1) d, h.1 ∙ e)
     caused f s a b u v d e (inr h) = inr (h.0 ∙ d, h.1 ∙ ap (λ n. n + 1) e)
 
--- no file remains, so all are added
+-- if no file remains, all files are added
 pub added_all : (fs rest : List File) (written : ℕ) (old new : FolderState) → Added fs rest written old new → rest ≡ [] → Adds fs old new
 added_all fs rest written old new all none =
     subst (λ l. Adds l old new) (sym (all.of ∙ ap (λ l. all.done ++ l) none ∙ append-nil all.done)) all.adds

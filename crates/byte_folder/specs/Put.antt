@@ -72,7 +72,7 @@ pub record IsKept (old new : Folders) : Type 0 where
 abbrev pub Puts : List File → FolderState → FolderState → Type 0
 Puts fs old new = (list_any is_long fs ≡ false) × WritesFiles fs old.sink new.sink × IfReported (IsInPlace fs) old.folders new.folders
 
--- a name is too long, or the number of bytes is no number of 64 bits
+-- a name is too long, or the number of bytes does not fit 64 bits
 abbrev pub IsImpossible : List File → Type 0
 IsImpossible fs = IsTrue (list_any is_long fs) ⊎ (2 ^ 64 ≤ length (contents fs))
 

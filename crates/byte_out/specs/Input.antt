@@ -6,7 +6,7 @@ use Rattle.byte_io.specs.Device.{SourceState}
 abbrev pub kept_of : Bool → SourceState → Option (List ℕ)
 kept_of keeps s = if keeps then Some s.given else None
 
--- of several sources, what the first one gave that keeps it
+-- the bytes that were given by the first of several sources that keeps its bytes
 abbrev pub first_kept : List (Option (List ℕ)) → Option (List ℕ)
 first_kept [] = None
 first_kept (None ∷ rest) = first_kept rest

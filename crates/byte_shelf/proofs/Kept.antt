@@ -37,7 +37,7 @@ sized_of s new was bytes sent frame want both is (shelf, size-is) r =
     let same_size : r.size ≡ want = one_size s r.size shelf.size r.head.size_fits shelf.head.size_fits r.head.size_stands shelf.head.size_stands ∙ size-is in
     subst (λ (n : ℕ). IsShelfOf new n bytes × EndsWithin n s new) same_size (whole s was bytes new r.gate r.size r.head shelf r.fits writes, ends_within s bytes new r.gate r.size r.fits writes)
 
--- what a stop leaves when a frame is made ready and then put
+-- a stop while a frame is made ready and put leaves an old image, or a shelf with the old bytes or with the new ones
 pub moments_then : {D : Type 0} (seen : D → List ℕ) (images : D → List ℕ → Type 0) (moment : D → ℕ) (since : D → ℕ → List ℕ → Type 0) (old mid new : D) (was bytes : List ℕ)
     → AddsNothing seen images moment since old mid → LeavesOnly moment since mid new (λ c. IsShelf c was ⊎ IsShelf c bytes)
     → LeavesOnly moment since old new (λ c. images old c ⊎ (IsShelf c was ⊎ IsShelf c bytes))

@@ -7,7 +7,7 @@ use Rattle.byte_writers.specs.Desk.{Office, IsRead, numbers, Desk, DeskEvent, At
 use Rattle.byte_writers.proofs.Kept.{Gave, Holds, at_each, same_content, happens_keeps, start_holds}
 use Rattle.byte_writers.proofs.Numbers.{many, many_add, numbers_add}
 
--- what the commands have noted stays noted when one command comes to a stage that keeps what it has noted
+-- if a command comes to a stage that keeps what it has noted, all commands keep what they have noted
 noted_at : (w : World) (k : ℕ) (t : Stage) → ((x : Content) → has_noted (w.stage k) x ≡ true → has_noted t x ≡ true)
     → (j : ℕ) (x : Content) → has_noted (w.stage j) x ≡ true → has_noted (at_stage w.stage k t j) x ≡ true
 noted_at w k t on = at_each (λ j s. (x : Content) → has_noted (w.stage j) x ≡ true → has_noted s x ≡ true) w.stage k t on (λ j ne x h. h)

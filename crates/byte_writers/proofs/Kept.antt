@@ -74,7 +74,8 @@ new_one c w k s h given m i gk gm =
       | inr unseen ↦ (let seen = gave_is_seen c m w.stands w.beside (w.stage m) i (h.each m) gm in absurd (unseen seen))
     ]
 
--- a command comes to a stage, and OUT and OUT.new change: the invariant holds if they fit all stages
+-- the invariant holds after a command comes to a stage, if the files fit all stages, and each id that the command gives there
+-- was given by it before, or is unseen
 pub moved : {I : Type 0} (c : Many I) (w : World) (k : ℕ) (s : Stage) (out : Content) (new : Option NewFile) → Holds c w
     → ((j : ℕ) → j ≢ k → Fits c j w.stands w.beside (w.stage j) → Fits c j out new (w.stage j))
     → Fits c k out new s
@@ -133,13 +134,13 @@ same_content None (Some b) h = cc
 same_content (Some a) None h = cc
 same_content (Some a) (Some b) h = ap Some ((bytes_decides a b).0 h)
 
--- a command comes to a stage, and no file changes
+-- the same, if no file changes
 pub still : {I : Type 0} (c : Many I) (w : World) (k : ℕ) (s : Stage) → Holds c w → Fits c k w.stands w.beside s
     → ((i : I) → Gave c k s i → (Gave c k (w.stage k) i) ⊎ ((c.Seen w.stands i → ⊥)))
     → Holds c (comes_to w k s)
 still c w k s h here given = moved c w k s w.stands w.beside h (λ j ne f. f) here given
 
--- a command comes to a stage, and the file that it made changes
+-- the same, if only the file that the command made changes
 pub on_own : {I : Type 0} (c : Many I) (w : World) (k : ℕ) (s : Stage) (new : Option NewFile) → Holds c w → Makes k w.beside
     → Fits c k w.stands new s → ((i : I) → Gave c k s i → (Gave c k (w.stage k) i) ⊎ ((c.Seen w.stands i → ⊥)))
     → Holds c (record { stands = w.stands; beside = new; stage = at_stage w.stage k s })
@@ -209,7 +210,7 @@ locks_keeps c w k (Replaced x) at h = h
 locks_keeps c w k (HasPrinted x) at h = h
 locks_keeps c w k Ended at h = h
 
--- the file that a command made changes, and the command stays at its stage
+-- the invariant holds after the file that a command made changes, if the new file fits the stage of the command
 fills_own : {I : Type 0} (c : Many I) (w : World) (k : ℕ) (new : Option NewFile) → Holds c w → Makes k w.beside → Fits c k w.stands new (w.stage k)
     → Holds c (record { stands = w.stands; beside = new; stage = w.stage })
 fills_own c w k new h m here = record {

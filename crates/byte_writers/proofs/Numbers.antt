@@ -17,7 +17,7 @@ many_add c add = record {
   seen_then = add.seen_then;
 }
 
--- an id that a command gave by the test, it gave by the relation
+-- if the test says that a command gave an id, the relation does
 pub gave_many : {I : Type 0} (c : Commands I) (k : ℕ) (s : Stage) (i : I) → gave c k s i ≡ true → Gave (many c) k s i
 gave_many c k Begins i g = cc
 gave_many c k (HasRead x) i g = cc

@@ -74,7 +74,7 @@ whole_once c (negsuc k) m n h g =
     let same : m * p ≡ n * p = omega (arith, ints, sym h ∙ g) in
     sym (mul-div_cancel m (power_pos (suc k))) ∙ (ap (λ x. x / p) same ∙ mul-div_cancel n (power_pos (suc k)))
 
--- a text spells one whole number at most
+-- two whole numbers that a text spells are equal
 pub count_once : (text : List ℕ) (m n : ℕ) → SpellsWhole text m → SpellsWhole text n → m ≡ n
 count_once text m n s t =
     let same = spells_once text s.coefficient t.coefficient s.exponent t.exponent s.spells t.spells in

@@ -9,6 +9,6 @@ longer old new text e = omega (arith, old.ok.0, new.ok.0, ap length e, length-ap
 pub no_room : (cap len part rest whole : ℕ) → whole ≡ part + rest → cap < len + part → cap < len + whole
 no_room cap len part rest whole e h = omega arith
 
--- if the second part does not fit after the first, the whole did not fit before it
+-- if the second part does not fit after the first, the whole did not fit
 pub no_room_behind : (cap cap' len len' first second whole : ℕ) → whole ≡ first + second → cap ≤ cap' → len' ≡ len + first → cap' < len' + second → cap < len + whole
 no_room_behind cap cap' len len' first second whole e grows moved h = omega arith

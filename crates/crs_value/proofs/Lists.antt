@@ -3,7 +3,7 @@ use Rattle.std.proofs.Common.{◌≡◌, ℕ, ◌+◌, ◌<◌, Bool, ◌&&◌, 
 use Rattle.std.specs.List.{list_all, flat_map, enumerate_from}
 use Rattle.std.proofs.lemmas.List.Folds.{list_all-append}
 
--- the items from i on, numbered from n, pass if the item at i with the number n passes, and so do those after it
+-- the items from i on, numbered from n, pass exactly if the item at i with the number n does, and those after it do
 pub list_all-numbered : {X : Type 0} (test : ℕ × X → Bool) (xs : List X) (i n : ℕ) (d : X) → i < length xs → list_all test (enumerate_from n (drop i xs)) ≡ (test (n, get_or xs i d) && list_all test (enumerate_from (n + 1) (drop (i + 1) xs)))
 list_all-numbered test xs i n d h = rw (drop-cons xs i d, add-one i) refl
 

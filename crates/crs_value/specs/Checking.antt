@@ -35,13 +35,13 @@ holds crs C6 = true
 holds crs C7 = has_sizes crs
 holds crs C8 = has_meridians (axes_of crs)
 
--- whether it holds of what is a compound's own: its components, and the units of its usages
+-- whether it holds of a compound itself: of which components it has, and of the units of its usages
 abbrev pub holds_of_compound : Compound → Condition → Bool
 holds_of_compound crs C6 = may_be_first crs.first && may_be_second crs.second
 holds_of_compound crs C7 = has_own_sizes crs
 holds_of_compound crs _ = true
 
--- the condition holds for what it is about; without components, every condition holds for them
+-- the condition holds for the system that it is about; without components, every condition holds for them
 abbrev pub holds_in : CrsParts → Whose → Condition → Bool
 holds_in (parts.Single crs) Whole condition = holds crs condition
 holds_in (parts.Single crs) _ condition = true

@@ -36,19 +36,19 @@ abbrev pub may_be_geographic : SystemKind → ℕ → Bool
 may_be_geographic kind.Ellipsoidal n = is_two_or_three n
 may_be_geographic system n = false
 
--- a geodetic one ellipsoidal of 2 or 3, Cartesian of 3, or spherical of 2 or 3
+-- a geodetic system is ellipsoidal of 2 or 3, Cartesian of 3, or spherical of 2 or 3
 abbrev pub may_be_geodetic : SystemKind → ℕ → Bool
 may_be_geodetic kind.Ellipsoidal n = is_two_or_three n
 may_be_geodetic kind.Cartesian n = n == 3
 may_be_geodetic kind.Spherical n = is_two_or_three n
 may_be_geodetic system n = false
 
--- a projected one Cartesian of 2 or 3
+-- a projected system is Cartesian of 2 or 3
 abbrev pub may_be_projected : SystemKind → ℕ → Bool
 may_be_projected kind.Cartesian n = is_two_or_three n
 may_be_projected system n = false
 
--- a vertical one vertical of 1
+-- a vertical system is vertical of 1
 abbrev pub may_be_vertical : SystemKind → ℕ → Bool
 may_be_vertical kind.Vertical n = n == 1
 may_be_vertical system n = false
@@ -152,7 +152,7 @@ has_positive_factor unit = is_positive unit.factor.coefficient
 abbrev pub has_sizes : Single → Bool
 has_sizes single = ellipsoid_has_size single && list_all has_positive_factor (units_of single)
 
--- C7, of what is a compound's own: every conversion factor is above 0
+-- C7, for a compound itself, without its components: every conversion factor is above 0
 abbrev pub has_own_sizes : Compound → Bool
 has_own_sizes compound = list_all has_positive_factor (own_units compound)
 

@@ -89,6 +89,6 @@ units_of (Vertical crs) =
     ++ option_map_or any_units crs.unit []
     ++ flat_map usage_units crs.usages
 
--- the units of what is a compound's own, and not of a component
+-- the units of a compound itself, without those of its components
 abbrev pub own_units : Compound → List UnitDefinition
 own_units compound = flat_map usage_units compound.usages

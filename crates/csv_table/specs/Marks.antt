@@ -22,6 +22,6 @@ mark c = (226 ∷ 159 ∷ 168 ∷ 85 ∷ 43 ∷ []) ++ digits c ++ (226 ∷ 159 
 abbrev pub shown : ℕ → List ℕ
 shown c = if is_marked c then mark c else encode_utf8 c
 
--- the characters of a text, with marks in the place of those; bytes that are no UTF-8 are U+FFFD
+-- the characters of a text, with marks in place of those; bytes that are not UTF-8 are U+FFFD
 abbrev pub marked : List ℕ → List ℕ
 marked text = flat_map shown (chars (utf8_lossy text))

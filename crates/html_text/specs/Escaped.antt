@@ -26,7 +26,7 @@ pub record Reference : Type 0 where
   pub byte : ℕ
   pub more : ℕ
 
--- the reference that stands after an `&`
+-- the reference of an `&` that is before these bytes
 abbrev pub reference : List ℕ → Option Reference
 reference rest =
     if begins_with (codes "amp;") rest then Some (record { byte = 38; more = 4 }) else (

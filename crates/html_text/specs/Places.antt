@@ -8,13 +8,13 @@ pub data Context : Type 0 where
   Tag : Context
   Quoted : Context
 
--- where the next byte stands
+-- the context after a byte
 abbrev pub step : Context → ℕ → Context
 step Content b = if b == 60 then Tag else Content
 step Tag b = if b == 62 then Content else (if b == 34 then Quoted else Tag)
 step Quoted b = if b == 34 then Tag else Quoted
 
--- where what follows these bytes stands
+-- the context after some bytes
 abbrev pub after : Context → List ℕ → Context
 after p [] = p
 after p (b ∷ bs) = after (step p b) bs
@@ -32,7 +32,7 @@ tags_from p (b ∷ bs) = tag_byte p b ++ tags_from (step p b) bs
 abbrev pub tags : List ℕ → List ℕ
 tags page = tags_from Content page
 
--- where what follows a piece stands, if the piece may stand here: texts stand between tags, or between quotation marks
+-- the context after a piece, if the piece may be here: texts may be between tags, or between quotation marks
 abbrev pub past : Context → Piece → Option Context
 past p (Markup constant) = Some (after p constant)
 past Content (Text text) = Some Content
@@ -45,7 +45,7 @@ past Content (Attribute text) = None
 past Tag (Attribute text) = None
 past Quoted (Attribute text) = Some Quoted
 
--- the same of pieces
+-- the same for a list of pieces
 abbrev pub past_all : Option Context → List Piece → Option Context
 past_all here [] = here
 past_all None (p ∷ ps) = None

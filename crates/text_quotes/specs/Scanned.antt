@@ -17,7 +17,7 @@ pub record Read : Type 0 where
   pub byte : ℕ
   pub more : ℕ
 
--- what is read, where the next bytes may belong to what was read before
+-- the bytes that are read, if the first `more` bytes belong to a byte that was read before
 module _ (read : ℕ → List ℕ → Read) where
   abbrev pub read_after : ℕ → List ℕ → List ℕ
   read_after more [] = []

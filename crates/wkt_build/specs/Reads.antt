@@ -29,27 +29,27 @@ abbrev pub Come : List Bare → List Tok → List Tok → Type 0
 Come [] toks rest = toks ≡ rest
 Come (x ∷ xs) toks rest = (first : Tok) × (behind : List Tok) × (mid : List Tok) × (toks ≡ first ∷ behind) × Next x behind mid × Behind xs mid rest
 
--- a comma comes, and then an argument that a slot of this kind takes
+-- a comma is next, and then an argument that a slot of this kind takes
 abbrev pub comes : Takes → List Tok → Bool
 comes kind toks = next_is is_comma toks && takes kind (coming (drop 1 toks))
 
--- Where an argument comes that fits, what is built is what it denotes, and what follows it is left.
+-- If an argument that fits is next, it denotes what is built, and the tokens after it remain.
 abbrev pub Builds : {A E : Type 0} → Takes → (Bare → A → Type 0) → List Tok → List Tok → Result A E → Type 0
 Builds kind D old new result = (x : Bare) (rest : List Tok) → Fitting kind x → Next x old rest → IfOk result (λ v. D x v × (new ≡ rest))
 
--- the same of a node with any keyword, by its row
+-- the same for a node with any keyword, by its row
 abbrev pub BuildsNode : {A E : Type 0} → Node → (A → Fields) → List Tok → List Tok → Result A E → Type 0
 BuildsNode row F old new result = (x : Bare) (keyword : List ℕ) (items : Bares) (means : Keyword) (rest : List Tok)
     → x ≡ node keyword items → keyword_of keyword ≡ Some means → Fitted row items → Next x old rest → IfOk result (λ v. IsNode means row (F v) x × (new ≡ rest))
 
--- the same after a token
+-- the same after one token
 abbrev pub BuildsOne : {A E : Type 0} → Takes → (Bare → A → Type 0) → List Tok → List Tok → Result A E → Type 0
 BuildsOne kind D old new result = (x : Bare) (first : Tok) (behind rest : List Tok) → Fitting kind x → old ≡ first ∷ behind → Next x behind rest → IfOk result (λ v. D x v × (new ≡ rest))
 
--- an argument of this kind comes, or none does
+-- the same, for a slot that may be empty: the result is `Some`
 abbrev pub BuildsSome : {A E : Type 0} → Takes → (Bare → A → Type 0) → List Tok → List Tok → Result (Option A) E → Type 0
 BuildsSome kind D old new result = (x : Bare) (first : Tok) (behind rest : List Tok) → Fitting kind x → old ≡ first ∷ behind → Next x behind rest → IfOk result (λ o. (v : _) × (o ≡ Some v) × D x v × (new ≡ rest))
 
--- arguments of this kind come, and after them none
+-- if all next arguments of this kind fit, each after a comma, they denote what is built, and the tokens after them remain
 abbrev pub BuildsEach : {A E : Type 0} → Takes → (Bare → A → Type 0) → List Tok → List Tok → Result (List A) E → Type 0
 BuildsEach kind D old new result = (run : List Bare) (end : List Tok) → AllFitting kind run → Behind run old end → Follows end → comes kind end ≡ false → IfOk result (λ vs. Each D vs run × (new ≡ end))

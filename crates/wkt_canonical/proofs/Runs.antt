@@ -31,7 +31,7 @@ also {text} {mid} {rest} run runs e g = record {
       ∙ ap (λ l. l ++ 93 ∷ rest) (sym (behind_append run (joined runs)))));
 }
 
--- a further argument that is a node, from its opening delimiter on
+-- the opening of a node, its first argument, its other runs and its closing delimiter are a further argument
 pub whole : {text mid rest : List ℕ} (keyword : Keyword) (x : Bare) (runs : List (List Bare)) → text ≡ render x ++ mid → Goes runs mid rest → opening keyword ++ text ≡ behind (one (branch keyword (one x ∷ runs))) ++ rest
 unfolding behind
 whole {text} {mid} {rest} keyword x runs e g =
@@ -40,7 +40,7 @@ whole {text} {mid} {rest} keyword x runs e g =
     let regroup : (44 ∷ (k ++ 91 ∷ [])) ++ (render x ++ (b ++ 93 ∷ rest)) ≡ (44 ∷ ((k ++ (91 ∷ ((render x ++ b) ++ 93 ∷ []))) ++ [])) ++ rest = simp (append_assoc, append-nil) in
     ap (λ l. (44 ∷ (k ++ 91 ∷ [])) ++ l) (e ∙ ap (λ l. render x ++ l) g.is) ∙ regroup
 
--- the root, which has no comma before it, from its opening delimiter on
+-- the same for the root, which has no comma before it
 pub root : {text mid rest : List ℕ} (keyword : Keyword) (x : Bare) (runs : List (List Bare)) → text ≡ render x ++ mid → Goes runs mid rest → beginning keyword ++ text ≡ render (branch keyword (one x ∷ runs)) ++ rest
 unfolding behind
 root {text} {mid} {rest} keyword x runs e g =
@@ -75,7 +75,7 @@ behind_comma test tree e r = record { value = r.value; passes = r.passes; is = b
 pub came : {A : Type 0} (test : A → Bool) (tree : A → Bare) {keyword own : Keyword} {text inside rest : List ℕ} → text ≡ opening keyword ++ inside → keyword ≡ own → ReadsInside test tree own inside rest → ReadsOne test tree text rest
 came test tree {inside = inside} e o r = record { value = r.value; passes = r.passes; is = e ∙ (ap (λ k. opening k ++ inside) o ∙ r.is) }
 
--- an optional node that is there
+-- a node that is there is also an optional node
 pub maybe_came : {A : Type 0} (test : A → Bool) (tree : A → Bare) {text rest : List ℕ} → ReadsOne test tree text rest → ReadsMaybe test tree text rest
 maybe_came test tree r = record { value = Some r.value; passes = r.passes; is = r.is }
 
@@ -126,7 +126,7 @@ first_and_others test tree {text} {mid} {rest} first others =
 tail_of : (a : ℕ) (xs ys : List ℕ) → a ∷ xs ≡ a ∷ ys → xs ≡ ys
 tail_of a xs ys e = cc
 
--- a node that is a first argument
+-- a node with this keyword, without a comma before it, is a first argument
 pub first_within : {A : Type 0} (test : A → Bool) (tree : Keyword → A → Bare) (keyword : Keyword) {text inside rest : List ℕ} → text ≡ beginning keyword ++ inside → ReadsWithin test tree inside rest → ReadsFirst test (tree keyword) text rest
 unfolding behind
 first_within test tree keyword {text} {inside} {rest} e r =

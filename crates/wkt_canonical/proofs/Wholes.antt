@@ -152,7 +152,7 @@ vertical system dimension component same name datum s may axes models end first 
 pub at_front : {component : Component} {text rest : List ℕ} (front inside : List ℕ) → text ≡ front ++ inside → ReadsSingle component (front ++ inside) rest → ReadsSingle component text rest
 at_front {component} {rest = rest} front inside e r = subst (λ t. ReadsSingle component t rest) (sym e) r
 
--- ---- the whole
+-- ---- the whole reference system
 
 single_conditions : (s : Single) → Holds s → HasConditions (parts.Single s)
 single_conditions s h First condition = refl

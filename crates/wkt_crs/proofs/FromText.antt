@@ -72,7 +72,7 @@ condensed_fault text bytes fault.CanonicalTooLong r h = absurd h
 condensed_fault text bytes fault.NotCanonical r h = absurd h
 condensed_fault text bytes fault.Memory r h = tt
 
--- the condensed bytes may be read as two slices, a and b
+-- a text whose condensed bytes are canonical spells their value; the bytes are read as two slices, a and b
 pub condensed_canon : (text bytes a b : List ℕ) (seen : Seen) → a ≡ bytes → b ≡ bytes → IsReadAs text bytes → (length a ≤ 65536) × IsCanonicalOf seen a → SpellsCanon text b
 condensed_canon text bytes a b seen e g r s =
     canon_as text b b (subst (IsReadAs text) (sym g) r) (own (subst (λ l. (length l ≤ 65536) × IsCanonicalOf seen l) (e ∙ sym g) s))

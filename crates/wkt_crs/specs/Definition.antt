@@ -66,7 +66,7 @@ IsCanonicalFault bytes fault.NoIdentifier = (length bytes ≤ 65536) × ((crs : 
 IsCanonicalFault bytes fault.NotCanonical = (length bytes ≤ 65536) × ((crs : Crs) × Spells bytes crs × ¬ (HasNone crs) × ¬ (bytes ≡ canon crs))
 IsCanonicalFault bytes fault.Memory = Unit {0}
 
--- why a text gives no definition: what it spells has none, or it spells nothing
+-- why a text gives no definition: the value that it spells has none, or it spells no value
 abbrev pub IsTextFault : List ℕ → DefinitionFault → Type 0
 IsTextFault text (fault.Read f) = FirstFault text (as_read f)
 IsTextFault text fault.NoIdentifier = (crs : Crs) × Spells text crs × HasNone crs

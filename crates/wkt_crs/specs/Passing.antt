@@ -17,20 +17,20 @@ is_word Comma = false
 is_word (Open d) = false
 is_word (Close d) = false
 
--- from an item on: the rest is what followed it
+-- if an item is next, the tokens after it remain
 abbrev pub PassesItem : List Tok → List Tok → Type 0
 PassesItem old new = (i : Item) (rest : List Tok) → old ≡ tokens i ++ rest → Follows rest → new ≡ rest
 
--- from the items of a node on: after its closing delimiter
+-- if the items of a node are next, the tokens after its closing delimiter remain
 abbrev pub PassesItems : List Tok → List Tok → Type 0
 PassesItems old new = (items : Items) (d : Delimiter) (c : Piece) (rest : List Tok) → old ≡ all_tokens items ++ tok (Close d) c ∷ rest → new ≡ rest
 
--- from a node with two arguments or more on: before the second
+-- if a node with two arguments or more is next, the tokens from its second argument on remain
 abbrev pub PassesFirst : List Tok → List Tok → Type 0
 PassesFirst old new = (k : Piece) (d : Delimiter) (o : Piece) (i : Item) (comma : Piece) (items : Items) (c : Piece)
     → old ≡ tokens (node k d o (more i comma items) c) → new ≡ all_tokens items ++ tok (Close d) c ∷ []
 
--- where the keyword begins of a node with three arguments or more, or of its second or third
+-- the place of the keyword of the next node; or that of its second or third argument, if it has three arguments or more
 abbrev pub TellsPlace : List Tok → Whose → ℕ → Type 0
 TellsPlace toks Whole at = at ≡ place_next toks
 TellsPlace toks First at = (k : Piece) (d : Delimiter) (o : Piece) (i : Item) (a : Piece) (j : Item) (b : Piece) (items : Items) (c : Piece)

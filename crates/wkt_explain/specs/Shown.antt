@@ -20,7 +20,7 @@ is_within code first last = nat_le first code && nat_le code last
 abbrev pub is_hidden : ℕ → Bool
 is_hidden code = is_within code 128 159 || is_within code 8203 8207 || is_within code 8232 8238 || is_within code 8294 8297
 
--- a character of several bytes is shown as it stands, and as a question mark where it would hide or move others
+-- a character of several bytes is shown as it is, or as a question mark if it would hide or move others
 abbrev pub shown_char : List ℕ → List ℕ
 shown_char [] = []
 shown_char (b ∷ []) = shown_byte b ∷ []

@@ -69,7 +69,7 @@ mutual
       let s = walked (next left filled (shape (bare i))) (λ l. walk l true (map shape (args (all_bare rest)))) w.0 w.1 in
       taken_none (refusal left filled (argument i) (begin i)) (item_fault ed n i) (λ l. items_fault ed n l true rest end) (next left filled (argument i)) s.0 (ap (next left filled) (sym (shape-bare i)) ∙ s.1) (item_none ed i n a.0) (items_none ed rest n s.0 true end (w.0, s.2, w.2) a.1)
 
--- ---- the whole
+-- ---- the whole tree
 
 pub fitted_clean : (ed : Edition) (bytes : List ℕ) (k : Piece) (d : Delimiter) (o : Piece) (items : Items) (c : Piece) → Cut 0 bytes (tokens (tree.node k d o items c)) → Fitted ed nodes.Root (and (bare (tree.node k d o items c)) none)
     → (f : SlotFault) → HasFault ed (whole (tree.node k d o items c) (suc c.place)) f → ⊥

@@ -39,7 +39,7 @@ shape-bare (tree.node k d o items c) = refl
 abbrev Stands : Type 0
 Stands = List Slot × Bool
 
--- ---- no fault, by recursion
+-- ---- trees without a fault, by recursion
 
 none_taken : (r : SlotFault) (inner : Option SlotFault) (go : List Slot → Option SlotFault) (o : Option (List Slot)) → taken r inner go o ≡ None → (l : List Slot) × (o ≡ Some l) × (inner ≡ None) × (go l ≡ None)
 none_taken r inner go None e = absurd cc
@@ -82,7 +82,7 @@ mutual
         (item_none ed i n t.2, r.1),
       )
 
--- a tree without a slot fault fits the row of the root
+-- a tree without a slot fault fits its rows, from the row of the root on
 pub clean_fitted : (ed : Edition) (ts : List Tok) → IsClean ed ts → (k : Piece) (d : Delimiter) (o : Piece) (items : Items) (c : Piece) → ts ≡ tokens (tree.node k d o items c) → Fitted ed nodes.Root (and (bare (tree.node k d o items c)) none)
 clean_fitted ed ts clean k d o items c e =
     let t = tree.node k d o items c in

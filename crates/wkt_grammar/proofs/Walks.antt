@@ -379,7 +379,7 @@ missing_unfit ed node at n0 args h m f =
     let n : missing at.0 at.1 ≡ None = subst (λ (x : Stands). missing x.0 x.1 ≡ None) same g.2 in
     cc
 
--- the two results of a step, by the definition of `next`
+-- the result of a step is that of `next`, as a position in the row
 abbrev Answered : Edition → Node → RowPosition → Argument → Option RowPosition → Type 0
 Answered ed node place a r = MatchOption r (next (drop place.slot (row_of ed node)) place.filled a ≡ None) (λ p. (next (drop place.slot (row_of ed node)) place.filled a ≡ Some (drop p.slot (row_of ed node))) × (p.slot ≤ length (row_of ed node)) × (p.filled ≡ true))
 

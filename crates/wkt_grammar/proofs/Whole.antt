@@ -22,7 +22,7 @@ use Rattle.wkt_grammar.proofs.Steps.{start, taken_ok, taken_err}
 use Rattle.wkt_grammar.proofs.Found.{Rising, items_sound, items_found}
 use Rattle.wkt_grammar.proofs.Reach.{items_has, fault_in}
 
--- ---- the places of tokens rise
+-- ---- the places of tokens ascend
 
 first_rises : (place : ℕ) (bytes : List ℕ) (t : Tok) (rest : List ℕ) → First place bytes t rest → place ≤ t.piece.place
 first_rises place bytes t rest f = let e = f.blank.moved in omega (arith, e)

@@ -62,7 +62,7 @@ module _ (e : Edition) where
     item_fault n (word p) = None
     item_fault n (node k d o items c) = option_and_then (λ m. items_fault m (row_of e m) false items c.place) (row_by n (keyword_of k.bytes))
 
-    -- in the arguments that come, up to the closing delimiter
+    -- in the remaining arguments, up to the closing delimiter
     pub items_fault : Node → List Slot → Bool → Items → ℕ → Option SlotFault
     items_fault n left filled (last i) end = taken (refusal left filled (argument i) (begin i)) (item_fault n i) (λ l. missing_fault l end) (next left filled (argument i))
     items_fault n left filled (more i c rest) end = taken (refusal left filled (argument i) (begin i)) (item_fault n i) (λ l. items_fault n l true rest end) (next left filled (argument i))

@@ -74,7 +74,7 @@ body n args c = record { row = n; args = args; closing = c }
 abbrev pub IsRowOf : Edition → Node → Piece → Node → Type 0
 IsRowOf e outer keyword n = (k : Keyword) × (keyword_of keyword.bytes ≡ Some k) × (row_in (row_of e outer) k ≡ Some n)
 
--- From a node are reached the node itself, and what is reached from an argument that is a node and admitted.
+-- A node reaches itself, and all that an admitted argument that is a node reaches.
 pub data Reaches (e : Edition) : Body → Body → Type 0 where
   itself : (b : Body) → Reaches e b b
   inside : (b m : Body) (before : List Item) (k : Piece) (d : Delimiter) (o : Piece) (items : Items) (c : Piece) (after : List Item) (n : Node)
@@ -86,7 +86,7 @@ pub data Reaches (e : Edition) : Body → Body → Type 0 where
 
 -- ---- the faults
 
--- after these arguments a count can come, and nothing else; a listed word can, and nothing else
+-- after these arguments a count is admitted, and nothing else; or a listed word is, and nothing else
 abbrev pub OnlyCount : List Slot → List Argument → Type 0
 OnlyCount row before = Admitted row (before ++ arguments.Count ∷ []) × ((a : Argument) → Admitted row (before ++ a ∷ []) → a ≡ arguments.Count)
 
@@ -95,7 +95,7 @@ OnlyWord row before =
     (Admitted row (before ++ arguments.CsKind ∷ []) ⊎ Admitted row (before ++ arguments.Direction ∷ []))
     × ((a : Argument) → Admitted row (before ++ a ∷ []) → (a ≡ arguments.CsKind) ⊎ (a ≡ arguments.Direction))
 
--- which fault a refused argument is, after the arguments before it
+-- the fault of a refused argument, after the arguments before it
 abbrev pub IsRefusal : List Slot → List Argument → Item → SlotFault → Type 0
 IsRefusal row before (number p) f = ((f ≡ NotCount p.place) × OnlyCount row before) ⊎ ((f ≡ NotHere p.place) × (OnlyCount row before → ⊥))
 IsRefusal row before (word p) f = ((f ≡ WordUnknown p.place) × OnlyWord row before) ⊎ ((f ≡ NotHere p.place) × (OnlyWord row before → ⊥))

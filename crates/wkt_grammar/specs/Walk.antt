@@ -45,7 +45,7 @@ may_begin (s ∷ row) a = takes s.takes a || (not (is_required s.often) && may_b
 abbrev pub all_arguments : List Argument
 all_arguments = arguments.Text ∷ arguments.Number ∷ arguments.Count ∷ arguments.CsKind ∷ arguments.Direction ∷ arguments.OtherWord ∷ arguments.OtherNode ∷ map (λ k. arguments.Node k) all_keywords
 
--- if a slot can be left while it still takes arguments, the rest does not begin with what it takes
+-- if a slot may be left while it may still take arguments, the rest of the row does not begin with an argument that it takes
 abbrev pub is_clear : List Slot → Bool
 is_clear [] = true
 is_clear (s ∷ row) = list_all (λ a. not (not (is_required s.often && not (is_many s.often)) && (takes s.takes a && may_begin row a))) all_arguments && is_clear row

@@ -9,7 +9,7 @@ counted count b =
     if is_opening b then Some (count + 1)
     else (if is_closing b then (if nat_le count 1 then None else Some (count - 1)) else Some count)
 
--- one byte, and those after it if the text goes on
+-- one byte, and those after it if the text continues
 abbrev pub one_and : (ℕ → ℕ) → Option ℕ → ℕ
 one_and others None = 1
 one_and others (Some count) = suc (others count)

@@ -186,7 +186,7 @@ module _ (place : ℕ) (bytes : List ℕ) where
 
 -- ---- where a scan stops
 
--- the machine refuses the token after the tokens us, with this fault
+-- the fault of a token t that is refused after the tokens us
 abbrev Verdict : List Tok → Tok → TextFault → Type 0
 Verdict us t fault =
     ((fault ≡ After t.piece.place) × IsTree 16 us)

@@ -165,7 +165,7 @@ pub record Stands (text out : List ℕ) (from at : ℕ) (shut : Bool) : Type 0 w
   pub within : at ≤ length text
   pub leads : Leads delimiter text (out ++ between text from at) (before shut) (drop at text)
 
--- the text up to the end of the piece condenses to the bytes out and first
+-- the text up to the end of the piece condenses to `out` and `first`
 record OnPiece (text out : List ℕ) (at : ℕ) (shut : Bool) (piece : Piece) (first : List ℕ) : Type 0 where
   pub within : at + piece.len ≤ length text
   pub leads : Leads delimiter text (out ++ first) (before piece.shut) (drop (at + piece.len) text)

@@ -96,7 +96,7 @@ begins_from [] (d ∷ whole) point power fraction n s w p h = record { first = d
 begins_from [] [] (c ∷ r) power fraction n s w p h = record { first = c; others = r ++ power; parts = refl; begun = rw p.0 begun_point }
 begins_from [] [] [] power fraction n s w p h = absurd (omega (arith, ap length p))
 
--- ---- what a text spells is a decimal
+-- ---- the decimal that a text spells
 
 pub zero_only : (z x c e : ℤ) → IsNormalForm z x c e → unsigned_abs c % 10 ≡ 0 → (c ≡ pos 0) × (e ≡ pos 0)
 zero_only z x c e n t = ⊎_elim (λ h. (h.1, h.2)) (λ h. absurd (h.0 t)) n

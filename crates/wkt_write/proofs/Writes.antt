@@ -21,7 +21,7 @@ pub done : {layout : layouts.Layout} {mid new : List ℕ} → new ≡ mid ++ 93 
 unfolding laid_behind
 done e = record { is = e }
 
--- a run of arguments, and then the rest
+-- the text of a run, followed by the rest, is the rest from that run on
 pub also : {layout : layouts.Layout} {old mid new : List ℕ} (run others : List Bare) → mid ≡ old ++ behind layout run → Rest layout (bares others) mid new → Rest layout (bares (run ++ others)) old new
 unfolding behind
 also {layout} {old} {mid} {new} run others e r =
@@ -30,7 +30,7 @@ also {layout} {old} {mid} {new} run others e r =
     let regroup : (old ++ b) ++ (o ++ 93 ∷ []) ≡ old ++ ((b ++ o) ++ 93 ∷ []) = simp append_assoc in
     record { is = r.is ∙ (ap (λ l. l ++ (o ++ 93 ∷ [])) e ∙ (regroup ∙ ap (λ l. old ++ (l ++ 93 ∷ [])) (sym (behind_append layout run others)))) }
 
--- one argument, and then the rest
+-- the text of one argument, followed by the rest, is the rest from that argument on
 pub also_one : {layout : layouts.Layout} {old mid new : List ℕ} {x : Bare} {xs : Bares} → mid ≡ old ++ behind layout (one x) → Rest layout xs mid new → Rest layout (and x xs) old new
 unfolding behind laid_behind
 also_one {layout} {old} {mid} {new} {x} {xs} e r =
@@ -38,11 +38,11 @@ also_one {layout} {old} {mid} {new} {x} {xs} e r =
     let regroup : (old ++ (44 ∷ (laid layout x ++ []))) ++ (o ++ 93 ∷ []) ≡ old ++ ((44 ∷ (laid layout x ++ o)) ++ 93 ∷ []) = simp (append_assoc, append-nil) in
     record { is = r.is ∙ (ap (λ l. l ++ (o ++ 93 ∷ [])) e ∙ regroup) }
 
--- a run of at least one argument, and then the rest
+-- the same for a run that has a first argument
 pub also_some : {layout : layouts.Layout} {old mid new : List ℕ} {x : Bare} (run others : List Bare) → mid ≡ old ++ behind layout (x ∷ run) → Rest layout (bares others) mid new → Rest layout (and x (bares (run ++ others))) old new
 also_some {x = x} run others e r = also (x ∷ run) others e r
 
--- the last run of arguments, and then the closing bracket
+-- the text of the last run, followed by the closing bracket, is the rest from that run on
 pub also_last : {layout : layouts.Layout} {old mid new : List ℕ} (run : List Bare) → mid ≡ old ++ behind layout run → new ≡ mid ++ 93 ∷ [] → Rest layout (bares (run ++ [])) old new
 also_last run e f = also run [] e (done f)
 
