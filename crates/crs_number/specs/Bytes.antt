@@ -7,7 +7,7 @@ use Rattle.std.specs.List.{AllPass}
 abbrev pub begins_numeral : ℕ → Bool
 begins_numeral b = is_ascii_digit b || b == 43 || b == 45 || b == 46
 
--- the same, `E` or `e`
+-- one of these, `E` or `e`
 abbrev pub is_numeral_byte : ℕ → Bool
 is_numeral_byte b = begins_numeral b || b == 69 || b == 101
 

@@ -17,7 +17,7 @@ is_sign_byte c = c == 43 || c == 45
 abbrev pub is_period : ℕ → Bool
 is_period c = c == 46
 
--- after no text no byte of the kind may follow
+-- if there is no text, no byte of the kind follows
 abbrev pub EndsUnless : (ℕ → Bool) → List ℕ → List ℕ → Type 0
 EndsUnless p [] rest = first_passes p rest ≡ false
 EndsUnless p (c ∷ text) rest = ⊤
@@ -35,7 +35,7 @@ pub record CutsDigits (text digits rest : List ℕ) : Type 0 where
   pub ends : first_passes is_ascii_digit rest ≡ false
   pub is_text : text ≡ digits ++ rest
 
--- without a period none may follow, and after one no further digit
+-- without a period, no period follows; after one, no further digit does
 abbrev pub EndsFraction : List ℕ → List ℕ → Type 0
 EndsFraction [] rest = first_passes is_period rest ≡ false
 EndsFraction (c ∷ text) rest = first_passes is_ascii_digit rest ≡ false

@@ -13,7 +13,7 @@ none_read : (p : Read) → next_record default_config st.StartRecord [] [] [] �
 unfolding next_record
 none_read p e = cc e
 
--- the first record that is read is the first row
+-- the first record that is read is the first row, as it is read back
 first_read : (row : List (List ℕ)) (tail : List ℕ) (p : Read) → next_record default_config st.StartRecord [] [] (row_text default_writer row ++ tail) ≡ Some p
     → p ≡ (read_back row, st.StartRecord, tail)
 first_read row tail p e = cc (read-write row tail)

@@ -15,7 +15,7 @@ quoted text = 39 ∷ (escaped text ++ 39 ∷ [])
 
 -- ---- how a reader takes them
 
--- no mark in these bytes is without another one behind it. `marked`: a mark is before them
+-- the marks in these bytes are in pairs, next to each other. `marked`: the first mark of a pair is before them
 abbrev pub stays_after : Bool → List ℕ → Bool
 stays_after true [] = false
 stays_after false [] = true

@@ -179,7 +179,7 @@ passes (Close Round) first others rest w v o word g f y = record {
   after = tt;
 }
 
--- ---- tokens of a tree: a word is first or after a comma or an opening delimiter, which is after a word
+-- ---- tokens of a tree: a word is first, or after a comma or an opening delimiter; an opening delimiter is after a word
 
 abbrev BeginsItem : TokenKind → Type 0
 BeginsItem Word = ⊥

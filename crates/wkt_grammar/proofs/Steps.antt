@@ -107,7 +107,7 @@ unknown : (o : Option Keyword) → NoNode (argument_by o) → argument_by o ≡ 
 unknown None h = refl
 unknown (Some j) h = absurd (h j refl)
 
--- an argument that is not a known node is one token, without a fault inside it
+-- an argument that the row takes, and that is not a known node, is one token, without a fault inside it
 pub plain_item : (ed : Edition) (n : Node) (left l : List Slot) (filled : Bool) (i : Item) (rest old : List Tok) → NoNode (argument i) → next left filled (argument i) ≡ Some l → old ≡ tokens i ++ rest → (drop 1 old ≡ rest) × (item_fault ed n i ≡ None)
 plain_item ed n left l filled (text p) rest old h x e = (ap (drop 1) e, refl)
 plain_item ed n left l filled (number p) rest old h x e = (ap (drop 1) e, refl)

@@ -18,7 +18,7 @@ use Rattle.wkt_tree.proofs.Unread.{lexed_head, none_left, unreadable_no}
 pub lexes_rest : (text : List ℕ) (place : ℕ) (r : Result (Option Token) TextFault) → Lexes place (take (length text - place) (drop place text)) r → Lexes place (drop place text) r
 lexes_rest text place r h = subst (λ l. Lexes place l r) (take_rest text place) h
 
--- the computed tokens of an outline are the tokens of the text, and all of them are sound
+-- if the computed tokens of a text make it an outline, all of them are sound
 pub sound_outline : (text : List ℕ) → IsOutline text (cut 0 text) → IsSoundCut 0 text
 sound_outline text o = record {
   within = omega arith;

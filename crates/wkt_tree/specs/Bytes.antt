@@ -18,7 +18,7 @@ is_word_byte b = is_ascii_alphabetic b || is_ascii_digit b || b == 95
 abbrev pub begins_number : ℕ → Bool
 begins_number b = begins_numeral b
 
--- the same, `E` or `e`
+-- one of these, `E` or `e`
 abbrev pub is_number_byte : ℕ → Bool
 is_number_byte b = is_numeral_byte b
 

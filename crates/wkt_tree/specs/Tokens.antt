@@ -108,7 +108,7 @@ pub record Blanks (place : ℕ) (bytes : List ℕ) (place' : ℕ) (bytes' : List
   pub whole : bytes ≡ blanks ++ bytes'
   pub moved : place' ≡ place + length blanks
 
--- from place on, the bytes are blanks, the token, and the rest; whether a number can be read isn't said
+-- from place on, the bytes are blanks, the token, and the rest; whether a number can be read is left open
 pub record Lexed (place : ℕ) (bytes : List ℕ) (t : Tok) (rest : List ℕ) : Type 0 where
   pub from : List ℕ
   pub blank : Blanks place bytes t.piece.place from

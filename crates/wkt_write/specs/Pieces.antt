@@ -30,7 +30,7 @@ pub record IsPiece (shut : Bool) (bytes : List ℕ) (piece : Piece) : Type 0 whe
   pub within : piece.len ≤ length bytes
   pub leads : Leads (before shut) bytes (if piece.kept then take piece.len bytes else []) (before piece.shut) (drop piece.len bytes)
 
--- some bytes come after a delimiter and before one
+-- the first bytes, this many, are after a delimiter or the start, and before a delimiter or the end, blanks aside
 pub record IsNumeralFront (shut : Bool) (bytes : List ℕ) (len : ℕ) : Type 0 where
   pub behind : shut ≡ true
   pub some : 0 < len
