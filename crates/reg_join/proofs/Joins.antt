@@ -1,4 +1,4 @@
--- What the laws give of the join of a list.
+-- The join of a list, from the laws of joining.
 use Rattle.std.proofs.Common.{ℕ, get_or, drop, length, ◌<◌, ◌≡◌, zero, suc, List, [], ◌∷◌, Result, Ok, Err, refl, sym, ap, ◌∙◌, inl, inr, ◌⊎◌, arith}
 use Rattle.std.specs.Prelude.{Contains}
 use Rattle.reg_join.specs.Joining.{JoinLaws, joined_with, joined_both, all_joined, AllAgree, SameMembers}
@@ -14,12 +14,12 @@ contains_head x xs = (0, omega arith, refl)
 contains_tail : {T : Type 0} (x : T) (xs : List T) (y : T) → Contains xs y → Contains (x ∷ xs) y
 contains_tail x xs y h = (suc h.0, omega (arith, h.1), h.2)
 
--- once refused, refused
+-- after a refusal, the rest of the list does not change it
 pub all_refused : {T C : Type 0} (joined : T → T → Result T C) (c : C) (ys : List T) → all_joined joined (Err c) ys ≡ Err c
 all_refused joined c [] = refl
 all_refused joined c (y ∷ ys) = all_refused joined c ys
 
--- all merged, from the left
+-- the elements of a list are merged into x, from the left
 abbrev pub merged_from : {T : Type 0} → (T → T → T) → T → List T → T
 merged_from merged x [] = x
 merged_from merged x (y ∷ ys) = merged_from merged (merged x y) ys
@@ -67,7 +67,7 @@ module _ {T C : Type 0} {nothing : T} {joined : T → T → Result T C} {merged 
       (λ z h. laws.agree_merged x y z first (with z (contains_tail y ys z h)) (all y z (contains_head y ys) (contains_tail y ys z h)))
       (λ z w h k. all z w (contains_tail y ys z h) (contains_tail y ys w k))
 
-  -- the join of values that agree is their merge
+  -- the join of a list of values that agree is their merge
   pub joins : (xs : List T) → AllAgree agree xs → all_joined joined (Ok nothing) xs ≡ Ok (merged_from merged nothing xs)
   joins xs all = joins_from nothing xs (λ y h. laws.agree_nothing y (all y y h h)) all
 
@@ -92,13 +92,13 @@ module _ {T C : Type 0} {nothing : T} {joined : T → T → Result T C} {merged 
       ∙ ap Ok (laws.merged_assoc x y z)
       ∙ sym (ap (joined_both joined (Ok x)) (laws.agreed y z c) ∙ laws.agreed x (merged y z) last)
 
--- refused at a place of the list
+-- if joining the element at index i is refused, joining the suffix from i is refused
 pub refused_at : {T C : Type 0} (joined : T → T → Result T C) (a x : T) (c : C) (xs : List T) (i : ℕ) → x ≡ get_or xs i x → i < length xs → joined a x ≡ Err c → all_joined joined (Ok a) (drop i xs) ≡ Err c
 refused_at joined a x c [] i e h r = absurd (omega arith)
 refused_at joined a x c (y ∷ ys) zero e h r = ap (λ w. all_joined joined (joined a w) ys) (sym e) ∙ ap (λ w. all_joined joined w ys) r ∙ all_refused joined c ys
 refused_at joined a x c (y ∷ ys) (suc i) e h r = refused_at joined a x c ys i e (omega arith) r
 
--- refused at the first, or at the second
+-- the only element is refused; or the second one is, after the first
 pub refused_first : {T C : Type 0} (joined : T → T → Result T C) (a x : T) (c : C) (xs rest : List T) → xs ≡ x ∷ rest → length rest ≡ 0 → joined a x ≡ Err c → all_joined joined (Ok a) xs ≡ Err c
 refused_first joined a x c xs [] e n r = ap (all_joined joined (Ok a)) e ∙ r
 refused_first joined a x c xs (y ∷ ys) e n r = absurd (omega arith)

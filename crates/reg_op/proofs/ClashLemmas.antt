@@ -1,4 +1,4 @@
--- Operations by id are the items of their set, and the least clash of a set.
+-- A list of operations that is ordered by id is the items of its set. The least clash of a set.
 use Rattle.std.proofs.Common.{◌≡◌, Bool, true, false, ◌||◌, cond, List, [], ◌∷◌, refl, sym, ap, ◌∙◌, subst, inl, inr, Option, Some, None, ◌↔◌}
 use Rattle.std.proofs.lemmas.Bool.{true≢false, and_from, and_parts, or_cases, or_left, or_right, false_from_ne_true, not-true, not_from_false}
 use Rattle.std.specs.List.{list_any, find}
@@ -19,7 +19,7 @@ use Rattle.reg_op.proofs.OpLemmas.{id_total, op_total, op_exact, is_same_exact, 
 use Rattle.reg_op.proofs.ContentLemmas.{no_clash, one_body_from}
 use Rattle.reg_op.proofs.SetLemmas.{Climbs, AllAbove, items_climb, less}
 
--- neither is less, so they tie
+-- two elements compare as equal if neither is less than the other
 pub tied_of : {K : Type 0} {R : K → K → Ordering} (o : IsTotalOrder R) (a b : K) → is_lt (R a b) ≡ false → is_lt (R b a) ≡ false → is_eq (R a b) ≡ true
 tied_of {R = R} o a b h k = from (R a b) (R b a) (o.antisymm b a) h k
   where
@@ -28,11 +28,11 @@ tied_of {R = R} o a b h k = from (R a b) (R b a) (o.antisymm b a) h k
     from Equal s e h k = refl
     from Greater s e h k = absurd (true≢false (sym (ap is_lt e) ∙ k))
 
--- neither id is before the other
+-- two ids are equal if neither is before the other
 pub same_id : (a b : Id) → is_before a b ≡ false → is_before b a ≡ false → a ≡ b
 same_id a b h k = is_same_exact a b (tied_of id_total a b h k)
 
--- ---- operations by id are the items of their set
+-- ---- a list that is ordered by id is the items of its set
 
 lt_then : (a b : Ordering) → is_lt a ≡ true → is_lt (ordering_then a b) ≡ true
 lt_then Less b h = refl
@@ -50,9 +50,9 @@ ascends (o ∷ p ∷ os) h = (less _ (before_less o p h.0.0), ascends (p ∷ os)
 pub items_are : (os : List Op) → ById os → items (set.from_list {R = op_cmp} os) ≡ os
 items_are os h = items-from_list op_total os (ascends os h)
 
--- ---- the least clash
+-- ---- in a list whose ids never descend, the first operation that passes has the least id
 
--- none of a list's ids comes before an earlier one
+-- NoneBefore: no id of the list is before i. Rises: no id of the list is before an earlier one
 abbrev pub NoneBefore : Id → List Op → Type 0
 NoneBefore i [] = Unit {0}
 NoneBefore i (o ∷ os) = (is_before o.id i ≡ false) × NoneBefore i os
@@ -61,7 +61,7 @@ abbrev pub Rises : List Op → Type 0
 Rises [] = Unit {0}
 Rises (o ∷ os) = NoneBefore o.id os × Rises os
 
--- what a find gives is the least that passes
+-- o is in the list and passes, and no operation of the list that passes has an id before that of o
 pub record IsLeast (t : Op → Bool) (xs : List Op) (o : Op) : Type 0 where
   pub passes : t o ≡ true
   pub there : has xs o ≡ true
@@ -111,11 +111,11 @@ pub find_none : (t : Op → Bool) (xs : List Op) → list_any t xs ≡ false →
 find_none t [] h = refl
 find_none t (x ∷ xs) h = elim (t x) as (λ b. (b || list_any t xs) ≡ false → cond b (Some x) (find t xs) ≡ None) [ true ↦ λ e. absurd (true≢false e) | false ↦ λ e. find_none t xs e ] h
 
--- two finds that pass the same ids give the same one
+-- the id of the first operation of a list that passes
 abbrev pub first_id : (Op → Bool) → List Op → Option Id
 first_id t xs = option_map (λ o. o.id) (find t xs)
 
--- each that passes here has one of its id that passes there
+-- each operation of xs that passes t has the id of an operation of ys that passes u
 abbrev pub Matched : (Op → Bool) → List Op → (Op → Bool) → List Op → Type 0
 Matched t xs u ys = (o : Op) → has xs o ≡ true → t o ≡ true → (p : Op) × (has ys p ≡ true) × (u p ≡ true) × (p.id ≡ o.id)
 
@@ -160,7 +160,7 @@ rising (o ∷ os) h = (below o os h.0, rising os h.1)
     below o [] h = tt
     below o (p ∷ ps) h = (not_later o p h.0, below o ps h.1)
 
--- a set's items rise
+-- no item of a set has an id before that of an earlier item
 pub items_rise : (s : Ops) → Rises (items s)
 items_rise s = rising (items s) (items_climb op_cmp s)
 

@@ -52,7 +52,7 @@ same_content x y p q = λ i. record { ops = p i; seen = q i }
 pub merged-state : (s t : Ops) → merged (state s) (state t) ≡ state (union s t)
 merged-state s t = same_content _ _ (sym (kept-union s t)) (sym (ids-union s t))
 
--- what was kept already may be kept again, on either side
+-- what is kept of a union does not change if `kept` is applied to one side first
 pub kept-union_left : (s t : Ops) → kept (union (kept s) t) ≡ kept (union s t)
 kept-union_left s t = kept-union (kept s) t ∙ ap (λ k. kept (union k (kept t))) (kept-kept s) ∙ sym (kept-union s t)
 

@@ -1,4 +1,4 @@
--- Laws of finite sets: some member that passes, and the members that none stands above.
+-- Laws of finite sets: `any`, the union, and the members that no member is above.
 use Rattle.std.proofs.Common.{◌≡◌, Bool, true, false, not, ◌&&◌, ◌||◌, cond, List, [], ◌∷◌, refl, sym, ap, ◌∙◌, subst, inl, inr, ◌⊎◌}
 use Rattle.std.proofs.lemmas.Bool.{or_cases, or_left, or_right, and_from, and_parts, not_from_false, false_from_ne_true, true≢false}
 use Rattle.std.specs.List.{list_any}
@@ -59,7 +59,7 @@ module _ {K : Type 0} {R : K → K → Ordering} (o : IsTotalOrder R) (same : Is
         | inr e ↦ let r = some_of t ys e in (r.0, or_right (eq_by_cmp R r.0 y) _ r.1, r.2)
       ]
 
-  -- a member that passes shows that some does, and the other way round
+  -- `any` is true if some member passes, and only then
   pub any_from_member : (t : K → Bool) (s : Set R) (x : K) → contains s x ≡ true → t x ≡ true → any t s ≡ true
   any_from_member t s x m p = among t (items s) x (sym (contains-items s x) ∙ m) p
 
@@ -79,7 +79,7 @@ module _ {K : Type 0} {R : K → K → Ordering} (o : IsTotalOrder R) (same : Is
         | inr e ↦ let r = member_from_any t u e in any_from_member t (union s u) r.0 (contains-union o s u r.0 ∙ or_right _ _ r.1) r.2
       ])
 
-  -- ---- a union
+  -- ---- laws of the union
 
   pub union_comm : (s t : Set R) → union s t ≡ union t s
   union_comm s t = same_set o same _ _ (λ x. contains-union o s t x ∙ or_comm (contains s x) (contains t x) ∙ sym (contains-union o t s x))
@@ -101,7 +101,7 @@ module _ {K : Type 0} {R : K → K → Ordering} (o : IsTotalOrder R) (same : Is
 
   module _ (above : K → K → Bool) (irreflexive : (x : K) → above x x ≡ true → ⊥)
       (transitive : (x y z : K) → above x y ≡ true → above y z ≡ true → above x z ≡ true) where
-    -- the last of those that rise from m along a list
+    -- starting with m, each element of the list that is above the current one becomes the current one; the result is the last
     abbrev top : K → List K → K
     top m [] = m
     top m (x ∷ xs) = top (cond (above x m) x m) xs
@@ -134,7 +134,7 @@ module _ {K : Type 0} {R : K → K → Ordering} (o : IsTotalOrder R) (same : Is
           ]
         ]
 
-    -- nothing along the list is above the top
+    -- no element of the list is above `top m xs`
     top_free : (m : K) (xs : List K) → list_any (λ p. above p (top m xs)) xs ≡ true → ⊥
     top_free m [] h = true≢false (sym h)
     top_free m (x ∷ xs) h =
@@ -158,7 +158,7 @@ module _ {K : Type 0} {R : K → K → Ordering} (o : IsTotalOrder R) (same : Is
     pub contains-topmost : (s : Set R) (x : K) → contains (topmost above s) x ≡ (contains s x && not (any (λ p. above p x) s))
     contains-topmost s x = contains-retain s _ x (λ y e. ap (λ z. not (any (λ p. above p z) s)) (sym (same x y e)))
 
-    -- each member is topmost, or is below one that is
+    -- each member is topmost, or some topmost member is above it
     pub topmost_over : (s : Set R) (x : K) → contains s x ≡ true → (y : K) × (contains (topmost above s) y ≡ true) × ((y ≡ x) ⊎ (above y x ≡ true))
     topmost_over s x m =
         let y = top x (items s) in
@@ -168,7 +168,7 @@ module _ {K : Type 0} {R : K → K → Ordering} (o : IsTotalOrder R) (same : Is
         ] in
         (y, contains-topmost s y ∙ and_from _ _ here (not_from_false _ (false_from_ne_true _ (top_free x (items s)))), top_rises x (items s))
 
-    -- what goes up along `above` holds of some member where it holds of some topmost one
+    -- for a test that passes upwards along `above`, some topmost member passes if and only if some member does
     pub any-topmost : (t : K → Bool) → ((p x : K) → above p x ≡ true → t x ≡ true → t p ≡ true) → (s : Set R) → any t (topmost above s) ≡ any t s
     any-topmost t rises s =
         both_ways _ _

@@ -1,4 +1,4 @@
--- The items of operations with one body for each id are ordered by id.
+-- If no id has two bodies, the items of a set of operations are strictly ordered by id.
 use Rattle.std.proofs.Common.{◌≡◌, Bool, true, false, List, [], ◌∷◌, refl, sym, ap, subst, ◌∙◌}
 use Rattle.std.proofs.lemmas.Bool.{true≢false, or_left, or_right}
 use Rattle.std.specs.Ordering.{is_lt, is_eq}

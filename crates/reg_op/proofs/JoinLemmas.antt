@@ -1,4 +1,4 @@
--- What is left of the laws of the join.
+-- The join of contents: its result is a content, a retired entry stays retired, and it is associative.
 use Rattle.std.proofs.Common.{◌≡◌, true, Option, Some, None, Ok, refl, sym, ap, ◌∙◌, subst}
 use Rattle.std.proofs.lemmas.Bool.{or_left}
 use Rattle.reg_op.specs.Set.{contains, union}
@@ -12,7 +12,7 @@ use Rattle.reg_op.proofs.ContentLemmas.{merged_assoc, joined_content, kept_is_wi
 use Rattle.reg_op.proofs.StatusLemmas.{retires-kept}
 use Rattle.reg_op.proofs.OneLemmas.{merged_is_content}
 
--- the join that there is, is the merge, and no id has two bodies
+-- if the join succeeds, nothing clashes, and its result is the merge
 made_from : (c : Option Id) (m z : Content) → joined_unless c m ≡ Ok z → (c ≡ None) × (m ≡ z)
 made_from None m z h = (refl, cc)
 made_from (Some i) m z h = cc

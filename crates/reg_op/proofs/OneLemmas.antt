@@ -1,4 +1,4 @@
--- The set of one operation, and what is kept.
+-- The set of one operation, and which operations of a set are kept.
 use Rattle.std.proofs.Common.{◌≡◌, Bool, true, false, ◌||◌, List, sym, ap, ◌∙◌, subst, inl, inr}
 use Rattle.std.proofs.lemmas.Bool.{and_from, and_parts, or_left, or_right, or_cases, true≢false, not-true, not_from_false, false_from_ne_true}
 use Rattle.std.specs.Cmp.{tied_itself, both_ways, Equal-is}
@@ -23,7 +23,7 @@ one_is o q h =
 pub one_has : (o : Op) → contains (one o) o ≡ true
 one_has o = contains-insert op_total set.empty o o ∙ or_left _ _ (ap is_eq (tied_itself op_total o))
 
--- nothing there replaces what is kept, and what nothing there replaces is kept
+-- no operation of s replaces a kept one, and an operation that none replaces is kept
 pub kept_free : (s : Ops) (q p : Op) → contains (kept s) q ≡ true → contains s p ≡ true → replaces p q ≡ true → ⊥
 kept_free s q p h m r =
     let none = not-true _ (and_parts _ _ (sym (contains-kept s q) ∙ h)).1 in
@@ -61,7 +61,7 @@ merged_is_content x y is js one_body = record {
 pub one_is_content : (o : Op) → IsOperation o → IsContent (state (one o))
 one_is_content o is = state_is_content (one o) (λ q h. subst IsOperation (sym (one_is o q h)) is) (λ p q a b e. one_is o p a ∙ sym (one_is o q b))
 
--- some operation of a list's set passes where some of the list does
+-- some member of a list's set passes if and only if some element of the list does
 pub any-from_list : (t : Op → Bool) (xs : List Op) → any t (set.from_list {R = op_cmp} xs) ≡ list_any t xs
 any-from_list t xs = both_ways _ _
     (λ h. let r = member_from_any op_total op_exact t (set.from_list xs) h in among op_total op_exact t xs r.0 (sym (contains-from_list op_total xs r.0) ∙ r.1) r.2)

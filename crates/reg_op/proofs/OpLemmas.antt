@@ -35,7 +35,7 @@ same_body (Supersede o n) (Supersede p m) k e f = cc
 same_body (Retire x) (Retire y) k e f = cc
 same_body a b k e f = cc
 
--- a comparison by parts that is exact at each part tells when all parts are equal
+-- a comparison by two parts is Equal only if both parts are
 both_equal : (r t : Ordering) → ordering_then r t ≡ Equal → (r ≡ Equal) × (t ≡ Equal)
 both_equal Less t e = cc
 both_equal Equal t e = (refl, e)
@@ -106,7 +106,7 @@ replaces_chain x y z h k = body_chain _ _ _ (is_before_chain x.id y.id z.id) x.b
 pub kept-union : (s t : Ops) → kept (set.union s t) ≡ kept (set.union (kept s) (kept t))
 kept-union s t = topmost-union op_total op_exact replaces replaces_irreflexive replaces_chain s t
 
--- a test that operations are equal tells their comparison
+-- a test that holds exactly for equal operations agrees with `op_cmp`
 pub same_test : (a b : Op) (r : Bool) → (IsTrue r ↔ (a ≡ b)) → r ≡ is_eq (op_cmp a b)
 same_test a b r h =
     both_ways r (is_eq (op_cmp a b))

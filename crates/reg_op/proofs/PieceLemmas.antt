@@ -1,4 +1,4 @@
--- A piece of a state, joined where its basis is held, gives the state of both.
+-- The piece of a state, joined to a state that has seen its basis, gives the state of the union.
 use Rattle.std.proofs.Common.{◌≡◌, Bool, true, false, not, ◌&&◌, ◌||◌, Ok, refl, sym, ap, ◌∙◌, subst, inl, inr}
 use Rattle.std.proofs.lemmas.Bool.{and_from, and_parts, cases_Bool, not-true, not_from_false}
 use Rattle.std.specs.Cmp.{both_ways}
@@ -15,11 +15,11 @@ use Rattle.reg_op.proofs.OneLemmas.{kept_free, kept_has}
 pub contains-outside : (b : Ids) (x : Content) (o : Op) → contains (outside b x).ops o ≡ (contains x.ops o && not (contains b o.id))
 contains-outside b x o = contains-retain x.ops (λ p. not (contains b p.id)) o (λ y e. ap (λ (p : Op). not (contains b p.id)) (sym (op_exact o y e)))
 
--- an operation outside is one of the content, and its id is not in the basis
+-- an operation outside the basis is in the content, and its id is not in the basis
 pub outside_parts : (b : Ids) (x : Content) (o : Op) → contains (outside b x).ops o ≡ true → (contains x.ops o ≡ true) × (not (contains b o.id) ≡ true)
 outside_parts b x o h = and_parts _ _ (sym (contains-outside b x o) ∙ h)
 
--- what is kept has parts that are kept
+-- if `kept` leaves s as it is, it leaves each subset of s as it is
 pub kept_part : (s t : Ops) → kept s ≡ s → ((o : Op) → contains t o ≡ true → contains s o ≡ true) → kept t ≡ t
 kept_part s t is within = same_set op_total op_exact _ _ (λ o. both_ways _ _
     (kept_is_within t o)
@@ -41,7 +41,7 @@ piece_is x b is are_ids = record {
   apart = λ i h. not-true _ (and_parts _ _ (sym (contains-difference id_total x.seen b i) ∙ h)).1;
 }
 
--- an operation whose id the other set has is in the other set
+-- if no id has two bodies, an operation of s is in t if t has its id
 in_other : (s t : Ops) → OneBody (union s t) → (o : Op) → contains s o ≡ true → contains (ids t) o.id ≡ true → contains t o ≡ true
 in_other s t one o m h =
     let r = member_from_any op_total op_exact (λ p. is_same o.id p.id) t (sym (contains-ids t o.id) ∙ h) in

@@ -1,4 +1,4 @@
--- A binary search tells whether some element of an ascending list passes.
+-- The element at a partition point tells whether some element of an ascending list passes.
 use Rattle.std.proofs.Common.{◌≡◌, ℕ, ◌<◌, ◌≤◌, Bool, true, false, List, [], ◌∷◌, length, get_or, slice_get, refl, sym, ap, ◌∙◌, inl, inr, ◌⊎◌, None, arith, suc}
 use Rattle.std.proofs.lemmas.Bool.{true≢false, or_cases, false_from_ne_true}
 use Rattle.std.proofs.lemmas.List.Folds.{list_any_at}
@@ -8,7 +8,7 @@ use Rattle.std.specs.List.Sorted.{IsPartitionedBy, IsPartitionPoint}
 use Rattle.std.specs.Cmp.{both_ways}
 use Rattle.reg_op.specs.Lists.{passes}
 
--- some element passes, so one at an index does
+-- if some element passes, the element at some index does
 pub index_of_any : {X : Type 0} (t : X → Bool) (xs : List X) → list_any t xs ≡ true → (x : X) × (i : ℕ) × (i < length xs) × (t x ≡ true) × ((d : X) → get_or xs i d ≡ x)
 index_of_any t [] h = absurd (true≢false (sym h))
 index_of_any t (x ∷ xs) h =

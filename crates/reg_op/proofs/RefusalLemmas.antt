@@ -1,4 +1,4 @@
--- The least missing id of a basis, and how a piece is refused or joined.
+-- The least missing id of a basis, and when a piece is refused or joined.
 use Rattle.std.proofs.Common.{◌≡◌, Bool, true, false, not, ◌||◌, cond, List, [], ◌∷◌, Option, Some, None, Result, Ok, Err, refl, sym, ap, ◌∙◌, subst, inl, inr, ◌↔◌}
 use Rattle.std.proofs.lemmas.Bool.{true≢false, or_cases, or_left, or_right, not-true, not_from_false, false_from_ne_true, true_from_ne_false}
 use Rattle.std.specs.List.{list_any, find}
@@ -17,7 +17,7 @@ use Rattle.reg_op.proofs.SetLemmas.{AllAbove, Climbs, items_climb}
 use Rattle.reg_op.proofs.JoinLemmas.{joined_is_content}
 use Rattle.reg_op.proofs.PieceLemmas.{joined-outside}
 
--- ---- the first of a list that passes is the least
+-- ---- the first id of an ascending list that passes is the least
 
 abbrev has : List Id → Id → Bool
 has xs i = list_any (eq_by_cmp id_cmp i) xs
@@ -115,7 +115,7 @@ missing_none b v = (
       let r = missing_found b v e in true≢false (sym (held r.0 r.2.there) ∙ r.2.unseen))),
 )
 
--- ---- how a piece is refused, and what it is joined to
+-- ---- when a piece is refused, and when it is joined
 
 missing_from : (m : Option Id) (r : Result Content Id) (i : Id) → joined_where m r ≡ Err (Basis i) → m ≡ Some i
 missing_from (Some j) r i h = cc

@@ -1,4 +1,4 @@
--- Rows and what is awaited, over what is kept.
+-- The rows, conflicts and awaited ids of a set are those of its kept operations.
 use Rattle.std.proofs.Common.{◌≡◌, ℕ, Bool, true, false, not, ◌&&◌, ◌||◌, cond, List, [], ◌∷◌, ◌++◌, refl, sym, ap, ◌∙◌, subst, ◌↔◌}
 use Rattle.std.proofs.lemmas.Bool.{true≢false}
 use Rattle.std.proofs.lemmas.List.Folds.{list_any-append}
@@ -48,7 +48,7 @@ rows_at-kept s i (Enter text) = λ k. record { entry = i; definition = text; sta
 rows_at-kept s i (Supersede old newer) = refl
 rows_at-kept s i (Retire entry) = refl
 
--- what is replaced has no row
+-- an operation that is replaced has no row
 replaced_rowless : (s : Ops) (before : Bool) (p : Body) (i : Id) (b : Body) → replaces_body before p b ≡ true → rows_at s i b ≡ []
 replaced_rowless s before (Enter t) i (Enter text) h = absurd (true≢false (sym h))
 replaced_rowless s before (Supersede a b) i (Enter text) h = absurd (true≢false (sym h))

@@ -1,4 +1,4 @@
--- The items of a set ascend, and a part of a set has a part of them.
+-- The items of a set ascend, and those of a retained part are the items that pass.
 use Rattle.std.proofs.Common.{◌≡◌, Bool, true, false, ◌&&◌, ◌||◌, cond, T, List, [], ◌∷◌, map as list_map, refl, sym, ap, ◌∙◌}
 use Rattle.std.proofs.lemmas.Bool.{true≢false, and_parts}
 use Rattle.std.specs.List.{list_any, filter}
@@ -21,7 +21,7 @@ less Equal h = absurd (true≢false (sym h))
 less Greater h = absurd (true≢false (sym h))
 
 module _ {K : Type 0} (R : K → K → Ordering) where
-  -- each is above a first one; each is above those before it
+  -- AllAbove: k is below each element. Climbs: each element is below all that follow it
   abbrev pub AllAbove : K → List K → Type 0
   AllAbove k [] = Unit {0}
   AllAbove k (x ∷ xs) = (is_lt (R k x) ≡ true) × AllAbove k xs

@@ -1,4 +1,4 @@
--- Status over what is kept is status over the whole set.
+-- The status of an entry in the kept operations is its status in the whole set.
 use Rattle.std.proofs.Common.{◌≡◌, Bool, true, false, not, ◌&&◌, ◌||◌, cond, Some, None, refl, sym, ap, ◌∙◌, subst, inl, inr}
 use Rattle.std.proofs.lemmas.Bool.{and_from, and_parts, or_left, or_cases, true≢false}
 use Rattle.reg_op.specs.Set as set
@@ -9,11 +9,11 @@ use Rattle.reg_op.specs.Status.{Retired, Superseded, Valid, is_enter, is_retirem
 use Rattle.reg_op.proofs.FiniteLemmas.{any-topmost, list_any-or}
 use Rattle.reg_op.proofs.OpLemmas.{op_total, op_exact, replaces_irreflexive, replaces_chain, is_same_chain, is_same_back, is_same_exact}
 
--- what goes up along `replaces` is seen in what is kept
+-- for a test that holds of p if p replaces an operation that passes, `kept` does not change whether some operation passes
 pub any-kept : (t : Op → Bool) → ((p x : Op) → replaces p x ≡ true → t x ≡ true → t p ≡ true) → (s : Ops) → any t (kept s) ≡ any t s
 any-kept t rises s = any-topmost op_total op_exact replaces replaces_irreflexive replaces_chain t rises s
 
--- nothing replaces an Enter
+-- no operation replaces an Enter
 enter_stays : (before : Bool) (p x : Body) → replaces_body before p x ≡ true → is_enter x ≡ true → ⊥
 enter_stays before (Enter text) x h k = true≢false (sym h)
 enter_stays before p (Supersede old newer) h k = true≢false (sym k)
@@ -24,7 +24,7 @@ enter_stays before (Retire a) (Enter text) h k = true≢false (sym h)
 pub enters-kept : (s : Ops) (e : Id) → enters (kept s) e ≡ enters s e
 enters-kept s e = any-kept (λ o. is_same e o.id && is_enter o.body) (λ p x h k. absurd (enter_stays _ p.body x.body h (and_parts _ _ k).1)) s
 
--- what replaces a retirement or a supersession of e is one
+-- an operation that replaces a retirement of e is a retirement of e
 retirement_rises : (e : Id) (before : Bool) (p x : Body) → replaces_body before p x ≡ true → is_retirement e x ≡ true → is_retirement e p ≡ true
 retirement_rises e before (Retire p) (Retire x) h k = is_same_chain e x p k (is_same_back p x (and_parts _ _ h).0)
 retirement_rises e before p (Retire x) h k = absurd (true≢false (sym h))

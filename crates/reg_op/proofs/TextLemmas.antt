@@ -1,4 +1,4 @@
--- The printed form of an id reads as it.
+-- The printed text of an id spells that id.
 use Rattle.std.proofs.Common.{arith, ◌∷◌, refl, sym, inl}
 use Rattle.uuid.specs.Text.{hyphenated_text, lower}
 use Rattle.uuid.proofs.RoundTrips.{parses_hyphenated}

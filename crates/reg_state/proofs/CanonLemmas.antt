@@ -1,4 +1,4 @@
--- Runs as long as possible are determined by their ids.
+-- Lists of maximal runs that have the same ids are equal.
 use Rattle.std.proofs.Common.{◌≡◌, ℕ, ◌+◌, ◌<◌, ◌≤◌, true, false, ◌||◌, List, [], ◌∷◌, refl, sym, ap, ◌∙◌, subst, inl, inr, ◌⊎◌, arith}
 use Rattle.std.proofs.lemmas.Bool.{true≢false, or_cases, or_left, false_from_ne_true}
 use Rattle.reg_op.specs.Set as set
@@ -36,7 +36,7 @@ far_from r (s ∷ ss) i h k = elim (or_cases (is_in_run i s) (is_in_runs i ss) k
   | inr e ↦ beyond_on r s i h.1 (AreRuns-head s ss h.2) (far_from s ss i h.2 e)
 ]
 
--- an id of some runs is no sooner than the first
+-- i is no earlier than the first id of s
 abbrev pub IsFrom : Run → Id → Type 0
 IsFrom s i = IsBelow s.replica i.replica ⊎ ((s.replica ≡ i.replica) × (s.low ≤ i.count))
 
@@ -60,7 +60,7 @@ starts r s rs ss h k e =
     let is = AreRuns-head r rs h in
     from_first s ss (id_at r.replica r.low) k (sym (e _) ∙ or_left _ _ (run_has r r.low (omega arith) is.1))
 
--- a run that begins alike does not end sooner
+-- if lists of runs have the same ids and begin at the same id, the first run of one ends no later than that of the other
 ends : (r s : Run) (rs ss : List Run) → AreRuns (r ∷ rs) → AreRuns (s ∷ ss) → Same (r ∷ rs) (s ∷ ss) → r.replica ≡ s.replica → r.low ≡ s.low → s.high ≤ r.high
 ends r s rs ss h k e a b =
     elim (lt_or_ge r.high s.high) [

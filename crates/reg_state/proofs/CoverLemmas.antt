@@ -1,4 +1,4 @@
--- What a mark at a target covers, in the order of marks.
+-- The marks that a target covers, and the order of marks.
 use Rattle.std.proofs.Common.{◌≡◌, Bool, true, false, ◌&&◌, refl, sym, ap, ◌∙◌, subst, Option, None, Some}
 use Rattle.std.proofs.lemmas.Bool.{true≢false, and_from, and_parts}
 use Rattle.std.specs.Cmp.{Equal-is, tied_itself, tied_then}
@@ -14,7 +14,7 @@ use Rattle.reg_state.specs.MarkSets.{mark_cmp, lessens_by, lessens, covers_by, c
 use Rattle.reg_state.specs.MarkLaws.{mark_total}
 use Rattle.reg_state.proofs.OrderLemmas.{IsBy, same_back, begins_at, begins_entry}
 
--- ---- what covers and comes first is what lessens
+-- ---- a mark makes another redundant if and only if its target covers the other, and it is before it
 
 covered_by : (x y : Option Id) (before : Bool) → lessens_by x y before ≡ true → covers_by x y ≡ true
 covered_by None None before h = refl
@@ -54,7 +54,7 @@ first_lessens p m c h =
     let a = and_parts _ _ c in
     and_from _ _ a.0 (by_first (id_cmp p.target.entry m.target.entry) p.target.by m.target.by p.id m.id a.0 a.1 h)
 
--- of what a mark covers, that which comes before it makes the mark needless
+-- if a mark covers one that is before it, the earlier one makes it redundant
 by_back : (r : Ordering) (x y : Option Id) (i j : Id) → is_eq r ≡ true → covers_by x y ≡ true → is_lt (ordering_then (ordering_then r (option_cmp id_cmp y x)) (id_cmp j i)) ≡ true → lessens_by y x (is_before j i) ≡ true
 by_back Less x y i j e c h = absurd (true≢false (sym e))
 by_back Greater x y i j e c h = absurd (true≢false (sym e))
@@ -71,7 +71,7 @@ covered_lessens m q c h =
     let back = is_same_back m.target.entry q.target.entry a.0 in
     and_from _ _ back (by_back (id_cmp q.target.entry m.target.entry) m.target.by q.target.by m.id q.id back a.1 h)
 
--- the later of two that are not the same comes after
+-- of two different marks, the one that is no later is before the other
 pub first_of : (x q : Mark) → IsBy x q → eq_by_cmp mark_cmp q x ≡ false → is_lt (mark_cmp x q) ≡ true
 first_of x q h e = from (mark_cmp q x) (mark_cmp x q) (mark_total.antisymm x q) h e
   where
@@ -80,7 +80,7 @@ first_of x q h e = from (mark_cmp q x) (mark_cmp x q) (mark_total.antisymm x q) 
     from Equal s e h k = absurd (true≢false k)
     from Greater s e h k = ap is_lt e
 
--- ---- what is covered, by and by
+-- ---- `covers` is transitive and reflexive
 
 covers_by_chain : (x y z : Option Id) → covers_by x y ≡ true → covers_by y z ≡ true → covers_by x z ≡ true
 covers_by_chain None y z h k = refl
@@ -101,7 +101,7 @@ covers_by_itself (Some n) = ap is_eq (tied_itself id_total n)
 pub covers_itself : (m : Mark) → covers m.target m ≡ true
 covers_itself m = and_from _ _ (ap is_eq (tied_itself id_total m.target.entry)) (covers_by_itself m.target.by)
 
--- ---- what a target covers begins at it
+-- ---- the marks that a target covers begin at the target
 
 and_true : (b : Bool) → b ≡ (b && true)
 and_true true = refl

@@ -1,4 +1,4 @@
--- The first marks of sorted ones are the least.
+-- Of sorted marks, `firsts` takes the least ones.
 use Rattle.std.proofs.Common.{◌≡◌, ℕ, ◌<◌, ◌≤◌, ◌+◌, zero, suc, true, false, ◌||◌, cond, List, [], ◌∷◌, length, get_or, Option, Some, None, refl, sym, ap, ◌∙◌, subst, inl, inr, arith}
 use Rattle.std.proofs.lemmas.Bool.{true≢false, and_from, and_parts, or_cases, or_left, or_right, false_from_ne_true, not-true, not_from_false}
 use Rattle.std.proofs.lemmas.List.Sorted.{ranks_by, sorted_far, list_any-IsPermutation}
@@ -43,7 +43,7 @@ all_by x (y ∷ ys) q h k = elim (or_cases (eq_by_cmp mark_cmp q y) (has ys q) k
   | inr e ↦ all_by x ys q h.1 e
 ]
 
--- each is no sooner than a target
+-- no mark of the list is below the target
 abbrev AllFrom : Option Target → List Mark → Type 0
 AllFrom None xs = Unit {0}
 AllFrom (Some t) xs = (q : Mark) → has xs q ≡ true → is_lt (target_cmp q.target t) ≡ false
@@ -58,7 +58,7 @@ from_rest (Some t) x xs h = λ q k. h q (or_right (eq_by_cmp mark_cmp q x) _ k)
 itself : (x : Mark) → eq_by_cmp mark_cmp x x ≡ true
 itself x = ap is_eq (tied_itself mark_total x)
 
--- between a target and what it covers all is covered
+-- if t does not cover the first of marks that are not below t, it covers no later mark
 not_covered_later : (t : Option Target) (x : Mark) (xs : List Mark) (q : Mark) → AllFrom t (x ∷ xs) → IsBy x q → is_covered t x ≡ false → is_covered t q ≡ false
 not_covered_later None x xs q from by no_x = refl
 not_covered_later (Some t) x xs q from by no_x = false_from_ne_true _ (λ at.
@@ -141,25 +141,25 @@ firsts_least xs sorted =
     (λ m k l. true≢false (sym (any_from_member mark_total mark_exact (λ y. lessens y q) s m (contains-from_list mark_total xs m ∙ k) l) ∙ not-true _ p.1))
     refl))
 
--- a permutation has the same set
+-- a permutation of a list has the same set
 pub same_members : (xs ys : List Mark) → IsPermutation xs ys → set.from_list {R = mark_cmp} ys ≡ set.from_list {R = mark_cmp} xs
 same_members xs ys h = same_set mark_total mark_exact _ _ (λ q.
     contains-from_list mark_total ys q
     ∙ sym (list_any-IsPermutation (eq_by_cmp mark_cmp q) xs ys h)
     ∙ sym (contains-from_list mark_total xs q))
 
--- lists that have the same marks have the same set
+-- lists with the same members have the same set
 pub same_has : (xs ys : List Mark) → ((q : Mark) → has xs q ≡ has ys q) → set.from_list {R = mark_cmp} xs ≡ set.from_list {R = mark_cmp} ys
 same_has xs ys h = same_set mark_total mark_exact _ _ (λ q. contains-from_list mark_total xs q ∙ h q ∙ sym (contains-from_list mark_total ys q))
 
--- two lists together have the union
+-- the set of two appended lists is the union of their sets
 pub set-append : (xs ys : List Mark) → set.from_list {R = mark_cmp} (xs ++ ys) ≡ set.union (set.from_list xs) (set.from_list ys)
 set-append xs ys = same_set mark_total mark_exact _ _ (λ q.
     contains-from_list mark_total (xs ++ ys) q
     ∙ list_any-append (eq_by_cmp mark_cmp q) xs ys
     ∙ sym (set.contains-union mark_total (set.from_list xs) (set.from_list ys) q ∙ (λ k. contains-from_list mark_total xs q k || contains-from_list mark_total ys q k)))
 
--- ---- they ascend
+-- ---- `firsts` of sorted marks is sorted
 
 all_firsts : (x : Mark) (t : Option Target) (xs : List Mark) → AllBy x xs → AllBy x (firsts t xs)
 all_firsts x t [] h = tt

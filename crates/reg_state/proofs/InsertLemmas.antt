@@ -1,4 +1,4 @@
--- One more mark among least ones.
+-- A mark is inserted into marks of which none is redundant.
 use Rattle.std.proofs.Common.{◌≡◌, ℕ, ◌<◌, ◌≤◌, Bool, true, false, not, ◌&&◌, ◌||◌, cond, List, [], ◌∷◌, ◌++◌, length, get_or, take, drop, zero, suc, filter, Option, Some, None, is_some, refl, sym, ap, ◌∙◌, subst, inl, inr, arith}
 use Rattle.std.proofs.lemmas.Bool.{true≢false, and_from, and_parts, or_cases, or_left, or_right, or_parts, not-true, not_from_false, false_from_ne_true, true_from_ne_false}
 use Rattle.std.proofs.lemmas.List.{take-append-drop}
@@ -24,7 +24,7 @@ use Rattle.reg_state.proofs.CoverLemmas.{lesser_covers, first_lessens, covered_l
 use Rattle.reg_state.proofs.FirstLemmas.{AllBy, Up, sorted_up, up_sorted}
 use Rattle.reg_state.proofs.MarkMergeLemmas.{first_by, by_chain}
 
--- ---- what lessens a mark is at its target, or retires what it supersedes
+-- ---- a mark that makes m redundant is at the target of m, or retires the entry that m supersedes
 
 and_false : (b : Bool) → (b && false) ≡ false
 and_false true = refl
@@ -81,7 +81,7 @@ any_lessens s m =
     ∙ list_any-or (λ p. is_at m.target p && is_before p.id m.id) (λ p. is_some m.target.by && is_at (record { entry = m.target.entry; by = None }) p) (set.items s)
     ∙ ap (λ b. any (λ p. is_at m.target p && is_before p.id m.id) s || b) (any_and (is_some m.target.by) (λ p. is_at (record { entry = m.target.entry; by = None }) p) (set.items s))
 
--- ---- a needless mark
+-- ---- a redundant mark
 
 lesser_in : (s : MarkSet) (m p : Mark) → contains s p ≡ true → lessens p m ≡ true → any (λ q. lessens q m) s ≡ true
 lesser_in s m p h l = any_from_member mark_total mark_exact (λ q. lessens q m) s p h l
@@ -107,7 +107,7 @@ the_one s m = contains-insert mark_total s m m ∙ or_left _ _ (ap is_eq (tied_i
 pub eq_of : (q x : Mark) → eq_by_cmp mark_cmp q x ≡ true → q ≡ x
 eq_of q x h = mark_exact q x ((Equal-is (mark_cmp q x)).0 h)
 
--- it changes nothing
+-- if a mark of s makes m redundant, inserting m does not change the least marks
 pub needless : (s : MarkSet) (m : Mark) → AreLeast s → any (λ p. lessens p m) s ≡ true → s ≡ least (set.insert s m)
 needless s m are h =
     let l = member_from_any mark_total mark_exact (λ p. lessens p m) s h in
@@ -122,7 +122,7 @@ needless s m are h =
       | inr e ↦ e
     ]))
 
--- ---- what the mark covers is removed
+-- ---- the marks that the new mark covers are removed
 
 abbrev pub uncovered : Target → List Mark → List Mark
 uncovered t ms = filter (λ m. not (covers t m)) ms
@@ -163,7 +163,7 @@ has_uncovered t (x ∷ xs) q =
     first false true = refl
     first false false = refl
 
--- ---- and the mark put in
+-- ---- the new mark is inserted
 
 all_put : (x : Mark) (i : ℕ) (xs : List Mark) (m : Mark) → AllBy x xs → IsBy x m → AllBy x (take i xs ++ m ∷ drop i xs)
 all_put x zero xs m h b = (b, h)
@@ -204,7 +204,7 @@ has_put i xs m q =
     turned true false d = refl
     turned false b d = refl
 
--- what was not needless, and what it covers, makes up the least
+-- if m is not redundant, removing the marks that it covers and inserting it gives the least marks
 put_least : (xs : List Mark) (i : ℕ) (m : Mark) → AreLeast (set.from_list {R = mark_cmp} xs) → any (λ p. lessens p m) (set.from_list {R = mark_cmp} xs) ≡ false
     → set.from_list {R = mark_cmp} (insert (uncovered m.target xs) i m) ≡ least (set.insert (set.from_list xs) m)
 put_least xs i m are fresh =

@@ -14,7 +14,7 @@ use Rattle.reg_op.proofs.ClashLemmas.{items_are}
 use Rattle.reg_join.specs.Joining.{all_joined}
 use Rattle.reg_state.specs.ManyLaws.{all_ops, all_seen, all_of, merged_all}
 
--- a content, and then others
+-- joining a list of contents to a content adds their operations and seen ids, if no id has two bodies
 joined_from : (k : Ops) (v : Ids) (xs : List Content) → OneBody (union k (all_ops xs))
     → all_joined joined (Ok (record { ops = kept k; seen = v })) xs ≡ Ok (record { ops = kept (union k (all_ops xs)); seen = union v (all_seen xs) })
 joined_from k v [] one = ap Ok (same_content _ _ (ap kept (sym (union_comm op_total op_exact k set.empty ∙ union-empty op_total op_exact k))) (sym (union_comm id_total id_exact v set.empty ∙ union-empty id_total id_exact v)))
@@ -35,7 +35,7 @@ joined_all xs one =
     ∙ joined_from set.empty set.empty xs (subst OneBody (sym none) one)
     ∙ ap Ok (same_content _ _ (ap kept none) (union-empty id_total id_exact (all_seen xs)))
 
--- ---- what was joined, if it was
+-- ---- the result of a join that succeeds
 
 err_stays : (id : Id) (xs : List Content) (z : Content) → all_joined joined (Err id) xs ≡ Ok z → ⊥
 err_stays id [] z e = cc
@@ -63,7 +63,7 @@ joined_is xs z e =
     merged_from set.empty set.empty xs z (subst (λ (x : Content). all_joined joined (Ok x) xs ≡ Ok z) empty e)
     ∙ same_content _ _ (ap kept (union-empty op_total op_exact (all_ops xs))) (union-empty id_total id_exact (all_seen xs))
 
--- ---- states
+-- ---- the join of states
 
 ops_of_states : (ss : List Ops) → kept (all_ops (map state ss)) ≡ kept (all_of ss)
 ops_of_states [] = refl

@@ -1,4 +1,4 @@
--- The marks of what is kept of a set of operations are the least of the marks that all of them set.
+-- The marks of the kept operations of a set are the least marks of the whole set.
 use Rattle.std.proofs.Common.{◌≡◌, Result, Ok, Option, Some, None, Bool, true, false, ◌&&◌, ◌||◌, List, [], ◌∷◌, ◌++◌, refl, sym, ap, ◌∙◌, inl, inr}
 use Rattle.std.proofs.lemmas.Bool.{true≢false, and_parts, or_cases, or_left, not-true}
 use Rattle.std.proofs.lemmas.List.Folds.{list_any-append}
@@ -23,14 +23,14 @@ use Rattle.reg_state.specs.MarkLaws.{mark_total, mark_exact, least_least, least-
 use Rattle.reg_state.proofs.InsertLemmas.{contains-least, least_has, eq_of}
 use Rattle.reg_state.specs.Marks.{marks_of, marks_of_body, mark_at, target_body, op_of, least_marks}
 
--- the marks that the operations of a set set
+-- the marks that are set by the operations of a set
 abbrev pub marks_in : Ops → MarkSet
 marks_in s = set.from_list (marks_of (set.items s))
 
 abbrev pub sets : Mark → Op → Bool
 sets m o = has (marks_of_body o.id o.body) m
 
--- ---- of lists and of sets
+-- ---- the marks of a list and of its set
 
 has_marks : (os : List Op) (m : Mark) → has (marks_of os) m ≡ list_any (sets m) os
 has_marks [] m = refl
@@ -57,7 +57,7 @@ mark_in s m o h k = contains-marks s m ∙ any_from_member op_total op_exact (se
 setter_of : (s : Ops) (m : Mark) → contains (marks_in s) m ≡ true → (o : Op) × (contains s o ≡ true) × (sets m o ≡ true)
 setter_of s m h = member_from_any op_total op_exact (sets m) s (sym (contains-marks s m) ∙ h)
 
--- ---- a mark lessens another where what set it replaces what set the other
+-- ---- a mark makes another redundant if and only if the operation that sets it replaces the other's
 
 the_mark : (n m : Mark) → has (n ∷ []) m ≡ true → m ≡ n
 the_mark n m h = elim (or_cases (eq_by_cmp mark_cmp m n) false h) [ inl e ↦ eq_of m n e | inr e ↦ absurd (true≢false (sym e)) ]
@@ -85,7 +85,7 @@ lessens_at i j (Supersede old newer) (Supersede old2 newer2) m n h k = λ x. les
 pub lessens_replaces : (p o : Op) (m n : Mark) → sets m p ≡ true → sets n o ≡ true → lessens m n ≡ replaces p o
 lessens_replaces p o m n h k = lessens_at p.id o.id p.body o.body m n h k
 
--- what replaces another sets a mark
+-- a body that replaces another sets a mark
 mark_of_replacing : (i : Id) (before : Bool) (b d : Body) → replaces_body before b d ≡ true → (m : Mark) × (has (marks_of_body i b) m ≡ true)
 mark_of_replacing i before (Enter s) (Enter t) h = absurd (true≢false (sym h))
 mark_of_replacing i before (Enter s) (Supersede old newer) h = absurd (true≢false (sym h))
@@ -93,7 +93,7 @@ mark_of_replacing i before (Enter s) (Retire e) h = absurd (true≢false (sym h)
 mark_of_replacing i before (Supersede old newer) d h = (mark_at old (Some newer) i, own_mark (mark_at old (Some newer) i))
 mark_of_replacing i before (Retire e) d h = (mark_at e None i, own_mark (mark_at e None i))
 
--- and so does what is replaced
+-- a body that another replaces sets a mark
 pub mark_of_replaced : (i : Id) (before : Bool) (b d : Body) → replaces_body before b d ≡ true → (m : Mark) × (has (marks_of_body i d) m ≡ true)
 mark_of_replaced i before (Enter s) (Enter t) h = absurd (true≢false (sym h))
 mark_of_replaced i before (Supersede old newer) (Enter t) h = absurd (true≢false (sym h))
@@ -101,18 +101,18 @@ mark_of_replaced i before (Retire e) (Enter t) h = absurd (true≢false (sym h))
 mark_of_replaced i before b (Supersede old newer) h = (mark_at old (Some newer) i, own_mark (mark_at old (Some newer) i))
 mark_of_replaced i before b (Retire e) h = (mark_at e None i, own_mark (mark_at e None i))
 
--- the operation of a mark sets it
+-- the operation of a mark sets that mark
 own_op : (e : Id) (by : Option Id) (i : Id) → has (marks_of_body i (target_body e by)) (mark_at e by i) ≡ true
 own_op e None i = own_mark (mark_at e None i)
 own_op e (Some n) i = own_mark (mark_at e (Some n) i)
 
--- what a mark replaces, one that makes it needless does
+-- a mark that makes m redundant replaces what m replaces
 pub replacing_falls : (q : Op) (p m : Mark) → lessens p m ≡ true → replaces (op_of m) q ≡ true → replaces (op_of p) q ≡ true
 replacing_falls q p m h r =
     replaces_chain (op_of p) (op_of m) q
     (sym (lessens_replaces (op_of p) (op_of m) p m (own_op p.target.entry p.target.by p.id) (own_op m.target.entry m.target.by m.id)) ∙ h) r
 
--- ---- the marks of what is kept
+-- ---- the marks of kept operations
 
 pub marks_kept : (s : Ops) → marks_in (kept s) ≡ least (marks_in s)
 marks_kept s = same_set mark_total mark_exact _ _ (λ m. both_ways _ _
@@ -131,13 +131,13 @@ marks_kept s = same_set mark_total mark_exact _ _ (λ m. both_ways _ _
 pub least_is : (os : List Op) → least_marks os ≡ least (marks_in (set.from_list {R = op_cmp} os))
 least_is os = ap least (marks_of_list os)
 
--- of operations of which none replaces another each mark is there
+-- if no operation of a list replaces another, none of their marks is redundant
 pub own_marks : (os : List Op) → kept (set.from_list {R = op_cmp} os) ≡ set.from_list os → least_marks os ≡ set.from_list (marks_of os)
 own_marks os e = least_is os ∙ sym (marks_kept (set.from_list os)) ∙ ap marks_in e ∙ sym (marks_of_list os)
 
 -- ---- the marks of a join
 
--- the marks of what is kept of two are the least of the marks of both
+-- the marks of the joined operations are the merge of the marks of both
 pub marks_of_join : (xs ys out : List Op) (ms ns os : MarkSet) → ms ≡ least_marks xs → ns ≡ least_marks ys
     → set.from_list {R = op_cmp} out ≡ kept (union (set.from_list {R = op_cmp} xs) (set.from_list {R = op_cmp} ys))
     → os ≡ merged_marks ms ns → os ≡ least_marks out
@@ -156,7 +156,7 @@ marks_of_join xs ys out ms ns os left right all joined =
 pub joined_same : (a b : MarkSet) → ◌≡◌ {A = Result MarkSet Infallible} (Ok a) (Ok b) → a ≡ b
 joined_same a b h = cc
 
--- and with one more mark the least of the marks and that one
+-- the union with the set of one mark is an insertion
 union_one : (ms : MarkSet) (m : Mark) → union ms (set.from_list (m ∷ [])) ≡ set.insert ms m
 union_one ms m = same_set mark_total mark_exact _ _ (λ q.
     contains-union mark_total ms (set.from_list (m ∷ [])) q

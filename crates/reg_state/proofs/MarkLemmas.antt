@@ -28,7 +28,7 @@ pub marks_whole : (ms : List Mark) (rest : List Op) (all : List Mark) → length
 marks_whole ms [] all e h = sym (append-nil ms) ∙ h
 marks_whole ms (x ∷ xs) all e h = absurd (omega arith)
 
--- ---- what a mark replaces
+-- ---- the operations that a mark replaces
 
 same_any : (f g : Mark → Bool) → ((m : Mark) → f m ≡ g m) → (ms : List Mark) → list_any f ms ≡ list_any g ms
 same_any f g h ms = λ i. list_any (λ m. h m i) ms
@@ -92,7 +92,7 @@ replaced_supersede ms i old newer note =
 same_back : (a b : Id) → is_same a b ≡ is_same b a
 same_back a b = (eq_by_cmp_equiv id_total).symm a b
 
--- what holds of the marks of an operation alone holds of the marks of all
+-- if a test on the marks of one operation agrees with a test on the operation, they agree on lists
 through : (t : Mark → Bool) (u : Op → Bool) → ((i : Id) (b : Body) (n : List ℕ) → list_any t (marks_of_body i b) ≡ u (record { id = i; body = b; note = n })) → (os : List Op) → list_any t (marks_of os) ≡ list_any u os
 through t u each [] = refl
 through t u each (o ∷ os) = list_any-append t (marks_of_body o.id o.body) (marks_of os) ∙ (λ k. each o.id o.body o.note k || through t u each os k)
@@ -128,12 +128,12 @@ marks_touch e os =
     each i (Supersede old newer) = or_false _ ∙ and_true (is_same e old)
     each i (Retire entry) = refl
 
--- ---- what the least marks tell of all
+-- ---- tests on the least marks
 
 pub any_marks : (t : Mark → Bool) → ((p m : Mark) → lessens p m ≡ true → t m ≡ true → t p ≡ true) → (os : List Op) (ms : MarkSet) → ms ≡ least_marks os → any t ms ≡ list_any t (marks_of os)
 any_marks t falls os ms e = ap (any t) e ∙ any-least t falls (set.from_list (marks_of os)) ∙ any-from_list t (marks_of os)
 
--- where of operations none replaces another, their marks are all there
+-- if no operation of a list replaces another, a test on the least marks is one on all marks
 any_own : (t : Mark → Bool) (os : List Op) (ms : MarkSet) → ms ≡ least_marks os → kept (set.from_list {R = op_cmp} os) ≡ set.from_list os → any t ms ≡ list_any t (marks_of os)
 any_own t os ms e k = ap (any t) (e ∙ own_marks os k) ∙ any-from_list t (marks_of os)
 

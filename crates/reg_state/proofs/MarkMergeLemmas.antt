@@ -1,4 +1,4 @@
--- Two sorted lists of marks become one.
+-- The merge of two sorted lists of marks.
 use Rattle.std.proofs.Common.{◌≡◌, Bool, true, false, ◌||◌, List, [], ◌∷◌, ◌++◌, length, refl, sym, ap, ◌∙◌, subst, inl, inr, ◌⊎◌, arith}
 use Rattle.std.proofs.lemmas.List.Sorted.{ranks_by}
 use Rattle.std.proofs.lemmas.List.Folds.{list_any-append}
@@ -24,7 +24,7 @@ all_chain : (a b : Mark) (xs : List Mark) → IsBy a b → AllBy b xs → AllBy 
 all_chain a b [] h k = tt
 all_chain a b (x ∷ xs) h k = (by_chain a b x h k.0, all_chain a b xs h k.1)
 
--- each of the first stands no later than each of the second
+-- each mark of the first list is no later than each of the second
 abbrev pub Before : List Mark → List Mark → Type 0
 Before [] ys = Unit {0}
 Before (x ∷ xs) ys = AllBy x ys × Before xs ys
@@ -53,7 +53,7 @@ pub before_none : (xs : List Mark) → Before xs []
 before_none [] = tt
 before_none (x ∷ xs) = (tt, before_none xs)
 
--- in the midst of a walk along both
+-- during the merge: the output and the rest of each list are sorted, and together have the marks of both lists
 pub record IsMerging (made lefts rights left right : List Mark) : Type 0 where
   pub made_up : Up made
   pub left_up : Up lefts
@@ -121,7 +121,7 @@ pub merged_right : (made new lefts rights left right : List Mark) (a b : Mark) (
 merged_right made new lefts rights left right a b more bs is l r first e =
     subst (λ xs. IsMerging xs lefts bs left right) (sym e) (turned _ _ _ _ _ (took made rights lefts right left b a bs more (turned _ _ _ _ _ is) r l first))
 
--- one list is spent, and what is left of the other goes to the end
+-- after the merge: the output is sorted, and has the marks of both lists
 pub record IsMerged (new left right : List Mark) : Type 0 where
   pub sorted : IsSorted mark_cmp new
   pub covered : (m : Mark) → has new m ≡ has (left ++ right) m

@@ -1,4 +1,4 @@
--- A run meets some runs: the first that does not end before it tells.
+-- The first run that does not end before a run tells whether that run overlaps any of a list.
 use Rattle.std.proofs.Common.{◌≡◌, ℕ, ◌+◌, ◌-◌, ◌<◌, ◌≤◌, zero, suc, max, min, Bool, true, false, leb, List, [], ◌∷◌, length, get_or, sym, ap, ◌∙◌, subst, inl, inr, ◌⊎◌, arith}
 use Rattle.std.proofs.lemmas.Bool.{true≢false, and_from, and_parts, or_cases, or_left, or_right, false_from_ne_true}
 use Rattle.std.proofs.lemmas.Bool.Decides.{nat_tests}
@@ -14,7 +14,7 @@ use Rattle.reg_state.specs.Runs.{replica_cmp, id_at, first_of, ids_from, seen_of
 use Rattle.reg_state.proofs.RunLemmas.{same_replica, replica_itself, not_below_same, first_run, rest_runs, contains-seen_of}
 use Rattle.reg_state.proofs.SearchLemmas.{IsUpTo, IsPast, within, in_run, ends, past_of, past_ends, runs_far}
 
--- ---- what runs have in common
+-- ---- runs that overlap
 
 leb_yes : (m n : ℕ) → leb m n ≡ true → m ≤ n
 leb_yes m n e = grind (arith, nat_tests)
@@ -39,7 +39,7 @@ of_overlap r s is o =
     yes_leb : (m n : ℕ) → m ≤ n → leb m n ≡ true
     yes_leb m n e = grind (arith, nat_tests)
 
--- ---- ids of a run
+-- ---- a run overlaps one of a list if and only if the list has an id of it
 
 some_from : (t : Id → Bool) (q : List ℕ) (low n c : ℕ) → low ≤ c → c < low + n → t (id_at q c) ≡ true → list_any t (ids_from q low n) ≡ true
 some_from t q low zero c a b h = absurd (omega arith)
@@ -92,9 +92,9 @@ meets_overlap rs are r h =
 pub meets_is : (rs : List Run) → AreRuns rs → (r : Run) → list_any (overlap r) rs ≡ meets (seen_of rs) r
 meets_is rs are r = both_ways _ _ (overlaps_meet rs r) (meets_overlap rs are r)
 
--- ---- the search
+-- ---- the conditions of the search
 
--- s is r, or stands after it, and both are runs
+-- both are runs, and s is r or is after it
 pub record AreUpTo (r s : Run) : Type 0 where
   pub is_run : IsRun r
   pub later : IsUpTo r s

@@ -1,4 +1,4 @@
--- A walk along two lists of operations by id.
+-- The merge of two lists of operations that are ordered by id.
 use Rattle.std.proofs.Common.{◌≡◌, ℕ, Bool, true, false, not, ◌&&◌, ◌||◌, cond, List, [], ◌∷◌, ◌++◌, append_assoc, append-nil, length, refl, sym, ap, ◌∙◌, subst, inl, inr, ◌⊎◌, Some, None, arith, zero, suc, get_or, ◌<◌, ◌≤◌}
 use Rattle.std.proofs.lemmas.Bool.{true≢false, and_from, and_parts, or_left, or_right, false_from_ne_true}
 use Rattle.std.proofs.lemmas.List.Folds.{list_any-append}
@@ -41,7 +41,7 @@ before_not_back a b h = from (id_cmp a b) (id_cmp b a) (id_total.antisymm b a) h
     from Equal s e h = absurd (true≢false (sym h))
     from Greater s e h = absurd (true≢false (sym h))
 
--- ---- the least clash
+-- ---- the least clash of two lists, and of their tails
 
 no_clash_after : (a : Op) (rights : List Op) → AllAfter a.id rights → list_any (λ p. clashes p a) rights ≡ false
 no_clash_after a [] h = refl
@@ -62,7 +62,7 @@ AllAfter-later : (i j : Id) (os : List Op) → is_before i j ≡ true → AllAft
 AllAfter-later i j [] h k = tt
 AllAfter-later i j (o ∷ os) h k = (before_chain i j o.id h k.0, AllAfter-later i j os h k.1)
 
--- all of a list by id are after what is before its first
+-- an id that is before the first of an ordered list is before all of the list
 pub all_after : (i : Id) (b : Op) (bs : List Op) → is_before i b.id ≡ true → ById (b ∷ bs) → AllAfter i (b ∷ bs)
 all_after i b bs h k = (h, AllAfter-later i b.id bs h k.0)
 
@@ -93,7 +93,7 @@ clash_start (a ∷ more) rights h = absurd (omega arith)
 pub ById-rest : (xs more : List Op) (a : Op) → xs ≡ a ∷ more → ById xs → ById more
 ById-rest xs more a e h = (subst ById e h).1
 
--- ---- the walk
+-- ---- the steps of the merge
 
 AllAfter-insert : (i : Id) (out more rights : List Op) (a : Op) → AllAfter i (out ++ a ∷ more) → AllAfter i (out ++ rights) → AllAfter i (out ++ a ∷ rights)
 AllAfter-insert i [] more rights a h k = (h.0, k)
@@ -111,7 +111,7 @@ ById-drop : (out more : List Op) (a : Op) → ById (out ++ a ∷ more) → ById 
 ById-drop [] more a h = h.1
 ById-drop (x ∷ out) more a h = (AllAfter-drop x.id out more a h.0, ById-drop out more a h.1)
 
--- what goes out of a list's head: it, or nothing
+-- what the head of a list adds to the output: itself, or nothing
 abbrev out_of : Bool → Op → List Op
 out_of b a = cond b (a ∷ []) []
 
@@ -218,7 +218,7 @@ took_both keep out new lefts rights left right more bs a b is agree l r same e =
           ∙ is.covered q;
     }
 
--- ---- the end: what is left goes out
+-- ---- the end: the rest of one list is filtered, and appended to the output
 
 AllAfter-filter : (f : Op → Bool) (i : Id) (xs : List Op) → AllAfter i xs → AllAfter i (filter f xs)
 AllAfter-filter f i [] h = tt
@@ -276,7 +276,7 @@ spent_right keep out new lefts rights left right is h e =
 
 -- ---- a search by id
 
--- p is o, or stands before it
+-- p is o, or is before it
 abbrev pub IsUpTo : Op → Op → Type 0
 IsUpTo p o = (p ≡ o) ⊎ (is_before p.id o.id ≡ true)
 
@@ -303,7 +303,7 @@ pub entry_down : (i : Id) (u : Op → Bool) (p o : Op) → IsUpTo p o → is_bef
 entry_down i u p o (inl e) h k = subst (λ x. (is_same i x.id && u x) ≡ true) (sym e) k
 entry_down i u p o (inr e) h k = absurd (true≢false (sym (subst (λ j. is_before p.id j ≡ true) (sym (is_same_exact i o.id (and_parts _ _ k).0)) e) ∙ h))
 
--- ---- what no mark of one list replaces
+-- ---- operations that the marks of their own list do not replace
 
 pub own_left : (ms ns : MarkSet) (q : Op) → is_marked_off ms q ≡ false → lasts ns q ≡ stays ms ns q
 own_left ms ns q h = λ k. not (sym h k || is_marked_off ns q)

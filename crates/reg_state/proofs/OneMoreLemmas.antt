@@ -1,4 +1,4 @@
--- A content with one operation more: one that is there, one that is replaced, one that sets a mark.
+-- A content and one more operation: its id is known, or it is replaced, or it sets a mark.
 use Rattle.std.proofs.Common.{◌≡◌, ℕ, Bool, true, false, not, ◌&&◌, cond, List, [], ◌∷◌, filter, refl, sym, ap, ◌∙◌, subst, inl, inr}
 use Rattle.std.proofs.lemmas.Bool.{true≢false, and_from, and_parts, or_cases, or_left, or_right, not-true, not_from_false, false_from_ne_true}
 use Rattle.std.specs.List.{insert, list_any}
@@ -32,13 +32,13 @@ use Rattle.reg_state.proofs.TakeLemmas.{ids_one, with_one}
 eq_of : (q o : Op) → eq_by_cmp op_cmp q o ≡ true → q ≡ o
 eq_of q o h = op_exact q o ((Equal-is (op_cmp q o)).0 h)
 
--- a union with what is there already
+-- the union with a subset changes nothing
 union_there : {K : Type 0} {R : K → K → Ordering} (o : IsTotalOrder R) (same : IsAntisymmetric R) (s t : Set R) → ((x : K) → contains t x ≡ true → contains s x ≡ true) → s ≡ union s t
 union_there o same s t within = same_set o same _ _ (λ x. both_ways _ _
     (λ h. contains-union o s t x ∙ or_left _ _ h)
     (λ h. elim (or_cases (contains s x) (contains t x) (sym (contains-union o s t x) ∙ h)) [ inl a ↦ a | inr b ↦ within x b ]))
 
--- ---- an operation that is there
+-- ---- an operation whose id is known
 
 pub known_is : (x : Content) (o : Op) → IsContent x → OneBody (union x.ops (one o)) → any (λ p. is_same o.id p.id) x.ops ≡ true → x ≡ merged x (state (one o))
 known_is x o is one_body h =
@@ -55,7 +55,7 @@ known_is x o is one_body h =
       | inr e ↦ absurd (true≢false (sym e))
     ]))
 
--- what a search by id tells
+-- the content has an operation with the id if and only if the list has one
 pub id_there : (x : Content) (xs ys : List Op) (v : Ids) (o : Op) (i : Id) (r : Bool) → content_at xs v ≡ x → ys ≡ xs → i ≡ o.id → r ≡ list_any (λ p. is_same i p.id) ys
     → any (λ p. is_same o.id p.id) x.ops ≡ r
 id_there x xs ys v o i r at e f h =
@@ -67,7 +67,7 @@ id_there x xs ys v o i r at e f h =
 pub absent_of : (x : Content) (o : Op) → any (λ p. is_same o.id p.id) x.ops ≡ false → (q : Op) → contains x.ops q ≡ true → is_same o.id q.id ≡ false
 absent_of x o h q k = false_from_ne_true _ (λ e. true≢false (sym (any_from_member op_total op_exact (λ p. is_same o.id p.id) x.ops q k e) ∙ h))
 
--- ---- tables with one more
+-- ---- the tables with one more operation
 
 pub one_more_at : (xs out : List Op) (v w : Ids) (o : Op) → set.from_list {R = op_cmp} out ≡ kept (union (set.from_list {R = op_cmp} xs) (one o)) → w ≡ union v (ids (one o))
     → content_at out w ≡ merged (content_at xs v) (state (one o))
@@ -82,7 +82,7 @@ one_more_tables xs out ms os v w o is op one_body e up marked f = record {
       (merged_is_content (content_at xs v) (state (one o)) is.is_content (one_is_content o op) (with_one (content_at xs v) o one_body));
 }
 
--- ---- one that is replaced
+-- ---- an operation that is replaced
 
 pub replaced_is : (xs : List Op) (ms : MarkSet) (v : Ids) (o : Op) → AreTables xs ms v → is_marked_off ms o ≡ true
     → set.from_list {R = op_cmp} xs ≡ kept (union (set.from_list {R = op_cmp} xs) (one o))
@@ -102,7 +102,7 @@ replaced_is xs ms v o is off =
       | inr b ↦ absurd (kept_free (union s (one o)) q p.0 h (union_left s (one o) p.0 p.1) (subst (λ y. replaces p.0 y ≡ true) (sym (one_is o q b)) p.2))
     ]))
 
--- ---- one that is not, and what it replaces
+-- ---- an operation that is not replaced, and those that it replaces
 
 abbrev pub unreplaced_by : Op → List Op → List Op
 unreplaced_by o xs = filter (λ q. not (replaces o q)) xs
@@ -151,7 +151,7 @@ put_kept xs out ms v i o is off e =
       | inr b ↦ or_right _ _ (sym (contains-from_list op_total (o ∷ []) q) ∙ b)
     ]))
 
--- where the mark covers none, the operation replaces none
+-- a filter that all elements pass changes nothing
 filter_all : (f : Op → Bool) (xs : List Op) → ((q : Op) → has xs q ≡ true → f q ≡ true) → xs ≡ filter f xs
 filter_all f [] h = refl
 filter_all f (x ∷ xs) h =

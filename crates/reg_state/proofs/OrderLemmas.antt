@@ -1,4 +1,4 @@
--- Marks ascend by what they are about, and what a search at a target tells.
+-- The order of marks, and the search for a target.
 use Rattle.std.proofs.Common.{◌≡◌, ℕ, Bool, true, false, ◌&&◌, ◌≤◌, ◌<◌, List, length, get_or, refl, sym, ap, ◌∙◌, subst, Option, None, Some}
 use Rattle.std.proofs.lemmas.Bool.{and_from, and_parts, true≢false, true_from_ne_false, false_from_ne_true, not-true}
 use Rattle.std.proofs.lemmas.List.Sorted.{ranks_by, sorted_far}
@@ -39,7 +39,7 @@ eq_not_lt Less h = absurd (true≢false (sym h))
 eq_not_lt Equal h = refl
 eq_not_lt Greater h = refl
 
--- m stands no later than n
+-- m is no later than n
 abbrev pub IsBy : Mark → Mark → Type 0
 IsBy m n = is_lt (mark_cmp n m) ≡ false
 
@@ -55,7 +55,7 @@ below_low t m n h b = true_from_ne_false _ (λ k. true≢false (sym b ∙ lt_tar
 at_back : (t : Target) (n : Mark) → is_at t n ≡ true → is_eq (target_cmp t n.target) ≡ true
 at_back t n a = ap is_eq (tied_back target_total n.target t ((Equal-is (target_cmp n.target t)).0 a))
 
--- of the marks from a target on, the earlier of two is at it where the later is
+-- of the marks that are not below t, one that is no later than a mark at t is at t
 at_earlier : (t : Target) (m n : Mark) → IsBy m n → is_lt (target_cmp m.target t) ≡ false → is_at t n ≡ true → is_at t m ≡ true
 at_earlier t m n h k a =
     tied_of target_total m.target t k
@@ -109,13 +109,13 @@ found_at xs t m h a =
 pub found_there : (xs : List Mark) (k : ℕ) (m : Mark) → k < length xs → m ≡ get_or xs k m → has xs m ≡ true
 found_there xs k m h at = list_any_at (eq_by_cmp mark_cmp m) xs k m h (ap (eq_by_cmp mark_cmp m) (sym at) ∙ ap is_eq (tied_itself mark_total m))
 
--- what a search tells of the list is so of the set
+-- a search that decides a test on a list decides it on the set of the list
 pub told_of : (t : Mark → Bool) (xs ys : List Mark) (s : MarkSet) (r q : Option Mark) → list_any t ys ≡ passes t r → ys ≡ xs → set.from_list {R = mark_cmp} xs ≡ s → r ≡ q → passes t q ≡ any t s
 told_of t xs ys s r q h e f g = sym (ap (passes t) g) ∙ sym h ∙ ap (list_any t) e ∙ sym (any-from_list t xs) ∙ ap (any t) f
 
--- ---- the least
+-- ---- the least marks
 
--- what goes down along lesser marks holds of some mark where it holds of some least one
+-- for a test that p passes if p makes redundant a mark that passes, `least` does not change whether some mark passes
 pub any-least : (t : Mark → Bool) → ((p m : Mark) → lessens p m ≡ true → t m ≡ true → t p ≡ true) → (s : MarkSet) → any t (least s) ≡ any t s
 any-least t falls s = any-topmost mark_total mark_exact lessens lessens_irreflexive lessens_chain t falls s
 
@@ -126,13 +126,13 @@ lessens_itself : (by : Option Id) (before : Bool) → before ≡ true → lessen
 lessens_itself None before h = h
 lessens_itself (Some n) before h = and_from _ _ (ap is_eq (tied_itself id_total n)) h
 
--- of two marks of one target the one with the lesser id makes the other needless
+-- of two marks of a target, the one with the lesser id makes the other redundant
 pub lessens_at : (p m : Mark) → is_at m.target p ≡ true → is_before p.id m.id ≡ true → lessens p m ≡ true
 lessens_at p m a h =
     subst (λ (t : Target). (is_same t.entry m.target.entry && lessens_by t.by m.target.by (is_before p.id m.id)) ≡ true) (sym (at_exact m.target p a))
     (and_from _ _ (ap is_eq (tied_itself id_total m.target.entry)) (lessens_itself m.target.by _ h))
 
--- a target has one least mark, which comes before an id where some mark of it does
+-- if no mark is redundant, a mark of a target is before j if and only if the target's mark is
 pub any_before : (s : MarkSet) → AreLeast s → (t : Target) (i j : Id) → contains s (record { target = t; id = i }) ≡ true → any (λ m. is_at t m && is_before m.id j) s ≡ is_before i j
 any_before s are t i j h = both_ways _ _
     (λ k.

@@ -1,4 +1,4 @@
--- A walk along two lists of runs: each step, and what was taken.
+-- The walk that computes the difference of two lists of runs: its steps, and its output.
 use Rattle.std.proofs.Common.{◌≡◌, ℕ, ◌+◌, ◌-◌, ◌<◌, ◌≤◌, max, Bool, true, false, not, ◌&&◌, ◌||◌, leb, List, [], ◌∷◌, ◌++◌, length, Option, Some, None, IfSome, IfNone, find, cond, refl, sym, ap, ◌∙◌, subst, inl, inr, ◌⊎◌, arith}
 use Rattle.std.proofs.lemmas.Bool.{true≢false, and_from, and_parts, or_cases, or_left, or_right, false_from_ne_true}
 use Rattle.std.proofs.lemmas.Bool.Decides.{nat_tests}
@@ -20,7 +20,7 @@ use Rattle.reg_state.proofs.RunLemmas.{below_chain, not_below_same, below_back, 
 use Rattle.reg_state.proofs.SearchLemmas.{IsPast, IsWithin, ends, in_run, past_of, past_ends, within}
 use Rattle.reg_state.proofs.CanonLemmas.{IsFrom, far_from, from_first}
 
--- ---- which run comes first
+-- ---- which of two runs ends before the other begins
 
 not_past : (r : Run) (i : Id) → ends i r ≡ false → IsBelow i.replica r.replica ⊎ ((r.replica ≡ i.replica) × (i.count ≤ r.high))
 not_past r i h =
@@ -62,11 +62,11 @@ past_not_in o i p = false_from_ne_true _ (λ e. refuted (within i o e) p)
     refuted w (inl a) = not_below_same o.replica i.replica (sym w.replica) a
     refuted w (inr b) = omega (arith, w.high, b.1)
 
--- no id of a run is in runs that begin after it
+-- no id of r is in runs that begin after the end of r
 clear : (r s : Run) (ss : List Run) → AreRuns (s ∷ ss) → IsPast r (first_of s) → (i : Id) → is_in_run i r ≡ true → is_in_runs i (s ∷ ss) ≡ false
 clear r s ss are p i h = false_from_ne_true _ (λ e. true≢false (sym h ∙ past_not_in r i (past_from r s i p (from_first s ss i are e))))
 
--- ---- what is in some runs, and not in others
+-- ---- identities of Booleans, for each step
 
 drop_right : (x o t : Bool) → (x ≡ true → o ≡ false) → (x && not t) ≡ (x && not (o || t))
 drop_right true o t h = λ k. not (sym (h refl) k || t)
@@ -101,13 +101,13 @@ runs_from_0 (r ∷ rs) = λ k. record { replica = r.replica; low = low_0 r.low k
     low_0 : (n : ℕ) → max n 0 ≡ n
     low_0 n = grind arith
 
--- the first of some runs begins later
+-- the first of a list of runs may begin at another count
 later_runs : (r s : Run) (rs : List Run) → AreRuns (r ∷ rs) → s.replica ≡ r.replica → s.high ≡ r.high → IsRun s → AreRuns (s ∷ rs)
 later_runs r s [] h e f is = is
 later_runs r s (x ∷ xs) h e f is =
     (is, elim h.1 [ inl a ↦ inl (subst (λ q. IsBelow q x.replica) (sym e) a) | inr b ↦ inr (e ∙ b.0, omega (arith, f, b.1)) ], h.2)
 
--- ---- in the midst of a walk
+-- ---- during the walk
 
 pub record IsOn (low : ℕ) (lefts rights : List Run) (w : Walk) : Type 0 where
   pub left_runs : AreRuns (runs_from low lefts)
@@ -160,7 +160,7 @@ module _ (low : ℕ) (first : Run) (others : List Run) (w : Walk) where
     }
 
     module _ (m : AreMeeting run other) where
-      -- the ids of the run from a count within it
+      -- the ids of `run` from a count within it
       module _ (count : ℕ) (above : run.low ≤ count) (within_it : count ≤ run.high) where
         abbrev back : Run
         back = from_count count first
@@ -316,9 +316,9 @@ module _ (low : ℕ) (lefts rights : List Run) (w : Walk) (on : IsOn low lefts r
           subst (λ rs. IsOn 0 others rs w) (sym r)
           (covered_whole low first others w other rest on_both meet (subst (λ (x : Run). other.low ≤ x.low) e h) (subst (λ (x : Run). x.high ≤ other.high) e k))
 
--- ---- the runs that were taken
+-- ---- the output of the walk
 
--- each id of the runs that went out is beyond by those that are left
+-- each id that the walk has not yet passed is after each id of the output, and not adjacent to it
 abbrev AllBeyond : List Run → Walk → Type 0
 AllBeyond out w = (i j : Id) → is_in_runs i out ≡ true → is_left w j ≡ true → IsBelow i.replica j.replica ⊎ ((i.replica ≡ j.replica) × (i.count + 1 < j.count))
 
@@ -390,7 +390,7 @@ pub if_some_is : (P : Id → Type 0) (x : Option Id) (j : Id) → IfSome x (λ i
 if_some_is P None j e p = tt
 if_some_is P (Some i) j e p = subst P (sym e) p
 
--- the least of those in a set that are not in another is the first of the set's items that is not in the other
+-- in an ascending list, the least id that passes is the first one that passes
 first_found : (p : Id → Bool) (j : Id) (xs : List Id) → Climbs id_cmp xs → list_any (eq_by_cmp id_cmp j) xs ≡ true → p j ≡ true
     → ((i : Id) → list_any (eq_by_cmp id_cmp i) xs ≡ true → p i ≡ true → is_before i j ≡ false) → Some j ≡ find p xs
 first_found p j [] up there passes least = absurd (true≢false (sym there))
@@ -428,7 +428,7 @@ missing_is (Some j) s t f same none some =
     first_found (λ i. not (set.contains t i)) j (set.items s) (items_climb id_cmp s) (sym (set.contains-items s j) ∙ p.0) p.1
     (λ i h k. some.least i (same i ∙ and_from _ _ (set.contains-items s i ∙ h) k))
 
--- what is in some runs and not in others
+-- the difference of two lists of runs has the ids of the difference of their sets
 pub is_difference : (ls rs : List Run) (i : Id) → is_outside ls rs i ≡ (set.contains (seen_of ls) i && not (set.contains (seen_of rs) i))
 is_difference ls rs i = λ k. sym (contains-seen_of ls i) k && not (sym (contains-seen_of rs i) k)
 

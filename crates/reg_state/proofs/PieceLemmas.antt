@@ -1,4 +1,4 @@
--- What is outside a basis, as lists, and pieces.
+-- The operations outside a basis, as a list, and pieces.
 use Rattle.std.specs.Prelude.{◌↔◌}
 use Rattle.std.proofs.Common.{◌≡◌, Bool, true, false, ◌&&◌, List, Result, Ok, Err, None, refl, sym, ap, ◌∙◌, subst}
 use Rattle.std.proofs.lemmas.Bool.{and_parts, not-true}
@@ -25,7 +25,7 @@ and_turn true false = refl
 and_turn false true = refl
 and_turn false false = refl
 
--- a filtered list is the filtered set
+-- the set of a filtered list is the filtered set
 set_of_filter : (t : Op → Bool) (os : List Op) → set.from_list {R = op_cmp} (filter t os) ≡ set.retain (set.from_list os) t
 set_of_filter t os = same_set op_total op_exact _ _ (λ q.
     contains-from_list op_total (filter t os) q
@@ -57,13 +57,13 @@ basis_of_outside basis copy x part e f are_ids =
 pub basis_of_parts : (basis : Ids) (os : List Op) (v : Ids) (part : Content) → part ≡ content_at os v → ((i : Id) → contains basis i ≡ true → IsId i) → ((i : Id) → contains v i ≡ true → contains basis i ≡ false) → IsBasisOf basis part
 basis_of_parts basis os v part e are_ids apart = subst (IsBasisOf basis) (sym e) (record { are_ids = are_ids; apart = apart })
 
--- ---- what it is to join a piece
+-- ---- the join of a piece
 
 clash_within : (r : Result Content Id) (i : Id) → joined_where None r ≡ Err (Clash i) → r ≡ Err i
 clash_within (Ok x) i h = cc
 clash_within (Err j) i h = cc
 
--- where no id is missing, the clash is that with the part
+-- if no id of the basis is missing, the piece clashes where its operations do
 pub clash_of_part : (x : Content) (basis v : Ids) (part : Content) (p : Piece) → piece_of basis part ≡ p → v ≡ x.seen → first_missing basis v ≡ None
     → (i : Id) → (joined_piece x p ≡ Err (Clash i)) ↔ (joined x part ≡ Err i)
 clash_of_part x basis v part p e f none i =

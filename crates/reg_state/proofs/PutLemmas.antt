@@ -1,4 +1,4 @@
--- An entry that is put among operations by id.
+-- An entry is inserted into operations that are ordered by id.
 use Rattle.std.proofs.Common.{◌≡◌, ℕ, ◌<◌, ◌≤◌, Bool, true, false, not, ◌&&◌, ◌||◌, List, [], ◌∷◌, ◌++◌, length, get_or, take, drop, zero, suc, append_assoc, refl, sym, ap, ◌∙◌, subst, inl, inr, arith}
 use Rattle.std.proofs.lemmas.Bool.{true≢false, true_from_ne_false, or_cases}
 use Rattle.std.proofs.lemmas.List.{take-append-drop}
@@ -27,7 +27,7 @@ use Rattle.reg_state.proofs.MarkLemmas.{replaced_enter}
 use Rattle.reg_state.proofs.TableLemmas.{enter_replaces, marked_off, kept_off, merged_at}
 use Rattle.reg_state.proofs.TakeLemmas.{ids_one, content_of_one, tables_of_one, with_one}
 
--- ---- in its place
+-- ---- the list stays ordered by id
 
 after_put : (k : Id) (i : ℕ) (xs : List Op) (o : Op) → AllAfter k xs → is_before k o.id ≡ true → AllAfter k (take i xs ++ o ∷ drop i xs)
 after_put k zero xs o h b = (b, h)
@@ -49,7 +49,7 @@ by_id_put (suc i) (x ∷ xs) o up low high = (
   by_id_put i xs o up.1 (λ j d a b. low (suc j) d (omega arith) (omega arith)) (λ j d a b. high (suc j) d (omega arith) (omega arith)),
 )
 
--- at a partition point, where no operation has the id
+-- an operation is inserted at the partition point of its id, which no other has, and the list stays ordered by id
 pub by_id_at : (i : ℕ) (xs out : List Op) (o : Op) (id : Id) → ById xs → ((q : Op) → has xs q ≡ true → is_same o.id q.id ≡ false) → id ≡ o.id → out ≡ insert xs i o
     → IsPartitionPoint (λ y. is_before y.id id ≡ true) (λ y. is_before y.id id ≡ false) xs i → ById out
 by_id_at i xs out o id up absent is e at =
@@ -62,7 +62,7 @@ by_id_at i xs out o id up absent is e at =
     let there : has xs y ≡ true = list_any_at (eq_by_cmp op_cmp y) xs j d b (ap is_eq (tied_itself op_total y)) in
     true≢false (sym (ap is_eq (tied_itself id_total o.id)) ∙ ap (λ k. is_same o.id k) same ∙ absent y there))))
 
--- ---- the same operations, and one more
+-- ---- the new list has one more operation, and the same marks
 
 pub has_put : (i : ℕ) (xs : List Op) (o q : Op) → has (insert xs i o) q ≡ (has xs q || has (o ∷ []) q)
 has_put i xs o q =
@@ -93,7 +93,7 @@ marks_put i xs o h =
     ∙ sym (marks-append (take i xs) (drop i xs))
     ∙ ap marks_of (take-append-drop i xs)
 
--- ---- what is put in is neither replaced, nor replaces
+-- ---- an Enter is not replaced, and replaces nothing
 
 unreplaced : (ms : MarkSet) (o : Op) → is_enter o.body ≡ true → is_marked_off ms o ≡ false
 unreplaced ms o h = from o.body h
@@ -136,7 +136,7 @@ covered_put xs ms v i o q is h = has_put i xs o q ∙ absorbs _ _ (λ k. all_sta
     absorbs false true f = refl
     absorbs false false f = refl
 
--- ---- the register with it
+-- ---- the tables with the entry
 
 own_one : (o : Op) → IsOperation o → AreTables (o ∷ []) (least_marks (o ∷ [])) (ids (one o))
 own_one o is = tables_of_one o (o ∷ []) (least_marks (o ∷ [])) (ids (one o)) is refl refl refl

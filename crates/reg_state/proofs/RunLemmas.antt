@@ -1,4 +1,4 @@
--- Runs: what they have, and one more at the end.
+-- The ids of runs, and one more run at the end.
 use Rattle.std.proofs.Common.{◌≡◌, ℕ, ◌+◌, ◌-◌, ◌<◌, ◌≤◌, zero, suc, Bool, true, false, ◌&&◌, ◌||◌, eqb, leb, ltb, max, List, [], ◌∷◌, ◌++◌, length, refl, sym, ap, ◌∙◌, subst, inl, inr, ◌⊎◌, arith}
 use Rattle.std.proofs.lemmas.Bool.{and_from, or_left, or_right}
 use Rattle.std.proofs.lemmas.Bool.Decides.{nat_tests}
@@ -81,13 +81,13 @@ AreRuns-last [] l h = h
 AreRuns-last (x ∷ []) l h = h.2
 AreRuns-last (x ∷ y ∷ ys) l h = AreRuns-last (y ∷ ys) l h.2
 
--- the last run grows
+-- the last run may end at another count
 pub AreRuns-grown : (xs : List Run) (l m : Run) → AreRuns (xs ++ l ∷ []) → IsRun m → m.replica ≡ l.replica → m.low ≡ l.low → AreRuns (xs ++ m ∷ [])
 AreRuns-grown [] l m h is r w = is
 AreRuns-grown (x ∷ []) l m h is r w = (h.0, elim h.1 [ inl a ↦ inl (subst (λ y. IsBelow x.replica y) (sym r) a) | inr b ↦ inr (b.0 ∙ sym r, omega (arith, b.1)) ], is)
 AreRuns-grown (x ∷ y ∷ ys) l m h is r w = (h.0, h.1, AreRuns-grown (y ∷ ys) l m h.2 is r w)
 
--- one more run that is apart
+-- a run that is apart from the last one may be appended
 pub AreRuns-push : (xs : List Run) (l m : Run) → AreRuns (xs ++ l ∷ []) → IsRun m → IsApart l m → AreRuns ((xs ++ l ∷ []) ++ m ∷ [])
 AreRuns-push [] l m h is apart = (h, apart, is)
 AreRuns-push (x ∷ []) l m h is apart = (h.0, h.1, (h.2, apart, is))
@@ -118,7 +118,7 @@ or-false false = refl
 pub in_runs-push : (i : Id) (xs : List Run) (l : Run) → is_in_runs i (xs ++ l ∷ []) ≡ (is_in_runs i xs || is_in_run i l)
 in_runs-push i xs l = list_any-append (is_in_run i) xs (l ∷ []) ∙ ap (λ b. is_in_runs i xs || b) (or-false (is_in_run i l))
 
--- a run that touches or meets another makes one with it
+-- if m begins within l or right after it, a run from l.low to the greater end has the ids of both
 pub in_run-grown : (i : Id) (l m : Run) → l.replica ≡ m.replica → l.low ≤ m.low → m.low ≤ l.high + 1 → IsRun l → IsRun m
     → is_in_run i (record { replica = l.replica; low = l.low; high = max l.high m.high }) ≡ (is_in_run i l || is_in_run i m)
 in_run-grown i l m r w t a b =
@@ -132,7 +132,7 @@ in_run-grown i l m r w t a b =
         at_true y ll lh ml mh w t a b = grind (arith, nat_tests)
     from false y ll lh ml mh w t a b = refl
 
--- what a list of runs is after one more that begins no earlier
+-- `new` has the ids of `old` and `run`, and begins no later than any run that `run` begins no later than
 pub record IsPushed (old new : List Run) (run : Run) : Type 0 where
   pub runs : AreRuns new
   pub covered : (i : Id) → is_in_runs i new ≡ (is_in_runs i old || is_in_run i run)
@@ -147,7 +147,7 @@ EndInIds-parts : (xs : List Run) (l : Run) → EndInIds (xs ++ l ∷ []) → End
 EndInIds-parts [] l h = (tt, h.0)
 EndInIds-parts (x ∷ xs) l h = let rest = EndInIds-parts xs l h.1 in ((h.0, rest.0), rest.1)
 
--- the end of two runs that became one is that of one of them
+-- if the last ids of two runs of a replica are valid, so is the last id of the joined run
 grown_end : (l m : Run) (high : ℕ) → high ≡ max l.high m.high → l.replica ≡ m.replica → IsId (last_of l) → IsId (last_of m) → IsId (id_at l.replica high)
 grown_end l m high top r h k =
     elim (one_of high l.high m.high top) [
@@ -204,7 +204,7 @@ pushed_apart xs l m are is begins far =
 pub IsPushed-at : (old old' new new' : List Run) (run : Run) → old ≡ old' → new ≡ new' → IsPushed old new run → IsPushed old' new' run
 IsPushed-at old old' new new' run e f h = subst (λ xs. IsPushed xs new' run) e (subst (λ ys. IsPushed old ys run) f h)
 
--- runs that cover what two lists of runs cover have the union of their ids
+-- the set of runs that have the ids of two lists is the union of their sets
 pub seen_of-joined : (new left right : List Run) → ((i : Id) → is_in_runs i new ≡ (is_in_runs i left || is_in_runs i right)) → seen_of new ≡ set.union (seen_of left) (seen_of right)
 seen_of-joined new left right covered = set.same_set id_total id_exact _ _ (λ i.
     contains-seen_of new i ∙ covered i
@@ -236,7 +236,7 @@ or_moved true a l r = refl
 or_moved false true l r = refl
 or_moved false false l r = refl
 
--- the first left one goes out
+-- the first run on the left, which begins no later than that on the right, is added to the output
 pub took_left : (out new lefts rights left right : List Run) (a b : Run) (more bs : List Run) → IsJoining out lefts rights left right → lefts ≡ a ∷ more → rights ≡ b ∷ bs → BeginsBy a b → IsPushed out new a
     → IsJoining new more rights left right
 took_left out new lefts rights left right a b more bs is l r first pushed =
@@ -277,7 +277,7 @@ pub took_right : (out new lefts rights left right : List Run) (a b : Run) (more 
 took_right out new lefts rights left right a b more bs is l r first pushed =
     joining_turned new bs lefts right left (took_left out new rights lefts right left b a bs more (joining_turned out lefts rights left right is) r l first pushed)
 
--- one list is spent, and what is left of the other went out
+-- one list is empty, and the rest of the other was added to the output
 pub spent_left : (out new lefts rights left right : List Run) → IsJoining out lefts rights left right → length lefts ≡ 0 → ((i : Id) → is_in_runs i new ≡ (is_in_runs i out || is_in_runs i rights))
     → (i : Id) → is_in_runs i new ≡ (is_in_runs i left || is_in_runs i right)
 spent_left out new [] rights left right is h all i = all i ∙ is.covered i
@@ -308,7 +308,7 @@ begins_equal r s h = from (leb r.low s.low) refl
 pub below_back : (a b : List ℕ) → replica_cmp a b ≡ Greater → IsBelow b a
 below_back a b h = nat_list_cmp_total.antisymm b a ∙ ap ordering_reverse h
 
--- ---- one of some runs goes to the end of others
+-- ---- the runs of a list are appended to others
 
 pub record IsPushing (out rest old runs : List Run) : Type 0 where
   pub out_runs : AreRuns out

@@ -1,4 +1,4 @@
--- A search along runs.
+-- A binary search in a list of runs.
 use Rattle.std.proofs.Common.{ltb}
 use Rattle.std.specs.Bool.{OnTrue, OnFalse}
 use Rattle.std.proofs.Common.{◌≡◌, ℕ, ◌+◌, ◌-◌, ◌<◌, ◌≤◌, zero, suc, Bool, true, false, not, ◌||◌, leb, List, [], ◌∷◌, length, get_or, refl, sym, ap, ◌∙◌, subst, inl, inr, ◌⊎◌, arith}
@@ -19,7 +19,7 @@ use Rattle.reg_state.specs.declared.run.Run.{Run}
 use Rattle.reg_state.specs.Runs.{replica_cmp, IsBelow, is_replica_by, id_at, last_of, seen_of, is_in_run, is_in_runs, IsApart, IsRun, AreRuns, EndInIds, AllUnder, IsAbove, IsGreatest, IsLastCount}
 use Rattle.reg_state.proofs.RunLemmas.{same_replica, replica_itself, below_chain, not_below_same, first_run, rest_runs, contains-seen_of}
 
--- s is r, or a run that stands after it
+-- s is r, or a run that is after it and does not touch it
 abbrev pub IsUpTo : Run → Run → Type 0
 IsUpTo r s = (r ≡ s) ⊎ (IsApart r s × IsRun s)
 
@@ -67,7 +67,7 @@ in_run i r w =
     and_from _ _ (subst (λ x. is_eq (replica_cmp i.replica x) ≡ true) w.replica (replica_itself i.replica))
     (and_from _ _ (yes_leb r.low i.count w.low) (yes_leb i.count r.high w.high))
 
--- ---- the run ends before an id
+-- ---- whether a run ends before an id
 
 abbrev pub ends : Id → Run → Bool
 ends i r = is_lt (id_cmp (last_of r) i)
@@ -155,7 +155,7 @@ by_low q x y (inr a) h = from a.0
     ]
     from (inr b) = subst (λ r. is_replica_by r q ≡ true) (sym b.0) h
 
--- a run that has an id of the replica stands before the point
+-- a run that has an id of the replica is before the partition point
 pub stands_before : (rs : List Run) (q : List ℕ) (p count : ℕ) → PartedAt rs q p → is_in_runs (id_at q count) rs ≡ true
     → (x : Run) × (i : ℕ) × (i < length rs) × (i < p) × IsWithin (id_at q count) x × ((d : Run) → get_or rs i d ≡ x)
 stands_before rs q p count point h =
@@ -223,7 +223,7 @@ greatest_of rs q n is = record {
   bound = λ count h. is.bound count (sym (contains-seen_of rs (id_at q count)) ∙ h);
 }
 
--- ---- each seen id is one
+-- ---- each id of the runs is valid
 
 pub ids_in_runs : (rs : List Run) → AreRuns rs → EndInIds rs → (i : Id) → is_in_runs i rs ≡ true → IsId i
 ids_in_runs [] are ids i h = absurd (true≢false (sym h))
@@ -243,7 +243,7 @@ ids_in_runs (r ∷ rs) are ids i h =
 pub last_in : (x : Run) → IsRun x → is_in_run (last_of x) x ≡ true
 last_in x is = in_run (last_of x) x (record { replica = refl; low = is.1; high = omega arith })
 
--- no run is under the empty list's, and the last tells of all
+-- r is above each id of an empty list
 pub under_none : (r : Run) (rs : List Run) → length rs ≡ 0 → AllUnder rs r
 under_none r [] e i h = absurd (true≢false (sym h))
 under_none r (x ∷ xs) e i h = absurd (omega arith)
@@ -270,7 +270,7 @@ last_under rs are r last some at under =
     let is = run_at rs are (length rs - 1) (omega arith) last at in
     under (last_of last) (list_any_at (is_in_run (last_of last)) rs (length rs - 1) last (omega arith) (ap (is_in_run (last_of last)) at ∙ last_in last is))
 
--- a run is apart from one before it
+-- two runs of a replica are apart if the second begins more than 1 after the end of the first
 pub apart_test : (r s : Run) → replica_cmp r.replica s.replica ≡ Equal → r.high < s.low → OnTrue (ltb 1 (s.low - r.high)) (IsApart r s)
 apart_test r s e h = from (ltb 1 (s.low - r.high)) refl
   where

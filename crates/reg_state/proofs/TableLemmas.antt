@@ -1,4 +1,4 @@
--- A register's tables, and the join of two.
+-- The tables of a register, and the join of two.
 use Rattle.std.proofs.Common.{◌≡◌, ℕ, Bool, true, false, not, ◌&&◌, ◌||◌, cond, List, [], ◌∷◌, refl, sym, ap, ◌∙◌, subst, inl, inr, ◌⊎◌, Option, Some, None, Ok, Err}
 use Rattle.std.proofs.lemmas.Bool.{true≢false, and_parts, or_cases, false_from_ne_true, not-true}
 use Rattle.std.proofs.lemmas.List.Folds.{list_any-append}
@@ -38,7 +38,7 @@ use Rattle.reg_op.specs.Status.{enters, retires, supersedes, status, is_enter, i
 use Rattle.reg_state.proofs.MarkLemmas.{any_marks, any_retired, any_superseded, any_touched}
 use Rattle.reg_state.proofs.MarkJoin.{replacing_falls}
 
--- ---- the clash of two contents, by a walk along both
+-- ---- the least clash of two lists is that of the union of their sets
 
 module _ (xs ys : List Op) (up : ById xs) (vp : ById ys) (one : OneBody (set.from_list {R = op_cmp} xs)) (two : OneBody (set.from_list {R = op_cmp} ys)) where
   abbrev both_of : Ops
@@ -82,7 +82,7 @@ module _ (xs ys : List Op) (up : ById xs) (vp : ById ys) (one : OneBody (set.fro
   pub clash_is : clash_in xs ys ≡ first_clash both_of
   clash_is = same_first across (has_other_body both_of) xs (items both_of) (rises_by_id xs up) (items_rise both_of) walked found_in_walk
 
--- ---- what marks replace is what the operations do
+-- ---- the marks replace what their operations replace
 
 pub enter_replaces : (e note : List ℕ) (q : Op) (i : Id) → replaces (record { id = i; body = Enter e; note = note }) q ≡ false
 enter_replaces e note q i = from (is_before i q.id) q.body
@@ -148,7 +148,7 @@ merged_tables xs ys out ms ns os v w z is js one by_id covered seen marked = rec
   is_content = subst IsContent (sym (merged_at xs ys out ms ns v w z is js covered seen)) (merged_is_content (content_at xs v) (content_at ys w) is.is_content js.is_content one);
 }
 
--- a clash that the walk finds is the join's, and none is none
+-- the join is refused with the least clash of the two lists, or is the merge if there is none
 pub joined_is : (xs ys : List Op) (ms ns : MarkSet) (v w : Ids) → AreTables xs ms v → AreTables ys ns w
     → joined (content_at xs v) (content_at ys w) ≡ joined_unless (clash_in xs ys) (merged (content_at xs v) (content_at ys w))
 joined_is xs ys ms ns v w is js = ap (λ c. joined_unless c (merged (content_at xs v) (content_at ys w))) (sym (clash_is xs ys is.by_id js.by_id is.is_content.one_body js.is_content.one_body))
@@ -193,7 +193,7 @@ status_at xs ms marked own e =
     (λ k. cond (any-from_list (λ o. is_same e o.id && is_enter o.body) xs k) (Some (inner (retires s e) (supersedes s e) _ touched k)) None)
     ∙ (λ k. cond (list_any (λ o. is_same e o.id && is_enter o.body) xs) (Some (cond (sym (retired_at xs ms marked own e) k) Retired (cond (any (λ m. is_same e m.target.entry) ms) Superseded Valid))) None)
 
--- ---- from operations by id
+-- ---- the tables of a list that is ordered by id
 
 after_has : (i : Id) (xs : List Op) (o : Op) → AllAfter i xs → has xs o ≡ true → is_before i o.id ≡ true
 after_has i [] o h k = absurd (true≢false (sym k))
@@ -260,7 +260,7 @@ kept_off xs ms v is q h =
     let k : contains (kept s) q ≡ true = subst (λ z. contains z q ≡ true) (sym is.is_content.is_kept) (contains-from_list op_total xs q ∙ h) in
     marked_off xs ms is.marked q ∙ not-true _ (and_parts _ _ (sym (contains-kept s q) ∙ k)).1
 
--- ---- each is an operation
+-- ---- each element of a list is an operation
 
 pub sound_more : (xs more : List Op) (a : Op) → xs ≡ a ∷ more → IsOperation a → ((o : Op) → has more o ≡ true → IsOperation o) → (o : Op) → has xs o ≡ true → IsOperation o
 sound_more xs more a e is rest o h =
@@ -276,7 +276,7 @@ sound_end (x ∷ xs) e o h = absurd (omega arith)
 pub united_same : (a b : Ids) → ◌≡◌ {A = Result Ids Infallible} (Ok a) (Ok b) → a ≡ b
 united_same a b h = cc
 
--- ---- what an operation at a place enters
+-- ---- the operation at an index of a list is in the set of the list
 
 pub found_at : {X : Type 0} (f : X → List ℕ → Op) (os : List Op) (k : ℕ) (o : Op) → k < length os → get_or os k o ≡ o → (r : Option X) → IfSome r (λ d. o ≡ f d o.note)
     → IfSome r (λ d. (note : List ℕ) × (has os (f d note) ≡ true))

@@ -1,4 +1,4 @@
--- The register of one operation, and what it is to join it.
+-- The register of one operation, and the join with it.
 use Rattle.std.proofs.Common.{◌≡◌, ℕ, ◌+◌, ◌-◌, List, [], ◌∷◌, map, None, Ok, sym, ap, ◌∙◌, subst, arith}
 use Rattle.reg_op.specs.Set as set
 use Rattle.reg_op.specs.Set.{contains, union, items-from_list}
@@ -25,7 +25,7 @@ ids_one o = ap (λ (l : List Op). set.from_list (map (λ (p : Op). p.id) l)) (it
 run_of_one : (i : Id) → ids_of_run (record { replica = i.replica; low = i.count; high = i.count }) ≡ i ∷ []
 run_of_one i = let e : i.count + 1 - i.count ≡ 1 = omega arith in ap (ids_from i.replica i.count) e
 
--- what has seen one run of one id has seen that id
+-- the empty set and a run of one id give the set of that id
 pub seen_one : (i : Id) (v w : Ids) (r : List ℕ) (m n : ℕ) → v ≡ set.empty → w ≡ union v (set.from_list (ids_of_run (record { replica = r; low = m; high = n }))) → r ≡ i.replica → m ≡ i.count → n ≡ i.count
     → w ≡ set.from_list (i ∷ [])
 seen_one i v w r m n e f a b d =
@@ -44,7 +44,7 @@ tables_of_one o os ms w is e f marked = record {
   is_content = subst IsContent (sym (content_of_one o os w e f)) (one_is_content o is);
 }
 
--- ---- its join
+-- ---- the join with one operation
 
 one_body_of_one : (o : Op) → OneBody (one o)
 one_body_of_one o p q a b e = one_is o p a ∙ sym (one_is o q b)

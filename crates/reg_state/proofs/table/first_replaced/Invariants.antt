@@ -4,7 +4,7 @@ use Rattle.reg_op.specs.Lists.{has}
 use Rattle.reg_state.specs.Merge.{first_off}
 use Rattle.reg_state.proofs.table.first_replaced.Given as goal
 
--- what is left tells of all
+-- the first replaced operation of the rest is that of the list; and if the rest has only operations, so has the list
 abbrev pub invariant-loop-op : goal.invariant-loop-op
 invariant-loop-op l =
     record {

@@ -8,7 +8,7 @@ use Rattle.reg_op.specs.Ids.{Id}
 use Rattle.reg_op.specs.Text.{Spells, IsCount}
 use Rattle.reg_op.proofs.op_id.OpId.parse.Goals as goal
 
--- the parts are what the split gives
+-- in a text that spells an id, the first 36 bytes are the UUID, and the count is the suffix after them
 front_is : (text : List ℕ) (i : Id) (h : Spells text i) → take 36 text ≡ h.front
 front_is text i h = ap (λ (t : List ℕ). take 36 t) h.whole ∙ take_at h.front h.back 36 h.long
 

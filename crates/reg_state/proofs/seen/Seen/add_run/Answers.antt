@@ -6,7 +6,7 @@ use Rattle.reg_state.specs.Runs.{AreSeen, IsAbove, id_at, ids_of_run, seen_of}
 use Rattle.reg_state.proofs.RunLemmas.{contains-seen_of, AreRuns-above, EndInIds-push, seen_of-push}
 use Rattle.reg_state.proofs.seen.Seen.add_run.Goals as goal
 
--- the run that is pushed ends in an id, and is the one that was given
+-- a run whose end is set to the count of its last id does not change
 same_run : (r : Run) (i : Id) (n : ℕ) → n ≡ i.count → i ≡ id_at r.replica r.high → ◌≡◌ {A = Run} (record { replica = r.replica; low = r.low; high = n }) r
 same_run r i n e f = λ k. record { replica = r.replica; low = r.low; high = (e ∙ ap (λ (j : Id). j.count) f) k }
 
