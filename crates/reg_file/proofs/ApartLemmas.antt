@@ -35,7 +35,7 @@ some_of s (x ∷ l) h = elim (or_cases (set.contains s x) (list_any (set.contain
 listed : (r : Run) (i : Id) → is_in_run i r ≡ list_any (eq_by_cmp id_cmp i) (ids_of_run r)
 listed r i = sym (contains_run r i) ∙ contains-from_list id_total (ids_of_run r) i
 
--- no id of the runs is in the basis
+-- no id of runs that do not meet the basis is in it
 pub apart_outside : (basis : Ids) (rs : List Run) → AllApart basis rs → (i : Id) → is_in_runs i rs ≡ true → set.contains basis i ≡ false
 apart_outside basis [] out i h = absurd (true≢false (sym h))
 apart_outside basis (r ∷ rs) out i h = elim (or_cases (is_in_run i r) (is_in_runs i rs) h) [
@@ -63,7 +63,7 @@ pub groups_apart : (basis : Ids) (last : Option (List ℕ)) (gs : List Group) �
 groups_apart basis last [] are = tt
 groups_apart basis last (g ∷ gs) are = spans_apart basis g.replica 1 g.spans (runs_of gs) are.1 (groups_apart basis (Some g.replica) gs are.2)
 
--- what was seen beside a basis is not in it
+-- no seen id that is read with a basis is in the basis
 pub seen_apart : (basis : Ids) (bytes : List ℕ) (seen : Ids) (rest : List ℕ) → IsBytes bytes → ReadsSeen basis bytes seen rest → (i : Id) → set.contains seen i ≡ true → set.contains basis i ≡ false
 seen_apart basis bytes seen rest fits a i h =
     apart_outside basis (runs_of a.all) (groups_apart basis None a.all (ranges_take basis bytes a.count a.all rest fits a.reads).1) i

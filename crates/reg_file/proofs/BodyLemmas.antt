@@ -1,4 +1,4 @@
--- Operations that are read are those that were written, and where reading them stops.
+-- An operation that is read has the bytes that are written for it, and where reading an operation stops.
 use Rattle.std.proofs.Common.{◌≡◌, ℕ, ◌≤◌, ◌||◌, Bool, true, false, cond, eqb, ltb, List, [], ◌∷◌, ◌++◌, length, Option, Result, Ok, refl, sym, ap, subst, ◌∙◌, append_assoc, arith}
 use Rattle.std.proofs.lemmas.Bool.{ltb-false, eqb-true, true≢false}
 use Rattle.std.proofs.lemmas.Bool.Decides.{nat_tests}
@@ -23,7 +23,7 @@ use Rattle.reg_file.proofs.FieldLemmas.{IsBytes, IsBytes-rest, bind_ok, guard_ok
 use Rattle.reg_file.proofs.NoteLemmas.{IsTold, IsFit, note_takes, note_again}
 use Rattle.reg_file.proofs.Sequences.{stops_field, stops_front, stops_back}
 
--- what the fields of a body tell
+-- what is known of a body whose fields were read
 abbrev pub IsReadBody : Body → Type 0
 IsReadBody (Enter text) = length text ≤ 65536
 IsReadBody (Supersede old newer) = IsId old × IsId newer × (is_same old newer ≡ false)
@@ -179,16 +179,16 @@ op_again version last seen o rest own is = (
 
 -- ---- where reading stops
 
--- at the first part of a step
+-- reading stops in the first of two steps
 pub stops_first : {A : Type 0} (left : ℕ) (r : Result A Refused) (f : A → Result (Body × List ℕ) Refused) (s : Stop) → Fails s r → StopsAs left (r >>= f) s
 stops_first left r f stop.Memory h = tt
 stops_first left r f (stop.Refused e) h = subst (λ (y : Result (Body × List ℕ) Refused). FailsAs left y e) (ap (λ x. x >>= f) (sym h)) refl
 
--- after the first part
+-- reading stops in the second step, after the first one gives a value
 pub stops_then : {A : Type 0} (left : ℕ) (r : Result A Refused) (f : A → Result (Body × List ℕ) Refused) (s : Stop) (x : A) → r ≡ Ok x → StopsAs left (f x) s → StopsAs left (r >>= f) s
 stops_then left r f s x h k = subst (λ (y : Result (Body × List ℕ) Refused). StopsAs left y s) (ap (λ z. z >>= f) (sym h)) k
 
--- in a text
+-- reading stops at a text that is not a definition
 pub stops_text : (text : List ℕ) (left : ℕ) (rest : List ℕ) (s : Stop) → StopsInText text left s → StopsAs left (Ok (Enter text, rest)) s
 stops_text text left rest stop.Memory h = tt
 stops_text text left rest (stop.Refused r) h = h
@@ -223,7 +223,7 @@ module _ (version : ℕ) (last : Option Id) (seen : Ids) (bytes : List ℕ) wher
           (sym (ap (λ n. body_at n r) kind_is) ∙ read ∙ ap (λ (p : Op). Ok (p.body, rest)) (sym e), is),
         )
 
--- no body that is read is of itself
+-- no supersession that is read has the same entry twice
 pub not_of_itself : (kind : ℕ) (bytes : List ℕ) (b : Body) (rest : List ℕ) → 1 ≤ kind → kind ≤ 3 → IsBytes bytes → body_at kind bytes ≡ Ok (b, rest) → IsOfItself b → ⊥
 not_of_itself kind bytes b rest low high fits e same = from b (body_takes kind bytes (b, rest) low high fits e).is same
   where

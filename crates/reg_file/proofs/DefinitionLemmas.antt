@@ -1,4 +1,4 @@
--- A definition's text has no fault, and another text has one.
+-- The text of a definition has no fault, and another text has at most one.
 use Rattle.std.proofs.Common.{◌≡◌, ℕ, ◌≤◌, List, length, refl, ap, subst, arith}
 use Rattle.reg_op.specs.DefinitionFault.{DefinitionFault}
 use Rattle.reg_op.specs.DefinitionFault.TheVariants as definition
@@ -38,7 +38,7 @@ one_plain_fault text definition.Memory g p q e h = absurd p
 one_plain_fault text f definition.NotCanonical p q e h = absurd q
 one_plain_fault text f definition.Memory p q e h = absurd q
 
--- a text that is another spelling has no other fault
+-- a text that can be read, and is not canonical, has no other fault
 not_other : (text : List ℕ) (f : DefinitionFault) → IsOfText f → IsCanonicalFault text f → IsCanonicalFault text definition.NotCanonical → ⊥
 not_other text (definition.Read f) p e h = not_memory f (value_or_fault text h.1.0 (as_read f) h.1.1 e.1)
 not_other text definition.NoIdentifier p e h = h.1.2 (subst HasNone (one_value text e.1.0 h.1.0 e.1.1 h.1.1) e.1.2)

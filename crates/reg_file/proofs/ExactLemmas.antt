@@ -1,4 +1,4 @@
--- What is read is one thing; what is read has no fault; and a fault is one.
+-- Reading gives at most one value, at most one fault, and not both.
 use Rattle.std.proofs.Common.{◌≡◌, ℕ, ◌<◌, List, [], ◌∷◌, length, Option, Some, None, Result, Ok, Err, refl, sym, ap, subst, ◌∙◌, arith, ◌⊎◌, inl, inr}
 use Rattle.reg_op.specs.Ids.{Id, Ids}
 use Rattle.reg_op.specs.Operations.{Op, op_cmp, IsBody}
@@ -72,7 +72,7 @@ module _ {A B : Type 0} (p : Portion A) (q : A → Portion B) (first : IsExact p
   behind_exact = record { one_value = both_one; no_fault = both_none; one_fault = both_fault }
 
 module _ {A S : Type 0} (item : S → Portion A) (next : S → A → S) (each : (s : S) → IsExact (item s)) where
-  -- after one item
+  -- after equal items, the same items are read from the same bytes
   moved : (s : S) (bytes : List ℕ) (x y : A) (mid mid' : List ℕ) (ys : List A) (left : List ℕ) → x ≡ y → mid ≡ mid' → ReadsEach item next (next s y) mid' ys left → ReadsEach item next (next s x) mid ys left
   moved s bytes x y mid mid' ys left e f h = subst (λ (z : A × List ℕ). ReadsEach item next (next s z.0) z.1 ys left) (λ j. (sym e j, sym f j)) h
 

@@ -1,4 +1,4 @@
--- A field that is read is the field that was written, and what was written is read again.
+-- Reading a field takes the bytes that are written for its value, and these bytes are read as the value.
 use Rattle.std.proofs.Common.{◌≡◌, ℕ, suc, ◌+◌, ◌^◌, ◌<◌, ◌≤◌, ◌||◌, Bool, true, false, cond, eqb, ltb, List, [], ◌∷◌, ◌++◌, length, get_or, take, drop, Option, Result, Ok, Err, refl, sym, ap, subst, ◌∙◌, append_assoc, arith, inl, inr}
 use Rattle.std.specs.Prelude.{All}
 use Rattle.std.specs.Int.{Width, w32, byte_len, from_be_bytes, to_be_bytes}
@@ -36,12 +36,12 @@ IsBytes-rest b bytes h i = h (suc i)
 pub all_bytes : (bytes : List ℕ) → IsBytes bytes → All (λ b. b < 256) bytes
 all_bytes bytes h = λ k d lt. subst (λ n. n < 256) (sym (get_or_default_zero bytes k d lt)) (h k)
 
--- the value of a step that did not fail
+-- if two steps in sequence succeed, the first gives a value on which the second succeeds
 pub bind_ok : {A B : Type 0} (r : Result A Refused) (f : A → Result B Refused) (y : B) → (r >>= f) ≡ Ok y → (x : A) × (r ≡ Ok x) × (f x ≡ Ok y)
 bind_ok (Ok x) f y e = (x, refl, e)
 bind_ok (Err d) f y e = absurd cc
 
--- tests that did not fail
+-- if a guarded step succeeds, its test did not refuse, and the step is the result
 pub guard_ok : {A : Type 0} (b : Bool) (d : Refused) (x : Result A Refused) (y : A) → cond b (Err d) x ≡ Ok y → (b ≡ false) × (x ≡ Ok y)
 guard_ok true d x y e = absurd cc
 guard_ok false d x y e = (refl, e)
@@ -60,7 +60,7 @@ pub none_of : (a b : Bool) → (a || b) ≡ false → (a ≡ false) × (b ≡ fa
 none_of true b e = absurd cc
 none_of false b e = (refl, e)
 
--- what a reader took from the front
+-- the bytes are the text and the rest after it
 pub record Takes (bytes text rest : List ℕ) : Type 0 where
   pub parts : bytes ≡ text ++ rest
   pub rest_fits : IsBytes rest
@@ -68,7 +68,7 @@ pub record Takes (bytes text rest : List ℕ) : Type 0 where
 pub Takes-then : (a x b y c : List ℕ) → Takes a x b → Takes b y c → Takes a (x ++ y) c
 Takes-then a x b y c p q = record { parts = p.parts ∙ ap (λ (t : List ℕ). x ++ t) q.parts ∙ sym (append_assoc x y c); rest_fits = q.rest_fits }
 
--- ---- numbers, and what is cut
+-- ---- numbers, and fields of a given length
 
 abbrev cut_short : Refused
 cut_short = record { fault = Truncated; left = 0 }
@@ -168,7 +168,7 @@ head_again version kind rest = rw (number_again 0x43525352 (version ∷ kind ∷
 
 -- ---- ranges
 
--- a range of a replica that may stand at a floor, beside a basis
+-- a range that begins at the floor or above it, ends below 2^32, and has no id of the basis
 pub record IsSpan (basis : Ids) (replica : List ℕ) (floor : ℕ) (s : Span) : Type 0 where
   pub above : floor ≤ s.low
   pub ordered : s.low ≤ s.high
@@ -178,7 +178,7 @@ pub record IsSpan (basis : Ids) (replica : List ℕ) (floor : ℕ) (s : Span) : 
 abbrev pub span_from : ℕ → ℕ → Span
 span_from low high = record { low = low; high = high }
 
--- what was tested of a range that was read
+-- the fields of a range that was read, and the checks that it passed
 pub record IsTested (basis : Ids) (replica : List ℕ) (floor : ℕ) (bytes : List ℕ) (s : Span) (rest : List ℕ) : Type 0 where
   pub mid : List ℕ
   pub low : number_at w32 bytes ≡ Ok (s.low, mid)
@@ -217,7 +217,7 @@ span_again basis replica floor s rest is =
     let ordered : s.low ≤ s.high = is.ordered in
     ap (span_at basis replica floor) regrouped ∙ rw (number_again s.low (four s.high ++ rest) (omega arith), number_again s.high rest fits, above, below, is.apart) refl
 
--- a replica that may stand after the last one, and how many ranges it has
+-- a replica that may follow the last one, and the number of its ranges
 pub record IsHeading (last : Option (List ℕ)) (replica : List ℕ) (count : ℕ) : Type 0 where
   pub long : length replica ≡ 16
   pub bytes : All (λ b. b < 256) replica
@@ -277,7 +277,7 @@ id_again i rest is =
     let some : eqb i.count 0 ≡ false = not_zero i.count (let p : 1 ≤ i.count = is.positive in omega arith) in
     ap id_at (append_assoc i.replica (four i.count) rest) ∙ rw (cut_again 16 i.replica (four i.count ++ rest) is.long, number_again i.count rest is.fits, some) refl
 
--- an id that may stand after the last one
+-- a seen id that may follow the last one
 pub record IsOwn (last : Option Id) (seen : Ids) (i : Id) : Type 0 where
   pub id : IsId i
   pub after : is_after last i ≡ true

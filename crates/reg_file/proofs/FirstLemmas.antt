@@ -1,4 +1,4 @@
--- Registers with no note have a file of version 1.
+-- The file of version 1, for registers in which no operation has a note.
 use Rattle.std.proofs.Common.{◌≡◌, ℕ, ◌<◌, Bool, true, false, cond, eqb, List, [], ◌∷◌, length, Option, Some, None, refl, sym, ap, subst, ◌∙◌, arith, inl, inr}
 use Rattle.std.proofs.lemmas.Bool.{true≢false, or_cases}
 use Rattle.std.specs.Ordering.{eq_by_cmp}

@@ -1,4 +1,4 @@
--- Ranges by replica are read as they were written, and are the runs of a set of ids.
+-- Ranges by replica are read as they are written, and are the runs of a set of ids.
 use Rattle.std.proofs.Common.{◌≡◌, ℕ, ◌+◌, ◌^◌, ◌<◌, ◌≤◌, Bool, true, false, List, [], ◌∷◌, ◌++◌, length, map, Option, Some, None, refl, sym, ap, subst, ◌∙◌, append_assoc, arith, inl, inr}
 use Rattle.std.specs.List.{flat_map}
 use Rattle.std.specs.Int.{w32}
@@ -17,7 +17,7 @@ use Rattle.reg_file.specs.Readers.{ReadsEach}
 use Rattle.reg_file.specs.Reading.{span, floor_after, group, replica_after, ranges}
 use Rattle.reg_file.proofs.FieldLemmas.{IsBytes, Takes, Takes-then, number_takes, number_again, IsSpan, span_takes, span_again, IsHeading, group_takes, group_again}
 
--- ---- as they were written
+-- ---- groups are read as they are written
 
 abbrev pub AreSpans : Ids → List ℕ → ℕ → List Span → Type 0
 AreSpans basis replica floor [] = Unit {0}
@@ -75,7 +75,7 @@ groups_again basis last (g ∷ gs) rest is = (
     regroup : (a b c d e : List ℕ) → ((a ++ (b ++ c)) ++ d) ++ e ≡ a ++ (b ++ (c ++ (d ++ e)))
     regroup a b c d e = simp append_assoc
 
--- ---- runs of groups
+-- ---- the runs of groups
 
 abbrev group_of : List ℕ → List Span → Group
 group_of replica ss = record { replica = replica; spans = ss }
@@ -86,7 +86,7 @@ put_same r g gs h = rw h refl
 pub put_other : (r : Run) (g : Group) (gs : List Group) → is_eq (replica_cmp r.replica g.replica) ≡ false → put r (g ∷ gs) ≡ group_of r.replica (span_of r ∷ []) ∷ g ∷ gs
 put_other r g gs h = rw h refl
 
--- the first group is of a replica above this one
+-- the replica of the first group is above this one
 abbrev IsNext : List ℕ → List Group → Type 0
 IsNext replica [] = Unit {0}
 IsNext replica (g ∷ gs) = IsBelow replica g.replica
@@ -119,7 +119,7 @@ pub grouped_runs : (basis : Ids) (last : Option (List ℕ)) (gs : List Group) �
 grouped_runs basis last [] is = refl
 grouped_runs basis last (g ∷ gs) is = grouped_group g gs (grouped (runs_of gs)) refl (grouped_runs basis (Some g.replica) gs is.2) is.0.positive (next_of basis g.replica gs is.2)
 
--- the first run begins apart from one before
+-- the first of the runs is apart from r
 abbrev BeginsApart : Run → List Run → Type 0
 BeginsApart r [] = Unit {0}
 BeginsApart r (s ∷ rs) = IsApart r s
@@ -151,7 +151,7 @@ pub groups_runs : (basis : Ids) (last : Option (List ℕ)) (gs : List Group) →
 groups_runs basis last [] is = tt
 groups_runs basis last (g ∷ gs) is = spans_runs basis g.replica 1 g.spans gs (omega arith) is.1 is.2 (groups_runs basis (Some g.replica) gs is.2)
 
--- ---- groups of runs
+-- ---- the groups of runs
 
 pub runs_grouped : (rs : List Run) → runs_of (grouped rs) ≡ rs
 runs_grouped [] = refl
@@ -165,7 +165,7 @@ runs_grouped (r ∷ rs) = put_runs r (grouped rs) ∙ ap (λ xs. r ∷ xs) (runs
         from true e = ap runs_of (put_same r g gs e) ∙ (λ k. r ∷ map (run_at (same_replica r.replica g.replica e k)) g.spans ++ runs_of gs)
         from false e = ap runs_of (put_other r g gs e)
 
--- the first group begins with a run
+-- the first range of the first group is the run
 pub record BeginsWith (s : Run) (gs : List Group) : Type 0 where
   pub spans : List Span
   pub others : List Group
@@ -179,7 +179,7 @@ put_begins s (g ∷ gs) = from (is_eq (replica_cmp s.replica g.replica)) refl
     from true e = record { spans = g.spans; others = gs; whole = put_same s g gs e }
     from false e = record { spans = []; others = g ∷ gs; whole = put_other s g gs e }
 
--- a run, as the first of its replica
+-- a run that does not meet the basis may be the first range of its replica
 first_span : (basis : Ids) (r : Run) → IsRun r → IsId (last_of r) → meets basis r ≡ false → IsSpan basis r.replica 1 (span_of r)
 first_span basis r is id apart = record { above = is.0; ordered = is.1; fits = id.fits; apart = apart }
 
@@ -189,7 +189,7 @@ heading last r n id above some fits = record { long = id.long; bytes = id.bytes;
 lower : (basis : Ids) (last : Option (List ℕ)) (g : Group) (gs : List Group) → AreGroups basis None (g ∷ gs) → is_above last g.replica ≡ true → AreGroups basis last (g ∷ gs)
 lower basis last g gs is above = (record { long = is.0.long; bytes = is.0.bytes; above = above; positive = is.0.positive; fits = is.0.fits }, is.1, is.2)
 
--- one more run before groups that begin with another
+-- a run may be put before groups if it is apart from their first run, and does not meet the basis
 put_good : (basis : Ids) (r s : Run) (spans : List Span) (others : List Group) → IsRun r → IsId (last_of r) → meets basis r ≡ false → IsApart r s → length spans + 2 < 2 ^ 32
     → AreGroups basis None (group_of s.replica (span_of s ∷ spans) ∷ others) → AreGroups basis None (put r (group_of s.replica (span_of s ∷ spans) ∷ others))
 put_good basis r s spans others is id out (inl below) few good =

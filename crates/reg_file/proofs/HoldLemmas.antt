@@ -1,4 +1,4 @@
--- Bytes hold a content exactly where they are read as it.
+-- Bytes are a file of a content if and only if they are read as that content.
 use Rattle.std.proofs.Common.{◌≡◌, ℕ, ◌-◌, ◌^◌, ◌<◌, ◌≤◌, List, [], ◌++◌, length, refl, sym, ap, subst, ◌∙◌, arith, inl, inr}
 use Rattle.std.proofs.lemmas.List.{length-append}
 use Rattle.reg_op.specs.Set as set
@@ -22,7 +22,7 @@ use Rattle.reg_file.proofs.LongLemmas.{ops_long, ranges_long}
 use Rattle.reg_file.proofs.KeptLemmas.{kept_take, kept_again, kept_one}
 use Rattle.reg_file.proofs.ExactLemmas.{IsExact, field_exact, register_exact}
 
--- ---- how long a file is
+-- ---- the length of a file
 
 pub record IsLong (version : ℕ) (os : List Op) (runs : List Run) : Type 0 where
   pub ops : length os ≤ length (register_file version os runs)
@@ -36,9 +36,9 @@ file_long version os runs =
     let d = ranges_long runs in
     record { ops = omega arith; seen = omega arith }
 
--- ---- in a version
+-- ---- one version
 
--- the bytes are its file of the content, of which it leaves nothing out
+-- the bytes are the file of the content in the version, which leaves nothing out
 pub record IsHeldIn (version : ℕ) (bytes : List ℕ) (x : Content) : Type 0 where
   pub holds : HoldsIn version bytes x
   pub told : AreTold version x.ops
@@ -87,7 +87,7 @@ module _ (version : ℕ) where
   pub one_file_in : (x : Content) (bytes others : List ℕ) → IsFileIn version x bytes → IsFileIn version x others → bytes ≡ others
   one_file_in x bytes others f g = f.whole ∙ ap (register_file version (set.items x.ops)) (same_runs f.runs g.runs f.are_runs g.are_runs (f.all ∙ sym g.all)) ∙ sym g.whole
 
--- ---- in either version
+-- ---- either version
 
 of_second : (bytes : List ℕ) (x : Content) → Holds bytes x → version_in bytes ≡ 2
 of_second bytes x h = second_in 1 bytes _ h.bytes_are.whole
@@ -98,7 +98,7 @@ of_first bytes x h = first_in 1 bytes _ h.0.bytes_are.whole
 pub one_version : (bytes : List ℕ) (x y : Content) → Holds bytes x → HoldsFirst bytes y → ⊥
 one_version bytes x y h k = not_both (version_in bytes) (of_first bytes y k) (of_second bytes x h)
 
--- what is read is held
+-- bytes that are read as a content are a file of it
 pub read_holds : (bytes : List ℕ) (x : Content) → IsBytes bytes → length bytes ≤ most → ReadsContent (version_in bytes) bytes x → ReadsAs bytes x
 read_holds bytes x fits short r = by_version (λ v. ReadsContent v bytes x → ReadsAs bytes x) bytes first second r
   where
@@ -108,7 +108,7 @@ read_holds bytes x fits short r = by_version (λ v. ReadsContent v bytes x → R
     second : version_in bytes ≡ 2 → ReadsContent 2 bytes x → ReadsAs bytes x
     second v r = inl (held_in 2 bytes x fits short r).holds
 
--- what is held is read
+-- a file of a content is read as it
 pub hold_reads : (bytes : List ℕ) (x : Content) → ReadsAs bytes x → ReadsContent (version_in bytes) bytes x
 hold_reads bytes x (inl h) =
     subst (λ v. ReadsContent v bytes x) (sym (of_second bytes x h)) (reads_in 2 bytes x (record { holds = h; told = λ o k e. absurd (not_both 2 e refl) }))

@@ -1,4 +1,4 @@
--- What stands behind the head of a register's file, or behind the basis of a piece's, is a content's exactly where it is read as it.
+-- The bytes of a content in the file of a register or of a piece are read as that content, and no others are.
 use Rattle.std.proofs.Common.{◌≡◌, ℕ, ◌^◌, ◌<◌, true, not, ◌&&◌, List, [], ◌∷◌, ◌++◌, length, None, refl, sym, ap, subst, ◌∙◌, arith}
 use Rattle.std.proofs.lemmas.Bool.{true≢false, or_left, or_right, false_from_ne_true}
 use Rattle.std.proofs.lemmas.List.{append-nil}
@@ -43,7 +43,7 @@ none_dropped s same = ap (option_map (λ (o : Op). o.id)) (find_none (λ o. any 
     let there : set.contains s r.0 ≡ true = contains-items s r.0 ∙ r.1 in
     true≢false (sym (ap (λ t. set.contains t r.0) same ∙ there) ∙ contains-kept s r.0 ∙ (λ k. there k && not (r.2 k))))))
 
--- the last id of each run is one
+-- the last id of each run is valid
 pub ends_of : (rs : List Run) → AreRuns rs → ((i : Id) → is_in_runs i rs ≡ true → IsId i) → EndInIds rs
 ends_of [] are each = tt
 ends_of (r ∷ rs) are each = (

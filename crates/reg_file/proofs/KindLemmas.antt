@@ -1,4 +1,4 @@
--- The byte of the kind tells files apart.
+-- Files of different kinds differ in the byte of the kind.
 use Rattle.std.proofs.Common.{◌≡◌, ℕ, Bool, true, false, List, ◌++◌, get_or, sym, ap, subst, arith, inl, inr}
 use Rattle.reg_op.specs.Ids.{Ids}
 use Rattle.reg_op.specs.Contents.{Content}
@@ -34,7 +34,7 @@ read_register_or_piece bytes x p h k = omega (arith, register_kind bytes x h, pi
 pub read_seen_or_piece : (bytes : List ℕ) (ids : Ids) (p : Piece) → ReadsAsSeen bytes ids → ReadsAsPiece bytes p → ⊥
 read_seen_or_piece bytes ids p h k = omega (arith, seen_kind bytes ids h, piece_kind bytes p k)
 
--- of those that are written
+-- the same for files of version 2
 pub register_or_seen : (bytes : List ℕ) (x : Content) (ids : Ids) → Holds bytes x → HoldsSeen bytes ids → ⊥
 register_or_seen bytes x ids h k = read_register_or_seen bytes x ids (inl h) (inl k)
 

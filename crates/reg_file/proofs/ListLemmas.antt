@@ -1,4 +1,4 @@
--- Operations that are read one after the other are operations by id, all of them seen; and the other way round.
+-- Operations that are read in sequence are ordered by id and seen, and such operations are read as they are written.
 use Rattle.std.proofs.Common.{◌≡◌, ℕ, true, List, [], ◌∷◌, ◌++◌, Option, Some, refl, sym, ap, subst, ◌∙◌, append_assoc, inl, inr}
 use Rattle.std.proofs.lemmas.Bool.{true≢false, or_cases, or_left, or_right}
 use Rattle.std.proofs.lemmas.List.Concat.{flat_map-cons}
@@ -18,7 +18,7 @@ use Rattle.reg_file.proofs.FieldLemmas.{IsBytes, Takes, Takes-then, IsOwn}
 use Rattle.reg_file.proofs.NoteLemmas.{IsTold, IsFit}
 use Rattle.reg_file.proofs.BodyLemmas.{op_takes, op_again}
 
--- each may stand after those before it
+-- each operation may follow those before it
 abbrev pub AreOwn : ℕ → Option Id → Ids → List Op → Type 0
 AreOwn version last seen [] = Unit {0}
 AreOwn version last seen (o ∷ os) = IsOwn last seen o.id × IsFit version o × AreOwn version (Some o.id) seen os
@@ -64,7 +64,7 @@ by_id_of version last seen (o ∷ os) own = (after_of version o.id seen os own.2
 pub is_it : (o x : Op) → eq_by_cmp op_cmp o x ≡ true → x ≡ o
 is_it o x e = sym (op_exact o x ((Equal-is (op_cmp o x)).0 e))
 
--- what holds of each by its place holds of each that the list has
+-- if each operation may follow those before it, each element of the list is seen, and its version has room for its note
 pub seen_of_own : (version : ℕ) (last : Option Id) (seen : Ids) (os : List Op) → AreOwn version last seen os → (o : Op) → has os o ≡ true → set.contains seen o.id ≡ true
 seen_of_own version last seen [] own o h = absurd (true≢false (sym h))
 seen_of_own version last seen (x ∷ os) own o h = elim (or_cases (eq_by_cmp op_cmp o x) (has os o) h) [
@@ -79,7 +79,7 @@ told_of_own version last seen (x ∷ os) own o h = elim (or_cases (eq_by_cmp op_
   | inr e ↦ told_of_own version (Some x.id) seen os own.2 o e
 ]
 
--- operations by id, each an operation and seen, may stand after each other
+-- operations that are ordered by id, valid and seen may follow each other
 pub own_of_by_id : (version : ℕ) (last : Option Id) (seen : Ids) (os : List Op) → ById os
     → ((o : Op) → has os o ≡ true → IsOperation o × IsTold version o.note × (set.contains seen o.id ≡ true) × (is_after last o.id ≡ true)) → AreOwn version last seen os
 own_of_by_id version last seen [] up each = tt

@@ -1,4 +1,4 @@
--- A set of ids has runs.
+-- Each set of valid ids has runs.
 use Rattle.std.proofs.Common.{◌≡◌, ℕ, ◌+◌, ◌<◌, ◌≤◌, Bool, true, false, ◌&&◌, ◌||◌, cond, eqb, leb, List, [], ◌∷◌, refl, sym, ap, subst, ◌∙◌, arith, ◌⊎◌, inl, inr}
 use Rattle.std.proofs.lemmas.Bool.{true≢false, or_left}
 use Rattle.std.proofs.lemmas.Bool.Decides.{nat_tests}
@@ -33,7 +33,7 @@ abbrev runs_from : List Id → List Run
 runs_from [] = []
 runs_from (i ∷ is) = begin i (runs_from is)
 
--- an id before another
+-- i is before j
 abbrev IsSooner : Id → Id → Type 0
 IsSooner i j = IsBelow i.replica j.replica ⊎ ((i.replica ≡ j.replica) × (i.count < j.count))
 
@@ -47,7 +47,7 @@ sooner i j h = from (replica_cmp i.replica j.replica) (nat_cmp i.count j.count) 
     from Equal Greater e f h = absurd (true≢false (sym h))
     from Greater b e f h = absurd (true≢false (sym h))
 
--- the first run begins with an id
+-- the first of the runs begins at the id
 abbrev BeginsAt : Id → List Run → Type 0
 BeginsAt i [] = ⊥
 BeginsAt i (r ∷ rs) = (r.replica ≡ i.replica) × (r.low ≡ i.count)
@@ -123,7 +123,7 @@ runs_are (i ∷ j ∷ is) up each =
     right true b h = refl
     right false b h = h
 
--- ---- what they have
+-- ---- the ids of the runs
 
 in_one : (k i : Id) → is_in_run k (run_of i) ≡ eq_by_cmp id_cmp k i
 in_one k i = from (is_eq (replica_cmp k.replica i.replica)) k.count i.count ∙ sym (sym (tied_then (replica_cmp k.replica i.replica) (nat_cmp k.count i.count)) ∙ (λ j. is_eq (replica_cmp k.replica i.replica) && unsigned_tied k.count i.count j))
@@ -173,7 +173,7 @@ in_made k (i ∷ is) up each =
     right true b h = refl
     right false b h = h
 
--- the runs of a set of ids
+-- runs that have exactly the ids of a set
 pub runs_of_ids : (s : Ids) → ((i : Id) → set.contains s i ≡ true → IsId i) → (rs : List Run) × AreRuns rs × (seen_of rs ≡ s)
 runs_of_ids s each =
     let is = set.items s in

@@ -1,4 +1,4 @@
--- A note that is read is the note that was written, and what was written is read again.
+-- Reading a note takes the bytes that are written for it, and these bytes are read as the note.
 use Rattle.std.proofs.Common.{◌≡◌, ℕ, ◌≤◌, Bool, true, false, cond, eqb, ltb, List, [], ◌∷◌, ◌++◌, length, Ok, Err, refl, sym, ap, subst, arith}
 use Rattle.std.specs.Str.{IsUtf8, is_utf8}
 use Rattle.std.proofs.lemmas.Bool.{ltb-false, le-ltb, eqb-true, true≢false, false_from_ne_true}
@@ -11,14 +11,14 @@ use Rattle.reg_file.specs.Layout.{note_bytes}
 use Rattle.reg_file.specs.Fields.{◌>>=◌, refused, byte_at, cut_at, noted_at, note_at}
 use Rattle.reg_file.proofs.FieldLemmas.{IsBytes, IsBytes-rest, bind_ok, guard_ok, guard_ended, ok_is, at, Takes, Takes-then, cut_takes, cut_again}
 
--- the version has room for the note
+-- the version has room for the note: version 1 has none
 abbrev pub IsTold : ℕ → List ℕ → Type 0
 IsTold version note = version ≡ 1 → note ≡ []
 
 abbrev pub AreTold : ℕ → Ops → Type 0
 AreTold version s = (o : Op) → set.contains s o ≡ true → IsTold version o.note
 
--- an operation that can stand in a file of the version
+-- an operation that a file of the version can hold
 pub record IsFit (version : ℕ) (o : Op) : Type 0 where
   pub body : IsBody o.body
   pub note : IsNote o.note
@@ -63,7 +63,7 @@ noted_again note rest short =
     let below : ltb 200 (length note) ≡ false = le-ltb _ _ short in
     rw (below, cut_again (length note) note rest refl) refl
 
--- the bytes of a note that are UTF-8, and those that are not
+-- a note that is UTF-8 is read, and another is refused
 module _ (version : ℕ) (bytes note rest : List ℕ) (second : version ≡ 1 → ⊥) (read : noted_at bytes ≡ Ok (note, rest)) where
   later : eqb version 1 ≡ false
   later = false_from_ne_true _ (λ h. second (eqb-true version 1 h))

@@ -1,4 +1,4 @@
--- Bytes hold a piece exactly where they are read as it.
+-- Bytes are a file of a piece if and only if they are read as that piece.
 use Rattle.std.proofs.Common.{◌≡◌, ℕ, ◌^◌, ◌<◌, ◌≤◌, List, [], ◌++◌, length, refl, sym, ap, subst, ◌∙◌, arith, inl, inr}
 use Rattle.std.proofs.lemmas.List.{length-append}
 use Rattle.reg_op.specs.Set as set
@@ -26,7 +26,7 @@ use Rattle.reg_file.proofs.KeptLemmas.{seen_take, seen_again, seen_one, kept_tak
 use Rattle.reg_file.proofs.ExactLemmas.{field_exact, piece_exact}
 use Rattle.reg_file.proofs.HoldLemmas.{one_fault_at}
 
--- ---- how long a file is
+-- ---- the length of a file
 
 pub record IsLong (version : ℕ) (bs : List Run) (os : List Op) (rs : List Run) : Type 0 where
   pub basis : length bs ≤ length (piece_file version bs os rs)
@@ -43,9 +43,9 @@ file_long version bs os rs =
     let f = ranges_long bs in
     record { basis = omega arith; ops = omega arith; seen = omega arith }
 
--- ---- in a version
+-- ---- one version
 
--- the bytes are its file of the piece, of which it leaves nothing out
+-- the bytes are the file of the piece in the version, which leaves nothing out
 pub record IsHeldIn (version : ℕ) (bytes : List ℕ) (p : Piece) : Type 0 where
   pub holds : HoldsPieceIn version bytes p
   pub told : AreTold version p.ops
@@ -126,7 +126,7 @@ module _ (version : ℕ) where
       let r = same_runs f.runs g.runs f.are_runs g.are_runs (f.all ∙ sym g.all) in
       f.whole ∙ (λ j. piece_file version (b j) (set.items p.ops) (r j)) ∙ sym g.whole
 
--- ---- in either version
+-- ---- either version
 
 of_second : (bytes : List ℕ) (p : Piece) → HoldsPiece bytes p → version_in bytes ≡ 2
 of_second bytes p h = second_in 3 bytes _ h.bytes_are.whole
@@ -137,7 +137,7 @@ of_first bytes p h = first_in 3 bytes _ h.0.bytes_are.whole
 pub one_version : (bytes : List ℕ) (p q : Piece) → HoldsPiece bytes p → HoldsFirstPiece bytes q → ⊥
 one_version bytes p q h k = not_both (version_in bytes) (of_first bytes q k) (of_second bytes p h)
 
--- what is read is held
+-- bytes that are read as a piece are a file of it
 pub read_holds : (bytes : List ℕ) (p : Piece) → IsBytes bytes → length bytes ≤ most → ReadsPiece (version_in bytes) bytes p → ReadsAsPiece bytes p
 read_holds bytes p fits short r = by_version (λ v. ReadsPiece v bytes p → ReadsAsPiece bytes p) bytes first second r
   where
@@ -147,7 +147,7 @@ read_holds bytes p fits short r = by_version (λ v. ReadsPiece v bytes p → Rea
     second : version_in bytes ≡ 2 → ReadsPiece 2 bytes p → ReadsAsPiece bytes p
     second v r = inl (held_in 2 bytes p fits short r).holds
 
--- what is held is read
+-- a file of a piece is read as it
 hold_reads : (bytes : List ℕ) (p : Piece) → ReadsAsPiece bytes p → ReadsPiece (version_in bytes) bytes p
 hold_reads bytes p (inl h) =
     subst (λ v. ReadsPiece v bytes p) (sym (of_second bytes p h)) (reads_in 2 bytes p (record { holds = h; told = λ o k e. absurd (not_both 2 e refl) }))

@@ -1,4 +1,4 @@
--- The places of operations.
+-- The places of operations: the number of bytes from each one to the end of the file.
 use Rattle.std.proofs.Common.{◌≡◌, ℕ, true, false, List, [], ◌∷◌, ◌++◌, length, refl, sym, ap, ◌∙◌, append_assoc}
 use Rattle.std.specs.List.{flat_map}
 use Rattle.std.proofs.lemmas.List.{append-nil}
@@ -23,7 +23,7 @@ pub places-push : (version : ℕ) (os : List Op) (o : Op) (rest : List ℕ) → 
 places-push version [] o rest = ap (λ (t : List ℕ). place_at o.id (length t) ∷ []) (flat-push version [] o rest)
 places-push version (x ∷ os) o rest = λ k. place_at x.id (length (flat-push version (x ∷ os) o rest k)) ∷ places-push version os o rest k
 
--- the first of an id is found
+-- the first place with the id is found
 pub left_in_first : (id : Id) (p : OpOffset) (ps : List OpOffset) → is_same p.id id ≡ true → left_in (p ∷ ps) id ≡ p.left
 left_in_first id p ps h = rw h refl
 

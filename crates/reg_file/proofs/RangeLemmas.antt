@@ -1,4 +1,4 @@
--- Ranges that are read one after the other, and the ids that they add.
+-- Ranges that are read in sequence, and the ids that they add to a set.
 use Rattle.std.proofs.Common.{◌≡◌, ℕ, ◌+◌, ◌<◌, ◌≤◌, Bool, true, false, ◌||◌, List, [], ◌∷◌, ◌++◌, map, Option, Some, None, Ok, refl, sym, ap, subst, ◌∙◌, append_assoc, arith, inl, inr}
 use Rattle.std.proofs.lemmas.Bool.{or_cases, true≢false}
 use Rattle.std.proofs.lemmas.List.{append-nil, length_push}
@@ -18,7 +18,7 @@ use Rattle.reg_file.specs.Steps.{with_runs, IsUnder, IsUpTo, AddsSpans, AddsGrou
 use Rattle.reg_file.proofs.FieldLemmas.{span_tested}
 use Rattle.reg_file.proofs.Sequences.{each-push, state-push}
 
--- ---- sets with runs
+-- ---- the ids of runs are added to a set
 
 pub with_runs-append : (s : Ids) (xs ys : List Run) → with_runs s (xs ++ ys) ≡ with_runs (with_runs s xs) ys
 with_runs-append s [] ys = refl

@@ -1,4 +1,4 @@
--- What is read one after the other.
+-- Parts of a file that are read in sequence.
 use Rattle.std.proofs.Common.{◌≡◌, ℕ, suc, ◌<◌, List, [], ◌∷◌, ◌++◌, length, Result, refl, sym, subst, arith, inl, inr}
 use Rattle.reg_file.specs.declared.fault.Refused.{Refused}
 use Rattle.reg_file.specs.declared.fault.Stop.{Stop}
@@ -10,7 +10,7 @@ pub stops_field : {A : Type 0} (read : List ℕ → Result (A × List ℕ) Refus
 stops_field read bytes stop.Memory h = tt
 stops_field read bytes (stop.Refused r) h = h
 
--- in the first of two, or in the second
+-- reading two parts stops if the first stops, or if the second stops after the first
 module _ {A B : Type 0} (p : Portion A) (q : A → Portion B) (bytes : List ℕ) where
   pub stops_front : (s : Stop) → StopsIn p bytes s → StopsIn (p behind q) bytes s
   stops_front stop.Memory h = tt
@@ -29,7 +29,7 @@ module _ {A S : Type 0} (item : S → Portion A) (next : S → A → S) where
   each-push s bytes [] mid x rest h k = (rest, subst (λ b. (item s).Reads b x rest) (sym h) k, refl)
   each-push s bytes (y ∷ xs) mid x rest h k = (h.0, h.1, each-push (next s y) h.0 xs mid x rest h.2 k)
 
-  -- one item, and those after it
+  -- a fault in the items after the first is a fault of the sequence
   pub fails_later : (s : S) (count : ℕ) (bytes : List ℕ) (x : A) (mid : List ℕ) (r : Refused) → (item s).Reads bytes x mid → FailsAtOne item next (next s x) count mid r → FailsAtOne item next s (suc count) bytes r
   fails_later s count bytes x mid r h f = record { before = x ∷ f.before; rest = f.rest; reads = (mid, h, f.reads); fewer = (let k : length f.before < count = f.fewer in omega arith); fails = f.fails }
 

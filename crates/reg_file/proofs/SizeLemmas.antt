@@ -1,4 +1,4 @@
--- How long files are, and when one is too large.
+-- The length of files, and when one is too large.
 use Rattle.std.proofs.Common.{◌≡◌, ℕ, ◌+◌, ◌*◌, ◌^◌, ◌<◌, ◌≤◌, List, [], ◌∷◌, ◌++◌, length, map, Option, Some, None, refl, ap, subst, arith}
 use Rattle.std.specs.List.{flat_map}
 use Rattle.std.proofs.lemmas.List.{length-append, length-map}
@@ -17,7 +17,7 @@ use Rattle.reg_file.proofs.ApartLemmas.{apart_from_none}
 use Rattle.reg_file.proofs.LongLemmas.{ranges_long}
 use Rattle.reg_file.proofs.HoldLemmas.{one_file_in}
 
--- ---- how long ranges are
+-- ---- the length of ranges
 
 spans_length : (ss : List Span) → length (flat_map span_bytes ss) ≡ 8 * length ss
 spans_length [] = refl
@@ -63,7 +63,7 @@ ranges_over size rs replicas limit are ids few counted h = subst (λ n. limit < 
 pub many_runs : (size : ℕ) (rs : List Run) → most < length rs → most < size + length (ranges_bytes (grouped rs))
 many_runs size rs h = let l = ranges_long rs in omega arith
 
--- ---- how long files are
+-- ---- the length of files
 
 pub register_length : (version : ℕ) (os : List Op) (rs : List Run) → length (register_file version os rs) ≡ 10 + length (ranges_bytes (grouped rs)) + length (flat_map (op_bytes version) os)
 register_length version os rs =

@@ -1,4 +1,4 @@
--- From what the bytes of a source are to what its read answers.
+-- A fault of the bytes of a source is a fault of reading the source.
 use Rattle.std.proofs.Common.{◌≡◌, ℕ, ◌+◌, List, subst}
 use Rattle.byte_io.specs.Device.{SourceState}
 use Rattle.byte_io.specs.Whole.{GivesAtMost}
@@ -17,6 +17,6 @@ module _ (Has : List ℕ → FileFault → ℕ → Type 0) (old new : SourceStat
   of_bytes (reading.ReadFailed n) h = absurd h
   of_bytes reading.Memory h = gives
 
-  -- a fault of the bytes that were given
+  -- the same for bytes that are equal to those of the source
   pub from_source : (given : List ℕ) (f : ReadFileFault) → given ≡ bytes → IsReadFaultBy Has given f → IsReadFromFaultBy Has old new f
   from_source given f e h = of_bytes f (subst (λ b. IsReadFaultBy Has b f) e h)

@@ -1,4 +1,4 @@
--- Runs one by one are spelled as by replica.
+-- Runs that are written one by one have the bytes of their groups by replica.
 use Rattle.std.proofs.Common.{◌≡◌, ℕ, suc, ◌+◌, ◌≤◌, Bool, true, false, cond, List, [], ◌∷◌, ◌++◌, length, drop, Option, Some, None, refl, sym, ap, ◌∙◌, append_assoc, arith}
 use Rattle.std.specs.List.{flat_map}
 use Rattle.std.proofs.Math.ListN.{drop_of_length-le}
@@ -15,7 +15,7 @@ use Rattle.reg_file.proofs.GroupLemmas.{put_same, put_other}
 abbrev group_of : List ℕ → List Span → Group
 group_of replica ss = record { replica = replica; spans = ss }
 
--- what groups say of the runs that they are of: the first one's are told apart
+-- the bytes and counts of the runs after r are those of the other ranges of its group, and of the groups after it
 pub record IsSpelledBy (r : Run) (rs : List Run) (spans : List Span) (others : List Group) : Type 0 where
   pub behind : spelled (Some r.replica) rs ≡ flat_map span_bytes spans ++ flat_map group_bytes others
   pub count : leading r.replica rs ≡ length spans
@@ -44,7 +44,7 @@ begun_same q s rs h = ap (λ b. cond b 0 1 + begun (Some s.replica) rs) h ∙ (l
 begun_other : (q : List ℕ) (s : Run) (rs : List Run) → is_eq (replica_cmp q s.replica) ≡ false → begun (Some q) (s ∷ rs) ≡ 1 + begun (Some s.replica) rs
 begun_other q s rs h = ap (λ b. cond b 0 1 + begun (Some s.replica) rs) h
 
--- a whole group, from its first run on
+-- the bytes of a group, from its first run on
 whole_group : (s : Run) (rs : List Run) (spans : List Span) (others : List Group) → IsSpelledBy s rs spans others
     → (s.replica ++ four (leading s.replica (s ∷ rs))) ++ (four s.low ++ (four s.high ++ spelled (Some s.replica) rs)) ≡ flat_map group_bytes (group_of s.replica (span_of s ∷ spans) ∷ others)
 whole_group s rs spans others is =

@@ -1,4 +1,4 @@
--- Bytes hold the ids that were seen exactly where they are read as them.
+-- Bytes are a file of the seen ids if and only if they are read as these ids.
 use Rattle.std.proofs.Common.{◌≡◌, ℕ, ◌^◌, ◌<◌, ◌≤◌, List, [], ◌++◌, length, refl, sym, ap, subst, ◌∙◌, arith, inl, inr}
 use Rattle.std.proofs.lemmas.List.{append-nil, length-append}
 use Rattle.reg_op.specs.Set as set
@@ -21,7 +21,7 @@ use Rattle.reg_file.proofs.KeptLemmas.{seen_take, seen_again, seen_one}
 use Rattle.reg_file.proofs.ExactLemmas.{field_exact, summary_exact}
 use Rattle.reg_file.proofs.HoldLemmas.{one_fault_at}
 
--- ---- in a version
+-- ---- one version
 
 module _ (version : ℕ) where
   held_in : (bytes : List ℕ) (ids : Ids) → IsBytes bytes → length bytes ≤ most → ReadsSummary version bytes ids → HoldsSeenIn version bytes ids
@@ -73,7 +73,7 @@ module _ (version : ℕ) where
   pub one_file_in : (ids : Ids) (bytes others : List ℕ) → IsSeenFileIn version ids bytes → IsSeenFileIn version ids others → bytes ≡ others
   one_file_in ids bytes others f g = f.whole ∙ ap (seen_file version) (same_runs f.runs g.runs f.are_runs g.are_runs (f.all ∙ sym g.all)) ∙ sym g.whole
 
--- ---- in either version
+-- ---- either version
 
 of_second : (bytes : List ℕ) (ids : Ids) → HoldsSeen bytes ids → version_in bytes ≡ 2
 of_second bytes ids h = second_in 2 bytes _ h.bytes_are.whole

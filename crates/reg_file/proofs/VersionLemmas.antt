@@ -1,4 +1,4 @@
--- The byte of the version tells files apart.
+-- Files of different versions differ in the byte of the version.
 use Rattle.std.proofs.Common.{◌≡◌, ℕ, Bool, true, false, cond, List, ◌++◌, refl, sym, ap, subst, arith}
 use Rattle.reg_file.specs.Layout.{head}
 use Rattle.reg_file.specs.Reading.{says_first, version_in}
@@ -12,7 +12,7 @@ first_in kind bytes rest e = ap version_in e
 pub not_both : (n : ℕ) → n ≡ 1 → n ≡ 2 → ⊥
 not_both n p q = omega arith
 
--- bytes are read as one version or as the other
+-- bytes are read as version 1 or as version 2
 pub by_version : (P : ℕ → Type 0) (bytes : List ℕ) → (version_in bytes ≡ 1 → P 1) → (version_in bytes ≡ 2 → P 2) → P (version_in bytes)
 by_version P bytes first second = from (says_first bytes) refl
   where

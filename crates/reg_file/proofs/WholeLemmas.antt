@@ -57,7 +57,7 @@ module _ (version : ℕ) (basis : Ids) (bytes : List ℕ) where
             apart = seen_apart basis bytes seen r2 fits a;
           }
 
--- ---- to the end
+-- ---- up to the end of the file
 
 pub stops_before : (version : ℕ) (basis : Ids) (bytes : List ℕ) (s : Stop) → StopsIn (seen_and_ops version basis) bytes s → StopsIn (seen_and_kept version basis) bytes s
 stops_before version basis bytes s h = stops_front (seen_and_ops version basis) (λ x. ending version x.1.1) bytes s h

@@ -1,4 +1,4 @@
--- The merge of contents, by halves.
+-- The merge of a list of contents is the merge of the merges of its halves.
 use Rattle.std.proofs.Common.{◌≡◌, ℕ, true, List, [], ◌∷◌, ◌++◌, take, drop, Ok, sym, ap, ◌∙◌, subst}
 use Rattle.std.proofs.lemmas.List.{take-append-drop}
 use Rattle.reg_op.specs.Set.{contains, union}
@@ -40,6 +40,6 @@ pub both_halves : (n : ℕ) (xs : List Content) (l r z : Content) → l ≡ merg
 both_halves n xs l r z e f both =
     sym (joined_ok l r z both).1 ∙ (λ j. merged (e j) (f j)) ∙ merged-append (take n xs) (drop n xs) ∙ ap merged_all (take-append-drop n xs)
 
--- what the join of a list is, if no id has two operations
+-- if no id has two bodies, the join of a list is its merge
 pub all_is : (xs : List Content) (z : Content) → OneBody (all_ops xs) → z ≡ merged_all xs → all_joined joined (Ok nothing) xs ≡ Ok z
 all_is xs z one e = joined_all xs one ∙ ap Ok (sym e)

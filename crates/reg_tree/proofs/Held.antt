@@ -36,7 +36,7 @@ seen_either s t i (inr h) = set.contains-union id_total s t i ∙ ap (λ b. cont
 held_front : (a b v : Ids) → IsHeld (union a b) v → IsHeld a v
 held_front a b v h i is = h i (seen_either a b i (inl is))
 
--- what is left of a basis without the ids that pieces bring was seen: all of it, with these ids
+-- if v has all ids of a, and those of b that are not in s, then v and s together have all ids of b
 held_behind : (a b s v : Ids) → IsHeld (union a (difference b s)) v → IsHeld b (union v s)
 held_behind a b s v h i is = elim (contains s i) as (λ t. contains s i ≡ t → contains (union v s) i ≡ true) [
   | true ↦ λ there. seen_either v s i (inr there)
@@ -81,7 +81,7 @@ chain_from k v (p ∷ ps) one held =
     ∙ chain_from (union k p.ops) (union v p.seen) ps (subst OneBody (sym whole) one) held.1
     ∙ ap Ok (same_content _ _ (ap kept whole) (union_assoc id_total id_exact v p.seen (all_seen (map part_of ps))))
 
--- a content joined with all that the pieces bring is the pieces joined to it
+-- joining x with the merge of the pieces gives what joining the pieces to x one by one gives
 pub at_once : (x : Content) (ps : List Piece) (y z : Content) → IsContent x → Fit x ps → y ≡ merged_all (map part_of ps) → joined x y ≡ Ok z → with_pieces (Ok x) ps ≡ Ok z
 at_once x ps y z is fit e both =
     let k = x.ops in

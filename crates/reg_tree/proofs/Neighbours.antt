@@ -1,4 +1,4 @@
--- Operations that ascend by id: if neighbours agree, all do.
+-- In a list of operations that is sorted by id, all operations agree if neighbours do.
 use Rattle.std.proofs.Common.{◌≡◌, ℕ, zero, suc, ◌+◌, ◌-◌, ◌<◌, ◌≤◌, Bool, true, false, not, ◌&&◌, ◌||◌, ◌⊎◌, inl, inr, List, [], ◌∷◌, length, get_or, refl, sym, ap, ◌∙◌, subst, arith}
 use Rattle.std.specs.Prelude.{Contains, Result, Ok, Err, IfOk}
 use Rattle.std.specs.Bool.{OnTrue}
@@ -29,13 +29,13 @@ not_clashing true true h same = refl
 not_clashing true false h same = absurd (true≢false h)
 not_clashing false e h same = absurd (true≢false (sym same))
 
--- one id and no clash: one operation
+-- two operations with the same id that do not clash are equal
 pub agreed : (p o : Op) → clashes p o ≡ false → p.id ≡ o.id → p ≡ o
 agreed p o h e =
     let same : is_same p.id o.id ≡ true = subst (λ (i : Id). is_same p.id i ≡ true) e (ap is_eq (tied_itself id_total p.id)) in
     op_exact p o ((Equal-is (op_cmp p o)).0 (not_clashing (is_same p.id o.id) (is_eq (op_cmp p o)) h same))
 
--- each of the first n agrees with the next
+-- no two neighbours among the first n elements clash
 abbrev pub NeighboursAgree : List (Bor Op) → ℕ → Type 0
 NeighboursAgree os n = (k : ℕ) (d : Bor Op) → k + 1 < n → clashes (get_or os k d).now (get_or os (k + 1) d).now ≡ false
 
@@ -88,13 +88,13 @@ next_agrees os i x y low high e f apart agree k d h = elim (lt_or_ge (k + 1) i) 
 pub all_neighbours : (os : List (Bor Op)) (i : ℕ) → length os ≤ i → NeighboursAgree os i → NeighboursAgree os (length os)
 all_neighbours os i long agree k d h = agree k d (omega arith)
 
--- in another order
+-- if no id has two operations in a list, none has in a permutation of it
 pub one_each_of : (os ps : List (Bor Op)) → IsPermutation os ps → OneEach (ops_at ps) → OneEach (ops_at os)
 one_each_of os ps moved each p o h k e =
     let same = IsPermutation-map (λ (q : Bor Op). q.now) os ps moved in
     each p o (Contains-permutation (ops_at os) (ops_at ps) p same h) (Contains-permutation (ops_at os) (ops_at ps) o same k) e
 
--- what a mapped list has comes from the list
+-- an element of the mapped list is the image of an element of the list
 from_map : (os : List (Bor Op)) (o : Op) → Contains (ops_at os) o → (x : Bor Op) × Contains os x × (x.now ≡ o)
 from_map [] o h = absurd (omega (arith, h.1))
 from_map (x ∷ os) o (zero, a, e) = (x, (0, omega arith, refl), e)
@@ -125,7 +125,7 @@ in_ops (x ∷ xs) o h = elim (or_cases (set.contains x.ops o) (set.contains (all
 pub one_body : (xs : List Content) → OneEach (ops_in xs) → OneBody (all_ops xs)
 one_body xs each p o h k e = each p o (in_ops xs p h) (in_ops xs o k) e
 
--- ---- the meaning of an answer
+-- ---- the result of the check
 
 pub more_true : (t : Bool) {P Q : Type 0} → (P → Q) → OnTrue t P → OnTrue t Q
 more_true true f h = f h
