@@ -1,4 +1,4 @@
--- What a command's effects change of a content, one after another.
+-- How the effects of a command change a content, one by one.
 use Rattle.std.proofs.Common.{◌≡◌, ℕ, ◌+◌, ◌<◌, ◌≤◌, length, get_or, take, drop, arith, Bool, true, false, not, ◌&&◌, ◌||◌, cond, List, [], ◌∷◌, ◌++◌, map, All, Option, Some, None, refl, sym, ap, ◌∙◌, subst}
 use Rattle.std.proofs.lemmas.Bool.{true≢false}
 use Rattle.std.proofs.lemmas.List.{drop_more, drop_all}
@@ -39,7 +39,7 @@ superseded_by (Supersede old) before e n = is_same e old && list_any (is_same n)
 abbrev supersession : Id → Id → Op → Bool
 supersession e n o = is_supersession e (is_same n) o.body
 
--- what was there, with a command's effects on some entries
+-- `now` is `ops` after the effects of the command on some entries
 record Grown (c : Command) (ops : Ops) (before : List Id) (now : Ops) : Type 0 where
   entered : (e : Id) → enters now e ≡ enters ops e
   retired : (e : Id) → retires now e ≡ (retires ops e || retired_by c before e)
@@ -76,7 +76,7 @@ grown_none c ops = record {
     none_by Retire e n = refl
     none_by (Supersede old) e n = sym (and_end (is_same e old))
 
--- ---- one more
+-- ---- one more effect
 
 any-one : (t : Op → Bool) (o : Op) → any t (one o) ≡ t o
 any-one t o = any-from_list t (o ∷ []) ∙ or_end (t o)
@@ -123,7 +123,7 @@ module _ (c : Command) (ops : Ops) (before : List Id) (y : Content) (i f : Id) (
         ∙ (λ k. not (sym (retires-kept s e ∙ any-with (is_off e) y.ops o) k) && (any (supersession e n) ops || superseded_more c before f e n k));
   })
 
--- ---- what there is against one more
+-- ---- the refusal of one effect after others
 
 abbrev pub chain : Id → Id → Bool → Bool → Bool → Bool → Bool → Bool → Option OfficeFault
 chain old newer a b same r q p =
@@ -148,7 +148,7 @@ objection_is (Supersede old) ops before now e g =
     not_retired : (q : Id) → retires now q ≡ retires ops q
     not_retired q = g.retired q ∙ or_end (retires ops q)
 
--- ---- what there is against several
+-- ---- the refusal of several effects
 
 abbrev pub faults : Command → Ops → List Id → List Id → Option OfficeFault
 faults c ops before [] = None
@@ -166,7 +166,7 @@ against c ops before y replica n note (e ∷ es) g =
 pub objections_are : (c : Command) (x : Content) (replica : List ℕ) (n : ℕ) (note : List ℕ) (es : List Id) → objections x (numbered replica n note (effects c es)) ≡ faults c x.ops [] es
 objections_are c x replica n note es = against c x.ops [] x replica n note es (grown_none c x.ops)
 
--- the first of those that are left is at fault
+-- if no effect before index k is refused, a refusal of the effect at k is that of the command
 pub first_at : (c : Command) (x : Content) (replica : List ℕ) (n : ℕ) (note : List ℕ) (es : List Id) (k : ℕ) (e : Id) (f : OfficeFault) → k < length es → e ≡ get_or es k e
     → faults c x.ops [] es ≡ faults c x.ops (take k es) (drop k es) → Some f ≡ fault_of c x.ops (list_any (is_same e) (take k es)) e → Some f ≡ objections x (numbered replica n note (effects c es))
 first_at c x replica n note es k e f h at walked found =
@@ -178,7 +178,7 @@ first_at c x replica n note es k e f h at walked found =
 pub none_left : (c : Command) (x : Content) (replica : List ℕ) (n : ℕ) (note : List ℕ) (es : List Id) (k : ℕ) → length es ≤ k → faults c x.ops [] es ≡ faults c x.ops (take k es) (drop k es) → None ≡ objections x (numbered replica n note (effects c es))
 none_left c x replica n note es k h walked = sym (objections_are c x replica n note es ∙ walked ∙ ap (faults c x.ops (take k es)) (drop_all k es h))
 
--- ---- effects that are not refused are possible
+-- ---- an effect that is not refused does not supersede an entry by itself
 
 pub nothing_against : (r rest : Option OfficeFault) → else_next r rest ≡ None → (r ≡ None) × (rest ≡ None)
 nothing_against None rest h = (refl, h)

@@ -1,4 +1,4 @@
--- What is made, from the outcome.
+-- The operations of a command that is not refused, and two of its refusals.
 use Rattle.std.proofs.Common.{◌≡◌, ◌↔◌, ℕ, ◌+◌, ◌<◌, ◌≤◌, nat_lt, Bool, true, false, not, ◌&&◌, cond, List, [], ◌∷◌, map, length, Option, Some, None, Ok, Err, refl, sym, ap, ◌∙◌, subst, inl, inr, arith}
 use Rattle.std.proofs.lemmas.Bool.Decides.{nat_tests}
 use Rattle.std.proofs.lemmas.Bool.{true≢false, and_parts, false_from_ne_true}
@@ -61,9 +61,9 @@ is_greatest r seen = record {
   bound = λ count h. count-greatest r seen (id_at r count) h refl;
 }
 
--- ---- a note is too long, a count is spent
+-- ---- the refusals of effects are about entries
 
--- the fault is that of an entry
+-- the fault is about an entry
 abbrev is_of_entry : OfficeFault → Bool
 is_of_entry fault.NoteTooLong = false
 is_of_entry (fault.UnknownEntry entry) = true

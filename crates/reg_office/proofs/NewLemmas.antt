@@ -1,4 +1,4 @@
--- What a command makes is kept: each of its effects is new.
+-- The operations of a command are kept after the join, as each of its effects is new.
 use Rattle.std.proofs.Common.{◌≡◌, ℕ, ◌+◌, Bool, true, false, not, ◌&&◌, ◌||◌, cond, List, [], ◌∷◌, ◌++◌, map, length, Option, Some, None, Ok, refl, sym, ap, ◌∙◌, subst, inl, inr}
 use Rattle.std.proofs.lemmas.Bool.{true≢false, and_parts, and_from, or_cases, or_left, or_right, false_from_ne_true}
 use Rattle.std.proofs.lemmas.List.Folds.{list_any-append}
@@ -33,7 +33,7 @@ use Rattle.reg_office.proofs.NumberLemmas.{op_cases}
 use Rattle.reg_office.proofs.LawLemmas.{made_are}
 use Rattle.reg_office.proofs.RepeatLemmas.{again_refused}
 
--- no entry stands there twice
+-- no entry is in the list twice
 abbrev pub Distinct : List Id → Type 0
 Distinct [] = Unit {0}
 Distinct (e ∷ es) = (list_any (is_same e) es ≡ false) × Distinct es
@@ -51,7 +51,7 @@ in_end before e = list_any-append (is_same e) before (e ∷ []) ∙ or_right (li
 in_front : (before : List Id) (e f : Id) → list_any (is_same e) before ≡ true → list_any (is_same e) (before ++ f ∷ []) ≡ true
 in_front before e f h = list_any-append (is_same e) before (f ∷ []) ∙ or_left (list_any (is_same e) before) _ h
 
--- where a command is not refused, each entry that it names is named once
+-- a command that is not refused names each entry once
 pub named_once : (c : Command) (ops : Ops) (before es : List Id) → faults c ops before es ≡ None → Distinct es × ((e : Id) → list_any (is_same e) before ≡ true → list_any (is_same e) es ≡ false)
 named_once c ops before [] h = (tt, λ e k. refl)
 named_once c ops before (f ∷ fs) h =
@@ -64,7 +64,7 @@ named_once c ops before (f ∷ fs) h =
           ap (λ b. b || list_any (is_same e) fs) other ∙ rest.1 e (in_front before e f k),
     )
 
--- and there is nothing against its effect alone
+-- no effect of a command that is not refused is refused alone
 pub each_new : (c : Command) (ops : Ops) (before es : List Id) → faults c ops before es ≡ None → (e : Id) → list_any (is_same e) es ≡ true → fault_of c ops false e ≡ None
 each_new c ops before [] h e m = absurd (true≢false (sym m))
 each_new c ops before (f ∷ fs) h e m =
@@ -74,7 +74,7 @@ each_new c ops before (f ∷ fs) h e m =
       | inr t ↦ each_new c ops (before ++ f ∷ []) fs p.1 e t
     ]
 
--- ---- the operations of a command replace none of one another
+-- ---- no operation of a command replaces another of it
 
 pub member_of : (f : Id → Body) (r : List ℕ) (n : ℕ) (note : List ℕ) (es : List Id) (o : Op) → has (numbered r n note (map f es)) o ≡ true → (e : Id) × (list_any (is_same e) es ≡ true) × (o.body ≡ f e)
 member_of f r n note [] o h = absurd (true≢false (sym h))
@@ -120,7 +120,7 @@ in_set os o h = contains-from_list op_total os o ∙ h
 abbrev pub Unreplaced : List Op → Type 0
 Unreplaced os = (p o : Op) → has os p ≡ true → has os o ≡ true → replaces p o ≡ true → ⊥
 
--- so none of them is dropped
+-- if no operation of a list replaces another, none is dropped
 drops_none : (os : List Op) → Unreplaced os → first_dropped (of_list os) ≡ None
 drops_none os free = ap (option_map (λ (o : Op). o.id)) (find_none (λ o. any (λ p. replaces p o) (of_list os)) (set.items (of_list os)) (false_from_ne_true _ (λ h.
     let o = member_from_any op_total op_exact (λ o. any (λ p. replaces p o) (of_list os)) (of_list os) h in
@@ -130,7 +130,7 @@ drops_none os free = ap (option_map (λ (o : Op). o.id)) (find_none (λ o. any (
 pub none_dropped : (c : Command) (x : Content) (r : List ℕ) (n : ℕ) (note : List ℕ) (es : List Id) → objections x (numbered r n note (effects c es)) ≡ None → first_dropped (of_list (numbered r n note (effects c es))) ≡ None
 none_dropped c x r n note es h = drops_none (numbered r n note (effects c es)) (none_replaces c r n note es (named_once c x.ops [] es (sym (objections_are c x r n note es) ∙ h)).0)
 
--- ---- nothing that was there replaces them
+-- ---- no operation of the content replaces one of the command
 
 two_new : (entry : Id) (a r : Bool) → cond (not a) (Some (fault.UnknownEntry entry)) (cond (r || false) (Some (fault.AlreadyRetired entry)) None) ≡ None → r ≡ true → ⊥
 two_new entry false r h k = cc
@@ -168,7 +168,7 @@ none_above (Supersede old) ops e h i (Superseding a n) t before m over =
     pair_new old e (enters ops old) (enters ops e) (is_same old e) (retires ops old) (retires ops e) (any (λ o. is_supersession old (is_same e) o.body) ops) h
     (any_from_member op_total op_exact (λ o. is_supersession old (is_same e) o.body) ops (record { id = i; body = Superseding a n; note = t }) m (and_from _ _ (is_same_back a old p.0) (is_same_back n e q.0)))
 
--- what nothing replaces is kept beside what was there
+-- a new operation that no other one replaces, old or new, is kept after the join
 joined_has : (x : Content) (os : List Op) (o : Op) → has os o ≡ true → Unreplaced os → ((p : Op) → contains x.ops p ≡ true → replaces p o ≡ true → ⊥) → contains (merged x (state (of_list os))).ops o ≡ true
 joined_has x os o h free past =
     kept_has (set.union x.ops (kept (of_list os))) o
@@ -193,7 +193,7 @@ effects_kept c x r note es os o h k =
     (joined_has x (numbered r n note (effects c es)) o mine (none_replaces c r n note es (named_once c x.ops [] es none).0)
     (λ p a over. none_above c x.ops m.0 (each_new c x.ops [] es none m.0 m.1) p.id p.body p.note (is_before p.id o.id) a (subst (λ b. replaces_body (is_before p.id o.id) p.body b ≡ true) m.2 over)))
 
--- nothing replaces an Enter
+-- no body replaces an Enter
 over_enter : (before : Bool) (b : Body) (text : List ℕ) → replaces_body before b (Enter text) ≡ true → ⊥
 over_enter before (Enter t) text h = true≢false (sym h)
 over_enter before (Superseding a n) text h = true≢false (sym h)

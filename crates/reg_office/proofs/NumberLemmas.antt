@@ -1,4 +1,4 @@
--- What a command numbers is new, and of one body an id.
+-- The ids that a command numbers are new, and each has one operation.
 use Rattle.std.proofs.Common.{◌≡◌, ℕ, ◌+◌, ◌-◌, ◌<◌, ◌≤◌, nat_lt, add-one, get_or, take, true, false, ◌&&◌, cond, max, List, [], ◌∷◌, ◌++◌, map, length, Some, None, Ok, Err, zero, suc, refl, sym, ap, ◌∙◌, subst, inl, inr, ◌⊎◌, arith}
 use Rattle.std.proofs.lemmas.Bool.Decides.{nat_tests}
 use Rattle.std.proofs.lemmas.List.{take_more, length-take}
@@ -28,7 +28,7 @@ use Rattle.reg_office.specs.declared.fault.OfficeFault.TheVariants as fault
 use Rattle.reg_office.specs.Making.{greatest_of, greatest, numbered, objections, else_next, note_fault, is_spent, made_unless, made}
 use Rattle.reg_office.specs.Commands.{Does}
 
--- the head or the tail of a list has it
+-- an element of a list is its head or in its tail
 pub op_cases : (o x : Op) (xs : List Op) → has (x ∷ xs) o ≡ true → (o ≡ x) ⊎ (has xs o ≡ true)
 op_cases o x xs h =
     elim (or_cases (eq_by_cmp op_cmp o x) (has xs o) h) [
@@ -104,7 +104,7 @@ greatest_is r seen n is =
     up_to zero b h = omega arith
     up_to (suc a) b h = h (omega arith)
 
--- ---- what is numbered on was not seen
+-- ---- counts above the greatest were not seen
 
 pub number_is_new : (x : Content) (r note : List ℕ) (bs : List Body) (o : Op) → has (numbered r (greatest r x.seen + 1) note bs) o ≡ true → contains x.seen o.id ≡ true → ⊥
 number_is_new x r note bs o h k =
@@ -137,7 +137,7 @@ numbers_join x r note bs is s e =
     joined_content x (state s) (OneBody-within (set.union x.ops (kept s)) (set.union x.ops s)
     (union_within x.ops (kept s) (set.union x.ops s) (union_left x.ops s) (λ o h. union_right x.ops s o (kept_is_within s o h))) one)
 
--- ---- in a list
+-- ---- numbered operations as a list
 
 after_numbered : (r : List ℕ) (m n : ℕ) (note : List ℕ) (bs : List Body) → m < n → AllAfter (id_at r m) (numbered r n note bs)
 after_numbered r m n note [] h = tt
@@ -178,7 +178,7 @@ numbered_more r n note bs k b os o h at before is =
     ∙ (λ j. numbered r n note (take k bs ++ at j ∷ []))
     ∙ (λ j. numbered r n note (sym (take_more bs k b h) j))
 
--- ---- what is made
+-- ---- the outcome of a command
 
 unspent : (limit g k : ℕ) → g + k ≤ limit → (nat_lt 0 k && nat_lt limit (g + k)) ≡ false
 unspent limit g k h = grind (arith, nat_tests)
@@ -207,7 +207,7 @@ one_made x r note b o i t n v e s f g h = e ∙ (λ j. record { id = f j; body =
 pub one_joins : (x : Content) (r note : List ℕ) (b : Body) (o : Op) → IsContent x → o ≡ record { id = id_at r (greatest r x.seen + 1); body = b; note = note } → joined x (state (one o)) ≡ Ok (merged x (state (one o)))
 one_joins x r note b o is e = numbers_join x r note (b ∷ []) is (one o) (ap one e)
 
--- an Enter meets no objection
+-- an Enter has no objection
 pub enter_done : (x y : Content) (r note text : List ℕ) (o : Op) (i : Id) → note_fault note ≡ None → o ≡ record { id = id_at r (greatest r x.seen + 1); body = Enter text; note = note } → i ≡ o.id → greatest r x.seen + 1 ≤ 4294967295 → joined x (state (one o)) ≡ Ok y
     → Does x r note (Enter text ∷ []) y (i ∷ [])
 enter_done x y r note text o i a e f h j = record {
@@ -226,7 +226,7 @@ in_ids (p ∷ os) o h = elim (op_cases o p os h) [
   | inr e ↦ or_right (eq_by_cmp id_cmp o.id p.id) _ (in_ids os o e)
 ]
 
--- what has seen the run of their ids has seen each
+-- a set that has the run of their ids has the id of each
 pub run_has : (os : List Op) (run : Run) (v w : Ids) → map (λ (o : Op). o.id) os ≡ ids_of_run run → v ≡ set.empty → w ≡ set.union v (set.from_list (ids_of_run run)) → (o : Op) → has os o ≡ true → contains w o.id ≡ true
 run_has os run v w e f g o h =
     ap (λ t. contains t o.id) g
@@ -241,13 +241,13 @@ ids_are os run v w up e f g =
 pub state_is : (os : List Op) (w : Ids) (r : Content) → r ≡ content_at os w → IsContent r → w ≡ ids (set.from_list {R = op_cmp} os) → r ≡ state (set.from_list {R = op_cmp} os)
 state_is os w r e is f = e ∙ same_content (content_at os w) (state (set.from_list os)) (sym (subst (λ (x : Content). kept x.ops ≡ x.ops) e is.is_kept)) f
 
--- a run of numbers from a first one on
+-- the ids of numbered operations are those of a run
 pub run_of_numbered : (r : List ℕ) (n high : ℕ) (note : List ℕ) (bs : List Body) (os : List Op) → 0 < length bs → high ≡ n + (length bs - 1) → os ≡ numbered r n note bs → map (λ (o : Op). o.id) os ≡ ids_of_run (record { replica = r; low = n; high = high })
 run_of_numbered r n high note bs os p h e =
     let count : length bs ≡ high + 1 - n = omega arith in
     ap (map (λ (o : Op). o.id)) e ∙ numbered_ids r n note bs ∙ ap (ids_from r n) count
 
--- a command without effects makes nothing
+-- a command without effects changes nothing
 pub none_done : (x : Content) (r note : List ℕ) (bs : List Body) (is : List Id) → note_fault note ≡ None → IsContent x → length bs ≡ 0 → is ≡ [] → Does x r note bs x is
 none_done x r note [] is a content h e = record {
   ops = [];

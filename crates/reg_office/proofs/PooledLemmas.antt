@@ -1,4 +1,4 @@
--- A file that was sent holds one thing, which has one file.
+-- A file has at most one content, and a content has one file, or one that is too large.
 use Rattle.std.proofs.Common.{◌≡◌, ℕ, true, List, length, refl, sym, ap, ◌∙◌, subst, inl, inr, ◌⊎◌}
 use Rattle.std.proofs.lemmas.Bool.{cases_lt, true≢false}
 use Rattle.reg_op.specs.Set as set
@@ -18,7 +18,7 @@ use Rattle.reg_file.proofs.KindLemmas.{read_register_or_seen, read_register_or_p
 use Rattle.reg_file.proofs.MadeRuns.{runs_of_ids}
 use Rattle.reg_office.specs.Pooled.{Pooled, OfRegister, OfSeen, OfPiece, HoldsAny, HoldsFirstAny, ReadsAsAny, IsAnyTooLarge, ops_in, TellsOf}
 
--- ---- they hold one thing
+-- ---- a file has at most one content
 
 pub one_pooled : (bytes : List ℕ) (what other : Pooled) → ReadsAsAny bytes what → ReadsAsAny bytes other → what ≡ other
 one_pooled bytes (OfRegister x) (OfRegister y) h k = ap OfRegister (one_register bytes x y h k)
@@ -31,7 +31,7 @@ one_pooled bytes (OfPiece p) (OfRegister x) h k = absurd (read_register_or_piece
 one_pooled bytes (OfPiece p) (OfSeen v) h k = absurd (read_seen_or_piece bytes v p k h)
 one_pooled bytes (OfPiece p) (OfPiece q) h k = ap OfPiece (one_piece bytes p q h k)
 
--- whether they are of version 2 or of version 1
+-- a file of version 2, or of version 1, is read as its content
 pub is_read : (bytes : List ℕ) (what : Pooled) → HoldsAny bytes what → ReadsAsAny bytes what
 is_read bytes (OfRegister x) h = inl h
 is_read bytes (OfSeen v) h = inl h
@@ -42,14 +42,14 @@ first_is_read bytes (OfRegister x) h = inr h
 first_is_read bytes (OfSeen v) h = inr h
 first_is_read bytes (OfPiece p) h = inr h
 
--- ---- it has one file, or one that is too large
+-- ---- a content has one file, or one that is too large
 
 pub one_pooled_file : (what : Pooled) (bytes others : List ℕ) → HoldsAny bytes what → HoldsAny others what → bytes ≡ others
 one_pooled_file (OfRegister x) bytes others h k = one_file x bytes others h.bytes_are k.bytes_are
 one_pooled_file (OfSeen v) bytes others h k = one_seen_file v bytes others h.bytes_are k.bytes_are
 one_pooled_file (OfPiece p) bytes others h k = one_piece_file p bytes others h.bytes_are k.bytes_are
 
--- what can stand in a file
+-- a content that a file can hold
 abbrev pub IsSound : Pooled → Type 0
 IsSound (OfRegister x) = IsContent x
 IsSound (OfSeen v) = AllIds v
@@ -82,7 +82,7 @@ has_file (OfPiece p) is =
       | inr h ↦ inl (bytes, record { piece = is; bytes_are = are; short = h })
     ]
 
--- ---- what it tells of
+-- ---- the operations in a file
 
 pub ops_within : (reached : Ops) (what : Pooled) → TellsOf reached what → (o : Op) → contains (ops_in what) o ≡ true → contains reached o ≡ true
 ops_within reached (OfRegister x) e o h = kept_is_within reached o (subst (λ (c : Content). contains c.ops o ≡ true) e h)

@@ -1,4 +1,4 @@
--- Where an entry is named again, and the walk along the entries up to there.
+-- The first entry that is named again, and the walk along the entries up to it.
 use Rattle.std.proofs.Common.{◌≡◌, ℕ, ◌+◌, ◌<◌, ◌≤◌, nat_eq, Bool, true, false, not, ◌||◌, cond, List, [], ◌∷◌, ◌++◌, length, get_or, take, drop, zero, suc, Some, None, refl, sym, ap, ◌∙◌, subst, inl, inr, arith}
 use Rattle.std.proofs.lemmas.Bool.{true≢false, cases_lt}
 use Rattle.std.proofs.lemmas.Bool.Decides.{nat_tests}
@@ -18,7 +18,7 @@ use Rattle.reg_office.specs.Effects.{fault_of}
 use Rattle.reg_office.specs.Repeats.{IsFirstRepeat}
 use Rattle.reg_office.proofs.EffectLemmas.{chain, faults}
 
--- none before a place stands before itself
+-- no entry before index n is equal to an earlier one
 abbrev pub Fresh : List Id → ℕ → Type 0
 Fresh named n = (k : ℕ) (d : Id) → k < n → list_any (is_same (get_or named k d)) (take k named) ≡ false
 
@@ -49,7 +49,7 @@ repeats_never named at h fresh = record {
   again = λ d lt. absurd (omega arith);
 }
 
--- the set of those before a place has one more
+-- the entries before the next index are those before this one, and the entry at it
 pub before_more : (named : List Id) (at : ℕ) (e q : Id) → at < length named → e ≡ get_or named at e → cond (is_same e q) true (list_any (is_same q) (take at named)) ≡ list_any (is_same q) (take (at + 1) named)
 before_more named at e q h is =
     sym (ap (list_any (is_same q)) (take_more named at e h) ∙ ap (λ f. list_any (is_same q) (take at named ++ f ∷ [])) (sym is)
@@ -87,7 +87,7 @@ refused_chain old newer true true false false true p h = cc
 refused_chain old newer true true false false false true h = cc
 refused_chain old newer true true false false false false h = cc
 
--- what is named again is refused
+-- an entry that is named again is refused
 pub again_refused : (c : Command) (ops : Ops) (e : Id) → fault_of c ops true e ≡ None → ⊥
 again_refused Retire ops e h = two e (enters ops e) (retires ops e) h
   where
@@ -117,7 +117,7 @@ walk_more c ops named r k e first up h is none walked = (
       | inr at ↦ let here : r ≡ k = omega arith in absurd (again_refused c ops e (subst (λ b. fault_of c ops b e ≡ None) (same k r here) none))
     ]
 
--- what was put in anew was not there
+-- an element that was added was absent
 pub was_absent : (there added : Bool) → added ≡ not there → added ≡ true → there ≡ false
 was_absent false added e h = refl
 was_absent true added e h = absurd (true≢false (sym h ∙ e))

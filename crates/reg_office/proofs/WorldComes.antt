@@ -1,4 +1,4 @@
--- What comes of each event keeps the invariant.
+-- The outcome of each event keeps the invariant.
 use Rattle.std.proofs.Common.{◌≡◌, ℕ, Bool, true, false, ◌||◌, cond, List, [], ◌∷◌, Option, Some, None, Ok, Err, refl, sym, ap, ◌∙◌, subst, inl, inr, ◌⊎◌}
 use Rattle.std.proofs.lemmas.Bool.{or_cases, or_left, or_right, true≢false}
 use Rattle.std.specs.Cmp.{tied_itself}
@@ -29,7 +29,7 @@ use Rattle.reg_office.proofs.LawLemmas.{are_unseen, are_once}
 use Rattle.reg_office.proofs.WorldCommands.{made_operations, made_on}
 use Rattle.reg_office.proofs.WorldInvariant.{IsWithin, IsSent, Invariant, sent_at, office_content, IsGood}
 
--- operations that are joined, of those that were made or of new ones of the office
+-- operations that an office joins: they were made before, or are new ones of the office
 record AreJoined (w : World) (inv : Invariant w) (i : List ℕ) (more : Ops) : Type 0 where
   all : Ops
   operations : AreOperations all
@@ -38,7 +38,7 @@ record AreJoined (w : World) (inv : Invariant w) (i : List ℕ) (more : Ops) : T
   within : IsWithin more all
   news : (o : Op) → contains all o ≡ true → (contains inv.all o ≡ true) ⊎ ((o.id.replica ≡ i) × (contains more o ≡ true))
 
--- the state of what it had and of these operations comes of it
+-- joining them gives the state of the union with what the office had reached, which keeps the invariant
 union_good : (w : World) (inv : Invariant w) (i : List ℕ) (more : Ops) (x : Content) → x ≡ state (union (w.offices i).reached more) → AreJoined w inv i more → IsGood w inv (Gains i x (union (w.offices i).reached more))
 union_good w inv i more x is new =
     let reached = (w.offices i).reached in
@@ -56,7 +56,7 @@ union_good w inv i more x is new =
       ];
     }
 
--- together they have one body an id
+-- in the union with what the office had reached, no id has two bodies
 one_together : (w : World) (inv : Invariant w) (i : List ℕ) (more : Ops) → AreJoined w inv i more → OneBody (union (w.offices i).reached more)
 one_together w inv i more new = OneBody-within _ _ (union_within (w.offices i).reached more new.all (λ o h. new.grows o (inv.within i o h)) new.within) new.one_body
 
@@ -79,7 +79,7 @@ taken w inv i more within = record {
 
 -- ---- an office makes operations
 
--- what was made before has other ids
+-- no operation that was made before has the id of a new one
 pub new_id : (w : World) (inv : Invariant w) (i : List ℕ) (bs : List Body) (note : List ℕ) (os : List Op) (o p : Op) → made (w.offices i).content i note bs ≡ Ok os → has os o ≡ true → contains inv.all p ≡ true → p.id ≡ o.id → ⊥
 new_id w inv i bs note os o p h a b e =
     let own : p.id.replica ≡ i = ap (λ j. j.replica) e ∙ made_on (w.offices i).content i note bs os h o a in
@@ -145,11 +145,11 @@ one_good w inv i id s within =
       | None ↦ λ h. tt
     ] refl
 
--- what the file of a sender holds tells of what it had reached
+-- a sent file is read as something of what its sender had reached
 pub told : (all : Ops) (s : Sent) (what : Pooled) → IsSent all s → ReadsAsAny s.bytes what → TellsOf s.reached what
 told all s what is h = subst (TellsOf s.reached) (one_pooled s.bytes is.what what is.holds h) is.tells
 
--- a piece that tells of some operations, joined where its basis is held, gives the state of these too
+-- joining a piece whose basis was seen gives the state of the union with what its sender had reached
 pub piece_joins : (w : World) (inv : Invariant w) (i : List ℕ) (piece : Piece) (more : Ops) → TellsOf more (OfPiece piece) → IsWithin more inv.all
     → IsHeld piece.basis (ids (w.offices i).reached) → joined_piece (w.offices i).content piece ≡ Ok (state (union (w.offices i).reached more))
 piece_joins w inv i piece more tells within is_held =
@@ -160,7 +160,7 @@ piece_joins w inv i piece more tells within is_held =
     ∙ pieces_joined more reached tells.0 one_body (subst (λ (p : Piece). IsHeld p.basis (ids reached)) tells.1 is_held)
     ∙ ap (λ s. Ok (state s)) same
 
--- and where it is not held, nothing comes of it
+-- a piece whose basis was not seen is refused
 pub piece_refused : (w : World) (inv : Invariant w) (i : List ℕ) (piece : Piece) → (IsHeld piece.basis (ids (w.offices i).reached) → ⊥)
     → (id : Id) × (joined_piece (w.offices i).content piece ≡ Err (Basis id))
 piece_refused w inv i piece never =
@@ -171,7 +171,7 @@ piece_refused w inv i piece never =
       | Some id ↦ λ e. (id, refl)
     ] refl
 
--- a basis is held, or not
+-- a basis was seen, or was not
 pub held_or_not : (basis seen : Ids) → IsHeld basis seen ⊎ (IsHeld basis seen → ⊥)
 held_or_not basis seen =
     elim (first_missing basis seen) as (λ m. first_missing basis seen ≡ m → IsHeld basis seen ⊎ (IsHeld basis seen → ⊥)) [
@@ -213,7 +213,7 @@ seen_ids bytes what h seen e = of_either (subst (ReadsAsAny bytes) e h)
     of_either (inl k) = k.are_ids
     of_either (inr k) = k.are_ids
 
--- what an office had
+-- an office that gains what it had keeps the invariant
 same_good : (w : World) (inv : Invariant w) (i : List ℕ) (x : Content) → x ≡ state (w.offices i).reached → IsGood w inv (Gains i x (w.offices i).reached)
 same_good w inv i x is = record {
   all = inv.all;

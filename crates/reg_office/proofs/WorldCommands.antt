@@ -1,4 +1,4 @@
--- What a command of an office makes are operations, of its replica, by id.
+-- A command makes operations of the office's replica, ordered by id.
 use Rattle.std.proofs.Common.{◌≡◌, ℕ, ◌+◌, ◌<◌, ◌≤◌, ◌^◌, nat_lt, Bool, true, false, ◌&&◌, List, [], ◌∷◌, All, length, Option, Some, None, Ok, refl, sym, ap, subst, inl, inr, arith}
 use Rattle.std.proofs.lemmas.Bool.{or_cases, true≢false}
 use Rattle.std.proofs.lemmas.Bool.Decides.{nat_tests}
@@ -23,7 +23,7 @@ use Rattle.reg_office.proofs.EffectLemmas.{chain}
 use Rattle.reg_office.proofs.NumberLemmas.{numbered_on, numbered_by_id}
 use Rattle.reg_office.proofs.LawLemmas.{made_are, short_from}
 
--- what meets no objection supersedes no entry by itself
+-- a supersession that has no objection does not name one entry twice
 same_told : (old newer : Id) (a b same r q p : Bool) → chain old newer a b same r q p ≡ None → same ≡ true → ⊥
 same_told old newer true true true r q p h s = cc
 same_told old newer true true false r q p h s = true≢false (sym s)
@@ -62,7 +62,7 @@ module _ (r : List ℕ) (long : length r ≡ 16) (bytes : All (λ b. b < 256) r)
         | inr e ↦ numbered_are (with_op x first) (n + 1) limit bs is (omega arith) (omega arith) (All-tail IsEffect b bs each) f.1 o e
       ]
 
--- ---- from the outcome
+-- ---- the operations of a command that is not refused
 
 free_from : (f : Option OfficeFault) (spent : Bool) (os ps : List Op) → made_unless f spent os ≡ Ok ps → (f ≡ None) × (spent ≡ false)
 free_from None false os ps h = (refl, refl)

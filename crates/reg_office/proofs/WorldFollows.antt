@@ -1,4 +1,4 @@
--- What follows in every world.
+-- Consequences of the invariant, in every world.
 use Rattle.std.proofs.Common.{◌≡◌, ℕ, Bool, true, false, cond, List, [], ◌∷◌, map, Option, Some, None, Ok, refl, sym, ap, ◌∙◌, subst, inl, inr, ◌⊎◌}
 use Rattle.std.proofs.lemmas.Bool.{true≢false}
 use Rattle.std.specs.List.{slice_get}
@@ -50,7 +50,7 @@ are_new w inv i j effects note os o p h a b e = new_id w inv i effects note os o
 pub never_clashes : (w : World) → Invariant w → (e : Event) (id : Id) → IsEvent w e → ComesOf w e (Clashes id) → ⊥
 never_clashes w inv e id is h = comes_good w inv e is (Clashes id) h
 
--- ---- each event has an outcome, and one world after it
+-- ---- each event has one outcome, and at most one world after it
 
 reads_one : (next : Pooled → Ops → Outcome) (o : Option Sent) (out other : Outcome) → Reads next o out → Reads next o other → out ≡ other
 reads_one next None out other h k = h ∙ sym k
@@ -96,7 +96,7 @@ outcome w inv (Stop e left) is =
       | inr new ↦ (new.0, inl (new.1, new.2))
     ]
 
--- what can stand in a file comes into a world, or its file is too large
+-- an outcome that keeps the invariant has a world after it, or its file is too large
 follows : (w : World) (inv : Invariant w) (out : Outcome) → IsGood w inv out → ((v : World) × After w out v) ⊎ IsTooMuch out
 follows w inv Unchanged good = inl (w, refl)
 follows w inv (Clashes id) good = absurd good
@@ -127,7 +127,7 @@ one_world w u v e h k =
     let q = k.1 in
     one_after w q.0 u v (subst (λ out. After w out u) (one_outcome w e p.0 q.0 p.1 q.1) p.2) q.2
 
--- ---- what is retired stays so
+-- ---- a retired entry stays retired
 
 any_grows : (s t : Ops) → IsWithin s t → (test : Op → Bool) → any test s ≡ true → any test t ≡ true
 any_grows s t within test h = let r = member_from_any op_total op_exact test s h in any_from_member op_total op_exact test t r.0 (within r.0 r.1) r.2

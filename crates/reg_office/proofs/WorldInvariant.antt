@@ -1,4 +1,4 @@
--- An invariant of worlds, and what comes of an event that keeps it.
+-- An invariant of worlds, and the outcomes that keep it.
 use Rattle.std.proofs.Common.{◌≡◌, ℕ, true, List, [], ◌∷◌, Some, sym, subst, ◌⊎◌, zero, suc}
 use Rattle.std.specs.List.{slice_get}
 use Rattle.reg_op.specs.Set.{contains}
@@ -13,7 +13,7 @@ use Rattle.reg_office.proofs.PooledLemmas.{IsSound}
 abbrev pub IsWithin : Ops → Ops → Type 0
 IsWithin s t = (o : Op) → contains s o ≡ true → contains t o ≡ true
 
--- a file of what its sender had reached, among all that was made
+-- a sent file has something of what its sender had reached, all of which was made
 pub record IsSent (all : Ops) (s : Sent) : Type 0 where
   pub what : Pooled
   pub holds : ReadsAsAny s.bytes what
@@ -35,7 +35,7 @@ pub record Invariant (w : World) : Type 0 where
   pub own : (o : Op) → contains all o ≡ true → contains (w.offices o.id.replica).reached o ≡ true
   pub pool : AreSent all w.pool
 
--- each office has at least what it had
+-- each office has reached at least what it had reached
 abbrev pub Grows : World → World → Type 0
 Grows w v = (i : List ℕ) → IsWithin (w.offices i).reached (v.offices i).reached
 
@@ -48,12 +48,12 @@ pub sent_within : (all more : Ops) (ss : List Sent) → IsWithin all more → Ar
 sent_within all more [] within are = tt
 sent_within all more (s ∷ ss) within are = (record { what = are.0.what; holds = are.0.holds; tells = are.0.tells; within = λ o h. within o (are.0.within o h) }, sent_within all more ss within are.1)
 
--- the content of an office is one
+-- the content of an office is valid
 pub office_content : (w : World) (inv : Invariant w) (i : List ℕ) → IsContent (w.offices i).content
 office_content w inv i =
     subst IsContent (sym (inv.content i)) (state_is_content (w.offices i).reached (λ o h. inv.operations o (inv.within i o h)) (OneBody-within _ _ (inv.within i) inv.one_body))
 
--- ---- what comes of an event, in a world with the invariant
+-- ---- the outcome of an event, in a world with the invariant
 
 -- the content is the state of what is reached: what the office had, what others made, and new operations of its own
 pub record IsGain (w : World) (inv : Invariant w) (i : List ℕ) (x : Content) (reached : Ops) : Type 0 where
@@ -66,11 +66,11 @@ pub record IsGain (w : World) (inv : Invariant w) (i : List ℕ) (x : Content) (
   pub within : IsWithin reached all
   pub news : (o : Op) → contains all o ≡ true → (contains inv.all o ≡ true) ⊎ ((o.id.replica ≡ i) × (contains reached o ≡ true))
 
--- what an office gains is a content
+-- the content that an office gains is valid
 pub gain_content : (w : World) (inv : Invariant w) (i : List ℕ) (x : Content) (reached : Ops) → IsGain w inv i x reached → IsContent x
 gain_content w inv i x reached good = subst IsContent (sym good.is_state) (state_is_content reached (λ o h. good.operations o (good.within o h)) (OneBody-within _ _ good.within good.one_body))
 
--- it tells of what was made, and can stand in a file
+-- it is something of operations that were made, and a file can hold it
 pub record IsWritten (all : Ops) (what : Pooled) (reached : Ops) : Type 0 where
   pub tells : TellsOf reached what
   pub within : IsWithin reached all

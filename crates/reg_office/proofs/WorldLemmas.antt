@@ -1,4 +1,4 @@
--- The world after each event, and every world, keep the invariant.
+-- The invariant holds after each event, and so in every world.
 use Rattle.std.proofs.Common.{◌≡◌, ℕ, true, false, cond, List, [], ◌∷◌, length, refl, sym, ◌∙◌, subst, inl, inr, arith}
 use Rattle.std.proofs.lemmas.Bool.{true≢false}
 use Rattle.std.specs.Ordering.{is_eq}
@@ -17,7 +17,7 @@ use Rattle.reg_office.proofs.WorldInvariant.{IsWithin, IsSent, Invariant, Grows,
 use Rattle.reg_office.proofs.WorldComes.{comes_good}
 use Rattle.reg_office.proofs.PooledLemmas.{is_read}
 
--- ---- the world after it
+-- ---- the world after an outcome
 
 put_each : (P : List ℕ → Office → Type 0) (w : World) (i : List ℕ) (office : Office) → P i office → ((j : List ℕ) → is_eq (replica_cmp j i) ≡ false → P j (w.offices j)) → (j : List ℕ) → P j ((put w i office).offices j)
 put_each P w i office here there j =
@@ -77,7 +77,7 @@ leads_keeps (e ∷ es) w inv v h =
     let rest = leads_keeps es h.0 step.0 v h.2 in
     (rest.0, λ i o a. rest.1 i o (step.1 i o a))
 
--- ---- the start
+-- ---- the first world
 
 no_items : set.items (set.empty {R = op_cmp}) ≡ []
 no_items = set.items-from_list op_total [] tt

@@ -1,4 +1,4 @@
--- What any office reached was made, and what was sent stays in the pool.
+-- What an office has reached was made, and what was sent stays in the pool.
 use Rattle.std.proofs.Common.{◌≡◌, ℕ, true, List, [], ◌∷◌, ◌++◌, append_assoc, Some, None, Ok, Err, refl, sym, ap, ◌∙◌, subst, inl, inr, ◌⊎◌}
 use Rattle.std.proofs.lemmas.Bool.{or_cases, cases_Bool, true≢false}
 use Rattle.std.specs.Ordering.{is_eq}
@@ -38,9 +38,9 @@ pool_grows (e ∷ es) w v h =
     let later = pool_grows es u v h.2 in
     (later.0 ++ first.0, later.1 ∙ ap (λ ss. later.0 ++ ss) first.1 ∙ sym (append_assoc later.0 first.0 w.pool))
 
--- ---- what an event makes
+-- ---- what one event makes
 
--- what is reached after was reached before by that office, or is of what one office has reached more
+-- what an office has reached afterwards, it had reached before, or it is among what the event added
 now_reached : (w v : World) (i : List ℕ) (more : Ops) → Reaches w i more v → (k : List ℕ) (o : Op) → contains (v.offices k).reached o ≡ true → (contains (w.offices k).reached o ≡ true) ⊎ (contains more o ≡ true)
 now_reached w v i more r k o h = elim (cases_Bool (is_eq (replica_cmp k i))) [
   | inl e ↦
@@ -54,7 +54,7 @@ now_reached w v i more r k o h = elim (cases_Bool (is_eq (replica_cmp k i))) [
   | inr n ↦ inl (subst (λ p. contains p.reached o ≡ true) (r.others k (λ same. true≢false (sym (subst (λ j. is_eq (replica_cmp k j) ≡ true) same (replica_itself k)) ∙ n))) h)
 ]
 
--- it was made before, or by this event
+-- the operation was made before, or by this event
 abbrev Known : (w : World) → Invariant w → Event → Op → Type 0
 Known w inv e o = (contains inv.all o ≡ true) ⊎ IsMadeBy w e o
 
@@ -108,7 +108,7 @@ step_known w inv (Stop e left) v h k o now = elim h.1.1 [
   | inr old ↦ unchanged_known w v inv (Stop e left) (stopped_before w v inv (office_of e) (subst (λ out. After w out v) old.2 h.1.2)) k o now
 ]
 
--- ---- what events make
+-- ---- what a list of events makes
 
 pub known_or_made : (events : List Event) (w : World) (inv : Invariant w) (v : World) → Leads w events v → (k : List ℕ) (o : Op) → contains (v.offices k).reached o ≡ true → (contains inv.all o ≡ true) ⊎ WasMade w events o
 known_or_made [] w inv v h k o now = inl (inv.within k o (subst (λ (u : World). contains (u.offices k).reached o ≡ true) h now))

@@ -1,4 +1,4 @@
--- No id is made twice.
+-- No two operations are made with one id.
 use Rattle.std.proofs.Common.{◌≡◌, ℕ, true, List, [], ◌∷◌, ◌++◌, Ok, refl, sym, ap, ◌∙◌, subst, inl, inr}
 use Rattle.reg_op.specs.Set as set
 use Rattle.reg_op.specs.Set.{contains, contains-from_list}
@@ -18,7 +18,7 @@ use Rattle.reg_office.proofs.WorldSteps.{made_reaches}
 
 -- ---- one event
 
--- what an event makes is reached after it
+-- the office of an event has reached what the event makes
 makes_reached : (w : World) (inv : Invariant w) (e : Event) (v : World) → Happens w e v → (o : Op) → IsMadeBy w e o → contains (v.offices (office_of e)).reached o ≡ true
 makes_reached w inv (Make i bs note) v h o (os, is, there) =
     let r = made_reaches w inv i bs note os v is h in
@@ -36,7 +36,7 @@ makes_reached w inv (SendFirst i what bytes) v h o is = absurd is
 makes_reached w inv (Restart i) v h o is = absurd is
 makes_reached w inv (Upgrade i bytes) v h o is = absurd is
 
--- its operations have an id each
+-- operations of one event that have the same id are equal
 one_of_event : (w : World) (e : Event) (o p : Op) → IsMadeBy w e o → IsMadeBy w e p → o.id ≡ p.id → o ≡ p
 one_of_event w (Make i bs note) o p (os, is, there) (ps, are, here) same =
     let lists : os ≡ ps = (let both : ◌≡◌ (Ok os) (Ok ps) = sym is ∙ are in cc) in
@@ -51,7 +51,7 @@ one_of_event w (SendFirst i what bytes) o p is are same = absurd is
 one_of_event w (Restart i) o p is are same = absurd is
 one_of_event w (Upgrade i bytes) o p is are same = absurd is
 
--- and no operation that was reached before has one of them
+-- no operation that was reached before has the id of a new one
 none_before : (w : World) (inv : Invariant w) (e : Event) (o : Op) → IsMadeBy w e o → (j : List ℕ) (p : Op) → contains (w.offices j).reached p ≡ true → p.id ≡ o.id → ⊥
 none_before w inv (Make i bs note) o (os, is, there) j p known same = are_new w inv i j bs note os o p is there known same
 none_before w inv (Stop e left) o is j p known same = none_before w inv e o is.0 j p known same
@@ -76,7 +76,7 @@ leads_split : (b c : List Event) (w v : World) → Leads w (b ++ c) v → (u : W
 leads_split [] c w v h = (w, refl, h)
 leads_split (e ∷ b) c w v h = let r = leads_split b c h.0 v h.2 in (r.0, (h.0, h.1, r.1), r.2)
 
--- of two places in a list, the events before them are the same, or one comes later
+-- two events in a list: they are at the same place, or one is before the other
 data Places (b c : List Event) (e f : Event) : Type 0 where
   Same : b ≡ c → e ≡ f → Places b c e f
   Sooner : (mid : List Event) → c ≡ b ++ e ∷ mid → Places b c e f
@@ -95,7 +95,7 @@ places (x ∷ b) (y ∷ c) e f a d h =
       | Later mid is ↦ Later mid (λ j. first j ∷ is j)
     ]
 
--- what is made later has another id
+-- an operation that is made later has another id
 later_id : (b mid : List Event) (e f : Event) (u v : World) (o p : Op) → Leads start b u → IsMadeBy u e o → Leads start (b ++ e ∷ mid) v → IsMadeBy v f p → o.id ≡ p.id → ⊥
 later_id b mid e f u v o p to_u is to_v are same =
     let parts = leads_split b (e ∷ mid) start v to_v in

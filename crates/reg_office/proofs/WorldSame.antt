@@ -1,4 +1,4 @@
--- Offices that reached the same have the same reports.
+-- Offices that have reached the same operations have the same reports.
 use Rattle.std.proofs.Common.{◌≡◌, ℕ, List, sym, ap, ◌∙◌, subst}
 use Rattle.reg_op.specs.Contents.{Content, state}
 use Rattle.reg_report.specs.declared.writing.ReportKind.{ReportKind}

@@ -1,4 +1,4 @@
--- Bytes that are a shelf of one content are one of another, or not, since a shelf has one content.
+-- Bytes that are a shelf of one content are a shelf of another, or are not.
 use Rattle.std.proofs.Common.{◌≡◌, ℕ, true, List, length, sym, ap, ◌∙◌, subst, inl, inr, ◌⊎◌, arith}
 use Rattle.std.proofs.lemmas.Bool.{cases_Bool, true≢false}
 use Rattle.std.specs.Ordering.{is_eq}
@@ -20,7 +20,7 @@ same_or_not a b = elim (cases_Bool (is_eq (replica_cmp a b))) [
   | inr n ↦ inr (λ same. true≢false (sym (subst (λ c. is_eq (replica_cmp a c) ≡ true) same (replica_itself a)) ∙ n))
 ]
 
--- a content is the one that has this file, or not
+-- a content whose file is given is equal to another content, or is not
 content_or_not : (bytes : List ℕ) (x y : Content) → Holds bytes x → IsContent y → (x ≡ y) ⊎ (x ≡ y → ⊥)
 content_or_not bytes x y held is = elim (has_file (OfRegister y) is) [
   | inl f ↦ elim (same_or_not bytes f.0) [
@@ -30,7 +30,7 @@ content_or_not bytes x y held is = elim (has_file (OfRegister y) is) [
   | inr large ↦ inr (λ e. let same = one_file y large.0 bytes large.1 (subst (λ c. IsFileOf c bytes) e held.bytes_are) in absurd (omega (arith, large.2, held.short, ap length same)))
 ]
 
--- and so they are one of what comes of an event, or not
+-- bytes that are a shelf of a content are a shelf of an outcome's content, or are not
 pub shelf_or_not : (w : World) (inv : Invariant w) (left : List ℕ) (was : Content) → IsShelf left was → (bytes : List ℕ) × Holds bytes was → (out : Outcome) → IsGood w inv out
     → IsShelfAfter left out ⊎ (IsShelfAfter left out → ⊥)
 shelf_or_not w inv left was shelf file Unchanged good = inr (λ h. h)

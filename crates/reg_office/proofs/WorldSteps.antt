@@ -1,4 +1,4 @@
--- What each event leaves.
+-- The world after each event.
 use Rattle.std.proofs.Common.{◌≡◌, ◌≢◌, ℕ, Bool, true, false, cond, List, [], ◌∷◌, Some, None, Result, Ok, Err, refl, sym, ap, ◌∙◌, subst, inl, inr, ◌⊎◌}
 use Rattle.std.proofs.lemmas.Bool.{or_cases, or_left, or_right, true≢false}
 use Rattle.std.specs.Cmp.{Equal-is}
@@ -28,7 +28,7 @@ use Rattle.reg_office.proofs.PooledLemmas.{one_pooled, ops_within}
 use Rattle.reg_office.proofs.WorldInvariant.{IsWithin, IsSent, sent_at, Invariant, IsGood}
 use Rattle.reg_office.proofs.WorldComes.{found_is_in, one_good, told, piece_joins, piece_refused, held_or_not, takes_good, comes_good}
 
--- ---- an office is put into a world
+-- ---- one office of a world is replaced
 
 pub put_here : (w : World) (i : List ℕ) (office : Office) → (put w i office).offices i ≡ office
 put_here w i office = ap (λ b. cond b office (w.offices i)) (replica_itself i)
@@ -40,7 +40,7 @@ put_other w i office j differ =
       | false ↦ λ e. refl
     ] refl
 
--- a world is the same when an office is put where it was
+-- replacing an office by itself does not change the world
 put_same : (w : World) (i : List ℕ) (office : Office) → office ≡ w.offices i → put w i office ≡ w
 put_same w i office same = λ k. record { offices = λ j. each j k; pool = w.pool }
   where
@@ -60,7 +60,7 @@ put_reaches w i more x last =
       pool = refl;
     }
 
--- ---- an office joins
+-- ---- an office joins a content
 
 gains_reach : (w : World) (i : List ℕ) (more : Ops) (x : Content) (v : World) → After w (Gains i x (set.union (w.offices i).reached more)) v → Reaches w i more v
 gains_reach w i more x v h = subst (Reaches w i more) (sym h.2) (put_reaches w i more x h.0)
@@ -73,7 +73,7 @@ pub join_reaches : (w : World) (inv : Invariant w) (i : List ℕ) (x : Content) 
 join_reaches w inv i x more good v h =
     gained_reaches w i more _ (λ id e. subst (λ r. IsGood w inv (gained i (set.union (w.offices i).reached more) r)) e good) v h
 
--- ---- it makes operations
+-- ---- an office makes operations
 
 pub made_reaches : (w : World) (inv : Invariant w) (i : List ℕ) (bs : List Body) (note : List ℕ) (os : List Op) (v : World) → made (w.offices i).content i note bs ≡ Ok os → Happens w (Make i bs note) v → Reaches w i (set.from_list os) v
 made_reaches w inv i bs note os v e h =
@@ -84,7 +84,7 @@ made_reaches w inv i bs note os v e h =
 pub refused_makes : (w v : World) (i : List ℕ) (bs : List Body) (note : List ℕ) (fault : OfficeFault) → made (w.offices i).content i note bs ≡ Err fault → Happens w (Make i bs note) v → v ≡ w
 refused_makes w v i bs note fault e h = subst (λ r. After w (makes w i r) v) e (subst (λ out. After w out v) h.1.1 h.1.2)
 
--- ---- it sends, and begins again
+-- ---- an office sends a file, or restarts
 
 pub sent_is_pooled : (w v : World) (i : List ℕ) → Happens w (Send i) v → v ≡ pooled w (record { bytes = (w.offices i).last; reached = (w.offices i).reached })
 sent_is_pooled w v i h = subst (λ out. After w out v) h.1.1 h.1.2
@@ -92,7 +92,7 @@ sent_is_pooled w v i h = subst (λ out. After w out v) h.1.1 h.1.2
 pub first_is_pooled : (w v : World) (i : List ℕ) (what : Pooled) (bytes : List ℕ) → Happens w (SendFirst i what bytes) v → v ≡ pooled w (record { bytes = bytes; reached = (w.offices i).reached })
 first_is_pooled w v i what bytes h = subst (λ out. After w out v) h.1.1 h.1.2
 
--- what it had stays
+-- an office that gains what it had does not change the world
 stays_same : (w v : World) (inv : Invariant w) (i : List ℕ) (x : Content) → Holds (w.offices i).last x → After w (Gains i x (w.offices i).reached) v → v ≡ w
 stays_same w v inv i x held after =
     let office = w.offices i in
@@ -111,18 +111,18 @@ upgrade_keeps w v inv i bytes h =
     let same : (w.offices i).content ≡ came.0 = one_reading bytes (w.offices i).content came.0 (inr h.0) came.1 in
     stays_same w v inv i came.0 (subst (Holds (w.offices i).last) (sym (inv.content i) ∙ same) (inv.last i)) (subst (λ out. After w out v) came.2 h.1.2)
 
--- it is stopped before anything is kept
+-- a stop that leaves the old content does not change the world
 pub stopped_before : (w v : World) (inv : Invariant w) (i : List ℕ) → After w (stays w i) v → v ≡ w
 stopped_before w v inv i after = stays_same w v inv i (w.offices i).content (subst (Holds (w.offices i).last) (sym (inv.content i)) (inv.last i)) after
 
--- what is made of what it reached comes into the pool
+-- a summary of what the office has reached is added to the pool
 pub seen_is_pooled : (w v : World) (inv : Invariant w) (i : List ℕ) → Happens w (SendSeen i) v
     → (bytes : List ℕ) × HoldsSeen bytes (ids (w.offices i).reached) × (v ≡ pooled w (record { bytes = bytes; reached = (w.offices i).reached }))
 seen_is_pooled w v inv i h =
     let after = subst (λ out. After w out v) h.1.1 h.1.2 in
     (after.0, subst (λ (x : Content). HoldsSeen after.0 x.seen) (inv.content i) after.1, after.2)
 
--- ---- it reads a file of the pool
+-- ---- an office reads a file of the pool
 
 nothing_read : (w v : World) (next : Pooled → Ops → Outcome) (place : ℕ) (out : Outcome) → slice_get w.pool place ≡ None → Reads next (slice_get w.pool place) out → After w out v → v ≡ w
 nothing_read w v next place out none came after = subst (λ o. After w o v) (subst (λ s. Reads next s out) none came) after
@@ -136,7 +136,7 @@ nothing_to_find w v i place id none h = nothing_read w v (λ what reached. takes
 pub nothing_to_answer : (w v : World) (i : List ℕ) (place : ℕ) → slice_get w.pool place ≡ None → Happens w (SendPiece i place) v → v ≡ w
 nothing_to_answer w v i place none h = nothing_read w v (λ what reached. sends_piece w i what) place h.1.0 none h.1.1 h.1.2
 
--- what comes of a file that is read, by the one thing that it holds
+-- the world after reading a file is that of the one content of the file
 read_as : (w v : World) (next : Pooled → Ops → Outcome) (place : ℕ) (sent : Sent) (what : Pooled) (out : Outcome) → slice_get w.pool place ≡ Some sent → ReadsAsAny sent.bytes what
     → Reads next (slice_get w.pool place) out → After w out v → After w (next what sent.reached) v
 read_as w v next place sent what out at holds came after =
@@ -168,7 +168,7 @@ module _ (w : World) (inv : Invariant w) (i : List ℕ) (place : ℕ) (sent : Se
   pub summary_is_refused : (seen : Ids) → ReadsAsSeen sent.bytes seen → Happens w (Take i place) v → v ≡ w
   summary_is_refused seen holds h = taken_as (OfSeen seen) holds h
 
-  -- whatever it takes, it reaches what the sender had, or nothing changes
+  -- an office that takes a file reaches what the sender had reached, or nothing changes
   pub taken_or_not : Happens w (Take i place) v → (v ≡ w) ⊎ Reaches w i sent.reached v
   taken_or_not h = by_kind is_sent.what is_sent.holds
     where
@@ -180,7 +180,7 @@ module _ (w : World) (inv : Invariant w) (i : List ℕ) (place : ℕ) (sent : Se
         | inr never ↦ inl (piece_is_refused piece holds never h)
       ]
 
-  -- ---- it answers a summary with a piece
+  -- ---- an office answers a summary with a piece
 
   pub piece_is_pooled : (seen : Ids) → ReadsAsSeen sent.bytes seen → Happens w (SendPiece i place) v
       → (bytes : List ℕ) × HoldsPiece bytes (piece_for (state (w.offices i).reached) seen) × (v ≡ pooled w (record { bytes = bytes; reached = (w.offices i).reached }))
@@ -196,7 +196,7 @@ module _ (w : World) (inv : Invariant w) (i : List ℕ) (place : ℕ) (sent : Se
       by_kind (OfSeen seen) holds = absurd (none seen holds)
       by_kind (OfPiece piece) holds = read_as w v (λ what reached. sends_piece w i what) place sent (OfPiece piece) h.1.0 at holds h.1.1 h.1.2
 
--- whether it answers a summary or not, what offices have reached stays
+-- answering a file does not change what offices have reached
 pub answer_keeps : (w v : World) (inv : Invariant w) (i : List ℕ) (place : ℕ) → Happens w (SendPiece i place) v → (k : List ℕ) → (v.offices k).reached ≡ (w.offices k).reached
 answer_keeps w v inv i place h k =
     elim (slice_get w.pool place) as (λ r. slice_get w.pool place ≡ r → (v.offices k).reached ≡ (w.offices k).reached) [
@@ -242,9 +242,9 @@ passes t (p ∷ os) o h =
       | false ↦ λ e k. passes t os o k
     ] refl h
 
--- ---- it takes one operation of a file
+-- ---- an office takes one operation of a file
 
--- what the id picks of a set is in it, and has the id
+-- an operation that is picked from a set is in the set, and has the id
 picked_is : (s : Ops) (id : Id) (o : Op) → picked id s ≡ Some o → (contains s o ≡ true) × (o.id ≡ id)
 picked_is s id o e = (
   contains-items s o ∙ found_is_in (λ (p : Op). is_same p.id id) (set.items s) o e,

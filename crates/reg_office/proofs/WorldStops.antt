@@ -1,4 +1,4 @@
--- What a stop leaves: its event, or what there was.
+-- After a stop, the world is that after its event, or that before it.
 use Rattle.std.proofs.Common.{◌≡◌, ℕ, max, arith, length, List, Option, Some, None, Result, Ok, Err, refl, sym, ◌∙◌, subst, inl, inr, ◌⊎◌}
 use Rattle.std.specs.List.{slice_get}
 use Rattle.reg_op.specs.Ids.{Id}
@@ -16,7 +16,7 @@ use Rattle.reg_office.proofs.WorldInvariant.{Invariant}
 use Rattle.reg_office.proofs.WorldSteps.{put_here, stopped_before}
 use Rattle.reg_office.proofs.WorldFollows.{one_world}
 
--- ---- what is kept is of one office, and nothing is sent
+-- ---- an event that is kept changes one office, and sends nothing
 
 abbrev IsOwn : List ℕ → Outcome → Type 0
 IsOwn i (Gains j x reached) = j ≡ i
@@ -65,9 +65,9 @@ own w (Restart i) kept out h = absurd kept
 own w (Upgrade i bytes) kept out h = absurd kept
 own w (Stop e left) kept out h = absurd kept
 
--- ---- the world after it
+-- ---- the world after a stop
 
--- the bytes are a shelf of what the office has then
+-- a shelf of the outcome has the content that the office has afterwards
 new_shelf : (w : World) (i left : List ℕ) (out : Outcome) (v : World) → IsOwn i out → IsShelfAfter left out → After w out v → IsShelf left (v.offices i).content
 new_shelf w i left Unchanged v is shelf after = absurd shelf
 new_shelf w i left (Clashes id) v is shelf after = absurd shelf
@@ -78,7 +78,7 @@ new_shelf w i left (Gains j x reached) v is shelf after =
     subst (λ (u : World). IsShelf left (u.offices i).content) (sym after.2)
     (subst (λ k. IsShelf left ((put w j office).offices k).content) is (subst (λ (p : Office). IsShelf left p.content) (sym (put_here w j office)) shelf))
 
--- or nothing has changed
+-- a shelf of the content that the office has afterwards is a shelf of the outcome, or nothing has changed
 shelf_or_same : (w : World) (i left : List ℕ) (out : Outcome) (u : World) → IsOwn i out → After w out u → IsShelf left (u.offices i).content → IsShelfAfter left out ⊎ (u ≡ w)
 shelf_or_same w i left Unchanged u is after shelf = inr after
 shelf_or_same w i left (Clashes id) u is after shelf = inr after
@@ -114,9 +114,9 @@ module _ (w v : World) (inv : Invariant w) (e : Event) (left : List ℕ) (h : Ha
     ]
   ]
 
--- ---- every stop can happen
+-- ---- each stop can happen
 
--- some bytes are a shelf of what an office has
+-- the content of an office has a shelf
 old_left : (w : World) (inv : Invariant w) (i : List ℕ) → (left : List ℕ) × IsShelf left (w.offices i).content
 old_left w inv i =
     let last = inv.last i in
@@ -126,7 +126,7 @@ old_left w inv i =
 pub stop_may_leave_the_old : (w : World) → Invariant w → (e : Event) → IsKept e → IsEvent w e → (left : List ℕ) × IsEvent w (Stop e left) × IsShelf left (w.offices (office_of e)).content
 stop_may_leave_the_old w inv e kept is = let old = old_left w inv (office_of e) in (old.0, (kept, is, inl old.1), old.1)
 
--- the office then has this content, or what it had
+-- a stop can leave a shelf of the content that the office has after the event
 new_left : (w v : World) (inv : Invariant w) (e : Event) (out : Outcome) → IsKept e → IsEvent w e → IsOwn (office_of e) out → ComesOf w e out → After w out v
     → (left : List ℕ) × IsEvent w (Stop e left) × IsShelf left (v.offices (office_of e)).content
 new_left w v inv e Unchanged kept is mine comes after =

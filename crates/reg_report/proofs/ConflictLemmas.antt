@@ -1,4 +1,4 @@
--- Keys in conflict among sorted entries, one key after another.
+-- The keys in conflict among sorted entries, found one by one.
 use Rattle.std.proofs.Common.{◌≡◌, ℕ, ◌+◌, ◌<◌, ◌≤◌, nat_eq, Bool, true, false, not, ◌&&◌, cond, List, [], ◌∷◌, ◌++◌, map, length, get_or, take, drop, zero, suc, append_assoc, append-nil, ◌↔◌, refl, sym, ap, ◌∙◌, subst, inl, inr, ◌⊎◌, arith}
 use Rattle.std.proofs.lemmas.Bool.{true≢false, and_parts, or_cases, or_left, or_right, false_from_ne_true, eqb-true, eq-eqb}
 use Rattle.std.proofs.lemmas.List.{get_or-drop, get_or-take, length-take, length-drop, take-append-drop}
@@ -48,7 +48,7 @@ same_key a b h = key_exact (key_of a) (key_of b) ((Equal-is (contender_cmp a b))
 same_key_back : (a b : Contender) → key_of a ≡ key_of b → has_same_key a b ≡ true
 same_key_back a b e = subst (λ k. is_eq (key_cmp (key_of a) k) ≡ true) e (ap is_eq (tied_itself key_total (key_of a)))
 
--- neither after nor the same, so before
+-- a key that is neither after another nor equal to it is before it
 before_of : (a b : KeyBytes) → is_lt (key_cmp b a) ≡ false → (a ≡ b → ⊥) → key_cmp a b ≡ Less
 before_of a b h n =
     elim (key_cmp a b) as (λ r. key_cmp a b ≡ r → r ≡ Less) [
@@ -86,13 +86,13 @@ from_map f (x ∷ xs) y c = elim (in_cons y (f x) (map f xs) c) [
   | inr d ↦ let r = from_map f xs y d in (r.0, in_tail r.0 x xs r.1, r.2)
 ]
 
--- ---- the entries of one key, and those that follow it
+-- ---- the entries of one key, and those of later keys
 
--- each has the key
+-- each entry has the key
 abbrev AllOf : KeyBytes → List Contender → Type 0
 AllOf k cs = (c : Contender) → Contains cs c → key_of c ≡ k
 
--- each has a later key
+-- each entry has a later key
 abbrev AllPast : KeyBytes → List Contender → Type 0
 AllPast k cs = (c : Contender) → Contains cs c → key_cmp k (key_of c) ≡ Less
 
@@ -126,14 +126,14 @@ module _ (k : KeyBytes) (front back : List Contender) (own : AllOf k front) (pas
   past_key : (l : KeyBytes) → Differ back l → key_cmp k l ≡ Less
   past_key l d = subst (λ m. key_cmp k m ≡ Less) d.key_of_one (past d.one d.has_one)
 
-  -- those that follow have the same entries in the whole
+  -- a later key has the same entries in the whole list
   entries_back : (c : Contested) → key_cmp k c.key ≡ Less → (i : Id) → (Enters back c.key i → Enters (front ++ back) c.key i) × (Enters (front ++ back) c.key i → Enters back c.key i)
   entries_back c lt i = (
     λ e. record { one = e.one; has_one = Contains-append_right front back e.one e.has_one; key_of_one = e.key_of_one; is = e.is },
     λ e. record { one = e.one; has_one = in_back e.one c.key e.has_one e.key_of_one lt; key_of_one = e.key_of_one; is = e.is },
   )
 
-  -- keys that differ in the whole: this one, or one that follows
+  -- a key with different texts in the whole list is k, or has different texts in the back
   where_differ : (l : KeyBytes) → Differ (front ++ back) l → ((l ≡ k) × Differ front k) ⊎ Differ back l
   where_differ l d = elim (Contains-append_cases front back d.one d.has_one) [
     | inl a ↦
@@ -163,7 +163,7 @@ module _ (k : KeyBytes) (front back : List Contender) (own : AllOf k front) (pas
         })
   ]
 
-  -- where those of the key have one text
+  -- if the entries of k have one text, k is not in conflict
   skipped : (ks : List Contested) → (Differ front k → ⊥) → Tells back ks → Tells (front ++ back) ks
   skipped ks none t = record {
     ascend = t.ascend;
@@ -202,7 +202,7 @@ module _ (k : KeyBytes) (front back : List Contender) (own : AllOf k front) (pas
     differ = d.differ;
   }
 
-  -- where they do not
+  -- if the entries of k have different texts, k is the first key in conflict
   told : (ids : Ids) (ks : List Contested) → ((i : Id) → (set.contains ids i ≡ true) ↔ Enters front k i) → Differ front k → Tells back ks → Tells (front ++ back) (record { key = k; entries = set.items ids } ∷ ks)
   told ids ks are d t = record {
     ascend = climbs ks t.ascend (λ c h. past_key c.key (t.sound c h));
@@ -266,7 +266,7 @@ any_of_member t (y ∷ ys) x c h = elim (in_cons x y ys c) [
 abbrev entry_of : Contender → Id
 entry_of c = c.entry
 
--- the set of the entries of those that have one key
+-- the set of the entries that have the key
 entries_told : (k : KeyBytes) (cs : List Contender) → AllOf k cs → (i : Id) → (set.contains (set.from_list {R = id_cmp} (map entry_of cs)) i ≡ true) ↔ Enters cs k i
 entries_told k cs own i = (
   λ h.
@@ -302,7 +302,7 @@ module _ (first : Contender) (others : List Contender) (own : AllOf (key_of firs
   none_differ : list_any (has_other_text first) others ≡ false → Differ (first ∷ others) (key_of first) → ⊥
   none_differ h d = d.differ (sym (as_first h d.one d.has_one) ∙ as_first h d.other d.has_other)
 
-  -- one key after another
+  -- the keys in conflict of the entries of one key, and of later keys
   pub key_told : (back : List Contender) (ks : List Contested) → AllPast (key_of first) back → Tells back ks → Tells ((first ∷ others) ++ back) (conflict_at first others ++ ks)
   key_told back ks past t =
       elim (list_any (has_other_text first) others) as (λ b. list_any (has_other_text first) others ≡ b
@@ -311,7 +311,7 @@ module _ (first : Contender) (others : List Contender) (own : AllOf (key_of firs
         | false ↦ λ h. skipped (key_of first) (first ∷ others) back own past ks (none_differ h) t
       ] refl
 
--- ---- where the entries of a key end, among sorted ones
+-- ---- where the entries of a key end in a sorted list
 
 pub nothing_told : Tells [] []
 nothing_told = record {
@@ -321,7 +321,7 @@ nothing_told = record {
   entries = λ c h. absurd (none_in c h);
 }
 
--- each is not before those that stand before it
+-- no entry is before an earlier one
 abbrev pub Far : List Contender → Type 0
 Far cs = (i j : ℕ) (d : Contender) → i ≤ j → j < length cs → is_lt (contender_cmp (get_or cs j d) (get_or cs i d)) ≡ false
 
@@ -362,7 +362,7 @@ module _ (first : Contender) (others : List Contender) (n : ℕ) (n_is : n ≡ p
       (subst (λ (x : Contender). is_lt (contender_cmp (get_or others (n + j) d) x) ≡ false) (sym (get_or-drop n others i d))
       (far (suc (n + i)) (suc (n + j)) d (omega arith) (omega (arith, k, length-drop n others))))
 
--- what is still to come completes what is told
+-- `done`, followed by the keys in conflict of the rest, has the keys in conflict of all
 abbrev pub Completes : List Contender → List Contender → List Contested → Type 0
 Completes all rest done = (more : List Contested) → Tells rest more → Tells all (done ++ more)
 

@@ -1,4 +1,4 @@
--- The entries that are not retired, and what they tell of rows.
+-- The entries that are not retired have the conflicts of the rows.
 use Rattle.std.proofs.Common.{◌≡◌, ℕ, ◌+◌, ◌<◌, ◌≤◌, List, [], ◌∷◌, ◌++◌, map, length, get_or, take, refl, sym, ap, ◌∙◌, subst, inl, inr}
 use Rattle.std.proofs.lemmas.List.{take_more, take_all}
 use Rattle.std.proofs.lemmas.List.Elements.{Contains-append_left, Contains-push, Contains-push_cases}
@@ -22,7 +22,7 @@ use Rattle.reg_report.specs.Conflicts.{KeyBytes, bytes_of, HasKey, Stands, Conte
 use Rattle.reg_report.specs.Contenders.{key_of, IsOfRow, AreContenders, Adds, Differ, Enters, Tells}
 use Rattle.reg_report.proofs.ConflictLemmas.{none_in, from_map}
 
--- ---- a text has one key
+-- ---- a text has at most one key
 
 same_key_of : (ids : List Ident) (crs other : Crs) (k l : Key) → ids_of crs.parts ≡ ids → crs ≡ other → ¬ (HasNone crs) → definition.HasKey crs k → definition.HasKey other l → bytes_of k ≡ bytes_of l
 same_key_of [] crs other k l e same some h g = absurd (some e)
@@ -83,7 +83,7 @@ all_contenders rows k made sorted h p are =
       all = λ r m s. let f = all.all r m s in (f.0, Contains-permutation made sorted f.0 p f.1, f.2);
     }
 
--- ---- what they tell is what the rows tell
+-- ---- the conflicts of the entries are those of the rows
 
 module _ (rs : List Row) (cs : List Contender) (ks : List Contested) (are : AreContenders rs cs) (tells : Tells cs ks) where
   keyed : (c : Contender) (r : Row) → IsOfRow c r → HasKey r.definition (key_of c)

@@ -1,4 +1,4 @@
--- An entry has one row, whose text spells a value.
+-- An entry has one row, whose text is that of a coordinate reference system.
 use Rattle.std.proofs.Common.{◌≡◌, ℕ, true, false, cond, ◌&&◌, List, [], ◌∷◌, ◌++◌, append-nil, refl, sym, ap, ◌∙◌, subst, inl, inr}
 use Rattle.std.proofs.lemmas.Bool.{or_cases, or_left, or_right, and_from, and_parts, true≢false, false_from_ne_true}
 use Rattle.std.proofs.lemmas.List.Elements.{Contains-append_cases, filter-append}
@@ -79,7 +79,7 @@ others_after s e (o ∷ os) up =
     is_other : (a b : Id) → is_before a b ≡ true → is_same a b ≡ false
     is_other a b h = false_from_ne_true _ (λ same. not_before_itself a (subst (λ i. is_before a i ≡ true) (sym (is_same_exact a b same)) h))
 
--- an operation of a list that begins after an id has another id
+-- if a list is after an id, each of its operations has a later id
 is_after_first : (i : Id) (os : List Op) (o : Op) → AllAfter i os → has os o ≡ true → is_before i o.id ≡ true
 is_after_first i [] o up h = absurd (true≢false (sym h))
 is_after_first i (p ∷ os) o up h = elim (or_cases (eq_by_cmp op_cmp o p) (has os o) h) [
@@ -90,7 +90,7 @@ is_after_first i (p ∷ os) o up h = elim (or_cases (eq_by_cmp op_cmp o p) (has 
 abbrev entry_row : Ops → Id → List ℕ → Row
 entry_row s e text = record { entry = e; definition = text; status = status s e; newer = set.items (newer_of s e) }
 
--- one row, of the entry
+-- r is the only row of the entry
 pub record IsRowOf (e : Id) (rs : List Row) (r : Row) : Type 0 where
   pub alone : of_entry e rs ≡ r ∷ []
   pub entry : r.entry ≡ e
@@ -135,7 +135,7 @@ row_of_entry x is e h =
     enters_text o (Supersede old newer) is same h = absurd (true≢false (sym h))
     enters_text o (Retire entry) is same h = absurd (true≢false (sym h))
 
--- what a list of rows has of an entry is entered
+-- if no operation of a list enters the entry, the list has no row of it
 none_of : (s : Ops) (e : Id) (os : List Op) → ((o : Op) → has os o ≡ true → (is_same e o.id && is_enter o.body) ≡ true → ⊥) → of_entry e (rows_in s os) ≡ []
 none_of s e [] never = refl
 none_of s e (o ∷ os) never =

@@ -1,4 +1,4 @@
--- What is missing between runs is each longest range of counts that were not seen.
+-- The gaps between runs are the longest ranges of missing counts.
 use Rattle.std.proofs.Common.{◌≡◌, ℕ, ◌+◌, ◌-◌, ◌<◌, ◌≤◌, nat_lt, append-nil, Bool, true, false, cond, List, [], ◌∷◌, ◌++◌, length, Option, Some, None, zero, suc, refl, sym, ap, ◌∙◌, subst, inl, inr, ◌⊎◌, arith}
 use Rattle.std.proofs.lemmas.Bool.{true≢false, or_cases, or_left, or_right, false_from_ne_true, cases_lt}
 use Rattle.std.proofs.lemmas.Bool.Decides.{nat_tests}
@@ -66,7 +66,7 @@ abbrev AfterAt : Option Run → List ℕ → ℕ → Type 0
 AfterAt None q low = Unit {0}
 AfterAt (Some l) q low = IsBelow l.replica q ⊎ ((l.replica ≡ q) × (l.high < low))
 
--- the last count before a run, which nothing later of its replica is in the run before
+-- b is the last count of the replica in the run before r, or 0 if that has none
 record Known (b : ℕ) (before : Option Run) (r : Run) : Type 0 where
   less : b < r.low
   there : (b ≡ 0) ⊎ InOne (id_at r.replica b) before
@@ -93,7 +93,7 @@ known (Some l) r rs h = elim h.1 [
   })
 ]
 
--- nothing of the run before is at a gap after it, nor just before a gap after the next run
+-- a gap that begins after the run before has no count of it; if it begins after r, nor is the count before the gap in it
 not_last : (before : Option Run) (q : List ℕ) (low n : ℕ) → AfterAt before q low → low ≤ n → InOne (id_at q n) before → ⊥
 not_last None q low n a h m = m
 not_last (Some l) q low n (inl b) h m = not_below_same l.replica q (sym m.replica) b
@@ -140,7 +140,7 @@ test_yes a b h = grind (arith, nat_tests)
 test_back : (a b : ℕ) → nat_lt a b ≡ true → a < b
 test_back a b h = grind (arith, nat_tests)
 
--- the one gap between a run and the one before
+-- the counts between b and r, if there are some, are a gap
 at_is : (b : ℕ) (before : Option Run) (r : Run) (rs : List Run) → Good before (r ∷ rs) → Known b before r → b + 1 < r.low → GapIn before (r ∷ rs) r.replica (b + 1) (r.low - 1)
 at_is b before r rs g k h = let is = first_run r rs (good_next before r rs g) in record {
   some = omega arith;
@@ -157,7 +157,7 @@ at_is b before r rs g k h = let is = first_run r rs (good_next before r rs g) in
   ];
 }
 
--- a gap after the next run is one
+-- a gap that begins after r is a gap of the whole list
 behind : (before : Option Run) (r : Run) (rs : List Run) (q : List ℕ) (low high : ℕ) → Good before (r ∷ rs) → AfterAt (Some r) q low → GapIn (Some r) rs q low high → GapIn before (r ∷ rs) q low high
 behind before r rs q low high g a i = record {
   some = i.some;
@@ -171,7 +171,7 @@ behind before r rs q low high g a i = record {
   ];
 }
 
--- a gap that ends at the next run begins after the one before
+-- a gap that ends right before r begins right after b
 ends_at : (b : ℕ) (before : Option Run) (r : Run) (rs : List Run) (q : List ℕ) (low high : ℕ) → Good before (r ∷ rs) → Known b before r → AfterAt before q low → GapIn before (r ∷ rs) q low high → IsWithin (id_at q (high + 1)) r
     → (low ≡ b + 1) × (high ≡ r.low - 1) × (b + 1 < r.low)
 ends_at b before r rs q low high g k a i w =
@@ -205,7 +205,7 @@ ends_at b before r rs q low high g k a i w =
     ] in
     (begin, omega arith, omega arith)
 
--- a gap that ends after the next run is after it
+-- a gap that ends right before a later run begins after r
 ends_behind : (before : Option Run) (r : Run) (rs : List Run) (q : List ℕ) (low high : ℕ) → Good before (r ∷ rs) → GapIn before (r ∷ rs) q low high → In (id_at q (high + 1)) rs → AfterAt (Some r) q low
 ends_behind before r rs q low high g i m =
     let is = first_run r rs (good_next before r rs g) in
@@ -236,7 +236,7 @@ ahead before r rs q low high g i m =
       missing = λ n l h there. elim there [ inl w ↦ i.missing n l h (inr (inl w)) | inr k ↦ i.missing n l h (inr (inr k)) ];
     }
 
--- ---- the list
+-- ---- the list of gaps
 
 abbrev gap_at : Run → ℕ → Gap
 gap_at r b = record { replica = r.replica; low = b + 1; high = r.low - 1 }
@@ -306,7 +306,7 @@ ascending before (r ∷ rs) good =
       | false ↦ ascending (Some r) rs next
     ]
 
--- ---- over the ids that were seen
+-- ---- the gaps of a set of ids
 
 from_seen : (rs : List Run) (i : Id) → set.contains (seen_of rs) i ≡ true → In i rs
 from_seen rs i h = to_in i rs (sym (contains-seen_of rs i) ∙ h)

@@ -1,4 +1,4 @@
--- Lists that ascend and have the same gaps are the same.
+-- Ascending lists of the same gaps are equal.
 use Rattle.std.proofs.Common.{◌≡◌, ◌≤◌, zero, suc, List, [], ◌∷◌, refl, sym, ◌∙◌, subst, inl, inr, ◌⊎◌, arith}
 use Rattle.std.specs.List.{Contains}
 use Rattle.reg_op.specs.Ids.{Ids}
@@ -27,7 +27,7 @@ later_is g (x ∷ hs) h up m = elim (where_is h x hs m) [
   | inr n ↦ later_is g hs h up.1 n
 ]
 
--- neither comes first both ways
+-- two gaps that have counts do not both come before each other
 one_way : (g h : Gap) → g.low ≤ g.high → h.low ≤ h.high → ComesFirst g h → ComesFirst h g → ⊥
 one_way g h a b (inl c) (inl d) = not_below_itself g.replica (below_chain g.replica h.replica g.replica c d)
 one_way g h a b (inl c) (inr d) = not_below_itself g.replica (subst (λ r. IsBelow g.replica r) d.0 c)
@@ -49,7 +49,7 @@ same_first g h gs hs up vp some others m n = elim (where_is g h hs m) [
   ]
 ]
 
--- what follows a first one does not have it again
+-- if an ascending list begins with h, and its gaps are in a list that begins with h, its other gaps are in the tail
 rest_in : (g h : Gap) (gs hs : List Gap) → Ascend (g ∷ gs) → AreSome (g ∷ gs) → g ≡ h → AreIn (g ∷ gs) (h ∷ hs) → AreIn gs hs
 rest_in g h gs hs up some same there x m = elim (where_is x h hs (there x (behind x g gs m))) [
   | inl e ↦

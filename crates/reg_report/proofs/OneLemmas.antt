@@ -1,4 +1,4 @@
--- Rows have one list of keys in conflict.
+-- Rows have at most one list of keys in conflict.
 use Rattle.std.proofs.Common.{◌≡◌, ◌↔◌, true, List, [], ◌∷◌, map, refl, sym, ap, ◌∙◌, subst}
 use Rattle.std.specs.List.{Contains, list_any}
 use Rattle.std.specs.Cmp.{Equal-is, tied_itself, both_ways}
@@ -13,7 +13,7 @@ use Rattle.reg_report.proofs.ConflictLemmas.{key_total, key_exact, in_head, in_t
 abbrev keys_of : List Contested → List KeyBytes
 keys_of cs = map (λ (c : Contested). c.key) cs
 
--- some key ties with this one, so it is there
+-- a list that has a key that compares as equal has this key
 key_there : (k : KeyBytes) (ks : List KeyBytes) → list_any (eq_by_cmp key_cmp k) ks ≡ true → Contains ks k
 key_there k ks h =
     let m = member_of_any (eq_by_cmp key_cmp k) ks h in
@@ -22,7 +22,7 @@ key_there k ks h =
 key_tied : (k : KeyBytes) (ks : List KeyBytes) → Contains ks k → list_any (eq_by_cmp key_cmp k) ks ≡ true
 key_tied k ks h = any_of_member (eq_by_cmp key_cmp k) ks k h (ap is_eq (tied_itself key_total k))
 
--- ascending keys with the same members are the same
+-- ascending lists of keys with the same members are equal
 same_keys : (ks ls : List KeyBytes) → Ascends key_cmp ks → Ascends key_cmp ls → ((k : KeyBytes) → Contains ks k ↔ Contains ls k) → ks ≡ ls
 same_keys ks ls a b same =
     sym (items-from_list key_total ks a)
@@ -32,7 +32,7 @@ same_keys ks ls a b same =
     ∙ sym (contains-from_list key_total ls k)))
     ∙ items-from_list key_total ls b
 
--- lists with the same keys, and with the same entries at a key, are the same
+-- lists with the same keys, and with the same entries at each key, are equal
 same_contested : (cs ds : List Contested) → keys_of cs ≡ keys_of ds → ((c d : Contested) → Contains cs c → Contains ds d → c.key ≡ d.key → c.entries ≡ d.entries) → cs ≡ ds
 same_contested [] [] e same = refl
 same_contested [] (d ∷ ds) e same = absurd cc

@@ -1,4 +1,4 @@
--- The pairs of an entry stand together among sorted pairs.
+-- Among sorted pairs, the pairs of an old entry are adjacent.
 use Rattle.std.proofs.Common.{◌≡◌, ℕ, ◌+◌, ◌-◌, ◌<◌, ◌≤◌, Bool, true, false, not, ◌&&◌, ◌||◌, List, [], ◌∷◌, map, length, get_or, take, drop, refl, sym, ap, ◌∙◌, subst, inl, inr, arith}
 use Rattle.std.proofs.lemmas.Bool.{true≢false, and_parts, and_from, false_from_ne_true, true_from_ne_false, not-true, cases_lt}
 use Rattle.std.proofs.lemmas.List.{get_or-drop, get_or-take, length-take, length-drop, take_all}
@@ -38,7 +38,7 @@ lt_then Less b h = refl
 lt_then Equal b h = absurd (true≢false (sym h))
 lt_then Greater b h = absurd (true≢false (sym h))
 
--- a later pair is of no lesser entry
+-- a later pair has no lesser old entry
 pub old_far : (ps : List Pair) → IsSorted pair_cmp ps → (i j : ℕ) (d : Pair) → i ≤ j → j < length ps → is_before (get_or ps j d).old (get_or ps i d).old ≡ false
 old_far ps up i j d h k = false_from_ne_true _ (λ b. true≢false (sym (lt_then _ (id_cmp (get_or ps j d).newer (get_or ps i d).newer) b) ∙ sorted_far (λ m n. is_lt (pair_cmp m n)) (ranks_by pair_total (λ m. m)) ps up i j d h k))
 
@@ -102,7 +102,7 @@ module _ (old : Id) (ps : List Pair) (low count : ℕ)
   pub window_has : (n : Id) → list_any (is_same n) (map (λ (p : Pair). p.newer) window) ≡ list_any (λ (p : Pair). is_same old p.old && is_same n p.newer) ps
   window_has n = any_map (λ (p : Pair). p.newer) (is_same n) window ∙ both_ways _ _ (within n) (around n)
 
--- ---- what the pairs of operations tell
+-- ---- the pairs of operations
 
 pub sorted_tell : (os : List Op) (k : ℕ) (before after : List Pair) → length os ≤ k → before ≡ flat_map (λ (o : Op). pairs_in o.body) (take k os) → IsPermutation before after
     → (t : Pair → Bool) → list_any t after ≡ list_any t (flat_map (λ (o : Op). pairs_in o.body) os)
@@ -123,7 +123,7 @@ pairs_tell e n (o ∷ os) =
     list_any-append (λ (p : Pair). is_same e p.old && is_same n p.newer) (pairs_in o.body) (flat_map (λ (o : Op). pairs_in o.body) os)
     ∙ (λ k. pairs_tell_one e n o.body k || pairs_tell e n os k)
 
--- the items of what supersedes an entry that is not retired, and of one that is
+-- the newer entries of an entry that is not retired, from its pairs; and those of a retired one, which has none
 pub newer_are : (s : Ops) (e : Id) (ps : List Pair) (is : List Id) → retires s e ≡ false
     → ((t : Pair → Bool) → list_any t ps ≡ list_any t (flat_map (λ (o : Op). pairs_in o.body) (set.items s)))
     → ((n : Id) → list_any (is_same n) is ≡ list_any (λ (p : Pair). is_same e p.old && is_same n p.newer) ps)

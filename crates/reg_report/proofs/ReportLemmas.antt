@@ -1,4 +1,4 @@
--- A content has one report of each kind.
+-- A content has at most one report of each kind.
 use Rattle.std.proofs.Common.{◌≡◌, ℕ, List, [], ◌∷◌, ◌++◌, refl, sym, ap, ◌∙◌, subst}
 use Rattle.csv.specs.Writing.{row_text, default_writer}
 use Rattle.crs_part.specs.declared.identifiers.Ident.{Ident}
@@ -19,7 +19,7 @@ use Rattle.reg_report.proofs.OneLemmas as contested
 
 -- ---- the key of a definition
 
--- the same of two keys
+-- the two keys have the same bytes
 record IsSameKey (key other : Key) : Type 0 where
   authority : key.authority.bytes ≡ other.authority.bytes
   code : key.code.bytes ≡ other.code.bytes

@@ -1,11 +1,11 @@
--- Lines of a report, one after another.
+-- The lines of a report are written one by one.
 use Rattle.std.proofs.Common.{◌≡◌, ℕ, List, [], ◌∷◌, ◌++◌, append_assoc, append-nil, map, length, arith, refl, sym, ap, ◌∙◌, subst}
 use Rattle.csv.specs.Writing.{row_text, default_writer}
 use Rattle.reg_report.specs.declared.row.Row.{Row}
 use Rattle.reg_report.specs.Seen.{row_seen}
 use Rattle.reg_report.specs.Lines.{AreLines, IsSheet, IsEntryLine, entries_header}
 
--- what is still to come completes the report
+-- `text`, followed by the lines of the remaining rows, is the report of all rows
 abbrev pub Completes : List Row → List Row → List ℕ → Type 0
 Completes all rest text = (more : List ℕ) → AreLines IsEntryLine (map row_seen rest) more → IsSheet entries_header IsEntryLine (map row_seen all) (text ++ more)
 

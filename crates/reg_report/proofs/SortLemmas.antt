@@ -1,4 +1,4 @@
--- What is sorted, and then loses its repeats, is the items of a set.
+-- Sorting a list and removing its repeated elements gives the items of its set.
 use Rattle.std.proofs.Common.{◌≡◌, ◌↔◌, ◌+◌, nat_eq, Bool, true, false, ◌&&◌, ◌||◌, cond, List, [], ◌∷◌, get_or, suc, refl, sym, ap, ◌∙◌, subst, arith}
 use Rattle.std.proofs.lemmas.Bool.{true≢false, and_parts, and_from, eqb-true, eq-eqb}
 use Rattle.std.proofs.lemmas.Cmp.{nat_list_cmp_total}
@@ -79,7 +79,7 @@ module _ {K : Type 0} {R : K → K → Ordering} (o : IsTotalOrder R) (same : Is
       ∙ ap set.items (same_set o same (set.from_list (dedup E ys)) (set.from_list xs) (λ q.
       contains-from_list o (dedup E ys) q ∙ any-of_dedup (eq_by_cmp R q) ys ∙ sym (list_any-IsPermutation (eq_by_cmp R q) xs ys p) ∙ sym (contains-from_list o xs q)))
 
--- `==` tells ids apart
+-- comparing the bytes and the counts of two ids decides whether they are equal
 pub ids_exact : (x y : Id) → ((pointwise nat_eq x.replica y.replica && nat_eq x.count y.count) ≡ true) ↔ (x ≡ y)
 ids_exact x y = (
   λ h.

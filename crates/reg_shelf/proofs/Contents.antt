@@ -1,4 +1,4 @@
--- From the bytes in a slot to the content that they hold.
+-- The content of a shelf is that of the bytes in its slot in use.
 use Rattle.std.proofs.Common.{◌≡◌, ◌⊎◌, inl, inr, ℕ, ◌≤◌, ◌<◌, List, [], ◌++◌, length, refl, sym, ap, subst, ◌∙◌, arith}
 use Rattle.std.specs.Int.{w32, from_be_bytes}
 use Rattle.std.proofs.lemmas.Nat.{from_be_bytes-to_be_bytes_4}
@@ -26,7 +26,7 @@ one_size_of image m n x y (p, is-m) (q, is-n) = sym is-m ∙ one_size image p.by
 pub shelf_of : (image bytes : List ℕ) (x : Content) → slots.IsShelf image bytes → ReadsAs bytes x → IsShelf image x
 shelf_of image bytes x shelf held = record { bytes = bytes; shelf = shelf; held = held }
 
--- a new shelf of a content
+-- a content whose file fits in a slot of the size has a shelf
 pub shelf_for : (x : Content) (bytes : List ℕ) (size : ℕ) → Holds bytes x → slots.IsSize size → length bytes ≤ size → (image : List ℕ) × IsShelfOf image size x
 shelf_for x bytes size holds range within =
     let slot = at_front size bytes [] (omega (arith, range.1)) range within in
@@ -36,7 +36,7 @@ pub either_of : (was x : Content) (old new : List ℕ) → ReadsAs old was → R
 either_of was x old new before after c (inl shelf) = inl (shelf_of c old was shelf before)
 either_of was x old new before after c (inr shelf) = inr (shelf_of c new x shelf after)
 
--- a shelf of other bytes is none of a content
+-- an image that is a shelf of no bytes, or of bytes that are no content's file, is a shelf of no content
 pub none_by_slots : (image : List ℕ) → slots.IsNoShelf image → IsNoShelf image
 none_by_slots image none x s = none s.bytes s.shelf
 
@@ -53,7 +53,7 @@ empty_length bytes f = ap length (files.one_file nothing bytes (register_file 2 
 pub empty_fits : IsTooLarge nothing → ⊥
 empty_fits (bytes, f, long) = absurd (omega (arith, long, empty_length bytes f))
 
--- and so each slot has room for it
+-- a slot of 14 bytes or more has room for the file of the empty register
 pub fresh_fits : {P Q : Type 0} (size : ℕ) (sent file : List ℕ) → 14 ≤ size → sent ≡ file → Holds file nothing → (P → size < length sent) → (Q → ⊥) → P ⊎ Q → ⊥
 fresh_fits size sent file some is held large none (inl p) = absurd (omega (arith, some, large p, ap length is, empty_length file held.bytes_are))
 fresh_fits size sent file some is held large none (inr q) = none q

@@ -1,4 +1,4 @@
--- A whole run that keeps a register.
+-- Keeping a register on a shelf, from the first moment to the last.
 use Rattle.std.proofs.Common.{◌≡◌, ◌⊎◌, inl, ⊎_elim, ℕ, List, sym, subst}
 use Rattle.byte_disk.specs.Disk.{LeavesOnly}
 use Rattle.byte_disk.proofs.Moments.{weaker}
@@ -8,7 +8,7 @@ use Rattle.reg_file.specs.Files.{Holds, ReadsAs}
 use Rattle.reg_shelf.specs.Shelf.{IsShelf, IsShelfOf}
 use Rattle.reg_shelf.proofs.Contents.{either_of, shelf_of}
 
--- the bytes that were sent are the file
+-- if the bytes that were sent are the file of the content, they hold the content
 sent_holds : (sent file : List ℕ) (x : Content) → sent ≡ file → Holds file x → Holds sent x
 sent_holds sent file x is held = subst (λ (b : List ℕ). Holds b x) (sym is) held
 
@@ -25,7 +25,7 @@ kept_of image sent file x shelf is holds = shelf_of image sent x shelf (inl (sen
 pub sized_of : (image sent file : List ℕ) (size : ℕ) (x : Content) → slots.IsShelfOf image size sent → sent ≡ file → Holds file x → IsShelfOf image size x
 sized_of image sent file size x (shelf, is-size) is holds = (record { bytes = sent; shelf = shelf; held = inl (sent_holds sent file x is holds) }, is-size)
 
--- a frame that is put on a shelf
+-- at each moment while a frame is put on a shelf, the shelf has the old content or the new one
 pub put_moments : {D : Type 0} (moment : D → ℕ) (since : D → ℕ → List ℕ → Type 0) (old new : D) (before after : List ℕ) (was x : Content)
     → LeavesOnly moment since old new (λ c. slots.IsShelf c before ⊎ slots.IsShelf c after) → ReadsAs before was → Holds after x
     → LeavesOnly moment since old new (λ c. IsShelf c was ⊎ IsShelf c x)

@@ -1,4 +1,4 @@
--- What is known of an error, whatever an `Ok` would hold.
+-- What is known of an error does not depend on the type of an `Ok`.
 use Rattle.std.proofs.Common.{◌≡◌, ◌⊎◌, inl, inr, Bool, true, false, refl, sym, ap, ◌∙◌}
 use Rattle.std.proofs.lemmas.Bool.{true≢false}
 use Rattle.std.specs.Prelude.{Ok, Err, IsErrOf}
@@ -31,7 +31,7 @@ is_no_shelf fault.NotShelf = true
 is_no_shelf fault.Memory = false
 is_no_shelf fault.DiskFailed = false
 
--- a fault of a file that is not too large
+-- an error of making a file that is not TooLarge is neither TooLarge nor NotShelf
 pub file_fault : {T U : Type 0} (f : ShelfFault) → (f ≡ fault.TooLarge) ⊎ (f ≡ fault.Memory) → (IsErrOf {T = T} (Err f) fault.TooLarge → ⊥) → IsErrOf {T = U} (Err f) fault.TooLarge ⊎ IsErrOf {T = U} (Err f) fault.NotShelf → ⊥
 file_fault f told none (inl is) = none (err_at f fault.TooLarge is)
 file_fault {U = U} f (inl e) none (inr is) = absurd (true≢false (ap is_no_shelf (sym (ap (λ (r : Result U ShelfFault). error_or f r) is) ∙ e)))
