@@ -1,4 +1,4 @@
--- What the commands of an office come to, by their steps.
+-- The results of the commands of an office, from those of their steps.
 use Rattle.std.proofs.Common.{◌≡◌, ◌⊎◌, ◌∷◌, [], ℕ, List, Bool, true, false, Some, None, Err, refl, sym, subst, inl, inr, if◌then◌else◌}
 use Rattle.byte_io.specs.Device.{SourceState}
 use Rattle.crs_value.specs.declared.crs.Crs.{Crs}
@@ -27,7 +27,7 @@ use Rattle.reg_engine.specs.Fault.{office_fault, definition_fault}
 use Rattle.reg_engine.specs.Outputs.{id_lines}
 use Rattle.reg_engine.specs.Change.{Makes, IsRefused, CannotMake, ReadsDefinition, CannotEnter}
 
--- the same of equal contents and equal replicas
+-- the same for equal contents and equal replicas
 pub does_of : (x y z : Content) (r s note : List ℕ) (bodies : List Body) (ids : List Id) → x ≡ y → r ≡ s → Does x r note bodies z ids → Does y s note bodies z ids
 does_of x y z r s note bodies ids e f h = subst (λ k. Does k s note bodies z ids) e (subst (λ k. Does x k note bodies z ids) f h)
 
@@ -35,12 +35,12 @@ pub made_of : (x y : Content) (r s note : List ℕ) (bodies : List Body) (f : Of
     → (made x r note bodies ≡ Err f) ⊎ (f ≡ office.Memory) → (made y s note bodies ≡ Err f) ⊎ (f ≡ office.Memory)
 made_of x y r s note bodies f e g h = subst (λ k. (made k s note bodies ≡ Err f) ⊎ (f ≡ office.Memory)) e (subst (λ k. (made x k note bodies ≡ Err f) ⊎ (f ≡ office.Memory)) g h)
 
--- what an office made, of which a register and lines were made
+-- the command makes the content, and the lines of the ids, that the office gives
 pub makes_of : (x y z : Content) (r s note : List ℕ) (bodies : List Body) (ids js : List Id) (w : Content) (lines : List ℕ) → x ≡ y → r ≡ s → Does x r note bodies z ids → w ≡ z → lines ≡ id_lines js → js ≡ ids
     → Makes s note bodies y w lines
 makes_of x y z r s note bodies ids js w lines e f h g l k = (ids, subst (λ k. Does y s note bodies k ids) (sym g) (does_of x y z r s note bodies ids e f h), subst (λ k. lines ≡ id_lines k) k l)
 
--- a fault of the office but `Memory` is a refusal for what the command would make
+-- a fault of the office that is reported as a refusal is why the office makes nothing
 pub refused_for : (x : Content) (replica note : List ℕ) (bodies : List Body) (f : OfficeFault) (r : Refusal) → office_fault f ≡ cli.Refused r
     → (made x replica note bodies ≡ Err f) ⊎ (f ≡ office.Memory) → IsRefused x replica note bodies r
 refused_for x replica note bodies f r is (inl e) = (f, e, is)
@@ -56,15 +56,15 @@ cannot_make replica note bodies x f h = refused_for x replica note bodies f (ref
 
 -- ---- an entry
 
--- where memory runs out over a text that spells a value, that is grammatical
+-- a source whose text spells a value is one over which memory may run out
 pub part_of_found : (o n : SourceState) (v : Crs) → Finds o n v → RunsOut o n
 part_of_found o n v (text, read, spells) = inr (text, read, spelled_is_grammatical text v spells)
 
--- the same where its canonical text was found
+-- the same if the canonical text of the value was found
 pub part_of_canon : (o n : SourceState) (canonical : List ℕ) → FindsCanon o n canonical → RunsOut o n
 part_of_canon o n canonical (text, read, found) = part_of_found o n found.value (text, read, found.spells)
 
--- the value that a definition is made of
+-- the value whose canonical text is the definition
 abbrev pub value_of : {o n : SourceState} {d : List ℕ} → FindsDefinition o n d → Crs
 value_of h = h.0.2.value
 
@@ -85,7 +85,7 @@ cannot_define replica note number old new x (define.Refused undefined.CanonicalT
 cannot_define replica note number old new x (define.Refused undefined.NotCanonical) h = absurd h
 cannot_define replica note number old new x (define.Refused undefined.Memory) h = h
 
--- an entry is refused for its note or its number alone
+-- the faults of an office that enters a definition
 abbrev pub IsOfEntry : OfficeFault → Type 0
 IsOfEntry office.NoteTooLong = Unit {0}
 IsOfEntry office.CountSpent = Unit {0}

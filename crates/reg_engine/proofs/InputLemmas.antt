@@ -1,4 +1,4 @@
--- One more of the sources, when those before it are read.
+-- One more source is read, after those before it.
 use Rattle.std.proofs.Common.{◌≡◌, ◌∷◌, ◌++◌, [], List, ℕ, ◌+◌, ◌<◌, ◌≤◌, zero, suc, length, map, take, drop, get_or, slice_set, refl, ap, sym, subst, append-nil, append_assoc, arith, Some, None, ◌∙◌}
 use Rattle.std.proofs.lemmas.List.{take_all, length-map}
 use Rattle.std.specs.declared.option.Option.{Option}
@@ -48,7 +48,7 @@ none_failed (o ∷ os) [] xs h = absurd h
 none_failed (o ∷ os) (n ∷ ns) [] h = absurd h
 none_failed (o ∷ os) (n ∷ ns) (x ∷ xs) h = (part_gives o n x h.0, none_failed os ns xs h.1)
 
--- where the first is file 1, the number is the place in the list
+-- if the first file has number 1, the number of a file is its position in the list, from 1
 pub stops_first : (k : ℕ) (f : InputFault) (old new : List SourceState) → StopsFrom 1 k f old new → StopsAt k f old new
 stops_first k f old new (n, number, stops) = subst (λ j. StopsAt j f old new) (omega (arith, number)) stops
 
@@ -125,7 +125,7 @@ module _ {S : Type 0} (st : S → SourceState) where
   stops_next was now i o s xs f within size front back fault =
       subst (λ j. StopsAt j f (map st was) (map st (slice_set now i s))) (next i) (stops_suc was now i o s xs f within size front back fault)
 
-  -- what stops the reading of one stops that of all
+  -- a fault of reading the source at index i is a fault of reading the list
   pub unread_next : (was now : List S) (next i number : ℕ) (o s : S) (xs : List Part) → i < length was → length now ≡ length was
       → HoldAll (take i (map st was)) (take i (map st now)) xs → drop i (map st now) ≡ drop i (map st was) → number ≡ next + i
       → (f : CliFault) → IsPartUnread number (st (get_or now i o)) (st s) f → AreUnread next (map st was) (map st (slice_set now i s)) f
@@ -135,7 +135,7 @@ module _ {S : Type 0} (st : S → SourceState) where
   unread_next was now next i number o s xs within size front back at cli.Memory h = none_fails_next was now i o s xs within size front back h
   unread_next was now next i number o s xs within size front back at (cli.Shelf p) h = absurd h
 
-  -- there is no next number
+  -- if the sources before index i gave files, and no other was read, none has failed
   pub none_fails_yet : (was now : List S) (i : ℕ) (xs : List Part) → i < length was → length now ≡ length was
       → HoldAll (take i (map st was)) (take i (map st now)) xs → drop i (map st now) ≡ drop i (map st was) → NoneFails (map st was) (map st now)
   none_fails_yet was [] i xs within size front back = absurd (omega arith)
@@ -154,13 +154,13 @@ module _ {S : Type 0} (st : S → SourceState) where
     pushed' ∙ ap (λ ys. ys ++ pieces (p ∷ [])) qs-are ∙ append_assoc few (pieces ps) (pieces (p ∷ [])) ∙ ap (λ ys. few ++ ys) (sym (pieces_next ps p)),
   )
 
-  -- after the last
+  -- after the last source, all sources have given the files of parts
   pub gives_all : (some : List Content) (few : List Piece) (was now : List S) (i : ℕ) (xs : List Content) (qs : List Piece) → length was ≤ i → length now ≡ length was
       → GivePartsAfter some few (take i (map st was)) (take i (map st now)) xs qs → GivePartsAfter some few (map st was) (map st now) xs qs
   gives_all some few was now i xs qs past size h =
       subst (λ os. GivePartsAfter some few os (map st now) xs qs) (take_all i (map st was) (omega (arith, length-map was st, past)))
       (subst (λ ns. GivePartsAfter some few (take i (map st was)) ns xs qs) (take_all i (map st now) (omega (arith, length-map now st, size, past))) h)
 
--- before the first
+-- before the first source, nothing is given
 pub none_given_yet : (some : List Content) (few : List Piece) → GivePartsAfter some few [] [] some few
 none_given_yet some few = ([], tt, sym (append-nil some), sym (append-nil few))

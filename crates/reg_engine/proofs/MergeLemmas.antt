@@ -1,4 +1,4 @@
--- Merges of lists that have the same operations.
+-- The file of a merge depends only on the operations and seen ids that its files bring; and the faults of a merge.
 use Rattle.std.proofs.Common.{◌≡◌, ◌⊎◌, inl, inr, ◌++◌, ◌∷◌, length, arith, [], List, ℕ, Ok, Err, Result, Some, None, map, refl, sym, ap, subst, ◌∙◌}
 use Rattle.std.specs.declared.option.Option.{Option}
 use Rattle.reg_op.specs.Ids.{Id}
@@ -35,7 +35,7 @@ content_or d (Err e) = d
 same_join : (ps : List Part) (x y : Content) → JoinTo ps x → JoinTo ps y → x ≡ y
 same_join ps x y h k = ap (content_or x) (sym h ∙ k)
 
--- ---- pieces, joined as what they bring
+-- ---- joining a piece is joining the operations and seen ids that it brings
 
 piece_as_part : (x : Content) (p : Piece) (y : Content) → joined_piece x p ≡ Ok y → joined x (part_of p) ≡ Ok y
 piece_as_part x p y e = from (first_missing p.basis x.seen) (joined x (part_of p)) e
@@ -49,7 +49,7 @@ refused_stays : (r : PieceRefusal) (ps : List Piece) (x : Content) → with_piec
 refused_stays r [] x e = absurd (cc)
 refused_stays r (p ∷ ps) x e = refused_stays r ps x e
 
--- one step, where the later ones are as those of what they bring
+-- one step: if the remaining pieces join like what they bring, so do the piece and these
 piece_step : (q : Result Content PieceRefusal) (y : Content) (p : Piece) (ps : List Piece) (x : Content) → joined_piece y p ≡ q
     → ((z : Content) → with_pieces (Ok z) ps ≡ Ok x → all_joined joined (Ok z) (map part_of ps) ≡ Ok x) → with_pieces q ps ≡ Ok x
     → all_joined joined (joined y (part_of p)) (map part_of ps) ≡ Ok x
@@ -71,7 +71,7 @@ joins_brought ps x e = all_joined-append (Ok nothing) (registers ps) (map part_o
 is_merged_all : (ps : List Part) (x : Content) → JoinTo ps x → x ≡ merged_all (brought ps)
 is_merged_all ps x e = joined_is (brought ps) x (joins_brought ps x e)
 
--- ---- the order
+-- ---- the order of the files
 
 same_all : (xs ys : List Content) → all_ops xs ≡ all_ops ys → all_seen xs ≡ all_seen ys → merged_all xs ≡ merged_all ys
 same_all xs ys ops seen = ap (λ k. record { ops = kept k; seen = all_seen xs }) ops ∙ ap (λ v. record { ops = kept (all_ops ys); seen = v }) seen
@@ -84,7 +84,7 @@ order ps qs bytes others ops seen (x, to_x, hold_x) (y, to_y, hold_y) =
     let same : y ≡ x = of_y ∙ sym (same_all (brought ps) (brought qs) ops seen) ∙ sym of_x in
     one_file x bytes others hold_x.bytes_are (subst (λ z. Holds others z) same hold_y).bytes_are
 
--- registers alone
+-- parts that are all registers
 registers_alone : (xs : List Content) → registers (map part.Register xs) ≡ xs
 registers_alone [] = refl
 registers_alone (x ∷ xs) = ap (λ ys. x ∷ ys) (registers_alone xs)
@@ -102,13 +102,13 @@ states_joined ss one =
 pub states : (ss : List Ops) (bytes : List ℕ) → OneBody (all_of ss) → IsMergeOf (map part.Register (map state ss)) bytes → Holds bytes (state (all_of ss))
 states ss bytes one (x, to_x, hold_x) = subst (λ z. Holds bytes z) (same_join (map part.Register (map state ss)) x (state (all_of ss)) to_x (states_joined ss one)) hold_x
 
--- ---- what the command does
+-- ---- the effect of the command
 
 refused_all : (r : PieceRefusal) (qs : List Piece) → with_pieces (Err r) qs ≡ Err r
 refused_all r [] = refl
 refused_all r (q ∷ qs) = refused_all r qs
 
--- the join of what was read is that of the parts
+-- the join of the registers and pieces that were read is the join of the parts
 pub of_parts : (ps : List Part) (xs : List Content) (qs : List Piece) → xs ≡ registers ps → qs ≡ pieces ps → join_of ps ≡ with_pieces (begun (all_joined joined (Ok nothing) xs)) qs
 of_parts ps xs qs e f =
     ap (λ ys. with_pieces (begun (all_joined joined (Ok nothing) ys)) (pieces ps)) (sym e) ∙ ap (λ ys. with_pieces (begun (all_joined joined (Ok nothing) xs)) ys) (sym f)
@@ -150,7 +150,7 @@ refused_as : (old new : Ends) (ps : List Part) (r : Result Content PieceRefusal)
     → (f : CliFault) → IsUnjoined r f → IsMergeFault old new f
 refused_as old new ps r held is same f h = refused_by old new ps r held is same f (ways r f h)
 
--- pieces do not mend a refusal of the registers
+-- if the registers are refused, joining pieces as well is refused
 stays_by : (r : Result Content PieceRefusal) (qs : List Piece) (f : CliFault) → Ways r f → IsUnjoined (with_pieces r qs) f
 stays_by r qs f (inl (id, e, h)) = subst (λ k. IsUnjoined (with_pieces r qs) k) (sym e) (ap (λ z. with_pieces z qs) h ∙ refused_all (Clash id) qs)
 stays_by r qs f (inr (inl (id, e, h))) = subst (λ k. IsUnjoined (with_pieces r qs) k) (sym e) (ap (λ z. with_pieces z qs) h ∙ refused_all (Basis id) qs)
@@ -159,7 +159,7 @@ stays_by r qs f (inr (inr e)) = subst (λ k. IsUnjoined (with_pieces r qs) k) (s
 pub refusal_stays : (r : Result Content PieceRefusal) (qs : List Piece) (f : CliFault) → IsUnjoined r f → IsUnjoined (with_pieces r qs) f
 refusal_stays r qs f h = stays_by r qs f (ways r f h)
 
--- why pieces are not joined
+-- a fault of joining pieces is why the parts are not joined
 pub unjoined_by : (r : Result Content PieceFault) (q : Result Content PieceRefusal) → ((id : Id) → r ≡ Err (piece.Basis id) → q ≡ Err (Basis id))
     → ((id : Id) → r ≡ Err (piece.Clash id) → q ≡ Err (Clash id)) → (f : PieceFault) → r ≡ Err f → IsUnjoined q (piece_fault f)
 unjoined_by r q basis clash (piece.Basis id) is = basis id is
@@ -176,12 +176,12 @@ pub unjoined_then : (old new : Ends) (xs : List Content) (qs : List Piece) (y : 
 unjoined_then old new xs qs y (ps, held, e, g) same first f h =
     refused_as old new ps (with_pieces (Ok y) qs) held (of_parts ps xs qs e g ∙ ap (λ r. with_pieces r qs) first) same f h
 
--- what was read joins to this
+-- the parts join to x if their registers join to y, and y and their pieces to x
 pub joins_to : (ps : List Part) (xs : List Content) (qs : List Piece) (y x : Content) → xs ≡ registers ps → qs ≡ pieces ps
     → begun (all_joined joined (Ok nothing) xs) ≡ Ok y → with_pieces (Ok y) qs ≡ Ok x → JoinTo ps x
 joins_to ps xs qs y x e g first then-all = of_parts ps xs qs e g ∙ ap (λ r. with_pieces r qs) first ∙ then-all
 
--- what the place met is what the merge met
+-- a fault of publishing the file of the join is a fault of the merge
 pub unmerged : (old new : Ends) (ps : List Part) (x : Content) → HoldAll old.sources new.sources ps → JoinTo ps x
     → (f : CliFault) → IsUnpublished x new.read old.place new.place f → IsMergeFault old new f
 unmerged old new ps x held join (cli.Refused r) h = absurd h
@@ -207,7 +207,7 @@ fault_or d (Err f) = f
 pub never_too_large : (old new : PlaceState) (f : CliFault) → IsUnpublished nothing None old new f → ◌≡◌ {A = Result (Unit {0}) CliFault} (Err f) (Err (cli.Out out.TooLarge)) → ⊥
 never_too_large old new f h e = nothing_is_small (subst (λ k. IsUnpublished nothing None old new k) (ap (fault_or f) e) h).0
 
--- a file was not read
+-- a fault of reading the files is a fault of the merge
 pub unread : (old new : Ends) → new.place ≡ old.place → (f : CliFault) → AreUnread 1 old.sources new.sources f → IsMergeFault old new f
 unread old new same (cli.Refused r) h = absurd h
 unread old new same (cli.File k f) h = (stops_first k f old.sources new.sources h, same)

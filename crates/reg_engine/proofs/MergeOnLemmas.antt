@@ -1,4 +1,4 @@
--- What a merge comes to on a shelf, by its steps.
+-- The results of a merge into a shelf, from those of its steps.
 use Rattle.std.proofs.Common.{◌≡◌, ◌∷◌, [], List, Ok, Result, inl, inr, refl, sym, ap, subst, ◌∙◌}
 use Rattle.byte_io.specs.Device.{SourceState}
 use Rattle.reg_op.specs.Contents.{Content, nothing, joined}

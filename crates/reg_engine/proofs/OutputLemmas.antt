@@ -1,4 +1,4 @@
--- What became of the bytes of a file is what became of the file.
+-- The effect of replacing the bytes of a file is the effect of publishing the file.
 use Rattle.std.proofs.Common.{List, ℕ, Option, Ok, Err, Result}
 use Rattle.std.specs.Prelude.{OnOk, IfErr}
 use Rattle.byte_out.specs.Place.{PlaceState}
@@ -11,7 +11,7 @@ use Rattle.reg_engine.specs.declared.fault.CliFault.TheVariants as cli
 use Rattle.reg_engine.specs.Fault.{replace_fault}
 use Rattle.reg_engine.specs.Outputs.{PublishesBy, IsUnpublishedBy, IsUnpublishedOf}
 
--- a fault of replacing is that of the file that was made
+-- a fault of replacing bytes is a fault of publishing the file that they are
 pub unreplaced : (read : Option (List ℕ)) (bytes : List ℕ) (old new : PlaceState) (f : ReplaceFault) → IsReplaceFault read bytes old new f
     → IsUnpublishedOf read bytes old new (replace_fault f)
 unreplaced read bytes old new replaced.NotOpened h = h

@@ -1,4 +1,4 @@
--- An entry that a content has.
+-- A content that has the operation of an entry has the entry.
 use Rattle.std.proofs.Common.{◌≡◌, true, ◌&&◌, ℕ, List, ap}
 use Rattle.std.specs.Ordering.{is_eq}
 use Rattle.std.specs.Cmp.{tied_itself}

@@ -1,4 +1,4 @@
--- A register that is restored from a shelf, and one that is kept there then.
+-- A register is restored from a shelf, and another one is kept there.
 use Rattle.std.proofs.Common.{◌≡◌, ◌⊎◌, ◌+◌, ◌<◌, ◌≤◌, ◌^◌, inl, inr, ⊎_elim, Bool, ℕ, List, length, drop, refl, sym, ap, subst, ◌∙◌, arith, length-take, length-drop}
 use Rattle.std.specs.Int.{w32, to_be_bytes, from_be_bytes}
 use Rattle.std.proofs.lemmas.Nat.{from_be_bytes-to_be_bytes_4}
@@ -42,7 +42,7 @@ unrestored d old new shelf.NotShelf is counts none nothing = (λ told. none told
 unrestored d old new shelf.Memory is counts none nothing = record { quiet = counts; nothing = nothing }
 unrestored d old new shelf.DiskFailed is counts none nothing = (counts, nothing)
 
--- a disk that reads as a shelf has a head
+-- bytes with a number at offset 1 are at least 5
 long_head : (s : List ℕ) (n : ℕ) → StandAt s 1 (to_be_bytes w32 n) → 5 ≤ length s
 long_head s n stands = omega (arith, ap length stands, length-take 4 (drop 1 s), length-drop 1 s)
 
@@ -75,7 +75,7 @@ unready d old new x y shelf.NotShelf has good counts head large nothing = (λ to
 unready d old new x y shelf.Memory has good counts head large nothing = record { quiet = counts; nothing = nothing }
 unready d old new x y shelf.DiskFailed has good counts head large nothing = (counts, nothing)
 
--- ---- what a stop leaves where nothing but a shelf was sure
+-- ---- what a stop leaves on a disk that is surely a shelf
 
 all_shelves : {D : Type 0} (d : Disks D) (old : D) (x : Content) → Has d old x → IsSure d old → IsTrue (d.tells old) → (c : List ℕ) → d.images old c → IsShelf c x
 all_shelves d old x has sure told c may = subst (λ (t : List ℕ). IsShelf t x) (sym (sure told c may)) (has told)
@@ -131,7 +131,7 @@ puts_on d old new x y frame has sure ready tells quiet leaves kept sized =
       passes = put_passes d old new x y frame has sure ready leaves;
     }
 
--- ---- one step after another
+-- ---- a step that changes nothing, and the step after it
 
 module _ {D : Type 0} (d : Disks D) (old mid new : D) (tells : d.tells mid ≡ d.tells old) (stays : StaysOn d old mid) where
   then_told : IsTrue (d.tells old) → IsTrue (d.tells mid)
@@ -199,7 +199,7 @@ module _ {D : Type 0} (d : Disks D) (old mid new : D) (tells : d.tells mid ≡ d
   pub then_unput : (x y : Content) (f : CliFault) → IsUnput d x y mid new f → IsUnput d x y old new f
   then_unput x y f h = (h.0, h.1 ∙ ap (λ (n : ℕ). n + 1) stays.quiet, then_passes x y h.2)
 
--- a content that was restored, and another of equal value that is kept then
+-- after x is restored, the effect of keeping y over what was restored is that of keeping y over x
 module _ {D : Type 0} (d : Disks D) (old mid new : D) (tells : d.tells mid ≡ d.tells old) (stays : StaysOn d old mid) (sure : IsSure d mid) (x : Content) (has : Has d old x) where
   pub kept_then : (y : Content) → ((was : Content) → Has d mid was → IsSure d mid → KeepsOn d was y mid new) → KeepsOn d x y old new
   kept_then y keeps = then_keeps d old mid new tells stays x y (keeps x (then_has d old mid new tells stays x has) sure)

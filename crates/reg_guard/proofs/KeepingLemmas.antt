@@ -1,4 +1,4 @@
--- A register's file that is replaced after the office file.
+-- The file of a register is replaced after the office file.
 use Rattle.std.proofs.Common.{◌≡◌, inl, inr, List, ℕ, Option, subst}
 use Rattle.byte_out.specs.Place.{PlaceState}
 use Rattle.byte_out.specs.Replace.{IsReplaceFault}

@@ -1,4 +1,4 @@
--- What becomes of a register on a store with an office file.
+-- The effects on a store with an office file.
 use Rattle.std.proofs.Common.{◌≡◌, inl, inr, Option, refl, sym, subst, ◌∙◌}
 use Rattle.std.specs.Prelude.{Some, None}
 use Rattle.byte_out.specs.Place.{PlaceState}
@@ -14,7 +14,7 @@ use Rattle.reg_guard.specs.Stores.{Numbers, IsUnnumberedBy, IsUnleftShelf, guard
 use Rattle.reg_guard.specs.Keeping.{KeepsNumbered, IsUnkeptNumbered}
 use Rattle.reg_guard.specs.declared.keeping.Unkept.TheVariants as unkept
 
--- a shelf, with what the store gave before
+-- a shelf, from which the store has restored x
 
 module _ {D : Type 0} (l : Last) (d : Disks D) (x y : Content) (old mid new : D) (office still noted : PlaceState) (lag : Option Id) (trouble : Option NoteFault)
     (tells : d.tells mid ≡ d.tells old) (came : (guarded_shelf l d old office mid still lag trouble).came x) where

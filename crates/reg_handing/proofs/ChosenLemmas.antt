@@ -1,4 +1,4 @@
--- The rows that are kept, and the least place of those that are not, row by row.
+-- The uncontested rows, and the least place of the contested ones, row by row.
 use Rattle.std.proofs.Common.{◌≡◌, ◌≢◌, ◌⊎◌, Bool, true, false, cond, List, [], ◌∷◌, ◌++◌, length, map, Option, Some, None, refl, sym, ap, ◌∙◌, subst, inl, inr, append_assoc, append-nil, arith}
 use Rattle.std.specs.Prelude.{◌↔◌, Contains, IsTrue}
 use Rattle.std.specs.Cmp.{IsTotalOrder, IsStrictWeakOrder, then_total, on_total, tied_itself}
@@ -16,9 +16,9 @@ use Rattle.reg_handing.specs.Chosen.{IsContested, AreUncontested, KeyThenEntry, 
 use Rattle.reg_handing.specs.Kept.{lesser, least_with, option_entry}
 use Rattle.reg_handing.proofs.NotedLemmas.{in_last}
 
--- ---- the rows that are kept
+-- ---- the uncontested rows
 
--- what is kept of the rows that are left completes what was kept of all
+-- `made`, followed by the uncontested rows of the rest, has the uncontested rows of all
 abbrev pub Keeps : List Row → List Row → List Row → Type 0
 Keeps all rest made = (more : List Row) → AreUncontested all rest more → AreUncontested all all (made ++ more)
 
@@ -53,7 +53,7 @@ one_place r p q a b =
     let entry : p.entry ≡ q.entry = a.1 ∙ sym b.1 in
     λ j. record { key = key j; entry = entry j }
 
--- the least place of the contested rows so far, if there are some
+-- the least place of the contested rows so far, if there are any
 abbrev pub Best : List Row → List Row → Option KeyThenEntry → Type 0
 Best all done None = (r : Row) → Contains done r → ¬ (IsContested all r)
 Best all done (Some p) = IsLeast all done p
@@ -78,7 +78,7 @@ best_same all done r (Some p) never best = record {
 }
 
 module _ (all done : List Row) (r : Row) (p : KeyThenEntry) (is : IsContested all r) (placed : IsPlaceOf r p) where
-  -- the row's place, where no earlier one is before it
+  -- the place of r is the least one if no earlier contested row has a lesser place
   here : ((q : Row) (s : KeyThenEntry) → Contains done q → IsContested all q → IsPlaceOf q s → is_lt (place_cmp s p) ≡ false) → IsLeast all (done ++ r ∷ []) p
   here earlier = record {
     row = r;
@@ -112,7 +112,7 @@ pub taken_is : (all done : List Row) (o : Option KeyThenEntry) → all ≡ done 
 taken_is all done None e best = λ r h. best r (subst (λ l. Contains l r) e h)
 taken_is all done (Some p) e best = (p, subst (λ l. IsLeast all l p) (sym e) best, refl)
 
--- ---- both, with one row more
+-- ---- one more row
 
 pub with_row : (all done rest others : List Row) (r : Row) (p : KeyThenEntry) (t : Bool) (kept new : List Row) (o : Option KeyThenEntry) → rest ≡ r ∷ others → IsTrue t ↔ IsContested all r → IsPlaceOf r p
     → new ≡ kept ++ cond t [] (r ∷ []) → Keeps all rest kept → Best all done o → Keeps all others new × Best all (done ++ r ∷ []) (least_with t o p)

@@ -1,4 +1,4 @@
--- What the notes tell, row by row.
+-- The notes on the texts of keys, row by row.
 use Rattle.std.proofs.Common.{◌≡◌, ◌≢◌, ◌⊎◌, ℕ, nat_eq, Bool, true, false, not, ◌||◌, cond, List, [], ◌∷◌, ◌++◌, map, Option, Some, None, refl, sym, ap, ◌∙◌, subst, inl, inr, append_assoc, append-nil}
 use Rattle.std.specs.Prelude.{◌↔◌, Contains, IsTrue}
 use Rattle.std.specs.Borrow.{Bor}
@@ -24,7 +24,7 @@ nothing_held m e q = ap (λ l. noted (lookup (λ k. is_eq (text_cmp q k)) l)) e
 pub nothing_told : (k : KeyBytes) → Tells [] k None
 nothing_told k r there keyed = none_in r there
 
--- ---- one row more
+-- ---- one more row
 
 pub in_last : (done : List Row) (r q : Row) → Contains (done ++ r ∷ []) q → Contains done q ⊎ (q ≡ r)
 in_last done r q h = elim (Contains-append_cases done (r ∷ []) q h) [
@@ -39,7 +39,7 @@ module _ (done : List Row) (r : Row) (k : KeyBytes) (keyed : HasKey r.definition
   wider : (q : Row) → Contains done q → Contains (done ++ r ∷ []) q
   wider q h = Contains-append_left done (r ∷ []) q h
 
-  -- each row with the key has a text, if each earlier one has and this one does
+  -- if each earlier row with the key has the text t, and r has it, each row with the key has it
   each : (t : List ℕ) → ((q : Row) → Contains done q → HasKey q.definition k → q.definition ≡ t) → r.definition ≡ t → (q : Row) → Contains (done ++ r ∷ []) q → HasKey q.definition k → q.definition ≡ t
   each t all is q h its = elim (in_last done r q h) [
     | inl early ↦ all q early its

@@ -1,4 +1,4 @@
--- Texts that are the same, byte for byte; keys that are.
+-- Comparing texts byte by byte, or keys, decides whether they are equal.
 use Rattle.std.proofs.Common.{◌≡◌, ℕ, nat_eq, Bool, true, false, ◌&&◌, List, [], ◌∷◌, refl, sym, ap, ◌∙◌, subst}
 use Rattle.std.proofs.lemmas.Bool.{true≢false, and_parts, eqb-true, eq-eqb}
 use Rattle.std.specs.Cmp.{Equal-is, tied_itself}

@@ -1,4 +1,4 @@
--- Commands on the entries that words stand for.
+-- Commands on the entries that words name.
 use Rattle.std.proofs.Common.{◌≡◌, ◌↔◌, ◌⊎◌, ℕ, List, sym, ap, ◌∙◌, subst, inl, inr}
 use Rattle.reg_op.specs.Ids.{Id}
 use Rattle.reg_op.specs.Contents.{Content}
@@ -11,7 +11,7 @@ use Rattle.reg_engine.specs.declared.fault.CliFault.{CliFault}
 use Rattle.reg_engine.specs.declared.fault.CliFault.TheVariants as cli
 use Rattle.reg_keyed.specs.Keyed.{key_fault, PrintsFor, RefusesFor, MakesFor, CannotMakeFor}
 
--- ---- one word
+-- ---- a command on one entry
 
 pub print_is : (Prints : Id → Content → List ℕ → Type 0) (word : List ℕ) (x : Content) (e : Id) (text : List ℕ) → StandsFor (rows x.ops) word e
     → PrintsFor Prints word x text ↔ Prints e x text
@@ -29,7 +29,7 @@ refuse_is Refuses word x e f s = (to, from)
     from (inl r) = inr (e, s, r)
     from (inr m) = inl (key.Memory, tt, sym m)
 
--- ---- some words
+-- ---- a command on some entries
 
 pub make_is : (Makes : List Id → Content → Content → List ℕ → Type 0) (words : List (List ℕ)) (x y : Content) (es : List Id) (lines : List ℕ) → StandFor (rows x.ops) words es
     → MakesFor Makes words x y lines ↔ Makes es x y lines

@@ -32,7 +32,7 @@ some_same a b h = cc
 one_rest : (a b : List ℕ) → ◌≡◌ {A = List ℕ} (58 ∷ a) (58 ∷ b) → a ≡ b
 one_rest a b h = cc
 
--- a text has one number
+-- a text has at most one number
 pub one_number : (text : List ℕ) (m n : ℕ) → IsNumber text m → IsNumber text n → m ≡ n
 one_number text m n h k =
     let low : m < 2 ^ 64 = lower m h.fits in

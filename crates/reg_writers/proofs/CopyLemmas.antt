@@ -1,4 +1,4 @@
--- Offices that work through their office files give no number twice.
+-- An office that works with its office file gives no number twice.
 use Rattle.std.proofs.Common.{◌≡◌, ℕ, ◌+◌, ◌<◌, ◌≤◌, Bool, true, false, cond, List, [], ◌∷◌, ◌++◌, Option, Some, None, Result, Ok, Err, zero, suc, refl, sym, ap, ◌∙◌, subst, inl, inr, ◌⊎◌, arith, nat_lt, append_assoc}
 use Rattle.std.proofs.lemmas.Bool.{true≢false, or_cases}
 use Rattle.std.proofs.lemmas.Bool.Decides.{nat_tests}
@@ -49,7 +49,7 @@ copies_within : (all more : Ops) (cs : List Copy) → IsWithin all more → AreC
 copies_within all more [] within are = tt
 copies_within all more (c ∷ cs) within are = (record { content = are.0.content; within = λ o h. within o (are.0.within o h) }, copies_within all more cs within are.1)
 
--- two copies have one body an id
+-- in the union of two copies, no id has two bodies
 pub copies_agree : (all : Ops) (c d : Copy) → OneBody all → IsCopy all c → IsCopy all d → OneBody (union c.reached d.reached)
 copies_agree all c d one ic id = OneBody-within (union c.reached d.reached) all (union_within c.reached d.reached all ic.within id.within) one
 
@@ -62,7 +62,7 @@ copies_join all c d one ic id =
 here : (numbers : List ℕ → ℕ) (i : List ℕ) (n : ℕ) → at_office numbers i n i ≡ n
 here numbers i n = ap (λ b. cond b n (numbers i)) (replica_itself i)
 
--- a number rises, and others stay
+-- if one office's number does not fall, none does
 raised : (numbers : List ℕ → ℕ) (i : List ℕ) (n : ℕ) → numbers i ≤ n → (j : List ℕ) → numbers j ≤ at_office numbers i n j
 raised numbers i n h j =
     elim (is_eq (replica_cmp j i)) as (λ b. is_eq (replica_cmp j i) ≡ b → numbers j ≤ cond b n (numbers j)) [
@@ -70,7 +70,7 @@ raised numbers i n h j =
       | false ↦ λ e. omega arith
     ] refl
 
--- the greatest number of an office that a content has seen, more have seen
+-- if more ids are seen, the greatest seen number of an office is no less
 pub greatest_grows : (i : List ℕ) (seen more : Ids) → ((k : Id) → contains seen k ≡ true → contains more k ≡ true) → greatest i seen ≤ greatest i more
 greatest_grows i seen more within = up_to (greatest i seen) (greatest i more) (λ h. count-greatest i more (id_at i (greatest i seen)) (within (id_at i (greatest i seen)) ((is_greatest i seen).there h)) refl)
   where
@@ -86,7 +86,8 @@ not_below m n h = grind (arith, nat_tests)
 abbrev pub new_ops : List Op → Ops
 new_ops os = set.from_list os
 
--- operations that an office numbers from the greatest number on that its register has seen, at least the number in its file
+-- operations that an office numbers after the greatest of its numbers that its register has seen,
+-- which is at least the number in its file
 module _ (w : World) (inv : Invariant w) (i note : List ℕ) (effects : List Body) (c : Copy) (os : List Op)
     (is : IsCopy inv.all c) (ahead : w.numbers i ≤ greatest i c.content.seen) (e : made c.content i note effects ≡ Ok os) where
   own : (o : Op) → has os o ≡ true → (o.id.replica ≡ i) × (greatest i c.content.seen + 1 ≤ o.id.count)
@@ -142,7 +143,7 @@ module _ (w : World) (inv : Invariant w) (i note : List ℕ) (effects : List Bod
       let there : contains (new_ops os) o ≡ true = set.contains-from_list op_total os o ∙ h in
       count-greatest i (state (union c.reached (new_ops os))).seen o.id (ids_has (union c.reached (new_ops os)) o (union_right c.reached (new_ops os) o there)) (own o h).0
 
-  -- the office file is replaced
+  -- replacing the office file keeps the invariant
   noted_keeps : Invariant (noted w i (joined c.content (state (new_ops os))))
   noted_keeps = subst (λ r. Invariant (noted w i r)) (sym new_join) (record {
     all = inv.all;
@@ -151,7 +152,7 @@ module _ (w : World) (inv : Invariant w) (i note : List ℕ) (effects : List Bod
     copies = inv.copies;
   })
 
-  -- and then the register
+  -- replacing the register after it keeps the invariant
   kept_keeps : Invariant (kept w i (joined c.content (state (new_ops os))) (union c.reached (new_ops os)))
   kept_keeps = subst (λ r. Invariant (kept w i r (union c.reached (new_ops os)))) (sym new_join) (record {
     all = union inv.all (new_ops os);
@@ -230,7 +231,7 @@ start_holds = record {
 pub always : (es : List Event) → Invariant (after es start)
 always es = after_keeps es start start_holds
 
--- ---- what was kept stays
+-- ---- no copy is lost
 
 abbrev pub Stays : World → World → Type 0
 Stays w v = (newer : List Copy) × (v.copies ≡ newer ++ w.copies)

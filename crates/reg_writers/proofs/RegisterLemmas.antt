@@ -1,4 +1,4 @@
--- Commands on the register of a file only add.
+-- A command on the register of a file only adds to its seen ids.
 use Rattle.std.proofs.Common.{◌≡◌, ℕ, ◌<◌, true, false, List, [], ◌∷◌, map, length, Some, None, Ok, Contains, zero, suc, sym, ap, ◌∙◌, subst, inl, inr, arith}
 use Rattle.std.proofs.lemmas.Bool.{or_left, or_right, true≢false}
 use Rattle.std.specs.Cmp.{tied_itself}
@@ -25,7 +25,7 @@ union_left s t i h = set.contains-union id_total s t i ∙ or_left _ (set.contai
 pub union_right : (s t : Ids) (i : Id) → set.contains t i ≡ true → set.contains (set.union s t) i ≡ true
 union_right s t i h = set.contains-union id_total s t i ∙ or_right (set.contains s i) _ h
 
--- what one of two contents has seen, their join has
+-- the join of two contents has seen what each of them has seen
 pub seen_left : (x z y : Content) (i : Id) → joined x z ≡ Ok y → set.contains x.seen i ≡ true → set.contains y.seen i ≡ true
 seen_left x z y i j h = subst (λ (w : Content). set.contains w.seen i ≡ true) (joined_ok x z y j).1 (union_left x.seen z.seen i h)
 
@@ -36,7 +36,7 @@ pub turned_sees : (c : Command) (x y : Content) (given : List Id) (i : Id) → T
 turned_sees (Makes replica note effects) x y given i t h = seen_left x (state (set.from_list t.ops)) y i t.are_joined h
 turned_sees (Joins others) x y given i t h = seen_left x others y i t.0 h
 
--- an id of some operations is that of one
+-- each id of some operations is the id of one of them
 head_has : (p : Op) (os : List Op) → has (p ∷ os) p ≡ true
 head_has p os = or_left _ (has os p) (ap is_eq (tied_itself op_total p))
 
@@ -57,7 +57,7 @@ op_of os i h = op_at os i h.0 h.1 h.2
 none_in : (i : Id) → Contains {X = Id} [] i → ⊥
 none_in i h = let below : h.0 < 0 = h.1 in absurd (omega arith)
 
--- a given id was not seen, and is seen then
+-- an id that a command gives was not seen before, and is seen afterwards
 pub given_is_new : (c : Command) (x y : Content) (given : List Id) (i : Id) → Turns c x y given → Contains given i → set.contains x.seen i ≡ false
 given_is_new (Makes replica note effects) x y given i t h =
     let o = op_of t.ops i (subst (λ is. Contains is i) t.their_ids h) in
@@ -72,9 +72,9 @@ given_is_seen (Makes replica note effects) x y given i t h =
     subst (λ j. set.contains y.seen j ≡ true) o.2 (seen_right x (state made) y o.0.id t.are_joined (ids_has made o.0 there))
 given_is_seen (Joins others) x y given i t h = absurd (none_in i (subst (λ is. Contains is i) t.1 h))
 
--- ---- of files
+-- ---- files
 
--- what a file has seen, its register has
+-- an id that a file has seen was seen by its register
 seen_in : (file : File) (bytes : List ℕ) (x : Content) (i : Id) → file ≡ Some bytes → ReadsAs bytes x → HasSeen file i → set.contains x.seen i ≡ true
 seen_in None bytes x i e reads h = absurd h
 seen_in (Some others) bytes x i e reads h =

@@ -1,4 +1,4 @@
--- What a plain list of operations keeps after one more.
+-- One more operation in a plain list, and what is kept of the list.
 use Rattle.std.proofs.Common.{◌≡◌, Bool, true, false, not, ◌&&◌, ◌||◌, cond, List, [], ◌∷◌, ◌++◌, Option, Some, None, refl, sym, ap, ◌∙◌, subst, inl, inr, ◌⊎◌}
 use Rattle.std.proofs.lemmas.Bool.{and_from, and_parts, or_left, or_right, or_cases, true≢false, not-true, not_from_false, false_from_ne_true, true_from_ne_false, and_right}
 use Rattle.std.proofs.lemmas.List.Folds.{list_any-append}
@@ -25,7 +25,7 @@ module _ (k : Ops) (o : Op) (is : kept k ≡ k) where
   cases : (q : Op) → contains (union k (one o)) q ≡ true → (contains k q ≡ true) ⊎ (q ≡ o)
   cases q h = elim (or_cases (contains k q) (contains (one o) q) (sym (contains_op-union k (one o) q) ∙ h)) [ inl a ↦ inl a | inr b ↦ inr (one_is o q b) ]
 
-  -- it is there already, or something there replaces it
+  -- if o is among k, or an operation of k replaces it, adding o changes nothing
   pub kept_needless : ((contains k o ≡ true) ⊎ ((p : Op) × (contains k p ≡ true) × (replaces p o ≡ true))) → k ≡ kept (union k (kept (one o)))
   kept_needless needless =
       same_set op_total op_exact _ _ (λ q. both_ways _ _
@@ -44,7 +44,7 @@ module _ (k : Ops) (o : Op) (is : kept k ≡ k) where
       ]))
       ∙ sym (kept-union_right k (one o))
 
-  -- else it comes in the place of what it replaces
+  -- otherwise, adding o removes what it replaces
   pub kept_added : (new : Ops) → ((q : Op) → contains new q ≡ ((contains k q && not (replaces o q)) || is_eq (op_cmp q o))) → ((p : Op) → contains k p ≡ true → replaces p o ≡ true → ⊥)
       → new ≡ kept (union k (kept (one o)))
   kept_added new has free =
@@ -67,7 +67,7 @@ module _ (k : Ops) (o : Op) (is : kept k ≡ k) where
       ]))
       ∙ sym (kept-union_right k (one o))
 
--- a filtered list, and one more at its end
+-- the members of a filtered list, and of one to which o is appended
 in_filter : (f : Op → Bool) (q : Op) (xs : List Op) → list_any (eq_by_cmp op_cmp q) (filter f xs) ≡ (list_any (eq_by_cmp op_cmp q) xs && f q)
 in_filter f q [] = refl
 in_filter f q (x ∷ xs) = in_filter_more f q x xs (in_filter f q xs)
@@ -98,7 +98,7 @@ contains-filter_push f xs o q =
     or-false true = refl
     or-false false = refl
 
--- ---- from a list
+-- ---- tests of a list
 
 pub needless_from : (xs : List Op) (o : Op) → list_any (λ p. is_eq (op_cmp p o) || replaces p o) xs ≡ true
     → (contains (set.from_list {R = op_cmp} xs) o ≡ true) ⊎ ((p : Op) × (contains (set.from_list {R = op_cmp} xs) p ≡ true) × (replaces p o ≡ true))
@@ -134,7 +134,7 @@ seen_more is o =
     or_comm false true = refl
     or_comm false false = refl
 
--- what a list says of another body
+-- if no operation of a list clashes with o, no id has two bodies after o is added; otherwise o clashes
 module _ (xs : List Op) (o : Op) where
   abbrev all : Ops
   all = set.from_list {R = op_cmp} xs
@@ -190,7 +190,7 @@ clash_more xs o one_body h =
     ] in
     ap (option_map (λ z. z.id)) x.1 ∙ ap Some x_is
 
--- ---- the status, by a look at all
+-- ---- the status of an entry, from tests of a whole list
 
 abbrev pub plain_status : Bool → Bool → Bool → Option Status
 plain_status entered retired superseded = cond entered (Some (cond retired Retired (cond superseded Superseded Valid))) None
