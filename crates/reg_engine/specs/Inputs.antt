@@ -90,7 +90,7 @@ NoneFails [] (n ∷ ns) = ⊥
 NoneFails (o ∷ os) [] = ⊥
 NoneFails (o ∷ os) (n ∷ ns) = NeverFails o n × NoneFails os ns
 
--- the first has the number `next`, and the others go on from there: number k has the fault
+-- the files have the numbers from `next` on, and number k has the fault
 abbrev pub StopsFrom : ℕ → ℕ → InputFault → List SourceState → List SourceState → Type 0
 StopsFrom next k f old new = (n : ℕ) × (k + 1 ≡ next + n) × StopsAt n f old new
 

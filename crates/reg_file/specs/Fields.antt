@@ -64,7 +64,7 @@ head_at version kind bytes = do
 
 -- ---- ranges
 
--- a range of a replica that begins at floor at least, and meets no id of the basis
+-- the range begins below the floor, or ends before it begins, or meets an id of the basis
 abbrev pub is_unfit : Ids → List ℕ → ℕ → Span → Bool
 is_unfit basis replica floor s = nat_lt s.low floor || (nat_lt s.high s.low || meets basis (run_at replica s))
 

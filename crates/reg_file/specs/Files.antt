@@ -120,7 +120,7 @@ IsReadFaultBy Has bytes reading.TooLarge = most < length bytes
 IsReadFaultBy Has bytes (reading.ReadFailed n) = ⊥
 IsReadFaultBy Has bytes reading.Memory = Unit {0}
 
--- why bytes are read as no content; no summary; no piece
+-- why bytes are not read as a content; as a summary; as a piece
 abbrev pub IsReadFault : List ℕ → ReadFileFault → Type 0
 IsReadFault bytes f = IsReadFaultBy HasFault bytes f
 
@@ -150,7 +150,7 @@ FindsSeen old new ids = FindsBy ReadsAsSeen old new ids
 abbrev pub FindsPiece : SourceState → SourceState → Piece → Type 0
 FindsPiece old new p = FindsBy ReadsAsPiece old new p
 
--- the source failed after n bytes; or memory ran out; or what it gave is read as nothing of a kind, for this reason
+-- the source failed after n bytes; or memory ran out; or what it gave is not read, for this reason
 abbrev pub IsReadFromFaultBy : (List ℕ → FileFault → ℕ → Type 0) → SourceState → SourceState → ReadFileFault → Type 0
 IsReadFromFaultBy Has old new (reading.ReadFailed n) = FailsAfter n (most + 1) old new
 IsReadFromFaultBy Has old new reading.Memory = GivesAtMost (most + 1) old new
@@ -168,7 +168,8 @@ IsPieceReadFromFault old new f = IsReadFromFaultBy HasPieceFault old new f
 
 -- ---- over a sink
 
--- the file of the content has too many bytes, in a version and in the one that is written; that of the ids that were seen; that of the piece
+-- the file of the content has too many bytes, in a version and in the one that is written;
+-- that of the ids that were seen; that of the piece
 abbrev pub IsTooLargeIn : ℕ → Content → Type 0
 IsTooLargeIn version x = (bytes : List ℕ) × IsFileIn version x bytes × (most < length bytes)
 

@@ -55,7 +55,7 @@ ranges basis = field (number_at w32) behind groups basis
 
 -- ---- operations
 
--- a fault that says something of the text, other than that it is another spelling
+-- a fault of the text itself, and not that it is another spelling
 abbrev pub IsOfText : DefinitionFault → Type 0
 IsOfText (definition.Read f) = Unit {0}
 IsOfText definition.NotCanonical = ⊥
@@ -74,7 +74,7 @@ IsUnfit (Enter text) left r = (r.left ≡ left) × IsTextFault text r.fault
 IsUnfit (Supersede old newer) left r = ⊥
 IsUnfit (Retire entry) left r = ⊥
 
--- a field is refused; or all are read, and the definition's text is none
+-- a field is refused; or all fields are read, and the text is not a definition
 abbrev pub FailsAs : ℕ → Result (Body × List ℕ) Refused → Refused → Type 0
 FailsAs left (Err e) r = e ≡ r
 FailsAs left (Ok x) r = IsUnfit x.0 left r
@@ -153,7 +153,7 @@ register version = field (head_at version 1) behind (λ x. seen_and_kept version
 abbrev pub summary : ℕ → Portion (Unit {0} × ((ℕ × List Group) × Unit {0}))
 summary version = field (head_at version 2) behind (λ x. ranges set.empty behind (λ gs. ended))
 
--- the basis, and what is without it
+-- the basis, and then the seen ids and the operations without it
 abbrev pub based : ℕ → Portion ((ℕ × List Group) × (((ℕ × List Group) × (ℕ × List Op)) × Unit {0}))
 based version = ranges set.empty behind (λ gs. seen_and_kept version (seen_of (runs_of gs.1)))
 

@@ -11,7 +11,7 @@ abbrev pub is_of : Option (List ℕ) → Run → Bool
 is_of None r = false
 is_of (Some last) r = is_eq (replica_cmp last r.replica)
 
--- how many at the front are of a replica
+-- how many runs at the front are of a replica
 abbrev pub leading : List ℕ → List Run → ℕ
 leading replica rs = prefix_len (λ r. is_eq (replica_cmp replica r.replica)) rs
 

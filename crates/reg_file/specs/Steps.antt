@@ -35,12 +35,12 @@ StopsAs left read (stop.Refused r) = FailsAs left read r
 
 -- ---- ranges
 
--- a set with the ids of some runs
+-- a set, and the ids of some runs
 abbrev pub with_runs : Ids → List Run → Ids
 with_runs s [] = s
 with_runs s (r ∷ rs) = with_runs (set.union s (set.from_list (ids_of_run r))) rs
 
--- the ids are of replicas below this one, or are apart from what begins at a floor
+-- each id is of a replica below this one, or of this one and not adjacent to a range that begins at the floor
 abbrev pub IsUnder : Ids → List ℕ → ℕ → Type 0
 IsUnder s replica floor = (i : Id) → set.contains s i ≡ true → IsBelow i.replica replica ⊎ ((i.replica ≡ replica) × (i.count + 1 < floor))
 
@@ -49,7 +49,7 @@ abbrev pub IsUpTo : Ids → Option (List ℕ) → Type 0
 IsUpTo s None = (i : Id) → set.contains s i ≡ true → ⊥
 IsUpTo s (Some last) = (i : Id) → set.contains s i ≡ true → IsBelow i.replica last ⊎ (i.replica ≡ last)
 
--- ranges of a replica were read, and a set has them besides
+-- ranges of a replica were read, and their ids were added to a set
 pub record AddsSpans (basis old new : Ids) (replica : List ℕ) (count : ℕ) (bytes rest : List ℕ) : Type 0 where
   pub all : List Span
   pub reads : (spans basis replica count).Reads bytes all rest
@@ -76,7 +76,7 @@ pub record ReadsSeen (basis : Ids) (bytes : List ℕ) (seen : Ids) (rest : List 
   pub reads : (ranges basis).Reads bytes (count, all) rest
   pub ids : seen ≡ seen_of (runs_of all)
 
--- while a replica's ranges are read
+-- while the ranges of a replica are read
 pub record IsAddingSpans (basis old now : Ids) (replica bytes rest : List ℕ) (floor n : ℕ) : Type 0 where
   pub all : List Span
   pub reads : ReadsEach (span basis replica) floor_after 1 bytes all rest

@@ -62,7 +62,7 @@ guarded_file l source place office next read after noted lag trouble = record {
 
 -- ---- a shelf
 
--- the second register is not on the shelf, or not for sure; by the same two
+-- the second register is not on the shelf, or not for sure; by the lag and the fault, as for a file
 abbrev pub IsUnleftShelf : Option Id → Option NoteFault → Last → {D : Type 0} → Disks D → Content → Content → D → D → PlaceState → PlaceState → CliFault → Type 0
 IsUnleftShelf (Some id) None l d x y old new office noted f = (f ≡ no_number) × StaysOn d old new × (noted ≡ office)
 IsUnleftShelf (Some id) (Some t) l d x y old new office noted f = ⊥

@@ -25,7 +25,7 @@ abbrev pub lesser : Option KeyThenEntry → KeyThenEntry → KeyThenEntry
 lesser None p = p
 lesser (Some least) p = if is_lt (place_cmp p least) then p else least
 
--- the least place, after one that may be of a contested row
+-- the least place of the contested rows, after one more row
 abbrev pub least_with : Bool → Option KeyThenEntry → KeyThenEntry → Option KeyThenEntry
 least_with contested o p = if contested then Some (lesser o p) else o
 

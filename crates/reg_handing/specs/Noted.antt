@@ -42,7 +42,7 @@ has_several (Some n) = n.several
 abbrev pub Holds : BTreeMap KeyText Note → At → Type 0
 Holds m at = (q : KeyText) → noted (get text_cmp m q) ≡ at (key_bytes q)
 
--- the note of a key, after one more text of it
+-- the note of a key, after another of its texts was read
 abbrev pub with_text : List ℕ → Option Noted → Noted
 with_text text None = record { text = text; several = false }
 with_text text (Some n) = record { text = n.text; several = n.several || not (pointwise nat_eq n.text text) }
@@ -56,7 +56,7 @@ abbrev pub HasOthers : List Row → KeyBytes → List ℕ → Bool → Type 0
 HasOthers rs k text true = (other : Row) × Contains rs other × HasKey other.definition k × (other.definition ≢ text)
 HasOthers rs k text false = (r : Row) → Contains rs r → HasKey r.definition k → r.definition ≡ text
 
--- what the notes tell of the rows
+-- the note is right for the rows: without one, no row has the key; otherwise a row has the key and the text of the note
 abbrev pub Tells : List Row → KeyBytes → Option Noted → Type 0
 Tells rs k None = (r : Row) → Contains rs r → ¬ (HasKey r.definition k)
 Tells rs k (Some n) = ((one : Row) × Contains rs one × HasKey one.definition k × (one.definition ≡ n.text)) × HasOthers rs k n.text n.several

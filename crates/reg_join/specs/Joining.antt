@@ -18,7 +18,7 @@ pub record JoinLaws {T C : Type 0} (nothing : T) (joined : T → T → Result T 
   pub value_nothing : is_value nothing
   pub value_joined : (x y z : T) → is_value x → is_value y → joined x y ≡ Ok z → is_value z
 
--- one more
+-- one more value is joined to a result
 abbrev pub joined_with : {T C : Type 0} → (T → T → Result T C) → Result T C → T → Result T C
 joined_with joined (Ok x) y = joined x y
 joined_with joined (Err c) y = Err c
@@ -34,7 +34,7 @@ abbrev pub all_joined : {T C : Type 0} → (T → T → Result T C) → Result T
 all_joined joined r [] = r
 all_joined joined r (y ∷ ys) = all_joined joined (joined_with joined r y) ys
 
--- each agrees with each
+-- any two values of the list agree
 abbrev pub AllAgree : {T : Type 0} → (T → T → Type 0) → List T → Type 0
 AllAgree {T} agree xs = (x y : T) → Contains xs x → Contains xs y → agree x y
 

@@ -20,7 +20,7 @@ nothing = record { ops = set.empty; seen = set.empty }
 abbrev pub merged : Content → Content → Content
 merged x y = record { ops = kept (set.union x.ops y.ops); seen = set.union x.seen y.seen }
 
--- the least id that has two bodies in the two
+-- the least id that has two bodies in the union of the two
 abbrev pub clash_of : Content → Content → Option Id
 clash_of x y = first_clash (set.union x.ops y.ops)
 
@@ -37,7 +37,7 @@ joined_both (Ok x) (Ok y) = joined x y
 joined_both (Ok x) (Err id) = Err id
 joined_both (Err id) y = Err id
 
--- together they have one body an id
+-- no id has two bodies in their union
 abbrev pub Agreed : Content → Content → Type 0
 Agreed x y = OneBody (set.union x.ops y.ops)
 

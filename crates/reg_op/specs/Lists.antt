@@ -10,7 +10,7 @@ use Rattle.reg_op.specs.Contents.{Content}
 abbrev pub has : List Op → Op → Bool
 has os o = list_any (eq_by_cmp op_cmp o) os
 
--- each is after an id; each is before those that follow it
+-- AllAfter: each operation is after id i. ById: each operation is before all that follow it
 abbrev pub AllAfter : Id → List Op → Type 0
 AllAfter i [] = Unit {0}
 AllAfter i (o ∷ os) = (is_before i o.id ≡ true) × AllAfter i os

@@ -22,7 +22,7 @@ is_supersession e by (Enter text) = false
 is_supersession e by (Supersede old newer) = is_same e old && by newer
 is_supersession e by (Retire entry) = false
 
--- some operation of the set does so
+-- some operation of the set enters the entry; retires it; supersedes it
 abbrev pub enters : Ops → Id → Bool
 enters s e = any (λ o. is_same e o.id && is_enter o.body) s
 

@@ -26,7 +26,7 @@ has_same_key a b = is_eq (contender_cmp a b)
 abbrev pub has_other_text : Contender → Contender → Bool
 has_other_text a b = not (pointwise nat_eq a.definition b.definition)
 
--- it is that of the row
+-- its entry, its text and its key are those of the row
 pub record IsOfRow (c : Contender) (r : Row) : Type 0 where
   pub entry : c.entry ≡ r.entry
   pub definition : c.definition ≡ r.definition
@@ -48,7 +48,7 @@ conflict_at first others =
     then record { key = key_of first; entries = set.items (set.from_list {R = id_cmp} (map (λ (c : Contender). c.entry) (first ∷ others))) } ∷ []
     else []
 
--- two of them have the key, and other texts
+-- two of them have the key, and different texts
 pub record Differ (cs : List Contender) (k : KeyBytes) : Type 0 where
   pub one : Contender
   pub other : Contender

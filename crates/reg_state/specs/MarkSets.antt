@@ -66,7 +66,7 @@ pub record AreMarks (ms : List Mark) : Type 0 where
 abbrev pub has : List Mark → Mark → Bool
 has ms m = list_any (eq_by_cmp mark_cmp m) ms
 
--- the marks that pass begin at a target, in ascending marks: none is below it, and those from it on pass up to one that passes
+-- no mark below the target passes; from the target on, a mark that is no later than one that passes passes too
 pub record BeginsAt (target : Target) (t : Mark → Bool) : Type 0 where
   pub from : (m : Mark) → t m ≡ true → is_lt (target_cmp m.target target) ≡ false
   pub down : (m n : Mark) → is_lt (mark_cmp n m) ≡ false → is_lt (target_cmp m.target target) ≡ false → t n ≡ true → t m ≡ true

@@ -23,7 +23,7 @@ stays ms ns o = not (is_marked_off ms o || is_marked_off ns o)
 abbrev pub first_off : MarkSet → List Op → Option Id
 first_off ms os = option_map (λ o. o.id) (find (is_marked_off ms) os)
 
--- an id has one body in the two
+-- no id has two bodies in the two lists
 abbrev pub Agree : List Op → List Op → Type 0
 Agree left right = (p o : Op) → has left p ≡ true → has right o ≡ true → p.id ≡ o.id → p ≡ o
 

@@ -16,7 +16,7 @@ agreed_nothing x a = subst OneBody (λ k. (union_itself op_total op_exact x.ops 
 agreed_comm : (x y : Content) → Agreed x y → Agreed y x
 agreed_comm x y a = subst OneBody (union_comm op_total op_exact x.ops y.ops) a
 
--- two operations of three sets are in two of them
+-- two operations of the union of three sets are in the union of two of them
 agreed_merged : (x y z : Content) → Agreed x y → Agreed x z → Agreed y z → Agreed (merged x y) z
 agreed_merged x y z a b c p o h k e =
     elim (where_is p h) [

@@ -28,7 +28,7 @@ first_of r = id_at r.replica r.low
 abbrev pub last_of : Run → Id
 last_of r = id_at r.replica r.high
 
--- this many ids of a replica, from a count on
+-- n consecutive ids of a replica, from the count `low` on
 abbrev pub ids_from : List ℕ → ℕ → ℕ → List Id
 ids_from replica low zero = []
 ids_from replica low (suc n) = id_at replica low ∷ ids_from replica (low + 1) n
@@ -44,14 +44,14 @@ ids_of_runs (r ∷ rs) = ids_of_run r ++ ids_of_runs rs
 abbrev pub seen_of : List Run → Ids
 seen_of rs = set.from_list (ids_of_runs rs)
 
--- an id is in a run, in some run
+-- an id is in a run; in some run of a list
 abbrev pub is_in_run : Id → Run → Bool
 is_in_run i r = is_eq (replica_cmp i.replica r.replica) && (nat_le r.low i.count && nat_le i.count r.high)
 
 abbrev pub is_in_runs : Id → List Run → Bool
 is_in_runs i rs = list_any (is_in_run i) rs
 
--- runs have an id in common
+-- the two runs have an id in common
 abbrev pub overlap : Run → Run → Bool
 overlap r s = is_eq (replica_cmp r.replica s.replica) && nat_le (max r.low s.low) (min r.high s.high)
 
@@ -76,7 +76,7 @@ AreRuns [] = Unit {0}
 AreRuns (r ∷ []) = IsRun r
 AreRuns (r ∷ s ∷ rs) = IsRun r × IsApart r s × AreRuns (s ∷ rs)
 
--- the last id of each is an id
+-- the last id of each run is a valid id
 abbrev pub EndInIds : List Run → Type 0
 EndInIds [] = Unit {0}
 EndInIds (r ∷ rs) = IsId (last_of r) × EndInIds rs
@@ -86,7 +86,7 @@ pub record AreSeen (rs : List Run) : Type 0 where
   pub runs : AreRuns rs
   pub ids : EndInIds rs
 
--- each member is an id
+-- each member is a valid id
 abbrev pub AllIds : Ids → Type 0
 AllIds s = (i : Id) → set.contains s i ≡ true → IsId i
 
@@ -104,18 +104,18 @@ pub record IsLastCount (rs : List Run) (q : List ℕ) (n : ℕ) : Type 0 where
 abbrev pub IsAbove : Ids → Run → Type 0
 IsAbove s r = (i : Id) → set.contains s i ≡ true → IsBelow i.replica r.replica ⊎ ((i.replica ≡ r.replica) × (i.count + 1 < r.low))
 
--- the same of the ids of some runs
+-- the same for the ids of runs
 abbrev pub AllUnder : List Run → Run → Type 0
 AllUnder rs r = (i : Id) → is_in_runs i rs ≡ true → IsBelow i.replica r.replica ⊎ ((i.replica ≡ r.replica) × (i.count + 1 < r.low))
 
--- of the runs of a set, made as long as possible, by replica and low, the one at a place
+-- the run at an index in the list of the maximal runs of a set, which is ordered by replica and by low
 pub record IsRunAt (s : Ids) (k : ℕ) (run : Option Run) : Type 0 where
   pub runs : List Run
   pub are_runs : AreRuns runs
   pub are_all : seen_of runs ≡ s
   pub at : run ≡ slice_get runs k
 
--- r begins no later than s, and so does each of some runs
+-- r begins no later than s; each run of a list begins no later than s
 abbrev pub BeginsBy : Run → Run → Type 0
 BeginsBy r s = IsBelow r.replica s.replica ⊎ ((r.replica ≡ s.replica) × (r.low ≤ s.low))
 
@@ -123,12 +123,12 @@ abbrev pub AllBegin : List Run → Run → Type 0
 AllBegin [] s = Unit {0}
 AllBegin (r ∷ rs) s = BeginsBy r s × AllBegin rs s
 
--- the first of some runs, if there is one, begins no earlier than others
+-- each run begins no later than the first of the others, if there is one
 abbrev pub NextBegins : List Run → List Run → Type 0
 NextBegins rs [] = Unit {0}
 NextBegins rs (s ∷ ss) = AllBegin rs s
 
--- during a walk: the output and the rest of two lists cover what the lists do
+-- during a walk: the output and the rests of two lists have the ids of the two lists
 pub record IsJoining (out lefts rights left right : List Run) : Type 0 where
   pub out_runs : AreRuns out
   pub left_runs : AreRuns lefts

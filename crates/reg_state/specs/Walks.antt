@@ -18,11 +18,11 @@ abbrev pub runs_from : ℕ → List Run → List Run
 runs_from low [] = []
 runs_from low (r ∷ rs) = from_count low r ∷ rs
 
--- the runs on the left that are still to be looked at
+-- the runs on the left that remain
 abbrev pub lefts_of : Walk → List Run
 lefts_of w = runs_from w.low w.lefts.now
 
--- an id is still on the left, and not on the right
+-- an id is in the runs that remain on the left, and not in those that remain on the right
 abbrev pub is_left : Walk → Id → Bool
 is_left w i = is_outside (lefts_of w) w.rights.now i
 

@@ -16,7 +16,7 @@ abbrev pub with_pieces : Result Content PieceRefusal → List Piece → Result C
 with_pieces r [] = r
 with_pieces r (p ∷ ps) = with_pieces (with_piece r p) ps
 
--- when its turn comes, each basis was seen: at first, or by a piece before
+-- the basis of each piece was seen before it is joined: at first, or in an earlier piece
 abbrev pub AllHeld : List Piece → Ids → Type 0
 AllHeld [] seen = Unit {0}
 AllHeld (p ∷ ps) seen = IsHeld p.basis seen × AllHeld ps (set.union seen p.seen)

@@ -42,7 +42,7 @@ at_office numbers i n j = if is_eq (replica_cmp j i) then n else numbers j
 abbrev pub notes : World → List ℕ → Content → World
 notes w i y = record { numbers = at_office w.numbers i (greatest i y.seen); copies = w.copies }
 
--- there is one more copy
+-- one copy is added
 abbrev pub keeps : World → Content → Ops → World
 keeps w y reached = record { numbers = w.numbers; copies = record { content = y; reached = reached } ∷ w.copies }
 
@@ -59,7 +59,7 @@ abbrev pub joins : World → Result Content Id → Ops → World
 joins w (Ok y) reached = keeps w y reached
 joins w (Err id) reached = w
 
--- so does a refusal
+-- a refusal changes nothing
 abbrev pub makes : World → List ℕ → Copy → Result (List Op) OfficeFault → World
 makes w i c (Ok os) = kept w i (joined c.content (state (set.from_list os))) (set.union c.reached (set.from_list os))
 makes w i c (Err fault) = w
@@ -68,7 +68,7 @@ abbrev pub stops : World → List ℕ → Copy → Result (List Op) OfficeFault 
 stops w i c (Ok os) = noted w i (joined c.content (state (set.from_list os)))
 stops w i c (Err fault) = w
 
--- and a register that is behind
+-- a register that is behind changes nothing
 abbrev pub makes_at : World → List ℕ → List Body → List ℕ → Option Copy → World
 makes_at w i effects note None = w
 makes_at w i effects note (Some c) = if is_behind w i c.content then w else makes w i c (made c.content i note effects)
