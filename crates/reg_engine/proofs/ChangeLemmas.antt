@@ -56,7 +56,7 @@ cannot_make replica note bodies x f h = refused_for x replica note bodies f (ref
 
 -- ---- an entry
 
--- a source whose text spells a value is one over which memory may run out
+-- memory may run out over a source whose text spells a value
 pub part_of_found : (o n : SourceState) (v : Crs) → Finds o n v → RunsOut o n
 part_of_found o n v (text, read, spells) = inr (text, read, spelled_is_grammatical text v spells)
 

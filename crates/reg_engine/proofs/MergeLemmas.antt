@@ -49,7 +49,7 @@ refused_stays : (r : PieceRefusal) (ps : List Piece) (x : Content) → with_piec
 refused_stays r [] x e = absurd (cc)
 refused_stays r (p ∷ ps) x e = refused_stays r ps x e
 
--- one step: if the remaining pieces join like what they bring, so do the piece and these
+-- one step: if joining the remaining pieces is joining what they bring, so is joining one more piece before them
 piece_step : (q : Result Content PieceRefusal) (y : Content) (p : Piece) (ps : List Piece) (x : Content) → joined_piece y p ≡ q
     → ((z : Content) → with_pieces (Ok z) ps ≡ Ok x → all_joined joined (Ok z) (map part_of ps) ≡ Ok x) → with_pieces q ps ≡ Ok x
     → all_joined joined (joined y (part_of p)) (map part_of ps) ≡ Ok x

@@ -63,7 +63,7 @@ pub groups_apart : (basis : Ids) (last : Option (List ℕ)) (gs : List Group) �
 groups_apart basis last [] are = tt
 groups_apart basis last (g ∷ gs) are = spans_apart basis g.replica 1 g.spans (runs_of gs) are.1 (groups_apart basis (Some g.replica) gs are.2)
 
--- no seen id that is read with a basis is in the basis
+-- no seen id that is read after a basis is in the basis
 pub seen_apart : (basis : Ids) (bytes : List ℕ) (seen : Ids) (rest : List ℕ) → IsBytes bytes → ReadsSeen basis bytes seen rest → (i : Id) → set.contains seen i ≡ true → set.contains basis i ≡ false
 seen_apart basis bytes seen rest fits a i h =
     apart_outside basis (runs_of a.all) (groups_apart basis None a.all (ranges_take basis bytes a.count a.all rest fits a.reads).1) i

@@ -1,4 +1,4 @@
--- Bytes are a file of a content if and only if they are read as that content.
+-- Bytes within the size limit are a file of a content if and only if they are read as that content.
 use Rattle.std.proofs.Common.{◌≡◌, ℕ, ◌-◌, ◌^◌, ◌<◌, ◌≤◌, List, [], ◌++◌, length, refl, sym, ap, subst, ◌∙◌, arith, inl, inr}
 use Rattle.std.proofs.lemmas.List.{length-append}
 use Rattle.reg_op.specs.Set as set
@@ -98,7 +98,7 @@ of_first bytes x h = first_in 1 bytes _ h.0.bytes_are.whole
 pub one_version : (bytes : List ℕ) (x y : Content) → Holds bytes x → HoldsFirst bytes y → ⊥
 one_version bytes x y h k = not_both (version_in bytes) (of_first bytes y k) (of_second bytes x h)
 
--- bytes that are read as a content are a file of it
+-- bytes that are read as a content are a file of it, if they are not too many
 pub read_holds : (bytes : List ℕ) (x : Content) → IsBytes bytes → length bytes ≤ most → ReadsContent (version_in bytes) bytes x → ReadsAs bytes x
 read_holds bytes x fits short r = by_version (λ v. ReadsContent v bytes x → ReadsAs bytes x) bytes first second r
   where

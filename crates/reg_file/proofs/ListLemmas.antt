@@ -47,7 +47,7 @@ ops_again version seen last (o ∷ os) rest own = (
   ops_again version seen (Some o.id) os rest own.2,
 )
 
--- ---- by id
+-- ---- the order by id
 
 after_chain : (i j : Id) (os : List Op) → is_before i j ≡ true → AllAfter j os → AllAfter i os
 after_chain i j [] h k = tt
@@ -64,7 +64,7 @@ by_id_of version last seen (o ∷ os) own = (after_of version o.id seen os own.2
 pub is_it : (o x : Op) → eq_by_cmp op_cmp o x ≡ true → x ≡ o
 is_it o x e = sym (op_exact o x ((Equal-is (op_cmp o x)).0 e))
 
--- if each operation may follow those before it, each element of the list is seen, and its version has room for its note
+-- if each operation may follow those before it, each element of the list is seen, and the version has room for its note
 pub seen_of_own : (version : ℕ) (last : Option Id) (seen : Ids) (os : List Op) → AreOwn version last seen os → (o : Op) → has os o ≡ true → set.contains seen o.id ≡ true
 seen_of_own version last seen [] own o h = absurd (true≢false (sym h))
 seen_of_own version last seen (x ∷ os) own o h = elim (or_cases (eq_by_cmp op_cmp o x) (has os o) h) [

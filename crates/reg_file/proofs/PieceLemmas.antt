@@ -1,4 +1,4 @@
--- Bytes are a file of a piece if and only if they are read as that piece.
+-- Bytes within the size limit are a file of a piece if and only if they are read as that piece.
 use Rattle.std.proofs.Common.{◌≡◌, ℕ, ◌^◌, ◌<◌, ◌≤◌, List, [], ◌++◌, length, refl, sym, ap, subst, ◌∙◌, arith, inl, inr}
 use Rattle.std.proofs.lemmas.List.{length-append}
 use Rattle.reg_op.specs.Set as set
@@ -137,7 +137,7 @@ of_first bytes p h = first_in 3 bytes _ h.0.bytes_are.whole
 pub one_version : (bytes : List ℕ) (p q : Piece) → HoldsPiece bytes p → HoldsFirstPiece bytes q → ⊥
 one_version bytes p q h k = not_both (version_in bytes) (of_first bytes q k) (of_second bytes p h)
 
--- bytes that are read as a piece are a file of it
+-- bytes that are read as a piece are a file of it, if they are not too many
 pub read_holds : (bytes : List ℕ) (p : Piece) → IsBytes bytes → length bytes ≤ most → ReadsPiece (version_in bytes) bytes p → ReadsAsPiece bytes p
 read_holds bytes p fits short r = by_version (λ v. ReadsPiece v bytes p → ReadsAsPiece bytes p) bytes first second r
   where

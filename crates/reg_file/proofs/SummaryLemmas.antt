@@ -1,4 +1,4 @@
--- Bytes are a file of the seen ids if and only if they are read as these ids.
+-- Bytes within the size limit are a file of the seen ids if and only if they are read as these ids.
 use Rattle.std.proofs.Common.{◌≡◌, ℕ, ◌^◌, ◌<◌, ◌≤◌, List, [], ◌++◌, length, refl, sym, ap, subst, ◌∙◌, arith, inl, inr}
 use Rattle.std.proofs.lemmas.List.{append-nil, length-append}
 use Rattle.reg_op.specs.Set as set

@@ -4,7 +4,7 @@ use Rattle.reg_file.specs.declared.fault.Refused.{Refused}
 use Rattle.reg_file.specs.declared.fault.Stop.{Stop}
 use Rattle.reg_file.specs.declared.fault.Stop.TheVariants as stop
 
--- the bytes begin with a value, and some are left; or they have a first fault
+-- the bytes begin with a value, and the rest follows it; or they have a first fault
 pub record Portion (A : Type 0) : Type 1 where
   pub Reads : List ℕ → A → List ℕ → Type 0
   pub Fails : List ℕ → Refused → Type 0

@@ -39,7 +39,7 @@ superseded_by (Supersede old) before e n = is_same e old && list_any (is_same n)
 abbrev supersession : Id → Id → Op → Bool
 supersession e n o = is_supersession e (is_same n) o.body
 
--- `now` is `ops` after the effects of the command on some entries
+-- `now` has the entries of `ops`, and their statuses after the effects of the command on some entries
 record Grown (c : Command) (ops : Ops) (before : List Id) (now : Ops) : Type 0 where
   entered : (e : Id) → enters now e ≡ enters ops e
   retired : (e : Id) → retires now e ≡ (retires ops e || retired_by c before e)

@@ -64,7 +64,7 @@ named_once c ops before (f ∷ fs) h =
           ap (λ b. b || list_any (is_same e) fs) other ∙ rest.1 e (in_front before e f k),
     )
 
--- no effect of a command that is not refused is refused alone
+-- if a command is not refused, none of its effects is refused on its own
 pub each_new : (c : Command) (ops : Ops) (before es : List Id) → faults c ops before es ≡ None → (e : Id) → list_any (is_same e) es ≡ true → fault_of c ops false e ≡ None
 each_new c ops before [] h e m = absurd (true≢false (sym m))
 each_new c ops before (f ∷ fs) h e m =

@@ -1,4 +1,4 @@
--- A file has at most one content, and a content has one file, or one that is too large.
+-- A file has at most one content, and a content has one file of version 2, or one that is too large.
 use Rattle.std.proofs.Common.{◌≡◌, ℕ, true, List, length, refl, sym, ap, ◌∙◌, subst, inl, inr, ◌⊎◌}
 use Rattle.std.proofs.lemmas.Bool.{cases_lt, true≢false}
 use Rattle.reg_op.specs.Set as set
@@ -42,7 +42,7 @@ first_is_read bytes (OfRegister x) h = inr h
 first_is_read bytes (OfSeen v) h = inr h
 first_is_read bytes (OfPiece p) h = inr h
 
--- ---- a content has one file, or one that is too large
+-- ---- a content has one file of version 2, or one that is too large
 
 pub one_pooled_file : (what : Pooled) (bytes others : List ℕ) → HoldsAny bytes what → HoldsAny others what → bytes ≡ others
 one_pooled_file (OfRegister x) bytes others h k = one_file x bytes others h.bytes_are k.bytes_are

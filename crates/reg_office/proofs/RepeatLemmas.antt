@@ -62,7 +62,7 @@ before_more named at e q h is =
     turned false true = refl
     turned false false = refl
 
--- ---- the walk
+-- ---- the walk along the entries
 
 pub again_at : (named : List Id) (r k : ℕ) (e : Id) → IsFirstRepeat named r → k ≤ r → k < length named → e ≡ get_or named k e → nat_eq k r ≡ list_any (is_same e) (take k named)
 again_at named r k e first up h is = elim (cases_lt k r) [

@@ -145,7 +145,7 @@ one_good w inv i id s within =
       | None ↦ λ h. tt
     ] refl
 
--- a sent file is read as something of what its sender had reached
+-- a sent file is read as the state, the ids or a piece of what its sender had reached
 pub told : (all : Ops) (s : Sent) (what : Pooled) → IsSent all s → ReadsAsAny s.bytes what → TellsOf s.reached what
 told all s what is h = subst (TellsOf s.reached) (one_pooled s.bytes is.what what is.holds h) is.tells
 

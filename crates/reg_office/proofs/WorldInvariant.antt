@@ -13,7 +13,7 @@ use Rattle.reg_office.proofs.PooledLemmas.{IsSound}
 abbrev pub IsWithin : Ops → Ops → Type 0
 IsWithin s t = (o : Op) → contains s o ≡ true → contains t o ≡ true
 
--- a sent file has something of what its sender had reached, all of which was made
+-- a sent file has the state, the ids or a piece of what its sender had reached, all of which was made
 pub record IsSent (all : Ops) (s : Sent) : Type 0 where
   pub what : Pooled
   pub holds : ReadsAsAny s.bytes what
@@ -70,7 +70,7 @@ pub record IsGain (w : World) (inv : Invariant w) (i : List ℕ) (x : Content) (
 pub gain_content : (w : World) (inv : Invariant w) (i : List ℕ) (x : Content) (reached : Ops) → IsGain w inv i x reached → IsContent x
 gain_content w inv i x reached good = subst IsContent (sym good.is_state) (state_is_content reached (λ o h. good.operations o (good.within o h)) (OneBody-within _ _ good.within good.one_body))
 
--- it is something of operations that were made, and a file can hold it
+-- it is the state, the ids or a piece of operations that were made, and a file can hold it
 pub record IsWritten (all : Ops) (what : Pooled) (reached : Ops) : Type 0 where
   pub tells : TellsOf reached what
   pub within : IsWithin reached all

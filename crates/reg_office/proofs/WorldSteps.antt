@@ -136,7 +136,7 @@ nothing_to_find w v i place id none h = nothing_read w v (λ what reached. takes
 pub nothing_to_answer : (w v : World) (i : List ℕ) (place : ℕ) → slice_get w.pool place ≡ None → Happens w (SendPiece i place) v → v ≡ w
 nothing_to_answer w v i place none h = nothing_read w v (λ what reached. sends_piece w i what) place h.1.0 none h.1.1 h.1.2
 
--- the world after reading a file is that of the one content of the file
+-- after an office reads a file, the world is that after the outcome for the one content of the file
 read_as : (w v : World) (next : Pooled → Ops → Outcome) (place : ℕ) (sent : Sent) (what : Pooled) (out : Outcome) → slice_get w.pool place ≡ Some sent → ReadsAsAny sent.bytes what
     → Reads next (slice_get w.pool place) out → After w out v → After w (next what sent.reached) v
 read_as w v next place sent what out at holds came after =

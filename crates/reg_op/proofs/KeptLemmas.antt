@@ -1,5 +1,5 @@
 -- Which operations are kept: each Enter, and the least retirement of an entry.
--- Of supersessions, the least of a pair whose old entry is not retired.
+-- Of a pair whose old entry is not retired, the least supersession is kept.
 use Rattle.std.proofs.Common.{◌≡◌, ℕ, Bool, true, List, sym, ap, ◌∙◌, subst, ◌↔◌}
 use Rattle.std.proofs.lemmas.Bool.{true≢false, and_from, and_parts, false_from_ne_true}
 use Rattle.std.specs.Cmp.{tied_itself}

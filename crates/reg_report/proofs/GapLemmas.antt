@@ -93,7 +93,7 @@ known (Some l) r rs h = elim h.1 [
   })
 ]
 
--- a gap that begins after the run before has no count of it; if it begins after r, nor is the count before the gap in it
+-- the run before has no count from `low` on, if `low` is after it; nor the count before `low`, if `low` is after r
 not_last : (before : Option Run) (q : List ℕ) (low n : ℕ) → AfterAt before q low → low ≤ n → InOne (id_at q n) before → ⊥
 not_last None q low n a h m = m
 not_last (Some l) q low n (inl b) h m = not_below_same l.replica q (sym m.replica) b

@@ -49,7 +49,7 @@ same_first g h gs hs up vp some others m n = elim (where_is g h hs m) [
   ]
 ]
 
--- if an ascending list begins with h, and its gaps are in a list that begins with h, its other gaps are in the tail
+-- if two lists begin alike, and the ascending one is within the other, its tail is within the other's tail
 rest_in : (g h : Gap) (gs hs : List Gap) → Ascend (g ∷ gs) → AreSome (g ∷ gs) → g ≡ h → AreIn (g ∷ gs) (h ∷ hs) → AreIn gs hs
 rest_in g h gs hs up some same there x m = elim (where_is x h hs (there x (behind x g gs m))) [
   | inl e ↦

@@ -1,4 +1,4 @@
--- Keeping a register on a shelf, from the first moment to the last.
+-- What a stop leaves while a register is kept on a shelf, and what the shelf has afterwards.
 use Rattle.std.proofs.Common.{◌≡◌, ◌⊎◌, inl, ⊎_elim, ℕ, List, sym, subst}
 use Rattle.byte_disk.specs.Disk.{LeavesOnly}
 use Rattle.byte_disk.proofs.Moments.{weaker}
@@ -25,7 +25,7 @@ kept_of image sent file x shelf is holds = shelf_of image sent x shelf (inl (sen
 pub sized_of : (image sent file : List ℕ) (size : ℕ) (x : Content) → slots.IsShelfOf image size sent → sent ≡ file → Holds file x → IsShelfOf image size x
 sized_of image sent file size x (shelf, is-size) is holds = (record { bytes = sent; shelf = shelf; held = inl (sent_holds sent file x is holds) }, is-size)
 
--- at each moment while a frame is put on a shelf, the shelf has the old content or the new one
+-- a stop while a frame is put on a shelf leaves a shelf of the old content or of the new one
 pub put_moments : {D : Type 0} (moment : D → ℕ) (since : D → ℕ → List ℕ → Type 0) (old new : D) (before after : List ℕ) (was x : Content)
     → LeavesOnly moment since old new (λ c. slots.IsShelf c before ⊎ slots.IsShelf c after) → ReadsAs before was → Holds after x
     → LeavesOnly moment since old new (λ c. IsShelf c was ⊎ IsShelf c x)

@@ -133,7 +133,7 @@ marks_touch e os =
 pub any_marks : (t : Mark → Bool) → ((p m : Mark) → lessens p m ≡ true → t m ≡ true → t p ≡ true) → (os : List Op) (ms : MarkSet) → ms ≡ least_marks os → any t ms ≡ list_any t (marks_of os)
 any_marks t falls os ms e = ap (any t) e ∙ any-least t falls (set.from_list (marks_of os)) ∙ any-from_list t (marks_of os)
 
--- if no operation of a list replaces another, a test on the least marks is one on all marks
+-- if no operation of a list replaces another, some least mark passes a test if and only if some mark does
 any_own : (t : Mark → Bool) (os : List Op) (ms : MarkSet) → ms ≡ least_marks os → kept (set.from_list {R = op_cmp} os) ≡ set.from_list os → any t ms ≡ list_any t (marks_of os)
 any_own t os ms e k = ap (any t) (e ∙ own_marks os k) ∙ any-from_list t (marks_of os)
 

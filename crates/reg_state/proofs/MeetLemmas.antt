@@ -1,4 +1,4 @@
--- The first run that does not end before a run tells whether that run overlaps any of a list.
+-- Whether a run overlaps any run of a list is known from the first one that does not end before it.
 use Rattle.std.proofs.Common.{◌≡◌, ℕ, ◌+◌, ◌-◌, ◌<◌, ◌≤◌, zero, suc, max, min, Bool, true, false, leb, List, [], ◌∷◌, length, get_or, sym, ap, ◌∙◌, subst, inl, inr, ◌⊎◌, arith}
 use Rattle.std.proofs.lemmas.Bool.{true≢false, and_from, and_parts, or_cases, or_left, or_right, false_from_ne_true}
 use Rattle.std.proofs.lemmas.Bool.Decides.{nat_tests}

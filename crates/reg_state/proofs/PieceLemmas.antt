@@ -63,7 +63,7 @@ clash_within : (r : Result Content Id) (i : Id) → joined_where None r ≡ Err 
 clash_within (Ok x) i h = cc
 clash_within (Err j) i h = cc
 
--- if no id of the basis is missing, the piece clashes where its operations do
+-- if no id of the basis is missing, joining a piece clashes at the same id as joining its part
 pub clash_of_part : (x : Content) (basis v : Ids) (part : Content) (p : Piece) → piece_of basis part ≡ p → v ≡ x.seen → first_missing basis v ≡ None
     → (i : Id) → (joined_piece x p ≡ Err (Clash i)) ↔ (joined x part ≡ Err i)
 clash_of_part x basis v part p e f none i =

@@ -134,7 +134,7 @@ seen_more is o =
     or_comm false true = refl
     or_comm false false = refl
 
--- if no operation of a list clashes with o, no id has two bodies after o is added; otherwise o clashes
+-- if no operation of a list clashes with o, no id has two bodies after o is added; otherwise the least clash is that of o
 module _ (xs : List Op) (o : Op) where
   abbrev all : Ops
   all = set.from_list {R = op_cmp} xs
