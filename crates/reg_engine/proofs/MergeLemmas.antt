@@ -150,7 +150,7 @@ refused_as : (old new : Ends) (ps : List Part) (r : Result Content PieceRefusal)
     → (f : CliFault) → IsUnjoined r f → IsMergeFault old new f
 refused_as old new ps r held is same f h = refused_by old new ps r held is same f (ways r f h)
 
--- if the registers are refused, joining pieces as well is refused
+-- a refusal of the registers is also that of the registers and the pieces
 stays_by : (r : Result Content PieceRefusal) (qs : List Piece) (f : CliFault) → Ways r f → IsUnjoined (with_pieces r qs) f
 stays_by r qs f (inl (id, e, h)) = subst (λ k. IsUnjoined (with_pieces r qs) k) (sym e) (ap (λ z. with_pieces z qs) h ∙ refused_all (Clash id) qs)
 stays_by r qs f (inr (inl (id, e, h))) = subst (λ k. IsUnjoined (with_pieces r qs) k) (sym e) (ap (λ z. with_pieces z qs) h ∙ refused_all (Basis id) qs)

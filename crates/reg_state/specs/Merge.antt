@@ -27,7 +27,7 @@ first_off ms os = option_map (λ o. o.id) (find (is_marked_off ms) os)
 abbrev pub Agree : List Op → List Op → Type 0
 Agree left right = (p o : Op) → has left p ≡ true → has right o ≡ true → p.id ≡ o.id → p ≡ o
 
--- the least id that has another body in the second
+-- the id of the first operation on the left that has another body on the right: the least, if the left is ordered by id
 abbrev pub clash_in : List Op → List Op → Option Id
 clash_in left right = option_map (λ o. o.id) (find (λ o. list_any (λ p. clashes p o) right) left)
 

@@ -81,7 +81,7 @@ chain_from k v (p ∷ ps) one held =
     ∙ chain_from (union k p.ops) (union v p.seen) ps (subst OneBody (sym whole) one) held.1
     ∙ ap Ok (same_content _ _ (ap kept whole) (union_assoc id_total id_exact v p.seen (all_seen (map part_of ps))))
 
--- joining x with the merge of the pieces gives what joining the pieces to x one by one gives
+-- if the pieces fit, joining x with their merge gives what joining them to x one by one gives
 pub at_once : (x : Content) (ps : List Piece) (y z : Content) → IsContent x → Fit x ps → y ≡ merged_all (map part_of ps) → joined x y ≡ Ok z → with_pieces (Ok x) ps ≡ Ok z
 at_once x ps y z is fit e both =
     let k = x.ops in
