@@ -1,4 +1,4 @@
--- Entries of rows, one row after another.
+-- The entries of the rows that satisfy a predicate, extended one row at a time.
 use Rattle.std.proofs.Common.{◌≡◌, List, [], ◌∷◌, ◌++◌, length, append_assoc, append-nil, sym, ap, ◌∙◌, subst, inl, inr, ◌⊎◌, arith}
 use Rattle.std.proofs.lemmas.List.Elements.{Contains-append_left, Contains-append_right, Contains-append_cases}
 use Rattle.std.specs.List.{Contains}
@@ -14,7 +14,7 @@ use Rattle.reg_keys.specs.Named.{IsEntry, AreEntries, AddsEntry}
 use Rattle.reg_keys.proofs.OrderLemmas.{first_before, rest_ascends}
 use Rattle.reg_keys.proofs.RowLemmas.{row_total}
 
--- what stands before an item of an ascending list is less
+-- in an ascending list, each element before x is less than x
 pub before_it : {K : Type 0} {R : K → K → Ordering} (o : IsTotalOrder R) (done : List K) (x : K) (others : List K) → Ascends R (done ++ x ∷ others)
     → (y : K) → Contains done y → R y x ≡ Less
 before_it o [] x others up y h = absurd (none_in y h)
@@ -35,7 +35,7 @@ module _ (P : Row → Type 0) where
   more : (rs others : List Row) (e : Id) → IsEntry P rs e → IsEntry P (rs ++ others) e
   more rs others e (r, there, p, is) = (r, Contains-append_left rs others r there, p, is)
 
-  -- an entry of the longer list is one of the shorter, or that of the last row
+  -- an entry of rs followed by r is an entry of rs, or it is the entry of r, and P holds for r
   fewer : (rs : List Row) (r : Row) (e : Id) → IsEntry P (rs ++ r ∷ []) e → IsEntry P rs e ⊎ (P r × (e ≡ r.entry))
   fewer rs r e (q, there, p, is) = elim (Contains-append_cases rs (r ∷ []) q there) [
     | inl before ↦ inl (q, before, p, is)
@@ -80,7 +80,7 @@ module _ (P : Row → Type 0) where
     one_more new (inl (has, e)) = subst (AreEntries P (rs ++ r ∷ [])) (sym e) (added has)
     one_more new (inr (not, e)) = subst (AreEntries P (rs ++ r ∷ [])) (sym e) (left not)
 
--- ---- the walk along the rows
+-- ---- a loop over the rows: `done` are those already read, `rest` the others
 
 pub more_done : (all done rest others : List Row) (r : Row) → all ≡ done ++ rest → rest ≡ r ∷ others → all ≡ (done ++ r ∷ []) ++ others
 more_done all done rest others r e f = e ∙ ap (λ t. done ++ t) f ∙ sym (append_assoc done (r ∷ []) others)

@@ -1,4 +1,4 @@
--- What a word stands for, and what it tells of.
+-- A word names at most one entry and selects at most one list of entries; one that does has no fault but Memory.
 use Rattle.std.proofs.Common.{◌≡◌, ◌<◌, ◌^◌, ℕ, List, [], ◌∷◌, ◌++◌, take, drop, refl, sym, ap, ◌∙◌, inl, inr, arith}
 use Rattle.std.proofs.lemmas.List.{take_at, drop_at}
 use Rattle.std.proofs.lemmas.Fmt.{decimal_injective}
@@ -31,7 +31,7 @@ one_count s t m n e h k =
     lower : (n : ℕ) → n < 2 ^ 32 → n < 2 ^ 64
     lower n h = omega arith
 
--- a text spells one id
+-- a text spells at most one id
 pub one_id : (text : List ℕ) (i j : Id) → Spells text i → Spells text j → i ≡ j
 one_id text i j h k = λ l. record { replica = replica l; count = count l }
   where
@@ -45,7 +45,7 @@ one_id text i j h k = λ l. record { replica = replica l; count = count l }
     count : i.count ≡ j.count
     count = one_count h.back k.back i.count j.count (sym (back_is text i h) ∙ back_is text j k) h.count_is k.count_is
 
--- ---- the entries of some rows
+-- ---- rows have one list of entries
 
 one_list : (P : Row → Type 0) (rs : List Row) (es fs : List Id) → AreEntries P rs es → AreEntries P rs fs → es ≡ fs
 one_list P rs es fs a b = same_elements id_total es fs a.ascend b.ascend (λ e. (λ h. (b.each e).1 ((a.each e).0 h), λ h. (a.each e).1 ((b.each e).0 h)))
@@ -59,7 +59,7 @@ not_none e h = cc
 not_two : (e f g : Id) (more : List Id) → ◌≡◌ {A = List Id} (e ∷ []) (f ∷ g ∷ more) → ⊥
 not_two e f g more h = cc
 
--- ---- what a word stands for
+-- ---- the entry that a word names
 
 module _ (rs : List Row) where
   pub one_entry : (word : List ℕ) (e f : Id) → StandsFor rs word e → StandsFor rs word f → e ≡ f
@@ -84,7 +84,7 @@ module _ (rs : List Row) where
   no_objections (w ∷ words) es f (e, later, s, l, is) (inl o) = no_objection w e f s o
   no_objections (w ∷ words) es f (e, later, s, l, is) (inr (d, t, o)) = no_objections words later f l o
 
-  -- ---- what it tells of
+  -- ---- the entries that a word selects
 
   one_few : (word : List ℕ) (es fs : List Id) → TellsOf rs word es → TellsOf rs word fs → es ≡ fs
   one_few word es fs (inl (e, h, is)) (inl (f, k, so)) = is ∙ ap (λ i. i ∷ []) (one_id word e f h k) ∙ sym so

@@ -1,4 +1,4 @@
--- Some words, one after another.
+-- The entries that a list of words names, one word at a time.
 use Rattle.std.proofs.Common.{◌≡◌, ℕ, List, [], ◌∷◌, ◌++◌, ◌+◌, ◌<◌, ◌≤◌, map, drop, get_or, append-nil, append_assoc, length, length-drop, arith, Some, None, refl, sym, ap, ◌∙◌, subst, inl, inr}
 use Rattle.std.proofs.lemmas.List.{drop_more, length-map}
 use Rattle.reg_op.specs.Ids.{Id}
@@ -8,7 +8,7 @@ use Rattle.reg_keys.specs.declared.fault.KeyFault.{KeyFault}
 use Rattle.reg_keys.specs.declared.fault.KeyFault.TheVariants.{NoEntry, Several, Memory}
 use Rattle.reg_keys.specs.Named.{IsNoId, IsNotOne, AreEntries, Answers, StandsFor, IsObjection, StandFor, Object}
 
--- ---- the walk along words
+-- ---- the suffix of the words from index i
 
 pub here : {W : Type 0} (f : W → List ℕ) (ws : List W) (i : ℕ) (d : W) → i < length ws → map f (drop i ws) ≡ f (get_or ws i d) ∷ map f (drop (i + 1) ws)
 here f ws i d h = ap (map f) (drop_more ws i d h)
@@ -16,14 +16,14 @@ here f ws i d h = ap (map f) (drop_more ws i d h)
 pub ended : {W : Type 0} (f : W → List ℕ) (ws : List W) (i : ℕ) → length ws ≤ i → length (map f (drop i ws)) ≡ 0
 ended f ws i h = let long = length-drop i ws in length-map (drop i ws) f ∙ omega (arith, long, h)
 
--- ---- what they stand for
+-- ---- the entries that words name
 
 module _ (rs : List Row) where
-  -- what the other words stand for completes the whole
+  -- whenever `rest` names the entries `later`, `all` names es ++ later
   abbrev pub Completes : List (List ℕ) → List (List ℕ) → List Id → Type 0
   Completes all rest es = (later : List Id) → StandFor rs rest later → StandFor rs all (es ++ later)
 
-  -- an objection to the other words is one to all
+  -- each fault of `rest` is a fault of `all`
   abbrev pub Passes : List (List ℕ) → List (List ℕ) → Type 0
   Passes all rest = (f : KeyFault) → Object rs rest f → Object rs all f
 
@@ -50,7 +50,7 @@ module _ (rs : List Row) where
   pub none_named : (all : List (List ℕ)) (es : List Id) → es ≡ [] → Completes all all es
   none_named all es e later l = subst (λ (t : List Id). StandFor rs all (t ++ later)) (sym e) l
 
--- ---- words that are no ids
+-- ---- words that are not ids
 
 pub no_id : (word : List ℕ) → ((i : Id) → Spells word i → None ≡ Some i) → IsNoId word
 no_id word only i spells = none_is_some (only i spells)
@@ -58,7 +58,7 @@ no_id word only i spells = none_is_some (only i spells)
     none_is_some : {X : Type 0} {x : X} → None ≡ Some x → ⊥
     none_is_some e = cc
 
--- what is not one is an objection
+-- the fault of a word that is not an id and does not have exactly one entry
 pub objects : (rs : List Row) (word : List ℕ) (es : List Id) (f : KeyFault) → IsNoId word → AreEntries (Answers word) rs es → IsNotOne es f → IsObjection rs word f
 objects rs word es NoEntry free are not = (es, (free, are), not)
 objects rs word es (Several second) free are not = (es, (free, are), not)

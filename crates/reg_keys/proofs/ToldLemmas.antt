@@ -1,4 +1,4 @@
--- What some words tell of, one after another.
+-- The entries that a list of words selects, one word at a time.
 use Rattle.std.proofs.Common.{◌≡◌, ℕ, List, [], ◌∷◌, ◌++◌, append-nil, append_assoc, length, arith, refl, sym, ap, ◌∙◌, subst, inl, inr}
 use Rattle.reg_op.specs.Ids.{Id}
 use Rattle.reg_op.specs.Rows.{Row}
@@ -7,11 +7,11 @@ use Rattle.reg_keys.specs.declared.fault.KeyFault.TheVariants.{Memory}
 use Rattle.reg_keys.specs.Told.{TellsOf, IsUntold, TellOf, AreUntold}
 
 module _ (rs : List Row) where
-  -- what the other words tell of completes the whole
+  -- whenever `rest` selects the entries `later`, `all` selects es ++ later
   abbrev pub Completes : List (List ℕ) → List (List ℕ) → List Id → Type 0
   Completes all rest es = (later : List Id) → TellOf rs rest later → TellOf rs all (es ++ later)
 
-  -- why the other words tell of nothing is why all do
+  -- each fault of `rest` is a fault of `all`
   abbrev pub Passes : List (List ℕ) → List (List ℕ) → Type 0
   Passes all rest = (f : KeyFault) → AreUntold rs rest f → AreUntold rs all f
 
@@ -38,7 +38,7 @@ module _ (rs : List Row) where
   pub none_told : (all : List (List ℕ)) (es : List Id) → es ≡ [] → Completes all all es
   none_told all es e later l = subst (λ (t : List Id). TellOf rs all (t ++ later)) (sym e) l
 
--- ---- whether there are entries
+-- ---- an empty list of entries
 
 pub none_are : (ids : List Id) → length ids ≡ 0 → ids ≡ []
 none_are [] h = refl

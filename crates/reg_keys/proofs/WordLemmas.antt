@@ -5,11 +5,11 @@ use Rattle.std.proofs.lemmas.List.{take-append-drop, take_at, drop_at, append_ca
 use Rattle.std.specs.Char.{to_ascii_lowercase}
 use Rattle.crs_search.specs.Parts.{IsAlike}
 
--- what is alike is as long
+-- texts that are equal but for the case of letters A to Z have equal lengths
 alike_long : (a b : List ℕ) → IsAlike a b → length a ≡ length b
 alike_long a b e = sym (length-map a to_ascii_lowercase) ∙ ap length e ∙ length-map b to_ascii_lowercase
 
--- the word is a front that is like the authority, a colon and the code
+-- the word is the authority, in either case, then a colon, then the code
 abbrev pub Is : List ℕ → List ℕ → List ℕ → Type 0
 Is word authority code = (front : List ℕ) × IsAlike front authority × (word ≡ front ++ 58 ∷ code)
 
@@ -19,7 +19,7 @@ too_short word authority code h = (
   λ (front, a, e). absurd (omega (arith, h, alike_long front authority a, ap length e, length-append front (58 ∷ code))),
 )
 
--- the front is as long as the authority
+-- such a word splits at the length of the authority, before the colon
 front_is : (word authority code front : List ℕ) → IsAlike front authority → word ≡ front ++ 58 ∷ code → take (length authority) word ≡ front
 front_is word authority code front a e = ap (take (length authority)) e ∙ take_at front (58 ∷ code) (length authority) (alike_long front authority a)
 

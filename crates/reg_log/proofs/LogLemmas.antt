@@ -1,4 +1,4 @@
--- Operations of a log, one after another.
+-- Loops over the operations of a log, and the order of operations.
 use Rattle.std.proofs.Common.{◌≡◌, ℕ, Bool, true, false, cond, List, [], ◌∷◌, ◌++◌, filter, append_assoc, append-nil, length, arith, refl, sym, ap, ◌∙◌, subst}
 use Rattle.std.specs.Cmp.{IsTotalOrder, IsStrictWeakOrder, then_total, on_total, nat_cmp_total}
 use Rattle.std.specs.Ordering.{is_lt}
@@ -10,9 +10,9 @@ use Rattle.reg_report.specs.Lines.{AreLines}
 use Rattle.reg_log.specs.Lines.{IsLogLine, AreLogLines}
 use Rattle.reg_log.specs.Log.{subject, rank, log_cmp}
 
--- ---- the operations that are asked for
+-- ---- the requested operations
 
--- what is left to go through completes the list
+-- `made` followed by the matching elements of `rest` is the list of those of `all`
 abbrev pub Picks : (Op → Bool) → List Op → List Op → List Op → Type 0
 Picks p all rest made = filter p all ≡ made ++ filter p rest
 
@@ -30,7 +30,7 @@ pub filter_all : {X : Type 0} (xs : List X) → filter (λ x. true) xs ≡ xs
 filter_all [] = refl
 filter_all (x ∷ xs) = ap (λ t. x ∷ t) (filter_all xs)
 
--- ---- their order
+-- ---- the order of operations
 
 pub log_total : IsTotalOrder log_cmp
 log_total = then_total (on_total subject id_total) (then_total (on_total (λ (o : Op). rank o.body) nat_cmp_total) (on_total (λ (o : Op). o.id) id_total))
@@ -41,7 +41,7 @@ by_log = ranks_by log_total (λ (o : Op). o)
 -- ---- lines
 
 module _ (s : Ops) where
-  -- what is still to come completes the text
+  -- `text` followed by any lines for `rest` is a header with lines for `all`
   abbrev pub Completes : List Op → List Op → List ℕ → Type 0
   Completes all rest text = (more : List ℕ) → AreLines (IsLogLine s) rest more → AreLogLines s all (text ++ more)
 

@@ -1,4 +1,4 @@
--- What each of some items gives, item by item.
+-- The concatenation of what each element of a list gives, one element at a time.
 use Rattle.std.proofs.Common.{◌≡◌, ◌↔◌, List, [], ◌∷◌, ◌++◌, length, map, refl, sym, arith, append_assoc, append-nil, subst, inl, inr}
 use Rattle.std.specs.List.{Contains}
 use Rattle.std.proofs.lemmas.List.Elements.{Contains-append_left, Contains-append_right, Contains-append_cases}
@@ -6,7 +6,7 @@ use Rattle.reg_report.proofs.ConflictLemmas.{none_in, in_cons, in_head, in_tail}
 use Rattle.reg_texts.specs.Gathered.{Each}
 
 module _ {X Y : Type 0} (Gives : X → List Y → Type 0) where
-  -- what the items that are left give completes what was gathered of all
+  -- `made` followed by anything that `rest` gives is something that `all` gives
   abbrev pub Gathers : List X → List X → List Y → Type 0
   Gathers all rest made = (more : List Y) → Each Gives rest more → Each Gives all (made ++ more)
 
@@ -20,7 +20,7 @@ module _ {X Y : Type 0} (Gives : X → List Y → Type 0) where
   pub gathers_all : (all rest : List X) (made : List Y) → rest ≡ [] → Gathers all rest made → Each Gives all made
   gathers_all all rest made e g = subst (λ l. Each Gives all l) (append-nil made) (g [] (subst (λ l. Each Gives l []) (sym e) refl))
 
-  -- if it is known what is in the gift of an item, it is known what is in all gifts
+  -- if `Has` states what the list that each element gives contains, it states what their concatenation contains
   module _ (Has : X → Y → Type 0) (known : (x : X) (mine : List Y) → Gives x mine → (y : Y) → Contains mine y ↔ Has x y) where
     pub given : (xs : List X) (ys : List Y) → Each Gives xs ys → (y : Y) → Contains ys y → (x : X) × Contains xs x × Has x y
     given [] ys e y h = absurd (none_in y (subst (λ l. Contains l y) e h))

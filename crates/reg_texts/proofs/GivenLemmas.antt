@@ -1,4 +1,4 @@
--- The texts of a file, one after another.
+-- The faults of the texts of a file, one text at a time.
 use Rattle.std.proofs.Common.{◌≡◌, ◌≢◌, ℕ, List, [], ◌∷◌, length, refl, ap, sym, subst, inl, inr, arith}
 use Rattle.std.specs.Borrow.{Bor}
 use Rattle.wkt_tree.specs.Tree.{Piece}
@@ -9,7 +9,7 @@ use Rattle.reg_texts.specs.declared.against.Unread.TheVariants as unread
 use Rattle.reg_texts.specs.Given.{Defines, IsUnread, IsFirstUnread, IsFileUnread}
 use Rattle.wkt_texts.specs.Texts.{IsCutInto}
 
--- a fault of the texts that are left is one of all
+-- each fault of `rest` is a fault of `all`
 abbrev pub Passes : List Piece → List Piece → Type 0
 Passes all rest = (f : Unread) → IsFirstUnread rest f → IsFirstUnread all f
 

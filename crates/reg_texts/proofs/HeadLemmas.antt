@@ -1,4 +1,4 @@
--- What is appended piece by piece.
+-- A text that is appended part by part is the concatenation of its parts.
 use Rattle.std.proofs.Common.{◌≡◌, ℕ, List, [], ◌∷◌, ◌++◌, ap, ◌∙◌, append_assoc}
 
 pub head_made : (K P W k0 k1 k2 k3 k4 k5 : List ℕ) → k0 ≡ [] → k1 ≡ k0 ++ K → k2 ≡ k1 ++ 32 ∷ [] → k3 ≡ k2 ++ P → k4 ≡ k3 ++ 32 ∷ [] → k5 ≡ k4 ++ W → k5 ≡ K ++ (32 ∷ (P ++ (32 ∷ W)))

@@ -1,4 +1,4 @@
--- Registers that say the same have one listing.
+-- Registers that make the same statements have equal listings.
 use Rattle.std.proofs.Common.{◌≡◌, ◌↔◌, ℕ, List, [], ◌∷◌, ◌++◌, ap, sym, ◌∙◌}
 use Rattle.wkt_crs.specs.Spells.{pretty}
 use Rattle.wkt_crs.proofs.Texts.{one_value}

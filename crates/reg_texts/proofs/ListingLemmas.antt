@@ -1,4 +1,4 @@
--- The listing, run by run.
+-- The listing of statements, one run at a time.
 use Rattle.std.proofs.Common.{◌≡◌, ◌<◌, ◌||◌, ℕ, zero, suc, get_or, ◌+◌, Bool, true, false, cond, List, [], ◌∷◌, ◌++◌, map, length, take, drop, refl, ap, sym, ◌∙◌, arith, append_assoc, append-nil, subst, drop-drop}
 use Rattle.std.specs.List.{list_any, prefix_len}
 use Rattle.std.specs.Str.{bytes_eq}
@@ -11,7 +11,7 @@ use Rattle.reg_texts.specs.Listing.{Run, IsBlock, IsListing, AreBlocks, runs, be
 next : (n : ℕ) → 1 + n ≡ suc n
 next n = omega arith
 
--- the first run is the first item and what follows on its text
+-- the runs of s ∷ ss: s with the longest prefix of ss about its text, then the runs of the suffix after that
 abbrev first_run : Said → List Said → List Run
 first_run s ss = record { first = s; others = take (prefix_len (is_about s) ss) ss } ∷ runs (drop (prefix_len (is_about s) ss) ss)
 
@@ -33,7 +33,7 @@ prefix_map : (s : Saying) (ss : List Saying) → prefix_len (both_about s) ss �
 prefix_map s [] = refl
 prefix_map s (t ∷ ts) = ap (λ n. cond (both_about s t) (1 + n) 0) (prefix_map s ts)
 
--- one run more, from an index on
+-- appends the block of the run that begins at index `at` and has n statements after its first one
 pub run_more : (all : List Saying) (at n : ℕ) (s : Saying) (same : List Saying) (before new block : List ℕ)
     → drop at all ≡ s ∷ drop (at + 1) all → n ≡ prefix_len (both_about s) (drop (at + 1) all) → same ≡ take n (drop (at + 1) all)
     → IsBlock (said s) (map said same) block → new ≡ before ++ block
@@ -53,7 +53,7 @@ run_more all at n s same before new block r m t is e was more left =
 pub at_end : (all : List Saying) (at : ℕ) (text : List ℕ) → drop at all ≡ [] → ((more : List ℕ) → IsListing (map said (drop at all)) more → IsListing (map said all) (text ++ more)) → IsListing (map said all) text
 at_end all at text e was = subst (IsListing (map said all)) (append-nil text) (was [] (subst (λ l. IsListing (map said l) []) (sym e) refl))
 
--- ---- what is appended piece by piece
+-- ---- a text that is appended part by part
 
 pub six : (t K A S B P C k1 k2 k3 k4 k5 k6 : List ℕ) → k1 ≡ t ++ K → k2 ≡ k1 ++ A → k3 ≡ k2 ++ S → k4 ≡ k3 ++ B → k5 ≡ k4 ++ P → k6 ≡ k5 ++ C
     → k6 ≡ t ++ (K ++ (A ++ (S ++ (B ++ (P ++ C)))))

@@ -1,4 +1,4 @@
--- What is sorted, and then loses its repeats, ascends.
+-- A sorted list without its repeats ascends, and has the same elements.
 use Rattle.std.proofs.Common.{◌≡◌, ◌↔◌, ◌+◌, Bool, true, false, cond, List, [], ◌∷◌, map, get_or, suc, refl, sym, subst, inl, inr, ◌∙◌, arith}
 use Rattle.std.proofs.lemmas.Bool.{true≢false}
 use Rattle.std.specs.Cmp.{IsTotalOrder, Equal-is}
@@ -12,7 +12,7 @@ use Rattle.reg_op.proofs.SetLemmas.{less}
 use Rattle.reg_op.proofs.ClashLemmas.{tied_of}
 use Rattle.reg_report.proofs.ConflictLemmas.{in_cons, in_head, in_tail}
 
--- of items that are compared by what f makes of them
+-- elements are compared by their keys f x, and E tests whether two have equal keys
 module _ {X K : Type 0} {R : K → K → Ordering} (o : IsTotalOrder R) (same : IsAntisymmetric R) (f : X → K) (E : X → X → Bool) (exact : (x y : X) → (E x y ≡ true) ↔ (f x ≡ f y)) where
   abbrev Rises : X → List X → Type 0
   Rises k [] = Unit {0}

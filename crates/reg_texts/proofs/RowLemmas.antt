@@ -1,4 +1,4 @@
--- Rows by entry, and what a binary search finds.
+-- An entry has one row, which a binary search finds.
 use Rattle.std.proofs.Common.{◌≡◌, ℕ, ◌+◌, ◌<◌, false, List, [], ◌∷◌, map, length, get_or, zero, suc, Err, sym, ap, ◌∙◌, subst, inl, inr, arith}
 use Rattle.std.specs.Prelude.{Contains}
 use Rattle.std.specs.List.{HoldsAt}
@@ -21,7 +21,7 @@ use Rattle.reg_keys.proofs.OrderLemmas.{never_less, first_before, rest_ascends}
 use Rattle.reg_keys.proofs.RowLemmas.{row_total}
 use Rattle.reg_texts.specs.Said.{HasRow}
 
--- an entry has one row
+-- in ascending rows, an entry has at most one row
 pub one_row : (rs : List Row) → Ascends row_cmp rs → (a b : Row) → Contains rs a → Contains rs b → a.entry ≡ b.entry → a ≡ b
 one_row [] up a b h k e = absurd (none_in a h)
 one_row (r ∷ rs) up a b h k e = elim (in_cons a r rs h) [

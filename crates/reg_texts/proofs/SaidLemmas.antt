@@ -1,4 +1,4 @@
--- What is gathered row by row is what the rows say.
+-- The statements that are gathered row by row are exactly those that the rows make.
 use Rattle.std.proofs.Common.{◌≡◌, ◌↔◌, ◌⊎◌, ℕ, Bool, true, false, List, [], ◌∷◌, Option, Some, refl, ap, sym, ◌∙◌, subst, inl, inr}
 use Rattle.std.specs.Prelude.{IsTrue}
 use Rattle.std.specs.List.{Contains}
@@ -18,7 +18,7 @@ use Rattle.reg_texts.proofs.RowLemmas.{one_row}
 one_only : {Y : Type 0} (y z : Y) → Contains (z ∷ []) y → y ≡ z
 one_only y z h = elim (in_cons y z [] h) [ inl e ↦ e | inr none ↦ absurd (none_in y none) ]
 
--- tests of one fact agree
+-- two tests of one proposition are equal
 one_test : (P : Type 0) (a b : Bool) → IsTrue a ↔ P → IsTrue b ↔ P → a ≡ b
 one_test P true true h k = refl
 one_test P true false h k = absurd (true≢false (sym (k.1 (h.0 refl))))
@@ -29,7 +29,7 @@ one_by : (text : List ℕ) (x y : Option KeyBytes) → (k : KeyBytes) × (x ≡ 
 one_by text x y (k, e, h) (l, f, g) = e ∙ ap Some (one_key text k l h g) ∙ sym f
 
 module _ (rs : List Row) (up : Ascends row_cmp rs) (r : Row) where
-  -- ---- one successor
+  -- ---- the statement about one successor
 
   abbrev HasSuccessor : Id → Said → Type 0
   HasSuccessor e s = (newer : Row) × HasRow rs e newer × IsLive newer × IsOfSuccessor r newer s
@@ -63,7 +63,7 @@ module _ (rs : List Row) (up : Ascends row_cmp rs) (r : Row) where
     λ (other, has_other, live_other, of). absurd (no_row other has_other),
   )
 
-  -- ---- one row
+  -- ---- the statements about one row
 
   abbrev SaysOf : Said → Type 0
   SaysOf s = SaysStatus r s ⊎ SaysSuccessor rs r s
@@ -110,7 +110,7 @@ module _ (rs : List Row) (up : Ascends row_cmp rs) (r : Row) where
     λ says. absurd (elim says [ inl now ↦ gone now.of.live | inr other ↦ gone other.of.live ]),
   )
 
--- ---- all rows
+-- ---- the statements about all rows
 
 pub gathered : (rs : List Row) → Ascends row_cmp rs → (all : List Said) → AreGathered rs all → (s : Said) → Contains all s ↔ Says rs s
 gathered rs up all are s = (

@@ -1,4 +1,4 @@
--- The order of what is said, and that of the sayings of the program.
+-- The order of statements, and the derived comparisons of the program's statements, which agree with it.
 use Rattle.std.proofs.Common.{◌≡◌, ◌↔◌, ◌&&◌, Bool, true, false, List, map, Option, Some, None, refl, ap, sym, subst}
 use Rattle.std.specs.Bool.{beq}
 use Rattle.std.specs.Cmp.{IsTotalOrder, on_total, then_total, bool_cmp_total, booleans_Decides}
@@ -57,7 +57,7 @@ said_exact a b e =
     let by : a.by ≡ b.by = by_exact _ _ s.1 in
     λ j. record { key = key j; text = text j; superseded = superseded j; by = by j }
 
--- ---- the derived comparisons of sayings
+-- ---- the derived comparisons of `Saying`
 
 abbrev text_cmp : KeyText → KeyText → Ordering
 text_cmp a b = key_cmp (key_bytes a) (key_bytes b)
@@ -127,7 +127,7 @@ eq_exact a b = (
       (and_from _ _ ((booleans_Decides a.superseded b.superseded).1 (ap (λ (s : Said). s.superseded) e)) (same_by_back a.by b.by (ap (λ (s : Said). s.by) e)))),
 )
 
--- ---- sorted, each once
+-- ---- sorting, and removing repeats
 
 pub in_order : (xs ys zs : List Saying) → IsPermutation xs ys → IsSorted saying_cmp ys → zs ≡ dedup saying_eq ys → IsInOrder (map said xs) (map said zs)
 in_order xs ys zs same sorted distinct = record {
