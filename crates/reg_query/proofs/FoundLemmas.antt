@@ -1,4 +1,4 @@
--- The rows that meet a query, one row after another.
+-- The rows that meet a query, one row at a time.
 use Rattle.std.proofs.Common.{◌≡◌, ◌↔◌, ℕ, Bool, true, false, ◌||◌, is_some, IfSome, Option, Some, None, List, [], ◌∷◌, ◌++◌, map, IsTrue, if◌then◌else◌, refl, sym, ap, ◌∙◌, subst, inl, inr}
 use Rattle.std.proofs.lemmas.Bool.{true≢false}
 use Rattle.std.proofs.lemmas.List.{map-append}
@@ -17,7 +17,7 @@ module _ (rs : List RowOf) (q : Query) where
   pub none_yet : AreFound rs q [] []
   none_yet = refl
 
-  -- one more row is found, or not
+  -- one more row is appended to those found, if it meets the query
   pub found_more : (done : List RowOf) (r : RowOf) (met : Bool) (old new : List RowOf) → IsMet rs q r met → new ≡ old ++ (if met then r ∷ [] else []) → AreFound rs q done old → AreFound rs q (done ++ r ∷ []) new
   found_more [] r met old new is e none = (met, [], is, refl, e ∙ ap (λ t. t ++ (if met then r ∷ [] else [])) none ∙ one met)
     where
@@ -35,7 +35,7 @@ module _ (rs : List RowOf) (q : Query) where
       put true = refl
       put false = refl
 
--- the same of rows as they are seen
+-- the same for rows of the program
 pub more_rows : (rs : List RowOf) (q : Query) (xs : List Row) (row : Row) (met : Bool) (old new : List RowOf) → IsMet rs q (row_seen row) met → new ≡ old ++ (if met then row_seen row ∷ [] else [])
     → AreFound rs q (map row_seen xs) old → AreFound rs q (map row_seen (xs ++ row ∷ [])) new
 more_rows rs q xs row met old new is e are = subst (λ l. AreFound rs q l new) (sym (map-append row_seen xs (row ∷ []))) (found_more rs q (map row_seen xs) (row_seen row) met old new is e are)
@@ -56,12 +56,12 @@ nothing_asked q crs e =
     let two = neither (is_some q.at) (is_some q.kind) one.1 in
     record { area = if_none q.area _ one.0; at = if_none q.at _ two.0; kind = if_none q.kind _ two.1 }
 
--- rows have the ids that they are seen to have
+-- rows of the program have the same entries as the rows that contracts see
 pub entries_seen : (rs : List Row) → map (λ (r : Row). r.entry) rs ≡ map (λ (r : RowOf). r.entry) (map row_seen rs)
 entries_seen [] = refl
 entries_seen (r ∷ rs) = ap (λ is. r.entry ∷ is) (entries_seen rs)
 
--- ---- what a word asks for
+-- ---- what a word searches for
 
 module _ (rs : List RowOf) (word : List ℕ) (k : KeyBytes) (name : List ℕ) where
   pub by_its_key : (by_key names : Bool) → IsTrue by_key → (IsTrue by_key ↔ HasSome rs word) → (IsTrue names ↔ NamesKey word k) → IsTrue names ↔ IsSought rs word k name

@@ -1,4 +1,4 @@
--- Where two lists of rows are the same, and that their changes are one list.
+-- Two lists of rows have one list of changes, which is empty exactly if they are equal.
 use Rattle.std.proofs.Common.{◌≡◌, ◌≢◌, ◌↔◌, ◌⊎◌, ℕ, Bool, true, false, not, eqb, arith, IsTrue, List, [], ◌∷◌, ◌++◌, map, length, sym, ap, ◌∙◌, subst, inl, inr}
 use Rattle.std.proofs.lemmas.Bool.{true≢false, false_from_ne_true, eqb-true}
 use Rattle.std.specs.List.{Contains}
@@ -61,11 +61,11 @@ empty_where_equal x y a b = (
   λ e. subst (λ rs. AreChanges (rows x.ops) rs []) e (no_changes (rows x.ops)),
 )
 
--- where there is a change, the rows are not the same
+-- if there is a change, the rows differ
 pub something_changes : (old new : List Row) (c : Change) (cs : List Change) → AreChanges old new (c ∷ cs) → old ≢ new
 something_changes old new c cs are e = none_of_itself old c.sign c.row (subst (λ rs. IsChange c.sign old rs c.row) (sym e) ((are.each c).0 (in_head c cs)))
 
--- there is a first change exactly where the rows are not the same
+-- there is a change exactly if the rows differ
 differ_where : (old new : List Row) (cs : List Declared) (n : ℕ) (b : Bool) → Ascends row_cmp old → Ascends row_cmp new → AreChanges old new (map change_seen cs) → n ≡ length cs → b ≡ eqb n 0 → IsTrue (not b) ↔ (old ≢ new)
 differ_where old new [] n b first second are e f =
     let none : b ≡ true = f ∙ ap (λ k. eqb k 0) e in

@@ -1,4 +1,4 @@
--- The operations of a replica in a list in order.
+-- The operations of one replica in a list that is sorted by id.
 use Rattle.std.proofs.Common.{◌≡◌, ℕ, ◌+◌, ◌≤◌, Bool, true, false, cond, List, [], ◌∷◌, length, take, drop, refl, sym, ap, ◌∙◌, arith, suc}
 use Rattle.std.proofs.lemmas.Bool.{true≢false}
 use Rattle.std.proofs.lemmas.List.Sums.{sum_by-cons}
@@ -45,7 +45,7 @@ front_counts p (o ∷ os) =
       | false ↦ refl
     ]
 
--- those of a replica, from the point where the lesser replicas end, are all of it
+-- from the partition point on, the longest prefix of operations of q has as many as there are of q in all
 pub part_of_ops : (q : List ℕ) (os : List Op) (a : ℕ) → ById os → a ≤ length os
     → IsPartitionPoint (λ (o : Op). is_below o.id.replica q ≡ true) (λ (o : Op). is_below o.id.replica q ≡ false) os a
     → (rest : List Op) (n : ℕ) → rest ≡ drop a os → n ≡ prefix_len (is_op_of q) rest → n ≡ count_by (is_op_of q) os

@@ -1,4 +1,4 @@
--- Lists that ascend.
+-- Ascending lists: their first elements, and that their elements determine them.
 use Rattle.std.proofs.Common.{◌≡◌, ◌↔◌, ◌⊎◌, List, [], ◌∷◌, refl, sym, ap, ◌∙◌, subst, inl, inr}
 use Rattle.std.proofs.lemmas.Bool.{true≢false}
 use Rattle.std.specs.List.{Contains}
@@ -31,7 +31,7 @@ module _ {K : Type 0} {R : K → K → Ordering} (o : IsTotalOrder R) where
   put_before x [] h up = tt
   put_before x (z ∷ zs) h up = (h z (in_head z zs), up)
 
-  -- ascending lists with the same elements are the same
+  -- ascending lists with the same elements are equal
   pub same_elements : (xs ys : List K) → Ascends R xs → Ascends R ys → ((x : K) → Contains xs x ↔ Contains ys x) → xs ≡ ys
   same_elements [] [] a b same = refl
   same_elements [] (y ∷ ys) a b same = absurd (none_in y ((same y).1 (in_head y ys)))

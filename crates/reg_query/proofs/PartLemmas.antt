@@ -1,4 +1,4 @@
--- The part of a list in order whose items have one key: it is behind those of lesser keys, and before all others.
+-- In a list sorted by key, the elements with one key are contiguous: they follow those with lesser keys.
 use Rattle.std.proofs.Common.{◌≡◌, ℕ, ◌+◌, ◌<◌, ◌≤◌, zero, suc, Bool, true, false, cond, List, [], ◌∷◌, length, get_or, take, drop, refl, sym, ap, ◌∙◌, zero-add, arith}
 use Rattle.std.proofs.lemmas.Bool.{true≢false}
 use Rattle.std.proofs.lemmas.Cmp.{nat_list_cmp_total}
@@ -27,7 +27,7 @@ not_greater a b q h k =
     less_of Equal h = absurd (true≢false (sym h))
     less_of Greater h = absurd (true≢false (sym h))
 
--- what is neither below nor at a key is above it, and so is what comes no earlier
+-- a key that is neither less than q nor equal to it is above q, and so is each key that is not less than that one
 abbrev IsAbove : List ℕ → List ℕ → Type 0
 IsAbove q b = key_cmp q b ≡ Less
 
@@ -75,7 +75,7 @@ total w [] = 0
 total w (x ∷ xs) = w x + total w xs
 
 module _ {X : Type 0} (f : X → List ℕ) where
-  -- each item comes no later than the next
+  -- the list is sorted: no key is greater than the next
   abbrev pub Rises : List X → Type 0
   Rises [] = Unit {0}
   Rises (x ∷ []) = Unit {0}
@@ -126,7 +126,7 @@ module _ {X : Type 0} (f : X → List ℕ) where
       head_later x [] h b = tt
       head_later x (y ∷ ys) h b = not_below (f x) (f y) q h.0 b
 
-      -- they stand at the front
+      -- if the first key is not below q, the sum over the elements with key q is the sum over a prefix
       front : (xs : List X) → Rises xs → HeadIsNotBelow xs → total w (take (prefix_len at xs) xs) ≡ total weighed xs
       front [] h b = refl
       front (x ∷ xs) h b =

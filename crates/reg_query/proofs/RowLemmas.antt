@@ -1,4 +1,4 @@
--- The rows of a content ascend by entry, and rows are the same or not.
+-- The rows of a content ascend by entry, and equality of rows is decidable.
 use Rattle.std.proofs.Common.{◌≡◌, ℕ, Bool, true, List, [], ◌∷◌, ◌++◌, ◌⊎◌, Option, None, Some, zero, suc, IsTrue, ◌↔◌, refl, sym, ap, ◌∙◌, subst, inl, inr}
 use Rattle.std.proofs.lemmas.Bool.{true≢false}
 use Rattle.std.proofs.lemmas.List.Elements.{Contains-append_cases}
@@ -58,7 +58,7 @@ rows_ascend_in s (o ∷ os) up = by_body o.body (rows_ascend_in s os up.1)
 pub rows_ascend : (x : Content) → IsContent x → Ascends row_cmp (rows x.ops)
 rows_ascend x is = rows_ascend_in x.ops (set.items x.ops) (items_by_id x.ops is.one_body)
 
--- ---- the same or not
+-- ---- equality of rows is decidable
 
 number : Option Status → ℕ
 number None = 0
@@ -127,7 +127,7 @@ has_or_not (q ∷ rs) r = by_first (same_or_not r q) (has_or_not rs r)
     by_first (inr other) (inl k) = inl (in_tail r q rs k)
     by_first (inr other) (inr lacks) = inr (λ h. elim (in_cons r q rs h) [ inl e ↦ other e | inr d ↦ lacks d ])
 
--- ---- the newer entries of two rows
+-- ---- tests that ids are equal
 
 pub same_ids : (is js : List Id) (b : Bool) → b ≡ is_eq (slice_cmp id_cmp is js) → IsTrue b ↔ (is ≡ js)
 same_ids is js b e = (

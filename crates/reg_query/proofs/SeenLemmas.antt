@@ -31,14 +31,14 @@ less_count q p a b e h = ap (λ o. ordering_then o (nat_cmp a b)) (ap (λ x. rep
 less_replica : (q p : List ℕ) (a b : ℕ) → IsBelow q p → id_cmp (id_at q a) (id_at p b) ≡ Less
 less_replica q p a b h = ap (λ o. ordering_then o (nat_cmp a b)) h
 
--- ids of one replica, before ids that ascend from the last of them
+-- consecutive ids of one replica ascend, and so with ids behind them that ascend from the last
 ascend_from : (q : List ℕ) (low n : ℕ) (ids : List Id) → Ascends id_cmp (id_at q (low + n) ∷ ids) → Ascends id_cmp (id_at q low ∷ (ids_from q (low + 1) n ++ ids))
 ascend_from q low zero ids h = subst (λ c. Ascends id_cmp (id_at q c ∷ ids)) (add-zero low) h
 ascend_from q low (suc n) ids h =
     let e : low + suc n ≡ (low + 1) + n = omega arith in
     (less_count q q low (low + 1) refl (omega arith), ascend_from q (low + 1) n ids (subst (λ c. Ascends id_cmp (id_at q c ∷ ids)) e h))
 
--- a run before ids that ascend from its last one
+-- the ids of a run ascend, and so with ids behind them that ascend from its last
 ascend_run : (r : Run) (ids : List Id) → r.low ≤ r.high → Ascends id_cmp (id_at r.replica r.high ∷ ids) → Ascends id_cmp (ids_of_run r ++ ids)
 ascend_run r ids l h =
     let n : r.high + 1 - r.low ≡ suc (r.high - r.low) = omega arith in
@@ -67,11 +67,11 @@ ids_ascend (r ∷ s ∷ ss) h =
     (subst (λ is. Ascends id_cmp (id_at r.replica r.high ∷ is)) (sym (first_is s l (ids_of_runs ss)))
     (less_apart r s h.1, subst (Ascends id_cmp) (first_is s l (ids_of_runs ss)) later))
 
--- so they are the ids of their set, in its order
+-- the set of the ids of runs has these ids, in this order
 pub ids_are : (rs : List Run) → AreRuns rs → set.items (seen_of rs) ≡ ids_of_runs rs
 ids_are rs h = items-from_list id_total (ids_of_runs rs) (ids_ascend rs h)
 
--- ---- how many ids of a replica runs have
+-- ---- the number of ids of one replica
 
 abbrev span : Run → ℕ
 span r = r.high + 1 - r.low
@@ -108,7 +108,7 @@ runs_rise (r ∷ s ∷ ss) h = (run_rises r s h.1, runs_rise (s ∷ ss) h.2)
 pub runs_parted : (q : List ℕ) (rs : List Run) → AreRuns rs → IsPartitionedBy (λ (r : Run). is_lt (replica_cmp r.replica q)) rs
 runs_parted q rs h = parted replica_of q rs (runs_rise rs h)
 
--- the runs of a replica, from the point where the lesser replicas end, have all its ids
+-- from the partition point on, the longest prefix of runs of q has as many ids as there are of q in all
 pub part_of_runs : (q : List ℕ) (rs : List Run) (a : ℕ) → AreRuns rs → a ≤ length rs
     → IsPartitionPoint (λ (r : Run). is_lt (replica_cmp r.replica q) ≡ true) (λ r. is_lt (replica_cmp r.replica q) ≡ false) rs a
     → (rest : List Run) (n : ℕ) → rest ≡ drop a rs → n ≡ prefix_len (λ (r : Run). is_same_replica r.replica q) rest
@@ -157,7 +157,7 @@ replicas_are rs h =
     contains-from_list nat_list_cmp_total (map replica_of rs) q ∙ any_runs q rs h ∙ sym (contains-from_list nat_list_cmp_total (map replica_in (ids_of_runs rs)) q))
     ∙ ap (λ is. set.from_list {R = replica_cmp} (map replica_in is)) (sym (ids_are rs h))
 
--- `==` tells replicas apart
+-- `==` of replicas is true exactly if they are equal
 pub replicas_exact : (x y : List ℕ) → (pointwise nat_eq x y ≡ true) ↔ (x ≡ y)
 replicas_exact x y = (
   λ h. same_text x y (sym h),

@@ -1,4 +1,4 @@
--- Lines of a comparison, one after another.
+-- The lines of a comparison, one at a time.
 use Rattle.std.proofs.Common.{◌≡◌, ℕ, List, [], ◌∷◌, ◌++◌, append_assoc, append-nil, ◌+◌, ◌<◌, ◌≤◌, get_or, drop, length-drop, map, length, arith, refl, sym, ap, ◌∙◌, subst}
 use Rattle.std.proofs.lemmas.List.{at_drop_more}
 use Rattle.csv.specs.Writing.{row_text, default_writer}
@@ -7,7 +7,7 @@ use Rattle.reg_query.specs.declared.diff.change.Change.{Change}
 use Rattle.reg_query.specs.ChangesSeen.{change_seen}
 use Rattle.reg_query.specs.DiffLines.{changes_header, IsChangeLine}
 
--- what is still to come completes the text
+-- `text` followed by any lines for `rest` is a header with lines for `all`
 abbrev pub Completes : List Change → List Change → List ℕ → Type 0
 Completes all rest text = (more : List ℕ) → AreLines IsChangeLine (map change_seen rest) more → IsSheet changes_header IsChangeLine (map change_seen all) (text ++ more)
 

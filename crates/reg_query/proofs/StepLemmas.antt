@@ -1,4 +1,4 @@
--- What one more row changes.
+-- How one more row extends the list of changes.
 use Rattle.std.proofs.Common.{◌≡◌, ◌⊎◌, List, ◌∷◌, ap, subst, sym, inl, inr}
 use Rattle.std.specs.List.{Contains}
 use Rattle.std.specs.Cmp.{IsTotalOrder, then_total, on_total, nat_cmp_total}
@@ -28,7 +28,7 @@ come r = signed Come r
 
 -- ---- one more row
 
--- the rows of changes are those of the two lists
+-- the row of a change is in one of the two lists
 in_either : (old new : List Row) (c : Change) → IsChange c.sign old new c.row → Contains old c.row ⊎ Contains new c.row
 in_either old new c h = elim (by_sign c.sign h) [ inl a ↦ inl a | inr b ↦ inr b ]
   where
@@ -36,7 +36,7 @@ in_either old new c h = elim (by_sign c.sign h) [ inl a ↦ inl a | inr b ↦ in
     by_sign Gone h = inl h.0
     by_sign Come h = inr h.0
 
--- a change of a row comes before those of later rows
+-- a change of a row that is before all others is before their changes
 pub before_later : (d : Change) (old new : List Row) (cs : List Change) → Before row_cmp d.row old → Before row_cmp d.row new → AreChanges old new cs → Before change_cmp d cs
 before_later d old new cs first second are c h =
     ap (λ r. ordering_then r (nat_cmp (rank d.sign) (rank c.sign))) (elim (in_either old new c ((are.each c).0 h)) [ inl a ↦ first c.row a | inr b ↦ second c.row b ])
@@ -83,7 +83,7 @@ put_come r old new cs lacks before are = record {
     ]
     back Gone q h = in_tail (gone q) (come r) cs ((are.each (gone q)).1 (h.0, λ k. h.1 (in_tail q r new k)))
 
--- a row that both have, before all others
+-- a row that both lists begin with adds no change
 pub put_both : (r : Row) (old new : List Row) (cs : List Change) → Before row_cmp r old → Before row_cmp r new → AreChanges old new cs → AreChanges (r ∷ old) (r ∷ new) cs
 put_both r old new cs first second are = record {
   ascend = are.ascend;

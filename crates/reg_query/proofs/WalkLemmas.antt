@@ -1,4 +1,4 @@
--- The walk along two lists of rows, step by step.
+-- The loop along two ascending lists of rows that gathers their changes.
 use Rattle.std.proofs.Common.{◌≡◌, ◌⊎◌, List, [], ◌∷◌, ◌++◌, append_assoc, append-nil, map, length, refl, sym, ap, ◌∙◌, subst, inl, inr, arith}
 use Rattle.std.specs.List.{Contains}
 use Rattle.std.specs.Ordering.{nat_cmp, ordering_then, ordering_reverse}
@@ -15,7 +15,7 @@ use Rattle.reg_query.specs.DiffWalk.{AddsUnlike}
 use Rattle.reg_query.proofs.OrderLemmas.{Before, never_less, first_before, rest_ascends}
 use Rattle.reg_query.proofs.StepLemmas.{row_total, gone, come, before_later, put_gone, put_come, put_both}
 
--- the changes that are still to come complete those that are made
+-- `made` followed by the changes from `olds` to `news`, the rows not yet read, is the list of changes from `old` to `new`
 pub record Walks (old new olds news : List Row) (made : List Change) : Type 0 where
   pub first : Ascends row_cmp olds
   pub second : Ascends row_cmp news
@@ -78,7 +78,7 @@ walk_both old new olds news older newer made made' g c e f equal adds walk = rec
     newer_after : Before row_cmp c newer
     newer_after = first_before row_total c newer up'
 
-    -- the two are of one entry
+    -- g and c have one entry
     newer_after_g : Before row_cmp g newer
     newer_after_g q h = row_total.congr g c q equal ∙ newer_after q h
 
@@ -107,7 +107,7 @@ walk_both old new olds news older newer made made' g c e f equal adds walk = rec
           | inr later ↦ before_later (gone g) older newer more older_after newer_after_g h d later
         ]
 
--- where one list has no more rows, what is left of the other are changes
+-- if one list is empty, each row of the other is a change
 only_gone : (olds : List Row) → Ascends row_cmp olds → AreChanges olds [] (map gone olds)
 only_gone [] up = record { ascend = tt; each = λ c. (λ h. absurd (none_in c h), λ h. none c.sign c.row h) }
   where

@@ -25,7 +25,7 @@ abbrev pub AreFound : List Row → Query → List Row → List Row → Type 0
 AreFound rs q [] found = found ≡ []
 AreFound rs q (r ∷ some) found = (met : Bool) × (rest : List Row) × IsMet rs q r met × AreFound rs q some rest × (found ≡ (if met then r ∷ rest else rest))
 
--- all rows of a content that do
+-- all rows of a content that meet it
 abbrev pub AreFoundIn : Content → Query → List Row → Type 0
 AreFoundIn x q found = AreFound (rows x.ops) q (rows x.ops) found
 

@@ -16,7 +16,7 @@ is_below one other = is_lt (replica_cmp one other)
 abbrev pub is_same_replica : List ℕ → List ℕ → Bool
 is_same_replica one other = is_eq (replica_cmp one other)
 
--- an id, an operation is of the replica
+-- the id, or the operation, is of the replica
 abbrev pub is_of : List ℕ → Id → Bool
 is_of replica i = is_same_replica i.replica replica
 

@@ -45,7 +45,7 @@ pub record MeetsOptions (q : Query) (k : KeyBytes) (name : List ℕ) (s : Option
   pub part : IfSome q.name (λ part. HasPart part.now name)
   pub status : IfSome q.status (λ wanted. IsWanted wanted s)
 
--- and by its word
+-- by its word, and by its options
 abbrev pub MeetsTitle : List Row → Query → KeyBytes → List ℕ → Option Status → Type 0
 MeetsTitle rs q k name s = IfSome q.word (λ word. IsSought rs word.now k name) × MeetsOptions q k name s
 
@@ -55,6 +55,6 @@ pub record MeetsValue (q : Query) (crs : CrsParts) : Type 0 where
   pub at : IfSome q.at (λ point. HasPoint point crs)
   pub kind : IfSome q.kind (λ kind. kind_of crs ≡ kind)
 
--- it asks something of these
+-- the query asks for any of these
 abbrev pub asks_value : Query → Bool
 asks_value q = is_some q.area || (is_some q.at || is_some q.kind)

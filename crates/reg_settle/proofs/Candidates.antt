@@ -1,4 +1,4 @@
--- The rivals of what is kept, gathered, sorted, and picked by key.
+-- The entries that may be retired: gathered, sorted, and selected by key.
 use Rattle.std.proofs.Common.{◌≡◌, ℕ, ◌+◌, ◌<◌, ◌≤◌, Bool, true, false, not, ◌&&◌, List, [], ◌∷◌, ◌++◌, map, filter, length, get_or, drop, refl, sym, ap, ◌∙◌, subst, inl, inr, append_assoc, append-nil, cond, arith}
 use Rattle.std.specs.Prelude.{Contains}
 use Rattle.std.specs.List.Sorted.{IsSorted, IsStable, IsPermutation, IsPartitionedBy, ties}
@@ -19,9 +19,9 @@ use Rattle.reg_settle.specs.Settling.{Picks, IsRival}
 use Rattle.reg_settle.specs.declared.rival.Rival.{Rival}
 use Rattle.reg_settle.specs.Keeping.{key_bytes, entry_of, is_of_key, rival_cmp, MayGo, AddsRival, AreRivals}
 
--- ---- one row after another
+-- ---- a loop over the rows
 
--- what is gathered of the rows that are left completes what was gathered of all
+-- `made` followed by any rivals of `rest` is a list of the rivals of `all`
 abbrev pub Gathers : List Id → List Row → List Row → List Rival → Type 0
 Gathers keeps all rest made = (more : List Rival) → AreRivals keeps rest more → AreRivals keeps all (made ++ more)
 
@@ -35,7 +35,7 @@ gathers_step keeps all rest others x made new e (inr (may_not, same)) g more m =
 pub gathers_all : (keeps : List Id) (all rest : List Row) (made : List Rival) → rest ≡ [] → Gathers keeps all rest made → AreRivals keeps all made
 gathers_all keeps all rest made e g = subst (λ l. AreRivals keeps all l) (append-nil made) (g [] (subst (λ l. AreRivals keeps l []) (sym e) refl))
 
--- ---- the ids to be kept in another order
+-- ---- a permutation of the ids to keep
 
 may_also : (ids keeps : List Id) → IsPermutation ids keeps → (r : Row) → MayGo ids r → MayGo keeps r
 may_also ids keeps p r may = record { stands = may.stands; no_keep = λ c. may.no_keep (Contains-permutation keeps ids r.entry (IsPermutation-sym ids keeps p) c) }
@@ -73,7 +73,7 @@ up_to_parted k cs low up i j d h l b =
     (not-true _ (subst (λ (c : Rival). not (is_lt (key_cmp k (key_bytes c.key))) ≡ true) (get_or-drop low cs j d) b))
     (no_earlier cs up (low + i) (low + j) d (omega arith) (omega (arith, length-drop low cs)))))
 
--- neither before nor after
+-- keys are equal exactly if neither is less than the other
 pub tied_is : (a b : KeyBytes) → is_eq (key_cmp a b) ≡ (not (is_lt (key_cmp b a)) && not (is_lt (key_cmp a b)))
 tied_is a b = by (key_cmp a b) refl
   where
@@ -96,9 +96,9 @@ in_order_is cs made stable x =
     sym (filter_agree (ties (λ (a b : Rival). is_lt (rival_cmp a b)) x) (is_of_key (key_bytes x.key)) (ties_are x) made)
     ∙ stable x ∙ filter_agree (ties (λ (a b : Rival). is_lt (rival_cmp a b)) x) (is_of_key (key_bytes x.key)) (ties_are x) cs
 
--- ---- what is picked
+-- ---- the rivals of a kept row
 
--- the rivals of a key are those of its rows, where none is retired
+-- if no entry of the key is in `retired`, the candidates with the key are the rivals of a kept row with the key
 pub picks_of_key : (keeps retired : List Id) (keep : Row) (k : KeyBytes) → HasKey keep.definition k → (rs : List Row) (cs : List Rival) → AreRivals keeps rs cs
     → ((r : Row) → Contains rs r → HasKey r.definition k → ¬ (Contains retired r.entry)) → Picks (IsRival keeps retired keep) rs (map entry_of (filter (is_of_key k) cs))
 picks_of_key keeps retired keep k keyed [] cs are left = ap (λ l. map entry_of (filter (is_of_key k) l)) are

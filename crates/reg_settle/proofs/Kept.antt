@@ -1,4 +1,4 @@
--- Key by key: each has one text that is kept, and its first kept row retires all others.
+-- For each key, all kept rows have one text, and the first of them retires the entries that are not kept.
 use Rattle.std.proofs.Common.{◌≡◌, ◌≢◌, ◌⊎◌, ℕ, ◌+◌, ◌<◌, Bool, true, false, cond, List, [], ◌∷◌, ◌++◌, map, filter, length, get_or, take, drop, Option, Some, None, refl, sym, ap, ◌∙◌, subst, inl, inr, append-nil}
 use Rattle.std.specs.Prelude.{Contains}
 use Rattle.std.specs.Borrow.{Bor}
@@ -25,14 +25,14 @@ use Rattle.reg_settle.proofs.Candidates.{same_key, key_itself, picks_of_key}
 use Rattle.reg_settle.proofs.Ordered.{one_by_entry}
 use Rattle.reg_settle.proofs.Steps.{Goes, goes_next}
 
--- what holds of each key after some entries
+-- what holds for each key after the entries `before` are kept
 pub record Kept (rs : List Row) (keeps before retired : List Id) (at : At) : Type 0 where
-  -- the row of a key has the key, and all kept rows of the key have its text
+  -- the row of a key is kept and has the key, and each kept row of the key has its text
   pub some : (k : KeyBytes) (f : Row) → at k ≡ Some f → Contains rs f × Contains before f.entry × HasKey f.definition k
   pub texts : (k : KeyBytes) (f r : Row) → at k ≡ Some f → Contains rs r → Contains before r.entry → HasKey r.definition k → r.definition ≡ f.definition
   -- a key without a row has no kept row
   pub none : (k : KeyBytes) (r : Row) → at k ≡ None → Contains rs r → Contains before r.entry → ¬ (HasKey r.definition k)
-  -- of a key with a row, all entries that are neither retired nor to be kept are listed; of any other key, none is
+  -- `retired` has each entry of a key with a row that is neither retired nor to be kept, and no entry of any other key
   pub gone : (k : KeyBytes) (f r : Row) → at k ≡ Some f → Contains rs r → HasKey r.definition k → r.status ≢ Some Retired → ¬ (Contains keeps r.entry) → Contains retired r.entry
   pub left : (k : KeyBytes) (r : Row) → at k ≡ None → Contains rs r → HasKey r.definition k → ¬ (Contains retired r.entry)
 
@@ -55,7 +55,7 @@ module _ (rs : List Row) (keeps before retired : List Id) (at : At) (one : OneRo
   same_at : (l : KeyBytes) → HasKey keep.definition l → k ≡ l
   same_at l h = one_key keep.definition k l keyed h
 
-  -- ---- whether it can be kept
+  -- ---- whether the row can be kept
 
   taken : (f : Row) → at k ≡ Some f → f.definition ≢ keep.definition → IsTaken rs before keep
   taken f e other =
@@ -65,7 +65,7 @@ module _ (rs : List Row) (keeps before retired : List Id) (at : At) (one : OneRo
   key_of_taken : (t : IsTaken rs before keep) → HasKey (t.other).definition k
   key_of_taken t = subst (HasKey (t.other).definition) (sym (same_at (t.takes.differs.shares).key (t.takes.differs.shares).of_other)) (t.takes.differs.shares).of_one
 
-  -- all that were kept of the key have its text
+  -- the row of the key, if it has one, has the text of `keep`
   abbrev Agrees : Type 0
   Agrees = (f : Row) → at k ≡ Some f → f.definition ≡ keep.definition
 
@@ -87,7 +87,7 @@ module _ (rs : List Row) (keeps before retired : List Id) (at : At) (one : OneRo
   is_refused i None is stands e other = absurd other
   is_refused i (Some f) is stands e other = (is, (keep, record { there = there; is = is }, stands, taken f e other))
 
-  -- ---- what is retired with it
+  -- ---- the entries that are retired for it
 
   none_picked : (P : Row → Type 0) (qs : List Row) → ((r : Row) → Contains qs r → ¬ (P r)) → Picks P qs []
   none_picked P [] never = refl
@@ -105,13 +105,13 @@ module _ (rs : List Row) (keeps before retired : List Id) (at : At) (one : OneRo
     r.1 ∙ sym (append-nil retired),
   )
 
-  -- ---- what is kept then
+  -- ---- what holds for each key after it is kept
 
   module _ (mine : List Id) (picks : Picks (IsRival keeps retired keep) rs mine) (agree : Agrees) where
     is_keep : (r : Row) → Contains rs r → r.entry ≡ keep.entry → r ≡ keep
     is_keep r h e = one r keep h there e
 
-    -- all kept rows of the key have the text
+    -- each kept row of the key has the text of `keep`
     text_of : (r : Row) → Contains rs r → Contains (before ++ keep.entry ∷ []) r.entry → HasKey r.definition k → r.definition ≡ keep.definition
     text_of r h named its = elim (last_is before keep.entry r.entry named) [
       | inl early ↦ by (at k) refl early
@@ -186,7 +186,7 @@ module _ (rs : List Row) (keeps before retired : List Id) (at : At) (one : OneRo
         left_more l r true own e h its = let no : ◌≡◌ {A = Option Row} (Some keep) None = e in absurd cc
         left_more l r false other e h its = others_left l other r e h its
 
--- ---- one entry more
+-- ---- one iteration of the loop
 
 pub next_kept : (rs : List Row) (keeps ids new : List Id) (i : ℕ) (e : Id) (at : At) (keep : Row) (k : KeyBytes) (cs : List Rival) → ByEntry rs → AreRivals keeps rs cs → i < length keeps → e ≡ get_or keeps i e
     → HasRow rs e keep → keep.status ≢ Some Retired → HasKey keep.definition k → Retires (at k) keep (filter (is_of_key k) cs) ids new

@@ -1,4 +1,4 @@
--- Rows by entry, and what a binary search finds.
+-- Rows ascend by entry, an entry has one row, and a binary search finds it.
 use Rattle.std.proofs.Common.{◌≡◌, ℕ, ◌+◌, ◌<◌, Bool, true, false, List, [], ◌∷◌, ◌++◌, map, length, get_or, zero, suc, Ok, Err, sym, ap, ◌∙◌, subst, inl, inr, arith}
 use Rattle.std.specs.Prelude.{◌↔◌, IsTrue, Contains, Result, is_ok}
 use Rattle.std.specs.List.{flat_map, HoldsAt}
@@ -54,7 +54,7 @@ by_entry_in s (o ∷ os) up = by_body o.body (by_entry_in s os up.1)
 pub are_by_entry : (s : Ops) (os : List Op) (made : List MadeRow) → os ≡ set.items s → ById os → map row_seen made ≡ rows s → ByEntry (map row_seen made)
 are_by_entry s os made e up h = subst ByEntry (sym h) (by_entry_in s (set.items s) (subst ById e up))
 
--- an entry has one row
+-- among rows by entry, an entry has at most one row
 pub one_by_entry : (rs : List Row) → ByEntry rs → (a b : Row) → Contains rs a → Contains rs b → a.entry ≡ b.entry → a ≡ b
 one_by_entry [] up a b h k e = absurd (none_in a h)
 one_by_entry (r ∷ rs) up a b h k e = elim (in_cons a r rs h) [

@@ -1,4 +1,4 @@
--- Of rows by entry, a row is a double where one before it has its text.
+-- Among rows by entry, a row that is not retired is a double exactly if an earlier such row has its text.
 use Rattle.std.proofs.Common.{◌≡◌, ◌≢◌, ◌⊎◌, ℕ, Bool, true, false, not, cond, List, [], ◌∷◌, ◌++◌, append_assoc, refl, sym, ap, ◌∙◌, subst, inl, inr}
 use Rattle.std.specs.Prelude.{◌↔◌, IsTrue, Contains, Some}
 use Rattle.std.specs.Borrow.{Bor}
@@ -18,9 +18,9 @@ use Rattle.reg_settle.specs.Doubles.{IsDouble}
 use Rattle.reg_settle.specs.ByEntry.{ByEntry}
 use Rattle.reg_settle.specs.Texts.{HasText, HasTexts, bytes_cmp}
 
--- ---- before and after
+-- ---- earlier and later rows
 
--- what is before is of a lesser entry
+-- an earlier row has a lesser entry
 lesser_before : (done others : List Row) (r x : Row) → ByEntry (done ++ r ∷ others) → Contains done x → is_before x.entry r.entry ≡ true
 lesser_before [] others r x up h = absurd (none_in x h)
 lesser_before (d ∷ done) others r x up h = elim (in_cons x d done h) [
@@ -32,7 +32,7 @@ from_r : (done others : List Row) (r x : Row) → ByEntry (done ++ r ∷ others)
 from_r [] others r x up h = up.0 x h
 from_r (d ∷ done) others r x up h = from_r done others r x up.1 h
 
--- what is of a lesser entry is before
+-- a row with a lesser entry is an earlier row
 before_lesser : (done others : List Row) (r x : Row) → ByEntry (done ++ r ∷ others) → Contains (done ++ r ∷ others) x → is_before x.entry r.entry ≡ true → Contains done x
 before_lesser done others r x up h less = elim (Contains-append_cases done (r ∷ others) x h) [
   | inl early ↦ early
@@ -62,7 +62,7 @@ double_is all done rest others r t e f up is =
           is.1 (d.stands, record { row = l.lesser; there = before_lesser done others r l.lesser rises (subst (λ s. Contains s l.lesser) whole l.there) (l.is).before; stands = (l.is).stands; is = (l.is).text }),
     )
 
--- ---- one row more
+-- ---- one more row
 
 pub more_done : (all done rest others : List Row) (r : Row) → all ≡ done ++ rest → rest ≡ r ∷ others → all ≡ (done ++ r ∷ []) ++ others
 more_done all done rest others r e f = e ∙ ap (λ l. done ++ l) f ∙ sym (append_assoc done (r ∷ []) others)
@@ -79,7 +79,7 @@ in_either done r t h = elim (Contains-append_cases done (r ∷ []) h.row h.there
   ]
 ]
 
--- the text of a row that is not retired is put in
+-- inserting the text of r, which is not retired, into the texts of `done` gives the texts of `done` and r
 pub one_added : (done : List Row) (r : Row) (bytes t : List ℕ) (old new : Bool) → r.status ≢ Some Retired → bytes ≡ r.definition → new ≡ cond (is_eq (slice_cmp nat_cmp bytes t)) true old → IsTrue old ↔ HasText done t
     → IsTrue new ↔ HasText (done ++ r ∷ []) t
 one_added done r bytes t old new stands own e is = by (is_eq (slice_cmp nat_cmp bytes t)) refl
@@ -116,7 +116,7 @@ twice : (b : Bool) → not (not b) ≡ b
 twice true = refl
 twice false = refl
 
--- what was put in before is not new
+-- inserting the text of r adds nothing exactly if an earlier row that is not retired has it
 pub again_is : (done : List Row) (r : Row) (bytes : List ℕ) (added old : Bool) → added ≡ not old → bytes ≡ r.definition → r.status ≢ Some Retired → IsTrue old ↔ HasText done bytes
     → IsTrue (not added) ↔ ((r.status ≢ Some Retired) × HasText done r.definition)
 again_is done r bytes added old e own stands is =

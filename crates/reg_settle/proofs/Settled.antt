@@ -1,4 +1,4 @@
--- What settling leaves.
+-- After settling, kept texts of one key are equal, and the other entries of their keys are retired.
 use Rattle.std.proofs.Common.{◌≡◌, ◌≢◌, ◌⊎◌, Bool, true, false, List, [], ◌∷◌, ◌++◌, refl, sym, ap, ◌∙◌, subst, inl, inr, append_assoc}
 use Rattle.std.specs.Prelude.{Contains, Some}
 use Rattle.std.specs.List.{list_any}
@@ -12,7 +12,7 @@ use Rattle.reg_op.proofs.OpLemmas.{id_total, is_same_exact}
 use Rattle.reg_report.proofs.ConflictLemmas.{none_in, in_cons, in_head, in_tail, any_of_member, member_of_any}
 use Rattle.reg_settle.specs.Settling.{SharesKey, Differs, Picks, IsKept, IsRival, Settles}
 
--- ---- what is picked
+-- ---- the picked entries
 
 pub picked : (P : Row → Type 0) (rs : List Row) (ids : List Id) (r : Row) → Picks P rs ids → Contains rs r → P r → Contains ids r.entry
 picked P [] ids r h c p = absurd (none_in r c)
@@ -33,7 +33,7 @@ picked_are P (x ∷ xs) ids i (inl h) c = elim (in_cons i x.entry h.1.0 (subst (
 ]
 picked_are P (x ∷ xs) ids i (inr h) c = let r = picked_are P xs ids i h.1 c in (r.0, in_tail r.0 x xs r.1, r.2, r.3)
 
--- ---- what is kept
+-- ---- the kept entries
 
 pub is_in : (ids : List Id) (i : Id) → Contains ids i ⊎ (¬ (Contains ids i))
 is_in ids i = by (list_any (is_same i) ids) refl
@@ -46,11 +46,11 @@ stays : (rs : List Row) (keeps ks before retired all : List Id) (i : Id) → Set
 stays rs keeps [] before retired all i h c = subst (λ l. Contains l i) (sym h) c
 stays rs keeps (k ∷ ks) before retired all i h c = stays rs keeps ks (before ++ k ∷ []) (retired ++ h.2.0) all i h.2.2 (Contains-append_left retired h.2.0 i c)
 
--- an entry has one row
+-- each entry has at most one row
 abbrev pub OneRow : List Row → Type 0
 OneRow rs = (a b : Row) → Contains rs a → Contains rs b → a.entry ≡ b.entry → a ≡ b
 
--- all of a key that is kept are kept or retired
+-- an entry that is not retired and has the key of a kept one is kept, or in the list of those that settling retires
 pub covers : (rs : List Row) (keeps ks before retired all : List Id) → OneRow rs → Settles rs keeps before ks retired all → (keep r : Row) → Contains rs keep → Contains ks keep.entry
     → Contains rs r → r.status ≢ Some Retired → SharesKey keep r → Contains keeps r.entry ⊎ Contains all r.entry
 covers rs keeps [] before retired all one h keep r there named c stands shares = absurd (none_in keep.entry named)
@@ -72,7 +72,7 @@ covers rs keeps (k ∷ ks) before retired all one h keep r there named c stands 
 swapped : (one other : Row) → Differs one other → Differs other one
 swapped one other d = record { shares = record { key = d.shares.key; of_one = d.shares.of_other; of_other = d.shares.of_one }; differ = λ e. d.differ (sym e) }
 
--- no two that are kept differ
+-- no two of these entries have one key and different texts
 abbrev pub Agree : List Row → List Id → Type 0
 Agree rs ks = (a b : Row) → Contains rs a → Contains rs b → Contains ks a.entry → Contains ks b.entry → ¬ (Differs a b)
 

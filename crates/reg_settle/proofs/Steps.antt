@@ -1,4 +1,4 @@
--- Picking, settling and refusing, step by step.
+-- Loops that pick entries, and that settle entries or refuse one.
 use Rattle.std.specs.Prelude.{◌↔◌, IsTrue, if◌then◌else◌}
 use Rattle.std.proofs.Common.{◌≡◌, ℕ, suc, ◌+◌, ◌<◌, ◌≤◌, length, take, drop, get_or, map, arith, Bool, true, false, List, [], ◌∷◌, ◌++◌, sym, ap, ◌∙◌, subst, inl, inr, append_assoc, append-nil, refl}
 use Rattle.std.proofs.Math.Seq.{drop-cons}
@@ -8,7 +8,7 @@ use Rattle.reg_op.specs.Rows.{Row}
 use Rattle.reg_settle.specs.declared.fault.SettleFault.{SettleFault}
 use Rattle.reg_settle.specs.Settling.{Picks, IsKept, IsRival, Settles, IsObjection, Refuses}
 
--- ---- nothing more
+-- ---- the end of a loop
 
 pub none_left : {X Y : Type 0} (f : X → Y) (xs : List X) → length xs ≡ 0 → map f xs ≡ []
 none_left f [] e = refl
@@ -19,7 +19,7 @@ not_both t e f = let no : true ≡ false = sym e ∙ f in absurd cc
 
 -- ---- picking
 
--- what is picked of the rows that are left completes what was picked of all
+-- `made` followed by anything picked from `rest` is picked from `all`
 abbrev pub Completes : (Row → Type 0) → List Row → List Row → List Id → Type 0
 Completes P all rest made = (more : List Id) → Picks P rest more → Picks P all (made ++ more)
 
@@ -42,7 +42,7 @@ picks_all P all rest made e c = subst (λ l. Picks P all l) (append-nil made) (c
 
 -- ---- settling
 
--- what settles the entries that are left settles all; what refuses them refuses all
+-- settling `rest` settles all of `keeps`, and what refuses an entry of `rest` refuses `keeps`
 pub record Goes (rs : List Row) (keeps before rest retired : List Id) : Type 0 where
   pub settles : (all : List Id) → Settles rs keeps before rest retired all → Settles rs keeps [] keeps [] all
   pub refuses : (f : SettleFault) → Refuses rs before rest f → Refuses rs [] keeps f

@@ -17,7 +17,7 @@ pub record HasLesser (rs : List Row) (r : Row) : Type 0 where
   pub there : Contains rs lesser
   pub is : IsLesser r lesser
 
--- neither the row is retired, nor a lesser one of its text
+-- the row is not retired, and some row that is not retired has its text and a lesser id
 pub record IsDouble (rs : List Row) (r : Row) : Type 0 where
   pub stands : r.status ≢ Some Retired
   pub lesser : HasLesser rs r

@@ -22,7 +22,7 @@ key_bytes k = record { authority = k.authority.now; code = k.code.now }
 abbrev pub text_cmp : KeyText → KeyText → Ordering
 text_cmp a b = key_cmp (key_bytes a) (key_bytes b)
 
--- the row of each key that was kept last
+-- for each key, the row that was kept last, if there is one
 abbrev pub At : Type 0
 At = KeyBytes → Option Row
 
