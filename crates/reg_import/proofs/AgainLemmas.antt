@@ -1,4 +1,4 @@
--- Texts imported again, over what the first time left of each key.
+-- Importing the same texts again, into a content that has what the first import left.
 use Rattle.std.proofs.Common.{◌≡◌, ℕ, ◌+◌, true, false, not, cond, List, [], ◌∷◌, ◌++◌, length, refl, sym, ap, ◌∙◌, subst}
 use Rattle.std.specs.Prelude.{Contains}
 use Rattle.std.specs.List.{list_any}
@@ -19,21 +19,21 @@ use Rattle.reg_import.specs.Again.{is_there, IsToldAgain}
 use Rattle.reg_import.proofs.KnownLemmas.{same_key, key_itself}
 use Rattle.reg_import.proofs.TextLemmas.{HasText, blocks, there_then, there_makes_nothing, there_not_refused, refused_then, refused_makes_nothing, refused_not_there, there_of_text, not_of_refused, blocks_of_refused, refused_of_blocks, closed_on, comes_ours, ours_on, blocks_on}
 
--- what holds of the new and of what there was, holds of what there is of a key
+-- a property of the new bucket of one key, and of the old buckets of other keys, holds for each bucket after the change
 pub at_key : (P : OfKey → Type 0) (key k : KeyBytes) (new : OfKey) (at : At) → (key ≡ k → P new) → (is_key key k ≡ false → P (at k)) → P (with_key key new at k)
 at_key P key k new at f g = elim (is_key key k) as (λ b. is_key key k ≡ b → P (cond b new (at k))) [
   | true ↦ λ e. f (same_key key k e)
   | false ↦ λ e. g e
 ] refl
 
--- what there is of each key after some texts
+-- the bucket of each key after some texts are imported
 abbrev pub finally : Differs → List ℕ → ℕ → At → List ReadText → At
 finally d r n at [] = at
 finally d r n at (text ∷ texts) =
     let t = told_at d r n at text in
     finally d r (n + length (bodies_at t at text)) (then_at t at text) texts
 
--- ---- what stays
+-- ---- entries that remain
 
 ours_then : (d : Differs) (r : List ℕ) (n : ℕ) (at : At) (text : ReadText) (k : KeyBytes) (e : StandingEntry) → (at k).ours ≡ true → Contains (at k).known e
     → Contains (then_at (told_at d r n at text) at text k).known e × ((then_at (told_at d r n at text) at text k).ours ≡ true)
@@ -43,7 +43,7 @@ ours_then d r n at (reading.Defined text key) k e o c =
     (λ same. ours_on d (id_at r n) (at (bytes_of key)) text key e (subst (λ l. (at l).ours ≡ true) (sym same) o) (subst (λ l. Contains (at l).known e) (sym same) c))
     (λ _. (c, o))
 
--- an entry of a key that is ours stays to the end
+-- an entry of a bucket with `ours` remains in it to the end
 pub ours_stay : (d : Differs) (r : List ℕ) (n : ℕ) (at : At) (texts : List ReadText) (k : KeyBytes) (e : StandingEntry) → (at k).ours ≡ true → Contains (at k).known e → Contains (finally d r n at texts k).known e
 ours_stay d r n at [] k e o c = c
 ours_stay d r n at (text ∷ texts) k e o c =
@@ -51,7 +51,7 @@ ours_stay d r n at (text ∷ texts) k e o c =
     let next = ours_then d r n at text k e o c in
     ours_stay d r (n + length (bodies_at t at text)) (then_at t at text) texts k e next.1 next.0
 
--- of this key another text is against each that no entry has
+-- each text with this key that no entry has is refused
 abbrev Closed : Differs → OfKey → Type 0
 Closed d there = blocks (least any_entry there.known) d there.ours ≡ true
 
@@ -72,9 +72,9 @@ closed_stay d r n at (text ∷ texts) k h =
     let next = closed_then d r n at text k h in
     closed_stay d r (n + length (bodies_at t at text)) (then_at t at text) texts k next.1 ∙ next.0
 
--- ---- one text again
+-- ---- importing one text again
 
--- of a text this is told again, and nothing is made of it
+-- importing the text again, with action u, refuses it as before or finds it, and has no effect
 record IsQuiet (t u : TextAction) (key : Key) (text : List ℕ) (there over : OfKey) : Type 0 where
   refused : is_refused u ≡ is_refused t
   found : is_there u ≡ not (is_refused t)
@@ -82,7 +82,7 @@ record IsQuiet (t u : TextAction) (key : Key) (text : List ℕ) (there over : Of
   known : (then_of u key text over).known ≡ over.known
   ours : (then_of t key text there).ours ≡ true → (then_of u key text over).ours ≡ true
 
--- those that have come at the end have the same texts as these
+-- the entries of both lists have the same texts
 pub record SameTexts (last over : List StandingEntry) : Type 0 where
   pub all : (text : List ℕ) → HasText last text → HasText over text
   pub no_more : (text : List ℕ) → HasText over text → HasText last text
@@ -127,9 +127,9 @@ module _ (d : Differs) (new again : Id) (there over : OfKey) (key : Key) (text :
         quiet_refused o r (refused_of_blocks d again over text none blocked)
   ] refl
 
--- ---- all texts again
+-- ---- importing all texts again
 
--- this is told of texts again, and nothing is made of them
+-- importing the texts again refuses the same texts, finds the others, and has no effects
 pub record AreQuiet (d : Differs) (r : List ℕ) (n : ℕ) (at : At) (s : List ℕ) (m : ℕ) (over : At) (texts : List ReadText) : Type 0 where
   pub told : IsToldAgain (tolds (imports d r n at texts)) (tolds (imports d s m over texts))
   pub nothing : effects (imports d s m over texts) ≡ []

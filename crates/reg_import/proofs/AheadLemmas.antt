@@ -1,4 +1,4 @@
--- No register of an office has retired or superseded an entry that the office has still to enter.
+-- The register of an office neither retires nor supersedes an entry that the office has still to number.
 use Rattle.std.proofs.Common.{◌≡◌, ℕ, ◌+◌, ◌<◌, Bool, true, false, not, ◌&&◌, cond, List, [], ◌∷◌, ◌++◌, length, length-append, Option, Some, None, Ok, refl, sym, ap, ◌∙◌, subst, inl, inr, ◌⊎◌, arith}
 use Rattle.std.proofs.lemmas.Bool.{true≢false, or_cases, or_left, or_right, and_parts, false_from_ne_true}
 use Rattle.std.specs.Cmp.{tied_itself}
@@ -35,7 +35,7 @@ use Rattle.reg_office.proofs.WorldSteps.{made_reaches}
 use Rattle.reg_office.proofs.WorldStops.{stop_is_all_or_nothing}
 use Rattle.reg_office.proofs.WorldMade.{known_or_made}
 
--- ---- what a command retires or supersedes was entered, or is entered by it
+-- ---- a command retires or supersedes entries of the register, or ids of its own operations
 
 -- the effect retires the entry, or supersedes it
 abbrev Ends : Id → Body → Type 0
@@ -89,7 +89,7 @@ none_against x r note bs os h =
 
 -- ---- in a world
 
--- the office whose entry it is has reached the operation of that id
+-- the office of the id has reached an operation with this id
 record IsGiven (w : World) (e : Id) : Type 0 where
   op : Op
   is : op.id ≡ e
@@ -98,7 +98,7 @@ record IsGiven (w : World) (e : Id) : Type 0 where
 grown : (w v : World) → Grows w v → (e : Id) → IsGiven w e → IsGiven v e
 grown w v g e h = record { op = h.op; is = h.is; there = g e.replica h.op h.there }
 
--- each entry that is retired or superseded by what was made is given
+-- the office of each entry that an operation retires or supersedes has reached an operation with its id
 abbrev AllGiven : (w : World) → Invariant w → Type 0
 AllGiven w inv = (o : Op) → contains inv.all o ≡ true → (e : Id) → Ends e o.body → IsGiven w e
 
@@ -135,7 +135,7 @@ by_event w inv u (Stop v left) o e m h g body = elim (stop_is_all_or_nothing w u
   | inr same ↦ inr same
 ]
 
--- a list of one event has it first
+-- a list of one event can only be split before that event
 single : (w : World) (v : Event) (before : List Event) (e : Event) (after : List Event) (u : World) → v ∷ [] ≡ before ++ e ∷ after → Leads w before u → (e ≡ v) × (u ≡ w)
 single w v [] e after u h l = let same : e ≡ v = cc in (same, l)
 single w v (c ∷ cs) e after u h l = absurd (omega (arith, ap length h, length-append cs (e ∷ after)))
@@ -160,7 +160,7 @@ all_given (event ∷ events) w inv v all h k o now e body =
     all_given events u step.0 v (λ p there f is. step_given w inv event u all h.1 step.1 p.id.replica p (step.0.own p there) f is) h.2 k o now e body
 
 module _ (w : World) (is : IsWorld w) (i : List ℕ) (count : ℕ) (ahead : greatest i (w.offices i).content.seen < count) where
-  -- no effect there ends an entry that is still to be numbered
+  -- no effect in the register retires or supersedes an entry that is still to be numbered
   none_ends : (t : Body → Bool) → ((b : Body) → t b ≡ true → Ends (id_at i count) b) → any (λ o. t o.body) (w.offices i).content.ops ≡ false
   none_ends t ends =
       let inv = reached w is in

@@ -1,4 +1,4 @@
--- Each entry that an import retires is one of the register, not retired before, and retired once.
+-- Each entry that an import retires is in the register, is not retired before, and is retired once.
 use Rattle.std.proofs.Common.{◌≡◌, ℕ, ◌+◌, Bool, true, false, not, cond, List, [], ◌∷◌, ◌++◌, filter, length, Some, None, refl, sym, ap, ◌∙◌, subst, inl, inr, ◌⊎◌}
 use Rattle.std.proofs.lemmas.Bool.{true≢false, or_cases, or_left, or_right, false_from_ne_true}
 use Rattle.std.specs.List.{list_any, flat_map}
@@ -40,11 +40,11 @@ same_itself i = ap is_eq (tied_itself id_total i)
 abbrev among : Id → List StandingEntry → Bool
 among i es = list_any (λ (e : StandingEntry). is_same i e.entry) es
 
--- the entries can be retired: each is one of the register, not retired, none of those before, and there once
+-- the entries can be retired after those in `before`: each is entered, not retired, not in `before`, and listed once
 abbrev CanRetire : Ops → List Id → List StandingEntry → Type 0
 CanRetire ops before es = Once ops before (retired es)
 
--- ---- what can be retired still can, where others were
+-- ---- the same entries, or fewer, after other ids
 
 can_still : (ops : Ops) (b1 b2 : List Id) (es : List StandingEntry) → CanRetire ops b1 es → ((i : Id) → among i es ≡ true → list_any (is_same i) b2 ≡ true → list_any (is_same i) b1 ≡ true) → CanRetire ops b2 es
 can_still ops b1 b2 [] h w = tt
@@ -66,7 +66,7 @@ can_filter ops p before (e ∷ es) h =
       | false ↦ can_still ops (e.entry ∷ before) before (filter p es) (can_filter ops p (e.entry ∷ before) es h.3) (λ i m t. or_right (is_same i e.entry) _ t)
     ]
 
--- those before, and the entries
+-- an id in `before` with the retired entries is in `before`, or is that of one of the entries
 after_cases : (before : List Id) (es : List StandingEntry) (i : Id) → list_any (is_same i) (and_retired before (retired es)) ≡ true → (list_any (is_same i) before ≡ true) ⊎ (among i es ≡ true)
 after_cases before [] i h = inl h
 after_cases before (e ∷ es) i h = elim (after_cases (e.entry ∷ before) es i h) [
@@ -77,15 +77,15 @@ after_cases before (e ∷ es) i h = elim (after_cases (e.entry ∷ before) es i 
   | inr a ↦ inr (or_right (is_same i e.entry) _ a)
 ]
 
--- ---- what there is of each key
+-- ---- the bucket of each key
 
--- of each key that is not ours the entries can be retired, and those of two such keys are others
+-- the entries of each bucket without `ours` can be retired, and no two such buckets share an id
 pub record Fresh (ops : Ops) (before : List Id) (at : At) : Type 0 where
   pub can : (k : KeyBytes) → (at k).ours ≡ false → CanRetire ops before (at k).known
   pub apart : (k l : KeyBytes) (i : Id) → (at k).ours ≡ false → (at l).ours ≡ false → among i (at k).known ≡ true → among i (at l).known ≡ true → is_key k l ≡ true
 
 module _ (ops : Ops) (before : List Id) (at : At) (key : KeyBytes) (new : OfKey) where
-  -- where it is not ours it is what was there
+  -- a bucket without `ours` is the old one
   as_it_was : (new.ours ≡ false → new ≡ at key) → (k : KeyBytes) → (with_key key new at k).ours ≡ false → with_key key new at k ≡ at k
   as_it_was h k o = elim (is_key key k) as (λ b. is_key key k ≡ b → (cond b new (at k)).ours ≡ false → cond b new (at k) ≡ at k) [
     | true ↦ λ e p. h p ∙ ap at (same_key key k e)
@@ -106,7 +106,7 @@ module _ (ops : Ops) (before : List Id) (at : At) (key : KeyBytes) (new : OfKey)
   fresh_same : (new.ours ≡ false → new ≡ at key) → Fresh ops before at → Fresh ops before (with_key key new at)
   fresh_same h f = fresh_on before h f (λ k o. f.can k (subst (λ there. there.ours ≡ false) (as_it_was h k o) o))
 
--- of this key all are retired, and it is ours then
+-- retiring all entries of a bucket, and setting its `ours`, leaves the others fresh
 fresh_revised : (ops : Ops) (before : List Id) (at : At) (key : KeyBytes) (new : OfKey) → (at key).ours ≡ false → new.ours ≡ true → Fresh ops before at → Fresh ops (and_retired before (retired (at key).known)) (with_key key new at)
 fresh_revised ops before at key new free ours f =
     let not_free : new.ours ≡ false → new ≡ at key = λ e. absurd (true≢false (sym ours ∙ e)) in
@@ -155,7 +155,7 @@ all_once d ops before at r n (reading.Defined text key ∷ texts) f =
     once_append ops before bs (effects (imports d r (n + length bs) (with_key (bytes_of key) (then_of t key text there) at) texts)) g.once
     (all_once d ops (and_retired before bs) (with_key (bytes_of key) (then_of t key text there) at) r (n + length bs) texts g.fresh)
 
--- ---- before the command
+-- ---- the entries before the import
 
 pub not_retired : (s : Ops) (e : Id) → enters s e ≡ true → not (is_retired (status s e)) ≡ true → retires s e ≡ false
 not_retired s e h k = told (enters s e) (retires s e) (supersedes s e) h k
@@ -165,11 +165,11 @@ not_retired s e h k = told (enters s e) (retires s e) (supersedes s e) h k
     told true false u h k = refl
     told false r u h k = absurd (true≢false (sym h))
 
--- none of those before is one of these operations
+-- no id of `before` is the id of one of these operations
 abbrev Apart : List Id → List Op → Type 0
 Apart before os = (i : Id) → list_any (is_same i) before ≡ true → (o : Op) → has os o ≡ true → is_same i o.id ≡ false
 
--- an operation is one of those that follow
+-- an operation of the rest of the list is in the list
 has_later : (o p : Op) (os : List Op) → has os p ≡ true → has (o ∷ os) p ≡ true
 has_later o p os h = or_right _ (has os p) h
 
@@ -191,7 +191,7 @@ itself o os = or_left _ (has os o) (ap is_eq (tied_itself op_total o))
 abbrev rows_of : Ops → List Op → List Row
 rows_of s os = flat_map (λ (o : Op). rows_at s o.id o.body) os
 
--- what the entries of the rows of later operations can be
+-- the entries of the rows of these operations can be retired after any ids of other operations
 abbrev CanLater : Ops → List Op → Type 0
 CanLater s os = (before : List Id) (es : List StandingEntry) → Apart before os → AreKnown (filter stands (rows_of s os)) es → CanRetire s before es
 
@@ -231,7 +231,7 @@ can_rows s (o ∷ os) there up before es apart are =
 pub can_standing : (s : Ops) (es : List StandingEntry) → ById (set.items s) → AreStanding s es → CanRetire s [] es
 can_standing s es up are = can_rows s (set.items s) (λ o h. contains-items s o ∙ h) up [] es (λ i m o h. absurd (true≢false (sym m))) are
 
--- behind an entry that can be retired beside them, others have another id
+-- entries that can be retired after e do not have the id of e
 not_again : (s : Ops) (before : List Id) (e : StandingEntry) (i : Id) (fs : List StandingEntry) → CanRetire s (e.entry ∷ before) fs → is_same i e.entry ≡ true → among i fs ≡ true → ⊥
 not_again s before e i [] c same m = true≢false (sym m)
 not_again s before e i (f ∷ fs) c same m = elim (or_cases (is_same i f.entry) (among i fs) m) [
@@ -241,7 +241,7 @@ not_again s before e i (f ∷ fs) c same m = elim (or_cases (is_same i f.entry) 
   | inr k ↦ not_again s before e i fs (can_still s (f.entry ∷ e.entry ∷ before) (e.entry ∷ before) fs c.3 (λ j n t. or_right (is_same j f.entry) _ t)) same k
 ]
 
--- of an entry and others, one passes both tests
+-- some entry passes both tests
 abbrev PassesBoth : (StandingEntry → Bool) → (StandingEntry → Bool) → Type 0
 PassesBoth p q = (f : StandingEntry) × (p f ≡ true) × (q f ≡ true)
 
@@ -258,7 +258,7 @@ module _ (s : Ops) (before : List Id) (e : StandingEntry) (es : List StandingEnt
   ]
   one_of_both false false x y a b = later a b
 
--- entries of one id that pass two tests, among those that can be retired, are one entry
+-- if an entry with this id passes p, and one passes q, then some entry passes both
 same_entry : (s : Ops) (before : List Id) (es : List StandingEntry) (p q : StandingEntry → Bool) (i : Id) → CanRetire s before es → among i (filter p es) ≡ true → among i (filter q es) ≡ true → PassesBoth p q
 same_entry s before [] p q i h a b = absurd (true≢false (sym a))
 same_entry s before (e ∷ es) p q i h a b = one_of_both s before e es p q i h (same_entry s (e.entry ∷ before) es p q i h.3) (p e) (q e) refl refl a b
@@ -271,6 +271,6 @@ fresh_start s es h = record {
       key_itself k l (same_key k (key_of both.0) both.1 ∙ sym (same_key l (key_of both.0) both.2));
 }
 
--- what an import of texts into a content does, is done once
+-- the effects of an import enter entries, or retire entries of the content that are not retired, each once
 pub imports_once : (s : Ops) (es : List StandingEntry) (d : Differs) (r : List ℕ) (n : ℕ) (texts : List ReadText) → ById (set.items s) → AreStanding s es → Once s [] (effects (imports d r n (by_key es) texts))
 imports_once s es d r n texts up are = all_once d s [] (by_key es) r n texts (fresh_start s es (can_standing s es up are))

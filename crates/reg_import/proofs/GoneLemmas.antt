@@ -1,4 +1,4 @@
--- Keys of texts, one text after another, and the entries of other keys.
+-- The keys of texts, and the entries of an authority whose keys no text has.
 use Rattle.std.proofs.Common.{◌≡◌, ◌⊎◌, ◌↔◌, ℕ, Bool, true, false, not, cond, List, [], ◌∷◌, ◌++◌, append_assoc, append-nil, map, refl, sym, ap, ◌∙◌, subst, inl, inr}
 use Rattle.std.specs.Prelude.{IsTrue, Contains, if◌then◌else◌}
 use Rattle.std.specs.Cmp.{Equal-is, tied_itself}
@@ -25,7 +25,7 @@ use Rattle.reg_import.proofs.StandingLemmas.{one_key}
 
 -- ---- keys of texts
 
--- one more is put in
+-- inserting k into a set of keys appends it to the keys that the set has
 pub key_added : (keys : List KeyBytes) (k q : KeyBytes) (old new : Bool) → new ≡ cond (is_eq (key_cmp k q)) true old → IsTrue old ↔ Contains keys q → IsTrue new ↔ Contains (keys ++ k ∷ []) q
 key_added keys k q old new e is = by (is_eq (key_cmp k q)) refl
   where
@@ -77,7 +77,7 @@ module _ (authority : List ℕ) (texts : List KeyBytes) (r : RowOf) (key : KeyBy
       none true n = absurd (n refl)
       none false n = refl
 
--- ---- one entry after another
+-- ---- a loop over the entries
 
 module _ (authority : List ℕ) (texts : List KeyBytes) where
   pub gone_more : (done : List RowOf) (r : RowOf) (wanted : Bool) (old new : List RowOf) → IsTrue wanted ↔ IsGone authority texts r → new ≡ old ++ (if wanted then r ∷ [] else []) → AreGone authority texts done old
@@ -90,12 +90,12 @@ module _ (authority : List ℕ) (texts : List KeyBytes) where
   )
   gone_more (d ∷ done) r wanted old new is e (inr p) = inr (p.0, gone_more done r wanted old new is e p.1)
 
-  -- the same of rows as they are seen
+  -- the same for rows of the program
   pub gone_rows_more : (xs : List Row) (row : Row) (wanted : Bool) (old new : List RowOf) → IsTrue wanted ↔ IsGone authority texts (row_seen row) → new ≡ old ++ (if wanted then row_seen row ∷ [] else [])
       → AreGone authority texts (map row_seen xs) old → AreGone authority texts (map row_seen (xs ++ row ∷ [])) new
   gone_rows_more xs row wanted old new is e are = subst (λ l. AreGone authority texts l new) (sym (map-append row_seen xs (row ∷ []))) (gone_more (map row_seen xs) (row_seen row) wanted old new is e are)
 
-  -- ---- the law
+  -- ---- the entries that are listed, and their keys
 
   is_gone : (rs gone : List RowOf) → AreGone authority texts rs gone → (r : RowOf) → Contains gone r → Contains rs r × IsGone authority texts r
   is_gone [] gone e r h = absurd (none_in r (subst (λ l. Contains l r) e h))

@@ -1,4 +1,4 @@
--- What an import does, and why it does not.
+-- A plan that passes gives the result of an import, and one that is refused gives the reason.
 use Rattle.std.proofs.Common.{◌≡◌, ℕ, ◌+◌, ◌≤◌, nat_lt, Bool, false, cond, List, [], ◌∷◌, map, length, Some, None, Ok, refl, sym, ap, ◌∙◌, subst, arith}
 use Rattle.std.proofs.lemmas.Bool.Decides.{nat_tests}
 use Rattle.reg_op.specs.Set as set
@@ -62,7 +62,7 @@ module _ (x : Content) (r note : List ℕ) (d : Differs) (texts : List ReadText)
   plan_is_refused keep_going refusal.CountSpent short p h = (short, (p.0, p.1, subst (λ l. IsRefusedPlan keep_going l refusal.CountSpent) p.2.told h))
   plan_is_refused keep_going refusal.Memory short p h = absurd h
 
--- nothing joins a content
+-- joining no operations leaves the content unchanged
 pub joined_none : (x : Content) (ops : List Op) → IsContent x → length ops ≡ 0 → joined x (state (set.from_list {R = op_cmp} ops)) ≡ Ok x
 joined_none x [] is h = ap (joined x) state-empty ∙ joined_comm x nothing ∙ joined_nothing x is
 joined_none x (o ∷ ops) is h = absurd (omega arith)

@@ -18,7 +18,7 @@ same_key a b h = key_exact a b ((Equal-is (key_cmp a b)).0 h)
 pub key_itself : (a b : KeyBytes) → a ≡ b → is_key a b ≡ true
 key_itself a b e = subst (λ k. is_key a k ≡ true) e (ap is_eq (tied_itself key_total a))
 
--- ---- what is put in last stands
+-- ---- a bucket that is replaced twice
 
 with_key_again : (k : KeyBytes) (new none : OfKey) (at : At) (q : KeyBytes) → with_key k new (with_key k none at) q ≡ with_key k new at q
 with_key_again k new none at q = elim (is_key k q) as (λ b. cond b new (cond b none (at q)) ≡ cond b new (at q)) [ true ↦ refl | false ↦ refl ]
@@ -26,7 +26,7 @@ with_key_again k new none at q = elim (is_key k q) as (λ b. cond b new (cond b 
 pub put_again : (k l : KeyBytes) (new then none : OfKey) (at : At) (q : KeyBytes) → k ≡ l → new ≡ then → with_key k new (with_key k none at) q ≡ with_key l then at q
 put_again k l new then none at q e f = with_key_again k new none at q ∙ (λ j. with_key (e j) (f j) at q)
 
--- ---- one entry more
+-- ---- one more entry
 
 other_key : (a b : KeyBytes) → is_key a b ≡ false → is_key b a ≡ false
 other_key a b h = elim (is_key b a) as (λ v. is_key b a ≡ v → v ≡ false) [
@@ -53,9 +53,9 @@ by_key_push es e q = elim (is_key (key_of e) q) as (λ b. is_key (key_of e) q �
       ∙ (λ j. record { known = sym (of_key_push es e q) j; ours = false })
 ] refl
 
--- ---- one row after another
+-- ---- a loop over the rows
 
--- the entries so far, with those of the rows that are still to come, are those of all
+-- the entries so far, followed by those of the remaining rows, are the entries of all rows
 pub record KnowsAll (all rest : List MadeRow) (es : List StandingEntry) : Type 0 where
   pub completes : (more : List StandingEntry) → AreKnown (map row_seen rest) more → AreKnown (map row_seen all) (es ++ more)
 
@@ -73,7 +73,7 @@ pub knows_all : (all rest : List MadeRow) (es : List StandingEntry) → length r
 knows_all all [] es e done = subst (AreKnown (map row_seen all)) (append-nil es) (done.completes [] refl)
 knows_all all (row ∷ rest) es e done = absurd (omega arith)
 
--- ---- the rows that stand
+-- ---- the rows that are not retired
 
 pub standing_seen : (rs : List MadeRow) → map row_seen (filter (λ (r : MadeRow). stands (row_seen r)) rs) ≡ filter stands (map row_seen rs)
 standing_seen [] = refl

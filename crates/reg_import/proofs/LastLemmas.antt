@@ -1,4 +1,4 @@
--- What there is of each key after an import, and what stands then.
+-- The buckets after an import have the texts of the entries that are not retired after it.
 use Rattle.std.proofs.Common.{◌≡◌, ℕ, ◌+◌, true, false, ◌&&◌, ◌||◌, List, [], ◌∷◌, ◌++◌, append_assoc, append-nil, add-zero, length, refl, sym, ap, ◌∙◌, subst, inl, inr, ◌⊎◌, arith}
 use Rattle.std.specs.Prelude.{Contains}
 use Rattle.std.specs.Cmp.{tied_itself}
@@ -46,7 +46,7 @@ use Rattle.reg_import.proofs.TextLemmas.{HasText, comes_ours}
 use Rattle.reg_import.proofs.AgainLemmas.{at_key, finally, ours_stay, SameTexts}
 use Rattle.reg_import.proofs.StandingLemmas.{in_filter, to_filter, one_key, IsOld, standing_is_old, old_is_standing, one_key_an_id, entry_stands, standing_entry, gone, still_entered, now_entered, was_entered, then_retired}
 
--- the key of a text that was read is the one in it
+-- the key that was read is that of the text
 abbrev pub IsKeyed : ReadText → Type 0
 IsKeyed (reading.Unread f) = Unit {0}
 IsKeyed (reading.Defined text key) = IsKeyIn key text
@@ -55,7 +55,7 @@ abbrev pub AreKeyed : List ReadText → Type 0
 AreKeyed [] = Unit {0}
 AreKeyed (text ∷ texts) = IsKeyed text × AreKeyed texts
 
--- ---- what effects retire
+-- ---- the entries that effects retire
 
 gone_both : (i : Id) (bs cs : List Body) → gone i bs ≡ false → gone i cs ≡ false → gone i (bs ++ cs) ≡ false
 gone_both i bs cs h k = list_any-append (is_retirement i) bs cs ∙ (λ j. h j || k j)
@@ -81,7 +81,7 @@ gone_of : (t : TextAction) (text : List ℕ) (es : List StandingEntry) (i : Id) 
 gone_of (told.Revised j) text es i h = gone_retired i es h
 gone_of t text es i h = absurd cc
 
--- an entry that is not retired stays
+-- an entry that the effects do not retire remains in its bucket
 stays_of : (t : TextAction) (key : Key) (text : List ℕ) (there : OfKey) (e : StandingEntry) → Contains there.known e → gone e.entry (bodies_of t text there.known) ≡ false → Contains (then_of t key text there).known e
 stays_of (told.Same j) key text there e c h = c
 stays_of (told.Superseded j) key text there e c h = c
@@ -112,7 +112,7 @@ once_gone ops before (Retire e ∷ bs) i once h = elim (or_cases (is_same i e) (
   | inr later ↦ once_gone ops (e ∷ before) bs i once.3 later
 ]
 
--- ---- what effects enter
+-- ---- the entries that effects enter
 
 module _ (r : List ℕ) (note : List ℕ) where
   has_both : (n : ℕ) (bs cs : List Body) (o : Op) → has (numbered r n note (bs ++ cs)) o ≡ (has (numbered r n note bs) o || has (numbered r (n + length bs) note cs) o)
@@ -128,7 +128,7 @@ module _ (r : List ℕ) (note : List ℕ) where
   itself : (n : ℕ) (text : List ℕ) (bs : List Body) → has (numbered r n note (Enter text ∷ bs)) (entering (id_at r n) text note) ≡ true
   itself n text bs = or_left _ (has (numbered r (n + 1) note bs) (entering (id_at r n) text note)) (ap is_eq (tied_itself op_total (entering (id_at r n) text note)))
 
-  -- an entry that there is then was there, and nothing was retired of the key, or it is new
+  -- an entry of the bucket after a text was in it before, and the text retires nothing; or it is the entry of the text
   abbrev IsThen : TextAction → ℕ → Key → List ℕ → OfKey → StandingEntry → Type 0
   IsThen t n key text there e = (Contains there.known e × ((i : Id) → gone i (bodies_of t text there.known) ≡ false))
       ⊎ ((e ≡ entered (id_at r n) key text) × (has (numbered r n note (bodies_of t text there.known)) (entering (id_at r n) text note) ≡ true))
@@ -156,7 +156,7 @@ module _ (r : List ℕ) (note : List ℕ) where
         ]
       ]
 
-  -- what is entered is the text, which is neither refused nor spent
+  -- the text that is entered is the one that was read, and its action is neither a refusal nor `Spent`
   abbrev IsEntered : TextAction → List ℕ → List ℕ → Type 0
   IsEntered t text other = (other ≡ text) × (is_refused t ≡ false) × (is_spent t ≡ false)
 
@@ -178,7 +178,7 @@ module _ (r : List ℕ) (note : List ℕ) where
         | inr later ↦ absurd (none later)
       ]
 
-  -- a text that was entered is one of those that were read, and is there at the end
+  -- the text was read as a definition, and an entry in the last bucket of its key has it
   pub record IsAtEnd (last : At) (texts : List ReadText) (text : List ℕ) : Type 0 where
     pub key : Key
     pub read : Contains texts (reading.Defined text key)
@@ -215,14 +215,14 @@ module _ (r : List ℕ) (note : List ℕ) where
         | inr b ↦ later (finally d r (n + length bs) next texts) (reading.Defined text key) texts other (enters_there d (n + length bs) next texts i other noted keyed.1 b)
       ]
 
--- ---- all that there is of a key stands
+-- ---- the entries of the last buckets are not retired
 
--- it is one of these operations that enters it, and it has the key of its text
+-- one of the operations enters it, and it has the key of its text
 pub record IsNew (os : List Op) (note : List ℕ) (e : StandingEntry) : Type 0 where
   pub entered : has os (entering e.entry e.definition note) ≡ true
   pub keyed : IsKeyIn e.key e.definition
 
--- each was there and is not retired by the effects, or is new
+-- each entry of a bucket has its key, and is an old one that the effects do not retire, or a new one
 pub record Stand (x : Content) (os : List Op) (note : List ℕ) (before : List Body) (at : At) : Type 0 where
   pub each : (k : KeyBytes) (e : StandingEntry) → Contains (at k).known e → ((IsOld x e × (gone e.entry before ≡ false)) ⊎ IsNew os note e) × (key_of e ≡ k)
 
@@ -236,7 +236,7 @@ module _ (x : Content) (one : OneBody x.ops) (os : List Op) (r note : List ℕ) 
     | inr b ↦ inr b
   ]
 
-  -- of another key nothing is retired
+  -- a text retires no entry of another key
   others_stand : (before : List Body) (n : ℕ) (at : At) (key : Key) (text : List ℕ) (k : KeyBytes) (e : StandingEntry) → Stand x os note before at → is_key (bytes_of key) k ≡ false → Contains (at k).known e
       → IsOld x e → gone e.entry (bodies_of (told_of d (id_at r n) (at (bytes_of key)) text) text (at (bytes_of key)).known) ≡ false
   others_stand before n at key text k e s other c old = false_from_ne_true _ (λ g.
@@ -295,7 +295,7 @@ module _ (x y : Content) (replica note : List ℕ) (d : Differs) (texts : List R
   made : does.ops ≡ numbered replica first note all
   made = made_are x replica note all does.ops does.are_made
 
-  -- a new id was not entered
+  -- the id of a new entry was not entered before
   unseen : (e : StandingEntry) → IsNew does.ops note e → enters x.ops e.entry ≡ false
   unseen e new = false_from_ne_true _ (λ h.
       let m = member_from_any op_total op_exact (λ (o : Op). is_same e.entry o.id && is_enter o.body) x.ops h in
@@ -317,7 +317,7 @@ module _ (x y : Content) (replica note : List ℕ) (d : Differs) (texts : List R
   at_last : Stand x does.ops note all last
   at_last = all_stand x is.one_body does.ops replica note no_both d [] first (by_key es) texts keyed at_first (λ o h. subst (λ l. has l o ≡ true) (sym made) h)
 
-  -- an entry of the last ones stands, and has the key of its text
+  -- the entry is entered in the new content, not retired there, and has the key of its text
   record IsUp (e : StandingEntry) : Type 0 where
     noted : List ℕ
     entered : contains y.ops (entering e.entry e.definition noted) ≡ true
@@ -349,13 +349,13 @@ module _ (x y : Content) (replica note : List ℕ) (d : Differs) (texts : List R
   up : (k : KeyBytes) (e : StandingEntry) → Contains (last k).known e → IsUp e × (key_of e ≡ k)
   up k e c = let h = at_last.each k e c in (elim h.0 [ inl a ↦ old_up e a.0 a.1 | inr b ↦ new_up e b ], h.1)
 
-  -- a text that there is of a key at the end, stands
+  -- each entry of a last bucket shares its text with an entry of the new content that is not retired
   pub last_stands : (k : KeyBytes) (text : List ℕ) → HasText (last k).known text → HasStanding y.ops text
   last_stands k text h =
       let its = (up k h.0 h.1).0 in
       subst (HasStanding y.ops) h.2 (entry_stands y.ops h.0.entry h.0.definition its.noted its.entered its.stands)
 
-  -- a text that stands stood before, or was read
+  -- a text of such an entry was that of such an entry before the import, or was read
   pub stood_or_read : (text : List ℕ) → HasStanding y.ops text → HasStanding x.ops text ⊎ ((key : Key) × Contains texts (reading.Defined text key))
   stood_or_read text h =
       let found = standing_entry y.ops text h in

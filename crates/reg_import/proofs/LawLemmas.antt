@@ -109,7 +109,7 @@ module _ (x y : Content) (replica note again noted : List ℕ) (d : Differs) (ke
         subst (IsToldAgain ts) (sym n.told) s.0,
       )
 
--- ---- no text is refused that was not
+-- ---- importing again is refused only for its note, or if memory runs out
 
 any_mapped : {X : Type 0} (p : X → Bool) (xs : List X) → list_any p xs ≡ list_any (λ b. b) (map p xs)
 any_mapped p [] = refl
@@ -153,7 +153,7 @@ refused_again x y replica note again noted d keep_going readings ts is ahead key
     let none : NoneRefused (tolds h.1.0) = told_unrefused ts (tolds h.1.0) s.0 (m.passes h.1.2.0) in
     absurd (true≢false (sym (passes_at (tolds h.1.0) at (told.Refused p) h.1.2.1.refused refl) ∙ none))
 
--- ---- what is exported
+-- ---- exported texts
 
 lines_are : (rs : List Row) → flat_map row_line rs ≡ printed (map (λ (r : Row). r.definition) (filter stands rs))
 lines_are [] = refl
@@ -186,7 +186,7 @@ module _ (x : Content) (is : IsContent x) where
   exported_defined : (text : List ℕ) → Contains texts text → IsDefinition text
   exported_defined text c = let h = exported_standing text c in subst IsDefinition h.definition (defined_rows x is h.row h.there)
 
-  -- the file is cut into just these texts
+  -- the exported file is cut into exactly these texts
   pub exported_found : AreFound (export x.ops) texts
   exported_found = subst (λ file. AreFound file texts) (sym (lines_are (rows x.ops))) (printed_found texts (all_canonical texts exported_defined))
 
@@ -212,9 +212,9 @@ defined_as : (w : List ℕ) (r : ReadText) → IsReading w r → IsDefinition w 
 defined_as w (reading.Defined text key) h d = (key, ap (λ t. reading.Defined t key) (same_definition w text key h d))
 defined_as w (reading.Unread f) h d = absurd (no_fault w d f h.0 h.1)
 
--- ---- beside one another
+-- ---- texts that are entered beside others
 
--- beside others, each definition is there at the end
+-- if the counts suffice, each definition that was read has an entry in the last bucket of its key
 beside_there : (r : List ℕ) (n : ℕ) (at : At) (readings : List ReadText) (text : List ℕ) (key : Key) → NoneSpent (tolds (imports differs.Beside r n at readings)) → Contains readings (reading.Defined text key)
     → HasText (finally differs.Beside r n at readings (bytes_of key)).known text
 beside_there r n at [] text key unspent c = absurd (none_in (reading.Defined text key) c)

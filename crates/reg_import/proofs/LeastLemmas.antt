@@ -1,10 +1,10 @@
--- The least of some entries, from the last of them on.
+-- The least id of the entries that pass a test, found from the last entry to the first.
 use Rattle.std.proofs.Common.{◌≡◌, Bool, true, false, cond, List, [], ◌∷◌, ◌++◌, append_assoc, append-nil, length, Option, Some, None, refl, sym, ap, ◌∙◌, arith}
 use Rattle.reg_op.specs.Ids.{Id}
 use Rattle.reg_import.specs.declared.standing_entry.StandingEntry.{StandingEntry}
 use Rattle.reg_import.specs.Imports.{least, sooner}
 
--- the least of those behind the ones that are left
+-- `so_far` is the least id of the entries after `front`, which are already read
 pub record IsLeastBehind (passes : StandingEntry → Bool) (all front : List StandingEntry) (so_far : Option Id) : Type 0 where
   pub behind : List StandingEntry
   pub are : all ≡ front ++ behind

@@ -1,4 +1,4 @@
--- Lines, one after another.
+-- The lines of an import, one text at a time.
 use Rattle.std.proofs.Common.{◌≡◌, ℕ, Bool, true, false, not, ◌&&◌, cond, List, [], ◌∷◌, ◌++◌, append_assoc, append-nil, filter, length, arith, refl, sym, ap, ◌∙◌, subst}
 use Rattle.std.proofs.lemmas.List.Elements.{filter-append}
 use Rattle.csv.specs.Writing.{row_text, default_writer}
@@ -26,9 +26,9 @@ module _ {T : Type 0} (R : T → List (List ℕ) → Type 0) where
     ready = two.ready;
   }
 
--- ---- one text after another
+-- ---- a loop over the texts
 
--- the lines of the texts so far were written, and these are left
+-- the lines of all texts before the remaining ones are written
 pub record SoFar (names : List (List ℕ)) (changes : Bool) (all : List Line) (texts : List FileText) (told : List TextAction) (old now : Sheet) : Type 0 where
   pub done : List Line
   pub split : all ≡ done ++ lines_of texts told

@@ -1,4 +1,4 @@
--- Entries that are retired once: nothing is against that, and none of the operations replaces another.
+-- Effects that retire each entry once meet no objection, and none of their operations replaces another.
 use Rattle.std.proofs.Common.{◌≡◌, ℕ, ◌+◌, Bool, true, false, not, ◌&&◌, ◌||◌, cond, List, [], ◌∷◌, ◌++◌, Some, None, refl, sym, ap, ◌∙◌, subst, inl, inr}
 use Rattle.std.specs.Prelude.{option_map}
 use Rattle.std.proofs.lemmas.Bool.{true≢false, or_left, and_parts, false_from_ne_true}
@@ -27,14 +27,14 @@ use Rattle.reg_office.specs.declared.fault.OfficeFault.TheVariants as fault
 use Rattle.reg_office.specs.Making.{numbered, with_op, else_next, objections}
 use Rattle.reg_office.proofs.NumberLemmas.{op_cases}
 
--- entries are entered by the effects, or retired that were entered, each once, and none of those before
+-- the effects enter entries, or retire entries that are entered, not retired and not in `before`, each once
 abbrev pub Once : Ops → List Id → List Body → Type 0
 Once ops before [] = Unit {0}
 Once ops before (Enter text ∷ bs) = Once ops before bs
 Once ops before (Supersede old newer ∷ bs) = ⊥
 Once ops before (Retire e ∷ bs) = (enters ops e ≡ true) × (retires ops e ≡ false) × (list_any (is_same e) before ≡ false) × Once ops (e ∷ before) bs
 
--- those before, and those that the effects retire
+-- `before` with the entries that the effects retire
 abbrev pub and_retired : List Id → List Body → List Id
 and_retired before [] = before
 and_retired before (Enter text ∷ bs) = and_retired before bs
@@ -50,9 +50,9 @@ once_append ops before (Retire e ∷ bs) cs a b = (a.0, a.1, a.2, once_append op
 same_itself : (i : Id) → is_same i i ≡ true
 same_itself i = ap is_eq (tied_itself id_total i)
 
--- ---- nothing is against them
+-- ---- they meet no objection
 
--- what there was, with entries retired and others entered
+-- `now` enters all entries of `ops`, and retires exactly those that `ops` retires and those in `before`
 record Grown (ops : Ops) (before : List Id) (now : Ops) : Type 0 where
   entered : (e : Id) → enters ops e ≡ true → enters now e ≡ true
   retired : (e : Id) → retires now e ≡ (retires ops e || list_any (is_same e) before)
@@ -104,7 +104,7 @@ nothing_against x r n note bs once = against_none x.ops [] x r n note bs (record
 
 -- ---- none replaces another
 
--- an operation of them enters, or retires none of those before
+-- the effect enters an entry, or retires one that is not in `before`
 abbrev IsOne : List Id → Body → Type 0
 IsOne before (Enter text) = Unit {0}
 IsOne before (Supersede old newer) = ⊥
@@ -135,7 +135,7 @@ module _ (ops : Ops) (r : List ℕ) (note : List ℕ) where
     | inr a ↦ fewer e before o.body (one_of (e ∷ before) (n + 1) bs o once.3 a)
   ]
 
-  -- behind the retirement of an entry there is none of it
+  -- effects that can follow the retirement of an entry do not retire it again
   no_more : (before : List Id) (n : ℕ) (bs : List Body) (e f : Id) (o : Op) → Once ops (e ∷ before) bs → has (numbered r n note bs) o ≡ true → o.body ≡ Retire f → f ≡ e → ⊥
   no_more before n bs e f o once h b same =
       let is = subst (IsOne (e ∷ before)) b (one_of (e ∷ before) n bs o once h) in
@@ -168,7 +168,7 @@ module _ (ops : Ops) (r : List ℕ) (note : List ℕ) where
     ]
   ]
 
-  -- of effects that enter and retire, one replaces another only as a retirement of the same entry
+  -- no operation of the effects replaces one of them
   over_none : (before : List Id) (n : ℕ) (bs : List Body) (p o : Op) → Once ops before bs → has (numbered r n note bs) p ≡ true → has (numbered r n note bs) o ≡ true → replaces p o ≡ true → ⊥
   over_none before n bs p o once h k over = by_body p.body o.body refl refl
     where

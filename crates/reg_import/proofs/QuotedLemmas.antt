@@ -1,4 +1,4 @@
--- One byte more of what stands in quotation marks.
+-- The loop that reads a text in quotation marks, byte by byte.
 use Rattle.std.proofs.Common.{◌≡◌, ℕ, Bool, true, false, cond, List, [], ◌∷◌, ◌++◌, append_assoc, append-nil, Option, Some, None, refl, sym, ap, subst, ◌∙◌}
 use Rattle.std.specs.Prelude.{option_map}
 use Rattle.std.specs.Option.{unwrap_or}
@@ -31,7 +31,7 @@ pub map_none : (o : Option (List ℕ)) → option_map (λ t. [] ++ t) o ≡ o
 map_none None = refl
 map_none (Some t) = refl
 
--- what there is of the text so far, with what is still to come, is the text
+-- `text` followed by what the bytes not yet read quote is the quoted text
 abbrev pub IsQuotedSoFar : List ℕ → Bool → List ℕ → List ℕ → Type 0
 IsQuotedSoFar text marked rest bytes = option_map (λ t. text ++ t) (quoted marked rest) ≡ quoted false bytes
 

@@ -31,7 +31,7 @@ same_read (refused.Slot f) (refused.Slot g) h = cc
 same_read (refused.Broken c place) (refused.Broken d at) h = cc
 same_read f g h = cc
 
--- what spells something has no such fault
+-- a text that spells a value has no fault of reading
 spelled : (text : List ℕ) (v : Crs) (f : Unspelled) → Spells text v → FirstFault text (as_read f) → ⊥
 spelled text v f s h = no_memory f (value_or_fault text v (as_read f) s h)
 

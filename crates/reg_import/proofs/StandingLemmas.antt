@@ -1,4 +1,4 @@
--- The entries that stand in a content, and in one that new operations have joined.
+-- The entries of a content that are not retired, before and after new operations join it.
 use Rattle.std.proofs.Common.{◌≡◌, ℕ, ◌+◌, Bool, true, false, not, ◌||◌, cond, List, [], ◌∷◌, ◌++◌, filter, Some, None, Result, Ok, refl, sym, ap, ◌∙◌, subst, inl, inr, ◌⊎◌}
 use Rattle.std.specs.Prelude.{Contains}
 use Rattle.std.specs.List.{list_any, flat_map}
@@ -67,7 +67,7 @@ to_filter p (y ∷ ys) x c e = elim (p y) as (λ b. p y ≡ b → Contains (cond
   ]
 ] refl
 
--- ---- one key a text
+-- ---- a text has one key
 
 first_key : (ids : List Ident) (k l : Key) → (ids ≡ [] → ⊥) → ((id : Ident) (others : List Ident) → ids ≡ id ∷ others → IsKeyOf id k) → ((id : Ident) (others : List Ident) → ids ≡ id ∷ others → IsKeyOf id l) → bytes_of k ≡ bytes_of l
 first_key [] k l some f g = absurd (some refl)
@@ -117,7 +117,7 @@ stays_up true false true h = refl
 stays_up true false false h = refl
 stays_up false r u h = refl
 
--- what is entered and not retired stands
+-- an entry that is entered and not retired has a row, which is not retired
 pub entered_stands : (s : Ops) (i : Id) (text note : List ℕ) → contains s (entering i text note) ≡ true → retires s i ≡ false → Contains (rows s) (row_of s i text) × (stands (row_of s i text) ≡ true)
 entered_stands s i text note h n = (row_in s (set.items s) i text note (sym (contains-items s (entering i text note)) ∙ h), stays_up (enters s i) (retires s i) (supersedes s i) n)
 
@@ -135,7 +135,7 @@ row_known (q ∷ rs) es r a c = elim (in_cons r q rs c) [
   | inr later ↦ let m = row_known rs a.1 r a.3 later in (m.0, subst (λ l. Contains l m.0) (sym a.4) (in_tail m.0 a.0 a.1 m.1), m.2)
 ]
 
--- it is entered there with this text, and not retired
+-- the entry is entered with this text, and not retired
 pub record IsStandingEntry (s : Ops) (i : Id) (text : List ℕ) : Type 0 where
   pub note : List ℕ
   pub entered : contains s (entering i text note) ≡ true
@@ -149,7 +149,7 @@ row_stands s r c up =
 
 -- ---- entries
 
--- it is entered there, not retired, and has the key of its text
+-- the entry is entered in the content, not retired, and has the key of its text
 pub record IsOld (x : Content) (e : StandingEntry) : Type 0 where
   pub note : List ℕ
   pub entered : contains x.ops (entering e.entry e.definition note) ≡ true
@@ -168,7 +168,7 @@ standing_is_old x es e are c =
       keyed = subst (IsKeyIn e.key) (sym k.definition) k.keyed;
     }
 
--- an entry of some has this id and this text, and the key of that
+-- one of the entries has this id and this text, and the key of the text
 pub record IsOneOf (es : List StandingEntry) (i : Id) (text : List ℕ) : Type 0 where
   pub e : StandingEntry
   pub there : Contains es e
@@ -183,7 +183,7 @@ old_is_standing s es i text note are h n =
     let m = row_known (filter stands (rows s)) es r are (to_filter stands (rows s) r up.0 up.1) in
     record { e = m.0; there = m.1; entry = m.2.entry; definition = m.2.definition; keyed = m.2.keyed }
 
--- entries of one id have one key
+-- entries of a content that have one id have one key
 pub one_key_an_id : (x : Content) (e f : StandingEntry) → OneBody x.ops → IsOld x e → IsOld x f → e.entry ≡ f.entry → key_of e ≡ key_of f
 one_key_an_id x e f one a b same =
     let ops : entering e.entry e.definition a.note ≡ entering f.entry f.definition b.note = one (entering e.entry e.definition a.note) (entering f.entry f.definition b.note) a.entered b.entered same in
@@ -191,7 +191,7 @@ one_key_an_id x e f one a b same =
     let texts : e.definition ≡ f.definition = cc in
     one_key e.definition e.key f.key a.keyed (subst (IsKeyIn f.key) (sym texts) b.keyed)
 
--- ---- a text stands
+-- ---- the texts of entries that are not retired
 
 pub entry_stands : (s : Ops) (i : Id) (text note : List ℕ) → contains s (entering i text note) ≡ true → retires s i ≡ false → HasStanding s text
 entry_stands s i text note h n = let up = entered_stands s i text note h n in record { row = row_of s i text; there = up.0; definition = refl; stands = up.1 }
@@ -199,9 +199,9 @@ entry_stands s i text note h n = let up = entered_stands s i text note h n in re
 pub standing_entry : (s : Ops) (text : List ℕ) → HasStanding s text → (i : Id) × IsStandingEntry s i text
 standing_entry s text h = (h.row.entry, subst (IsStandingEntry s h.row.entry) h.definition (row_stands s h.row h.there h.stands))
 
--- ---- what new operations leave
+-- ---- the content after new operations
 
--- the entry is retired by one of the effects
+-- one of the effects retires the entry
 abbrev pub gone : Id → List Body → Bool
 gone i bs = list_any (is_retirement i) bs
 
@@ -257,7 +257,7 @@ module _ (x y : Content) (replica note : List ℕ) (bodies : List Body) (ids : L
   pub then_kept : kept y.ops ≡ y.ops
   then_kept = subst (λ (z : Content). kept z.ops ≡ z.ops) both.1 (kept-kept (union x.ops new.ops))
 
--- a command without effects leaves what there was
+-- a command without effects leaves the content unchanged
 pub nothing_done : (y z : Content) (replica note : List ℕ) (ids : List Id) → OneBody y.ops → kept y.ops ≡ y.ops → Does y replica note [] z ids → z ≡ y
 nothing_done y z replica note ids one is_kept d =
     let none : d.ops ≡ [] = made_are y replica note [] d.ops d.are_made in

@@ -1,4 +1,4 @@
--- One text after another.
+-- The plan of an import, one text at a time.
 use Rattle.std.proofs.Common.{◌≡◌, ℕ, ◌+◌, ◌≤◌, List, [], ◌∷◌, ◌++◌, append_assoc, append-nil, length, length-append, add-zero, refl, sym, ap, ◌∙◌, subst, arith}
 use Rattle.std.specs.BTreeMap.{BTreeMap}
 use Rattle.crs_value.specs.declared.key.Key.{Key}
@@ -45,7 +45,7 @@ fits_told d r n there text h =
       spent = omega arith;
     })
 
--- by what is found of the text
+-- the action that is found by the least entries with the text is the action for the text
 pub told_is : (d : Differs) (new : Id) (there : OfKey) (text : List ℕ) (f : Found) (t : TextAction) → f ≡ found text there.known → t ≡ told_by f (least any_entry there.known) d new there → t ≡ told_of d new there text
 told_is d new there text f t e is = is ∙ ap (λ g. told_by g (least any_entry there.known) d new there) e
 
@@ -69,9 +69,9 @@ module _ (d : Differs) (r : List ℕ) (n : ℕ) (note text : List ℕ) (key : Ke
         index = λ q. index q ∙ put_again (key_bytes kt) (bytes_of key) (bucket_seen b') (then_of t key text (at (bytes_of key))) nothing_there at (key_bytes q) k (now ∙ ap (then_of t key text) found);
       }
 
--- ---- one after another
+-- ---- a loop over the texts
 
--- what there is in the midst of it: with what is still to come it is what comes of all
+-- the loop invariant: the actions and operations so far, followed by those of `rest`, are those of `all`
 pub record Planned (d : Differs) (r : List ℕ) (first : ℕ) (note : List ℕ) (start : At) (all rest : List ReadText) (m : BTreeMap KeyText EntriesOfKey) (ts : List TextAction) (ops : List Op) : Type 0 where
   pub at : At
   pub index : Indexes m at
@@ -132,7 +132,7 @@ imports_fit d r n at (text ∷ texts) h =
     let rest = imports_fit d r (n + length bs) (then_at t at text) texts (fits_at d r n at text h) in
     omega (arith, rest, length-append bs (effects (imports d r (n + length bs) (then_at t at text) texts)))
 
--- an entry more in the index
+-- putting an entry into the index appends it to the bucket of its key
 pub entry_put : (kt : KeyText) (b b' : EntriesOfKey) (e : StandingEntry) (m : BTreeMap KeyText EntriesOfKey) (at : At) → key_bytes kt ≡ key_of e → bucket_seen b ≡ at (key_bytes kt) → bucket_seen b' ≡ and_entry e (bucket_seen b)
     → Indexes m (with_key (key_bytes kt) (bucket_seen b') (with_key (key_bytes kt) nothing_there at)) → Indexes m (with_entry e at)
 entry_put kt b b' e m at k there now index q = index q ∙ put_again (key_bytes kt) (key_of e) (bucket_seen b') (and_entry e (at (key_of e))) nothing_there at (key_bytes q) k (now ∙ ap (and_entry e) (there ∙ ap at k))

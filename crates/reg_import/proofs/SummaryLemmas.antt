@@ -1,4 +1,4 @@
--- One entry more.
+-- The summary of entries, with one more entry.
 use Rattle.std.proofs.Common.{◌≡◌, ℕ, nat_eq, Bool, true, false, ◌&&◌, cond, List, [], ◌∷◌, ◌++◌, append_assoc, append-nil, length, Option, Some, None, refl, sym, ap, ◌∙◌, subst, arith}
 use Rattle.std.proofs.lemmas.Bool.{true≢false}
 use Rattle.std.specs.Cmp.{Equal-is}
@@ -18,7 +18,7 @@ use Rattle.reg_import.specs.declared.summary.Summary.{Summary}
 use Rattle.reg_import.specs.Imports.{least, sooner, lesser, and_least, has_text, has_text_and_is_valid, any_entry}
 use Rattle.reg_import.specs.Summary.{found, found_in, bytes_cmp, SumsUp}
 
--- ---- the lesser of three
+-- ---- the least of three ids
 
 less : (r : Ordering) → is_lt r ≡ true → r ≡ Less
 less Less h = refl
@@ -35,7 +35,7 @@ lt_turned Greater = refl
 turned : (a b : Id) → is_before a b ≡ is_gt (id_cmp b a)
 turned a b = ap is_lt (id_total.antisymm a b) ∙ lt_turned (id_cmp b a)
 
--- what is not before the second, which is not before the third, is not before the third
+-- if a is not before b, and b not before c, then a is not before c
 not_before_chain : (a b c : Id) → is_before a b ≡ false → is_before b c ≡ false → is_before a c ≡ false
 not_before_chain a b c h k = turned a c ∙ upto id_total c b a (sym (turned b c) ∙ k) (sym (turned a b) ∙ h)
 
@@ -73,7 +73,7 @@ least_push passes (a ∷ es) e =
     (λ j. cond (passes a) (Some (sooner a.entry (least_push passes es e j))) (least_push passes es e j))
     ∙ push_step (passes a) (passes e) a.entry e.entry (least passes es)
 
--- ---- what is found of a text, with one more entry
+-- ---- the least entries with a text, with one more entry
 
 and_false : (b : Bool) → (b && false) ≡ false
 and_false true = refl

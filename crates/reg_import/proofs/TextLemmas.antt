@@ -1,4 +1,4 @@
--- What comes of a text, by whether an entry of its key has it.
+-- The action for a text, by whether an entry of its key has it.
 use Rattle.std.proofs.Common.{◌≡◌, ℕ, ◌+◌, nat_eq, nat_le, Bool, true, false, cond, List, [], ◌∷◌, ◌++◌, length, Option, Some, None, refl, sym, ap, ◌∙◌, subst, inl, inr, ◌⊎◌}
 use Rattle.std.specs.Prelude.{option_map, Contains}
 use Rattle.std.specs.Option.{unwrap_or}
@@ -46,7 +46,7 @@ least_none passes (f ∷ es) h e c t = elim (passes f) as (λ b. passes f ≡ b 
 text_itself : (text other : List ℕ) → other ≡ text → pointwise nat_eq other text ≡ true
 text_itself text other e = true_from_ne_false _ (λ n. not_same other text n e)
 
--- ---- what is told where an entry has the text, and where the text is refused
+-- ---- actions that find the text, and actions that refuse it
 
 pub there_then : (t : TextAction) (key : Key) (text : List ℕ) (there : OfKey) → is_there t ≡ true → then_of t key text there ≡ record { known = there.known; ours = true }
 there_then (told.Same i) key text there h = refl
@@ -77,7 +77,7 @@ refused_not_there t h = absurd cc
 
 -- ---- a text that no entry has
 
--- another text of the key is against it, where the least entry of the key is this one, and whether it is ours is this
+-- whether a new text is refused, given the least entry of its key and whether the bucket has `ours`
 abbrev pub blocks : Option Id → Differs → Bool → Bool
 blocks None d ours = false
 blocks (Some i) differs.Refuse ours = true
@@ -132,7 +132,7 @@ module _ (d : Differs) (new : Id) (there : OfKey) (text : List ℕ) where
   abbrev otherwise : TextAction
   otherwise = told_of_new (least any_entry there.known) d new there
 
-  -- whether an entry of its key has it
+  -- an entry of the bucket has the text and the action finds it; or none has it and the action is that for a new text
   abbrev AsThere : TextAction → Type 0
   AsThere t = ((is_there t ≡ true) × HasText there.known text) ⊎ ((HasText there.known text → ⊥) × (t ≡ otherwise))
 
@@ -171,7 +171,7 @@ module _ (d : Differs) (new : Id) (there : OfKey) (text : List ℕ) where
   abbrev Closed : OfKey → Type 0
   Closed o = (o.known ≡ there.known) × (blocks (least any_entry o.known) d o.ours ≡ true)
 
-  -- where another text is against texts of the key, its entries stay
+  -- if new texts of the key are refused, its entries remain, and new texts are still refused
   pub closed_on : (key : Key) → blocks (least any_entry there.known) d there.ours ≡ true
       → ((then_of its key text there).known ≡ there.known) × (blocks (least any_entry (then_of its key text there).known) d (then_of its key text there).ours ≡ true)
   closed_on key h = elim told_cases [
@@ -182,7 +182,7 @@ module _ (d : Differs) (new : Id) (there : OfKey) (text : List ℕ) where
   abbrev Comes : Key → TextAction → Type 0
   Comes key t = is_refused t ≡ false → is_spent t ≡ false → (is_there t ≡ true → HasText there.known text) → HasText (then_of t key text there).known text × ((then_of t key text there).ours ≡ true)
 
-  -- a text that is neither refused nor spent has an entry then, which is ours
+  -- after a text that is neither refused nor spent, an entry of the bucket has it, and the bucket has `ours`
   pub comes_ours : (key : Key) → is_refused its ≡ false → is_spent its ≡ false → HasText (then_of its key text there).known text × ((then_of its key text there).ours ≡ true)
   comes_ours key r s = told_has (Comes key) d new there text (record {
     same = λ i a b h. (h refl, refl);
@@ -197,7 +197,7 @@ module _ (d : Differs) (new : Id) (there : OfKey) (text : List ℕ) where
       behind : HasText (there.known ++ entered new key text ∷ []) text
       behind = (entered new key text, Contains-append_right there.known (entered new key text ∷ []) (entered new key text) (in_head (entered new key text) []), refl)
 
-  -- an entry of a key that is ours stays
+  -- a bucket with `ours` keeps each entry, and `ours`
   pub ours_on : (key : Key) (e : StandingEntry) → there.ours ≡ true → Contains there.known e → Contains (then_of its key text there).known e × ((then_of its key text there).ours ≡ true)
   ours_on key e o c = told_has (λ t. Contains (then_of t key text there).known e × ((then_of t key text there).ours ≡ true)) d new there text (record {
     same = λ i. (c, refl);
@@ -209,7 +209,7 @@ module _ (d : Differs) (new : Id) (there : OfKey) (text : List ℕ) where
     spent = (c, o);
   })
 
--- where an entry has the key, another text is against those that no entry has, as before or more
+-- if new texts are refused, they are with entries that have all these texts, and with `ours` if it was set before
 pub blocks_on : (d : Differs) (es fs : List StandingEntry) (ours more : Bool) → blocks (least any_entry es) d ours ≡ true → ((text : List ℕ) → HasText es text → HasText fs text) → (ours ≡ true → more ≡ true) → blocks (least any_entry fs) d more ≡ true
 blocks_on d es fs ours more h within k =
     let some = some_blocks (least any_entry es) d ours h in
@@ -220,7 +220,7 @@ blocks_on d es fs ours more h within k =
       | None ↦ λ n. absurd (least_none any_entry fs n f.0 f.1 refl)
     ] refl
 
--- beside others none is refused
+-- `Beside` refuses no text
 pub refused_of_beside : (new : Id) (there : OfKey) (text : List ℕ) → is_refused (told_of differs.Beside new there text) ≡ false
 refused_of_beside new there text = elim (told_cases differs.Beside new there text) [
   | inl a ↦ there_not_refused (told_of differs.Beside new there text) a.0

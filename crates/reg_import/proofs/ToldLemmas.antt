@@ -1,4 +1,4 @@
--- What comes of a text, case by case.
+-- The action for a text, case by case.
 use Rattle.std.proofs.Common.{◌≡◌, ℕ, ◌+◌, ◌≤◌, nat_le, true, false, cond, List, length, Option, Some, None, refl, arith}
 use Rattle.std.specs.Prelude.{option_map}
 use Rattle.std.specs.Option.{unwrap_or}
@@ -26,7 +26,7 @@ module _ (P : TextAction → Type 0) where
     | false ↦ λ e. s
   ] refl
 
-  -- what each of them has, what comes of the text has
+  -- a property that each of these actions has, the action for a text has
   pub record Each (new : Id) (there : OfKey) : Type 0 where
     pub same : (i : Id) → P (told.Same i)
     pub superseded : (i : Id) → P (told.Superseded i)

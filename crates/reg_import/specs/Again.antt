@@ -33,7 +33,7 @@ IsSameReading (reading.Defined text key) (reading.Unread g) = ⊥
 IsSameReading (reading.Unread f) (reading.Defined other its) = ⊥
 IsSameReading (reading.Unread f) (reading.Unread g) = f ≡ g
 
--- each text is read so
+-- each text has its reading, in order
 abbrev pub AreReadings : List (List ℕ) → List ReadText → Type 0
 AreReadings [] readings = readings ≡ []
 AreReadings (text ∷ texts) readings = (reading : ReadText) × (rest : List ReadText) × IsReading text reading × AreReadings texts rest × (readings ≡ reading ∷ rest)
@@ -42,7 +42,7 @@ AreReadings (text ∷ texts) readings = (reading : ReadText) × (rest : List Rea
 abbrev pub RetiresNoneAhead : Content → List ℕ → Type 0
 RetiresNoneAhead x replica = (count : ℕ) → greatest replica x.seen < count → retires x.ops (id_at replica count) ≡ false
 
--- nor superseded
+-- no entry that the replica has still to number is superseded already
 abbrev pub SupersedesNoneAhead : Content → List ℕ → Type 0
 SupersedesNoneAhead x replica = (count : ℕ) → greatest replica x.seen < count → supersedes x.ops (id_at replica count) ≡ false
 

@@ -22,11 +22,11 @@ pub record IsOf (authority : List ℕ) (r : Row) (key : KeyBytes) : Type 0 where
   pub keyed : HasKey r.definition key
   pub of : IsAlike authority key.authority
 
--- and it is not the key of any text
+-- an entry of the authority that is not retired, whose key no text has
 abbrev pub IsGone : List ℕ → List KeyBytes → Row → Type 0
 IsGone authority texts r = (key : KeyBytes) × IsOf authority r key × ¬ (Contains texts key)
 
--- of some rows, those, in order
+-- of some rows, those of such entries, in order
 abbrev pub AreGone : List ℕ → List KeyBytes → List Row → List Row → Type 0
 AreGone authority texts [] gone = gone ≡ []
 AreGone authority texts (r ∷ rs) gone =

@@ -25,7 +25,7 @@ use Rattle.reg_import.specs.Imports.{told_at, bodies_at, then_at, Step, imports,
 abbrev pub retired : List StandingEntry → List Body
 retired entries = map (λ (e : StandingEntry). Retire e.entry) entries
 
--- the steps of importing texts into a content, numbered on from the greatest own count seen
+-- the steps of importing texts into a content; operations are numbered from the count after the greatest own one seen
 abbrev pub AreSteps : Content → List ℕ → Differs → List ReadText → List Step → Type 0
 AreSteps x replica differs readings steps =
     (es : List StandingEntry) × AreStanding x.ops es × (steps ≡ imports differs replica (greatest replica x.seen + 1) (by_key es) readings)
@@ -49,7 +49,7 @@ pub record StepsOn (differs : Differs) (replica : List ℕ) (count : ℕ) (note 
 abbrev pub StepTold : Differs → List ℕ → ℕ → List ℕ → ReadText → At → BTreeMap KeyText EntriesOfKey → List Op → List Op → List TextAction → List TextAction → Type 0
 StepTold differs replica count note text at m old new before after = (t : TextAction) × StepsOn differs replica count note text at m old new t × (after ≡ before ++ t ∷ [])
 
--- the operations are numbered on from a count, with one note
+-- the operations have consecutive counts from the first, and one note
 abbrev pub AreNumbered : List ℕ → ℕ → List Op → Type 0
 AreNumbered replica first ops = (note : List ℕ) × ((bodies : List Body) × (ops ≡ numbered replica first note bodies))
 
