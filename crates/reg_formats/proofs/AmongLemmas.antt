@@ -1,4 +1,4 @@
--- What a binary search finds among ids.
+-- A binary search among sorted ids finds exactly those in the list.
 use Rattle.std.proofs.Common.{◌≡◌, ℕ, Bool, true, List, length, Ok, Err, sym, ap, ◌∙◌, inl, inr, arith}
 use Rattle.std.specs.Prelude.{◌↔◌, IsTrue, Contains, Result, is_ok}
 use Rattle.std.specs.List.Sorted.{IsSorted, IsPartitionPoint, IsBinarySearchResult, IsSearchInRange}

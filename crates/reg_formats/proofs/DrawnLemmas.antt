@@ -1,4 +1,4 @@
--- Nodes, by ids in another order.
+-- The nodes for some ids are the nodes for a permutation of them.
 use Rattle.std.proofs.Common.{◌≡◌, ℕ, Bool, List, [], ◌∷◌, ◌++◌, ap, ◌∙◌, append_assoc, inl, inr}
 use Rattle.std.specs.List.Sorted.{IsPermutation}
 use Rattle.std.proofs.lemmas.List.Sorted.{Contains-permutation, IsPermutation-sym}
@@ -27,7 +27,7 @@ module _ (all : Bool) (ids others : List Id) (p : IsPermutation ids others) wher
 step : (old a new b newer : List ℕ) → new ≡ old ++ a → newer ≡ new ++ b → newer ≡ old ++ (a ++ b)
 step old a new b newer e f = f ∙ ap (λ t. t ++ b) e ∙ append_assoc old a b
 
--- five pieces, one after another
+-- five parts that are appended in turn
 pub five : (t a b c d e t1 t2 t3 t4 t5 : List ℕ) → t1 ≡ t ++ a → t2 ≡ t1 ++ b → t3 ≡ t2 ++ c → t4 ≡ t3 ++ d → t5 ≡ t4 ++ e → t5 ≡ t ++ (a ++ b ++ c ++ d ++ e)
 five t a b c d e t1 t2 t3 t4 t5 e1 e2 e3 e4 e5 =
     step t (a ++ b ++ c ++ d) t4 e t5 (step t (a ++ b ++ c) t3 d t4 (step t (a ++ b) t2 c t3 (step t a t1 b t2 e1 e2) e3) e4) e5

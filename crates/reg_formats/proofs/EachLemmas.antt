@@ -1,10 +1,10 @@
--- What each row gives, row by row.
+-- The concatenation of what each row gives, one row at a time.
 use Rattle.std.proofs.Common.{◌≡◌, ℕ, ◌+◌, ◌<◌, ◌≤◌, List, [], ◌∷◌, ◌++◌, map, drop, get_or, length, length-drop, refl, sym, ap, ◌∙◌, append_assoc, append-nil, subst, arith}
 use Rattle.std.proofs.lemmas.List.{drop_more, length-map}
 use Rattle.reg_op.specs.Rows.{Row}
 use Rattle.reg_formats.specs.Titles.{Each}
 
--- ---- the walk along a list
+-- ---- the suffix of a list from index i
 
 pub here : {V W : Type 0} (f : W → V) (ws : List W) (i : ℕ) (d : W) → i < length ws → map f (drop i ws) ≡ f (get_or ws i d) ∷ map f (drop (i + 1) ws)
 here f ws i d h = ap (map f) (drop_more ws i d h)
@@ -16,10 +16,10 @@ no_more (v ∷ vs) e = absurd (omega (arith, e))
 pub ended : {V W : Type 0} (f : W → V) (ws : List W) (i : ℕ) → length ws ≤ i → map f (drop i ws) ≡ []
 ended f ws i h = no_more (map f (drop i ws)) (let long = length-drop i ws in length-map (drop i ws) f ∙ omega (arith, long, h))
 
--- ---- what is gathered
+-- ---- what the rows give
 
 module _ {Y : Type 0} (Gives : Row → List Y → Type 0) where
-  -- what the rows that are left give completes what was gathered of all
+  -- `made` followed by anything that `rest` gives is something that `all` gives
   abbrev pub Gathers : List Row → List Row → List Y → Type 0
   Gathers all rest made = (more : List Y) → Each Gives rest more → Each Gives all (made ++ more)
 

@@ -1,4 +1,4 @@
--- The operations on an entry stand together among operations by entry.
+-- Among operations that are sorted by entry, those on one entry are contiguous.
 use Rattle.std.proofs.Common.{◌≡◌, ℕ, ◌+◌, ◌≤◌, ◌<◌, Bool, true, false, not, ◌&&◌, cond, List, [], ◌∷◌, ◌++◌, append-nil, length, get_or, take, drop, filter, suc, refl, sym, ap, ◌∙◌, subst, arith}
 use Rattle.std.proofs.lemmas.Bool.{true≢false, not-true, true_from_ne_false}
 use Rattle.std.proofs.lemmas.List.{get_or-drop, get_or-take, length-take, length-drop, take-append-drop}
@@ -57,7 +57,7 @@ module _ {X : Type 0} (below up same : X → Bool) (is : (x : X) → same x ≡ 
       let long : count + i < length (drop low xs) = omega (arith, h, length-drop count (drop low xs)) in
       ap same (get_or-drop count (drop low xs) i d) ∙ is _ ∙ (λ j. to.1 (count + i) d (omega arith) long j && not (below (get_or (drop low xs) (count + i) d))))
 
-  -- what is neither below nor past them stands together
+  -- the `count` elements from index `low` are exactly those for which `same` holds
   pub window_is : take count (drop low xs) ≡ filter same xs
   window_is =
       sym (ap (filter same) (sym (take-append-drop low xs)) ∙ filter-append same (take low xs) (drop low xs)
@@ -83,7 +83,7 @@ up_to_parted e os low up i j d h l b =
     (not-true _ (subst (λ (o : Op). not (is_lt (id_cmp e (subject o))) ≡ true) (get_or-drop low os j d) b))
     (no_earlier os up (low + i) (low + j) d (omega arith) (omega (arith, length-drop low os)))))
 
--- neither before nor after
+-- ids are the same exactly if neither is less than the other
 pub tied_is : (a b : Id) → is_same a b ≡ (not (is_lt (id_cmp b a)) && not (is_lt (id_cmp a b)))
 tied_is a b = by (id_cmp a b) refl
   where
@@ -99,7 +99,7 @@ same_on os made stable e =
     ∙ stable (retiring e e [])
     ∙ sym (λ j. filter (λ (o : Op). tied_is (subject o) e j) os)
 
--- ---- what other operations do to an entry: nothing
+-- ---- operations on other entries do nothing to an entry
 
 flat_filter : {X Y : Type 0} (f : X → List Y) (p : X → Bool) → ((x : X) → p x ≡ false → f x ≡ []) → (xs : List X) → flat_map f (filter p xs) ≡ flat_map f xs
 flat_filter f p none [] = refl
@@ -126,7 +126,7 @@ module _ (ts : List Described) (e : Id) where
   pub events_on : (os : List Op) → flat_map (events_in ts e) (filter (is_on e) os) ≡ flat_map (events_in ts e) os
   events_on os = flat_filter (events_in ts e) (is_on e) (λ (o : Op) h. no_events ts e o.id (printed o.id) o.note o.body h) os
 
-  -- operations with the same ones on the entry do the same to it
+  -- lists with the same operations on the entry give it the same links and events
   pub same_links : (os ps : List Op) → filter (is_on e) os ≡ filter (is_on e) ps → flat_map (links_in ts e) os ≡ flat_map (links_in ts e) ps
   same_links os ps on = sym (links_on os) ∙ ap (flat_map (links_in ts e)) on ∙ links_on ps
 

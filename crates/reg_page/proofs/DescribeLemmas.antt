@@ -1,4 +1,4 @@
--- What the page shows of entries.
+-- The descriptions of entries, and their order.
 use Rattle.std.proofs.Common.{◌≡◌, ℕ, ◌+◌, zero, suc, true, false, All, List, [], ◌∷◌, map, get_or, arith, refl, sym, ap, ◌∙◌, subst}
 use Rattle.std.specs.Borrow.{Bor}
 use Rattle.std.proofs.lemmas.Cmp.{nat_list_cmp_total}
@@ -15,7 +15,7 @@ use Rattle.reg_op.proofs.OpLemmas.{id_total}
 use Rattle.reg_page.specs.declared.described.Described.{Described}
 use Rattle.reg_page.specs.Descriptions.{DescribesEntry, IsDescribed, described_cmp, AreDescribed, AreById, at, InOrder}
 
--- it describes an entry that an operation enters
+-- a description of the entry that an operation of s enters describes an entry of s
 pub described_here : (s : Ops) (o : Op) (i : Id) (d written : List ℕ) (t : Described) → set.contains s o ≡ true → o.body ≡ Enter d → i ≡ o.id → written ≡ o.note → DescribesEntry i d written t → IsDescribed s t
 described_here s o i d written t there body id note h = record {
   definition = d;
@@ -37,7 +37,7 @@ pub alone : (P : Described → Type 0) (t : Described) → P t → All P (t ∷ 
 alone P t p zero d h = p
 alone P t p (suc k) d h = absurd (omega (arith, h))
 
--- ---- their order
+-- ---- the order of descriptions
 
 pub described_total : IsTotalOrder described_cmp
 described_total =
@@ -47,7 +47,7 @@ described_total =
 pub by_described : IsStrictWeakOrder (λ (a b : Bor Described). is_lt (described_cmp a.now b.now))
 by_described = ranks_by described_total (λ (t : Bor Described). t.now)
 
--- references in order lead to descriptions in order
+-- sorted references give sorted descriptions
 pub sorted_at : (ts : List (Bor Described)) → IsSortedBy (λ (a b : Bor Described). is_lt (described_cmp a.now b.now)) ts → IsSorted described_cmp (at ts)
 sorted_at [] up k d low h = absurd (omega (arith, h))
 sorted_at (t ∷ []) up k d low h = absurd (omega (arith, h))
@@ -59,7 +59,7 @@ sorted_at (t ∷ u ∷ ts) up (suc k) d low h =
     let f : suc i + 1 ≡ suc (i + 1) = omega arith in
     subst (λ m. is_lt (described_cmp (get_or (t ∷ u ∷ ts) m v).now (get_or (u ∷ ts) i v).now) ≡ false) f (up (suc i) v (omega arith) (omega arith))) k d (omega arith) (omega (arith, h)))
 
--- descriptions by id, in order
+-- the descriptions by id, sorted by key, are those of the page
 pub in_order : (s : Ops) (ts rows : List Described) → AreById s ts → InOrder ts rows → AreDescribed s rows
 in_order s ts rows h order = record {
   each = All-permutation (IsDescribed s) ts rows order.same h.each;

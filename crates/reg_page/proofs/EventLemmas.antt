@@ -1,4 +1,4 @@
--- What is appended for an operation, and for two entries of a key.
+-- What is appended for an operation on an entry, for two entries in conflict, and for a link.
 use Rattle.std.proofs.Common.{◌≡◌, ℕ, true, false, List, [], ◌∷◌, Option, Some, None, sym, append-nil}
 use Rattle.std.specs.List.{flat_map}
 use Rattle.html_text.specs.Pieces.{Piece, Appends}
@@ -13,7 +13,7 @@ use Rattle.reg_page.specs.declared.described.Described.{Described}
 use Rattle.reg_page.specs.Page.{described_at, link_to, events_in, links_in, side_of, pairs_of, pairs_among}
 use Rattle.reg_page.proofs.LoopLemmas.{as_others}
 
--- one item alone
+-- a list of one item shows what the item shows
 alone : {T : Type 0} (f : T → List Piece) (x : T) {start end : List ℕ} → Appends start end (f x) → Appends start end (flat_map f (x ∷ []))
 alone f x h = as_others (f x) (flat_map f (x ∷ [])) (sym (append-nil (f x))) h
 

@@ -22,7 +22,7 @@ use Rattle.reg_page.proofs.SideLemmas.{found_in}
 abbrev pub ids_of : List Described → List Id
 ids_of ts = map (λ (t : Described). t.id) ts
 
--- the one with the id, where no other has it
+-- if the ids are distinct, the description with the id is found
 found : (ts : List Described) → IsDistinct is_same (ids_of ts) → (t : Described) (i : Id) → Contains ts t → is_same t.id i ≡ true → described_at ts i ≡ Some t
 found [] d t i c e = absurd (none_in t c)
 found (u ∷ ts) d t i c e = elim (in_cons t u ts c) [
@@ -55,7 +55,7 @@ lacks (u ∷ ts) i e t c =
       ]
     ] refl e
 
--- the same in any order
+-- a permutation of the descriptions has the same one with each id
 pub same_at : (ts us : List Described) → AscendById ts → IsPermutation ts us → (i : Id) → described_at ts i ≡ described_at us i
 same_at ts us up p i =
     let apart : IsDistinct is_same (ids_of us) = still_distinct (ids_of ts) (ids_of us) (IsPermutation-map (λ (t : Described). t.id) ts us p) (distinct (ids_of ts) up) in

@@ -1,4 +1,4 @@
--- The ids of entries ascend, so none is there twice.
+-- The ids of entries ascend, so they are distinct.
 use Rattle.std.proofs.Common.{◌≡◌, true, false, cond, List, [], ◌∷◌, map, filter, sym, ap, subst, inl, inr}
 use Rattle.std.specs.List.{Contains, AllByRecursion, IsDistinct}
 use Rattle.std.specs.List.Sorted.{IsPermutation}
@@ -30,7 +30,7 @@ later i (o ∷ os) up j c =
       | false ↦ λ c. later i os up.1 j c
     ] c
 
--- the ids of the entries that operations by id enter
+-- if operations ascend by id, so do the ids of those that enter
 pub ids_ascend : (os : List Op) → ById os → Ascends id_cmp (ids_in os)
 ids_ascend [] up = tt
 ids_ascend (o ∷ os) up =
@@ -60,6 +60,6 @@ differs_from k (j ∷ js) h i c = elim (in_cons i j js c) [
   | inr d ↦ differs_from k js h.1 i d
 ]
 
--- the first is none of the others
+-- the first of distinct ids is none of the others
 pub differs : (k : Id) (ks : List Id) → IsDistinct is_same (k ∷ ks) → (i : Id) → Contains ks i → is_same k i ≡ false
 differs k ks d i c = differs_from k ks (IsDistinct-head is_same k ks d) i c

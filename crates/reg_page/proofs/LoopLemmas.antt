@@ -14,22 +14,22 @@ flat_map-flat_map f g (x ∷ xs) = flat_map-append f (g x) (flat_map g xs) ∙ a
 pub as_others : {start end : List ℕ} (ps qs : List Piece) → ps ≡ qs → Appends start end ps → Appends start end qs
 as_others {start = start} {end = end} ps qs e h = record { is = h.is ∙ ap (λ r. start ++ html r) e }
 
--- each item is shown as another
+-- a loop that appends f (g x) for each item x appends the pieces that f gives for map g
 pub mapped : {T U : Type 0} (f : U → List Piece) (g : T → U) {page : List ℕ} {rest : List T} (start : List ℕ) (items : List T)
     → Leads (λ x. f (g x)) page rest (start ++ html (flat_map (λ x. f (g x)) items)) → rest ≡ [] → Appends start page (flat_map f (map g items))
 mapped f g start items so_far none = as_others (flat_map (λ x. f (g x)) items) (flat_map f (map g items)) (sym (flat_map-map f g items)) (leads_done start items so_far none)
 
--- each item is shown as some others
+-- a loop that appends the pieces that f gives for g x, for each item x, appends those for flat_map g
 pub flattened : {T U : Type 0} (f : U → List Piece) (g : T → List U) {page : List ℕ} {rest : List T} (start : List ℕ) (items : List T)
     → Leads (λ x. flat_map f (g x)) page rest (start ++ html (flat_map (λ x. flat_map f (g x)) items)) → rest ≡ [] → Appends start page (flat_map f (flat_map g items))
 flattened f g start items so_far none = as_others (flat_map (λ x. flat_map f (g x)) items) (flat_map f (flat_map g items)) (sym (flat_map-flat_map f g items)) (leads_done start items so_far none)
 
--- each item is shown twice over
+-- mapping twice is mapping the composition
 pub twice : {T U V : Type 0} (f : U → V) (g : T → U) (xs : List T) → map (λ x. f (g x)) xs ≡ map f (map g xs)
 twice f g [] = refl
 twice f g (x ∷ xs) = ap (λ rest. f (g x) ∷ rest) (twice f g xs)
 
--- one item more, by its index
+-- one iteration of a loop by index appends one more item
 pub one_more : {T U : Type 0} (f : U → List Piece) (g : T → U) (xs : List T) (i : ℕ) (x : T) {start middle end : List ℕ} → i < length xs → x ≡ get_or xs i x
     → Appends start middle (flat_map f (map g (take i xs))) → Appends middle end (f (g x)) → Appends start end (flat_map f (map g (take (i + 1) xs)))
 one_more f g xs i x lt is so_far item =

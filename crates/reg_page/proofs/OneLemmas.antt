@@ -95,9 +95,9 @@ same_of s one t u h k e =
       note = a.note ∙ note ∙ sym b.note;
     }
 
--- ---- their order
+-- ---- the order of descriptions
 
--- what entries are ordered by: the authority, the code, and the id
+-- the rank by which entries are sorted: the authority, the code, and the id
 abbrev Rank : Type 0
 Rank = List ℕ × (List ℕ × Id)
 
@@ -154,7 +154,7 @@ module _ (s : Ops) (one : OneBody s) where
       same_elements rank_total (map rank ts) (map rank us) (ranks_ascend ts h.sorted (no_twice ts h)) (ranks_ascend us k.sorted (no_twice us k))
       (λ r. (also_there ts us h k r, also_there us ts k h r))
 
--- ---- descriptions of the same entries, one after another
+-- ---- lists of descriptions that show the same
 
 abbrev AllSame : List Described → List Described → Type 0
 AllSame [] [] = Unit {0}
@@ -225,7 +225,7 @@ same_rows [] (u ∷ us) h f g each = absurd h
 same_rows (t ∷ ts) [] h f g each = absurd h
 same_rows (t ∷ ts) (u ∷ us) h f g each = λ j. each t u h.0 j ∷ same_rows ts us h.1 f g each j
 
--- what is shown is the same
+-- both lists give the same links, pairs and figures, and so show the same
 module _ (x : Content) (title : List ℕ) (ts us : List Described) (same : AllSame ts us) where
   link : (i : Id) → link_to ts i ≡ link_to us i
   link i = link_of_same i (described_at ts i) (described_at us i) (same_found ts us same i)
@@ -271,7 +271,7 @@ one_page title x a b is p q =
     ∙ sym k.is in
     p.is ∙ ap (λ s. html (page s)) shows ∙ sym q.is
 
--- registers with the same operations and the same seen ids
+-- registers with the same operations and the same seen ids have one page
 pub one_of_replicas : (title : List ℕ) (x y : Content) (a b : List ℕ) → IsContent x → ((o : Op) → set.contains x.ops o ≡ set.contains y.ops o) → ((i : Id) → set.contains x.seen i ≡ set.contains y.seen i)
     → IsPage title x a → IsPage title y b → a ≡ b
 one_of_replicas title x y a b is ops seen p q =
@@ -280,7 +280,7 @@ one_of_replicas title x y a b is ops seen p q =
     let same : x ≡ y = λ j. record { ops = same_ops j; seen = same_seen j } in
     one_page title y a b (subst IsContent same is) (subst (λ (z : Content). IsPage title z a) same p) q
 
--- both orders of a join
+-- joining two registers in either order gives one page
 pub one_of_merges : (title : List ℕ) (x y z w : Content) (a b : List ℕ) → IsContent x → IsContent y → joined x y ≡ Ok z → joined y x ≡ Ok w → IsPage title z a → IsPage title w b → a ≡ b
 one_of_merges title x y z w a b one other e f p q =
     let same : z ≡ w = ok_exact z w (sym e ∙ joined_comm x y ∙ f) in

@@ -1,4 +1,4 @@
--- Descriptions that show the same, and descriptions in another order.
+-- Descriptions that show the same give the same rows, and a permutation of descriptions gives the same links and pairs.
 use Rattle.std.proofs.Common.{◌≡◌, ℕ, List, [], ◌∷◌, map, filter, length, cond, if◌then◌else◌, refl, sym, ap, ◌∙◌}
 use Rattle.std.specs.List.{flat_map}
 use Rattle.std.specs.List.Sorted.{IsPermutation}
@@ -37,7 +37,7 @@ pub record Same (t u : Described) : Type 0 where
 pub itself : (t : Described) → Same t t
 itself t = record { id = refl; printed = refl; authority = refl; code = refl; name = refl; areas = refl; kind = refl; text = refl; note = refl }
 
--- what leads to entries is the same
+-- if both lists have the same links, descriptions that show the same give the same row
 module _ (ts us : List Described) (link : (i : Id) → link_to ts i ≡ link_to us i) where
   links_same : (e : Id) (b : Body) → links_by ts e b ≡ links_by us e b
   links_same e (Enter text) = refl
@@ -69,7 +69,7 @@ module _ (ts us : List Described) (link : (i : Id) → link_to ts i ≡ link_to 
         events = events j;
       }
 
--- the pairs of entries are the same
+-- if both lists have the same pairs, they have the same conflicts
 module _ (ts us : List Described) (pair : (i k : Id) → pairs_of (described_at ts i) (described_at ts k) ≡ pairs_of (described_at us i) (described_at us k)) where
   among_same : (is : List Id) → pairs_among ts is ≡ pairs_among us is
   among_same [] = refl
@@ -78,7 +78,7 @@ module _ (ts us : List Described) (pair : (i k : Id) → pairs_of (described_at 
   pub conflict_same : (c : Contested) → conflict_of ts c ≡ conflict_of us c
   conflict_same c = λ j. record { authority = c.key.authority; code = c.key.code; pairs = among_same c.entries j }
 
--- ---- the same in another order
+-- ---- a permutation of the descriptions
 
 module _ (ts us : List Described) (up : AscendById ts) (p : IsPermutation ts us) where
   pub link_moved : (i : Id) → link_to ts i ≡ link_to us i

@@ -1,4 +1,4 @@
--- Lists between their start and their end.
+-- A section is its start, its items and its end; without items it is empty.
 use Rattle.std.proofs.Common.{◌≡◌, ℕ, ◌==◌, true, false, List, [], ◌∷◌, map, length, arith}
 use Rattle.std.proofs.lemmas.Bool.{true≢false, eqb-true, false_from_ne_true}
 use Rattle.std.specs.List.{flat_map}

@@ -1,4 +1,4 @@
--- The whole page, part after part.
+-- The page is its three parts, appended in turn.
 use Rattle.std.proofs.Common.{◌≡◌, ℕ, List, [], ◌∷◌, ◌++◌, map, filter, append_assoc, refl, sym, ap, ◌∙◌}
 use Rattle.std.specs.List.{flat_map}
 use Rattle.html_text.specs.Pieces.{Piece, Markup, html, Appends}
@@ -24,14 +24,14 @@ use Rattle.reg_page.proofs.SameLemmas.{itself, entry_same}
 regrouped : (all s t u : List Piece) → all ++ (s ++ t ++ u) ≡ all ++ s ++ t ++ u
 regrouped all s t u = sym (append_assoc all (s ++ t) u) ∙ ap (λ ps. ps ++ u) (sym (append_assoc all s t))
 
--- three parts of three
+-- nine lists of pieces are appended as three parts of three
 joined : (p q r s t u v w x : List Piece) {a b c d : List ℕ} → Appends a b (p ++ q ++ r) → Appends b c (s ++ t ++ u) → Appends c d (v ++ w ++ x)
     → Appends a d (p ++ q ++ r ++ s ++ t ++ u ++ v ++ w ++ x)
 joined p q r s t u v w x one two three =
     as_others _ (p ++ q ++ r ++ s ++ t ++ u ++ v ++ w ++ x) (regrouped (p ++ q ++ r ++ s ++ t ++ u) v w x)
     (next (as_others _ (p ++ q ++ r ++ s ++ t ++ u) (regrouped (p ++ q ++ r) s t u) (next one two)) three)
 
--- the three parts of a page
+-- appending the three parts of a page appends the page
 pub in_parts : (x : Content) (title : List ℕ) (described : List Described) (acts : List Op) (cs : List Contested) (is : List Id) (gaps : List Gap) {a b c d : List ℕ}
     → Appends a b (top title (figures_of x described cs is gaps)) → Appends b c (open_ends (map (conflict_of described) cs) (map printed is) (map gap_of gaps)) → Appends c d (table (map (entry_of x.ops described acts) described))
     → Appends a d (page (shown_of x title described acts cs is gaps))
@@ -40,7 +40,7 @@ in_parts x title described acts cs is gaps one two three =
     (section CONFLICTS_START.now conflict CONFLICTS_END.now (map (conflict_of described) cs)) (section AWAITED_START.now waiting AWAITED_END.now (map printed is)) (section GAPS_START.now gap GAPS_END.now (map gap_of gaps))
     (Markup ENTRIES_START.now ∷ []) (flat_map entry (map (entry_of x.ops described acts) described)) end one two three
 
--- bytes that were appended to nothing are the page, where the parts are those of the content
+-- appending the page of what the content shows to an empty text gives the page of the content
 pub is_page : (title : List ℕ) (x : Content) (rows : List Described) (cs : List Contested) (gaps : List Gap)
     (acts : List Op) (cs' : List Contested) (is : List Id) (gaps' : List Gap) (start last : List ℕ)
     → AreDescribed x.ops rows → AreConflicts (entry_rows x.ops) cs → AreGaps x.seen gaps

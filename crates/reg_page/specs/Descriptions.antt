@@ -80,11 +80,11 @@ pub record AreById (s : Ops) (ts : List Described) : Type 0 where
   pub ids : map (λ (t : Described). t.id) ts ≡ entry_ids s
   pub ascend : AscendById ts
 
--- what references lead to
+-- the descriptions behind references
 abbrev pub at : List (Bor Described) → List Described
 at ts = map (λ (t : Bor Described). t.now) ts
 
--- the same by key, and then by id
+-- the same descriptions, sorted by key and then by id
 pub record InOrder (ts rows : List Described) : Type 0 where
   pub same : IsPermutation ts rows
   pub sorted : IsSorted described_cmp rows
