@@ -1,4 +1,4 @@
--- The rows of a content that retirements have joined.
+-- The rows of a content after retirements have joined it.
 use Rattle.std.proofs.Common.{◌≡◌, ◌≢◌, ℕ, ◌+◌, Bool, true, false, cond, List, [], ◌∷◌, refl, sym, ap, ◌∙◌, subst, inl, inr}
 use Rattle.std.specs.Prelude.{Contains, Some, map}
 use Rattle.std.specs.List.{flat_map, filter}
@@ -88,7 +88,7 @@ to_filter p (y ∷ ys) x h e = to_cons p y ys x (p y) refl h e (λ c. to_filter 
 only : (r a : Row) (rs : List Row) → rs ≡ r ∷ [] → Contains rs a → a ≡ r
 only r a rs e h = elim (in_cons a r [] (subst (λ l. Contains l a) e h)) [ inl same ↦ same | inr later ↦ absurd (none_in a later) ]
 
--- an entry has one row
+-- an entry of a content has at most one row
 pub one_row : (x : Content) → IsContent x → (a b : Row) → Contains (rows x.ops) a → Contains (rows x.ops) b → a.entry ≡ b.entry → a ≡ b
 one_row x is a b h k e =
     let row = row_of_entry x is a.entry (row_enters x.ops a h) in
@@ -114,7 +114,7 @@ module _ (x y : Content) (replica note : List ℕ) (ids made : List Id) (d : Doe
       let inside : has d.ops m.0 ≡ true = any_of_member (eq_by_cmp op_cmp m.0) d.ops m.0 m.1 (ap is_eq (tied_itself op_total m.0)) in
       (m.0, subst (λ (z : Content). contains z.ops m.0 ≡ true) merged_is (effects_kept command.Retire x replica note ids d.ops m.0 d.are_made inside), sym m.2)
 
-  -- what was to be retired is
+  -- each entry that was to be retired is retired in the new content
   pub is_retired_after : (r : Row) → Contains (rows y.ops) r → Contains ids r.entry → r.status ≡ Some Retired
   is_retired_after r h c =
       let o = retiring_made r.entry c in
@@ -137,7 +137,7 @@ module _ (x y : Content) (replica note : List ℕ) (ids made : List Id) (d : Doe
             absurd cc
       ]
 
-  -- a row comes of one that was there, which was not retired where it is not
+  -- a row of the new content has the entry and text of an old row, which was not retired if the new one is not
   pub record Comes (r : Row) : Type 0 where
     pub row : Row
     pub there : Contains (rows x.ops) row

@@ -1,4 +1,4 @@
--- What settling leaves: kept keys without a conflict, and each text in one entry.
+-- After settling, the keys of kept entries have no conflict; after settling equal texts, each has one entry.
 use Rattle.std.proofs.Common.{◌≡◌, ◌≢◌, ◌⊎◌, ℕ, true, List, [], ap, refl, sym, ◌∙◌, subst, inl, inr}
 use Rattle.std.specs.Prelude.{Contains, Some}
 use Rattle.std.specs.declared.cmp.Ordering.{Ordering}
@@ -29,7 +29,7 @@ module _ (x y : Content) (replica note : List ℕ) (is : IsContent x) (ids made 
   abbrev From : Row → Type 0
   From r = Comes x y replica note ids made d r
 
-  -- a row that stands afterwards, of a key that is kept, is kept
+  -- a row that is not retired after settling, and has the key of a kept entry, is kept
   kept_after : (keeps : List Id) (keep r : Row) (key : KeyBytes) → IsSettled (rows x.ops) keeps ids → Contains (rows x.ops) keep → Contains keeps keep.entry → HasKey keep.definition key
       → Contains (rows y.ops) r → r.status ≢ Some Retired → HasKey r.definition key → (c : From r) → Contains keeps (c.row).entry
   kept_after keeps keep r key settled there named keyed h stands its c = elim (covers (rows x.ops) keeps keeps [] [] ids (one_row x is) settled keep c.row there named c.there (c.stood stands)
@@ -52,7 +52,7 @@ module _ (x y : Content) (replica note : List ℕ) (is : IsContent x) (ids made 
         differ = λ e. c.differ (sym one.text ∙ (e ∙ other.text));
       })
 
-  -- of two that stand afterwards and have one text, none comes before the other
+  -- of two rows that are not retired after settling and have one text, neither entry is less than the other
   none_before : AreDoubles (rows x.ops) ids → (a b : Row) → Contains (rows y.ops) a → Contains (rows y.ops) b → a.status ≢ Some Retired → b.status ≢ Some Retired → a.definition ≡ b.definition
       → is_before a.entry b.entry ≡ true → ⊥
   none_before doubles a b ha hb sa sb same before =

@@ -1,4 +1,4 @@
--- What a comparison comes to, by its steps.
+-- The result or the fault of a comparison, by its steps.
 use Rattle.std.proofs.Common.{◌≡◌, ◌∷◌, [], Bool, true, false, List, ℕ, Ok, refl, ap, sym, subst, ◌∙◌}
 use Rattle.byte_io.specs.Device.{SourceState, SinkState}
 use Rattle.reg_file.specs.declared.parts.Part.{Part}
@@ -34,7 +34,7 @@ module _ (joins : Bool) (next : ℕ) (x : Content) (old new : List SourceState) 
     is_join : join_of (joined_parts joins x given.0) ≡ with_pieces (begun (all_joined joined (Ok nothing) (joined_ones joins xs))) qs
     is_join = of_parts (joined_parts joins x given.0) (joined_ones joins xs) qs (ap (joined_ones joins) given.2 ∙ ones_of joins x given.0) (given.3 ∙ pieces_of joins x given.0)
 
-    -- they do not join
+    -- the registers and pieces do not join
     pub unjoined : (before after : SinkState) → after ≡ before → (f : CliFault)
         → IsUnjoined (with_pieces (begun (all_joined joined (Ok nothing) (joined_ones joins xs))) qs) f → CannotCompare joins next x old new before after f
     unjoined before after same (cli.Refused r) h = ((given.0, given.1, subst (λ j. IsUnjoined j (cli.Refused r)) (sym is_join) h), same)
@@ -43,11 +43,11 @@ module _ (joins : Bool) (next : ℕ) (x : Content) (old new : List SourceState) 
     unjoined before after same cli.Memory h = (none_failed old new given.0 given.1, same)
     unjoined before after same (cli.Shelf p) h = absurd h
 
-    -- they join to a content
+    -- the registers and pieces join to a content
     pub compares : (y : Content) → with_pieces (begun (all_joined joined (Ok nothing) (joined_ones joins xs))) qs ≡ Ok y → Compares joins old new x y
     compares y is = (given.0, given.1, is_join ∙ is)
 
-  -- not all of the text went out
+  -- not all of the text was written
   pub untold : (y : Content) (before after : SinkState) → Compares joins old new x y → (f : CliFault) → IsUntold (IsDiff x y) before after f → CannotCompare joins next x old new before after f
   untold y before after both (cli.Refused r) h = absurd h
   untold y before after both (cli.File k f) h = absurd h

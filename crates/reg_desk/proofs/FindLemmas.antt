@@ -1,4 +1,4 @@
--- Whether there are ids.
+-- A list of ids is empty exactly if its length is 0.
 use Rattle.std.proofs.Common.{◌≡◌, ◌≢◌, ℕ, Bool, true, false, List, [], ◌∷◌, length, eqb, refl, sym, ap, ◌∙◌, arith}
 use Rattle.std.proofs.lemmas.Bool.{true≢false, eqb-true}
 use Rattle.reg_op.specs.Ids.{Id}

@@ -1,4 +1,4 @@
--- What an import comes to, by its steps.
+-- The result or the fault of an import, by its steps.
 use Rattle.std.proofs.Common.{◌≡◌, [], ℕ, List, sym, subst, inl, inr}
 use Rattle.std.specs.declared.option.Option.{Option}
 use Rattle.byte_io.specs.Device.{SinkState}
@@ -19,7 +19,7 @@ pub weaker : (P Q : CliFault → Type 0) (k : ImportFault) (notes : List ℕ) �
 weaker P Q (import.Cli f) notes h (p, n) = (h f p, n)
 weaker P Q (import.Refused p place file) notes h never = absurd never
 
--- what is answered of the lines is what is answered of all
+-- a fault that is left after the lines are written, or a fault of writing them, is the fault of the import
 pub answer_of : (w : Way) (x y : Content) (lines : List ℕ) (passed : Option Unimported) (u : Unimported) (before after : SinkState) → (WritesAll lines before after → w.gave x y lines)
     → ((f : CliFault) → AreCut lines before after f → w.failed x y lines f) → IsUntold lines passed before after u → IsAnswer w x y lines passed u
 answer_of w x y lines passed u before after gave failed (inl (is, all)) = inl (is, gave all)

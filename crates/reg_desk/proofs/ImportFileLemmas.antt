@@ -1,4 +1,4 @@
--- One more of the files, when those before it are read.
+-- Reading the next of some files, after those before it gave their bytes.
 use Rattle.std.proofs.Common.{◌≡◌, ◌∷◌, ◌++◌, [], List, ℕ, ◌+◌, ◌<◌, ◌≤◌, zero, suc, length, map, take, drop, get_or, slice_set, refl, ap, sym, subst, arith, inl, inr, ◌∙◌}
 use Rattle.std.proofs.lemmas.List.{take_all, length-map}
 use Rattle.byte_io.specs.Device.{SourceState}
@@ -79,7 +79,7 @@ module _ {F : Type 0} (st : F → SourceState) where
   stops_at (w ∷ ws) (n ∷ ns) number (suc i) k o s (c ∷ cs) f within size front back at fault =
       inr ((c, front.0), stops_at ws ns (number + 1) i k o s cs f (omega arith) (omega arith) front.1 back (omega (arith, at)) fault)
 
-  -- none failed, nor did the next one
+  -- if the next file does not fail either, none has failed
   pub none_fails_next : (was now : List F) (i : ℕ) (o s : F) (bs : List (List ℕ)) → i < length was → length now ≡ length was
       → GiveAll (take i (map st was)) (take i (map st now)) bs → drop i (map st now) ≡ drop i (map st was) → NeverFails (st (get_or now i o)) (st s)
       → NoneFails (map st was) (map st (slice_set now i s))
@@ -90,7 +90,7 @@ module _ {F : Type 0} (st : F → SourceState) where
   none_fails_next (w ∷ ws) (n ∷ ns) (suc i) o s [] within size front back gives = absurd front
   none_fails_next (w ∷ ws) (n ∷ ns) (suc i) o s (c ∷ cs) within size front back gives = (gave_some _ _ c front.0, none_fails_next ws ns i o s cs (omega arith) (omega arith) front.1 back gives)
 
-  -- none failed so far
+  -- if the first i files gave their bytes and the others are unread, none has failed
   pub none_fails_yet : (was now : List F) (i : ℕ) (bs : List (List ℕ)) → length now ≡ length was
       → GiveAll (take i (map st was)) (take i (map st now)) bs → drop i (map st now) ≡ drop i (map st was) → NoneFails (map st was) (map st now)
   none_fails_yet was now zero bs size front back = subst (λ k. NoneFails (map st was) k) (sym back) (none_given (map st was))
@@ -100,7 +100,7 @@ module _ {F : Type 0} (st : F → SourceState) where
   none_fails_yet (w ∷ ws) (n ∷ ns) (suc i) [] size front back = absurd front
   none_fails_yet (w ∷ ws) (n ∷ ns) (suc i) (c ∷ cs) size front back = (gave_some _ _ c front.0, none_fails_yet ws ns i cs (omega arith) front.1 back)
 
-  -- what stops the reading of one stops that of all
+  -- the fault of the next file is the fault of all files
   pub unread_next : (was now : List F) (number i k : ℕ) (o s : F) (bs : List (List ℕ)) → i < length was → length now ≡ length was
       → GiveAll (take i (map st was)) (take i (map st now)) bs → drop i (map st now) ≡ drop i (map st was) → k ≡ number + i
       → (f : CliFault) → IsUnread k (st (get_or now i o)) (st s) f → AreUnread number (map st was) (map st (slice_set now i s)) f
@@ -110,7 +110,7 @@ module _ {F : Type 0} (st : F → SourceState) where
   unread_next was now number i k o s bs within size front back at cli.Memory h = none_fails_next was now i o s bs within size front back h
   unread_next was now number i k o s bs within size front back at (cli.Shelf p) h = absurd h
 
-  -- after the last
+  -- after the last file, all gave their bytes
   pub gave_all : (was now : List F) (i : ℕ) (bs : List (List ℕ)) → length was ≤ i → length now ≡ length was
       → GiveAll (take i (map st was)) (take i (map st now)) bs → GiveAll (map st was) (map st now) bs
   gave_all was now i bs past size h =

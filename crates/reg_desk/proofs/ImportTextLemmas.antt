@@ -1,4 +1,4 @@
--- One more file that is cut, one more text that is read, one more of which something is said.
+-- The loops that cut files into texts, read the texts, and explain them.
 use Rattle.std.proofs.Common.{◌≡◌, ◌∷◌, ◌++◌, [], List, ℕ, ◌+◌, ◌≤◌, min, length, length-drop, map, drop, append_assoc, append-nil, refl, ap, sym, subst, arith, inl, inr, ◌∙◌}
 use Rattle.std.proofs.lemmas.Bool.{cases_lt}
 use Rattle.std.proofs.lemmas.List.{length-map}
@@ -13,7 +13,7 @@ use Rattle.reg_desk.specs.ImportNotes.{notes_of}
 
 -- ---- files
 
--- what is still to come completes the texts of the files
+-- `cuts` followed by any texts of the remaining files are the texts of all files
 abbrev pub CutsComplete : List (List ℕ) → ℕ → List (List ℕ) → List TextAt → Type 0
 CutsComplete files file rest cuts = (more : List TextAt) → AreCuts file rest more → AreCuts 0 files (cuts ++ more)
 
@@ -32,7 +32,7 @@ cuts_done files file rest cuts h done = subst (AreCuts 0 files) (append-nil cuts
 
 -- ---- texts
 
--- what is still to come completes what is read
+-- `read` followed by any readings of the remaining texts are the readings of all texts
 abbrev pub ReadComplete : List TextAt → List TextAt → List FileText → Type 0
 ReadComplete cuts rest read = (more : List FileText) → AreRead rest more → AreRead cuts (read ++ more)
 
@@ -62,7 +62,7 @@ nothing_told : (names files : List (List ℕ)) (cuts : List TextAt) (ts : List T
 nothing_told names files cuts [] h = no_notes names files cuts
 nothing_told names files cuts (t ∷ ts) h = absurd (omega arith)
 
--- none is left of one of the lists
+-- past the end of either list there are no notes
 pub none_left : (names files : List (List ℕ)) (cuts : List FileCut) (ts : List TextAction) (i : ℕ) → min (length cuts) (length ts) ≤ i → notes_of names files (map text_at (drop i cuts)) (drop i ts) ≡ []
 none_left names files cuts ts i past = elim (cases_lt (length cuts) (length ts)) [
   | inl l ↦ no_text_left names files (map text_at (drop i cuts)) (drop i ts) (length-map (drop i cuts) text_at ∙ length-drop i cuts ∙ omega (arith, l, past))

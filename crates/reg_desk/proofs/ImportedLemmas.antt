@@ -67,7 +67,7 @@ module _ (o p : ImportOptions) (m n : ℕ) (x y : Content) (files : List (List �
   unmade_again u (inl memory) = weaker (λ f. f ≡ cli.Memory) IsNote u.fault u.notes.items (λ f is. inr is) memory
   unmade_again u (inr (cuts, texts, have, (r, h, by))) = of_refusal cuts texts r u (refused_then texts cuts r have h) by
 
--- what was ready is made of the bytes that the sources gave
+-- a result that is ready is made of the bytes that the sources gave
 pub made_of : (o : ImportOptions) (m : ℕ) (x y : Content) (a b : List SourceState) (files : List (List ℕ)) (lines : List ℕ) (passed : Option Unimported) → GiveAll a b files
     → IsReady o m x a b y lines passed → Makes o m x files y lines passed
 made_of o m x y a b files lines passed gave (those, given, made) = subst (λ (bs : List (List ℕ)). Makes o m x bs y lines passed) (one_given a b those files given gave) made
@@ -90,7 +90,7 @@ same_bytes : (these : List Piece) → map (λ (c : TextAt). c.bytes) (map (in_fi
 same_bytes [] = refl
 same_bytes (p ∷ ps) = ap (λ l. p.bytes ∷ l) (same_bytes ps)
 
--- the readings of one file
+-- the texts of a single file have these readings
 of_one : (bytes : List ℕ) (cuts : List TextAt) (texts : List FileText) (h : HaveTexts (bytes ∷ []) cuts texts) → AreReadings (map (λ (p : Piece). p.bytes) h.cut.0) (readings texts)
 of_one bytes cuts texts h =
     let all : cuts ≡ map (in_file 0) h.cut.0 = h.cut.4 ∙ ap (λ rest. map (in_file 0) h.cut.0 ++ rest) h.cut.3 ∙ append-nil (map (in_file 0) h.cut.0) in
@@ -113,7 +113,7 @@ exported_passes o x cuts texts at p is beside have h =
     exported_pass x o.replica o.note.now o.keep_going have.cut.0 (readings texts) at p is have.cut.2 (of_one (export x.ops) cuts texts have)
     (subst (λ (d : Differs). IsImportRefusal nothing o.replica o.note.now d o.keep_going (readings texts) (refused.Refused at p)) beside h)
 
--- why a file of good texts is not imported
+-- a fault that no text has: the note is too long, the counts are spent, or memory ran out
 abbrev pub IsOther : CliFault → Type 0
 IsOther f = (f ≡ cli.Refused (refusal.Office office.NoteTooLong)) ⊎ ((f ≡ cli.Refused (refusal.Office office.CountSpent)) ⊎ (f ≡ cli.Memory))
 

@@ -1,4 +1,4 @@
--- One more of the files or shelves, when those before it are looked at.
+-- Inspecting the next of some files or shelves, after those before it are inspected.
 use Rattle.std.proofs.Common.{◌≡◌, ◌⊎◌, inl, inr, ◌∷◌, ◌++◌, [], List, ℕ, ◌+◌, ◌<◌, ◌≤◌, zero, suc, length, take, drop, get_or, slice_set, refl, sym, ap, subst, ◌∙◌, arith}
 use Rattle.std.specs.Prelude.{IsTrue, Err, IsErrOf}
 use Rattle.std.specs.declared.result.Result.{Result}
@@ -58,7 +58,7 @@ module _ {T : Type 0} (At : T → T → Look → Type 0) (Stays : T → T → Ty
       subst (λ j. AreLooks At (take j was) (take j (slice_set now i s)) ms) (next i)
       (subst (λ ks. AreLooks At (take (suc i) was) (take (suc i) (slice_set now i s)) ks) (sym pushed) (looks_suc was now i o s ls l within size front back is))
 
-  -- after the last
+  -- after the last one, all are inspected
   pub looks_all : (was now : List T) (i : ℕ) (ls : List Look) → length was ≤ i → length now ≡ length was → AreLooks At (take i was) (take i now) ls → AreLooks At was now ls
   looks_all was now i ls past size h =
       subst (λ os. AreLooks At os now ls) (take_all i was past) (subst (λ ns. AreLooks At (take i was) ns ls) (take_all i now (omega (arith, size, past))) h)
@@ -74,7 +74,7 @@ module _ {T : Type 0} (At : T → T → Look → Type 0) (Stays : T → T → Ty
   all_left (o ∷ os) (n ∷ ns) [] h = absurd h
   all_left (o ∷ os) (n ∷ ns) (l ∷ ls) h = inl ((l, h.0), all_left os ns ls h.1)
 
-  -- one more was looked at, or stays
+  -- if the next one is inspected or unchanged, those before it are inspected, and those after it untouched
   pub left_at : (was now : List T) (i : ℕ) (o s : T) (ls : List Look) → i < length was → length now ≡ length was
       → AreLooks At (take i was) (take i now) ls → drop i now ≡ drop i was → ((l : Look) × At (get_or now i o) s l) ⊎ Stays (get_or now i o) s → AreLeft At Stays was (slice_set now i s)
   left_at was [] i o s ls within size front back is = absurd (omega arith)

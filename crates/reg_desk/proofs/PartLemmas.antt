@@ -1,4 +1,4 @@
--- Files of registers and pieces that were read, and what they join to.
+-- The registers and pieces that files gave, and their join.
 use Rattle.std.proofs.Common.{◌≡◌, ◌∷◌, [], List, ℕ, ◌+◌, ◌<◌, ◌≤◌, ◌^◌, zero, suc, length, refl, ap, sym, subst, append-nil, arith, Ok, Err, Result, Some, None, ◌∙◌}
 use Rattle.std.specs.declared.option.Option.{Option}
 use Rattle.std.specs.Io.KnownBytes.{Consumes}
@@ -16,7 +16,7 @@ use Rattle.reg_engine.specs.declared.fault.CliFault.TheVariants as cli
 use Rattle.reg_engine.specs.Inputs.{NeverFails, HoldAll, NoneFails, GivePartsAfter, registers, pieces}
 use Rattle.reg_engine.specs.Merge.{begun, with_pieces, join_of, IsUnjoined}
 
--- ---- what was read
+-- ---- files that were read
 
 part_gives : (o n : SourceState) (p : Part) → FindsPart o n p → NeverFails o n
 part_gives o n p (bytes, read, held) = (bytes, read.given, read.front, read.bounded, read.quiet)
@@ -42,7 +42,7 @@ none_failed (o ∷ os) (n ∷ ns) (p ∷ ps) h = (part_gives o n p h.0, none_fai
 
 -- ---- the join
 
--- the join of what was read is that of the parts
+-- joining the registers, and then the pieces, gives the join of the parts
 pub of_parts : (ps : List Part) (xs : List Content) (qs : List Piece) → xs ≡ registers ps → qs ≡ pieces ps → join_of ps ≡ with_pieces (begun (all_joined joined (Ok nothing) xs)) qs
 of_parts ps xs qs e f =
     ap (λ ys. with_pieces (begun (all_joined joined (Ok nothing) ys)) (pieces ps)) (sym e) ∙ ap (λ ys. with_pieces (begun (all_joined joined (Ok nothing) xs)) ys) (sym f)
@@ -51,7 +51,7 @@ refused_all : (r : PieceRefusal) (qs : List Piece) → with_pieces (Err r) qs �
 refused_all r [] = refl
 refused_all r (q ∷ qs) = refused_all r qs
 
--- pieces do not mend a refusal of the registers
+-- if the registers do not join, they do not join with pieces either, for the same reason
 pub refusal_stays : (r : Result Content PieceRefusal) (qs : List Piece) (f : CliFault) → IsUnjoined r f → IsUnjoined (with_pieces r qs) f
 refusal_stays (Err e) qs f h = subst (λ r. IsUnjoined r f) (sym (refused_all e qs)) h
 refusal_stays (Ok x) qs (cli.Refused (refusal.Clash id)) h = absurd (cc)

@@ -1,4 +1,4 @@
--- A shelf that was restored, and whose head is read then.
+-- The room on a shelf that was restored, by the size in its head.
 use Rattle.std.proofs.Common.{◌≡◌, ◌⊎◌, ◌+◌, ◌<◌, ◌≤◌, inl, inr, Bool, ℕ, List, length, take, drop, refl, sym, ap, subst, ◌∙◌, arith, length-take, length-drop}
 use Rattle.std.proofs.lemmas.List.{take-take, drop-take}
 use Rattle.std.specs.Prelude.{IsTrue, Err, IsErrOf}
@@ -21,7 +21,7 @@ use Rattle.reg_engine.specs.Store.{on_shelf}
 use Rattle.reg_engine.proofs.ShelfLemmas.{then_stays}
 use Rattle.reg_desk.specs.ImportRoom.{IsFull, room_on_shelf}
 
--- a head that was read is that of the disk
+-- the head in the first five bytes of the disk is the head of the disk
 pub head_read : (s buf : List ℕ) (gate size : ℕ) → length buf ≡ 5 → ReadsAt s 0 5 buf → HasHead buf gate size → HasHead s gate size
 head_read s buf gate size long reads head =
     let same : take 5 buf ≡ take 5 s = reads.bytes in
@@ -31,14 +31,14 @@ head_read s buf gate size long reads head =
       size_fits = head.size_fits;
     }
 
--- what is a shelf has a head
+-- a shelf has at least the five bytes of its head
 long_head : (s : List ℕ) (n : ℕ) → StandAt s 1 (to_be_bytes w32 n) → 5 ≤ length s
 long_head s n stands = omega (arith, ap length stands, length-take 4 (drop 1 s), length-drop 1 s)
 
 is_long : (s : List ℕ) (x : Content) → IsShelf s x → length s < 5 → ⊥
 is_long s x p short = omega (arith, short, long_head s p.shelf.size p.shelf.head.size_stands)
 
--- the faults of this reading
+-- the faults that reading the head may have
 abbrev IsAsked : ShelfFault → Type 0
 IsAsked shelf.NotShelf = Unit {0}
 IsAsked shelf.DiskFailed = Unit {0}
@@ -54,7 +54,7 @@ is_asked f (inr (inr e)) = subst IsAsked (sym e) tt
 abbrev err_of : {T E : Type 0} → E → Result T E
 err_of e = Err e
 
--- a slot of the disk has room for some bytes
+-- the slots of the disk have room for this many bytes, or do not
 abbrev pub Takes : {D : Type 0} → Disks D → D → ℕ → Type 0
 Takes d old len = (gate : ℕ) × (size : ℕ) × HasHead (d.seen old) gate size × (len ≤ size)
 
@@ -65,7 +65,7 @@ module _ {D : Type 0} (d : Disks D) (old mid : D) (tells : d.tells mid ≡ d.tel
   then_told : IsTrue (d.tells old) → IsTrue (d.tells mid)
   then_told told = subst (λ (b : Bool). IsTrue b) (sym tells) told
 
-  -- the disk reads as before
+  -- what holds for the bytes of the disk after the restoration held for them before it
   same_seen : (P : List ℕ → Type 0) → IsTrue (d.tells old) → P (d.seen mid) → P (d.seen old)
   same_seen P told h = subst P (came.1.nothing told).same h
 

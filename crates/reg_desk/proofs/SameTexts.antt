@@ -16,7 +16,7 @@ use Rattle.reg_import.proofs.ReadingLemmas.{one_reading}
 use Rattle.reg_desk.specs.ImportFiles.{GiveAll}
 use Rattle.reg_desk.specs.ImportTexts.{TextAt, in_file, AreCuts, AreRead, HaveTexts}
 
--- ---- what the sources gave
+-- ---- the bytes that sources gave
 
 pub one_given : (os ns : List SourceState) (bs cs : List (List ℕ)) → GiveAll os ns bs → GiveAll os ns cs → bs ≡ cs
 one_given [] [] [] [] h k = refl

@@ -1,4 +1,4 @@
--- What settling comes to, by its steps.
+-- The faults of settling, by its steps.
 use Rattle.std.proofs.Common.{◌≡◌, ◌⊎◌, ◌≤◌, ℕ, List, length, Err, refl, sym, subst, inl, inr}
 use Rattle.reg_op.specs.Ids.{Id}
 use Rattle.reg_op.specs.Contents.{Content}
@@ -17,7 +17,7 @@ use Rattle.reg_desk.specs.Settle.{settle_fault, SettlesFor, CannotKeep, IsUnreti
 
 -- ---- retiring
 
--- a list that an office does not retire
+-- the fault if the entries of the list cannot be retired
 pub list_unmade : (Lists : Content → List Id → Type 0) (Refuses : Content → Refusal → Type 0) (x : Content) (replica note : List ℕ) (list other : List Id) → length note ≤ 200
     → list ≡ other → Lists x list → (f : CliFault) → CannotMake replica note (retirements other) x f → IsUnretired Lists Refuses replica note x f
 list_unmade Lists Refuses x replica note list other short e lists (cli.Refused r) h = inr (inr (short, (list, lists, subst (λ l. CannotMake replica note (retirements l) x (cli.Refused r)) (sym e) h)))
@@ -35,7 +35,7 @@ kept_not : (keeps : List Id) (x : Content) (f : SettleFault) (r : Refusal) → s
 kept_not keeps x f r e (inl h) = (f, h, e)
 kept_not keeps x f r e (inr m) = absurd (never_memory f r e m)
 
--- entries that cannot be kept
+-- the fault if the entries cannot be kept
 pub cannot_keep : (keeps : List Id) (x : Content) (replica note : List ℕ) → length note ≤ 200 → (f : SettleFault) → IsUnsettled (rows x.ops) keeps f ⊎ (f ≡ settle.Memory)
     → IsUnretired (SettlesFor keeps) (CannotKeep keeps) replica note x (settle_fault f)
 cannot_keep keeps x replica note short (settle.UnknownEntry id) h = inr (inl (short, kept_not keeps x (settle.UnknownEntry id) (refusal.Office (office.UnknownEntry id)) refl h))

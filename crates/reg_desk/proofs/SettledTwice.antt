@@ -1,4 +1,4 @@
--- What remains where two offices have settled, each its own register, and join.
+-- If two offices settle equal texts and then join, the least entry of each text is still not retired.
 use Rattle.std.proofs.Common.{◌≡◌, ◌≢◌, ◌||◌, ℕ, Bool, true, false, cond, List, [], Some, None, Ok, refl, sym, ap, ◌∙◌, subst, inl, inr}
 use Rattle.std.specs.Prelude.{Contains, map, ◌&&◌}
 use Rattle.std.specs.Cmp.{Equal-is}
@@ -31,7 +31,7 @@ use Rattle.reg_settle.specs.Doubles.{HasLesser, IsDouble, AreDoubles}
 use Rattle.reg_settle.proofs.Settled.{picked_are}
 use Rattle.reg_desk.proofs.AfterRetiring.{row_status, row_enters, one_row, of_filter}
 
--- ---- a status, and what retires
+-- ---- the status of an entry, and whether it is retired
 
 retired_or : (en re su : Bool) → cond en (Some (cond re Retired (cond su Superseded Valid))) None ≡ Some Retired → re ≡ true
 retired_or true true su h = refl
@@ -112,7 +112,7 @@ module _ (x xs : Content) (replica note : List ℕ) (ids made : List Id) (d : Do
       let same : e ≡ k.0 = (let both : ◌≡◌ {A = Body} (Retire e) (Retire k.0) = k.2 in cc) in
       subst (λ i. Contains ids i) (sym same) k.1
 
-  -- it retires what was retired, and these
+  -- an entry that is neither retired nor a double is not retired afterwards
   pub settles : AreDoubles (rows x.ops) ids → (e : Id) → retires x.ops e ≡ false → ((r : Row) → Contains (rows x.ops) r → r.entry ≡ e → HasLesser (rows x.ops) r → ⊥) → retires xs.ops e ≡ false
   settles doubles e none least = by (retires xs.ops e) refl
     where
@@ -123,10 +123,10 @@ module _ (x xs : Content) (replica note : List ℕ) (ids made : List Id) (d : Do
         | inr new ↦ let r = picked_are (IsDouble (rows x.ops)) (rows x.ops) ids e doubles (retires_listed e new) in absurd (least r.0 r.1 r.3 r.2.lesser)
       ]
 
--- ---- two offices do
+-- ---- two offices retire their doubles
 
 module _ (x y both : Content) (j : joined x y ≡ Ok both) (is : IsContent both) (same : (e : Id) → retires x.ops e ≡ retires y.ops e) where
-  -- what is double in one register is so in both together
+  -- a row with a lesser one in the first register has a lesser one in the join
   pub lesser_in_both : (one r : Row) → Contains (rows both.ops) one → Contains (rows x.ops) r → r.entry ≡ one.entry → HasLesser (rows x.ops) r → HasLesser (rows both.ops) one
   lesser_in_both one r there at entry h =
       let l = h.lesser in

@@ -1,4 +1,4 @@
--- The lines of files, one after another, and what is answered of them.
+-- The lines of a report of files, one file at a time, and the fault that is reported.
 use Rattle.std.proofs.Common.{◌≡◌, ℕ, ◌+◌, ◌-◌, ◌<◌, ◌≤◌, min, Bor, List, [], ◌∷◌, ◌++◌, All, append_assoc, append-nil, length, length-append, length-drop, map, take, drop, get_or, zero, suc, arith, refl, sym, ap, ◌∙◌, subst, inl, inr, ◌⊎◌, Some, None}
 use Rattle.std.proofs.lemmas.Bool.{cases_lt}
 use Rattle.std.proofs.lemmas.List.{drop_more, length-map}
@@ -12,7 +12,7 @@ use Rattle.reg_desk.specs.Status.{status_header, IsStatusLine, AreStatusLines, I
 abbrev pub text_of : Bor (List ℕ) → List ℕ
 text_of n = n.now
 
--- what is still to come completes the report
+-- `text` followed by any lines for the remaining files is the report
 abbrev pub Completes : List (List ℕ) → List Look → List (List ℕ) → List Look → List ℕ → Type 0
 Completes names looks ns ls text = (more : List ℕ) → AreStatusLines ns ls more → IsStatusText names looks (text ++ more)
 
@@ -45,9 +45,9 @@ lines_done names looks i text out past h done =
       | inr l ↦ inr (length-drop i looks ∙ omega (arith, l, past))
     ])))
 
--- ---- the first that is bad
+-- ---- the first that is not a register
 
--- so far all are good
+-- all looks before `rest` are good
 abbrev pub Passed : List Look → List Look → Type 0
 Passed looks rest = (before : List Look) × (looks ≡ before ++ rest) × AreGood before
 

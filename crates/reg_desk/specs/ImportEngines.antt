@@ -15,7 +15,7 @@ use Rattle.reg_desk.specs.ImportRoom.{Room}
 abbrev pub IsTold : List ℕ → Option Unimported → SinkState → SinkState → Type 0
 IsTold lines passed before after = (passed ≡ None) × WritesAll lines before after
 
--- or there is; or not all were written
+-- there is a fault; or not all lines were written
 abbrev pub IsUntold : List ℕ → Option Unimported → SinkState → SinkState → Unimported → Type 0
 IsUntold lines passed before after u = ((passed ≡ Some u) × WritesAll lines before after) ⊎ IsPlain (AreCut lines before after) u
 

@@ -52,7 +52,7 @@ IsShelfLook d old new (look.NoRegister n f) = ⊥
 IsShelfLook d old new (look.Unread f) = ⊥
 IsShelfLook d old new (look.NoShelf p) = IsUnrestored d old new (cli.Shelf p)
 
--- of bytes that a shelf has: the figures of their register and their number, or that they are none's
+-- the look for the bytes of a shelf: their number and the figures of their register; or that they are the file of none
 abbrev pub IsRegisterLook : List ℕ → Look → Type 0
 IsRegisterLook bytes (look.Figures n figures) = HasLook bytes (look.Figures n figures)
 IsRegisterLook bytes (look.NoRegister n f) = ⊥
@@ -105,7 +105,7 @@ AreLooks At (o ∷ os) [] ls = ⊥
 AreLooks At (o ∷ os) (n ∷ ns) [] = ⊥
 AreLooks At (o ∷ os) (n ∷ ns) (l ∷ ls) = At o n l × AreLooks At os ns ls
 
--- each was looked at, up to one where memory ran out, which stays or was not touched, as are those after it
+-- each was inspected, up to one where memory ran out: that one is unchanged or untouched, and those after it are untouched
 abbrev pub AreLeft : {T : Type 0} → (T → T → Look → Type 0) → (T → T → Type 0) → List T → List T → Type 0
 AreLeft At Stays [] new = new ≡ []
 AreLeft At Stays (o ∷ os) [] = ⊥

@@ -63,7 +63,7 @@ fault_at k (look.NoRegister n f) = Some (cli.File k f)
 fault_at k (look.Unread f) = Some (cli.File k f)
 fault_at k (look.NoShelf p) = Some (cli.Shelf p)
 
--- it is a register's
+-- the file or shelf has a register
 abbrev pub IsGood : Look → Type 0
 IsGood (look.Figures n f) = Unit {0}
 IsGood (look.NoRegister n f) = ⊥
@@ -73,7 +73,7 @@ IsGood (look.NoShelf p) = ⊥
 abbrev pub AreGood : List Look → Type 0
 AreGood looks = All IsGood looks
 
--- this is reported of the first that is not; numbers are from 1
+-- this fault is reported of the first that has none; files are numbered from 1
 abbrev pub IsFirstBad : List Look → CliFault → Type 0
 IsFirstBad looks fault = (before : List Look) × (l : Look) × (after : List Look) × (looks ≡ before ++ l ∷ after) × AreGood before
     × (fault_at (length before + 1) l ≡ Some fault)
@@ -85,7 +85,7 @@ is_unsettled (look.NoRegister n f) = false
 is_unsettled (look.Unread f) = false
 is_unsettled (look.NoShelf p) = false
 
--- if this is checked, none has
+-- if this is checked, none has any of these
 abbrev pub IsSettled : Bool → List Look → Type 0
 IsSettled settled looks = settled ≡ true → list_any is_unsettled looks ≡ false
 

@@ -5,7 +5,7 @@ use Rattle.reg_desk.specs.ImportTexts.{text_at}
 use Rattle.reg_desk.specs.ImportNotes.{content_of, notes_of}
 use Rattle.reg_desk.proofs.import.notes.notes_of.Given as goal
 
--- what is said so far, and of those that remain, is all; the explainer has the file of this number
+-- the notes so far, followed by those of the remaining texts, are all notes; the explainer has the file with this number
 abbrev pub invariant-loop-i : goal.invariant-loop-i
 invariant-loop-i l = (l.explainer ≡ content_of (bytes_of l.files) l.file) × (l.notes.items ++ notes_of (map string_bytes l.names) (bytes_of l.files) (map text_at (drop l.i l.cuts)) (drop l.i l.told)
     ≡ notes_of (map string_bytes l.names) (bytes_of l.files) (map text_at l.cuts) l.told)
