@@ -30,7 +30,7 @@ both_lists ps bs = same_set op_total op_exact _ _ (λ q.
     contains-from_list op_total (ps ++ bs) q ∙ list_any-append (eq_by_cmp op_cmp q) ps bs
     ∙ sym (contains_op-union (of_list ps) (of_list bs) q ∙ (λ k. contains-from_list op_total ps q k || contains-from_list op_total bs q k)))
 
--- one list after another is the whole
+-- merging two lists of operations in turn merges their concatenation
 then_after : (y : Content) (ps bs : List Op) → merged (merged y (state (of_list ps))) (state (of_list bs)) ≡ merged y (state (of_list (ps ++ bs)))
 then_after y ps bs = merged_assoc y (state (of_list ps)) (state (of_list bs)) ∙ ap (merged y) (merged-state (of_list ps) (of_list bs) ∙ ap state (sym (both_lists ps bs)))
 
@@ -44,7 +44,7 @@ numbered_append r n note (b ∷ bs) cs =
     ap (λ os. record { id = id_at r n; body = b; note = note } ∷ os)
     (numbered_append r (n + 1) note bs cs ∙ ap (λ m. numbered r (n + 1) note bs ++ numbered r m note cs) (e ∙ ap (λ m. n + m) (add-one (length bs))))
 
--- ---- refusals, one list after another
+-- ---- the refusals of two lists in turn
 
 else_both : (a b c : Option OfficeFault) → else_next a (else_next b c) ≡ else_next (else_next a b) c
 else_both None b c = refl
@@ -122,7 +122,7 @@ module _ (x : Content) (r note : List ℕ) where
   pub next_is : (bs : List Body) → greatest r (after bs).seen + 1 ≡ g + 1 + length bs
   next_is bs = let e = greatest_after bs in omega arith
 
-  -- ---- some effects more
+  -- ---- more effects
 
   pub after_more : (bs cs : List Body) → merged (after bs) (state (of_list (more_of bs cs))) ≡ after (bs ++ cs)
   after_more bs cs = then_after x (ops_of bs) (more_of bs cs) ∙ ap (λ os. merged x (state (of_list os))) (sym (numbered_append r (g + 1) note bs cs))

@@ -1,4 +1,4 @@
--- A list of one line.
+-- A list of one line makes what the command makes of its entries, and is refused as the command is.
 use Rattle.std.proofs.Common.{◌≡◌, ◌↔◌, ℕ, List, [], ◌∷◌, ◌++◌, append-nil, Err, refl, sym, ap, ◌∙◌, subst, inl, inr}
 use Rattle.reg_op.specs.Ids.{Id}
 use Rattle.reg_op.specs.Contents.{Content}

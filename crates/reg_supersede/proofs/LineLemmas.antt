@@ -1,4 +1,4 @@
--- One line more: what it does, and why it is refused.
+-- One more line: its effects, or why it is refused.
 use Rattle.std.proofs.Common.{◌≡◌, nat_lt, ℕ, ◌+◌, ◌<◌, ◌≤◌, Bool, true, false, not, ◌&&◌, ◌||◌, cond, List, [], ◌∷◌, ◌++◌, append_assoc, append-nil, map, length, length-append, get_or, take, drop, Option, Some, None, Ok, Err, refl, sym, ap, ◌∙◌, subst, inl, inr, arith}
 use Rattle.std.proofs.lemmas.Bool.{cases_lt}
 use Rattle.std.proofs.lemmas.Bool.Decides.{nat_tests}
@@ -120,7 +120,7 @@ can_on t x bs new [] is make can e = subst (CanMake t x) (sym (e ∙ append-nil 
 can_on t x bs new (old ∷ []) is make can e = absurd can
 can_on t x bs new (old ∷ newer ∷ others) is make can e = subst (CanMake t x) (sym e) (can_more t x bs is old (newer ∷ others) make can)
 
--- ---- what can be made at the beginning
+-- ---- before any effect
 
 greatest_fits : (r : List ℕ) (x : Content) → IsContent x → greatest r x.seen ≤ 4294967295
 greatest_fits r x is = elim (cases_lt 0 (greatest r x.seen)) [
@@ -131,7 +131,7 @@ greatest_fits r x is = elim (cases_lt 0 (greatest r x.seen)) [
 pub can_none : (t : Task) (x : Content) (bs : List Body) → IsContent x → bs ≡ [] → CanMake t x bs
 can_none t x bs is e = subst (CanMake t x) (sym e) (record { supersede = tt; none_refused = refl; fit = let fits = greatest_fits t.replica x is in omega arith })
 
--- ---- what is made at the end
+-- ---- the content at the end
 
 unless_is : (c : Option Id) (z y : Content) → joined_unless c z ≡ Ok y → y ≡ z
 unless_is None z y h = cc
@@ -148,7 +148,7 @@ pub none_is : (t : Task) (x : Content) (bs : List Body) → IsContent x → leng
 none_is t x [] is h = (sym (merged_none x is.is_kept), refl)
 none_is t x (b ∷ bs) is h = absurd (omega arith)
 
--- ---- the walk along the entries of a line
+-- ---- a loop over the entries of a line
 
 pub walk_on : (c : Command) (ops : Ops) (named : List Id) (k : ℕ) (e : Id) → k < length named → e ≡ get_or named k e → fault_of c ops (list_any (is_same e) (take k named)) e ≡ None
     → faults c ops [] named ≡ faults c ops (take k named) (drop k named) → faults c ops [] named ≡ faults c ops (take (k + 1) named) (drop (k + 1) named)
@@ -159,12 +159,12 @@ walk_on c ops named k e h is none walked =
     ∙ (λ j. faults c ops (take k named ++ is j ∷ []) (drop (k + 1) named))
     ∙ ap (λ l. faults c ops l (drop (k + 1) named)) (sym (take_more named k e h))
 
--- what was not put in anew was there
+-- an element that an insertion does not add was in the set
 pub was_there : (there added : Bool) → added ≡ not there → not added ≡ there
 was_there true added h = ap not h
 was_there false added h = ap not h
 
--- the set of those before a place has one more
+-- inserting the entry at index k into the set of those before k gives the set of those before k + 1
 pub before_more : (named : List Id) (k : ℕ) (e q : Id) → k < length named → e ≡ get_or named k e → cond (is_same e q) true (list_any (is_same q) (take k named)) ≡ list_any (is_same q) (take (k + 1) named)
 before_more named k e q h is =
     sym (ap (list_any (is_same q)) (take_more named k e h) ∙ ap (λ f. list_any (is_same q) (take k named ++ f ∷ [])) (sym is)
@@ -187,7 +187,7 @@ then_eq Greater b = refl
 pub none_paired : (s : BTreeSet Pair) (bs : List Body) → s.keys ≡ [] → bs ≡ [] → ArePairs s bs
 none_paired s bs none e old newer = (λ j. contains pair_cmp (record { keys = none j }) (record { old = old; newer = newer })) ∙ (λ j. has_pair (sym e j) old newer)
 
--- a pair more is an effect more
+-- inserting a pair into the set appends its effect
 pub pairs_more : (old new : BTreeSet Pair) (p : Pair) (bs : List Body) → ((q : Pair) → contains pair_cmp new q ≡ cond (is_eq (pair_cmp p q)) true (contains pair_cmp old q)) → ArePairs old bs → ArePairs new (bs ++ Supersede p.old p.newer ∷ [])
 pairs_more old new p bs put are e m =
     let q : Pair = record { old = e; newer = m } in

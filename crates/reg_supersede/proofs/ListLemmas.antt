@@ -1,4 +1,4 @@
--- Lines, one after the other.
+-- The lines of a list, one line at a time.
 use Rattle.std.proofs.Common.{◌≡◌, ℕ, ◌+◌, ◌<◌, ◌≤◌, false, List, [], ◌∷◌, ◌++◌, append_assoc, append-nil, length, length-drop, map, drop, get_or, refl, sym, ap, ◌∙◌, subst, inl, inr, arith}
 use Rattle.std.proofs.lemmas.Bool.{true≢false}
 use Rattle.std.proofs.lemmas.List.{drop_more, length-map}
@@ -17,11 +17,11 @@ pub ended : {W : Type 0} (f : W → List ℕ) (ws : List W) (i : ℕ) → length
 ended f ws i h = let long = length-drop i ws in length-map (drop i ws) f ∙ omega (arith, long, h)
 
 module _ (t : Task) (x : Content) where
-  -- what the other lines do completes the whole
+  -- what `rest` does after the effects so far completes what all lines do
   abbrev pub Completes : List (List ℕ) → ℕ → List (List ℕ) → List Body → List RefusedLine → Type 0
   Completes all n rest bs left = (y : Content) (later : List Id) (lefts : List RefusedLine) → DoesAll t n (after t x bs) rest y later lefts → DoesAll t 1 x all y (ids_of t x bs ++ later) (left ++ lefts)
 
-  -- where refused lines are not left out, the other lines stop where all do
+  -- if refused lines are not left out, the line at which `rest` stops is the line at which all stop
   abbrev pub Passes : List (List ℕ) → ℕ → List (List ℕ) → List Body → Type 0
   Passes all n rest bs = t.keep_going ≡ false → (f : RefusedLine) → StopsAt t n (after t x bs) rest f → StopsAt t 1 x all f
 

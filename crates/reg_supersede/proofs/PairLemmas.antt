@@ -1,4 +1,4 @@
--- Supersessions after others: what there is against one more, and that none makes another one redundant.
+-- Supersessions after others: the fault of one more, and that none of them replaces another.
 use Rattle.std.proofs.Common.{◌≡◌, ℕ, ◌+◌, Bool, true, false, not, ◌&&◌, ◌||◌, List, [], ◌∷◌, ◌++◌, None, refl, sym, ap, ◌∙◌, subst, inl, inr}
 use Rattle.std.specs.Prelude.{option_map}
 use Rattle.std.proofs.lemmas.Bool.{true≢false, and_parts, and_from, or_left, or_right, false_from_ne_true}
@@ -61,7 +61,7 @@ is_off e o = is_retirement e o.body
 abbrev is_in : Id → Op → Bool
 is_in e o = is_same e o.id && is_enter o.body
 
--- ---- what numbered supersessions are
+-- ---- properties of numbered supersessions
 
 module _ (r : List ℕ) (note : List ℕ) where
   none_enter : (n : ℕ) (bs : List Body) (e : Id) → AreSupersessions bs → list_any (is_in e) (numbered r n note bs) ≡ false
@@ -113,13 +113,13 @@ module _ (x : Content) (r note : List ℕ) (bs : List Body) (are : AreSupersessi
   chain_end old newer a b same q true t u c = refl
   chain_end old newer a b same q false t u c = ap (chain old newer a b same false q) (or_assoc t u c)
 
-  -- one more pair is refused as over the register before, where the pair counts as made again
+  -- one more pair has the fault that it has in the register before, where the pairs of the effects count as repeated
   pub fault_is : (old newer : Id) (c : Bool) → fault_of (command.Supersede old) here c newer ≡ fault_of (command.Supersede old) x.ops (has_pair bs old newer || c) newer
   fault_is old newer c =
       (λ k. chain old newer (entered old k) (entered newer k) (is_same old newer) (retired old k) (retired newer k) (replaced old newer k || c))
       ∙ chain_end old newer (enters x.ops old) (enters x.ops newer) (is_same old newer) (retires x.ops newer) (retires x.ops old) (any (supersession old newer) x.ops) (has_pair bs old newer) c
 
--- ---- supersessions that are not refused have one pair each
+-- ---- supersessions without objections have distinct pairs
 
 open_chain : (old newer : Id) (a b same p q c : Bool) → chain old newer a b same p q c ≡ None → (p ≡ false) × (c ≡ false)
 open_chain old newer false b same p q c h = cc
@@ -166,7 +166,7 @@ module _ (r : List ℕ) (note : List ℕ) where
   abbrev first : ℕ → Id → Id → Op
   first n old newer = record { id = id_at r n; body = Supersede old newer; note = note }
 
-  -- a pair that is there is not made
+  -- if there is no objection, the effects make no pair that the content has
   fresh : (n : ℕ) (bs : List Body) (y : Content) → AreSupersessions bs → objections y (numbered r n note bs) ≡ None → (e m : Id) → is_replaced_by y.ops e m ≡ true → has_pair bs e m ≡ false
   fresh n [] y are none e m there = refl
   fresh n (Enter text ∷ bs) y are none e m there = absurd are

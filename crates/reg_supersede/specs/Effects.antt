@@ -1,4 +1,4 @@
--- What the lines so far have come to: the effects of a command, and the content that they make.
+-- The effects of the lines so far, and the content that they make.
 use Rattle.std.specs.Prelude.{◌≡◌, ◌⊎◌, ◌≤◌, ◌+◌, ◌++◌, [], ◌∷◌, ℕ, Bool, ◌&&◌, true, false, List, Option, Some, None, length, map}
 use Rattle.std.specs.List.{list_any}
 use Rattle.std.specs.BTreeSet.{BTreeSet, contains}
@@ -30,7 +30,7 @@ task_of o = record { replica = o.replica; note = o.note.now; keys = o.keys; rows
 abbrev pub after : Task → Content → List Body → Content
 after t x bs = merged x (state (set.from_list {R = op_cmp} (new_ops x t.replica t.note bs)))
 
--- the number of the next effect, and the operations of some more
+-- the number of the next effect, and the ids of the operations of the effects
 abbrev pub next : Task → Content → List Body → ℕ
 next t x bs = greatest t.replica x.seen + 1 + length bs
 

@@ -15,7 +15,7 @@ use Rattle.reg_supersede.specs.declared.list_options.RefusedLine.{RefusedLine}
 use Rattle.reg_supersede.specs.Lines.{lines}
 use Rattle.reg_supersede.specs.Lists.{Task, rows_if, DoesAll, RefusesAll}
 
--- what holds of all lines, over the register before the first
+-- the task that all lines share, given the register before the first line
 abbrev pub task : List ℕ → List ℕ → Bool → Bool → Content → Task
 task replica note keys keep_going x = record { replica = replica; note = note; keys = keys; rows = rows_if keys x; keep_going = keep_going }
 

@@ -6,7 +6,7 @@ use Rattle.std.specs.List.{slice_split}
 abbrev pub is_blank : ℕ → Bool
 is_blank b = nat_eq b 32 || nat_eq b 9 || nat_eq b 13
 
--- what stands between blanks
+-- the nonempty parts between blanks
 abbrev pub words : List ℕ → List (List ℕ)
 words line = filter (λ w. nat_lt 0 (length w)) (slice_split is_blank line)
 

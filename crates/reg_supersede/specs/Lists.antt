@@ -22,7 +22,7 @@ pub record Task : Type 0 where
   pub rows : List Row
   pub keep_going : Bool
 
--- keys are looked up in the register before the first line; without keys there are no rows, so only ids stand for entries
+-- keys are looked up in the register before the first line; without keys there are no rows, so only ids name entries
 abbrev pub rows_if : Bool → Content → List Row
 rows_if keys x = if keys then rows x.ops else []
 

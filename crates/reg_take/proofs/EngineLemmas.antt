@@ -1,4 +1,4 @@
--- What a store has.
+-- The content that a store has after a take, changed or not.
 use Rattle.std.proofs.Common.{◌≡◌, ◌↔◌, Bool, true, false, inl, inr}
 use Rattle.std.specs.Prelude.{IsTrue, ◌≢◌}
 use Rattle.reg_op.specs.Contents.{Content}
@@ -6,7 +6,7 @@ use Rattle.reg_engine.specs.declared.fault.CliFault.{CliFault}
 use Rattle.reg_engine.specs.Store.{Around, IsKeptIn}
 use Rattle.reg_take.specs.Engines.{Leaves}
 
--- what it has for sure, it has
+-- a content that is kept without a fault is kept
 pub has_more : (a : Around) (x y : Content) → Leaves a.left a x y → Leaves (IsKeptIn a) a x y
 has_more a x y (inl same) = inl same
 has_more a x y (inr (other, left)) = inr (other, inl left)

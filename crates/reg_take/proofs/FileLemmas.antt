@@ -1,4 +1,4 @@
--- One more of the files, when those before it are read.
+-- Reading the next of some files, after those before it are read.
 use Rattle.std.proofs.Common.{◌≡◌, ◌∷◌, ◌++◌, [], Bool, true, false, List, ℕ, ◌+◌, ◌<◌, ◌≤◌, zero, suc, length, map, take, drop, get_or, slice_set, refl, ap, sym, subst, arith, inl, inr}
 use Rattle.std.proofs.lemmas.List.{take_all, length-map}
 use Rattle.byte_io.specs.Device.{SourceState}
@@ -24,13 +24,13 @@ tail_of (x ∷ xs) = xs
 never : (b : Bool) → b ≡ false → b ≡ true → ⊥
 never b e h = absurd (cc)
 
--- where the command does not keep going, each file gave a part
+-- if the command does not keep going, each file that arrived gave a part
 part_given : (going : Bool) (k : ℕ) (o n : FileState) (a : Arrival) → going ≡ false → IsArrival going k o n a → (p : Part) × FindsPart o.source n.source p
 part_given going k o n (arrival.Register x) dry h = (part.Register x, h)
 part_given going k o n (arrival.Piece p) dry h = (part.Piece p, h)
 part_given going k o n (arrival.Unread m f) dry h = absurd (never going dry h.0)
 
--- the fault of reading is that of the file
+-- the fault of reading a file is a fault of the file
 pub fault_is : (number : ℕ) (was shut : Bool) (o n : SourceState) (f : ReadFileFault) → IsPartReadFromFault o n f
     → IsUnread number (file_state o was) (file_state n shut) (fault_in number shut f)
 fault_is number was true o n (reading.ReadFailed m) h = inr (refl, (refl, (m, h)))
@@ -48,7 +48,7 @@ late_fault number was o n m shut told f g gave same is h =
     subst (λ k. IsUnread number (file_state o was) (file_state m shut) k) (sym is)
     (subst (λ b. IsUnread number (file_state o was) (file_state m shut) (fault_in number b f)) (sym same) (fault_is number was shut o m f (subst (λ k. IsPartReadFromFault o k f) (sym gave) h)))
 
--- a fault that is no lack of memory is that of the file
+-- a fault other than lack of memory is a fault of the file
 pub of_file : (number : ℕ) (o n : FileState) (f : CliFault) → (f ≡ cli.Memory → ⊥) → IsUnread number o n f → HasFault number o n f
 of_file number o n f other (inl memory) = absurd (other memory)
 of_file number o n f other (inr fault) = fault
@@ -107,14 +107,14 @@ module _ {S : Type 0} (st : S → FileState) (going : Bool) where
   stops_at (w ∷ ws) (n ∷ ns) number (suc i) k o s (b ∷ bs) f dry within size front back at fault =
       inr (part_given going number (st w) (st n) b dry front.0, stops_at ws ns (number + 1) i k o s bs f dry (omega arith) (omega arith) front.1 back (omega (arith, at)) fault)
 
-  -- what ends the reading of one ends that of all
+  -- a fault that ends the reading of the next file ends that of all
   pub last_stops : (was now : List S) (number i k : ℕ) (o s : S) (gave : List Arrival) (f : CliFault) → i < length was → length now ≡ length was
       → AreArrivals going number (take i (map st was)) (take i (map st now)) gave → drop i (map st now) ≡ drop i (map st was) → k ≡ number + i → IsLast going k (st (get_or now i o)) (st s) f
       → IsStopped going number (map st was) (map st (slice_set now i s)) f
   last_stops was now number i k o s gave f within size front back at (inl memory) = inl memory
   last_stops was now number i k o s gave f within size front back at (inr (dry, fault)) = inr (dry, stops_at was now number i k o s gave f dry within size front back at fault)
 
-  -- after the last
+  -- after the last file, all have arrived
   pub arrived_all : (was now : List S) (number i : ℕ) (gave : List Arrival) → length was ≤ i → length now ≡ length was
       → AreArrivals going number (take i (map st was)) (take i (map st now)) gave → AreArrivals going number (map st was) (map st now) gave
   arrived_all was now number i gave past size h =

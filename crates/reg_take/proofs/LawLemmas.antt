@@ -1,4 +1,4 @@
--- A take of parts is the merge of the register and these parts, up to the first that is left out.
+-- A take that leaves no part out is a merge; otherwise the merge is refused with the fault of the first that is left out.
 use Rattle.std.proofs.Common.{◌≡◌, ◌⊎◌, ◌∷◌, ◌++◌, [], List, ℕ, ◌+◌, Result, Ok, Err, refl, sym, ap, subst, inl, inr, ◌∙◌}
 use Rattle.reg_join.specs.Joining.{all_joined}
 use Rattle.reg_op.specs.Ids.{Id}
@@ -18,7 +18,7 @@ use Rattle.reg_take.specs.declared.taking.Phase.TheVariants as phase
 use Rattle.reg_take.specs.Taken.{Progress, fault_of, left_out, leaving, starting, after_register, after_piece, taken, each_taken, all_taken, parts_given}
 use Rattle.reg_take.proofs.TakenLemmas.{each_keeps}
 
--- ---- the first file that is left out stays so
+-- ---- the first file that is left out remains the first
 
 abbrev Begins : LeftOut → List LeftOut → Type 0
 Begins l all = (ls : List LeftOut) × (all ≡ l ∷ ls)
@@ -51,7 +51,7 @@ walk_begins l w t i gave h = each_keeps (λ u. Begins l u.left) w (step_begins l
 first_begins : (l : LeftOut) (all : List LeftOut) → all ≡ [] → Begins l (all ++ l ∷ [])
 first_begins l all e = ([], ap (λ k. k ++ l ∷ []) e)
 
--- ---- a walk leaves none out, or it meets a refusal
+-- ---- a walk leaves no file out, or the join is refused for the first that it leaves out
 
 abbrev Walked : List LeftOut → Content → Result Content PieceRefusal → Type 0
 Walked left y r = ((left ≡ []) × (r ≡ Ok y)) ⊎ ((i : ℕ) × (why : PieceRefusal) × Begins (left_out i why) left × (r ≡ Err why))
@@ -102,13 +102,13 @@ walk_pieces t i [] h = inl (h, refl)
 walk_pieces t i (part.Register z ∷ ps) h = walk_pieces t (i + 1) ps h
 walk_pieces t i (part.Piece p ∷ ps) h = one_piece t i p ps (λ u k. walk_pieces u (i + 1) ps k) (joined_piece t.content p) h
 
--- files that all gave a part are all read
+-- if all files gave a part, none is left out as unread
 none_unread : (t : Progress) (i : ℕ) (ps : List Part) → each_taken phase.Unread t i (parts_given ps) ≡ t
 none_unread t i [] = refl
 none_unread t i (part.Register z ∷ ps) = none_unread t (i + 1) ps
 none_unread t i (part.Piece p ∷ ps) = none_unread t (i + 1) ps
 
--- ---- all walks
+-- ---- all three walks
 
 abbrev head_of : LeftOut → List LeftOut → LeftOut
 head_of d [] = d

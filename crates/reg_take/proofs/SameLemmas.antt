@@ -1,4 +1,4 @@
--- Registers are the same if their operations and their seen ids are.
+-- Registers are equal exactly if their operations and their seen ids are.
 use Rattle.std.proofs.Common.{◌≡◌, ◌↔◌, ◌∷◌, [], Bool, true, false, List, Option, None, Some, refl, sym, ap, ◌∙◌}
 use Rattle.std.specs.Prelude.{IsTrue, is_some, not}
 use Rattle.std.specs.List.{list_any}
@@ -14,7 +14,7 @@ use Rattle.reg_op.proofs.OpLemmas.{op_exact, op_total, id_exact, id_total}
 use Rattle.reg_op.proofs.ContentLemmas.{same_content}
 use Rattle.reg_op.proofs.RefusalLemmas.{missing_none}
 
--- equal operations compare as equal
+-- operations compare as equal exactly if they are equal
 pub op_is : (a b : Op) (r : Bool) → r ≡ is_eq (op_cmp a b) → IsTrue r ↔ (a ≡ b)
 op_is a b r e = (
   λ h. op_exact a b ((Equal-is (op_cmp a b)).0 (sym e ∙ h)),
@@ -29,7 +29,7 @@ abbrev tail_of : {A : Type 0} → List A → List A
 tail_of [] = []
 tail_of (x ∷ xs) = xs
 
--- lists are the same if their first members and the others are
+-- lists are equal exactly if their first elements and the others are
 pub more_same : {A : Type 0} (x y : A) (xs ys ls rs : List A) → ls ≡ x ∷ xs → rs ≡ y ∷ ys → x ≡ y → (ls ≡ rs) ↔ (xs ≡ ys)
 more_same x y xs ys ls rs e f same = (
   λ h. ap tail_of (sym e ∙ h ∙ f),
@@ -42,7 +42,7 @@ first_same x y xs ys ls rs e f h = ap (head_of x) (sym e ∙ h ∙ f)
 same_items : (s t : Ops) → set.items s ≡ set.items t → s ≡ t
 same_items s t e = same_set op_total op_exact s t (λ q. contains-items s q ∙ ap (list_any (eq_by_cmp op_cmp q)) e ∙ sym (contains-items t q))
 
--- ids of which neither has one that the other has not
+-- two sets of ids are equal if neither has an id that the other lacks
 pub same_ids : (s t : Ids) → first_missing s t ≡ None → first_missing t s ≡ None → s ≡ t
 same_ids s t here there =
     let within = (missing_none s t).0 here in
@@ -64,7 +64,7 @@ none_so a true e h = refl
 none_so None false e h = absurd (cc)
 none_so (Some x) false e h = absurd (cc)
 
--- the two tests, of ids that the one has and the other lacks
+-- two tests for an id that one set has and the other lacks tell whether the sets are equal
 pub ids_then : (s t : Ids) (a b : Option Id) (r q : Bool) → a ≡ first_missing s t → b ≡ first_missing t s → is_some a ≡ not r → is_some b ≡ not q → r ≡ true → IsTrue q ↔ (s ≡ t)
 ids_then s t a b r q here there none other is = (
   λ h. same_ids s t (sym here ∙ is_none_so a r none is) (sym there ∙ is_none_so b q other h),
@@ -77,7 +77,7 @@ ids_else s t a r here none isnt = (λ h. absurd (never r isnt h), λ e. none_so 
 content_is : (x y : Content) (xs ys : List Op) (s t : Ids) → xs ≡ set.items x.ops → ys ≡ set.items y.ops → s ≡ x.seen → t ≡ y.seen → xs ≡ ys → s ≡ t → x ≡ y
 content_is x y xs ys s t a b c d same seen = same_content x y (same_items x.ops y.ops (sym a ∙ same ∙ b)) (sym c ∙ seen ∙ d)
 
--- the two tests, of operations and of ids
+-- a test of the operations, and then one of the seen ids, tell whether the contents are equal
 pub content_then : (x y : Content) (xs ys : List Op) (s t : Ids) (r q : Bool) → xs ≡ set.items x.ops → ys ≡ set.items y.ops → s ≡ x.seen → t ≡ y.seen → (IsTrue r ↔ (xs ≡ ys)) → r ≡ true → (IsTrue q ↔ (s ≡ t)) → IsTrue q ↔ (x ≡ y)
 content_then x y xs ys s t r q a b c d ops is seen = (
   λ h. content_is x y xs ys s t a b c d (ops.0 is) (seen.0 h),

@@ -1,4 +1,4 @@
--- Files joined to a content, walk by walk.
+-- Files are joined to a content in three walks.
 use Rattle.std.proofs.Common.{◌≡◌, ◌↔◌, ◌∷◌, ◌++◌, [], List, ℕ, ◌+◌, ◌≤◌, zero, suc, length, drop, arith, Result, Ok, Err, Option, None, Some, refl, sym, ap, subst, ◌∙◌}
 use Rattle.std.specs.Prelude.{IfOk}
 use Rattle.reg_join.specs.Joining.{all_joined, joined_with}
@@ -20,7 +20,7 @@ use Rattle.reg_take.specs.Taken.{Progress, Shows, left_out, leaving, starting, a
 
 -- ---- one file
 
--- what follows from what holds of a value
+-- if two properties of a value imply a third, they do so for the value of a result
 pub if_ok_weaker : {T E : Type 0} (P Q R : T → Type 0) (r : Result T E) → ((v : T) → P v → Q v → R v) → IfOk r P → IfOk r Q → IfOk r R
 if_ok_weaker P Q R (Ok v) f p q = f v p q
 if_ok_weaker P Q R (Err e) f p q = tt
@@ -30,7 +30,7 @@ pub left_more : (t : Progress) (o : LeftOut) (x : Content) (l m : List LeftOut) 
     → (x ≡ (leaving t o).content) × (m ≡ (leaving t o).left)
 left_more t o x l m is left more = (is, more ∙ ap (λ k. k ++ o ∷ []) left)
 
--- a register, or a piece, was joined; or it was left out
+-- a register, or a piece, is joined; or it is left out
 pub register_joined : (t : Progress) (i : ℕ) (z x y : Content) (l : List LeftOut) → x ≡ t.content → l ≡ t.left → joined x z ≡ Ok y
     → (y ≡ (after_register t i z (begun (joined t.content z))).content) × (l ≡ (after_register t i z (begun (joined t.content z))).left)
 register_joined t i z x y l is left e =
@@ -55,14 +55,14 @@ piece_left t i p x l m why is left e more =
     let same : joined_piece t.content p ≡ Err why = ap (λ k. joined_piece k p) (sym is) ∙ e in
     subst (λ q. (x ≡ (after_piece t i p q).content) × (m ≡ (after_piece t i p q).left)) (sym same) (left_more t (left_out i why) x l m is left more)
 
--- why a piece is not joined
+-- the refusal that the program reports for a piece is that of `joined_piece`
 pub why_not : (x : Content) (p : Piece) (r : Result Content PieceFault) → ((id : Id) → (r ≡ Err (piece.Basis id)) ↔ (joined_piece x p ≡ Err (Basis id))) → ((id : Id) → (r ≡ Err (piece.Clash id)) ↔ (joined_piece x p ≡ Err (Clash id)))
     → (fault : PieceFault) (why : PieceRefusal) → r ≡ Err fault → IsRefusal fault why → joined_piece x p ≡ Err why
 why_not x p r basis clash (piece.Basis id) why e is = (basis id).0 e ∙ ap Err (sym is)
 why_not x p r basis clash (piece.Clash id) why e is = (clash id).0 e ∙ ap Err (sym is)
 why_not x p r basis clash piece.Memory why e is = absurd is
 
--- one more step
+-- one step of a walk
 pub one_taken : (w : Phase) (t : Progress) (i : ℕ) (a : Arrival) (gave : List Arrival) → drop i gave ≡ a ∷ drop (i + 1) gave
     → each_taken w t i (drop i gave) ≡ each_taken w (taken w t i a) (i + 1) (drop (i + 1) gave)
 one_taken w t i a gave e = ap (each_taken w t i) e
@@ -73,12 +73,12 @@ drop_past zero (a ∷ all) past = absurd (omega (arith, past))
 drop_past (suc i) [] past = refl
 drop_past (suc i) (a ∷ all) past = drop_past i all (omega (arith, past))
 
--- after the last
+-- after the last file, the walk is complete
 pub walked : (w : Phase) (now t : Progress) (i : ℕ) (gave : List Arrival) (taking : Taking) → length gave ≤ i → each_taken w now i (drop i gave) ≡ each_taken w t 0 gave → Shows taking now
     → Shows taking (each_taken w t 0 gave)
 walked w now t i gave taking past e shows = subst (Shows taking) (sym (ap (each_taken w now i) (drop_past i gave past)) ∙ e) shows
 
--- ---- what all steps keep
+-- ---- a property that each step keeps is kept by a walk
 
 pub each_keeps : (P : Progress → Type 0) (w : Phase) → ((t : Progress) (i : ℕ) (a : Arrival) → P t → P (taken w t i a)) → (t : Progress) (i : ℕ) (gave : List Arrival) → P t → P (each_taken w t i gave)
 each_keeps P w keeps t i [] h = h
@@ -94,7 +94,7 @@ with_pieces-push : (r : Result Content PieceRefusal) (ps : List Piece) (p : Piec
 with_pieces-push r [] p = refl
 with_pieces-push r (q ∷ ps) p = with_pieces-push (with_piece r q) ps p
 
--- a join is the merge
+-- a join that succeeds is the merge
 merged_of : (c : Option Id) (m y : Content) → joined_unless c m ≡ Ok y → m ≡ y
 merged_of None m y e = cc
 merged_of (Some id) m y e = absurd (cc)
@@ -111,7 +111,7 @@ piece_is : (x : Content) (p : Piece) (y : Content) → joined_piece x p ≡ Ok y
 piece_is x p y e = joined_is x (part_of p) y (joined_of (first_missing p.basis x.seen) (joined x (part_of p)) y e)
 
 module _ (x : Content) where
-  -- registers alone were joined so far
+  -- only registers are joined so far, and the content is their join
   record AreJoined (t : Progress) : Type 0 where
     pub join : all_joined joined (Ok nothing) (x ∷ t.registers) ≡ Ok t.content
     pub pieces : t.pieces ≡ []
@@ -142,7 +142,7 @@ module _ (x : Content) where
   is_join : (t : Progress) → AreJoined t → IsJoin x t
   is_join t h = ap (λ r. with_pieces (begun r) t.pieces) h.join ∙ ap (with_pieces (Ok t.content)) h.pieces
 
-  -- what all files are joined to is the join of those that are not left out
+  -- after the three walks, the content is the join of the first one with all files that are not left out
   pub all_join : IsContent x → (gave : List Arrival) → IsJoin x (all_taken x gave)
   all_join is gave =
       let unread = each_taken phase.Unread (starting x) 0 gave in
@@ -151,7 +151,7 @@ module _ (x : Content) where
       (is_join registers (each_keeps AreJoined phase.Registers register_keeps unread 0 gave
       (each_keeps AreJoined phase.Unread unread_keeps (starting x) 0 gave (record { join = register_laws.neutral x is; pieces = refl }))))
 
-  -- ---- what the first content has
+  -- ---- the content keeps all of the first one
 
   has_more : (y z w : Content) → merged y z ≡ w → Keeps x y → Keeps x w
   has_more y z w e h =
@@ -187,7 +187,7 @@ module _ (x : Content) where
       (each_keeps (λ t. Keeps x t.content) phase.Registers (step_has phase.Registers) unread 0 gave
       (each_keeps (λ t. Keeps x t.content) phase.Unread (step_has phase.Unread) (starting x) 0 gave (itself is)))
 
-  -- the three walks
+  -- a state that shows the three walks is the result of the take
   pub taken_from : IsContent x → (gave : List Arrival) (taking : Taking) → Shows taking (all_taken x gave) → IsTakenFrom x gave taking.register taking.left.items
   taken_from is gave taking shows = record {
     content = shows.0;

@@ -50,7 +50,7 @@ HasFault number old new (cli.Shelf p) = ⊥
 abbrev pub IsUnread : ℕ → FileState → FileState → CliFault → Type 0
 IsUnread number old new f = (f ≡ cli.Memory) ⊎ HasFault number old new f
 
--- what it gave: the file of this part; or this fault, with which the command goes on
+-- what it gave: the file of this part; or this fault, after which the command continues
 abbrev pub IsArrival : Bool → ℕ → FileState → FileState → Arrival → Type 0
 IsArrival going number old new (arrival.Register x) = FindsPart old.source new.source (part.Register x)
 IsArrival going number old new (arrival.Piece p) = FindsPart old.source new.source (part.Piece p)
