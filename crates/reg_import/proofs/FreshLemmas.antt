@@ -191,7 +191,7 @@ itself o os = or_left _ (has os o) (ap is_eq (tied_itself op_total o))
 abbrev rows_of : Ops → List Op → List Row
 rows_of s os = flat_map (λ (o : Op). rows_at s o.id o.body) os
 
--- the entries of the rows of these operations can be retired after any ids of other operations
+-- the entries of the rows of these operations can be retired after any ids of no such operation
 abbrev CanLater : Ops → List Op → Type 0
 CanLater s os = (before : List Id) (es : List StandingEntry) → Apart before os → AreKnown (filter stands (rows_of s os)) es → CanRetire s before es
 

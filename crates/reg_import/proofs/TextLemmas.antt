@@ -209,7 +209,7 @@ module _ (d : Differs) (new : Id) (there : OfKey) (text : List ℕ) where
     spent = (c, o);
   })
 
--- if new texts are refused, they are with entries that have all these texts, and with `ours` if it was set before
+-- new texts that are refused with entries es are refused with fs, if fs have all texts of es, and `ours` remains set
 pub blocks_on : (d : Differs) (es fs : List StandingEntry) (ours more : Bool) → blocks (least any_entry es) d ours ≡ true → ((text : List ℕ) → HasText es text → HasText fs text) → (ours ≡ true → more ≡ true) → blocks (least any_entry fs) d more ≡ true
 blocks_on d es fs ours more h within k =
     let some = some_blocks (least any_entry es) d ours h in

@@ -31,14 +31,14 @@ less_count q p a b e h = ap (λ o. ordering_then o (nat_cmp a b)) (ap (λ x. rep
 less_replica : (q p : List ℕ) (a b : ℕ) → IsBelow q p → id_cmp (id_at q a) (id_at p b) ≡ Less
 less_replica q p a b h = ap (λ o. ordering_then o (nat_cmp a b)) h
 
--- consecutive ids of one replica ascend, and so with ids behind them that ascend from the last
+-- consecutive ids of one replica ascend, followed by ids that ascend from the last of them
 ascend_from : (q : List ℕ) (low n : ℕ) (ids : List Id) → Ascends id_cmp (id_at q (low + n) ∷ ids) → Ascends id_cmp (id_at q low ∷ (ids_from q (low + 1) n ++ ids))
 ascend_from q low zero ids h = subst (λ c. Ascends id_cmp (id_at q c ∷ ids)) (add-zero low) h
 ascend_from q low (suc n) ids h =
     let e : low + suc n ≡ (low + 1) + n = omega arith in
     (less_count q q low (low + 1) refl (omega arith), ascend_from q (low + 1) n ids (subst (λ c. Ascends id_cmp (id_at q c ∷ ids)) e h))
 
--- the ids of a run ascend, and so with ids behind them that ascend from its last
+-- the ids of a run ascend, followed by ids that ascend from its last one
 ascend_run : (r : Run) (ids : List Id) → r.low ≤ r.high → Ascends id_cmp (id_at r.replica r.high ∷ ids) → Ascends id_cmp (ids_of_run r ++ ids)
 ascend_run r ids l h =
     let n : r.high + 1 - r.low ≡ suc (r.high - r.low) = omega arith in

@@ -28,7 +28,7 @@ pub record Takes (before : List Id) (keep r : Row) : Type 0 where
   pub differs : Differs r keep
   pub kept : Contains before r.entry
 
--- some row is such a row
+-- some row was kept before, and has the key and another text
 pub record IsTaken (rs : List Row) (before : List Id) (keep : Row) : Type 0 where
   pub other : Row
   pub there : Contains rs other
