@@ -55,6 +55,7 @@ where
         avoided: Option<FileId>,
     ) -> Result<FilePlace<'a, R, W>, AllocError>
         ensures path { IfOk result (λ p. p.path ≡ path.entry) }
+        ensures avoided { IfOk result (λ p. p.avoided ≡ avoided) }
         ensures beside { IfOk result (λ p. string_bytes p.beside ≡ string_bytes p.real ++ codes ".new") }
         ensures untold { IfOk result
             (λ p. ⟦<FilePlace<'a, R, W> as Place>⟧.state p ≡ untold (target_of None)) }
@@ -86,6 +87,7 @@ where
     /// The same place, but a file that is overwritten is not changed before `put`: until then its new bytes are kept in memory.
     pub fn late(mut self) -> FilePlace<'a, R, W>
         ensures path { result.path ≡ self.entry.path }
+        ensures held { IsSome result.held }
         ensures same { ⟦<FilePlace<'a, R, W> as Place>⟧.state result ≡ ⟦<FilePlace<'a, R, W> as Place>⟧.state self.entry }
     {
         self.held = Some(Vec::new(self.alloc));

@@ -78,6 +78,7 @@ impl MemPlace {
     /// Makes this step fail.
     pub fn fail_at(&mut self, step: Step)
         ensures set { self.new.fails ≡ Some step }
+        ensures room { self.new.room ≡ self.old.room }
         ensures rest { ⟦<MemPlace as Place>⟧.state self.new ≡ ⟦<MemPlace as Place>⟧.state self.old }
     {
         self.fails = Some(step);
