@@ -113,8 +113,8 @@ module _ (x xs : Content) (replica note : List ℕ) (ids made : List Id) (d : Do
       subst (λ i. Contains ids i) (sym same) k.1
 
   -- an entry that is neither retired nor a double is not retired afterwards
-  pub settles : AreDoubles (rows x.ops) ids → (e : Id) → retires x.ops e ≡ false → ((r : Row) → Contains (rows x.ops) r → r.entry ≡ e → HasLesser (rows x.ops) r → ⊥) → retires xs.ops e ≡ false
-  settles doubles e none least = by (retires xs.ops e) refl
+  pub stays_unretired : AreDoubles (rows x.ops) ids → (e : Id) → retires x.ops e ≡ false → ((r : Row) → Contains (rows x.ops) r → r.entry ≡ e → HasLesser (rows x.ops) r → ⊥) → retires xs.ops e ≡ false
+  stays_unretired doubles e none least = by (retires xs.ops e) refl
     where
       by : (b : Bool) → retires xs.ops e ≡ b → retires xs.ops e ≡ false
       by false h = h
@@ -159,8 +159,8 @@ module _ (x y both : Content) (ix : IsContent x) (iy : IsContent y) (j : joined 
       let none_both : retires both.ops e ≡ false = none_retires both.ops e in_both (λ gone. stands (row_status both.ops one there ∙ gone)) in
       let none = or_none (retires x.ops e) (retires y.ops e) (sym (join_retires x y both j e) ∙ none_both) in
       let jc : joined y x ≡ Ok both = joined_comm y x ∙ j in
-      let none_xs : retires xs.ops e ≡ false = settles x xs replica note ids made d doubles e none.0 (λ r at en h. least (lesser_in_both x y both j is_content same one r there at en h)) in
-      let none_ys : retires ys.ops e ≡ false = settles y ys other remark others more d_y doubles_y e none.1 (λ r at en h. least (lesser_in_both y x both jc is_content (λ i. sym (same i)) one r there at en h)) in
+      let none_xs : retires xs.ops e ≡ false = stays_unretired x xs replica note ids made d doubles e none.0 (λ r at en h. least (lesser_in_both x y both j is_content same one r there at en h)) in
+      let none_ys : retires ys.ops e ≡ false = stays_unretired y ys other remark others more d_y doubles_y e none.1 (λ r at en h. least (lesser_in_both y x both jc is_content (λ i. sym (same i)) one r there at en h)) in
       let none_z : retires z.ops e ≡ false = join_retires xs ys z jz e ∙ (λ k. none_xs k || none_ys k) in
       let new_x : Content = state (set.from_list {R = op_cmp} d.ops) in
       let new_y : Content = state (set.from_list {R = op_cmp} d_y.ops) in

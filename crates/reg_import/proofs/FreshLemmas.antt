@@ -259,15 +259,15 @@ module _ (s : Ops) (before : List Id) (e : StandingEntry) (es : List StandingEnt
   one_of_both false false x y a b = later a b
 
 -- if an entry with this id passes p, and one passes q, then some entry passes both
-same_entry : (s : Ops) (before : List Id) (es : List StandingEntry) (p q : StandingEntry → Bool) (i : Id) → CanRetire s before es → among i (filter p es) ≡ true → among i (filter q es) ≡ true → PassesBoth p q
-same_entry s before [] p q i h a b = absurd (true≢false (sym a))
-same_entry s before (e ∷ es) p q i h a b = one_of_both s before e es p q i h (same_entry s (e.entry ∷ before) es p q i h.3) (p e) (q e) refl refl a b
+passes_both : (s : Ops) (before : List Id) (es : List StandingEntry) (p q : StandingEntry → Bool) (i : Id) → CanRetire s before es → among i (filter p es) ≡ true → among i (filter q es) ≡ true → PassesBoth p q
+passes_both s before [] p q i h a b = absurd (true≢false (sym a))
+passes_both s before (e ∷ es) p q i h a b = one_of_both s before e es p q i h (passes_both s (e.entry ∷ before) es p q i h.3) (p e) (q e) refl refl a b
 
 pub fresh_start : (s : Ops) (es : List StandingEntry) → CanRetire s [] es → Fresh s [] (by_key es)
 fresh_start s es h = record {
   can = λ k o. can_filter s (λ (e : StandingEntry). is_key k (key_of e)) [] es h;
   apart = λ k l i o p a b.
-      let both = same_entry s [] es (λ (e : StandingEntry). is_key k (key_of e)) (λ (e : StandingEntry). is_key l (key_of e)) i h a b in
+      let both = passes_both s [] es (λ (e : StandingEntry). is_key k (key_of e)) (λ (e : StandingEntry). is_key l (key_of e)) i h a b in
       key_itself k l (same_key k (key_of both.0) both.1 ∙ sym (same_key l (key_of both.0) both.2));
 }
 
