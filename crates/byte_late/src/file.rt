@@ -35,6 +35,7 @@ impl<'a, R: Files> LateFile<'a, R> {
         ensures path { result.path ≡ path.entry }
         ensures fresh { ⟦<LateFile<'a, R> as Source>⟧.state result ≡ source_of None }
         ensures waits { ⟦<LateFile<'a, R> as LateSource>⟧.shut result ≡ false }
+        ensures unopened { ⟦<LateFile<'a, R> as LateSource>⟧.held result ≡ false }
     {
         LateFile {
             rt,
@@ -85,9 +86,11 @@ impl<R: Files> Source for LateFile<'_, R> {
 }
 
 impl<R: Files> LateSource for LateFile<'_, R> {
-    ghost use Rattle.byte_late.specs.Turn.{is_shut};
+    ghost use Rattle.byte_late.specs.Turn.{is_shut, is_open};
 
     ghost shut = { λ s. is_shut s.turn };
+
+    ghost held = { λ s. is_open s.turn };
 
     fn is_shut(&self) -> bool {
         match &self.turn {

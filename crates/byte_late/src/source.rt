@@ -4,10 +4,13 @@ use byte_io::Source;
 
 /// A source that is opened at its first read. If it does not open, that read fails.
 pub trait LateSource: Source {
-    ghost use Rattle.std.specs.Prelude.{◌≡◌, Bool};
+    ghost use Rattle.std.specs.Prelude.{◌≡◌, Bool, false};
 
     /// Whether the first read failed to open it.
     ghost shut: { Self → Bool };
+
+    /// Whether it is open, and has a descriptor.
+    ghost held: { Self → Bool };
 
     /// Whether the first read failed to open it.
     fn is_shut(&self) -> bool
@@ -16,5 +19,6 @@ pub trait LateSource: Source {
     /// Closes it, and frees its descriptor. The bytes that it gave are unchanged.
     fn close(&mut self)
         ensures gave { Self.state self.new ≡ Self.state self.old }
-        ensures shut { shut self.new ≡ shut self.old };
+        ensures shut { shut self.new ≡ shut self.old }
+        ensures closed { held self.new ≡ false };
 }

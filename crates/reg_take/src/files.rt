@@ -1,6 +1,6 @@
 //! Files of registers and pieces, which are opened, read and closed in turn.
 
-ghost use Rattle.std.specs.Prelude.{◌≡◌, map, IfOk, IfErr};
+ghost use Rattle.std.specs.Prelude.{◌≡◌, map, false, IfOk, IfErr};
 ghost use Rattle.reg_file.specs.Parts.{FindsPart, IsPartReadFromFault};
 ghost use Rattle.reg_take.specs.Files.{file_state, fault_in, IsUnread, IsArrival, IsLast, AreArrivals, IsStopped};
 
@@ -41,6 +41,7 @@ fn read_next<S: LateSource>(
 ) -> Result<Part, CliFault>
     ensures found { IfOk result (FindsPart (S.state file.old) (S.state file.new)) }
     ensures fault { IfErr result (IsUnread number (file_state (S.state file.old) (S.shut file.old)) (file_state (S.state file.new) (S.shut file.new))) }
+    ensures closed { S.held file.new ≡ false }
 {
     let read = read_part_beside(alloc, slice::from_ref(known), file);
     file.close();
@@ -60,6 +61,7 @@ fn arrival_of<S: LateSource>(
 ) -> Result<Arrival, CliFault>
     ensures arrived { IfOk result (IsArrival keep_going number (file_state (S.state file.old) (S.shut file.old)) (file_state (S.state file.new) (S.shut file.new))) }
     ensures fault { IfErr result (IsLast keep_going number (file_state (S.state file.old) (S.shut file.old)) (file_state (S.state file.new) (S.shut file.new))) }
+    ensures closed { S.held file.new ≡ false }
 {
     match read_next(alloc, known, number, file) {
         Ok(Part::Register(register)) => Ok(Arrival::Register(register)),
