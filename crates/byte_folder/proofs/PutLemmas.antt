@@ -1,17 +1,13 @@
 -- The steps of putting a folder in place.
-use Rattle.std.proofs.Common.{◌≡◌, ◌⊎◌, ◌≤◌, ◌<◌, ◌+◌, ◌++◌, ◌^◌, ℕ, List, [], ◌∷◌, length, take, Option, Some, None, option_map, Ok, Err, IsSome, inl, inr, refl, sym, ap, ◌∙◌, arith, append-nil, append_assoc, subst}
-use Rattle.std.specs.declared.result.Result.{Result}
+use Rattle.std.proofs.Common.{◌≡◌, ◌⊎◌, ◌<◌, ◌+◌, ◌++◌, ℕ, List, [], ◌∷◌, length, take, Option, Some, None, option_map, inl, inr, refl, sym, ap, ◌∙◌, arith, append-nil, append_assoc, subst}
 use Rattle.std.proofs.lemmas.Grind.{flat_map-append}
 use Rattle.std.proofs.lemmas.List.{length-append}
 use Rattle.std.proofs.Math.Seq.{take-append-add}
 use Rattle.std.proofs.lemmas.List.{take-append-le}
-use Rattle.byte_io.specs.Device.{SinkState}
-use Rattle.byte_io.specs.Whole.{FailedOrTookNone}
 use Rattle.byte_io.specs.Publish.{Publishes, IsPublishFault}
-use Rattle.byte_io.specs.declared.fault.PublishFault.{PublishFault}
 use Rattle.byte_io.specs.declared.fault.PublishFault.TheVariants as out
-use Rattle.byte_folder.specs.Folder.{File, Folders, FolderState, IfReported, IsAdded, Gains, contents}
-use Rattle.byte_folder.specs.Put.{WritesFiles, FailsAfter, IsCut, IsFilled, Stays, Adds, IsAddFault}
+use Rattle.byte_folder.specs.Folder.{File, Folders, FolderState, IfReported, Gains, contents}
+use Rattle.byte_folder.specs.Put.{IsFilled, Stays, Adds, IsAddFault}
 use Rattle.byte_folder.specs.declared.fault.FolderFault.TheVariants as put
 
 -- ---- folders that a place reports

@@ -1,5 +1,5 @@
 -- The effect of putting a folder with some files in place.
-use Rattle.std.specs.Prelude.{◌≡◌, ◌⊎◌, ◌<◌, ◌≤◌, ◌+◌, ◌++◌, ◌^◌, ℕ, false, List, [], ◌∷◌, length, take, Option, Some, None, option_map, IsSome, IsTrue}
+use Rattle.std.specs.Prelude.{◌≡◌, ◌⊎◌, ◌<◌, ◌≤◌, ◌+◌, ◌++◌, ◌^◌, ℕ, false, List, length, take, Some, None, option_map, IsSome, IsTrue}
 use Rattle.std.specs.List.{list_any}
 use Rattle.byte_io.specs.Device.{SinkState}
 use Rattle.byte_io.specs.Whole.{FailedOrTookNone}

@@ -67,6 +67,7 @@ impl MemFolder {
     /// Makes this step fail.
     pub fn fail_at(&mut self, step: Step)
         ensures set { self.new.fails ≡ Some step }
+        ensures room { self.new.room ≡ self.old.room }
         ensures rest { ⟦<MemFolder as FolderPlace>⟧.state self.new ≡ ⟦<MemFolder as FolderPlace>⟧.state self.old }
     {
         self.fails = Some(step);

@@ -1,6 +1,6 @@
 //! The place of a path in the file system. No contract is about the file system.
 
-ghost use Rattle.std.specs.Prelude.{◌≡◌, ◌<◌, ◌++◌, None, IsSome, IfOk, codes};
+ghost use Rattle.std.specs.Prelude.{◌≡◌, ◌<◌, ◌++◌, [], take, length, None, IsSome, IfOk, codes};
 ghost use Rattle.std.specs.String.{string_bytes};
 ghost use Rattle.byte_io.specs.Device.{target_of};
 ghost use Rattle.byte_folder.specs.Folder.{untold};
@@ -33,6 +33,8 @@ pub struct SystemFolder<'a, R: Files> {
 impl<'a, R: Files> SystemFolder<'a, R> {
     /// The place of a path. Nothing is made yet.
     pub fn new(alloc: Global, rt: &'a R, path: &'a str) -> Result<SystemFolder<'a, R>, AllocError>
+        ensures path { IfOk result (λ p. p.path.now ≡ take (length p.path.now) path.entry.now) }
+        ensures named { IfOk result (λ p. p.path.now ≡ [] → path.entry.now ≡ []) }
         ensures beside { IfOk result (λ p. string_bytes p.beside ≡ p.path.now ++ codes ".new") }
         ensures untold { IfOk result
             (λ p. ⟦<SystemFolder<'a, R> as FolderPlace>⟧.state p ≡ untold (target_of None)) }

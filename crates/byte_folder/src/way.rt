@@ -1,5 +1,7 @@
 //! How folders of the file system are made and removed. No contract describes the file system.
 
+ghost use Rattle.std.specs.Prelude.{◌≡◌, [], take, length};
+
 use crate::fault::MakeFault;
 use std::alloc::Global;
 use std::io::{self, ErrorKind, Read};
@@ -7,7 +9,10 @@ use std::rt::Files;
 use std::{fs, str};
 
 /// The path without slashes at its end: after one, the new folder would have no name of its own.
-pub(crate) fn without_slashes(path: &str) -> &str {
+pub(crate) fn without_slashes(path: &str) -> &str
+    ensures start { result.now ≡ take (length result.now) path.now }
+    ensures some { result.now ≡ [] → path.now ≡ [] }
+{
     let trimmed = path.trim_end_matches('/');
     if trimmed.is_empty() { path } else { trimmed }
 }
