@@ -4,9 +4,11 @@ ghost use Rattle.std.specs.Prelude.{◌≡◌, [], take, length};
 
 use crate::fault::MakeFault;
 use std::alloc::Global;
+use std::fs::{self, Metadata, Permissions};
 use std::io::{self, ErrorKind, Read};
+use std::os::unix::fs::{MetadataExt, PermissionsExt};
 use std::rt::Files;
-use std::{fs, str};
+use std::str;
 
 /// The path without slashes at its end: after one, the new folder would have no name of its own.
 pub(crate) fn without_slashes(path: &str) -> &str
@@ -17,16 +19,33 @@ pub(crate) fn without_slashes(path: &str) -> &str
     if trimmed.is_empty() { path } else { trimmed }
 }
 
-/// Makes the new folder next to the path, if the path has nothing or an empty folder.
+/// Makes the new folder next to the path, if the path has nothing or an empty folder, which it is as open as.
 pub(crate) fn make_folder<R: Files>(rt: &R, path: &str, beside: &str) -> Result<(), MakeFault> {
     if !is_free(rt, path) {
         return Err(MakeFault::NotOpened);
     }
-    match fs::create_dir(rt, beside) {
-        Ok(()) => Ok(()),
+    let old = fs::symlink_metadata(rt, path).ok();
+    let mode = if old.is_some() { 0o700 } else { 0o777 };
+    match rt.create_dir_with_mode(beside, mode) {
+        Ok(()) => {
+            if let Some(old) = old {
+                keep_mode(rt, beside, &old);
+            }
+            Ok(())
+        }
         Err(error) if error.kind() == ErrorKind::AlreadyExists => Err(MakeFault::Exists),
         Err(_) => Err(MakeFault::NotOpened),
     }
+}
+
+// Gives the new folder the mode of the old one. A group that the old one does not have gets no rights.
+fn keep_mode<R: Files>(rt: &R, beside: &str, old: &Metadata) {
+    let keeps_group = match fs::symlink_metadata(rt, beside) {
+        Ok(new) => new.gid() == old.gid(),
+        Err(_) => false,
+    };
+    let bits = if keeps_group { 0o777 } else { 0o707 };
+    let _ = fs::set_permissions(rt, beside, Permissions::from_mode(old.mode() & bits));
 }
 
 // Whether the path has nothing, or an empty folder. A link to a folder cannot be replaced by a folder.

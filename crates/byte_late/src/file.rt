@@ -9,16 +9,17 @@ use std::fs;
 use std::io::Read;
 use std::rt::Files;
 
-// The state of a file: not opened yet, open, closed, or failed to open.
+// The state of a file: not opened yet, open, closed, closed since it failed, or failed to open.
 #[derive(Drop)]
 enum Turn<F> {
     Waits,
     Open(F),
     Closed,
+    Failed,
     Shut,
 }
 
-/// The file of a path, which is opened at its first read. No contract describes the file system.
+/// The file of a path, which is opened at its first read, and closed at its end. No contract describes the file system.
 #[derive(Drop)]
 pub struct LateFile<'a, R: Files> {
     rt: &'a R,
@@ -67,18 +68,23 @@ impl<R: Files> Source for LateFile<'_, R> {
             Turn::Open(file) => file.read(buf).map_err(|_| DeviceFault),
             Turn::Closed => Ok(0),
             Turn::Waits => Err(DeviceFault),
+            Turn::Failed => Err(DeviceFault),
             Turn::Shut => Err(DeviceFault),
         };
         match read {
             Ok(n) => {
                 if n == 0 && !buf.is_empty() {
                     self.ends = Tally::after(&self.ends);
+                    self.turn = Turn::Closed;
                 }
                 self.given.note(&buf[..n]);
                 Ok(n)
             }
             Err(_) => {
                 self.failures = Tally::after(&self.failures);
+                if let Turn::Open(_) = &self.turn {
+                    self.turn = Turn::Failed;
+                }
                 Err(DeviceFault)
             }
         }
@@ -98,6 +104,7 @@ impl<R: Files> LateSource for LateFile<'_, R> {
             Turn::Waits => false,
             Turn::Open(_) => false,
             Turn::Closed => false,
+            Turn::Failed => false,
         }
     }
 

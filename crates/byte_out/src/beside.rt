@@ -138,9 +138,9 @@ where
     kept
 }
 
-// Gives the new file the owner, the group and the mode of the old one, as far as the system permits. Returns whether both are
-// open to the same people.
-fn make_alike<F: OpenFile + AsFd>(file: &F, old: &Metadata) -> io::Result<bool> {
+/// Gives the new file the owner, the group and the mode of the old one, as far as the system permits. Returns whether both are
+/// open to the same people; if not, the mode of the new file is unchanged.
+pub fn make_alike<F: OpenFile + AsFd>(file: &F, old: &Metadata) -> io::Result<bool> {
     let made = file.metadata()?;
     if made.uid() != old.uid() || made.gid() != old.gid() {
         if fchown(file, Some(old.uid()), Some(old.gid())).is_err() {

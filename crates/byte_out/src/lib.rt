@@ -12,7 +12,7 @@ mod place;
 mod replacing;
 mod way;
 
-pub use beside::WholeFiles;
+pub use beside::{WholeFiles, make_alike};
 pub use fault::{MakeFault, ReplaceFault};
 pub use file_place::FilePlace;
 pub use input::{Input, InputOf, first_kept};

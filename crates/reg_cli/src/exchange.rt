@@ -1,11 +1,11 @@
 //! Commands that make and exchange registers.
 use crate::inputs::{Replaced, open_inputs};
 use crate::stores::{Opened, give_of, next_file, open_register};
-use crate::words::{open, open_all, open_shelf, open_to_read, place, word};
+use crate::words::{lock_new_shelf, open, open_all, open_shelf, open_to_read, place, word};
 use clap::ArgMatches;
 use reg_desk::{
-    CliFault, FirstVersion, NewFile, PieceFor, Refusal, Summary, run_merge, run_merge_on, run_new,
-    run_shelf, run_unshelf,
+    CliFault, FirstVersion, NewFile, PieceFor, Refusal, Summary, is_size, run_merge, run_merge_on,
+    run_new, run_shelf, run_unshelf,
 };
 use std::fs::File;
 
@@ -64,11 +64,13 @@ pub fn shelf(rt: &HostRuntime, matches: &ArgMatches<'_>) -> Result<(), CliFault>
     let Ok(size) = word(matches, "SIZE").parse::<u32>() else {
         return Err(CliFault::Refused(Refusal::BadSize));
     };
-    run_shelf(
-        rt.alloc(),
-        &mut NewFile::new(rt, word(matches, "NEW")),
-        size,
-    )
+    if !is_size(size) {
+        return Err(CliFault::Refused(Refusal::BadSize));
+    }
+    let path = word(matches, "NEW");
+    // The lock ends with the file, when the shelf is whole.
+    let _lock = lock_new_shelf(rt, path)?;
+    run_shelf(rt.alloc(), &mut NewFile::new(rt, path), size)
 }
 
 /// `unshelf`.

@@ -5,12 +5,15 @@ use crate::office::{Desk, OfficeFile, files_before, office_named, open_desk};
 use crate::outcome::Outcome;
 use crate::stores::{Opened, next_file, open_to_change};
 use crate::table::{Rows, answered};
-use crate::words::{differs, is_twice, late_fault, open_texts, printing_place, word};
+use crate::words::{
+    STANDARD_INPUT, STANDARD_INPUT_PATH, differs, is_twice, late_fault, printing_place, word,
+};
+use byte_late::{LateFile, LateSource};
 use byte_out::Place;
 use clap::ArgMatches;
 use reg_desk::{
-    CliFault, FileDisk, HasRoom, ImportFault, ImportOptions, InFile, Input, InputOf, OfFile,
-    OnShelf, OpId, OutFault, Reading, Source, Unimported, Writing, run_import, try_import,
+    CliFault, FileDisk, HasRoom, ImportFault, ImportOptions, InFile, Input, InputFault, InputOf,
+    OfFile, OnShelf, OpId, OutFault, Reading, Source, Unimported, Writing, run_import, try_import,
     write_all,
 };
 use reg_guard::{GuardFault, Guarded, GuardedFile, GuardedShelf, LastNumber, why};
@@ -49,7 +52,7 @@ fn names_of(alloc: Global, paths: &[&str]) -> Result<Vec<String>, AllocError> {
     Ok(names)
 }
 
-// Opens the files, imports them, and prints the rows.
+// Opens the register, imports the files, and prints the rows.
 fn import_at<Q: Place>(
     rt: &HostRuntime,
     matches: &ArgMatches<'_>,
@@ -61,11 +64,68 @@ fn import_at<Q: Place>(
         Ok(register) => register,
         Err(fault) => return Outcome::Fault(fault),
     };
-    let number = next_file(&register).saturating_add(files_before(matches));
-    let mut files = match open_texts(rt, rt.alloc(), number, paths) {
-        Ok(files) => files,
-        Err(fault) => return Outcome::Fault(fault),
+    let Ok(mut files) = late_texts(rt, rt.alloc(), paths) else {
+        return Outcome::Fault(CliFault::Memory);
     };
+    let first = next_file(&register).saturating_add(files_before(matches));
+    let outcome = import_from(rt, matches, desk, &mut register, &mut files, names);
+    with_openings(outcome, &files, first)
+}
+
+// The files of texts, which are opened one after another; `-` is standard input.
+fn late_texts<'a, R: Files>(
+    rt: &'a R,
+    alloc: Global,
+    paths: &[&'a str],
+) -> Result<Vec<LateFile<'a, R>>, AllocError> {
+    let mut files = Vec::new(alloc);
+    for path in paths {
+        let path = if *path == STANDARD_INPUT {
+            STANDARD_INPUT_PATH
+        } else {
+            *path
+        };
+        files.push(LateFile::new(rt, path))?;
+    }
+    Ok(files)
+}
+
+// The outcome, where a file that could not be read because it did not open is not opened. The first file has this number.
+fn with_openings<S: LateSource>(outcome: Outcome, files: &[S], first: usize) -> Outcome {
+    match outcome {
+        Outcome::Import(why) => match why.fault {
+            ImportFault::Cli(fault) => Outcome::Fault(fault_of_opening(fault, files, first)),
+            ImportFault::Refused { .. } => Outcome::Import(why),
+        },
+        outcome => outcome,
+    }
+}
+
+fn fault_of_opening<S: LateSource>(fault: CliFault, files: &[S], first: usize) -> CliFault {
+    let CliFault::File { number, .. } = fault else {
+        return fault;
+    };
+    let Some(i) = number.checked_sub(first) else {
+        return fault;
+    };
+    match files.get(i) {
+        Some(file) if file.is_shut() => CliFault::File {
+            number,
+            fault: InputFault::NotOpened,
+        },
+        _ => fault,
+    }
+}
+
+// Imports the files into the register, and prints the rows.
+fn import_from<Q: Place, F: Read + Write + Seek + OpenFile, S: Source>(
+    rt: &HostRuntime,
+    matches: &ArgMatches<'_>,
+    desk: &mut Desk<Q>,
+    register: &mut Opened<F>,
+    files: &mut [S],
+    names: &[String],
+) -> Outcome {
     let order = ImportOptions {
         replica: desk.replica,
         differs: differs(word(matches, "differs")),
@@ -78,18 +138,8 @@ fn import_at<Q: Place>(
     };
     let mut sink = Rows::sink(rt.alloc(), matches, io::writer(rt));
     let outcome = match &mut desk.file {
-        Some(office) => {
-            import_numbered(
-                rt,
-                matches,
-                office,
-                &mut register,
-                &mut files,
-                &order,
-                &mut sink,
-            )
-        }
-        None => import_to(rt, matches, &mut register, &mut files, &order, &mut sink),
+        Some(office) => import_numbered(rt, matches, office, register, files, &order, &mut sink),
+        None => import_to(rt, matches, register, files, &order, &mut sink),
     };
     match answered(rt.alloc(), sink, outcome) {
         Ok(outcome) => outcome,
@@ -98,11 +148,11 @@ fn import_at<Q: Place>(
 }
 
 // Imports the files, and prints the rows to the sink.
-fn import_to<F: Read + Write + Seek + OpenFile, W: Write>(
+fn import_to<F: Read + Write + Seek + OpenFile, S: Source, W: Write>(
     rt: &HostRuntime,
     matches: &ArgMatches<'_>,
     register: &mut Opened<F>,
-    files: &mut [Reading<F>],
+    files: &mut [S],
     order: &ImportOptions<'_>,
     sink: &mut Writing<W>,
 ) -> Outcome {
@@ -119,10 +169,10 @@ fn import_to<F: Read + Write + Seek + OpenFile, W: Write>(
 }
 
 // `import --dry-run`, which opens no OUT.
-fn import_tried<F: Read + Write + Seek + OpenFile, W: Write>(
+fn import_tried<F: Read + Write + Seek + OpenFile, S: Source, W: Write>(
     alloc: Global,
     register: &mut Opened<F>,
-    files: &mut [Reading<F>],
+    files: &mut [S],
     order: &ImportOptions<'_>,
     sink: &mut Writing<W>,
 ) -> Result<(), Unimported> {
@@ -139,11 +189,11 @@ fn import_tried<F: Read + Write + Seek + OpenFile, W: Write>(
 }
 
 // `import` into the file OUT.
-fn import_into<F: Read + Write + Seek + OpenFile, W: Write>(
+fn import_into<F: Read + Write + Seek + OpenFile, S: Source, W: Write>(
     rt: &HostRuntime,
     matches: &ArgMatches<'_>,
     source: &mut InputOf<Reading<F>>,
-    files: &mut [Reading<F>],
+    files: &mut [S],
     order: &ImportOptions<'_>,
     sink: &mut Writing<W>,
 ) -> Outcome {
@@ -169,12 +219,12 @@ fn import_file<'a, S: Input, T: Source, P: Place, W: Write>(
 }
 
 // `import` with an office file.
-fn import_numbered<Q: Place, F: Read + Write + Seek + OpenFile, W: Write>(
+fn import_numbered<Q: Place, F: Read + Write + Seek + OpenFile, S: Source, W: Write>(
     rt: &HostRuntime,
     matches: &ArgMatches<'_>,
     office: &mut OfficeFile<Q>,
     register: &mut Opened<F>,
-    files: &mut [Reading<F>],
+    files: &mut [S],
     order: &ImportOptions<'_>,
     sink: &mut Writing<W>,
 ) -> Outcome {
@@ -238,11 +288,11 @@ fn guarded_shelf<'a, Q: Place, F: Read + Write + Seek + OpenFile, T: Source, W: 
 }
 
 // `import --dry-run` with an office file, which opens no OUT.
-fn tried_numbered<F: Read + Write + Seek + OpenFile, W: Write>(
+fn tried_numbered<F: Read + Write + Seek + OpenFile, S: Source, W: Write>(
     alloc: Global,
     last: LastNumber,
     register: &mut Opened<F>,
-    files: &mut [Reading<F>],
+    files: &mut [S],
     order: &ImportOptions<'_>,
     sink: &mut Writing<W>,
 ) -> Outcome {

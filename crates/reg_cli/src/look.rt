@@ -6,17 +6,17 @@ use crate::words::{
     STANDARD_INPUT, entries, entry, form, kind, open, open_all, open_to_read, point, push_words,
     word,
 };
+use byte_late::LateFile;
 use clap::ArgMatches;
 use desk_texts::Texts;
 use reg_desk::{
-    ByWord, CliFault, FileAt, FileDisk, Find, FindIds, Kind, Lockable, LogAll, LogByWords, LogOf,
+    ByWord, CliFault, FileDisk, Find, FindIds, Kind, LateAt, Lockable, LogAll, LogByWords, LogOf,
     OfFile, Offices, OnShelf, Opened, Ops, PrintOf, Query, Reading, Recorded, Report, ShelfAt,
     Show, ShowOf, Source, Wanted, Wkt, WktOf, Writing, run_check, run_check_explained, run_diff,
     run_status,
 };
 use reg_page::Page;
 use std::alloc::{AllocError, Global};
-use std::fs;
 use std::io::{self, Write};
 use std::rt::Files;
 
@@ -216,7 +216,7 @@ fn status_to<W: Write>(
         };
         return run_status(rt.alloc(), names, &mut shelves, settled, sink);
     }
-    let Ok(mut files) = opened_files(rt, rt.alloc(), paths) else {
+    let Ok(mut files) = files_at(rt, rt.alloc(), paths) else {
         return Err(CliFault::Memory);
     };
     run_status(rt.alloc(), names, &mut files, settled, sink)
@@ -231,19 +231,16 @@ fn names_of<'a>(alloc: Global, paths: &[&'a str]) -> Result<Vec<&'a [u8]>, Alloc
     Ok(names)
 }
 
-// Opens all files that can be opened.
-fn opened_files<R: Files>(
-    rt: &R,
+// The files, which are opened one after another.
+fn files_at<'a, R: Files>(
+    rt: &'a R,
     alloc: Global,
-    paths: &[&str],
-) -> Result<Vec<FileAt<Reading<R::File>>>, AllocError> {
+    paths: &[&'a str],
+) -> Result<Vec<LateAt<LateFile<'a, R>>>, AllocError> {
     let mut files = Vec::new(alloc);
     for path in paths {
-        let file = match fs::open(rt, *path) {
-            Ok(file) => Opened::Source(Reading::new(file)),
-            Err(_) => Opened::NotOpened,
-        };
-        files.push(FileAt { opened: file })?;
+        let file = LateFile::new(rt, *path);
+        files.push(LateAt { file })?;
     }
     Ok(files)
 }

@@ -7,6 +7,7 @@ use clap::parser::ValueSource;
 use reg_desk::{CliFault, FileId, Lockable, OutFault, Reading, Writing};
 use reg_guard::{GuardFault, LastNumber, OfficePlace, last_of, lock_office, run_office, unopened};
 use std::alloc::Global;
+use std::os::fd::AsFd;
 use std::random::RandomSource;
 use std::rt::Files;
 use std::{fs, io};
@@ -72,7 +73,7 @@ pub fn open_desk<'a, R: Files>(
     named: Option<Uuid>,
 ) -> Result<Desk<OfficePlace<'a, R>>, GuardFault>
 where
-    R::File: Lockable,
+    R::File: AsFd + Lockable,
 {
     if let Some(replica) = named {
         return Ok(Desk {
@@ -111,7 +112,10 @@ fn read<R: Files>(rt: &R, alloc: Global, path: &str) -> Result<LastNumber, Guard
 }
 
 /// Whether OUT is the office file or its new one, by any name.
-pub fn is_out<R: Files>(rt: &R, alloc: Global, out: &str, path: &str) -> Result<bool, CliFault> {
+pub fn is_out<R: Files>(rt: &R, alloc: Global, out: &str, path: &str) -> Result<bool, CliFault>
+where
+    R::File: AsFd,
+{
     let Ok(place) = OfficePlace::beside(alloc, rt, path) else {
         return Err(CliFault::Memory);
     };

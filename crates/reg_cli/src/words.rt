@@ -17,7 +17,7 @@ use uuid::Uuid;
 /// The name of standard input on the command line.
 pub const STANDARD_INPUT: &str = "-";
 
-const STANDARD_INPUT_PATH: &str = "/dev/stdin";
+pub const STANDARD_INPUT_PATH: &str = "/dev/stdin";
 
 const STANDARD_OUTPUT_PATH: &str = "/dev/stdout";
 
@@ -191,23 +191,6 @@ pub fn open_text<R: Files>(
     open(rt, number, path)
 }
 
-/// Opens all files of texts, in order, before the first is read. The first has this number.
-pub fn open_texts<R: Files>(
-    rt: &R,
-    alloc: Global,
-    number: usize,
-    paths: &[&str],
-) -> Result<Vec<Reading<R::File>>, CliFault> {
-    let mut sources = Vec::new(alloc);
-    for (i, path) in paths.iter().enumerate() {
-        let source = open_text(rt, i.saturating_add(number), path)?;
-        if sources.push(source).is_err() {
-            return Err(CliFault::Memory);
-        }
-    }
-    Ok(sources)
-}
-
 /// Whether standard input is named more than once.
 pub fn is_twice(paths: &[&str]) -> bool {
     let mut is_named = false;
@@ -234,6 +217,22 @@ where
         return Err(CliFault::Shelf(ShelfProblem::NotOpened));
     }
     disk_if(file.lock_alone(), file)
+}
+
+/// Opens the file of a shelf that is to be made, and creates it if it is not there. No other command may have it open. The lock ends
+/// with the file.
+pub fn lock_new_shelf<R: Files>(rt: &R, path: &str) -> Result<R::File, CliFault>
+where
+    R::File: Lockable,
+{
+    let mut options = OpenOptions::new();
+    let Ok(file) = options.read(true).write(true).create(true).open(rt, path) else {
+        return Err(CliFault::Shelf(ShelfProblem::NotOpened));
+    };
+    match file.lock_alone() {
+        Lock::Held => Err(CliFault::Shelf(ShelfProblem::Busy)),
+        Lock::Taken | Lock::Missing => Ok(file),
+    }
 }
 
 fn is_standard_output<R: Files>(rt: &R, file: &R::File) -> bool {

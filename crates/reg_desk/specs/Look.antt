@@ -1,5 +1,5 @@
 -- Files and shelves that are inspected: the register that each has, or its fault.
-use Rattle.std.specs.Prelude.{◌≡◌, ◌⊎◌, ℕ, ◌≤◌, ◌<◌, IsTrue, List, [], ◌∷◌, length, Option, Some, None}
+use Rattle.std.specs.Prelude.{◌≡◌, ◌⊎◌, ℕ, ◌≤◌, ◌<◌, Bool, true, false, IsTrue, List, [], ◌∷◌, length, Option, Some, None}
 use Rattle.byte_io.specs.Device.{SourceState}
 use Rattle.reg_op.specs.Contents.{Content}
 use Rattle.reg_file.specs.Files.{most, ReadsAs, ReadsBytes}
@@ -44,6 +44,23 @@ IsLook old new (look.Unread (file.BadFile f place)) = ⊥
 IsLook old new (look.Unread f) = IsFileFault f old new
 IsLook old new (look.NoShelf p) = ⊥
 
+-- a file that was not read, since it did not open
+abbrev pub unopened_if : Bool → InputFault → InputFault
+unopened_if true (file.ReadFailed n) = file.NotOpened
+unopened_if true f = f
+unopened_if false f = f
+
+-- the look at a file whose first read failed to open it, or did not
+abbrev pub look_if : Bool → Look → Look
+look_if shut (look.Figures n figures) = look.Figures n figures
+look_if shut (look.NoRegister n f) = look.NoRegister n f
+look_if shut (look.Unread f) = look.Unread (unopened_if shut f)
+look_if shut (look.NoShelf p) = look.NoShelf p
+
+-- the same of a file that is opened at its first read: if that failed to open it, the file is not opened
+abbrev pub LateLooksAt : SourceState → SourceState → Bool → Look → Type 0
+LateLooksAt old new shut l = (seen : Look) × IsLook old new seen × (l ≡ look_if shut seen)
+
 -- the disk reads as a shelf with a file of this size, of a register with these figures, and is unchanged; or nothing was
 -- restored, for this reason
 abbrev pub IsShelfLook : {D : Type 0} → Disks D → D → D → Look → Type 0
@@ -75,9 +92,6 @@ LooksAt Is unopened None None l = l ≡ unopened
 LooksAt Is unopened None (Some new) l = ⊥
 LooksAt Is unopened (Some old) None l = ⊥
 LooksAt Is unopened (Some old) (Some new) l = Is old new l
-
-abbrev pub FileLooksAt : Option SourceState → Option SourceState → Look → Type 0
-FileLooksAt = LooksAt IsLook (look.Unread file.NotOpened)
 
 -- a disk tells what it told before
 abbrev pub StillTells : {D : Type 0} → Disks D → D → D → Type 0

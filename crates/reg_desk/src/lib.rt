@@ -19,7 +19,7 @@ pub use explained::{Explained, explained_fault, problem_of, run_check_explained}
 pub use find::{Find, FindIds};
 pub use import::{HasRoom, ImportFault, ImportOptions, Unimported, run_import, try_import};
 pub use logging::{LogAll, LogByWords, LogOf};
-pub use look::{FileAt, Inspect, Look, Opened, ShelfAt};
+pub use look::{Inspect, LateAt, Look, Opened, ShelfAt};
 pub use offices::Offices;
 pub use settle::{Settle, SettleEqual};
 pub use status::run_status;
@@ -44,4 +44,5 @@ pub use reg_keyed::{ByWord, ByWords, ChangeOf, PrintOf, RetireOf, ShowOf, Supers
 pub use reg_op::OpId;
 pub use reg_query::{Query, Wanted};
 pub use reg_report::ReportKind;
+pub use reg_shelf::is_size;
 pub use wkt_explain::{Recorded, explain_within};

@@ -3,10 +3,11 @@
 ghost use Rattle.std.specs.Prelude.{◌≡◌, IfOk, OnErr};
 ghost use Rattle.reg_engine.specs.Inputs.{NeverFails};
 ghost use Rattle.reg_engine.specs.Shelf.{disks, StaysOn};
-ghost use Rattle.reg_desk.specs.Look.{HasLook, IsLook, IsLookOf, IsShelfLook, IsRegisterLook};
+ghost use Rattle.reg_desk.specs.Look.{HasLook, IsLook, IsLookOf, IsShelfLook, IsRegisterLook, look_if};
 
 use byte_disk::Disk;
 use byte_io::{InFault, Source, read_up_to};
+use byte_late::LateSource;
 use byte_shelf::{ShelfFault, restore};
 use reg_engine::{InputFault, ShelfProblem};
 use reg_file::{MAX_FILE, ReadFileFault, read_bytes};
@@ -27,7 +28,7 @@ pub enum Look {
     NoShelf(ShelfProblem),
 }
 
-/// A device that was opened, or that could not be opened.
+/// A disk that was opened, or that could not be opened.
 #[derive(Drop)]
 pub enum Opened<S> {
     Source(S),
@@ -50,25 +51,37 @@ pub trait Inspect {
         ensures stays { OnErr result (stays self.old self.new) };
 }
 
-/// A file, opened or not.
+/// A file that is opened when it is inspected, and closed then.
 #[derive(Drop)]
-pub struct FileAt<S> {
-    pub opened: Opened<S>,
+pub struct LateAt<S> {
+    pub file: S,
 }
 
-impl<S: Source> Inspect for FileAt<S> {
+impl<S: LateSource> Inspect for LateAt<S> {
     ghost use Rattle.reg_engine.specs.Inputs.{NeverFails};
-    ghost use Rattle.reg_desk.specs.Look.{opened_state, FileLooksAt, StaysAt};
+    ghost use Rattle.reg_desk.specs.Look.{LateLooksAt};
 
-    ghost looks = { λ old. λ new. λ l. FileLooksAt (opened_state S.state old.opened) (opened_state S.state new.opened) l };
+    ghost looks = { λ old. λ new. λ l. LateLooksAt (S.state old.file) (S.state new.file) (S.shut new.file) l };
 
-    ghost stays = { λ old. λ new. StaysAt NeverFails (opened_state S.state old.opened) (opened_state S.state new.opened) };
+    ghost stays = { λ old. λ new. NeverFails (S.state old.file) (S.state new.file) };
 
     fn look(&mut self, alloc: Global) -> Result<Look, AllocError> {
-        match &mut self.opened {
-            Opened::Source(source) => look_at(alloc, source),
-            Opened::NotOpened => Ok(Look::Unread(InputFault::NotOpened)),
+        let look = look_at(alloc, &mut self.file);
+        self.file.close();
+        match look {
+            Ok(look) => Ok(look_if(look, self.file.is_shut())),
+            Err(error) => Err(error),
         }
+    }
+}
+
+// The look at a file whose first read failed to open it, or did not.
+fn look_if(look: Look, shut: bool) -> Look
+    ensures { result ≡ look_if shut look }
+{
+    match look {
+        Look::Unread(InputFault::ReadFailed(_)) if shut => Look::Unread(InputFault::NotOpened),
+        look => look,
     }
 }
 

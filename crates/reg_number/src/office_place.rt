@@ -6,10 +6,11 @@ ghost use Rattle.byte_io.specs.Device.{target_of};
 ghost use Rattle.byte_out.specs.Place.{untold};
 
 use byte_io::{DeviceFault, Log, NotOpened, Sink, Tally, WriteFault, write_all};
-use byte_out::{MakeFault, Place};
+use byte_out::{MakeFault, Place, make_alike};
 use std::alloc::{AllocError, Global};
-use std::fs::{self, OpenFile, OpenOptions, Permissions};
+use std::fs::{self, Metadata, OpenFile, OpenOptions, Permissions};
 use std::io::{self, ErrorKind, Write};
+use std::os::fd::AsFd;
 use std::os::unix::fs::{MetadataExt, OpenOptionsExt, PermissionsExt};
 use std::rt::Files;
 
@@ -27,7 +28,10 @@ pub struct OfficePlace<'a, R: Files> {
     ghost counted: { IsSome file → 0 < openings.count },
 }
 
-impl<'a, R: Files> OfficePlace<'a, R> {
+impl<'a, R: Files> OfficePlace<'a, R>
+where
+    R::File: AsFd,
+{
     /// The place of the office file at this path, or where its links lead. The new file has its name with `.new`: while it is
     /// there, no other command of the office goes on. Nothing is made yet.
     pub fn beside(alloc: Global, rt: &'a R, path: &str) -> Result<OfficePlace<'a, R>, AllocError>
@@ -118,7 +122,10 @@ impl<R: Files> Sink for OfficePlace<'_, R> {
     }
 }
 
-impl<R: Files> Place for OfficePlace<'_, R> {
+impl<R: Files> Place for OfficePlace<'_, R>
+where
+    R::File: AsFd,
+{
     ghost state = { λ s. record {
       sink = record {
         written = None;
@@ -190,24 +197,39 @@ impl<R: Files> Place for OfficePlace<'_, R> {
     }
 }
 
-// A new file, with the mode of the old one, if there is one.
-fn made_like<R: Files>(rt: &R, made: &str, path: &str) -> Result<R::File, MakeFault> {
-    let old = fs::metadata(rt, path);
-    let file = match OpenOptions::new()
+// A new file, open to the same people as the old one, if there is one. One that cannot be written is not replaced.
+fn made_like<R: Files>(rt: &R, made: &str, path: &str) -> Result<R::File, MakeFault>
+where
+    R::File: AsFd,
+{
+    let old = fs::metadata(rt, path).ok();
+    if old.is_some() && OpenOptions::new().write(true).open(rt, path).is_err() {
+        return Err(MakeFault::NotOpened);
+    }
+    let opened = OpenOptions::new()
         .write(true)
         .create_new(true)
-        .open(rt, made)
-    {
+        .mode(if old.is_some() { 0o600 } else { 0o666 })
+        .open(rt, made);
+    let file = match opened {
         Ok(file) => file,
         Err(error) if error.kind() == ErrorKind::AlreadyExists && made != path => {
             return Err(MakeFault::Exists);
         }
         Err(_) => return Err(MakeFault::NotOpened),
     };
-    if let Ok(old) = old {
-        let _ = file.set_permissions(Permissions::from_mode(old.mode() & 0o777));
+    if let Some(old) = old {
+        keep_access(&file, &old);
     }
     Ok(file)
+}
+
+// The owner, group and mode of the old file. If the group cannot be kept, the new one gets no rights that the old one had.
+fn keep_access<F: OpenFile + AsFd>(file: &F, old: &Metadata) {
+    if let Ok(true) = make_alike(file, old) {
+        return;
+    }
+    let _ = file.set_permissions(Permissions::from_mode(old.mode() & 0o707));
 }
 
 // Gives the file that was made its name, unless it has it already.

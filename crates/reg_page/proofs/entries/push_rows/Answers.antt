@@ -7,7 +7,7 @@ use Rattle.html_page.specs.Templates.{entry}
 use Rattle.reg_page.specs.declared.described.Described.{Described}
 use Rattle.reg_page.specs.Descriptions.{at}
 use Rattle.reg_page.specs.Page.{entry_of}
-use Rattle.reg_page.proofs.LoopLemmas.{as_others, one_more, twice}
+use Rattle.reg_page.proofs.LoopLemmas.{as_others, one_more, map_composed}
 use Rattle.reg_page.proofs.entries.push_rows.Goals as goal
 
 pub loop-i-init : goal.loop-i-init
@@ -24,4 +24,4 @@ returns c =
     let rows = c.args.rows.now in
     let each = λ (t : Bor Described). row t.now in
     as_others (flat_map entry (map each (take c.loop-i.i rows))) (flat_map entry (map row (at rows)))
-    (ap (λ l. flat_map entry (map each l)) (take_all c.loop-i.i rows c.loop-i-test.false) ∙ ap (flat_map entry) (twice row (λ (t : Bor Described). t.now) rows)) c.loop-i.invariant
+    (ap (λ l. flat_map entry (map each l)) (take_all c.loop-i.i rows c.loop-i-test.false) ∙ ap (flat_map entry) (map_composed row (λ (t : Bor Described). t.now) rows)) c.loop-i.invariant
