@@ -1,6 +1,7 @@
 -- Hints for common mistakes.
-use Rattle.std.specs.Prelude.{ℕ, ◌||◌, ◌&&◌, Bool, not, List, [], ◌∷◌, take, drop, codes, nat_eq, Option, Some, None, if◌then◌else◌}
+use Rattle.std.specs.Prelude.{ℕ, ◌==◌, ◌||◌, ◌&&◌, Bool, false, not, List, [], ◌∷◌, length, take, drop, codes, nat_eq, Option, Some, None, if◌then◌else◌}
 use Rattle.std.specs.List.{prefix_len, starts_with}
+use Rattle.std.specs.Char.{is_ascii_alphabetic}
 use Rattle.crs_part.specs.Words.{same_word}
 use Rattle.wkt_grammar.specs.declared.table.Keyword.TheVariants as keywords
 use Rattle.wkt_grammar.specs.Words.{spelling}
@@ -16,18 +17,21 @@ use Rattle.wkt_explain.specs.declared.hints.Hint.TheVariants as hints
 
 -- the sentence of a hint
 abbrev pub hint_text : Hint → List ℕ
+hint_text hints.Empty = codes "the text is empty"
 hint_text hints.ByteOrderMark = codes "the text begins with a byte order mark: save it without one"
 hint_text hints.Utf16 = codes "this is UTF-16: save the text as UTF-8"
 hint_text hints.Latin = codes "this may be Latin-1 or Windows-1252: save the text as UTF-8"
 hint_text hints.ProjJson = codes "this is JSON, perhaps PROJJSON: its WKT is wanted, as of projinfo -o WKT2:2019"
 hint_text hints.Gml = codes "this is XML, perhaps GML: its WKT is wanted"
 hint_text hints.ProjString = codes "this is a string of PROJ: its WKT is wanted, as of projinfo -o WKT2:2019"
+hint_text hints.Heading = codes "the text begins with a heading of projinfo: call it with -o WKT2:2019 -q"
+hint_text hints.Code = codes "this is a code, not a text: projinfo CODE -o WKT2:2019 -q prints its WKT"
 hint_text hints.Wkt1 = codes "this is WKT 1: WKT 2 is wanted, as of projinfo -o WKT2:2019"
 hint_text hints.OutsideUsage = codes "here WKT of 2015 has it: WKT of 2019 puts SCOPE, AREA, BBOX and VERTICALEXTENT into a USAGE"
 hint_text hints.UnitFirst = codes "PRIMEM stands before the unit: the simplified form of PROJ has them the other way round"
 hint_text hints.Dynamic = codes "systems of a dynamic datum are not read"
 hint_text hints.TwoTexts = codes "one text is read here: import reads files of many"
-hint_text hints.NoIdentifier = codes "put an ID[\"AUTHORITY\",\"CODE\"] before the last delimiter"
+hint_text hints.NoIdentifier = codes "put an ID[\"AUTHORITY\",\"CODE\"] before the last delimiter; a REMARK comes after it"
 
 -- the bytes begin with these
 abbrev pub begins : List ℕ → List ℕ → Bool
@@ -39,12 +43,15 @@ behind_blanks text = drop (prefix_len is_blank text) text
 abbrev pub front_word : List ℕ → List ℕ
 front_word bytes = take (prefix_len is_word_byte bytes) bytes
 
+abbrev pub behind_word : List ℕ → List ℕ
+behind_word bytes = drop (prefix_len is_word_byte bytes) bytes
+
 -- the word that begins at a place
 abbrev pub word_at : List ℕ → ℕ → List ℕ
 word_at text place = front_word (drop place text)
 
 abbrev pub is_wkt1 : List ℕ → Bool
-is_wkt1 word = same_word (codes "PROJCS") word || same_word (codes "GEOGCS") word || same_word (codes "GEOCCS") word || same_word (codes "VERT_CS") word
+is_wkt1 word = same_word (codes "PROJCS") word || same_word (codes "GEOGCS") word || same_word (codes "GEOCCS") word || same_word (codes "VERT_CS") word || same_word (codes "VERTCS") word
     || same_word (codes "COMPD_CS") word || same_word (codes "LOCAL_CS") word || same_word (codes "FITTED_CS") word
 
 abbrev pub is_extent : List ℕ → Bool
@@ -62,27 +69,65 @@ word_hint word node =
     else (if same_word (spelling keywords.PrimeMeridian) word && is_base node then Some hints.UnitFirst
     else None)))
 
+abbrev pub begins_letter : List ℕ → Bool
+begins_letter [] = false
+begins_letter (b ∷ bs) = is_ascii_alphabetic b
+
+-- `+` and a letter, such as `+proj`
+abbrev pub begins_option : List ℕ → Bool
+begins_option [] = false
+begins_option (b ∷ bs) = b == 43 && begins_letter bs
+
+abbrev pub is_proj_string : List ℕ → Bool
+is_proj_string bytes = begins_option bytes || begins (codes "proj=") bytes || begins (codes "init=") bytes
+
+-- projinfo prints such a line before each text
+abbrev pub begins_heading : List ℕ → Bool
+begins_heading bytes = begins (codes "WKT2:") bytes || begins (codes "WKT1:") bytes || begins (codes "PROJ string:") bytes || begins (codes "PROJ.4 string:") bytes || begins (codes "PROJJSON:") bytes
+
+-- a word, and nothing but blanks after it
+abbrev pub is_last_word : List ℕ → Bool
+is_last_word bytes = not (length (front_word bytes) == 0) && length (behind_blanks (behind_word bytes)) == 0
+
+abbrev pub is_colon_word : List ℕ → Bool
+is_colon_word [] = false
+is_colon_word (b ∷ bs) = b == 58 && is_last_word bs
+
+-- a word, a colon and a word, such as `EPSG:4326`
+abbrev pub is_code : List ℕ → Bool
+is_code bytes = not (length (front_word bytes) == 0) && is_colon_word (behind_word bytes)
+
+-- for the first bytes of a text that are not blank
+abbrev pub start_hint : List ℕ → Option Hint
+start_hint bytes =
+    if length bytes == 0 then Some hints.Empty
+    else (if begins (codes "{") bytes then Some hints.ProjJson
+    else (if begins (codes "<") bytes then Some hints.Gml
+    else (if is_proj_string bytes then Some hints.ProjString
+    else (if begins_heading bytes then Some hints.Heading
+    else (if is_code bytes then Some hints.Code
+    else None)))))
+
 -- for the front of a text without tokens
 abbrev pub front_hint : List ℕ → Option Hint
-front_hint text =
-    if begins (239 ∷ 187 ∷ 191 ∷ []) text then Some hints.ByteOrderMark
-    else (if begins (codes "{") (behind_blanks text) then Some hints.ProjJson
-    else (if begins (codes "<") (behind_blanks text) then Some hints.Gml
-    else (if begins (codes "+proj=") (behind_blanks text) || begins (codes "+init=") (behind_blanks text) then Some hints.ProjString
-    else None)))
+front_hint text = if begins (239 ∷ 187 ∷ 191 ∷ []) text then Some hints.ByteOrderMark else start_hint (behind_blanks text)
 
 -- for bytes that are not UTF-8
 abbrev pub encoding_hint : List ℕ → Hint
 encoding_hint text = if begins (255 ∷ 254 ∷ []) text || begins (254 ∷ 255 ∷ []) text then hints.Utf16 else hints.Latin
 
--- for the bytes after a complete text
-abbrev pub after_hint : List ℕ → Option Hint
-after_hint [] = None
-after_hint (b ∷ bs) = Some hints.TwoTexts
+-- for the word after a complete text
+abbrev pub more_hint : List ℕ → Option Hint
+more_hint [] = None
+more_hint (b ∷ bs) = Some hints.TwoTexts
+
+-- for a complete text that begins with this word, before this other word
+abbrev pub after_hint : List ℕ → List ℕ → Option Hint
+after_hint first word = if is_wkt1 first then Some hints.Wkt1 else more_hint word
 
 abbrev pub text_hint : List ℕ → TextFault → Option Hint
 text_hint text (NotUtf8 at) = Some (encoding_hint text)
-text_hint text (After at) = after_hint (word_at text at)
+text_hint text (After at) = after_hint (front_word (behind_blanks text)) (word_at text at)
 text_hint text _ = front_hint text
 
 -- for a text with this fault, in the node with this keyword

@@ -3,7 +3,7 @@
 ghost use Rattle.std.specs.Prelude.{◌≡◌};
 ghost use Rattle.std.specs.List.{prefix_len};
 ghost use Rattle.wkt_tree.specs.Bytes.{is_blank, is_word_byte};
-ghost use Rattle.wkt_explain.specs.Hints.{after_hint, behind_blanks, encoding_hint, front_hint, hint_of, hint_text, is_base, is_extent, is_wkt1, text_hint, word_at, word_hint};
+ghost use Rattle.wkt_explain.specs.Hints.{after_hint, begins_heading, begins_letter, begins_option, behind_blanks, behind_word, encoding_hint, front_hint, front_word, hint_of, hint_text, is_base, is_code, is_colon_word, is_extent, is_last_word, is_proj_string, is_wkt1, more_hint, start_hint, text_hint, word_at, word_hint};
 
 use crate::path::{is_blank, is_word_byte};
 use crs_part::same_word;
@@ -13,12 +13,15 @@ use wkt_grammar::Keyword;
 /// A hint: what a refused text probably is, or how to correct it.
 #[derive(Clone, Copy, Debug, PartialEq, Eq)]
 pub enum Hint {
+    Empty,
     ByteOrderMark,
     Utf16,
     Latin,
     ProjJson,
     Gml,
     ProjString,
+    Heading,
+    Code,
     Wkt1,
     OutsideUsage,
     UnitFirst,
@@ -33,6 +36,7 @@ impl Hint {
         ensures { result.now ≡ hint_text self }
     {
         match self {
+            Hint::Empty => "the text is empty",
             Hint::ByteOrderMark => "the text begins with a byte order mark: save it without one",
             Hint::Utf16 => "this is UTF-16: save the text as UTF-8",
             Hint::Latin => "this may be Latin-1 or Windows-1252: save the text as UTF-8",
@@ -41,6 +45,10 @@ impl Hint {
             Hint::Gml => "this is XML, perhaps GML: its WKT is wanted",
             Hint::ProjString =>
                 "this is a string of PROJ: its WKT is wanted, as of projinfo -o WKT2:2019",
+            Hint::Heading =>
+                "the text begins with a heading of projinfo: call it with -o WKT2:2019 -q",
+            Hint::Code =>
+                "this is a code, not a text: projinfo CODE -o WKT2:2019 -q prints its WKT",
             Hint::Wkt1 => "this is WKT 1: WKT 2 is wanted, as of projinfo -o WKT2:2019",
             Hint::OutsideUsage =>
                 "here WKT of 2015 has it: WKT of 2019 puts SCOPE, AREA, BBOX and VERTICALEXTENT into a USAGE",
@@ -48,7 +56,8 @@ impl Hint {
                 "PRIMEM stands before the unit: the simplified form of PROJ has them the other way round",
             Hint::Dynamic => "systems of a dynamic datum are not read",
             Hint::TwoTexts => "one text is read here: import reads files of many",
-            Hint::NoIdentifier => "put an ID[\"AUTHORITY\",\"CODE\"] before the last delimiter",
+            Hint::NoIdentifier =>
+                "put an ID[\"AUTHORITY\",\"CODE\"] before the last delimiter; a REMARK comes after it",
         }
     }
 }
@@ -72,13 +81,26 @@ fn behind_blanks(text: &[u8]) -> &[u8]
     rest
 }
 
+fn front_word(bytes: &[u8]) -> &[u8]
+    ensures { result.now ≡ front_word bytes.now }
+{
+    let (word, _) = bytes.split_at(word_len(bytes));
+    word
+}
+
+fn behind_word(bytes: &[u8]) -> &[u8]
+    ensures { result.now ≡ behind_word bytes.now }
+{
+    let (_, rest) = bytes.split_at(word_len(bytes));
+    rest
+}
+
 // The word at the place.
 fn word_at(text: &[u8], place: usize) -> &[u8]
     ensures { result.now ≡ word_at text.now place }
 {
     let (_, rest) = text.split_at(place.min(text.len()));
-    let (word, _) = rest.split_at(word_len(rest));
-    word
+    front_word(rest)
 }
 
 fn is_wkt1(word: &[u8]) -> bool
@@ -88,6 +110,7 @@ fn is_wkt1(word: &[u8]) -> bool
         || same_word(b"GEOGCS", word)
         || same_word(b"GEOCCS", word)
         || same_word(b"VERT_CS", word)
+        || same_word(b"VERTCS", word)
         || same_word(b"COMPD_CS", word)
         || same_word(b"LOCAL_CS", word)
         || same_word(b"FITTED_CS", word)
@@ -128,6 +151,88 @@ fn word_hint(word: &[u8], node: &[u8]) -> Option<Hint>
     None
 }
 
+fn begins_letter(bytes: &[u8]) -> bool
+    ensures { result ≡ begins_letter bytes.now }
+{
+    let Some((first, _)) = bytes.split_first() else {
+        return false;
+    };
+    first.is_ascii_alphabetic()
+}
+
+fn begins_option(bytes: &[u8]) -> bool
+    ensures { result ≡ begins_option bytes.now }
+{
+    let Some((first, rest)) = bytes.split_first() else {
+        return false;
+    };
+    *first == b'+' && begins_letter(rest)
+}
+
+fn is_proj_string(bytes: &[u8]) -> bool
+    ensures { result ≡ is_proj_string bytes.now }
+{
+    begins_option(bytes) || bytes.starts_with(b"proj=") || bytes.starts_with(b"init=")
+}
+
+// Projinfo prints such a line before each text.
+fn begins_heading(bytes: &[u8]) -> bool
+    ensures { result ≡ begins_heading bytes.now }
+{
+    bytes.starts_with(b"WKT2:")
+        || bytes.starts_with(b"WKT1:")
+        || bytes.starts_with(b"PROJ string:")
+        || bytes.starts_with(b"PROJ.4 string:")
+        || bytes.starts_with(b"PROJJSON:")
+}
+
+fn is_last_word(bytes: &[u8]) -> bool
+    ensures { result ≡ is_last_word bytes.now }
+{
+    !front_word(bytes).is_empty() && behind_blanks(behind_word(bytes)).is_empty()
+}
+
+fn is_colon_word(bytes: &[u8]) -> bool
+    ensures { result ≡ is_colon_word bytes.now }
+{
+    let Some((first, rest)) = bytes.split_first() else {
+        return false;
+    };
+    *first == b':' && is_last_word(rest)
+}
+
+// A code such as `EPSG:4326`.
+fn is_code(bytes: &[u8]) -> bool
+    ensures { result ≡ is_code bytes.now }
+{
+    !front_word(bytes).is_empty() && is_colon_word(behind_word(bytes))
+}
+
+// The hint for the first bytes of a text that are not blank.
+fn start_hint(bytes: &[u8]) -> Option<Hint>
+    ensures { result ≡ start_hint bytes.now }
+{
+    if bytes.is_empty() {
+        return Some(Hint::Empty);
+    }
+    if bytes.starts_with(b"{") {
+        return Some(Hint::ProjJson);
+    }
+    if bytes.starts_with(b"<") {
+        return Some(Hint::Gml);
+    }
+    if is_proj_string(bytes) {
+        return Some(Hint::ProjString);
+    }
+    if begins_heading(bytes) {
+        return Some(Hint::Heading);
+    }
+    if is_code(bytes) {
+        return Some(Hint::Code);
+    }
+    None
+}
+
 // The hint for the front of a text without tokens.
 fn front_hint(text: &[u8]) -> Option<Hint>
     ensures { result ≡ front_hint text.now }
@@ -135,17 +240,7 @@ fn front_hint(text: &[u8]) -> Option<Hint>
     if text.starts_with(b"\xef\xbb\xbf") {
         return Some(Hint::ByteOrderMark);
     }
-    let front = behind_blanks(text);
-    if front.starts_with(b"{") {
-        return Some(Hint::ProjJson);
-    }
-    if front.starts_with(b"<") {
-        return Some(Hint::Gml);
-    }
-    if front.starts_with(b"+proj=") || front.starts_with(b"+init=") {
-        return Some(Hint::ProjString);
-    }
-    None
+    start_hint(behind_blanks(text))
 }
 
 // The hint for bytes that are not UTF-8.
@@ -163,19 +258,31 @@ fn text_hint(text: &[u8], fault: TextFault) -> Option<Hint>
 {
     match fault {
         TextFault::NotUtf8(_) => Some(encoding_hint(text)),
-        TextFault::After(place) => after_hint(word_at(text, place)),
+        TextFault::After(place) => {
+            after_hint(front_word(behind_blanks(text)), word_at(text, place))
+        }
         _ => front_hint(text),
     }
 }
 
-// The hint for the bytes after a complete text.
-fn after_hint(word: &[u8]) -> Option<Hint>
-    ensures { result ≡ after_hint word.now }
+// The hint for the word after a complete text.
+fn more_hint(word: &[u8]) -> Option<Hint>
+    ensures { result ≡ more_hint word.now }
 {
     if word.is_empty() {
         return None;
     }
     Some(Hint::TwoTexts)
+}
+
+// The hint for a complete text that begins with this word, before this other word.
+fn after_hint(first: &[u8], word: &[u8]) -> Option<Hint>
+    ensures { result ≡ after_hint first.now word.now }
+{
+    if is_wkt1(first) {
+        return Some(Hint::Wkt1);
+    }
+    more_hint(word)
 }
 
 /// The hint for the fault of a text, if there is one; `node` is the keyword of the enclosing node.
