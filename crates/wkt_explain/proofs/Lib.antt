@@ -6,3 +6,4 @@ pub mod NearLemmas
 pub mod PathLemmas
 pub mod ShownLemmas
 pub mod WalkLemmas
+pub mod WantedLemmas

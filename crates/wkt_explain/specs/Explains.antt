@@ -8,7 +8,7 @@ use Rattle.wkt_explain.specs.Characters.{chars}
 use Rattle.wkt_explain.specs.Position.{first_line, last_line, line_number, column, text_in}
 use Rattle.wkt_explain.specs.Path.{path_at}
 use Rattle.wkt_explain.specs.Shown.{shown_lines}
-use Rattle.wkt_explain.specs.Sentences.{sentence}
+use Rattle.wkt_explain.specs.Wanted.{sentence_in}
 use Rattle.wkt_explain.specs.Hints.{hint_of, hint_text}
 
 -- the place of a fault in a text: the front, if it has none
@@ -39,7 +39,7 @@ hint_line (Some h) = codes "hint: " ++ hint_text h ++ 10 ∷ []
 -- the place, the nodes around it, and what is wrong; the lines that are shown; the hint
 abbrev pub said : List ℕ → ℕ → ℕ → List (List ℕ) → List ℕ → List ℕ → DefinitionFault → List ℕ
 said name line column path lines text f =
-    place_words name line column ++ path_words path ++ sentence f ++ 10 ∷ [] ++ lines ++ hint_line (hint_of text (last_of [] path) f)
+    place_words name line column ++ path_words path ++ sentence_in path f ++ 10 ∷ [] ++ lines ++ hint_line (hint_of text (last_of [] path) f)
 
 -- the explanation of a fault at this place of a text, which is in a file after and before these bytes
 abbrev pub explained : List ℕ → List ℕ → ℕ → List ℕ → List ℕ → DefinitionFault → List ℕ

@@ -3,6 +3,7 @@ pub mod Position
 pub mod Path
 pub mod Shown
 pub mod Sentences
+pub mod Wanted
 pub mod Hints
 pub mod Walk
 pub mod Explains

@@ -3,16 +3,16 @@
 ghost use Rattle.std.specs.Prelude.{◌≡◌, ◌++◌, ◌+◌, ◌∷◌, [], ℕ, List, drop, length, map, min, codes, decimal, Option, IfOk, OnOk};
 ghost use Rattle.std.specs.List.{flat_map};
 ghost use Rattle.wkt_explain.specs.Characters.{chars};
-ghost use Rattle.wkt_explain.specs.Sentences.{sentence};
 ghost use Rattle.wkt_explain.specs.Shown.{shown_lines};
+ghost use Rattle.wkt_explain.specs.Wanted.{sentence_in};
 ghost use Rattle.wkt_explain.specs.Explains.{explanation, hint_line, last_of, path_words, place_words, said, step_words, told_at};
 
 use crate::hints::{Hint, hint_of};
 use crate::path::path_at;
 use crate::position::text_in;
-use crate::sentences::sentence;
 use crate::shown::push_lines;
 use crate::walk::{Spot, Walk};
+use crate::wanted::push_sentence;
 use std::alloc::{AllocError, Global};
 use std::marker::Model;
 use wkt_crs::DefinitionFault;
@@ -89,10 +89,10 @@ fn last_of(words: &[Vec<u8>]) -> &[u8]
 
 // Appends the nodes around the fault, and the sentence for it.
 fn push_fault(out: &mut Vec<u8>, path: &[Vec<u8>], fault: DefinitionFault) -> Result<(), AllocError>
-    ensures { OnOk result (out.new.items ≡ out.old.items ++ path_words (map (λ w. w.items) path.now) ++ sentence fault ++ 10 ∷ []) }
+    ensures { OnOk result (out.new.items ≡ out.old.items ++ path_words (map (λ w. w.items) path.now) ++ sentence_in (map (λ w. w.items) path.now) fault ++ 10 ∷ []) }
 {
     push_path(out, path)?;
-    out.extend_from_slice(sentence(fault).as_bytes())?;
+    push_sentence(out, path, fault)?;
     out.push(b'\n')?;
     Ok(())
 }

@@ -11,6 +11,7 @@ mod recorded;
 mod sentences;
 mod shown;
 mod walk;
+mod wanted;
 
 pub use explain::{Explainer, explain_text, explain_within};
 pub use hints::Hint;
