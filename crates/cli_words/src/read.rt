@@ -115,7 +115,7 @@ fn into<'a>(alloc: Global) -> Result<Arg<'a>, AllocError> {
         alloc,
         "into",
         "DIR",
-        "Writes a file for each key into the new folder DIR",
+        "Writes a file for each key into DIR, a new or empty folder",
     )
     .allow_hyphen_values(false)
     .conflicts_with("geojson")?

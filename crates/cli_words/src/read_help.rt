@@ -75,7 +75,7 @@ the end, with status 1.
 
 --into writes a file AUTHORITY_CODE.wkt for each key, with the canonical text
 and a newline. Bytes other than A-Z, a-z, 0-9, . and - become % and two
-hexadecimal digits. DIR must not exist, or be an empty folder. The files are
+hexadecimal digits. DIR must be an empty folder, or not exist. The files are
 written to DIR.new, which is then renamed: DIR has all files or is not there.
 
 --geojson prints a feature for each USAGE that has a BBOX. A box whose west is

@@ -27,7 +27,7 @@ pub fn command_line<'a>(alloc: Global, defaults: &Defaults<'a>) -> Result<Comman
     let whole = with_readers(alloc, whole, defaults);
     let whole = with_exchange(alloc, whole, defaults);
     let whole = with_shelves(alloc, whole, defaults);
-    whole.subcommand(shells(alloc)).command()
+    and(alloc, whole, defaults, shells(alloc)).command()
 }
 
 // The commands that make or change a register.

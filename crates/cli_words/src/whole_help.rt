@@ -27,8 +27,8 @@ Example:
   crsreg check height.wkt";
 
 pub const COMPLETIONS_HELP: &str = "\
-Completes commands, options, the values that options such as --status take, and
-names of files.
+Completes commands, options, names of files, and values from a list, such as
+those of --status.
 
 Examples:
   crsreg completions bash > ~/.local/share/bash-completion/completions/crsreg
