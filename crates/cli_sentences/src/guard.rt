@@ -1,6 +1,7 @@
 //! Sentences for commands with an office file.
 use crate::Sentence;
-use crate::paths::{Paths, Shown};
+use crate::paths::{FileName, Found, Paths};
+use crate::shown::Shown;
 use reg_guard::{FileProblem, GuardFault};
 use std::fmt;
 
@@ -8,20 +9,19 @@ use std::fmt;
 #[derive(Clone, Copy)]
 pub struct GuardSentence<'a> {
     pub fault: GuardFault,
-    /// The key, the id and the status of the entry that a refusal is about, if they are known.
-    pub head: Option<&'a str>,
+    pub found: Found<'a>,
     /// The files that the command names. The office file is the first.
     pub paths: Paths<'a>,
 }
 
 impl fmt::Display for GuardSentence<'_> {
     fn fmt<W: fmt::Write>(&self, f: &mut fmt::Formatter<W>) -> fmt::Result {
-        let office = Shown(self.paths.file(1));
+        let office = self.paths.file(1);
         match self.fault {
             GuardFault::Command(fault) => {
                 let sentence = Sentence {
                     fault,
-                    head: self.head,
+                    found: self.found,
                     paths: self.paths,
                 };
                 sentence.fmt(f)
@@ -44,7 +44,8 @@ impl fmt::Display for GuardSentence<'_> {
 
 // Writes the ways out for a register that is older than its office.
 fn write_way_out<W: fmt::Write>(f: &mut fmt::Formatter<W>, out: &str) -> fmt::Result {
-    f.write_str("hint: take a file that has it")?;
+    f.write_str("hint: another command may be at work: run this command again\n")?;
+    f.write_str("hint: otherwise take a file that has it")?;
     if !out.is_empty() {
         let out = Shown(out);
         write!(
@@ -61,7 +62,7 @@ fn write_way_out<W: fmt::Write>(f: &mut fmt::Formatter<W>, out: &str) -> fmt::Re
 fn write_problem<W: fmt::Write>(
     f: &mut fmt::Formatter<W>,
     problem: FileProblem,
-    office: Shown<'_>,
+    office: FileName<'_>,
 ) -> fmt::Result {
     match problem {
         FileProblem::NotOpened => writeln!(

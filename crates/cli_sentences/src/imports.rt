@@ -1,7 +1,11 @@
 //! The sentence for a refused import.
-use crate::paths::{Head, Shown};
+use crate::paths::FileName;
+use crate::shown::Head;
 use reg_guard::engine::operations::OpId;
 use std::fmt;
+
+/// The hint below a text that ends the command.
+pub const LEAVES_OUT: &str = "hint: --keep-going leaves it out";
 
 /// The sentence of `KeyTaken`, and the way out. A text that cannot be read has none: it is explained at its place.
 #[derive(Clone, Copy)]
@@ -11,12 +15,12 @@ pub struct KeyTaken<'a> {
     /// The key, the id and the status of the entry. None if the command itself made it, or if its register cannot be read again.
     pub head: Option<&'a str>,
     /// The file with the text.
-    pub file: &'a str,
+    pub file: FileName<'a>,
 }
 
 impl fmt::Display for KeyTaken<'_> {
     fn fmt<W: fmt::Write>(&self, f: &mut fmt::Formatter<W>) -> fmt::Result {
-        let (entry, file) = (self.entry, Shown(self.file));
+        let (entry, file) = (self.entry, self.file);
         match self.head {
             Some(head) => {
                 let head = Head(head);

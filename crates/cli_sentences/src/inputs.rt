@@ -1,23 +1,33 @@
 //! Sentences for files that cannot be read.
-use crate::paths::{Paths, Shown};
+use crate::paths::{Looks, Paths};
 use reg_guard::engine::InputFault;
 use reg_guard::engine::files::FileFault;
 use std::fmt;
 
-/// Writes the sentence for a fault of the file with this number.
+/// The number of open files from which a command can have too many of them.
+const MANY: usize = 16;
+
+/// Writes the sentence for a fault of the file with this number, which seems to be this.
 pub fn write<W: fmt::Write>(
     f: &mut fmt::Formatter<W>,
     number: usize,
     fault: InputFault,
+    looks: Looks,
     paths: &Paths<'_>,
 ) -> fmt::Result {
-    let path = Shown(paths.file(number));
+    let path = paths.file(number);
     match fault {
         InputFault::NotOpened => {
-            writeln!(
+            write!(
                 f,
                 "{path} (file {number}) cannot be opened: it is not there, or you may not read it"
-            )
+            )?;
+            f.write_str(if number < MANY {
+                "\n"
+            } else {
+                ", or too many files are open\n"
+            })?;
+            path.write_hint(f)
         }
         InputFault::ReadFailed(place) => {
             writeln!(
@@ -30,7 +40,7 @@ pub fn write<W: fmt::Write>(
         }
         InputFault::BadFile { fault, place } => {
             write!(f, "{path} (file {number}) ")?;
-            write_bad(f, fault, place)
+            write_bad(f, fault, place, looks)
         }
     }
 }
@@ -40,9 +50,10 @@ fn write_bad<W: fmt::Write>(
     f: &mut fmt::Formatter<W>,
     fault: FileFault,
     place: usize,
+    looks: Looks,
 ) -> fmt::Result {
     match fault {
-        FileFault::Magic => f.write_str("is not a file of crsreg\n"),
+        FileFault::Magic => write_foreign(f, looks),
         FileFault::Version => f.write_str(
             "has a version that this program does not know\nhint: use the newest crsreg; crsreg downgrade writes version 1\n",
         ),
@@ -65,5 +76,18 @@ fn write_bad<W: fmt::Write>(
             f,
             "is damaged at byte {place}: {fault}\nhint: copy it again from where it is whole",
         ),
+    }
+}
+
+// Writes that a file is no register, and what crsreg does with such a file.
+fn write_foreign<W: fmt::Write>(f: &mut fmt::Formatter<W>, looks: Looks) -> fmt::Result {
+    match looks {
+        Looks::Unknown => f.write_str("is not a file of crsreg\n"),
+        Looks::Shelf => f.write_str(
+            "is a shelf, and no file of a register\nhint: for a shelf give --shelf; crsreg unshelf writes its register to a file\n",
+        ),
+        Looks::Text => {
+            f.write_str("is not a file of crsreg\nhint: it has a text: crsreg import reads texts\n")
+        }
     }
 }

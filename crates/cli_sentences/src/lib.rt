@@ -8,19 +8,20 @@ mod outputs;
 mod paths;
 mod refusals;
 mod shelves;
+mod shown;
 
 pub use guard::GuardSentence;
-pub use imports::KeyTaken;
-pub use paths::{Paths, Shown};
+pub use imports::{KeyTaken, LEAVES_OUT};
+pub use paths::{Command, FileName, Found, Looks, Paths};
 use reg_guard::engine::CliFault;
+pub use shown::{Shown, ShownLines};
 use std::fmt;
 
 /// The sentence for a fault and, below it, the way out if there is one. Each is a line.
 #[derive(Clone, Copy)]
 pub struct Sentence<'a> {
     pub fault: CliFault,
-    /// The key, the id and the status of the entry that the fault names, where they are known.
-    pub head: Option<&'a str>,
+    pub found: Found<'a>,
     /// The files that the command names.
     pub paths: Paths<'a>,
 }
@@ -28,9 +29,11 @@ pub struct Sentence<'a> {
 impl fmt::Display for Sentence<'_> {
     fn fmt<W: fmt::Write>(&self, f: &mut fmt::Formatter<W>) -> fmt::Result {
         match self.fault {
-            CliFault::Refused(refusal) => refusals::write(f, refusal, self.head, &self.paths),
-            CliFault::File { number, fault } => inputs::write(f, number, fault, &self.paths),
-            CliFault::Out(fault) => outputs::write(f, fault, &self.paths),
+            CliFault::Refused(refusal) => refusals::write(f, refusal, self.found.head, &self.paths),
+            CliFault::File { number, fault } => {
+                inputs::write(f, number, fault, self.found.looks, &self.paths)
+            }
+            CliFault::Out(fault) => outputs::write(f, fault, self.found.is_written, &self.paths),
             CliFault::Shelf(problem) => shelves::write(f, problem, &self.paths),
             CliFault::Memory => f.write_str("there is not enough memory\n"),
         }

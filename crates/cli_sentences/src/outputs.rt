@@ -1,35 +1,28 @@
 //! Sentences for files that cannot be written.
-use crate::paths::{Paths, Shown};
+use crate::paths::{Command, Paths};
+use crate::shown::Shown;
 use reg_guard::engine::OutFault;
 use std::fmt;
 
-/// Writes the sentence for a fault of the output.
+/// Writes the sentence for a fault of the output, which the command has written before the fault or not.
 pub fn write<W: fmt::Write>(
     f: &mut fmt::Formatter<W>,
     fault: OutFault,
+    is_written: bool,
     paths: &Paths<'_>,
 ) -> fmt::Result {
     let out = Shown(paths.out);
     match fault {
-        OutFault::NotOpened => writeln!(
-            f,
-            "{out} cannot be written: its folder is not there, you may not write it, or standard output goes to it",
-        ),
+        OutFault::NotOpened => write_not_opened(f, paths),
         OutFault::NewExists => {
             writeln!(
                 f,
                 "{out}.new is there: another command writes {out}, or one was stopped"
             )?;
-            writeln!(
-                f,
-                "hint: run this command again; if no crsreg runs, look at it with crsreg status {out}.new, and rename or remove it",
-            )
+            write_new_hint(f, paths)
         }
         OutFault::TooLarge => f.write_str("the new file would have more than 67,108,864 bytes\n"),
-        OutFault::WriteFailed(written) => writeln!(
-            f,
-            "writing failed after {written} bytes: the disk is full, or nothing reads the output any more",
-        ),
+        OutFault::WriteFailed(written) => write_failed(f, written, is_written, paths),
         OutFault::Changed => {
             writeln!(
                 f,
@@ -41,4 +34,67 @@ pub fn write<W: fmt::Write>(
             "{out} is written, but its folder could not be synced: a power cut now may bring back the old file",
         ),
     }
+}
+
+// Writes why the output was not made, or was not put in place.
+fn write_not_opened<W: fmt::Write>(f: &mut fmt::Formatter<W>, paths: &Paths<'_>) -> fmt::Result {
+    let out = Shown(paths.out);
+    match paths.command {
+        Command::Office => writeln!(
+            f,
+            "{out} cannot be made: it exists already, its folder is not there, or you may not write there"
+        ),
+        Command::Export => writeln!(
+            f,
+            "{out} cannot be made: it is not an empty folder, the folder around it is not there, you may not write there, or the name of a key's file is too long"
+        ),
+        _ => writeln!(
+            f,
+            "{out} cannot be written: its folder is not there, you may not write it, or standard output goes to it",
+        ),
+    }
+}
+
+// Writes what to do with a new file or a new folder that is there.
+fn write_new_hint<W: fmt::Write>(f: &mut fmt::Formatter<W>, paths: &Paths<'_>) -> fmt::Result {
+    let out = Shown(paths.out);
+    match paths.command {
+        Command::Export => writeln!(
+            f,
+            "hint: run this command again; if no crsreg runs, remove {out}.new"
+        ),
+        _ => writeln!(
+            f,
+            "hint: run this command again; if no crsreg runs, look at it with crsreg status {out}.new, and rename or remove it",
+        ),
+    }
+}
+
+// Writes what has the new register if writing failed.
+fn write_failed<W: fmt::Write>(
+    f: &mut fmt::Formatter<W>,
+    written: usize,
+    is_written: bool,
+    paths: &Paths<'_>,
+) -> fmt::Result {
+    if is_written {
+        let place = if paths.out.is_empty() {
+            Shown(paths.shelf)
+        } else {
+            Shown(paths.out)
+        };
+        return writeln!(
+            f,
+            "{place} is written, but printing failed after {written} bytes: the disk is full, or nothing reads the output any more",
+        );
+    }
+    write!(
+        f,
+        "writing failed after {written} bytes: the disk is full, or nothing reads the output any more"
+    )?;
+    if !paths.out.is_empty() {
+        let out = Shown(paths.out);
+        write!(f, "; {out} is not replaced")?;
+    }
+    f.write_str("\n")
 }

@@ -1,62 +1,96 @@
-//! The files that a command names.
-use std::fmt::{self, Write as _};
+//! What a sentence depends on beside the fault: the command, its files, and what is found in them afterwards.
+use crate::shown::Shown;
+use std::fmt;
 
-/// The files that a command names, as written on the command line.
+/// The name of a file that a command reads.
+#[derive(Clone, Copy)]
+pub enum FileName<'a> {
+    StandardInput,
+    Path(&'a str),
+}
+
+impl FileName<'_> {
+    /// Writes the hint for a file named `-` that is not there. Most arguments do not mean standard input by it.
+    pub(crate) fn write_hint<W: fmt::Write>(self, f: &mut fmt::Formatter<W>) -> fmt::Result {
+        match self {
+            FileName::Path("-") => f.write_str(
+                "hint: here - is the name of a file; give /dev/stdin for standard input\n",
+            ),
+            _ => Ok(()),
+        }
+    }
+}
+
+impl fmt::Display for FileName<'_> {
+    fn fmt<W: fmt::Write>(&self, f: &mut fmt::Formatter<W>) -> fmt::Result {
+        match self {
+            FileName::StandardInput => f.write_str("standard input"),
+            FileName::Path(path) => Shown(*path).fmt(f),
+        }
+    }
+}
+
+/// A command with sentences of its own.
+#[derive(Clone, Copy)]
+pub enum Command {
+    /// `export`, which can leave out keys.
+    Export,
+    /// `import`, which can leave out texts.
+    Import,
+    /// `office`, which makes a new file.
+    Office,
+    /// `settle`, which takes only ids.
+    Settle,
+    /// `shelf`, which makes a shelf.
+    Shelf,
+    /// `status`, which reads several shelves.
+    Status,
+    /// `supersede --from`, with `-k` or without.
+    SupersedeFrom { keys: bool },
+    Other,
+}
+
+/// A command and its files, as written on the command line.
 #[derive(Clone, Copy)]
 pub struct Paths<'a> {
+    pub command: Command,
+    /// Whether `--keep-going` is given.
+    pub keeps_going: bool,
     /// The files that it reads, in the order of their numbers. The first is file 1.
-    pub files: &'a [&'a str],
-    /// The file that it writes; empty if there is none.
+    pub files: &'a [FileName<'a>],
+    /// The register that it reads, in a file or on a shelf; empty if there is none.
+    pub register: &'a str,
+    /// The file or the folder that it writes; empty if there is none.
     pub out: &'a str,
     /// The shelf that it reads or changes; empty if there is none.
     pub shelf: &'a str,
 }
 
 impl<'a> Paths<'a> {
-    /// The file with this number, from 1; empty if the command names none.
-    pub fn file(&self, number: usize) -> &'a str {
+    /// The file with this number, from 1; standard input if the command names no such file.
+    pub fn file(&self, number: usize) -> FileName<'a> {
         match self.files.get(number.saturating_sub(1)) {
-            Some(path) => *path,
-            None => "",
+            Some(file) => *file,
+            None => FileName::StandardInput,
         }
     }
 }
 
-/// A path as it is printed: a control character prints as `?`, and `-` as standard input.
+/// What a file that is no register seems to be.
 #[derive(Clone, Copy)]
-pub struct Shown<'a>(pub &'a str);
-
-impl fmt::Display for Shown<'_> {
-    fn fmt<W: fmt::Write>(&self, f: &mut fmt::Formatter<W>) -> fmt::Result {
-        if self.0 == "-" || self.0.is_empty() {
-            return f.write_str("standard input");
-        }
-        write_shown(f, self.0)
-    }
+pub enum Looks {
+    Unknown,
+    Shelf,
+    Text,
 }
 
-/// The key, the id and the status of an entry as they are printed: a control character prints as `?`.
+/// What is found if the files are read once more after the fault.
 #[derive(Clone, Copy)]
-pub struct Head<'a>(pub &'a str);
-
-impl fmt::Display for Head<'_> {
-    fn fmt<W: fmt::Write>(&self, f: &mut fmt::Formatter<W>) -> fmt::Result {
-        write_shown(f, self.0)
-    }
-}
-
-fn write_shown<W: fmt::Write>(f: &mut fmt::Formatter<W>, text: &str) -> fmt::Result {
-    for char in text.chars() {
-        f.write_char(if is_hidden(char) { '?' } else { char })?;
-    }
-    Ok(())
-}
-
-// Whether a terminal would act on the character, hide it, or reorder other characters because of it.
-fn is_hidden(char: char) -> bool {
-    match char {
-        '\u{0}'..='\u{1f}' | '\u{7f}'..='\u{9f}' => true,
-        '\u{200b}'..='\u{200f}' | '\u{2028}'..='\u{202e}' | '\u{2066}'..='\u{2069}' => true,
-        _ => false,
-    }
+pub struct Found<'a> {
+    /// The key, the id and the status of the entry that the fault names, where they are known.
+    pub head: Option<&'a str>,
+    /// What the file that the fault is about seems to be.
+    pub looks: Looks,
+    /// Whether the command has replaced its output or changed its shelf, as far as can be seen.
+    pub is_written: bool,
 }

@@ -1,5 +1,6 @@
 //! Sentences for refusals.
-use crate::paths::{Head, Paths, Shown};
+use crate::paths::{Command, Paths};
+use crate::shown::{Head, Shown};
 use reg_guard::engine::Refusal;
 use reg_guard::engine::offices::OfficeFault;
 use reg_guard::engine::operations::OpId;
@@ -19,7 +20,7 @@ pub fn write<W: fmt::Write>(
             f.write_str("the canonical text has more than 65,536 bytes\n")
         }
         Refusal::Clash(id) => write_clash(f, id),
-        Refusal::KeyTaken(id) => write_taken(f, id, head),
+        Refusal::KeyTaken(id) => write_taken(f, id, head, paths),
         Refusal::Basis(id) => {
             writeln!(
                 f,
@@ -48,7 +49,7 @@ fn write_clash<W: fmt::Write>(f: &mut fmt::Formatter<W>, id: OpId) -> fmt::Resul
         "two files have different operations under {id}: the office {office} gave the number {count} twice, as it went on from an older file or a copy"
     )?;
     f.write_str(
-        "hint: see both with crsreg ops FILE, and agree on the file that stays; its office goes on from it with a new UUID, and enters again what only the other file has\n",
+        "hint: see both with crsreg ops FILE, and agree on the file that stays; the office with the other one starts again from a copy of it, under a new UUID, and enters again what only its old file has\n",
     )
 }
 
@@ -57,6 +58,7 @@ fn write_taken<W: fmt::Write>(
     f: &mut fmt::Formatter<W>,
     id: OpId,
     head: Option<&str>,
+    paths: &Paths<'_>,
 ) -> fmt::Result {
     match head {
         Some(head) => {
@@ -70,7 +72,13 @@ fn write_taken<W: fmt::Write>(
     }
     f.write_str(
         "hint: crsreg compare REG KEY shows what differs; crsreg settle REG ID keeps one entry of a key\n",
-    )
+    )?;
+    match paths.command {
+        Command::Export if !paths.keeps_going => {
+            f.write_str("hint: --keep-going leaves out such keys\n")
+        }
+        _ => Ok(()),
+    }
 }
 
 // Writes the sentence for a refusal of an office.
@@ -82,7 +90,7 @@ fn write_office<W: fmt::Write>(
     match fault {
         OfficeFault::NoteTooLong => f.write_str("the note has more than 200 bytes\n"),
         OfficeFault::UnknownEntry(id) => {
-            let register = Shown(register_of(paths));
+            let register = Shown(paths.register);
             writeln!(
                 f,
                 "{register} has no entry {id}\nhint: crsreg find prints entries with their ids"
@@ -105,14 +113,6 @@ fn write_office<W: fmt::Write>(
     }
 }
 
-// The register: the first file, or the shelf.
-fn register_of<'a>(paths: &Paths<'a>) -> &'a str {
-    if paths.shelf.is_empty() {
-        return paths.file(1);
-    }
-    paths.shelf
-}
-
 // A word of the command line, or what it looks for.
 fn write_word<W: fmt::Write>(
     f: &mut fmt::Formatter<W>,
@@ -120,15 +120,13 @@ fn write_word<W: fmt::Write>(
     paths: &Paths<'_>,
 ) -> fmt::Result {
     match refusal {
-        Refusal::BadId => f.write_str(
-            "a word is not an id of the form UUID:NUMBER\nhint: with -k, AUTHORITY:CODE names the entry of a key\n",
-        ),
+        Refusal::BadId => write_bad_id(f, paths.command),
         Refusal::BadReplica => f.write_str(
-            "--as (or CRSREG_AS) is not a UUID\nhint: uuidgen makes one, once for each office\n",
+            "--as (or CRSREG_AS) is not a UUID\nhint: uuidgen makes one, once for each office; crsreg office makes an office file with one\n",
         ),
         Refusal::BadSize => f.write_str("a shelf has from 14 to 67,108,864 bytes\n"),
         Refusal::NoEntry => {
-            let register = Shown(register_of(paths));
+            let register = Shown(paths.register);
             writeln!(
                 f,
                 "{register} has no such entry\nhint: crsreg find prints its entries"
@@ -145,5 +143,23 @@ fn write_word<W: fmt::Write>(
             "a register has a conflict, an awaited id or a gap\nhint: crsreg report lists them; crsreg settle ends a conflict\n",
         ),
         _ => Ok(()),
+    }
+}
+
+// A word that should be an id, or a line of a list with only one word.
+fn write_bad_id<W: fmt::Write>(f: &mut fmt::Formatter<W>, command: Command) -> fmt::Result {
+    match command {
+        Command::Settle => f.write_str(
+            "a word is not an id of the form UUID:NUMBER\nhint: settle takes only ids: crsreg find REG KEY --status live --ids prints those of a key\n",
+        ),
+        Command::SupersedeFrom { keys: true } => f.write_str(
+            "the line has only one word\nhint: a line has an entry, and then one or more that supersede it\n",
+        ),
+        Command::SupersedeFrom { keys: false } => f.write_str(
+            "a word of the line is not an id of the form UUID:NUMBER, or it is the only one\nhint: with -k, AUTHORITY:CODE names the entry of a key\n",
+        ),
+        _ => f.write_str(
+            "a word is not an id of the form UUID:NUMBER\nhint: with -k, AUTHORITY:CODE names the entry of a key\n",
+        ),
     }
 }

@@ -1,5 +1,6 @@
 //! Sentences for shelves that cannot be read or changed.
-use crate::paths::{Paths, Shown};
+use crate::paths::{Command, Paths};
+use crate::shown::Shown;
 use reg_guard::engine::ShelfProblem;
 use std::fmt;
 
@@ -11,12 +12,7 @@ pub fn write<W: fmt::Write>(
 ) -> fmt::Result {
     let shelf = Shown(paths.shelf);
     match problem {
-        ShelfProblem::NotOpened => {
-            writeln!(
-                f,
-                "{shelf} cannot be opened: it is not there, or you may not read or write it"
-            )
-        }
+        ShelfProblem::NotOpened => write_not_opened(f, paths),
         ShelfProblem::Busy => {
             writeln!(
                 f,
@@ -39,7 +35,39 @@ pub fn write<W: fmt::Write>(
                 "hint: write it to a file with crsreg unshelf, make a larger shelf, and merge the file into it"
             )
         }
-        ShelfProblem::DiskFailed => writeln!(
+        ShelfProblem::DiskFailed => write_failed(f, paths),
+    }
+}
+
+// Writes why a shelf was not opened or made.
+fn write_not_opened<W: fmt::Write>(f: &mut fmt::Formatter<W>, paths: &Paths<'_>) -> fmt::Result {
+    let shelf = Shown(paths.shelf);
+    match paths.command {
+        Command::Shelf => writeln!(
+            f,
+            "{shelf} cannot be made: its folder is not there, or you may not write it"
+        ),
+        Command::Status => writeln!(
+            f,
+            "{shelf} cannot be opened: it is not there, you may not read it, or another command changes it"
+        ),
+        _ => writeln!(
+            f,
+            "{shelf} cannot be opened: it is not there, or you may not read or write it"
+        ),
+    }
+}
+
+// Writes what a shelf holds if it could not be read or written.
+fn write_failed<W: fmt::Write>(f: &mut fmt::Formatter<W>, paths: &Paths<'_>) -> fmt::Result {
+    let shelf = Shown(paths.shelf);
+    match paths.command {
+        Command::Shelf => writeln!(
+            f,
+            "{shelf} could not be written, and may be no shelf now: the disk is full, or it fails\nhint: make it again with crsreg shelf"
+        ),
+        Command::Status => writeln!(f, "{shelf} could not be read"),
+        _ => writeln!(
             f,
             "{shelf} could not be read or written; it holds the register from before the command or the one after it",
         ),

@@ -9,13 +9,13 @@ use crate::look::{
     check, diff, find, log, offices, ops, page, report, show, status as figures, texts, wkt,
 };
 use crate::office::{is_out, office, office_file};
-use crate::outcome::{MISUSE, Outcome, complain, failed, print, status};
+use crate::outcome::{MISUSE, Outcome, complain, failed, print, print_lines, status};
 use crate::paths::Named;
 use crate::shells::completions;
 use crate::take::take;
 use crate::words::word;
-use clap::ArgMatches;
 use clap::error::ErrorKind;
+use clap::{ArgMatches, Error};
 use cli_words::command_line;
 use reg_desk::CliFault;
 use std::alloc::AllocError;
@@ -54,12 +54,20 @@ pub fn answer(rt: &HostRuntime, words: &[String]) -> u8 {
     match command.try_get_matches_from(words) {
         Ok(matches) => perform_explained(rt, &matches),
         Err(error) if error.kind() == ErrorKind::OutOfMemory => failed(rt, &CliFault::Memory),
-        Err(error) if error.use_stderr() => {
-            let _ = error.print(rt);
-            MISUSE
-        }
+        Err(error) if error.use_stderr() => misused(rt, &error),
         Err(help) => status(rt, Outcome::of(print(rt, &help)), None),
     }
+}
+
+// Prints what is wrong with the command line. Its words are shown without characters that a terminal would act on.
+fn misused(rt: &HostRuntime, error: &Error) -> u8 {
+    match format!(in rt.alloc(); "{error}") {
+        Ok(text) => print_lines(rt, text.as_str()),
+        Err(_) => {
+            let _ = error.print(rt);
+        }
+    }
+    MISUSE
 }
 
 // Runs the command. The names of its files, which explain a refusal, are found first: afterwards memory may be out.
@@ -77,7 +85,7 @@ fn perform_explained(rt: &HostRuntime, matches: &ArgMatches<'_>) -> u8 {
 fn named<'a>(rt: &HostRuntime, matches: &ArgMatches<'a>) -> Result<Option<Named<'a>>, AllocError> {
     match matches.subcommand() {
         Some((name, inner)) if inner.get_flag("explain") => {
-            let named = Named::of(rt.alloc(), name, inner)?;
+            let named = Named::of(rt, name, inner)?;
             Ok(Some(named))
         }
         _ => Ok(None),

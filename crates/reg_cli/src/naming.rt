@@ -1,31 +1,98 @@
-//! The entry that a refusal names, for the sentence about it.
+//! What is found if the files of a command are read once more after its fault, for the sentence about it.
 use crate::paths::Named;
 use crate::words::{open, open_to_read};
+use byte_io::read_up_to;
+use cli_sentences::{Command, FileName, Found, Looks, Paths};
 use desk_texts::Heading;
-use reg_desk::{CliFault, OfFile, OnShelf, OpId, Print, Refusal, Store};
-use std::fs;
+use reg_desk::{CliFault, InputFault, OfFile, OnShelf, OpId, OutFault, Print, Refusal, Store};
+use reg_file::FileFault;
+use std::{fs, str};
 
-/// The entry with the key that a refusal is about.
-pub fn taken_by(fault: &CliFault) -> Option<OpId> {
+/// The first bytes of a text, which are read to tell it from other files.
+const START: usize = 256;
+
+/// What was found.
+#[derive(Drop)]
+pub struct Second {
+    head: Option<Vec<u8>>,
+    looks: Looks,
+    is_written: bool,
+}
+
+impl Second {
+    /// Reads the files again. The entry is the one that the fault is about.
+    pub fn look(rt: &HostRuntime, named: &Named<'_>, fault: &CliFault) -> Second {
+        Second {
+            head: match taken_by(fault) {
+                Some(entry) => heading(rt, named, entry),
+                None => None,
+            },
+            looks: looks_of(rt, named, fault),
+            is_written: match fault {
+                CliFault::Out(OutFault::WriteFailed(_)) => named.is_written(rt),
+                _ => false,
+            },
+        }
+    }
+
+    /// What was found if only an entry is looked up.
+    pub fn entry(rt: &HostRuntime, named: &Named<'_>, entry: OpId) -> Second {
+        Second {
+            head: heading(rt, named, entry),
+            looks: Looks::Unknown,
+            is_written: false,
+        }
+    }
+
+    /// Nothing is looked up.
+    pub fn nothing() -> Second {
+        Second {
+            head: None,
+            looks: Looks::Unknown,
+            is_written: false,
+        }
+    }
+
+    /// The same, borrowed.
+    pub fn found(&self) -> Found<'_> {
+        Found {
+            head: match &self.head {
+                Some(head) => str::from_utf8(head).ok(),
+                None => None,
+            },
+            looks: self.looks,
+            is_written: self.is_written,
+        }
+    }
+}
+
+/// The files of the command, with the shelf that the fault is about.
+pub fn paths_at<'a>(rt: &HostRuntime, named: &'a Named<'_>, fault: &CliFault) -> Paths<'a> {
+    let mut paths = named.paths();
+    if let Command::Status = named.command {
+        if let CliFault::Shelf(_) = fault {
+            paths.shelf = unread_shelf(rt, named);
+        }
+    }
+    paths
+}
+
+// The entry with the key that a refusal is about.
+fn taken_by(fault: &CliFault) -> Option<OpId> {
     match fault {
         CliFault::Refused(Refusal::KeyTaken(entry)) => Some(*entry),
         _ => None,
     }
 }
 
-/// The key, the id and the status of an entry of the register that the command read. None if the register cannot be read again, as
-/// from a pipe, or if it has no such entry.
-pub fn heading(rt: &HostRuntime, named: &Named<'_>, entry: OpId) -> Option<Vec<u8>> {
+// The key, the id and the status of an entry of the register that the command read. None if the register cannot be read again, as
+// from a pipe, or if it has no such entry.
+fn heading(rt: &HostRuntime, named: &Named<'_>, entry: OpId) -> Option<Vec<u8>> {
     let command = Heading { entry };
-    if !named.shelf.is_empty() {
-        let mut disk = open_to_read(rt, named.shelf).ok()?;
-        let mut store = OnShelf { disk: &mut disk };
-        return text_of(rt, &mut store, &command);
-    }
-    // The register is the first file, or the second if the command also has an office file.
-    match in_file(rt, named.paths().file(1), &command) {
-        Some(text) => Some(text),
-        None => in_file(rt, named.paths().file(2), &command),
+    if named.shelf.is_empty() {
+        in_file(rt, named.register, &command)
+    } else {
+        on_shelf(rt, named.shelf, &command)
     }
 }
 
@@ -41,7 +108,84 @@ fn in_file<C: Print>(rt: &HostRuntime, path: &str, command: &C) -> Option<Vec<u8
     text_of(rt, &mut store, command)
 }
 
+fn on_shelf<C: Print>(rt: &HostRuntime, path: &str, command: &C) -> Option<Vec<u8>> {
+    let mut disk = open_to_read(rt, path).ok()?;
+    let mut store = OnShelf { disk: &mut disk };
+    text_of(rt, &mut store, command)
+}
+
 fn text_of<T: Store, C: Print>(rt: &HostRuntime, store: &mut T, command: &C) -> Option<Vec<u8>> {
     let register = store.load(rt.alloc()).ok()?;
     command.text(rt.alloc(), &register).ok()
+}
+
+// Whether there is a shelf with a register. A pipe is none.
+fn is_shelf(rt: &HostRuntime, path: &str) -> bool {
+    match fs::metadata(rt, path) {
+        Ok(file) if file.is_file() => {}
+        _ => return false,
+    }
+    let Ok(mut disk) = open_to_read(rt, path) else {
+        return false;
+    };
+    OnShelf { disk: &mut disk }.load(rt.alloc()).is_ok()
+}
+
+// The first shelf of `status` that cannot be read.
+fn unread_shelf<'a>(rt: &HostRuntime, named: &'a Named<'_>) -> &'a str {
+    for file in &named.files {
+        if let FileName::Path(path) = file {
+            if named.files.len() == 1 || !is_shelf(rt, *path) {
+                return *path;
+            }
+        }
+    }
+    "a shelf"
+}
+
+// What the file is that the fault is about, if it is no file of crsreg.
+fn looks_of(rt: &HostRuntime, named: &Named<'_>, fault: &CliFault) -> Looks {
+    let number = match fault {
+        CliFault::File {
+            number,
+            fault: InputFault::BadFile {
+                fault: FileFault::Magic,
+                ..
+            },
+        } => *number,
+        _ => return Looks::Unknown,
+    };
+    match named.paths().file(number) {
+        FileName::Path(path) => looks_at(rt, path),
+        FileName::StandardInput => Looks::Unknown,
+    }
+}
+
+fn looks_at(rt: &HostRuntime, path: &str) -> Looks {
+    if is_shelf(rt, path) {
+        return Looks::Shelf;
+    }
+    if is_text(rt, path).unwrap_or(false) {
+        return Looks::Text;
+    }
+    Looks::Unknown
+}
+
+// Whether the file begins like a text: with a keyword, and a delimiter after it.
+fn is_text(rt: &HostRuntime, path: &str) -> Option<bool> {
+    if !fs::metadata(rt, path).ok()?.is_file() {
+        return None;
+    }
+    let mut source = open(rt, 1, path).ok()?;
+    let bytes = read_up_to(rt.alloc(), &mut source, START).ok()?;
+    let text = bytes.strip_prefix(b"\xef\xbb\xbf").unwrap_or(&bytes);
+    let mut has_keyword = false;
+    for byte in text.trim_ascii_start() {
+        match *byte {
+            b'A'..=b'Z' | b'a'..=b'z' => has_keyword = true,
+            b'[' | b'(' => return Some(has_keyword),
+            _ => return Some(false),
+        }
+    }
+    Some(false)
 }

@@ -1,10 +1,13 @@
 //! The outcome of a command: its messages and its exit status.
-use crate::naming::{heading, taken_by};
+use crate::naming::{Second, paths_at};
 use crate::paths::Named;
-use cli_sentences::{GuardSentence, KeyTaken, Sentence};
+use cli_sentences::{
+    Command, FileName, GuardSentence, KeyTaken, LEAVES_OUT, Sentence, Shown, ShownLines,
+};
 use reg_desk::{CliFault, Explained, ImportFault, OpId, OutFault, Unimported, Writing, write_all};
 use reg_guard::GuardFault;
 use reg_supersede::RefusedLine;
+use std::alloc::{AllocError, Global};
 use std::io::{self, Write};
 use std::{fmt, str};
 
@@ -93,13 +96,14 @@ pub fn status(rt: &HostRuntime, outcome: Outcome, named: Option<Named<'_>>) -> u
             if explained.note.is_empty() {
                 explain(rt, explained.fault, &named);
             }
-            add(rt, &explained.note);
+            add(rt, &explained.note, &named);
             status
         }
         Outcome::Import(why) => {
             let status = complain(rt, &why.fault, why.fault.status());
             explain_import(rt, why.fault, &named);
-            add(rt, &why.notes);
+            add(rt, &why.notes, &named);
+            advise(rt, &why.fault, &named);
             status
         }
         Outcome::AtLine(line) => {
@@ -124,21 +128,78 @@ fn at_line(rt: &HostRuntime, line: &RefusedLine, named: &Option<Named<'_>>) -> u
     status
 }
 
-/// Prints an explanation to standard error, below the line of the fault. It is UTF-8.
-pub fn add(rt: &HostRuntime, note: &[u8]) {
-    if let Ok(note) = str::from_utf8(note) {
-        let _ = eprint!(rt; "{note}");
+// Prints explanations of texts to standard error, below the line of the fault. They are UTF-8.
+fn add(rt: &HostRuntime, notes: &[u8], named: &Option<Named<'_>>) {
+    let Ok(notes) = str::from_utf8(notes) else {
+        return;
+    };
+    if let Some(named) = named {
+        if has_long_names(named) {
+            if let Ok(notes) = with_shown_names(rt.alloc(), notes, named) {
+                print_lines(rt, notes.as_str());
+                return;
+            }
+        }
+    }
+    print_lines(rt, notes);
+}
+
+/// Prints lines to standard error, without characters that a terminal would act on.
+pub fn print_lines(rt: &HostRuntime, lines: &str) {
+    let lines = ShownLines(lines);
+    let _ = eprint!(rt; "{lines}");
+}
+
+// Whether a name has several lines.
+fn has_long_names(named: &Named<'_>) -> bool {
+    for file in &named.files {
+        if let FileName::Path(path) = file {
+            if path.contains('\n') {
+                return true;
+            }
+        }
+    }
+    false
+}
+
+// The explanations, which name files as they are. A name of several lines is shown as one, so that it does not look like an explanation.
+fn with_shown_names(alloc: Global, notes: &str, named: &Named<'_>) -> Result<String, AllocError> {
+    let mut text = String::from_str(alloc, notes)?;
+    for file in &named.files {
+        if let FileName::Path(path) = file {
+            if path.contains('\n') {
+                let shown = Shown(*path);
+                let shown = format!(in alloc; "{shown}:")?;
+                let name = format!(in alloc; "{path}:")?;
+                text = text.replace(alloc, name.as_str(), shown.as_str())?;
+            }
+        }
+    }
+    Ok(text)
+}
+
+// Says how an import passes over a text.
+fn advise(rt: &HostRuntime, fault: &ImportFault, named: &Option<Named<'_>>) {
+    let Some(named) = named else {
+        return;
+    };
+    if let ImportFault::Refused { .. } = fault {
+        if let Command::Import = named.command {
+            if !named.keeps_going {
+                let _ = eprintln!(rt; "{LEAVES_OUT}");
+            }
+        }
     }
 }
 
-// Prints the sentence of a fault to standard error, below its line.
-fn explain(rt: &HostRuntime, fault: CliFault, named: &Option<Named<'_>>) {
+/// Prints the sentence of a fault to standard error, below its line.
+pub fn explain(rt: &HostRuntime, fault: CliFault, named: &Option<Named<'_>>) {
     if let Some(named) = named {
-        let head = head_of(rt, named, taken_by(&fault));
+        let second = Second::look(rt, named, &fault);
         let sentence = Sentence {
             fault,
-            head: shown(&head),
-            paths: named.paths(),
+            found: second.found(),
+            paths: paths_at(rt, named, &fault),
         };
         let _ = eprint!(rt; "{sentence}");
     }
@@ -147,14 +208,13 @@ fn explain(rt: &HostRuntime, fault: CliFault, named: &Option<Named<'_>>) {
 // The same for a command with an office file.
 fn explain_guard(rt: &HostRuntime, fault: GuardFault, named: &Option<Named<'_>>) {
     if let Some(named) = named {
-        let taken = match &fault {
-            GuardFault::Command(fault) => taken_by(fault),
-            _ => None,
+        let second = match &fault {
+            GuardFault::Command(fault) => Second::look(rt, named, fault),
+            _ => Second::nothing(),
         };
-        let head = head_of(rt, named, taken);
         let sentence = GuardSentence {
             fault,
-            head: shown(&head),
+            found: second.found(),
             paths: named.paths(),
         };
         let _ = eprint!(rt; "{sentence}");
@@ -167,28 +227,20 @@ fn explain_import(rt: &HostRuntime, fault: ImportFault, named: &Option<Named<'_>
         ImportFault::Cli(fault) => explain(rt, fault, named),
         ImportFault::Refused { file, .. } => {
             if let (Some(entry), Some(named)) = (fault.taken(), named) {
-                let found = head_of(rt, named, Some(entry));
-                explain_taken(rt, entry, shown(&found), named.paths().file(file));
+                explain_taken(rt, entry, file, named);
             }
         }
     }
 }
 
-fn explain_taken<'a>(rt: &HostRuntime, entry: OpId, head: Option<&'a str>, file: &'a str) {
-    let sentence = KeyTaken { entry, head, file };
+fn explain_taken(rt: &HostRuntime, entry: OpId, file: usize, named: &Named<'_>) {
+    let second = Second::entry(rt, named, entry);
+    let sentence = KeyTaken {
+        entry,
+        head: second.found().head,
+        file: named.paths().file(file),
+    };
     let _ = eprint!(rt; "{sentence}");
-}
-
-// The key, the id and the status of the entry, if it can be looked up.
-fn head_of(rt: &HostRuntime, named: &Named<'_>, entry: Option<OpId>) -> Option<Vec<u8>> {
-    heading(rt, named, entry?)
-}
-
-fn shown(head: &Option<Vec<u8>>) -> Option<&str> {
-    match head {
-        Some(head) => str::from_utf8(head).ok(),
-        None => None,
-    }
 }
 
 /// Reports the fault, and returns its exit status.

@@ -1,58 +1,126 @@
-//! The files that a command names, for the sentence about a fault.
+//! The command and its files, for the sentence about a fault.
 use crate::office::office_file;
 use crate::words::{STANDARD_INPUT, word};
 use clap::ArgMatches;
-use cli_sentences::Paths;
-use std::alloc::{AllocError, Global};
+use cli_sentences::{Command, FileName, Paths};
+use reg_desk::FileId;
+use std::alloc::AllocError;
 
-/// The files that a command names.
+/// A command and its files.
 #[derive(Drop)]
 pub struct Named<'a> {
-    /// The files that it reads, in the order of their numbers.
-    pub files: Vec<&'a str>,
+    pub command: Command,
+    /// Whether `--keep-going` is given.
+    pub keeps_going: bool,
+    /// The files that it reads, in the order of their numbers; for `status`, its shelves.
+    pub files: Vec<FileName<'a>>,
+    /// The register that it reads, if any.
+    pub register: &'a str,
     /// The file that it writes, if any.
     pub out: &'a str,
+    /// What was there before the command, if anything.
+    pub before: Option<FileId>,
     /// Its shelf, if any.
     pub shelf: &'a str,
+    /// Whether it changes its shelf.
+    pub changes_shelf: bool,
 }
 
 impl<'a> Named<'a> {
     /// The files of the command with this name.
     pub fn of(
-        alloc: Global,
+        rt: &HostRuntime,
         name: &str,
         matches: &ArgMatches<'a>,
     ) -> Result<Named<'a>, AllocError> {
         let shelf = shelf_of(name, matches);
-        let mut files = Vec::new(alloc);
-        if let Some(file) = office_file(matches) {
-            files.push(file)?;
-        }
-        for argument in files_of(name) {
-            for path in matches.get_strs(argument).unwrap_or(&[]) {
-                if *path != shelf {
-                    files.push(*path)?;
-                }
-            }
-        }
-        if ids_are_listed(matches) {
-            files.push(STANDARD_INPUT)?;
-        }
-        let out = match (matches.get_str("out"), shelf.is_empty()) {
-            (Some(path), _) => path,
-            (None, true) => word(matches, out_of(name)),
-            (None, false) => "",
-        };
-        Ok(Named { files, out, shelf })
+        let out = out_named(name, matches, shelf);
+        Ok(Named {
+            command: command_of(name, matches),
+            keeps_going: matches.get_flag("keep-going"),
+            files: files_named(rt, name, matches, shelf)?,
+            register: word(matches, register_of(name)),
+            out,
+            before: FileId::at(rt, out),
+            shelf: word(matches, shelf),
+            changes_shelf: !shelf.is_empty() && !matches.get_flag("dry-run") && is_change(name),
+        })
     }
 
     /// The same, borrowed.
     pub fn paths(&self) -> Paths<'_> {
         Paths {
+            command: self.command,
+            keeps_going: self.keeps_going,
             files: self.files.as_slice(),
+            register: self.register,
             out: self.out,
             shelf: self.shelf,
         }
+    }
+
+    /// Whether a command that fails to write has replaced its output or changed its shelf, as far as can be seen. On a shelf it prints
+    /// last.
+    pub fn is_written(&self, rt: &HostRuntime) -> bool {
+        if self.changes_shelf {
+            return true;
+        }
+        !self.out.is_empty() && FileId::at(rt, self.out) != self.before
+    }
+}
+
+// The command with this name, if it has sentences of its own.
+fn command_of(name: &str, matches: &ArgMatches<'_>) -> Command {
+    match name {
+        "export" => Command::Export,
+        "import" => Command::Import,
+        "office" => Command::Office,
+        "settle" => Command::Settle,
+        "shelf" => Command::Shelf,
+        "status" => Command::Status,
+        "supersede" if matches.contains_id("from") => Command::SupersedeFrom {
+            keys: matches.get_flag("keys"),
+        },
+        _ => Command::Other,
+    }
+}
+
+// The files that the command reads, in the order of their numbers. A shelf has no number.
+fn files_named<'a>(
+    rt: &HostRuntime,
+    name: &str,
+    matches: &ArgMatches<'a>,
+    shelf: &str,
+) -> Result<Vec<FileName<'a>>, AllocError> {
+    let mut files = Vec::new(rt.alloc());
+    if let Some(file) = office_file(matches) {
+        files.push(FileName::Path(file))?;
+    }
+    for argument in files_of(name) {
+        if *argument != shelf {
+            for path in matches.get_strs(argument).unwrap_or(&[]) {
+                files.push(file_named(name, argument, *path))?;
+            }
+        }
+    }
+    if ids_are_listed(matches) {
+        files.push(FileName::StandardInput)?;
+    }
+    Ok(files)
+}
+
+// The file that an argument names. Only where a command reads texts or a list, `-` is standard input.
+fn file_named<'a>(name: &str, argument: &str, path: &'a str) -> FileName<'a> {
+    let reads_standard_input = match name {
+        "compare" => argument == "with",
+        "import" => argument == "FILE",
+        "supersede" => argument == "from",
+        _ => false,
+    };
+    if reads_standard_input && path == STANDARD_INPUT {
+        FileName::StandardInput
+    } else {
+        FileName::Path(path)
     }
 }
 
@@ -69,7 +137,28 @@ fn files_of(name: &str) -> &'static [&'static str] {
     }
 }
 
-// The argument that names the file that is written.
+// The argument that names the register.
+fn register_of(name: &str) -> &'static str {
+    match name {
+        "diff" => "OLD",
+        _ => "REG",
+    }
+}
+
+// The file that is written, if it is not the shelf.
+fn out_named<'a>(name: &str, matches: &ArgMatches<'a>, shelf: &str) -> &'a str {
+    if matches.get_flag("dry-run") {
+        return "";
+    }
+    let argument = out_of(name);
+    match matches.get_str("out") {
+        Some(path) => path,
+        None if argument == shelf => "",
+        None => word(matches, argument),
+    }
+}
+
+// The argument that names the file that is written, other than `--out`.
 fn out_of(name: &str) -> &'static str {
     match name {
         "take" => "REG",
@@ -79,19 +168,27 @@ fn out_of(name: &str) -> &'static str {
     }
 }
 
-// The shelf of the command. For `merge` it is OUT. `status` may have several, and names none.
-fn shelf_of<'a>(name: &str, matches: &ArgMatches<'a>) -> &'a str {
+// The argument that names the shelf of the command, or the empty text. For `merge` it is OUT. `status` may have several shelves.
+fn shelf_of(name: &str, matches: &ArgMatches<'_>) -> &'static str {
     match name {
-        "shelf" => return word(matches, "NEW"),
-        "unshelf" => return word(matches, "SHELF"),
+        "shelf" => return "NEW",
+        "status" => return "",
+        "unshelf" => return "SHELF",
         _ if !matches.get_flag("shelf") => return "",
         _ => {}
     }
     match name {
-        "merge" => word(matches, "OUT"),
-        "diff" => word(matches, "OLD"),
-        "status" => "the shelf",
-        _ => word(matches, "REG"),
+        "merge" => "OUT",
+        "diff" => "OLD",
+        _ => "REG",
+    }
+}
+
+// Whether the command keeps a new register on its shelf.
+fn is_change(name: &str) -> bool {
+    match name {
+        "enter" | "import" | "merge" | "retire" | "settle" | "supersede" | "take" => true,
+        _ => false,
     }
 }
 

@@ -1,12 +1,14 @@
 //! The command `take`.
 use crate::inputs::Replaced;
-use crate::outcome::Outcome;
+use crate::outcome::{Outcome, explain};
+use crate::paths::Named;
 use crate::stores::{Opened, open_register};
 use crate::table::{Rows, answered};
 use crate::words::{open_shelf, printing_place, word};
 use byte_late::{LateFile, LateSource};
 use byte_out::Place;
 use clap::ArgMatches;
+use cli_sentences::Shown;
 use reg_desk::{CliFault, InFile, Input, Lockable, OfFile, OnShelf, Writing};
 use reg_take::{LeftOut, run_take, try_take};
 use std::alloc::{AllocError, Global};
@@ -25,7 +27,7 @@ pub fn take(rt: &HostRuntime, matches: &ArgMatches<'_>) -> Outcome {
         return Outcome::Fault(CliFault::Memory);
     };
     match take_into(rt, matches, &mut register, &mut files) {
-        Ok(left) => tell(rt, paths, &left),
+        Ok(left) => tell(rt, matches, paths, &left),
         Err(fault) => Outcome::Fault(fault),
     }
 }
@@ -133,11 +135,17 @@ fn take_file<'a, S: Input, T: LateSource, P: Place, W: Write>(
     run_take(alloc, &mut store, files, keep_going, sink)
 }
 
-// Names the files that are left out. The status is that of the first of them.
-fn tell(rt: &HostRuntime, paths: &[&str], left: &[LeftOut]) -> Outcome {
+// Names the files that are left out, each with its sentence if that is asked for. The status is that of the first of them.
+fn tell(rt: &HostRuntime, matches: &ArgMatches<'_>, paths: &[&str], left: &[LeftOut]) -> Outcome {
+    let named = if matches.get_flag("explain") {
+        Named::of(rt, "take", matches).ok()
+    } else {
+        None
+    };
     for one in left {
-        let path = paths.get(one.file()).copied().unwrap_or("");
+        let path = Shown(paths.get(one.file()).copied().unwrap_or(""));
         let _ = eprintln!(rt; "left out: {path}: {one}");
+        explain(rt, one.fault(), &named);
     }
     match left.first() {
         Some(first) => Outcome::LeftOut(first.fault().status()),

@@ -1,0 +1,55 @@
+//! Texts as they are printed: without characters that a terminal would act on.
+use std::fmt::{self, Write as _};
+
+/// A path as it is printed: a control character prints as `?`, and no path at all as `''`.
+#[derive(Clone, Copy)]
+pub struct Shown<'a>(pub &'a str);
+
+impl fmt::Display for Shown<'_> {
+    fn fmt<W: fmt::Write>(&self, f: &mut fmt::Formatter<W>) -> fmt::Result {
+        if self.0.is_empty() {
+            return f.write_str("''");
+        }
+        write_shown(f, self.0)
+    }
+}
+
+/// The key, the id and the status of an entry as they are printed: a control character prints as `?`.
+#[derive(Clone, Copy)]
+pub struct Head<'a>(pub &'a str);
+
+impl fmt::Display for Head<'_> {
+    fn fmt<W: fmt::Write>(&self, f: &mut fmt::Formatter<W>) -> fmt::Result {
+        write_shown(f, self.0)
+    }
+}
+
+/// Lines as they are printed: a control character prints as `?`, except for the ends of the lines.
+#[derive(Clone, Copy)]
+pub struct ShownLines<'a>(pub &'a str);
+
+impl fmt::Display for ShownLines<'_> {
+    fn fmt<W: fmt::Write>(&self, f: &mut fmt::Formatter<W>) -> fmt::Result {
+        for char in self.0.chars() {
+            let is_kept = char == '\n' || !is_hidden(char);
+            f.write_char(if is_kept { char } else { '?' })?;
+        }
+        Ok(())
+    }
+}
+
+fn write_shown<W: fmt::Write>(f: &mut fmt::Formatter<W>, text: &str) -> fmt::Result {
+    for char in text.chars() {
+        f.write_char(if is_hidden(char) { '?' } else { char })?;
+    }
+    Ok(())
+}
+
+// Whether a terminal would act on the character, hide it, or reorder other characters because of it.
+fn is_hidden(char: char) -> bool {
+    match char {
+        '\u{0}'..='\u{1f}' | '\u{7f}'..='\u{9f}' => true,
+        '\u{200b}'..='\u{200f}' | '\u{2028}'..='\u{202e}' | '\u{2066}'..='\u{2069}' => true,
+        _ => false,
+    }
+}
