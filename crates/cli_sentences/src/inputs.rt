@@ -1,5 +1,5 @@
 //! Sentences for files that cannot be read.
-use crate::paths::{Looks, Paths};
+use crate::paths::{Command, FileName, Looks, Paths};
 use reg_guard::engine::InputFault;
 use reg_guard::engine::files::FileFault;
 use std::fmt;
@@ -40,7 +40,7 @@ pub fn write<W: fmt::Write>(
         }
         InputFault::BadFile { fault, place } => {
             write!(f, "{path} (file {number}) ")?;
-            write_bad(f, fault, place, looks)
+            write_bad(f, fault, place, looks, could_be_shelf(number, paths))
         }
     }
 }
@@ -51,9 +51,10 @@ fn write_bad<W: fmt::Write>(
     fault: FileFault,
     place: usize,
     looks: Looks,
+    could_be_shelf: bool,
 ) -> fmt::Result {
     match fault {
-        FileFault::Magic => write_foreign(f, looks),
+        FileFault::Magic => write_foreign(f, looks, could_be_shelf),
         FileFault::Version => f.write_str(
             "has a version that this program does not know\nhint: use the newest crsreg; crsreg downgrade writes version 1\n",
         ),
@@ -79,13 +80,36 @@ fn write_bad<W: fmt::Write>(
     }
 }
 
+// Whether the command reads a shelf in the place of the file with this number if `--shelf` is given.
+fn could_be_shelf(number: usize, paths: &Paths<'_>) -> bool {
+    if let Command::Status = paths.command {
+        return true;
+    }
+    if !paths.shelf.is_empty() || paths.register.is_empty() {
+        return false;
+    }
+    match paths.file(number) {
+        FileName::Path(path) => path == paths.register,
+        FileName::StandardInput => false,
+    }
+}
+
 // Writes that a file is no register, and what crsreg does with such a file.
-fn write_foreign<W: fmt::Write>(f: &mut fmt::Formatter<W>, looks: Looks) -> fmt::Result {
+fn write_foreign<W: fmt::Write>(
+    f: &mut fmt::Formatter<W>,
+    looks: Looks,
+    could_be_shelf: bool,
+) -> fmt::Result {
     match looks {
         Looks::Unknown => f.write_str("is not a file of crsreg\n"),
-        Looks::Shelf => f.write_str(
-            "is a shelf, and no file of a register\nhint: for a shelf give --shelf; crsreg unshelf writes its register to a file\n",
-        ),
+        Looks::Shelf => {
+            f.write_str("is a shelf, and no file of a register\n")?;
+            f.write_str(if could_be_shelf {
+                "hint: for a shelf give --shelf\n"
+            } else {
+                "hint: crsreg unshelf writes its register to a file\n"
+            })
+        }
         Looks::Text => {
             f.write_str("is not a file of crsreg\nhint: it has a text: crsreg import reads texts\n")
         }
