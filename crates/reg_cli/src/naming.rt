@@ -66,13 +66,21 @@ impl Second {
     }
 }
 
-/// The files of the command, with the shelf that the fault is about.
+/// The files of the command, with the shelf that the fault is about, and without an output of which nothing is known.
 pub fn paths_at<'a>(rt: &HostRuntime, named: &'a Named<'_>, fault: &CliFault) -> Paths<'a> {
     let mut paths = named.paths();
-    if let Command::Status = named.command {
-        if let CliFault::Shelf(_) = fault {
-            paths.shelf = unread_shelf(rt, named);
+    match fault {
+        CliFault::Shelf(_) => {
+            if let Command::Status = named.command {
+                paths.shelf = unread_shelf(rt, named);
+            }
         }
+        CliFault::Out(OutFault::WriteFailed(_)) => {
+            if named.is_written_in_place(rt) {
+                paths.out = "";
+            }
+        }
+        _ => {}
     }
     paths
 }

@@ -195,26 +195,30 @@ fn advise(rt: &HostRuntime, fault: &ImportFault, named: &Option<Named<'_>>) {
 /// Prints the sentence of a fault to standard error, below its line.
 pub fn explain(rt: &HostRuntime, fault: CliFault, named: &Option<Named<'_>>) {
     if let Some(named) = named {
-        let second = Second::look(rt, named, &fault);
-        let sentence = Sentence {
-            fault,
-            found: second.found(),
-            paths: paths_at(rt, named, &fault),
-        };
-        let _ = eprint!(rt; "{sentence}");
+        explain_in(rt, fault, named);
     }
+}
+
+fn explain_in(rt: &HostRuntime, fault: CliFault, named: &Named<'_>) {
+    let second = Second::look(rt, named, &fault);
+    let sentence = Sentence {
+        fault,
+        found: second.found(),
+        paths: paths_at(rt, named, &fault),
+    };
+    let _ = eprint!(rt; "{sentence}");
 }
 
 // The same for a command with an office file.
 fn explain_guard(rt: &HostRuntime, fault: GuardFault, named: &Option<Named<'_>>) {
     if let Some(named) = named {
-        let second = match &fault {
-            GuardFault::Command(fault) => Second::look(rt, named, fault),
-            _ => Second::nothing(),
-        };
+        if let GuardFault::Command(fault) = fault {
+            return explain_in(rt, fault, named);
+        }
+        let nothing = Second::nothing();
         let sentence = GuardSentence {
             fault,
-            found: second.found(),
+            found: nothing.found(),
             paths: named.paths(),
         };
         let _ = eprint!(rt; "{sentence}");

@@ -5,6 +5,29 @@ use clap::ArgMatches;
 use cli_sentences::{Command, FileName, Paths};
 use reg_desk::FileId;
 use std::alloc::AllocError;
+use std::fs;
+use std::os::unix::fs::MetadataExt;
+
+/// A file, and when it was last written.
+#[derive(Clone, Copy, PartialEq, Eq)]
+pub struct Written {
+    file: FileId,
+    second: i64,
+    nanosecond: i64,
+}
+
+impl Written {
+    // The file that the path leads to, if there is one.
+    fn at(rt: &HostRuntime, path: &str) -> Option<Written> {
+        let file = FileId::at(rt, path)?;
+        let times = fs::metadata(rt, path).ok()?;
+        Some(Written {
+            file,
+            second: times.mtime(),
+            nanosecond: times.mtime_nsec(),
+        })
+    }
+}
 
 /// A command and its files.
 #[derive(Drop)]
@@ -19,7 +42,7 @@ pub struct Named<'a> {
     /// The file that it writes, if any.
     pub out: &'a str,
     /// What was there before the command, if anything.
-    pub before: Option<FileId>,
+    pub before: Option<Written>,
     /// Its shelf, if any.
     pub shelf: &'a str,
     /// Whether it changes its shelf.
@@ -41,7 +64,7 @@ impl<'a> Named<'a> {
             files: files_named(rt, name, matches, shelf)?,
             register: word(matches, register_of(name)),
             out,
-            before: FileId::at(rt, out),
+            before: Written::at(rt, out),
             shelf: word(matches, shelf),
             changes_shelf: !shelf.is_empty() && !matches.get_flag("dry-run") && is_change(name),
         })
@@ -65,7 +88,18 @@ impl<'a> Named<'a> {
         if self.changes_shelf {
             return true;
         }
-        !self.out.is_empty() && FileId::at(rt, self.out) != self.before
+        match (self.before, Written::at(rt, self.out)) {
+            (Some(before), Some(now)) => now.file != before.file,
+            (before, now) => before.is_none() && now.is_some(),
+        }
+    }
+
+    /// Whether the output has other bytes than before, perhaps not all of them: it was written in place.
+    pub fn is_written_in_place(&self, rt: &HostRuntime) -> bool {
+        match (self.before, Written::at(rt, self.out)) {
+            (Some(before), Some(now)) => now.file == before.file && now != before,
+            _ => false,
+        }
     }
 }
 
