@@ -4,7 +4,7 @@ use reg_guard::engine::InputFault;
 use reg_guard::engine::files::FileFault;
 use std::fmt;
 
-/// The number of open files from which a command can have too many of them.
+/// The number of open files from which a command may have too many of them.
 const MANY: usize = 16;
 
 /// Writes the sentence for a fault of the file with this number, which seems to be this.
@@ -22,11 +22,7 @@ pub fn write<W: fmt::Write>(
                 f,
                 "{path} (file {number}) cannot be opened: it is not there, or you may not read it"
             )?;
-            f.write_str(if number < MANY {
-                "\n"
-            } else {
-                ", or too many files are open\n"
-            })?;
+            write_many(f, number, paths)?;
             path.write_hint(f)
         }
         InputFault::ReadFailed(place) => {
@@ -43,6 +39,20 @@ pub fn write<W: fmt::Write>(
             write_bad(f, fault, place, looks, could_be_shelf(number, paths))
         }
     }
+}
+
+// Writes that the command may have too many open files, if it has many, and the end of the line.
+fn write_many<W: fmt::Write>(
+    f: &mut fmt::Formatter<W>,
+    number: usize,
+    paths: &Paths<'_>,
+) -> fmt::Result {
+    if let Command::Merge = paths.command {
+        if number >= MANY {
+            f.write_str(", or too many files are open")?;
+        }
+    }
+    f.write_str("\n")
 }
 
 // Writes what is wrong with the bytes of a file.

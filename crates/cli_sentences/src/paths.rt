@@ -37,6 +37,8 @@ pub enum Command {
     Export,
     /// `import`, which can leave out texts.
     Import,
+    /// `merge` and `diff`, which have all their files open at once.
+    Merge,
     /// `office`, which makes a new file.
     Office,
     /// `settle`, which takes only ids.

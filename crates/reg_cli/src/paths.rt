@@ -108,6 +108,7 @@ fn command_of(name: &str, matches: &ArgMatches<'_>) -> Command {
     match name {
         "export" => Command::Export,
         "import" => Command::Import,
+        "diff" | "merge" => Command::Merge,
         "office" => Command::Office,
         "settle" => Command::Settle,
         "shelf" => Command::Shelf,
