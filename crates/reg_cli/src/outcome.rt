@@ -99,13 +99,7 @@ pub fn status(rt: &HostRuntime, outcome: Outcome, named: Option<Named<'_>>) -> u
             add(rt, &explained.note, &named);
             status
         }
-        Outcome::Import(why) => {
-            let status = complain(rt, &why.fault, why.fault.status());
-            explain_import(rt, why.fault, &named);
-            add(rt, &why.notes, &named);
-            advise(rt, &why.fault, &named);
-            status
-        }
+        Outcome::Import(why) => not_imported(rt, &why, &named),
         Outcome::AtLine(line) => {
             let _ = eprint!(rt; "refused: ");
             at_line(rt, &line, &named)
@@ -119,6 +113,15 @@ pub fn status(rt: &HostRuntime, outcome: Outcome, named: Option<Named<'_>>) -> u
         }
         Outcome::Misuse(line) => complain(rt, &line, MISUSE),
     }
+}
+
+// Reports why texts were not imported, with the sentence, and the explanations of the texts.
+fn not_imported(rt: &HostRuntime, why: &Unimported, named: &Option<Named<'_>>) -> u8 {
+    let status = complain(rt, &why.fault, why.fault.status());
+    explain_import(rt, why.fault, named);
+    add(rt, &why.notes, named);
+    advise(rt, &why.fault, named);
+    status
 }
 
 // Reports a refused line of a list, with its sentence.
