@@ -93,10 +93,13 @@ fn late_texts<'a, R: Files>(
 // The outcome, where a file that could not be read because it did not open is not opened. The first file has this number.
 fn with_openings<S: LateSource>(outcome: Outcome, files: &[S], first: usize) -> Outcome {
     match outcome {
-        Outcome::Import(why) => match why.fault {
-            ImportFault::Cli(fault) => Outcome::Fault(fault_of_opening(fault, files, first)),
-            ImportFault::Refused { .. } => Outcome::Import(why),
-        },
+        Outcome::Import(why) => {
+            let Unimported { fault, notes } = why;
+            match fault {
+                ImportFault::Cli(fault) => Outcome::Fault(fault_of_opening(fault, files, first)),
+                fault => Outcome::Import(Unimported { fault, notes }),
+            }
+        }
         outcome => outcome,
     }
 }
