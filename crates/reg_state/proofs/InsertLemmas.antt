@@ -1,4 +1,4 @@
--- A mark is inserted into marks of which none is redundant.
+-- A mark is inserted into marks. None of these is redundant.
 use Rattle.std.proofs.Common.{◌≡◌, ℕ, ◌<◌, ◌≤◌, Bool, true, false, not, ◌&&◌, ◌||◌, cond, List, [], ◌∷◌, ◌++◌, length, get_or, take, drop, zero, suc, filter, Option, Some, None, is_some, refl, sym, ap, ◌∙◌, subst, inl, inr, arith}
 use Rattle.std.proofs.lemmas.Bool.{true≢false, and_from, and_parts, or_cases, or_left, or_right, or_parts, not-true, not_from_false, false_from_ne_true, true_from_ne_false}
 use Rattle.std.proofs.lemmas.List.{take-append-drop}
