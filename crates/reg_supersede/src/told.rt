@@ -1,6 +1,6 @@
 //! How a refused line prints, and when a command reports it.
 
-ghost use Rattle.std.specs.Prelude.{◌≡◌, false, IfSome, IfNone, ¬};
+ghost use Rattle.std.specs.Prelude.{◌≡◌, false, IfSome, IfNone};
 ghost use Rattle.reg_supersede.specs.declared.list_options.RefusedLine.{RefusedLine};
 ghost use Rattle.reg_supersede.specs.Engine.{cause_of, Refuses};
 
