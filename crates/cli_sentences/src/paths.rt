@@ -123,7 +123,8 @@ fn write_argument<W: fmt::Write>(
     if path.is_empty() || path.starts_with("/dev/") {
         return f.write_str(name);
     }
-    Shown(path).fmt(f)
+    let path = Shown(path);
+    write!(f, "{path}")
 }
 
 /// What a file that is no register seems to be.
