@@ -67,7 +67,7 @@ fn write_problem<W: fmt::Write>(
     match problem {
         FileProblem::NotOpened => writeln!(
             f,
-            "{office} (file 1) cannot be opened, or {office}.new cannot be made: it is not there, or you may not read it or write there"
+            "{office} (file 1) cannot be opened, or {office}.new cannot be made: it is not there, you may not read it or write there, or it has a second name (a hard link), which would keep an old number"
         ),
         FileProblem::Busy => {
             writeln!(

@@ -50,7 +50,7 @@ fn write_not_opened<W: fmt::Write>(f: &mut fmt::Formatter<W>, paths: &Paths<'_>)
         ),
         _ => writeln!(
             f,
-            "{out} cannot be written: its folder is not there, you may not write it, or standard output goes to it",
+            "{out} cannot be written: the folder does not exist, you lack permission, or it is also the standard output",
         ),
     }
 }

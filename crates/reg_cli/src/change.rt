@@ -12,7 +12,7 @@ use reg_desk::{
     Source, Supersede, SupersedeOf, explained_fault,
 };
 use reg_guard::GuardFault;
-use reg_supersede::SupersedeFrom;
+use reg_supersede::{RefusedLine, SupersedeFrom, refused_line};
 use std::fs::OpenFile;
 use std::io::{Read, Seek, Write};
 
@@ -191,11 +191,21 @@ fn supersede_from_at<Q: Place>(
         keep_going: matches.get_flag("keep-going"),
         refused: Vec::new(rt.alloc()),
     };
-    match change_of(rt, matches, desk, &mut register, &mut command) {
-        Ok(()) if command.refused.is_empty() => Outcome::Done,
-        Ok(()) => Outcome::LeftLines(command.refused),
-        Err(GuardFault::Command(fault)) => match command.refused.first() {
-            Some(line) => Outcome::AtLine(*line),
+    let answer = change_of(rt, matches, desk, &mut register, &mut command);
+    outcome_of_list(answer, command.refused, command.keep_going)
+}
+
+// The outcome of a list of which these lines were refused. Lines that were left out are reported only if the others were done.
+fn outcome_of_list(
+    answer: Result<(), GuardFault>,
+    refused: Vec<RefusedLine>,
+    keep_going: bool,
+) -> Outcome {
+    match answer {
+        Ok(()) if refused.is_empty() => Outcome::Done,
+        Ok(()) => Outcome::LeftLines(refused),
+        Err(GuardFault::Command(fault)) => match refused_line(fault, &refused, keep_going) {
+            Some(line) => Outcome::AtLine(line),
             None => Outcome::Fault(fault),
         },
         Err(fault) => Outcome::Guard(fault),

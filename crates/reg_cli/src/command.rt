@@ -8,12 +8,11 @@ use crate::importing::import;
 use crate::look::{
     check, diff, find, log, offices, ops, page, report, show, status as figures, texts, wkt,
 };
-use crate::office::{is_out, office, office_file};
+use crate::office::{misnamed, office};
 use crate::outcome::{MISUSE, Outcome, complain, failed, print, print_lines, status};
 use crate::paths::Named;
 use crate::shells::completions;
 use crate::take::take;
-use crate::words::word;
 use clap::error::ErrorKind;
 use clap::{ArgMatches, Error};
 use cli_words::command_line;
@@ -23,7 +22,8 @@ use std::{env, io};
 
 const NO_TEXT: &str = "error: a word of the command line is not UTF-8";
 
-const SAME_FILE: &str = "error: OUT is the office file, or its new one";
+const NO_KEYS: &str =
+    "error: settle takes ids only: crsreg find REG KEY --status live --ids prints those of a key";
 
 const NO_COMMAND: &str = "error: there is no such command";
 
@@ -54,20 +54,33 @@ pub fn answer(rt: &HostRuntime, words: &[String]) -> u8 {
     match command.try_get_matches_from(words) {
         Ok(matches) => perform_explained(rt, &matches),
         Err(error) if error.kind() == ErrorKind::OutOfMemory => failed(rt, &CliFault::Memory),
-        Err(error) if error.use_stderr() => misused(rt, &error),
+        Err(error) if error.use_stderr() => misused(rt, words, &error),
         Err(help) => status(rt, Outcome::of(print(rt, &help)), None),
     }
 }
 
 // Prints what is wrong with the command line. Its words are shown without characters that a terminal would act on.
-fn misused(rt: &HostRuntime, error: &Error) -> u8 {
+fn misused(rt: &HostRuntime, words: &[String], error: &Error) -> u8 {
     match format!(in rt.alloc(); "{error}") {
+        Ok(text) if is_key_to_settle(words, text.as_str()) => {
+            return complain(rt, &NO_KEYS, MISUSE);
+        }
         Ok(text) => print_lines(rt, text.as_str()),
         Err(_) => {
             let _ = error.print(rt);
         }
     }
     MISUSE
+}
+
+// Whether clap rejects `-k` because the command is `settle`.
+fn is_key_to_settle(words: &[String], error: &str) -> bool {
+    let Some(name) = words.get(1) else {
+        return false;
+    };
+    name.as_str() == "settle"
+        && (error.starts_with("error: unexpected argument '-k'")
+            || error.starts_with("error: unexpected argument '--keys'"))
 }
 
 // Runs the command. The names of its files, which explain a refusal, are found first: afterwards memory may be out.
@@ -127,14 +140,12 @@ fn perform(rt: &HostRuntime, matches: &ArgMatches<'_>) -> Option<Outcome> {
     Some(outcome)
 }
 
-// Runs a command that changes a register as an office. OUT and the office file are different files.
+// Runs a command that changes a register as an office.
 fn changed(rt: &HostRuntime, name: &str, inner: &ArgMatches<'_>) -> Option<Outcome> {
-    if let Some(file) = office_file(inner) {
-        match is_out(rt, rt.alloc(), word(inner, "out"), file) {
-            Ok(false) => {}
-            Ok(true) => return Some(Outcome::Misuse(SAME_FILE)),
-            Err(fault) => return Some(Outcome::Fault(fault)),
-        }
+    match misnamed(rt, rt.alloc(), inner) {
+        Ok(None) => {}
+        Ok(Some(line)) => return Some(Outcome::Misuse(line)),
+        Err(fault) => return Some(Outcome::Fault(fault)),
     }
     let outcome = match name {
         "enter" => enter(rt, inner),

@@ -90,7 +90,7 @@ fn late_texts<'a, R: Files>(
     Ok(files)
 }
 
-// The outcome, where a file that could not be read because it did not open is not opened. The first file has this number.
+// Turns "could not be read" into `NotOpened` for files that did not open. The first file has this number.
 fn with_openings<S: LateSource>(outcome: Outcome, files: &[S], first: usize) -> Outcome {
     match outcome {
         Outcome::Import(why) => {

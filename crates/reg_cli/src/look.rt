@@ -23,6 +23,9 @@ use std::rt::Files;
 /// The title of a page without one.
 const NO_TITLE: &str = "The register";
 
+/// The message if a word to search for is empty, as in a script with a variable that is not set: it would find every entry.
+const NO_WORD: &str = "error: WORD, or the value of an option, is empty: is a variable not set?";
+
 const NO_POINT: &str = "error: --at takes a latitude and a longitude, as 52.5,13.4";
 
 /// `check`.
@@ -166,8 +169,21 @@ pub fn wanted(word: &str) -> Option<Wanted> {
     }
 }
 
+// Whether a word to search for is empty.
+fn has_empty(matches: &ArgMatches<'_>) -> bool {
+    for argument in ["WORD", "key", "authority", "code", "name", "area"] {
+        if let Some("") = matches.get_str(argument) {
+            return true;
+        }
+    }
+    false
+}
+
 /// `find`.
 pub fn find(rt: &HostRuntime, matches: &ArgMatches<'_>) -> Outcome {
+    if has_empty(matches) {
+        return Outcome::Misuse(NO_WORD);
+    }
     let Some(query) = query(matches) else {
         return Outcome::Misuse(NO_POINT);
     };

@@ -197,14 +197,17 @@ where
     }
 }
 
-// A new file, open to the same people as the old one, if there is one. One that cannot be written is not replaced.
+// A new file, open to the same people as the old one, if there is one. One that cannot be written is not replaced, nor one with a
+// second name, a hard link: that would keep the old number.
 fn made_like<R: Files>(rt: &R, made: &str, path: &str) -> Result<R::File, MakeFault>
 where
     R::File: AsFd,
 {
     let old = fs::metadata(rt, path).ok();
-    if old.is_some() && OpenOptions::new().write(true).open(rt, path).is_err() {
-        return Err(MakeFault::NotOpened);
+    if let Some(old) = &old {
+        if old.nlink() > 1 || OpenOptions::new().write(true).open(rt, path).is_err() {
+            return Err(MakeFault::NotOpened);
+        }
     }
     let opened = OpenOptions::new()
         .write(true)

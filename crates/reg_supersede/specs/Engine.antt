@@ -1,5 +1,5 @@
 -- What the command makes of a register and of its list, and why it makes nothing.
-use Rattle.std.specs.Prelude.{◌≡◌, ◌++◌, [], ◌∷◌, ℕ, Bool, List}
+use Rattle.std.specs.Prelude.{◌≡◌, ◌++◌, [], ◌∷◌, ℕ, Bool, false, List}
 use Rattle.byte_io.specs.Device.{SourceState}
 use Rattle.reg_engine.specs.WholeFile.{Gives, IsFileFault}
 use Rattle.reg_op.specs.Ids.{Id}
@@ -38,3 +38,7 @@ CannotSupersede t number old new x before told (cli.Refused r) = (bytes : List �
 CannotSupersede t number old new x before told (cli.File k f) = (k ≡ number) × IsFileFault f old new
 CannotSupersede t number old new x before told cli.Memory = Unit {0}
 CannotSupersede t number old new x before told f = ⊥
+
+-- the line refuses the command with this fault: refused lines are not left out, it is the last of them, and the fault is its cause
+abbrev pub Refuses : Bool → List RefusedLine → CliFault → RefusedLine → Type 0
+Refuses keep_going refused f line = (keep_going ≡ false) × ((before : List RefusedLine) × (refused ≡ before ++ line ∷ [])) × (cause_of line.fault ≡ f)
