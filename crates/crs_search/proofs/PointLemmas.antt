@@ -1,5 +1,5 @@
 -- Whole tens of degrees as decimals, and the texts of points.
-use Rattle.std.proofs.Common.{◌≡◌, ◌↔◌, ℕ, ◌*◌, ◌%◌, ◌^◌, ◌<◌, ◌≤◌, Bool, ℤ, pos, negsuc, ◌-ℤ◌, ◌≤ℤ◌, unsigned_abs, List, take, drop, Option, Some, None, Result, Ok, Err, refl, sym, ap, subst, ◌∙◌, ◌⊎◌, inr, arith, mul_assoc}
+use Rattle.std.proofs.Common.{◌≡◌, ℕ, ◌*◌, ◌%◌, ◌^◌, ◌<◌, ◌≤◌, Bool, ℤ, pos, ◌-ℤ◌, List, take, drop, Option, Some, None, Result, Ok, Err, refl, sym, ap, subst, ◌∙◌, inr, arith, mul_assoc}
 use Rattle.std.specs.Option.{IsSomeAnd}
 use Rattle.std.specs.List.{prefix_len}
 use Rattle.crs_number.specs.declared.decimals.Decimal.{Decimal}

@@ -1,5 +1,5 @@
 -- Areas of use, and bounding boxes that have a point.
-use Rattle.std.specs.Prelude.{◌⊎◌, ℕ, List, ℤ, pos, neg_ℤ, ◌≤ℤ◌, ◌<ℤ◌, Option, Some, None}
+use Rattle.std.specs.Prelude.{◌⊎◌, ℕ, List, pos, neg_ℤ, ◌≤ℤ◌, ◌<ℤ◌, Option, Some, None}
 use Rattle.std.specs.List.{Any}
 use Rattle.crs_number.specs.declared.decimals.Decimal.{Decimal}
 use Rattle.crs_number.specs.Value.{units}

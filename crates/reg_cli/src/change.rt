@@ -8,7 +8,7 @@ use crate::words::{
 use byte_out::Place;
 use clap::ArgMatches;
 use reg_desk::{
-    ByWords, Change, ChangeOf, CliFault, Enter, Recorded, Retire, RetireOf, Settle, SettleEqual,
+    ByWords, Change, ChangeOf, CliFault, Enter, OpId, Recorded, Retire, RetireOf, Settle, SettleEqual,
     Source, Supersede, SupersedeOf, explained_fault,
 };
 use reg_guard::GuardFault;
@@ -191,7 +191,8 @@ fn supersede_from_at<Q: Place>(
         keep_going: matches.get_flag("keep-going"),
         refused: Vec::new(rt.alloc()),
     };
-    match change_of(rt, matches, desk, &mut register, &mut command) {
+    let answer = change_of(rt, matches, desk, &mut register, &mut command);
+    match behind_first(answer, desk.lag()) {
         Ok(()) if command.refused.is_empty() => Outcome::Done,
         Ok(()) => Outcome::LeftLines(command.refused),
         Err(GuardFault::Command(fault)) => match command.refused.first() {
@@ -199,6 +200,14 @@ fn supersede_from_at<Q: Place>(
             None => Outcome::Fault(fault),
         },
         Err(fault) => Outcome::Guard(fault),
+    }
+}
+
+// A register that is behind comes before a refused line, and before a note that is too long.
+fn behind_first(answer: Result<(), GuardFault>, lag: Option<OpId>) -> Result<(), GuardFault> {
+    match (answer, lag) {
+        (Err(GuardFault::Command(CliFault::Refused(_))), Some(id)) => Err(GuardFault::Behind(id)),
+        (answer, _) => answer,
     }
 }
 

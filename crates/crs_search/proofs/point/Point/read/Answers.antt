@@ -1,4 +1,4 @@
-use Rattle.std.proofs.Common.{◌≡◌, ◌≤◌, ℕ, length, sym, subst, ap, ◌∙◌, Some}
+use Rattle.std.proofs.Common.{◌≤◌, ℕ, length, sym, subst, ap, ◌∙◌, Some}
 use Rattle.std.proofs.lemmas.List.Sums.{prefix_len-le-length}
 use Rattle.std.proofs.lemmas.Bool.{true≢false}
 use Rattle.crs_search.specs.declared.point.Point.{Point}
