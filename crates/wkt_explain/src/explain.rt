@@ -174,7 +174,8 @@ impl<'f> Explainer<'f> {
             return self.walk.go(place);
         }
         if place < MARK {
-            return Walk::new(self.file).go(place);
+            let mut walk = Walk::new(self.file);
+            return walk.go(place);
         }
         self.walk.go(place - MARK)
     }
