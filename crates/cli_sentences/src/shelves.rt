@@ -19,6 +19,12 @@ pub fn write<W: fmt::Write>(
                 "another command uses {shelf}\nhint: run this command again when it has ended"
             )
         }
+        ShelfProblem::NotLocked => {
+            writeln!(
+                f,
+                "{shelf} cannot be locked: its file system has no locks, so another command could change it at the same time\nhint: move it to a local file system, or take a file: crsreg unshelf writes one"
+            )
+        }
         ShelfProblem::NotShelf => {
             writeln!(f, "{shelf} is not a shelf, or it is damaged")?;
             f.write_str(match paths.command {

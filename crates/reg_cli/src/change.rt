@@ -8,7 +8,7 @@ use crate::words::{
 use byte_out::Place;
 use clap::ArgMatches;
 use reg_desk::{
-    ByWords, Change, ChangeOf, CliFault, Enter, Recorded, Retire, RetireOf, Settle, SettleEqual,
+    ByWords, Change, ChangeOf, CliFault, Enter, OpId, Recorded, Retire, RetireOf, Settle, SettleEqual,
     Source, Supersede, SupersedeOf, explained_fault,
 };
 use reg_guard::GuardFault;
@@ -192,6 +192,7 @@ fn supersede_from_at<Q: Place>(
         refused: Vec::new(rt.alloc()),
     };
     let answer = change_of(rt, matches, desk, &mut register, &mut command);
+    let answer = behind_first(answer, desk.lag());
     outcome_of_list(answer, command.refused, command.keep_going)
 }
 
@@ -209,6 +210,14 @@ fn outcome_of_list(
             None => Outcome::Fault(fault),
         },
         Err(fault) => Outcome::Guard(fault),
+    }
+}
+
+// A register that is behind comes before a refused line, and before a note that is too long.
+fn behind_first(answer: Result<(), GuardFault>, lag: Option<OpId>) -> Result<(), GuardFault> {
+    match (answer, lag) {
+        (Err(GuardFault::Command(CliFault::Refused(_))), Some(id)) => Err(GuardFault::Behind(id)),
+        (answer, _) => answer,
     }
 }
 

@@ -1,12 +1,13 @@
 //! `compare`: what differs between the texts of entries, and of a file.
 use crate::look::told;
 use crate::outcome::Outcome;
+use crate::reading::ReadShelf;
 use crate::stores::{Opened, differs_of, next_file, open_register};
 use crate::words::{entry, open_text, word};
 use clap::ArgMatches;
 use desk_texts::{Compare, CompareKey, CompareWith, WithFault, run_compared_with};
 use reg_desk::{
-    ByWord, CliFault, ImportFault, OfFile, OnShelf, OpId, Problem, Recorded, Source, Unimported,
+    ByWord, CliFault, ImportFault, OfFile, OpId, Problem, Recorded, Source, Unimported,
     Writing, explain_within,
 };
 use std::alloc::Global;
@@ -72,7 +73,7 @@ fn compared_to(
 
 // `compare --with`. The file is opened after the register, and read after it.
 fn compare_with(rt: &HostRuntime, matches: &ArgMatches<'_>, path: &str) -> Outcome {
-    let mut register = match open_register(rt, rt.alloc(), matches, "REG", &None) {
+    let register = match open_register(rt, rt.alloc(), matches, "REG", &None) {
         Ok(register) => register,
         Err(fault) => return Outcome::Fault(fault),
     };
@@ -81,26 +82,28 @@ fn compare_with(rt: &HostRuntime, matches: &ArgMatches<'_>, path: &str) -> Outco
         Err(fault) => return Outcome::Fault(fault),
     };
     let mut sink = Writing::new(io::writer(rt));
-    match compared_with(rt.alloc(), &mut register, path, &mut text, &mut sink) {
+    match compared_with(rt.alloc(), register, path, &mut text, &mut sink) {
         Ok(differs) => told(matches, Ok(differs)),
         Err(why) => uncompared(rt.alloc(), matches, path, &text, why),
     }
 }
 
-fn compared_with<F: Read + Write + Seek + OpenFile, S: Source, W: Write>(
+fn compared_with<F: Read + Write + Seek + OpenFile + Drop, S: Source, W: Write>(
     alloc: Global,
-    register: &mut Opened<F>,
+    register: Opened<F>,
     path: &str,
     text: &mut S,
     sink: &mut Writing<W>,
 ) -> Result<bool, WithFault> {
     match register {
-        Opened::File(source) => {
-            let mut store = OfFile { source };
+        Opened::File(mut source) => {
+            let mut store = OfFile {
+                source: &mut source,
+            };
             run_compared_with(alloc, &mut store, path.as_bytes(), text, sink)
         }
         Opened::Shelf(disk) => {
-            let mut store = OnShelf { disk };
+            let mut store = ReadShelf::new(disk);
             run_compared_with(alloc, &mut store, path.as_bytes(), text, sink)
         }
     }

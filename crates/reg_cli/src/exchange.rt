@@ -1,13 +1,16 @@
 //! Commands that make and exchange registers.
 use crate::inputs::{Replaced, open_inputs};
+use crate::office::parts;
+use crate::reading::ReadShelf;
 use crate::stores::{Opened, give_of, next_file, open_register};
 use crate::words::{lock_new_shelf, open, open_all, open_shelf, open_to_read, place, word};
 use clap::ArgMatches;
 use reg_desk::{
-    CliFault, FirstVersion, NewFile, PieceFor, Refusal, Summary, is_size, run_merge, run_merge_on,
-    run_new, run_shelf, run_unshelf,
+    CliFault, FirstVersion, NewFile, PieceFor, Refusal, ShelfProblem, Summary, Whole, is_size,
+    run_give, run_merge, run_merge_on, run_new, run_shelf,
 };
-use std::fs::File;
+use std::fs::{self, File, OpenFile};
+use std::rt::Files;
 
 /// `new`.
 pub fn new(rt: &HostRuntime, matches: &ArgMatches<'_>) -> Result<(), CliFault> {
@@ -39,24 +42,24 @@ fn open_to_give(rt: &HostRuntime, matches: &ArgMatches<'_>) -> Result<Opened<Fil
 
 /// `seen`.
 pub fn seen(rt: &HostRuntime, matches: &ArgMatches<'_>) -> Result<(), CliFault> {
-    let mut register = open_to_give(rt, matches)?;
-    give_of(rt, matches, &mut register, &mut Summary)
+    let register = open_to_give(rt, matches)?;
+    give_of(rt, matches, register, &mut Summary)
 }
 
 /// `piece`.
 pub fn piece(rt: &HostRuntime, matches: &ArgMatches<'_>) -> Result<(), CliFault> {
-    let mut register = open_to_give(rt, matches)?;
+    let register = open_to_give(rt, matches)?;
     let mut summary = open(rt, next_file(&register), word(matches, "SEEN"))?;
     let mut command = PieceFor {
         summary: &mut summary,
     };
-    give_of(rt, matches, &mut register, &mut command)
+    give_of(rt, matches, register, &mut command)
 }
 
 /// `downgrade`.
 pub fn downgrade(rt: &HostRuntime, matches: &ArgMatches<'_>) -> Result<(), CliFault> {
-    let mut register = open_to_give(rt, matches)?;
-    give_of(rt, matches, &mut register, &mut FirstVersion)
+    let register = open_to_give(rt, matches)?;
+    give_of(rt, matches, register, &mut FirstVersion)
 }
 
 /// `shelf`. A size that is not a number is refused like a size out of range.
@@ -70,12 +73,30 @@ pub fn shelf(rt: &HostRuntime, matches: &ArgMatches<'_>) -> Result<(), CliFault>
     let path = word(matches, "NEW");
     // The lock ends with the file, when the shelf is whole.
     let _lock = lock_new_shelf(rt, path)?;
-    run_shelf(rt.alloc(), &mut NewFile::new(rt, path), size)
+    run_shelf(rt.alloc(), &mut NewFile::new(rt, path), size)?;
+    sync_folder(rt, path)
+}
+
+// Syncs the folder of a new shelf: otherwise a power cut could leave no shelf there. A folder that cannot be opened cannot be
+// synced, which is no fault.
+fn sync_folder<R: Files>(rt: &R, path: &str) -> Result<(), CliFault> {
+    let (folder, _) = parts(path);
+    match fs::open(rt, folder) {
+        Ok(folder) if folder.sync_all().is_err() => {
+            Err(CliFault::Shelf(ShelfProblem::DiskFailed))
+        }
+        _ => Ok(()),
+    }
 }
 
 /// `unshelf`.
 pub fn unshelf(rt: &HostRuntime, matches: &ArgMatches<'_>) -> Result<(), CliFault> {
-    let mut disk = open_to_read(rt, word(matches, "SHELF"))?;
+    let disk = open_to_read(rt, word(matches, "SHELF"))?;
     let mut place = place(rt, rt.alloc(), word(matches, "OUT"))?;
-    run_unshelf(rt.alloc(), &mut disk, &mut place)
+    run_give(
+        rt.alloc(),
+        &mut ReadShelf::new(disk),
+        &mut Whole,
+        &mut place,
+    )
 }

@@ -2,10 +2,11 @@
 use crate::into::export_into;
 use crate::look::wanted;
 use crate::outcome::Outcome;
+use crate::reading::ReadShelf;
 use crate::stores::{Opened, open_register, print_of};
 use crate::words::word;
 use clap::ArgMatches;
-use reg_desk::{CliFault, Export, OfFile, OnShelf, OpId, Refusal, Writing};
+use reg_desk::{CliFault, Export, OfFile, OpId, Refusal, Writing};
 use reg_formats::{Format, Graph, run_handed};
 use reg_into::Choice;
 use std::io;
@@ -85,8 +86,8 @@ fn print_as(
                 &mut sink,
             )
         }
-        Opened::Shelf(mut disk) => {
-            let mut store = OnShelf { disk: &mut disk };
+        Opened::Shelf(disk) => {
+            let mut store = ReadShelf::new(disk);
             run_handed(
                 rt.alloc(),
                 &mut store,

@@ -1,9 +1,10 @@
 //! The command `export --into`.
+use crate::reading::ReadShelf;
 use crate::stores::{Opened, open_register};
 use crate::words::word;
 use byte_folder::SystemFolder;
 use clap::ArgMatches;
-use reg_desk::{CliFault, OfFile, OnShelf, OpId, Refusal};
+use reg_desk::{CliFault, OfFile, OpId, Refusal};
 use reg_into::{Choice, run_into};
 
 /// Opens the register, and puts a folder with a file for each key in place. A key that was left out is the fault.
@@ -36,8 +37,8 @@ fn put_into(
             };
             run_into(rt.alloc(), &mut store, choice, keep_going, &mut place)
         }
-        Opened::Shelf(mut disk) => {
-            let mut store = OnShelf { disk: &mut disk };
+        Opened::Shelf(disk) => {
+            let mut store = ReadShelf::new(disk);
             run_into(rt.alloc(), &mut store, choice, keep_going, &mut place)
         }
     }

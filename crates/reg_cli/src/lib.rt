@@ -16,6 +16,7 @@ mod naming;
 mod office;
 mod outcome;
 mod paths;
+mod reading;
 mod shells;
 mod stopped;
 mod stores;

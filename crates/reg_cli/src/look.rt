@@ -1,17 +1,17 @@
 //! Commands that print something of a text, of a register, or of several registers.
 use crate::outcome::Outcome;
+use crate::reading::ReadShelf;
 use crate::stores::{Opened as Register, next_file, open_register, print_of};
 use crate::table::{Rows, answered};
 use crate::words::{
-    STANDARD_INPUT, entries, entry, form, kind, open, open_all, open_to_read, point, push_words,
-    word,
+    STANDARD_INPUT, entries, entry, form, kind, open, open_all, open_to_read, push_words, word,
 };
 use byte_late::LateFile;
 use clap::ArgMatches;
 use desk_texts::Texts;
 use reg_desk::{
     ByWord, CliFault, FileDisk, Find, FindIds, Kind, LateAt, Lockable, LogAll, LogByWords, LogOf,
-    OfFile, Offices, OnShelf, Opened, Ops, PrintOf, Query, Reading, Recorded, Report, ShelfAt,
+    OfFile, Offices, Opened, Ops, Point, PrintOf, Query, Reading, Recorded, Report, ShelfAt,
     Show, ShowOf, Source, Wanted, Wkt, WktOf, Writing, run_check, run_check_explained, run_diff,
     run_status,
 };
@@ -130,7 +130,7 @@ pub fn report(rt: &HostRuntime, matches: &ArgMatches<'_>) -> Option<Result<(), C
 // The query of the options, if the point is valid.
 fn query<'a>(matches: &ArgMatches<'a>) -> Option<Query<'a>> {
     let at = match matches.get_str("at") {
-        Some(word) => Some(point(word)?),
+        Some(word) => Some(Point::read(word.as_bytes())?),
         None => None,
     };
     Some(Query {
@@ -320,8 +320,8 @@ fn merged_to<W: Write>(
             };
             run_diff(rt.alloc(), &mut store, &mut others, false, sink)
         }
-        Register::Shelf(mut disk) => {
-            let mut store = OnShelf { disk: &mut disk };
+        Register::Shelf(disk) => {
+            let mut store = ReadShelf::new(disk);
             run_diff(rt.alloc(), &mut store, &mut others, true, sink)
         }
     }

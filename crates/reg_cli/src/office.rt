@@ -4,7 +4,7 @@ use crate::words::{replica, word};
 use byte_out::Place;
 use clap::ArgMatches;
 use clap::parser::ValueSource;
-use reg_desk::{CliFault, FileId, Lockable, OutFault, Reading, Writing};
+use reg_desk::{CliFault, FileId, Lockable, OpId, OutFault, Reading, Writing};
 use reg_guard::{GuardFault, LastNumber, OfficePlace, last_of, lock_office, run_office, unopened};
 use std::alloc::{AllocError, Global};
 use std::io::ErrorKind;
@@ -64,9 +64,19 @@ pub struct Desk<Q> {
 pub struct OfficeFile<Q> {
     pub last: LastNumber,
     pub place: Q,
+    /// The number that the register of the command is behind, if it is.
+    pub lag: Option<OpId>,
 }
 
 impl<Q: Place> Desk<Q> {
+    /// The number that the register of the command is behind, if it is.
+    pub fn lag(&self) -> Option<OpId> {
+        match &self.file {
+            Some(file) => file.lag,
+            None => None,
+        }
+    }
+
     /// Removes the new office file, unless it has replaced the old one.
     pub fn close(&mut self) {
         if let Some(file) = &mut self.file {
@@ -111,7 +121,11 @@ where
     }
     Ok(Desk {
         replica: last.replica(),
-        file: Some(OfficeFile { last, place }),
+        file: Some(OfficeFile {
+            last,
+            place,
+            lag: None,
+        }),
     })
 }
 
@@ -220,8 +234,8 @@ fn is_same<R: Files>(rt: &R, a: &str, b: &str) -> bool {
     }
 }
 
-// The folder of a path, and its last part.
-fn parts(path: &str) -> (&str, &str) {
+/// The folder of a path, and its last part.
+pub fn parts(path: &str) -> (&str, &str) {
     match path.rsplit_once('/') {
         Some(("", name)) => ("/", name),
         Some((folder, name)) => (folder, name),

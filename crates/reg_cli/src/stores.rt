@@ -1,6 +1,7 @@
 //! Opens the register that a command names, in its file or (with `--shelf`) on its shelf, and runs the command on it.
 use crate::inputs::{Replaced, open_input};
 use crate::office::{Desk, OfficeFile, files_before};
+use crate::reading::ReadShelf;
 use crate::table::{Rows, answered};
 use crate::words::{changed_place, late_fault, open_shelf, open_to_read, place, word};
 use byte_out::Place;
@@ -10,7 +11,7 @@ use reg_desk::{
     Change, CliFault, FileDisk, Give, InFile, Input, InputOf, Lockable, OfFile, OnShelf, Print,
     Reading, Writing, run_change, run_give, run_print,
 };
-use reg_guard::{GuardFault, GuardedFile, GuardedShelf, LastNumber, run_guarded};
+use reg_guard::{GuardFault, Guarded, GuardedFile, GuardedShelf, run_guarded};
 use std::alloc::Global;
 use std::fs::OpenFile;
 use std::io::{self, Read, Seek, Write};
@@ -98,8 +99,8 @@ fn print_to<C: Print, W: Write>(
             };
             run_print(rt.alloc(), &mut store, command, sink)
         }
-        Opened::Shelf(mut disk) => {
-            let mut store = OnShelf { disk: &mut disk };
+        Opened::Shelf(disk) => {
+            let mut store = ReadShelf::new(disk);
             run_print(rt.alloc(), &mut store, command, sink)
         }
     }
@@ -119,28 +120,30 @@ pub fn differs_of<C: Print>(
             };
             run_differs(rt.alloc(), &mut store, command, &mut sink)
         }
-        Opened::Shelf(mut disk) => {
-            let mut store = OnShelf { disk: &mut disk };
+        Opened::Shelf(disk) => {
+            let mut store = ReadShelf::new(disk);
             run_differs(rt.alloc(), &mut store, command, &mut sink)
         }
     }
 }
 
 /// Writes the command's file of the register to OUT.
-pub fn give_of<F: Read + Write + Seek + OpenFile, C: Give>(
+pub fn give_of<F: Read + Write + Seek + OpenFile + Drop, C: Give>(
     rt: &HostRuntime,
     matches: &ArgMatches<'_>,
-    register: &mut Opened<F>,
+    register: Opened<F>,
     command: &mut C,
 ) -> Result<(), CliFault> {
     let mut place = place(rt, rt.alloc(), word(matches, "OUT"))?;
     match register {
-        Opened::File(source) => {
-            let mut store = OfFile { source };
+        Opened::File(mut source) => {
+            let mut store = OfFile {
+                source: &mut source,
+            };
             run_give(rt.alloc(), &mut store, command, &mut place)
         }
         Opened::Shelf(disk) => {
-            let mut store = OnShelf { disk };
+            let mut store = ReadShelf::new(disk);
             run_give(rt.alloc(), &mut store, command, &mut place)
         }
     }
@@ -209,19 +212,17 @@ fn change_numbered<Q: Place, F: Read + Write + Seek + OpenFile, C: Change, W: Wr
     command: &mut C,
     sink: &mut Writing<W>,
 ) -> Result<(), GuardFault> {
-    let last = office.last;
-    let noted = &mut office.place;
     match register {
         Opened::File(source) => {
             let is_quiet = matches.get_flag("quiet");
             let mut place = changed_place(rt, rt.alloc(), word(matches, "out"), is_quiet)?.late();
-            let answer = guarded_file(rt.alloc(), source, &mut place, noted, last, command, sink);
+            let answer = guarded_file(rt.alloc(), source, &mut place, office, command, sink);
             match (answer, late_fault(&place)) {
                 (Err(_), Some(fault)) => Err(GuardFault::Command(fault)),
                 (answer, _) => answer,
             }
         }
-        Opened::Shelf(disk) => guarded_shelf(rt.alloc(), disk, noted, last, command, sink),
+        Opened::Shelf(disk) => guarded_shelf(rt.alloc(), disk, office, command, sink),
     }
 }
 
@@ -242,23 +243,25 @@ fn guarded_file<'a, S: Input, P: Place, Q: Place, C: Change, W: Write>(
     alloc: Global,
     source: &'a mut S,
     place: &'a mut P,
-    office: &'a mut Q,
-    last: LastNumber,
+    office: &'a mut OfficeFile<Q>,
     command: &mut C,
     sink: &mut Writing<W>,
 ) -> Result<(), GuardFault> {
-    let mut store = GuardedFile::new(source, place, office, last);
-    run_guarded(alloc, &mut store, command, sink)
+    let mut store = GuardedFile::new(source, place, &mut office.place, office.last);
+    let answer = run_guarded(alloc, &mut store, command, sink);
+    office.lag = store.lag();
+    answer
 }
 
 fn guarded_shelf<'a, Q: Place, F: Read + Write + Seek + OpenFile, C: Change, W: Write>(
     alloc: Global,
     disk: &'a mut FileDisk<F>,
-    office: &'a mut Q,
-    last: LastNumber,
+    office: &'a mut OfficeFile<Q>,
     command: &mut C,
     sink: &mut Writing<W>,
 ) -> Result<(), GuardFault> {
-    let mut store = GuardedShelf::new(disk, office, last);
-    run_guarded(alloc, &mut store, command, sink)
+    let mut store = GuardedShelf::new(disk, &mut office.place, office.last);
+    let answer = run_guarded(alloc, &mut store, command, sink);
+    office.lag = store.lag();
+    answer
 }

@@ -2,6 +2,7 @@
 use crate::inputs::Replaced;
 use crate::outcome::{Outcome, explain};
 use crate::paths::Named;
+use crate::reading::ReadShelf;
 use crate::stores::{Opened, open_register};
 use crate::table::{Rows, answered};
 use crate::words::{open_shelf, printing_place, word};
@@ -19,14 +20,14 @@ use std::rt::Files;
 /// `take`. The register is opened first, and each file when its turn comes.
 pub fn take(rt: &HostRuntime, matches: &ArgMatches<'_>) -> Outcome {
     let paths = matches.get_strs("FILE").unwrap_or(&[]);
-    let mut register = match open_own(rt, rt.alloc(), matches) {
+    let register = match open_own(rt, rt.alloc(), matches) {
         Ok(register) => register,
         Err(fault) => return Outcome::Fault(fault),
     };
     let Ok(mut files) = late_files(rt, rt.alloc(), paths) else {
         return Outcome::Fault(CliFault::Memory);
     };
-    match take_into(rt, matches, &mut register, &mut files) {
+    match take_into(rt, matches, register, &mut files) {
         Ok(left) => tell(rt, matches, paths, &left),
         Err(fault) => Outcome::Fault(fault),
     }
@@ -65,10 +66,10 @@ fn late_files<'a, R: Files>(
 }
 
 // Joins the files to the register, and prints what changed.
-fn take_into<F: Read + Write + Seek + OpenFile, S: LateSource>(
+fn take_into<F: Read + Write + Seek + OpenFile + Drop, S: LateSource>(
     rt: &HostRuntime,
     matches: &ArgMatches<'_>,
-    register: &mut Opened<F>,
+    register: Opened<F>,
     files: &mut [S],
 ) -> Result<Vec<LeftOut>, CliFault> {
     let mut sink = Rows::sink(rt.alloc(), matches, io::writer(rt));
@@ -79,10 +80,10 @@ fn take_into<F: Read + Write + Seek + OpenFile, S: LateSource>(
     }
 }
 
-fn take_to<F: Read + Write + Seek + OpenFile, S: LateSource, W: Write>(
+fn take_to<F: Read + Write + Seek + OpenFile + Drop, S: LateSource, W: Write>(
     rt: &HostRuntime,
     matches: &ArgMatches<'_>,
-    register: &mut Opened<F>,
+    register: Opened<F>,
     files: &mut [S],
     sink: &mut Writing<W>,
 ) -> Result<Vec<LeftOut>, CliFault> {
@@ -91,32 +92,35 @@ fn take_to<F: Read + Write + Seek + OpenFile, S: LateSource, W: Write>(
         return take_tried(rt.alloc(), register, files, keep_going, sink);
     }
     match register {
-        Opened::File(source) => {
+        Opened::File(mut source) => {
             let mut place = printing_place(rt, rt.alloc(), word(matches, "REG"))?;
-            take_file(rt.alloc(), source, &mut place, files, keep_going, sink)
+            let own = &mut source;
+            take_file(rt.alloc(), own, &mut place, files, keep_going, sink)
         }
-        Opened::Shelf(disk) => {
-            let mut store = OnShelf { disk };
+        Opened::Shelf(mut disk) => {
+            let mut store = OnShelf { disk: &mut disk };
             run_take(rt.alloc(), &mut store, files, keep_going, sink)
         }
     }
 }
 
 // `take --dry-run`, which writes no register.
-fn take_tried<F: Read + Write + Seek + OpenFile, S: LateSource, W: Write>(
+fn take_tried<F: Read + Write + Seek + OpenFile + Drop, S: LateSource, W: Write>(
     alloc: Global,
-    register: &mut Opened<F>,
+    register: Opened<F>,
     files: &mut [S],
     keep_going: bool,
     sink: &mut Writing<W>,
 ) -> Result<Vec<LeftOut>, CliFault> {
     match register {
-        Opened::File(source) => {
-            let mut store = OfFile { source };
+        Opened::File(mut source) => {
+            let mut store = OfFile {
+                source: &mut source,
+            };
             try_take(alloc, &mut store, files, keep_going, sink)
         }
         Opened::Shelf(disk) => {
-            let mut store = OnShelf { disk };
+            let mut store = ReadShelf::new(disk);
             try_take(alloc, &mut store, files, keep_going, sink)
         }
     }

@@ -4,8 +4,8 @@ use byte_io::{InFault, read_up_to};
 use byte_out::{Held, WholeFiles};
 use clap::ArgMatches;
 use reg_desk::{
-    CliFault, Decimal, Differs, FileDisk, FileId, FilePlace, Form, InputFault, Lock, Lockable,
-    MAX_FILE, OpId, OutFault, Point, Reading, Refusal, RegisterFiles, ReportKind, ShelfProblem,
+    CliFault, Differs, FileDisk, FileId, FilePlace, Form, InputFault, Lock, Lockable,
+    MAX_FILE, OpId, OutFault, Reading, Refusal, RegisterFiles, ReportKind, ShelfProblem,
 };
 use std::alloc::{AllocError, Global};
 use std::fs::{self, OpenFile, OpenOptions};
@@ -56,15 +56,6 @@ pub fn differs(word: &str) -> Differs {
         "revise" => Differs::Revise,
         _ => Differs::Refuse,
     }
-}
-
-/// The point of the argument: a latitude, a comma and a longitude.
-pub fn point(word: &str) -> Option<Point> {
-    let (latitude, longitude) = word.split_once(',')?;
-    Some(Point {
-        latitude: Decimal::from_numeral(latitude.as_bytes()).ok()?,
-        longitude: Decimal::from_numeral(longitude.as_bytes()).ok()?,
-    })
 }
 
 /// The replica of the argument.
@@ -125,14 +116,14 @@ pub fn push_listed<'a>(
     Ok(())
 }
 
-// Lines end at LF; the last one may have none.
+// Lines end at LF, or at CR and LF; the last one may have no end.
 fn push_lines<'a>(found: &mut Vec<&'a [u8]>, listed: &'a [u8]) -> Result<(), AllocError> {
     let lines = listed.strip_suffix(b"\n").unwrap_or(listed);
     if listed.is_empty() {
         return Ok(());
     }
     for line in lines.split(|byte| *byte == b'\n') {
-        found.push(line)?;
+        found.push(line.strip_suffix(b"\r").unwrap_or(line))?;
     }
     Ok(())
 }
@@ -205,7 +196,8 @@ pub fn is_twice(paths: &[&str]) -> bool {
     false
 }
 
-/// Opens a shelf for reading and writing. No other command may have it open, and standard output may not go to it.
+/// Opens a shelf for reading and writing. No other command may have it open, standard output may not go to it, and the file system
+/// has to have locks.
 pub fn open_shelf<R: Files>(rt: &R, path: &str) -> Result<FileDisk<R::File>, CliFault>
 where
     R::File: Lockable,
@@ -216,22 +208,32 @@ where
     if is_standard_output(rt, &file) {
         return Err(CliFault::Shelf(ShelfProblem::NotOpened));
     }
-    disk_if(file.lock_alone(), file)
+    match file.lock_alone() {
+        Lock::Missing => Err(CliFault::Shelf(ShelfProblem::NotLocked)),
+        lock => disk_if(lock, file),
+    }
 }
 
-/// Opens the file of a shelf that is to be made, and creates it if it is not there. No other command may have it open. The lock ends
-/// with the file.
+/// Opens the file of a shelf that is to be made, and creates it if it is not there. No other command may have it open, and the file
+/// system has to have locks. The lock ends with the file.
 pub fn lock_new_shelf<R: Files>(rt: &R, path: &str) -> Result<R::File, CliFault>
 where
     R::File: Lockable,
 {
+    let is_there = fs::metadata(rt, path).is_ok();
     let mut options = OpenOptions::new();
     let Ok(file) = options.read(true).write(true).create(true).open(rt, path) else {
         return Err(CliFault::Shelf(ShelfProblem::NotOpened));
     };
     match file.lock_alone() {
+        Lock::Taken => Ok(file),
         Lock::Held => Err(CliFault::Shelf(ShelfProblem::Busy)),
-        Lock::Taken | Lock::Missing => Ok(file),
+        Lock::Missing => {
+            if !is_there {
+                let _ = fs::remove_file(rt, path);
+            }
+            Err(CliFault::Shelf(ShelfProblem::NotLocked))
+        }
     }
 }
 
@@ -242,7 +244,7 @@ fn is_standard_output<R: Files>(rt: &R, file: &R::File) -> bool {
     }
 }
 
-/// Opens a shelf for reading. No command may have it open for writing.
+/// Opens a shelf for reading. No command may have it open for writing. On a file system without locks it is read without one.
 pub fn open_to_read<R: Files>(rt: &R, path: &str) -> Result<FileDisk<R::File>, CliFault>
 where
     R::File: Lockable,

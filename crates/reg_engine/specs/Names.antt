@@ -80,6 +80,7 @@ out_place f = None
 abbrev pub problem_name : ShelfProblem → List ℕ
 problem_name problem.NotOpened = codes "NotOpened"
 problem_name problem.Busy = codes "Busy"
+problem_name problem.NotLocked = codes "NotLocked"
 problem_name problem.NotShelf = codes "NotShelf"
 problem_name problem.TooLarge = codes "TooLarge"
 problem_name problem.DiskFailed = codes "DiskFailed"

@@ -237,6 +237,9 @@ pub enum ShelfProblem {
     /// Another command has locked it.
     #[error("Busy")]
     Busy,
+    /// The file system has no locks, so another command could change it at the same time. Nothing was changed.
+    #[error("NotLocked")]
+    NotLocked,
     /// It is not a shelf with a register.
     #[error("NotShelf")]
     NotShelf,
@@ -258,6 +261,7 @@ impl ShelfProblem {
         match self {
             ShelfProblem::NotOpened => "NotOpened",
             ShelfProblem::Busy => "Busy",
+            ShelfProblem::NotLocked => "NotLocked",
             ShelfProblem::NotShelf => "NotShelf",
             ShelfProblem::TooLarge => "TooLarge",
             ShelfProblem::DiskFailed => "DiskFailed",
