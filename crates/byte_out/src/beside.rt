@@ -13,7 +13,7 @@
 //!   `Exists`.
 //! - Without locks no file is removed: the command that makes the file owns it, since only one can make it.
 //! - If a lock holds on one machine only, B on another machine removes the file of A, and makes its own. A finds that before it
-//!   renames, and leaves the name alone.
+//!   renames (it reads the file, too: the system may remember for a while which file had the name), and leaves the name alone.
 
 use crate::fault::MakeFault;
 use crate::lock::{Lock, Lockable};

@@ -232,7 +232,11 @@ where
         };
         match put {
             Ok(()) => Ok(()),
-            Err(PutFault::Changed) => Err(PutFault::Changed),
+            Err(PutFault::Changed) => {
+                // What has the name of the new file may be another command's.
+                self.is_beside = false;
+                Err(PutFault::Changed)
+            }
             Err(fault) => {
                 self.failures = Tally::after(&self.failures);
                 // The new file stays if the old one has a part of its bytes: then it is the only whole one.

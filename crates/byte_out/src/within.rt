@@ -116,19 +116,43 @@ where
     R::File: Lockable,
     ensures { IfErr result (λ f. Fits f bytes.now) }
 {
-    if !has_name(rt, beside, file) {
-        return Err(PutFault::Changed);
+    match compare_own(rt, file, beside, bytes) {
+        Ok(()) => {}
+        Err(CompareFault::Changed) => return Err(PutFault::Changed),
+        Err(_) => return Err(PutFault::NotOpened),
     }
     match fs::rename(rt, beside, path) {
         Ok(()) => Ok(()),
         Err(error) if is_fixed(error.kind()) => {
-            if let Err(fault) = write_over(rt, path, read, bytes) {
-                return Err(fault);
+            let written = write_over(rt, path, read, bytes);
+            match written {
+                Ok(()) | Err(PutFault::Changed) => remove_own(rt, beside, file),
+                Err(_) => {}
             }
-            remove_own(rt, beside, file);
-            Ok(())
+            written
         }
         Err(_) => Err(PutFault::NotOpened),
+    }
+}
+
+// Whether the new file still has its name, and these bytes. On a network the system may remember for a while which file had the
+// name; so it is opened and read, unless only others may read it.
+fn compare_own<R: Files>(
+    rt: &R,
+    file: &R::File,
+    beside: &str,
+    bytes: &[u8],
+) -> Result<(), CompareFault> {
+    if !has_name(rt, beside, file) {
+        return Err(CompareFault::Changed);
+    }
+    match fs::open(rt, beside) {
+        Ok(mut own) => compare(&mut own, bytes),
+        Err(error) => match error.kind() {
+            ErrorKind::NotFound => Err(CompareFault::Changed),
+            ErrorKind::PermissionDenied => Ok(()),
+            _ => Err(CompareFault::NotOpened),
+        },
     }
 }
 
