@@ -5,9 +5,7 @@ use crate::office::{Desk, OfficeFile, files_before, office_named, open_desk};
 use crate::outcome::Outcome;
 use crate::stores::{Opened, next_file, open_to_change};
 use crate::table::{Rows, answered};
-use crate::words::{
-    STANDARD_INPUT, STANDARD_INPUT_PATH, differs, is_twice, printing_place, word,
-};
+use crate::words::{STANDARD_INPUT, STANDARD_INPUT_PATH, differs, is_twice, printing_place, word};
 use byte_late::{LateFile, LateSource};
 use byte_out::Place;
 use clap::ArgMatches;
