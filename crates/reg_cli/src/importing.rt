@@ -5,9 +5,7 @@ use crate::office::{Desk, OfficeFile, files_before, office_named, open_desk};
 use crate::outcome::Outcome;
 use crate::stores::{Opened, next_file, open_to_change};
 use crate::table::{Rows, answered};
-use crate::words::{
-    STANDARD_INPUT, STANDARD_INPUT_PATH, differs, is_twice, late_fault, printing_place, word,
-};
+use crate::words::{STANDARD_INPUT, STANDARD_INPUT_PATH, differs, is_twice, printing_place, word};
 use byte_late::{LateFile, LateSource};
 use byte_out::Place;
 use clap::ArgMatches;
@@ -239,10 +237,10 @@ fn import_numbered<Q: Place, F: Read + Write + Seek + OpenFile, S: Source, W: Wr
     match register {
         Opened::File(source) => {
             let mut place = match printing_place(rt, rt.alloc(), word(matches, "out")) {
-                Ok(place) => place.late(),
+                Ok(place) => place,
                 Err(fault) => return Outcome::Fault(fault),
             };
-            let outcome = guarded_file(
+            guarded_file(
                 rt.alloc(),
                 source,
                 &mut place,
@@ -251,11 +249,7 @@ fn import_numbered<Q: Place, F: Read + Write + Seek + OpenFile, S: Source, W: Wr
                 files,
                 order,
                 sink,
-            );
-            match late_fault(&place) {
-                Some(fault) => Outcome::Fault(fault),
-                None => outcome,
-            }
+            )
         }
         Opened::Shelf(disk) => guarded_shelf(rt.alloc(), disk, noted, last, files, order, sink),
     }

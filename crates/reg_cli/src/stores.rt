@@ -3,7 +3,7 @@ use crate::inputs::{Replaced, open_input};
 use crate::office::{Desk, OfficeFile, files_before};
 use crate::reading::ReadShelf;
 use crate::table::{Rows, answered};
-use crate::words::{changed_place, late_fault, open_shelf, open_to_read, place, word};
+use crate::words::{changed_place, open_shelf, open_to_read, place, word};
 use byte_out::Place;
 use clap::ArgMatches;
 use desk_texts::run_differs;
@@ -215,12 +215,8 @@ fn change_numbered<Q: Place, F: Read + Write + Seek + OpenFile, C: Change, W: Wr
     match register {
         Opened::File(source) => {
             let is_quiet = matches.get_flag("quiet");
-            let mut place = changed_place(rt, rt.alloc(), word(matches, "out"), is_quiet)?.late();
-            let answer = guarded_file(rt.alloc(), source, &mut place, office, command, sink);
-            match (answer, late_fault(&place)) {
-                (Err(_), Some(fault)) => Err(GuardFault::Command(fault)),
-                (answer, _) => answer,
-            }
+            let mut place = changed_place(rt, rt.alloc(), word(matches, "out"), is_quiet)?;
+            guarded_file(rt.alloc(), source, &mut place, office, command, sink)
         }
         Opened::Shelf(disk) => guarded_shelf(rt.alloc(), disk, office, command, sink),
     }

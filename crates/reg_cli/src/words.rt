@@ -1,11 +1,10 @@
 //! The arguments of a command: replicas, entries, files.
 use crate::office::files_before;
 use byte_io::{InFault, read_up_to};
-use byte_out::{Held, WholeFiles};
 use clap::ArgMatches;
 use reg_desk::{
-    CliFault, Differs, FileDisk, FileId, FilePlace, Form, InputFault, Lock, Lockable,
-    MAX_FILE, OpId, OutFault, Reading, Refusal, RegisterFiles, ReportKind, ShelfProblem,
+    CliFault, Differs, FileDisk, FileId, FilePlace, Form, InputFault, Lock, Lockable, MAX_FILE,
+    OpId, Reading, Refusal, ReportKind, ShelfProblem,
 };
 use std::alloc::{AllocError, Global};
 use std::fs::{self, OpenFile, OpenOptions};
@@ -20,9 +19,6 @@ pub const STANDARD_INPUT: &str = "-";
 pub const STANDARD_INPUT_PATH: &str = "/dev/stdin";
 
 const STANDARD_OUTPUT_PATH: &str = "/dev/stdout";
-
-/// A new file that a stopped command left beside OUT is reused, unless it is a whole register.
-static REGISTER_FILES: RegisterFiles = RegisterFiles;
 
 /// An argument, or the empty text if it is absent, such as a note.
 pub fn word<'a>(matches: &ArgMatches<'a>, name: &str) -> &'a str {
@@ -271,7 +267,7 @@ pub fn place<'a, R: Files>(
     rt: &'a R,
     alloc: Global,
     path: &'a str,
-) -> Result<FilePlace<'a, R, RegisterFiles>, CliFault>
+) -> Result<FilePlace<'a, R>, CliFault>
 where
     R::File: AsFd + Lockable,
 {
@@ -283,7 +279,7 @@ pub fn printing_place<'a, R: Files>(
     rt: &'a R,
     alloc: Global,
     path: &'a str,
-) -> Result<FilePlace<'a, R, RegisterFiles>, CliFault>
+) -> Result<FilePlace<'a, R>, CliFault>
 where
     R::File: AsFd + Lockable,
 {
@@ -296,7 +292,7 @@ pub fn changed_place<'a, R: Files>(
     alloc: Global,
     path: &'a str,
     is_quiet: bool,
-) -> Result<FilePlace<'a, R, RegisterFiles>, CliFault>
+) -> Result<FilePlace<'a, R>, CliFault>
 where
     R::File: AsFd + Lockable,
 {
@@ -306,27 +302,16 @@ where
     printing_place(rt, alloc, path)
 }
 
-/// The fault of a late place, if its bytes did not get into OUT.
-pub fn late_fault<R: Files, W: WholeFiles>(place: &FilePlace<'_, R, W>) -> Option<CliFault>
-where
-    R::File: AsFd + Lockable,
-{
-    match place.trouble()? {
-        Held::Memory => Some(CliFault::Memory),
-        Held::Cut(written) => Some(CliFault::Out(OutFault::WriteFailed(written))),
-    }
-}
-
 fn place_beside<'a, R: Files>(
     rt: &'a R,
     alloc: Global,
     path: &'a str,
     printed: Option<FileId>,
-) -> Result<FilePlace<'a, R, RegisterFiles>, CliFault>
+) -> Result<FilePlace<'a, R>, CliFault>
 where
     R::File: AsFd + Lockable,
 {
-    match FilePlace::new(alloc, rt, path, &REGISTER_FILES, printed) {
+    match FilePlace::new(alloc, rt, path, printed) {
         Ok(place) => Ok(place),
         Err(_) => Err(CliFault::Memory),
     }
