@@ -147,7 +147,7 @@ where
     R::File: AsFd,
 {
     let Some(path) = office_file(matches) else {
-        return is_guarded(rt, alloc, matches);
+        return misnamed_office(rt, alloc, matches);
     };
     if is_office_file(rt, alloc, word(matches, "out"), path)? {
         return Ok(Some(OUT_IS_OFFICE));
@@ -158,7 +158,7 @@ where
     Ok(None)
 }
 
-// Whether `--as` is the office of a file that the environment names: numbers that are given beside the file are not in it. A file
+// What is wrong if `--as` is the office of a file that the environment names: the file would not have the numbers. A file
 // that cannot be read is not used, so nothing is wrong with it.
 fn is_guarded<R: Files>(
     rt: &R,
