@@ -115,11 +115,7 @@ impl fmt::Display for Register<'_> {
 }
 
 // Writes a path as an argument in a hint, or the argument's name if the path is not known or, as one of a pipe, cannot be read again.
-fn write_argument<W: fmt::Write>(
-    f: &mut fmt::Formatter<W>,
-    path: &str,
-    name: &str,
-) -> fmt::Result {
+fn write_argument<W: fmt::Write>(f: &mut fmt::Formatter<W>, path: &str, name: &str) -> fmt::Result {
     if path.is_empty() || path.starts_with("/dev/") {
         return f.write_str(name);
     }

@@ -28,7 +28,8 @@ pub fn write<W: fmt::Write>(
         ShelfProblem::NotShelf => {
             writeln!(f, "{shelf} is not a shelf, or it is damaged")?;
             f.write_str(match paths.command {
-                Command::Unshelf => "hint: crsreg shelf makes one; if this is a register file, copy it instead\n",
+                Command::Unshelf =>
+                    "hint: crsreg shelf makes one; if this is a register file, copy it instead\n",
                 _ => "hint: crsreg shelf makes one; without --shelf a command takes a file\n",
             })
         }

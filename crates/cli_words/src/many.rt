@@ -30,7 +30,11 @@ pub fn import<'a>(alloc: Global, defaults: &Defaults<'a>) -> Draft<'a> {
         "dry-run",
         "Prints what would be done, and writes nothing",
     ))
-    .arg(flag(alloc, "changes", "Leaves out texts that a valid entry already has"))
+    .arg(flag(
+        alloc,
+        "changes",
+        "Leaves out texts that a valid entry already has",
+    ))
     .arg(named(
         alloc,
         "gone",

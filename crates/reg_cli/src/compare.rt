@@ -15,8 +15,7 @@ use std::fs::OpenFile;
 use std::io::{self, Read, Seek, Write};
 
 /// The message if an id is compared with nothing.
-const ALONE: &str =
-    "error: compare needs a key, two entries, or --with FILE; one id is not enough";
+const ALONE: &str = "error: compare needs a key, two entries, or --with FILE; one id is not enough";
 
 /// `compare`.
 pub fn compare(rt: &HostRuntime, matches: &ArgMatches<'_>) -> Outcome {

@@ -160,7 +160,7 @@ where
 
 // What is wrong if `--as` is the office of a file that the environment names: the file would not have the numbers. A file
 // that cannot be read is not used, so nothing is wrong with it.
-fn is_guarded<R: Files>(
+fn misnamed_office<R: Files>(
     rt: &R,
     alloc: Global,
     matches: &ArgMatches<'_>,
