@@ -8,7 +8,6 @@ ghost use Rattle.reg_supersede.specs.Lists.{DoesAll};
 ghost use Rattle.reg_supersede.specs.Effects.{after, ids_of, CanMake, IsListFault};
 ghost use Rattle.reg_supersede.specs.Engine.{task};
 
-use crate::check::is_long;
 use crate::lines::lines_of;
 use crate::list::{Listed, all_lines, leave_out};
 use crate::list_options::{LineFault, ListOptions, RefusedLine};
@@ -16,7 +15,7 @@ use crate::naming::rows_for;
 use byte_io::Source;
 use reg_engine::{Change, CliFault, Made, Refusal, id_lines, read_whole};
 use reg_office::{Office, OfficeFault};
-use reg_op::OpBody;
+use reg_op::{Note, OpBody};
 use reg_state::Register;
 use std::alloc::Global;
 use uuid::Uuid;
@@ -130,7 +129,7 @@ impl<S: Source> Change for SupersedeFrom<'_, S> {
             Ok(bytes) => bytes,
             Err(fault) => return Err(fault),
         };
-        if is_long(self.note) {
+        if self.note.len() > Note::MAX {
             return Err(CliFault::Refused(Refusal::Office(
                 OfficeFault::NoteTooLong,
             )));

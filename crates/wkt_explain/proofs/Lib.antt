@@ -5,6 +5,7 @@ pub mod LineLemmas
 pub mod MarkLemmas
 pub mod NearLemmas
 pub mod PathLemmas
+pub mod ReturnLemmas
 pub mod ShownLemmas
 pub mod WalkLemmas
 pub mod WantedLemmas

@@ -32,6 +32,7 @@ first_line-front (suc n) (x ∷ xs) = elim (goes_on x) as (λ b. goes_on x ≡ b
 
 -- a carriage return far behind the front makes no difference at the front
 return_far : (n : ℕ) (xs : List ℕ) → take n (without_return (take (suc n) xs)) ≡ take n (without_return xs)
+unfolding without_return
 return_far zero xs = refl
 return_far (suc n) [] = refl
 return_far (suc n) (x ∷ []) = refl

@@ -25,7 +25,7 @@ up_to file at place le =
 pub between_len : (file : List ℕ) (at place : ℕ) → at ≤ place → place ≤ length file → length (text_in file at place) ≡ place - at
 between_len file at place le within = length-drop at (take place file) ∙ ap (λ n. n - at) (length-take-le place file within)
 
-drop_more : (n m : ℕ) (xs : List ℕ) → drop (n + m) xs ≡ drop m (drop n xs)
+pub drop_more : (n m : ℕ) (xs : List ℕ) → drop (n + m) xs ≡ drop m (drop n xs)
 drop_more zero m xs = ap (λ k. drop k xs) (let e : 0 + m ≡ m = omega arith in e)
 drop_more (suc n) m [] = ap (λ k. drop {A = ℕ} k []) (let e : suc n + m ≡ suc (n + m) = omega arith in e) ∙ sym (nothing m)
   where

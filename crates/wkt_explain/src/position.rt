@@ -2,7 +2,7 @@
 
 ghost use Rattle.std.specs.Prelude.{◌≡◌, ◌≤◌, length};
 ghost use Rattle.std.specs.List.{prefix_len, suffix_len};
-ghost use Rattle.wkt_explain.specs.Position.{begins_mark, behind_mark, goes_on, feeds, first_line, last_line, text_in, without_return};
+ghost use Rattle.wkt_explain.specs.Position.{begins_mark, behind_mark, goes_on, feeds, first_line, is_return, last_line, text_in, without_return};
 
 /// The number of bytes of a byte order mark.
 pub(crate) const MARK: usize = 3;
@@ -42,6 +42,12 @@ pub(crate) fn last_line(bytes: &[u8]) -> &[u8]
     line
 }
 
+fn is_return(b: u8) -> bool
+    ensures { result ≡ is_return b }
+{
+    b == b'\r'
+}
+
 /// A line without the carriage return at its end.
 pub(crate) fn without_return(line: &[u8]) -> &[u8]
     ensures { result.now ≡ without_return line.now }
@@ -49,7 +55,7 @@ pub(crate) fn without_return(line: &[u8]) -> &[u8]
     let Some((last, others)) = line.split_last() else {
         return line;
     };
-    if *last == b'\r' {
+    if is_return(*last) {
         return others;
     }
     line
