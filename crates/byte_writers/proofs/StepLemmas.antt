@@ -119,17 +119,17 @@ putting {T} change w k x f g r t led at ok m =
     let fit : Fits (any_of change) k w.stands w.beside (FoundSame x) = fits change w k (FoundSame x) f led at in
     subst (λ s. IsAt (goes change w k s) k (Replaced x) g) (sym at.stage) (put w k x g w.beside (change k x, fit.0) (m.0 ∙ at.beside) m.1)
 
-unput : {T : Type 0} (w : World) (k : ℕ) (x : Content) (f g : Files) (e : PutFault) → IsAt w k (FoundSame x) f → IsPut {T = T} (Err e) f g
+unput : (T : Type 0) (w : World) (k : ℕ) (x : Content) (f g : Files) (e : PutFault) → IsAt w k (FoundSame x) f → IsPut {T = T} (Err e) f g
     → IsAt (comes_to w k Withdraws) k Withdraws g
-unput w k x f g fault.NotOpened at m = comes w k (FoundSame x) Withdraws f g at m.0 m.1
-unput w k x f g fault.Changed at m = absurd m
-unput w k x f g (fault.WriteFailed n) at m = absurd m
+unput T w k x f g fault.NotOpened at m = comes w k (FoundSame x) Withdraws f g at m.0 m.1
+unput T w k x f g fault.Changed at m = absurd m
+unput T w k x f g (fault.WriteFailed n) at m = absurd m
 
 pub not_put : {T : Type 0} (change : ℕ → Content → List ℕ) (w : World) (k : ℕ) (x : Content) (f g : Files) (r : Result T PutFault) (e : PutFault)
     → IsAt w k (FoundSame x) f → r ≡ Err e → IsPut r f g → IsAt (happens change w (Fails k)) k Withdraws g
 not_put {T} change w k x f g r e at err m =
     let m : IsPut {T = T} (Err e) f g = subst (λ q. IsPut q f g) err m in
-    subst (λ s. IsAt (comes_to w k (failed s)) k Withdraws g) (sym at.stage) (unput {T = T} w k x f g e at m)
+    subst (λ s. IsAt (comes_to w k (failed s)) k Withdraws g) (sym at.stage) (unput T w k x f g e at m)
 
 pub landing : {T E : Type 0} (w : World) (k : ℕ) (x : Content) (f g : Files) (r : Result T E) → IsAt w k (Replaced x) f → IsLanded r f g → IsAt w k (Replaced x) g
 landing w k x f g (Ok t) at m = record { stage = at.stage; stands = m.0 ∙ at.stands; beside = m.1 ∙ at.beside }
