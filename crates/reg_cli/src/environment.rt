@@ -1,7 +1,7 @@
 //! The environment variables that give defaults.
-use crate::outcome::{MISUSE, complain, failed};
+use cli_look::desk::CliFault;
+use cli_open::{MISUSE, complain, failed};
 use cli_words::Defaults;
-use reg_desk::CliFault;
 use std::env::{self, VarError};
 
 /// The UUID of the office.

@@ -1,12 +1,13 @@
 //! The arguments of a command: replicas, entries, files.
-use crate::office::files_before;
-use byte_io::{InFault, read_up_to};
-use byte_out::{Held, WholeFiles};
 use clap::ArgMatches;
-use reg_desk::{
-    CliFault, Decimal, Differs, FileDisk, FileId, FilePlace, Form, InputFault, Lock, Lockable,
-    MAX_FILE, OpId, OutFault, Point, Reading, Refusal, RegisterFiles, ReportKind, ShelfProblem,
-};
+use clap::parser::ValueSource;
+use reg_guard::engine::disks::FileDisk;
+use reg_guard::engine::files::MAX_FILE;
+use reg_guard::engine::operations::OpId;
+use reg_guard::engine::places::{FileId, FilePlace, Held, Lock, Lockable, WholeFiles};
+use reg_guard::engine::streams::{InFault, Reading, read_up_to};
+use reg_guard::engine::{CliFault, InputFault, OutFault, Refusal, RegisterFiles, ShelfProblem};
+use reg_query::Wanted;
 use std::alloc::{AllocError, Global};
 use std::fs::{self, OpenFile, OpenOptions};
 use std::io::{Read, Seek, Write};
@@ -29,42 +30,32 @@ pub fn word<'a>(matches: &ArgMatches<'a>, name: &str) -> &'a str {
     matches.get_str(name).unwrap_or("")
 }
 
-/// The requested layout of a text.
-pub fn form(matches: &ArgMatches<'_>) -> Form {
-    if matches.get_flag("pretty") {
-        Form::Indented
-    } else {
-        Form::Canonical
-    }
-}
-
-/// The report of the argument.
-pub fn kind(word: &str) -> Option<ReportKind> {
-    match word {
-        "entries" => Some(ReportKind::Entries),
-        "conflicts" => Some(ReportKind::Conflicts),
-        "awaited" => Some(ReportKind::Awaited),
-        "gaps" => Some(ReportKind::Gaps),
+/// The office file of a command, if it has one. The command line comes before the environment, where an office file comes before a
+/// UUID.
+pub fn office_file<'a>(matches: &ArgMatches<'a>) -> Option<&'a str> {
+    match matches.get_str("office") {
+        Some(file) if matches.value_source("as") != Some(ValueSource::CommandLine) => Some(file),
         _ => None,
     }
 }
 
-/// The action for a text whose key has another text. clap rejects other words.
-pub fn differs(word: &str) -> Differs {
-    match word {
-        "beside" => Differs::Beside,
-        "revise" => Differs::Revise,
-        _ => Differs::Refuse,
+/// How many files are numbered before the register: the office file is file 1.
+pub fn files_before(matches: &ArgMatches<'_>) -> usize {
+    match office_file(matches) {
+        Some(_) => 1,
+        None => 0,
     }
 }
 
-/// The point of the argument: a latitude, a comma and a longitude.
-pub fn point(word: &str) -> Option<Point> {
-    let (latitude, longitude) = word.split_once(',')?;
-    Some(Point {
-        latitude: Decimal::from_numeral(latitude.as_bytes()).ok()?,
-        longitude: Decimal::from_numeral(longitude.as_bytes()).ok()?,
-    })
+/// The status of the argument. clap rejects other words.
+pub fn wanted(word: &str) -> Option<Wanted> {
+    match word {
+        "valid" => Some(Wanted::Valid),
+        "superseded" => Some(Wanted::Superseded),
+        "retired" => Some(Wanted::Retired),
+        "live" => Some(Wanted::Live),
+        _ => None,
+    }
 }
 
 /// The replica of the argument.

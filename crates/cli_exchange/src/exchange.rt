@@ -1,11 +1,14 @@
 //! Commands that make and exchange registers.
-use crate::inputs::{Replaced, open_inputs};
-use crate::stores::{Opened, give_of, next_file, open_register};
-use crate::words::{lock_new_shelf, open, open_all, open_shelf, open_to_read, place, word};
 use clap::ArgMatches;
-use reg_desk::{
-    CliFault, FirstVersion, NewFile, PieceFor, Refusal, Summary, is_size, run_merge, run_merge_on,
-    run_new, run_shelf, run_unshelf,
+use cli_open::engines::disks::NewFile;
+use cli_open::engines::shelf::is_size;
+use cli_open::engines::{
+    CliFault, FirstVersion, PieceFor, Refusal, Summary, run_merge, run_merge_on, run_new,
+    run_shelf, run_unshelf,
+};
+use cli_open::{
+    Opened, Replaced, give_of, lock_new_shelf, next_file, open, open_all, open_inputs,
+    open_register, open_shelf, open_to_read, place, word,
 };
 use std::fs::File;
 

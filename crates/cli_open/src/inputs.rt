@@ -1,6 +1,8 @@
 //! Opens the registers that a command reads, and finds the one that OUT replaces.
 use clap::ArgMatches;
-use reg_desk::{CliFault, FileId, InputFault, InputOf, Reading};
+use reg_guard::engine::places::{FileId, InputOf};
+use reg_guard::engine::streams::Reading;
+use reg_guard::engine::{CliFault, InputFault};
 use std::alloc::Global;
 use std::fs;
 use std::io::ErrorKind;

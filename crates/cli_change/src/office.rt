@@ -1,26 +1,19 @@
 //! Who changes a register: an office by its UUID, or one that works through its office file.
 use crate::stopped::put_left;
-use crate::words::{replica, word};
-use byte_out::Place;
 use clap::ArgMatches;
-use clap::parser::ValueSource;
-use reg_desk::{CliFault, FileId, Lockable, OutFault, Reading, Writing};
-use reg_guard::{GuardFault, LastNumber, OfficePlace, last_of, lock_office, run_office, unopened};
+use cli_open::engines::places::{FileId, Lockable, Place};
+use cli_open::engines::streams::{Reading, Writing};
+use cli_open::engines::{CliFault, OutFault};
+use cli_open::guards::{
+    GuardFault, LastNumber, OfficePlace, last_of, lock_office, run_office, unopened,
+};
+use cli_open::{office_file, replica, word};
 use std::alloc::Global;
 use std::os::fd::AsFd;
 use std::random::RandomSource;
 use std::rt::Files;
 use std::{fs, io};
 use uuid::Uuid;
-
-/// The office file of a command, if it has one. The command line comes before the environment, where an office file comes before a
-/// UUID.
-pub fn office_file<'a>(matches: &ArgMatches<'a>) -> Option<&'a str> {
-    match matches.get_str("office") {
-        Some(file) if matches.value_source("as") != Some(ValueSource::CommandLine) => Some(file),
-        _ => None,
-    }
-}
 
 /// The UUID of the office, unless it is in the office file.
 pub fn office_named(matches: &ArgMatches<'_>) -> Result<Option<Uuid>, CliFault> {
@@ -30,14 +23,6 @@ pub fn office_named(matches: &ArgMatches<'_>) -> Result<Option<Uuid>, CliFault> 
     match replica(word(matches, "as")) {
         Ok(replica) => Ok(Some(replica)),
         Err(fault) => Err(fault),
-    }
-}
-
-/// How many files are numbered before the register: the office file is file 1.
-pub fn files_before(matches: &ArgMatches<'_>) -> usize {
-    match office_file(matches) {
-        Some(_) => 1,
-        None => 0,
     }
 }
 

@@ -1,7 +1,8 @@
 //! Puts a new register in place that a stopped command of the office left beside OUT.
-use crate::inputs::real_path;
-use reg_desk::{FileId, Lock, Lockable, Reading};
-use reg_guard::{LastNumber, has_last};
+use cli_open::engines::places::{FileId, Lock, Lockable};
+use cli_open::engines::streams::Reading;
+use cli_open::guards::{LastNumber, has_last};
+use cli_open::real_path;
 use std::alloc::Global;
 use std::fs::{self, OpenOptions};
 use std::io::ErrorKind;

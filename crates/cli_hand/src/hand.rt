@@ -1,11 +1,10 @@
 //! The commands `export` and `graph`.
 use crate::into::export_into;
-use crate::look::wanted;
-use crate::outcome::Outcome;
-use crate::stores::{Opened, open_register, print_of};
-use crate::words::word;
 use clap::ArgMatches;
-use reg_desk::{CliFault, Export, OfFile, OnShelf, OpId, Refusal, Writing};
+use cli_open::engines::operations::OpId;
+use cli_open::engines::streams::Writing;
+use cli_open::engines::{CliFault, Export, OfFile, OnShelf, Refusal};
+use cli_open::{Opened, Outcome, open_register, print_of, wanted, word};
 use reg_formats::{Format, Graph, run_handed};
 use reg_into::Choice;
 use std::io;

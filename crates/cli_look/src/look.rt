@@ -1,37 +1,29 @@
 //! Commands that print something of a text, of a register, or of several registers.
-use crate::outcome::Outcome;
-use crate::stores::{Opened as Register, next_file, open_register, print_of};
-use crate::table::{Rows, answered};
-use crate::words::{
-    STANDARD_INPUT, entries, entry, form, kind, open, open_all, open_to_read, point, push_words,
-    word,
-};
 use byte_late::LateFile;
 use clap::ArgMatches;
+use cli_open::{
+    Opened as Register, Outcome, Rows, STANDARD_INPUT, answered, entries, next_file, open,
+    open_all, open_register, open_to_read, print_of, push_words, wanted, word,
+};
 use desk_texts::Texts;
 use reg_desk::{
-    ByWord, CliFault, FileDisk, Find, FindIds, Kind, LateAt, Lockable, LogAll, LogByWords, LogOf,
-    OfFile, Offices, OnShelf, Opened, Ops, PrintOf, Query, Reading, Recorded, Report, ShelfAt,
-    Show, ShowOf, Source, Wanted, Wkt, WktOf, Writing, run_check, run_check_explained, run_diff,
-    run_status,
+    CliFault, Decimal, Explained, FileDisk, Find, FindIds, Kind, LateAt, Lockable, LogAll,
+    LogByWords, LogOf, OfFile, Offices, OnShelf, Opened, Point, Query, Reading, Recorded, ShelfAt,
+    Source, Writing, run_check, run_check_explained, run_diff, run_status,
 };
-use reg_page::Page;
 use std::alloc::{AllocError, Global};
 use std::io::{self, Write};
 use std::rt::Files;
 
-/// The title of a page without one.
-const NO_TITLE: &str = "The register";
-
 const NO_POINT: &str = "error: --at takes a latitude and a longitude, as 52.5,13.4";
 
 /// `check`.
-pub fn check(rt: &HostRuntime, matches: &ArgMatches<'_>) -> Outcome {
+pub fn check(rt: &HostRuntime, matches: &ArgMatches<'_>) -> Result<Outcome, Explained> {
     match matches.get_str("TEXT") {
         None => check_from(rt, matches, STANDARD_INPUT, Reading::new(rt.reader())),
         Some(path) => match open(rt, 1, path) {
             Ok(file) => check_from(rt, matches, path, file),
-            Err(fault) => Outcome::Fault(fault),
+            Err(fault) => Ok(Outcome::Fault(fault)),
         },
     }
 }
@@ -42,61 +34,16 @@ fn check_from<S: Source + Drop>(
     matches: &ArgMatches<'_>,
     name: &str,
     source: S,
-) -> Outcome {
+) -> Result<Outcome, Explained> {
     let mut text = Recorded::new(rt.alloc(), source);
     let mut sink = Writing::new(io::writer(rt));
     if matches.get_flag("explain") {
-        let answer = run_check_explained(rt.alloc(), name, &mut text, &mut sink);
-        return Outcome::of_explained(answer);
+        return match run_check_explained(rt.alloc(), name, &mut text, &mut sink) {
+            Ok(()) => Ok(Outcome::Done),
+            Err(explained) => Err(explained),
+        };
     }
-    Outcome::of(run_check(rt.alloc(), &mut text, &mut sink))
-}
-
-/// `show`.
-pub fn show(rt: &HostRuntime, matches: &ArgMatches<'_>) -> Result<(), CliFault> {
-    if matches.get_flag("keys") {
-        return print_by_word(rt, matches, &ShowOf);
-    }
-    show_entry(rt, matches)
-}
-
-fn show_entry(rt: &HostRuntime, matches: &ArgMatches<'_>) -> Result<(), CliFault> {
-    match entry(word(matches, "ENTRY")) {
-        Ok(entry) => print_of(rt, matches, &Show { entry }),
-        Err(fault) => Err(fault),
-    }
-}
-
-/// `wkt`.
-pub fn wkt(rt: &HostRuntime, matches: &ArgMatches<'_>) -> Result<(), CliFault> {
-    if matches.get_flag("keys") {
-        let form = form(matches);
-        return print_by_word(rt, matches, &WktOf { form });
-    }
-    wkt_entry(rt, matches)
-}
-
-fn wkt_entry(rt: &HostRuntime, matches: &ArgMatches<'_>) -> Result<(), CliFault> {
-    let form = form(matches);
-    match entry(word(matches, "ENTRY")) {
-        Ok(entry) => print_of(rt, matches, &Wkt { entry, form }),
-        Err(fault) => Err(fault),
-    }
-}
-
-// Prints something of the entry that the word names.
-fn print_by_word<C: PrintOf>(
-    rt: &HostRuntime,
-    matches: &ArgMatches<'_>,
-    command: &C,
-) -> Result<(), CliFault> {
-    let word = word(matches, "ENTRY").as_bytes();
-    print_of(rt, matches, &ByWord { word, command })
-}
-
-/// `ops`.
-pub fn ops(rt: &HostRuntime, matches: &ArgMatches<'_>) -> Result<(), CliFault> {
-    print_of(rt, matches, &Ops)
+    Ok(Outcome::of(run_check(rt.alloc(), &mut text, &mut sink)))
 }
 
 /// `log`.
@@ -118,12 +65,6 @@ pub fn texts(rt: &HostRuntime, matches: &ArgMatches<'_>) -> Result<(), CliFault>
     print_of(rt, matches, &Texts)
 }
 
-/// `report`, if there is one of the kind.
-pub fn report(rt: &HostRuntime, matches: &ArgMatches<'_>) -> Option<Result<(), CliFault>> {
-    let kind = kind(word(matches, "KIND"))?;
-    Some(print_of(rt, matches, &Report { kind }))
-}
-
 // The query of the options, if the point is valid.
 fn query<'a>(matches: &ArgMatches<'a>) -> Option<Query<'a>> {
     let at = match matches.get_str("at") {
@@ -143,6 +84,15 @@ fn query<'a>(matches: &ArgMatches<'a>) -> Option<Query<'a>> {
     })
 }
 
+// The point of the argument: a latitude, a comma and a longitude.
+fn point(word: &str) -> Option<Point> {
+    let (latitude, longitude) = word.split_once(',')?;
+    Some(Point {
+        latitude: Decimal::from_numeral(latitude.as_bytes()).ok()?,
+        longitude: Decimal::from_numeral(longitude.as_bytes()).ok()?,
+    })
+}
+
 // The kind of the argument. clap rejects other words.
 fn kind_of(word: &str) -> Option<Kind> {
     match word {
@@ -151,17 +101,6 @@ fn kind_of(word: &str) -> Option<Kind> {
         "projected" => Some(Kind::Projected),
         "vertical" => Some(Kind::Vertical),
         "compound" => Some(Kind::Compound),
-        _ => None,
-    }
-}
-
-/// The status of the argument. clap rejects other words.
-pub fn wanted(word: &str) -> Option<Wanted> {
-    match word {
-        "valid" => Some(Wanted::Valid),
-        "superseded" => Some(Wanted::Superseded),
-        "retired" => Some(Wanted::Retired),
-        "live" => Some(Wanted::Live),
         _ => None,
     }
 }
@@ -180,12 +119,6 @@ pub fn find(rt: &HostRuntime, matches: &ArgMatches<'_>) -> Outcome {
 /// `offices`.
 pub fn offices(rt: &HostRuntime, matches: &ArgMatches<'_>) -> Result<(), CliFault> {
     print_of(rt, matches, &Offices)
-}
-
-/// `page`.
-pub fn page(rt: &HostRuntime, matches: &ArgMatches<'_>) -> Result<(), CliFault> {
-    let title = matches.get_str("title").unwrap_or(NO_TITLE).as_bytes();
-    print_of(rt, matches, &Page { title })
 }
 
 /// `status`. A file or a shelf that does not open has a line, too.

@@ -1,9 +1,9 @@
 //! The command `export --into`.
-use crate::stores::{Opened, open_register};
-use crate::words::word;
 use byte_folder::SystemFolder;
 use clap::ArgMatches;
-use reg_desk::{CliFault, OfFile, OnShelf, OpId, Refusal};
+use cli_open::engines::operations::OpId;
+use cli_open::engines::{CliFault, OfFile, OnShelf, Refusal};
+use cli_open::{Opened, open_register, word};
 use reg_into::{Choice, run_into};
 
 /// Opens the register, and puts a folder with a file for each key in place. A key that was left out is the fault.

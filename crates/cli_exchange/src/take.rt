@@ -1,15 +1,14 @@
 //! The command `take`.
-use crate::inputs::Replaced;
-use crate::outcome::{Outcome, explain};
-use crate::paths::Named;
-use crate::stores::{Opened, open_register};
-use crate::table::{Rows, answered};
-use crate::words::{open_shelf, printing_place, word};
 use byte_late::{LateFile, LateSource};
-use byte_out::Place;
 use clap::ArgMatches;
-use cli_sentences::Shown;
-use reg_desk::{CliFault, InFile, Input, Lockable, OfFile, OnShelf, Writing};
+use cli_faults::sentences::Shown;
+use cli_faults::{Named, explain};
+use cli_open::engines::places::{Input, Lockable, Place};
+use cli_open::engines::streams::Writing;
+use cli_open::engines::{CliFault, InFile, OfFile, OnShelf};
+use cli_open::{
+    Opened, Outcome, Replaced, Rows, answered, open_register, open_shelf, printing_place, word,
+};
 use reg_take::{LeftOut, run_take, try_take};
 use std::alloc::{AllocError, Global};
 use std::fs::OpenFile;
