@@ -71,7 +71,9 @@ fn change_plain<F: Read + Write + Seek + OpenFile, C: Change, W: Write>(
         Opened::File(source) => {
             let is_quiet = matches.get_flag("quiet");
             let mut place = changed_place(rt, rt.alloc(), word(matches, "out"), is_quiet)?;
-            change_file(rt.alloc(), source, &mut place, command, sink)
+            let answer = change_file(rt.alloc(), source, &mut place, command, sink);
+            drop(place);
+            answer
         }
         Opened::Shelf(disk) => {
             let mut store = OnShelf { disk };
@@ -96,9 +98,14 @@ fn change_numbered<Q: Place, F: Read + Write + Seek + OpenFile, C: Change, W: Wr
             let is_quiet = matches.get_flag("quiet");
             let mut place = changed_place(rt, rt.alloc(), word(matches, "out"), is_quiet)?.late();
             let answer = guarded_file(rt.alloc(), source, &mut place, noted, last, command, sink);
-            match (answer, late_fault(&place)) {
-                (Err(_), Some(fault)) => Err(GuardFault::Command(fault)),
-                (answer, _) => answer,
+            let late = late_fault(&place);
+            drop(place);
+            match answer {
+                Ok(()) => Ok(()),
+                Err(fault) => match late {
+                    Some(fault) => Err(GuardFault::Command(fault)),
+                    None => Err(fault),
+                },
             }
         }
         Opened::Shelf(disk) => guarded_shelf(rt.alloc(), disk, noted, last, command, sink),

@@ -27,10 +27,17 @@ pub fn office_named(matches: &ArgMatches<'_>) -> Result<Option<Uuid>, CliFault> 
 }
 
 /// An office that can make operations.
-#[derive(Drop)]
 pub struct Desk<Q> {
     pub replica: Uuid,
     pub file: Option<OfficeFile<Q>>,
+}
+
+// By hand: otherwise the prover goes through the office file wherever a desk goes out of scope.
+impl<Q: Drop> Drop for Desk<Q> {
+    fn drop(self) {
+        let Desk { replica: _, file } = self;
+        drop(file);
+    }
 }
 
 /// The last number of an office, and the place of its office file, where the new one is made already.
@@ -71,12 +78,14 @@ where
         return Err(GuardFault::Command(CliFault::Memory));
     };
     if let Err(fault) = lock_office(&mut place) {
+        drop(place);
         return Err(fault);
     }
     let last = match read(rt, alloc, path) {
         Ok(last) => last,
         Err(fault) => {
             place.remove();
+            drop(place);
             return Err(fault);
         }
     };
@@ -104,7 +113,9 @@ where
     let Ok(place) = OfficePlace::beside(alloc, rt, path) else {
         return Err(CliFault::Memory);
     };
-    Ok(is_same(rt, out, place.path()) || is_same(rt, out, place.made()))
+    let is_same = is_same(rt, out, place.path()) || is_same(rt, out, place.made());
+    drop(place);
+    Ok(is_same)
 }
 
 // Whether two paths name one file, which may not exist yet.
@@ -142,5 +153,7 @@ pub fn office(rt: &HostRuntime, matches: &ArgMatches<'_>) -> Result<(), CliFault
         return Err(CliFault::Memory);
     };
     let mut sink = Writing::new(io::writer(rt));
-    run_office(rt.alloc(), random, &mut place, &mut sink)
+    let answer = run_office(rt.alloc(), random, &mut place, &mut sink);
+    drop(place);
+    answer
 }

@@ -14,10 +14,10 @@ use std::fs::File;
 
 /// `new`.
 pub fn new(rt: &HostRuntime, matches: &ArgMatches<'_>) -> Result<(), CliFault> {
-    run_new(
-        rt.alloc(),
-        &mut place(rt, rt.alloc(), word(matches, "OUT"))?,
-    )
+    let mut place = place(rt, rt.alloc(), word(matches, "OUT"))?;
+    let answer = run_new(rt.alloc(), &mut place);
+    drop(place);
+    answer
 }
 
 /// `merge`.
@@ -31,7 +31,9 @@ pub fn merge(rt: &HostRuntime, matches: &ArgMatches<'_>) -> Result<(), CliFault>
     let out = Some(Replaced::named(rt, rt.alloc(), matches, "OUT")?);
     let mut sources = open_inputs(rt, rt.alloc(), paths, &out)?;
     let mut place = place(rt, rt.alloc(), word(matches, "OUT"))?;
-    run_merge(rt.alloc(), &mut sources, &mut place)
+    let answer = run_merge(rt.alloc(), &mut sources, &mut place);
+    drop(place);
+    answer
 }
 
 // Opens the register whose file is written to OUT.
@@ -80,5 +82,7 @@ pub fn shelf(rt: &HostRuntime, matches: &ArgMatches<'_>) -> Result<(), CliFault>
 pub fn unshelf(rt: &HostRuntime, matches: &ArgMatches<'_>) -> Result<(), CliFault> {
     let mut disk = open_to_read(rt, word(matches, "SHELF"))?;
     let mut place = place(rt, rt.alloc(), word(matches, "OUT"))?;
-    run_unshelf(rt.alloc(), &mut disk, &mut place)
+    let answer = run_unshelf(rt.alloc(), &mut disk, &mut place);
+    drop(place);
+    answer
 }

@@ -92,7 +92,9 @@ fn take_to<F: Read + Write + Seek + OpenFile, S: LateSource, W: Write>(
     match register {
         Opened::File(source) => {
             let mut place = printing_place(rt, rt.alloc(), word(matches, "REG"))?;
-            take_file(rt.alloc(), source, &mut place, files, keep_going, sink)
+            let answer = take_file(rt.alloc(), source, &mut place, files, keep_going, sink);
+            drop(place);
+            answer
         }
         Opened::Shelf(disk) => {
             let mut store = OnShelf { disk };

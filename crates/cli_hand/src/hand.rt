@@ -7,7 +7,9 @@ use cli_open::engines::{CliFault, Export, OfFile, OnShelf, Refusal};
 use cli_open::{Opened, Outcome, open_register, print_of, wanted, word};
 use reg_formats::{Format, Graph, run_handed};
 use reg_into::Choice;
-use std::io;
+use std::alloc::Global;
+use std::fs::OpenFile;
+use std::io::{self, Read, Seek, Write};
 
 const NOT_HANDED: &str =
     "error: --status, --authority and --keep-going go with --into, --geojson or --proj-sql";
@@ -70,30 +72,33 @@ fn print_as(
     keep_going: bool,
 ) -> Result<Option<OpId>, CliFault> {
     let mut sink = Writing::new(io::writer(rt));
-    match open_register(rt, rt.alloc(), matches, "REG", &None)? {
-        Opened::File(mut source) => {
-            let mut store = OfFile {
-                source: &mut source,
-            };
-            run_handed(
-                rt.alloc(),
-                &mut store,
-                format,
-                choice,
-                keep_going,
-                &mut sink,
-            )
+    let mut register = open_register(rt, rt.alloc(), matches, "REG", &None)?;
+    print_from(
+        rt.alloc(),
+        &mut register,
+        format,
+        choice,
+        keep_going,
+        &mut sink,
+    )
+}
+
+fn print_from<F: Read + Write + Seek + OpenFile, W: Write>(
+    alloc: Global,
+    register: &mut Opened<F>,
+    format: Format,
+    choice: &Choice<'_>,
+    keep_going: bool,
+    sink: &mut Writing<W>,
+) -> Result<Option<OpId>, CliFault> {
+    match register {
+        Opened::File(source) => {
+            let mut store = OfFile { source };
+            run_handed(alloc, &mut store, format, choice, keep_going, sink)
         }
-        Opened::Shelf(mut disk) => {
-            let mut store = OnShelf { disk: &mut disk };
-            run_handed(
-                rt.alloc(),
-                &mut store,
-                format,
-                choice,
-                keep_going,
-                &mut sink,
-            )
+        Opened::Shelf(disk) => {
+            let mut store = OnShelf { disk };
+            run_handed(alloc, &mut store, format, choice, keep_going, sink)
         }
     }
 }

@@ -1,10 +1,13 @@
 //! The command `export --into`.
-use byte_folder::SystemFolder;
+use byte_folder::{FolderPlace, SystemFolder};
 use clap::ArgMatches;
 use cli_open::engines::operations::OpId;
 use cli_open::engines::{CliFault, OfFile, OnShelf, Refusal};
 use cli_open::{Opened, open_register, word};
 use reg_into::{Choice, run_into};
+use std::alloc::Global;
+use std::fs::OpenFile;
+use std::io::{Read, Seek, Write};
 
 /// Opens the register, and puts a folder with a file for each key in place. A key that was left out is the fault.
 pub fn export_into(
@@ -29,16 +32,29 @@ fn put_into(
     let Ok(mut place) = SystemFolder::new(rt.alloc(), rt, word(matches, "into")) else {
         return Err(CliFault::Memory);
     };
-    match open_register(rt, rt.alloc(), matches, "REG", &None)? {
-        Opened::File(mut source) => {
-            let mut store = OfFile {
-                source: &mut source,
-            };
-            run_into(rt.alloc(), &mut store, choice, keep_going, &mut place)
+    let answer = match open_register(rt, rt.alloc(), matches, "REG", &None) {
+        Ok(mut register) => put_from(rt.alloc(), &mut register, choice, keep_going, &mut place),
+        Err(fault) => Err(fault),
+    };
+    drop(place);
+    answer
+}
+
+fn put_from<F: Read + Write + Seek + OpenFile, P: FolderPlace>(
+    alloc: Global,
+    register: &mut Opened<F>,
+    choice: &Choice<'_>,
+    keep_going: bool,
+    place: &mut P,
+) -> Result<Option<OpId>, CliFault> {
+    match register {
+        Opened::File(source) => {
+            let mut store = OfFile { source };
+            run_into(alloc, &mut store, choice, keep_going, place)
         }
-        Opened::Shelf(mut disk) => {
-            let mut store = OnShelf { disk: &mut disk };
-            run_into(rt.alloc(), &mut store, choice, keep_going, &mut place)
+        Opened::Shelf(disk) => {
+            let mut store = OnShelf { disk };
+            run_into(alloc, &mut store, choice, keep_going, place)
         }
     }
 }

@@ -225,6 +225,7 @@ fn import_into<F: Read + Write + Seek + OpenFile, S: Source, W: Write>(
         Err(fault) => return Ok(Outcome::Fault(fault)),
     };
     let answer = import_file(rt.alloc(), source, &mut place, files, order, sink);
+    drop(place);
     of_import(answer)
 }
 
@@ -272,8 +273,13 @@ fn import_numbered<Q: Place, F: Read + Write + Seek + OpenFile, S: Source, W: Wr
                 order,
                 sink,
             );
-            match late_fault(&place) {
-                Some(fault) => Ok(Outcome::Fault(fault)),
+            let late = late_fault(&place);
+            drop(place);
+            match late {
+                Some(fault) => {
+                    drop(answer);
+                    Ok(Outcome::Fault(fault))
+                }
                 None => answer,
             }
         }

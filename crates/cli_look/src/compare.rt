@@ -75,16 +75,24 @@ fn differs_of<C: Print>(
     command: &C,
 ) -> Result<bool, CliFault> {
     let mut sink = Writing::new(io::writer(rt));
-    match open_register(rt, rt.alloc(), matches, "REG", &None)? {
-        Opened::File(mut source) => {
-            let mut store = OfFile {
-                source: &mut source,
-            };
-            run_differs(rt.alloc(), &mut store, command, &mut sink)
+    let mut register = open_register(rt, rt.alloc(), matches, "REG", &None)?;
+    differs_from(rt.alloc(), &mut register, command, &mut sink)
+}
+
+fn differs_from<F: Read + Write + Seek + OpenFile, C: Print, W: Write>(
+    alloc: Global,
+    register: &mut Opened<F>,
+    command: &C,
+    sink: &mut Writing<W>,
+) -> Result<bool, CliFault> {
+    match register {
+        Opened::File(source) => {
+            let mut store = OfFile { source };
+            run_differs(alloc, &mut store, command, sink)
         }
-        Opened::Shelf(mut disk) => {
-            let mut store = OnShelf { disk: &mut disk };
-            run_differs(rt.alloc(), &mut store, command, &mut sink)
+        Opened::Shelf(disk) => {
+            let mut store = OnShelf { disk };
+            run_differs(alloc, &mut store, command, sink)
         }
     }
 }

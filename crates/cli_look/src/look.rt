@@ -12,7 +12,8 @@ use reg_desk::{
     Source, Writing, run_check, run_check_explained, run_diff, run_status,
 };
 use std::alloc::{AllocError, Global};
-use std::io::{self, Write};
+use std::fs::OpenFile;
+use std::io::{self, Read, Seek, Write};
 use std::rt::Files;
 
 const NO_POINT: &str = "error: --at takes a latitude and a longitude, as 52.5,13.4";
@@ -227,19 +228,26 @@ fn merged_to<W: Write>(
     matches: &ArgMatches<'_>,
     sink: &mut Writing<W>,
 ) -> Result<bool, CliFault> {
-    let register = open_register(rt, rt.alloc(), matches, "OLD", &None)?;
+    let mut register = open_register(rt, rt.alloc(), matches, "OLD", &None)?;
     let paths = matches.get_strs("NEW").unwrap_or(&[]);
     let mut others = open_all(rt, rt.alloc(), next_file(&register), paths)?;
+    diff_from(rt.alloc(), &mut register, &mut others, sink)
+}
+
+fn diff_from<F: Read + Write + Seek + OpenFile, S: Source, W: Write>(
+    alloc: Global,
+    register: &mut Register<F>,
+    others: &mut [S],
+    sink: &mut Writing<W>,
+) -> Result<bool, CliFault> {
     match register {
-        Register::File(mut source) => {
-            let mut store = OfFile {
-                source: &mut source,
-            };
-            run_diff(rt.alloc(), &mut store, &mut others, false, sink)
+        Register::File(source) => {
+            let mut store = OfFile { source };
+            run_diff(alloc, &mut store, others, false, sink)
         }
-        Register::Shelf(mut disk) => {
-            let mut store = OnShelf { disk: &mut disk };
-            run_diff(rt.alloc(), &mut store, &mut others, true, sink)
+        Register::Shelf(disk) => {
+            let mut store = OnShelf { disk };
+            run_diff(alloc, &mut store, others, true, sink)
         }
     }
 }

@@ -5,7 +5,7 @@ use crate::table::{Rows, answered};
 use crate::words::{files_before, open_shelf, open_to_read, place, word};
 use clap::ArgMatches;
 use reg_guard::engine::disks::FileDisk;
-use reg_guard::engine::places::{InputOf, Lockable};
+use reg_guard::engine::places::{InputOf, Lockable, Place};
 use reg_guard::engine::streams::{Reading, Writing};
 use reg_guard::engine::{CliFault, Give, OfFile, OnShelf, Print, run_give, run_print};
 use std::alloc::Global;
@@ -14,10 +14,19 @@ use std::io::{self, Read, Seek, Write};
 use std::rt::Files;
 
 /// A register that was opened.
-#[derive(Drop)]
 pub enum Opened<F> {
     File(InputOf<Reading<F>>),
     Shelf(FileDisk<F>),
+}
+
+// By hand: otherwise the prover goes through both variants wherever a register goes out of scope.
+impl<F: Drop> Drop for Opened<F> {
+    fn drop(self) {
+        match self {
+            Opened::File(source) => drop(source),
+            Opened::Shelf(disk) => drop(disk),
+        }
+    }
 }
 
 /// The number of the first file that is read after the register: a shelf has no number.
@@ -88,16 +97,24 @@ fn print_to<C: Print, W: Write>(
     command: &C,
     sink: &mut Writing<W>,
 ) -> Result<(), CliFault> {
-    match open_register(rt, rt.alloc(), matches, "REG", &None)? {
-        Opened::File(mut source) => {
-            let mut store = OfFile {
-                source: &mut source,
-            };
-            run_print(rt.alloc(), &mut store, command, sink)
+    let mut register = open_register(rt, rt.alloc(), matches, "REG", &None)?;
+    print_from(rt.alloc(), &mut register, command, sink)
+}
+
+fn print_from<F: Read + Write + Seek + OpenFile, C: Print, W: Write>(
+    alloc: Global,
+    register: &mut Opened<F>,
+    command: &C,
+    sink: &mut Writing<W>,
+) -> Result<(), CliFault> {
+    match register {
+        Opened::File(source) => {
+            let mut store = OfFile { source };
+            run_print(alloc, &mut store, command, sink)
         }
-        Opened::Shelf(mut disk) => {
-            let mut store = OnShelf { disk: &mut disk };
-            run_print(rt.alloc(), &mut store, command, sink)
+        Opened::Shelf(disk) => {
+            let mut store = OnShelf { disk };
+            run_print(alloc, &mut store, command, sink)
         }
     }
 }
@@ -110,14 +127,25 @@ pub fn give_of<F: Read + Write + Seek + OpenFile, C: Give>(
     command: &mut C,
 ) -> Result<(), CliFault> {
     let mut place = place(rt, rt.alloc(), word(matches, "OUT"))?;
+    let answer = give_to(rt.alloc(), register, command, &mut place);
+    drop(place);
+    answer
+}
+
+fn give_to<F: Read + Write + Seek + OpenFile, C: Give, P: Place>(
+    alloc: Global,
+    register: &mut Opened<F>,
+    command: &mut C,
+    place: &mut P,
+) -> Result<(), CliFault> {
     match register {
         Opened::File(source) => {
             let mut store = OfFile { source };
-            run_give(rt.alloc(), &mut store, command, &mut place)
+            run_give(alloc, &mut store, command, place)
         }
         Opened::Shelf(disk) => {
             let mut store = OnShelf { disk };
-            run_give(rt.alloc(), &mut store, command, &mut place)
+            run_give(alloc, &mut store, command, place)
         }
     }
 }

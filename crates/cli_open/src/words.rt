@@ -60,12 +60,18 @@ pub fn wanted(word: &str) -> Option<Wanted> {
 
 /// The replica of the argument.
 pub fn replica(word: &str) -> Result<Uuid, CliFault> {
-    Uuid::parse_str(word).map_err(|_| CliFault::Refused(Refusal::BadReplica))
+    match Uuid::parse_str(word) {
+        Ok(replica) => Ok(replica),
+        Err(_) => Err(CliFault::Refused(Refusal::BadReplica)),
+    }
 }
 
 /// The entry of the argument.
 pub fn entry(word: &str) -> Result<OpId, CliFault> {
-    OpId::parse(word.as_bytes()).ok_or(CliFault::Refused(Refusal::BadId))
+    match OpId::parse(word.as_bytes()) {
+        Some(entry) => Ok(entry),
+        None => Err(CliFault::Refused(Refusal::BadId)),
+    }
 }
 
 /// The ids on standard input, one a line, if one of the arguments is `-`. It is numbered as the file after the register.

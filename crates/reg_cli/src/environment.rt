@@ -87,7 +87,10 @@ fn is_one(rt: &HostRuntime, name: &str) -> Result<bool, u8> {
         Err(VarError::NotUnicode) => None,
         read => set(rt, read)?,
     };
-    Ok(value.is_some_and(|word| word.as_str() == "1"))
+    match value {
+        Some(word) => Ok(word.as_str() == "1"),
+        None => Ok(false),
+    }
 }
 
 // The value of a variable. An empty one counts as unset.
