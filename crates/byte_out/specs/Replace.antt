@@ -1,10 +1,10 @@
 -- The effect of replacing a file by one with some bytes.
-use Rattle.std.specs.Prelude.{◌≡◌, ◌⊎◌, ◌+◌, ◌++◌, ℕ, List, Option, None, Some, IsSome, true, length}
+use Rattle.std.specs.Prelude.{◌≡◌, ◌⊎◌, ◌+◌, ◌≤◌, ◌++◌, ℕ, List, Option, None, Some, IsSome, true, length}
 use Rattle.std.specs.Io.KnownBytes.{Appends}
 use Rattle.byte_io.specs.Device.{SinkState}
 use Rattle.byte_io.specs.Publish.{Publishes, IsPublishFault}
 use Rattle.byte_io.specs.declared.fault.PublishFault.TheVariants as publish
-use Rattle.byte_out.specs.Place.{Files, PlaceState, IfReported, Stays, IsCleared}
+use Rattle.byte_out.specs.Place.{Files, PlaceState, IfReported, Stays, IsCleared, IsCutAfter}
 use Rattle.byte_out.specs.declared.fault.ReplaceFault.{ReplaceFault}
 use Rattle.byte_out.specs.declared.fault.ReplaceFault.TheVariants as replace
 
@@ -59,17 +59,32 @@ Prepares read bytes old new = Publishes bytes old.sink new.sink × IfReported (I
 abbrev pub Replaces : Option (List ℕ) → List ℕ → PlaceState → PlaceState → Type 0
 Replaces read bytes old new = Publishes bytes old.sink new.sink × IfReported (λ f g. IsReplaced read bytes f g × (g.landed ≡ true)) old.files new.files
 
--- the outcome of each fault. In each case but the last one the old file still has the name
+-- the place does not report its files: only such a place writes a file in place, or loses its new file to another program
+abbrev pub ReportsNone : PlaceState → PlaceState → Type 0
+ReportsNone old new = IfReported (λ f g. ⊥) old.files new.files
+
+-- the first n bytes of the old file are those that were read
+abbrev pub IsCutReading : Option (List ℕ) → ℕ → Files → Type 0
+IsCutReading None n f = ⊥
+IsCutReading (Some read) n f = IsCutAfter n read f.stands
+
+-- the outcome of each fault. Where the files are reported, the old file still has the name in each case but the last one
 abbrev pub IsReplaceFault : Option (List ℕ) → List ℕ → PlaceState → PlaceState → ReplaceFault → Type 0
--- nothing was beside, and nothing was made; or the new file was whole, and did not get to its name
+-- nothing was beside, and nothing was made; or the new file was whole, and the old one could not be opened again, or the new one
+-- did not get its name
 IsReplaceFault read bytes old new replace.NotOpened = (IsPublishFault bytes old.sink new.sink publish.NotOpened × IfReported (λ f g. (g ≡ f) × (f.beside ≡ None)) old.files new.files)
     ⊎ (FailsWhole bytes old.sink new.sink × IfReported (λ f g. IsKept f g × (f.beside ≡ None)) old.files new.files)
 -- there was a new file
 IsReplaceFault read bytes old new replace.NewExists = IsPublishFault bytes old.sink new.sink publish.NotOpened × IfReported (λ f g. (g ≡ f) × IsSome f.beside) old.files new.files
--- exactly the first n bytes were written, not all; or all were, and the sync failed
+-- exactly the first n bytes were written, not all; or all were, and the sync failed; or the file was written in place
 IsReplaceFault read bytes old new (replace.WriteFailed n) = (IsPublishFault bytes old.sink new.sink (publish.WriteFailed n) × IfReported IsKept old.files new.files)
     ⊎ ((n ≡ length bytes) × FailsWhole bytes old.sink new.sink × IfReported IsKept old.files new.files)
--- the new file was whole, and the file with the name is not the one that was read
-IsReplaceFault read bytes old new replace.Changed = IsSome read × Publishes bytes old.sink new.sink × IfReported (λ f g. IsKept f g × (Has read f → ⊥)) old.files new.files
+    ⊎ ((n ≤ length bytes) × FailsWhole bytes old.sink new.sink × ReportsNone old new)
+-- the new file was whole, and n bytes of the old one could be read again, which were the same
+IsReplaceFault read bytes old new (replace.ReadFailed n) = IsSome read × FailsWhole bytes old.sink new.sink
+    × IfReported (λ f g. IsKept f g × (f.beside ≡ None) × IsCutReading read n f) old.files new.files
+-- the new file was whole, and the file with the name is not the one that was read; or the new file is another one
+IsReplaceFault read bytes old new replace.Changed = (IsSome read × Publishes bytes old.sink new.sink × IfReported (λ f g. IsKept f g × (Has read f → ⊥)) old.files new.files)
+    ⊎ (Publishes bytes old.sink new.sink × ReportsNone old new)
 -- the new file has the name; a stop may leave the old one
 IsReplaceFault read bytes old new replace.NotSynced = FailsWhole bytes old.sink new.sink × IfReported (IsReplaced read bytes) old.files new.files

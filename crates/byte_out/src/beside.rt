@@ -1,101 +1,93 @@
-//! The new file beside the old one. The command that makes it locks it, and a file that a stopped command left is reused.
+//! The new file beside the old one. The command that makes it locks it, and removes one that a stopped command left.
 //!
-//! The file with the name of the new file belongs to the command that has its lock, and only that command renames or removes it.
-//! This holds for every order of the steps of several commands, since each checks, once it has the lock, that the file still has
-//! the name:
+//! A command writes only into a file that it has made itself. The file with the name of the new file belongs to the command that
+//! has made and locked it, and only that command renames it. This holds for every order of the steps of several commands, since
+//! each checks, once it has a lock, that the file still has the name, and checks the name again before it renames:
 //!
-//! - B opens the file that A made and has locked. B gets no lock: `Exists`.
-//! - B opens the file that A made and has not locked yet. If B locks it first, it is B's, and A, which gets no lock, leaves it
-//!   alone: `Exists`. If B has ended by then, A gets the lock of a file that was renamed or removed. The file no longer has the
-//!   name, so A leaves it alone: it may be the old file of the next command.
+//! - B finds the file that A made and has locked. B gets no lock: `Exists`.
+//! - B finds the file that A made and has not locked yet. If B locks it first, B removes it. A, which gets no lock, or finds that
+//!   its file has lost the name, has written nothing, and leaves the name alone: `Exists`.
 //! - B opens the file of A, which then renames or removes it and ends. B gets the lock, but the file no longer has the name:
 //!   `Exists`.
-//! - A was stopped. The first command that locks the file owns it, and others get `Exists`. That command empties and uses it,
-//!   unless it is whole: A may have been stopped before the rename, or after a rename that failed, and nobody else knows which.
-//! - Without locks no file is reused: the command that makes the file owns it, since only one can make it.
+//! - A was stopped. Nobody saw what it wrote. The first command that locks the file removes it, and makes its own; others get
+//!   `Exists`.
+//! - Without locks no file is removed: the command that makes the file owns it, since only one can make it.
+//! - If a lock holds on one machine only, B on another machine removes the file of A, and makes its own. A finds that before it
+//!   renames (it reads the file, too: the system may remember for a while which file had the name), and leaves the name alone.
 
 use crate::fault::MakeFault;
 use crate::lock::{Lock, Lockable};
 use crate::way::FileId;
-use byte_io::{Reading, Source};
-use std::alloc::Global;
 use std::fs::{self, Metadata, OpenFile, OpenOptions, Permissions};
-use std::io::{self, ErrorKind, Seek};
+use std::io::{self, ErrorKind};
 use std::os::fd::AsFd;
 use std::os::unix::fs::{MetadataExt, OpenOptionsExt, PermissionsExt, fchown};
 use std::rt::Files;
 
-/// A test of whether a file is whole. A stopped command may have left a part of one.
-pub trait WholeFiles {
-    /// Whether the source gives a whole file, or possibly does.
-    fn is_whole<S: Source>(&self, alloc: Global, source: &mut S) -> bool;
-}
-
 /// The new file, locked; none if the folder forbids it, the name is too long, or the new file cannot be opened to the same
 /// people as the old one. Until it is, nobody else can open it.
-pub(crate) fn make_beside<R: Files, W: WholeFiles>(
-    alloc: Global,
+pub(crate) fn make_beside<R: Files>(
     rt: &R,
     beside: &str,
     old: &Option<Metadata>,
-    whole: &W,
 ) -> Result<Option<R::File>, MakeFault>
 where
     R::File: AsFd + Lockable,
 {
-    let made = OpenOptions::new()
-        .write(true)
-        .create_new(true)
-        .mode(if old.is_some() { 0o600 } else { 0o666 })
-        .open(rt, beside);
+    let mode = if old.is_some() { 0o600 } else { 0o666 };
+    let made = match make_anew(rt, beside, mode) {
+        Err(error) if error.kind() == ErrorKind::AlreadyExists => {
+            if !is_removed(rt, beside) {
+                return Err(MakeFault::Exists);
+            }
+            make_anew(rt, beside, mode)
+        }
+        made => made,
+    };
     let file = match made {
-        Ok(file) => match file.lock_alone() {
-            Lock::Taken if has_name(rt, beside, &file) => file,
-            Lock::Missing => file,
-            _ => return Err(MakeFault::Exists),
-        },
+        Ok(file) => file,
         Err(error) => match error.kind() {
-            ErrorKind::AlreadyExists => take_over(alloc, rt, beside, whole)?,
+            ErrorKind::AlreadyExists => return Err(MakeFault::Exists),
             ErrorKind::PermissionDenied
             | ErrorKind::ReadOnlyFilesystem
             | ErrorKind::InvalidFilename => return Ok(None),
             _ => return Err(MakeFault::NotOpened),
         },
     };
+    match file.lock_alone() {
+        Lock::Taken if has_name(rt, beside, &file) => {}
+        Lock::Missing => {}
+        _ => return Err(MakeFault::Exists),
+    }
     match old {
         Some(old) => kept_alike(rt, beside, file, old),
         None => Ok(Some(file)),
     }
 }
 
-// The new file that a stopped command left, emptied and locked, if it is not whole.
-fn take_over<R: Files, W: WholeFiles>(
-    alloc: Global,
-    rt: &R,
-    beside: &str,
-    whole: &W,
-) -> Result<R::File, MakeFault>
+fn make_anew<R: Files>(rt: &R, beside: &str, mode: u32) -> io::Result<R::File> {
+    OpenOptions::new()
+        .write(true)
+        .create_new(true)
+        .mode(mode)
+        .open(rt, beside)
+}
+
+// Whether there was a file that a stopped command left, and it was removed. It is locked until then.
+fn is_removed<R: Files>(rt: &R, beside: &str) -> bool
 where
     R::File: Lockable,
 {
     if !is_left(rt, beside) {
-        return Err(MakeFault::Exists);
+        return false;
     }
-    let Ok(file) = OpenOptions::new().read(true).write(true).open(rt, beside) else {
-        return Err(MakeFault::Exists);
+    let Ok(file) = OpenOptions::new().write(true).open(rt, beside) else {
+        return false;
     };
-    if file.lock_alone() != Lock::Taken || !has_name(rt, beside, &file) {
-        return Err(MakeFault::Exists);
-    }
-    let mut source = Reading::new(file);
-    if whole.is_whole(alloc, &mut source) {
-        return Err(MakeFault::Exists);
-    }
-    let mut file = source.into_inner();
-    match emptied(&mut file) {
-        Ok(()) => Ok(file),
-        Err(_) => Err(MakeFault::NotOpened),
-    }
+    file.lock_alone() == Lock::Taken
+        && is_left(rt, beside)
+        && has_name(rt, beside, &file)
+        && fs::remove_file(rt, beside).is_ok()
 }
 
 // Whether a command may have left the file with this name. A link, or a file with a second name, is another file.
@@ -106,16 +98,18 @@ fn is_left<R: Files>(rt: &R, beside: &str) -> bool {
     }
 }
 
-fn emptied<F: OpenFile + Seek>(file: &mut F) -> io::Result<()> {
-    file.set_len(0)?;
-    file.rewind()
-}
-
-// Whether the open file has this name, without a link.
-fn has_name<R: Files>(rt: &R, path: &str, file: &R::File) -> bool {
+/// Whether the open file has this name, without a link.
+pub(crate) fn has_name<R: Files>(rt: &R, path: &str, file: &R::File) -> bool {
     match fs::symlink_metadata(rt, path) {
         Ok(there) => FileId::of(&there).is_of(file),
         Err(_) => false,
+    }
+}
+
+/// Removes the new file, if it still has its name: otherwise the file there is another command's.
+pub(crate) fn remove_own<R: Files>(rt: &R, beside: &str, file: &R::File) {
+    if has_name(rt, beside, file) {
+        let _ = fs::remove_file(rt, beside);
     }
 }
 
@@ -134,7 +128,7 @@ where
         Ok(false) => Ok(None),
         Err(_) => Err(MakeFault::NotOpened),
     };
-    let _ = fs::remove_file(rt, beside);
+    remove_own(rt, beside, &file);
     kept
 }
 

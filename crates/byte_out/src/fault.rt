@@ -32,23 +32,58 @@ impl fmt::Display for MakeFault {
     }
 }
 
+/// Why the file with the name is not known to have the bytes that were read.
+#[derive(Clone, Copy, Debug, PartialEq, Eq)]
+pub enum CompareFault {
+    /// It could not be opened again.
+    NotOpened,
+    /// Reading it again failed after this many bytes, which were the same.
+    ReadFailed(usize),
+    /// It has other bytes, or it is gone.
+    Changed,
+}
+
+/// Why the new file did not get its name.
+#[derive(Clone, Copy, Debug, PartialEq, Eq)]
+pub enum PutFault {
+    /// The system refused.
+    NotOpened,
+    /// Another program removed or replaced the new file; or, before the file was written in place, that file.
+    Changed,
+    /// The file is written in place, and failed after this many bytes. If that is all of them, its sync failed.
+    WriteFailed(usize),
+}
+
 /// Why the old file was not replaced, or why that is not certain.
 #[derive(Clone, Copy, Debug, PartialEq, Eq)]
 pub enum ReplaceFault {
-    /// No new file was made, or it could not be renamed.
+    /// No new file was made, or the old one could not be opened again, or the new one could not be renamed.
     NotOpened,
-    /// A file with the new file's name exists. Another writer made it, or one that was killed.
+    /// A file with the new file's name exists: another command writes.
     NewExists,
     /// Exactly this many bytes were written. If all bytes were written, the sync failed.
     WriteFailed(usize),
-    /// The file is not the one that was read: another program replaced it.
+    /// Reading the old file again failed after this many bytes.
+    ReadFailed(usize),
+    /// The file is not the one that was read, or the new file is another one: another program replaced it.
     Changed,
     /// The new file has the name, but the sync of its folder failed: a power cut may leave the old one.
     NotSynced,
 }
 
 impl ReplaceFault {
-    ghost use Rattle.byte_out.specs.Names.{replace_name, replace_place};
+    ghost use Rattle.byte_out.specs.Names.{replace_name, replace_place, put_cause};
+
+    /// The fault of putting the new file in place.
+    pub fn of_put(fault: PutFault) -> ReplaceFault
+        ensures { result ≡ put_cause fault }
+    {
+        match fault {
+            PutFault::NotOpened => ReplaceFault::NotOpened,
+            PutFault::Changed => ReplaceFault::Changed,
+            PutFault::WriteFailed(place) => ReplaceFault::WriteFailed(place),
+        }
+    }
 
     /// The name that is printed.
     pub fn name(self) -> &'static str
@@ -58,12 +93,13 @@ impl ReplaceFault {
             ReplaceFault::NotOpened => "NotOpened",
             ReplaceFault::NewExists => "NewExists",
             ReplaceFault::WriteFailed(_) => "WriteFailed",
+            ReplaceFault::ReadFailed(_) => "ReadFailed",
             ReplaceFault::Changed => "Changed",
             ReplaceFault::NotSynced => "NotSynced",
         }
     }
 
-    /// The number of bytes that were written before it, if it has a place.
+    /// The number of bytes that were written, or read again, before it, if it has a place.
     pub fn place(self) -> Option<usize>
         ensures { result ≡ replace_place self }
     {
@@ -71,6 +107,7 @@ impl ReplaceFault {
             ReplaceFault::NotOpened => None,
             ReplaceFault::NewExists => None,
             ReplaceFault::WriteFailed(place) => Some(place),
+            ReplaceFault::ReadFailed(place) => Some(place),
             ReplaceFault::Changed => None,
             ReplaceFault::NotSynced => None,
         }

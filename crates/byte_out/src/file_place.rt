@@ -1,39 +1,38 @@
 //! The place of a path in the file system. No contract is about the file system.
 
-ghost use Rattle.std.specs.Prelude.{◌≡◌, ◌<◌, ◌++◌, None, IsSome, IfOk, codes};
+ghost use Rattle.std.specs.Prelude.{◌≡◌, ◌<◌, ◌++◌, None, IsSome, IfOk, codes, option_map};
 ghost use Rattle.std.specs.String.{string_bytes};
 ghost use Rattle.byte_io.specs.Device.{target_of};
+ghost use Rattle.byte_out.specs.Own.{IsOwnPath, marked, file_of};
 ghost use Rattle.byte_out.specs.Place.{untold};
 
-use crate::beside::WholeFiles;
-use crate::fault::MakeFault;
+use crate::beside::remove_own;
+use crate::fault::{CompareFault, MakeFault, PutFault};
 use crate::lock::Lockable;
 use crate::place::Place;
-use crate::way::{
-    FileId, Held, Put, has_bytes, linked_file, open_for, put_beside, sync_folder, write_within,
-};
-use byte_io::{DeviceFault, Log, NotOpened, Sink, Tally, WriteFault, write_all};
+use crate::way::{FileId, Led, leads, open_for, sync_folder};
+use crate::within::{compare_beside, compare_within, put_beside, write_within};
+use byte_io::{DeviceFault, Log, Sink, Tally, WriteFault, write_all};
 use std::alloc::{AllocError, Global};
-use std::fs::{self, OpenFile};
-use std::io::{self, ErrorKind, Write};
+use std::fs::OpenFile;
+use std::io::Write;
 use std::os::fd::AsFd;
 use std::rt::Files;
 
-/// The place of a path; if the path is a link to a plain file, the place of that file. The new file has its name with `.new`.
-/// If it cannot be made or renamed, the file itself is overwritten: with each `write`, or, at a place that is `late`, with `put`.
+/// The place of a path; if the path is a link to a plain file, the place of that file. The new file beside it has a name of its
+/// own. If it cannot be made, or the system refuses to rename it, the file itself is overwritten by `put`, and not before.
 #[derive(Drop)]
-pub struct FilePlace<'a, R: Files, W> {
-    alloc: Global,
+pub struct FilePlace<'a, R: Files> {
     rt: &'a R,
     path: &'a str,
-    real: String,
+    /// The file that the path, a link, leads to.
+    led: Option<String>,
+    /// Whether the path is a link, and nobody knows where it leads.
+    is_lost: bool,
     beside: String,
-    whole: &'a W,
     avoided: Option<FileId>,
     file: Option<R::File>,
     is_beside: bool,
-    held: Option<Vec<u8>>,
-    trouble: Option<Held>,
     taken: Log,
     failures: Tally,
     stalls: Tally,
@@ -41,68 +40,86 @@ pub struct FilePlace<'a, R: Files, W> {
     ghost counted: { IsSome file → 0 < openings.count },
 }
 
-impl<'a, R: Files, W: WholeFiles> FilePlace<'a, R, W>
+impl<'a, R: Files> FilePlace<'a, R>
 where
     R::File: AsFd + Lockable,
 {
-    /// The place of a path. Nothing is made or opened yet. A new file left by a stopped command is reused if it is not whole.
-    /// If the path leads to the file `avoided`, which the command also writes, the place does not open.
+    /// The place of a path. Nothing is made or opened yet. If the path leads to the file `avoided`, which the command also writes,
+    /// the place does not open.
     pub fn new(
         alloc: Global,
         rt: &'a R,
         path: &'a str,
-        whole: &'a W,
         avoided: Option<FileId>,
-    ) -> Result<FilePlace<'a, R, W>, AllocError>
+    ) -> Result<FilePlace<'a, R>, AllocError>
         ensures path { IfOk result (λ p. p.path ≡ path.entry) }
         ensures avoided { IfOk result (λ p. p.avoided ≡ avoided) }
-        ensures beside { IfOk result (λ p. string_bytes p.beside ≡ string_bytes p.real ++ codes ".new") }
+        ensures beside { IfOk result (λ p. IsOwnPath (file_of (option_map string_bytes p.led) path.entry.now) (string_bytes p.beside)) }
         ensures untold { IfOk result
-            (λ p. ⟦<FilePlace<'a, R, W> as Place>⟧.state p ≡ untold (target_of None)) }
+            (λ p. ⟦<FilePlace<'a, R> as Place>⟧.state p ≡ untold (target_of None)) }
     {
-        let real = match linked_file(alloc, rt, path)? {
-            Some(real) => real,
-            None => format!(in alloc; "{path}")?,
+        let (led, is_lost) = match leads(alloc, rt, path)? {
+            Led::To(real) => (Some(real), false),
+            Led::Itself => (None, false),
+            Led::Unknown => (None, true),
         };
-        let beside = format!(in alloc; "{real}.new")?;
+        let beside = own_path(alloc, file_of(&led, path))?;
         Ok(FilePlace {
-            alloc,
             rt,
             path,
-            real,
+            led,
+            is_lost,
             beside,
-            whole,
             avoided,
             file: None,
             is_beside: false,
-            held: None,
-            trouble: None,
             taken: Log::empty(),
             failures: Tally::none(),
             stalls: Tally::none(),
             openings: Tally::none(),
         })
     }
+}
 
-    /// The same place, but a file that is overwritten is not changed before `put`: until then its new bytes are kept in memory.
-    pub fn late(mut self) -> FilePlace<'a, R, W>
-        ensures path { result.path ≡ self.entry.path }
-        ensures held { IsSome result.held }
-        ensures same { ⟦<FilePlace<'a, R, W> as Place>⟧.state result ≡ ⟦<FilePlace<'a, R, W> as Place>⟧.state self.entry }
-    {
-        self.held = Some(Vec::new(self.alloc));
-        self
-    }
-
-    /// Why the bytes that were kept in memory are not in the file, if `write` or `put` failed for that reason.
-    pub fn trouble(&self) -> Option<Held>
-        ensures { result ≡ self.now.trouble }
-    {
-        self.trouble
+/// The path of the new file beside the file with this path.
+pub fn own_path(alloc: Global, path: &str) -> Result<String, AllocError>
+    ensures { IfOk result (λ p. IsOwnPath path.now (string_bytes p)) }
+{
+    match path.rsplit_once('/') {
+        Some((folder, name)) => match own_in(alloc, folder, name) {
+            Ok(own) => Ok(own),
+            Err(fault) => Err(fault),
+        },
+        None => match own_name(alloc, path) {
+            Ok(own) => Ok(own),
+            Err(fault) => Err(fault),
+        },
     }
 }
 
-impl<R: Files, W> Sink for FilePlace<'_, R, W> {
+fn own_in(alloc: Global, folder: &str, name: &str) -> Result<String, AllocError>
+    ensures { IfOk result (λ p. string_bytes p ≡ folder.now ++ (codes "/" ++ marked name.now)) }
+{
+    format!(in alloc; "{folder}/.{name}.crsreg")
+}
+
+fn own_name(alloc: Global, name: &str) -> Result<String, AllocError>
+    ensures { IfOk result (λ p. string_bytes p ≡ marked name.now) }
+{
+    format!(in alloc; ".{name}.crsreg")
+}
+
+// The file that a link leads to, or else the one with the path.
+fn file_of<'a>(led: &'a Option<String>, path: &'a str) -> &'a str
+    ensures { result.now ≡ file_of (option_map string_bytes led.now) path.now }
+{
+    match led {
+        Some(real) => real.as_str(),
+        None => path,
+    }
+}
+
+impl<R: Files> Sink for FilePlace<'_, R> {
     ghost state = { λ s. record {
       written = None;
       taken = s.taken.bytes;
@@ -112,16 +129,11 @@ impl<R: Files, W> Sink for FilePlace<'_, R, W> {
     } };
 
     fn write_some(&mut self, buf: &[u8]) -> Result<usize, DeviceFault> {
-        let written = match (&mut self.file, &mut self.held) {
-            (None, _) => Ok(0),
-            (Some(_), Some(held)) if !self.is_beside => match held.extend_from_slice(buf) {
-                Ok(()) => Ok(buf.len()),
-                Err(_) => {
-                    self.trouble = Some(Held::Memory);
-                    Err(io::Error::from(ErrorKind::OutOfMemory))
-                }
-            },
-            (Some(file), _) => file.write(buf),
+        let written = match &mut self.file {
+            None => Ok(0),
+            Some(file) if self.is_beside => file.write(buf),
+            // The bytes of a file that is written in place are written by `put`.
+            Some(_) => Ok(buf.len()),
         };
         match written {
             Ok(n) => {
@@ -139,7 +151,7 @@ impl<R: Files, W> Sink for FilePlace<'_, R, W> {
     }
 }
 
-impl<R: Files, W: WholeFiles> Place for FilePlace<'_, R, W>
+impl<R: Files> Place for FilePlace<'_, R>
 where
     R::File: AsFd + Lockable,
 {
@@ -155,19 +167,12 @@ where
     } };
 
     fn make(&mut self) -> Result<(), MakeFault> {
-        if self.avoided.is_some() && self.avoided == FileId::at(self.rt, &self.real) {
+        let real = file_of(&self.led, self.path);
+        if self.is_lost || self.avoided.is_some() && self.avoided == FileId::at(self.rt, real) {
             self.failures = Tally::after(&self.failures);
             return Err(MakeFault::NotOpened);
         }
-        let empties = self.held.is_none();
-        match open_for(
-            self.alloc,
-            self.rt,
-            &self.real,
-            &self.beside,
-            empties,
-            self.whole,
-        ) {
+        match open_for(self.rt, real, &self.beside) {
             Ok((file, is_beside)) => {
                 self.is_beside = is_beside;
                 self.openings = Tally::after(&self.openings);
@@ -195,34 +200,56 @@ where
         Ok(())
     }
 
-    fn still_has(&mut self, read: &[u8]) -> bool {
-        // A file that is written in place is already overwritten.
-        !self.is_beside || has_bytes(self.rt, &self.real, read)
-    }
-
-    fn put(&mut self) -> Result<(), NotOpened> {
-        if self.is_beside {
-            match put_beside(self.rt, &self.beside, &self.real) {
-                Put::Done => return Ok(()),
-                Put::Not => {}
-                // The new file stays: it may be the only whole one.
-                Put::Partly => self.is_beside = false,
+    fn compare(&mut self, read: &[u8]) -> Result<(), CompareFault> {
+        let real = file_of(&self.led, self.path);
+        let compared = match &self.file {
+            Some(file) if self.is_beside => {
+                compare_beside(self.rt, file, &self.beside, real, read)
             }
-        } else {
-            let (Some(file), Some(held)) = (self.file.take(), &self.held) else {
-                return Ok(());
-            };
-            match write_within(file, held) {
-                Ok(()) => return Ok(()),
-                Err(trouble) => self.trouble = Some(trouble),
+            Some(file) => compare_within(self.rt, file, real, read),
+            None => Err(CompareFault::Changed),
+        };
+        match compared {
+            Ok(()) => Ok(()),
+            Err(CompareFault::Changed) => Err(CompareFault::Changed),
+            Err(fault) => {
+                self.failures = Tally::after(&self.failures);
+                Err(fault)
             }
         }
-        self.failures = Tally::after(&self.failures);
-        Err(NotOpened)
+    }
+
+    fn put(&mut self, read: Option<&[u8]>, bytes: &[u8]) -> Result<(), PutFault> {
+        let real = file_of(&self.led, self.path);
+        let put = match self.file.take() {
+            None => Err(PutFault::NotOpened),
+            Some(file) if self.is_beside => {
+                let put = put_beside(self.rt, &file, &self.beside, real, read, bytes);
+                self.file = Some(file);
+                put
+            }
+            Some(file) => write_within(file, bytes),
+        };
+        match put {
+            Ok(()) => Ok(()),
+            Err(PutFault::Changed) => {
+                // What has the name of the new file may be another command's.
+                self.is_beside = false;
+                Err(PutFault::Changed)
+            }
+            Err(fault) => {
+                self.failures = Tally::after(&self.failures);
+                // The new file stays if the old one has a part of its bytes: then it is the only whole one.
+                if fault != PutFault::NotOpened {
+                    self.is_beside = false;
+                }
+                Err(fault)
+            }
+        }
     }
 
     fn land(&mut self) -> Result<(), DeviceFault> {
-        if self.is_beside && sync_folder(self.rt, &self.real).is_err() {
+        if self.is_beside && sync_folder(self.rt, file_of(&self.led, self.path)).is_err() {
             self.failures = Tally::after(&self.failures);
             return Err(DeviceFault);
         }
@@ -230,8 +257,10 @@ where
     }
 
     fn remove(&mut self) {
-        if self.is_beside {
-            let _ = fs::remove_file(self.rt, &self.beside);
+        if let Some(file) = &self.file {
+            if self.is_beside {
+                remove_own(self.rt, &self.beside, file);
+            }
         }
     }
 }

@@ -1,6 +1,8 @@
 //! The sources of a command. One of them may be the file that the command replaces.
 
-ghost use Rattle.std.specs.Prelude.{◌≡◌, Bool, true, false, IfOk, map, option_map};
+ghost use Rattle.std.specs.Prelude.{◌≡◌, ◌≤◌, Bool, true, false, IfOk, length, map, option_map};
+ghost use Rattle.std.specs.Io.KnownBytes.{ReadConsumes};
+ghost use Rattle.byte_io.specs.Device.{Moves, CountsFailure, CountsNone};
 ghost use Rattle.byte_out.specs.Input.{kept_of, first_kept, anew};
 
 use byte_io::{DeviceFault, Log, Pieces, Reading, Source};
@@ -66,7 +68,15 @@ impl<S: Source> Source for InputOf<S> {
       ends = (S.state s.source).ends;
     } };
 
-    fn read_some(&mut self, buf: &mut [u8]) -> Result<usize, DeviceFault> {
+    // Whether it keeps its bytes stays the same: otherwise a command could skip the comparison with the file that it read.
+    fn read_some(&mut self, buf: &mut [u8]) -> Result<usize, DeviceFault>
+        ensures bound { IfOk result (λ n. n ≤ length buf.new) }
+        ensures bytes { ReadConsumes (⟦<InputOf<S> as Source>⟧.state self.old).left (⟦<InputOf<S> as Source>⟧.state self.new).left result buf.new }
+        ensures given { Moves result buf.new (⟦<InputOf<S> as Source>⟧.state self.old).given (⟦<InputOf<S> as Source>⟧.state self.new).given }
+        ensures failure { CountsFailure result (⟦<InputOf<S> as Source>⟧.state self.old).failures (⟦<InputOf<S> as Source>⟧.state self.new).failures }
+        ensures end { CountsNone result (length buf.new) (⟦<InputOf<S> as Source>⟧.state self.old).ends (⟦<InputOf<S> as Source>⟧.state self.new).ends }
+        ensures keeps { self.new.keeps ≡ self.old.keeps }
+    {
         match self.source.read_some(buf) {
             Ok(n) => {
                 let front = &buf[..n];

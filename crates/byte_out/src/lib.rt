@@ -11,13 +11,14 @@ mod memory_target;
 mod place;
 mod replacing;
 mod way;
+mod within;
 
-pub use beside::{WholeFiles, make_alike};
-pub use fault::{MakeFault, ReplaceFault};
-pub use file_place::FilePlace;
+pub use beside::make_alike;
+pub use fault::{CompareFault, MakeFault, PutFault, ReplaceFault};
+pub use file_place::{FilePlace, own_path};
 pub use input::{Input, InputOf, first_kept};
 pub use lock::{Lock, Lockable};
 pub use mem_place::{MemPlace, Step};
 pub use place::Place;
 pub use replacing::{prepare, replace};
-pub use way::{FileId, Held};
+pub use way::FileId;

@@ -3,9 +3,9 @@
 ghost use Rattle.std.specs.Prelude.{◌≡◌, ◌↔◌, None, Some, true, false, option_map, IsTrue};
 ghost use Rattle.byte_io.specs.Device.{target_of};
 
-use crate::fault::MakeFault;
+use crate::fault::{CompareFault, MakeFault, PutFault};
 use crate::place::Place;
-use byte_io::{DeviceFault, Log, NotOpened, Tally, WriteFault};
+use byte_io::{DeviceFault, Log, Tally, WriteFault};
 use std::alloc::Global;
 
 /// A step of a place in memory.
@@ -13,6 +13,10 @@ use std::alloc::Global;
 pub enum Step {
     Make,
     Sync,
+    /// Opening the file with the name again, to compare it.
+    Reopen,
+    /// Reading it again.
+    Reread,
     Put,
     Land,
     Remove,
@@ -196,19 +200,34 @@ impl Place for MemPlace {
         Ok(())
     }
 
-    fn still_has(&mut self, read: &[u8]) -> bool {
-        self.same = is_file(&self.stands, read);
-        self.same
+    fn compare(&mut self, read: &[u8]) -> Result<(), CompareFault> {
+        self.same = false;
+        if self.stands.is_none() {
+            return Err(CompareFault::Changed);
+        }
+        if self.fails == Some(Step::Reopen) {
+            self.failures = Tally::after(&self.failures);
+            return Err(CompareFault::NotOpened);
+        }
+        if self.fails == Some(Step::Reread) {
+            self.failures = Tally::after(&self.failures);
+            return Err(CompareFault::ReadFailed(0));
+        }
+        if !is_file(&self.stands, read) {
+            return Err(CompareFault::Changed);
+        }
+        self.same = true;
+        Ok(())
     }
 
-    fn put(&mut self) -> Result<(), NotOpened> {
+    fn put(&mut self, _read: Option<&[u8]>, _bytes: &[u8]) -> Result<(), PutFault> {
         // If it is cut short, it may be done or not.
         if !self.sure {
             self.torn = true;
         }
         if self.fails == Some(Step::Put) {
             self.failures = Tally::after(&self.failures);
-            return Err(NotOpened);
+            return Err(PutFault::NotOpened);
         }
         self.stands = self.beside.take();
         self.landed = false;

@@ -2,9 +2,9 @@
 
 ghost use Rattle.byte_out.specs.Place.{untold};
 
-use crate::fault::MakeFault;
+use crate::fault::{CompareFault, MakeFault, PutFault};
 use crate::place::Place;
-use byte_io::{DeviceFault, MemoryTarget, NotOpened, Sink, Target, WriteFault, write_all};
+use byte_io::{DeviceFault, MemoryTarget, Sink, Target, WriteFault, write_all};
 
 impl Place for MemoryTarget {
     ghost state = { λ s. untold (⟦<MemoryTarget as Sink>⟧.state s) };
@@ -24,11 +24,11 @@ impl Place for MemoryTarget {
         Ok(())
     }
 
-    fn still_has(&mut self, _read: &[u8]) -> bool {
-        true
+    fn compare(&mut self, _read: &[u8]) -> Result<(), CompareFault> {
+        Ok(())
     }
 
-    fn put(&mut self) -> Result<(), NotOpened> {
+    fn put(&mut self, _read: Option<&[u8]>, _bytes: &[u8]) -> Result<(), PutFault> {
         Ok(())
     }
 

@@ -3,10 +3,10 @@
 ghost use Rattle.std.specs.Prelude.{◌≡◌, OnOk, IfErr};
 ghost use Rattle.byte_io.specs.Device.{Opens};
 ghost use Rattle.byte_io.specs.Whole.{WritesAll, IsCutAt};
-ghost use Rattle.byte_out.specs.Place.{PlaceState, IfReported, IsMade, IsFilled, IsSynced, IsCompared, IsPut, IsLanded, IsRemoved, CountsOnly};
+ghost use Rattle.byte_out.specs.Place.{PlaceState, IfReported, IsMade, IsFilled, IsSynced, IsCompared, IsPut, IsLanded, IsRemoved, CountsOnly, ComparesOnly, PutsOnly};
 
-use crate::fault::MakeFault;
-use byte_io::{DeviceFault, NotOpened, WriteFault};
+use crate::fault::{CompareFault, MakeFault, PutFault};
+use byte_io::{DeviceFault, WriteFault};
 
 /// The name of a file. A new file can be made next to it, and then be renamed to it.
 pub trait Place {
@@ -32,14 +32,15 @@ pub trait Place {
         ensures calls { CountsOnly result (state self.old).sink (state self.new).sink }
         ensures files { IfReported (IsSynced result) (state self.old).files (state self.new).files };
 
-    /// Whether the file with the name has exactly these bytes, which were read from it.
-    fn still_has(&mut self, read: &[u8]) -> bool
-        ensures calls { (state self.new).sink ≡ (state self.old).sink }
+    /// Compares the file with the name with these bytes, which were read from it.
+    fn compare(&mut self, read: &[u8]) -> Result<(), CompareFault>
+        ensures calls { ComparesOnly result (state self.old).sink (state self.new).sink }
         ensures files { IfReported (IsCompared result read.now) (state self.old).files (state self.new).files };
 
-    /// Renames the new file to the old one, which it replaces.
-    fn put(&mut self) -> Result<(), NotOpened>
-        ensures calls { CountsOnly result (state self.old).sink (state self.new).sink }
+    /// Renames the new file to the old one, which it replaces. A file that is written in place gets `bytes` now; if a rename is
+    /// refused, only if it still has the bytes that were read.
+    fn put(&mut self, read: Option<&[u8]>, bytes: &[u8]) -> Result<(), PutFault>
+        ensures calls { PutsOnly result bytes.now (state self.old).sink (state self.new).sink }
         ensures files { IfReported (IsPut result) (state self.old).files (state self.new).files };
 
     /// Makes sure that the renamed file keeps its name after a stop.
@@ -47,7 +48,7 @@ pub trait Place {
         ensures calls { CountsOnly result (state self.old).sink (state self.new).sink }
         ensures files { IfReported (IsLanded result) (state self.old).files (state self.new).files };
 
-    /// Removes the new file, if it can.
+    /// Removes the new file, if it can, and if it is still the one that was made.
     fn remove(&mut self)
         ensures calls { (state self.new).sink ≡ (state self.old).sink }
         ensures files { IfReported IsRemoved (state self.old).files (state self.new).files };

@@ -3,7 +3,7 @@
 ghost use Rattle.std.specs.Prelude.{OnOk, IfErr, option_map};
 ghost use Rattle.byte_out.specs.Replace.{Prepares, Replaces, IsReplaceFault};
 
-use crate::fault::{MakeFault, ReplaceFault};
+use crate::fault::{CompareFault, MakeFault, ReplaceFault};
 use crate::place::Place;
 
 /// Replaces the file by one with these bytes, if it still has the bytes that were read from it, or if it was not read. On
@@ -20,9 +20,9 @@ pub fn replace<P: Place>(
     if let Err(fault) = prepare(place, read, bytes) {
         return Err(fault);
     }
-    if place.put().is_err() {
+    if let Err(fault) = place.put(read, bytes) {
         place.remove();
-        return Err(ReplaceFault::NotOpened);
+        return Err(ReplaceFault::of_put(fault));
     }
     if place.land().is_err() {
         return Err(ReplaceFault::NotSynced);
@@ -56,9 +56,20 @@ pub fn prepare<P: Place>(
     }
     // Compare only now: before the new file exists, another command can make one and replace the old file.
     if let Some(read) = read {
-        if !place.still_has(read) {
-            place.remove();
-            return Err(ReplaceFault::Changed);
+        match place.compare(read) {
+            Ok(()) => {}
+            Err(CompareFault::NotOpened) => {
+                place.remove();
+                return Err(ReplaceFault::NotOpened);
+            }
+            Err(CompareFault::ReadFailed(count)) => {
+                place.remove();
+                return Err(ReplaceFault::ReadFailed(count));
+            }
+            Err(CompareFault::Changed) => {
+                place.remove();
+                return Err(ReplaceFault::Changed);
+            }
         }
     }
     Ok(())

@@ -1,14 +1,18 @@
 -- Each call of a place is an event of the model.
-use Rattle.std.proofs.Common.{◌≡◌, ◌↔◌, ℕ, Bool, true, false, List, [], ◌∷◌, length, take, take_all, le_refl, Option, Some, None, Ok, Err, IsTrue, IsSome, refl, sym, ◌∙◌, ap, subst, cond}
+use Rattle.std.proofs.Common.{◌≡◌, ℕ, Bool, true, false, List, [], ◌∷◌, length, take, take_all, le_refl, Option, Some, None, Ok, Err, IsSome, refl, sym, ◌∙◌, ap, subst, cond}
 use Rattle.std.specs.declared.result.Result.{Result}
 use Rattle.std.specs.Io.KnownBytes.{Appends}
 use lib.Pointwise.{bytes_decides}
 use Rattle.byte_io.specs.declared.fault.WriteFault.{WriteFault}
 use Rattle.byte_out.specs.declared.fault.MakeFault.{MakeFault}
 use Rattle.byte_out.specs.declared.fault.MakeFault.TheVariants as make
+use Rattle.byte_out.specs.declared.fault.CompareFault.{CompareFault}
+use Rattle.byte_out.specs.declared.fault.CompareFault.TheVariants as other
+use Rattle.byte_out.specs.declared.fault.PutFault.{PutFault}
+use Rattle.byte_out.specs.declared.fault.PutFault.TheVariants as fault
 use Rattle.byte_out.specs.Place.{Files, IsMade, IsFilled, IsSynced as IsSyncedBy, IsCompared, IsPut, IsLanded, IsRemoved}
 use Rattle.byte_writers.specs.Path.{Content, is_same, NewFile, Stage, HasRead, Writes, IsSynced, FoundSame, Withdraws, Replaced, Ended, World, Goes, Fails, Fills, at_stage, comes_to, makes, puts, goes, fills, failed, happens, after}
-use Rattle.byte_writers.specs.Steps.{bytes_of, IsAt, IsReached, make_event, make_stage}
+use Rattle.byte_writers.specs.Steps.{bytes_of, IsAt, IsReached, make_event, make_stage, compare_event, compare_stage}
 use Rattle.byte_writers.proofs.Kept.{Fits, Holds, Makes, always, same_number, filled_own, same_content}
 use Rattle.byte_writers.proofs.Left.{any_of, any_adds}
 
@@ -71,39 +75,61 @@ syncing {T} {E} change w k x f g r t led at full ok m =
       beside = m.1 ∙ full ∙ sym (ap bytes_of now);
     })
 
+-- OUT has the bytes that were read; or it has not
+is_same_as : (out : Content) (read : List ℕ) → out ≡ Some read → is_same out (Some read) ≡ true
+is_same_as out read e = subst (λ o. is_same o (Some read) ≡ true) (sym e) ((bytes_decides read read).1 refl)
+
 is_false : (b : Bool) → (b ≡ true → ⊥) → b ≡ false
 is_false true never = absurd (never refl)
 is_false false never = refl
 
-same_as : (out : Content) (read : List ℕ) (same : Bool) → (IsTrue same ↔ (out ≡ Some read)) → is_same out (Some read) ≡ same
-same_as out read true iff = subst (λ o. is_same o (Some read) ≡ true) (sym (iff.0 refl)) ((bytes_decides read read).1 refl)
-same_as out read false iff = is_false (is_same out (Some read)) (λ e. let t = iff.1 (same_content out (Some read) e) in cc)
+is_other : (out : Content) (read : List ℕ) → (out ≡ Some read → ⊥) → is_same out (Some read) ≡ false
+is_other out read never = is_false (is_same out (Some read)) (λ e. never (same_content out (Some read) e))
 
-pub comparing : (change : ℕ → Content → List ℕ) (w : World) (k : ℕ) (read : List ℕ) (f g : Files) (same : Bool)
-    → IsAt w k (IsSynced (Some read)) f → IsCompared same read f g
+looked : (change : ℕ → Content → List ℕ) (w : World) (k : ℕ) (read : List ℕ) (f g : Files) (same : Bool)
+    → IsAt w k (IsSynced (Some read)) f → g.stands ≡ f.stands → g.beside ≡ f.beside → is_same w.stands (Some read) ≡ same
     → IsAt (happens change w (Goes k)) k (cond same (FoundSame (Some read)) Withdraws) g
-comparing change w k read f g same at m =
-    let found : is_same w.stands (Some read) ≡ same = same_as w.stands read same (subst (λ o. IsTrue same ↔ (o ≡ Some read)) at.stands m.5) in
+looked change w k read f g same at stands beside found =
     subst (λ s. IsAt (goes change w k s) k (cond same (FoundSame (Some read)) Withdraws) g) (sym at.stage)
     (subst (λ b. IsAt (comes_to w k (cond b (FoundSame (Some read)) Withdraws)) k (cond same (FoundSame (Some read)) Withdraws) g) (sym found)
-    (comes w k (IsSynced (Some read)) (cond same (FoundSame (Some read)) Withdraws) f g at m.0.same_file m.1))
+    (comes w k (IsSynced (Some read)) (cond same (FoundSame (Some read)) Withdraws) f g at stands beside))
+
+unlooked : (change : ℕ → Content → List ℕ) (w : World) (k : ℕ) (read : List ℕ) (f g : Files)
+    → IsAt w k (IsSynced (Some read)) f → g.stands ≡ f.stands → g.beside ≡ f.beside → IsAt (happens change w (Fails k)) k Withdraws g
+unlooked change w k read f g at stands beside =
+    subst (λ s. IsAt (comes_to w k (failed s)) k Withdraws g) (sym at.stage) (comes w k (IsSynced (Some read)) Withdraws f g at stands beside)
+
+pub comparing : {T : Type 0} (change : ℕ → Content → List ℕ) (w : World) (k : ℕ) (read : List ℕ) (f g : Files) (r : Result T CompareFault)
+    → IsAt w k (IsSynced (Some read)) f → IsCompared r read f g
+    → IsAt (happens change w (compare_event k r)) k (compare_stage (Some read) r) g
+comparing change w k read f g (Ok t) at m = looked change w k read f g true at m.0.0.same_file m.0.1 (is_same_as w.stands read (sym at.stands ∙ m.1))
+comparing change w k read f g (Err other.Changed) at m =
+    looked change w k read f g false at m.0.0.same_file m.0.1 (is_other w.stands read (λ e. m.1 (at.stands ∙ e)))
+comparing change w k read f g (Err other.NotOpened) at m = unlooked change w k read f g at m.0.0.same_file m.0.1
+comparing change w k read f g (Err (other.ReadFailed n)) at m = unlooked change w k read f g at m.0.0.same_file m.0.1
 
 put : (w : World) (k : ℕ) (x : Content) (g : Files) (new : Option NewFile) → Makes k new → g.stands ≡ bytes_of new → g.beside ≡ None → IsAt (puts w k x new) k (Replaced x) g
 put w k x g None m stands beside = absurd (let e = m.1 in cc)
 put w k x g (Some n) m stands beside = record { stage = own w.stage k (Replaced x); stands = stands; beside = beside }
 
-pub putting : {T E : Type 0} (change : ℕ → Content → List ℕ) (w : World) (k : ℕ) (x : Content) (f g : Files) (r : Result T E) (t : T)
+pub putting : {T : Type 0} (change : ℕ → Content → List ℕ) (w : World) (k : ℕ) (x : Content) (f g : Files) (r : Result T PutFault) (t : T)
     → IsReached change w → IsAt w k (FoundSame x) f → r ≡ Ok t → IsPut r f g → IsAt (happens change w (Goes k)) k (Replaced x) g
-putting {T} {E} change w k x f g r t led at ok m =
-    let m : IsPut {T = T} {E = E} (Ok t) f g = subst (λ q. IsPut q f g) ok m in
+putting {T} change w k x f g r t led at ok m =
+    let m : IsPut {T = T} (Ok t) f g = subst (λ q. IsPut q f g) ok m in
     let fit : Fits (any_of change) k w.stands w.beside (FoundSame x) = fits change w k (FoundSame x) f led at in
     subst (λ s. IsAt (goes change w k s) k (Replaced x) g) (sym at.stage) (put w k x g w.beside (change k x, fit.0) (m.0 ∙ at.beside) m.1)
 
-pub not_put : {T E : Type 0} (change : ℕ → Content → List ℕ) (w : World) (k : ℕ) (x : Content) (f g : Files) (r : Result T E) (e : E)
+unput : {T : Type 0} (w : World) (k : ℕ) (x : Content) (f g : Files) (e : PutFault) → IsAt w k (FoundSame x) f → IsPut {T = T} (Err e) f g
+    → IsAt (comes_to w k Withdraws) k Withdraws g
+unput w k x f g fault.NotOpened at m = comes w k (FoundSame x) Withdraws f g at m.0 m.1
+unput w k x f g fault.Changed at m = absurd m
+unput w k x f g (fault.WriteFailed n) at m = absurd m
+
+pub not_put : {T : Type 0} (change : ℕ → Content → List ℕ) (w : World) (k : ℕ) (x : Content) (f g : Files) (r : Result T PutFault) (e : PutFault)
     → IsAt w k (FoundSame x) f → r ≡ Err e → IsPut r f g → IsAt (happens change w (Fails k)) k Withdraws g
-not_put {T} {E} change w k x f g r e at err m =
-    let m : IsPut {T = T} {E = E} (Err e) f g = subst (λ q. IsPut q f g) err m in
-    subst (λ s. IsAt (comes_to w k (failed s)) k Withdraws g) (sym at.stage) (comes w k (FoundSame x) Withdraws f g at m.0 m.1)
+not_put {T} change w k x f g r e at err m =
+    let m : IsPut {T = T} (Err e) f g = subst (λ q. IsPut q f g) err m in
+    subst (λ s. IsAt (comes_to w k (failed s)) k Withdraws g) (sym at.stage) (unput {T = T} w k x f g e at m)
 
 pub landing : {T E : Type 0} (w : World) (k : ℕ) (x : Content) (f g : Files) (r : Result T E) → IsAt w k (Replaced x) f → IsLanded r f g → IsAt w k (Replaced x) g
 landing w k x f g (Ok t) at m = record { stage = at.stage; stands = m.0 ∙ at.stands; beside = m.1 ∙ at.beside }

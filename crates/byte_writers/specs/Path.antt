@@ -44,8 +44,8 @@ pub record World : Type 0 where
   pub stage : ℕ → Stage
 
 -- a command takes its next step; makes OUT.new before it reads OUT; writes the first bytes of OUT.new; fails at its next
--- step; is stopped, and takes no further step; or somebody (a person, or a command that takes it over) removes the file that
--- a stopped command left
+-- step; is stopped, and takes no further step; or somebody (the next command, or a person) removes the file that a
+-- stopped command left
 pub data Event : Type 0 where
   Goes : (k : ℕ) → Event
   Locks : (k : ℕ) → Event

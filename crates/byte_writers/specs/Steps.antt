@@ -4,7 +4,9 @@ use Rattle.std.specs.declared.result.Result.{Result}
 use Rattle.byte_out.specs.Place.{Files}
 use Rattle.byte_out.specs.declared.fault.MakeFault.{MakeFault}
 use Rattle.byte_out.specs.declared.fault.MakeFault.TheVariants as make
-use Rattle.byte_writers.specs.Path.{Content, NewFile, Stage, Writes, Ended, World, Event, Goes, Fails, start, after}
+use Rattle.byte_out.specs.declared.fault.CompareFault.{CompareFault}
+use Rattle.byte_out.specs.declared.fault.CompareFault.TheVariants as other
+use Rattle.byte_writers.specs.Path.{Content, NewFile, Stage, Writes, FoundSame, Withdraws, Ended, World, Event, Goes, Fails, start, after}
 
 abbrev pub bytes_of : Option NewFile → Option (List ℕ)
 bytes_of None = None
@@ -31,3 +33,14 @@ make_event k (Err make.NotOpened) = Fails k
 abbrev pub make_stage : {T : Type 0} → Content → Result T MakeFault → Stage
 make_stage x (Ok t) = Writes x
 make_stage x (Err e) = Ended
+
+-- the same of a call that compares OUT. One that cannot read it fails
+abbrev pub compare_event : {T : Type 0} → ℕ → Result T CompareFault → Event
+compare_event k (Ok t) = Goes k
+compare_event k (Err other.Changed) = Goes k
+compare_event k (Err other.NotOpened) = Fails k
+compare_event k (Err (other.ReadFailed n)) = Fails k
+
+abbrev pub compare_stage : {T : Type 0} → Content → Result T CompareFault → Stage
+compare_stage x (Ok t) = FoundSame x
+compare_stage x (Err e) = Withdraws

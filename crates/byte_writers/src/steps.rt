@@ -1,14 +1,16 @@
 //! Each call of a place is an event of the model. The functions do nothing: their contracts are the laws.
 
-ghost use Rattle.std.specs.Prelude.{◌≡◌, ℕ, Bool, List, ◌∷◌, [], Some, None, Ok, Err, length, if◌then◌else◌};
+ghost use Rattle.std.specs.Prelude.{◌≡◌, ℕ, List, ◌∷◌, [], Some, None, Ok, Err, length};
 ghost use Rattle.std.specs.declared.result.Result.{Result};
 ghost use Rattle.byte_io.specs.declared.fault.DeviceFault.{DeviceFault};
 ghost use Rattle.byte_io.specs.declared.fault.NotOpened.{NotOpened};
 ghost use Rattle.byte_io.specs.declared.fault.WriteFault.{WriteFault};
 ghost use Rattle.byte_out.specs.declared.fault.MakeFault.{MakeFault};
+ghost use Rattle.byte_out.specs.declared.fault.CompareFault.{CompareFault};
+ghost use Rattle.byte_out.specs.declared.fault.PutFault.{PutFault};
 ghost use Rattle.byte_out.specs.Place.{Files, IsMade, IsFilled, IsSynced as IsSyncedBy, IsCompared, IsPut, IsLanded, IsRemoved};
 ghost use Rattle.byte_writers.specs.Path.{Content, World, HasRead, Writes, IsSynced, FoundSame, Withdraws, Replaced, Ended, Goes, Fails, Fills, happens, after};
-ghost use Rattle.byte_writers.specs.Steps.{IsAt, IsReached, make_event, make_stage};
+ghost use Rattle.byte_writers.specs.Steps.{IsAt, IsReached, make_event, make_stage, compare_event, compare_stage};
 
 /// A command that has read OUT makes OUT.new, or ends without a change.
 pub fn making_is_a_step<T>()
@@ -30,18 +32,18 @@ pub fn syncing_is_a_step<T, E>()
         IsAt (happens change w (Goes k)) k (IsSynced x) g }
 {}
 
-/// It compares OUT with the bytes that it read.
-pub fn comparing_is_a_step()
-    ensures { (change : ℕ → Content → List ℕ) (w : World) (k : ℕ) (read : List ℕ) (f g : Files) (same : Bool) →
-        IsAt w k (IsSynced (Some read)) f → IsCompared same read f g →
-        IsAt (happens change w (Goes k)) k (if same then FoundSame (Some read) else Withdraws) g }
+/// It compares OUT with the bytes that it read; if it cannot, it still has to remove the new file.
+pub fn comparing_is_a_step<T>()
+    ensures { (change : ℕ → Content → List ℕ) (w : World) (k : ℕ) (read : List ℕ) (f g : Files) (r : Result T CompareFault) →
+        IsAt w k (IsSynced (Some read)) f → IsCompared r read f g →
+        IsAt (happens change w (compare_event k r)) k (compare_stage (Some read) r) g }
 {}
 
 /// It renames OUT.new to OUT; if that fails, it still has to remove OUT.new.
-pub fn putting_is_a_step<T, E>()
-    ensures ok { (change : ℕ → Content → List ℕ) (w : World) (k : ℕ) (x : Content) (f g : Files) (r : Result T E) (t : T) →
+pub fn putting_is_a_step<T>()
+    ensures ok { (change : ℕ → Content → List ℕ) (w : World) (k : ℕ) (x : Content) (f g : Files) (r : Result T PutFault) (t : T) →
         IsReached change w → IsAt w k (FoundSame x) f → r ≡ Ok t → IsPut r f g → IsAt (happens change w (Goes k)) k (Replaced x) g }
-    ensures fault { (change : ℕ → Content → List ℕ) (w : World) (k : ℕ) (x : Content) (f g : Files) (r : Result T E) (e : E) →
+    ensures fault { (change : ℕ → Content → List ℕ) (w : World) (k : ℕ) (x : Content) (f g : Files) (r : Result T PutFault) (e : PutFault) →
         IsAt w k (FoundSame x) f → r ≡ Err e → IsPut r f g → IsAt (happens change w (Fails k)) k Withdraws g }
 {}
 

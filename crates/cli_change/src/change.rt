@@ -2,15 +2,16 @@
 use crate::changing::{change_of, changed};
 use crate::office::{Desk, office_named, open_desk};
 use clap::ArgMatches;
+use cli_open::engines::operations::OpId;
 use cli_open::engines::places::Place;
-use cli_open::engines::{Retire, Supersede};
+use cli_open::engines::{CliFault, Retire, Supersede};
 use cli_open::guards::GuardFault;
 use cli_open::{
     Outcome, entries, entry, files_before, is_twice, listed, next_file, open_text, open_to_change,
     push_listed, push_words, word,
 };
 use reg_keyed::{ByWords, ChangeOf, RetireOf, SupersedeOf};
-use reg_supersede::{RefusedLine, SupersedeFrom};
+use reg_supersede::{RefusedLine, SupersedeFrom, refused_line};
 
 /// The message if standard input is named twice.
 pub const TWICE: &str = "error: standard input, -, is named twice";
@@ -111,14 +112,33 @@ fn supersede_from_at<Q: Place>(
         keep_going: matches.get_flag("keep-going"),
         refused: Vec::new(rt.alloc()),
     };
-    match change_of(rt, matches, desk, &mut register, &mut command) {
-        Ok(()) if command.refused.is_empty() => Superseded::Plain(Outcome::Done),
-        Ok(()) => Superseded::LeftLines(command.refused),
-        Err(GuardFault::Command(fault)) => match command.refused.first() {
-            Some(line) => Superseded::AtLine(*line),
+    let answer = change_of(rt, matches, desk, &mut register, &mut command);
+    let answer = behind_first(answer, desk.lag());
+    outcome_of_list(answer, command.refused, command.keep_going)
+}
+
+// The outcome of a list of which these lines were refused. Lines that were left out are reported only if the others were done.
+fn outcome_of_list(
+    answer: Result<(), GuardFault>,
+    refused: Vec<RefusedLine>,
+    keep_going: bool,
+) -> Superseded {
+    match answer {
+        Ok(()) if refused.is_empty() => Superseded::Plain(Outcome::Done),
+        Ok(()) => Superseded::LeftLines(refused),
+        Err(GuardFault::Command(fault)) => match refused_line(fault, &refused, keep_going) {
+            Some(line) => Superseded::AtLine(line),
             None => Superseded::Plain(Outcome::Fault(fault)),
         },
         Err(fault) => Superseded::Plain(Outcome::Guard(fault)),
+    }
+}
+
+// A register that is behind comes before a refused line, and before a note that is too long.
+fn behind_first(answer: Result<(), GuardFault>, lag: Option<OpId>) -> Result<(), GuardFault> {
+    match (answer, lag) {
+        (Err(GuardFault::Command(CliFault::Refused(_))), Some(id)) => Err(GuardFault::Behind(id)),
+        (answer, _) => answer,
     }
 }
 

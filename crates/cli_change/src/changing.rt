@@ -5,8 +5,8 @@ use cli_open::engines::disks::FileDisk;
 use cli_open::engines::places::{Input, Place};
 use cli_open::engines::streams::Writing;
 use cli_open::engines::{Change, CliFault, InFile, OnShelf, run_change};
-use cli_open::guards::{GuardFault, GuardedFile, GuardedShelf, LastNumber, run_guarded};
-use cli_open::{Opened, changed_place, late_fault, open_to_change, word};
+use cli_open::guards::{GuardFault, Guarded, GuardedFile, GuardedShelf, run_guarded};
+use cli_open::{Opened, changed_place, open_to_change, word};
 use std::alloc::Global;
 use std::fs::OpenFile;
 use std::io::{self, Read, Seek, Write};
@@ -91,24 +91,15 @@ fn change_numbered<Q: Place, F: Read + Write + Seek + OpenFile, C: Change, W: Wr
     command: &mut C,
     sink: &mut Writing<W>,
 ) -> Result<(), GuardFault> {
-    let last = office.last;
-    let noted = &mut office.place;
     match register {
         Opened::File(source) => {
             let is_quiet = matches.get_flag("quiet");
-            let mut place = changed_place(rt, rt.alloc(), word(matches, "out"), is_quiet)?.late();
-            let answer = guarded_file(rt.alloc(), source, &mut place, noted, last, command, sink);
-            let late = late_fault(&place);
+            let mut place = changed_place(rt, rt.alloc(), word(matches, "out"), is_quiet)?;
+            let answer = guarded_file(rt.alloc(), source, &mut place, office, command, sink);
             drop(place);
-            match answer {
-                Ok(()) => Ok(()),
-                Err(fault) => match late {
-                    Some(fault) => Err(GuardFault::Command(fault)),
-                    None => Err(fault),
-                },
-            }
+            answer
         }
-        Opened::Shelf(disk) => guarded_shelf(rt.alloc(), disk, noted, last, command, sink),
+        Opened::Shelf(disk) => guarded_shelf(rt.alloc(), disk, office, command, sink),
     }
 }
 
@@ -129,23 +120,25 @@ fn guarded_file<'a, S: Input, P: Place, Q: Place, C: Change, W: Write>(
     alloc: Global,
     source: &'a mut S,
     place: &'a mut P,
-    office: &'a mut Q,
-    last: LastNumber,
+    office: &'a mut OfficeFile<Q>,
     command: &mut C,
     sink: &mut Writing<W>,
 ) -> Result<(), GuardFault> {
-    let mut store = GuardedFile::new(source, place, office, last);
-    run_guarded(alloc, &mut store, command, sink)
+    let mut store = GuardedFile::new(source, place, &mut office.place, office.last);
+    let answer = run_guarded(alloc, &mut store, command, sink);
+    office.lag = store.lag();
+    answer
 }
 
 fn guarded_shelf<'a, Q: Place, F: Read + Write + Seek + OpenFile, C: Change, W: Write>(
     alloc: Global,
     disk: &'a mut FileDisk<F>,
-    office: &'a mut Q,
-    last: LastNumber,
+    office: &'a mut OfficeFile<Q>,
     command: &mut C,
     sink: &mut Writing<W>,
 ) -> Result<(), GuardFault> {
-    let mut store = GuardedShelf::new(disk, office, last);
-    run_guarded(alloc, &mut store, command, sink)
+    let mut store = GuardedShelf::new(disk, &mut office.place, office.last);
+    let answer = run_guarded(alloc, &mut store, command, sink);
+    office.lag = store.lag();
+    answer
 }

@@ -1,19 +1,31 @@
 //! Who changes a register: an office by its UUID, or one that works through its office file.
 use crate::stopped::put_left;
 use clap::ArgMatches;
+use cli_open::engines::operations::OpId;
 use cli_open::engines::places::{FileId, Lockable, Place};
 use cli_open::engines::streams::{Reading, Writing};
 use cli_open::engines::{CliFault, OutFault};
 use cli_open::guards::{
     GuardFault, LastNumber, OfficePlace, last_of, lock_office, run_office, unopened,
 };
-use cli_open::{office_file, replica, word};
-use std::alloc::Global;
+use cli_open::{office_file, parts, replica, word};
+use std::alloc::{AllocError, Global};
+use std::io::ErrorKind;
 use std::os::fd::AsFd;
 use std::random::RandomSource;
 use std::rt::Files;
 use std::{fs, io};
 use uuid::Uuid;
+
+const OUT_IS_OFFICE: &str = "error: OUT is the office file, or its new one";
+
+const REG_IS_OFFICE: &str = "error: REG is the office file, or its new one";
+
+const AS_IS_OFFICE: &str =
+    "error: --as is the office of the file in CRSREG_OFFICE, which would not know the new numbers: leave --as out";
+
+// How many links a path may lead through.
+const MOST_LINKS: usize = 40;
 
 /// The UUID of the office, unless it is in the office file.
 pub fn office_named(matches: &ArgMatches<'_>) -> Result<Option<Uuid>, CliFault> {
@@ -45,9 +57,19 @@ impl<Q: Drop> Drop for Desk<Q> {
 pub struct OfficeFile<Q> {
     pub last: LastNumber,
     pub place: Q,
+    /// The number that the register of the command is behind, if it is.
+    pub lag: Option<OpId>,
 }
 
 impl<Q: Place> Desk<Q> {
+    /// The number that the register of the command is behind, if it is.
+    pub fn lag(&self) -> Option<OpId> {
+        match &self.file {
+            Some(file) => file.lag,
+            None => None,
+        }
+    }
+
     /// Removes the new office file, unless it has replaced the old one.
     pub fn close(&mut self) {
         if let Some(file) = &mut self.file {
@@ -94,7 +116,11 @@ where
     }
     Ok(Desk {
         replica: last.replica(),
-        file: Some(OfficeFile { last, place }),
+        file: Some(OfficeFile {
+            last,
+            place,
+            lag: None,
+        }),
     })
 }
 
@@ -105,17 +131,88 @@ fn read<R: Files>(rt: &R, alloc: Global, path: &str) -> Result<LastNumber, Guard
     }
 }
 
-/// Whether OUT is the office file or its new one, by any name.
-pub fn is_out<R: Files>(rt: &R, alloc: Global, out: &str, path: &str) -> Result<bool, CliFault>
+/// What is wrong with a command line that names an office, if clap does not check it: `--as` is the office of the office file in
+/// the environment, or REG or OUT is the office file.
+pub fn misnamed<R: Files>(
+    rt: &R,
+    alloc: Global,
+    matches: &ArgMatches<'_>,
+) -> Result<Option<&'static str>, CliFault>
 where
     R::File: AsFd,
 {
-    let Ok(place) = OfficePlace::beside(alloc, rt, path) else {
+    let Some(path) = office_file(matches) else {
+        return is_guarded(rt, alloc, matches);
+    };
+    if is_office_file(rt, alloc, word(matches, "out"), path)? {
+        return Ok(Some(OUT_IS_OFFICE));
+    }
+    if is_office_file(rt, alloc, word(matches, "REG"), path)? {
+        return Ok(Some(REG_IS_OFFICE));
+    }
+    Ok(None)
+}
+
+// Whether `--as` is the office of a file that the environment names: numbers that are given beside the file are not in it. A file
+// that cannot be read is not used, so nothing is wrong with it.
+fn is_guarded<R: Files>(
+    rt: &R,
+    alloc: Global,
+    matches: &ArgMatches<'_>,
+) -> Result<Option<&'static str>, CliFault> {
+    let (Some(path), Ok(named)) = (matches.get_str("office"), replica(word(matches, "as"))) else {
+        return Ok(None);
+    };
+    match fs::metadata(rt, path) {
+        Ok(file) if file.is_file() => {}
+        _ => return Ok(None),
+    }
+    match read(rt, alloc, path) {
+        Ok(last) if last.replica() == named => Ok(Some(AS_IS_OFFICE)),
+        Err(GuardFault::Command(fault)) => Err(fault),
+        _ => Ok(None),
+    }
+}
+
+// Whether the path leads to the office file or its new one, by any name.
+fn is_office_file<R: Files>(
+    rt: &R,
+    alloc: Global,
+    path: &str,
+    office: &str,
+) -> Result<bool, CliFault>
+where
+    R::File: AsFd,
+{
+    let Ok(place) = OfficePlace::beside(alloc, rt, office) else {
         return Err(CliFault::Memory);
     };
-    let is_same = is_same(rt, out, place.path()) || is_same(rt, out, place.made());
+    let Ok(target) = followed(rt, alloc, path) else {
+        return Err(CliFault::Memory);
+    };
+    let target = target.as_str();
+    let is_same = is_same(rt, target, place.path()) || is_same(rt, target, place.made());
     drop(place);
     Ok(is_same)
+}
+
+// The path that the links lead to, even if nothing is there. The system follows no more links than these.
+fn followed<R: Files>(rt: &R, alloc: Global, path: &str) -> Result<String, AllocError> {
+    let mut path = String::from_str(alloc, path)?;
+    for _ in 0..MOST_LINKS {
+        let target = match rt.read_link(alloc, path.as_str()) {
+            Ok(target) => target.into_string(),
+            Err(error) if error.kind() == ErrorKind::OutOfMemory => return Err(AllocError),
+            Err(_) => return Ok(path),
+        };
+        path = if target.starts_with('/') {
+            target
+        } else {
+            let (folder, _) = parts(path.as_str());
+            format!(in alloc; "{folder}/{target}")?
+        };
+    }
+    Ok(path)
 }
 
 // Whether two paths name one file, which may not exist yet.
@@ -131,15 +228,6 @@ fn is_same<R: Files>(rt: &R, a: &str, b: &str) -> bool {
             name == other_name && FileId::at(rt, folder) == FileId::at(rt, other)
         }
         _ => false,
-    }
-}
-
-// The folder of a path, and its last part.
-fn parts(path: &str) -> (&str, &str) {
-    match path.rsplit_once('/') {
-        Some(("", name)) => ("/", name),
-        Some((folder, name)) => (folder, name),
-        None => (".", path),
     }
 }
 

@@ -1,7 +1,8 @@
 //! Puts a new register in place that a stopped command of the office left beside OUT.
-use cli_open::engines::places::{FileId, Lock, Lockable};
+use cli_open::engines::files::{Register, read_register};
+use cli_open::engines::places::{FileId, Lock, Lockable, own_path};
 use cli_open::engines::streams::Reading;
-use cli_open::guards::{LastNumber, has_last};
+use cli_open::guards::{LastNumber, may_take_its_place};
 use cli_open::real_path;
 use std::alloc::Global;
 use std::fs::{self, OpenOptions};
@@ -9,8 +10,8 @@ use std::io::ErrorKind;
 use std::os::unix::fs::MetadataExt;
 use std::rt::Files;
 
-/// Renames `OUT.new` to OUT if a command of the office was stopped just before that: `OUT.new` has seen the number in the office
-/// file, and OUT has not, or is not there. Otherwise it does nothing.
+/// Renames the new file beside OUT to OUT if a command of the office was stopped just before that: it has seen the number in the
+/// office file, OUT has not, and it has seen all that OUT has. Otherwise it does nothing.
 pub fn put_left<R: Files>(rt: &R, alloc: Global, last: &LastNumber, out: &str)
 where
     R::File: Lockable,
@@ -30,7 +31,7 @@ fn put_left_at<R: Files>(rt: &R, alloc: Global, last: &LastNumber, path: &str)
 where
     R::File: Lockable,
 {
-    let Ok(beside) = format!(in alloc; "{path}.new") else {
+    let Ok(beside) = own_path(alloc, path) else {
         return;
     };
     let Some(file) = left_file(rt, beside.as_str()) else {
@@ -38,7 +39,13 @@ where
     };
     // The lock ends with the file.
     let mut left = Reading::new(file);
-    if has_last(alloc, last, &mut left).unwrap_or(false) && lacks_last(rt, alloc, last, path) {
+    let Ok(register) = read_register(alloc, &mut left) else {
+        return;
+    };
+    let Some(stands) = standing(rt, alloc, path) else {
+        return;
+    };
+    if may_take_its_place(last, &register, &stands) {
         let _ = fs::rename(rt, beside.as_str(), path);
     }
 }
@@ -67,14 +74,15 @@ where
     }
 }
 
-// Whether there is no file with this name, or one with a register that has not seen the number.
-fn lacks_last<R: Files>(rt: &R, alloc: Global, last: &LastNumber, path: &str) -> bool {
+// The register in the file with this name; an empty one if there is no file. None if it cannot be read.
+fn standing<R: Files>(rt: &R, alloc: Global, path: &str) -> Option<Register> {
     match fs::symlink_metadata(rt, path) {
         Ok(there) if there.is_file() => match fs::open(rt, path) {
-            Ok(file) => !has_last(alloc, last, &mut Reading::new(file)).unwrap_or(true),
-            Err(_) => false,
+            Ok(file) => read_register(alloc, &mut Reading::new(file)).ok(),
+            Err(_) => None,
         },
-        Ok(_) => false,
-        Err(error) => error.kind() == ErrorKind::NotFound,
+        Ok(_) => None,
+        Err(error) if error.kind() == ErrorKind::NotFound => Some(Register::new(alloc)),
+        Err(_) => None,
     }
 }

@@ -3,14 +3,15 @@ use clap::ArgMatches;
 use cli_open::engines::disks::NewFile;
 use cli_open::engines::shelf::is_size;
 use cli_open::engines::{
-    CliFault, FirstVersion, PieceFor, Refusal, Summary, run_merge, run_merge_on, run_new,
-    run_shelf, run_unshelf,
+    CliFault, FirstVersion, PieceFor, Refusal, ShelfProblem, Summary, Whole, run_give, run_merge,
+    run_merge_on, run_new, run_shelf,
 };
 use cli_open::{
-    Opened, Replaced, give_of, lock_new_shelf, next_file, open, open_all, open_inputs,
-    open_register, open_shelf, open_to_read, place, word,
+    Opened, ReadShelf, Replaced, give_of, lock_new_shelf, next_file, open, open_all, open_inputs,
+    open_register, open_shelf, open_to_read, parts, place, word,
 };
-use std::fs::File;
+use std::fs::{self, File, OpenFile};
+use std::rt::Files;
 
 /// `new`.
 pub fn new(rt: &HostRuntime, matches: &ArgMatches<'_>) -> Result<(), CliFault> {
@@ -44,24 +45,24 @@ fn open_to_give(rt: &HostRuntime, matches: &ArgMatches<'_>) -> Result<Opened<Fil
 
 /// `seen`.
 pub fn seen(rt: &HostRuntime, matches: &ArgMatches<'_>) -> Result<(), CliFault> {
-    let mut register = open_to_give(rt, matches)?;
-    give_of(rt, matches, &mut register, &mut Summary)
+    let register = open_to_give(rt, matches)?;
+    give_of(rt, matches, register, &mut Summary)
 }
 
 /// `piece`.
 pub fn piece(rt: &HostRuntime, matches: &ArgMatches<'_>) -> Result<(), CliFault> {
-    let mut register = open_to_give(rt, matches)?;
+    let register = open_to_give(rt, matches)?;
     let mut summary = open(rt, next_file(&register), word(matches, "SEEN"))?;
     let mut command = PieceFor {
         summary: &mut summary,
     };
-    give_of(rt, matches, &mut register, &mut command)
+    give_of(rt, matches, register, &mut command)
 }
 
 /// `downgrade`.
 pub fn downgrade(rt: &HostRuntime, matches: &ArgMatches<'_>) -> Result<(), CliFault> {
-    let mut register = open_to_give(rt, matches)?;
-    give_of(rt, matches, &mut register, &mut FirstVersion)
+    let register = open_to_give(rt, matches)?;
+    give_of(rt, matches, register, &mut FirstVersion)
 }
 
 /// `shelf`. A size that is not a number is refused like a size out of range.
@@ -75,14 +76,32 @@ pub fn shelf(rt: &HostRuntime, matches: &ArgMatches<'_>) -> Result<(), CliFault>
     let path = word(matches, "NEW");
     // The lock ends with the file, when the shelf is whole.
     let _lock = lock_new_shelf(rt, path)?;
-    run_shelf(rt.alloc(), &mut NewFile::new(rt, path), size)
+    run_shelf(rt.alloc(), &mut NewFile::new(rt, path), size)?;
+    sync_folder(rt, path)
+}
+
+// Syncs the folder of a new shelf: otherwise a power cut could leave no shelf there. A folder that cannot be opened cannot be
+// synced, which is no fault.
+fn sync_folder<R: Files>(rt: &R, path: &str) -> Result<(), CliFault> {
+    let (folder, _) = parts(path);
+    match fs::open(rt, folder) {
+        Ok(folder) if folder.sync_all().is_err() => {
+            Err(CliFault::Shelf(ShelfProblem::DiskFailed))
+        }
+        _ => Ok(()),
+    }
 }
 
 /// `unshelf`.
 pub fn unshelf(rt: &HostRuntime, matches: &ArgMatches<'_>) -> Result<(), CliFault> {
-    let mut disk = open_to_read(rt, word(matches, "SHELF"))?;
+    let disk = open_to_read(rt, word(matches, "SHELF"))?;
     let mut place = place(rt, rt.alloc(), word(matches, "OUT"))?;
-    let answer = run_unshelf(rt.alloc(), &mut disk, &mut place);
+    let answer = run_give(
+        rt.alloc(),
+        &mut ReadShelf::new(disk),
+        &mut Whole,
+        &mut place,
+    );
     drop(place);
     answer
 }

@@ -7,7 +7,8 @@ use cli_open::engines::places::{Input, Lockable, Place};
 use cli_open::engines::streams::Writing;
 use cli_open::engines::{CliFault, InFile, OfFile, OnShelf};
 use cli_open::{
-    Opened, Outcome, Replaced, Rows, answered, open_register, open_shelf, printing_place, word,
+    Opened, Outcome, ReadShelf, Replaced, Rows, answered, open_register, open_shelf,
+    printing_place, word,
 };
 use reg_take::{LeftOut, run_take, try_take};
 use std::alloc::{AllocError, Global};
@@ -18,14 +19,14 @@ use std::rt::Files;
 /// `take`. The register is opened first, and each file when its turn comes.
 pub fn take(rt: &HostRuntime, matches: &ArgMatches<'_>) -> Outcome {
     let paths = matches.get_strs("FILE").unwrap_or(&[]);
-    let mut register = match open_own(rt, rt.alloc(), matches) {
+    let register = match open_own(rt, rt.alloc(), matches) {
         Ok(register) => register,
         Err(fault) => return Outcome::Fault(fault),
     };
     let Ok(mut files) = late_files(rt, rt.alloc(), paths) else {
         return Outcome::Fault(CliFault::Memory);
     };
-    match take_into(rt, matches, &mut register, &mut files) {
+    match take_into(rt, matches, register, &mut files) {
         Ok(left) => tell(rt, matches, paths, &left),
         Err(fault) => Outcome::Fault(fault),
     }
@@ -64,10 +65,10 @@ fn late_files<'a, R: Files>(
 }
 
 // Joins the files to the register, and prints what changed.
-fn take_into<F: Read + Write + Seek + OpenFile, S: LateSource>(
+fn take_into<F: Read + Write + Seek + OpenFile + Drop, S: LateSource>(
     rt: &HostRuntime,
     matches: &ArgMatches<'_>,
-    register: &mut Opened<F>,
+    register: Opened<F>,
     files: &mut [S],
 ) -> Result<Vec<LeftOut>, CliFault> {
     let mut sink = Rows::sink(rt.alloc(), matches, io::writer(rt));
@@ -78,10 +79,10 @@ fn take_into<F: Read + Write + Seek + OpenFile, S: LateSource>(
     }
 }
 
-fn take_to<F: Read + Write + Seek + OpenFile, S: LateSource, W: Write>(
+fn take_to<F: Read + Write + Seek + OpenFile + Drop, S: LateSource, W: Write>(
     rt: &HostRuntime,
     matches: &ArgMatches<'_>,
-    register: &mut Opened<F>,
+    register: Opened<F>,
     files: &mut [S],
     sink: &mut Writing<W>,
 ) -> Result<Vec<LeftOut>, CliFault> {
@@ -90,34 +91,37 @@ fn take_to<F: Read + Write + Seek + OpenFile, S: LateSource, W: Write>(
         return take_tried(rt.alloc(), register, files, keep_going, sink);
     }
     match register {
-        Opened::File(source) => {
+        Opened::File(mut source) => {
             let mut place = printing_place(rt, rt.alloc(), word(matches, "REG"))?;
-            let answer = take_file(rt.alloc(), source, &mut place, files, keep_going, sink);
+            let own = &mut source;
+            let answer = take_file(rt.alloc(), own, &mut place, files, keep_going, sink);
             drop(place);
             answer
         }
-        Opened::Shelf(disk) => {
-            let mut store = OnShelf { disk };
+        Opened::Shelf(mut disk) => {
+            let mut store = OnShelf { disk: &mut disk };
             run_take(rt.alloc(), &mut store, files, keep_going, sink)
         }
     }
 }
 
 // `take --dry-run`, which writes no register.
-fn take_tried<F: Read + Write + Seek + OpenFile, S: LateSource, W: Write>(
+fn take_tried<F: Read + Write + Seek + OpenFile + Drop, S: LateSource, W: Write>(
     alloc: Global,
-    register: &mut Opened<F>,
+    register: Opened<F>,
     files: &mut [S],
     keep_going: bool,
     sink: &mut Writing<W>,
 ) -> Result<Vec<LeftOut>, CliFault> {
     match register {
-        Opened::File(source) => {
-            let mut store = OfFile { source };
+        Opened::File(mut source) => {
+            let mut store = OfFile {
+                source: &mut source,
+            };
             try_take(alloc, &mut store, files, keep_going, sink)
         }
         Opened::Shelf(disk) => {
-            let mut store = OnShelf { disk };
+            let mut store = ReadShelf::new(disk);
             try_take(alloc, &mut store, files, keep_going, sink)
         }
     }

@@ -112,6 +112,7 @@ fn command_of(name: &str, matches: &ArgMatches<'_>) -> Command {
         "settle" => Command::Settle,
         "shelf" => Command::Shelf,
         "status" => Command::Status,
+        "unshelf" => Command::Unshelf,
         "supersede" if matches.contains_id("from") => Command::SupersedeFrom {
             keys: matches.get_flag("keys"),
         },

@@ -3,8 +3,8 @@ use crate::into::export_into;
 use clap::ArgMatches;
 use cli_open::engines::operations::OpId;
 use cli_open::engines::streams::Writing;
-use cli_open::engines::{CliFault, Export, OfFile, OnShelf, Refusal};
-use cli_open::{Opened, Outcome, open_register, print_of, wanted, word};
+use cli_open::engines::{CliFault, Export, OfFile, Refusal};
+use cli_open::{Opened, Outcome, ReadShelf, open_register, print_of, wanted, word};
 use reg_formats::{Format, Graph, run_handed};
 use reg_into::Choice;
 use std::alloc::Global;
@@ -72,32 +72,27 @@ fn print_as(
     keep_going: bool,
 ) -> Result<Option<OpId>, CliFault> {
     let mut sink = Writing::new(io::writer(rt));
-    let mut register = open_register(rt, rt.alloc(), matches, "REG", &None)?;
-    print_from(
-        rt.alloc(),
-        &mut register,
-        format,
-        choice,
-        keep_going,
-        &mut sink,
-    )
+    let register = open_register(rt, rt.alloc(), matches, "REG", &None)?;
+    print_from(rt.alloc(), register, format, choice, keep_going, &mut sink)
 }
 
-fn print_from<F: Read + Write + Seek + OpenFile, W: Write>(
+fn print_from<F: Read + Write + Seek + OpenFile + Drop, W: Write>(
     alloc: Global,
-    register: &mut Opened<F>,
+    register: Opened<F>,
     format: Format,
     choice: &Choice<'_>,
     keep_going: bool,
     sink: &mut Writing<W>,
 ) -> Result<Option<OpId>, CliFault> {
     match register {
-        Opened::File(source) => {
-            let mut store = OfFile { source };
+        Opened::File(mut source) => {
+            let mut store = OfFile {
+                source: &mut source,
+            };
             run_handed(alloc, &mut store, format, choice, keep_going, sink)
         }
         Opened::Shelf(disk) => {
-            let mut store = OnShelf { disk };
+            let mut store = ReadShelf::new(disk);
             run_handed(alloc, &mut store, format, choice, keep_going, sink)
         }
     }

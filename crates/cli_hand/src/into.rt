@@ -2,8 +2,8 @@
 use byte_folder::{FolderPlace, SystemFolder};
 use clap::ArgMatches;
 use cli_open::engines::operations::OpId;
-use cli_open::engines::{CliFault, OfFile, OnShelf, Refusal};
-use cli_open::{Opened, open_register, word};
+use cli_open::engines::{CliFault, OfFile, Refusal};
+use cli_open::{Opened, ReadShelf, open_register, word};
 use reg_into::{Choice, run_into};
 use std::alloc::Global;
 use std::fs::OpenFile;
@@ -33,27 +33,29 @@ fn put_into(
         return Err(CliFault::Memory);
     };
     let answer = match open_register(rt, rt.alloc(), matches, "REG", &None) {
-        Ok(mut register) => put_from(rt.alloc(), &mut register, choice, keep_going, &mut place),
+        Ok(register) => put_from(rt.alloc(), register, choice, keep_going, &mut place),
         Err(fault) => Err(fault),
     };
     drop(place);
     answer
 }
 
-fn put_from<F: Read + Write + Seek + OpenFile, P: FolderPlace>(
+fn put_from<F: Read + Write + Seek + OpenFile + Drop, P: FolderPlace>(
     alloc: Global,
-    register: &mut Opened<F>,
+    register: Opened<F>,
     choice: &Choice<'_>,
     keep_going: bool,
     place: &mut P,
 ) -> Result<Option<OpId>, CliFault> {
     match register {
-        Opened::File(source) => {
-            let mut store = OfFile { source };
+        Opened::File(mut source) => {
+            let mut store = OfFile {
+                source: &mut source,
+            };
             run_into(alloc, &mut store, choice, keep_going, place)
         }
         Opened::Shelf(disk) => {
-            let mut store = OnShelf { disk };
+            let mut store = ReadShelf::new(disk);
             run_into(alloc, &mut store, choice, keep_going, place)
         }
     }

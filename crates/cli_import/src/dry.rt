@@ -67,7 +67,11 @@ impl<S: HasRoom> Store for Dry<'_, S> {
 impl<S: HasRoom> HasRoom for Dry<'_, S> {
     ghost room = { λ old. λ new. record { fits = λ x y. Unit {0}; full = λ x y f. Unit {0} } };
 
+    // A register that is behind is not kept, so it needs no room.
     fn has_room(&mut self, alloc: Global, register: &Register) -> Result<(), CliFault> {
+        if self.lag.is_some() {
+            return Ok(());
+        }
         match self.store.has_room(alloc, register) {
             Ok(()) => Ok(()),
             Err(fault) => Err(fault),

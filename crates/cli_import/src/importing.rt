@@ -7,7 +7,7 @@ use cli_open::engines::places::Place;
 use cli_open::guards::{GuardFault, Guarded, GuardedFile, GuardedShelf, LastNumber, why};
 use cli_open::{
     Opened, Outcome, Rows, STANDARD_INPUT, STANDARD_INPUT_PATH, answered, files_before, is_twice,
-    late_fault, next_file, open_to_change, printing_place, word,
+    next_file, open_to_change, printing_place, word,
 };
 use reg_desk::{
     CliFault, Differs, FileDisk, HasRoom, ImportFault, ImportOptions, InFile, Input, InputFault,
@@ -96,7 +96,7 @@ fn late_texts<'a, R: Files>(
     Ok(files)
 }
 
-// The answer, where a file that could not be read because it did not open is not opened. The first file has this number.
+// Turns "could not be read" into `NotOpened` for files that did not open. The first file has this number.
 fn with_openings<S: LateSource>(
     answer: Result<Outcome, Unimported>,
     files: &[S],
@@ -260,7 +260,7 @@ fn import_numbered<Q: Place, F: Read + Write + Seek + OpenFile, S: Source, W: Wr
     match register {
         Opened::File(source) => {
             let mut place = match printing_place(rt, rt.alloc(), word(matches, "out")) {
-                Ok(place) => place.late(),
+                Ok(place) => place,
                 Err(fault) => return Ok(Outcome::Fault(fault)),
             };
             let answer = guarded_file(
@@ -273,15 +273,8 @@ fn import_numbered<Q: Place, F: Read + Write + Seek + OpenFile, S: Source, W: Wr
                 order,
                 sink,
             );
-            let late = late_fault(&place);
             drop(place);
-            match late {
-                Some(fault) => {
-                    drop(answer);
-                    Ok(Outcome::Fault(fault))
-                }
-                None => answer,
-            }
+            answer
         }
         Opened::Shelf(disk) => guarded_shelf(rt.alloc(), disk, noted, last, files, order, sink),
     }

@@ -1,19 +1,18 @@
 //! `compare`: what differs between the texts of entries, and of a file.
 use crate::look::told;
 use clap::ArgMatches;
-use cli_open::{Opened, Outcome, entry, next_file, open_register, open_text, word};
+use cli_open::{Opened, Outcome, ReadShelf, entry, next_file, open_register, open_text, word};
 use desk_texts::{Compare, CompareKey, CompareWith, WithFault, run_compared_with, run_differs};
 use reg_desk::{
-    ByWord, CliFault, ImportFault, OfFile, OnShelf, OpId, Print, Problem, Recorded, Source,
-    Unimported, Writing, explain_within,
+    ByWord, CliFault, ImportFault, OfFile, OpId, Print, Problem, Recorded, Source, Unimported,
+    Writing, explain_within,
 };
 use std::alloc::Global;
 use std::fs::OpenFile;
 use std::io::{self, Read, Seek, Write};
 
 /// The message if an id is compared with nothing.
-const ALONE: &str =
-    "error: compare takes a key, or two entries, or --with FILE: an id alone is compared with nothing";
+const ALONE: &str = "error: compare needs a key, two entries, or --with FILE; one id is not enough";
 
 /// `compare`.
 pub fn compare(rt: &HostRuntime, matches: &ArgMatches<'_>) -> Result<Outcome, Unimported> {
@@ -75,23 +74,25 @@ fn differs_of<C: Print>(
     command: &C,
 ) -> Result<bool, CliFault> {
     let mut sink = Writing::new(io::writer(rt));
-    let mut register = open_register(rt, rt.alloc(), matches, "REG", &None)?;
-    differs_from(rt.alloc(), &mut register, command, &mut sink)
+    let register = open_register(rt, rt.alloc(), matches, "REG", &None)?;
+    differs_from(rt.alloc(), register, command, &mut sink)
 }
 
-fn differs_from<F: Read + Write + Seek + OpenFile, C: Print, W: Write>(
+fn differs_from<F: Read + Write + Seek + OpenFile + Drop, C: Print, W: Write>(
     alloc: Global,
-    register: &mut Opened<F>,
+    register: Opened<F>,
     command: &C,
     sink: &mut Writing<W>,
 ) -> Result<bool, CliFault> {
     match register {
-        Opened::File(source) => {
-            let mut store = OfFile { source };
+        Opened::File(mut source) => {
+            let mut store = OfFile {
+                source: &mut source,
+            };
             run_differs(alloc, &mut store, command, sink)
         }
         Opened::Shelf(disk) => {
-            let mut store = OnShelf { disk };
+            let mut store = ReadShelf::new(disk);
             run_differs(alloc, &mut store, command, sink)
         }
     }
@@ -103,7 +104,7 @@ fn compare_with(
     matches: &ArgMatches<'_>,
     path: &str,
 ) -> Result<Outcome, Unimported> {
-    let mut register = match open_register(rt, rt.alloc(), matches, "REG", &None) {
+    let register = match open_register(rt, rt.alloc(), matches, "REG", &None) {
         Ok(register) => register,
         Err(fault) => return Ok(Outcome::Fault(fault)),
     };
@@ -112,26 +113,28 @@ fn compare_with(
         Err(fault) => return Ok(Outcome::Fault(fault)),
     };
     let mut sink = Writing::new(io::writer(rt));
-    match compared_with(rt.alloc(), &mut register, path, &mut text, &mut sink) {
+    match compared_with(rt.alloc(), register, path, &mut text, &mut sink) {
         Ok(differs) => Ok(told(matches, Ok(differs))),
         Err(why) => uncompared(rt.alloc(), matches, path, &text, why),
     }
 }
 
-fn compared_with<F: Read + Write + Seek + OpenFile, S: Source, W: Write>(
+fn compared_with<F: Read + Write + Seek + OpenFile + Drop, S: Source, W: Write>(
     alloc: Global,
-    register: &mut Opened<F>,
+    register: Opened<F>,
     path: &str,
     text: &mut S,
     sink: &mut Writing<W>,
 ) -> Result<bool, WithFault> {
     match register {
-        Opened::File(source) => {
-            let mut store = OfFile { source };
+        Opened::File(mut source) => {
+            let mut store = OfFile {
+                source: &mut source,
+            };
             run_compared_with(alloc, &mut store, path.as_bytes(), text, sink)
         }
         Opened::Shelf(disk) => {
-            let mut store = OnShelf { disk };
+            let mut store = ReadShelf::new(disk);
             run_compared_with(alloc, &mut store, path.as_bytes(), text, sink)
         }
     }

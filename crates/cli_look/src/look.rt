@@ -2,19 +2,22 @@
 use byte_late::LateFile;
 use clap::ArgMatches;
 use cli_open::{
-    Opened as Register, Outcome, Rows, STANDARD_INPUT, answered, entries, next_file, open,
-    open_all, open_register, open_to_read, print_of, push_words, wanted, word,
+    Opened as Register, Outcome, ReadShelf, Rows, STANDARD_INPUT, answered, entries, next_file,
+    open, open_all, open_register, open_to_read, print_of, push_words, wanted, word,
 };
 use desk_texts::Texts;
 use reg_desk::{
-    CliFault, Decimal, Explained, FileDisk, Find, FindIds, Kind, LateAt, Lockable, LogAll,
-    LogByWords, LogOf, OfFile, Offices, OnShelf, Opened, Point, Query, Reading, Recorded, ShelfAt,
-    Source, Writing, run_check, run_check_explained, run_diff, run_status,
+    CliFault, Explained, FileDisk, Find, FindIds, Kind, LateAt, Lockable, LogAll, LogByWords,
+    LogOf, OfFile, Offices, Opened, Point, Query, Reading, Recorded, ShelfAt, Source, Writing,
+    run_check, run_check_explained, run_diff, run_status,
 };
 use std::alloc::{AllocError, Global};
 use std::fs::OpenFile;
 use std::io::{self, Read, Seek, Write};
 use std::rt::Files;
+
+/// The message if a word to search for is empty, as in a script with a variable that is not set: it would find every entry.
+const NO_WORD: &str = "error: WORD, or the value of an option, is empty: is a variable not set?";
 
 const NO_POINT: &str = "error: --at takes a latitude and a longitude, as 52.5,13.4";
 
@@ -69,7 +72,7 @@ pub fn texts(rt: &HostRuntime, matches: &ArgMatches<'_>) -> Result<(), CliFault>
 // The query of the options, if the point is valid.
 fn query<'a>(matches: &ArgMatches<'a>) -> Option<Query<'a>> {
     let at = match matches.get_str("at") {
-        Some(word) => Some(point(word)?),
+        Some(word) => Some(Point::read(word.as_bytes())?),
         None => None,
     };
     Some(Query {
@@ -85,15 +88,6 @@ fn query<'a>(matches: &ArgMatches<'a>) -> Option<Query<'a>> {
     })
 }
 
-// The point of the argument: a latitude, a comma and a longitude.
-fn point(word: &str) -> Option<Point> {
-    let (latitude, longitude) = word.split_once(',')?;
-    Some(Point {
-        latitude: Decimal::from_numeral(latitude.as_bytes()).ok()?,
-        longitude: Decimal::from_numeral(longitude.as_bytes()).ok()?,
-    })
-}
-
 // The kind of the argument. clap rejects other words.
 fn kind_of(word: &str) -> Option<Kind> {
     match word {
@@ -106,8 +100,21 @@ fn kind_of(word: &str) -> Option<Kind> {
     }
 }
 
+// Whether a word to search for is empty.
+fn has_empty(matches: &ArgMatches<'_>) -> bool {
+    for argument in ["WORD", "key", "authority", "code", "name", "area"] {
+        if let Some("") = matches.get_str(argument) {
+            return true;
+        }
+    }
+    false
+}
+
 /// `find`.
 pub fn find(rt: &HostRuntime, matches: &ArgMatches<'_>) -> Outcome {
+    if has_empty(matches) {
+        return Outcome::Misuse(NO_WORD);
+    }
     let Some(query) = query(matches) else {
         return Outcome::Misuse(NO_POINT);
     };
@@ -228,25 +235,27 @@ fn merged_to<W: Write>(
     matches: &ArgMatches<'_>,
     sink: &mut Writing<W>,
 ) -> Result<bool, CliFault> {
-    let mut register = open_register(rt, rt.alloc(), matches, "OLD", &None)?;
+    let register = open_register(rt, rt.alloc(), matches, "OLD", &None)?;
     let paths = matches.get_strs("NEW").unwrap_or(&[]);
     let mut others = open_all(rt, rt.alloc(), next_file(&register), paths)?;
-    diff_from(rt.alloc(), &mut register, &mut others, sink)
+    diff_from(rt.alloc(), register, &mut others, sink)
 }
 
-fn diff_from<F: Read + Write + Seek + OpenFile, S: Source, W: Write>(
+fn diff_from<F: Read + Write + Seek + OpenFile + Drop, S: Source, W: Write>(
     alloc: Global,
-    register: &mut Register<F>,
+    register: Register<F>,
     others: &mut [S],
     sink: &mut Writing<W>,
 ) -> Result<bool, CliFault> {
     match register {
-        Register::File(source) => {
-            let mut store = OfFile { source };
+        Register::File(mut source) => {
+            let mut store = OfFile {
+                source: &mut source,
+            };
             run_diff(alloc, &mut store, others, false, sink)
         }
         Register::Shelf(disk) => {
-            let mut store = OnShelf { disk };
+            let mut store = ReadShelf::new(disk);
             run_diff(alloc, &mut store, others, true, sink)
         }
     }

@@ -96,3 +96,12 @@ pub fn open_inputs<R: Files>(
     }
     Ok(sources)
 }
+
+/// The folder of a path, and its last part.
+pub fn parts(path: &str) -> (&str, &str) {
+    match path.rsplit_once('/') {
+        Some(("", name)) => ("/", name),
+        Some((folder, name)) => (folder, name),
+        None => (".", path),
+    }
+}

@@ -3,18 +3,20 @@
 
 mod inputs;
 mod outcome;
+mod reading;
 mod stores;
 mod table;
 mod words;
 
-pub use inputs::{Replaced, open_inputs, real_path};
+pub use inputs::{Replaced, open_inputs, parts, real_path};
 pub use outcome::{MISUSE, Outcome, complain, failed, print};
+pub use reading::ReadShelf;
 pub use stores::{Opened, give_of, next_file, open_register, open_to_change, print_of};
 pub use table::{Rows, answered};
 pub use words::{
     STANDARD_INPUT, STANDARD_INPUT_PATH, changed_place, entries, entry, files_before, is_twice,
-    late_fault, listed, lock_new_shelf, office_file, open, open_all, open_shelf, open_text,
-    open_to_read, place, printing_place, push_listed, push_words, replica, wanted, word,
+    listed, lock_new_shelf, office_file, open, open_all, open_shelf, open_text, open_to_read,
+    place, printing_place, push_listed, push_words, replica, wanted, word,
 };
 
 // The crates of which the commands above use items, so that they need only this one.

@@ -1,32 +1,24 @@
 //! Opens the register that a command names, in its file or (with `--shelf`) on its shelf, and prints something of it, or writes a
 //! file of it.
 use crate::inputs::{Replaced, open_input};
+use crate::reading::ReadShelf;
 use crate::table::{Rows, answered};
 use crate::words::{files_before, open_shelf, open_to_read, place, word};
 use clap::ArgMatches;
 use reg_guard::engine::disks::FileDisk;
 use reg_guard::engine::places::{InputOf, Lockable, Place};
 use reg_guard::engine::streams::{Reading, Writing};
-use reg_guard::engine::{CliFault, Give, OfFile, OnShelf, Print, run_give, run_print};
+use reg_guard::engine::{CliFault, Give, OfFile, Print, run_give, run_print};
 use std::alloc::Global;
 use std::fs::OpenFile;
 use std::io::{self, Read, Seek, Write};
 use std::rt::Files;
 
 /// A register that was opened.
+#[derive(Drop)]
 pub enum Opened<F> {
     File(InputOf<Reading<F>>),
     Shelf(FileDisk<F>),
-}
-
-// By hand: otherwise the prover goes through both variants wherever a register goes out of scope.
-impl<F: Drop> Drop for Opened<F> {
-    fn drop(self) {
-        match self {
-            Opened::File(source) => drop(source),
-            Opened::Shelf(disk) => drop(disk),
-        }
-    }
 }
 
 /// The number of the first file that is read after the register: a shelf has no number.
@@ -97,33 +89,37 @@ fn print_to<C: Print, W: Write>(
     command: &C,
     sink: &mut Writing<W>,
 ) -> Result<(), CliFault> {
-    let mut register = open_register(rt, rt.alloc(), matches, "REG", &None)?;
-    print_from(rt.alloc(), &mut register, command, sink)
+    match open_register(rt, rt.alloc(), matches, "REG", &None) {
+        Ok(register) => print_from(rt.alloc(), register, command, sink),
+        Err(fault) => Err(fault),
+    }
 }
 
-fn print_from<F: Read + Write + Seek + OpenFile, C: Print, W: Write>(
+fn print_from<F: Read + Write + Seek + OpenFile + Drop, C: Print, W: Write>(
     alloc: Global,
-    register: &mut Opened<F>,
+    register: Opened<F>,
     command: &C,
     sink: &mut Writing<W>,
 ) -> Result<(), CliFault> {
     match register {
-        Opened::File(source) => {
-            let mut store = OfFile { source };
+        Opened::File(mut source) => {
+            let mut store = OfFile {
+                source: &mut source,
+            };
             run_print(alloc, &mut store, command, sink)
         }
         Opened::Shelf(disk) => {
-            let mut store = OnShelf { disk };
+            let mut store = ReadShelf::new(disk);
             run_print(alloc, &mut store, command, sink)
         }
     }
 }
 
 /// Writes the command's file of the register to OUT.
-pub fn give_of<F: Read + Write + Seek + OpenFile, C: Give>(
+pub fn give_of<F: Read + Write + Seek + OpenFile + Drop, C: Give>(
     rt: &HostRuntime,
     matches: &ArgMatches<'_>,
-    register: &mut Opened<F>,
+    register: Opened<F>,
     command: &mut C,
 ) -> Result<(), CliFault> {
     let mut place = place(rt, rt.alloc(), word(matches, "OUT"))?;
@@ -132,19 +128,21 @@ pub fn give_of<F: Read + Write + Seek + OpenFile, C: Give>(
     answer
 }
 
-fn give_to<F: Read + Write + Seek + OpenFile, C: Give, P: Place>(
+fn give_to<F: Read + Write + Seek + OpenFile + Drop, C: Give, P: Place>(
     alloc: Global,
-    register: &mut Opened<F>,
+    register: Opened<F>,
     command: &mut C,
     place: &mut P,
 ) -> Result<(), CliFault> {
     match register {
-        Opened::File(source) => {
-            let mut store = OfFile { source };
+        Opened::File(mut source) => {
+            let mut store = OfFile {
+                source: &mut source,
+            };
             run_give(alloc, &mut store, command, place)
         }
         Opened::Shelf(disk) => {
-            let mut store = OnShelf { disk };
+            let mut store = ReadShelf::new(disk);
             run_give(alloc, &mut store, command, place)
         }
     }

@@ -4,9 +4,9 @@ use clap::parser::ValueSource;
 use reg_guard::engine::disks::FileDisk;
 use reg_guard::engine::files::MAX_FILE;
 use reg_guard::engine::operations::OpId;
-use reg_guard::engine::places::{FileId, FilePlace, Held, Lock, Lockable, WholeFiles};
+use reg_guard::engine::places::{FileId, FilePlace, Lock, Lockable};
 use reg_guard::engine::streams::{InFault, Reading, read_up_to};
-use reg_guard::engine::{CliFault, InputFault, OutFault, Refusal, RegisterFiles, ShelfProblem};
+use reg_guard::engine::{CliFault, InputFault, Refusal, ShelfProblem};
 use reg_query::Wanted;
 use std::alloc::{AllocError, Global};
 use std::fs::{self, OpenFile, OpenOptions};
@@ -21,9 +21,6 @@ pub const STANDARD_INPUT: &str = "-";
 pub const STANDARD_INPUT_PATH: &str = "/dev/stdin";
 
 const STANDARD_OUTPUT_PATH: &str = "/dev/stdout";
-
-/// A new file that a stopped command left beside OUT is reused, unless it is a whole register.
-static REGISTER_FILES: RegisterFiles = RegisterFiles;
 
 /// An argument, or the empty text if it is absent, such as a note.
 pub fn word<'a>(matches: &ArgMatches<'a>, name: &str) -> &'a str {
@@ -122,14 +119,14 @@ pub fn push_listed<'a>(
     Ok(())
 }
 
-// Lines end at LF; the last one may have none.
+// Lines end at LF, or at CR and LF; the last one may have no end.
 fn push_lines<'a>(found: &mut Vec<&'a [u8]>, listed: &'a [u8]) -> Result<(), AllocError> {
     let lines = listed.strip_suffix(b"\n").unwrap_or(listed);
     if listed.is_empty() {
         return Ok(());
     }
     for line in lines.split(|byte| *byte == b'\n') {
-        found.push(line)?;
+        found.push(line.strip_suffix(b"\r").unwrap_or(line))?;
     }
     Ok(())
 }
@@ -202,7 +199,8 @@ pub fn is_twice(paths: &[&str]) -> bool {
     false
 }
 
-/// Opens a shelf for reading and writing. No other command may have it open, and standard output may not go to it.
+/// Opens a shelf for reading and writing. No other command may have it open, standard output may not go to it, and the file system
+/// has to have locks.
 pub fn open_shelf<R: Files>(rt: &R, path: &str) -> Result<FileDisk<R::File>, CliFault>
 where
     R::File: Lockable,
@@ -213,22 +211,32 @@ where
     if is_standard_output(rt, &file) {
         return Err(CliFault::Shelf(ShelfProblem::NotOpened));
     }
-    disk_if(file.lock_alone(), file)
+    match file.lock_alone() {
+        Lock::Missing => Err(CliFault::Shelf(ShelfProblem::NotLocked)),
+        lock => disk_if(lock, file),
+    }
 }
 
-/// Opens the file of a shelf that is to be made, and creates it if it is not there. No other command may have it open. The lock ends
-/// with the file.
+/// Opens the file of a shelf that is to be made, and creates it if it is not there. No other command may have it open, and the file
+/// system has to have locks. The lock ends with the file.
 pub fn lock_new_shelf<R: Files>(rt: &R, path: &str) -> Result<R::File, CliFault>
 where
     R::File: Lockable,
 {
+    let is_there = fs::metadata(rt, path).is_ok();
     let mut options = OpenOptions::new();
     let Ok(file) = options.read(true).write(true).create(true).open(rt, path) else {
         return Err(CliFault::Shelf(ShelfProblem::NotOpened));
     };
     match file.lock_alone() {
+        Lock::Taken => Ok(file),
         Lock::Held => Err(CliFault::Shelf(ShelfProblem::Busy)),
-        Lock::Taken | Lock::Missing => Ok(file),
+        Lock::Missing => {
+            if !is_there {
+                let _ = fs::remove_file(rt, path);
+            }
+            Err(CliFault::Shelf(ShelfProblem::NotLocked))
+        }
     }
 }
 
@@ -239,7 +247,7 @@ fn is_standard_output<R: Files>(rt: &R, file: &R::File) -> bool {
     }
 }
 
-/// Opens a shelf for reading. No command may have it open for writing.
+/// Opens a shelf for reading. No command may have it open for writing. On a file system without locks it is read without one.
 pub fn open_to_read<R: Files>(rt: &R, path: &str) -> Result<FileDisk<R::File>, CliFault>
 where
     R::File: Lockable,
@@ -266,7 +274,7 @@ pub fn place<'a, R: Files>(
     rt: &'a R,
     alloc: Global,
     path: &'a str,
-) -> Result<FilePlace<'a, R, RegisterFiles>, CliFault>
+) -> Result<FilePlace<'a, R>, CliFault>
 where
     R::File: AsFd + Lockable,
 {
@@ -278,7 +286,7 @@ pub fn printing_place<'a, R: Files>(
     rt: &'a R,
     alloc: Global,
     path: &'a str,
-) -> Result<FilePlace<'a, R, RegisterFiles>, CliFault>
+) -> Result<FilePlace<'a, R>, CliFault>
 where
     R::File: AsFd + Lockable,
 {
@@ -291,7 +299,7 @@ pub fn changed_place<'a, R: Files>(
     alloc: Global,
     path: &'a str,
     is_quiet: bool,
-) -> Result<FilePlace<'a, R, RegisterFiles>, CliFault>
+) -> Result<FilePlace<'a, R>, CliFault>
 where
     R::File: AsFd + Lockable,
 {
@@ -301,27 +309,16 @@ where
     printing_place(rt, alloc, path)
 }
 
-/// The fault of a late place, if its bytes did not get into OUT.
-pub fn late_fault<R: Files, W: WholeFiles>(place: &FilePlace<'_, R, W>) -> Option<CliFault>
-where
-    R::File: AsFd + Lockable,
-{
-    match place.trouble()? {
-        Held::Memory => Some(CliFault::Memory),
-        Held::Cut(written) => Some(CliFault::Out(OutFault::WriteFailed(written))),
-    }
-}
-
 fn place_beside<'a, R: Files>(
     rt: &'a R,
     alloc: Global,
     path: &'a str,
     printed: Option<FileId>,
-) -> Result<FilePlace<'a, R, RegisterFiles>, CliFault>
+) -> Result<FilePlace<'a, R>, CliFault>
 where
     R::File: AsFd + Lockable,
 {
-    match FilePlace::new(alloc, rt, path, &REGISTER_FILES, printed) {
+    match FilePlace::new(alloc, rt, path, printed) {
         Ok(place) => Ok(place),
         Err(_) => Err(CliFault::Memory),
     }

@@ -1,7 +1,7 @@
 //! Sentences for commands with an office file.
 use crate::Sentence;
 use crate::paths::{FileName, Found, Paths};
-use crate::shown::Shown;
+use crate::shown::{NewBeside, Shown};
 use reg_guard::{FileProblem, GuardFault};
 use std::fmt;
 
@@ -47,10 +47,10 @@ fn write_way_out<W: fmt::Write>(f: &mut fmt::Formatter<W>, out: &str) -> fmt::Re
     f.write_str("hint: another command may be at work: run this command again\n")?;
     f.write_str("hint: otherwise take a file that has it")?;
     if !out.is_empty() {
-        let out = Shown(out);
+        let (new, out) = (NewBeside(out), Shown(out));
         write!(
             f,
-            "; if a stopped command left {out}.new, rename that to {out}"
+            "; if a stopped command left {new}, crsreg take {out} {new}"
         )?;
     }
     f.write_str(
@@ -67,7 +67,7 @@ fn write_problem<W: fmt::Write>(
     match problem {
         FileProblem::NotOpened => writeln!(
             f,
-            "{office} (file 1) cannot be opened, or {office}.new cannot be made: it is not there, or you may not read it or write there"
+            "{office} (file 1) cannot be opened, or {office}.new cannot be made: it is not there, you may not read it or write there, or it has a second name (a hard link), which would keep an old number"
         ),
         FileProblem::Busy => {
             writeln!(

@@ -1,5 +1,5 @@
 //! The sentence for a refused import.
-use crate::paths::FileName;
+use crate::paths::{FileName, Paths, Register};
 use crate::shown::Head;
 use reg_guard::engine::operations::OpId;
 use std::fmt;
@@ -16,6 +16,8 @@ pub struct KeyTaken<'a> {
     pub head: Option<&'a str>,
     /// The file with the text.
     pub file: FileName<'a>,
+    /// The files that the command names.
+    pub paths: Paths<'a>,
 }
 
 impl fmt::Display for KeyTaken<'_> {
@@ -34,8 +36,11 @@ impl fmt::Display for KeyTaken<'_> {
                 "{file}: the entry {entry} has the key of this text, and another text",
             )?,
         }
+        let register = Register::of(&self.paths);
+        write!(f, "hint: crsreg compare {register} --with ")?;
+        file.write_argument(f)?;
         f.write_str(
-            "hint: crsreg compare REG --with FILE shows what differs; --differs beside enters it as well; --differs revise also retires the other entries\n",
+            " shows what differs; --differs beside enters it as well; --differs revise also retires the other entries\n",
         )
     }
 }

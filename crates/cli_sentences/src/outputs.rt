@@ -1,6 +1,6 @@
 //! Sentences for files that cannot be written.
 use crate::paths::{Command, Paths};
-use crate::shown::Shown;
+use crate::shown::{NewBeside, Shown};
 use reg_guard::engine::OutFault;
 use std::fmt;
 
@@ -14,15 +14,13 @@ pub fn write<W: fmt::Write>(
     let out = Shown(paths.out);
     match fault {
         OutFault::NotOpened => write_not_opened(f, paths),
-        OutFault::NewExists => {
-            writeln!(
-                f,
-                "{out}.new is there: another command writes {out}, or one was stopped"
-            )?;
-            write_new_hint(f, paths)
-        }
+        OutFault::NewExists => write_new_exists(f, paths),
         OutFault::TooLarge => f.write_str("the new file would have more than 67,108,864 bytes\n"),
         OutFault::WriteFailed(written) => write_failed(f, written, is_written, paths),
+        OutFault::ReadFailed(read) => writeln!(
+            f,
+            "{out} could be read again for {read} bytes only, so it was not replaced"
+        ),
         OutFault::Changed => {
             writeln!(
                 f,
@@ -50,23 +48,26 @@ fn write_not_opened<W: fmt::Write>(f: &mut fmt::Formatter<W>, paths: &Paths<'_>)
         ),
         _ => writeln!(
             f,
-            "{out} cannot be written: its folder is not there, you may not write it, or standard output goes to it",
+            "{out} cannot be written: the folder does not exist, you lack permission, it is a mount of its own (mount its folder instead), or it is also the standard output",
         ),
     }
 }
 
-// Writes what to do with a new file or a new folder that is there.
-fn write_new_hint<W: fmt::Write>(f: &mut fmt::Formatter<W>, paths: &Paths<'_>) -> fmt::Result {
+// Writes that a new file or a new folder is there, and what to do with it.
+fn write_new_exists<W: fmt::Write>(f: &mut fmt::Formatter<W>, paths: &Paths<'_>) -> fmt::Result {
     let out = Shown(paths.out);
     match paths.command {
         Command::Export => writeln!(
             f,
-            "hint: run this command again; if no crsreg runs, remove {out}.new"
+            "{out}.new is there: another command writes {out}, or one was stopped\nhint: run this command again; if no crsreg runs, remove {out}.new"
         ),
-        _ => writeln!(
-            f,
-            "hint: run this command again; if no crsreg runs, look at it with crsreg status {out}.new, and rename or remove it",
-        ),
+        _ => {
+            let new = NewBeside(paths.out);
+            writeln!(
+                f,
+                "{new} is there: another command writes {out}\nhint: run this command again; if no crsreg runs, remove {new}"
+            )
+        }
     }
 }
 

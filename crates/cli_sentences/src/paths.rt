@@ -10,6 +10,14 @@ pub enum FileName<'a> {
 }
 
 impl FileName<'_> {
+    /// Writes the file as the argument FILE in a hint.
+    pub(crate) fn write_argument<W: fmt::Write>(self, f: &mut fmt::Formatter<W>) -> fmt::Result {
+        match self {
+            FileName::StandardInput => f.write_str("FILE"),
+            FileName::Path(path) => write_argument(f, path, "FILE"),
+        }
+    }
+
     /// Writes the hint for a file named `-` that is not there. Most arguments do not mean standard input by it.
     pub(crate) fn write_hint<W: fmt::Write>(self, f: &mut fmt::Formatter<W>) -> fmt::Result {
         match self {
@@ -49,6 +57,8 @@ pub enum Command {
     Status,
     /// `supersede --from`, with `-k` or without.
     SupersedeFrom { keys: bool },
+    /// `unshelf`, which always reads a shelf.
+    Unshelf,
     Other,
 }
 
@@ -76,6 +86,45 @@ impl<'a> Paths<'a> {
             None => FileName::StandardInput,
         }
     }
+}
+
+/// The register of a command as its argument REG in a hint: on a shelf, with `--shelf`.
+#[derive(Clone, Copy)]
+pub(crate) struct Register<'a> {
+    path: &'a str,
+    is_shelf: bool,
+}
+
+impl<'a> Register<'a> {
+    pub(crate) fn of(paths: &Paths<'a>) -> Register<'a> {
+        Register {
+            path: paths.register,
+            is_shelf: !paths.shelf.is_empty(),
+        }
+    }
+}
+
+impl fmt::Display for Register<'_> {
+    fn fmt<W: fmt::Write>(&self, f: &mut fmt::Formatter<W>) -> fmt::Result {
+        write_argument(f, self.path, "REG")?;
+        if self.is_shelf {
+            f.write_str(" --shelf")?;
+        }
+        Ok(())
+    }
+}
+
+// Writes a path as an argument in a hint, or the argument's name if the path is not known or, as one of a pipe, cannot be read again.
+fn write_argument<W: fmt::Write>(
+    f: &mut fmt::Formatter<W>,
+    path: &str,
+    name: &str,
+) -> fmt::Result {
+    if path.is_empty() || path.starts_with("/dev/") {
+        return f.write_str(name);
+    }
+    let path = Shown(path);
+    write!(f, "{path}")
 }
 
 /// What a file that is no register seems to be.

@@ -1,5 +1,5 @@
 //! Sentences for refusals.
-use crate::paths::{Command, Paths};
+use crate::paths::{Command, Paths, Register};
 use crate::shown::{Head, Shown};
 use reg_guard::engine::Refusal;
 use reg_guard::engine::offices::OfficeFault;
@@ -46,10 +46,10 @@ fn write_clash<W: fmt::Write>(f: &mut fmt::Formatter<W>, id: OpId) -> fmt::Resul
     let (office, count) = (id.replica(), id.count());
     writeln!(
         f,
-        "two files have different operations under {id}: the office {office} gave the number {count} twice, as it went on from an older file or a copy"
+        "two files have different operations under {id}: somebody gave the number {count} of the office {office} twice, as from an older file or a copy, or forged it"
     )?;
     f.write_str(
-        "hint: see both with crsreg ops FILE, and agree on the file that stays; the office with the other one starts again from a copy of it, under a new UUID, and enters again what only its old file has\n",
+        "hint: see both with crsreg ops FILE, and agree on the file that stays; whoever has the other one starts again from a copy of it, with a new office, and enters again what only the other one has\n",
     )
 }
 
@@ -70,8 +70,10 @@ fn write_taken<W: fmt::Write>(
         }
         None => writeln!(f, "the key of {id} has another entry with a different text")?,
     }
-    f.write_str(
-        "hint: crsreg compare REG KEY shows what differs; crsreg settle REG ID keeps one entry of a key\n",
+    let register = Register::of(paths);
+    writeln!(
+        f,
+        "hint: crsreg compare {register} KEY shows what differs; crsreg settle {register} ID keeps one entry of a key"
     )?;
     match paths.command {
         Command::Export if !paths.keeps_going => {
@@ -135,9 +137,13 @@ fn write_word<W: fmt::Write>(
         Refusal::Several(id) => {
             writeln!(
                 f,
-                "several entries that are not retired have this key; {id} is the second"
+                "this key has several entries that are not retired, {id} among them"
             )?;
-            f.write_str("hint: name one by its id: crsreg find REG KEY --status live prints them\n")
+            let register = Register::of(paths);
+            writeln!(
+                f,
+                "hint: name one by its id: crsreg find {register} KEY --status live prints them"
+            )
         }
         Refusal::Unsettled => f.write_str(
             "a register has a conflict, an awaited id or a gap\nhint: crsreg report lists them; crsreg settle ends a conflict\n",

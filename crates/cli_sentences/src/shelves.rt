@@ -19,11 +19,18 @@ pub fn write<W: fmt::Write>(
                 "another command uses {shelf}\nhint: run this command again when it has ended"
             )
         }
-        ShelfProblem::NotShelf => {
+        ShelfProblem::NotLocked => {
             writeln!(
                 f,
-                "{shelf} is not a shelf, or it is damaged\nhint: crsreg shelf makes one; without --shelf a command takes a file"
+                "{shelf} cannot be locked: its file system has no locks, so another command could change it at the same time\nhint: move it to a local file system, or take a file: crsreg unshelf writes one"
             )
+        }
+        ShelfProblem::NotShelf => {
+            writeln!(f, "{shelf} is not a shelf, or it is damaged")?;
+            f.write_str(match paths.command {
+                Command::Unshelf => "hint: crsreg shelf makes one; if this is a register file, copy it instead\n",
+                _ => "hint: crsreg shelf makes one; without --shelf a command takes a file\n",
+            })
         }
         ShelfProblem::TooLarge => {
             writeln!(

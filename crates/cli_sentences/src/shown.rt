@@ -14,6 +14,26 @@ impl fmt::Display for Shown<'_> {
     }
 }
 
+/// The path of the new file beside the file with this path, as it is printed.
+#[derive(Clone, Copy)]
+pub struct NewBeside<'a>(pub &'a str);
+
+impl fmt::Display for NewBeside<'_> {
+    fn fmt<W: fmt::Write>(&self, f: &mut fmt::Formatter<W>) -> fmt::Result {
+        let name = match self.0.rsplit_once('/') {
+            Some((folder, name)) => {
+                write_shown(f, folder)?;
+                f.write_char('/')?;
+                name
+            }
+            None => self.0,
+        };
+        f.write_char('.')?;
+        write_shown(f, name)?;
+        f.write_str(".crsreg")
+    }
+}
+
 /// The key, the id and the status of an entry as they are printed: a control character prints as `?`.
 #[derive(Clone, Copy)]
 pub struct Head<'a>(pub &'a str);

@@ -75,8 +75,8 @@ pub fn retire<'a>(alloc: Global, defaults: &Defaults<'a>) -> Draft<'a> {
 fn text<'a>(alloc: Global) -> Arg<'a> {
     Arg::new(alloc, "text")
         .long("text")
-        .value_name("TEXT")
-        .help("The file with the text of a coordinate reference system")
+        .value_name("FILE")
+        .help("The file with the definition")
         .required(true)
 }
 

@@ -37,8 +37,8 @@ With --from, FILE is a list: each line is an OLD and its BYs, separated by
 blanks. It has the result of one command for each line, in order, and all are
 done or none: the first refused line ends the command, and its number follows
 the fault, as in UnknownEntry ID at line 7. A line with one word is refused as
-BadId. With --keep-going, refused lines are left out, a line
-left out: REFUSAL at line N is printed for each, and the status is 1.
+BadId. With --keep-going, refused lines are left out. After OUT is written, a
+line left out: REFUSAL at line N is printed for each, and the status is 1.
 
 Example:
   crsreg supersede -k office.crs EPSG:5783 EPSG:7837 \\

@@ -32,8 +32,8 @@ With --office FILE a command works as this office, and replaces FILE before it
 writes OUT. So the office gives no number twice, even if REG is an old copy:
 then the command is refused as Behind UUID:NUMBER. Take a register that has
 this number, or make a new office if nobody has it any more. If a command is
-stopped after it replaced FILE, the next one with FILE and OUT renames OUT.new
-to OUT first.
+stopped after it replaced FILE, the next one with FILE and OUT renames the new
+file beside OUT (.OUT.crsreg) to OUT first, if it has all that OUT has.
 
 Have one office file for each register. Never copy an office file, restore an
 older one, or put it under version control. While a command has FILE, FILE.new

@@ -44,7 +44,7 @@ pub fn find<'a>(alloc: Global) -> Draft<'a> {
         alloc,
         "at",
         "LAT,LON",
-        "Only with this point in a bounding box",
+        "Only entries with a bounding box around this point",
     ))
     .arg(of_kind(alloc))
     .arg(wanted(alloc))

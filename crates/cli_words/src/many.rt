@@ -30,7 +30,7 @@ pub fn import<'a>(alloc: Global, defaults: &Defaults<'a>) -> Draft<'a> {
         "dry-run",
         "Prints what would be done, and writes nothing",
     ))
-    .arg(flag(alloc, "changes", "Prints no lines with the action same"))
+    .arg(flag(alloc, "changes", "Leaves out texts that a valid entry already has"))
     .arg(named(
         alloc,
         "gone",
@@ -46,7 +46,7 @@ pub fn settle<'a>(alloc: Global, defaults: &Defaults<'a>) -> Draft<'a> {
     Draft::new(
         alloc,
         "settle",
-        "Keeps entries, and retires all others with their authority and code",
+        "Keeps these entries, and retires every other entry with one of their keys",
         SETTLE_HELP,
     )
     .arg(register(alloc))

@@ -133,7 +133,7 @@ Prints comma-separated values with a header:
   entries    each entry: its key, name, status, and what supersedes it
   conflicts  entries with one key and different texts that are not retired
   awaited    ids that operations name and that no operation has entered
-  gaps       operations not seen although a later one of the same office was
+  gaps       numbers below an office's greatest one that were not seen
 
 Example:
   crsreg report office.crs conflicts";

@@ -12,8 +12,8 @@ use crate::whole_help::{CHECK_HELP, COMPLETIONS_HELP, STATUS_HELP};
 use clap::{Arg, Command};
 use std::alloc::{AllocError, Global};
 
-/// The newest heading of CHANGES.md.
-const VERSION: &str = "0.6";
+/// The newest version of CHANGES.md, and `-dev` until it is released.
+const VERSION: &str = "0.7-dev";
 
 /// All commands, with the defaults of their options.
 pub fn command_line<'a>(alloc: Global, defaults: &Defaults<'a>) -> Result<Command<'a>, AllocError> {

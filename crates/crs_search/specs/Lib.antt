@@ -1,3 +1,4 @@
 pub mod Parts
 pub mod Usages
 pub mod Kinds
+pub mod Points

@@ -1,5 +1,5 @@
 -- Areas of use, and bounding boxes that have a point.
-use Rattle.std.specs.Prelude.{◌⊎◌, ℕ, List, ◌≤ℤ◌, ◌<ℤ◌, Option, Some, None}
+use Rattle.std.specs.Prelude.{◌⊎◌, ℕ, List, pos, neg_ℤ, ◌≤ℤ◌, ◌<ℤ◌, Option, Some, None}
 use Rattle.std.specs.List.{Any}
 use Rattle.crs_number.specs.declared.decimals.Decimal.{Decimal}
 use Rattle.crs_number.specs.Value.{units}
@@ -49,9 +49,13 @@ IsBelow a b = units a.coefficient a.exponent <ℤ units b.coefficient b.exponent
 abbrev pub IsBetween : Decimal → Decimal → Decimal → Type 0
 IsBetween low x high = IsAtMost low x × IsAtMost x high
 
--- from west to east; if west is greater, across the meridian of 180 degrees
+-- at most this many degrees, and at least as many below 0
+abbrev pub IsWithin : ℕ → Decimal → Type 0
+IsWithin degrees x = (units (neg_ℤ (pos degrees)) (pos 0) ≤ℤ units x.coefficient x.exponent) × (units x.coefficient x.exponent ≤ℤ units (pos degrees) (pos 0))
+
+-- from west to east; if west is greater, from west to 180 degrees, and from -180 degrees to east
 abbrev pub IsOnMeridians : Decimal → Decimal → Decimal → Type 0
-IsOnMeridians west x east = (IsAtMost west east × IsBetween west x east) ⊎ (IsBelow east west × (IsAtMost west x ⊎ IsAtMost x east))
+IsOnMeridians west x east = (IsAtMost west east × IsBetween west x east) ⊎ (IsBelow east west × (IsWithin 180 x × (IsAtMost west x ⊎ IsAtMost x east)))
 
 abbrev pub IsInBox : Point → BoundingBox → Type 0
 IsInBox p b = IsBetween b.south p.latitude b.north × IsOnMeridians b.west p.longitude b.east

@@ -5,7 +5,7 @@ pub const BEFORE_TITLE: &[u8] = b"<!DOCTYPE html>
 <html lang=\"en\">
 <head>
 <meta charset=\"utf-8\">
-<meta http-equiv=\"Content-Security-Policy\" content=\"default-src 'none'; style-src 'sha256-AC/ge8Z60PKjSaZlhIG6tMZI+sym+eZPJ5+Ti9OKpnQ='; script-src 'sha256-aiZHQAiWvbP4/W+sVATQyONKSzAhLH2m+xPWCXj5smY='; base-uri 'none'; form-action 'none'\">
+<meta http-equiv=\"Content-Security-Policy\" content=\"default-src 'none'; style-src 'sha256-AC/ge8Z60PKjSaZlhIG6tMZI+sym+eZPJ5+Ti9OKpnQ='; script-src 'sha256-L/KmkOjYqTfomIQvoDJ29dhptA0rZ/i/tFx+iUk0JnU='; base-uri 'none'; form-action 'none'\">
 <meta name=\"viewport\" content=\"width=device-width, initial-scale=1\">
 <meta name=\"generator\" content=\"crsreg\">
 <title>";

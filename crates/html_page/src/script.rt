@@ -5,7 +5,7 @@ pub const SCRIPT: &[u8] = b"
 'use strict';
 const field=document.getElementById('search'),found=document.getElementById('found'),body=document.getElementById('rows');
 let rows=null;
-const text=row=>[row.cells[0].textContent,row.querySelector('summary').textContent,...[...row.querySelectorAll('td p')].map(p=>p.textContent),row.cells[2].textContent,row.cells[3].textContent].join(' ').toLowerCase();
+const text=row=>[row.cells[0].textContent,row.querySelector('summary').textContent,...[...row.querySelectorAll('p')].map(p=>p.textContent),row.cells[2].textContent,row.cells[3].textContent].join(' ').toLowerCase();
 const search=()=>{
 rows=rows||[...body.rows].map(row=>({row,id:row.id.toLowerCase(),text:text(row)}));
 const words=field.value.toLowerCase().split(/[ \\t]+/).filter(word=>word);

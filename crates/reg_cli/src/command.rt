@@ -7,18 +7,19 @@ use clap::{ArgMatches, Error};
 use cli_exchange::faults::{Named, print_lines};
 use cli_exchange::{downgrade, merge, new, piece, seen, shelf, take, unshelf};
 use cli_hand::{export, graph, ops, page, report, show, wkt};
-use cli_import::changes::{is_out, office, retire, supersede};
+use cli_import::changes::{misnamed, office, retire, supersede};
 use cli_import::{enter, import, settle};
 use cli_look::desk::CliFault;
 use cli_look::{check, compare, diff, find, log, offices, status as figures, texts};
-use cli_open::{MISUSE, Outcome, complain, failed, office_file, print, word};
+use cli_open::{MISUSE, Outcome, complain, failed, print};
 use cli_words::command_line;
 use std::alloc::AllocError;
 use std::{env, io};
 
 const NO_TEXT: &str = "error: a word of the command line is not UTF-8";
 
-const SAME_FILE: &str = "error: OUT is the office file, or its new one";
+const NO_KEYS: &str =
+    "error: settle takes ids only: crsreg find REG KEY --status live --ids prints those of a key";
 
 const NO_COMMAND: &str = "error: there is no such command";
 
@@ -49,20 +50,33 @@ pub fn answer(rt: &HostRuntime, words: &[String]) -> u8 {
     match command.try_get_matches_from(words) {
         Ok(matches) => perform_explained(rt, &matches),
         Err(error) if error.kind() == ErrorKind::OutOfMemory => failed(rt, &CliFault::Memory),
-        Err(error) if error.use_stderr() => misused(rt, &error),
+        Err(error) if error.use_stderr() => misused(rt, words, &error),
         Err(help) => status(rt, Ending::of(print(rt, &help)), None),
     }
 }
 
 // Prints what is wrong with the command line. Its words are shown without characters that a terminal would act on.
-fn misused(rt: &HostRuntime, error: &Error) -> u8 {
+fn misused(rt: &HostRuntime, words: &[String], error: &Error) -> u8 {
     match format!(in rt.alloc(); "{error}") {
+        Ok(text) if is_key_to_settle(words, text.as_str()) => {
+            return complain(rt, &NO_KEYS, MISUSE);
+        }
         Ok(text) => print_lines(rt, text.as_str()),
         Err(_) => {
             let _ = error.print(rt);
         }
     }
     MISUSE
+}
+
+// Whether clap rejects `-k` because the command is `settle`.
+fn is_key_to_settle(words: &[String], error: &str) -> bool {
+    let Some(name) = words.get(1) else {
+        return false;
+    };
+    name.as_str() == "settle"
+        && (error.starts_with("error: unexpected argument '-k'")
+            || error.starts_with("error: unexpected argument '--keys'"))
 }
 
 // Runs the command. The names of its files, which explain a refusal, are found first: afterwards memory may be out.
@@ -122,14 +136,12 @@ fn perform(rt: &HostRuntime, matches: &ArgMatches<'_>) -> Option<Ending> {
     Some(ending)
 }
 
-// Runs a command that changes a register as an office. OUT and the office file are different files.
+// Runs a command that changes a register as an office.
 fn changed(rt: &HostRuntime, name: &str, inner: &ArgMatches<'_>) -> Option<Ending> {
-    if let Some(file) = office_file(inner) {
-        match is_out(rt, rt.alloc(), word(inner, "out"), file) {
-            Ok(false) => {}
-            Ok(true) => return Some(Ending::Plain(Outcome::Misuse(SAME_FILE))),
-            Err(fault) => return Some(Ending::Plain(Outcome::Fault(fault))),
-        }
+    match misnamed(rt, rt.alloc(), inner) {
+        Ok(None) => {}
+        Ok(Some(line)) => return Some(Ending::Plain(Outcome::Misuse(line))),
+        Err(fault) => return Some(Ending::Plain(Outcome::Fault(fault))),
     }
     let ending = match name {
         "enter" => Ending::of_explained(enter(rt, inner)),

@@ -149,6 +149,7 @@ fn explain_taken(rt: &HostRuntime, entry: OpId, file: usize, named: &Named<'_>) 
         entry,
         head: second.found().head,
         file: named.paths().file(file),
+        paths: named.paths(),
     };
     let _ = eprint!(rt; "{sentence}");
 }

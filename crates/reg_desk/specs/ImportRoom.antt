@@ -51,6 +51,7 @@ IsFull d old new y (cli.Out f) = ⊥
 IsFull d old new y cli.Memory = StaysOn d old new
 IsFull d old new y (cli.Shelf problem.NotOpened) = ⊥
 IsFull d old new y (cli.Shelf problem.Busy) = ⊥
+IsFull d old new y (cli.Shelf problem.NotLocked) = ⊥
 IsFull d old new y (cli.Shelf problem.NotShelf) = (IsTrue (d.tells old) → ⊥) × StaysOn d old new
 IsFull d old new y (cli.Shelf problem.TooLarge) = HasNoRoom d old y × StaysOn d old new
 IsFull d old new y (cli.Shelf problem.DiskFailed) = IsUnrestored d old new (cli.Shelf problem.DiskFailed)

@@ -32,10 +32,10 @@ pub use crs_number::Decimal;
 pub use crs_search::{Kind, Point};
 pub use reg_engine::{
     Base, Change, CliFault, Enter, Export, FirstVersion, Form, Give, InFile, InputFault, Keep,
-    OfFile, OnShelf, Ops, OutFault, PieceFor, Print, Refusal, RegisterFiles, Report, Retire,
-    ShelfProblem, Show, Store, Summary, Supersede, Whole, Wkt, run_change, run_check, run_enter,
-    run_enter_on, run_export, run_give, run_merge, run_merge_on, run_new, run_ops, run_piece,
-    run_print, run_report, run_retire, run_retire_on, run_seen, run_shelf, run_show, run_supersede,
+    OfFile, OnShelf, Ops, OutFault, PieceFor, Print, Refusal, Report, Retire, ShelfProblem, Show,
+    Store, Summary, Supersede, Whole, Wkt, run_change, run_check, run_enter, run_enter_on,
+    run_export, run_give, run_merge, run_merge_on, run_new, run_ops, run_piece, run_print,
+    run_report, run_retire, run_retire_on, run_seen, run_shelf, run_show, run_supersede,
     run_supersede_on, run_unshelf, run_wkt,
 };
 pub use reg_file::MAX_FILE;

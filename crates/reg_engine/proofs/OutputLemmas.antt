@@ -17,6 +17,7 @@ pub unreplaced : (read : Option (List ℕ)) (bytes : List ℕ) (old new : PlaceS
 unreplaced read bytes old new replaced.NotOpened h = h
 unreplaced read bytes old new replaced.NewExists h = h
 unreplaced read bytes old new (replaced.WriteFailed n) h = h
+unreplaced read bytes old new (replaced.ReadFailed n) h = h
 unreplaced read bytes old new replaced.Changed h = h
 unreplaced read bytes old new replaced.NotSynced h = h
 
@@ -33,6 +34,7 @@ unpublished_of (cli.Out out.TooLarge) Are Large read bytes old new is h = absurd
 unpublished_of (cli.Out out.NotOpened) Are Large read bytes old new is h = (bytes, is, h)
 unpublished_of (cli.Out out.NewExists) Are Large read bytes old new is h = (bytes, is, h)
 unpublished_of (cli.Out (out.WriteFailed n)) Are Large read bytes old new is h = (bytes, is, h)
+unpublished_of (cli.Out (out.ReadFailed n)) Are Large read bytes old new is h = (bytes, is, h)
 unpublished_of (cli.Out out.Changed) Are Large read bytes old new is h = (bytes, is, h)
 unpublished_of (cli.Out out.NotSynced) Are Large read bytes old new is h = (bytes, is, h)
 unpublished_of cli.Memory Are Large read bytes old new is h = h

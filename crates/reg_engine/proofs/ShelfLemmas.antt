@@ -181,6 +181,7 @@ module _ {D : Type 0} (d : Disks D) (old mid new : D) (tells : d.tells mid ≡ d
   then_unkept x y cli.Memory h = then_stays h
   then_unkept x y (cli.Shelf problem.NotOpened) h = h
   then_unkept x y (cli.Shelf problem.Busy) h = h
+  then_unkept x y (cli.Shelf problem.NotLocked) h = h
   then_unkept x y (cli.Shelf problem.NotShelf) h = (λ told. h.0 (then_told told), then_stays h.1)
   then_unkept x y (cli.Shelf problem.TooLarge) h = (room_before y h.0, then_stays h.1)
   then_unkept x y (cli.Shelf problem.DiskFailed) h = (h.0 ∙ ap (λ (n : ℕ). n + 1) stays.quiet, then_passes x y h.1)
@@ -192,6 +193,7 @@ module _ {D : Type 0} (d : Disks D) (old mid new : D) (tells : d.tells mid ≡ d
   then_unready y cli.Memory h = then_stays h
   then_unready y (cli.Shelf problem.NotOpened) h = h
   then_unready y (cli.Shelf problem.Busy) h = h
+  then_unready y (cli.Shelf problem.NotLocked) h = h
   then_unready y (cli.Shelf problem.NotShelf) h = (λ told. h.0 (then_told told), then_stays h.1)
   then_unready y (cli.Shelf problem.TooLarge) h = (room_before y h.0, then_stays h.1)
   then_unready y (cli.Shelf problem.DiskFailed) h = (h.0 ∙ ap (λ (n : ℕ). n + 1) stays.quiet, then_nothing h.1)

@@ -80,6 +80,7 @@ abbrev pub replace_fault : ReplaceFault → CliFault
 replace_fault replaced.NotOpened = cli.Out out.NotOpened
 replace_fault replaced.NewExists = cli.Out out.NewExists
 replace_fault (replaced.WriteFailed n) = cli.Out (out.WriteFailed n)
+replace_fault (replaced.ReadFailed n) = cli.Out (out.ReadFailed n)
 replace_fault replaced.Changed = cli.Out out.Changed
 replace_fault replaced.NotSynced = cli.Out out.NotSynced
 

@@ -69,17 +69,20 @@ out_name out.NotOpened = codes "NotOpened"
 out_name out.NewExists = codes "NewExists"
 out_name out.TooLarge = codes "TooLarge"
 out_name (out.WriteFailed at) = codes "WriteFailed"
+out_name (out.ReadFailed at) = codes "ReadFailed"
 out_name out.Changed = codes "Changed"
 out_name out.NotSynced = codes "NotSynced"
 
 abbrev pub out_place : OutFault → Option ℕ
 out_place (out.WriteFailed at) = Some at
+out_place (out.ReadFailed at) = Some at
 out_place f = None
 
 -- a shelf
 abbrev pub problem_name : ShelfProblem → List ℕ
 problem_name problem.NotOpened = codes "NotOpened"
 problem_name problem.Busy = codes "Busy"
+problem_name problem.NotLocked = codes "NotLocked"
 problem_name problem.NotShelf = codes "NotShelf"
 problem_name problem.TooLarge = codes "TooLarge"
 problem_name problem.DiskFailed = codes "DiskFailed"

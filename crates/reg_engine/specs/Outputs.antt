@@ -24,6 +24,7 @@ IsOutFaultBy Are Large read old new out.TooLarge = Large × (new ≡ old)
 IsOutFaultBy Are Large read old new out.NotOpened = (bytes : List ℕ) × Are bytes × IsReplaceFault read bytes old new replaced.NotOpened
 IsOutFaultBy Are Large read old new out.NewExists = (bytes : List ℕ) × Are bytes × IsReplaceFault read bytes old new replaced.NewExists
 IsOutFaultBy Are Large read old new (out.WriteFailed n) = (bytes : List ℕ) × Are bytes × IsReplaceFault read bytes old new (replaced.WriteFailed n)
+IsOutFaultBy Are Large read old new (out.ReadFailed n) = (bytes : List ℕ) × Are bytes × IsReplaceFault read bytes old new (replaced.ReadFailed n)
 IsOutFaultBy Are Large read old new out.Changed = (bytes : List ℕ) × Are bytes × IsReplaceFault read bytes old new replaced.Changed
 IsOutFaultBy Are Large read old new out.NotSynced = (bytes : List ℕ) × Are bytes × IsReplaceFault read bytes old new replaced.NotSynced
 
@@ -43,6 +44,7 @@ IsUnpublishedOf read bytes old new (cli.Out out.TooLarge) = ⊥
 IsUnpublishedOf read bytes old new (cli.Out out.NotOpened) = IsReplaceFault read bytes old new replaced.NotOpened
 IsUnpublishedOf read bytes old new (cli.Out out.NewExists) = IsReplaceFault read bytes old new replaced.NewExists
 IsUnpublishedOf read bytes old new (cli.Out (out.WriteFailed n)) = IsReplaceFault read bytes old new (replaced.WriteFailed n)
+IsUnpublishedOf read bytes old new (cli.Out (out.ReadFailed n)) = IsReplaceFault read bytes old new (replaced.ReadFailed n)
 IsUnpublishedOf read bytes old new (cli.Out out.Changed) = IsReplaceFault read bytes old new replaced.Changed
 IsUnpublishedOf read bytes old new (cli.Out out.NotSynced) = IsReplaceFault read bytes old new replaced.NotSynced
 IsUnpublishedOf read bytes old new cli.Memory = new ≡ old

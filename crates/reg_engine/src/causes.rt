@@ -116,6 +116,7 @@ impl CliFault {
             ReplaceFault::NotOpened => CliFault::Out(OutFault::NotOpened),
             ReplaceFault::NewExists => CliFault::Out(OutFault::NewExists),
             ReplaceFault::WriteFailed(n) => CliFault::Out(OutFault::WriteFailed(n)),
+            ReplaceFault::ReadFailed(n) => CliFault::Out(OutFault::ReadFailed(n)),
             ReplaceFault::Changed => CliFault::Out(OutFault::Changed),
             ReplaceFault::NotSynced => CliFault::Out(OutFault::NotSynced),
         }

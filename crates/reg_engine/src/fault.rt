@@ -184,7 +184,7 @@ pub enum OutFault {
     /// No file was made, or a complete one could not be renamed.
     #[error("NotOpened")]
     NotOpened,
-    /// The new file exists: another writer made it, or one that was killed.
+    /// The new file exists: another command writes it.
     #[error("NewExists")]
     NewExists,
     /// The file would exceed the limit. The output was not opened.
@@ -193,7 +193,10 @@ pub enum OutFault {
     /// Exactly this many bytes were written.
     #[error("WriteFailed at {0}")]
     WriteFailed(usize),
-    /// Another program replaced the file after it was read.
+    /// Reading the old file again failed after this many bytes.
+    #[error("ReadFailed at {0}")]
+    ReadFailed(usize),
+    /// Another program replaced the file after it was read, or the new file.
     #[error("Changed")]
     Changed,
     /// The new file is there, but a power cut may leave the old one: the sync of the folder failed.
@@ -213,17 +216,19 @@ impl OutFault {
             OutFault::NewExists => "NewExists",
             OutFault::TooLarge => "TooLarge",
             OutFault::WriteFailed(_) => "WriteFailed",
+            OutFault::ReadFailed(_) => "ReadFailed",
             OutFault::Changed => "Changed",
             OutFault::NotSynced => "NotSynced",
         }
     }
 
-    /// The number of bytes that were written before it, if it has a place.
+    /// The number of bytes that were written, or read again, before it, if it has a place.
     pub fn place(self) -> Option<usize>
         ensures { result ≡ out_place self }
     {
         match self {
             OutFault::WriteFailed(place) => Some(place),
+            OutFault::ReadFailed(place) => Some(place),
             _ => None,
         }
     }
@@ -237,6 +242,9 @@ pub enum ShelfProblem {
     /// Another command has locked it.
     #[error("Busy")]
     Busy,
+    /// The file system has no locks, so another command could change it at the same time. Nothing was changed.
+    #[error("NotLocked")]
+    NotLocked,
     /// It is not a shelf with a register.
     #[error("NotShelf")]
     NotShelf,
@@ -258,6 +266,7 @@ impl ShelfProblem {
         match self {
             ShelfProblem::NotOpened => "NotOpened",
             ShelfProblem::Busy => "Busy",
+            ShelfProblem::NotLocked => "NotLocked",
             ShelfProblem::NotShelf => "NotShelf",
             ShelfProblem::TooLarge => "TooLarge",
             ShelfProblem::DiskFailed => "DiskFailed",

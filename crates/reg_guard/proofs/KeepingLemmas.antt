@@ -22,6 +22,7 @@ unready : (f : ReplaceFault) (y : Content) (read : Option (List ℕ)) (bytes : L
 unready replaced.NotOpened y read bytes old new is h = (bytes, is, h)
 unready replaced.NewExists y read bytes old new is h = (bytes, is, h)
 unready (replaced.WriteFailed n) y read bytes old new is h = (bytes, is, h)
+unready (replaced.ReadFailed n) y read bytes old new is h = (bytes, is, h)
 unready replaced.Changed y read bytes old new is h = (bytes, is, h)
 unready replaced.NotSynced y read bytes old new is h = (bytes, is, h)
 
@@ -29,8 +30,9 @@ late : (f : ReplaceFault) (y : Content) (read : Option (List ℕ)) (bytes : List
     → IsLateFile y read old new (replace_fault f)
 late replaced.NotOpened y read bytes old new is h = (bytes, is, h)
 late replaced.NewExists y read bytes old new is h = absurd h
-late (replaced.WriteFailed n) y read bytes old new is h = absurd h
-late replaced.Changed y read bytes old new is h = absurd h
+late (replaced.WriteFailed n) y read bytes old new is h = (bytes, is, h)
+late (replaced.ReadFailed n) y read bytes old new is h = absurd h
+late replaced.Changed y read bytes old new is h = (bytes, is, h)
 late replaced.NotSynced y read bytes old new is h = (bytes, is, h)
 
 pub unpublished : (f : NumberedFault) (l : Last) (y : Content) (read : Option (List ℕ)) (bytes text : List ℕ) (place after office noted : PlaceState)

@@ -37,6 +37,8 @@ IsWithdrawnFile y old new = (bytes : List ℕ) × Holds bytes y × IsWithdrawn b
 -- the file of the register was ready, and did not get its name, or not for sure
 abbrev pub IsLateFile : Content → Option (List ℕ) → PlaceState → PlaceState → CliFault → Type 0
 IsLateFile y read old new (cli.Out out.NotOpened) = (bytes : List ℕ) × Holds bytes y × IsLate read bytes old new replaced.NotOpened
+IsLateFile y read old new (cli.Out (out.WriteFailed n)) = (bytes : List ℕ) × Holds bytes y × IsLate read bytes old new (replaced.WriteFailed n)
+IsLateFile y read old new (cli.Out out.Changed) = (bytes : List ℕ) × Holds bytes y × IsLate read bytes old new replaced.Changed
 IsLateFile y read old new (cli.Out out.NotSynced) = (bytes : List ℕ) × Holds bytes y × IsLate read bytes old new replaced.NotSynced
 IsLateFile y read old new f = ⊥
 

@@ -13,7 +13,7 @@ mod store;
 pub use driver::run_guarded;
 pub use fault::{FileProblem, GuardFault, why};
 pub use lag::behind;
-pub use left::has_last;
+pub use left::may_take_its_place;
 pub use making::run_office;
 pub use opening::{last_of, lock_office, unopened};
 pub use reg_engine as engine;

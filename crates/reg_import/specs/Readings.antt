@@ -5,7 +5,7 @@ use Rattle.wkt_crs.specs.Spells.{SpellsCanon}
 use Rattle.wkt_crs.specs.Definition.{IsDefinition, IsKeyIn, IsTextFault, fault_place}
 use Rattle.wkt_crs.specs.declared.definition.DefinitionFault.TheVariants.{Memory}
 use Rattle.reg_report.specs.Conflicts.{KeyBytes, bytes_of}
-use Rattle.reg_import.specs.Quoted.{first_quoted}
+use Rattle.reg_import.specs.Quoted.{shown_quoted}
 use Rattle.reg_import.specs.declared.reading.FileText.{FileText}
 use Rattle.reg_import.specs.declared.reading.ReadText.{ReadText}
 use Rattle.reg_import.specs.declared.reading.ReadText.TheVariants as reading
@@ -20,10 +20,10 @@ abbrev pub place_in : ReadText → ℕ
 place_in (reading.Defined definition key) = 0
 place_in (reading.Unread f) = unwrap_or (fault_place f) 0
 
--- its first text in quotation marks, if it is no definition
+-- its first text in quotation marks as UTF-8, if it is no definition
 abbrev pub quoted_in : List ℕ → ReadText → List ℕ
 quoted_in text (reading.Defined definition key) = []
-quoted_in text (reading.Unread f) = first_quoted text
+quoted_in text (reading.Unread f) = shown_quoted text
 
 -- these bytes are in the file with this number from this place on, and this is their reading
 pub record IsFileText (file place : ℕ) (bytes : List ℕ) (t : FileText) : Type 0 where

@@ -2,7 +2,7 @@
 
 ghost use Rattle.std.specs.Prelude.{◌≡◌, [], false, IfOk};
 ghost use Rattle.std.specs.Option.{unwrap_or};
-ghost use Rattle.reg_import.specs.Quoted.{quoted, first_quoted, Quotes};
+ghost use Rattle.reg_import.specs.Quoted.{quoted, first_quoted, shown_quoted, Quotes};
 
 use std::alloc::{AllocError, Global};
 
@@ -44,8 +44,17 @@ fn quoted(alloc: Global, bytes: &[u8]) -> Result<Vec<u8>, AllocError>
     Ok(text)
 }
 
-/// The first text in quotation marks; empty if there is none.
-pub fn first_quoted(alloc: Global, bytes: &[u8]) -> Result<Vec<u8>, AllocError>
+/// The first text in quotation marks as UTF-8, with U+FFFD instead of bytes that are none; empty if there is no such text.
+pub fn shown_quoted(alloc: Global, bytes: &[u8]) -> Result<Vec<u8>, AllocError>
+    ensures { IfOk result (λ text. text.items ≡ shown_quoted bytes.now) }
+{
+    let quoted = first_quoted(alloc, bytes)?;
+    let shown = String::from_utf8_lossy(alloc, &quoted)?;
+    Vec::from_slice(alloc, shown.as_bytes())
+}
+
+// The first text in quotation marks; empty if there is none.
+fn first_quoted(alloc: Global, bytes: &[u8]) -> Result<Vec<u8>, AllocError>
     ensures { IfOk result (λ text. text.items ≡ first_quoted bytes.now) }
 {
     let mut rest = bytes;

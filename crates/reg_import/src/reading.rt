@@ -3,7 +3,7 @@
 ghost use Rattle.std.specs.Prelude.{◌≡◌, ◌+◌, IfOk, IfSome};
 ghost use Rattle.reg_import.specs.Readings.{IsReading, place_in, quoted_in, IsFileText};
 
-use crate::quoted::first_quoted;
+use crate::quoted::shown_quoted;
 use crs_part::TryClone;
 use crs_value::Key;
 use std::alloc::{AllocError, Global};
@@ -69,7 +69,7 @@ pub fn read_at(
     })
 }
 
-// The first text in quotation marks, in a text that is no definition.
+// The first text in quotation marks as UTF-8, in a text that is no definition.
 fn quoted_in(alloc: Global, text: &[u8], reading: &ReadText) -> Result<Vec<u8>, AllocError>
     ensures { IfOk result (λ quoted. quoted.items ≡ quoted_in text.now reading.now) }
 {
@@ -78,7 +78,7 @@ fn quoted_in(alloc: Global, text: &[u8], reading: &ReadText) -> Result<Vec<u8>, 
             definition: _,
             key: _,
         } => Ok(Vec::new(alloc)),
-        ReadText::Unread(_) => first_quoted(alloc, text),
+        ReadText::Unread(_) => shown_quoted(alloc, text),
     }
 }
 

@@ -25,6 +25,7 @@ IsNotOut fs old new (cli.Out out.TooLarge) = ⊥
 IsNotOut fs old new (cli.Out out.NotOpened) = IsPutFault fs old new put.NotOpened
 IsNotOut fs old new (cli.Out out.NewExists) = IsPutFault fs old new put.NewExists
 IsNotOut fs old new (cli.Out (out.WriteFailed n)) = IsPutFault fs old new (put.WriteFailed n)
+IsNotOut fs old new (cli.Out (out.ReadFailed n)) = ⊥
 IsNotOut fs old new (cli.Out out.Changed) = ⊥
 IsNotOut fs old new (cli.Out out.NotSynced) = ⊥
 IsNotOut fs old new cli.Memory = ⊥

@@ -1,10 +1,10 @@
 -- Replacing an office file whose new file is made already, and empty.
-use Rattle.std.specs.Prelude.{◌≡◌, ◌⊎◌, ◌+◌, ◌++◌, true, ℕ, List, [], Some, None, length}
+use Rattle.std.specs.Prelude.{◌≡◌, ◌⊎◌, ◌+◌, ◌≤◌, ◌++◌, true, ℕ, List, [], Some, None, length}
 use Rattle.std.specs.Io.KnownBytes.{Appends}
 use Rattle.byte_io.specs.Device.{SinkState}
 use Rattle.byte_io.specs.Whole.{WritesAll, IsCutAt}
 use Rattle.byte_out.specs.Place.{Files, PlaceState, IfReported}
-use Rattle.byte_out.specs.Replace.{IsKept}
+use Rattle.byte_out.specs.Replace.{IsKept, ReportsNone}
 use Rattle.reg_number.specs.declared.fault.NoteFault.{NoteFault}
 use Rattle.reg_number.specs.declared.fault.NoteFault.TheVariants as fault
 
@@ -29,9 +29,12 @@ Notes text old new = WritesAll text old.sink new.sink
     × IfReported (λ f g. f.beside ≡ Some [] → HasText text f g × (g.landed ≡ true)) old.files new.files
 
 -- the old office file is there: the new one did not get its name, or exactly its first n bytes were written, or its sync
--- failed; or the new one is there, and a stop may leave the old one
+-- failed; or the new one is there, and a stop may leave the old one. A place that does not report its files may also lose the new
+-- one to another program, or write in place
 abbrev pub IsUnnoted : List ℕ → PlaceState → PlaceState → NoteFault → Type 0
-IsUnnoted text old new fault.NotOpened = FailsAtEnd text old.sink new.sink × IfReported IsKept old.files new.files
+IsUnnoted text old new fault.NotOpened = (FailsAtEnd text old.sink new.sink × IfReported IsKept old.files new.files)
+    ⊎ (WritesAll text old.sink new.sink × ReportsNone old new)
 IsUnnoted text old new (fault.WriteFailed n) = (IsCutAt n text old.sink new.sink × IfReported IsKept old.files new.files)
     ⊎ ((n ≡ length text) × FailsAtEnd text old.sink new.sink
     × (IfReported IsKept old.files new.files ⊎ IfReported (λ f g. f.beside ≡ Some [] → HasText text f g) old.files new.files))
+    ⊎ ((n ≤ length text) × FailsAtEnd text old.sink new.sink × ReportsNone old new)

@@ -1,8 +1,8 @@
 -- Replacing a file, and an office file before it.
-use Rattle.std.specs.Prelude.{◌≡◌, List, ℕ, Option, None}
+use Rattle.std.specs.Prelude.{◌≡◌, ◌≤◌, List, ℕ, Option, None, length}
 use Rattle.byte_io.specs.Publish.{Publishes}
 use Rattle.byte_out.specs.Place.{PlaceState, IfReported}
-use Rattle.byte_out.specs.Replace.{Replaces, IsReplaceFault, IsKept, FailsWhole}
+use Rattle.byte_out.specs.Replace.{Replaces, IsReplaceFault, IsKept, FailsWhole, ReportsNone}
 use Rattle.byte_out.specs.declared.fault.ReplaceFault.{ReplaceFault}
 use Rattle.byte_out.specs.declared.fault.ReplaceFault.TheVariants as replaced
 use Rattle.reg_number.specs.Noting.{Notes, IsUnnoted}
@@ -13,12 +13,14 @@ use Rattle.reg_number.specs.declared.fault.NumberedFault.TheVariants as fault
 abbrev pub IsWithdrawn : List ℕ → PlaceState → PlaceState → Type 0
 IsWithdrawn bytes old new = Publishes bytes old.sink new.sink × IfReported IsKept old.files new.files
 
--- the new file was whole, and could not be renamed; or it was, and a stop may leave the old one
+-- the new file was whole, and could not be renamed; or it was, and a stop may leave the old one. A place that does not report its
+-- files may also lose the new one to another program, or write in place
 abbrev pub IsLate : Option (List ℕ) → List ℕ → PlaceState → PlaceState → ReplaceFault → Type 0
 IsLate read bytes old new replaced.NotOpened = FailsWhole bytes old.sink new.sink × IfReported (λ f g. IsKept f g × (f.beside ≡ None)) old.files new.files
 IsLate read bytes old new replaced.NewExists = ⊥
-IsLate read bytes old new (replaced.WriteFailed n) = ⊥
-IsLate read bytes old new replaced.Changed = ⊥
+IsLate read bytes old new (replaced.WriteFailed n) = (n ≤ length bytes) × FailsWhole bytes old.sink new.sink × ReportsNone old new
+IsLate read bytes old new (replaced.ReadFailed n) = ⊥
+IsLate read bytes old new replaced.Changed = Publishes bytes old.sink new.sink × ReportsNone old new
 IsLate read bytes old new replaced.NotSynced = IsReplaceFault read bytes old new replaced.NotSynced
 
 -- the file has these bytes, and the office file this text

@@ -4,7 +4,7 @@ ghost use Rattle.std.specs.Prelude.{OnOk, IfErr};
 ghost use Rattle.reg_number.specs.Noting.{Notes, IsUnnoted};
 
 use crate::fault::NoteFault;
-use byte_out::Place;
+use byte_out::{Place, PutFault};
 
 /// Replaces the office file by one with this text. Its new file was made before: it keeps other commands of the office away. If
 /// it does not get the name, it is removed.
@@ -20,9 +20,20 @@ pub fn put_number<P: Place>(place: &mut P, text: &[u8]) -> Result<(), NoteFault>
         place.remove();
         return Err(NoteFault::WriteFailed(text.len()));
     }
-    if place.put().is_err() {
-        place.remove();
-        return Err(NoteFault::NotOpened);
+    match place.put(None, text) {
+        Ok(()) => {}
+        Err(PutFault::NotOpened) => {
+            place.remove();
+            return Err(NoteFault::NotOpened);
+        }
+        Err(PutFault::Changed) => {
+            place.remove();
+            return Err(NoteFault::NotOpened);
+        }
+        Err(PutFault::WriteFailed(count)) => {
+            place.remove();
+            return Err(NoteFault::WriteFailed(count));
+        }
     }
     // A number that a power cut may undo is not given out.
     if place.land().is_err() {

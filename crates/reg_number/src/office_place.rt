@@ -5,8 +5,8 @@ ghost use Rattle.std.specs.String.{string_bytes};
 ghost use Rattle.byte_io.specs.Device.{target_of};
 ghost use Rattle.byte_out.specs.Place.{untold};
 
-use byte_io::{DeviceFault, Log, NotOpened, Sink, Tally, WriteFault, write_all};
-use byte_out::{MakeFault, Place, make_alike};
+use byte_io::{DeviceFault, Log, Sink, Tally, WriteFault, write_all};
+use byte_out::{CompareFault, MakeFault, Place, PutFault, make_alike};
 use std::alloc::{AllocError, Global};
 use std::fs::{self, Metadata, OpenFile, OpenOptions, Permissions};
 use std::io::{self, ErrorKind, Write};
@@ -165,18 +165,18 @@ where
         Err(DeviceFault)
     }
 
-    fn still_has(&mut self, _read: &[u8]) -> bool {
+    fn compare(&mut self, _read: &[u8]) -> Result<(), CompareFault> {
         // Only the command that made the new file replaces the office file.
-        true
+        Ok(())
     }
 
-    fn put(&mut self) -> Result<(), NotOpened> {
+    fn put(&mut self, _read: Option<&[u8]>, _bytes: &[u8]) -> Result<(), PutFault> {
         if self.file.is_some() && is_renamed(self.rt, &self.made, &self.path) {
             self.file = None;
             return Ok(());
         }
         self.failures = Tally::after(&self.failures);
-        Err(NotOpened)
+        Err(PutFault::NotOpened)
     }
 
     fn land(&mut self) -> Result<(), DeviceFault> {
@@ -197,14 +197,17 @@ where
     }
 }
 
-// A new file, open to the same people as the old one, if there is one. One that cannot be written is not replaced.
+// A new file, open to the same people as the old one, if there is one. One that cannot be written is not replaced, nor one with a
+// second name, a hard link: that would keep the old number.
 fn made_like<R: Files>(rt: &R, made: &str, path: &str) -> Result<R::File, MakeFault>
 where
     R::File: AsFd,
 {
     let old = fs::metadata(rt, path).ok();
-    if old.is_some() && OpenOptions::new().write(true).open(rt, path).is_err() {
-        return Err(MakeFault::NotOpened);
+    if let Some(old) = &old {
+        if old.nlink() > 1 || OpenOptions::new().write(true).open(rt, path).is_err() {
+            return Err(MakeFault::NotOpened);
+        }
     }
     let opened = OpenOptions::new()
         .write(true)

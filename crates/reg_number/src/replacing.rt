@@ -5,7 +5,7 @@ ghost use Rattle.reg_number.specs.Replacing.{ReplacesNumbered, IsUnnumbered};
 
 use crate::fault::NumberedFault;
 use crate::noting::put_number;
-use byte_out::{Place, ReplaceFault, prepare};
+use byte_out::{Place, PutFault, ReplaceFault, prepare};
 
 /// Replaces a file by one with these bytes, as `replace` of `byte_out` does. As soon as the new file is ready, the office file
 /// is replaced by one with this text. So a stop in between leaves an office file that is ahead, never one that is behind.
@@ -28,9 +28,20 @@ pub fn replace_numbered<P: Place, Q: Place>(
         place.remove();
         return Err(NumberedFault::Unnoted(fault));
     }
-    if place.put().is_err() {
-        place.remove();
-        return Err(NumberedFault::Late(ReplaceFault::NotOpened));
+    match place.put(read, bytes) {
+        Ok(()) => {}
+        Err(PutFault::NotOpened) => {
+            place.remove();
+            return Err(NumberedFault::Late(ReplaceFault::NotOpened));
+        }
+        Err(PutFault::Changed) => {
+            place.remove();
+            return Err(NumberedFault::Late(ReplaceFault::Changed));
+        }
+        Err(PutFault::WriteFailed(count)) => {
+            place.remove();
+            return Err(NumberedFault::Late(ReplaceFault::WriteFailed(count)));
+        }
     }
     if place.land().is_err() {
         return Err(NumberedFault::Late(ReplaceFault::NotSynced));

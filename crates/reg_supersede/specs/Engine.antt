@@ -1,14 +1,17 @@
 -- What the command makes of a register and of its list, and why it makes nothing.
-use Rattle.std.specs.Prelude.{◌≡◌, ◌++◌, [], ◌∷◌, ℕ, Bool, List}
+use Rattle.std.specs.Prelude.{◌≡◌, ◌⊎◌, ◌++◌, [], ◌∷◌, ℕ, Bool, false, List, Some, None}
 use Rattle.byte_io.specs.Device.{SourceState}
 use Rattle.reg_engine.specs.WholeFile.{Gives, IsFileFault}
 use Rattle.reg_op.specs.Ids.{Id}
 use Rattle.reg_op.specs.Contents.{Content}
 use Rattle.reg_engine.specs.declared.fault.CliFault.{CliFault}
 use Rattle.reg_engine.specs.declared.fault.CliFault.TheVariants as cli
+use Rattle.reg_engine.specs.declared.fault.Refusal.{Refusal}
 use Rattle.reg_engine.specs.declared.fault.Refusal.TheVariants as refusal
 use Rattle.reg_engine.specs.Fault.{office_fault}
 use Rattle.reg_engine.specs.Outputs.{id_lines}
+use Rattle.reg_office.specs.declared.fault.OfficeFault.TheVariants as fault
+use Rattle.reg_office.specs.Making.{note_fault}
 use Rattle.reg_supersede.specs.declared.list_options.LineFault.{LineFault}
 use Rattle.reg_supersede.specs.declared.list_options.LineFault.TheVariants as line
 use Rattle.reg_supersede.specs.declared.list_options.RefusedLine.{RefusedLine}
@@ -27,14 +30,22 @@ cause_of (line.Several id) = cli.Refused (refusal.Several id)
 cause_of (line.Office f) = office_fault f
 cause_of line.Memory = cli.Memory
 
--- the lines of the list were done, one after the other; these are left out, and those are the lines of the new ids
+-- the note is short, and the lines of the list were done, one after the other; these are left out, and those are the lines of the new ids
 abbrev pub Supersedes : Task → SourceState → SourceState → Content → Content → List ℕ → List RefusedLine → Type 0
-Supersedes t old new x y text left = (bytes : List ℕ) × Gives old new bytes × ((ids : List Id) × DoesAll t 1 x (lines bytes) y ids left × (text ≡ id_lines ids))
+Supersedes t old new x y text left = (note_fault t.note ≡ None) × (bytes : List ℕ) × Gives old new bytes × ((ids : List Id) × DoesAll t 1 x (lines bytes) y ids left × (text ≡ id_lines ids))
 
--- the list was not read; or a line refuses the command, and is appended to the refused lines; or memory ran out
+-- the note is too long, whatever the lines are, and no line is refused; or a line refuses the command, and is appended to the refused lines
+abbrev pub RefusesList : Task → Content → List (List ℕ) → List RefusedLine → List RefusedLine → Refusal → Type 0
+RefusesList t x lines before told r = ((note_fault t.note ≡ Some fault.NoteTooLong) × (told ≡ before) × (r ≡ refusal.Office fault.NoteTooLong))
+    ⊎ ((note_fault t.note ≡ None) × ((f : RefusedLine) × RefusesAll t x lines f × (told ≡ before ++ f ∷ []) × (cause_of f.fault ≡ cli.Refused r)))
+
+-- the list was not read; or it is refused; or memory ran out
 abbrev pub CannotSupersede : Task → ℕ → SourceState → SourceState → Content → List RefusedLine → List RefusedLine → CliFault → Type 0
-CannotSupersede t number old new x before told (cli.Refused r) = (bytes : List ℕ) × Gives old new bytes
-    × ((f : RefusedLine) × RefusesAll t x (lines bytes) f × (told ≡ before ++ f ∷ []) × (cause_of f.fault ≡ cli.Refused r))
+CannotSupersede t number old new x before told (cli.Refused r) = (bytes : List ℕ) × Gives old new bytes × RefusesList t x (lines bytes) before told r
 CannotSupersede t number old new x before told (cli.File k f) = (k ≡ number) × IsFileFault f old new
 CannotSupersede t number old new x before told cli.Memory = Unit {0}
 CannotSupersede t number old new x before told f = ⊥
+
+-- the line refuses the command with this fault: refused lines are not left out, it is the last of them, and the fault is its cause
+abbrev pub Refuses : Bool → List RefusedLine → CliFault → RefusedLine → Type 0
+Refuses keep_going refused f line = (keep_going ≡ false) × ((before : List RefusedLine) × (refused ≡ before ++ line ∷ [])) × (cause_of line.fault ≡ f)

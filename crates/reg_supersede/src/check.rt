@@ -89,11 +89,18 @@ fn is_spent(order: &ListOptions<'_>, effects: &Effects, newer: &[OpId]) -> bool
     left as usize - effects.bodies.len() < newer.len()
 }
 
+/// Whether the note is too long.
+pub fn is_long(note: &str) -> bool
+    ensures { result ≡ nat_lt 200 (length note.now) }
+{
+    note.len() > Note::MAX
+}
+
 // Why the note is refused.
 fn note_fault(note: &str) -> Option<OfficeFault>
     ensures { result ≡ note_fault note.now }
 {
-    if note.len() > Note::MAX {
+    if is_long(note) {
         return Some(OfficeFault::NoteTooLong);
     }
     None

@@ -8,20 +8,22 @@ ghost use Rattle.reg_supersede.specs.Lists.{DoesAll};
 ghost use Rattle.reg_supersede.specs.Effects.{after, ids_of, CanMake, IsListFault};
 ghost use Rattle.reg_supersede.specs.Engine.{task};
 
+use crate::check::is_long;
 use crate::lines::lines_of;
 use crate::list::{Listed, all_lines, leave_out};
 use crate::list_options::{LineFault, ListOptions, RefusedLine};
 use crate::naming::rows_for;
 use byte_io::Source;
-use reg_engine::{Change, CliFault, Made, id_lines, read_whole};
-use reg_office::Office;
+use reg_engine::{Change, CliFault, Made, Refusal, id_lines, read_whole};
+use reg_office::{Office, OfficeFault};
 use reg_op::OpBody;
 use reg_state::Register;
 use std::alloc::Global;
 use uuid::Uuid;
 
 /// Reads a list after the register, and supersedes the entries of its lines as the replica, with the note. Where refused lines are
-/// left out, `refused` has them afterwards; otherwise it has the line that refuses the command.
+/// left out, `refused` has them afterwards; otherwise it has the line that refuses the command. A note that is too long refuses the
+/// command whatever the lines are.
 #[derive(Drop)]
 pub struct SupersedeFrom<'a, S> {
     pub list: &'a mut S,
@@ -128,6 +130,11 @@ impl<S: Source> Change for SupersedeFrom<'_, S> {
             Ok(bytes) => bytes,
             Err(fault) => return Err(fault),
         };
+        if is_long(self.note) {
+            return Err(CliFault::Refused(Refusal::Office(
+                OfficeFault::NoteTooLong,
+            )));
+        }
         let planned = planned(
             alloc,
             &register,

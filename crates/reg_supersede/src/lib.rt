@@ -12,3 +12,4 @@ mod told;
 
 pub use engine::SupersedeFrom;
 pub use list_options::{LineFault, RefusedLine};
+pub use told::refused_line;

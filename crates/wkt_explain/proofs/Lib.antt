@@ -2,6 +2,7 @@ pub mod CharLemmas
 pub mod ExplainLemmas
 pub mod FrontLemmas
 pub mod LineLemmas
+pub mod MarkLemmas
 pub mod NearLemmas
 pub mod PathLemmas
 pub mod ShownLemmas

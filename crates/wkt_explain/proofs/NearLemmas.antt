@@ -4,7 +4,7 @@ use Rattle.std.specs.List.{prefix_len}
 use Rattle.std.proofs.lemmas.List.{length-append, length-take}
 use Rattle.std.proofs.Math.Seq.{drop-append-add}
 use Rattle.wkt_explain.specs.Characters.{chars}
-use Rattle.wkt_explain.specs.Position.{goes_on, first_line, last_line, line_number, column, feeds, text_in}
+use Rattle.wkt_explain.specs.Position.{goes_on, first_line, last_line, without_return, line_number, column, feeds, text_in}
 use Rattle.wkt_explain.specs.Shown
 use Rattle.wkt_explain.specs.Shown.{shown, shown_before, around, shown_lines}
 use Rattle.wkt_explain.specs.Walk.{AreWhole, IsInLine, IsFar}
@@ -29,6 +29,13 @@ first_line-front (suc n) (x ∷ xs) = elim (goes_on x) as (λ b. goes_on x ≡ b
   where
     next : (n : ℕ) → 1 + n ≡ suc n
     next n = omega arith
+
+-- a carriage return far behind the front makes no difference at the front
+return_far : (n : ℕ) (xs : List ℕ) → take n (without_return (take (suc n) xs)) ≡ take n (without_return xs)
+return_far zero xs = refl
+return_far (suc n) [] = refl
+return_far (suc n) (x ∷ []) = refl
+return_far (suc n) (x ∷ y ∷ ys) = ap (λ (l : List ℕ). x ∷ l) (return_far n (y ∷ ys))
 
 ahead_shown : (before xs ys : List (List ℕ)) → take 80 xs ≡ take 80 ys → shown_lines before xs ≡ shown_lines before ys
 ahead_shown before xs ys e =
@@ -93,12 +100,14 @@ far_enough file at place passed inside within (inr far) p =
 
 pub spot_shown : (file : List ℕ) (at place passed : ℕ) (before ahead after : List ℕ) → IsInLine file at place → place ≤ length file → IsFar passed at place
     → AreWhole (last_line (take at file)) (drop at file) → passed ≡ length (chars (last_line (take at file)))
-    → before ≡ text_in file at place → ahead ≡ take 320 (drop place file) → after ≡ first_line ahead
-    → shown_lines (chars before) (chars after) ≡ shown_lines (chars (last_line (take place file))) (chars (first_line (drop place file)))
+    → before ≡ text_in file at place → ahead ≡ take 321 (drop place file) → after ≡ without_return (first_line ahead)
+    → shown_lines (chars before) (chars after) ≡ shown_lines (chars (last_line (take place file))) (chars (without_return (first_line (drop place file))))
 spot_shown file at place passed before ahead after inside within far whole p b a l =
-    let line = first_line (drop place file) in
-    let front : after ≡ take 320 line = l ∙ ap first_line a ∙ first_line-front 320 (drop place file) in
-    let alike : take 80 (chars after) ≡ take 80 (chars line) = ap (λ x. take 80 (chars x)) front ∙ first_chars_of_front 80 320 line (omega arith) in
+    let line = without_return (first_line (drop place file)) in
+    let from : after ≡ without_return (take 321 (first_line (drop place file))) = l ∙ ap (λ x. without_return (first_line x)) a ∙ ap without_return (first_line-front 321 (drop place file)) in
+    let front : take 320 after ≡ take 320 line = ap (take 320) from ∙ return_far 320 (first_line (drop place file)) in
+    let alike : take 80 (chars after) ≡ take 80 (chars line) =
+    sym (first_chars_of_front 80 320 after (omega arith)) ∙ ap (λ x. take 80 (chars x)) front ∙ first_chars_of_front 80 320 line (omega arith) in
     ap (λ x. shown_lines (chars x) (chars after)) b
     ∙ ahead_shown (chars (text_in file at place)) (chars after) (chars line) alike
     ∙ behind_shown (chars (last_line (take at file))) (chars (text_in file at place)) (chars line) (far_enough file at place passed inside within far p)

@@ -5,7 +5,7 @@ use Rattle.wkt_crs.specs.declared.definition.DefinitionFault.{DefinitionFault}
 use Rattle.wkt_crs.specs.Definition.{fault_place}
 use Rattle.wkt_explain.specs.declared.hints.Hint.{Hint}
 use Rattle.wkt_explain.specs.Characters.{chars}
-use Rattle.wkt_explain.specs.Position.{first_line, last_line, line_number, column, text_in}
+use Rattle.wkt_explain.specs.Position.{first_line, last_line, without_return, behind_mark, line_number, column, text_in}
 use Rattle.wkt_explain.specs.Path.{path_at}
 use Rattle.wkt_explain.specs.Shown.{shown_lines}
 use Rattle.wkt_explain.specs.Wanted.{sentence_in}
@@ -41,14 +41,15 @@ abbrev pub said : List ℕ → ℕ → ℕ → List (List ℕ) → List ℕ → 
 said name line column path lines text f =
     place_words name line column ++ path_words path ++ sentence_in path f ++ 10 ∷ [] ++ lines ++ hint_line (hint_of text (last_of [] path) f)
 
--- the explanation of a fault at this place of a text, which is in a file after and before these bytes
+-- the explanation of a fault at this place of a text, which is in a file after and before these bytes: the carriage return at the end
+-- of its line is not shown
 abbrev pub explained : List ℕ → List ℕ → ℕ → List ℕ → List ℕ → DefinitionFault → List ℕ
 explained name text at before after f =
-    said name (line_number before) (column before) (path_at (take at text)) (shown_lines (chars (last_line before)) (chars (first_line after))) text f
+    said name (line_number before) (column before) (path_at (take at text)) (shown_lines (chars (last_line before)) (chars (without_return (first_line after)))) text f
 
--- of a text in a file
+-- of a text in a file, whose columns are counted behind a byte order mark
 abbrev pub explanation : List ℕ → List ℕ → ℕ → ℕ → DefinitionFault → List ℕ
 explanation name file start end f =
     let text = text_in file start end in
     let at = told_at text f in
-    explained name text at (take (start + at) file) (drop (start + at) file) f
+    explained name text at (behind_mark (take (start + at) file)) (drop (start + at) file) f

@@ -20,6 +20,7 @@ abbrev pub hint_text : Hint → List ℕ
 hint_text hints.Empty = codes "the text is empty"
 hint_text hints.ByteOrderMark = codes "the text begins with a byte order mark: save it without one"
 hint_text hints.Utf16 = codes "this is UTF-16: save the text as UTF-8"
+hint_text hints.OwnFile = codes "this is a file of crsreg, such as a register: crsreg texts prints the texts of one"
 hint_text hints.Latin = codes "this may be Latin-1 or Windows-1252: save the text as UTF-8"
 hint_text hints.ProjJson = codes "this is JSON, perhaps PROJJSON: its WKT is wanted, as of projinfo -o WKT2:2019"
 hint_text hints.Gml = codes "this is XML, perhaps GML: its WKT is wanted"
@@ -108,13 +109,19 @@ start_hint bytes =
     else (if is_code bytes then Some hints.Code
     else None)))))
 
+-- a register, a summary or a piece, of version 1 or 2
+abbrev pub is_own_file : List ℕ → Bool
+is_own_file bytes = begins (67 ∷ 82 ∷ 83 ∷ 82 ∷ 1 ∷ []) bytes || begins (67 ∷ 82 ∷ 83 ∷ 82 ∷ 2 ∷ []) bytes
+
 -- for the front of a text without tokens
 abbrev pub front_hint : List ℕ → Option Hint
-front_hint text = if begins (239 ∷ 187 ∷ 191 ∷ []) text then Some hints.ByteOrderMark else start_hint (behind_blanks text)
+front_hint text = if begins (239 ∷ 187 ∷ 191 ∷ []) text then Some hints.ByteOrderMark
+    else (if is_own_file text then Some hints.OwnFile else start_hint (behind_blanks text))
 
 -- for bytes that are not UTF-8
 abbrev pub encoding_hint : List ℕ → Hint
-encoding_hint text = if begins (255 ∷ 254 ∷ []) text || begins (254 ∷ 255 ∷ []) text then hints.Utf16 else hints.Latin
+encoding_hint text = if begins (255 ∷ 254 ∷ []) text || begins (254 ∷ 255 ∷ []) text then hints.Utf16
+    else (if is_own_file text then hints.OwnFile else hints.Latin)
 
 -- for the word after a complete text
 abbrev pub more_hint : List ℕ → Option Hint

@@ -16,7 +16,7 @@ use Rattle.wkt_crs.specs.declared.definition.DefinitionFault.TheVariants as faul
 -- of the bytes, the tokens or the tree
 abbrev pub text_sentence : TextFault → List ℕ
 text_sentence text.TooLong = codes "the text has more than 1,048,576 bytes"
-text_sentence (text.NotUtf8 at) = codes "this byte is no UTF-8"
+text_sentence (text.NotUtf8 at) = codes "this byte is not valid UTF-8"
 text_sentence (text.BadByte at) = codes "nothing that a text is made of begins with this character"
 text_sentence (text.TextOpen at) = codes "no quotation mark closes the text that begins here"
 text_sentence (text.BadNumber at) = codes "this is not written as a number is"

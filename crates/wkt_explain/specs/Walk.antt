@@ -2,7 +2,7 @@
 use Rattle.std.specs.Prelude.{◌≡◌, ◌⊎◌, ◌+◌, ◌≤◌, ◌++◌, ℕ, true, List, take, drop}
 use Rattle.std.specs.List.{list_all}
 use Rattle.wkt_explain.specs.Characters.{chars}
-use Rattle.wkt_explain.specs.Position.{goes_on, first_line, last_line, line_number, column, text_in}
+use Rattle.wkt_explain.specs.Position.{goes_on, first_line, last_line, without_return, line_number, column, text_in}
 use Rattle.wkt_explain.specs.Shown.{shown_lines}
 use Rattle.wkt_explain.specs.declared.walk.Spot.{Spot}
 
@@ -18,8 +18,8 @@ IsInLine file at place = (at ≤ place) × (list_all goes_on (text_in file at pl
 abbrev pub IsFar : ℕ → ℕ → ℕ → Type 0
 IsFar passed at place = (passed ≡ 0) ⊎ (at + 320 ≤ place)
 
--- the lines and columns up to a place of a file, and what is shown of its line
-pub record IsSpot (spot : Spot) (file : List ℕ) (place : ℕ) : Type 0 where
-  pub line : spot.line ≡ line_number (take place file)
-  pub column : spot.column ≡ column (take place file)
-  pub shown : shown_lines (chars spot.before.now) (chars spot.after.now) ≡ shown_lines (chars (last_line (take place file))) (chars (first_line (drop place file)))
+-- the lines and columns of a place after and before these bytes, and what is shown of its line
+pub record IsSpot (spot : Spot) (before after : List ℕ) : Type 0 where
+  pub line : spot.line ≡ line_number before
+  pub column : spot.column ≡ column before
+  pub shown : shown_lines (chars spot.before.now) (chars spot.after.now) ≡ shown_lines (chars (last_line before)) (chars (without_return (first_line after)))

@@ -1,15 +1,17 @@
 //! The explanation of a refusal.
 
-ghost use Rattle.std.specs.Prelude.{◌≡◌, ◌++◌, ◌+◌, ◌∷◌, [], ℕ, List, drop, length, map, min, codes, decimal, Option, IfOk, OnOk};
+ghost use Rattle.std.specs.Prelude.{◌≡◌, ◌++◌, ◌+◌, ◌∷◌, ◌≤◌, [], ℕ, List, take, drop, length, map, min, codes, decimal, Option, IfOk, OnOk};
 ghost use Rattle.std.specs.List.{flat_map};
 ghost use Rattle.wkt_explain.specs.Characters.{chars};
+ghost use Rattle.wkt_explain.specs.Position.{behind_mark};
 ghost use Rattle.wkt_explain.specs.Shown.{shown_lines};
+ghost use Rattle.wkt_explain.specs.Walk.{IsSpot};
 ghost use Rattle.wkt_explain.specs.Wanted.{sentence_in};
 ghost use Rattle.wkt_explain.specs.Explains.{explanation, hint_line, last_of, path_words, place_words, said, step_words, told_at};
 
 use crate::hints::{Hint, hint_of};
 use crate::path::path_at;
-use crate::position::text_in;
+use crate::position::{MARK, begins_mark, behind_mark, text_in};
 use crate::shown::push_lines;
 use crate::walk::{Spot, Walk};
 use crate::wanted::push_sentence;
@@ -133,13 +135,15 @@ fn said(
 /// order takes one pass through the file. A text that begins before the last one takes another pass.
 #[derive(Drop)]
 pub struct Explainer<'f> {
+    file: &'f [u8],
     walk: Walk<'f>,
+    ghost behind: { walk.file.now ≡ behind_mark file.now },
 }
 
 impl<'f> Model for Explainer<'f> {
     ghost Value = { List ℕ };
 
-    ghost view = { λ e. e.walk.file.now };
+    ghost view = { λ e. e.file.now };
 }
 
 impl<'f> Explainer<'f> {
@@ -148,7 +152,8 @@ impl<'f> Explainer<'f> {
         ensures { result ≡ file.now }
     {
         Explainer {
-            walk: Walk::new(file),
+            file,
+            walk: Walk::new(behind_mark(file)),
         }
     }
 
@@ -156,7 +161,23 @@ impl<'f> Explainer<'f> {
     fn place(&self, start: usize, at: usize) -> usize
         ensures { result ≡ min (start + at) (length self.now) }
     {
-        start.saturating_add(at).min(self.walk.file.len())
+        start.saturating_add(at).min(self.file.len())
+    }
+
+    // Advances to a place of the file. The walk goes through the file behind a byte order mark, so that this is in no column.
+    fn go(&mut self, place: usize) -> Spot<'f>
+        requires { place ≤ length self.old }
+        ensures spot { IsSpot result (behind_mark (take place self.old)) (drop place self.old) }
+        ensures file { self.new ≡ self.old }
+    {
+        if !begins_mark(self.file) {
+            return self.walk.go(place);
+        }
+        if place < MARK {
+            let mut walk = Walk::new(self.file);
+            return walk.go(place);
+        }
+        self.walk.go(place - MARK)
     }
 
     /// The explanation of the fault of the text from `start` up to `end` in the file with this name: its place, the
@@ -172,12 +193,12 @@ impl<'f> Explainer<'f> {
         ensures note { IfOk result (λ note. note.items ≡ explanation name.now self.old start end fault) }
         ensures file { self.new ≡ self.old }
     {
-        let text = text_in(self.walk.file, start, end);
+        let text = text_in(self.file, start, end);
         let at = told_at(text, fault);
         let (read, _) = text.split_at(at);
         let path = path_at(alloc, read)?;
         let place = self.place(start, at);
-        let spot = self.walk.go(place);
+        let spot = self.go(place);
         said(alloc, name, spot, &path, text, fault)
     }
 }

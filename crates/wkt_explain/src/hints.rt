@@ -3,7 +3,7 @@
 ghost use Rattle.std.specs.Prelude.{◌≡◌};
 ghost use Rattle.std.specs.List.{prefix_len};
 ghost use Rattle.wkt_tree.specs.Bytes.{is_blank, is_word_byte};
-ghost use Rattle.wkt_explain.specs.Hints.{after_hint, begins_heading, begins_letter, begins_option, behind_blanks, behind_word, encoding_hint, front_hint, front_word, hint_of, hint_text, is_base, is_code, is_colon_word, is_extent, is_last_word, is_proj_string, is_wkt1, more_hint, start_hint, text_hint, word_at, word_hint};
+ghost use Rattle.wkt_explain.specs.Hints.{after_hint, begins_heading, begins_letter, begins_option, behind_blanks, behind_word, encoding_hint, front_hint, front_word, hint_of, hint_text, is_base, is_code, is_colon_word, is_extent, is_last_word, is_own_file, is_proj_string, is_wkt1, more_hint, start_hint, text_hint, word_at, word_hint};
 
 use crate::path::{is_blank, is_word_byte};
 use crs_part::same_word;
@@ -16,6 +16,7 @@ pub enum Hint {
     Empty,
     ByteOrderMark,
     Utf16,
+    OwnFile,
     Latin,
     ProjJson,
     Gml,
@@ -39,6 +40,8 @@ impl Hint {
             Hint::Empty => "the text is empty",
             Hint::ByteOrderMark => "the text begins with a byte order mark: save it without one",
             Hint::Utf16 => "this is UTF-16: save the text as UTF-8",
+            Hint::OwnFile =>
+                "this is a file of crsreg, such as a register: crsreg texts prints the texts of one",
             Hint::Latin => "this may be Latin-1 or Windows-1252: save the text as UTF-8",
             Hint::ProjJson =>
                 "this is JSON, perhaps PROJJSON: its WKT is wanted, as of projinfo -o WKT2:2019",
@@ -233,12 +236,22 @@ fn start_hint(bytes: &[u8]) -> Option<Hint>
     None
 }
 
+// A register, a summary or a piece, of either version.
+fn is_own_file(bytes: &[u8]) -> bool
+    ensures { result ≡ is_own_file bytes.now }
+{
+    bytes.starts_with(b"CRSR\x01") || bytes.starts_with(b"CRSR\x02")
+}
+
 // The hint for the front of a text without tokens.
 fn front_hint(text: &[u8]) -> Option<Hint>
     ensures { result ≡ front_hint text.now }
 {
     if text.starts_with(b"\xef\xbb\xbf") {
         return Some(Hint::ByteOrderMark);
+    }
+    if is_own_file(text) {
+        return Some(Hint::OwnFile);
     }
     start_hint(behind_blanks(text))
 }
@@ -249,6 +262,9 @@ fn encoding_hint(text: &[u8]) -> Hint
 {
     if text.starts_with(b"\xff\xfe") || text.starts_with(b"\xfe\xff") {
         return Hint::Utf16;
+    }
+    if is_own_file(text) {
+        return Hint::OwnFile;
     }
     Hint::Latin
 }

@@ -2,7 +2,10 @@
 
 ghost use Rattle.std.specs.Prelude.{◌≡◌, ◌≤◌, length};
 ghost use Rattle.std.specs.List.{prefix_len, suffix_len};
-ghost use Rattle.wkt_explain.specs.Position.{goes_on, feeds, first_line, last_line, text_in};
+ghost use Rattle.wkt_explain.specs.Position.{begins_mark, behind_mark, goes_on, feeds, first_line, last_line, text_in, without_return};
+
+/// The number of bytes of a byte order mark.
+pub(crate) const MARK: usize = 3;
 
 fn goes_on(b: u8) -> bool
     ensures { result ≡ goes_on b }
@@ -37,6 +40,37 @@ pub(crate) fn last_line(bytes: &[u8]) -> &[u8]
     let len = back_len(bytes);
     let (_, line) = bytes.split_at(bytes.len() - len);
     line
+}
+
+/// A line without the carriage return at its end.
+pub(crate) fn without_return(line: &[u8]) -> &[u8]
+    ensures { result.now ≡ without_return line.now }
+{
+    let Some((last, others)) = line.split_last() else {
+        return line;
+    };
+    if *last == b'\r' {
+        return others;
+    }
+    line
+}
+
+/// Whether the bytes begin with a byte order mark.
+pub(crate) fn begins_mark(bytes: &[u8]) -> bool
+    ensures { result ≡ begins_mark bytes.now }
+{
+    bytes.starts_with(b"\xef\xbb\xbf")
+}
+
+/// The bytes without a byte order mark at their front.
+pub(crate) fn behind_mark(bytes: &[u8]) -> &[u8]
+    ensures { result.now ≡ behind_mark bytes.now }
+{
+    if !begins_mark(bytes) {
+        return bytes;
+    }
+    let (_, rest) = bytes.split_at(MARK.min(bytes.len()));
+    rest
 }
 
 /// How many line feeds they have.

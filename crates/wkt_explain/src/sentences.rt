@@ -10,7 +10,7 @@ fn text_sentence(fault: TextFault) -> &'static str
 {
     match fault {
         TextFault::TooLong => "the text has more than 1,048,576 bytes",
-        TextFault::NotUtf8(_) => "this byte is no UTF-8",
+        TextFault::NotUtf8(_) => "this byte is not valid UTF-8",
         TextFault::BadByte(_) => "nothing that a text is made of begins with this character",
         TextFault::TextOpen(_) => "no quotation mark closes the text that begins here",
         TextFault::BadNumber(_) => "this is not written as a number is",

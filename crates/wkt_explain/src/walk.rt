@@ -7,10 +7,13 @@ ghost use Rattle.wkt_explain.specs.Position.{goes_on, last_line, line_number, te
 ghost use Rattle.wkt_explain.specs.Walk.{AreWhole, IsInLine, IsFar, IsSpot};
 
 use crate::characters::{count_chars, first_len};
-use crate::position::{feeds, first_line, last_line, text_in};
+use crate::position::{feeds, first_line, last_line, text_in, without_return};
 
 /// The most bytes of 80 characters.
 const FAR: usize = 320;
+
+/// The same, and one that may be the carriage return at the end of the line.
+const AHEAD: usize = 321;
 
 /// The most bytes of a character.
 const LONGEST: usize = 4;
@@ -138,18 +141,18 @@ impl<'f> Walk<'f> {
     pub(crate) fn go(&mut self, place: usize) -> Spot<'f>
         requires { place ≤ length self.old.file.now }
         ensures file { self.new.file.now ≡ self.old.file.now }
-        ensures spot { IsSpot result self.old.file.now place }
+        ensures spot { IsSpot result (take place self.old.file.now) (drop place self.old.file.now) }
     {
         let walk = self.near(place);
         *self = walk;
         let before = text_in(walk.file, walk.place, place);
         let (_, after) = walk.file.split_at(place);
-        let (ahead, _) = after.split_at(FAR.min(after.len()));
+        let (ahead, _) = after.split_at(AHEAD.min(after.len()));
         Spot {
             line: walk.line,
             column: walk.passed + count_chars(before) + 1,
             before,
-            after: first_line(ahead),
+            after: without_return(first_line(ahead)),
         }
     }
 }

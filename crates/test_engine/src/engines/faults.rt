@@ -66,6 +66,11 @@ fn names_each_fault_and_its_status(rt: HostRuntime) {
         (CliFault::Out(OutFault::NotOpened), b"out: NotOpened", 3),
         (CliFault::Out(OutFault::NewExists), b"out: NewExists", 3),
         (CliFault::Out(OutFault::TooLarge), b"out: TooLarge", 3),
+        (
+            CliFault::Out(OutFault::ReadFailed(3)),
+            b"out: ReadFailed at 3",
+            3,
+        ),
         (CliFault::Out(OutFault::Changed), b"out: Changed", 3),
         (CliFault::Out(OutFault::NotSynced), b"out: NotSynced", 3),
         (file(1, InputFault::TooLarge), b"file 1: TooLarge", 3),

@@ -116,6 +116,20 @@ fn a_file_that_is_not_the_one_that_was_read_stays(rt: HostRuntime) {
     assert!(rt; other.beside().is_none());
     assert!(rt; printed.is_empty());
 
+    let steps = [
+        (Step::Reopen, OutFault::NotOpened),
+        (Step::Reread, OutFault::ReadFailed(0)),
+    ];
+    for (step, cause) in steps {
+        let mut unread = place(&rt, alloc, None, 1000);
+        unread.fail_at(step);
+        let (fault, printed) = retired(&rt, alloc, &file, true, &mut unread);
+        assert_eq!(rt; fault, Some(CliFault::Out(cause)));
+        assert!(rt; unread.stands() == Some(OLD));
+        assert!(rt; unread.beside().is_none());
+        assert!(rt; printed.is_empty());
+    }
+
     let copy = Vec::from_slice(alloc, &file).expect(&rt, "room for a file");
     let mut same = MemPlace::new(alloc, Some(copy), None, 1000);
     let (fault, printed) = retired(&rt, alloc, &file, true, &mut same);

@@ -12,6 +12,6 @@ returns-clause-note c =
     let place = c.place-place.ensures ∙ ap (λ (f : List ℕ). min (c.args.start + c.told_at-at.result) (length f)) (sym c.self.view_is) in
     subst (λ (f : List ℕ). IfOk c.said.result (λ note. note.items ≡ explanation c.args.name.now f c.args.start c.args.end c.args.fault)) c.self.view_is
     (IfOk-weaker c.said.result _ _
-    (λ note is. is_explanation c.args.name.now c.self.inside.walk.file.now _ c.args.start c.args.end _ _ _ c.args.fault c.go-spot.result note.items
+    (λ note is. is_explanation c.args.name.now c.self.inside.file.now _ c.args.start c.args.end _ _ _ c.args.fault c.go-spot.result note.items
     c.text_in-text.ensures c.told_at-at.ensures path place c.go-spot.ensures.spot is)
     c.said.ensures)
