@@ -1,22 +1,18 @@
 //! Runs a command: from the command line to an engine, and from its result to the exit status.
-use crate::change::{enter, retire, settle, supersede};
-use crate::compare::compare;
 use crate::environment::Environment;
-use crate::exchange::{downgrade, merge, new, piece, seen, shelf, unshelf};
-use crate::hand::{export, graph};
-use crate::importing::import;
-use crate::look::{
-    check, diff, find, log, offices, ops, page, report, show, status as figures, texts, wkt,
-};
-use crate::office::{misnamed, office};
-use crate::outcome::{MISUSE, Outcome, complain, failed, print, print_lines, status};
-use crate::paths::Named;
+use crate::outcome::{Ending, status};
 use crate::shells::completions;
-use crate::take::take;
 use clap::error::ErrorKind;
 use clap::{ArgMatches, Error};
+use cli_exchange::faults::{Named, print_lines};
+use cli_exchange::{downgrade, merge, new, piece, seen, shelf, take, unshelf};
+use cli_hand::{export, graph, ops, page, report, show, wkt};
+use cli_import::changes::{misnamed, office, retire, supersede};
+use cli_import::{enter, import, settle};
+use cli_look::desk::CliFault;
+use cli_look::{check, compare, diff, find, log, offices, status as figures, texts};
+use cli_open::{MISUSE, Outcome, complain, failed, print};
 use cli_words::command_line;
-use reg_desk::CliFault;
 use std::alloc::AllocError;
 use std::{env, io};
 
@@ -55,7 +51,7 @@ pub fn answer(rt: &HostRuntime, words: &[String]) -> u8 {
         Ok(matches) => perform_explained(rt, &matches),
         Err(error) if error.kind() == ErrorKind::OutOfMemory => failed(rt, &CliFault::Memory),
         Err(error) if error.use_stderr() => misused(rt, words, &error),
-        Err(help) => status(rt, Outcome::of(print(rt, &help)), None),
+        Err(help) => status(rt, Ending::of(print(rt, &help)), None),
     }
 }
 
@@ -89,7 +85,7 @@ fn perform_explained(rt: &HostRuntime, matches: &ArgMatches<'_>) -> u8 {
         return failed(rt, &CliFault::Memory);
     };
     match perform(rt, matches) {
-        Some(outcome) => status(rt, outcome, named),
+        Some(ending) => status(rt, ending, named),
         None => complain(rt, &NO_COMMAND, MISUSE),
     }
 }
@@ -106,54 +102,54 @@ fn named<'a>(rt: &HostRuntime, matches: &ArgMatches<'a>) -> Result<Option<Named<
 }
 
 // Runs the command. clap rejects unknown commands.
-fn perform(rt: &HostRuntime, matches: &ArgMatches<'_>) -> Option<Outcome> {
+fn perform(rt: &HostRuntime, matches: &ArgMatches<'_>) -> Option<Ending> {
     let (name, inner) = matches.subcommand()?;
-    let outcome = match name {
-        "check" => check(rt, inner),
-        "new" => Outcome::of(new(rt, inner)),
-        "office" => Outcome::of(office(rt, inner)),
+    let ending = match name {
+        "check" => Ending::of_explained(check(rt, inner)),
+        "new" => Ending::of(new(rt, inner)),
+        "office" => Ending::of(office(rt, inner)),
         "enter" | "import" | "supersede" | "retire" | "settle" => changed(rt, name, inner)?,
-        "find" => find(rt, inner),
-        "show" => Outcome::of(show(rt, inner)),
-        "wkt" => Outcome::of(wkt(rt, inner)),
-        "texts" => Outcome::of(texts(rt, inner)),
-        "compare" => compare(rt, inner),
-        "export" => export(rt, inner),
-        "graph" => Outcome::of(graph(rt, inner)),
-        "ops" => Outcome::of(ops(rt, inner)),
-        "log" => Outcome::of(log(rt, inner)),
-        "report" => Outcome::of(report(rt, inner)?),
-        "status" => Outcome::of(figures(rt, inner)),
-        "offices" => Outcome::of(offices(rt, inner)),
-        "page" => Outcome::of(page(rt, inner)),
-        "diff" => diff(rt, inner),
-        "take" => take(rt, inner),
-        "merge" => Outcome::of(merge(rt, inner)),
-        "seen" => Outcome::of(seen(rt, inner)),
-        "piece" => Outcome::of(piece(rt, inner)),
-        "downgrade" => Outcome::of(downgrade(rt, inner)),
-        "shelf" => Outcome::of(shelf(rt, inner)),
-        "unshelf" => Outcome::of(unshelf(rt, inner)),
-        "completions" => Outcome::of(completions(rt, inner)?),
+        "find" => Ending::Plain(find(rt, inner)),
+        "show" => Ending::of(show(rt, inner)),
+        "wkt" => Ending::of(wkt(rt, inner)),
+        "texts" => Ending::of(texts(rt, inner)),
+        "compare" => Ending::of_import(compare(rt, inner)),
+        "export" => Ending::Plain(export(rt, inner)),
+        "graph" => Ending::of(graph(rt, inner)),
+        "ops" => Ending::of(ops(rt, inner)),
+        "log" => Ending::of(log(rt, inner)),
+        "report" => Ending::of(report(rt, inner)?),
+        "status" => Ending::of(figures(rt, inner)),
+        "offices" => Ending::of(offices(rt, inner)),
+        "page" => Ending::of(page(rt, inner)),
+        "diff" => Ending::Plain(diff(rt, inner)),
+        "take" => Ending::Plain(take(rt, inner)),
+        "merge" => Ending::of(merge(rt, inner)),
+        "seen" => Ending::of(seen(rt, inner)),
+        "piece" => Ending::of(piece(rt, inner)),
+        "downgrade" => Ending::of(downgrade(rt, inner)),
+        "shelf" => Ending::of(shelf(rt, inner)),
+        "unshelf" => Ending::of(unshelf(rt, inner)),
+        "completions" => Ending::of(completions(rt, inner)?),
         _ => return None,
     };
-    Some(outcome)
+    Some(ending)
 }
 
 // Runs a command that changes a register as an office.
-fn changed(rt: &HostRuntime, name: &str, inner: &ArgMatches<'_>) -> Option<Outcome> {
+fn changed(rt: &HostRuntime, name: &str, inner: &ArgMatches<'_>) -> Option<Ending> {
     match misnamed(rt, rt.alloc(), inner) {
         Ok(None) => {}
-        Ok(Some(line)) => return Some(Outcome::Misuse(line)),
-        Err(fault) => return Some(Outcome::Fault(fault)),
+        Ok(Some(line)) => return Some(Ending::Plain(Outcome::Misuse(line))),
+        Err(fault) => return Some(Ending::Plain(Outcome::Fault(fault))),
     }
-    let outcome = match name {
-        "enter" => enter(rt, inner),
-        "import" => import(rt, inner),
-        "supersede" => supersede(rt, inner),
-        "retire" => retire(rt, inner),
-        "settle" => settle(rt, inner),
+    let ending = match name {
+        "enter" => Ending::of_explained(enter(rt, inner)),
+        "import" => Ending::of_import(import(rt, inner)),
+        "supersede" => Ending::of_superseded(supersede(rt, inner)),
+        "retire" => Ending::Plain(retire(rt, inner)),
+        "settle" => Ending::Plain(settle(rt, inner)),
         _ => return None,
     };
-    Some(outcome)
+    Some(ending)
 }

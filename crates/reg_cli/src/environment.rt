@@ -1,7 +1,7 @@
 //! The environment variables that give defaults.
-use crate::outcome::{MISUSE, complain, failed};
+use cli_look::desk::CliFault;
+use cli_open::{MISUSE, complain, failed};
 use cli_words::Defaults;
-use reg_desk::CliFault;
 use std::env::{self, VarError};
 
 /// The UUID of the office.
@@ -87,7 +87,10 @@ fn is_one(rt: &HostRuntime, name: &str) -> Result<bool, u8> {
         Err(VarError::NotUnicode) => None,
         read => set(rt, read)?,
     };
-    Ok(value.is_some_and(|word| word.as_str() == "1"))
+    match value {
+        Some(word) => Ok(word.as_str() == "1"),
+        None => Ok(false),
+    }
 }
 
 // The value of a variable. An empty one counts as unset.

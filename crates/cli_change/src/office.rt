@@ -1,11 +1,14 @@
 //! Who changes a register: an office by its UUID, or one that works through its office file.
 use crate::stopped::put_left;
-use crate::words::{replica, word};
-use byte_out::Place;
 use clap::ArgMatches;
-use clap::parser::ValueSource;
-use reg_desk::{CliFault, FileId, Lockable, OpId, OutFault, Reading, Writing};
-use reg_guard::{GuardFault, LastNumber, OfficePlace, last_of, lock_office, run_office, unopened};
+use cli_open::engines::operations::OpId;
+use cli_open::engines::places::{FileId, Lockable, Place};
+use cli_open::engines::streams::{Reading, Writing};
+use cli_open::engines::{CliFault, OutFault};
+use cli_open::guards::{
+    GuardFault, LastNumber, OfficePlace, last_of, lock_office, run_office, unopened,
+};
+use cli_open::{office_file, parts, replica, word};
 use std::alloc::{AllocError, Global};
 use std::io::ErrorKind;
 use std::os::fd::AsFd;
@@ -24,15 +27,6 @@ const AS_IS_OFFICE: &str =
 // How many links a path may lead through.
 const MOST_LINKS: usize = 40;
 
-/// The office file of a command, if it has one. The command line comes before the environment, where an office file comes before a
-/// UUID.
-pub fn office_file<'a>(matches: &ArgMatches<'a>) -> Option<&'a str> {
-    match matches.get_str("office") {
-        Some(file) if matches.value_source("as") != Some(ValueSource::CommandLine) => Some(file),
-        _ => None,
-    }
-}
-
 /// The UUID of the office, unless it is in the office file.
 pub fn office_named(matches: &ArgMatches<'_>) -> Result<Option<Uuid>, CliFault> {
     if office_file(matches).is_some() {
@@ -44,19 +38,18 @@ pub fn office_named(matches: &ArgMatches<'_>) -> Result<Option<Uuid>, CliFault> 
     }
 }
 
-/// How many files are numbered before the register: the office file is file 1.
-pub fn files_before(matches: &ArgMatches<'_>) -> usize {
-    match office_file(matches) {
-        Some(_) => 1,
-        None => 0,
-    }
-}
-
 /// An office that can make operations.
-#[derive(Drop)]
 pub struct Desk<Q> {
     pub replica: Uuid,
     pub file: Option<OfficeFile<Q>>,
+}
+
+// By hand: otherwise the prover goes through the office file wherever a desk goes out of scope.
+impl<Q: Drop> Drop for Desk<Q> {
+    fn drop(self) {
+        let Desk { replica: _, file } = self;
+        drop(file);
+    }
 }
 
 /// The last number of an office, and the place of its office file, where the new one is made already.
@@ -107,12 +100,14 @@ where
         return Err(GuardFault::Command(CliFault::Memory));
     };
     if let Err(fault) = lock_office(&mut place) {
+        drop(place);
         return Err(fault);
     }
     let last = match read(rt, alloc, path) {
         Ok(last) => last,
         Err(fault) => {
             place.remove();
+            drop(place);
             return Err(fault);
         }
     };
@@ -196,7 +191,9 @@ where
         return Err(CliFault::Memory);
     };
     let target = target.as_str();
-    Ok(is_same(rt, target, place.path()) || is_same(rt, target, place.made()))
+    let is_same = is_same(rt, target, place.path()) || is_same(rt, target, place.made());
+    drop(place);
+    Ok(is_same)
 }
 
 // The path that the links lead to, even if nothing is there. The system follows no more links than these.
@@ -234,15 +231,6 @@ fn is_same<R: Files>(rt: &R, a: &str, b: &str) -> bool {
     }
 }
 
-/// The folder of a path, and its last part.
-pub fn parts(path: &str) -> (&str, &str) {
-    match path.rsplit_once('/') {
-        Some(("", name)) => ("/", name),
-        Some((folder, name)) => (folder, name),
-        None => (".", path),
-    }
-}
-
 /// `office`.
 pub fn office(rt: &HostRuntime, matches: &ArgMatches<'_>) -> Result<(), CliFault> {
     let mut random = [0; 16];
@@ -253,5 +241,7 @@ pub fn office(rt: &HostRuntime, matches: &ArgMatches<'_>) -> Result<(), CliFault
         return Err(CliFault::Memory);
     };
     let mut sink = Writing::new(io::writer(rt));
-    run_office(rt.alloc(), random, &mut place, &mut sink)
+    let answer = run_office(rt.alloc(), random, &mut place, &mut sink);
+    drop(place);
+    answer
 }

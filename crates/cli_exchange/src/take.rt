@@ -1,16 +1,15 @@
 //! The command `take`.
-use crate::inputs::Replaced;
-use crate::outcome::{Outcome, explain};
-use crate::paths::Named;
-use crate::reading::ReadShelf;
-use crate::stores::{Opened, open_register};
-use crate::table::{Rows, answered};
-use crate::words::{open_shelf, printing_place, word};
 use byte_late::{LateFile, LateSource};
-use byte_out::Place;
 use clap::ArgMatches;
-use cli_sentences::Shown;
-use reg_desk::{CliFault, InFile, Input, Lockable, OfFile, OnShelf, Writing};
+use cli_faults::sentences::Shown;
+use cli_faults::{Named, explain};
+use cli_open::engines::places::{Input, Lockable, Place};
+use cli_open::engines::streams::Writing;
+use cli_open::engines::{CliFault, InFile, OfFile, OnShelf};
+use cli_open::{
+    Opened, Outcome, ReadShelf, Replaced, Rows, answered, open_register, open_shelf,
+    printing_place, word,
+};
 use reg_take::{LeftOut, run_take, try_take};
 use std::alloc::{AllocError, Global};
 use std::fs::OpenFile;
@@ -95,7 +94,9 @@ fn take_to<F: Read + Write + Seek + OpenFile + Drop, S: LateSource, W: Write>(
         Opened::File(mut source) => {
             let mut place = printing_place(rt, rt.alloc(), word(matches, "REG"))?;
             let own = &mut source;
-            take_file(rt.alloc(), own, &mut place, files, keep_going, sink)
+            let answer = take_file(rt.alloc(), own, &mut place, files, keep_going, sink);
+            drop(place);
+            answer
         }
         Opened::Shelf(mut disk) => {
             let mut store = OnShelf { disk: &mut disk };

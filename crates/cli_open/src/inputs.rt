@@ -1,6 +1,8 @@
 //! Opens the registers that a command reads, and finds the one that OUT replaces.
 use clap::ArgMatches;
-use reg_desk::{CliFault, FileId, InputFault, InputOf, Reading};
+use reg_guard::engine::places::{FileId, InputOf};
+use reg_guard::engine::streams::Reading;
+use reg_guard::engine::{CliFault, InputFault};
 use std::alloc::Global;
 use std::fs;
 use std::io::ErrorKind;
@@ -93,4 +95,13 @@ pub fn open_inputs<R: Files>(
         }
     }
     Ok(sources)
+}
+
+/// The folder of a path, and its last part.
+pub fn parts(path: &str) -> (&str, &str) {
+    match path.rsplit_once('/') {
+        Some(("", name)) => ("/", name),
+        Some((folder, name)) => (folder, name),
+        None => (".", path),
+    }
 }

@@ -1,15 +1,15 @@
 //! The commands `export` and `graph`.
 use crate::into::export_into;
-use crate::look::wanted;
-use crate::outcome::Outcome;
-use crate::reading::ReadShelf;
-use crate::stores::{Opened, open_register, print_of};
-use crate::words::word;
 use clap::ArgMatches;
-use reg_desk::{CliFault, Export, OfFile, OpId, Refusal, Writing};
+use cli_open::engines::operations::OpId;
+use cli_open::engines::streams::Writing;
+use cli_open::engines::{CliFault, Export, OfFile, Refusal};
+use cli_open::{Opened, Outcome, ReadShelf, open_register, print_of, wanted, word};
 use reg_formats::{Format, Graph, run_handed};
 use reg_into::Choice;
-use std::io;
+use std::alloc::Global;
+use std::fs::OpenFile;
+use std::io::{self, Read, Seek, Write};
 
 const NOT_HANDED: &str =
     "error: --status, --authority and --keep-going go with --into, --geojson or --proj-sql";
@@ -72,30 +72,28 @@ fn print_as(
     keep_going: bool,
 ) -> Result<Option<OpId>, CliFault> {
     let mut sink = Writing::new(io::writer(rt));
-    match open_register(rt, rt.alloc(), matches, "REG", &None)? {
+    let register = open_register(rt, rt.alloc(), matches, "REG", &None)?;
+    print_from(rt.alloc(), register, format, choice, keep_going, &mut sink)
+}
+
+fn print_from<F: Read + Write + Seek + OpenFile + Drop, W: Write>(
+    alloc: Global,
+    register: Opened<F>,
+    format: Format,
+    choice: &Choice<'_>,
+    keep_going: bool,
+    sink: &mut Writing<W>,
+) -> Result<Option<OpId>, CliFault> {
+    match register {
         Opened::File(mut source) => {
             let mut store = OfFile {
                 source: &mut source,
             };
-            run_handed(
-                rt.alloc(),
-                &mut store,
-                format,
-                choice,
-                keep_going,
-                &mut sink,
-            )
+            run_handed(alloc, &mut store, format, choice, keep_going, sink)
         }
         Opened::Shelf(disk) => {
             let mut store = ReadShelf::new(disk);
-            run_handed(
-                rt.alloc(),
-                &mut store,
-                format,
-                choice,
-                keep_going,
-                &mut sink,
-            )
+            run_handed(alloc, &mut store, format, choice, keep_going, sink)
         }
     }
 }

@@ -1,11 +1,13 @@
 //! The arguments of a command: replicas, entries, files.
-use crate::office::files_before;
-use byte_io::{InFault, read_up_to};
 use clap::ArgMatches;
-use reg_desk::{
-    CliFault, Differs, FileDisk, FileId, FilePlace, Form, InputFault, Lock, Lockable, MAX_FILE,
-    OpId, Reading, Refusal, ReportKind, ShelfProblem,
-};
+use clap::parser::ValueSource;
+use reg_guard::engine::disks::FileDisk;
+use reg_guard::engine::files::MAX_FILE;
+use reg_guard::engine::operations::OpId;
+use reg_guard::engine::places::{FileId, FilePlace, Lock, Lockable};
+use reg_guard::engine::streams::{InFault, Reading, read_up_to};
+use reg_guard::engine::{CliFault, InputFault, Refusal, ShelfProblem};
+use reg_query::Wanted;
 use std::alloc::{AllocError, Global};
 use std::fs::{self, OpenFile, OpenOptions};
 use std::io::{Read, Seek, Write};
@@ -25,43 +27,48 @@ pub fn word<'a>(matches: &ArgMatches<'a>, name: &str) -> &'a str {
     matches.get_str(name).unwrap_or("")
 }
 
-/// The requested layout of a text.
-pub fn form(matches: &ArgMatches<'_>) -> Form {
-    if matches.get_flag("pretty") {
-        Form::Indented
-    } else {
-        Form::Canonical
-    }
-}
-
-/// The report of the argument.
-pub fn kind(word: &str) -> Option<ReportKind> {
-    match word {
-        "entries" => Some(ReportKind::Entries),
-        "conflicts" => Some(ReportKind::Conflicts),
-        "awaited" => Some(ReportKind::Awaited),
-        "gaps" => Some(ReportKind::Gaps),
+/// The office file of a command, if it has one. The command line comes before the environment, where an office file comes before a
+/// UUID.
+pub fn office_file<'a>(matches: &ArgMatches<'a>) -> Option<&'a str> {
+    match matches.get_str("office") {
+        Some(file) if matches.value_source("as") != Some(ValueSource::CommandLine) => Some(file),
         _ => None,
     }
 }
 
-/// The action for a text whose key has another text. clap rejects other words.
-pub fn differs(word: &str) -> Differs {
+/// How many files are numbered before the register: the office file is file 1.
+pub fn files_before(matches: &ArgMatches<'_>) -> usize {
+    match office_file(matches) {
+        Some(_) => 1,
+        None => 0,
+    }
+}
+
+/// The status of the argument. clap rejects other words.
+pub fn wanted(word: &str) -> Option<Wanted> {
     match word {
-        "beside" => Differs::Beside,
-        "revise" => Differs::Revise,
-        _ => Differs::Refuse,
+        "valid" => Some(Wanted::Valid),
+        "superseded" => Some(Wanted::Superseded),
+        "retired" => Some(Wanted::Retired),
+        "live" => Some(Wanted::Live),
+        _ => None,
     }
 }
 
 /// The replica of the argument.
 pub fn replica(word: &str) -> Result<Uuid, CliFault> {
-    Uuid::parse_str(word).map_err(|_| CliFault::Refused(Refusal::BadReplica))
+    match Uuid::parse_str(word) {
+        Ok(replica) => Ok(replica),
+        Err(_) => Err(CliFault::Refused(Refusal::BadReplica)),
+    }
 }
 
 /// The entry of the argument.
 pub fn entry(word: &str) -> Result<OpId, CliFault> {
-    OpId::parse(word.as_bytes()).ok_or(CliFault::Refused(Refusal::BadId))
+    match OpId::parse(word.as_bytes()) {
+        Some(entry) => Ok(entry),
+        None => Err(CliFault::Refused(Refusal::BadId)),
+    }
 }
 
 /// The ids on standard input, one a line, if one of the arguments is `-`. It is numbered as the file after the register.

@@ -1,10 +1,9 @@
 //! Puts a new register in place that a stopped command of the office left beside OUT.
-use crate::inputs::real_path;
-use byte_out::own_path;
-use reg_desk::{FileId, Lock, Lockable, Reading};
-use reg_file::read_register;
-use reg_guard::engine::Register;
-use reg_guard::{LastNumber, may_take_its_place};
+use cli_open::engines::files::{Register, read_register};
+use cli_open::engines::places::{FileId, Lock, Lockable, own_path};
+use cli_open::engines::streams::Reading;
+use cli_open::guards::{LastNumber, may_take_its_place};
+use cli_open::real_path;
 use std::alloc::Global;
 use std::fs::{self, OpenOptions};
 use std::io::ErrorKind;

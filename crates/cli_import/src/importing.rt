@@ -1,45 +1,44 @@
 //! The command `import`.
-use crate::change::TWICE;
 use crate::dry::Dry;
-use crate::office::{Desk, OfficeFile, files_before, office_named, open_desk};
-use crate::outcome::Outcome;
-use crate::stores::{Opened, next_file, open_to_change};
-use crate::table::{Rows, answered};
-use crate::words::{STANDARD_INPUT, STANDARD_INPUT_PATH, differs, is_twice, printing_place, word};
 use byte_late::{LateFile, LateSource};
-use byte_out::Place;
 use clap::ArgMatches;
-use reg_desk::{
-    CliFault, FileDisk, HasRoom, ImportFault, ImportOptions, InFile, Input, InputFault, InputOf,
-    OfFile, OnShelf, OpId, OutFault, Reading, Source, Unimported, Writing, run_import, try_import,
-    write_all,
+use cli_change::{Desk, OfficeFile, TWICE, office_named, open_desk};
+use cli_open::engines::places::Place;
+use cli_open::guards::{GuardFault, Guarded, GuardedFile, GuardedShelf, LastNumber, why};
+use cli_open::{
+    Opened, Outcome, Rows, STANDARD_INPUT, STANDARD_INPUT_PATH, answered, files_before, is_twice,
+    next_file, open_to_change, printing_place, word,
 };
-use reg_guard::{GuardFault, Guarded, GuardedFile, GuardedShelf, LastNumber, why};
+use reg_desk::{
+    CliFault, Differs, FileDisk, HasRoom, ImportFault, ImportOptions, InFile, Input, InputFault,
+    InputOf, OfFile, OnShelf, OpId, OutFault, Reading, Source, Unimported, Writing, run_import,
+    try_import, write_all,
+};
 use std::alloc::{AllocError, Global};
 use std::fs::OpenFile;
 use std::io::{self, Read, Seek, Write};
 use std::rt::Files;
 
 /// `import`.
-pub fn import(rt: &HostRuntime, matches: &ArgMatches<'_>) -> Outcome {
+pub fn import(rt: &HostRuntime, matches: &ArgMatches<'_>) -> Result<Outcome, Unimported> {
     let paths = matches.get_strs("FILE").unwrap_or(&[]);
     if is_twice(paths) {
-        return Outcome::Misuse(TWICE);
+        return Ok(Outcome::Misuse(TWICE));
     }
     let named = match office_named(matches) {
         Ok(named) => named,
-        Err(fault) => return Outcome::Fault(fault),
+        Err(fault) => return Ok(Outcome::Fault(fault)),
     };
     let Ok(names) = names_of(rt.alloc(), paths) else {
-        return Outcome::Fault(CliFault::Memory);
+        return Ok(Outcome::Fault(CliFault::Memory));
     };
     let mut desk = match open_desk(rt, rt.alloc(), matches, named) {
         Ok(desk) => desk,
-        Err(fault) => return Outcome::Guard(fault),
+        Err(fault) => return Ok(Outcome::Guard(fault)),
     };
-    let outcome = import_at(rt, matches, &mut desk, paths, &names);
+    let answer = import_at(rt, matches, &mut desk, paths, &names);
     desk.close();
-    outcome
+    answer
 }
 
 fn names_of(alloc: Global, paths: &[&str]) -> Result<Vec<String>, AllocError> {
@@ -57,17 +56,26 @@ fn import_at<Q: Place>(
     desk: &mut Desk<Q>,
     paths: &[&str],
     names: &[String],
-) -> Outcome {
+) -> Result<Outcome, Unimported> {
     let mut register = match open_to_change(rt, rt.alloc(), matches) {
         Ok(register) => register,
-        Err(fault) => return Outcome::Fault(fault),
+        Err(fault) => return Ok(Outcome::Fault(fault)),
     };
     let Ok(mut files) = late_texts(rt, rt.alloc(), paths) else {
-        return Outcome::Fault(CliFault::Memory);
+        return Ok(Outcome::Fault(CliFault::Memory));
     };
     let first = next_file(&register).saturating_add(files_before(matches));
-    let outcome = import_from(rt, matches, desk, &mut register, &mut files, names);
-    with_openings(outcome, &files, first)
+    let answer = import_from(rt, matches, desk, &mut register, &mut files, names);
+    with_openings(answer, &files, first)
+}
+
+// The action for a text whose key has another text. clap rejects other words.
+fn differs(word: &str) -> Differs {
+    match word {
+        "beside" => Differs::Beside,
+        "revise" => Differs::Revise,
+        _ => Differs::Refuse,
+    }
 }
 
 // The files of texts, which are opened one after another; `-` is standard input.
@@ -89,16 +97,22 @@ fn late_texts<'a, R: Files>(
 }
 
 // Turns "could not be read" into `NotOpened` for files that did not open. The first file has this number.
-fn with_openings<S: LateSource>(outcome: Outcome, files: &[S], first: usize) -> Outcome {
-    match outcome {
-        Outcome::Import(why) => {
+fn with_openings<S: LateSource>(
+    answer: Result<Outcome, Unimported>,
+    files: &[S],
+    first: usize,
+) -> Result<Outcome, Unimported> {
+    match answer {
+        Ok(outcome) => Ok(outcome),
+        Err(why) => {
             let Unimported { fault, notes } = why;
             match fault {
-                ImportFault::Cli(fault) => Outcome::Fault(fault_of_opening(fault, files, first)),
-                fault => Outcome::Import(Unimported { fault, notes }),
+                ImportFault::Cli(fault) => {
+                    Ok(Outcome::Fault(fault_of_opening(fault, files, first)))
+                }
+                fault => Err(Unimported { fault, notes }),
             }
         }
-        outcome => outcome,
     }
 }
 
@@ -126,7 +140,7 @@ fn import_from<Q: Place, F: Read + Write + Seek + OpenFile, S: Source>(
     register: &mut Opened<F>,
     files: &mut [S],
     names: &[String],
-) -> Outcome {
+) -> Result<Outcome, Unimported> {
     let order = ImportOptions {
         replica: desk.replica,
         differs: differs(word(matches, "differs")),
@@ -138,13 +152,21 @@ fn import_from<Q: Place, F: Read + Write + Seek + OpenFile, S: Source>(
         names,
     };
     let mut sink = Rows::sink(rt.alloc(), matches, io::writer(rt));
-    let outcome = match &mut desk.file {
+    let answer = match &mut desk.file {
         Some(office) => import_numbered(rt, matches, office, register, files, &order, &mut sink),
         None => import_to(rt, matches, register, files, &order, &mut sink),
     };
-    match answered(rt.alloc(), sink, outcome) {
-        Ok(outcome) => outcome,
-        Err(fault) => Outcome::Fault(fault),
+    match answered(rt.alloc(), sink, answer) {
+        Ok(answer) => answer,
+        Err(fault) => Ok(Outcome::Fault(fault)),
+    }
+}
+
+// The outcome of an import that is done.
+fn of_import(answer: Result<(), Unimported>) -> Result<Outcome, Unimported> {
+    match answer {
+        Ok(()) => Ok(Outcome::Done),
+        Err(why) => Err(why),
     }
 }
 
@@ -156,15 +178,15 @@ fn import_to<F: Read + Write + Seek + OpenFile, S: Source, W: Write>(
     files: &mut [S],
     order: &ImportOptions<'_>,
     sink: &mut Writing<W>,
-) -> Outcome {
+) -> Result<Outcome, Unimported> {
     if matches.get_flag("dry-run") {
-        return Outcome::of_import(import_tried(rt.alloc(), register, files, order, sink));
+        return of_import(import_tried(rt.alloc(), register, files, order, sink));
     }
     match register {
         Opened::File(source) => import_into(rt, matches, source, files, order, sink),
         Opened::Shelf(disk) => {
             let mut store = OnShelf { disk };
-            Outcome::of_import(run_import(rt.alloc(), &mut store, files, order, sink))
+            of_import(run_import(rt.alloc(), &mut store, files, order, sink))
         }
     }
 }
@@ -197,13 +219,14 @@ fn import_into<F: Read + Write + Seek + OpenFile, S: Source, W: Write>(
     files: &mut [S],
     order: &ImportOptions<'_>,
     sink: &mut Writing<W>,
-) -> Outcome {
+) -> Result<Outcome, Unimported> {
     let mut place = match printing_place(rt, rt.alloc(), word(matches, "out")) {
         Ok(place) => place,
-        Err(fault) => return Outcome::Fault(fault),
+        Err(fault) => return Ok(Outcome::Fault(fault)),
     };
     let answer = import_file(rt.alloc(), source, &mut place, files, order, sink);
-    Outcome::of_import(answer)
+    drop(place);
+    of_import(answer)
 }
 
 // The file is read in one place and written in another.
@@ -228,7 +251,7 @@ fn import_numbered<Q: Place, F: Read + Write + Seek + OpenFile, S: Source, W: Wr
     files: &mut [S],
     order: &ImportOptions<'_>,
     sink: &mut Writing<W>,
-) -> Outcome {
+) -> Result<Outcome, Unimported> {
     let last = office.last;
     if matches.get_flag("dry-run") {
         return tried_numbered(rt.alloc(), last, register, files, order, sink);
@@ -238,9 +261,9 @@ fn import_numbered<Q: Place, F: Read + Write + Seek + OpenFile, S: Source, W: Wr
         Opened::File(source) => {
             let mut place = match printing_place(rt, rt.alloc(), word(matches, "out")) {
                 Ok(place) => place,
-                Err(fault) => return Outcome::Fault(fault),
+                Err(fault) => return Ok(Outcome::Fault(fault)),
             };
-            guarded_file(
+            let answer = guarded_file(
                 rt.alloc(),
                 source,
                 &mut place,
@@ -249,7 +272,9 @@ fn import_numbered<Q: Place, F: Read + Write + Seek + OpenFile, S: Source, W: Wr
                 files,
                 order,
                 sink,
-            )
+            );
+            drop(place);
+            answer
         }
         Opened::Shelf(disk) => guarded_shelf(rt.alloc(), disk, noted, last, files, order, sink),
     }
@@ -264,10 +289,10 @@ fn guarded_file<'a, S: Input, P: Place, Q: Place, T: Source, W: Write>(
     files: &mut [T],
     order: &ImportOptions<'_>,
     sink: &mut Writing<W>,
-) -> Outcome {
+) -> Result<Outcome, Unimported> {
     let mut store = GuardedFile::new(source, place, office, last);
     let answer = run_import(alloc, &mut store, files, order, sink);
-    outcome_on(&store, answer)
+    answer_on(&store, answer)
 }
 
 fn guarded_shelf<'a, Q: Place, F: Read + Write + Seek + OpenFile, T: Source, W: Write>(
@@ -278,10 +303,10 @@ fn guarded_shelf<'a, Q: Place, F: Read + Write + Seek + OpenFile, T: Source, W: 
     files: &mut [T],
     order: &ImportOptions<'_>,
     sink: &mut Writing<W>,
-) -> Outcome {
+) -> Result<Outcome, Unimported> {
     let mut store = GuardedShelf::new(disk, office, last);
     let answer = run_import(alloc, &mut store, files, order, sink);
-    outcome_on(&store, answer)
+    answer_on(&store, answer)
 }
 
 // `import --dry-run` with an office file, which opens no OUT.
@@ -292,7 +317,7 @@ fn tried_numbered<F: Read + Write + Seek + OpenFile, S: Source, W: Write>(
     files: &mut [S],
     order: &ImportOptions<'_>,
     sink: &mut Writing<W>,
-) -> Outcome {
+) -> Result<Outcome, Unimported> {
     match register {
         Opened::File(source) => {
             let mut store = OfFile { source };
@@ -313,33 +338,35 @@ fn tried<'a, S: HasRoom, T: Source, W: Write>(
     files: &mut [T],
     order: &ImportOptions<'_>,
     sink: &mut Writing<W>,
-) -> Outcome {
+) -> Result<Outcome, Unimported> {
     let mut dry = Dry::new(store, last);
     let mut rows = Writing::new(Vec::new(alloc));
     let answer = try_import(alloc, &mut dry, files, order, &mut rows);
     let lag = dry.lag();
     let reason = match fault_of(&answer) {
-        Some(CliFault::Out(OutFault::WriteFailed(_))) => return Outcome::Fault(CliFault::Memory),
+        Some(CliFault::Out(OutFault::WriteFailed(_))) => {
+            return Ok(Outcome::Fault(CliFault::Memory));
+        }
         Some(fault) => Some(why(lag, None, fault)),
         None => None,
     };
-    let outcome = outcome_by(lag, reason, answer);
+    let answer = answer_by(lag, reason, answer);
     if lag.is_some() {
-        return outcome;
+        return answer;
     }
     match write_all(sink, &rows.into_inner()) {
-        Ok(()) => outcome,
-        Err(fault) => Outcome::Fault(CliFault::Out(OutFault::WriteFailed(fault.written))),
+        Ok(()) => answer,
+        Err(fault) => Ok(Outcome::Fault(CliFault::Out(OutFault::WriteFailed(fault.written)))),
     }
 }
 
-// The outcome of an import on a store with an office file.
-fn outcome_on<G: Guarded>(store: &G, answer: Result<(), Unimported>) -> Outcome {
+// The answer of an import on a store with an office file.
+fn answer_on<G: Guarded>(store: &G, answer: Result<(), Unimported>) -> Result<Outcome, Unimported> {
     let reason = match fault_of(&answer) {
         Some(fault) => Some(store.why(fault)),
         None => None,
     };
-    outcome_by(store.lag(), reason, answer)
+    answer_by(store.lag(), reason, answer)
 }
 
 // The fault of an import, unless it is about a text.
@@ -353,24 +380,24 @@ fn fault_of(answer: &Result<(), Unimported>) -> Option<CliFault> {
     }
 }
 
-// The outcome of an import on a register with this lag, and with this reason for its fault. A register that is behind comes before a
+// The answer of an import on a register with this lag, and with this reason for its fault. A register that is behind comes before a
 // refused text.
-fn outcome_by(
+fn answer_by(
     lag: Option<OpId>,
     reason: Option<GuardFault>,
     answer: Result<(), Unimported>,
-) -> Outcome {
+) -> Result<Outcome, Unimported> {
     match (answer, lag) {
-        (Ok(()), None) => Outcome::Done,
-        (Ok(()), Some(id)) => Outcome::Guard(GuardFault::Behind(id)),
+        (Ok(()), None) => Ok(Outcome::Done),
+        (Ok(()), Some(id)) => Ok(Outcome::Guard(GuardFault::Behind(id))),
         (Err(why), _) => match reason {
             Some(reason) => match reason {
-                GuardFault::Command(_) => Outcome::Import(why),
-                reason => Outcome::Guard(reason),
+                GuardFault::Command(_) => Err(why),
+                reason => Ok(Outcome::Guard(reason)),
             },
             None => match lag {
-                Some(id) => Outcome::Guard(GuardFault::Behind(id)),
-                None => Outcome::Import(why),
+                Some(id) => Ok(Outcome::Guard(GuardFault::Behind(id))),
+                None => Err(why),
             },
         },
     }

@@ -1,13 +1,10 @@
 //! `compare`: what differs between the texts of entries, and of a file.
 use crate::look::told;
-use crate::outcome::Outcome;
-use crate::reading::ReadShelf;
-use crate::stores::{Opened, differs_of, next_file, open_register};
-use crate::words::{entry, open_text, word};
 use clap::ArgMatches;
-use desk_texts::{Compare, CompareKey, CompareWith, WithFault, run_compared_with};
+use cli_open::{Opened, Outcome, ReadShelf, entry, next_file, open_register, open_text, word};
+use desk_texts::{Compare, CompareKey, CompareWith, WithFault, run_compared_with, run_differs};
 use reg_desk::{
-    ByWord, CliFault, ImportFault, OfFile, OpId, Problem, Recorded, Source, Unimported,
+    ByWord, CliFault, ImportFault, OfFile, OpId, Print, Problem, Recorded, Source, Unimported,
     Writing, explain_within,
 };
 use std::alloc::Global;
@@ -18,16 +15,16 @@ use std::io::{self, Read, Seek, Write};
 const ALONE: &str = "error: compare needs a key, two entries, or --with FILE; one id is not enough";
 
 /// `compare`.
-pub fn compare(rt: &HostRuntime, matches: &ArgMatches<'_>) -> Outcome {
+pub fn compare(rt: &HostRuntime, matches: &ArgMatches<'_>) -> Result<Outcome, Unimported> {
     if let Some(path) = matches.get_str("with") {
         return compare_with(rt, matches, path);
     }
     if matches.get_str("OTHER").is_none()
         && OpId::parse(word(matches, "ENTRY").as_bytes()).is_some()
     {
-        return Outcome::Misuse(ALONE);
+        return Ok(Outcome::Misuse(ALONE));
     }
-    told(matches, compared(rt, matches))
+    Ok(told(matches, compared(rt, matches)))
 }
 
 // Two entries, or those of a key.
@@ -70,19 +67,54 @@ fn compared_to(
     }
 }
 
+// Opens the register, and prints what differs. Answers whether anything does.
+fn differs_of<C: Print>(
+    rt: &HostRuntime,
+    matches: &ArgMatches<'_>,
+    command: &C,
+) -> Result<bool, CliFault> {
+    let mut sink = Writing::new(io::writer(rt));
+    let register = open_register(rt, rt.alloc(), matches, "REG", &None)?;
+    differs_from(rt.alloc(), register, command, &mut sink)
+}
+
+fn differs_from<F: Read + Write + Seek + OpenFile + Drop, C: Print, W: Write>(
+    alloc: Global,
+    register: Opened<F>,
+    command: &C,
+    sink: &mut Writing<W>,
+) -> Result<bool, CliFault> {
+    match register {
+        Opened::File(mut source) => {
+            let mut store = OfFile {
+                source: &mut source,
+            };
+            run_differs(alloc, &mut store, command, sink)
+        }
+        Opened::Shelf(disk) => {
+            let mut store = ReadShelf::new(disk);
+            run_differs(alloc, &mut store, command, sink)
+        }
+    }
+}
+
 // `compare --with`. The file is opened after the register, and read after it.
-fn compare_with(rt: &HostRuntime, matches: &ArgMatches<'_>, path: &str) -> Outcome {
+fn compare_with(
+    rt: &HostRuntime,
+    matches: &ArgMatches<'_>,
+    path: &str,
+) -> Result<Outcome, Unimported> {
     let register = match open_register(rt, rt.alloc(), matches, "REG", &None) {
         Ok(register) => register,
-        Err(fault) => return Outcome::Fault(fault),
+        Err(fault) => return Ok(Outcome::Fault(fault)),
     };
     let mut text = match open_text(rt, next_file(&register), path) {
         Ok(file) => Recorded::new(rt.alloc(), file),
-        Err(fault) => return Outcome::Fault(fault),
+        Err(fault) => return Ok(Outcome::Fault(fault)),
     };
     let mut sink = Writing::new(io::writer(rt));
     match compared_with(rt.alloc(), register, path, &mut text, &mut sink) {
-        Ok(differs) => told(matches, Ok(differs)),
+        Ok(differs) => Ok(told(matches, Ok(differs))),
         Err(why) => uncompared(rt.alloc(), matches, path, &text, why),
     }
 }
@@ -115,9 +147,9 @@ fn uncompared<S: Source>(
     path: &str,
     text: &Recorded<S>,
     why: WithFault,
-) -> Outcome {
+) -> Result<Outcome, Unimported> {
     match why {
-        WithFault::Cli(fault) => Outcome::Fault(fault),
+        WithFault::Cli(fault) => Ok(Outcome::Fault(fault)),
         WithFault::Refused {
             fault,
             at,
@@ -133,14 +165,14 @@ fn uncompared<S: Source>(
                 Ok(Vec::new(alloc))
             };
             let Ok(notes) = notes else {
-                return Outcome::Fault(CliFault::Memory);
+                return Ok(Outcome::Fault(CliFault::Memory));
             };
             let fault = ImportFault::Refused {
                 problem: Problem::Unread(fault),
                 place: at,
                 file,
             };
-            Outcome::Import(Unimported { fault, notes })
+            Err(Unimported { fault, notes })
         }
     }
 }

@@ -1,7 +1,8 @@
 //! The rows that a command prints, or with `--table` the table of them.
 use clap::ArgMatches;
 use csv_table::{TableFault, told_as_table};
-use reg_desk::{CliFault, OutFault, Writing};
+use reg_guard::engine::streams::Writing;
+use reg_guard::engine::{CliFault, OutFault};
 use std::alloc::Global;
 use std::io::{self, ErrorKind, Write};
 

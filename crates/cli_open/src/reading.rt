@@ -1,7 +1,8 @@
 //! A shelf that a command only reads.
 
-use reg_desk::{Base, CliFault, FileDisk, OnShelf, ShelfProblem, Store};
-use reg_file::Register;
+use reg_guard::engine::disks::FileDisk;
+use reg_guard::engine::files::Register;
+use reg_guard::engine::{Base, CliFault, OnShelf, ShelfProblem, Store};
 use std::alloc::Global;
 use std::fs::OpenFile;
 use std::io::{Read, Seek, Write};

@@ -1,23 +1,24 @@
 //! Commands that make and exchange registers.
-use crate::inputs::{Replaced, open_inputs};
-use crate::office::parts;
-use crate::reading::ReadShelf;
-use crate::stores::{Opened, give_of, next_file, open_register};
-use crate::words::{lock_new_shelf, open, open_all, open_shelf, open_to_read, place, word};
 use clap::ArgMatches;
-use reg_desk::{
-    CliFault, FirstVersion, NewFile, PieceFor, Refusal, ShelfProblem, Summary, Whole, is_size,
-    run_give, run_merge, run_merge_on, run_new, run_shelf,
+use cli_open::engines::disks::NewFile;
+use cli_open::engines::shelf::is_size;
+use cli_open::engines::{
+    CliFault, FirstVersion, PieceFor, Refusal, ShelfProblem, Summary, Whole, run_give, run_merge,
+    run_merge_on, run_new, run_shelf,
+};
+use cli_open::{
+    Opened, ReadShelf, Replaced, give_of, lock_new_shelf, next_file, open, open_all, open_inputs,
+    open_register, open_shelf, open_to_read, parts, place, word,
 };
 use std::fs::{self, File, OpenFile};
 use std::rt::Files;
 
 /// `new`.
 pub fn new(rt: &HostRuntime, matches: &ArgMatches<'_>) -> Result<(), CliFault> {
-    run_new(
-        rt.alloc(),
-        &mut place(rt, rt.alloc(), word(matches, "OUT"))?,
-    )
+    let mut place = place(rt, rt.alloc(), word(matches, "OUT"))?;
+    let answer = run_new(rt.alloc(), &mut place);
+    drop(place);
+    answer
 }
 
 /// `merge`.
@@ -31,7 +32,9 @@ pub fn merge(rt: &HostRuntime, matches: &ArgMatches<'_>) -> Result<(), CliFault>
     let out = Some(Replaced::named(rt, rt.alloc(), matches, "OUT")?);
     let mut sources = open_inputs(rt, rt.alloc(), paths, &out)?;
     let mut place = place(rt, rt.alloc(), word(matches, "OUT"))?;
-    run_merge(rt.alloc(), &mut sources, &mut place)
+    let answer = run_merge(rt.alloc(), &mut sources, &mut place);
+    drop(place);
+    answer
 }
 
 // Opens the register whose file is written to OUT.
@@ -93,10 +96,12 @@ fn sync_folder<R: Files>(rt: &R, path: &str) -> Result<(), CliFault> {
 pub fn unshelf(rt: &HostRuntime, matches: &ArgMatches<'_>) -> Result<(), CliFault> {
     let disk = open_to_read(rt, word(matches, "SHELF"))?;
     let mut place = place(rt, rt.alloc(), word(matches, "OUT"))?;
-    run_give(
+    let answer = run_give(
         rt.alloc(),
         &mut ReadShelf::new(disk),
         &mut Whole,
         &mut place,
-    )
+    );
+    drop(place);
+    answer
 }

@@ -1,27 +1,20 @@
 //! Commands that print something of a text, of a register, or of several registers.
-use crate::outcome::Outcome;
-use crate::reading::ReadShelf;
-use crate::stores::{Opened as Register, next_file, open_register, print_of};
-use crate::table::{Rows, answered};
-use crate::words::{
-    STANDARD_INPUT, entries, entry, form, kind, open, open_all, open_to_read, push_words, word,
-};
 use byte_late::LateFile;
 use clap::ArgMatches;
+use cli_open::{
+    Opened as Register, Outcome, ReadShelf, Rows, STANDARD_INPUT, answered, entries, next_file,
+    open, open_all, open_register, open_to_read, print_of, push_words, wanted, word,
+};
 use desk_texts::Texts;
 use reg_desk::{
-    ByWord, CliFault, FileDisk, Find, FindIds, Kind, LateAt, Lockable, LogAll, LogByWords, LogOf,
-    OfFile, Offices, Opened, Ops, Point, PrintOf, Query, Reading, Recorded, Report, ShelfAt,
-    Show, ShowOf, Source, Wanted, Wkt, WktOf, Writing, run_check, run_check_explained, run_diff,
-    run_status,
+    CliFault, Explained, FileDisk, Find, FindIds, Kind, LateAt, Lockable, LogAll, LogByWords,
+    LogOf, OfFile, Offices, Opened, Point, Query, Reading, Recorded, ShelfAt, Source, Writing,
+    run_check, run_check_explained, run_diff, run_status,
 };
-use reg_page::Page;
 use std::alloc::{AllocError, Global};
-use std::io::{self, Write};
+use std::fs::OpenFile;
+use std::io::{self, Read, Seek, Write};
 use std::rt::Files;
-
-/// The title of a page without one.
-const NO_TITLE: &str = "The register";
 
 /// The message if a word to search for is empty, as in a script with a variable that is not set: it would find every entry.
 const NO_WORD: &str = "error: WORD, or the value of an option, is empty: is a variable not set?";
@@ -29,12 +22,12 @@ const NO_WORD: &str = "error: WORD, or the value of an option, is empty: is a va
 const NO_POINT: &str = "error: --at takes a latitude and a longitude, as 52.5,13.4";
 
 /// `check`.
-pub fn check(rt: &HostRuntime, matches: &ArgMatches<'_>) -> Outcome {
+pub fn check(rt: &HostRuntime, matches: &ArgMatches<'_>) -> Result<Outcome, Explained> {
     match matches.get_str("TEXT") {
         None => check_from(rt, matches, STANDARD_INPUT, Reading::new(rt.reader())),
         Some(path) => match open(rt, 1, path) {
             Ok(file) => check_from(rt, matches, path, file),
-            Err(fault) => Outcome::Fault(fault),
+            Err(fault) => Ok(Outcome::Fault(fault)),
         },
     }
 }
@@ -45,61 +38,16 @@ fn check_from<S: Source + Drop>(
     matches: &ArgMatches<'_>,
     name: &str,
     source: S,
-) -> Outcome {
+) -> Result<Outcome, Explained> {
     let mut text = Recorded::new(rt.alloc(), source);
     let mut sink = Writing::new(io::writer(rt));
     if matches.get_flag("explain") {
-        let answer = run_check_explained(rt.alloc(), name, &mut text, &mut sink);
-        return Outcome::of_explained(answer);
+        return match run_check_explained(rt.alloc(), name, &mut text, &mut sink) {
+            Ok(()) => Ok(Outcome::Done),
+            Err(explained) => Err(explained),
+        };
     }
-    Outcome::of(run_check(rt.alloc(), &mut text, &mut sink))
-}
-
-/// `show`.
-pub fn show(rt: &HostRuntime, matches: &ArgMatches<'_>) -> Result<(), CliFault> {
-    if matches.get_flag("keys") {
-        return print_by_word(rt, matches, &ShowOf);
-    }
-    show_entry(rt, matches)
-}
-
-fn show_entry(rt: &HostRuntime, matches: &ArgMatches<'_>) -> Result<(), CliFault> {
-    match entry(word(matches, "ENTRY")) {
-        Ok(entry) => print_of(rt, matches, &Show { entry }),
-        Err(fault) => Err(fault),
-    }
-}
-
-/// `wkt`.
-pub fn wkt(rt: &HostRuntime, matches: &ArgMatches<'_>) -> Result<(), CliFault> {
-    if matches.get_flag("keys") {
-        let form = form(matches);
-        return print_by_word(rt, matches, &WktOf { form });
-    }
-    wkt_entry(rt, matches)
-}
-
-fn wkt_entry(rt: &HostRuntime, matches: &ArgMatches<'_>) -> Result<(), CliFault> {
-    let form = form(matches);
-    match entry(word(matches, "ENTRY")) {
-        Ok(entry) => print_of(rt, matches, &Wkt { entry, form }),
-        Err(fault) => Err(fault),
-    }
-}
-
-// Prints something of the entry that the word names.
-fn print_by_word<C: PrintOf>(
-    rt: &HostRuntime,
-    matches: &ArgMatches<'_>,
-    command: &C,
-) -> Result<(), CliFault> {
-    let word = word(matches, "ENTRY").as_bytes();
-    print_of(rt, matches, &ByWord { word, command })
-}
-
-/// `ops`.
-pub fn ops(rt: &HostRuntime, matches: &ArgMatches<'_>) -> Result<(), CliFault> {
-    print_of(rt, matches, &Ops)
+    Ok(Outcome::of(run_check(rt.alloc(), &mut text, &mut sink)))
 }
 
 /// `log`.
@@ -119,12 +67,6 @@ pub fn log(rt: &HostRuntime, matches: &ArgMatches<'_>) -> Result<(), CliFault> {
 /// `texts`.
 pub fn texts(rt: &HostRuntime, matches: &ArgMatches<'_>) -> Result<(), CliFault> {
     print_of(rt, matches, &Texts)
-}
-
-/// `report`, if there is one of the kind.
-pub fn report(rt: &HostRuntime, matches: &ArgMatches<'_>) -> Option<Result<(), CliFault>> {
-    let kind = kind(word(matches, "KIND"))?;
-    Some(print_of(rt, matches, &Report { kind }))
 }
 
 // The query of the options, if the point is valid.
@@ -158,17 +100,6 @@ fn kind_of(word: &str) -> Option<Kind> {
     }
 }
 
-/// The status of the argument. clap rejects other words.
-pub fn wanted(word: &str) -> Option<Wanted> {
-    match word {
-        "valid" => Some(Wanted::Valid),
-        "superseded" => Some(Wanted::Superseded),
-        "retired" => Some(Wanted::Retired),
-        "live" => Some(Wanted::Live),
-        _ => None,
-    }
-}
-
 // Whether a word to search for is empty.
 fn has_empty(matches: &ArgMatches<'_>) -> bool {
     for argument in ["WORD", "key", "authority", "code", "name", "area"] {
@@ -196,12 +127,6 @@ pub fn find(rt: &HostRuntime, matches: &ArgMatches<'_>) -> Outcome {
 /// `offices`.
 pub fn offices(rt: &HostRuntime, matches: &ArgMatches<'_>) -> Result<(), CliFault> {
     print_of(rt, matches, &Offices)
-}
-
-/// `page`.
-pub fn page(rt: &HostRuntime, matches: &ArgMatches<'_>) -> Result<(), CliFault> {
-    let title = matches.get_str("title").unwrap_or(NO_TITLE).as_bytes();
-    print_of(rt, matches, &Page { title })
 }
 
 /// `status`. A file or a shelf that does not open has a line, too.
@@ -313,16 +238,25 @@ fn merged_to<W: Write>(
     let register = open_register(rt, rt.alloc(), matches, "OLD", &None)?;
     let paths = matches.get_strs("NEW").unwrap_or(&[]);
     let mut others = open_all(rt, rt.alloc(), next_file(&register), paths)?;
+    diff_from(rt.alloc(), register, &mut others, sink)
+}
+
+fn diff_from<F: Read + Write + Seek + OpenFile + Drop, S: Source, W: Write>(
+    alloc: Global,
+    register: Register<F>,
+    others: &mut [S],
+    sink: &mut Writing<W>,
+) -> Result<bool, CliFault> {
     match register {
         Register::File(mut source) => {
             let mut store = OfFile {
                 source: &mut source,
             };
-            run_diff(rt.alloc(), &mut store, &mut others, false, sink)
+            run_diff(alloc, &mut store, others, false, sink)
         }
         Register::Shelf(disk) => {
             let mut store = ReadShelf::new(disk);
-            run_diff(rt.alloc(), &mut store, &mut others, true, sink)
+            run_diff(alloc, &mut store, others, true, sink)
         }
     }
 }

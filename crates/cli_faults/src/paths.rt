@@ -1,9 +1,8 @@
 //! The command and its files, for the sentence about a fault.
-use crate::office::office_file;
-use crate::words::{STANDARD_INPUT, word};
 use clap::ArgMatches;
+use cli_open::engines::places::FileId;
+use cli_open::{STANDARD_INPUT, office_file, word};
 use cli_sentences::{Command, FileName, Paths};
-use reg_desk::FileId;
 use std::alloc::AllocError;
 use std::fs;
 use std::os::unix::fs::MetadataExt;

@@ -1,11 +1,12 @@
 //! What is found if the files of a command are read once more after its fault, for the sentence about it.
 use crate::paths::Named;
-use crate::words::{open, open_to_read};
-use byte_io::read_up_to;
+use cli_open::engines::files::FileFault;
+use cli_open::engines::operations::OpId;
+use cli_open::engines::streams::read_up_to;
+use cli_open::engines::{CliFault, InputFault, OfFile, OnShelf, OutFault, Print, Refusal, Store};
+use cli_open::{open, open_to_read};
 use cli_sentences::{Command, FileName, Found, Looks, Paths};
 use desk_texts::Heading;
-use reg_desk::{CliFault, InputFault, OfFile, OnShelf, OpId, OutFault, Print, Refusal, Store};
-use reg_file::FileFault;
 use std::{fs, str};
 
 /// The first bytes of a text, which are read to tell it from other files.

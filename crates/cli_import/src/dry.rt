@@ -1,8 +1,8 @@
 //! A store with an office file that a command only reads.
 
+use cli_open::engines::files::Register;
+use cli_open::guards::{LastNumber, behind};
 use reg_desk::{CliFault, HasRoom, OpId, Store};
-use reg_file::Register;
-use reg_guard::{LastNumber, behind};
 use std::alloc::Global;
 
 /// A store of an office for a dry run: no register is kept on it. The office file is file 1, so the files of the store have the next

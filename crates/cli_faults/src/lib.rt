@@ -1,0 +1,11 @@
+//! Explains the fault of a command: its sentence, with the names of the files.
+#![tactic(auto)]
+
+mod naming;
+mod paths;
+mod sentence;
+
+pub use cli_sentences as sentences;
+pub use naming::Second;
+pub use paths::Named;
+pub use sentence::{add, explain, explain_guard, print_lines};

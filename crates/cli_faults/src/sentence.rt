@@ -1,0 +1,91 @@
+//! Prints the sentence of a fault, and explanations, below the line of the fault.
+use crate::naming::{Second, paths_at};
+use crate::paths::Named;
+use cli_open::engines::CliFault;
+use cli_open::guards::GuardFault;
+use cli_sentences::{FileName, GuardSentence, Sentence, Shown, ShownLines};
+use std::alloc::{AllocError, Global};
+use std::str;
+
+/// Prints the sentence of a fault to standard error, below its line.
+pub fn explain(rt: &HostRuntime, fault: CliFault, named: &Option<Named<'_>>) {
+    if let Some(named) = named {
+        explain_in(rt, fault, named);
+    }
+}
+
+fn explain_in(rt: &HostRuntime, fault: CliFault, named: &Named<'_>) {
+    let second = Second::look(rt, named, &fault);
+    let sentence = Sentence {
+        fault,
+        found: second.found(),
+        paths: paths_at(rt, named, &fault),
+    };
+    let _ = eprint!(rt; "{sentence}");
+}
+
+/// The same for a command with an office file.
+pub fn explain_guard(rt: &HostRuntime, fault: GuardFault, named: &Option<Named<'_>>) {
+    if let Some(named) = named {
+        if let GuardFault::Command(fault) = fault {
+            return explain_in(rt, fault, named);
+        }
+        let nothing = Second::nothing();
+        let sentence = GuardSentence {
+            fault,
+            found: nothing.found(),
+            paths: named.paths(),
+        };
+        let _ = eprint!(rt; "{sentence}");
+    }
+}
+
+/// Prints explanations of texts to standard error, below the line of the fault. They are UTF-8.
+pub fn add(rt: &HostRuntime, notes: &[u8], named: &Option<Named<'_>>) {
+    let Ok(notes) = str::from_utf8(notes) else {
+        return;
+    };
+    if let Some(named) = named {
+        if has_long_names(named) {
+            if let Ok(notes) = with_shown_names(rt.alloc(), notes, named) {
+                print_lines(rt, notes.as_str());
+                return;
+            }
+        }
+    }
+    print_lines(rt, notes);
+}
+
+/// Prints lines to standard error, without characters that a terminal would act on.
+pub fn print_lines(rt: &HostRuntime, lines: &str) {
+    let lines = ShownLines(lines);
+    let _ = eprint!(rt; "{lines}");
+}
+
+// Whether a name has several lines.
+fn has_long_names(named: &Named<'_>) -> bool {
+    for file in &named.files {
+        if let FileName::Path(path) = file {
+            if path.contains('\n') {
+                return true;
+            }
+        }
+    }
+    false
+}
+
+// The explanations, which name files as they are. A name of several lines is shown as one, so that it does not look like an explanation.
+fn with_shown_names(alloc: Global, notes: &str, named: &Named<'_>) -> Result<String, AllocError> {
+    let mut text = String::from_str(alloc, notes)?;
+    for file in &named.files {
+        if let FileName::Path(path) = file {
+            if path.contains('\n') {
+                let shown = Shown(*path);
+                let shown = format!(in alloc; "{shown}:")?;
+                let name = format!(in alloc; "{path}:")?;
+                text = text.replace(alloc, name.as_str(), shown.as_str())?;
+            }
+        }
+    }
+    Ok(text)
+}

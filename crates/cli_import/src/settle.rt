@@ -1,0 +1,35 @@
+//! The command `settle`.
+use clap::ArgMatches;
+use cli_change::{TWICE, changed, office_named, open_desk};
+use cli_open::guards::GuardFault;
+use cli_open::{Outcome, entries, is_twice, listed, push_listed, word};
+use reg_desk::{Settle, SettleEqual};
+
+/// `settle`.
+pub fn settle(rt: &HostRuntime, matches: &ArgMatches<'_>) -> Outcome {
+    if is_twice(matches.get_strs("KEEP").unwrap_or(&[])) {
+        return Outcome::Misuse(TWICE);
+    }
+    Outcome::of_office(settled(rt, matches))
+}
+
+fn settled(rt: &HostRuntime, matches: &ArgMatches<'_>) -> Result<(), GuardFault> {
+    let listed = listed(rt, matches, "KEEP")?;
+    let named = office_named(matches)?;
+    let mut given = Vec::new(rt.alloc());
+    push_listed(&mut given, matches.get_strs("KEEP").unwrap_or(&[]), &listed)?;
+    let keeps = entries(rt.alloc(), &given)?;
+    let note = word(matches, "note");
+    let mut desk = open_desk(rt, rt.alloc(), matches, named)?;
+    let replica = desk.replica;
+    if matches.get_flag("equal") {
+        let mut command = SettleEqual { replica, note };
+        return changed(rt, matches, &mut desk, &mut command);
+    }
+    let mut command = Settle {
+        replica,
+        keeps: &keeps,
+        note,
+    };
+    changed(rt, matches, &mut desk, &mut command)
+}

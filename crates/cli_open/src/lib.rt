@@ -1,0 +1,24 @@
+//! Opens what a command line names: registers in files and on shelves, OUT, and where rows are printed.
+#![tactic(auto)]
+
+mod inputs;
+mod outcome;
+mod reading;
+mod stores;
+mod table;
+mod words;
+
+pub use inputs::{Replaced, open_inputs, parts, real_path};
+pub use outcome::{MISUSE, Outcome, complain, failed, print};
+pub use reading::ReadShelf;
+pub use stores::{Opened, give_of, next_file, open_register, open_to_change, print_of};
+pub use table::{Rows, answered};
+pub use words::{
+    STANDARD_INPUT, STANDARD_INPUT_PATH, changed_place, entries, entry, files_before, is_twice,
+    listed, lock_new_shelf, office_file, open, open_all, open_shelf, open_text, open_to_read,
+    place, printing_place, push_listed, push_words, replica, wanted, word,
+};
+
+// The crates of which the commands above use items, so that they need only this one.
+pub use reg_guard as guards;
+pub use reg_guard::engine as engines;

@@ -1,0 +1,149 @@
+//! Opens the register that a command names, in its file or (with `--shelf`) on its shelf, and prints something of it, or writes a
+//! file of it.
+use crate::inputs::{Replaced, open_input};
+use crate::reading::ReadShelf;
+use crate::table::{Rows, answered};
+use crate::words::{files_before, open_shelf, open_to_read, place, word};
+use clap::ArgMatches;
+use reg_guard::engine::disks::FileDisk;
+use reg_guard::engine::places::{InputOf, Lockable, Place};
+use reg_guard::engine::streams::{Reading, Writing};
+use reg_guard::engine::{CliFault, Give, OfFile, Print, run_give, run_print};
+use std::alloc::Global;
+use std::fs::OpenFile;
+use std::io::{self, Read, Seek, Write};
+use std::rt::Files;
+
+/// A register that was opened.
+#[derive(Drop)]
+pub enum Opened<F> {
+    File(InputOf<Reading<F>>),
+    Shelf(FileDisk<F>),
+}
+
+/// The number of the first file that is read after the register: a shelf has no number.
+pub fn next_file<F>(register: &Opened<F>) -> usize {
+    match register {
+        Opened::File(_) => 2,
+        Opened::Shelf(_) => 1,
+    }
+}
+
+/// Opens the register that this word names, to read it. OUT may replace it.
+pub fn open_register<R: Files>(
+    rt: &R,
+    alloc: Global,
+    matches: &ArgMatches<'_>,
+    name: &str,
+    out: &Option<Replaced<'_>>,
+) -> Result<Opened<R::File>, CliFault>
+where
+    R::File: Lockable,
+{
+    let path = word(matches, name);
+    if matches.get_flag("shelf") {
+        let disk = open_to_read(rt, path)?;
+        return Ok(Opened::Shelf(disk));
+    }
+    let source = open_input(rt, alloc, 1, path, out)?;
+    Ok(Opened::File(source))
+}
+
+/// Opens the register that `REG` names, to change it: a shelf is written, a file is read.
+pub fn open_to_change<R: Files>(
+    rt: &R,
+    alloc: Global,
+    matches: &ArgMatches<'_>,
+) -> Result<Opened<R::File>, CliFault>
+where
+    R::File: Lockable,
+{
+    let path = word(matches, "REG");
+    if matches.get_flag("shelf") {
+        let disk = open_shelf(rt, path)?;
+        return Ok(Opened::Shelf(disk));
+    }
+    let out = Some(Replaced::named(rt, alloc, matches, "out")?);
+    let number = files_before(matches).saturating_add(1);
+    let source = open_input(rt, alloc, number, path, &out)?;
+    Ok(Opened::File(source))
+}
+
+/// Opens the register and prints the command's text of it, or with `--table` the table of its rows.
+pub fn print_of<C: Print>(
+    rt: &HostRuntime,
+    matches: &ArgMatches<'_>,
+    command: &C,
+) -> Result<(), CliFault> {
+    let mut sink = Rows::sink(rt.alloc(), matches, io::writer(rt));
+    let answer = print_to(rt, matches, command, &mut sink);
+    match answered(rt.alloc(), sink, answer) {
+        Ok(answer) => answer,
+        Err(fault) => Err(fault),
+    }
+}
+
+fn print_to<C: Print, W: Write>(
+    rt: &HostRuntime,
+    matches: &ArgMatches<'_>,
+    command: &C,
+    sink: &mut Writing<W>,
+) -> Result<(), CliFault> {
+    match open_register(rt, rt.alloc(), matches, "REG", &None) {
+        Ok(register) => print_from(rt.alloc(), register, command, sink),
+        Err(fault) => Err(fault),
+    }
+}
+
+fn print_from<F: Read + Write + Seek + OpenFile + Drop, C: Print, W: Write>(
+    alloc: Global,
+    register: Opened<F>,
+    command: &C,
+    sink: &mut Writing<W>,
+) -> Result<(), CliFault> {
+    match register {
+        Opened::File(mut source) => {
+            let mut store = OfFile {
+                source: &mut source,
+            };
+            run_print(alloc, &mut store, command, sink)
+        }
+        Opened::Shelf(disk) => {
+            let mut store = ReadShelf::new(disk);
+            run_print(alloc, &mut store, command, sink)
+        }
+    }
+}
+
+/// Writes the command's file of the register to OUT.
+pub fn give_of<F: Read + Write + Seek + OpenFile + Drop, C: Give>(
+    rt: &HostRuntime,
+    matches: &ArgMatches<'_>,
+    register: Opened<F>,
+    command: &mut C,
+) -> Result<(), CliFault> {
+    let mut place = place(rt, rt.alloc(), word(matches, "OUT"))?;
+    let answer = give_to(rt.alloc(), register, command, &mut place);
+    drop(place);
+    answer
+}
+
+fn give_to<F: Read + Write + Seek + OpenFile + Drop, C: Give, P: Place>(
+    alloc: Global,
+    register: Opened<F>,
+    command: &mut C,
+    place: &mut P,
+) -> Result<(), CliFault> {
+    match register {
+        Opened::File(mut source) => {
+            let mut store = OfFile {
+                source: &mut source,
+            };
+            run_give(alloc, &mut store, command, place)
+        }
+        Opened::Shelf(disk) => {
+            let mut store = ReadShelf::new(disk);
+            run_give(alloc, &mut store, command, place)
+        }
+    }
+}
