@@ -51,10 +51,11 @@ abbrev pub IsFree : Option (List File) → Type 0
 IsFree None = ⊤
 IsFree (Some fs) = fs ≡ []
 
--- an empty folder was made beside, where none was, and the name is free; or nothing changed
+-- an empty folder was made beside, where none was, and the name is free; or nothing changed. `Exists` comes exactly if there
+-- was a new folder
 abbrev pub IsMade : {T : Type 0} → Result T MakeFault → Folders → Folders → Type 0
 IsMade (Ok t) old new = IsFree old.stands × (old.beside ≡ None) × (new.beside ≡ Some []) × (new.stands ≡ old.stands) × (new.stuck ≡ old.stuck)
-IsMade (Err make.NotOpened) old new = new ≡ old
+IsMade (Err make.NotOpened) old new = (new ≡ old) × (old.beside ≡ None)
 IsMade (Err make.Exists) old new = (new ≡ old) × IsSome old.beside
 
 -- the folder has one more file

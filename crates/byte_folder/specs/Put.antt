@@ -64,8 +64,9 @@ pub record IsInPlace (fs : List File) (old new : Folders) : Type 0 where
   pub beside : new.beside ≡ None
   pub same_stuck : new.stuck ≡ old.stuck
 
--- the folder with the name is unchanged, and there is no new folder
+-- the folder with the name is unchanged, and there was no new folder, nor is there one
 pub record IsKept (old new : Folders) : Type 0 where
+  pub was_alone : old.beside ≡ None
   pub stands : new.stands ≡ old.stands
   pub cleared : IsCleared old new
 
@@ -78,9 +79,9 @@ IsImpossible fs = IsTrue (list_any is_long fs) ⊎ (2 ^ 64 ≤ length (contents 
 
 -- the outcome of each fault. In each case nothing is in place
 abbrev pub IsPutFault : List File → FolderState → FolderState → FolderFault → Type 0
--- no folder can have the files, and nothing changed; or no new folder was made; or one was, and was removed
+-- no folder can have the files, and nothing changed; or no new folder was made, and there was none; or one was, and was removed
 IsPutFault fs old new put.NotOpened = ((new ≡ old) × IsImpossible fs)
-    ⊎ ((Fails old.sink new.sink × IfReported (λ f g. g ≡ f) old.folders new.folders) ⊎ (FailsAfter fs old.sink new.sink × IfReported IsKept old.folders new.folders))
+    ⊎ ((Fails old.sink new.sink × IfReported (λ f g. (g ≡ f) × (f.beside ≡ None)) old.folders new.folders) ⊎ (FailsAfter fs old.sink new.sink × IfReported IsKept old.folders new.folders))
 -- there was a new folder
 IsPutFault fs old new put.NewExists = Fails old.sink new.sink × IfReported (λ f g. (g ≡ f) × IsSome f.beside) old.folders new.folders
 -- not all bytes were written, and the new folder was removed

@@ -19,8 +19,11 @@ pub(crate) fn without_slashes(path: &str) -> &str
     if trimmed.is_empty() { path } else { trimmed }
 }
 
-/// Makes the new folder next to the path, if the path has nothing or an empty folder, which it is as open as.
+/// Makes the new folder next to the path, if there is none, and if the path has nothing or an empty folder, which it is as open as.
 pub(crate) fn make_folder<R: Files>(rt: &R, path: &str, beside: &str) -> Result<(), MakeFault> {
+    if fs::symlink_metadata(rt, beside).is_ok() {
+        return Err(MakeFault::Exists);
+    }
     if !is_free(rt, path) {
         return Err(MakeFault::NotOpened);
     }
