@@ -1,7 +1,12 @@
 -- Labels of DOT, the language of Graphviz.
-use Rattle.std.specs.Prelude.{ℕ, Bool, true, false, ◌==◌, ◌&&◌, List, [], ◌∷◌, ◌++◌, codes, if◌then◌else◌}
-use Rattle.std.specs.List.{flat_map}
+use Rattle.std.specs.Prelude.{ℕ, Bool, true, false, not, ◌==◌, ◌&&◌, List, [], ◌∷◌, ◌++◌, codes, if◌then◌else◌}
+use Rattle.std.specs.List.{flat_map, list_all}
+use Rattle.text_quotes.specs.Scanned as scanned
 use Rattle.text_quotes.specs.Scanned.{Read, read_after}
+
+-- `⟨U+0000⟩`, which is shown for U+0000: a reader of DOT ends a line there
+abbrev pub null_mark : List ℕ
+null_mark = 226 ∷ 159 ∷ 168 ∷ 85 ∷ 43 ∷ 48 ∷ 48 ∷ 48 ∷ 48 ∷ 226 ∷ 159 ∷ 169 ∷ []
 
 -- a quotation mark and a backslash have a backslash before them, `\n` is a line break, and `&` begins a reference
 abbrev pub escaped_byte : ℕ → List ℕ
@@ -9,7 +14,8 @@ escaped_byte b =
     if b == 34 then 92 ∷ 34 ∷ [] else (
     if b == 92 then 92 ∷ 92 ∷ [] else (
     if b == 10 then 92 ∷ 110 ∷ [] else (
-    if b == 38 then codes "&amp;" else b ∷ [])))
+    if b == 38 then codes "&amp;" else (
+    if b == 0 then null_mark else b ∷ []))))
 
 abbrev pub escaped : List ℕ → List ℕ
 escaped text = flat_map escaped_byte text
@@ -17,7 +23,16 @@ escaped text = flat_map escaped_byte text
 abbrev pub quoted : List ℕ → List ℕ
 quoted text = 34 ∷ (escaped text ++ 34 ∷ [])
 
--- ---- how a label is shown
+-- the text with a mark for each U+0000
+abbrev pub marked : List ℕ → List ℕ
+marked text = flat_map (λ b. if b == 0 then null_mark else b ∷ []) text
+
+-- ---- how a label is read and shown
+
+-- a reader who is between the quotation marks of a label is still there after these bytes: no mark ends the label, and no
+-- U+0000 the line
+abbrev pub stays : List ℕ → Bool
+stays bytes = scanned.stays bytes && list_all (λ b. not (b == 0)) bytes
 
 -- after a backslash
 abbrev pub read_escape : List ℕ → Read

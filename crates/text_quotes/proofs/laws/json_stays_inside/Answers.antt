@@ -1,8 +1,9 @@
-use Rattle.text_quotes.proofs.JsonLemmas.{inside, read_back}
+use Rattle.std.proofs.Common.{refl}
+use Rattle.text_quotes.proofs.JsonLemmas.{inside, are_read}
 use Rattle.text_quotes.proofs.laws.json_stays_inside.Goals as goal
 
 pub returns-clause-inside : goal.returns-clause-inside
 returns-clause-inside c = inside
 
-pub returns-clause-read : goal.returns-clause-read
-returns-clause-read c = read_back
+pub returns-clause-string : goal.returns-clause-string
+returns-clause-string c = λ text. (_, refl, are_read text)
