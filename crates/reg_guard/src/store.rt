@@ -48,13 +48,20 @@ pub struct GuardedFile<'a, S, P, Q> {
 }
 
 impl<'a, S, P, Q> GuardedFile<'a, S, P, Q> {
-    /// The store of the office that has given this last number.
+    ghost use Rattle.std.specs.Prelude.{◌≡◌, None};
+
+    /// The store of the office that has given this last number. Nothing is loaded yet.
     pub fn new(
         source: &'a mut S,
         place: &'a mut P,
         office: &'a mut Q,
         last: LastNumber,
-    ) -> GuardedFile<'a, S, P, Q> {
+    ) -> GuardedFile<'a, S, P, Q>
+        ensures number { result.last ≡ last }
+        ensures devices { (result.source.ghost_name ≡ source.entry.ghost_name) × (result.place.ghost_name ≡ place.entry.ghost_name)
+            × (result.office.ghost_name ≡ office.entry.ghost_name) }
+        ensures fresh { (result.lag ≡ None) × (result.trouble ≡ None) }
+    {
         GuardedFile {
             source,
             place,
@@ -145,8 +152,14 @@ pub struct GuardedShelf<'a, D, Q> {
 }
 
 impl<'a, D, Q> GuardedShelf<'a, D, Q> {
-    /// The store of the office that has given this last number.
-    pub fn new(disk: &'a mut D, office: &'a mut Q, last: LastNumber) -> GuardedShelf<'a, D, Q> {
+    ghost use Rattle.std.specs.Prelude.{◌≡◌, None};
+
+    /// The store of the office that has given this last number. Nothing is loaded yet.
+    pub fn new(disk: &'a mut D, office: &'a mut Q, last: LastNumber) -> GuardedShelf<'a, D, Q>
+        ensures number { result.last ≡ last }
+        ensures devices { (result.disk.ghost_name ≡ disk.entry.ghost_name) × (result.office.ghost_name ≡ office.entry.ghost_name) }
+        ensures fresh { (result.lag ≡ None) × (result.trouble ≡ None) }
+    {
         GuardedShelf {
             disk,
             office,
