@@ -1,19 +1,27 @@
 //! The laws of the page. The functions do nothing: their contracts are the laws.
 
-ghost use Rattle.std.specs.Prelude.{◌≡◌, ℕ, List, Some};
+ghost use Rattle.std.specs.Prelude.{◌≡◌, ℕ, List, Some, true};
 ghost use Rattle.std.specs.List.{flat_map};
 ghost use Rattle.html_text.specs.Pieces.{html};
-ghost use Rattle.html_text.specs.Places.{Content, tags, past_all};
+ghost use Rattle.html_text.specs.Places.{Content, tags, past_all, begins_no_tag};
+ghost use Rattle.html_page.specs.declared.script.TheConstants.{SCRIPT};
+ghost use Rattle.html_page.specs.declared.style.TheConstants.{STYLE};
 ghost use Rattle.html_page.specs.Shown.{Word, Shown};
 ghost use Rattle.html_page.specs.Shape.{shape};
 ghost use Rattle.html_page.specs.Templates.{page};
 ghost use Rattle.html_page.specs.Words.{compared};
 
-/// Each text is between tags, or between the quotation marks of an attribute. So the tags of the page depend only on
-/// the shape of the page, and on no text in it.
+/// Each text is between tags, or in an id or a link within the page, and none is in a style or a script. So the tags of the page
+/// depend only on the shape of the page, and on no text in it.
 pub fn no_text_leaves_its_place()
     ensures places { (s : Shown) → past_all (Some Content) (page s) ≡ Some Content }
     ensures tags { (s : Shown) → tags (html (page s)) ≡ tags (html (page (shape s))) }
+{}
+
+/// The style and the script have no `<`, so that no tag begins in them.
+pub fn style_and_script_have_no_tag()
+    ensures style { begins_no_tag STYLE.now ≡ true }
+    ensures script { begins_no_tag SCRIPT.now ≡ true }
 {}
 
 /// The words of a text without their marks are the text.

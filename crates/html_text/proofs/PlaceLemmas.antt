@@ -3,7 +3,7 @@ use Rattle.std.proofs.Common.{◌≡◌, ℕ, ◌==◌, Bool, true, false, not, 
 use Rattle.std.proofs.lemmas.Bool.Decides.{Decides-eqb}
 use Rattle.html_text.specs.Escaped.{escaped, reference, is_inert}
 use Rattle.html_text.specs.Pieces.{Piece, Markup, Text, Lines, Attribute, bytes_of, html, blank}
-use Rattle.html_text.specs.Places.{Context, Content, Tag, Quoted, step, after, tag_byte, tags_from, past, past_all}
+use Rattle.html_text.specs.Places.{Context, Content, Name, Tag, Equals, Quoted, Raw, Expects, Lost, may_hold, step, after, tag_byte, tags_from, past, past_all}
 use Rattle.html_text.specs.declared.marks.Feeds.TheVariants.{Marked, Kept}
 use Rattle.html_text.specs.Marks.{marked}
 use Rattle.html_text.proofs.EscapedLemmas.{inert}
@@ -44,13 +44,13 @@ in_content (b ∷ bs) e =
     let rest = in_content bs each.1 in
     record { place = rw here.0 rest.place; no_tag = rw here.0 rest.no_tag }
 
-in_quotes : (xs : List ℕ) → is_inert xs ≡ true → Stays Quoted xs
-in_quotes [] e = record { place = refl; no_tag = refl }
-in_quotes (b ∷ bs) e =
+in_quotes : (a xs : List ℕ) → may_hold a ≡ true → is_inert xs ≡ true → Stays (Quoted a) xs
+in_quotes a [] h e = record { place = refl; no_tag = refl }
+in_quotes a (b ∷ bs) h e =
     let each = both _ _ e in
     let here = inert_here b bs _ refl each.0 in
-    let rest = in_quotes bs each.1 in
-    record { place = rw here.1 rest.place; no_tag = rw here.1 rest.no_tag }
+    let rest = in_quotes a bs h each.1 in
+    record { place = rw (here.1, h) rest.place; no_tag = rw (here.1, h) rest.no_tag }
 
 -- the piece leads from one context to another, with its text and without it, and its tags are the same
 record Passes (here there : Context) (p : Piece) : Type 0 where
@@ -70,36 +70,52 @@ lines_pass text there e =
     let stays = in_content (escaped (marked Kept text)) (inert (marked Kept text)) in
     record { place = stays.place ∙ cc; blank_place = cc; tags = stays.no_tag }
 
-attribute_passes : (text : List ℕ) (there : Context) → Some Quoted ≡ Some there → Passes Quoted there (Attribute text)
+attribute_passes : (a text : List ℕ) (there : Context) (h : Bool) → may_hold a ≡ h → (if h then Some (Quoted a) else None) ≡ Some there → Passes (Quoted a) there (Attribute text)
 unfolding bytes_of
-attribute_passes text there e =
-    let stays = in_quotes (escaped (marked Marked text)) (inert (marked Marked text)) in
+attribute_passes a text there false h e = cc
+attribute_passes a text there true h e =
+    let stays = in_quotes a (escaped (marked Marked text)) h (inert (marked Marked text)) in
     record { place = stays.place ∙ cc; blank_place = cc; tags = stays.no_tag }
 
 piece_passes : (here there : Context) (p : Piece) → past here p ≡ Some there → Passes here there p
 unfolding bytes_of
 piece_passes here there (Markup constant) e = record { place = cc; blank_place = cc; tags = refl }
 piece_passes Content there (Text text) e = text_passes text there e
-piece_passes Tag there (Text text) e = cc
-piece_passes Quoted there (Text text) e = cc
+piece_passes (Name n) there (Text text) e = cc
+piece_passes (Tag a) there (Text text) e = cc
+piece_passes (Equals a) there (Text text) e = cc
+piece_passes (Quoted a) there (Text text) e = cc
+piece_passes (Raw end) there (Text text) e = cc
+piece_passes (Expects end) there (Text text) e = cc
+piece_passes Lost there (Text text) e = cc
 piece_passes Content there (Lines text) e = lines_pass text there e
-piece_passes Tag there (Lines text) e = cc
-piece_passes Quoted there (Lines text) e = cc
+piece_passes (Name n) there (Lines text) e = cc
+piece_passes (Tag a) there (Lines text) e = cc
+piece_passes (Equals a) there (Lines text) e = cc
+piece_passes (Quoted a) there (Lines text) e = cc
+piece_passes (Raw end) there (Lines text) e = cc
+piece_passes (Expects end) there (Lines text) e = cc
+piece_passes Lost there (Lines text) e = cc
 piece_passes Content there (Attribute text) e = cc
-piece_passes Tag there (Attribute text) e = cc
-piece_passes Quoted there (Attribute text) e = attribute_passes text there e
+piece_passes (Name n) there (Attribute text) e = cc
+piece_passes (Tag a) there (Attribute text) e = cc
+piece_passes (Equals a) there (Attribute text) e = cc
+piece_passes (Quoted a) there (Attribute text) e = attribute_passes a text there _ refl e
+piece_passes (Raw end) there (Attribute text) e = cc
+piece_passes (Expects end) there (Attribute text) e = cc
+piece_passes Lost there (Attribute text) e = cc
 
 pub past_none : (ps : List Piece) → past_all None ps ≡ None
 past_none [] = refl
 past_none (p ∷ ps) = refl
 
 abbrev SameTags : Context → Context → List Piece → Type 0
-SameTags here last ps = (tags_from here (html ps) ≡ tags_from here (html (map blank ps))) × (after here (html ps) ≡ last)
+SameTags here final ps = (tags_from here (html ps) ≡ tags_from here (html (map blank ps))) × (after here (html ps) ≡ final)
 
 -- if the first piece and the other pieces have the same tags without their texts, so have all of them
-joined : (here there last : Context) (p : Piece) (ps : List Piece) → Passes here there p → SameTags there last ps → SameTags here last (p ∷ ps)
+joined : (here there final : Context) (p : Piece) (ps : List Piece) → Passes here there p → SameTags there final ps → SameTags here final (p ∷ ps)
 unfolding html
-joined here there last p ps first rest =
+joined here there final p ps first rest =
     let whole = tags-append here (bytes_of p) (html ps) in
     let bare = tags-append here (bytes_of (blank p)) (html (map blank ps)) in
     let led = after-append here (bytes_of p) (html ps) in
@@ -107,14 +123,14 @@ joined here there last p ps first rest =
     let blank_place = first.blank_place in
     let same : tags_from here (bytes_of p) ++ tags_from (after here (bytes_of p)) (html ps)
     ≡ tags_from here (bytes_of (blank p)) ++ tags_from (after here (bytes_of (blank p))) (html (map blank ps)) = cc (place, blank_place, first.tags, rest.0) in
-    let end : after (after here (bytes_of p)) (html ps) ≡ last = cc (place, rest.1) in
+    let end : after (after here (bytes_of p)) (html ps) ≡ final = cc (place, rest.1) in
     (whole ∙ same ∙ sym bare, led ∙ end)
 
-pub same_tags : (ps : List Piece) (here last : Context) → past_all (Some here) ps ≡ Some last → SameTags here last ps
+pub same_tags : (ps : List Piece) (here final : Context) → past_all (Some here) ps ≡ Some final → SameTags here final ps
 unfolding html
-same_tags [] here last e = (refl, cc)
-same_tags (p ∷ ps) here last e =
-    elim (past here p) as (λ o. past here p ≡ o → past_all o ps ≡ Some last → SameTags here last (p ∷ ps)) [
-      | Some there ↦ λ is rest. joined here there last p ps (piece_passes here there p is) (same_tags ps there last rest)
+same_tags [] here final e = (refl, cc)
+same_tags (p ∷ ps) here final e =
+    elim (past here p) as (λ o. past here p ≡ o → past_all o ps ≡ Some final → SameTags here final (p ∷ ps)) [
+      | Some there ↦ λ is rest. joined here there final p ps (piece_passes here there p is) (same_tags ps there final rest)
       | None ↦ λ is rest. let none = past_none ps in cc
     ] refl e
