@@ -1,10 +1,11 @@
 //! The laws of the page of a register. The functions do nothing: their contracts are the laws.
 
 ghost use Rattle.std.specs.Prelude.{◌≡◌, ℕ, List, Contains, Some, Ok};
-ghost use Rattle.html_text.specs.Pieces.{Piece, html};
+ghost use Rattle.html_text.specs.Pieces.{html};
 ghost use Rattle.html_text.specs.Places.{Content as BetweenTags, tags, past_all};
 ghost use Rattle.html_page.specs.Shape.{shape};
 ghost use Rattle.html_page.specs.Shown.{Pair, Conflict, Shown};
+ghost use Rattle.html_page.specs.Templates.{page};
 ghost use Rattle.reg_op.specs.Set as set;
 ghost use Rattle.reg_op.specs.Ids.{Id};
 ghost use Rattle.reg_op.specs.Operations.{Op};
@@ -21,11 +22,11 @@ pub fn one_page()
         → IsPage title z a → IsPage title w b → a ≡ b }
 {}
 
-/// A page is a list of pieces, in which each text is between tags, or between the quotation marks of an attribute.
-/// The tags of two pages of one shape are the same, whatever texts their registers have.
+/// A page is the list of pieces that shows the register. In it each text is between tags, or in an id or a link within the page,
+/// and none is in a style or a script. The tags of two pages of one shape are the same, whatever texts their registers have.
 pub fn no_text_leaves_its_place()
-    ensures places { (title : List ℕ) (x : Content) (bytes : List ℕ) → IsPage title x bytes
-        → (pieces : List Piece) × (bytes ≡ html pieces) × (past_all (Some BetweenTags) pieces ≡ Some BetweenTags) }
+    ensures places { (title : List ℕ) (x : Content) (bytes : List ℕ) (p : IsPage title x bytes) → (bytes ≡ html (page p.shows))
+        × (past_all (Some BetweenTags) (page p.shows) ≡ Some BetweenTags) }
     ensures tags { (title other : List ℕ) (x y : Content) (bytes others : List ℕ) (p : IsPage title x bytes) (q : IsPage other y others)
         → shape p.shows ≡ shape q.shows → tags bytes ≡ tags others }
 {}

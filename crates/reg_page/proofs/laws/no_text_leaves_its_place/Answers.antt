@@ -7,7 +7,7 @@ use Rattle.reg_page.proofs.laws.no_text_leaves_its_place.Goals as goal
 
 pub returns : goal.returns
 returns c = record {
-  places = λ title x bytes p. (page p.shows, p.is, places p.shows);
+  places = λ title x bytes p. (p.is, places p.shows);
   tags = λ title other x y bytes others p q alike.
       ap tags p.is ∙ same p.shows ∙ ap (λ s. tags (html (page s))) alike ∙ sym (same q.shows) ∙ sym (ap tags q.is);
 }
