@@ -110,12 +110,12 @@ past_none [] = refl
 past_none (p ∷ ps) = refl
 
 abbrev SameTags : Context → Context → List Piece → Type 0
-SameTags here last ps = (tags_from here (html ps) ≡ tags_from here (html (map blank ps))) × (after here (html ps) ≡ last)
+SameTags here final ps = (tags_from here (html ps) ≡ tags_from here (html (map blank ps))) × (after here (html ps) ≡ final)
 
 -- if the first piece and the other pieces have the same tags without their texts, so have all of them
-joined : (here there last : Context) (p : Piece) (ps : List Piece) → Passes here there p → SameTags there last ps → SameTags here last (p ∷ ps)
+joined : (here there final : Context) (p : Piece) (ps : List Piece) → Passes here there p → SameTags there final ps → SameTags here final (p ∷ ps)
 unfolding html
-joined here there last p ps first rest =
+joined here there final p ps first rest =
     let whole = tags-append here (bytes_of p) (html ps) in
     let bare = tags-append here (bytes_of (blank p)) (html (map blank ps)) in
     let led = after-append here (bytes_of p) (html ps) in
@@ -123,14 +123,14 @@ joined here there last p ps first rest =
     let blank_place = first.blank_place in
     let same : tags_from here (bytes_of p) ++ tags_from (after here (bytes_of p)) (html ps)
     ≡ tags_from here (bytes_of (blank p)) ++ tags_from (after here (bytes_of (blank p))) (html (map blank ps)) = cc (place, blank_place, first.tags, rest.0) in
-    let end : after (after here (bytes_of p)) (html ps) ≡ last = cc (place, rest.1) in
+    let end : after (after here (bytes_of p)) (html ps) ≡ final = cc (place, rest.1) in
     (whole ∙ same ∙ sym bare, led ∙ end)
 
-pub same_tags : (ps : List Piece) (here last : Context) → past_all (Some here) ps ≡ Some last → SameTags here last ps
+pub same_tags : (ps : List Piece) (here final : Context) → past_all (Some here) ps ≡ Some final → SameTags here final ps
 unfolding html
-same_tags [] here last e = (refl, cc)
-same_tags (p ∷ ps) here last e =
-    elim (past here p) as (λ o. past here p ≡ o → past_all o ps ≡ Some last → SameTags here last (p ∷ ps)) [
-      | Some there ↦ λ is rest. joined here there last p ps (piece_passes here there p is) (same_tags ps there last rest)
+same_tags [] here final e = (refl, cc)
+same_tags (p ∷ ps) here final e =
+    elim (past here p) as (λ o. past here p ≡ o → past_all o ps ≡ Some final → SameTags here final (p ∷ ps)) [
+      | Some there ↦ λ is rest. joined here there final p ps (piece_passes here there p is) (same_tags ps there final rest)
       | None ↦ λ is rest. let none = past_none ps in cc
     ] refl e
