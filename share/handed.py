@@ -60,16 +60,20 @@ class System:
         return f"{self.keyword}[{','.join(arg for arg in self.args if not is_identifier(arg))}]"
 
 
-def exported(register, options):
-    """The systems that crsreg export hands on with these options, by key, and its status; no list if it wrote nothing."""
+def export(register, *options, **more):
+    """The finished run of crsreg export."""
     program = os.environ.get("CRSREG_PROGRAM") or "crsreg"
+    try:
+        return subprocess.run([program, "export", os.path.abspath(register), *options], check=False, **more)
+    except FileNotFoundError:
+        sys.exit(f"{Path(sys.argv[0]).name}: there is no {program}")
+
+
+def exported(register, options, **more):
+    """The systems that crsreg export hands on with these options, by key, and its status; no list if it wrote nothing."""
     with tempfile.TemporaryDirectory() as folder:
         texts = Path(folder) / "texts"
-        export = [program, "export", os.path.abspath(register), "--into", str(texts), *options]
-        try:
-            status = subprocess.run(export, check=False).returncode
-        except FileNotFoundError:
-            sys.exit(f"{Path(sys.argv[0]).name}: there is no {program}")
+        status = export(register, "--into", str(texts), *options, **more).returncode
         # With --keep-going the status is 1 too, and the folder is there.
         if status > 1 or not texts.is_dir():
             return None, status or 1
@@ -95,6 +99,8 @@ class Proj:
     CRS_CATEGORY, CRS_TYPE = 3, 8
 
     def __init__(self):
+        # What is asked for is in PROJ's own database.
+        os.environ.pop("PROJ_AUX_DB", None)
         name = ctypes.util.find_library("proj")
         if name is None:
             sys.exit(f"{Path(sys.argv[0]).name}: PROJ's library is not installed (Debian's proj-bin)")

@@ -59,13 +59,13 @@ def by_hand(name, authority, code, box="-10,-20,30.5,40"):
     )
 
 
-def height(number):
-    return f'VERTCRS["Height {number}",VDATUM["D"],CS[vertical,1],AXIS["height (H)",up],LENGTHUNIT["metre",1],ID["H",{number}]]'
+def height(number, frame="D", axis="height (H)", unit='LENGTHUNIT["metre",1]'):
+    return f'VERTCRS["Height {number}",VDATUM["{frame}"],CS[vertical,1],AXIS["{axis}",up],{unit},ID["H",{number}]]'
 
 
-def compound(number):
+def compound(number, **more):
     """A plain system with a height."""
-    part, other = (re.sub(r",(USAGE|ID)\[.*", "]", one) for one in (by_hand("a system", "H", "0"), height(number)))
+    part, other = (re.sub(r",(USAGE|ID)\[.*", "]", one) for one in (by_hand("a system", "H", "0"), height(number, **more)))
     return f'COMPOUNDCRS["Compound {number}",{part},{other},ID["H",{number}]]'
 
 
@@ -94,8 +94,10 @@ def texts_of(register, rows):
 
 
 def run_parts(parts):
-    """Runs each part whose tools are installed, and prints the last line; the status."""
+    """Runs each part whose tools are installed, or only those that the command line names, and prints the last line; the status."""
     for part, tools in parts:
+        if sys.argv[2:] and part.__name__ not in sys.argv[2:]:
+            continue
         missing = [tool for tool in tools if not shutil.which(tool)]
         if missing:
             print(f"skipped: {part.__name__}: needs {missing[0]}")
