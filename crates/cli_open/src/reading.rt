@@ -1,28 +1,33 @@
 //! A shelf that a command only reads.
 
-use reg_guard::engine::disks::FileDisk;
-use reg_guard::engine::files::Register;
-use reg_guard::engine::{Base, CliFault, OnShelf, ShelfProblem, Store};
+ghost use Rattle.std.specs.Prelude.{◌≡◌, Some};
+
+use reg_engine::disks::Disk;
+use reg_engine::files::Register;
+use reg_engine::{Base, CliFault, OnShelf, ShelfProblem, Store};
 use std::alloc::Global;
-use std::fs::OpenFile;
-use std::io::{Read, Seek, Write};
 
 /// A shelf whose file is closed once its register is loaded. Its lock ends then, so that a reader of the output that waits, such as
 /// a pager, keeps no command from the shelf.
 #[derive(Drop)]
-pub struct ReadShelf<F> {
-    disk: Option<FileDisk<F>>,
+pub struct ReadShelf<D> {
+    disk: Option<D>,
 }
 
-impl<F> ReadShelf<F> {
+impl<D> ReadShelf<D> {
     /// The shelf on this disk.
-    pub fn new(disk: FileDisk<F>) -> ReadShelf<F> {
+    pub fn new(disk: D) -> ReadShelf<D>
+        ensures { result.disk ≡ Some disk }
+    {
         ReadShelf { disk: Some(disk) }
     }
 }
 
-impl<F: Read + Write + Seek + OpenFile + Drop> Store for ReadShelf<F> {
-    ghost around = { λ old. λ new. record { came = λ x. Unit {0}; none = λ f. Unit {0}; left = λ x y. Unit {0}; unleft = λ x y f. Unit {0} } };
+impl<D: Disk + Drop> Store for ReadShelf<D> {
+    ghost use Rattle.reg_engine.specs.Shelf.{disks};
+    ghost use Rattle.cli_open.specs.Reading.{read_once};
+
+    ghost around = { λ old. λ new. read_once (disks D.tells D.seen D.images D.moment D.images_since D.failures) old.disk };
 
     ghost next = { λ s. 1 };
 
@@ -46,7 +51,7 @@ impl<F: Read + Write + Seek + OpenFile + Drop> Store for ReadShelf<F> {
     }
 }
 
-impl<F: Read + Write + Seek + OpenFile + Drop> Base for ReadShelf<F> {
+impl<D: Disk + Drop> Base for ReadShelf<D> {
     ghost use Rattle.std.specs.Prelude.{None};
 
     ghost kept = { λ s. None };

@@ -1,6 +1,7 @@
 //! What a stopped command of an office left beside its output.
 
-ghost use Rattle.std.specs.Prelude.{◌≡◌, OnTrue, OnFalse};
+ghost use Rattle.std.specs.Prelude.{◌≡◌};
+ghost use Rattle.std.specs.Bool.{OnTrue, OnFalse};
 ghost use Rattle.reg_guard.specs.Left.{has_last, MayTakeItsPlace};
 
 use reg_number::LastNumber;
@@ -9,6 +10,7 @@ use reg_state::Register;
 
 /// Whether what a stopped command left may be put in the place of what stands: it has the office's last number, which the other
 /// lacks, and nothing that the other has seen is lost.
+#[tactic(auto, using(reg_op::proofs::RefusalLemmas::missing_none))]
 pub fn may_take_its_place(last: &LastNumber, left: &Register, stands: &Register) -> bool
     ensures yes { OnTrue result (MayTakeItsPlace last.now left.now stands.now) }
     ensures no { OnFalse result (¬ (MayTakeItsPlace last.now left.now stands.now)) }
@@ -19,7 +21,10 @@ pub fn may_take_its_place(last: &LastNumber, left: &Register, stands: &Register)
     if has_seen(last, stands) {
         return false;
     }
-    stands.seen().first_outside(left.seen()).is_none()
+    match stands.seen().first_outside(left.seen()) {
+        None => true,
+        Some(_) => false,
+    }
 }
 
 fn has_seen(last: &LastNumber, register: &Register) -> bool

@@ -3,3 +3,4 @@ mod PairLemmas
 mod LineLemmas
 mod ListLemmas
 mod LawLemmas
+mod LastLemmas
