@@ -17,7 +17,18 @@ pub struct Defaults<'a> {
     pub table: bool,
 }
 
-impl Defaults<'_> {
+/// What a variable of the environment gives.
+#[derive(Clone, Copy)]
+pub enum Variable {
+    Office,
+    OfficeFile,
+    Note,
+    Keys,
+    Explain,
+    Table,
+}
+
+impl<'a> Defaults<'a> {
     /// No defaults, as in an empty environment.
     pub fn none() -> Defaults<'static> {
         Defaults {
@@ -29,4 +40,25 @@ impl Defaults<'_> {
             table: false,
         }
     }
+
+    /// The value of the option that has its default from this variable; that of a flag is `true`.
+    pub(crate) fn value(&self, variable: Variable) -> Option<&'a str> {
+        match variable {
+            Variable::Office => self.office,
+            Variable::OfficeFile => self.office_file,
+            Variable::Note => self.note,
+            Variable::Keys => set(self.keys),
+            Variable::Explain => set(self.explain),
+            Variable::Table => set(self.table),
+        }
+    }
+
+    /// Whether an office or its file is set.
+    pub(crate) fn names_office(&self) -> bool {
+        self.office.is_some() || self.office_file.is_some()
+    }
+}
+
+fn set(is_set: bool) -> Option<&'static str> {
+    if is_set { Some("true") } else { None }
 }

@@ -1,12 +1,13 @@
 //! The commands, options and help of `crsreg`.
 #![tactic(auto)]
 
-mod arguments;
+mod argument;
+mod building;
 mod change;
 mod change_help;
+mod command;
 mod completions;
 mod defaults;
-mod draft;
 mod exchange;
 mod exchange_help;
 mod look;

@@ -1,18 +1,17 @@
 //! Tests of the engines: texts, files and helpers that they share.
 
-mod change;
 mod check;
-mod downgrade;
-mod export;
 mod faults;
 mod growth;
 mod merge;
-mod notes;
 mod outputs;
-mod reports;
+mod printing;
 
 use byte_io::{Pieces, Then};
+use reg_op::OpId;
 use std::alloc::{AllocError, Global};
+use std::process::Abort;
+use uuid::Uuid;
 
 /// A vertical system, of 93 bytes.
 pub const HEIGHT: &[u8] =
@@ -22,10 +21,13 @@ pub const HEIGHT: &[u8] =
 pub const OTHER_HEIGHT: &[u8] =
     b"VERTCRS[\"G\",VDATUM[\"D\"],CS[vertical,1],AXIS[\"height (H)\",up],LENGTHUNIT[\"metre\",1],ID[\"X\",8]]";
 
-/// The bytes of a replica.
+/// The first replica.
+pub const OFFICE_A: u128 = 0x4000_8000_0000_0000_000a;
+
+/// Its bytes.
 pub const A: &[u8] = &[0, 0, 0, 0, 0, 0, 0x40, 0, 0x80, 0, 0, 0, 0, 0, 0, 0x0a];
 
-pub const B: &[u8] = &[0, 0, 0, 0, 0, 0, 0x40, 0, 0x80, 0, 0, 0, 0, 0, 0, 0x0b];
+const B: &[u8] = &[0, 0, 0, 0, 0, 0, 0x40, 0, 0x80, 0, 0, 0, 0, 0, 0, 0x0b];
 
 /// The file of the empty register.
 pub const EMPTY: &[u8] = &[0x43, 0x52, 0x53, 0x52, 2, 1, 0, 0, 0, 0, 0, 0, 0, 0];
@@ -77,6 +79,13 @@ pub fn entry_file(alloc: Global, text: &[u8]) -> Result<Vec<u8>, AllocError> {
     file_of(alloc, &[Replica { uuid: A, last: 1 }], 1, &[&enter])
 }
 
+/// The file of two entries of the first replica.
+pub fn two_entries(alloc: Global) -> Result<Vec<u8>, AllocError> {
+    let one = enter(alloc, A, 1, HEIGHT)?;
+    let two = enter(alloc, A, 2, OTHER_HEIGHT)?;
+    file_of(alloc, &[Replica { uuid: A, last: 2 }], 2, &[&one, &two])
+}
+
 /// The file of two entries of the first replica, which retired the first; the second replica is only seen.
 pub fn one_retired(alloc: Global) -> Result<Vec<u8>, AllocError> {
     let one = enter(alloc, A, 1, HEIGHT)?;
@@ -84,12 +93,6 @@ pub fn one_retired(alloc: Global) -> Result<Vec<u8>, AllocError> {
     let retire = joined(alloc, &[A, &[0, 0, 0, 3, 3, 0], A, &[0, 0, 0, 1]])?;
     let replicas = [Replica { uuid: A, last: 3 }, Replica { uuid: B, last: 1 }];
     file_of(alloc, &replicas, 3, &[&one, &two, &retire])
-}
-
-/// The file of the second replica, which retired the first entry of the first and has not seen it: 84 bytes.
-pub fn retirement_file(alloc: Global) -> Result<Vec<u8>, AllocError> {
-    let retire = joined(alloc, &[B, &[0, 0, 0, 1, 3, 0], A, &[0, 0, 0, 1]])?;
-    file_of(alloc, &[Replica { uuid: B, last: 1 }], 1, &[&retire])
 }
 
 /// A source for each file, which gives at most `piece` bytes a call.
@@ -103,4 +106,9 @@ pub fn sources<'a>(
         sources.push(Pieces::new(file, piece, Then::Ends))?;
     }
     Ok(sources)
+}
+
+/// The id of the first replica's operation with this count.
+pub fn id(rt: &impl Abort, count: u32) -> OpId {
+    OpId::new(Uuid::from_u128(OFFICE_A), count).expect(rt, "a count above 0")
 }

@@ -1,5 +1,11 @@
-//! Tests of the engines of the commands through the public calls of `reg_engine`.
+//! Tests of engines, offices, disks and shelves whose sources, sinks, places and disks fail, stop, or give and take little.
 #![tactic(auto)]
 
 #[cfg(test)]
+mod disks;
+#[cfg(test)]
 mod engines;
+#[cfg(test)]
+mod offices;
+#[cfg(test)]
+mod shelves;

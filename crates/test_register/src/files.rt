@@ -1,14 +1,11 @@
 //! Tests of the files of registers: texts, operations and helpers that they share.
 
-mod damage;
 mod devices;
 mod first;
 mod growth;
-mod notes;
 mod pieces;
-mod worked;
 
-use reg_file::{FileFault, ReadFileFault, read_bytes, write_bytes};
+use reg_file::write_bytes;
 use reg_op::{Note, Op, OpBody, OpId};
 use reg_state::Register;
 use std::alloc::{AllocError, Global};
@@ -18,8 +15,6 @@ use wkt_crs::Definition;
 
 pub const A: u128 = 0x0000_0000_0000_4000_8000_0000_0000_000a;
 
-pub const B: u128 = 0x0000_0000_0000_4000_8000_0000_0000_000b;
-
 /// A vertical system, of 93 bytes.
 pub const HEIGHT: &[u8] =
     b"VERTCRS[\"H\",VDATUM[\"D\"],CS[vertical,1],AXIS[\"height (H)\",up],LENGTHUNIT[\"metre\",1],ID[\"X\",7]]";
@@ -27,10 +22,6 @@ pub const HEIGHT: &[u8] =
 /// Another name and another code.
 pub const OTHER_HEIGHT: &[u8] =
     b"VERTCRS[\"G\",VDATUM[\"D\"],CS[vertical,1],AXIS[\"height (H)\",up],LENGTHUNIT[\"metre\",1],ID[\"X\",8]]";
-
-/// The same as the first, in a spelling that is not canonical.
-pub const SPELLED: &[u8] =
-    b"VERTCRS[\"H\",VDATUM[\"D\"],CS[vertical,1],AXIS[\"height (H)\",up],LENGTHUNIT[\"metre\",1.0],ID[\"X\",7]]";
 
 /// The current version, which is written.
 pub const SECOND: u8 = 2;
@@ -60,8 +51,6 @@ pub fn no_note(version: u8) -> &'static [u8] {
 
 /// The bytes of a replica.
 pub const UUID_A: &[u8] = &[0, 0, 0, 0, 0, 0, 0x40, 0, 0x80, 0, 0, 0, 0, 0, 0, 0x0a];
-
-pub const UUID_B: &[u8] = &[0, 0, 0, 0, 0, 0, 0x40, 0, 0x80, 0, 0, 0, 0, 0, 0, 0x0b];
 
 /// A number in four bytes.
 pub fn four(number: u32) -> [u8; 4] {
@@ -96,13 +85,8 @@ pub fn file_of(
     Ok(bytes)
 }
 
-/// An operation that enters a text of about 93 bytes, with a note given as bytes.
-pub fn noted_bytes(
-    alloc: Global,
-    count: u32,
-    note: &[u8],
-    text: &[u8],
-) -> Result<Vec<u8>, AllocError> {
+// An operation that enters a text of about 93 bytes, with a note given as bytes.
+fn noted_bytes(alloc: Global, count: u32, note: &[u8], text: &[u8]) -> Result<Vec<u8>, AllocError> {
     let len = text.len().min(100_000) as u32;
     joined(alloc, &[UUID_A, &four(count), &[1], note, &four(len), text])
 }
@@ -123,37 +107,12 @@ pub fn entry_file(alloc: Global, version: u8) -> Result<Vec<u8>, AllocError> {
     file_of(alloc, version, &[(1, 1)], 1, &enter)
 }
 
-fn fault_of(alloc: Global, bytes: &[u8]) -> Option<(FileFault, usize)> {
-    match read_bytes(alloc, bytes) {
-        Err(ReadFileFault::File { fault, place }) => Some((fault, place)),
-        _ => None,
-    }
-}
-
-/// Whether the bytes have this fault, at this place.
-pub fn has_fault(alloc: Global, bytes: &[u8], fault: FileFault, place: usize) -> bool {
-    fault_of(alloc, bytes) == Some((fault, place))
-}
-
 /// Whether the register's file has these bytes.
 pub fn is_written(alloc: Global, register: &Register, bytes: &[u8]) -> bool {
     match write_bytes(alloc, register) {
         Ok(written) => written.as_slice() == bytes,
         Err(_) => false,
     }
-}
-
-/// Whether the bytes are read as a register, whose file is the others.
-pub fn goes_to(alloc: Global, bytes: &[u8], others: &[u8]) -> bool {
-    match read_bytes(alloc, bytes) {
-        Ok(register) => is_written(alloc, &register, others),
-        Err(_) => false,
-    }
-}
-
-/// Whether the bytes are read, and written again byte for byte.
-pub fn goes_round(alloc: Global, bytes: &[u8]) -> bool {
-    goes_to(alloc, bytes, bytes)
 }
 
 // Tests use `expect` for what they set up, and not `?`: a refusal would drop all values that the test holds, and the
@@ -187,4 +146,16 @@ pub fn one_entry(rt: &impl Abort, alloc: Global) -> Register {
     let mut register = Register::new(alloc);
     enter(rt, alloc, &mut register, id_of(rt, A, 1), HEIGHT);
     register
+}
+
+#[test]
+fn laws_can_be_called() {
+    reg_file::laws::one_content();
+    reg_file::laws::one_version();
+    reg_file::laws::one_file();
+    reg_file::laws::each_has_a_file();
+    reg_file::laws::held_or_fault();
+    reg_file::laws::one_first_fault();
+    reg_file::laws::one_kind();
+    reg_file::laws::noted_is_least();
 }

@@ -21,42 +21,6 @@ fn id_of(rt: &impl Abort, replica: u128, count: u32) -> OpId {
 }
 
 #[test]
-fn ids_are_read_in_either_case(rt: HostRuntime) {
-    let table: [(&[u8], u32); 4] = [
-        (b"00000000-0000-4000-8000-00000000000a:1", 1),
-        (b"00000000-0000-4000-8000-00000000000A:1", 1),
-        (b"00000000-0000-4000-8000-00000000000a:10", 10),
-        (b"00000000-0000-4000-8000-00000000000a:4294967295", u32::MAX),
-    ];
-    for (text, count) in table {
-        assert!(rt; OpId::parse(text) == Some(id_of(&rt, A, count)));
-        assert!(rt; OpId::is_id(text));
-    }
-}
-
-#[test]
-fn other_texts_are_no_ids(rt: HostRuntime) {
-    let table: [&[u8]; 12] = [
-        b"",
-        b"00000000-0000-4000-8000-00000000000a",
-        b"00000000-0000-4000-8000-00000000000a:",
-        b"00000000-0000-4000-8000-00000000000a:0",
-        b"00000000-0000-4000-8000-00000000000a:01",
-        b"00000000-0000-4000-8000-00000000000a:+1",
-        b"00000000-0000-4000-8000-00000000000a:4294967296",
-        b"00000000-0000-4000-8000-00000000000a 1",
-        b"00000000-0000-4000-8000-00000000000a:1 ",
-        b"00000000-0000-4000-8000-00000000000g:1",
-        b"0000000000004000800000000000000a:1",
-        b"{00000000-0000-4000-8000-00000000000a}:1",
-    ];
-    for text in table {
-        assert!(rt; OpId::parse(text) == None);
-        assert!(rt; !OpId::is_id(text));
-    }
-}
-
-#[test]
 fn ids_are_printed_in_small_letters(rt: HostRuntime) {
     let read = OpId::parse(b"00000000-0000-4000-8000-00000000000A:1");
     let id = read.expect(&rt, "an id");

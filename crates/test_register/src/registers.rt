@@ -3,9 +3,7 @@
 mod contents;
 mod growth;
 mod orders;
-mod pieces;
 mod plain;
-mod rows;
 
 use reg_op::{Note, Op, OpBody, OpId, Status};
 use reg_state::{Join, JoinFault, Register};
@@ -59,23 +57,6 @@ fn text_of(sample: Sample) -> &'static [u8] {
     }
 }
 
-/// The note of an operation.
-#[derive(Clone, Copy)]
-pub enum Remark {
-    Nothing,
-    One,
-    Other,
-}
-
-/// The bytes of a remark.
-pub fn note_of(remark: Remark) -> &'static [u8] {
-    match remark {
-        Remark::Nothing => b"",
-        Remark::One => b"b",
-        Remark::Other => b"c",
-    }
-}
-
 /// The effect of an operation.
 #[derive(Clone, Copy)]
 enum Effect {
@@ -93,7 +74,6 @@ pub struct Step {
     sample: Sample,
     entry: OpId,
     newer: OpId,
-    remark: Remark,
 }
 
 pub fn enter(id: OpId, sample: Sample) -> Step {
@@ -103,7 +83,6 @@ pub fn enter(id: OpId, sample: Sample) -> Step {
         sample,
         entry: id,
         newer: id,
-        remark: Remark::Nothing,
     }
 }
 
@@ -114,7 +93,6 @@ pub fn retire(id: OpId, entry: OpId) -> Step {
         sample: Sample::Height,
         entry,
         newer: id,
-        remark: Remark::Nothing,
     }
 }
 
@@ -125,13 +103,7 @@ pub fn supersede(id: OpId, old: OpId, newer: OpId) -> Step {
         sample: Sample::Height,
         entry: old,
         newer,
-        remark: Remark::Nothing,
     }
-}
-
-/// The same step with a note.
-pub fn noted(step: Step, remark: Remark) -> Step {
-    Step { remark, ..step }
 }
 
 fn body_of(alloc: Global, step: Step) -> Result<OpBody, Refused> {
@@ -147,12 +119,7 @@ fn body_of(alloc: Global, step: Step) -> Result<OpBody, Refused> {
 }
 
 pub fn made(alloc: Global, step: Step) -> Result<Op, Refused> {
-    let Step { id, remark, .. } = step;
-    let body = body_of(alloc, step)?;
-    let Ok(note) = Note::new(alloc, note_of(remark)) else {
-        return Err(Refused);
-    };
-    match Op::new(id, body, note) {
+    match Op::new(step.id, body_of(alloc, step)?, Note::empty()) {
         Ok(op) => Ok(op),
         Err(_) => Err(Refused),
     }
@@ -217,4 +184,10 @@ pub fn has_status(register: &Register, entry: OpId, status: Status) -> bool {
 pub fn keeps(register: &Register, ids: &[OpId]) -> bool {
     let ops = register.ops().as_slice();
     ops.len() == ids.len() && ops.iter().zip(ids).all(|(op, id)| op.id() == *id)
+}
+
+#[test]
+fn laws_can_be_called() {
+    reg_state::laws::join_of_many();
+    reg_state::laws::one_list_a_content();
 }

@@ -1,7 +1,6 @@
 //! Outputs over a place whose files are known: a step that fails leaves the old file, and no new file.
 
-use super::change::{OFFICE_A, id};
-use super::{EMPTY, HEIGHT, entry_file};
+use super::{EMPTY, HEIGHT, OFFICE_A, entry_file, id};
 use byte_io::{Pieces, Then, Writing};
 use byte_out::{InputOf, MemPlace, Step};
 use reg_engine::{CliFault, OutFault, run_new, run_retire};
@@ -91,7 +90,7 @@ fn retired(
 ) -> (Option<CliFault>, Vec<u8>) {
     let mut source = InputOf::new(alloc, Pieces::new(file, 7, Then::Ends), is_read);
     let mut sink = Writing::new(Vec::new(alloc));
-    let entries = [id(rt, OFFICE_A, 1)];
+    let entries = [id(rt, 1)];
     let fault = run_retire(
         alloc,
         &mut source,

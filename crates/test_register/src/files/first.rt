@@ -1,20 +1,11 @@
-//! Files of version 1: read with empty notes, and written if there are no notes.
+//! Files of version 1, written if there are no notes, to sinks that fail.
 
-use super::{A, FIRST, SECOND, entry_file, goes_to, id_of, note_of, one_entry, take_noted};
+use super::{A, FIRST, entry_file, id_of, note_of, one_entry, take_noted};
 use byte_io::{Full, Room};
 use reg_file::{FirstFileFault, WriteFileFault, write_first_bytes, write_first_register};
 use reg_op::OpBody;
 use reg_state::Register;
 use std::alloc::Global;
-
-#[test]
-fn a_file_of_the_first_version_is_written_as_the_second(rt: HostRuntime) {
-    let alloc = rt.alloc();
-    let first = entry_file(alloc, FIRST).expect(&rt, "a file");
-    let second = entry_file(alloc, SECOND).expect(&rt, "a file");
-    assert_eq!(rt; first.len(), 160);
-    assert!(rt; goes_to(alloc, &first, &second));
-}
 
 #[test]
 fn a_register_without_notes_has_a_file_of_the_first_version(rt: HostRuntime) {

@@ -1,20 +1,21 @@
 //! The state after failed allocations. Run these tests with `rt try --test --fail-alloc N`, which makes the allocations
 //! fail one by one. Without it, they check that each call succeeds.
 
-use super::{A, B, C, HEIGHT, contest, id_of, is_refused, is_unchanged, office, taken};
+use super::{A, B, C, HEIGHT, contested, id_of, is_refused, is_unchanged};
 use byte_io::Writing;
 use reg_office::{Office, OfficeFault, ReportFault, ReportKind, report};
 use reg_op::OpId;
 use reg_state::Register;
 use std::alloc::Global;
 use std::process::Abort;
+use uuid::Uuid;
 use wkt_crs::Definition;
 
 // An office, and a copy of its register.
 fn office_and_copy(rt: &impl Abort, alloc: Global) -> Option<(Office, Register)> {
-    let register = taken(alloc, &contest(rt)).ok()?;
+    let register = contested(rt, alloc)?;
     let copy = register.try_clone(alloc).ok()?;
-    Some((office(C, register), copy))
+    Some((Office::new(Uuid::from_u128(C), register), copy))
 }
 
 // Whether both entries are retired, or memory ran out and none is.
@@ -85,7 +86,7 @@ fn sink(alloc: Global) -> Option<Writing<Vec<u8>>> {
 }
 
 fn goes_whole_or_not_at_all(rt: &impl Abort, alloc: Global, kind: ReportKind) -> bool {
-    let Ok(register) = taken(alloc, &contest(rt)) else {
+    let Some(register) = contested(rt, alloc) else {
         return true;
     };
     let Some(mut sink) = sink(alloc) else {
