@@ -2,8 +2,8 @@
 #![tactic(auto)]
 
 mod exchange;
-mod take;
+mod taking;
 
 pub use cli_faults as faults;
 pub use exchange::{downgrade, merge, new, piece, seen, shelf, unshelf};
-pub use take::take;
+pub use taking::take;

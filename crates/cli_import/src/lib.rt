@@ -2,11 +2,11 @@
 #![tactic(auto)]
 
 mod dry;
-mod enter;
+mod entering;
 mod importing;
-mod settle;
+mod settling;
 
 pub use cli_change as changes;
-pub use enter::enter;
+pub use entering::enter;
 pub use importing::import;
-pub use settle::settle;
+pub use settling::settle;

@@ -1,9 +1,9 @@
 //! Commands that look for something in a text, in a register, or in several registers.
 #![tactic(auto)]
 
-mod compare;
+mod comparing;
 mod look;
 
-pub use compare::compare;
+pub use comparing::compare;
 pub use look::{check, diff, find, log, offices, status, texts};
 pub use reg_desk as desk;

@@ -130,9 +130,7 @@ impl<S: Source> Change for SupersedeFrom<'_, S> {
             Err(fault) => return Err(fault),
         };
         if self.note.len() > Note::MAX {
-            return Err(CliFault::Refused(Refusal::Office(
-                OfficeFault::NoteTooLong,
-            )));
+            return Err(CliFault::Refused(Refusal::Office(OfficeFault::NoteTooLong)));
         }
         let planned = planned(
             alloc,
