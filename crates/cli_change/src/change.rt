@@ -1,6 +1,6 @@
 //! Commands that change a register.
 use crate::changing::{change_of, changed};
-use crate::office::{Desk, office_named, open_desk};
+use crate::offices::{Desk, office_named, open_desk};
 use clap::ArgMatches;
 use cli_open::engines::operations::OpId;
 use cli_open::engines::places::Place;

@@ -1,5 +1,5 @@
 //! Changes a register, in its file or on its shelf, as an office with an office file or without one.
-use crate::office::{Desk, OfficeFile};
+use crate::offices::{Desk, OfficeFile};
 use clap::ArgMatches;
 use cli_open::engines::disks::FileDisk;
 use cli_open::engines::places::{Input, Place};

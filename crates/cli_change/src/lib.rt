@@ -3,10 +3,10 @@
 
 mod change;
 mod changing;
-mod office;
+mod offices;
 mod stopped;
 
 pub use change::{Superseded, TWICE, retire, supersede};
 pub use changing::{change_of, changed};
-pub use office::{Desk, OfficeFile, misnamed, office, office_named, open_desk};
+pub use offices::{Desk, OfficeFile, misnamed, office, office_named, open_desk};
 pub use reg_supersede::RefusedLine;
