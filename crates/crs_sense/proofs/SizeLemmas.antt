@@ -1,9 +1,8 @@
 -- Comparisons of numbers that are scaled by powers of ten.
-use Rattle.std.proofs.Common.{◌≡◌, ◌↔◌, ℕ, ◌+◌, ◌-◌, ◌*◌, ◌^◌, ◌<◌, ◌≤◌, true, false, nat_lt, refl, sym, ap, ◌∙◌, ◌⊎◌, ⊎_elim, arith, mul_assoc, mul_comm}
+use Rattle.std.proofs.Common.{◌≡◌, ℕ, ◌+◌, ◌-◌, ◌*◌, ◌^◌, ◌<◌, ◌≤◌, true, false, nat_lt, sym, ap, ◌∙◌, arith, mul_assoc, mul_comm}
 use Rattle.std.proofs.Math.Nat.{mul-lt-mul_of_pos_right, mul-le-mul_right}
 use Rattle.std.proofs.lemmas.Nat.{pow-add}
 use Rattle.std.proofs.lemmas.Bool.{lt-ltb, le-ltb, ltb-true, ltb_from_iff}
-use Rattle.std.proofs.lemmas.Bool.Decides.{nat_tests}
 use Rattle.crs_number.specs.Laws.{power_pos}
 
 lt_back : (x y z : ℕ) → (y ≤ x → ⊥) → x < y

@@ -4,7 +4,6 @@ use Rattle.std.specs.List.{list_any}
 use Rattle.crs_number.specs.declared.decimals.Decimal.{Decimal}
 use Rattle.crs_part.specs.declared.units.Unit.{Unit}
 use Rattle.crs_part.specs.declared.units.Unit.TheVariants.{Length, Angle, Scale, Generic}
-use Rattle.crs_part.specs.declared.conversions.Parameter.{Parameter}
 use Rattle.crs_part.specs.declared.crs.Single.{Single}
 use Rattle.crs_sense.specs.Sizes.{is_product_beyond}
 use Rattle.crs_sense.specs.Quantity.{is_latitude_name, is_longitude_name, is_turn_name}

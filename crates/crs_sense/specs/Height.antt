@@ -1,5 +1,5 @@
 -- A vertical system with `height` in its name and an axis down, or with `depth` and an axis up.
-use Rattle.std.specs.Prelude.{ℕ, Bool, true, false, not, ◌&&◌, ◌||◌, List, codes}
+use Rattle.std.specs.Prelude.{ℕ, Bool, false, not, ◌&&◌, List, codes}
 use Rattle.crs_part.specs.declared.systems.Direction.{Direction}
 use Rattle.crs_part.specs.declared.systems.Direction.TheVariants.{Up, Down}
 use Rattle.crs_part.specs.declared.crs.Single.{Single}

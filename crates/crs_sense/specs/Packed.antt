@@ -6,10 +6,8 @@ use Rattle.crs_number.specs.declared.decimals.Decimal.{Decimal}
 use Rattle.crs_part.specs.declared.units.UnitDefinition.{UnitDefinition}
 use Rattle.crs_part.specs.declared.units.Unit.{Unit}
 use Rattle.crs_part.specs.declared.units.AngleUnit.{AngleUnit}
-use Rattle.crs_part.specs.declared.conversions.Parameter.{Parameter}
 use Rattle.crs_part.specs.declared.datums.PrimeMeridian.{PrimeMeridian}
 use Rattle.crs_part.specs.declared.systems.Meridian.{Meridian}
-use Rattle.crs_part.specs.declared.systems.Axis.{Axis}
 use Rattle.crs_part.specs.declared.crs.Single.{Single}
 use Rattle.crs_part.specs.declared.crs.Single.TheVariants.{Geodetic, Projected, Vertical}
 use Rattle.crs_part.specs.Slots.{axes_of}

@@ -1,5 +1,5 @@
 -- Two standard parallels that are equal, or opposite.
-use Rattle.std.specs.Prelude.{ℕ, Bool, false, ◌||◌, List, Option, Some, None, codes}
+use Rattle.std.specs.Prelude.{Bool, false, ◌||◌, Option, Some, None, codes}
 use Rattle.std.specs.List.{find}
 use Rattle.crs_part.specs.declared.conversions.Parameter.{Parameter}
 use Rattle.crs_part.specs.declared.crs.Single.{Single}

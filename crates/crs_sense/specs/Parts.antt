@@ -1,7 +1,5 @@
 -- The parts of systems that several rules look at.
-use Rattle.std.specs.Prelude.{ℕ, List, [], Option, Some, None, Bool, true, false}
-use Rattle.std.specs.Option.{option_or}
-use Rattle.crs_number.specs.declared.decimals.Decimal.{Decimal}
+use Rattle.std.specs.Prelude.{List, []}
 use Rattle.crs_part.specs.declared.units.UnitDefinition.{UnitDefinition}
 use Rattle.crs_part.specs.declared.units.Unit.{Unit}
 use Rattle.crs_part.specs.declared.units.Unit.TheVariants as any

@@ -1,4 +1,4 @@
-use Rattle.std.proofs.Common.{◌∙◌, sym, arith, ◌<◌, length}
+use Rattle.std.proofs.Common.{◌∙◌, sym, arith}
 use Rattle.crs_sense.proofs.NameLemmas.{too_short}
 use Rattle.crs_sense.proofs.names.begins.Goals as goal
 

@@ -1,4 +1,4 @@
-use Rattle.std.proofs.Common.{◌≡◌, ◌∙◌, ap, nat_lt, ◌≤◌, arith}
+use Rattle.std.proofs.Common.{◌∙◌, ap, nat_lt, arith}
 use Rattle.crs_sense.proofs.SizeLemmas.{lt_right, lt_left, none_right, none_left}
 use Rattle.crs_sense.proofs.sizes.is_less.Goals as goal
 
