@@ -20,3 +20,4 @@ mod sizes;
 mod unit_name;
 
 pub use rule::{RULES, Rule};
+pub use sizes::{is_below, is_beyond};

@@ -13,7 +13,7 @@ const FEW: u128 = 100_000_000_000_000_000;
 const LIMIT: u128 = 10_000_000_000_000_000_000_000_000_000_000_000;
 
 /// Whether the size of the decimal is below this number with so many decimal places.
-pub(crate) fn is_below(decimal: Decimal, digits: u128, places: u32) -> bool
+pub fn is_below(decimal: Decimal, digits: u128, places: u32) -> bool
     requires small { digits < 10 ^ 34 }
     requires places { places ≤ 40 }
     ensures { result ≡ is_below decimal digits places }
@@ -22,7 +22,7 @@ pub(crate) fn is_below(decimal: Decimal, digits: u128, places: u32) -> bool
 }
 
 /// Whether the size of the decimal is above this number with so many decimal places.
-pub(crate) fn is_beyond(decimal: Decimal, digits: u128, places: u32) -> bool
+pub fn is_beyond(decimal: Decimal, digits: u128, places: u32) -> bool
     requires small { digits < 10 ^ 34 }
     requires places { places ≤ 40 }
     ensures { result ≡ is_beyond decimal digits places }
