@@ -1,5 +1,5 @@
 -- A unit of a known name whose factor differs from the known one by more than one part in 10^10.
-use Rattle.std.specs.Prelude.{ℕ, ◌*◌, ◌+◌, Bool, false, ◌||◌, List, Option, Some, None, map}
+use Rattle.std.specs.Prelude.{◌*◌, ◌+◌, Bool, false, ◌||◌, Option, Some, None, map}
 use Rattle.std.specs.Char.{to_ascii_lowercase}
 use Rattle.std.specs.List.{list_any}
 use Rattle.crs_number.specs.declared.decimals.Decimal.{Decimal}
