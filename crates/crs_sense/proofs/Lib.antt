@@ -1,0 +1,2 @@
+mod SizeLemmas
+mod NameLemmas

@@ -1,0 +1,17 @@
+pub mod Names
+pub mod Sizes
+pub mod Parts
+pub mod Scale
+pub mod Parallels
+pub mod FalseUnit
+pub mod UnitName
+pub mod Height
+pub mod Accuracy
+pub mod Box
+pub mod Axes
+pub mod AxisName
+pub mod Packed
+pub mod Quantity
+pub mod Angle
+pub mod Figure
+pub mod Rules

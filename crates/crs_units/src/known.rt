@@ -1,0 +1,406 @@
+//! Units whose factors are known: their names and their factors.
+
+ghost use Rattle.std.specs.Prelude.{◌≡◌, ◌≤◌, map};
+ghost use Rattle.std.specs.Char.{to_ascii_lowercase};
+ghost use Rattle.crs_part.specs.Words.{first_word};
+ghost use Rattle.crs_units.specs.Known.{unit_word, digits, places, units_listed};
+
+use crs_part::{Word, first_of};
+
+/// A unit by one of its names. The factors are those of EPSG's registry; for units of scale and angles they are exact to the
+/// digits that it has.
+#[derive(Clone, Copy)]
+pub enum KnownUnit {
+    /// 0.001, EPSG:1025.
+    Millimetre,
+    /// 0.01, EPSG:1033.
+    Centimetre,
+    /// 1, EPSG:9001.
+    Metre,
+    /// 0.3048, EPSG:9002.
+    Foot,
+    /// 0.304800609601219, EPSG:9003.
+    USSurveyFoot,
+    /// 0.3047972654, EPSG:9005.
+    ClarkeFoot,
+    /// 1.8288, EPSG:9014.
+    Fathom,
+    /// 1852, EPSG:9030.
+    NauticalMile,
+    /// 1.0000135965, EPSG:9031.
+    GermanLegalMetre,
+    /// 20.1168402336805, EPSG:9033.
+    USSurveyChain,
+    /// 0.201168402336805, EPSG:9034.
+    USSurveyLink,
+    /// 1609.34721869444, EPSG:9035.
+    USSurveyMile,
+    /// 1000, EPSG:9036.
+    Kilometre,
+    /// 0.9143917962, EPSG:9037.
+    ClarkeYard,
+    /// 20.1166195164, EPSG:9038.
+    ClarkeChain,
+    /// 0.201166195164, EPSG:9039.
+    ClarkeLink,
+    /// 0.914398414616029, EPSG:9040.
+    BritishYardSears1922,
+    /// 0.304799471538676, EPSG:9041.
+    BritishFootSears1922,
+    /// 20.1167651215526, EPSG:9042.
+    BritishChainSears1922,
+    /// 20.1167824943759, EPSG:9062.
+    BritishChainBenoit1895B,
+    /// 0.304799510248147, EPSG:9080.
+    IndianFoot,
+    /// 0.914398530744441, EPSG:9084.
+    IndianYard,
+    /// 0.91439523, EPSG:9085.
+    IndianYard1937,
+    /// 1609.344, EPSG:9093.
+    StatuteMile,
+    /// 0.304799710181509, EPSG:9094.
+    GoldCoastFoot,
+    /// 0.3048007491, EPSG:9095.
+    BritishFoot1936,
+    /// 0.9144, EPSG:9096.
+    Yard,
+    /// 20.1168, EPSG:9097.
+    Chain,
+    /// 0.201168, EPSG:9098.
+    Link,
+    /// 20.116756, EPSG:9301.
+    BritishChainSears1922Truncated,
+    /// 1, EPSG:9101.
+    Radian,
+    /// 0.0174532925199433, EPSG:9102.
+    Degree,
+    /// 0.000290888208665721, EPSG:9103.
+    ArcMinute,
+    /// 0.00000484813681109535, EPSG:9104.
+    ArcSecond,
+    /// 0.0157079632679489, EPSG:9105.
+    Grad,
+    /// 0.000001, EPSG:9109.
+    Microradian,
+    /// 1, EPSG:9201.
+    Unity,
+    /// 0.000001, EPSG:9202.
+    PartsPerMillion,
+    /// 0.0254, PROJ:IN.
+    Inch,
+    /// 0.1, SI.
+    Decimetre,
+    /// 1, EPSG:9001.
+    Meter,
+    /// 1, EPSG:9001.
+    LetterM,
+    /// 1000, EPSG:9036.
+    Kilometer,
+    /// 1000, EPSG:9036.
+    Km,
+    /// 0.001, EPSG:1025.
+    Millimeter,
+    /// 0.01, EPSG:1033.
+    Centimeter,
+    /// 0.1, SI.
+    Decimeter,
+    /// 0.3048, EPSG:9002.
+    Ft,
+    /// 0.3048, EPSG:9002.
+    Feet,
+    /// 0.304800609601219, EPSG:9003.
+    FootUs,
+    /// 0.304800609601219, EPSG:9003.
+    UsFoot,
+    /// 0.304800609601219, EPSG:9003.
+    Ftus,
+    /// 0.0174532925199433, EPSG:9120.
+    DegreeMinuteSecondHemisphere,
+    /// 0.0174532925199433, EPSG:9102.
+    Deg,
+    /// 0.0157079632679489, EPSG:9105.
+    Gon,
+    /// 1, EPSG:9101.
+    Rad,
+    /// 0.304800609601219, EPSG:9003.
+    FootUsUnderscore,
+    /// 1.0000135965, EPSG:9031.
+    MeterGermanUnderscore,
+    /// 1.0000135965, EPSG:9031.
+    GermanLegalMeter,
+}
+
+static UNITS: [KnownUnit; 59] = [
+    KnownUnit::Millimetre,
+    KnownUnit::Centimetre,
+    KnownUnit::Metre,
+    KnownUnit::Foot,
+    KnownUnit::USSurveyFoot,
+    KnownUnit::ClarkeFoot,
+    KnownUnit::Fathom,
+    KnownUnit::NauticalMile,
+    KnownUnit::GermanLegalMetre,
+    KnownUnit::USSurveyChain,
+    KnownUnit::USSurveyLink,
+    KnownUnit::USSurveyMile,
+    KnownUnit::Kilometre,
+    KnownUnit::ClarkeYard,
+    KnownUnit::ClarkeChain,
+    KnownUnit::ClarkeLink,
+    KnownUnit::BritishYardSears1922,
+    KnownUnit::BritishFootSears1922,
+    KnownUnit::BritishChainSears1922,
+    KnownUnit::BritishChainBenoit1895B,
+    KnownUnit::IndianFoot,
+    KnownUnit::IndianYard,
+    KnownUnit::IndianYard1937,
+    KnownUnit::StatuteMile,
+    KnownUnit::GoldCoastFoot,
+    KnownUnit::BritishFoot1936,
+    KnownUnit::Yard,
+    KnownUnit::Chain,
+    KnownUnit::Link,
+    KnownUnit::BritishChainSears1922Truncated,
+    KnownUnit::Radian,
+    KnownUnit::Degree,
+    KnownUnit::ArcMinute,
+    KnownUnit::ArcSecond,
+    KnownUnit::Grad,
+    KnownUnit::Microradian,
+    KnownUnit::Unity,
+    KnownUnit::PartsPerMillion,
+    KnownUnit::Inch,
+    KnownUnit::Decimetre,
+    KnownUnit::Meter,
+    KnownUnit::LetterM,
+    KnownUnit::Kilometer,
+    KnownUnit::Km,
+    KnownUnit::Millimeter,
+    KnownUnit::Centimeter,
+    KnownUnit::Decimeter,
+    KnownUnit::Ft,
+    KnownUnit::Feet,
+    KnownUnit::FootUs,
+    KnownUnit::UsFoot,
+    KnownUnit::Ftus,
+    KnownUnit::DegreeMinuteSecondHemisphere,
+    KnownUnit::Deg,
+    KnownUnit::Gon,
+    KnownUnit::Rad,
+    KnownUnit::FootUsUnderscore,
+    KnownUnit::MeterGermanUnderscore,
+    KnownUnit::GermanLegalMeter,
+];
+
+impl Word for KnownUnit {
+    ghost spelled = { unit_word };
+
+    fn word(self) -> &'static [u8] {
+        match self {
+            KnownUnit::Millimetre => b"millimetre",
+            KnownUnit::Centimetre => b"centimetre",
+            KnownUnit::Metre => b"metre",
+            KnownUnit::Foot => b"foot",
+            KnownUnit::USSurveyFoot => b"US survey foot",
+            KnownUnit::ClarkeFoot => b"Clarke's foot",
+            KnownUnit::Fathom => b"fathom",
+            KnownUnit::NauticalMile => b"nautical mile",
+            KnownUnit::GermanLegalMetre => b"German legal metre",
+            KnownUnit::USSurveyChain => b"US survey chain",
+            KnownUnit::USSurveyLink => b"US survey link",
+            KnownUnit::USSurveyMile => b"US survey mile",
+            KnownUnit::Kilometre => b"kilometre",
+            KnownUnit::ClarkeYard => b"Clarke's yard",
+            KnownUnit::ClarkeChain => b"Clarke's chain",
+            KnownUnit::ClarkeLink => b"Clarke's link",
+            KnownUnit::BritishYardSears1922 => b"British yard (Sears 1922)",
+            KnownUnit::BritishFootSears1922 => b"British foot (Sears 1922)",
+            KnownUnit::BritishChainSears1922 => b"British chain (Sears 1922)",
+            KnownUnit::BritishChainBenoit1895B => b"British chain (Benoit 1895 B)",
+            KnownUnit::IndianFoot => b"Indian foot",
+            KnownUnit::IndianYard => b"Indian yard",
+            KnownUnit::IndianYard1937 => b"Indian yard (1937)",
+            KnownUnit::StatuteMile => b"Statute mile",
+            KnownUnit::GoldCoastFoot => b"Gold Coast foot",
+            KnownUnit::BritishFoot1936 => b"British foot (1936)",
+            KnownUnit::Yard => b"yard",
+            KnownUnit::Chain => b"chain",
+            KnownUnit::Link => b"link",
+            KnownUnit::BritishChainSears1922Truncated => b"British chain (Sears 1922 truncated)",
+            KnownUnit::Radian => b"radian",
+            KnownUnit::Degree => b"degree",
+            KnownUnit::ArcMinute => b"arc-minute",
+            KnownUnit::ArcSecond => b"arc-second",
+            KnownUnit::Grad => b"grad",
+            KnownUnit::Microradian => b"microradian",
+            KnownUnit::Unity => b"unity",
+            KnownUnit::PartsPerMillion => b"parts per million",
+            KnownUnit::Inch => b"inch",
+            KnownUnit::Decimetre => b"decimetre",
+            KnownUnit::Meter => b"meter",
+            KnownUnit::LetterM => b"m",
+            KnownUnit::Kilometer => b"kilometer",
+            KnownUnit::Km => b"km",
+            KnownUnit::Millimeter => b"millimeter",
+            KnownUnit::Centimeter => b"centimeter",
+            KnownUnit::Decimeter => b"decimeter",
+            KnownUnit::Ft => b"ft",
+            KnownUnit::Feet => b"feet",
+            KnownUnit::FootUs => b"foot us",
+            KnownUnit::UsFoot => b"us foot",
+            KnownUnit::Ftus => b"ftus",
+            KnownUnit::DegreeMinuteSecondHemisphere => b"degree minute second hemisphere",
+            KnownUnit::Deg => b"deg",
+            KnownUnit::Gon => b"gon",
+            KnownUnit::Rad => b"rad",
+            KnownUnit::FootUsUnderscore => b"Foot_US",
+            KnownUnit::MeterGermanUnderscore => b"Meter_German",
+            KnownUnit::GermanLegalMeter => b"German legal meter",
+        }
+    }
+}
+
+impl KnownUnit {
+    /// The unit of this name, in any letter case.
+    pub fn of_name(name: &[u8]) -> Option<KnownUnit>
+        ensures { result ≡ first_word unit_word units_listed (map to_ascii_lowercase name.now) }
+    {
+        first_of(&UNITS, name)
+    }
+
+    /// The factor's digits.
+    pub fn digits(self) -> u64
+        ensures { result ≡ digits self }
+    {
+        match self {
+            KnownUnit::Millimetre => 1,
+            KnownUnit::Centimetre => 1,
+            KnownUnit::Metre => 1,
+            KnownUnit::Foot => 3_048,
+            KnownUnit::USSurveyFoot => 304_800_609_601_219,
+            KnownUnit::ClarkeFoot => 3_047_972_654,
+            KnownUnit::Fathom => 18_288,
+            KnownUnit::NauticalMile => 1_852,
+            KnownUnit::GermanLegalMetre => 10_000_135_965,
+            KnownUnit::USSurveyChain => 201_168_402_336_805,
+            KnownUnit::USSurveyLink => 201_168_402_336_805,
+            KnownUnit::USSurveyMile => 160_934_721_869_444,
+            KnownUnit::Kilometre => 1_000,
+            KnownUnit::ClarkeYard => 9_143_917_962,
+            KnownUnit::ClarkeChain => 201_166_195_164,
+            KnownUnit::ClarkeLink => 201_166_195_164,
+            KnownUnit::BritishYardSears1922 => 914_398_414_616_029,
+            KnownUnit::BritishFootSears1922 => 304_799_471_538_676,
+            KnownUnit::BritishChainSears1922 => 201_167_651_215_526,
+            KnownUnit::BritishChainBenoit1895B => 201_167_824_943_759,
+            KnownUnit::IndianFoot => 304_799_510_248_147,
+            KnownUnit::IndianYard => 914_398_530_744_441,
+            KnownUnit::IndianYard1937 => 91_439_523,
+            KnownUnit::StatuteMile => 1_609_344,
+            KnownUnit::GoldCoastFoot => 304_799_710_181_509,
+            KnownUnit::BritishFoot1936 => 3_048_007_491,
+            KnownUnit::Yard => 9_144,
+            KnownUnit::Chain => 201_168,
+            KnownUnit::Link => 201_168,
+            KnownUnit::BritishChainSears1922Truncated => 20_116_756,
+            KnownUnit::Radian => 1,
+            KnownUnit::Degree => 174_532_925_199_433,
+            KnownUnit::ArcMinute => 290_888_208_665_721,
+            KnownUnit::ArcSecond => 484_813_681_109_535,
+            KnownUnit::Grad => 157_079_632_679_489,
+            KnownUnit::Microradian => 1,
+            KnownUnit::Unity => 1,
+            KnownUnit::PartsPerMillion => 1,
+            KnownUnit::Inch => 254,
+            KnownUnit::Decimetre => 1,
+            KnownUnit::Meter => 1,
+            KnownUnit::LetterM => 1,
+            KnownUnit::Kilometer => 1_000,
+            KnownUnit::Km => 1_000,
+            KnownUnit::Millimeter => 1,
+            KnownUnit::Centimeter => 1,
+            KnownUnit::Decimeter => 1,
+            KnownUnit::Ft => 3_048,
+            KnownUnit::Feet => 3_048,
+            KnownUnit::FootUs => 304_800_609_601_219,
+            KnownUnit::UsFoot => 304_800_609_601_219,
+            KnownUnit::Ftus => 304_800_609_601_219,
+            KnownUnit::DegreeMinuteSecondHemisphere => 174_532_925_199_433,
+            KnownUnit::Deg => 174_532_925_199_433,
+            KnownUnit::Gon => 157_079_632_679_489,
+            KnownUnit::Rad => 1,
+            KnownUnit::FootUsUnderscore => 304_800_609_601_219,
+            KnownUnit::MeterGermanUnderscore => 10_000_135_965,
+            KnownUnit::GermanLegalMeter => 10_000_135_965,
+        }
+    }
+
+    /// How many of these are decimal places.
+    pub fn places(self) -> u32
+        ensures value { result ≡ places self }
+        ensures few { result ≤ 30 }
+    {
+        match self {
+            KnownUnit::Millimetre => 3,
+            KnownUnit::Centimetre => 2,
+            KnownUnit::Metre => 0,
+            KnownUnit::Foot => 4,
+            KnownUnit::USSurveyFoot => 15,
+            KnownUnit::ClarkeFoot => 10,
+            KnownUnit::Fathom => 4,
+            KnownUnit::NauticalMile => 0,
+            KnownUnit::GermanLegalMetre => 10,
+            KnownUnit::USSurveyChain => 13,
+            KnownUnit::USSurveyLink => 15,
+            KnownUnit::USSurveyMile => 11,
+            KnownUnit::Kilometre => 0,
+            KnownUnit::ClarkeYard => 10,
+            KnownUnit::ClarkeChain => 10,
+            KnownUnit::ClarkeLink => 12,
+            KnownUnit::BritishYardSears1922 => 15,
+            KnownUnit::BritishFootSears1922 => 15,
+            KnownUnit::BritishChainSears1922 => 13,
+            KnownUnit::BritishChainBenoit1895B => 13,
+            KnownUnit::IndianFoot => 15,
+            KnownUnit::IndianYard => 15,
+            KnownUnit::IndianYard1937 => 8,
+            KnownUnit::StatuteMile => 3,
+            KnownUnit::GoldCoastFoot => 15,
+            KnownUnit::BritishFoot1936 => 10,
+            KnownUnit::Yard => 4,
+            KnownUnit::Chain => 4,
+            KnownUnit::Link => 6,
+            KnownUnit::BritishChainSears1922Truncated => 6,
+            KnownUnit::Radian => 0,
+            KnownUnit::Degree => 16,
+            KnownUnit::ArcMinute => 18,
+            KnownUnit::ArcSecond => 20,
+            KnownUnit::Grad => 16,
+            KnownUnit::Microradian => 6,
+            KnownUnit::Unity => 0,
+            KnownUnit::PartsPerMillion => 6,
+            KnownUnit::Inch => 4,
+            KnownUnit::Decimetre => 1,
+            KnownUnit::Meter => 0,
+            KnownUnit::LetterM => 0,
+            KnownUnit::Kilometer => 0,
+            KnownUnit::Km => 0,
+            KnownUnit::Millimeter => 3,
+            KnownUnit::Centimeter => 2,
+            KnownUnit::Decimeter => 1,
+            KnownUnit::Ft => 4,
+            KnownUnit::Feet => 4,
+            KnownUnit::FootUs => 15,
+            KnownUnit::UsFoot => 15,
+            KnownUnit::Ftus => 15,
+            KnownUnit::DegreeMinuteSecondHemisphere => 16,
+            KnownUnit::Deg => 16,
+            KnownUnit::Gon => 16,
+            KnownUnit::Rad => 0,
+            KnownUnit::FootUsUnderscore => 15,
+            KnownUnit::MeterGermanUnderscore => 10,
+            KnownUnit::GermanLegalMeter => 10,
+        }
+    }
+}
