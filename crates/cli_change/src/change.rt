@@ -123,14 +123,23 @@ fn outcome_of_list(
     refused: Vec<RefusedLine>,
     keep_going: bool,
 ) -> Superseded {
-    match answer {
-        Ok(()) if refused.is_empty() => Superseded::Plain(Outcome::Done),
-        Ok(()) => Superseded::LeftLines(refused),
-        Err(GuardFault::Command(fault)) => match refused_line(fault, &refused, keep_going) {
+    if let Err(fault) = answer {
+        return match line_of(&fault, &refused, keep_going) {
             Some(line) => Superseded::AtLine(line),
-            None => Superseded::Plain(Outcome::Fault(fault)),
-        },
-        Err(fault) => Superseded::Plain(Outcome::Guard(fault)),
+            None => Superseded::Plain(Outcome::Guard(fault)),
+        };
+    }
+    if refused.is_empty() {
+        return Superseded::Plain(Outcome::Done);
+    }
+    Superseded::LeftLines(refused)
+}
+
+// The line that is the reason for the fault, if one is.
+fn line_of(fault: &GuardFault, refused: &[RefusedLine], keep_going: bool) -> Option<RefusedLine> {
+    match fault {
+        GuardFault::Command(fault) => refused_line(*fault, refused, keep_going),
+        _ => None,
     }
 }
 
