@@ -36,13 +36,14 @@ fn texts_are_the_same_however_reads_and_writes_are_cut(rt: HostRuntime) {
     for cut in CUTS {
         let mut sink = Room::new(alloc, cut, line.len(), Full::Fails);
         let mut source = Pieces::new(&file, cut, Then::Ends);
-        assert_eq!(rt; run_export(alloc, &mut source, &mut sink).err(), None);
+        let done = run_export(alloc, &mut source, &mut sink).is_ok();
+        assert!(rt; done);
         assert!(rt; sink.taken() == line.as_slice());
         let mut sink = Room::new(alloc, cut, line.len(), Full::Fails);
         let mut source = Pieces::new(&file, cut, Then::Ends);
         let form = Form::Canonical;
-        let fault = run_wkt(alloc, &mut source, id(&rt, 2), form, &mut sink).err();
-        assert_eq!(rt; fault, None);
+        let done = run_wkt(alloc, &mut source, id(&rt, 2), form, &mut sink).is_ok();
+        assert!(rt; done);
         assert!(rt; sink.taken() == line.as_slice());
     }
 }
@@ -55,18 +56,18 @@ fn rows_are_the_same_however_reads_and_writes_are_cut(rt: HostRuntime) {
         let mut source = Pieces::new(&file, cut, Then::Ends);
         let mut sink = Room::new(alloc, cut, ENTRIES.len(), Full::Fails);
         let kind = ReportKind::Entries;
-        assert_eq!(rt; run_report(alloc, &mut source, kind, &mut sink).err(), None);
+        let done = run_report(alloc, &mut source, kind, &mut sink).is_ok();
+        assert!(rt; done);
         assert!(rt; sink.taken() == ENTRIES);
         let mut source = Pieces::new(&file, cut, Then::Ends);
         let mut sink = Room::new(alloc, cut, SECOND.len(), Full::Fails);
-        assert_eq!(rt;
-            run_show(alloc, &mut source, id(&rt, 2), &mut sink).err(),
-            None
-        );
+        let done = run_show(alloc, &mut source, id(&rt, 2), &mut sink).is_ok();
+        assert!(rt; done);
         assert!(rt; sink.taken() == SECOND);
         let mut source = Pieces::new(&file, cut, Then::Ends);
         let mut sink = Room::new(alloc, cut, 1000, Full::Fails);
-        assert_eq!(rt; run_ops(alloc, &mut source, &mut sink).err(), None);
+        let done = run_ops(alloc, &mut source, &mut sink).is_ok();
+        assert!(rt; done);
         assert!(rt; sink.taken().ends_with(LAST_OPERATION));
     }
 }
@@ -100,6 +101,7 @@ fn a_long_export_is_told_with_its_bytes(rt: HostRuntime) {
     let file = two_entries(alloc).expect(&rt, "a file");
     let lines = joined(alloc, &[HEIGHT, b"\n", OTHER_HEIGHT, b"\n"]).expect(&rt, "lines");
     for n in [94, 95, 187] {
+        assert!(rt; n <= lines.len());
         let mut sink = Room::new(alloc, 4096, n, Full::Fails);
         let mut source = Pieces::new(&file, 4096, Then::Ends);
         let fault = run_export(alloc, &mut source, &mut sink).err();
@@ -122,7 +124,7 @@ fn a_supersession_is_written_and_then_printed(rt: HostRuntime) {
     let mut source = Pieces::new(&file, 7, Then::Ends);
     let mut target = MemoryTarget::new(alloc, true);
     let mut sink = Room::new(alloc, 7, 39, Full::Fails);
-    let fault = run_supersede(
+    let done = run_supersede(
         alloc,
         &mut source,
         Uuid::from_u128(OFFICE_A),
@@ -132,8 +134,8 @@ fn a_supersession_is_written_and_then_printed(rt: HostRuntime) {
         &mut target,
         &mut sink,
     )
-    .err();
-    assert_eq!(rt; fault, None);
+    .is_ok();
+    assert!(rt; done);
     assert!(rt; target.taken() == want.as_slice());
     assert_eq!(rt; sink.taken(), THIRD_LINE);
 }
