@@ -58,7 +58,7 @@ impl Ending {
 /// Reports the end, with a sentence for the fault if the files are given, and returns the exit status.
 pub fn status(rt: &HostRuntime, ending: Ending, named: Option<Named<'_>>) -> u8 {
     match ending {
-        Ending::Plain(outcome) => status_of(rt, outcome, &named),
+        Ending::Plain(outcome) => status_of(rt, &outcome, &named),
         Ending::Explained(explained) => {
             let status = failed(rt, &explained.fault);
             if explained.note.is_empty() {
@@ -82,22 +82,22 @@ pub fn status(rt: &HostRuntime, ending: Ending, named: Option<Named<'_>>) -> u8 
     }
 }
 
-fn status_of(rt: &HostRuntime, outcome: Outcome, named: &Option<Named<'_>>) -> u8 {
+fn status_of(rt: &HostRuntime, outcome: &Outcome, named: &Option<Named<'_>>) -> u8 {
     match outcome {
         Outcome::Done => 0,
         Outcome::Differs => DIFFERS,
-        Outcome::LeftOut(status) => status,
+        Outcome::LeftOut(status) => *status,
         Outcome::Fault(fault) => {
-            let status = failed(rt, &fault);
-            explain(rt, fault, named);
+            let status = failed(rt, fault);
+            explain(rt, *fault, named);
             status
         }
         Outcome::Guard(fault) => {
-            let status = complain(rt, &fault, fault.status());
-            explain_guard(rt, fault, named);
+            let status = complain(rt, fault, fault.status());
+            explain_guard(rt, *fault, named);
             status
         }
-        Outcome::Misuse(line) => complain(rt, &line, MISUSE),
+        Outcome::Misuse(line) => complain(rt, line, MISUSE),
     }
 }
 
