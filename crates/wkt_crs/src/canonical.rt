@@ -23,7 +23,7 @@ pub fn canonical_text(alloc: Global, text: &[u8]) -> Result<Vec<u8>, ReadFault>
     ensures found { IfOk result (λ canonical. SpellsCanon text.now canonical.items) }
     ensures only { (v : Crs) → Spells text.now v → IfErr result (λ f. f ≡ fault.Memory) }
     ensures fault { IfErr result (FirstFault text.now) }
-    // These faults are reported without allocating.
+    // These faults are reported even if an allocation fails.
     ensures text { (f : TextFault) → tree.FirstFault text.now f → IfErr result (λ g. g ≡ fault.Text f) }
     ensures slot { (f : SlotFault) → FirstSlot text.now f → IfErr result (λ g. g ≡ fault.Slot f) }
 {

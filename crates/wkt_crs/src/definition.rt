@@ -165,7 +165,7 @@ impl Definition {
         ensures is { IfOk result IsDefinition }
         ensures fault { IfErr result (IsTextFault text.now) }
         ensures only { (v : Crs) → Spells text.now v → IsDefinition (canon v) → (result ≡ Ok (canon v)) ⊎ (result ≡ Err fault.Memory) }
-        // These faults are reported without allocating.
+        // These faults are reported even if an allocation fails.
         ensures text { (f : TextFault) → tree.FirstFault text.now f → result ≡ Err (fault.Read (refused.Text f)) }
         ensures slot { (f : SlotFault) → FirstSlot text.now f → result ≡ Err (fault.Read (refused.Slot f)) }
     {
