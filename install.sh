@@ -1,9 +1,21 @@
 #!/bin/sh
 # Installs crsreg: ./install.sh [PREFIX]. The default of PREFIX is /usr/local. If DESTDIR is set, all files go below that folder, as for
-# a package. It installs the program in CRSREG_PROGRAM, or by default the one that ./crsreg --which prints. ./install.sh --list [PREFIX]
-# prints the path of each file that it installs: remove these to uninstall crsreg.
+# a package. It installs the program in CRSREG_PROGRAM. By default this is crsreg-static, which needs no C library, if the release is of
+# these sources, and otherwise the one that ./crsreg --which prints. ./install.sh --list [PREFIX] prints the path of each file that it
+# installs: remove these to uninstall crsreg.
 set -eu
 root=$(cd "$(dirname "$0")" && pwd)
+release=$root/release/x86_64-linux-gnu
+
+# Prints the path of the program to install by default.
+default_program() {
+    if [ "$(uname -sm)" = "Linux x86_64" ] && [ -x "$release/crsreg-static" ] &&
+        [ "$(cat "$release/sources")" = "$("$root/release/digest")" ]; then
+        echo "$release/crsreg-static"
+    else
+        "$root/crsreg" --which
+    fi
+}
 
 case ${1-} in
 --list) list=yes && shift ;;
@@ -12,7 +24,7 @@ esac
 prefix=${1-/usr/local}
 
 if [ $list = no ]; then
-    program=${CRSREG_PROGRAM:-$("$root/crsreg" --which)}
+    program=${CRSREG_PROGRAM:-$(default_program)}
     made=$(mktemp -d)
     trap 'rm -rf "$made"' EXIT
     for shell in bash fish zsh; do "$program" completions $shell >"$made/$shell"; done
@@ -29,8 +41,10 @@ put() {
 }
 
 put "${program-}" bin/crsreg 755
-put "$root/share/man/crsreg.1" share/man/man1/crsreg.1 644
-put "$root/share/man/crsreg.5" share/man/man5/crsreg.5 644
+for page in "$root"/share/man/*.[15]; do
+    put "$page" "share/man/man${page##*.}/${page##*/}" 644
+done
+put "$release/notices" share/doc/crsreg/notices 644
 put "${made-}/bash" share/bash-completion/completions/crsreg 644
 put "${made-}/fish" share/fish/vendor_completions.d/crsreg.fish 644
 put "${made-}/zsh" share/zsh/site-functions/_crsreg 644
