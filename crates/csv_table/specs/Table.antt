@@ -1,5 +1,5 @@
 -- The table of some records, the first of which names the columns.
-use Rattle.std.specs.Prelude.{ℕ, Bool, true, false, List, [], ◌∷◌, ◌++◌, map, codes, max, if◌then◌else◌}
+use Rattle.std.specs.Prelude.{ℕ, Bool, true, false, List, [], ◌∷◌, ◌++◌, map, codes, max, min, if◌then◌else◌}
 use Rattle.std.specs.List.{flat_map, fold}
 use Rattle.std.specs.Str.{bytes_eq}
 use Rattle.std.specs.Bool.{beq}
@@ -15,9 +15,13 @@ unnamed = record { width = 0; is_entry = false }
 abbrev pub named : List ℕ → Column
 named name = record { width = 0; is_entry = bytes_eq name (codes "entry") }
 
--- the column, as wide as the field at least
+-- no column is padded beyond this width
+abbrev pub widest : ℕ
+widest = 60
+
+-- the column, as wide as the field at least, up to that width
 abbrev pub fitted : List ℕ → Column → Column
-fitted field column = record column { width = max column.width (width (marked field)) }
+fitted field column = record column { width = max column.width (min (width (marked field)) widest) }
 
 -- the first of the columns, and the others
 abbrev pub first : List Column → Column
@@ -28,7 +32,7 @@ abbrev pub others : List Column → List Column
 others [] = []
 others (c ∷ cs) = cs
 
--- the columns, each as wide as its field at least
+-- the columns, each as wide as its field at least, up to that width
 abbrev pub widened : List (List ℕ) → List Column → List Column
 widened [] columns = columns
 widened (f ∷ fs) columns = fitted f (first columns) ∷ widened fs (others columns)
@@ -38,7 +42,7 @@ abbrev pub header : List (List (List ℕ)) → List (List ℕ)
 header [] = []
 header (names ∷ records) = names
 
--- each column is as wide as its widest field
+-- each column is as wide as its widest field, up to that width
 abbrev pub columns : List (List (List ℕ)) → List Column
 columns records = fold (λ cs fields. widened fields cs) (map named (header records)) records
 

@@ -17,6 +17,9 @@ pub struct Column {
     pub is_entry: bool,
 }
 
+// No column is padded beyond this width: one long field does not widen all lines.
+const WIDEST: usize = 60;
+
 // A column that the header does not name.
 const UNNAMED: Column = Column {
     width: 0,
@@ -32,12 +35,12 @@ fn named(name: &[u8]) -> Column
     }
 }
 
-// The column, as wide as the field at least.
+// The column, as wide as the field at least, but no wider than 60.
 fn fitted(alloc: Global, field: &[u8], column: Column) -> Result<Column, AllocError>
     ensures { IfOk result (λ c. c ≡ fitted field.now column) }
 {
     let text = marked(alloc, field)?;
-    let width = width(&text);
+    let width = width(&text).min(WIDEST);
     Ok(Column {
         width: column.width.max(width),
         is_entry: column.is_entry,
@@ -75,7 +78,7 @@ fn named_columns(alloc: Global, header: &[&[u8]]) -> Result<Vec<Column>, AllocEr
     Ok(made)
 }
 
-// The columns, each as wide as its field at least.
+// The columns, each as wide as its field at least, up to that width.
 fn widened(alloc: Global, fields: &[&[u8]], columns: &[Column]) -> Result<Vec<Column>, AllocError>
     ensures { IfOk result (λ made. made.items ≡ widened (map (λ field. field.now) fields.now) columns.now) }
 {
@@ -90,7 +93,7 @@ fn widened(alloc: Global, fields: &[&[u8]], columns: &[Column]) -> Result<Vec<Co
     Ok(made)
 }
 
-/// The columns of the records, each as wide as its widest field.
+/// The columns of the records, each as wide as its widest field, but no wider than 60.
 pub fn columns(alloc: Global, records: &[ByteRecord]) -> Result<Vec<Column>, AllocError>
     ensures { IfOk result (λ made. made.items ≡ columns (map fields_of records.now)) }
 {

@@ -1,26 +1,39 @@
 //! Texts as they are shown to people.
 
-ghost use Rattle.std.specs.Prelude.{◌≡◌, ◌<◌, ◌++◌, IfOk, OnOk, string_bytes, chars};
+ghost use Rattle.std.specs.Prelude.{◌≡◌, ◌<◌, ◌++◌, IfOk, OnOk, string_bytes, chars, length, take};
 ghost use Rattle.std.specs.List.{flat_map};
-ghost use Rattle.csv_table.specs.Marks.{is_marked, digit, digits, mark, shown, marked};
+ghost use Rattle.csv_table.specs.Marks.{most, is_marked, digit, digits, mark, shown, marked};
 
 use std::alloc::{AllocError, Global};
 
+// A field is cut after this many characters: one long name does not make a table that nobody can read.
+const MOST: usize = 200;
+
 /// The field, with a mark in the place of each character that could move the cursor of a terminal or change the direction of the
-/// text.
+/// text. A field of more than 200 characters is cut after these, and ends with an ellipsis.
 pub fn marked(alloc: Global, field: &[u8]) -> Result<String, AllocError>
     ensures { IfOk result (λ text. string_bytes text ≡ marked field.now) }
 {
     let text = String::from_utf8_lossy(alloc, field)?;
     let mut out = String::new(alloc);
     push_characters(&mut out, &text)?;
+    if count(&text) > MOST {
+        out.push_str("…")?;
+    }
     Ok(out)
 }
 
-fn push_characters(out: &mut String, text: &str) -> Result<(), AllocError>
-    ensures { OnOk result (string_bytes out.new ≡ string_bytes out.old ++ flat_map shown (chars text.now)) }
+fn count(text: &str) -> usize
+    ensures { result ≡ length (chars text.now) }
 {
-    for c in text.chars() {
+    text.chars().count()
+}
+
+// Appends the first characters, as they are shown.
+fn push_characters(out: &mut String, text: &str) -> Result<(), AllocError>
+    ensures { OnOk result (string_bytes out.new ≡ string_bytes out.old ++ flat_map shown (take most (chars text.now))) }
+{
+    for c in text.chars().take(MOST) {
         push_shown(out, c)?;
     }
     Ok(())

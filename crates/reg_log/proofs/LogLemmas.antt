@@ -4,7 +4,7 @@ use Rattle.std.specs.Cmp.{IsTotalOrder, IsStrictWeakOrder, then_total, on_total,
 use Rattle.std.specs.Ordering.{is_lt}
 use Rattle.std.proofs.lemmas.List.Sorted.{ranks_by}
 use Rattle.csv.specs.Writing.{row_text, default_writer}
-use Rattle.reg_op.specs.Operations.{Op, Ops}
+use Rattle.reg_op.specs.Operations.{Op}
 use Rattle.reg_op.proofs.OpLemmas.{id_total}
 use Rattle.reg_report.specs.Lines.{AreLines}
 use Rattle.reg_log.specs.Lines.{IsLogLine, AreLogLines}
@@ -40,16 +40,15 @@ by_log = ranks_by log_total (λ (o : Op). o)
 
 -- ---- lines
 
-module _ (s : Ops) where
-  -- `text` followed by any lines for `rest` is a header with lines for `all`
-  abbrev pub Completes : List Op → List Op → List ℕ → Type 0
-  Completes all rest text = (more : List ℕ) → AreLines (IsLogLine s) rest more → AreLogLines s all (text ++ more)
+-- `text` followed by any lines for `rest` is a header with lines for `all`
+abbrev pub Completes : List Op → List Op → List ℕ → Type 0
+Completes all rest text = (more : List ℕ) → AreLines IsLogLine rest more → AreLogLines all (text ++ more)
 
-  pub line_more : (all rest others : List Op) (o : Op) (old new : List ℕ) (fields : List (List ℕ)) → rest ≡ o ∷ others → IsLogLine s o fields → new ≡ old ++ row_text default_writer fields → Completes all rest old → Completes all others new
-  line_more all rest others o old new fields e is h done more lines =
-      subst (AreLogLines s all) (sym (append_assoc old (row_text default_writer fields) more) ∙ ap (λ t. t ++ more) (sym h))
-      (done (row_text default_writer fields ++ more) (subst (λ l. AreLines (IsLogLine s) l (row_text default_writer fields ++ more)) (sym e) (fields, more, is, lines, refl)))
+pub line_more : (all rest others : List Op) (o : Op) (old new : List ℕ) (fields : List (List ℕ)) → rest ≡ o ∷ others → IsLogLine o fields → new ≡ old ++ row_text default_writer fields → Completes all rest old → Completes all others new
+line_more all rest others o old new fields e is h done more lines =
+    subst (AreLogLines all) (sym (append_assoc old (row_text default_writer fields) more) ∙ ap (λ t. t ++ more) (sym h))
+    (done (row_text default_writer fields ++ more) (subst (λ l. AreLines IsLogLine l (row_text default_writer fields ++ more)) (sym e) (fields, more, is, lines, refl)))
 
-  pub lines_done : (all rest : List Op) (text out : List ℕ) → length rest ≡ 0 → out ≡ text → Completes all rest text → AreLogLines s all out
-  lines_done all [] text out e h done = subst (AreLogLines s all) (append-nil text ∙ sym h) (done [] refl)
-  lines_done all (o ∷ rest) text out e h done = absurd (omega arith)
+pub lines_done : (all rest : List Op) (text out : List ℕ) → length rest ≡ 0 → out ≡ text → Completes all rest text → AreLogLines all out
+lines_done all [] text out e h done = subst (AreLogLines all) (append-nil text ∙ sym h) (done [] refl)
+lines_done all (o ∷ rest) text out e h done = absurd (omega arith)

@@ -1,14 +1,11 @@
 -- The lines of a log.
-use Rattle.std.specs.Prelude.{◌≡◌, ◌⊎◌, ℕ, Bool, true, false, List, [], ◌∷◌, codes}
+use Rattle.std.specs.Prelude.{◌≡◌, ℕ, Bool, List, [], ◌∷◌, codes}
 use Rattle.crs_part.specs.Slots.{name_of}
 use Rattle.crs_value.specs.declared.crs.Crs.{Crs}
 use Rattle.crs_value.specs.declared.key.Key.{Key}
 use Rattle.wkt_crs.specs.Definition.{IsCrsOf, IsKeyIn}
-use Rattle.reg_op.specs.Set as set
 use Rattle.reg_op.specs.Ids.{Id}
-use Rattle.reg_op.specs.Kept.{entering}
 use Rattle.reg_op.specs.Operations.{Op, Ops}
-use Rattle.reg_op.specs.Status.{enters}
 use Rattle.reg_op.specs.Text.{printed}
 use Rattle.reg_op.specs.declared.operation.OpBody.{OpBody as Body}
 use Rattle.reg_op.specs.declared.operation.OpBody.TheVariants.{Enter, Supersede, Retire}
@@ -40,21 +37,19 @@ pub record IsTitled (o : Op) (definition : List ℕ) (fields : List (List ℕ)) 
   pub spelled : IsCrsOf crs definition
   pub are : fields ≡ log_fields o key.authority.bytes key.code.bytes (name_of crs.parts).bytes
 
--- the entry was entered with some text, whose key and name they have
-pub record IsEnteredLine (s : Ops) (o : Op) (fields : List (List ℕ)) : Type 0 where
-  pub definition : List ℕ
-  pub note : List ℕ
-  pub entered : set.contains s (entering (subject o) definition note) ≡ true
-  pub titled : IsTitled o definition fields
+-- by its effect: only the operation that enters an entry has the key and the name
+abbrev pub IsLineOf : Op → Body → List (List ℕ) → Type 0
+IsLineOf o (Enter text) fields = IsTitled o text fields
+IsLineOf o (Supersede old newer) fields = fields ≡ log_fields o [] [] []
+IsLineOf o (Retire entry) fields = fields ≡ log_fields o [] [] []
 
--- these are empty if the entry is awaited
-abbrev pub IsLogLine : Ops → Op → List (List ℕ) → Type 0
-IsLogLine s o fields = IsEnteredLine s o fields ⊎ ((enters s (subject o) ≡ false) × (fields ≡ log_fields o [] [] []))
+abbrev pub IsLogLine : Op → List (List ℕ) → Type 0
+IsLogLine o fields = IsLineOf o o.body fields
 
 -- a header, and a line for each operation
-abbrev pub AreLogLines : Ops → List Op → List ℕ → Type 0
-AreLogLines s os text = IsSheet log_header (IsLogLine s) os text
+abbrev pub AreLogLines : List Op → List ℕ → Type 0
+AreLogLines os text = IsSheet log_header IsLogLine os text
 
 -- a header, and a line for each operation on the requested entries, in order
 abbrev pub IsLog : (Id → Bool) → Ops → List ℕ → Type 0
-IsLog asked s text = (os : List Op) × AreLogged asked s os × AreLogLines s os text
+IsLog asked s text = (os : List Op) × AreLogged asked s os × AreLogLines os text

@@ -55,26 +55,20 @@ fn newer_text(alloc: Global, body: &OpBody) -> Result<Vec<u8>, AllocError>
     }
 }
 
-// The line of an operation, with the key and the name of its entry.
-fn write_line(
-    alloc: Global,
-    wtr: &mut Writer<Vec<u8>>,
-    register: &Register,
-    op: &Op,
-) -> Result<(), AllocError>
+// The line of an operation. That of an entry's first one has the key and the name of its text.
+fn write_line(alloc: Global, wtr: &mut Writer<Vec<u8>>, op: &Op) -> Result<(), AllocError>
     requires { IsReady wtr.old }
-    ensures { OnOk result ((fields : List (List ℕ)) × IsLogLine register.now.ops op.now fields × WritesRow wtr.old wtr.new fields) }
+    ensures { OnOk result ((fields : List (List ℕ)) × IsLogLine op.now fields × WritesRow wtr.old wtr.new fields) }
 {
-    let Some(definition) = register.definition(subject(op)) else {
-        write_awaited(alloc, wtr, op)?;
-        return Ok(());
-    };
-    write_entered(alloc, wtr, op, definition)?;
-    Ok(())
+    match op.body() {
+        OpBody::Enter(definition) => write_entered(alloc, wtr, op, definition),
+        OpBody::Supersede { old: _, newer: _ } => write_untitled(alloc, wtr, op),
+        OpBody::Retire { entry: _ } => write_untitled(alloc, wtr, op),
+    }
 }
 
-// The line of an operation whose entry is awaited.
-fn write_awaited(alloc: Global, wtr: &mut Writer<Vec<u8>>, op: &Op) -> Result<(), AllocError>
+// The line of a later operation.
+fn write_untitled(alloc: Global, wtr: &mut Writer<Vec<u8>>, op: &Op) -> Result<(), AllocError>
     requires { IsReady wtr.old }
     ensures { OnOk result (WritesRow wtr.old wtr.new (log_fields op.now [] [] [])) }
 {
@@ -86,7 +80,7 @@ fn write_awaited(alloc: Global, wtr: &mut Writer<Vec<u8>>, op: &Op) -> Result<()
     write_fields(wtr, &[&entry, b"", b"", b"", &id, &effect, &newer, note])
 }
 
-// The line of an operation whose entry has this definition.
+// The line of the operation that entered this definition.
 fn write_entered(
     alloc: Global,
     wtr: &mut Writer<Vec<u8>>,
@@ -119,14 +113,14 @@ fn write_entered(
     Ok(())
 }
 
-fn lines_text(alloc: Global, register: &Register, ops: &[Op]) -> Result<Vec<u8>, AllocError>
-    ensures { IfOk result (λ text. AreLogLines register.now.ops ops.now text.items) }
+fn lines_text(alloc: Global, ops: &[Op]) -> Result<Vec<u8>, AllocError>
+    ensures { IfOk result (λ text. AreLogLines ops.now text.items) }
 {
     let mut wtr = Writer::from_writer(Vec::new(alloc));
     write_header(&mut wtr)?;
     let mut rest = ops;
     while let Some((op, others)) = rest.split_first() {
-        write_line(alloc, &mut wtr, register, op)?;
+        write_line(alloc, &mut wtr, op)?;
         rest = others;
     }
     match wtr.into_inner() {
@@ -135,7 +129,8 @@ fn lines_text(alloc: Global, register: &Register, ops: &[Op]) -> Result<Vec<u8>,
     }
 }
 
-/// A header, and a line for each operation that the register keeps on the requested entries, entry by entry.
+/// A header, and a line for each operation that the register keeps on the requested entries, entry by entry. An entry's key and name
+/// stand only in the line of the operation that entered it, so a long name is printed once.
 pub fn log_text(
     alloc: Global,
     register: &Register,
@@ -144,6 +139,6 @@ pub fn log_text(
     ensures { IfOk result (λ text. IsLog (is_asked asked.now) register.now.ops text.items) }
 {
     let ops = logged(alloc, register, asked)?;
-    let text = lines_text(alloc, register, &ops)?;
+    let text = lines_text(alloc, &ops)?;
     Ok(text)
 }

@@ -4,7 +4,7 @@ use Rattle.reg_log.proofs.LogLemmas.{Completes}
 use Rattle.reg_log.proofs.lines.lines_text.Given as goal
 
 abbrev pub invariant-loop-op : goal.invariant-loop-op
-invariant-loop-op l = IsReady l.wtr × Completes l.register.ops l.ops l.rest (sheet_text l.wtr)
+invariant-loop-op l = IsReady l.wtr × Completes l.ops l.rest (sheet_text l.wtr)
 
 abbrev pub decreases-loop-op : goal.decreases-loop-op
 decreases-loop-op l = length l.rest
