@@ -7,7 +7,7 @@ mod columns;
 pub mod laws;
 mod lines;
 mod marks;
-mod records;
+pub mod records;
 
 pub use answer::{TableFault, told_as_table};
 pub use lines::table;
