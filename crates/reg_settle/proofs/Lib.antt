@@ -1,7 +1,7 @@
 mod Steps
 pub mod Settled
 mod Windows
-mod Ordered
+pub mod Ordered
 mod Candidates
 mod Kept
 mod Repeated

@@ -1,0 +1,7 @@
+mod Firsts
+pub mod Inheriting
+pub mod Allowed
+mod Listed
+mod ForHeirs
+pub mod Rows
+pub mod Passes

@@ -1,0 +1,5 @@
+pub mod Links
+pub mod Heirs
+pub mod Passing
+pub mod Law
+pub mod Retiring
