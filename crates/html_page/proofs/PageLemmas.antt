@@ -8,10 +8,10 @@ use Rattle.html_text.proofs.PlaceLemmas.{same_tags}
 use Rattle.html_text.proofs.JoinLemmas.{Closed, is_closed, closed-append, closed-flat_map, Alike, is_alike, alike-append, alike-flat_map}
 use Rattle.html_page.specs.declared.standing.Standing.{Standing}
 use Rattle.html_page.specs.declared.standing.Standing.TheVariants.{Valid, Superseded, Retired}
-use Rattle.html_page.specs.Shown.{Link, Entered, Awaited, Event, SupersededBy, RetiredBy, Entry, Word, Side, Pair, Conflict, Shown}
-use Rattle.html_page.specs.Shape.{no_text, figures_shape, link_shape, event_shape, entry_shape, word_shape, side_shape, pair_shape, conflict_shape, gap_shape, shape}
-use Rattle.html_page.specs.declared.markup.TheConstants.{AFTER_FIGURES, PAIR, AFTER_PAIR, AFTER_SIDE, CONFLICTS_START, CONFLICTS_END, AWAITED_START, AWAITED_END, GAPS_START, GAPS_END, ENTRIES_START, SUPERSEDED_BY, AFTER_HISTORY, BY, AFTER_BY, AFTER_ENTRY}
-use Rattle.html_page.specs.Templates.{head, figures, end, link, word, side_start, side, pair, conflict_start, conflict, section, awaited, gap, entry_start, entry_text, operation, event, area, kind_and_standing, by, entry, page}
+use Rattle.html_page.specs.Shown.{Link, Entered, Awaited, Event, SupersededBy, RetiredBy, Box, Entry, Word, Side, Pair, Conflict, Shown}
+use Rattle.html_page.specs.Shape.{no_text, figures_shape, link_shape, event_shape, box_shape, entry_shape, word_shape, side_shape, pair_shape, conflict_shape, gap_shape, shape}
+use Rattle.html_page.specs.declared.markup.TheConstants.{AFTER_FIGURES, PAIR, AFTER_PAIR, AFTER_SIDE, CONFLICTS_START, CONFLICTS_END, AWAITED_START, AWAITED_END, GAPS_START, GAPS_END, ENTRIES_START, MAP, SUPERSEDED_BY, AFTER_HISTORY, BY, AFTER_BY, AFTER_ENTRY, ENTRIES_END, RETIRED_START, RETIRED_END}
+use Rattle.html_page.specs.Templates.{head, figures, end, link, word, side_start, side, pair, conflict_start, conflict, section, awaited, gap, drawing, caption, map_of, entry_start, entry_text, operation, event, area, kind_and_standing, by, entry, page}
 
 -- ---- places
 
@@ -57,22 +57,32 @@ standing_closed kind Retired = record { is = refl }
 by_closed : (l : Link) → Closed (by l)
 by_closed l = closed-append (closed-append (is_closed (Markup BY.now ∷ []) refl) (link_closed l)) (is_closed (Markup AFTER_BY.now ∷ []) refl)
 
+drawing_closed : (south west north east : List ℕ) (crosses : Bool) → Closed (drawing south west north east crosses)
+drawing_closed south west north east true = record { is = refl }
+drawing_closed south west north east false = record { is = refl }
+
+map_closed : (b : Box) → Closed (map_of b)
+map_closed b =
+    closed-append (closed-append (is_closed (Markup MAP.now ∷ []) refl) (drawing_closed b.south b.west b.north b.east b.crosses))
+    (is_closed (caption b.south b.west b.north b.east) refl)
+
 entry_closed : (e : Entry) → Closed (entry e)
 entry_closed e =
-    closed-append (closed-append (closed-append (closed-append (closed-append (closed-append (closed-append
-    (is_closed (entry_start e.id e.authority e.code e.name) refl) (is_closed (entry_text e.text e.id e.note) refl))
+    closed-append (closed-append (closed-append (closed-append (closed-append (closed-append (closed-append (closed-append
+    (is_closed (entry_start e.id e.authority e.code e.name) refl) (closed-flat_map map_of map_closed e.boxes)) (is_closed (entry_text e.text e.id e.note) refl))
     (closed-flat_map event event_closed e.events)) (is_closed (Markup AFTER_HISTORY.now ∷ []) refl))
     (closed-flat_map area (λ text. record { is = refl }) e.areas)) (standing_closed e.kind e.standing))
     (closed-flat_map by by_closed e.links)) (is_closed (Markup AFTER_ENTRY.now ∷ []) refl)
 
 page_closed : (s : Shown) → Closed (page s)
 page_closed s =
-    closed-append (closed-append (closed-append (closed-append (closed-append (closed-append (closed-append (closed-append
+    closed-append (closed-append (closed-append (closed-append (closed-append (closed-append (closed-append (closed-append (closed-append (closed-append
     (is_closed (head s.title) refl) (is_closed (figures s.figures) refl)) (is_closed (Markup AFTER_FIGURES.now ∷ []) refl))
     (section_closed CONFLICTS_START.now CONFLICTS_END.now conflict (record { is = refl }) (record { is = refl }) conflict_closed s.conflicts))
     (section_closed AWAITED_START.now AWAITED_END.now awaited (record { is = refl }) (record { is = refl }) (λ id. record { is = refl }) s.awaited))
     (section_closed GAPS_START.now GAPS_END.now gap (record { is = refl }) (record { is = refl }) (λ g. record { is = refl }) s.gaps))
-    (is_closed (Markup ENTRIES_START.now ∷ []) refl)) (closed-flat_map entry entry_closed s.entries)) (is_closed end refl)
+    (is_closed (Markup ENTRIES_START.now ∷ []) refl)) (closed-flat_map entry entry_closed s.entries)) (is_closed (Markup ENTRIES_END.now ∷ []) refl))
+    (section_closed RETIRED_START.now RETIRED_END.now entry (record { is = refl }) (record { is = refl }) entry_closed s.retired)) (is_closed end refl)
 
 pub places : (s : Shown) → past_all (Some Content) (page s) ≡ Some Content
 places s = (page_closed s).is
@@ -124,22 +134,32 @@ by_alike : (l : Link) → Alike (by l) (by (link_shape l))
 by_alike l =
     alike-append (alike-append (is_alike (Markup BY.now ∷ []) (Markup BY.now ∷ []) refl) (link_alike l)) (is_alike (Markup AFTER_BY.now ∷ []) (Markup AFTER_BY.now ∷ []) refl)
 
+drawing_alike : (south west north east : List ℕ) (crosses : Bool) → Alike (drawing south west north east crosses) (drawing [] [] [] [] crosses)
+drawing_alike south west north east true = record { is = refl }
+drawing_alike south west north east false = record { is = refl }
+
+map_alike : (b : Box) → Alike (map_of b) (map_of (box_shape b))
+map_alike b =
+    alike-append (alike-append (is_alike (Markup MAP.now ∷ []) (Markup MAP.now ∷ []) refl) (drawing_alike b.south b.west b.north b.east b.crosses))
+    (is_alike (caption b.south b.west b.north b.east) (caption [] [] [] []) refl)
+
 entry_alike : (e : Entry) → Alike (entry e) (entry (entry_shape e))
 entry_alike e =
-    alike-append (alike-append (alike-append (alike-append (alike-append (alike-append (alike-append
-    (is_alike (entry_start e.id e.authority e.code e.name) (entry_start [] [] [] []) refl) (is_alike (entry_text e.text e.id e.note) (entry_text [] [] []) refl))
+    alike-append (alike-append (alike-append (alike-append (alike-append (alike-append (alike-append (alike-append
+    (is_alike (entry_start e.id e.authority e.code e.name) (entry_start [] [] [] []) refl) (alike-flat_map map_of box_shape map_alike e.boxes)) (is_alike (entry_text e.text e.id e.note) (entry_text [] [] []) refl))
     (alike-flat_map event event_shape event_alike e.events)) (is_alike (Markup AFTER_HISTORY.now ∷ []) (Markup AFTER_HISTORY.now ∷ []) refl))
     (alike-flat_map area no_text (λ text. record { is = refl }) e.areas)) (is_alike (kind_and_standing e.kind e.standing) (kind_and_standing [] e.standing) refl))
     (alike-flat_map by link_shape by_alike e.links)) (is_alike (Markup AFTER_ENTRY.now ∷ []) (Markup AFTER_ENTRY.now ∷ []) refl)
 
 page_alike : (s : Shown) → Alike (page s) (page (shape s))
 page_alike s =
-    alike-append (alike-append (alike-append (alike-append (alike-append (alike-append (alike-append (alike-append
+    alike-append (alike-append (alike-append (alike-append (alike-append (alike-append (alike-append (alike-append (alike-append (alike-append
     (is_alike (head s.title) (head []) refl) (is_alike (figures s.figures) (figures figures_shape) refl)) (is_alike (Markup AFTER_FIGURES.now ∷ []) (Markup AFTER_FIGURES.now ∷ []) refl))
     (section_alike CONFLICTS_START.now CONFLICTS_END.now conflict conflict_shape conflict_alike s.conflicts))
     (section_alike AWAITED_START.now AWAITED_END.now awaited no_text (λ id. record { is = refl }) s.awaited))
     (section_alike GAPS_START.now GAPS_END.now gap gap_shape (λ g. record { is = refl }) s.gaps))
-    (is_alike (Markup ENTRIES_START.now ∷ []) (Markup ENTRIES_START.now ∷ []) refl)) (alike-flat_map entry entry_shape entry_alike s.entries)) (is_alike end end refl)
+    (is_alike (Markup ENTRIES_START.now ∷ []) (Markup ENTRIES_START.now ∷ []) refl)) (alike-flat_map entry entry_shape entry_alike s.entries)) (is_alike (Markup ENTRIES_END.now ∷ []) (Markup ENTRIES_END.now ∷ []) refl))
+    (section_alike RETIRED_START.now RETIRED_END.now entry entry_shape entry_alike s.retired)) (is_alike end end refl)
 
 pub same : (s : Shown) → tags (html (page s)) ≡ tags (html (page (shape s)))
 same s =

@@ -1,7 +1,7 @@
 -- The shape of a page: its contents without the texts.
 use Rattle.std.specs.Prelude.{ℕ, List, [], map}
 use Rattle.html_page.specs.declared.head.Figures.{Figures}
-use Rattle.html_page.specs.Shown.{Link, Entered, Awaited, Event, SupersededBy, RetiredBy, Entry, Word, Side, Pair, Conflict, Gap, Shown}
+use Rattle.html_page.specs.Shown.{Link, Entered, Awaited, Event, SupersededBy, RetiredBy, Box, Entry, Word, Side, Pair, Conflict, Gap, Shown}
 
 abbrev pub no_text : List ℕ → List ℕ
 no_text text = []
@@ -17,13 +17,18 @@ abbrev pub event_shape : Event → Event
 event_shape (SupersededBy newer id note) = SupersededBy (link_shape newer) [] []
 event_shape (RetiredBy id note) = RetiredBy [] []
 
--- of an entry: the numbers of its areas, links and operations, and its status
+-- of a box: whether it crosses the meridian of 180 degrees
+abbrev pub box_shape : Box → Box
+box_shape b = record { south = []; west = []; north = []; east = []; crosses = b.crosses }
+
+-- of an entry: the numbers of its boxes, areas, links and operations, and its status
 abbrev pub entry_shape : Entry → Entry
 entry_shape e = record {
   id = [];
   authority = [];
   code = [];
   name = [];
+  boxes = map box_shape e.boxes;
   areas = map no_text e.areas;
   kind = [];
   standing = e.standing;
@@ -57,4 +62,5 @@ shape s = record {
   awaited = map no_text s.awaited;
   gaps = map gap_shape s.gaps;
   entries = map entry_shape s.entries;
+  retired = map entry_shape s.retired;
 }

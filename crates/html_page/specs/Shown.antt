@@ -13,11 +13,20 @@ pub data Event : Type 0 where
   SupersededBy : Link → List ℕ → List ℕ → Event
   RetiredBy : List ℕ → List ℕ → Event
 
+-- a bounding box by its numerals, and whether it crosses the meridian of 180 degrees
+pub record Box : Type 0 where
+  pub south : List ℕ
+  pub west : List ℕ
+  pub north : List ℕ
+  pub east : List ℕ
+  pub crosses : Bool
+
 pub record Entry : Type 0 where
   pub id : List ℕ
   pub authority : List ℕ
   pub code : List ℕ
   pub name : List ℕ
+  pub boxes : List Box
   pub areas : List (List ℕ)
   pub kind : List ℕ
   pub standing : Standing
@@ -26,7 +35,7 @@ pub record Entry : Type 0 where
   pub note : List ℕ
   pub events : List Event
 
--- a word of a text, and whether the other side has it
+-- a run of words of a text, and whether it differs from the other side
 pub record Word : Type 0 where
   pub differs : Bool
   pub text : List ℕ
@@ -58,3 +67,4 @@ pub record Shown : Type 0 where
   pub awaited : List (List ℕ)
   pub gaps : List Gap
   pub entries : List Entry
+  pub retired : List Entry

@@ -1,14 +1,14 @@
 -- The page: its contents as a list of pieces.
-use Rattle.std.specs.Prelude.{ℕ, ◌==◌, List, [], ◌∷◌, ◌++◌, length, decimal, if◌then◌else◌}
+use Rattle.std.specs.Prelude.{ℕ, Bool, ◌==◌, List, [], ◌∷◌, ◌++◌, length, decimal, if◌then◌else◌}
 use Rattle.std.specs.List.{flat_map}
-use Rattle.html_text.specs.Pieces.{Piece, Markup, Text, Lines, Attribute}
-use Rattle.html_page.specs.declared.markup.TheConstants.{BEFORE_TITLE, BEFORE_STYLE, BEFORE_HEADING, BEFORE_FIGURES, COUNT, ENTRIES, OPERATIONS, VALID, SUPERSEDED, RETIRED, IN_CONFLICT, AWAITED, GAPS, AFTER_FIGURES, CONFLICTS_START, CONFLICT, COLON, AFTER_CONFLICT_KEY, PAIR, SIDE, BEFORE_SIDE_ID, BEFORE_SIDE_NOTE, BEFORE_SIDE_WORDS, AFTER_SIDE, AFTER_PAIR, CONFLICTS_END, WORD, AFTER_WORD, AWAITED_START, AWAITED_ITEM, AFTER_AWAITED_ITEM, AWAITED_END, GAPS_START, GAP, BEFORE_LOW, AFTER_LOW, BEFORE_HIGH, AFTER_GAP, GAPS_END, ENTRIES_START, ENTRY, BEFORE_ENTRY_LINK, BEFORE_ENTRY_KEY, BEFORE_NAME, BEFORE_TEXT, BEFORE_ENTRY_ID, BEFORE_ENTRY_NOTE, AFTER_ENTRY_NOTE, SUPERSEDED_BY, RETIRED_BY, BEFORE_OPERATION, BEFORE_NOTE, AFTER_NOTE, AFTER_HISTORY, AREA, AFTER_AREA, BEFORE_KIND, BEFORE_STANDING, VALID_CELL, SUPERSEDED_CELL, RETIRED_CELL, BY, AFTER_BY, AFTER_ENTRY, LINK, BEFORE_LINK_KEY, AFTER_LINK, MISSING, AFTER_MISSING, ENTRIES_END, PAGE_END}
+use Rattle.html_text.specs.Pieces.{Piece, Markup, Text, Lines, Short, Attribute, Numeral}
+use Rattle.html_page.specs.declared.markup.TheConstants.{BEFORE_TITLE, BEFORE_STYLE, BEFORE_HEADING, BEFORE_FIGURES, COUNT, ENTRIES, OPERATIONS, VALID, SUPERSEDED, RETIRED, IN_CONFLICT, AWAITED, GAPS, AFTER_FIGURES, CONFLICTS_START, CONFLICT, COLON, AFTER_CONFLICT_KEY, PAIR, SIDE, BEFORE_SIDE_ID, BEFORE_SIDE_NOTE, BEFORE_SIDE_WORDS, AFTER_SIDE, AFTER_PAIR, CONFLICTS_END, WORD, AFTER_WORD, AWAITED_START, AWAITED_ITEM, AFTER_AWAITED_ITEM, AWAITED_END, GAPS_START, GAP, BEFORE_LOW, AFTER_LOW, BEFORE_HIGH, AFTER_GAP, GAPS_END, ENTRIES_START, MAP, BOX, COMMA, ACROSS, UP, AFTER_BOX, TO_EAST_END, FROM_WEST_END, AFTER_WEST_END, BEFORE_SOUTH, BEFORE_NORTH, BEFORE_WEST, BEFORE_EAST, AFTER_MAP, ENTRY, BEFORE_ENTRY_LINK, BEFORE_ENTRY_KEY, BEFORE_NAME, AFTER_NAME, BEFORE_TEXT, BEFORE_ENTRY_ID, BEFORE_ENTRY_NOTE, AFTER_ENTRY_NOTE, SUPERSEDED_BY, RETIRED_BY, BEFORE_OPERATION, BEFORE_NOTE, AFTER_NOTE, AFTER_HISTORY, AREA, AFTER_AREA, BEFORE_KIND, BEFORE_STANDING, VALID_CELL, SUPERSEDED_CELL, RETIRED_CELL, BY, AFTER_BY, AFTER_ENTRY, LINK, BEFORE_LINK_KEY, AFTER_LINK, MISSING, AFTER_MISSING, ENTRIES_END, RETIRED_START, RETIRED_END, MAIN_END, PAGE_END}
 use Rattle.html_page.specs.declared.style.TheConstants.{STYLE}
 use Rattle.html_page.specs.declared.script.TheConstants.{SCRIPT}
 use Rattle.html_page.specs.declared.standing.Standing.{Standing}
 use Rattle.html_page.specs.declared.standing.Standing.TheVariants as standing
 use Rattle.html_page.specs.declared.head.Figures.{Figures}
-use Rattle.html_page.specs.Shown.{Link, Entered, Awaited, Event, SupersededBy, RetiredBy, Entry, Word, Side, Pair, Conflict, Gap, Shown}
+use Rattle.html_page.specs.Shown.{Link, Entered, Awaited, Event, SupersededBy, RetiredBy, Box, Entry, Word, Side, Pair, Conflict, Gap, Shown}
 
 -- ---- the head, and the counts
 
@@ -33,7 +33,7 @@ figures f =
 
 abbrev pub link : Link → List Piece
 link (Entered id authority code) =
-    Markup LINK.now ∷ Attribute id ∷ Markup BEFORE_LINK_KEY.now ∷ Text authority ∷ Markup COLON.now ∷ Text code
+    Markup LINK.now ∷ Attribute id ∷ Markup BEFORE_LINK_KEY.now ∷ Short authority ∷ Markup COLON.now ∷ Short code
     ∷ Markup AFTER_LINK.now ∷ []
 link (Awaited id) = Markup MISSING.now ∷ Text id ∷ Markup AFTER_MISSING.now ∷ []
 
@@ -78,16 +78,42 @@ gap_counts low high = number BEFORE_LOW.now low AFTER_LOW.now ++ number BEFORE_H
 abbrev pub gap : Gap → List Piece
 gap g = gap_start g.replica ++ gap_counts g.low g.high
 
+-- ---- maps
+
+-- the ring of a box, from its south-west corner
+abbrev pub one_part : List ℕ → List ℕ → List ℕ → List ℕ → List Piece
+one_part south west north east =
+    Markup BOX.now ∷ Numeral west ∷ Markup COMMA.now ∷ Numeral south ∷ Markup ACROSS.now ∷ Numeral east ∷ Markup UP.now ∷ Numeral north
+    ∷ Markup ACROSS.now ∷ Numeral west ∷ Markup AFTER_BOX.now ∷ []
+
+-- the ring up to the meridian of 180 degrees, and the one from it on
+abbrev pub two_parts : List ℕ → List ℕ → List ℕ → List ℕ → List Piece
+two_parts south west north east =
+    Markup BOX.now ∷ Numeral west ∷ Markup COMMA.now ∷ Numeral south ∷ Markup TO_EAST_END.now ∷ Numeral north ∷ Markup ACROSS.now ∷ Numeral west
+    ∷ Markup FROM_WEST_END.now ∷ Numeral south ∷ Markup ACROSS.now ∷ Numeral east ∷ Markup UP.now ∷ Numeral north ∷ Markup AFTER_WEST_END.now ∷ []
+
+abbrev pub drawing : List ℕ → List ℕ → List ℕ → List ℕ → Bool → List Piece
+drawing south west north east crosses = if crosses then two_parts south west north east else one_part south west north east
+
+abbrev pub caption : List ℕ → List ℕ → List ℕ → List ℕ → List Piece
+caption south west north east =
+    Markup BEFORE_SOUTH.now ∷ Text south ∷ Markup BEFORE_NORTH.now ∷ Text north ∷ Markup BEFORE_WEST.now ∷ Text west ∷ Markup BEFORE_EAST.now
+    ∷ Text east ∷ Markup AFTER_MAP.now ∷ []
+
+-- the box over the grid, and its numerals
+abbrev pub map_of : Box → List Piece
+map_of b = (Markup MAP.now ∷ []) ++ drawing b.south b.west b.north b.east b.crosses ++ caption b.south b.west b.north b.east
+
 -- ---- entries
 
 abbrev pub entry_start : List ℕ → List ℕ → List ℕ → List ℕ → List Piece
 entry_start id authority code name =
     Markup ENTRY.now ∷ Attribute id ∷ Markup BEFORE_ENTRY_LINK.now ∷ Attribute id ∷ Markup BEFORE_ENTRY_KEY.now
-    ∷ Text authority ∷ Markup COLON.now ∷ Text code ∷ Markup BEFORE_NAME.now ∷ Text name ∷ Markup BEFORE_TEXT.now ∷ []
+    ∷ Text authority ∷ Markup COLON.now ∷ Text code ∷ Markup BEFORE_NAME.now ∷ Text name ∷ Markup AFTER_NAME.now ∷ []
 
 abbrev pub entry_text : List ℕ → List ℕ → List ℕ → List Piece
 entry_text text id note =
-    Lines text ∷ Markup BEFORE_ENTRY_ID.now ∷ Text id ∷ Markup BEFORE_ENTRY_NOTE.now ∷ Text note
+    Markup BEFORE_TEXT.now ∷ Lines text ∷ Markup BEFORE_ENTRY_ID.now ∷ Text id ∷ Markup BEFORE_ENTRY_NOTE.now ∷ Text note
     ∷ Markup AFTER_ENTRY_NOTE.now ∷ []
 
 -- the id and the note of an operation
@@ -120,13 +146,13 @@ by newer = (Markup BY.now ∷ []) ++ link newer ++ Markup AFTER_BY.now ∷ []
 
 abbrev pub entry : Entry → List Piece
 entry e =
-    entry_start e.id e.authority e.code e.name ++ entry_text e.text e.id e.note ++ flat_map event e.events ++ (Markup AFTER_HISTORY.now ∷ []) ++ flat_map area e.areas
+    entry_start e.id e.authority e.code e.name ++ flat_map map_of e.boxes ++ entry_text e.text e.id e.note ++ flat_map event e.events ++ (Markup AFTER_HISTORY.now ∷ []) ++ flat_map area e.areas
     ++ kind_and_standing e.kind e.standing ++ flat_map by e.links ++ Markup AFTER_ENTRY.now ∷ []
 
 -- ---- the page
 
 abbrev pub end : List Piece
-end = Markup ENTRIES_END.now ∷ Markup SCRIPT.now ∷ Markup PAGE_END.now ∷ []
+end = Markup MAIN_END.now ∷ Markup SCRIPT.now ∷ Markup PAGE_END.now ∷ []
 
 abbrev pub page : Shown → List Piece
 page s =
@@ -134,5 +160,6 @@ page s =
     ++ section CONFLICTS_START.now conflict CONFLICTS_END.now s.conflicts
     ++ section AWAITED_START.now awaited AWAITED_END.now s.awaited
     ++ section GAPS_START.now gap GAPS_END.now s.gaps
-    ++ (Markup ENTRIES_START.now ∷ []) ++ flat_map entry s.entries
+    ++ (Markup ENTRIES_START.now ∷ []) ++ flat_map entry s.entries ++ (Markup ENTRIES_END.now ∷ [])
+    ++ section RETIRED_START.now entry RETIRED_END.now s.retired
     ++ end

@@ -5,7 +5,7 @@ ghost use Rattle.html_text.specs.Pieces.{Appends};
 ghost use Rattle.html_page.specs.Templates.{entry_start, entry_text, operation_id, operation_note, area, kind_and_standing};
 
 use crate::markup::{
-    AFTER_AREA, AFTER_ENTRY_NOTE, AFTER_NOTE, AREA, BEFORE_ENTRY_ID, BEFORE_ENTRY_KEY,
+    AFTER_AREA, AFTER_ENTRY_NOTE, AFTER_NAME, AFTER_NOTE, AREA, BEFORE_ENTRY_ID, BEFORE_ENTRY_KEY,
     BEFORE_ENTRY_LINK, BEFORE_ENTRY_NOTE, BEFORE_KIND, BEFORE_NAME, BEFORE_NOTE, BEFORE_OPERATION,
     BEFORE_STANDING, BEFORE_TEXT, COLON, ENTRY, RETIRED_CELL, SUPERSEDED_CELL, VALID_CELL,
 };
@@ -37,7 +37,7 @@ pub fn push_entry_start<'a>(
             Text(code),
             Markup(BEFORE_NAME),
             Text(name),
-            Markup(BEFORE_TEXT),
+            Markup(AFTER_NAME),
         ],
     )
 }
@@ -54,6 +54,7 @@ pub fn push_entry_text<'a>(
     push_pieces(
         page,
         &[
+            Markup(BEFORE_TEXT),
             Lines(text),
             Markup(BEFORE_ENTRY_ID),
             Text(id),

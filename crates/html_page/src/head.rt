@@ -5,8 +5,8 @@ ghost use Rattle.html_text.specs.Pieces.{Markup as Constant, Appends};
 ghost use Rattle.html_page.specs.Templates.{number, head, figures, end};
 
 use crate::markup::{
-    AWAITED, BEFORE_FIGURES, BEFORE_HEADING, BEFORE_STYLE, BEFORE_TITLE, COUNT, ENTRIES,
-    ENTRIES_END, GAPS, IN_CONFLICT, OPERATIONS, PAGE_END, RETIRED, SUPERSEDED, VALID,
+    AWAITED, BEFORE_FIGURES, BEFORE_HEADING, BEFORE_STYLE, BEFORE_TITLE, COUNT, ENTRIES, GAPS,
+    IN_CONFLICT, MAIN_END, OPERATIONS, PAGE_END, RETIRED, SUPERSEDED, VALID,
 };
 use crate::script::SCRIPT;
 use crate::style::STYLE;
@@ -85,12 +85,9 @@ pub fn push_figures(alloc: Global, page: &mut Vec<u8>, f: &Figures) -> Result<()
     Ok(())
 }
 
-/// Appends everything after the entries.
+/// Appends everything after the content.
 pub fn push_end(page: &mut Vec<u8>) -> Result<(), AllocError>
     ensures { OnOk result (Appends page.old.items page.new.items end) }
 {
-    push_pieces(
-        page,
-        &[Markup(ENTRIES_END), Markup(SCRIPT), Markup(PAGE_END)],
-    )
+    push_pieces(page, &[Markup(MAIN_END), Markup(SCRIPT), Markup(PAGE_END)])
 }

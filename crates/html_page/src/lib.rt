@@ -6,6 +6,7 @@ mod entries;
 mod head;
 pub mod laws;
 mod links;
+mod maps;
 pub mod markup;
 mod missing;
 mod script;
@@ -20,6 +21,7 @@ pub use entries::{
 };
 pub use head::{Figures, push_end, push_figures, push_head, push_mark, push_number};
 pub use links::{push_awaited_link, push_link};
+pub use maps::push_map;
 pub use missing::{push_awaited, push_gap_counts, push_gap_start};
 pub use standing::Standing;
 pub use words::push_compared;

@@ -6,7 +6,7 @@ ghost use Rattle.html_page.specs.Shown.{Entered, Awaited};
 ghost use Rattle.html_page.specs.Templates.{link};
 
 use crate::markup::{AFTER_LINK, AFTER_MISSING, BEFORE_LINK_KEY, COLON, LINK, MISSING};
-use html_text::Piece::{Attribute, Markup, Text};
+use html_text::Piece::{Attribute, Markup, Short, Text};
 use html_text::push_pieces;
 use std::alloc::AllocError;
 
@@ -25,9 +25,9 @@ pub fn push_link<'a>(
             Markup(LINK),
             Attribute(id),
             Markup(BEFORE_LINK_KEY),
-            Text(authority),
+            Short(authority),
             Markup(COLON),
-            Text(code),
+            Short(code),
             Markup(AFTER_LINK),
         ],
     )

@@ -5,7 +5,7 @@ pub const BEFORE_TITLE: &[u8] = b"<!DOCTYPE html>
 <html lang=\"en\">
 <head>
 <meta charset=\"utf-8\">
-<meta http-equiv=\"Content-Security-Policy\" content=\"default-src 'none'; style-src 'sha256-AC/ge8Z60PKjSaZlhIG6tMZI+sym+eZPJ5+Ti9OKpnQ='; script-src 'sha256-L/KmkOjYqTfomIQvoDJ29dhptA0rZ/i/tFx+iUk0JnU='; base-uri 'none'; form-action 'none'\">
+<meta http-equiv=\"Content-Security-Policy\" content=\"default-src 'none'; style-src 'sha256-8cq9zP+gD9d+/gvwt2jKqg9y4H4+VWtszBw9moqNECU='; script-src 'sha256-NVefTYoG31UsSbGTgBpr3+nZ0as6oc3FU3uesye31iM='; base-uri 'none'; form-action 'none'\">
 <meta name=\"viewport\" content=\"width=device-width, initial-scale=1\">
 <meta name=\"generator\" content=\"crsreg\">
 <title>";
@@ -16,6 +16,7 @@ pub const BEFORE_STYLE: &[u8] = b"</title>
 pub const BEFORE_HEADING: &[u8] = b"</style>
 </head>
 <body>
+<svg class=\"grid\" aria-hidden=\"true\"><path id=\"grid\" d=\"M-180-90H180V90H-180ZM-150-90V90M-120-90V90M-90-90V90M-60-90V90M-30-90V90M0-90V90M30-90V90M60-90V90M90-90V90M120-90V90M150-90V90M-180-60H180M-180-30H180M-180 0H180M-180 30H180M-180 60H180\"></path></svg>
 <header>
 <h1><bdi>";
 
@@ -28,28 +29,36 @@ pub const BEFORE_FIGURES: &[u8] = b"</bdi></h1>
 
 pub const COUNT: &[u8] = b"<li><b>";
 
-pub const ENTRIES: &[u8] = b"</b> entries</li>
+pub const ENTRIES: &[u8] = b"</b> entries
+<small>definitions that offices entered under a code</small></li>
 ";
 
-pub const VALID: &[u8] = b"</b> <span class=\"valid\">valid</span></li>
+pub const VALID: &[u8] = b"</b> <span class=\"valid\">valid</span>
+<small>in use</small></li>
 ";
 
-pub const SUPERSEDED: &[u8] = b"</b> <span class=\"superseded\">superseded</span></li>
+pub const SUPERSEDED: &[u8] = b"</b> <span class=\"superseded\">superseded</span>
+<small>another entry takes its place</small></li>
 ";
 
-pub const RETIRED: &[u8] = b"</b> <span class=\"retired\">retired</span></li>
+pub const RETIRED: &[u8] = b"</b> <span class=\"retired\">retired</span>
+<small>withdrawn</small></li>
 ";
 
-pub const IN_CONFLICT: &[u8] = b"</b> in conflict</li>
+pub const IN_CONFLICT: &[u8] = b"</b> in conflict
+<small>codes with several definitions</small></li>
 ";
 
-pub const AWAITED: &[u8] = b"</b> awaited</li>
+pub const AWAITED: &[u8] = b"</b> awaited
+<small>entries that an operation names, and that have not arrived</small></li>
 ";
 
-pub const GAPS: &[u8] = b"</b> gaps</li>
+pub const GAPS: &[u8] = b"</b> gaps
+<small>runs of an office's operations that have not arrived</small></li>
 ";
 
-pub const OPERATIONS: &[u8] = b"</b> operations</li>
+pub const OPERATIONS: &[u8] = b"</b> operations
+<small>what offices did: an operation enters, supersedes or retires an entry</small></li>
 ";
 
 pub const AFTER_FIGURES: &[u8] = b"</ul>
@@ -61,7 +70,7 @@ pub const AFTER_FIGURES: &[u8] = b"</ul>
 
 pub const CONFLICTS_START: &[u8] = b"<section aria-labelledby=\"conflicts\">
 <h2 id=\"conflicts\">Conflicts</h2>
-<p class=\"soft\">Each of these codes has several texts that are not retired. What differs is marked.</p>
+<p class=\"soft\">Each of these codes has several definitions that are not retired. What differs is marked.</p>
 ";
 
 pub const CONFLICT: &[u8] = b"<h3><bdi>";
@@ -102,7 +111,7 @@ pub const CONFLICTS_END: &[u8] = b"</section>
 
 pub const AWAITED_START: &[u8] = b"<section aria-labelledby=\"awaited\">
 <h2 id=\"awaited\">Awaited</h2>
-<p class=\"soft\">Operations name these entries, but the register does not have them yet.</p>
+<p class=\"soft\">An operation here supersedes or retires these entries, or names them as successors. Their definitions have not arrived: another office has them.</p>
 <ul>
 ";
 
@@ -117,7 +126,7 @@ pub const AWAITED_END: &[u8] = b"</ul>
 
 pub const GAPS_START: &[u8] = b"<section aria-labelledby=\"gaps\">
 <h2 id=\"gaps\">Gaps</h2>
-<p class=\"soft\">Operations of these offices that were made before others, and have not arrived.</p>
+<p class=\"soft\">An office numbers what it does. Operations with these numbers have not arrived, but later ones of the same office have.</p>
 <table class=\"gaps\">
 <thead><tr><th scope=\"col\">Office</th><th scope=\"col\">From</th><th scope=\"col\">To</th></tr></thead>
 <tbody>
@@ -146,7 +155,8 @@ pub const ENTRIES_START: &[u8] = b"<section aria-labelledby=\"entries\">
 <p id=\"searching\" role=\"search\" hidden><label for=\"search\">Search codes, names, areas, kinds, statuses and ids</label>
 <input id=\"search\" type=\"search\" autocomplete=\"off\" spellcheck=\"false\">
 <output id=\"found\" for=\"search\"></output></p>
-<table class=\"entries\" role=\"table\">
+<p id=\"printing\" hidden><label><input id=\"texts\" type=\"checkbox\"> Print with definitions</label></p>
+<table class=\"entries\" role=\"table\" aria-labelledby=\"entries\">
 <thead role=\"rowgroup\"><tr role=\"row\"><th scope=\"col\" role=\"columnheader\">Code</th><th scope=\"col\" role=\"columnheader\">Name and area of use</th><th scope=\"col\" role=\"columnheader\">Kind</th><th scope=\"col\" role=\"columnheader\">Status</th></tr></thead>
 <tbody id=\"rows\" role=\"rowgroup\">
 ";
@@ -161,8 +171,46 @@ pub const BEFORE_ENTRY_KEY: &[u8] = b"\"><bdi>";
 pub const BEFORE_NAME: &[u8] = b"</bdi></a></th>
 <td role=\"cell\"><details><summary><bdi>";
 
-pub const BEFORE_TEXT: &[u8] = b"</bdi></summary>
-<pre>";
+// ---- Maps. The numbers of a drawing are those of the definition; north is up by the style.
+
+pub const MAP: &[u8] =
+    b"<figure class=\"map\"><svg viewBox=\"-180 -90 360 180\" aria-hidden=\"true\"><use href=\"#grid\"></use>";
+
+pub const BOX: &[u8] = b"<path d=\"M";
+
+pub const COMMA: &[u8] = b",";
+
+pub const ACROSS: &[u8] = b"H";
+
+pub const UP: &[u8] = b"V";
+
+pub const AFTER_BOX: &[u8] = b"Z\"></path>";
+
+/// A box that crosses the meridian of 180 degrees is drawn up to it, and from it on.
+pub const TO_EAST_END: &[u8] = b"H180V";
+
+pub const FROM_WEST_END: &[u8] = b"ZM-180,";
+
+pub const AFTER_WEST_END: &[u8] = b"H-180Z\"></path>";
+
+pub const BEFORE_SOUTH: &[u8] = b"</svg>
+<figcaption>Latitude ";
+
+pub const BEFORE_NORTH: &[u8] = b" to ";
+
+pub const BEFORE_WEST: &[u8] = b", longitude ";
+
+pub const BEFORE_EAST: &[u8] = b" to ";
+
+pub const AFTER_MAP: &[u8] = b"</figcaption></figure>
+";
+
+// ---- Entries, after their names.
+
+pub const AFTER_NAME: &[u8] = b"</bdi></summary>
+";
+
+pub const BEFORE_TEXT: &[u8] = b"<pre>";
 
 pub const BEFORE_ENTRY_ID: &[u8] = b"</pre>
 <ul>
@@ -225,7 +273,28 @@ pub const AFTER_MISSING: &[u8] = b"</code>";
 pub const ENTRIES_END: &[u8] = b"</tbody>
 </table>
 </section>
-</main>
+";
+
+// ---- Retired entries.
+
+pub const RETIRED_START: &[u8] = b"<section aria-labelledby=\"retired\">
+<h2 id=\"retired\">Retired entries</h2>
+<p class=\"soft\">Offices withdrew these entries. Do not use them for new data.</p>
+<details id=\"withdrawn\"><summary>Show the retired entries</summary>
+<table class=\"entries\" role=\"table\" aria-labelledby=\"retired\">
+<thead role=\"rowgroup\"><tr role=\"row\"><th scope=\"col\" role=\"columnheader\">Code</th><th scope=\"col\" role=\"columnheader\">Name and area of use</th><th scope=\"col\" role=\"columnheader\">Kind</th><th scope=\"col\" role=\"columnheader\">Status</th></tr></thead>
+<tbody id=\"gone\" role=\"rowgroup\">
+";
+
+pub const RETIRED_END: &[u8] = b"</tbody>
+</table>
+</details>
+</section>
+";
+
+// ---- The end of the page.
+
+pub const MAIN_END: &[u8] = b"</main>
 <script>";
 
 pub const PAGE_END: &[u8] = b"</script>

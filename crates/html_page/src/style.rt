@@ -19,8 +19,9 @@ mark{background:var(--mark);color:inherit;text-decoration:underline;text-decorat
 .valid{color:var(--valid)}
 .superseded{color:var(--superseded)}
 .retired{color:var(--retired)}
-.figures{display:grid;grid-template-columns:repeat(auto-fill,minmax(7.2rem,1fr));gap:.6rem;margin:1rem 0 0;padding:0;list-style:none}
+.figures{display:grid;grid-template-columns:repeat(auto-fill,minmax(15rem,1fr));gap:.6rem;margin:1rem 0 0;padding:0;list-style:none}
 .figures li{padding:.5rem .75rem;border:1px solid var(--line);border-radius:8px;font-size:.9rem}
+.figures small{display:block;margin-top:.1rem;color:var(--soft);font-size:.78rem;line-height:1.3}
 .figures b{display:block;font-size:1.4rem;line-height:1.25;font-variant-numeric:tabular-nums}
 .pair{display:grid;grid-template-columns:1fr 1fr;gap:1rem;margin-bottom:1rem}
 .pair div{min-width:0;padding:.6rem .9rem;border:1px solid var(--line);border-radius:8px}
@@ -28,12 +29,20 @@ mark{background:var(--mark);color:inherit;text-decoration:underline;text-decorat
 .pair bdi{display:block}
 #search{display:block;width:100%;margin:.25rem 0;padding:.55rem .8rem;border:1px solid var(--soft);border-radius:8px;background:var(--paper);color:inherit;font:inherit}
 #found{color:var(--soft);font-size:.9rem}
+#printing{color:var(--soft);font-size:.9rem}
+.grid{position:absolute;width:0;height:0}
+.map{float:right;width:15rem;max-width:100%;margin:.35rem 0 .5rem 1rem}
+.map svg{display:block;width:100%;background:var(--card);border-radius:6px;overflow:hidden}
+.map use,.map path{fill:none;stroke:var(--line);stroke-width:1px;vector-effect:non-scaling-stroke;transform:scaleY(-1)}
+#grid{stroke:inherit;stroke-width:inherit;vector-effect:inherit;transform:none}
+.map path{fill:var(--link);fill-opacity:.35;stroke:var(--link);stroke-width:2.5px;stroke-linejoin:round}
+.map figcaption{margin-top:.2rem;color:var(--soft);font-size:.8rem;line-height:1.35}
 :focus-visible{outline:3px solid var(--link);outline-offset:2px}
 table{width:100%;border-collapse:collapse}
 th,td{padding:.5rem .6rem;border-bottom:1px solid var(--line);text-align:left;vertical-align:top}
 thead th{font-size:.85rem;color:var(--soft)}
 tbody th{font-weight:600;padding-top:.6rem;overflow-wrap:anywhere}
-tbody tr:target{background:var(--card);box-shadow:inset 4px 0 var(--link)}
+tbody tr:target,tbody tr.aim{background:var(--card);box-shadow:inset 4px 0 var(--link)}
 .entries,.entries thead,.entries tbody{display:block}
 .entries thead{position:sticky;top:0;z-index:1;background:var(--paper)}
 .entries tr{display:grid;grid-template-columns:9.5rem minmax(0,1fr) 7.5rem 9.5rem;border-bottom:1px solid var(--line)}
@@ -44,8 +53,12 @@ tbody tr:target{background:var(--card);box-shadow:inset 4px 0 var(--link)}
 .entries tr[hidden]{display:none}
 .gaps{width:auto}
 summary{cursor:pointer;overflow-wrap:anywhere}
+details pre{clear:none}
+#withdrawn>summary{padding:.35rem 0}
 details ul{margin:.5rem 0 .75rem;padding-left:1.15rem;font-size:.9rem}
 @media (max-width:46rem){
+.figures{grid-template-columns:1fr 1fr}
+.map{float:none;margin:.5rem 0}
 .pair{grid-template-columns:1fr}
 .entries thead{position:absolute;width:1px;height:1px;overflow:hidden;clip-path:inset(50%)}
 .entries tbody tr{grid-template-columns:auto minmax(0,1fr);padding:.5rem .25rem}
@@ -57,11 +70,14 @@ details ul{margin:.5rem 0 .75rem;padding-left:1.15rem;font-size:.9rem}
 @media print{
 :root{color-scheme:light}
 body{max-width:none;padding:0;font-size:10pt}
-#searching{display:none}
+#searching,#printing{display:none}
 a{color:inherit}
 .entries thead{position:static}
 .entries tbody tr{content-visibility:visible}
-tr,.pair,.figures li{break-inside:avoid}
+tr,.figures li,.map{break-inside:avoid}
+.entries tr:has(details[open]),.pair{break-inside:auto}
+.map svg{border:1px solid var(--line)}
+pre{background:none;padding:0}
 h2,h3{break-after:avoid}
 mark{background:none;font-weight:700}
 }

@@ -1,11 +1,13 @@
 -- Tags of a page and of its pieces.
-use Rattle.std.proofs.Common.{◌≡◌, ℕ, ◌==◌, Bool, true, false, not, ◌&&◌, ◌||◌, List, [], ◌∷◌, ◌++◌, map, Some, None, is_some, if◌then◌else◌, refl, sym, ap, ◌∙◌, append_assoc}
+use Rattle.std.proofs.Common.{◌≡◌, ℕ, ◌==◌, Bool, true, false, not, ◌&&◌, ◌||◌, List, [], ◌∷◌, ◌++◌, map, Some, None, is_some, length, nat_lt, if◌then◌else◌, refl, sym, ap, ◌∙◌, append_assoc}
 use Rattle.std.proofs.lemmas.Bool.Decides.{Decides-eqb}
 use Rattle.html_text.specs.Escaped.{escaped, reference, is_inert}
-use Rattle.html_text.specs.Pieces.{Piece, Markup, Text, Lines, Attribute, bytes_of, html, blank}
-use Rattle.html_text.specs.Places.{Context, Content, Name, Tag, Equals, Quoted, Raw, Expects, Lost, may_hold, step, after, tag_byte, tags_from, past, past_all}
+use Rattle.html_text.specs.Pieces.{Piece, Markup, Text, Lines, Short, Attribute, Numeral, bytes_of, html, blank}
+use Rattle.html_text.specs.Places.{Context, Content, Name, Tag, Equals, Quoted, Raw, Expects, Lost, may_hold, may_draw, step, after, tag_byte, tags_from, past, past_all}
 use Rattle.html_text.specs.declared.marks.Feeds.TheVariants.{Marked, Kept}
 use Rattle.html_text.specs.Marks.{marked}
+use Rattle.html_text.specs.Short.{first_characters, short}
+use Rattle.html_text.specs.declared.short.TheConstants.{MOST, MORE}
 use Rattle.html_text.proofs.EscapedLemmas.{inert}
 
 after-append : (p : Context) (xs ys : List ℕ) → after p (xs ++ ys) ≡ after (after p xs) ys
@@ -44,13 +46,21 @@ in_content (b ∷ bs) e =
     let rest = in_content bs each.1 in
     record { place = rw here.0 rest.place; no_tag = rw here.0 rest.no_tag }
 
-in_quotes : (a xs : List ℕ) → may_hold a ≡ true → is_inert xs ≡ true → Stays (Quoted a) xs
+in_quotes : (a xs : List ℕ) → (may_hold a || may_draw a) ≡ true → is_inert xs ≡ true → Stays (Quoted a) xs
 in_quotes a [] h e = record { place = refl; no_tag = refl }
 in_quotes a (b ∷ bs) h e =
     let each = both _ _ e in
     let here = inert_here b bs _ refl each.0 in
     let rest = in_quotes a bs h each.1 in
     record { place = rw (here.1, h) rest.place; no_tag = rw (here.1, h) rest.no_tag }
+
+or-left : (u v : Bool) → u ≡ true → (u || v) ≡ true
+or-left true v e = refl
+or-left false v e = cc
+
+or-right : (u v : Bool) → v ≡ true → (u || v) ≡ true
+or-right true v e = refl
+or-right false v e = e
 
 -- the piece leads from one context to another, with its text and without it, and its tags are the same
 record Passes (here there : Context) (p : Piece) : Type 0 where
@@ -70,11 +80,36 @@ lines_pass text there e =
     let stays = in_content (escaped (marked Kept text)) (inert (marked Kept text)) in
     record { place = stays.place ∙ cc; blank_place = cc; tags = stays.no_tag }
 
+-- two parts that stay
+stays-append : {p : Context} {xs ys : List ℕ} → Stays p xs → Stays p ys → Stays p (xs ++ ys)
+stays-append {p = p} {xs = xs} {ys = ys} one two = record {
+  place = after-append p xs ys ∙ ap (λ q. after q ys) one.place ∙ two.place;
+  no_tag = tags-append p xs ys ∙ (λ j. one.no_tag j ++ tags_from (one.place j) ys) ∙ two.no_tag;
+}
+
+more_stays : (b : Bool) → Stays Content (if b then MORE.now else [])
+more_stays true = record { place = refl; no_tag = refl }
+more_stays false = record { place = refl; no_tag = refl }
+
+short_passes : (text : List ℕ) (there : Context) → Some Content ≡ Some there → Passes Content there (Short text)
+unfolding bytes_of
+short_passes text there e =
+    let first = first_characters MOST text in
+    let stays = stays-append (in_content (escaped (marked Marked first)) (inert (marked Marked first))) (more_stays (nat_lt (length first) (length text))) in
+    record { place = stays.place ∙ cc; blank_place = cc; tags = stays.no_tag }
+
+numeral_passes : (a text : List ℕ) (there : Context) (h : Bool) → may_draw a ≡ h → (if h then Some (Quoted a) else None) ≡ Some there → Passes (Quoted a) there (Numeral text)
+unfolding bytes_of
+numeral_passes a text there false h e = cc
+numeral_passes a text there true h e =
+    let stays = in_quotes a (escaped (marked Marked text)) (or-right (may_hold a) (may_draw a) h) (inert (marked Marked text)) in
+    record { place = stays.place ∙ cc; blank_place = cc; tags = stays.no_tag }
+
 attribute_passes : (a text : List ℕ) (there : Context) (h : Bool) → may_hold a ≡ h → (if h then Some (Quoted a) else None) ≡ Some there → Passes (Quoted a) there (Attribute text)
 unfolding bytes_of
 attribute_passes a text there false h e = cc
 attribute_passes a text there true h e =
-    let stays = in_quotes a (escaped (marked Marked text)) h (inert (marked Marked text)) in
+    let stays = in_quotes a (escaped (marked Marked text)) (or-left (may_hold a) (may_draw a) h) (inert (marked Marked text)) in
     record { place = stays.place ∙ cc; blank_place = cc; tags = stays.no_tag }
 
 piece_passes : (here there : Context) (p : Piece) → past here p ≡ Some there → Passes here there p
@@ -96,6 +131,14 @@ piece_passes (Quoted a) there (Lines text) e = cc
 piece_passes (Raw end) there (Lines text) e = cc
 piece_passes (Expects end) there (Lines text) e = cc
 piece_passes Lost there (Lines text) e = cc
+piece_passes Content there (Short text) e = short_passes text there e
+piece_passes (Name n) there (Short text) e = cc
+piece_passes (Tag a) there (Short text) e = cc
+piece_passes (Equals a) there (Short text) e = cc
+piece_passes (Quoted a) there (Short text) e = cc
+piece_passes (Raw end) there (Short text) e = cc
+piece_passes (Expects end) there (Short text) e = cc
+piece_passes Lost there (Short text) e = cc
 piece_passes Content there (Attribute text) e = cc
 piece_passes (Name n) there (Attribute text) e = cc
 piece_passes (Tag a) there (Attribute text) e = cc
@@ -104,6 +147,14 @@ piece_passes (Quoted a) there (Attribute text) e = attribute_passes a text there
 piece_passes (Raw end) there (Attribute text) e = cc
 piece_passes (Expects end) there (Attribute text) e = cc
 piece_passes Lost there (Attribute text) e = cc
+piece_passes Content there (Numeral text) e = cc
+piece_passes (Name n) there (Numeral text) e = cc
+piece_passes (Tag a) there (Numeral text) e = cc
+piece_passes (Equals a) there (Numeral text) e = cc
+piece_passes (Quoted a) there (Numeral text) e = numeral_passes a text there _ refl e
+piece_passes (Raw end) there (Numeral text) e = cc
+piece_passes (Expects end) there (Numeral text) e = cc
+piece_passes Lost there (Numeral text) e = cc
 
 pub past_none : (ps : List Piece) → past_all None ps ≡ None
 past_none [] = refl

@@ -1,4 +1,5 @@
 pub mod Escaped
 pub mod Marks
+pub mod Short
 pub mod Pieces
 pub mod Places

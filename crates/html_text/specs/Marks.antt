@@ -17,12 +17,16 @@ abbrev pub control_after : List ℕ → Option Hidden
 control_after [] = None
 control_after (b ∷ rest) = if nat_lt b 128 || nat_lt 159 b then None else Some (record { number = b; more = 1 })
 
--- U+202A to U+202E are 226, 128, and 170 to 174; U+2066 to U+2069 are 226, 129, and 166 to 169
-abbrev pub directional_after : List ℕ → Option Hidden
-directional_after [] = None
-directional_after (b ∷ []) = None
-directional_after (b ∷ c ∷ rest) =
-    if (b == 128) && (nat_lt 169 c && nat_lt c 175) then Some (record { number = 8064 + c; more = 2 }) else (
+-- U+200B to U+200F and U+2028 to U+202E are 226, 128, and 139 to 143 or 168 to 174
+abbrev pub is_unseen : ℕ → Bool
+is_unseen c = (nat_lt 138 c && nat_lt c 144) || (nat_lt 167 c && nat_lt c 175)
+
+-- U+2066 to U+2069 are 226, 129, and 166 to 169
+abbrev pub unseen_after : List ℕ → Option Hidden
+unseen_after [] = None
+unseen_after (b ∷ []) = None
+unseen_after (b ∷ c ∷ rest) =
+    if (b == 128) && is_unseen c then Some (record { number = 8064 + c; more = 2 }) else (
     if (b == 129) && (nat_lt 165 c && nat_lt c 170) then Some (record { number = 8128 + c; more = 2 }) else None)
 
 -- the character with which a text begins, if it is marked
@@ -30,7 +34,7 @@ abbrev pub hidden_at : Feeds → ℕ → List ℕ → Option Hidden
 hidden_at feeds b rest =
     if is_control feeds b then Some (record { number = b; more = 0 }) else (
     if b == 194 then control_after rest else (
-    if b == 226 then directional_after rest else None))
+    if b == 226 then unseen_after rest else None))
 
 abbrev pub hex_digit : ℕ → ℕ
 hex_digit n = if nat_lt n 10 then 48 + n else 55 + n

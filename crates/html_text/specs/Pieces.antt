@@ -6,20 +6,25 @@ use Rattle.html_text.specs.declared.pieces.Piece.{Piece as Declared}
 use Rattle.html_text.specs.declared.pieces.Piece.TheVariants as declared
 use Rattle.html_text.specs.Escaped.{escaped}
 use Rattle.html_text.specs.Marks.{marked}
+use Rattle.html_text.specs.Short.{short}
 
--- a constant of the program; a text between tags, on one line or with its line feeds; a text between the quotation
--- marks of an attribute
+-- a constant of the program; a text between tags: on one line, with its line feeds, or shortened; a text in an id or in a link
+-- within the page; a numeral in a drawing
 pub data Piece : Type 0 where
   Markup : List ℕ → Piece
   Text : List ℕ → Piece
   Lines : List ℕ → Piece
+  Short : List ℕ → Piece
   Attribute : List ℕ → Piece
+  Numeral : List ℕ → Piece
 
 unfoldable pub bytes_of : Piece → List ℕ
 bytes_of (Markup constant) = constant
 bytes_of (Text text) = escaped (marked Marked text)
 bytes_of (Lines text) = escaped (marked Kept text)
+bytes_of (Short text) = short text
 bytes_of (Attribute text) = escaped (marked Marked text)
+bytes_of (Numeral text) = escaped (marked Marked text)
 
 -- the bytes of a page
 unfoldable pub html : List Piece → List ℕ
@@ -34,11 +39,15 @@ abbrev pub blank : Piece → Piece
 blank (Markup constant) = Markup constant
 blank (Text text) = Text []
 blank (Lines text) = Lines []
+blank (Short text) = Short []
 blank (Attribute text) = Attribute []
+blank (Numeral text) = Numeral []
 
 -- a piece of the program, as contracts see it
 abbrev pub seen : Declared → Piece
 seen (declared.Markup constant) = Markup constant.now
 seen (declared.Text text) = Text text.now
 seen (declared.Lines text) = Lines text.now
+seen (declared.Short text) = Short text.now
 seen (declared.Attribute text) = Attribute text.now
+seen (declared.Numeral text) = Numeral text.now

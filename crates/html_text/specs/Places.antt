@@ -3,7 +3,7 @@
 use Rattle.std.specs.Prelude.{ℕ, ◌+◌, ◌==◌, nat_le, Bool, not, ◌&&◌, ◌||◌, List, [], ◌∷◌, ◌++◌, codes, Option, Some, None, if◌then◌else◌}
 use Rattle.std.specs.List.{list_all}
 use Rattle.std.specs.Cmp.Lexicographic.{pointwise}
-use Rattle.html_text.specs.Pieces.{Piece, Markup, Text, Lines, Attribute}
+use Rattle.html_text.specs.Pieces.{Piece, Markup, Text, Lines, Short, Attribute, Numeral}
 
 -- between tags; in the name of a tag, after these bytes of it; in a tag, after these bytes of an attribute; behind the `=` of an
 -- attribute; between the quotation marks of a value, after these bytes of the attribute; in a style or a script, which `<` and
@@ -24,6 +24,10 @@ is xs ys = pointwise (λ x y. x == y) xs ys
 -- a text may be in the attribute after these bytes of it: an id, or a link within the page
 abbrev pub may_hold : List ℕ → Bool
 may_hold attribute = is attribute (codes "id=\"") || is attribute (codes "href=\"#")
+
+-- a numeral may be in the attribute after these bytes of it: the lines of a drawing
+abbrev pub may_draw : List ℕ → Bool
+may_draw attribute = is attribute (codes "d=\"")
 
 -- the content of a tag with this name: bytes that are no HTML in a style or a script
 abbrev pub inside : List ℕ → Context
@@ -60,7 +64,7 @@ step Content b = if b == 60 then Name [] else Content
 step (Name n) b = if b == 62 then inside n else (if is_blank b then attributes_of n else named n (small b))
 step (Tag a) b = if b == 62 then Content else (if is_blank b then Tag [] else (if b == 61 then Equals a else (if is_stray b then Lost else Tag (a ++ small b ∷ []))))
 step (Equals a) b = if b == 34 then Quoted (a ++ codes "=\"") else Lost
-step (Quoted a) b = if b == 34 then Tag [] else (if may_hold a then Quoted a else Quoted (a ++ b ∷ []))
+step (Quoted a) b = if b == 34 then Tag [] else (if may_hold a || may_draw a then Quoted a else Quoted (a ++ b ∷ []))
 step (Raw end) b = if b == 60 then Expects end else Raw end
 step (Expects []) b = Lost
 step (Expects (c ∷ [])) b = if b == c then Content else Lost
@@ -115,12 +119,24 @@ with_value (Raw end) = None
 with_value (Expects end) = None
 with_value Lost = None
 
+abbrev pub with_numeral : Context → Option Context
+with_numeral Content = None
+with_numeral (Name n) = None
+with_numeral (Tag a) = None
+with_numeral (Equals a) = None
+with_numeral (Quoted a) = if may_draw a then Some (Quoted a) else None
+with_numeral (Raw end) = None
+with_numeral (Expects end) = None
+with_numeral Lost = None
+
 -- the context after a piece, if the piece may be here
 abbrev pub past : Context → Piece → Option Context
 past p (Markup constant) = Some (after p constant)
 past p (Text text) = with_text p
 past p (Lines text) = with_text p
+past p (Short text) = with_text p
 past p (Attribute text) = with_value p
+past p (Numeral text) = with_numeral p
 
 -- the same for a list of pieces
 abbrev pub past_all : Option Context → List Piece → Option Context

@@ -5,6 +5,7 @@ mod escaping;
 pub mod laws;
 mod marks;
 mod pieces;
+mod short;
 
 pub use marks::Feeds;
 pub use pieces::{Piece, push_pieces};

@@ -2,7 +2,7 @@
 
 ghost use Rattle.std.specs.Prelude.{◌≡◌, ◌++◌, ◌%◌, drop, IfOk, OnOk};
 ghost use Rattle.html_text.specs.Escaped.{escaped};
-ghost use Rattle.html_text.specs.Marks.{is_control, control_after, directional_after, hidden_at, hex_digit, mark, shown, more_of, marked};
+ghost use Rattle.html_text.specs.Marks.{is_control, control_after, is_unseen, unseen_after, hidden_at, hex_digit, mark, shown, more_of, marked};
 
 use crate::escaping::{push_byte, push_escaped};
 use std::alloc::AllocError;
@@ -48,9 +48,16 @@ fn control_after(rest: &[u8]) -> Option<Hidden>
     })
 }
 
-// The same for 226: a character that changes the direction of the text after it.
-fn directional_after(rest: &[u8]) -> Option<Hidden>
-    ensures { result ≡ directional_after rest.now }
+// Whether 226, 128 and this byte are a character without width, a line end, or a change of direction.
+fn is_unseen(third: u8) -> bool
+    ensures { result ≡ is_unseen third }
+{
+    (138 < third && third < 144) || (167 < third && third < 175)
+}
+
+// The same for 226: a character without width, a line end, or one that changes the direction of the text after it.
+fn unseen_after(rest: &[u8]) -> Option<Hidden>
+    ensures { result ≡ unseen_after rest.now }
 {
     let Some((second, others)) = rest.split_first() else {
         return None;
@@ -58,7 +65,7 @@ fn directional_after(rest: &[u8]) -> Option<Hidden>
     let Some((third, _)) = others.split_first() else {
         return None;
     };
-    if *second == 128 && 169 < *third && *third < 175 {
+    if *second == 128 && is_unseen(*third) {
         return Some(Hidden {
             number: 8064 + u32::from(*third),
             more: 2,
@@ -85,7 +92,7 @@ fn hidden_at(feeds: Feeds, byte: u8, rest: &[u8]) -> Option<Hidden>
     }
     match byte {
         194 => control_after(rest),
-        226 => directional_after(rest),
+        226 => unseen_after(rest),
         _ => None,
     }
 }

@@ -4,6 +4,7 @@ ghost use Rattle.std.specs.Prelude.{◌≡◌, ◌++◌, map, OnOk};
 ghost use Rattle.html_text.specs.Pieces.{seen, bytes_of, html, Appends};
 
 use crate::marks::{Feeds, push_marked};
+use crate::short::push_short;
 use std::alloc::AllocError;
 
 /// A part of a page.
@@ -15,8 +16,12 @@ pub enum Piece<'a> {
     Text(&'a [u8]),
     /// A text between tags, with its line feeds.
     Lines(&'a [u8]),
-    /// A text between the quotation marks of an attribute.
+    /// A text between tags, of which at most 200 characters are shown.
+    Short(&'a [u8]),
+    /// A text in an id, or in a link within the page.
     Attribute(&'a [u8]),
+    /// A numeral in a drawing.
+    Numeral(&'a [u8]),
 }
 
 #[tactic(auto, unfolding(crate::specs::Pieces::bytes_of))]
@@ -27,7 +32,9 @@ fn push_piece(page: &mut Vec<u8>, piece: &Piece<'_>) -> Result<(), AllocError>
         Piece::Markup(constant) => page.extend_from_slice(constant),
         Piece::Text(text) => push_marked(page, Feeds::Marked, text),
         Piece::Lines(text) => push_marked(page, Feeds::Kept, text),
+        Piece::Short(text) => push_short(page, text),
         Piece::Attribute(text) => push_marked(page, Feeds::Marked, text),
+        Piece::Numeral(text) => push_marked(page, Feeds::Marked, text),
     }
 }
 

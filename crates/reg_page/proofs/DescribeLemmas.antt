@@ -13,6 +13,7 @@ use Rattle.reg_op.specs.declared.operation.OpBody.TheVariants.{Enter}
 use Rattle.reg_op.specs.Text.{printed}
 use Rattle.reg_op.proofs.OpLemmas.{id_total}
 use Rattle.reg_page.specs.declared.described.Described.{Described}
+use Rattle.reg_page.proofs.CodeLemmas.{code_total}
 use Rattle.reg_page.specs.Descriptions.{DescribesEntry, IsDescribed, described_cmp, AreDescribed, AreById, at, InOrder}
 
 -- a description of the entry that an operation of s enters describes an entry of s
@@ -42,7 +43,7 @@ alone P t p (suc k) d h = absurd (omega (arith, h))
 pub described_total : IsTotalOrder described_cmp
 described_total =
     then_total (on_total (λ (t : Described). t.authority.items) nat_list_cmp_total)
-    (then_total (on_total (λ (t : Described). t.code.items) nat_list_cmp_total) (on_total (λ (t : Described). t.id) id_total))
+    (then_total (on_total (λ (t : Described). t.code.items) code_total) (on_total (λ (t : Described). t.id) id_total))
 
 pub by_described : IsStrictWeakOrder (λ (a b : Bor Described). is_lt (described_cmp a.now b.now))
 by_described = ranks_by described_total (λ (t : Bor Described). t.now)

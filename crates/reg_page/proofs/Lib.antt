@@ -1,4 +1,7 @@
 pub mod LoopLemmas
+pub mod CodeLemmas
+pub mod NumberLemmas
+pub mod PartLemmas
 pub mod EventLemmas
 pub mod SectionLemmas
 pub mod DescribeLemmas

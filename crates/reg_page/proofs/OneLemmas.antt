@@ -1,5 +1,5 @@
 -- A content has one page.
-use Rattle.std.proofs.Common.{◌≡◌, ℕ, ◌+◌, true, false, cond, List, [], ◌∷◌, map, length, get_or, suc, Option, Some, None, Result, Ok, refl, sym, ap, ◌∙◌, subst, arith}
+use Rattle.std.proofs.Common.{◌≡◌, ℕ, ◌+◌, Bool, true, false, not, cond, if◌then◌else◌, filter, List, [], ◌∷◌, map, length, get_or, suc, Option, Some, None, Result, Ok, refl, sym, ap, ◌∙◌, subst, arith}
 use Rattle.std.proofs.lemmas.Bool.{true≢false}
 use Rattle.std.proofs.lemmas.List.Elements.{All-contains}
 use Rattle.std.proofs.lemmas.List.Sorted.{Contains-permutation, IsPermutation-sym}
@@ -50,9 +50,12 @@ use Rattle.reg_report.proofs.OneLemmas as contested
 use Rattle.reg_report.proofs.GapLists as missing
 use Rattle.reg_keys.proofs.OrderLemmas.{same_elements}
 use Rattle.reg_page.specs.Kinds.{areas_in}
+use Rattle.reg_page.specs.Boxes.{boxes_in}
+use Rattle.reg_page.specs.Codes.{code_cmp}
+use Rattle.reg_page.proofs.CodeLemmas.{code_total}
 use Rattle.reg_page.specs.declared.described.Described.{Described}
 use Rattle.reg_page.specs.Descriptions.{IsDescribed, described_cmp, entry_ids, AreDescribed}
-use Rattle.reg_page.specs.Page.{described_at, link_as, link_to, side_of, pairs_of, acts_in, entry_of, gap_of, standing_of, is_valid, is_superseded, is_retired, figures_of, shown_of, IsPage}
+use Rattle.reg_page.specs.Page.{described_at, link_as, link_to, side_of, pairs_of, acts_in, entry_of, gap_of, standing_of, is_valid, is_superseded, is_retired, is_among, figures_of, shown_of, IsPage}
 use Rattle.reg_page.proofs.IdLemmas.{ids_ascend, distinct, still_distinct, differs}
 use Rattle.reg_page.proofs.FindLemmas.{ids_of}
 use Rattle.reg_page.proofs.SameLemmas.{Same, entry_same, conflict_same}
@@ -89,6 +92,7 @@ same_of s one t u h k e =
       authority = a.authority ∙ key.0 ∙ sym b.authority;
       code = a.code ∙ key.1 ∙ sym b.code;
       name = one_system.name ∙ ap (λ (c : Crs). (name_of c.parts).bytes) crs ∙ sym other.name;
+      boxes = one_system.boxes ∙ ap (λ (c : Crs). boxes_in (usages_of c.parts)) crs ∙ sym other.boxes;
       areas = one_system.areas ∙ ap (λ (c : Crs). areas_in (usages_of c.parts)) crs ∙ sym other.areas;
       kind = one_system.kind ∙ ap (λ (c : Crs). kind_of c.parts) crs ∙ sym other.kind;
       text = one_system.text ∙ ap pretty crs ∙ sym other.text;
@@ -102,13 +106,13 @@ abbrev Rank : Type 0
 Rank = List ℕ × (List ℕ × Id)
 
 abbrev rank_cmp : Rank → Rank → Ordering
-rank_cmp a b = ordering_then (slice_cmp nat_cmp a.0 b.0) (ordering_then (slice_cmp nat_cmp a.1.0 b.1.0) (id_cmp a.1.1 b.1.1))
+rank_cmp a b = ordering_then (slice_cmp nat_cmp a.0 b.0) (ordering_then (code_cmp a.1.0 b.1.0) (id_cmp a.1.1 b.1.1))
 
 abbrev rank : Described → Rank
 rank t = (t.authority.items, (t.code.items, t.id))
 
 rank_total : IsTotalOrder rank_cmp
-rank_total = then_total (on_total (λ (a : Rank). a.0) nat_list_cmp_total) (then_total (on_total (λ (a : Rank). a.1.0) nat_list_cmp_total) (on_total (λ (a : Rank). a.1.1) id_total))
+rank_total = then_total (on_total (λ (a : Rank). a.0) nat_list_cmp_total) (then_total (on_total (λ (a : Rank). a.1.0) code_total) (on_total (λ (a : Rank). a.1.1) id_total))
 
 last_equal : (a b c : Ordering) → is_eq (ordering_then a (ordering_then b c)) ≡ true → is_eq c ≡ true
 last_equal Equal Equal c h = h
@@ -121,7 +125,7 @@ before : (a b : Rank) → is_lt (rank_cmp b a) ≡ false → is_same a.1.1 b.1.1
 before a b h other =
     elim (is_lt (rank_cmp a b)) as (λ l. is_lt (rank_cmp a b) ≡ l → rank_cmp a b ≡ Less) [
       | true ↦ λ e. less (rank_cmp a b) e
-      | false ↦ λ e. absurd (true≢false (sym (last_equal (slice_cmp nat_cmp a.0 b.0) (slice_cmp nat_cmp a.1.0 b.1.0) (id_cmp a.1.1 b.1.1) (tied_of rank_total a b e h)) ∙ other))
+      | false ↦ λ e. absurd (true≢false (sym (last_equal (slice_cmp nat_cmp a.0 b.0) (code_cmp a.1.0 b.1.0) (id_cmp a.1.1 b.1.1) (tied_of rank_total a b e h)) ∙ other))
     ] refl
 
 ranks_ascend : (ts : List Described) → IsSorted described_cmp ts → IsDistinct is_same (ids_of ts) → Ascends rank_cmp (map rank ts)
@@ -219,11 +223,29 @@ same_count f (t ∷ ts) [] h = absurd h
 same_count f (t ∷ ts) (u ∷ us) h =
     sum_by-cons (λ (v : Described). f v.id) t ts ∙ (λ j. f (h.0.id j) + same_count f ts us h.1 j) ∙ sym (sum_by-cons (λ (v : Described). f v.id) u us)
 
+-- those that are retired, or the others
+all_among : (ts us : List Described) → AllSame ts us → (gone : Bool) (s : Ops) → AllSame (filter (is_among gone s) ts) (filter (is_among gone s) us)
+all_among [] [] h gone s = tt
+all_among [] (u ∷ us) h gone s = absurd h
+all_among (t ∷ ts) [] h gone s = absurd h
+all_among (t ∷ ts) (u ∷ us) h gone s =
+    let rest = all_among ts us h.1 gone s in
+    let is : is_among gone s t ≡ is_among gone s u = (λ j. if gone then is_retired (standing_of (status s (h.0.id j))) else not (is_retired (standing_of (status s (h.0.id j))))) in
+    subst (λ b. AllSame (filter (is_among gone s) (t ∷ ts)) (cond b (u ∷ filter (is_among gone s) us) (filter (is_among gone s) us))) is
+    (elim (is_among gone s t) as (λ b. AllSame (cond b (t ∷ filter (is_among gone s) ts) (filter (is_among gone s) ts)) (cond b (u ∷ filter (is_among gone s) us) (filter (is_among gone s) us))) [
+      | true ↦ (h.0, rest)
+      | false ↦ rest
+    ])
+
 same_rows : (ts us : List Described) → AllSame ts us → (f g : Described → shown.Entry) → ((t u : Described) → Same t u → f t ≡ g u) → map f ts ≡ map g us
 same_rows [] [] h f g each = refl
 same_rows [] (u ∷ us) h f g each = absurd h
 same_rows (t ∷ ts) [] h f g each = absurd h
 same_rows (t ∷ ts) (u ∷ us) h f g each = λ j. each t u h.0 j ∷ same_rows ts us h.1 f g each j
+
+parts_same : (ts us : List Described) → AllSame ts us → (gone : Bool) (s : Ops) (f g : Described → shown.Entry) → ((t u : Described) → Same t u → f t ≡ g u)
+    → map f (filter (is_among gone s) ts) ≡ map g (filter (is_among gone s) us)
+parts_same ts us h gone s f g each = same_rows (filter (is_among gone s) ts) (filter (is_among gone s) us) (all_among ts us h gone s) f g each
 
 -- both lists give the same links, pairs and figures, and so show the same
 module _ (x : Content) (title : List ℕ) (ts us : List Described) (same : AllSame ts us) where
@@ -252,7 +274,8 @@ module _ (x : Content) (title : List ℕ) (ts us : List Described) (same : AllSa
     conflicts = map (λ (c : Contested). conflict_same ts us pair c j) cs;
     awaited = map printed is;
     gaps = map gap_of gs;
-    entries = same_rows ts us same (entry_of x.ops ts os) (entry_of x.ops us os) (entry_same ts us link x.ops os os (λ e. refl)) j;
+    entries = parts_same ts us same false x.ops (entry_of x.ops ts os) (entry_of x.ops us os) (entry_same ts us link x.ops os os (λ e. refl)) j;
+    retired = parts_same ts us same true x.ops (entry_of x.ops ts os) (entry_of x.ops us os) (entry_same ts us link x.ops os os (λ e. refl)) j;
   }
 
 pub one_page : (title : List ℕ) (x : Content) (a b : List ℕ) → IsContent x → IsPage title x a → IsPage title x b → a ≡ b

@@ -1,5 +1,5 @@
 -- Descriptions that show the same give the same rows, and a permutation of descriptions gives the same links and pairs.
-use Rattle.std.proofs.Common.{◌≡◌, ℕ, List, [], ◌∷◌, map, filter, length, cond, if◌then◌else◌, refl, sym, ap, ◌∙◌}
+use Rattle.std.proofs.Common.{◌≡◌, ℕ, Bool, List, [], ◌∷◌, ◌++◌, map, filter, length, cond, if◌then◌else◌, refl, sym, ap, ◌∙◌}
 use Rattle.std.specs.List.{flat_map}
 use Rattle.std.specs.List.Sorted.{IsPermutation}
 use Rattle.std.specs.Global.{Vec}
@@ -18,7 +18,8 @@ use Rattle.reg_report.specs.Conflicts.{Contested}
 use Rattle.reg_page.specs.declared.described.Described.{Described}
 use Rattle.reg_page.specs.Descriptions.{AscendById}
 use Rattle.reg_page.specs.Kinds.{kind_word}
-use Rattle.reg_page.specs.Page.{standing_of, described_at, link_as, link_to, is_on, links_by, links_in, events_by, events_in, entry_of, pairs_of, pairs_among, conflict_of, is_valid, is_superseded, is_retired, figures_of}
+use Rattle.reg_page.specs.Boxes.{box_seen}
+use Rattle.reg_page.specs.Page.{standing_of, described_at, link_as, link_to, is_on, links_by, links_in, events_by, events_in, entry_of, pairs_of, pairs_from, pairs_among, conflict_of, is_valid, is_superseded, is_retired, is_among, rows_of, figures_of}
 use Rattle.reg_page.proofs.ActLemmas.{same_links, same_events}
 use Rattle.reg_page.proofs.FindLemmas.{same_at}
 
@@ -29,13 +30,14 @@ pub record Same (t u : Described) : Type 0 where
   pub authority : t.authority.items ≡ u.authority.items
   pub code : t.code.items ≡ u.code.items
   pub name : t.system.name.items ≡ u.system.name.items
+  pub boxes : map box_seen t.system.boxes.items ≡ map box_seen u.system.boxes.items
   pub areas : map (λ (a : Vec ℕ). a.items) t.system.areas.items ≡ map (λ (a : Vec ℕ). a.items) u.system.areas.items
   pub kind : t.system.kind ≡ u.system.kind
   pub text : t.system.text.items ≡ u.system.text.items
   pub note : t.note.items ≡ u.note.items
 
 pub itself : (t : Described) → Same t t
-itself t = record { id = refl; printed = refl; authority = refl; code = refl; name = refl; areas = refl; kind = refl; text = refl; note = refl }
+itself t = record { id = refl; printed = refl; authority = refl; code = refl; name = refl; boxes = refl; areas = refl; kind = refl; text = refl; note = refl }
 
 -- if both lists have the same links, descriptions that show the same give the same row
 module _ (ts us : List Described) (link : (i : Id) → link_to ts i ≡ link_to us i) where
@@ -60,6 +62,7 @@ module _ (ts us : List Described) (link : (i : Id) → link_to ts i ≡ link_to 
         authority = same.authority j;
         code = same.code j;
         name = same.name j;
+        boxes = same.boxes j;
         areas = same.areas j;
         kind = kind_word (same.kind j);
         standing = standing_of (status s (same.id j));
@@ -71,9 +74,13 @@ module _ (ts us : List Described) (link : (i : Id) → link_to ts i ≡ link_to 
 
 -- if both lists have the same pairs, they have the same conflicts
 module _ (ts us : List Described) (pair : (i k : Id) → pairs_of (described_at ts i) (described_at ts k) ≡ pairs_of (described_at us i) (described_at us k)) where
+  from_same : (i : Id) (is : List Id) → pairs_from ts i is ≡ pairs_from us i is
+  from_same i [] = refl
+  from_same i (j ∷ js) = λ k. pair i j k ++ from_same j js k
+
   among_same : (is : List Id) → pairs_among ts is ≡ pairs_among us is
   among_same [] = refl
-  among_same (i ∷ is) = λ j. flat_map (λ k. pair i k j) is
+  among_same (i ∷ is) = from_same i is
 
   pub conflict_same : (c : Contested) → conflict_of ts c ≡ conflict_of us c
   conflict_same c = λ j. record { authority = c.key.authority; code = c.key.code; pairs = among_same c.entries j }
@@ -90,8 +97,8 @@ module _ (ts us : List Described) (up : AscendById ts) (p : IsPermutation ts us)
   pub conflicts_moved : (cs : List Contested) → map (conflict_of ts) cs ≡ map (conflict_of us) cs
   conflicts_moved cs = λ j. map (λ (c : Contested). conflict_same ts us pair_moved c j) cs
 
-  pub entries_moved : (s : Ops) (os : List Op) (rows : List Described) → map (entry_of s ts os) rows ≡ map (entry_of s us os) rows
-  entries_moved s os rows = λ j. map (λ (t : Described). entry_same ts us link_moved s os os (λ e. refl) t t (itself t) j) rows
+  pub rows_moved : (gone : Bool) (s : Ops) (os : List Op) (rows : List Described) → rows_of gone s ts os rows ≡ rows_of gone s us os rows
+  rows_moved gone s os rows = λ j. map (λ (t : Described). entry_same ts us link_moved s os os (λ e. refl) t t (itself t) j) (filter (is_among gone s) rows)
 
   pub figures_moved : (x : Content) (cs : List Contested) (is : List Id) (gs : List Gap) → figures_of x ts cs is gs ≡ figures_of x us cs is gs
   figures_moved x cs is gs = λ j. record {

@@ -1,9 +1,9 @@
 -- The page is its three parts, appended in turn.
-use Rattle.std.proofs.Common.{◌≡◌, ℕ, List, [], ◌∷◌, ◌++◌, map, filter, append_assoc, refl, sym, ap, ◌∙◌}
+use Rattle.std.proofs.Common.{◌≡◌, ℕ, true, false, List, [], ◌∷◌, ◌++◌, map, filter, append_assoc, refl, sym, ap, ◌∙◌}
 use Rattle.std.specs.List.{flat_map}
 use Rattle.html_text.specs.Pieces.{Piece, Markup, html, Appends}
 use Rattle.html_text.proofs.JoinLemmas.{next}
-use Rattle.html_page.specs.declared.markup.TheConstants.{AFTER_FIGURES, CONFLICTS_START, CONFLICTS_END, AWAITED_START, AWAITED_END, GAPS_START, GAPS_END, ENTRIES_START}
+use Rattle.html_page.specs.declared.markup.TheConstants.{AFTER_FIGURES, CONFLICTS_START, CONFLICTS_END, AWAITED_START, AWAITED_END, GAPS_START, GAPS_END, ENTRIES_START, ENTRIES_END, RETIRED_START, RETIRED_END}
 use Rattle.html_page.specs.Templates.{head, figures, section, conflict, awaited as waiting, gap, entry, end, page}
 use Rattle.reg_page.proofs.LoopLemmas.{as_others}
 use Rattle.reg_op.specs.Set as set
@@ -16,7 +16,7 @@ use Rattle.reg_report.specs.Gaps.{AreGaps}
 use Rattle.reg_report.specs.Conflicts.{Contested, AreConflicts}
 use Rattle.reg_page.specs.declared.described.Described.{Described}
 use Rattle.reg_page.specs.Descriptions.{AreDescribed}
-use Rattle.reg_page.specs.Page.{is_on, acts_in, conflict_of, gap_of, entry_of, figures_of, shown_of, IsPage}
+use Rattle.reg_page.specs.Page.{is_on, acts_in, conflict_of, gap_of, is_among, rows_of, figures_of, shown_of, IsPage}
 use Rattle.reg_page.specs.Parts.{top, open_ends, table}
 use Rattle.reg_op.specs.Text.{printed}
 use Rattle.reg_page.proofs.SameLemmas.{itself, entry_same}
@@ -24,21 +24,25 @@ use Rattle.reg_page.proofs.SameLemmas.{itself, entry_same}
 regrouped : (all s t u : List Piece) → all ++ (s ++ t ++ u) ≡ all ++ s ++ t ++ u
 regrouped all s t u = sym (append_assoc all (s ++ t) u) ∙ ap (λ ps. ps ++ u) (sym (append_assoc all s t))
 
--- nine lists of pieces are appended as three parts of three
-joined : (p q r s t u v w x : List Piece) {a b c d : List ℕ} → Appends a b (p ++ q ++ r) → Appends b c (s ++ t ++ u) → Appends c d (v ++ w ++ x)
-    → Appends a d (p ++ q ++ r ++ s ++ t ++ u ++ v ++ w ++ x)
-joined p q r s t u v w x one two three =
-    as_others _ (p ++ q ++ r ++ s ++ t ++ u ++ v ++ w ++ x) (regrouped (p ++ q ++ r ++ s ++ t ++ u) v w x)
+five : (all v w x y z : List Piece) → all ++ (v ++ w ++ x ++ y ++ z) ≡ all ++ v ++ w ++ x ++ y ++ z
+five all v w x y z = sym (append_assoc all (v ++ w ++ x ++ y) z) ∙ ap (λ ps. ps ++ z) (sym (append_assoc all (v ++ w ++ x) y) ∙ ap (λ ps. ps ++ y) (regrouped all v w x))
+
+-- eleven lists of pieces are appended as parts of three, three and five
+joined : (p q r s t u v w x y z : List Piece) {a b c d : List ℕ} → Appends a b (p ++ q ++ r) → Appends b c (s ++ t ++ u) → Appends c d (v ++ w ++ x ++ y ++ z)
+    → Appends a d (p ++ q ++ r ++ s ++ t ++ u ++ v ++ w ++ x ++ y ++ z)
+joined p q r s t u v w x y z one two three =
+    as_others _ (p ++ q ++ r ++ s ++ t ++ u ++ v ++ w ++ x ++ y ++ z) (five (p ++ q ++ r ++ s ++ t ++ u) v w x y z)
     (next (as_others _ (p ++ q ++ r ++ s ++ t ++ u) (regrouped (p ++ q ++ r) s t u) (next one two)) three)
 
 -- appending the three parts of a page appends the page
 pub in_parts : (x : Content) (title : List ℕ) (described : List Described) (acts : List Op) (cs : List Contested) (is : List Id) (gaps : List Gap) {a b c d : List ℕ}
-    → Appends a b (top title (figures_of x described cs is gaps)) → Appends b c (open_ends (map (conflict_of described) cs) (map printed is) (map gap_of gaps)) → Appends c d (table (map (entry_of x.ops described acts) described))
+    → Appends a b (top title (figures_of x described cs is gaps)) → Appends b c (open_ends (map (conflict_of described) cs) (map printed is) (map gap_of gaps)) → Appends c d (table (rows_of false x.ops described acts described) (rows_of true x.ops described acts described))
     → Appends a d (page (shown_of x title described acts cs is gaps))
 in_parts x title described acts cs is gaps one two three =
     joined (head title) (figures (figures_of x described cs is gaps)) (Markup AFTER_FIGURES.now ∷ [])
     (section CONFLICTS_START.now conflict CONFLICTS_END.now (map (conflict_of described) cs)) (section AWAITED_START.now waiting AWAITED_END.now (map printed is)) (section GAPS_START.now gap GAPS_END.now (map gap_of gaps))
-    (Markup ENTRIES_START.now ∷ []) (flat_map entry (map (entry_of x.ops described acts) described)) end one two three
+    (Markup ENTRIES_START.now ∷ []) (flat_map entry (rows_of false x.ops described acts described)) (Markup ENTRIES_END.now ∷ [])
+    (section RETIRED_START.now entry RETIRED_END.now (rows_of true x.ops described acts described)) end one two three
 
 -- appending the page of what the content shows to an empty text gives the page of the content
 pub is_page : (title : List ℕ) (x : Content) (rows : List Described) (cs : List Contested) (gaps : List Gap)
@@ -54,7 +58,8 @@ is_page title x rows cs gaps acts cs' is gaps' start last t c g on ec ei eg es h
       conflicts = map (conflict_of rows) cs;
       awaited = map printed wanted;
       gaps = map gap_of gaps;
-      entries = map (λ (r : Described). entry_same rows rows (λ i. refl) x.ops acts (acts_in x.ops) on r r (itself r) j) rows;
+      entries = map (λ (r : Described). entry_same rows rows (λ i. refl) x.ops acts (acts_in x.ops) on r r (itself r) j) (filter (is_among false x.ops) rows);
+      retired = map (λ (r : Described). entry_same rows rows (λ i. refl) x.ops acts (acts_in x.ops) on r r (itself r) j) (filter (is_among true x.ops) rows);
     } in
     record {
       shows = shown_of x title rows (acts_in x.ops) cs wanted gaps;

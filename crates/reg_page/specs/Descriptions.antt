@@ -23,10 +23,13 @@ use Rattle.reg_page.specs.declared.described.Described.{Described}
 use Rattle.crs_search.specs.Kinds.{kind_of}
 use Rattle.crs_search.specs.Usages.{usages_of}
 use Rattle.reg_page.specs.Kinds.{areas_in}
+use Rattle.reg_page.specs.Boxes.{box_seen, boxes_in}
+use Rattle.reg_page.specs.Codes.{code_cmp}
 
--- what the page shows of a reference system: its name, areas, kind and indented text
+-- what the page shows of a reference system: its name, boxes, areas, kind and indented text
 pub record IsSystemOf (crs : Crs) (d : System) : Type 0 where
   pub name : d.name.items ≡ (name_of crs.parts).bytes
+  pub boxes : map box_seen d.boxes.items ≡ boxes_in (usages_of crs.parts)
   pub areas : map (λ (a : Vec ℕ). a.items) d.areas.items ≡ areas_in (usages_of crs.parts)
   pub kind : d.kind ≡ kind_of crs.parts
   pub text : d.text.items ≡ pretty crs
@@ -55,11 +58,11 @@ pub record IsDescribed (s : Ops) (t : Described) : Type 0 where
   pub entered : set.contains s (entering t.id definition note) ≡ true
   pub described : DescribesEntry t.id definition note t
 
--- by the bytes of the authority, then by those of the code, and then by the id
+-- by the bytes of the authority, then by the code, and then by the id
 abbrev pub described_cmp : Described → Described → Ordering
 described_cmp a b =
     ordering_then (slice_cmp nat_cmp a.authority.items b.authority.items)
-    (ordering_then (slice_cmp nat_cmp a.code.items b.code.items) (id_cmp a.id b.id))
+    (ordering_then (code_cmp a.code.items b.code.items) (id_cmp a.id b.id))
 
 abbrev pub entry_ids : Ops → List Id
 entry_ids s = map (λ (o : Op). o.id) (filter (λ (o : Op). is_enter o.body) (set.items s))

@@ -1,4 +1,6 @@
 pub mod Kinds
+pub mod Boxes
+pub mod Codes
 pub mod Descriptions
 pub mod Page
 pub mod Parts

@@ -1,5 +1,5 @@
 -- The page of a register.
-use Rattle.std.specs.Prelude.{◌≡◌, ℕ, Bool, true, false, not, List, [], ◌∷◌, filter, find, map, length, Contains, Option, Some, None, if◌then◌else◌}
+use Rattle.std.specs.Prelude.{◌≡◌, ◌⊎◌, ℕ, Bool, true, false, not, List, [], ◌∷◌, ◌++◌, filter, find, map, length, Contains, Option, Some, None, if◌then◌else◌}
 use Rattle.std.specs.Global.{Vec}
 use Rattle.std.specs.List.{flat_map, count_by}
 use Rattle.uuid.specs.Text.{hyphenated_text, lower}
@@ -27,6 +27,7 @@ use Rattle.reg_report.specs.Conflicts.{Contested, AreConflicts}
 use Rattle.reg_page.specs.declared.described.Described.{Described}
 use Rattle.reg_page.specs.Descriptions.{AreDescribed}
 use Rattle.reg_page.specs.Kinds.{kind_word}
+use Rattle.reg_page.specs.Boxes.{box_seen}
 
 -- ---- entries
 
@@ -88,6 +89,7 @@ entry_of s described os t = record {
   authority = t.authority.items;
   code = t.code.items;
   name = t.system.name.items;
+  boxes = map box_seen t.system.boxes.items;
   areas = map (λ (a : Vec ℕ). a.items) t.system.areas.items;
   kind = kind_word t.system.kind;
   standing = standing_of (status s t.id);
@@ -108,10 +110,15 @@ pairs_of None other = []
 pairs_of (Some one) None = []
 pairs_of (Some one) (Some other) = record { first = side_of one other; second = side_of other one } ∷ []
 
--- the first entry of a key beside each of the others
+-- an entry beside the first of these, and each of these beside the next one
+abbrev pub pairs_from : List Described → Id → List Id → List shown.Pair
+pairs_from described i [] = []
+pairs_from described i (j ∷ js) = pairs_of (described_at described i) (described_at described j) ++ pairs_from described j js
+
+-- each entry of a key beside the next one, so that a text stands in two pairs at most
 abbrev pub pairs_among : List Described → List Id → List shown.Pair
 pairs_among described [] = []
-pairs_among described (i ∷ is) = flat_map (λ j. pairs_of (described_at described i) (described_at described j)) is
+pairs_among described (i ∷ is) = pairs_from described i is
 
 abbrev pub conflict_of : List Described → Contested → shown.Conflict
 conflict_of described c = record { authority = c.key.authority; code = c.key.code; pairs = pairs_among described c.entries }
@@ -148,6 +155,14 @@ figures_of x described cs is gs = record {
   operations = length (set.items x.ops);
 }
 
+-- whether an entry is one of the retired ones, or one of the others
+abbrev pub is_among : Bool → Ops → Described → Bool
+is_among gone s t = if gone then is_retired (standing_of (status s t.id)) else not (is_retired (standing_of (status s t.id)))
+
+-- the rows of the entries that are not retired, or of those that are
+abbrev pub rows_of : Bool → Ops → List Described → List Op → List Described → List shown.Entry
+rows_of gone s described os ts = map (entry_of s described os) (filter (is_among gone s) ts)
+
 -- what is shown of a content, from the descriptions of its entries, its operations, conflicts, awaited ids and gaps
 abbrev pub shown_of : Content → List ℕ → List Described → List Op → List Contested → List Id → List Gap → shown.Shown
 shown_of x title described os cs is gs = record {
@@ -156,7 +171,8 @@ shown_of x title described os cs is gs = record {
   conflicts = map (conflict_of described) cs;
   awaited = map printed is;
   gaps = map gap_of gs;
-  entries = map (entry_of x.ops described os) described;
+  entries = rows_of false x.ops described os described;
+  retired = rows_of true x.ops described os described;
 }
 
 -- what the page of a content with this title shows
@@ -175,9 +191,9 @@ pub record IsPage (title : List ℕ) (x : Content) (bytes : List ℕ) : Type 0 w
   pub are : IsShown title x shows
   pub is : bytes ≡ html (page shows)
 
--- the side is an entry of the page: its words, without marks, are the entry's text
-pub record IsSide (es : List shown.Entry) (side : shown.Side) : Type 0 where
+-- the side is an entry of the page, retired or not: its words, without marks, are the entry's text
+pub record IsSide (s : shown.Shown) (side : shown.Side) : Type 0 where
   pub entry : shown.Entry
-  pub there : Contains es entry
+  pub there : Contains s.entries entry ⊎ Contains s.retired entry
   pub id : side.id ≡ entry.id
   pub words : flat_map (λ (w : shown.Word). w.text) side.words ≡ entry.text

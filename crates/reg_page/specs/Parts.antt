@@ -3,7 +3,7 @@ use Rattle.std.specs.Prelude.{ℕ, List, [], ◌∷◌, ◌++◌}
 use Rattle.std.specs.List.{flat_map}
 use Rattle.html_text.specs.Pieces.{Piece, Markup}
 use Rattle.html_page.specs.declared.head.Figures.{Figures}
-use Rattle.html_page.specs.declared.markup.TheConstants.{AFTER_FIGURES, CONFLICTS_START, CONFLICTS_END, AWAITED_START, AWAITED_END, GAPS_START, GAPS_END, ENTRIES_START}
+use Rattle.html_page.specs.declared.markup.TheConstants.{AFTER_FIGURES, CONFLICTS_START, CONFLICTS_END, AWAITED_START, AWAITED_END, GAPS_START, GAPS_END, ENTRIES_START, ENTRIES_END, RETIRED_START, RETIRED_END}
 use Rattle.html_page.specs.Shown.{Conflict, Gap, Entry}
 use Rattle.html_page.specs.Templates.{head, figures, section, conflict, awaited, gap, entry, end}
 
@@ -17,6 +17,6 @@ open_ends cs is gs =
     section CONFLICTS_START.now conflict CONFLICTS_END.now cs ++ section AWAITED_START.now awaited AWAITED_END.now is
     ++ section GAPS_START.now gap GAPS_END.now gs
 
--- the rows of the entries
-abbrev pub table : List Entry → List Piece
-table es = (Markup ENTRIES_START.now ∷ []) ++ flat_map entry es ++ end
+-- the rows of the entries that are not retired, and of those that are
+abbrev pub table : List Entry → List Entry → List Piece
+table es rs = (Markup ENTRIES_START.now ∷ []) ++ flat_map entry es ++ (Markup ENTRIES_END.now ∷ []) ++ section RETIRED_START.now entry RETIRED_END.now rs ++ end

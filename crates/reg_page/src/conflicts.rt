@@ -8,7 +8,7 @@ ghost use Rattle.html_page.specs.declared.markup.TheConstants.{CONFLICTS_START a
 ghost use Rattle.reg_report.specs.declared.conflict.Conflict.{Conflict as OneConflict};
 ghost use Rattle.reg_report.specs.Contenders.{conflict_seen};
 ghost use Rattle.reg_page.specs.Descriptions.{AscendById};
-ghost use Rattle.reg_page.specs.Page.{described_at, side_of, pairs_of, pairs_among, conflict_of};
+ghost use Rattle.reg_page.specs.Page.{described_at, side_of, pairs_of, pairs_from, pairs_among, conflict_of};
 
 use crate::described::Described;
 use crate::links::described_at;
@@ -68,7 +68,7 @@ fn push_pair(
     Ok(())
 }
 
-// Appends the first entry beside each of the others.
+// Appends each entry beside the next one.
 fn push_pairs(
     alloc: Global,
     page: &mut Vec<u8>,
@@ -93,11 +93,13 @@ fn push_others(
     others: &[OpId],
 ) -> Result<(), AllocError>
     requires { AscendById described.now }
-    ensures { OnOk result (Appends page.old.items page.new.items (flat_map pair (flat_map (λ j. pairs_of (described_at described.now first) (described_at described.now j)) others.now))) }
+    ensures { OnOk result (Appends page.old.items page.new.items (flat_map pair (pairs_from described.now first others.now))) }
 {
+    let mut last = first;
     let mut rest = others;
     while let Some((second, later)) = rest.split_first() {
-        push_pair(alloc, page, described, first, *second)?;
+        push_pair(alloc, page, described, last, *second)?;
+        last = *second;
         rest = later;
     }
     Ok(())

@@ -6,7 +6,9 @@ ghost use Rattle.reg_op.specs.Operations.{Op as Operation};
 ghost use Rattle.reg_op.specs.Status.{is_enter};
 ghost use Rattle.reg_page.specs.Descriptions.{IsSystemOf, IsSystemIn, DescribesEntry, IsDescribed, described_cmp, AreById, at, InOrder};
 
+use crate::boxes::{Edges, boxes_of};
 use crate::kind::{areas_of, kind_of};
+use crate::order::compare_codes;
 use crs_search::Kind;
 use crs_value::Crs;
 use reg_op::{Op, OpBody, OpId};
@@ -20,6 +22,7 @@ use wkt_crs::{Definition, write_pretty};
 #[derive(Drop)]
 pub struct System {
     pub name: Vec<u8>,
+    pub boxes: Vec<Edges>,
     pub areas: Vec<Vec<u8>>,
     pub kind: Kind,
     /// The indented text.
@@ -42,10 +45,12 @@ fn system_of(alloc: Global, crs: &Crs) -> Result<System, AllocError>
     ensures { IfOk result (IsSystemOf crs.now) }
 {
     let name = Vec::from_slice(alloc, crs.name().as_bytes())?;
+    let boxes = boxes_of(alloc, crs.parts())?;
     let areas = areas_of(alloc, crs.parts())?;
     let text = write_pretty(alloc, crs)?;
     Ok(System {
         name,
+        boxes,
         areas,
         kind: kind_of(crs.parts()),
         text,
@@ -111,12 +116,9 @@ fn compare(left: &Described, right: &Described) -> Ordering
     left.authority
         .as_slice()
         .cmp(right.authority.as_slice())
-        .then(
-            left.code
-                .as_slice()
-                .cmp(right.code.as_slice())
-                .then(left.id.cmp(&right.id)),
-        )
+        .then(compare_codes(left.code.as_slice(), right.code.as_slice()).then(
+            left.id.cmp(&right.id),
+        ))
 }
 
 /// What the page shows of each entry, by id.

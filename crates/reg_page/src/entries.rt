@@ -1,26 +1,27 @@
 //! The rows of entries.
 
-ghost use Rattle.std.specs.Prelude.{◌≡◌, ℕ, List, map, OnOk};
+ghost use Rattle.std.specs.Prelude.{◌≡◌, ℕ, map, OnOk};
 ghost use Rattle.std.specs.List.{flat_map};
 ghost use Rattle.std.specs.List.Sorted.{IsSortedByKey};
 ghost use Rattle.std.specs.Global.{Vec as Owned};
 ghost use Rattle.html_text.specs.Pieces.{Appends};
 ghost use Rattle.html_page.specs.Shown.{SupersededBy, RetiredBy};
-ghost use Rattle.html_page.specs.Templates.{operation, event, area, by, entry};
+ghost use Rattle.html_page.specs.Templates.{operation, event, map_of, area, by, entry};
 ghost use Rattle.reg_op.specs.Text.{printed};
 ghost use Rattle.reg_op.specs.Status.{status};
 ghost use Rattle.reg_op.specs.Ids.{id_cmp};
-ghost use Rattle.reg_page.specs.declared.described.Described.{Described as OneDescribed};
-ghost use Rattle.reg_page.specs.Descriptions.{AscendById, at, InOrder};
+ghost use Rattle.reg_page.specs.Boxes.{box_seen};
+ghost use Rattle.reg_page.specs.Descriptions.{AscendById, at};
 ghost use Rattle.reg_page.specs.Page.{standing_of, link_to, subject, links_in, events_in, entry_of};
 
 use crate::acts::acts_on;
-use crate::described::{Described, by_key};
+use crate::boxes::Edges;
+use crate::described::Described;
 use crate::kind::kind_word;
 use crate::links::push_link_to;
 use html_page::markup::{AFTER_BY, AFTER_ENTRY, AFTER_HISTORY, BY, RETIRED_BY, SUPERSEDED_BY};
 use html_page::{
-    Standing, push_area, push_entry_start, push_entry_text, push_mark, push_operation_id,
+    Standing, push_area, push_entry_start, push_entry_text, push_map, push_mark, push_operation_id,
     push_operation_note, push_standing,
 };
 use reg_op::{Op, OpBody, OpId, Status};
@@ -180,6 +181,25 @@ fn push_bys(
     Ok(())
 }
 
+// Appends a map of each box.
+fn push_maps(page: &mut Vec<u8>, boxes: &[Edges]) -> Result<(), AllocError>
+    ensures { OnOk result (Appends page.old.items page.new.items (flat_map map_of (map box_seen boxes.now))) }
+{
+    let mut rest = boxes;
+    while let Some((one, others)) = rest.split_first() {
+        push_map(
+            page,
+            &one.south,
+            &one.west,
+            &one.north,
+            &one.east,
+            one.crosses,
+        )?;
+        rest = others;
+    }
+    Ok(())
+}
+
 fn push_areas(page: &mut Vec<u8>, areas: &[Vec<u8>]) -> Result<(), AllocError>
     ensures { OnOk result (Appends page.old.items page.new.items (flat_map area (map (λ (a : Owned ℕ). a.items) areas.now))) }
 {
@@ -207,6 +227,7 @@ fn push_entry(
     let system = &one.system;
     let mine = acts_on(acts, one.id);
     push_entry_start(page, &one.printed, &one.authority, &one.code, &system.name)?;
+    push_maps(page, &system.boxes)?;
     push_entry_text(page, &system.text, &one.printed, &one.note)?;
     push_events(alloc, page, described, one.id, mine)?;
     push_mark(page, AFTER_HISTORY)?;
@@ -217,8 +238,8 @@ fn push_entry(
     Ok(())
 }
 
-// Appends the rows of these entries.
-fn push_rows(
+/// Appends the rows of these entries.
+pub fn push_rows(
     alloc: Global,
     page: &mut Vec<u8>,
     register: &Register,
@@ -233,22 +254,5 @@ fn push_rows(
     for i in 0..rows.len() {
         push_entry(alloc, page, register, described, acts, rows[i])?;
     }
-    Ok(())
-}
-
-/// Appends a row for each entry, by key and then by id.
-pub fn push_entries(
-    alloc: Global,
-    page: &mut Vec<u8>,
-    register: &Register,
-    described: &[Described],
-    acts: &[Op],
-) -> Result<(), AllocError>
-    requires ascend { AscendById described.now }
-    requires sorted { IsSortedByKey subject id_cmp acts.now }
-    ensures { OnOk result ((rows : List OneDescribed) × InOrder described.now rows × Appends page.old.items page.new.items (flat_map entry (map (entry_of register.now.ops described.now acts.now) rows))) }
-{
-    let rows = by_key(alloc, described)?;
-    push_rows(alloc, page, register, described, acts, &rows)?;
     Ok(())
 }

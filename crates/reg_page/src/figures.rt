@@ -23,7 +23,8 @@ fn is_superseded(register: &Register, one: &Described) -> bool
     standing_of(register, one.id) == Standing::Superseded
 }
 
-fn is_retired(register: &Register, one: &Described) -> bool
+/// Whether an entry is retired.
+pub fn is_retired(register: &Register, one: &Described) -> bool
     ensures { result ≡ is_retired (standing_of (status register.now.ops one.now.id)) }
 {
     standing_of(register, one.id) == Standing::Retired

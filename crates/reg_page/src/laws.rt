@@ -1,6 +1,6 @@
 //! The laws of the page of a register. The functions do nothing: their contracts are the laws.
 
-ghost use Rattle.std.specs.Prelude.{◌≡◌, ℕ, List, Contains, Some, Ok};
+ghost use Rattle.std.specs.Prelude.{◌≡◌, ◌<◌, ℕ, List, Contains, Some, Ok, true};
 ghost use Rattle.html_text.specs.Pieces.{html};
 ghost use Rattle.html_text.specs.Places.{Content as BetweenTags, tags, past_all};
 ghost use Rattle.html_page.specs.Shape.{shape};
@@ -10,7 +10,9 @@ ghost use Rattle.reg_op.specs.Set as set;
 ghost use Rattle.reg_op.specs.Ids.{Id};
 ghost use Rattle.reg_op.specs.Operations.{Op};
 ghost use Rattle.reg_op.specs.Contents.{Content, IsContent, joined};
+ghost use Rattle.reg_page.specs.Codes.{is_number, number_of, code_cmp};
 ghost use Rattle.reg_page.specs.Page.{IsShown, IsPage, IsSide};
+ghost use Rattle.std.specs.declared.cmp.Ordering.TheVariants.{Less};
 
 /// A register has one page with a title. So registers with the same operations and seen ids have the same page, and both orders of a
 /// merge do.
@@ -34,5 +36,10 @@ pub fn no_text_leaves_its_place()
 /// Each side of a conflict is an entry of the page: its words, without their marks, are the text in the entry's row.
 pub fn words_are_texts()
     ensures { (title : List ℕ) (x : Content) (s : Shown) → IsShown title x s → (c : Conflict) → Contains s.conflicts c → (p : Pair) → Contains c.pairs p
-        → IsSide s.entries p.first × IsSide s.entries p.second }
+        → IsSide s p.first × IsSide s p.second }
+{}
+
+/// Codes of digits are in the order of the numbers that they write.
+pub fn numbers_are_in_order()
+    ensures { (a b : List ℕ) → is_number a ≡ true → is_number b ≡ true → number_of a < number_of b → code_cmp a b ≡ Less }
 {}

@@ -2,6 +2,7 @@
 #![tactic(auto)]
 
 mod acts;
+mod boxes;
 mod conflicts;
 mod described;
 mod engine;
@@ -11,7 +12,9 @@ mod kind;
 pub mod laws;
 mod links;
 mod missing;
+mod order;
 mod page;
+mod table;
 
 pub use engine::Page;
 pub use page::page_text;

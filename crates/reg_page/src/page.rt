@@ -9,17 +9,17 @@ ghost use Rattle.std.specs.List.Sorted.{IsSortedByKey};
 ghost use Rattle.reg_op.specs.Ids.{id_cmp};
 ghost use Rattle.reg_page.specs.declared.described.Described.{Described as OneDescribed};
 ghost use Rattle.reg_page.specs.Descriptions.{AscendById, InOrder};
-ghost use Rattle.reg_page.specs.Page.{subject, conflict_of, gap_of, entry_of, figures_of, shown_of, IsPage};
-ghost use Rattle.reg_page.specs.Parts.{top, open_ends, table};
+ghost use Rattle.reg_page.specs.Page.{subject, conflict_of, gap_of, figures_of, shown_of, IsPage};
+ghost use Rattle.reg_page.specs.Parts.{top, open_ends};
 
 use crate::acts::acts_by_entry;
 use crate::conflicts::push_conflicts;
 use crate::described::{Described, all_described};
-use crate::entries::push_entries;
 use crate::figures::{count_retired, count_superseded, count_valid};
 use crate::missing::{push_all_awaited, push_gaps};
-use html_page::markup::{AFTER_FIGURES, ENTRIES_START};
-use html_page::{Figures, push_end, push_figures, push_head, push_mark};
+use crate::table::push_table;
+use html_page::markup::AFTER_FIGURES;
+use html_page::{Figures, push_figures, push_head, push_mark};
 use reg_op::{Op, OpId};
 use reg_report::{Conflict, Gap, awaited, conflicts, gaps};
 use reg_state::Register;
@@ -75,23 +75,6 @@ fn push_open_ends(
     push_conflicts(alloc, page, described, conflicts)?;
     push_all_awaited(alloc, page, awaited)?;
     push_gaps(alloc, page, gaps)?;
-    Ok(())
-}
-
-fn push_table(
-    alloc: Global,
-    page: &mut Vec<u8>,
-    register: &Register,
-    described: &[Described],
-    acts: &[Op],
-) -> Result<(), AllocError>
-    requires ascend { AscendById described.now }
-    requires sorted { IsSortedByKey subject id_cmp acts.now }
-    ensures { OnOk result ((rows : List OneDescribed) × InOrder described.now rows × Appends page.old.items page.new.items (table (map (entry_of register.now.ops described.now acts.now) rows))) }
-{
-    push_mark(page, ENTRIES_START)?;
-    push_entries(alloc, page, register, described, acts)?;
-    push_end(page)?;
     Ok(())
 }
 

@@ -1,17 +1,11 @@
 use Rattle.std.proofs.lemmas.List.{nil_from_length}
-use Rattle.std.specs.List.{flat_map}
-use Rattle.html_text.proofs.JoinLemmas.{leads_init, leads_more}
-use Rattle.reg_page.proofs.LoopLemmas.{flattened}
-use Rattle.reg_op.specs.Ids.{Id}
-use Rattle.html_page.specs.Templates.{pair}
-use Rattle.reg_page.specs.Page.{described_at, pairs_of}
+use Rattle.reg_page.proofs.PartLemmas.{pair_step, pairs_done}
 use Rattle.reg_page.proofs.conflicts.push_others.Goals as goal
 
-pub loop-second-init : goal.loop-second-init
-loop-second-init c = leads_init (λ (j : Id). flat_map pair (pairs_of (described_at c.args.described.now c.args.first) (described_at c.args.described.now j))) c.args.page.now.items c.args.others.now
-
 pub loop-second-preserved : goal.loop-second-preserved
-loop-second-preserved c = leads_more {x = c.in-Some.second.now} c.loop-second.invariant c.in-Some.ensures.cases.0 c.in_ok-push_pair.ensures
+loop-second-preserved c =
+    pair_step c.args.described.now c.loop-second.last c.in-Some.second.now c.in-Some.later.now c.loop-second.rest.now c.loop-second.page.items c.push_pair.new.page.items _
+    c.in-Some.ensures.cases.0 c.in_ok-push_pair.ensures c.loop-second.invariant
 
 pub returns : goal.returns
-returns c = flattened pair (λ (j : Id). pairs_of (described_at c.args.described.now c.args.first) (described_at c.args.described.now j)) c.args.page.now.items c.args.others.now c.loop-second.invariant (nil_from_length _ c.in_default.ensures.cases)
+returns c = pairs_done c.args.described.now c.loop-second.last c.loop-second.rest.now c.args.page.now.items c.loop-second.page.items _ c.loop-second.invariant (nil_from_length _ c.in_default.ensures.cases)

@@ -1,10 +1,10 @@
-use Rattle.std.proofs.Common.{map, ap, ◌∙◌}
+use Rattle.std.proofs.Common.{true, false, map, ap, ◌∙◌}
 use Rattle.reg_op.specs.Text.{printed}
 use Rattle.reg_report.specs.Contenders.{conflict_seen}
-use Rattle.reg_page.specs.Page.{figures_of, conflict_of, gap_of, entry_of}
+use Rattle.reg_page.specs.Page.{figures_of, conflict_of, gap_of, rows_of}
 use Rattle.reg_page.specs.Parts.{top, open_ends, table}
 use Rattle.reg_page.proofs.LoopLemmas.{as_others}
-use Rattle.reg_page.proofs.SameLemmas.{figures_moved, conflicts_moved, entries_moved}
+use Rattle.reg_page.proofs.SameLemmas.{figures_moved, conflicts_moved, rows_moved}
 use Rattle.reg_page.proofs.WholeLemmas.{in_parts}
 use Rattle.reg_page.proofs.page.push_page.Goals as goal
 
@@ -26,5 +26,6 @@ returns c =
           (as_others _ (top title (figures_of x rows cs is gaps)) (ap (top title) (c.figures_of-figures.ensures ∙ figures_moved ts rows c.requires.ascend same x cs is gaps)) c.in_ok-push_top.ensures)
           (as_others (open_ends (map (conflict_of ts) cs) (map printed is) (map gap_of gaps)) (open_ends (map (conflict_of rows) cs) (map printed is) (map gap_of gaps))
           (ap (λ l. open_ends l (map printed is) (map gap_of gaps)) (conflicts_moved ts rows c.requires.ascend same cs)) c.in_ok-push_open_ends.ensures)
-          (as_others (table (map (entry_of x.ops ts acts) rows)) (table (map (entry_of x.ops rows acts) rows)) (ap table (entries_moved ts rows c.requires.ascend same x.ops acts rows)) entries.2),
+          (as_others (table (rows_of false x.ops ts acts rows) (rows_of true x.ops ts acts rows)) (table (rows_of false x.ops rows acts rows) (rows_of true x.ops rows acts rows))
+          (λ j. table (rows_moved ts rows c.requires.ascend same false x.ops acts rows j) (rows_moved ts rows c.requires.ascend same true x.ops acts rows j)) entries.2),
     )
