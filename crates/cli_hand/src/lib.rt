@@ -6,4 +6,4 @@ mod into;
 mod print;
 
 pub use hand::{export, graph};
-pub use print::{ops, page, report, show, wkt};
+pub use print::{ops, page, show, wkt};

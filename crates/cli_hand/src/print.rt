@@ -1,10 +1,9 @@
-//! Commands that print something of a register: an entry, a text, ids, a report, a page.
+//! Commands that print something of a register: an entry, a text, ids, a page.
 use clap::ArgMatches;
-use cli_open::engines::{CliFault, Form, Ops, Report, Show, Wkt};
+use cli_open::engines::{CliFault, Form, Ops, Show, Wkt};
 use cli_open::{entry, print_of, word};
 use reg_keyed::{ByWord, PrintOf, ShowOf, WktOf};
 use reg_page::Page;
-use reg_report::ReportKind;
 
 /// The title of a page without one.
 const NO_TITLE: &str = "The register";
@@ -63,23 +62,6 @@ fn print_by_word<C: PrintOf>(
 /// `ops`.
 pub fn ops(rt: &HostRuntime, matches: &ArgMatches<'_>) -> Result<(), CliFault> {
     print_of(rt, matches, &Ops)
-}
-
-/// `report`, if there is one of the kind.
-pub fn report(rt: &HostRuntime, matches: &ArgMatches<'_>) -> Option<Result<(), CliFault>> {
-    let kind = kind(word(matches, "KIND"))?;
-    Some(print_of(rt, matches, &Report { kind }))
-}
-
-// The report of the argument.
-fn kind(word: &str) -> Option<ReportKind> {
-    match word {
-        "entries" => Some(ReportKind::Entries),
-        "conflicts" => Some(ReportKind::Conflicts),
-        "awaited" => Some(ReportKind::Awaited),
-        "gaps" => Some(ReportKind::Gaps),
-        _ => None,
-    }
 }
 
 /// `page`.

@@ -3,7 +3,9 @@
 
 mod comparing;
 mod look;
+mod reporting;
 
 pub use comparing::compare;
 pub use look::{check, diff, find, log, offices, status, texts};
 pub use reg_desk as desk;
+pub use reporting::report;

@@ -146,7 +146,7 @@ fn write_word<W: fmt::Write>(
             )
         }
         Refusal::Unsettled => f.write_str(
-            "a register has a conflict, an awaited id or a gap\nhint: crsreg report lists them; crsreg settle ends a conflict\n",
+            "a register has a conflict, an awaited id, a gap, a key with equal texts or a superseded entry without a valid heir\nhint: crsreg report lists them; crsreg settle ends a conflict, and settle --equal equal texts\n",
         ),
         _ => Ok(()),
     }

@@ -89,7 +89,7 @@ static STATUS_OF: CommandRow = CommandRow {
         },
         Argument {
             name: "settled",
-            help: "Fails if a register has a conflict, an awaited id or a gap",
+            help: "Fails if a register is not in order",
             ..FLAG
         },
         Argument {

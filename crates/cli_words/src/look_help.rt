@@ -3,7 +3,7 @@
 pub const FIND_HELP: &str = "\
 Prints the lines of the report of entries that match WORD and every option
 given, or all lines without these. WORD is a key if an entry has this key, and
-otherwise a part of the name. In authorities, names and areas, the letters A to
+otherwise a part of the name or the code. In authorities, names and areas, the letters A to
 Z match in either case; codes match byte for byte. An empty WORD, PART, A, C or
 AUTH:CODE is an error, since it would match every entry or none. A point on the
 border of a bounding box is in it. If west is greater than east, the box crosses
@@ -19,13 +19,14 @@ Example:
 pub const STATUS_OF_HELP: &str = "\
 Prints a line of comma-separated values for each FILE: its size; the numbers of
 operations, of entries, and of entries of each status; the numbers of keys in
-conflict, of awaited ids, and of ranges of missing ids. The line of a file that
-is not a register shows its fault. The first such fault is also printed to
-standard error, with status 3.
+conflict, of awaited ids, and of ranges of missing ids; the numbers of keys with
+equal texts, of dangling entries, and of withdrawn keys (crsreg help report).
+The line of a file that is not a register shows its fault. The first such fault
+is also printed to standard error, with status 3.
 
 With --settled it is refused as Unsettled if a register has a conflict, an
-awaited id or a gap. With --shelf each FILE is a shelf, and the size is that of
-the register's file on it.
+awaited id, a gap, a key with equal texts or a dangling entry. With --shelf each
+FILE is a shelf, and the size is that of the register's file on it.
 
 Example:
   crsreg status north.crs south.crs --settled";

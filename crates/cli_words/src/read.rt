@@ -207,7 +207,15 @@ static REPORT: CommandRow = CommandRow {
         Argument {
             name: "KIND",
             help: "What to list",
-            values: &["entries", "conflicts", "awaited", "gaps"],
+            values: &[
+                "entries",
+                "conflicts",
+                "awaited",
+                "gaps",
+                "duplicates",
+                "dangling",
+                "withdrawn",
+            ],
             ..WORD
         },
     ],

@@ -134,6 +134,10 @@ Prints comma-separated values with a header:
   conflicts  entries with one key and different texts that are not retired
   awaited    ids that operations name and that no operation has entered
   gaps       numbers below an office's greatest one that were not seen
+  duplicates entries of one key and one text that are not retired
+  dangling   superseded entries from which no chain of supersessions leads to a
+             valid one: it ends at a retired or an awaited id, or is a circle
+  withdrawn  entries of keys whose entries are all retired
 
 Example:
   crsreg report office.crs conflicts";

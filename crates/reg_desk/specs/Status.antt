@@ -27,14 +27,15 @@ IsOfficesText x text = (os : List OfficeFigures) × AreOffices x os × (text ≡
 
 abbrev pub status_header : List (List ℕ)
 status_header = codes "file" ∷ codes "bytes" ∷ codes "fault" ∷ codes "operations" ∷ codes "entries" ∷ codes "valid" ∷ codes "superseded" ∷ codes "retired"
-    ∷ codes "conflicts" ∷ codes "awaited" ∷ codes "gaps" ∷ []
+    ∷ codes "conflicts" ∷ codes "awaited" ∷ codes "gaps" ∷ codes "duplicates" ∷ codes "dangling" ∷ codes "withdrawn" ∷ []
 
 abbrev pub figure_fields : Figures → List (List ℕ)
 figure_fields f = decimal f.operations ∷ decimal f.entries ∷ decimal f.valid ∷ decimal f.superseded ∷ decimal f.retired
-    ∷ decimal f.conflicts ∷ decimal f.awaited ∷ decimal f.gaps ∷ []
+    ∷ decimal f.conflicts ∷ decimal f.awaited ∷ decimal f.gaps
+    ∷ decimal f.duplicates ∷ decimal f.dangling ∷ decimal f.withdrawn ∷ []
 
 abbrev pub no_figures : List (List ℕ)
-no_figures = [] ∷ [] ∷ [] ∷ [] ∷ [] ∷ [] ∷ [] ∷ [] ∷ []
+no_figures = [] ∷ [] ∷ [] ∷ [] ∷ [] ∷ [] ∷ [] ∷ [] ∷ [] ∷ [] ∷ [] ∷ []
 
 -- the name, the size if it was read completely, the words of its fault if it has one, and otherwise the figures
 abbrev pub IsStatusLine : List ℕ → Look → List (List ℕ) → Type 0
@@ -78,9 +79,12 @@ abbrev pub IsFirstBad : List Look → CliFault → Type 0
 IsFirstBad looks fault = (before : List Look) × (l : Look) × (after : List Look) × (looks ≡ before ++ l ∷ after) × AreGood before
     × (fault_at (length before + 1) l ≡ Some fault)
 
--- it has keys in conflict, awaited ids or gaps
+-- it has keys in conflict, awaited ids, gaps, keys with equal texts, or superseded entries without a valid heir
+abbrev pub is_any : Figures → Bool
+is_any f = nat_lt 0 f.conflicts || (nat_lt 0 f.awaited || (nat_lt 0 f.gaps || (nat_lt 0 f.duplicates || nat_lt 0 f.dangling)))
+
 abbrev pub is_unsettled : Look → Bool
-is_unsettled (look.Figures n f) = nat_lt 0 f.conflicts || (nat_lt 0 f.awaited || nat_lt 0 f.gaps)
+is_unsettled (look.Figures n f) = is_any f
 is_unsettled (look.NoRegister n f) = false
 is_unsettled (look.Unread f) = false
 is_unsettled (look.NoShelf p) = false

@@ -2,6 +2,7 @@
 #![tactic(auto)]
 
 mod diff;
+mod disorders;
 mod explained;
 mod find;
 mod import;
@@ -15,6 +16,7 @@ mod status_lines;
 mod words;
 
 pub use diff::run_diff;
+pub use disorders::Amiss;
 pub use explained::{Explained, explained_fault, problem_of, run_check_explained};
 pub use find::{Find, FindIds};
 pub use import::{HasRoom, ImportFault, ImportOptions, Unimported, run_import, try_import};
@@ -30,6 +32,7 @@ pub use byte_io::{Reading, Source, Writing, write_all};
 pub use byte_out::{FileId, FilePlace, Input, InputOf, Lock, Lockable};
 pub use crs_number::Decimal;
 pub use crs_search::{Kind, Point};
+pub use reg_disorder::Disorder;
 pub use reg_engine::{
     Base, Change, CliFault, Enter, Export, FirstVersion, Form, Give, InFile, InputFault, Keep,
     OfFile, OnShelf, Ops, OutFault, PieceFor, Print, Refusal, Report, Retire, ShelfProblem, Show,

@@ -3,12 +3,13 @@
 ghost use Rattle.std.specs.Prelude.{◌≡◌, map, IfOk, OnOk, IfErr, OnErr};
 ghost use Rattle.std.specs.List.{list_any};
 ghost use Rattle.reg_desk.specs.Look.{AreLooks, AreLeft};
-ghost use Rattle.reg_desk.specs.Status.{fault_at, is_unsettled, AreGood, IsFirstBad, IsSettled, IsTold, IsUntold, IsVerdict};
+ghost use Rattle.reg_desk.specs.Status.{fault_at, is_any, is_unsettled, AreGood, IsFirstBad, IsSettled, IsTold, IsUntold, IsVerdict};
 
 use crate::look::{Inspect, Look};
 use crate::status_lines::status_text;
 use byte_io::{Sink, write_all};
 use reg_engine::{CliFault, OutFault, Refusal};
+use reg_query::Figures;
 use std::alloc::{AllocError, Global};
 
 // The results of inspecting the files or shelves, in order.
@@ -47,13 +48,22 @@ fn fault_at(number: usize, look: &Look) -> Option<CliFault>
     }
 }
 
+// Whether something is in conflict, awaited or missing, or is not in order.
+fn is_any(figures: &Figures) -> bool
+    ensures { result ≡ is_any figures.now }
+{
+    figures.conflicts > 0
+        || figures.awaited > 0
+        || figures.gaps > 0
+        || figures.duplicates > 0
+        || figures.dangling > 0
+}
+
 fn is_unsettled(look: &Look) -> bool
     ensures { result ≡ is_unsettled look.now }
 {
     match look {
-        Look::Figures { bytes: _, figures } => {
-            figures.conflicts > 0 || figures.awaited > 0 || figures.gaps > 0
-        }
+        Look::Figures { bytes: _, figures } => { is_any(figures) }
         Look::NoRegister { .. } => false,
         Look::Unread(_) => false,
         Look::NoShelf(_) => false,
@@ -100,7 +110,7 @@ fn verdict(looks: &[Look], settled: bool) -> Result<(), CliFault>
 }
 
 /// Inspects each file or shelf, and writes a line for each, with its name. There are as many names as files. Then it returns
-/// the fault of the first that has no register. If `settled`, a register with keys in conflict, awaited ids or gaps is refused.
+/// the fault of the first that has no register. If `settled`, a register with keys in conflict, awaited ids, gaps, keys with equal texts or dangling entries is refused.
 pub fn run_status<T: Inspect, K: Sink>(
     alloc: Global,
     names: &[&[u8]],

@@ -29,6 +29,9 @@ fn write_header(wtr: &mut Writer<Vec<u8>>) -> Result<(), AllocError>
             b"conflicts",
             b"awaited",
             b"gaps",
+            b"duplicates",
+            b"dangling",
+            b"withdrawn",
         ],
     )
 }
@@ -52,6 +55,9 @@ fn write_figures(
     let conflicts = figures.conflicts.to_string(alloc)?;
     let awaited = figures.awaited.to_string(alloc)?;
     let gaps = figures.gaps.to_string(alloc)?;
+    let duplicates = figures.duplicates.to_string(alloc)?;
+    let dangling = figures.dangling.to_string(alloc)?;
+    let withdrawn = figures.withdrawn.to_string(alloc)?;
     write_fields(
         wtr,
         &[
@@ -66,6 +72,9 @@ fn write_figures(
             conflicts.as_bytes(),
             awaited.as_bytes(),
             gaps.as_bytes(),
+            duplicates.as_bytes(),
+            dangling.as_bytes(),
+            withdrawn.as_bytes(),
         ],
     )
 }
@@ -82,7 +91,9 @@ fn write_fault(
 {
     write_fields(
         wtr,
-        &[name, bytes, fault, b"", b"", b"", b"", b"", b"", b"", b""],
+        &[
+            name, bytes, fault, b"", b"", b"", b"", b"", b"", b"", b"", b"", b"", b"",
+        ],
     )
 }
 

@@ -7,11 +7,10 @@ use Rattle.reg_op.specs.Rows.{Row as RowOf}
 use Rattle.reg_report.specs.declared.row.Row.{Row}
 use Rattle.reg_report.specs.Conflicts.{KeyBytes}
 use Rattle.reg_report.specs.Seen.{row_seen}
-use Rattle.crs_search.specs.Parts.{HasPart}
 use Rattle.reg_keys.specs.Words.{NamesKey}
 use Rattle.reg_query.specs.declared.find.query.Query.{Query}
 use Rattle.reg_query.specs.Found.{IsMet, AreFound}
-use Rattle.reg_query.specs.Queries.{HasSome, IsSought, MeetsValue, asks_value}
+use Rattle.reg_query.specs.Queries.{HasSome, IsTitled, IsSought, MeetsValue, asks_value}
 
 module _ (rs : List RowOf) (q : Query) where
   pub none_yet : AreFound rs q [] []
@@ -70,7 +69,7 @@ module _ (rs : List RowOf) (word : List ℕ) (k : KeyBytes) (name : List ℕ) wh
     λ s. elim s [ inl a ↦ is.1 a.1 | inr b ↦ absurd (b.0 (tells.0 on)) ],
   )
 
-  pub by_its_name : (by_key has : Bool) → by_key ≡ false → (IsTrue by_key ↔ HasSome rs word) → (IsTrue has ↔ HasPart word name) → IsTrue has ↔ IsSought rs word k name
+  pub by_its_name : (by_key has : Bool) → by_key ≡ false → (IsTrue by_key ↔ HasSome rs word) → (IsTrue has ↔ IsTitled word k name) → IsTrue has ↔ IsSought rs word k name
   by_its_name by_key has off tells is = (
     λ h. inr (λ some. true≢false (sym (tells.1 some) ∙ off), is.0 h),
     λ s. elim s [ inl a ↦ absurd (true≢false (sym (tells.1 a.0) ∙ off)) | inr b ↦ is.1 b.1 ],

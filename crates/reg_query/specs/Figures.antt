@@ -10,6 +10,9 @@ use Rattle.reg_op.specs.declared.status.Status.TheVariants.{Valid, Superseded, R
 use Rattle.reg_report.specs.declared.gap.Gap.{Gap}
 use Rattle.reg_report.specs.Conflicts.{Contested, AreConflicts}
 use Rattle.reg_report.specs.Gaps.{AreGaps}
+use Rattle.reg_disorder.specs.declared.disorder.Disorder.TheVariants.{Duplicates, Dangling, Withdrawn}
+use Rattle.reg_disorder.specs.Disorders.{CountsAmiss}
+use Rattle.reg_query.specs.declared.figures.register.Amiss.{Amiss}
 use Rattle.reg_query.specs.declared.figures.register.Counts.{Counts}
 use Rattle.reg_query.specs.declared.figures.register.Figures.{Figures}
 
@@ -47,6 +50,12 @@ CountsConflicts rs n = (cs : List Contested) × AreConflicts rs cs × (n ≡ len
 abbrev pub CountsGaps : Ids → ℕ → Type 0
 CountsGaps seen n = (gs : List Gap) × AreGaps seen gs × (n ≡ length gs)
 
+-- the numbers of what is not in order, in each way
+pub record AreCountsAmiss (rs : List Row) (a : Amiss) : Type 0 where
+  pub duplicates : CountsAmiss Duplicates rs a.duplicates
+  pub dangling : CountsAmiss Dangling rs a.dangling
+  pub withdrawn : CountsAmiss Withdrawn rs a.withdrawn
+
 -- the length of each list
 pub record AreFigures (x : Content) (f : Figures) : Type 0 where
   pub operations : f.operations ≡ length (set.items x.ops)
@@ -57,3 +66,6 @@ pub record AreFigures (x : Content) (f : Figures) : Type 0 where
   pub conflicts : CountsConflicts (rows x.ops) f.conflicts
   pub awaited : f.awaited ≡ length (set.items (awaited x.ops))
   pub gaps : CountsGaps x.seen f.gaps
+  pub duplicates : CountsAmiss Duplicates (rows x.ops) f.duplicates
+  pub dangling : CountsAmiss Dangling (rows x.ops) f.dangling
+  pub withdrawn : CountsAmiss Withdrawn (rows x.ops) f.withdrawn

@@ -1,6 +1,6 @@
 -- Queries of a search.
-use Rattle.std.specs.Prelude.{◌≡◌, ◌≢◌, ◌⊎◌, ◌↔◌, ℕ, Bool, IsTrue, List, ◌||◌, is_some, IfSome, Option, Some}
-use Rattle.std.specs.List.{Any}
+use Rattle.std.specs.Prelude.{◌≡◌, ◌≢◌, ◌⊎◌, ◌↔◌, ℕ, nat_eq, Bool, false, IsTrue, List, ◌||◌, is_some, IfSome, Option, Some}
+use Rattle.std.specs.List.{Any, list_any}
 use Rattle.crs_part.specs.declared.crs.CrsParts.{CrsParts}
 use Rattle.crs_search.specs.Kinds.{kind_of}
 use Rattle.crs_search.specs.Parts.{IsAlike, HasPart}
@@ -27,9 +27,20 @@ IsWanted Live s = s ≢ Some status.Retired
 abbrev pub HasSome : List Row → List ℕ → Type 0
 HasSome rs word = Any (HasWord word) rs
 
--- if some row has the key, the word asks for it; otherwise it asks for a part of the name
+abbrev pub is_colon : ℕ → Bool
+is_colon b = nat_eq b 58
+
+-- the word has no colon, and is the code
+abbrev pub IsBareCode : List ℕ → List ℕ → Type 0
+IsBareCode word code = (list_any is_colon word ≡ false) × (word ≡ code)
+
+-- the word is a part of the name, or the code alone
+abbrev pub IsTitled : List ℕ → KeyBytes → List ℕ → Type 0
+IsTitled word k name = HasPart word name ⊎ IsBareCode word k.code
+
+-- if some row has the key, the word asks for it; otherwise it asks for a part of the name, or for the code
 abbrev pub IsSought : List Row → List ℕ → KeyBytes → List ℕ → Type 0
-IsSought rs word k name = (HasSome rs word × NamesKey word k) ⊎ ((¬ (HasSome rs word)) × HasPart word name)
+IsSought rs word k name = (HasSome rs word × NamesKey word k) ⊎ ((¬ (HasSome rs word)) × IsTitled word k name)
 
 -- the answer tells whether some row has the key
 abbrev pub IsResolved : List Row → Query → Bool → Type 0

@@ -5,10 +5,11 @@ ghost use Rattle.std.specs.List.{count_by};
 ghost use Rattle.reg_op.specs.Set as set;
 ghost use Rattle.reg_op.specs.Status.{enters, status};
 ghost use Rattle.reg_op.specs.Rows.{rows_at, rows, awaited};
-ghost use Rattle.reg_query.specs.Figures.{is_status, status_in, CountStatuses, AreCounts, AreFigures, CountsConflicts, CountsGaps};
+ghost use Rattle.reg_query.specs.Figures.{is_status, status_in, CountStatuses, AreCounts, AreCountsAmiss, AreFigures, CountsConflicts, CountsGaps};
 
+use reg_disorder::{Disorder, count_amiss};
 use reg_op::{Op, OpBody, OpId, Status};
-use reg_report::{awaited, conflicts, gaps};
+use reg_report::{awaited, conflicts, gaps, rows};
 use reg_state::Register;
 use std::alloc::{AllocError, Global};
 
@@ -27,6 +28,12 @@ pub struct Figures {
     pub awaited: usize,
     /// Ranges of missing counts.
     pub gaps: usize,
+    /// Keys with several entries of one text that are not retired.
+    pub duplicates: usize,
+    /// Superseded entries from which no chain of supersessions leads to a valid one.
+    pub dangling: usize,
+    /// Keys whose entries are all retired.
+    pub withdrawn: usize,
 }
 
 /// The figures of a register.
@@ -37,6 +44,7 @@ pub fn figures_of(alloc: Global, register: &Register) -> Result<Figures, AllocEr
     let conflicts = count_conflicts(alloc, register)?;
     let awaited = count_awaited(alloc, register)?;
     let gaps = count_gaps(alloc, register)?;
+    let amiss = amiss_of(alloc, register)?;
     Ok(Figures {
         operations: register.ops().as_slice().len(),
         entries: counts.entries,
@@ -46,6 +54,9 @@ pub fn figures_of(alloc: Global, register: &Register) -> Result<Figures, AllocEr
         conflicts,
         awaited,
         gaps,
+        duplicates: amiss.duplicates,
+        dangling: amiss.dangling,
+        withdrawn: amiss.withdrawn,
     })
 }
 
@@ -126,6 +137,28 @@ fn is_status(status: Status, wanted: Status) -> bool
     ensures { result ≡ is_status wanted (Some status) }
 {
     status == wanted
+}
+
+/// The numbers of what is not in order.
+#[derive(Clone, Copy)]
+pub(crate) struct Amiss {
+    duplicates: usize,
+    dangling: usize,
+    withdrawn: usize,
+}
+
+fn amiss_of(alloc: Global, register: &Register) -> Result<Amiss, AllocError>
+    ensures { IfOk result (AreCountsAmiss (rows register.now.ops)) }
+{
+    let rows = rows(alloc, register)?;
+    let duplicates = count_amiss(alloc, &rows, Disorder::Duplicates)?;
+    let dangling = count_amiss(alloc, &rows, Disorder::Dangling)?;
+    let withdrawn = count_amiss(alloc, &rows, Disorder::Withdrawn)?;
+    Ok(Amiss {
+        duplicates,
+        dangling,
+        withdrawn,
+    })
 }
 
 fn count_conflicts(alloc: Global, register: &Register) -> Result<usize, AllocError>

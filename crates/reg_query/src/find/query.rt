@@ -1,13 +1,14 @@
 //! Queries of a search.
 
 ghost use Rattle.std.specs.Prelude.{◌≡◌, ◌↔◌, IsTrue, IfSome, List, Some};
+ghost use Rattle.std.specs.List.{list_any};
 ghost use Rattle.crs_search.specs.Kinds.{kind_of};
 ghost use Rattle.crs_search.specs.Parts.{IsAlike, HasPart};
 ghost use Rattle.crs_search.specs.Usages.{IsInArea, HasPoint};
 ghost use Rattle.reg_keys.specs.Words.{NamesKey};
 ghost use Rattle.reg_op.specs.Rows.{Row};
 ghost use Rattle.reg_report.specs.Conflicts.{bytes_of};
-ghost use Rattle.reg_query.specs.Queries.{asks_value, HasSome, IsResolved, IsSought, IsWanted, MeetsOptions, MeetsTitle, MeetsValue};
+ghost use Rattle.reg_query.specs.Queries.{asks_value, is_colon, HasSome, IsBareCode, IsResolved, IsSought, IsTitled, IsWanted, MeetsOptions, MeetsTitle, MeetsValue};
 
 use crs_part::CrsParts;
 use crs_search::{Kind, Point, has_part, has_point, is_alike, is_in_area, is_of_kind};
@@ -30,7 +31,7 @@ pub enum Wanted {
 /// case.
 #[derive(Clone, Copy)]
 pub struct Query<'a> {
-    /// The key, if an entry has it; otherwise a part of the name.
+    /// The key, if an entry has it; otherwise a part of the name, or the code.
     pub word: Option<&'a str>,
     /// The authority, a colon and the code.
     pub key: Option<&'a str>,
@@ -103,7 +104,32 @@ fn is_sought_by(alloc: Global, word: &[u8], by_key: bool, key: &Key, name: &[u8]
     if by_key {
         return names_key(word, key);
     }
-    has_part(alloc, name, word)
+    is_titled(alloc, word, key, name)
+}
+
+// Whether the word is a part of the name or, without a colon, the code.
+fn is_titled(alloc: Global, word: &[u8], key: &Key, name: &[u8]) -> bool
+    ensures { IsTrue result ↔ IsTitled word.now (bytes_of key.now) name.now }
+{
+    has_part(alloc, name, word) || is_bare_code(word, key.code.as_bytes())
+}
+
+fn is_bare_code(word: &[u8], code: &[u8]) -> bool
+    ensures { IsTrue result ↔ IsBareCode word.now code.now }
+{
+    !has_colon(word) && word == code
+}
+
+fn has_colon(word: &[u8]) -> bool
+    ensures { result ≡ list_any is_colon word.now }
+{
+    word.iter().any(|b| is_colon(*b))
+}
+
+fn is_colon(b: u8) -> bool
+    ensures { result ≡ is_colon b }
+{
+    b == b':'
 }
 
 fn is_key(asked: Option<&str>, key: &Key) -> bool

@@ -8,7 +8,7 @@ use Rattle.reg_desk.proofs.status_lines.status_text.Goals as goal
 pub loop-i-preserved : goal.loop-i-preserved
 loop-i-preserved c =
     let none : Bor (List ℕ) = record { ref_ptr = (0, 0); now = [] } in
-    let zero_look : Look = look.Figures 0 (record { operations = 0; entries = 0; valid = 0; superseded = 0; retired = 0; conflicts = 0; awaited = 0; gaps = 0 }) in
+    let zero_look : Look = look.Figures 0 (record { operations = 0; entries = 0; valid = 0; superseded = 0; retired = 0; conflicts = 0; awaited = 0; gaps = 0; duplicates = 0; dangling = 0; withdrawn = 0 }) in
     let within : c.loop-i.i < length c.args.names.now = omega (arith, c.loop-i-test.true, c.min-i-end.ensures) in
     let inside : c.loop-i.i < length c.args.looks.now = omega (arith, c.loop-i-test.true, c.min-i-end.ensures) in (
       c.in_ok-write_line.ensures.2.ready,

@@ -1,0 +1,7 @@
+mod RowLemmas
+mod ListLemmas
+mod TextLemmas
+mod KeyLemmas
+mod LinkLemmas
+mod HeirLemmas
+mod AmissLemmas

@@ -1,0 +1,52 @@
+-- The search for entries from which a chain of supersessions leads to a valid one.
+use Rattle.std.specs.Prelude.{◌≡◌, ◌≢◌, [], ◌∷◌, Some, ◌||◌, ◌⊎◌, ◌↔◌, ◌++◌, Bool, true, false, List, map, filter, Contains}
+use Rattle.std.specs.BTreeSet.{BTreeSet, contains}
+use Rattle.std.specs.declared.cmp.Ordering.{Ordering}
+use Rattle.std.specs.Ordering.{ordering_then}
+use Rattle.reg_op.specs.Ids.{Id, id_cmp, is_same}
+use Rattle.reg_op.specs.Rows.{Row}
+use Rattle.reg_op.specs.declared.status.Status.TheVariants.{Valid}
+use Rattle.reg_disorder.specs.declared.link.Link.{Link}
+use Rattle.reg_disorder.specs.Disorders.{IsValid, IsSupersededBy, LeadsToValid}
+
+-- ---- links
+
+abbrev pub link_cmp : Link → Link → Ordering
+link_cmp a b = ordering_then (id_cmp a.newer b.newer) (id_cmp a.old b.old)
+
+abbrev pub link_to : Id → Id → Link
+link_to old newer = record { newer = newer; old = old }
+
+abbrev pub is_of : Id → Link → Bool
+is_of newer x = is_same newer x.newer
+
+-- a link for each entry that is not retired and each that supersedes it
+abbrev pub AreLinks : List Row → List Link → Type 0
+AreLinks rs links = (x : Link) → Contains links x ↔ IsSupersededBy rs x.old x.newer
+
+-- ---- the search
+
+-- a row's entry is added at the end if it is valid
+abbrev pub AddsValid : Row → List Id → List Id → Type 0
+AddsValid r old new = ((r.status ≡ Some Valid) × (new ≡ old ++ r.entry ∷ [])) ⊎ ((r.status ≢ Some Valid) × (new ≡ old))
+
+abbrev pub AreValid : List Row → List Id → Type 0
+AreValid rs ids = (e : Id) → Contains ids e ↔ IsValid rs e
+
+abbrev pub IdSet : Type 0
+IdSet = BTreeSet Id
+
+abbrev pub has_id : IdSet → Id → Bool
+has_id s e = contains id_cmp s e
+
+-- the id was found before; or it is found now, and the entries that it supersedes are to do
+abbrev pub Visits : List Link → Id → List Id → IdSet → List Id → IdSet → Type 0
+Visits links id todo found later next =
+    ((has_id found id ≡ true) × (later ≡ todo) × ((e : Id) → has_id next e ≡ has_id found e))
+    ⊎ ((has_id found id ≡ false) × (later ≡ todo ++ map (λ (x : Link). x.old) (filter (is_of id) links)) × ((e : Id) → has_id next e ≡ (is_same id e || has_id found e)))
+
+abbrev pub HasHeir : List Row → Id → Type 0
+HasHeir rs e = (chain : List Id) × LeadsToValid rs e chain
+
+abbrev pub HasHeirs : List Row → IdSet → Type 0
+HasHeirs rs found = (e : Id) → (has_id found e ≡ true) ↔ HasHeir rs e

@@ -1,0 +1,20 @@
+//! What is not in order in a register: texts that were entered twice, superseded entries without a valid heir, and keys whose
+//! entries are all retired.
+#![tactic(auto)]
+
+mod dangling;
+mod disorder;
+mod double;
+mod heir;
+pub mod laws;
+mod lines;
+mod link;
+mod listed;
+mod listing;
+mod standing;
+mod withdrawn;
+
+pub use disorder::Disorder;
+pub use lines::amiss_text;
+pub use listed::Listed;
+pub use listing::{amiss, count_amiss};
