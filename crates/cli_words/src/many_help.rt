@@ -39,6 +39,9 @@ keeps the one with the least id and retires the others. Several offices can do
 this at once, since all keep the same one. Only one office should settle with
 KEEP: if two settle in opposite ways, both entries are retired.
 
+A supersession of or by an entry that is retired is made for the entry that
+stays, so no superseded text becomes valid. These ids are printed too.
+
 Refused, with nothing written: UnknownEntry ID or AlreadyRetired ID; KeyTaken ID
 if two KEEPs have one key and different texts.
 

@@ -1,5 +1,5 @@
 -- After settling, the keys of kept entries have no conflict; after settling equal texts, each has one entry.
-use Rattle.std.proofs.Common.{◌≡◌, ◌≢◌, ◌⊎◌, ℕ, true, List, [], ap, refl, sym, ◌∙◌, subst, inl, inr}
+use Rattle.std.proofs.Common.{◌≡◌, ◌≢◌, ◌⊎◌, true, List, [], ap, refl, sym, ◌∙◌, subst, inl, inr}
 use Rattle.std.specs.Prelude.{Contains, Some}
 use Rattle.std.specs.declared.cmp.Ordering.{Ordering}
 use Rattle.std.specs.declared.cmp.Ordering.TheVariants.{Less, Equal, Greater}
@@ -9,13 +9,13 @@ use Rattle.reg_op.specs.Contents.{Content, IsContent}
 use Rattle.reg_op.specs.Rows.{Row, rows, IsInConflict}
 use Rattle.reg_op.specs.declared.status.Status.TheVariants.{Retired}
 use Rattle.reg_op.proofs.OpLemmas.{id_total, id_exact}
-use Rattle.reg_office.specs.Commands.{Does, retirements}
+use Rattle.reg_links.proofs.Rows.{one_row}
 use Rattle.reg_report.specs.Conflicts.{KeyBytes, HasKey}
 use Rattle.reg_report.proofs.ConflictLemmas.{none_in}
 use Rattle.reg_settle.specs.Settling.{IsSettled}
 use Rattle.reg_settle.specs.Doubles.{IsDouble, AreDoubles}
 use Rattle.reg_settle.proofs.Settled.{picked, covers, Agree, all_agree}
-use Rattle.reg_desk.proofs.AfterRetiring.{one_row, is_retired_after, Comes, comes}
+use Rattle.reg_desk.proofs.AfterRetiring.{Leaves, is_retired_after, Comes, comes}
 
 before_cases : (i j : Id) → (is_before i j ≡ true) ⊎ ((i ≡ j) ⊎ (is_before j i ≡ true))
 before_cases i j = by (id_cmp i j) refl
@@ -25,9 +25,9 @@ before_cases i j = by (id_cmp i j) refl
     by Equal e = inr (inl (id_exact i j e))
     by Greater e = inr (inr (ap is_lt (id_total.antisymm j i ∙ ap ordering_reverse e)))
 
-module _ (x y : Content) (replica note : List ℕ) (is : IsContent x) (ids made : List Id) (d : Does x replica note (retirements ids) y made) where
+module _ (x y : Content) (is : IsContent x) (ids : List Id) (l : Leaves x y ids) where
   abbrev From : Row → Type 0
-  From r = Comes x y replica note ids made d r
+  From r = Comes x r
 
   -- a row that is not retired after settling, and has the key of a kept entry, is kept
   kept_after : (keeps : List Id) (keep r : Row) (key : KeyBytes) → IsSettled (rows x.ops) keeps ids → Contains (rows x.ops) keep → Contains keeps keep.entry → HasKey keep.definition key
@@ -35,14 +35,14 @@ module _ (x y : Content) (replica note : List ℕ) (is : IsContent x) (ids made 
   kept_after keeps keep r key settled there named keyed h stands its c = elim (covers (rows x.ops) keeps keeps [] [] ids (one_row x is) settled keep c.row there named c.there (c.stood stands)
       (record { key = key; of_one = keyed; of_other = subst (λ t. HasKey t key) (sym c.text) its })) [
         | inl kept ↦ kept
-        | inr gone ↦ absurd (stands (is_retired_after x y replica note ids made d r h (subst (λ i. Contains ids i) c.entry gone)))
+        | inr gone ↦ absurd (stands (is_retired_after x y ids l r h (subst (λ i. Contains ids i) c.entry gone)))
       ]
 
   pub kept_keys : (keeps : List Id) (keep : Row) (key : KeyBytes) → IsSettled (rows x.ops) keeps ids → Contains (rows x.ops) keep → Contains keeps keep.entry → HasKey keep.definition key
       → ¬ (IsInConflict HasKey (rows y.ops) key)
   kept_keys keeps keep key settled there named keyed c =
-      let one = comes x y replica note ids made d is c.one c.has_one in
-      let other = comes x y replica note ids made d is c.other c.has_other in
+      let one = comes x y ids l is c.one c.has_one in
+      let other = comes x y ids l is c.other c.has_other in
       let none : Agree (rows x.ops) [] = λ a b ca cb na nb e. none_in a.entry na in
       all_agree (rows x.ops) keeps keeps [] [] ids (one_row x is) settled none one.row other.row one.there other.there
       (kept_after keeps keep c.one key settled there named keyed c.has_one c.one_stands c.key_of_one one)
@@ -56,8 +56,8 @@ module _ (x y : Content) (replica note : List ℕ) (is : IsContent x) (ids made 
   none_before : AreDoubles (rows x.ops) ids → (a b : Row) → Contains (rows y.ops) a → Contains (rows y.ops) b → a.status ≢ Some Retired → b.status ≢ Some Retired → a.definition ≡ b.definition
       → is_before a.entry b.entry ≡ true → ⊥
   none_before doubles a b ha hb sa sb same before =
-      let one = comes x y replica note ids made d is a ha in
-      let other = comes x y replica note ids made d is b hb in
+      let one = comes x y ids l is a ha in
+      let other = comes x y ids l is b hb in
       let first : is_before (one.row).entry (other.row).entry ≡ true =
       subst (λ i. is_before i (other.row).entry ≡ true) (sym one.entry) (subst (λ i. is_before a.entry i ≡ true) (sym other.entry) before) in
       let double : IsDouble (rows x.ops) other.row = record {
@@ -65,7 +65,7 @@ module _ (x y : Content) (replica note : List ℕ) (is : IsContent x) (ids made 
         lesser = record { lesser = one.row; there = one.there; is = record { stands = one.stood sa; text = one.text ∙ (same ∙ sym other.text); before = first } };
       } in
       let gone : Contains ids b.entry = subst (λ i. Contains ids i) other.entry (picked (IsDouble (rows x.ops)) (rows x.ops) ids other.row doubles other.there double) in
-      sb (is_retired_after x y replica note ids made d b hb gone)
+      sb (is_retired_after x y ids l b hb gone)
 
   pub one_entry : AreDoubles (rows x.ops) ids → (a b : Row) → Contains (rows y.ops) a → Contains (rows y.ops) b → a.status ≢ Some Retired → b.status ≢ Some Retired → a.definition ≡ b.definition → a.entry ≡ b.entry
   one_entry doubles a b ha hb sa sb same = elim (before_cases a.entry b.entry) [

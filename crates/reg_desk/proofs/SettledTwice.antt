@@ -1,56 +1,29 @@
 -- If two offices settle equal texts and then join, the least entry of each text is still not retired.
-use Rattle.std.proofs.Common.{◌≡◌, ◌≢◌, ◌||◌, ℕ, Bool, true, false, cond, List, [], Some, None, Ok, refl, sym, ap, ◌∙◌, subst, inl, inr}
-use Rattle.std.specs.Prelude.{Contains, map, ◌&&◌}
-use Rattle.std.specs.Cmp.{Equal-is}
-use Rattle.std.specs.Ordering.{eq_by_cmp}
+use Rattle.std.proofs.Common.{◌≡◌, ◌≢◌, ◌||◌, Bool, true, false, List, [], Some, Ok, refl, sym, ap, ◌∙◌, subst, inl, inr}
+use Rattle.std.specs.Prelude.{Contains}
+use Rattle.std.specs.List.{list_any}
 use Rattle.std.proofs.lemmas.Bool.{or_cases, or_left, or_right, true≢false}
-use Rattle.reg_op.specs.Set as set
-use Rattle.reg_op.specs.Set.{contains, union, contains-from_list}
+use Rattle.reg_op.specs.Set.{contains, union}
 use Rattle.reg_op.specs.Ids.{Id, is_same, is_before}
-use Rattle.reg_op.specs.Lists.{has}
 use Rattle.reg_op.specs.Kept.{entering}
-use Rattle.reg_op.specs.Operations.{Op, Ops, op_cmp}
+use Rattle.reg_op.specs.Operations.{Op}
 use Rattle.reg_op.specs.declared.operation.OpBody.{OpBody as Body}
-use Rattle.reg_op.specs.declared.operation.OpBody.TheVariants.{Enter, Supersede, Retire}
-use Rattle.reg_op.specs.Contents.{Content, state, joined, IsContent}
+use Rattle.reg_op.specs.declared.operation.OpBody.TheVariants.{Enter}
+use Rattle.reg_op.specs.Contents.{Content, joined, IsContent}
 use Rattle.reg_op.specs.Rows.{Row, rows}
-use Rattle.reg_op.specs.Status.{enters, retires, supersedes, status, is_enter, is_retirement}
-use Rattle.reg_op.specs.declared.status.Status.TheVariants.{Retired, Superseded, Valid}
-use Rattle.reg_op.proofs.OpLemmas.{op_total, op_exact, is_same_exact}
-use Rattle.reg_op.proofs.FiniteLemmas.{any-union, member_from_any}
+use Rattle.reg_op.specs.Status.{enters, retires, status, is_retirement}
+use Rattle.reg_op.specs.declared.status.Status.TheVariants.{Retired}
 use Rattle.reg_op.proofs.ContentLemmas.{joined_comm, union_left}
-use Rattle.reg_op.proofs.StatusLemmas.{enters-kept, retires-kept}
 use Rattle.reg_op.proofs.KeptLemmas.{kept_enter}
 use Rattle.reg_op.proofs.JoinLemmas.{joined_ok, joined_is_content}
-use Rattle.reg_office.specs.Commands.{Does, retirements}
-use Rattle.reg_office.proofs.LawLemmas.{bodies_are}
-use Rattle.reg_report.proofs.ConflictLemmas.{in_head, in_map, from_map, member_of_any}
+use Rattle.reg_office.specs.Commands.{retirements}
+use Rattle.reg_report.proofs.ConflictLemmas.{in_head}
 use Rattle.reg_report.proofs.EntryLemmas.{row_is_entered, row_of_entry}
 use Rattle.reg_report.proofs.PairLemmas.{it_enters}
 use Rattle.reg_settle.specs.Doubles.{HasLesser, IsDouble, AreDoubles}
 use Rattle.reg_settle.proofs.Settled.{picked_are}
-use Rattle.reg_desk.proofs.AfterRetiring.{row_status, row_enters, one_row, of_filter}
-
--- ---- the status of an entry, and whether it is retired
-
-retired_or : (en re su : Bool) → cond en (Some (cond re Retired (cond su Superseded Valid))) None ≡ Some Retired → re ≡ true
-retired_or true true su h = refl
-retired_or true false true h = cc
-retired_or true false false h = cc
-retired_or false re su h = cc
-
-stands_if : (s : Ops) (e : Id) → retires s e ≡ false → status s e ≢ Some Retired
-stands_if s e none h = true≢false (sym (retired_or (enters s e) (retires s e) (supersedes s e) h) ∙ none)
-
-retired_if : (s : Ops) (e : Id) → enters s e ≡ true → retires s e ≡ true → status s e ≡ Some Retired
-retired_if s e there gone = simp (there, gone)
-
-none_retires : (s : Ops) (e : Id) → enters s e ≡ true → status s e ≢ Some Retired → retires s e ≡ false
-none_retires s e there stands = by (retires s e) refl
-  where
-    by : (b : Bool) → retires s e ≡ b → retires s e ≡ false
-    by true gone = absurd (stands (retired_if s e there gone))
-    by false none = none
+use Rattle.reg_links.proofs.Rows.{row_status, row_enters, one_row, of_filter, stands_if, none_retires, join_retires, join_enters}
+use Rattle.reg_desk.proofs.AfterRetiring.{is_listed, Leaves}
 
 or_none : (a b : Bool) → (a || b) ≡ false → (a ≡ false) × (b ≡ false)
 or_none true b h = absurd (true≢false h)
@@ -59,18 +32,6 @@ or_none false b h = (refl, h)
 -- ---- a join
 
 module _ (x y z : Content) (j : joined x y ≡ Ok z) where
-  join_retires : (e : Id) → retires z.ops e ≡ (retires x.ops e || retires y.ops e)
-  join_retires e =
-      ap (λ (c : Content). retires c.ops e) (sym (joined_ok x y z j).1)
-      ∙ retires-kept (union x.ops y.ops) e
-      ∙ any-union op_total op_exact (λ (o : Op). is_retirement e o.body) x.ops y.ops
-
-  join_enters : (e : Id) → enters z.ops e ≡ (enters x.ops e || enters y.ops e)
-  join_enters e =
-      ap (λ (c : Content). enters c.ops e) (sym (joined_ok x y z j).1)
-      ∙ enters-kept (union x.ops y.ops) e
-      ∙ any-union op_total op_exact (λ (o : Op). is_same e o.id && is_enter o.body) x.ops y.ops
-
   -- a row of the first has one in the join, with its entry and text
   record Comes (r : Row) : Type 0 where
     row : Row
@@ -93,34 +54,16 @@ module _ (x y z : Content) (j : joined x y ≡ Ok z) where
 
 -- ---- an office retires its doubles
 
-retires_one : (b : Body) (e : Id) → is_retirement e b ≡ true → b ≡ Retire e
-retires_one (Enter text) e h = absurd (true≢false (sym h))
-retires_one (Supersede old newer) e h = absurd (true≢false (sym h))
-retires_one (Retire k) e h = ap Retire (sym (is_same_exact e k h))
-
-module _ (x xs : Content) (replica note : List ℕ) (ids made : List Id) (d : Does x replica note (retirements ids) xs made) where
-  retires_listed : (e : Id) → retires (state (set.from_list {R = op_cmp} d.ops)).ops e ≡ true → Contains ids e
-  retires_listed e h =
-      let m = member_from_any op_total op_exact (λ (o : Op). is_retirement e o.body) (set.from_list {R = op_cmp} d.ops) (sym (retires-kept (set.from_list {R = op_cmp} d.ops) e) ∙ h) in
-      let there : has d.ops m.0 ≡ true = sym (contains-from_list op_total d.ops m.0) ∙ m.1 in
-      let at = member_of_any (eq_by_cmp op_cmp m.0) d.ops there in
-      let is : m.0 ≡ at.0 = op_exact m.0 at.0 ((Equal-is (op_cmp m.0 at.0)).0 at.2) in
-      let listed : Contains (map (λ (o : Op). o.body) d.ops) (Retire e) =
-      subst (λ b. Contains (map (λ (o : Op). o.body) d.ops) b) (ap (λ (o : Op). o.body) (sym is) ∙ retires_one (m.0).body e m.2) (in_map (λ (o : Op). o.body) d.ops at.0 at.1) in
-      let body : Contains (retirements ids) (Retire e) = subst (λ l. Contains l (Retire e)) (bodies_are x replica note (retirements ids) d.ops d.are_made) listed in
-      let k = from_map Retire ids (Retire e) body in
-      let same : e ≡ k.0 = (let both : ◌≡◌ {A = Body} (Retire e) (Retire k.0) = k.2 in cc) in
-      subst (λ i. Contains ids i) (sym same) k.1
-
+module _ (x xs : Content) (ids : List Id) (l : Leaves x xs ids) where
   -- an entry that is neither retired nor a double is not retired afterwards
   pub stays_unretired : AreDoubles (rows x.ops) ids → (e : Id) → retires x.ops e ≡ false → ((r : Row) → Contains (rows x.ops) r → r.entry ≡ e → HasLesser (rows x.ops) r → ⊥) → retires xs.ops e ≡ false
   stays_unretired doubles e none least = by (retires xs.ops e) refl
     where
       by : (b : Bool) → retires xs.ops e ≡ b → retires xs.ops e ≡ false
       by false h = h
-      by true h = elim (or_cases (retires x.ops e) (retires (state (set.from_list {R = op_cmp} d.ops)).ops e) (sym (join_retires x (state (set.from_list {R = op_cmp} d.ops)) xs d.are_joined e) ∙ h)) [
+      by true h = elim (or_cases (retires x.ops e) (list_any (is_retirement e) (retirements ids)) (sym (l.retired e) ∙ h)) [
         | inl old ↦ absurd (true≢false (sym old ∙ none))
-        | inr new ↦ let r = picked_are (IsDouble (rows x.ops)) (rows x.ops) ids e doubles (retires_listed e new) in absurd (least r.0 r.1 r.3 r.2.lesser)
+        | inr new ↦ let r = picked_are (IsDouble (rows x.ops)) (rows x.ops) ids e doubles (is_listed ids e new) in absurd (least r.0 r.1 r.3 r.2.lesser)
       ]
 
 -- ---- two offices retire their doubles
@@ -150,22 +93,19 @@ module _ (x y both : Content) (ix : IsContent x) (iy : IsContent y) (j : joined 
   is_content : IsContent both
   is_content = joined_is_content x y both ix iy j
 
-  pub least_stays : (xs ys z : Content) (replica note other remark : List ℕ) (ids made others more : List Id) → AreDoubles (rows x.ops) ids → Does x replica note (retirements ids) xs made
-      → AreDoubles (rows y.ops) others → Does y other remark (retirements others) ys more → joined xs ys ≡ Ok z
+  pub least_stays : (xs ys z : Content) (ids others : List Id) → AreDoubles (rows x.ops) ids → Leaves x xs ids → AreDoubles (rows y.ops) others → Leaves y ys others → joined xs ys ≡ Ok z
       → (one : Row) → Contains (rows both.ops) one → one.status ≢ Some Retired → (HasLesser (rows both.ops) one → ⊥) → (enters z.ops one.entry ≡ true) × (status z.ops one.entry ≢ Some Retired)
-  least_stays xs ys z replica note other remark ids made others more doubles d doubles_y d_y jz one there stands least =
+  least_stays xs ys z ids others doubles l doubles_y l_y jz one there stands least =
       let e = one.entry in
       let in_both : enters both.ops e ≡ true = row_enters both.ops one there in
       let none_both : retires both.ops e ≡ false = none_retires both.ops e in_both (λ gone. stands (row_status both.ops one there ∙ gone)) in
       let none = or_none (retires x.ops e) (retires y.ops e) (sym (join_retires x y both j e) ∙ none_both) in
       let jc : joined y x ≡ Ok both = joined_comm y x ∙ j in
-      let none_xs : retires xs.ops e ≡ false = stays_unretired x xs replica note ids made d doubles e none.0 (λ r at en h. least (lesser_in_both x y both j is_content same one r there at en h)) in
-      let none_ys : retires ys.ops e ≡ false = stays_unretired y ys other remark others more d_y doubles_y e none.1 (λ r at en h. least (lesser_in_both y x both jc is_content (λ i. sym (same i)) one r there at en h)) in
+      let none_xs : retires xs.ops e ≡ false = stays_unretired x xs ids l doubles e none.0 (λ r at en h. least (lesser_in_both x y both j is_content same one r there at en h)) in
+      let none_ys : retires ys.ops e ≡ false = stays_unretired y ys others l_y doubles_y e none.1 (λ r at en h. least (lesser_in_both y x both jc is_content (λ i. sym (same i)) one r there at en h)) in
       let none_z : retires z.ops e ≡ false = join_retires xs ys z jz e ∙ (λ k. none_xs k || none_ys k) in
-      let new_x : Content = state (set.from_list {R = op_cmp} d.ops) in
-      let new_y : Content = state (set.from_list {R = op_cmp} d_y.ops) in
       let in_z : enters z.ops e ≡ true = elim (or_cases (enters x.ops e) (enters y.ops e) (sym (join_enters x y both j e) ∙ in_both)) [
-        | inl a ↦ join_enters xs ys z jz e ∙ or_left (enters xs.ops e) (enters ys.ops e) (join_enters x new_x xs d.are_joined e ∙ or_left (enters x.ops e) (enters new_x.ops e) a)
-        | inr b ↦ join_enters xs ys z jz e ∙ or_right (enters xs.ops e) (enters ys.ops e) (join_enters y new_y ys d_y.are_joined e ∙ or_left (enters y.ops e) (enters new_y.ops e) b)
+        | inl a ↦ join_enters xs ys z jz e ∙ or_left (enters xs.ops e) (enters ys.ops e) (l.still e a)
+        | inr b ↦ join_enters xs ys z jz e ∙ or_right (enters xs.ops e) (enters ys.ops e) (l_y.still e b)
       ] in
       (in_z, stands_if z.ops e none_z)

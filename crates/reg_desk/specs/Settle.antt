@@ -3,8 +3,8 @@ use Rattle.std.specs.Prelude.{◌≡◌, ◌≤◌, ◌<◌, ◌⊎◌, ℕ, Lis
 use Rattle.reg_op.specs.Ids.{Id}
 use Rattle.reg_op.specs.Contents.{Content}
 use Rattle.reg_op.specs.Rows.{rows}
+use Rattle.reg_office.specs.declared.fault.OfficeFault.{OfficeFault}
 use Rattle.reg_office.specs.declared.fault.OfficeFault.TheVariants as office
-use Rattle.reg_office.specs.Commands.{retirements}
 use Rattle.reg_settle.specs.declared.fault.SettleFault.{SettleFault}
 use Rattle.reg_settle.specs.declared.fault.SettleFault.TheVariants as settle
 use Rattle.reg_settle.specs.Settling.{IsSettled, IsUnsettled}
@@ -13,7 +13,9 @@ use Rattle.reg_engine.specs.declared.fault.Refusal.{Refusal}
 use Rattle.reg_engine.specs.declared.fault.Refusal.TheVariants as refusal
 use Rattle.reg_engine.specs.declared.fault.CliFault.{CliFault}
 use Rattle.reg_engine.specs.declared.fault.CliFault.TheVariants as cli
-use Rattle.reg_engine.specs.Change.{Makes, IsRefused}
+use Rattle.reg_engine.specs.Fault.{office_fault}
+use Rattle.reg_engine.specs.Outputs.{id_lines}
+use Rattle.reg_links.specs.Retiring.{RetiresFor, CannotRetireFor}
 
 -- the fault of an entry that cannot be kept
 abbrev pub settle_fault : SettleFault → CliFault
@@ -41,13 +43,25 @@ NeverRefuses x r = ⊥
 
 -- ---- the effect of retiring them
 
--- the entries that are listed for the content are retired, by these operations
-abbrev pub Retires : (Content → List Id → Type 0) → List ℕ → List ℕ → Content → Content → List ℕ → Type 0
-Retires Lists replica note x y lines = (list : List Id) × Lists x list × Makes replica note (retirements list) x y lines
+-- the entries that are listed for the content are retired, and their links pass on to the entries that stay; the lines are those
+-- of the new ids
+pub record Retires (Lists : Content → List Id → Type 0) (replica note : List ℕ) (x y : Content) (lines : List ℕ) : Type 0 where
+  pub list : List Id
+  pub lists : Lists x list
+  pub ids : List Id
+  pub retires : RetiresFor x replica note list y ids
+  pub lines_are : lines ≡ id_lines ids
 
 -- why none are: first a note is too long; then nothing is listed; then the office refuses; or there is no memory
+pub record IsRefusedAfter (Lists : Content → List Id → Type 0) (replica note : List ℕ) (x : Content) (r : Refusal) : Type 0 where
+  pub list : List Id
+  pub lists : Lists x list
+  pub fault : OfficeFault
+  pub refused : CannotRetireFor x replica note list fault
+  pub is : office_fault fault ≡ cli.Refused r
+
 abbrev pub IsUnretired : (Content → List Id → Type 0) → (Content → Refusal → Type 0) → List ℕ → List ℕ → Content → CliFault → Type 0
 IsUnretired Lists Refuses replica note x (cli.Refused r) = ((r ≡ refusal.Office office.NoteTooLong) × (200 < length note))
-    ⊎ (((length note ≤ 200) × Refuses x r) ⊎ ((length note ≤ 200) × ((list : List Id) × Lists x list × IsRefused x replica note (retirements list) r)))
+    ⊎ (((length note ≤ 200) × Refuses x r) ⊎ ((length note ≤ 200) × IsRefusedAfter Lists replica note x r))
 IsUnretired Lists Refuses replica note x cli.Memory = Unit {0}
 IsUnretired Lists Refuses replica note x f = ⊥

@@ -5,12 +5,15 @@ ghost use Rattle.byte_io.specs.Device.{SourceState};
 ghost use Rattle.reg_op.specs.Ids.{Id};
 ghost use Rattle.reg_op.specs.Contents.{Content, joined, nothing, IsContent};
 ghost use Rattle.reg_op.specs.Rows.{Row, rows, IsInConflict};
-ghost use Rattle.reg_op.specs.declared.status.Status.TheVariants.{Retired};
+ghost use Rattle.reg_op.specs.declared.status.Status.TheVariants.{Superseded, Retired};
 ghost use Rattle.reg_op.specs.Status.{enters, retires, status};
-ghost use Rattle.reg_office.specs.Commands.{Does, retirements};
 ghost use Rattle.reg_office.specs.declared.fault.OfficeFault.TheVariants as office;
 ghost use Rattle.reg_report.specs.Conflicts.{KeyBytes, HasKey};
 ghost use Rattle.reg_report.specs.Exports.{export};
+ghost use Rattle.reg_links.specs.Links.{is_linked};
+ghost use Rattle.reg_links.specs.Heirs.{IsHeir};
+ghost use Rattle.reg_links.specs.Law.{IsHeirOfBoth};
+ghost use Rattle.reg_links.specs.Retiring.{RetiresFor};
 ghost use Rattle.reg_settle.specs.Settling.{IsSettled};
 ghost use Rattle.reg_settle.specs.Doubles.{AreDoubles, HasLesser};
 ghost use Rattle.reg_import.specs.declared.action.Differs.TheVariants.{Beside};
@@ -28,14 +31,14 @@ ghost use Rattle.reg_desk.specs.Logged.{LogsOf, CannotLog, LogsFor, CannotLogFor
 /// After an office has retired the entries that settling lists, no key of a kept entry is in conflict.
 pub fn kept_keys_are_settled()
     ensures { (x y : Content) (replica note : List ℕ) (keeps ids made : List Id) (keep : Row) (key : KeyBytes) → IsContent x
-        → IsSettled (rows x.ops) keeps ids → Does x replica note (retirements ids) y made
+        → IsSettled (rows x.ops) keeps ids → RetiresFor x replica note ids y made
         → Contains (rows x.ops) keep → Contains keeps keep.entry → HasKey keep.definition key → ¬ (IsInConflict HasKey (rows y.ops) key) }
 {}
 
 /// After an office has retired all doubles, no two entries that are not retired have the same text.
 pub fn texts_stand_once()
     ensures { (x y : Content) (replica note : List ℕ) (ids made : List Id) (one other : Row) → IsContent x
-        → AreDoubles (rows x.ops) ids → Does x replica note (retirements ids) y made
+        → AreDoubles (rows x.ops) ids → RetiresFor x replica note ids y made
         → Contains (rows y.ops) one → Contains (rows y.ops) other → one.status ≢ Some Retired → other.status ≢ Some Retired
         → one.definition ≡ other.definition → one.entry ≡ other.entry }
 {}
@@ -45,10 +48,19 @@ pub fn texts_stand_once()
 pub fn the_least_stays()
     ensures { (x y both xs ys z : Content) (replica other note remark : List ℕ) (ids others made more : List Id) (one : Row) → IsContent x → IsContent y
         → joined x y ≡ Ok both → ((e : Id) → retires x.ops e ≡ retires y.ops e)
-        → AreDoubles (rows x.ops) ids → Does x replica note (retirements ids) xs made
-        → AreDoubles (rows y.ops) others → Does y other remark (retirements others) ys more → joined xs ys ≡ Ok z
+        → AreDoubles (rows x.ops) ids → RetiresFor x replica note ids xs made
+        → AreDoubles (rows y.ops) others → RetiresFor y other remark others ys more → joined xs ys ≡ Ok z
         → Contains (rows both.ops) one → one.status ≢ Some Retired → ¬ (HasLesser (rows both.ops) one)
         → (enters z.ops one.entry ≡ true) × (status z.ops one.entry ≢ Some Retired) }
+{}
+
+/// After settling, one entry that is not retired is superseded by another exactly if they are the heirs of two entries for which this
+/// was so before; and the heir of an entry that was superseded is superseded, unless both had one heir.
+pub fn settling_keeps_links()
+    ensures same { (x y : Content) (replica note : List ℕ) (ids made : List Id) (a b : Id) (s : RetiresFor x replica note ids y made)
+        → IsContent x → a ≢ b → (is_linked y.ops a b ≡ true) ↔ IsHeirOfBoth x s.between a b }
+    ensures superseded { (x y : Content) (replica note : List ℕ) (ids made : List Id) (old newer a b : Id) (s : RetiresFor x replica note ids y made)
+        → is_linked x.ops old newer ≡ true → IsHeir s.between.ops old a → IsHeir s.between.ops newer b → a ≢ b → status y.ops a ≡ Some Superseded }
 {}
 
 /// The same files, imported again in the same mode into the register that their import made, make nothing: whatever the office,

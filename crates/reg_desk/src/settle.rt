@@ -1,11 +1,15 @@
 //! The command `settle`: retires entries so that others are kept, or so that each text is in one entry.
 
-ghost use Rattle.std.specs.Prelude.{◌≡◌, IfOk, IfErr};
-ghost use Rattle.reg_office.specs.Commands.{retirements};
-ghost use Rattle.reg_engine.specs.Change.{Makes, CannotMake};
+ghost use Rattle.std.specs.Prelude.{◌≡◌, ◌⊎◌, List, IfOk, IfErr};
+ghost use Rattle.reg_op.specs.Ids.{Id};
+ghost use Rattle.reg_office.specs.declared.fault.OfficeFault.{OfficeFault as OneFault};
+ghost use Rattle.reg_engine.specs.Fault.{office_fault};
+ghost use Rattle.reg_engine.specs.Outputs.{id_lines};
+ghost use Rattle.reg_links.specs.Retiring.{RetiresFor, CannotRetireFor};
 ghost use Rattle.reg_desk.specs.Settle.{settle_fault};
 
-use reg_engine::{Change, CliFault, Made, Refusal, Retire};
+use reg_engine::{Change, CliFault, Made, Refusal, id_lines};
+use reg_links::{Retired, retire_for_heirs};
 use reg_office::OfficeFault;
 use reg_op::{Note, OpId};
 use reg_settle::{SettleFault, doubles, to_retire};
@@ -13,7 +17,8 @@ use reg_state::Register;
 use std::alloc::Global;
 use uuid::Uuid;
 
-/// Retires, as the replica and with the note, the other entries that have the keys of the entries to keep.
+/// Retires, as the replica and with the note, the other entries that have the keys of the entries to keep. Their links pass on
+/// to these.
 #[derive(Drop)]
 pub struct Settle<'a> {
     pub replica: Uuid,
@@ -51,7 +56,7 @@ impl Change for Settle<'_> {
     }
 }
 
-/// Retires all doubles, as the replica and with the note.
+/// Retires all doubles, as the replica and with the note. Their links pass on to the entries that stay.
 #[derive(Drop)]
 pub struct SettleEqual<'a> {
     pub replica: Uuid,
@@ -88,7 +93,7 @@ impl Change for SettleEqual<'_> {
     }
 }
 
-// Retires the entries, as the replica and with the note.
+// Retires the entries, as the replica and with the note, and makes the links that pass on.
 fn retire_all(
     alloc: Global,
     register: Register,
@@ -96,17 +101,18 @@ fn retire_all(
     entries: &[OpId],
     note: &str,
 ) -> Result<Made, CliFault>
-    ensures made { IfOk result (λ made. Makes replica note.now (retirements entries.now) register made.register made.lines.items) }
-    ensures fault { IfErr result (CannotMake replica note.now (retirements entries.now) register) }
+    ensures made { IfOk result (λ made. (ids : List Id) × RetiresFor register replica note.now entries.now made.register ids × (made.lines.items ≡ id_lines ids)) }
+    ensures fault { IfErr result (λ f. ((g : OneFault) × CannotRetireFor register replica note.now entries.now g × (f ≡ office_fault g)) ⊎ (f ≡ CliFault.Memory)) }
 {
-    let mut command = Retire {
-        replica,
-        entries,
-        note,
+    let Retired { register, ids } = match retire_for_heirs(
+        alloc, register, replica, entries, note,
+    ) {
+        Ok(retired) => retired,
+        Err(fault) => return Err(CliFault::of_office(fault)),
     };
-    match command.make(alloc, 0, register) {
-        Ok(made) => Ok(made),
-        Err(fault) => Err(fault),
+    match id_lines(alloc, &ids) {
+        Ok(lines) => Ok(Made { register, lines }),
+        Err(_) => Err(CliFault::Memory),
     }
 }
 
