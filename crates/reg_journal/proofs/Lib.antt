@@ -1,0 +1,11 @@
+pub mod JournalLemmas
+pub mod LeastLemmas
+pub mod LineLemmas
+pub mod ForgedLemmas
+pub mod NumbersLemmas
+pub mod JoiningLemmas
+pub mod AddingLemmas
+pub mod LateLemmas
+pub mod MadeLemmas
+pub mod TextLemmas
+pub mod HonestLemmas

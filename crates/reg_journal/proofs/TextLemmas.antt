@@ -1,0 +1,68 @@
+-- A text is one office file, and an office file has one text.
+use Rattle.std.proofs.Common.{◌≡◌, ℕ, ◌<◌, ◌≤◌, ◌^◌, true, false, List, ◌++◌, length, refl, sym, ap, ◌∙◌, ◌+◌, subst, inl, arith, length-append}
+use Rattle.reg_op.specs.Contents.{Content}
+use Rattle.reg_file.specs.Files.{Holds, HoldsFirst, IsFileOf, IsTooLarge, most}
+use Rattle.reg_file.specs.Reading.{says_first}
+use Rattle.reg_file.proofs.HoldLemmas.{one_content, one_file}
+use Rattle.reg_journal.specs.declared.head.Head.{Head}
+use Rattle.reg_journal.specs.Journal.{Journal, IsOffice}
+use Rattle.reg_journal.specs.Text.{head_text, head_of, IsHead, IsTextOf, IsOfficeTooLarge, HoldsOffice}
+use Rattle.reg_journal.proofs.LineLemmas.{same_head}
+
+pub head_is : (f : Journal) → IsOffice f → IsHead (head_of f)
+head_is f is =
+    let fits = is.fits in
+    let stood = is.stood in
+    record { long = is.long; bytes = is.bytes; last_fits = is.fits; stood_fits = omega (arith, fits, stood) }
+
+-- the file in the text is that of the operations
+pub file_holds : (text : List ℕ) (f : Journal) (h : HoldsOffice text f) → Holds h.text_is.file f.made
+file_holds text f h =
+    let short = h.short in
+    let long : length text ≡ length (head_text (head_of f) ++ h.text_is.file) = ap length h.text_is.whole in
+    record { content = h.office.content; bytes_are = h.text_is.is_file; short = omega (arith, short, long, length-append (head_text (head_of f)) h.text_is.file) }
+
+pub one_office : (text : List ℕ) (f g : Journal) → HoldsOffice text f → HoldsOffice text g → f ≡ g
+one_office text f g h k =
+    let same = same_head (head_of f) (head_of g) h.text_is.file k.text_is.file (head_is f h.office) (head_is g k.office) (sym h.text_is.whole ∙ k.text_is.whole) in
+    let made : f.made ≡ g.made = one_content h.text_is.file f.made g.made (file_holds text f h) (subst (λ b. Holds b g.made) (sym same.1) (file_holds text g k)) in
+    λ i. record { replica = (same.0 i).replica; last = (same.0 i).last; stood = (same.0 i).stood; made = made i }
+
+pub one_text : (f : Journal) (text other : List ℕ) → IsTextOf f text → IsTextOf f other → text ≡ other
+one_text f text other h k = h.whole ∙ ap (λ (b : List ℕ). head_text (head_of f) ++ b) (one_file f.made h.file k.file h.is_file k.is_file) ∙ sym k.whole
+
+-- such a file does not say that it is of the first version, as one of that version does
+pub not_first : (bytes : List ℕ) (x : Content) → Holds bytes x → says_first bytes ≡ false
+not_first bytes x h = ap says_first h.bytes_are.whole
+
+pub first_says : (bytes : List ℕ) (x : Content) → HoldsFirst bytes x → says_first bytes ≡ true
+first_says bytes x h = ap says_first h.0.bytes_are.whole
+
+-- two lines and a file that a text has, as an office file
+pub is_office_text : (text file : List ℕ) (h : Head) (made : Content) → text ≡ head_text h ++ file → Holds file made → IsOffice (record { replica = h.replica; last = h.last; stood = h.stood; made = made }) → length text ≤ most
+    → HoldsOffice text (record { replica = h.replica; last = h.last; stood = h.stood; made = made })
+is_office_text text file h made e holds office short = record { office = office; text_is = record { file = file; is_file = holds.bytes_are; whole = e }; short = short }
+
+-- a file that is too long is so behind two lines, too
+pub large_file : (f : Journal) → IsTooLarge f.made → IsOfficeTooLarge f
+large_file f (file, is, over) = (
+  head_text (head_of f) ++ file,
+  record { file = file; is_file = is; whole = refl },
+  omega (arith, over, length-append (head_text (head_of f)) file),
+)
+
+pub large_text : (f : Journal) (head file : List ℕ) → head ≡ head_text (head_of f) → Holds file f.made → most < length head + length file → IsOfficeTooLarge f
+large_text f head file e h over = (
+  head_text (head_of f) ++ file,
+  record { file = file; is_file = h.bytes_are; whole = refl },
+  (let same : length head ≡ length (head_text (head_of f)) = ap length e in omega (arith, over, same, length-append (head_text (head_of f)) file)),
+)
+
+-- a text with these two lines is the file of no other office
+pub same_lines : (text file : List ℕ) (h : Head) (f : Journal) → text ≡ head_text h ++ file → IsHead h → (k : HoldsOffice text f) → (h ≡ head_of f) × (file ≡ k.text_is.file)
+same_lines text file h f e is k = same_head h (head_of f) file k.text_is.file is (head_is f k.office) (sym e ∙ k.text_is.whole)
+
+pub same_made : (text file : List ℕ) (h : Head) (f : Journal) (made : Content) → text ≡ head_text h ++ file → IsHead h → Holds file made → HoldsOffice text f → made ≡ f.made
+same_made text file h f made e is holds k =
+    let same = same_lines text file h f e is k in
+    one_content file made f.made holds (subst (λ b. Holds b f.made) (sym same.1) (file_holds text f k))

@@ -1,0 +1,7 @@
+pub mod Journal
+pub mod Runs
+pub mod Text
+pub mod Standing
+pub mod Adding
+pub mod Again
+pub mod Journals
