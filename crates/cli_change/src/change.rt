@@ -2,10 +2,8 @@
 use crate::changing::{change_of, changed};
 use crate::offices::{Desk, office_named, open_desk};
 use clap::ArgMatches;
-use cli_open::engines::operations::OpId;
 use cli_open::engines::places::Place;
 use cli_open::engines::{CliFault, Retire, Supersede};
-use cli_open::guards::GuardFault;
 use cli_open::{
     Outcome, entries, entry, files_before, is_twice, listed, next_file, open_text, open_to_change,
     push_listed, push_words, word,
@@ -40,10 +38,10 @@ pub fn supersede(rt: &HostRuntime, matches: &ArgMatches<'_>) -> Superseded {
     if is_twice(matches.get_strs("BY").unwrap_or(&[])) {
         return Superseded::Plain(Outcome::Misuse(TWICE));
     }
-    Superseded::Plain(Outcome::of_office(supersede_named(rt, matches)))
+    Superseded::Plain(Outcome::of(supersede_named(rt, matches)))
 }
 
-fn supersede_named(rt: &HostRuntime, matches: &ArgMatches<'_>) -> Result<(), GuardFault> {
+fn supersede_named(rt: &HostRuntime, matches: &ArgMatches<'_>) -> Result<(), CliFault> {
     let listed = listed(rt, matches, "BY")?;
     let named = office_named(matches)?;
     let note = word(matches, "note");
@@ -82,7 +80,7 @@ fn supersede_from(rt: &HostRuntime, matches: &ArgMatches<'_>, path: &str) -> Sup
     };
     let mut desk = match open_desk(rt, rt.alloc(), matches, named) {
         Ok(desk) => desk,
-        Err(fault) => return Superseded::Plain(Outcome::Guard(fault)),
+        Err(fault) => return Superseded::Plain(Outcome::Fault(fault)),
     };
     let outcome = supersede_from_at(rt, matches, path, &mut desk);
     desk.close();
@@ -95,7 +93,7 @@ fn supersede_from_at<Q: Place>(
     path: &str,
     desk: &mut Desk<Q>,
 ) -> Superseded {
-    let mut register = match open_to_change(rt, rt.alloc(), matches) {
+    let register = match open_to_change(rt, rt.alloc(), matches) {
         Ok(register) => register,
         Err(fault) => return Superseded::Plain(Outcome::Fault(fault)),
     };
@@ -112,21 +110,20 @@ fn supersede_from_at<Q: Place>(
         keep_going: matches.get_flag("keep-going"),
         refused: Vec::new(rt.alloc()),
     };
-    let answer = change_of(rt, matches, desk, &mut register, &mut command);
-    let answer = behind_first(answer, desk.lag());
+    let answer = change_of(rt, matches, desk, register, &mut command);
     outcome_of_list(answer, command.refused, command.keep_going)
 }
 
 // The outcome of a list of which these lines were refused. Lines that were left out are reported only if the others were done.
 fn outcome_of_list(
-    answer: Result<(), GuardFault>,
+    answer: Result<(), CliFault>,
     refused: Vec<RefusedLine>,
     keep_going: bool,
 ) -> Superseded {
     if let Err(fault) = answer {
-        return match line_of(&fault, &refused, keep_going) {
+        return match refused_line(fault, &refused, keep_going) {
             Some(line) => Superseded::AtLine(line),
-            None => Superseded::Plain(Outcome::Guard(fault)),
+            None => Superseded::Plain(Outcome::Fault(fault)),
         };
     }
     if refused.is_empty() {
@@ -135,31 +132,15 @@ fn outcome_of_list(
     Superseded::LeftLines(refused)
 }
 
-// The line that is the reason for the fault, if one is.
-fn line_of(fault: &GuardFault, refused: &[RefusedLine], keep_going: bool) -> Option<RefusedLine> {
-    match fault {
-        GuardFault::Command(fault) => refused_line(*fault, refused, keep_going),
-        _ => None,
-    }
-}
-
-// A register that is behind comes before a refused line, and before a note that is too long.
-fn behind_first(answer: Result<(), GuardFault>, lag: Option<OpId>) -> Result<(), GuardFault> {
-    match (answer, lag) {
-        (Err(GuardFault::Command(CliFault::Refused(_))), Some(id)) => Err(GuardFault::Behind(id)),
-        (answer, _) => answer,
-    }
-}
-
 /// `retire`.
 pub fn retire(rt: &HostRuntime, matches: &ArgMatches<'_>) -> Outcome {
     if is_twice(matches.get_strs("ENTRY").unwrap_or(&[])) {
         return Outcome::Misuse(TWICE);
     }
-    Outcome::of_office(retired(rt, matches))
+    Outcome::of(retired(rt, matches))
 }
 
-fn retired(rt: &HostRuntime, matches: &ArgMatches<'_>) -> Result<(), GuardFault> {
+fn retired(rt: &HostRuntime, matches: &ArgMatches<'_>) -> Result<(), CliFault> {
     let listed = listed(rt, matches, "ENTRY")?;
     let named = office_named(matches)?;
     let note = word(matches, "note");
@@ -191,7 +172,7 @@ fn change_by_words<Q: Place, C: ChangeOf>(
     desk: &mut Desk<Q>,
     words: &[&[u8]],
     command: &C,
-) -> Result<(), GuardFault> {
+) -> Result<(), CliFault> {
     let mut command = ByWords { words, command };
     changed(rt, matches, desk, &mut command)
 }

@@ -8,5 +8,5 @@ mod stopped;
 
 pub use change::{Superseded, TWICE, retire, supersede};
 pub use changing::{change_of, changed};
-pub use offices::{Desk, OfficeFile, misnamed, office, office_named, open_desk};
+pub use offices::{Desk, misnamed, office, office_named, open_desk};
 pub use reg_supersede::RefusedLine;

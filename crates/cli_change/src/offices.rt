@@ -1,14 +1,11 @@
 //! Who changes a register: an office by its UUID, or one that works through its office file.
 use crate::stopped::put_left;
 use clap::ArgMatches;
-use cli_open::engines::operations::OpId;
 use cli_open::engines::places::{FileId, Lockable, Place};
 use cli_open::engines::streams::{Reading, Writing};
 use cli_open::engines::{CliFault, OutFault};
-use cli_open::guards::{
-    GuardFault, LastNumber, OfficePlace, last_of, lock_office, run_office, unopened,
-};
-use cli_open::{office_file, parts, replica, word};
+use cli_open::guards::{LastNumber, OfficePlace, last_of, lock_office, run_office, unopened};
+use cli_open::{OfficeFile, office_file, parts, replica, word};
 use std::alloc::{AllocError, Global};
 use std::io::ErrorKind;
 use std::os::fd::AsFd;
@@ -52,20 +49,11 @@ impl<Q: Drop> Drop for Desk<Q> {
     }
 }
 
-/// The last number of an office, and the place of its office file, where the new one is made already.
-#[derive(Drop)]
-pub struct OfficeFile<Q> {
-    pub last: LastNumber,
-    pub place: Q,
-    /// The number that the register of the command is behind, if it is.
-    pub lag: Option<OpId>,
-}
-
 impl<Q: Place> Desk<Q> {
-    /// The number that the register of the command is behind, if it is.
-    pub fn lag(&self) -> Option<OpId> {
+    /// The last number of the office, if it has an office file.
+    pub fn last(&self) -> Option<LastNumber> {
         match &self.file {
-            Some(file) => file.lag,
+            Some(file) => Some(file.last),
             None => None,
         }
     }
@@ -85,7 +73,7 @@ pub fn open_desk<'a, R: Files>(
     alloc: Global,
     matches: &ArgMatches<'_>,
     named: Option<Uuid>,
-) -> Result<Desk<OfficePlace<'a, R>>, GuardFault>
+) -> Result<Desk<OfficePlace<'a, R>>, CliFault>
 where
     R::File: AsFd + Lockable,
 {
@@ -97,7 +85,7 @@ where
     }
     let path = word(matches, "office");
     let Ok(mut place) = OfficePlace::beside(alloc, rt, path) else {
-        return Err(GuardFault::Command(CliFault::Memory));
+        return Err(CliFault::Memory);
     };
     if let Err(fault) = lock_office(&mut place) {
         drop(place);
@@ -116,15 +104,11 @@ where
     }
     Ok(Desk {
         replica: last.replica(),
-        file: Some(OfficeFile {
-            last,
-            place,
-            lag: None,
-        }),
+        file: Some(OfficeFile { last, place }),
     })
 }
 
-fn read<R: Files>(rt: &R, alloc: Global, path: &str) -> Result<LastNumber, GuardFault> {
+fn read<R: Files>(rt: &R, alloc: Global, path: &str) -> Result<LastNumber, CliFault> {
     match fs::open(rt, path) {
         Ok(file) => last_of(alloc, &mut Reading::new(file)),
         Err(_) => Err(unopened()),
@@ -169,7 +153,7 @@ fn misnamed_office<R: Files>(
     }
     match read(rt, alloc, path) {
         Ok(last) if last.replica() == named => Ok(Some(AS_IS_OFFICE)),
-        Err(GuardFault::Command(fault)) => Err(fault),
+        Err(CliFault::Memory) => Err(CliFault::Memory),
         _ => Ok(None),
     }
 }

@@ -3,11 +3,11 @@ use clap::ArgMatches;
 use cli_open::engines::disks::NewFile;
 use cli_open::engines::shelf::is_size;
 use cli_open::engines::{
-    CliFault, FirstVersion, PieceFor, Refusal, ShelfProblem, Summary, Whole, run_give, run_merge,
+    CliFault, FirstVersion, PieceFor, Refusal, ShelfProblem, Summary, Whole, run_merge,
     run_merge_on, run_new, run_shelf,
 };
 use cli_open::{
-    Opened, ReadShelf, Replaced, give_of, lock_new_shelf, next_file, open, open_all, open_inputs,
+    Opened, Replaced, give_of, lock_new_shelf, next_file, open, open_all, open_inputs,
     open_register, open_shelf, open_to_read, parts, place, word,
 };
 use std::fs::{self, File, OpenFile};
@@ -95,13 +95,5 @@ fn sync_folder<R: Files>(rt: &R, path: &str) -> Result<(), CliFault> {
 /// `unshelf`.
 pub fn unshelf(rt: &HostRuntime, matches: &ArgMatches<'_>) -> Result<(), CliFault> {
     let disk = open_to_read(rt, word(matches, "SHELF"))?;
-    let mut place = place(rt, rt.alloc(), word(matches, "OUT"))?;
-    let answer = run_give(
-        rt.alloc(),
-        &mut ReadShelf::new(disk),
-        &mut Whole,
-        &mut place,
-    );
-    drop(place);
-    answer
+    give_of(rt, matches, Opened::Shelf(disk), &mut Whole)
 }

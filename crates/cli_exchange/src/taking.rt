@@ -3,17 +3,16 @@ use byte_late::{LateFile, LateSource};
 use clap::ArgMatches;
 use cli_faults::sentences::Shown;
 use cli_faults::{Named, explain};
-use cli_open::engines::places::{Input, Lockable, Place};
+use cli_open::engines::CliFault;
+use cli_open::engines::places::Lockable;
 use cli_open::engines::streams::Writing;
-use cli_open::engines::{CliFault, InFile, OfFile, OnShelf};
 use cli_open::{
-    Opened, Outcome, ReadShelf, Replaced, Rows, answered, open_register, open_shelf,
-    printing_place, word,
+    Opened, Outcome, Replaced, Rows, answered, open_register, open_shelf, target_of, word,
 };
 use reg_take::{LeftOut, run_take, try_take};
 use std::alloc::{AllocError, Global};
-use std::fs::OpenFile;
-use std::io::{self, Read, Seek, Write};
+use std::fs::File;
+use std::io::{self, Write};
 use std::rt::Files;
 
 /// `take`. The register is opened first, and each file when its turn comes.
@@ -65,10 +64,10 @@ fn late_files<'a, R: Files>(
 }
 
 // Joins the files to the register, and prints what changed.
-fn take_into<F: Read + Write + Seek + OpenFile + Drop, S: LateSource>(
+fn take_into<S: LateSource>(
     rt: &HostRuntime,
     matches: &ArgMatches<'_>,
-    register: Opened<F>,
+    register: Opened<File>,
     files: &mut [S],
 ) -> Result<Vec<LeftOut>, CliFault> {
     let mut sink = Rows::sink(rt.alloc(), matches, io::writer(rt));
@@ -79,65 +78,21 @@ fn take_into<F: Read + Write + Seek + OpenFile + Drop, S: LateSource>(
     }
 }
 
-fn take_to<F: Read + Write + Seek + OpenFile + Drop, S: LateSource, W: Write>(
+fn take_to<S: LateSource, W: Write>(
     rt: &HostRuntime,
     matches: &ArgMatches<'_>,
-    register: Opened<F>,
+    register: Opened<File>,
     files: &mut [S],
     sink: &mut Writing<W>,
 ) -> Result<Vec<LeftOut>, CliFault> {
     let keep_going = matches.get_flag("keep-going");
     if matches.get_flag("dry-run") {
-        return take_tried(rt.alloc(), register, files, keep_going, sink);
+        return try_take(rt.alloc(), &mut register.reading(), files, keep_going, sink);
     }
-    match register {
-        Opened::File(mut source) => {
-            let mut place = printing_place(rt, rt.alloc(), word(matches, "REG"))?;
-            let own = &mut source;
-            let answer = take_file(rt.alloc(), own, &mut place, files, keep_going, sink);
-            drop(place);
-            answer
-        }
-        Opened::Shelf(mut disk) => {
-            let mut store = OnShelf { disk: &mut disk };
-            run_take(rt.alloc(), &mut store, files, keep_going, sink)
-        }
-    }
-}
-
-// `take --dry-run`, which writes no register.
-fn take_tried<F: Read + Write + Seek + OpenFile + Drop, S: LateSource, W: Write>(
-    alloc: Global,
-    register: Opened<F>,
-    files: &mut [S],
-    keep_going: bool,
-    sink: &mut Writing<W>,
-) -> Result<Vec<LeftOut>, CliFault> {
-    match register {
-        Opened::File(mut source) => {
-            let mut store = OfFile {
-                source: &mut source,
-            };
-            try_take(alloc, &mut store, files, keep_going, sink)
-        }
-        Opened::Shelf(disk) => {
-            let mut store = ReadShelf::new(disk);
-            try_take(alloc, &mut store, files, keep_going, sink)
-        }
-    }
-}
-
-// The file is read in one place and written in another.
-fn take_file<'a, S: Input, T: LateSource, P: Place, W: Write>(
-    alloc: Global,
-    source: &'a mut S,
-    place: &'a mut P,
-    files: &mut [T],
-    keep_going: bool,
-    sink: &mut Writing<W>,
-) -> Result<Vec<LeftOut>, CliFault> {
-    let mut store = InFile { source, place };
-    run_take(alloc, &mut store, files, keep_going, sink)
+    let mut target = target_of(rt, rt.alloc(), matches, register, "REG")?;
+    let answer = run_take(rt.alloc(), &mut target.plain(), files, keep_going, sink);
+    drop(target);
+    answer
 }
 
 // Names the files that are left out, each with its sentence if that is asked for. The status is that of the first of them.

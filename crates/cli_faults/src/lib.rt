@@ -8,4 +8,4 @@ mod sentence;
 pub use cli_sentences as sentences;
 pub use naming::Second;
 pub use paths::Named;
-pub use sentence::{add, explain, explain_guard, print_lines};
+pub use sentence::{add, explain, print_lines};

@@ -45,15 +45,6 @@ impl Second {
         }
     }
 
-    /// Nothing is looked up.
-    pub fn nothing() -> Second {
-        Second {
-            head: None,
-            looks: Looks::Unknown,
-            is_written: false,
-        }
-    }
-
     /// The same, borrowed.
     pub fn found(&self) -> Found<'_> {
         Found {

@@ -36,6 +36,8 @@ pub struct Named<'a> {
     pub keeps_going: bool,
     /// The files that it reads, in the order of their numbers; for `status`, its shelves.
     pub files: Vec<FileName<'a>>,
+    /// Whether the first of them is an office file.
+    pub has_office: bool,
     /// The register that it reads, if any.
     pub register: &'a str,
     /// The file that it writes, if any.
@@ -61,6 +63,7 @@ impl<'a> Named<'a> {
             command: command_of(name, matches),
             keeps_going: matches.get_flag("keep-going"),
             files: files_named(rt, name, matches, shelf)?,
+            has_office: office_file(matches).is_some(),
             register: word(matches, register_of(name)),
             out,
             before: Written::at(rt, out),
@@ -75,6 +78,7 @@ impl<'a> Named<'a> {
             command: self.command,
             keeps_going: self.keeps_going,
             files: self.files.as_slice(),
+            has_office: self.has_office,
             register: self.register,
             out: self.out,
             shelf: self.shelf,

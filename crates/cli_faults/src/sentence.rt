@@ -2,8 +2,7 @@
 use crate::naming::{Second, paths_at};
 use crate::paths::Named;
 use cli_open::engines::CliFault;
-use cli_open::guards::GuardFault;
-use cli_sentences::{FileName, GuardSentence, Sentence, Shown, ShownLines};
+use cli_sentences::{FileName, Sentence, Shown, ShownLines};
 use std::alloc::{AllocError, Global};
 use std::str;
 
@@ -22,22 +21,6 @@ fn explain_in(rt: &HostRuntime, fault: CliFault, named: &Named<'_>) {
         paths: paths_at(rt, named, &fault),
     };
     let _ = eprint!(rt; "{sentence}");
-}
-
-/// The same for a command with an office file.
-pub fn explain_guard(rt: &HostRuntime, fault: GuardFault, named: &Option<Named<'_>>) {
-    if let Some(named) = named {
-        if let GuardFault::Command(fault) = fault {
-            return explain_in(rt, fault, named);
-        }
-        let nothing = Second::nothing();
-        let sentence = GuardSentence {
-            fault,
-            found: nothing.found(),
-            paths: named.paths(),
-        };
-        let _ = eprint!(rt; "{sentence}");
-    }
 }
 
 /// Prints explanations of texts to standard error, below the line of the fault. They are UTF-8.

@@ -3,13 +3,11 @@ use crate::into::export_into;
 use clap::ArgMatches;
 use cli_open::engines::operations::OpId;
 use cli_open::engines::streams::Writing;
-use cli_open::engines::{CliFault, Export, OfFile, Refusal};
-use cli_open::{Opened, Outcome, ReadShelf, open_register, print_of, wanted, word};
+use cli_open::engines::{CliFault, Export, Refusal};
+use cli_open::{Outcome, open_register, print_of, wanted, word};
 use reg_formats::{Format, Graph, run_handed};
 use reg_into::Choice;
-use std::alloc::Global;
-use std::fs::OpenFile;
-use std::io::{self, Read, Seek, Write};
+use std::io;
 
 const NOT_HANDED: &str =
     "error: --status, --authority and --keep-going go with --into, --geojson or --proj-sql";
@@ -73,27 +71,13 @@ fn print_as(
 ) -> Result<Option<OpId>, CliFault> {
     let mut sink = Writing::new(io::writer(rt));
     let register = open_register(rt, rt.alloc(), matches, "REG", &None)?;
-    print_from(rt.alloc(), register, format, choice, keep_going, &mut sink)
-}
-
-fn print_from<F: Read + Write + Seek + OpenFile + Drop, W: Write>(
-    alloc: Global,
-    register: Opened<F>,
-    format: Format,
-    choice: &Choice<'_>,
-    keep_going: bool,
-    sink: &mut Writing<W>,
-) -> Result<Option<OpId>, CliFault> {
-    match register {
-        Opened::File(mut source) => {
-            let mut store = OfFile {
-                source: &mut source,
-            };
-            run_handed(alloc, &mut store, format, choice, keep_going, sink)
-        }
-        Opened::Shelf(disk) => {
-            let mut store = ReadShelf::new(disk);
-            run_handed(alloc, &mut store, format, choice, keep_going, sink)
-        }
-    }
+    let mut store = register.reading();
+    run_handed(
+        rt.alloc(),
+        &mut store,
+        format,
+        choice,
+        keep_going,
+        &mut sink,
+    )
 }

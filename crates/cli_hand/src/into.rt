@@ -1,13 +1,10 @@
 //! The command `export --into`.
-use byte_folder::{FolderPlace, SystemFolder};
+use byte_folder::SystemFolder;
 use clap::ArgMatches;
 use cli_open::engines::operations::OpId;
-use cli_open::engines::{CliFault, OfFile, Refusal};
-use cli_open::{Opened, ReadShelf, open_register, word};
+use cli_open::engines::{CliFault, Refusal};
+use cli_open::{open_register, word};
 use reg_into::{Choice, run_into};
-use std::alloc::Global;
-use std::fs::OpenFile;
-use std::io::{Read, Seek, Write};
 
 /// Opens the register, and puts a folder with a file for each key in place. A key that was left out is the fault.
 pub fn export_into(
@@ -33,30 +30,12 @@ fn put_into(
         return Err(CliFault::Memory);
     };
     let answer = match open_register(rt, rt.alloc(), matches, "REG", &None) {
-        Ok(register) => put_from(rt.alloc(), register, choice, keep_going, &mut place),
+        Ok(register) => {
+            let mut store = register.reading();
+            run_into(rt.alloc(), &mut store, choice, keep_going, &mut place)
+        }
         Err(fault) => Err(fault),
     };
     drop(place);
     answer
-}
-
-fn put_from<F: Read + Write + Seek + OpenFile + Drop, P: FolderPlace>(
-    alloc: Global,
-    register: Opened<F>,
-    choice: &Choice<'_>,
-    keep_going: bool,
-    place: &mut P,
-) -> Result<Option<OpId>, CliFault> {
-    match register {
-        Opened::File(mut source) => {
-            let mut store = OfFile {
-                source: &mut source,
-            };
-            run_into(alloc, &mut store, choice, keep_going, place)
-        }
-        Opened::Shelf(disk) => {
-            let mut store = ReadShelf::new(disk);
-            run_into(alloc, &mut store, choice, keep_going, place)
-        }
-    }
 }

@@ -3,11 +3,9 @@ use clap::ArgMatches;
 use cli_change::{Desk, change_of, office_named, open_desk};
 use cli_open::engines::places::Place;
 use cli_open::engines::streams::Source;
-use cli_open::guards::GuardFault;
 use cli_open::{Opened, Outcome, files_before, next_file, open, open_to_change, word};
 use reg_desk::{CliFault, Enter, Explained, Recorded, explained_fault};
-use std::fs::OpenFile;
-use std::io::{Read, Seek, Write};
+use std::fs::File;
 
 /// `enter`. It parses the replica, and then opens the files.
 pub fn enter(rt: &HostRuntime, matches: &ArgMatches<'_>) -> Result<Outcome, Explained> {
@@ -17,7 +15,7 @@ pub fn enter(rt: &HostRuntime, matches: &ArgMatches<'_>) -> Result<Outcome, Expl
     };
     let mut desk = match open_desk(rt, rt.alloc(), matches, named) {
         Ok(desk) => desk,
-        Err(fault) => return Ok(Outcome::Guard(fault)),
+        Err(fault) => return Ok(Outcome::Fault(fault)),
     };
     let answer = enter_at(rt, matches, &mut desk);
     desk.close();
@@ -30,7 +28,7 @@ fn enter_at<Q: Place>(
     desk: &mut Desk<Q>,
 ) -> Result<Outcome, Explained> {
     let path = word(matches, "text");
-    let mut register = match open_to_change(rt, rt.alloc(), matches) {
+    let register = match open_to_change(rt, rt.alloc(), matches) {
         Ok(register) => register,
         Err(fault) => return Ok(Outcome::Fault(fault)),
     };
@@ -39,20 +37,20 @@ fn enter_at<Q: Place>(
         Ok(file) => Recorded::new(rt.alloc(), file),
         Err(fault) => return Ok(Outcome::Fault(fault)),
     };
-    match enter_text(rt, matches, desk, &mut register, &mut text) {
+    match enter_text(rt, matches, desk, register, &mut text) {
         Ok(()) => Ok(Outcome::Done),
         Err(fault) => not_entered(rt, matches, path, &text, fault),
     }
 }
 
 // Enters the text that the source gives.
-fn enter_text<Q: Place, F: Read + Write + Seek + OpenFile, X: Source>(
+fn enter_text<Q: Place, X: Source>(
     rt: &HostRuntime,
     matches: &ArgMatches<'_>,
     desk: &mut Desk<Q>,
-    register: &mut Opened<F>,
+    register: Opened<File>,
     text: &mut X,
-) -> Result<(), GuardFault> {
+) -> Result<(), CliFault> {
     let mut command = Enter {
         replica: desk.replica,
         text,
@@ -67,19 +65,10 @@ fn not_entered<X: Source>(
     matches: &ArgMatches<'_>,
     path: &str,
     text: &Recorded<X>,
-    fault: GuardFault,
+    fault: CliFault,
 ) -> Result<Outcome, Explained> {
     if matches.get_flag("explain") {
-        if let Some(cause) = fault_of_command(&fault) {
-            return Err(explained_fault(rt.alloc(), path, text, cause));
-        }
+        return Err(explained_fault(rt.alloc(), path, text, fault));
     }
-    Ok(Outcome::Guard(fault))
-}
-
-fn fault_of_command(fault: &GuardFault) -> Option<CliFault> {
-    match fault {
-        GuardFault::Command(fault) => Some(*fault),
-        _ => None,
-    }
+    Ok(Outcome::Fault(fault))
 }

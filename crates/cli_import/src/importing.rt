@@ -1,21 +1,20 @@
 //! The command `import`.
-use crate::dry::Dry;
 use byte_late::{LateFile, LateSource};
 use clap::ArgMatches;
-use cli_change::{Desk, OfficeFile, TWICE, office_named, open_desk};
+use cli_change::{Desk, TWICE, office_named, open_desk};
+use cli_open::engines::Either;
 use cli_open::engines::places::Place;
-use cli_open::guards::{GuardFault, Guarded, GuardedFile, GuardedShelf, LastNumber, why};
+use cli_open::guards::{LastNumber, TriedFile, TriedShelf};
 use cli_open::{
     Opened, Outcome, Rows, STANDARD_INPUT, STANDARD_INPUT_PATH, answered, files_before, is_twice,
-    next_file, open_to_change, printing_place, word,
+    next_file, open_to_change, target_of, word,
 };
 use reg_desk::{
-    CliFault, Differs, FileDisk, HasRoom, ImportFault, ImportOptions, InFile, Input, InputFault,
-    InputOf, OfFile, OnShelf, OpId, OutFault, Reading, Source, Unimported, Writing, run_import,
-    try_import, write_all,
+    CliFault, Differs, FileDisk, ImportFault, ImportOptions, InputFault, InputOf, OfFile, OnShelf,
+    Reading, Source, Unimported, Writing, run_import, try_import,
 };
 use std::alloc::{AllocError, Global};
-use std::fs::OpenFile;
+use std::fs::{File, OpenFile};
 use std::io::{self, Read, Seek, Write};
 use std::rt::Files;
 
@@ -34,7 +33,7 @@ pub fn import(rt: &HostRuntime, matches: &ArgMatches<'_>) -> Result<Outcome, Uni
     };
     let mut desk = match open_desk(rt, rt.alloc(), matches, named) {
         Ok(desk) => desk,
-        Err(fault) => return Ok(Outcome::Guard(fault)),
+        Err(fault) => return Ok(Outcome::Fault(fault)),
     };
     let answer = import_at(rt, matches, &mut desk, paths, &names);
     desk.close();
@@ -57,7 +56,7 @@ fn import_at<Q: Place>(
     paths: &[&str],
     names: &[String],
 ) -> Result<Outcome, Unimported> {
-    let mut register = match open_to_change(rt, rt.alloc(), matches) {
+    let register = match open_to_change(rt, rt.alloc(), matches) {
         Ok(register) => register,
         Err(fault) => return Ok(Outcome::Fault(fault)),
     };
@@ -65,7 +64,7 @@ fn import_at<Q: Place>(
         return Ok(Outcome::Fault(CliFault::Memory));
     };
     let first = next_file(&register).saturating_add(files_before(matches));
-    let answer = import_from(rt, matches, desk, &mut register, &mut files, names);
+    let answer = import_from(rt, matches, desk, register, &mut files, names);
     with_openings(answer, &files, first)
 }
 
@@ -133,11 +132,11 @@ fn fault_of_opening<S: LateSource>(fault: CliFault, files: &[S], first: usize) -
 }
 
 // Imports the files into the register, and prints the rows.
-fn import_from<Q: Place, F: Read + Write + Seek + OpenFile, S: Source>(
+fn import_from<Q: Place, S: Source>(
     rt: &HostRuntime,
     matches: &ArgMatches<'_>,
     desk: &mut Desk<Q>,
-    register: &mut Opened<F>,
+    register: Opened<File>,
     files: &mut [S],
     names: &[String],
 ) -> Result<Outcome, Unimported> {
@@ -152,253 +151,67 @@ fn import_from<Q: Place, F: Read + Write + Seek + OpenFile, S: Source>(
         names,
     };
     let mut sink = Rows::sink(rt.alloc(), matches, io::writer(rt));
-    let answer = match &mut desk.file {
-        Some(office) => import_numbered(rt, matches, office, register, files, &order, &mut sink),
-        None => import_to(rt, matches, register, files, &order, &mut sink),
+    let answer = if matches.get_flag("dry-run") {
+        import_tried(rt.alloc(), desk.last(), register, files, &order, &mut sink)
+    } else {
+        import_to(rt, matches, desk, register, files, &order, &mut sink)
     };
     match answered(rt.alloc(), sink, answer) {
-        Ok(answer) => answer,
+        Ok(Ok(())) => Ok(Outcome::Done),
+        Ok(Err(why)) => Err(why),
         Err(fault) => Ok(Outcome::Fault(fault)),
     }
 }
 
-// The outcome of an import that is done.
-fn of_import(answer: Result<(), Unimported>) -> Result<Outcome, Unimported> {
-    match answer {
-        Ok(()) => Ok(Outcome::Done),
-        Err(why) => Err(why),
-    }
-}
-
 // Imports the files, and prints the rows to the sink.
-fn import_to<F: Read + Write + Seek + OpenFile, S: Source, W: Write>(
+fn import_to<Q: Place, S: Source, W: Write>(
     rt: &HostRuntime,
     matches: &ArgMatches<'_>,
-    register: &mut Opened<F>,
+    desk: &mut Desk<Q>,
+    register: Opened<File>,
     files: &mut [S],
     order: &ImportOptions<'_>,
     sink: &mut Writing<W>,
-) -> Result<Outcome, Unimported> {
-    if matches.get_flag("dry-run") {
-        return of_import(import_tried(rt.alloc(), register, files, order, sink));
-    }
-    match register {
-        Opened::File(source) => import_into(rt, matches, source, files, order, sink),
-        Opened::Shelf(disk) => {
-            let mut store = OnShelf { disk };
-            of_import(run_import(rt.alloc(), &mut store, files, order, sink))
-        }
-    }
+) -> Result<(), Unimported> {
+    let mut target = match target_of(rt, rt.alloc(), matches, register, "out") {
+        Ok(target) => target,
+        Err(fault) => return Err(Unimported::plain(rt.alloc(), fault)),
+    };
+    let mut store = target.store(&mut desk.file);
+    let answer = run_import(rt.alloc(), &mut store, files, order, sink);
+    drop(store);
+    drop(target);
+    answer
 }
 
 // `import --dry-run`, which opens no OUT.
-fn import_tried<F: Read + Write + Seek + OpenFile, S: Source, W: Write>(
+fn import_tried<F: Read + Write + Seek + OpenFile + Drop, S: Source, W: Write>(
     alloc: Global,
-    register: &mut Opened<F>,
+    last: Option<LastNumber>,
+    register: Opened<F>,
     files: &mut [S],
     order: &ImportOptions<'_>,
     sink: &mut Writing<W>,
 ) -> Result<(), Unimported> {
-    match register {
-        Opened::File(source) => {
-            let mut store = OfFile { source };
-            try_import(alloc, &mut store, files, order, sink)
-        }
-        Opened::Shelf(disk) => {
-            let mut store = OnShelf { disk };
-            try_import(alloc, &mut store, files, order, sink)
-        }
-    }
+    let mut register = register;
+    try_import(alloc, &mut tried(&mut register, last), files, order, sink)
 }
 
-// `import` into the file OUT.
-fn import_into<F: Read + Write + Seek + OpenFile, S: Source, W: Write>(
-    rt: &HostRuntime,
-    matches: &ArgMatches<'_>,
-    source: &mut InputOf<Reading<F>>,
-    files: &mut [S],
-    order: &ImportOptions<'_>,
-    sink: &mut Writing<W>,
-) -> Result<Outcome, Unimported> {
-    let mut place = match printing_place(rt, rt.alloc(), word(matches, "out")) {
-        Ok(place) => place,
-        Err(fault) => return Ok(Outcome::Fault(fault)),
-    };
-    let answer = import_file(rt.alloc(), source, &mut place, files, order, sink);
-    drop(place);
-    of_import(answer)
-}
+// The store of a register that a dry run reads, of an office without an office file or with one.
+type TriedRegister<'a, F> = Either<
+    Either<OfFile<'a, InputOf<Reading<F>>>, OnShelf<'a, FileDisk<F>>>,
+    Either<TriedFile<'a, InputOf<Reading<F>>>, TriedShelf<'a, FileDisk<F>>>,
+>;
 
-// The file is read in one place and written in another.
-fn import_file<'a, S: Input, T: Source, P: Place, W: Write>(
-    alloc: Global,
-    source: &'a mut S,
-    place: &'a mut P,
-    files: &mut [T],
-    order: &ImportOptions<'_>,
-    sink: &mut Writing<W>,
-) -> Result<(), Unimported> {
-    let mut store = InFile { source, place };
-    run_import(alloc, &mut store, files, order, sink)
-}
-
-// `import` with an office file.
-fn import_numbered<Q: Place, F: Read + Write + Seek + OpenFile, S: Source, W: Write>(
-    rt: &HostRuntime,
-    matches: &ArgMatches<'_>,
-    office: &mut OfficeFile<Q>,
-    register: &mut Opened<F>,
-    files: &mut [S],
-    order: &ImportOptions<'_>,
-    sink: &mut Writing<W>,
-) -> Result<Outcome, Unimported> {
-    let last = office.last;
-    if matches.get_flag("dry-run") {
-        return tried_numbered(rt.alloc(), last, register, files, order, sink);
-    }
-    let noted = &mut office.place;
-    match register {
-        Opened::File(source) => {
-            let mut place = match printing_place(rt, rt.alloc(), word(matches, "out")) {
-                Ok(place) => place,
-                Err(fault) => return Ok(Outcome::Fault(fault)),
-            };
-            let answer = guarded_file(
-                rt.alloc(),
-                source,
-                &mut place,
-                noted,
-                last,
-                files,
-                order,
-                sink,
-            );
-            drop(place);
-            answer
-        }
-        Opened::Shelf(disk) => guarded_shelf(rt.alloc(), disk, noted, last, files, order, sink),
-    }
-}
-
-fn guarded_file<'a, S: Input, P: Place, Q: Place, T: Source, W: Write>(
-    alloc: Global,
-    source: &'a mut S,
-    place: &'a mut P,
-    office: &'a mut Q,
-    last: LastNumber,
-    files: &mut [T],
-    order: &ImportOptions<'_>,
-    sink: &mut Writing<W>,
-) -> Result<Outcome, Unimported> {
-    let mut store = GuardedFile::new(source, place, office, last);
-    let answer = run_import(alloc, &mut store, files, order, sink);
-    answer_on(&store, answer)
-}
-
-fn guarded_shelf<'a, Q: Place, F: Read + Write + Seek + OpenFile, T: Source, W: Write>(
-    alloc: Global,
-    disk: &'a mut FileDisk<F>,
-    office: &'a mut Q,
-    last: LastNumber,
-    files: &mut [T],
-    order: &ImportOptions<'_>,
-    sink: &mut Writing<W>,
-) -> Result<Outcome, Unimported> {
-    let mut store = GuardedShelf::new(disk, office, last);
-    let answer = run_import(alloc, &mut store, files, order, sink);
-    answer_on(&store, answer)
-}
-
-// `import --dry-run` with an office file, which opens no OUT.
-fn tried_numbered<F: Read + Write + Seek + OpenFile, S: Source, W: Write>(
-    alloc: Global,
-    last: LastNumber,
-    register: &mut Opened<F>,
-    files: &mut [S],
-    order: &ImportOptions<'_>,
-    sink: &mut Writing<W>,
-) -> Result<Outcome, Unimported> {
-    match register {
-        Opened::File(source) => {
-            let mut store = OfFile { source };
-            tried(alloc, &mut store, last, files, order, sink)
-        }
-        Opened::Shelf(disk) => {
-            let mut store = OnShelf { disk };
-            tried(alloc, &mut store, last, files, order, sink)
-        }
-    }
-}
-
-// Nothing is printed of a register that is behind, so the rows are kept in memory first.
-fn tried<'a, S: HasRoom, T: Source, W: Write>(
-    alloc: Global,
-    store: &'a mut S,
-    last: LastNumber,
-    files: &mut [T],
-    order: &ImportOptions<'_>,
-    sink: &mut Writing<W>,
-) -> Result<Outcome, Unimported> {
-    let mut dry = Dry::new(store, last);
-    let mut rows = Writing::new(Vec::new(alloc));
-    let answer = try_import(alloc, &mut dry, files, order, &mut rows);
-    let lag = dry.lag();
-    let reason = match fault_of(&answer) {
-        Some(CliFault::Out(OutFault::WriteFailed(_))) => {
-            return Ok(Outcome::Fault(CliFault::Memory));
-        }
-        Some(fault) => Some(why(lag, None, fault)),
-        None => None,
-    };
-    let answer = answer_by(lag, reason, answer);
-    if lag.is_some() {
-        return answer;
-    }
-    match write_all(sink, &rows.into_inner()) {
-        Ok(()) => answer,
-        Err(fault) => Ok(Outcome::Fault(CliFault::Out(OutFault::WriteFailed(fault.written)))),
-    }
-}
-
-// The answer of an import on a store with an office file.
-fn answer_on<G: Guarded>(store: &G, answer: Result<(), Unimported>) -> Result<Outcome, Unimported> {
-    let reason = match fault_of(&answer) {
-        Some(fault) => Some(store.why(fault)),
-        None => None,
-    };
-    answer_by(store.lag(), reason, answer)
-}
-
-// The fault of an import, unless it is about a text.
-fn fault_of(answer: &Result<(), Unimported>) -> Option<CliFault> {
-    match answer {
-        Ok(()) => None,
-        Err(why) => match why.fault {
-            ImportFault::Cli(fault) => Some(fault),
-            ImportFault::Refused { .. } => None,
-        },
-    }
-}
-
-// The answer of an import on a register with this lag, and with this reason for its fault. A register that is behind comes before a
-// refused text.
-fn answer_by(
-    lag: Option<OpId>,
-    reason: Option<GuardFault>,
-    answer: Result<(), Unimported>,
-) -> Result<Outcome, Unimported> {
-    match (answer, lag) {
-        (Ok(()), None) => Ok(Outcome::Done),
-        (Ok(()), Some(id)) => Ok(Outcome::Guard(GuardFault::Behind(id))),
-        (Err(why), _) => match reason {
-            Some(reason) => match reason {
-                GuardFault::Command(_) => Err(why),
-                reason => Ok(Outcome::Guard(reason)),
-            },
-            None => match lag {
-                Some(id) => Ok(Outcome::Guard(GuardFault::Behind(id))),
-                None => Err(why),
-            },
-        },
+fn tried<'a, F>(register: &'a mut Opened<F>, last: Option<LastNumber>) -> TriedRegister<'a, F> {
+    match last {
+        None => Either::One(match register {
+            Opened::File(source) => Either::One(OfFile { source }),
+            Opened::Shelf(disk) => Either::Other(OnShelf { disk }),
+        }),
+        Some(last) => Either::Other(match register {
+            Opened::File(source) => Either::One(TriedFile { source, last }),
+            Opened::Shelf(disk) => Either::Other(TriedShelf { disk, last }),
+        }),
     }
 }

@@ -1,7 +1,6 @@
 //! The commands `enter`, `import` and `settle`.
 #![tactic(auto)]
 
-mod dry;
 mod entering;
 mod importing;
 mod settling;

@@ -1,7 +1,7 @@
 //! The command `settle`.
 use clap::ArgMatches;
 use cli_change::{TWICE, changed, office_named, open_desk};
-use cli_open::guards::GuardFault;
+use cli_open::engines::CliFault;
 use cli_open::{Outcome, entries, is_twice, listed, push_listed, word};
 use reg_desk::{Settle, SettleEqual};
 
@@ -10,10 +10,10 @@ pub fn settle(rt: &HostRuntime, matches: &ArgMatches<'_>) -> Outcome {
     if is_twice(matches.get_strs("KEEP").unwrap_or(&[])) {
         return Outcome::Misuse(TWICE);
     }
-    Outcome::of_office(settled(rt, matches))
+    Outcome::of(settled(rt, matches))
 }
 
-fn settled(rt: &HostRuntime, matches: &ArgMatches<'_>) -> Result<(), GuardFault> {
+fn settled(rt: &HostRuntime, matches: &ArgMatches<'_>) -> Result<(), CliFault> {
     let listed = listed(rt, matches, "KEEP")?;
     let named = office_named(matches)?;
     let mut given = Vec::new(rt.alloc());

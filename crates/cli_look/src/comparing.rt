@@ -1,15 +1,14 @@
 //! `compare`: what differs between the texts of entries, and of a file.
 use crate::look::told;
 use clap::ArgMatches;
-use cli_open::{Opened, Outcome, ReadShelf, entry, next_file, open_register, open_text, word};
+use cli_open::{Outcome, entry, next_file, open_register, open_text, word};
 use desk_texts::{Compare, CompareKey, CompareWith, WithFault, run_compared_with, run_differs};
 use reg_desk::{
-    ByWord, CliFault, ImportFault, OfFile, OpId, Print, Problem, Recorded, Source, Unimported,
-    Writing, explain_within,
+    ByWord, CliFault, ImportFault, OpId, Print, Problem, Recorded, Source, Unimported, Writing,
+    explain_within,
 };
 use std::alloc::Global;
-use std::fs::OpenFile;
-use std::io::{self, Read, Seek, Write};
+use std::io;
 
 /// The message if an id is compared with nothing.
 const ALONE: &str = "error: compare needs a key, two entries, or --with FILE; one id is not enough";
@@ -75,27 +74,7 @@ fn differs_of<C: Print>(
 ) -> Result<bool, CliFault> {
     let mut sink = Writing::new(io::writer(rt));
     let register = open_register(rt, rt.alloc(), matches, "REG", &None)?;
-    differs_from(rt.alloc(), register, command, &mut sink)
-}
-
-fn differs_from<F: Read + Write + Seek + OpenFile + Drop, C: Print, W: Write>(
-    alloc: Global,
-    register: Opened<F>,
-    command: &C,
-    sink: &mut Writing<W>,
-) -> Result<bool, CliFault> {
-    match register {
-        Opened::File(mut source) => {
-            let mut store = OfFile {
-                source: &mut source,
-            };
-            run_differs(alloc, &mut store, command, sink)
-        }
-        Opened::Shelf(disk) => {
-            let mut store = ReadShelf::new(disk);
-            run_differs(alloc, &mut store, command, sink)
-        }
-    }
+    run_differs(rt.alloc(), &mut register.reading(), command, &mut sink)
 }
 
 // `compare --with`. The file is opened after the register, and read after it.
@@ -113,30 +92,11 @@ fn compare_with(
         Err(fault) => return Ok(Outcome::Fault(fault)),
     };
     let mut sink = Writing::new(io::writer(rt));
-    match compared_with(rt.alloc(), register, path, &mut text, &mut sink) {
+    let mut store = register.reading();
+    let name = path.as_bytes();
+    match run_compared_with(rt.alloc(), &mut store, name, &mut text, &mut sink) {
         Ok(differs) => Ok(told(matches, Ok(differs))),
         Err(why) => uncompared(rt.alloc(), matches, path, &text, why),
-    }
-}
-
-fn compared_with<F: Read + Write + Seek + OpenFile + Drop, S: Source, W: Write>(
-    alloc: Global,
-    register: Opened<F>,
-    path: &str,
-    text: &mut S,
-    sink: &mut Writing<W>,
-) -> Result<bool, WithFault> {
-    match register {
-        Opened::File(mut source) => {
-            let mut store = OfFile {
-                source: &mut source,
-            };
-            run_compared_with(alloc, &mut store, path.as_bytes(), text, sink)
-        }
-        Opened::Shelf(disk) => {
-            let mut store = ReadShelf::new(disk);
-            run_compared_with(alloc, &mut store, path.as_bytes(), text, sink)
-        }
     }
 }
 

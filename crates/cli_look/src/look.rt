@@ -2,18 +2,17 @@
 use byte_late::LateFile;
 use clap::ArgMatches;
 use cli_open::{
-    Opened as Register, Outcome, ReadShelf, Rows, STANDARD_INPUT, answered, entries, next_file,
-    open, open_all, open_register, open_to_read, print_of, push_words, wanted, word,
+    Outcome, Rows, STANDARD_INPUT, answered, entries, next_file, open, open_all, open_register,
+    open_to_read, print_of, push_words, wanted, word,
 };
 use desk_texts::Texts;
 use reg_desk::{
     CliFault, Explained, FileDisk, Find, FindIds, Kind, LateAt, Lockable, LogAll, LogByWords,
-    LogOf, OfFile, Offices, Opened, Point, Query, Reading, Recorded, ShelfAt, Source, Writing,
-    run_check, run_check_explained, run_diff, run_status,
+    LogOf, Offices, Opened, Point, Query, Reading, Recorded, ShelfAt, Source, Writing, run_check,
+    run_check_explained, run_diff, run_status,
 };
 use std::alloc::{AllocError, Global};
-use std::fs::OpenFile;
-use std::io::{self, Read, Seek, Write};
+use std::io::{self, Write};
 use std::rt::Files;
 
 /// The message if a word to search for is empty, as in a script with a variable that is not set: it would find every entry.
@@ -238,25 +237,12 @@ fn merged_to<W: Write>(
     let register = open_register(rt, rt.alloc(), matches, "OLD", &None)?;
     let paths = matches.get_strs("NEW").unwrap_or(&[]);
     let mut others = open_all(rt, rt.alloc(), next_file(&register), paths)?;
-    diff_from(rt.alloc(), register, &mut others, sink)
-}
-
-fn diff_from<F: Read + Write + Seek + OpenFile + Drop, S: Source, W: Write>(
-    alloc: Global,
-    register: Register<F>,
-    others: &mut [S],
-    sink: &mut Writing<W>,
-) -> Result<bool, CliFault> {
-    match register {
-        Register::File(mut source) => {
-            let mut store = OfFile {
-                source: &mut source,
-            };
-            run_diff(alloc, &mut store, others, false, sink)
-        }
-        Register::Shelf(disk) => {
-            let mut store = ReadShelf::new(disk);
-            run_diff(alloc, &mut store, others, true, sink)
-        }
-    }
+    let joins = matches.get_flag("shelf");
+    run_diff(
+        rt.alloc(),
+        &mut register.reading(),
+        &mut others,
+        joins,
+        sink,
+    )
 }

@@ -6,13 +6,16 @@ mod outcome;
 mod reading;
 mod stores;
 mod table;
+mod targets;
 mod words;
 
 pub use inputs::{Replaced, open_inputs, parts, real_path};
 pub use outcome::{MISUSE, Outcome, complain, failed, print};
-pub use reading::ReadShelf;
-pub use stores::{Opened, give_of, next_file, open_register, open_to_change, print_of};
+pub use stores::{
+    Opened, ReadRegister, give_of, next_file, open_register, open_to_change, print_of,
+};
 pub use table::{Rows, answered};
+pub use targets::{OfficeFile, Target, target_of};
 pub use words::{
     STANDARD_INPUT, STANDARD_INPUT_PATH, changed_place, entries, entry, files_before, is_twice,
     listed, lock_new_shelf, office_file, open, open_all, open_shelf, open_text, open_to_read,

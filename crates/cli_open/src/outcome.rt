@@ -1,5 +1,4 @@
 //! The outcome of a command, and the lines that it prints.
-use reg_guard::GuardFault;
 use reg_guard::engine::streams::{Writing, write_all};
 use reg_guard::engine::{CliFault, OutFault};
 use std::fmt;
@@ -17,8 +16,6 @@ pub enum Outcome {
     /// Done, but for files that were left out and named on standard error. This is the exit status.
     LeftOut(u8),
     Fault(CliFault),
-    /// A command with an office file failed.
-    Guard(GuardFault),
     /// The command line is wrong, for a reason that clap does not check.
     Misuse(&'static str),
 }
@@ -29,14 +26,6 @@ impl Outcome {
         match answer {
             Ok(()) => Outcome::Done,
             Err(fault) => Outcome::Fault(fault),
-        }
-    }
-
-    /// The outcome of a command of an office.
-    pub fn of_office(answer: Result<(), GuardFault>) -> Outcome {
-        match answer {
-            Ok(()) => Outcome::Done,
-            Err(fault) => Outcome::Guard(fault),
         }
     }
 }

@@ -1,11 +1,70 @@
-//! A shelf that a command only reads.
+//! Registers that a command only reads, in a file or on a shelf.
 
 ghost use Rattle.std.specs.Prelude.{◌≡◌, Some};
 
 use reg_engine::disks::Disk;
 use reg_engine::files::Register;
-use reg_engine::{Base, CliFault, OnShelf, ShelfProblem, Store};
+use reg_engine::places::Input;
+use reg_engine::streams::Source;
+use reg_engine::{Base, CliFault, OnShelf, ShelfProblem, Store, read_file};
 use std::alloc::Global;
+
+/// A register's file, which is file 1.
+#[derive(Drop)]
+pub struct ReadFile<S> {
+    source: S,
+}
+
+impl<S> ReadFile<S> {
+    /// The file that the source reads.
+    pub fn new(source: S) -> ReadFile<S>
+        ensures { result.source ≡ source }
+    {
+        ReadFile { source }
+    }
+}
+
+impl<S: Source> Store for ReadFile<S> {
+    ghost use Rattle.reg_engine.specs.Store.{of_file, AsLoaded};
+
+    ghost around = { λ old. λ new. of_file (S.state old.source) (S.state new.source) };
+
+    ghost next = { λ s. 2 };
+
+    ghost same = { λ old. λ new. Unit {0} };
+
+    ghost admission = { λ s. AsLoaded };
+
+    ghost still = { λ a b c e f. tt };
+
+    fn next(&self) -> usize {
+        2
+    }
+
+    fn load(&mut self, alloc: Global) -> Result<Register, CliFault> {
+        match read_file(alloc, 1, &mut self.source) {
+            Ok(register) => Ok(register),
+            Err(fault) => Err(fault),
+        }
+    }
+
+    fn admit(&self, _alloc: Global, register: Register) -> Result<Register, CliFault> {
+        Ok(register)
+    }
+}
+
+impl<S: Input> Base for ReadFile<S> {
+    ghost use Rattle.byte_out.specs.Input.{kept_of};
+
+    ghost kept = { λ s. kept_of (S.keeps s.source) (S.state s.source) };
+
+    fn kept(&self) -> Result<Option<&[u8]>, CliFault> {
+        match self.source.kept() {
+            Ok(kept) => Ok(kept),
+            Err(_) => Err(CliFault::Memory),
+        }
+    }
+}
 
 /// A shelf whose file is closed once its register is loaded. Its lock ends then, so that a reader of the output that waits, such as
 /// a pager, keeps no command from the shelf.
@@ -25,6 +84,7 @@ impl<D> ReadShelf<D> {
 
 impl<D: Disk + Drop> Store for ReadShelf<D> {
     ghost use Rattle.reg_engine.specs.Shelf.{disks};
+    ghost use Rattle.reg_engine.specs.Store.{AsLoaded};
     ghost use Rattle.cli_open.specs.Reading.{read_once};
 
     ghost around = { λ old. λ new. read_once (disks D.tells D.seen D.images D.moment D.images_since D.failures) old.disk };
@@ -32,6 +92,8 @@ impl<D: Disk + Drop> Store for ReadShelf<D> {
     ghost next = { λ s. 1 };
 
     ghost same = { λ old. λ new. Unit {0} };
+
+    ghost admission = { λ s. AsLoaded };
 
     ghost still = { λ a b c e f. tt };
 
@@ -48,6 +110,10 @@ impl<D: Disk + Drop> Store for ReadShelf<D> {
             Ok(register) => Ok(register),
             Err(fault) => Err(fault),
         }
+    }
+
+    fn admit(&self, _alloc: Global, register: Register) -> Result<Register, CliFault> {
+        Ok(register)
     }
 }
 

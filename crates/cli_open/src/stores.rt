@@ -1,14 +1,14 @@
 //! Opens the register that a command names, in its file or (with `--shelf`) on its shelf, and prints something of it, or writes a
 //! file of it.
 use crate::inputs::{Replaced, open_input};
-use crate::reading::ReadShelf;
+use crate::reading::{ReadFile, ReadShelf};
 use crate::table::{Rows, answered};
 use crate::words::{files_before, open_shelf, open_to_read, place, word};
 use clap::ArgMatches;
 use reg_guard::engine::disks::FileDisk;
-use reg_guard::engine::places::{InputOf, Lockable, Place};
+use reg_guard::engine::places::{InputOf, Lockable};
 use reg_guard::engine::streams::{Reading, Writing};
-use reg_guard::engine::{CliFault, Give, OfFile, Print, run_give, run_print};
+use reg_guard::engine::{CliFault, Either, Give, Print, run_give, run_print};
 use std::alloc::Global;
 use std::fs::OpenFile;
 use std::io::{self, Read, Seek, Write};
@@ -19,6 +19,19 @@ use std::rt::Files;
 pub enum Opened<F> {
     File(InputOf<Reading<F>>),
     Shelf(FileDisk<F>),
+}
+
+/// The store of a register that is only read.
+pub type ReadRegister<F> = Either<ReadFile<InputOf<Reading<F>>>, ReadShelf<FileDisk<F>>>;
+
+impl<F> Opened<F> {
+    /// The store of a command that only reads the register.
+    pub fn reading(self) -> ReadRegister<F> {
+        match self {
+            Opened::File(source) => Either::One(ReadFile::new(source)),
+            Opened::Shelf(disk) => Either::Other(ReadShelf::new(disk)),
+        }
+    }
 }
 
 /// The number of the first file that is read after the register: a shelf has no number.
@@ -89,30 +102,8 @@ fn print_to<C: Print, W: Write>(
     command: &C,
     sink: &mut Writing<W>,
 ) -> Result<(), CliFault> {
-    match open_register(rt, rt.alloc(), matches, "REG", &None) {
-        Ok(register) => print_from(rt.alloc(), register, command, sink),
-        Err(fault) => Err(fault),
-    }
-}
-
-fn print_from<F: Read + Write + Seek + OpenFile + Drop, C: Print, W: Write>(
-    alloc: Global,
-    register: Opened<F>,
-    command: &C,
-    sink: &mut Writing<W>,
-) -> Result<(), CliFault> {
-    match register {
-        Opened::File(mut source) => {
-            let mut store = OfFile {
-                source: &mut source,
-            };
-            run_print(alloc, &mut store, command, sink)
-        }
-        Opened::Shelf(disk) => {
-            let mut store = ReadShelf::new(disk);
-            run_print(alloc, &mut store, command, sink)
-        }
-    }
+    let register = open_register(rt, rt.alloc(), matches, "REG", &None)?;
+    run_print(rt.alloc(), &mut register.reading(), command, sink)
 }
 
 /// Writes the command's file of the register to OUT.
@@ -123,27 +114,7 @@ pub fn give_of<F: Read + Write + Seek + OpenFile + Drop, C: Give>(
     command: &mut C,
 ) -> Result<(), CliFault> {
     let mut place = place(rt, rt.alloc(), word(matches, "OUT"))?;
-    let answer = give_to(rt.alloc(), register, command, &mut place);
+    let answer = run_give(rt.alloc(), &mut register.reading(), command, &mut place);
     drop(place);
     answer
-}
-
-fn give_to<F: Read + Write + Seek + OpenFile + Drop, C: Give, P: Place>(
-    alloc: Global,
-    register: Opened<F>,
-    command: &mut C,
-    place: &mut P,
-) -> Result<(), CliFault> {
-    match register {
-        Opened::File(mut source) => {
-            let mut store = OfFile {
-                source: &mut source,
-            };
-            run_give(alloc, &mut store, command, place)
-        }
-        Opened::Shelf(disk) => {
-            let mut store = ReadShelf::new(disk);
-            run_give(alloc, &mut store, command, place)
-        }
-    }
 }

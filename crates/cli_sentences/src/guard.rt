@@ -1,45 +1,30 @@
 //! Sentences for commands with an office file.
-use crate::Sentence;
-use crate::paths::{FileName, Found, Paths};
+use crate::paths::{FileName, Paths};
 use crate::shown::{NewBeside, Shown};
-use reg_guard::{FileProblem, GuardFault};
+use reg_guard::engine::operations::OpId;
 use std::fmt;
 
-/// The sentence for a fault of a command with an office file and, below it, the way out if there is one. Each is a line.
-#[derive(Clone, Copy)]
-pub struct GuardSentence<'a> {
-    pub fault: GuardFault,
-    pub found: Found<'a>,
-    /// The files that the command names. The office file is the first.
-    pub paths: Paths<'a>,
+/// Writes the sentence for a register that is older than its office, and the ways out.
+pub fn write_behind<W: fmt::Write>(
+    f: &mut fmt::Formatter<W>,
+    id: OpId,
+    paths: &Paths<'_>,
+) -> fmt::Result {
+    let office = paths.file(1);
+    writeln!(
+        f,
+        "the register has not seen {id}, which the office of {office} has given: it is older than the office"
+    )?;
+    write_way_out(f, paths.out)
 }
 
-impl fmt::Display for GuardSentence<'_> {
-    fn fmt<W: fmt::Write>(&self, f: &mut fmt::Formatter<W>) -> fmt::Result {
-        let office = self.paths.file(1);
-        match self.fault {
-            GuardFault::Command(fault) => {
-                let sentence = Sentence {
-                    fault,
-                    found: self.found,
-                    paths: self.paths,
-                };
-                sentence.fmt(f)
-            }
-            GuardFault::Behind(id) => {
-                writeln!(
-                    f,
-                    "the register has not seen {id}, which the office of {office} has given: it is older than the office"
-                )?;
-                write_way_out(f, self.paths.out)
-            }
-            GuardFault::File(problem) => write_problem(f, problem, office),
-            GuardFault::Number(_) => writeln!(
-                f,
-                "{office} could not be replaced by its new number: the disk is full, or you may not write there"
-            ),
-        }
-    }
+/// Writes the sentence for an office file that was not replaced.
+pub fn write_unnoted<W: fmt::Write>(f: &mut fmt::Formatter<W>, paths: &Paths<'_>) -> fmt::Result {
+    let office = paths.file(1);
+    writeln!(
+        f,
+        "{office} could not be replaced by its new number: the disk is full, or you may not write there"
+    )
 }
 
 // Writes the ways out for a register that is older than its office.
@@ -58,33 +43,43 @@ fn write_way_out<W: fmt::Write>(f: &mut fmt::Formatter<W>, out: &str) -> fmt::Re
     )
 }
 
-// Writes the sentence for an office file that the command does not get.
-fn write_problem<W: fmt::Write>(
+/// Writes the sentence for an office file that does not open, or whose new file cannot be made.
+pub fn write_unopened<W: fmt::Write>(
     f: &mut fmt::Formatter<W>,
-    problem: FileProblem,
     office: FileName<'_>,
 ) -> fmt::Result {
-    match problem {
-        FileProblem::NotOpened => writeln!(
-            f,
-            "{office} (file 1) cannot be opened, or {office}.new cannot be made: it is not there, you may not read it or write there, or it has a second name (a hard link), which would keep an old number"
-        ),
-        FileProblem::Busy => {
-            writeln!(
-                f,
-                "{office}.new is there: another command of this office works, or one was stopped"
-            )?;
-            writeln!(
-                f,
-                "hint: run this command again; if no crsreg runs, remove {office}.new"
-            )
-        }
-        FileProblem::ReadFailed(bytes) => {
-            writeln!(f, "{office} (file 1) could not be read after {bytes} bytes")
-        }
-        FileProblem::NotOffice => {
-            writeln!(f, "{office} (file 1) is no office file")?;
-            f.write_str("hint: crsreg office makes one\n")
-        }
-    }
+    writeln!(
+        f,
+        "{office} (file 1) cannot be opened, or {office}.new cannot be made: it is not there, you may not read it or write there, or it has a second name (a hard link), which would keep an old number"
+    )
+}
+
+/// Writes the sentence for an office file that another command has, and the way out.
+pub fn write_busy<W: fmt::Write>(f: &mut fmt::Formatter<W>, office: FileName<'_>) -> fmt::Result {
+    writeln!(
+        f,
+        "{office}.new is there: another command of this office works, or one was stopped"
+    )?;
+    writeln!(
+        f,
+        "hint: run this command again; if no crsreg runs, remove {office}.new"
+    )
+}
+
+/// Writes the sentence for an office file that was not read to its end.
+pub fn write_unread<W: fmt::Write>(
+    f: &mut fmt::Formatter<W>,
+    bytes: usize,
+    office: FileName<'_>,
+) -> fmt::Result {
+    writeln!(f, "{office} (file 1) could not be read after {bytes} bytes")
+}
+
+/// Writes the sentence for a file that is no office file, and the way out.
+pub fn write_foreign<W: fmt::Write>(
+    f: &mut fmt::Formatter<W>,
+    office: FileName<'_>,
+) -> fmt::Result {
+    writeln!(f, "{office} (file 1) is no office file")?;
+    f.write_str("hint: crsreg office makes one\n")
 }

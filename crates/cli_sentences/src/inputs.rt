@@ -1,4 +1,5 @@
 //! Sentences for files that cannot be read.
+use crate::guard;
 use crate::paths::{Command, FileName, Looks, Paths};
 use reg_guard::engine::InputFault;
 use reg_guard::engine::files::FileFault;
@@ -16,7 +17,12 @@ pub fn write<W: fmt::Write>(
     paths: &Paths<'_>,
 ) -> fmt::Result {
     let path = paths.file(number);
+    let is_office = paths.has_office && number == 1;
     match fault {
+        InputFault::NotOpened if is_office => guard::write_unopened(f, path),
+        InputFault::ReadFailed(place) if is_office => guard::write_unread(f, place, path),
+        InputFault::Busy => guard::write_busy(f, path),
+        InputFault::NotOffice => guard::write_foreign(f, path),
         InputFault::NotOpened => {
             write!(
                 f,

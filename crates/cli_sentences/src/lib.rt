@@ -10,7 +10,6 @@ mod refusals;
 mod shelves;
 mod shown;
 
-pub use guard::GuardSentence;
 pub use imports::{KeyTaken, LEAVES_OUT};
 pub use paths::{Command, FileName, Found, Looks, Paths};
 use reg_guard::engine::CliFault;
@@ -35,6 +34,7 @@ impl fmt::Display for Sentence<'_> {
             }
             CliFault::Out(fault) => outputs::write(f, fault, self.found.is_written, &self.paths),
             CliFault::Shelf(problem) => shelves::write(f, problem, &self.paths),
+            CliFault::Office(_) => guard::write_unnoted(f, &self.paths),
             CliFault::Memory => f.write_str("there is not enough memory\n"),
         }
     }

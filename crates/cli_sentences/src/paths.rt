@@ -70,6 +70,8 @@ pub struct Paths<'a> {
     pub keeps_going: bool,
     /// The files that it reads, in the order of their numbers. The first is file 1.
     pub files: &'a [FileName<'a>],
+    /// Whether the first of them is an office file.
+    pub has_office: bool,
     /// The register that it reads, in a file or on a shelf; empty if there is none.
     pub register: &'a str,
     /// The file or the folder that it writes; empty if there is none.

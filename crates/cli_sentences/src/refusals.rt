@@ -1,4 +1,5 @@
 //! Sentences for refusals.
+use crate::guard;
 use crate::paths::{Command, Paths, Register};
 use crate::shown::{Head, Shown};
 use reg_guard::engine::Refusal;
@@ -37,6 +38,7 @@ pub fn write<W: fmt::Write>(
             )
         }
         Refusal::Office(fault) => write_office(f, fault, paths),
+        Refusal::Behind(id) => guard::write_behind(f, id, paths),
         refusal => write_word(f, refusal, paths),
     }
 }

@@ -1,6 +1,6 @@
 //! The end of a command: its messages and its exit status.
 use cli_exchange::faults::sentences::{Command, KeyTaken, LEAVES_OUT};
-use cli_exchange::faults::{Named, Second, add, explain, explain_guard};
+use cli_exchange::faults::{Named, Second, add, explain};
 use cli_import::changes::{RefusedLine, Superseded};
 use cli_look::desk::{CliFault, Explained, ImportFault, OpId, Unimported};
 use cli_open::{MISUSE, Outcome, complain, failed};
@@ -90,11 +90,6 @@ fn status_of(rt: &HostRuntime, outcome: &Outcome, named: &Option<Named<'_>>) -> 
         Outcome::Fault(fault) => {
             let status = failed(rt, fault);
             explain(rt, *fault, named);
-            status
-        }
-        Outcome::Guard(fault) => {
-            let status = complain(rt, fault, fault.status());
-            explain_guard(rt, *fault, named);
             status
         }
         Outcome::Misuse(line) => complain(rt, line, MISUSE),

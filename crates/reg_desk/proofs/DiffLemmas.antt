@@ -29,6 +29,7 @@ module _ (joins : Bool) (next : ℕ) (x : Content) (old new : List SourceState) 
   unread before after same (cli.Out f) h = absurd h
   unread before after same cli.Memory h = (h, same)
   unread before after same (cli.Shelf p) h = absurd h
+  unread before after same (cli.Office t) h = absurd h
 
   module _ (xs : List Content) (qs : List Piece) (given : GivePartsAfter (x ∷ []) [] old new xs qs) where
     is_join : join_of (joined_parts joins x given.0) ≡ with_pieces (begun (all_joined joined (Ok nothing) (joined_ones joins xs))) qs
@@ -42,6 +43,7 @@ module _ (joins : Bool) (next : ℕ) (x : Content) (old new : List SourceState) 
     unjoined before after same (cli.Out f) h = absurd h
     unjoined before after same cli.Memory h = (none_failed old new given.0 given.1, same)
     unjoined before after same (cli.Shelf p) h = absurd h
+    unjoined before after same (cli.Office t) h = absurd h
 
     -- the registers and pieces join to a content
     pub compares : (y : Content) → with_pieces (begun (all_joined joined (Ok nothing) (joined_ones joins xs))) qs ≡ Ok y → Compares joins old new x y
@@ -54,3 +56,4 @@ module _ (joins : Bool) (next : ℕ) (x : Content) (old new : List SourceState) 
   untold y before after both (cli.Out f) h = (y, both, h)
   untold y before after both cli.Memory h = (none_failed old new both.0 both.1, h)
   untold y before after both (cli.Shelf p) h = absurd h
+  untold y before after both (cli.Office t) h = absurd h

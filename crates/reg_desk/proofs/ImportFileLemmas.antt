@@ -109,6 +109,7 @@ module _ {F : Type 0} (st : F → SourceState) where
   unread_next was now number i k o s bs within size front back at (cli.Out f) h = absurd h
   unread_next was now number i k o s bs within size front back at cli.Memory h = none_fails_next was now i o s bs within size front back h
   unread_next was now number i k o s bs within size front back at (cli.Shelf p) h = absurd h
+  unread_next was now number i k o s bs within size front back at (cli.Office t) h = absurd h
 
   -- after the last file, all gave their bytes
   pub gave_all : (was now : List F) (i : ℕ) (bs : List (List ℕ)) → length was ≤ i → length now ≡ length was

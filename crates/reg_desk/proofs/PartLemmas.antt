@@ -61,6 +61,7 @@ refusal_stays (Ok x) qs (cli.File k f) h = absurd h
 refusal_stays (Ok x) qs (cli.Out f) h = absurd h
 refusal_stays (Ok x) qs cli.Memory h = tt
 refusal_stays (Ok x) qs (cli.Shelf p) h = absurd h
+refusal_stays (Ok x) qs (cli.Office t) h = absurd h
 
 -- ---- the first of the registers
 

@@ -46,6 +46,7 @@ IsUntold Is before after (cli.File k f) = ⊥
 IsUntold Is before after (cli.Out f) = IsCutOut Is before after f
 IsUntold Is before after cli.Memory = after ≡ before
 IsUntold Is before after (cli.Shelf p) = ⊥
+IsUntold Is before after (cli.Office t) = ⊥
 
 -- why nothing was compared with the older content, or why not all differences were written
 abbrev pub CannotCompare : Bool → ℕ → Content → List SourceState → List SourceState → SinkState → SinkState → CliFault → Type 0
@@ -54,6 +55,7 @@ CannotCompare joins next x old new before after (cli.File k f) = StopsFrom next 
 CannotCompare joins next x old new before after (cli.Out f) = (y : Content) × Compares joins old new x y × IsCutOut (IsDiff x y) before after f
 CannotCompare joins next x old new before after cli.Memory = NoneFails old new × (after ≡ before)
 CannotCompare joins next x old new before after (cli.Shelf p) = ⊥
+CannotCompare joins next x old new before after (cli.Office t) = ⊥
 
 -- the older register did not come in, and nothing else was read; or it did
 abbrev pub IsUncompared : Around → Bool → ℕ → List SourceState → List SourceState → SinkState → SinkState → CliFault → Type 0

@@ -21,6 +21,7 @@ use Rattle.reg_import.specs.declared.listing.Listing.{Listing}
 use Rattle.reg_import.specs.Listing.{IsListing}
 use Rattle.reg_engine.specs.declared.fault.Refusal.TheVariants as refusal
 use Rattle.reg_engine.specs.Fault.{status_of}
+use Rattle.reg_engine.specs.Store.{Admission, AsLoaded, Screened, WorksOn}
 use Rattle.reg_engine.specs.declared.fault.CliFault.{CliFault}
 use Rattle.reg_engine.specs.declared.fault.CliFault.TheVariants as cli
 use Rattle.reg_desk.specs.declared.import.options.ImportOptions.{ImportOptions}
@@ -130,3 +131,15 @@ IsReady o first x old new y lines passed = (files : List (List ℕ)) × GiveAll 
 -- a file was not read, or nothing is made
 abbrev pub IsUnready : ImportOptions → ℕ → Content → List SourceState → List SourceState → Unimported → Type 0
 IsUnready o first x old new u = IsPlain (AreUnread first old new) u ⊎ ((files : List (List ℕ)) × GiveAll old new files × IsUnmade o first x files u)
+
+-- ---- a store
+
+-- the result for the register on which the command works, given the loaded one
+abbrev pub IsReadyIn : Admission → ImportOptions → ℕ → Content → List SourceState → List SourceState → Content → List ℕ → Option Unimported → Type 0
+IsReadyIn a o first x old new y lines passed = WorksOn a (λ z. IsReady o first z old new y lines passed) x
+
+-- a file was not read; or the store does not admit the register; or nothing is made of the one that it admits
+abbrev pub IsUnreadyIn : Admission → ImportOptions → ℕ → Content → List SourceState → List SourceState → Unimported → Type 0
+IsUnreadyIn AsLoaded o first x old new u = IsUnready o first x old new u
+IsUnreadyIn (Screened makes bars) o first x old new u = IsPlain (AreUnread first old new) u
+    ⊎ ((files : List (List ℕ)) × GiveAll old new files × (IsPlain (bars x) u ⊎ ((z : Content) × makes x z × IsUnmade o first z files u)))

@@ -4,20 +4,11 @@ use Rattle.byte_io.specs.Device.{SourceState, SinkState}
 use Rattle.byte_io.specs.Whole.{WritesAll}
 use Rattle.reg_op.specs.Contents.{Content}
 use Rattle.reg_engine.specs.declared.fault.CliFault.{CliFault}
-use Rattle.reg_engine.specs.Fault.{is_after}
-use Rattle.reg_engine.specs.Store.{Around, AreCut, WritesIf, IsKeptIn}
+use Rattle.reg_engine.specs.Store.{Around, Admission, AreCut, IsTold, IsUntold}
 use Rattle.reg_desk.specs.declared.import.options.ImportOptions.{ImportOptions}
 use Rattle.reg_desk.specs.declared.import.fault.Unimported.{Unimported}
-use Rattle.reg_desk.specs.Import.{IsPlain, IsReady, IsUnready}
+use Rattle.reg_desk.specs.Import.{IsPlain, IsReadyIn, IsUnreadyIn}
 use Rattle.reg_desk.specs.ImportRoom.{Room}
-
--- all lines were written, and there is no fault
-abbrev pub IsTold : List ℕ → Option Unimported → SinkState → SinkState → Type 0
-IsTold lines passed before after = (passed ≡ None) × WritesAll lines before after
-
--- there is a fault; or not all lines were written
-abbrev pub IsUntold : List ℕ → Option Unimported → SinkState → SinkState → Unimported → Type 0
-IsUntold lines passed before after u = ((passed ≡ Some u) × WritesAll lines before after) ⊎ IsPlain (AreCut lines before after) u
 
 -- ---- the register that is read, and the one that is written
 
@@ -36,8 +27,8 @@ abbrev pub kept_in : Around → SinkState → SinkState → Way
 kept_in a before after = record {
   came = λ x. a.came x × (after ≡ before);
   none = λ f. a.none f × (after ≡ before);
-  gave = λ x y lines. a.left x y × WritesAll lines before after;
-  failed = λ x y lines f. (a.unleft x y f × WritesIf (is_after f) lines before after) ⊎ (IsKeptIn a x y × AreCut lines before after f);
+  gave = λ x y lines. IsTold a x y lines before after;
+  failed = λ x y lines f. IsUntold a x y lines before after f;
 }
 
 -- a store that would have room for it, and is only read
@@ -52,8 +43,8 @@ tried_in a r before after = record {
 -- ---- the effect of an import
 
 -- a register and texts were read; the texts were imported, none was passed over, and the result was written
-abbrev pub IsImported : Way → ImportOptions → ℕ → List SourceState → List SourceState → Type 0
-IsImported w o next old new = (x : Content) × (y : Content) × (lines : List ℕ) × IsReady o next x old new y lines None × w.gave x y lines
+abbrev pub IsImported : Way → Admission → ImportOptions → ℕ → List SourceState → List SourceState → Type 0
+IsImported w a o next old new = (x : Content) × (y : Content) × (lines : List ℕ) × IsReadyIn a o next x old new y lines None × w.gave x y lines
 
 -- the fault after an import: everything was written, and it is that of the texts that were passed over; or not everything
 -- was written
@@ -61,7 +52,7 @@ abbrev pub IsAnswer : Way → Content → Content → List ℕ → Option Unimpo
 IsAnswer w x y lines passed u = ((passed ≡ Some u) × w.gave x y lines) ⊎ IsPlain (w.failed x y lines) u
 
 -- no register was read, and no file of texts was; or one was, and there is no result, or this is the fault afterwards
-abbrev pub IsUnimported : Way → ImportOptions → ℕ → List SourceState → List SourceState → Unimported → Type 0
-IsUnimported w o next old new u = (IsPlain w.none u × (new ≡ old))
-    ⊎ (((x : Content) × w.came x × IsUnready o next x old new u)
-    ⊎ ((x : Content) × (y : Content) × (lines : List ℕ) × (passed : Option Unimported) × IsReady o next x old new y lines passed × IsAnswer w x y lines passed u))
+abbrev pub IsUnimported : Way → Admission → ImportOptions → ℕ → List SourceState → List SourceState → Unimported → Type 0
+IsUnimported w a o next old new u = (IsPlain w.none u × (new ≡ old))
+    ⊎ (((x : Content) × w.came x × IsUnreadyIn a o next x old new u)
+    ⊎ ((x : Content) × (y : Content) × (lines : List ℕ) × (passed : Option Unimported) × IsReadyIn a o next x old new y lines passed × IsAnswer w x y lines passed u))

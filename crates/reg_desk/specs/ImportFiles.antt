@@ -35,3 +35,4 @@ AreUnread number old new (cli.File k f) = StopsAt number k f old new
 AreUnread number old new (cli.Out f) = ⊥
 AreUnread number old new cli.Memory = NoneFails old new
 AreUnread number old new (cli.Shelf p) = ⊥
+AreUnread number old new (cli.Office t) = ⊥

@@ -9,12 +9,24 @@ use Rattle.reg_engine.specs.declared.fault.CliFault.{CliFault}
 use Rattle.reg_engine.specs.declared.fault.CliFault.TheVariants as cli
 use Rattle.reg_engine.specs.Shelf.{Disks, Has, HasNoRoom, StaysOn, IsUnrestored}
 use Rattle.reg_engine.specs.Store.{Around, on_shelf}
+use Rattle.reg_engine.specs.declared.kinds.Either.{Either}
+use Rattle.reg_engine.specs.declared.kinds.Either.TheVariants as either
 
 pub record Room : Type 1 where
   -- the first register was read, the second has room, and nothing was changed
   pub fits : Content → Content → Type 0
   -- the first was read, and the second has no room, or none is known to be there, for this reason
   pub full : Content → Content → CliFault → Type 0
+
+-- ---- a store of one kind or of another
+
+abbrev pub never : Room
+never = record { fits = λ x y. ⊥; full = λ x y f. ⊥ }
+
+abbrev pub room_either : {A : Type 0} → {B : Type 0} → (A → A → Room) → (B → B → Room) → Either A B → Either A B → Room
+room_either a b (either.One s) (either.One t) = a s t
+room_either a b (either.Other s) (either.Other t) = b s t
+room_either a b s t = never
 
 -- ---- a file
 
@@ -30,6 +42,7 @@ HasNoFile y (cli.Out out.TooLarge) = IsTooLarge y
 HasNoFile y (cli.Out f) = ⊥
 HasNoFile y cli.Memory = Unit {0}
 HasNoFile y (cli.Shelf p) = ⊥
+HasNoFile y (cli.Office t) = ⊥
 
 abbrev pub room_in_file : Around → Room
 room_in_file a = record {
@@ -55,6 +68,7 @@ IsFull d old new y (cli.Shelf problem.NotLocked) = ⊥
 IsFull d old new y (cli.Shelf problem.NotShelf) = (IsTrue (d.tells old) → ⊥) × StaysOn d old new
 IsFull d old new y (cli.Shelf problem.TooLarge) = HasNoRoom d old y × StaysOn d old new
 IsFull d old new y (cli.Shelf problem.DiskFailed) = IsUnrestored d old new (cli.Shelf problem.DiskFailed)
+IsFull d old new y (cli.Office t) = ⊥
 
 abbrev pub room_on_shelf : {D : Type 0} → Disks D → D → D → Room
 room_on_shelf d old new = record {

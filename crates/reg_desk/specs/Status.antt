@@ -118,3 +118,4 @@ IsUntold settled names Are Left before after (cli.Out (out.WriteFailed n)) = (lo
 IsUntold settled names Are Left before after (cli.Out f) = ⊥
 IsUntold settled names Are Left before after cli.Memory = Left × (after ≡ before)
 IsUntold settled names Are Left before after (cli.Shelf p) = (looks : List Look) × Tells names Are before after looks × IsVerdict settled looks (cli.Shelf p)
+IsUntold settled names Are Left before after (cli.Office t) = ⊥

@@ -6,7 +6,7 @@ ghost use Rattle.reg_office.specs.declared.fault.OfficeFault.{OfficeFault as One
 ghost use Rattle.reg_engine.specs.Fault.{office_fault};
 ghost use Rattle.reg_engine.specs.Outputs.{id_lines};
 ghost use Rattle.reg_links.specs.Retiring.{RetiresFor, CannotRetireFor};
-ghost use Rattle.reg_desk.specs.Settle.{settle_fault};
+ghost use Rattle.reg_desk.specs.Settle.{SettlesFor, CannotKeep, SettlesEqual, NeverRefuses, Retires, IsUnretired, settle_fault};
 
 use reg_engine::{Change, CliFault, Made, Refusal, id_lines};
 use reg_links::{Retired, retire_for_heirs};
@@ -27,11 +27,18 @@ pub struct Settle<'a> {
 }
 
 impl Change for Settle<'_> {
+    type Read = ();
+
+    ghost use Rattle.std.specs.Prelude.{◌≡◌};
     ghost use Rattle.reg_desk.specs.Settle.{SettlesFor, CannotKeep, Retires, IsUnretired};
 
-    ghost makes = { λ old. λ new. λ next. λ x. λ y. λ lines. Retires (SettlesFor old.keeps.now) old.replica old.note.now x y lines };
+    ghost reads = { λ old. λ new. λ next. λ x. λ r. new ≡ old };
 
-    ghost refuses = { λ old. λ new. λ next. λ x. λ f. IsUnretired (SettlesFor old.keeps.now) (CannotKeep old.keeps.now) old.replica old.note.now x f };
+    ghost unmet = { λ old. λ new. λ next. λ x. λ f. ⊥ };
+
+    ghost makes = { λ old. λ new. λ next. λ x. λ z. λ y. λ lines. Retires (SettlesFor old.keeps.now) old.replica old.note.now z y lines };
+
+    ghost refuses = { λ old. λ new. λ next. λ x. λ z. λ f. IsUnretired (SettlesFor old.keeps.now) (CannotKeep old.keeps.now) old.replica old.note.now z f };
 
     ghost same = { λ old. λ new. Unit {0} };
 
@@ -41,18 +48,49 @@ impl Change for Settle<'_> {
 
     ghost rests = { λ a. tt };
 
-    fn make(&mut self, alloc: Global, _next: usize, register: Register) -> Result<Made, CliFault> {
-        if self.note.len() > Note::MAX {
-            return Err(CliFault::Refused(Refusal::Office(OfficeFault::NoteTooLong)));
-        }
-        let entries = match to_retire(alloc, &register, self.keeps) {
-            Ok(entries) => entries,
-            Err(fault) => return Err(fault_of(fault)),
-        };
-        match retire_all(alloc, register, self.replica, &entries, self.note) {
+    ghost still = { λ a b c e f. tt };
+
+    ghost stops = { λ a b n x z f h. absurd h };
+
+    fn read(&mut self, _alloc: Global, _next: usize, _register: &Register) -> Result<(), CliFault> {
+        Ok(())
+    }
+
+    fn make(
+        &mut self,
+        alloc: Global,
+        _next: usize,
+        _read: (),
+        register: Register,
+    ) -> Result<Made, CliFault> {
+        match settled(alloc, register, self.replica, self.keeps, self.note) {
             Ok(made) => Ok(made),
             Err(fault) => Err(fault),
         }
+    }
+}
+
+// Retires the other entries that have the keys of the entries to keep.
+fn settled(
+    alloc: Global,
+    register: Register,
+    replica: Uuid,
+    keeps: &[OpId],
+    note: &str,
+) -> Result<Made, CliFault>
+    ensures made { IfOk result (λ made. Retires (SettlesFor keeps.now) replica note.now register made.register made.lines.items) }
+    ensures fault { IfErr result (λ f. IsUnretired (SettlesFor keeps.now) (CannotKeep keeps.now) replica note.now register f) }
+{
+    if note.len() > Note::MAX {
+        return Err(CliFault::Refused(Refusal::Office(OfficeFault::NoteTooLong)));
+    }
+    let entries = match to_retire(alloc, &register, keeps) {
+        Ok(entries) => entries,
+        Err(fault) => return Err(fault_of(fault)),
+    };
+    match retire_all(alloc, register, replica, &entries, note) {
+        Ok(made) => Ok(made),
+        Err(fault) => Err(fault),
     }
 }
 
@@ -64,11 +102,18 @@ pub struct SettleEqual<'a> {
 }
 
 impl Change for SettleEqual<'_> {
+    type Read = ();
+
+    ghost use Rattle.std.specs.Prelude.{◌≡◌};
     ghost use Rattle.reg_desk.specs.Settle.{SettlesEqual, NeverRefuses, Retires, IsUnretired};
 
-    ghost makes = { λ old. λ new. λ next. λ x. λ y. λ lines. Retires SettlesEqual old.replica old.note.now x y lines };
+    ghost reads = { λ old. λ new. λ next. λ x. λ r. new ≡ old };
 
-    ghost refuses = { λ old. λ new. λ next. λ x. λ f. IsUnretired SettlesEqual NeverRefuses old.replica old.note.now x f };
+    ghost unmet = { λ old. λ new. λ next. λ x. λ f. ⊥ };
+
+    ghost makes = { λ old. λ new. λ next. λ x. λ z. λ y. λ lines. Retires SettlesEqual old.replica old.note.now z y lines };
+
+    ghost refuses = { λ old. λ new. λ next. λ x. λ z. λ f. IsUnretired SettlesEqual NeverRefuses old.replica old.note.now z f };
 
     ghost same = { λ old. λ new. Unit {0} };
 
@@ -78,18 +123,48 @@ impl Change for SettleEqual<'_> {
 
     ghost rests = { λ a. tt };
 
-    fn make(&mut self, alloc: Global, _next: usize, register: Register) -> Result<Made, CliFault> {
-        if self.note.len() > Note::MAX {
-            return Err(CliFault::Refused(Refusal::Office(OfficeFault::NoteTooLong)));
-        }
-        let entries = match doubles(alloc, &register) {
-            Ok(entries) => entries,
-            Err(_) => return Err(CliFault::Memory),
-        };
-        match retire_all(alloc, register, self.replica, &entries, self.note) {
+    ghost still = { λ a b c e f. tt };
+
+    ghost stops = { λ a b n x z f h. absurd h };
+
+    fn read(&mut self, _alloc: Global, _next: usize, _register: &Register) -> Result<(), CliFault> {
+        Ok(())
+    }
+
+    fn make(
+        &mut self,
+        alloc: Global,
+        _next: usize,
+        _read: (),
+        register: Register,
+    ) -> Result<Made, CliFault> {
+        match settled_equal(alloc, register, self.replica, self.note) {
             Ok(made) => Ok(made),
             Err(fault) => Err(fault),
         }
+    }
+}
+
+// Retires all doubles.
+fn settled_equal(
+    alloc: Global,
+    register: Register,
+    replica: Uuid,
+    note: &str,
+) -> Result<Made, CliFault>
+    ensures made { IfOk result (λ made. Retires SettlesEqual replica note.now register made.register made.lines.items) }
+    ensures fault { IfErr result (λ f. IsUnretired SettlesEqual NeverRefuses replica note.now register f) }
+{
+    if note.len() > Note::MAX {
+        return Err(CliFault::Refused(Refusal::Office(OfficeFault::NoteTooLong)));
+    }
+    let entries = match doubles(alloc, &register) {
+        Ok(entries) => entries,
+        Err(_) => return Err(CliFault::Memory),
+    };
+    match retire_all(alloc, register, replica, &entries, note) {
+        Ok(made) => Ok(made),
+        Err(fault) => Err(fault),
     }
 }
 

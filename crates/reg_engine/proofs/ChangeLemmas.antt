@@ -25,7 +25,7 @@ use Rattle.reg_engine.specs.declared.fault.CliFault.{CliFault}
 use Rattle.reg_engine.specs.declared.fault.CliFault.TheVariants as cli
 use Rattle.reg_engine.specs.Fault.{office_fault, definition_fault}
 use Rattle.reg_engine.specs.Outputs.{id_lines}
-use Rattle.reg_engine.specs.Change.{Makes, IsRefused, CannotMake, ReadsDefinition, CannotEnter}
+use Rattle.reg_engine.specs.Change.{Makes, IsRefused, CannotMake, ReadsDefinition, Enters, CannotEnter}
 
 -- the same for equal contents and equal replicas
 pub does_of : (x y z : Content) (r s note : List ℕ) (bodies : List Body) (ids : List Id) → x ≡ y → r ≡ s → Does x r note bodies z ids → Does y s note bodies z ids
@@ -74,17 +74,6 @@ defined_is h = h.0.2.is
 pub reads_definition : (old new : SourceState) (d : List ℕ) → (h : FindsDefinition old new d) → ReadsDefinition (value_of h) old new
 reads_definition old new d h = ((h.0.0, h.0.1, h.0.2.spells), subst (λ b. IsDefinition b) (defined_is h) h.1)
 
-pub cannot_define : (replica note : List ℕ) (number : ℕ) (old new : SourceState) (x : Content) (f : DefineFromFault) → IsDefineFromFault old new f
-    → CannotEnter replica note number old new x (definition_fault number f)
-cannot_define replica note number old new x (define.ReadFailed n) h = (refl, h)
-cannot_define replica note number old new x (define.Refused (undefined.Read (unspelled.Text f))) h = h
-cannot_define replica note number old new x (define.Refused (undefined.Read (unspelled.Slot f))) h = h
-cannot_define replica note number old new x (define.Refused (undefined.Read (unspelled.Broken condition place))) h = h
-cannot_define replica note number old new x (define.Refused undefined.NoIdentifier) (v, finds, none) = (v, finds, none)
-cannot_define replica note number old new x (define.Refused undefined.CanonicalTooLong) (v, finds, some, long) = (v, finds, (some, long))
-cannot_define replica note number old new x (define.Refused undefined.NotCanonical) h = absurd h
-cannot_define replica note number old new x (define.Refused undefined.Memory) h = h
-
 -- the faults of an office that enters a definition
 abbrev pub IsOfEntry : OfficeFault → Type 0
 IsOfEntry office.NoteTooLong = Unit {0}
@@ -110,3 +99,31 @@ cannot_enter replica note number old new x v office.NoteTooLong both h = (v, bot
 cannot_enter replica note number old new x v office.CountSpent both h = (v, both, refused_for x replica note (Enter (canon v) ∷ []) office.CountSpent (refusal.Office office.CountSpent) refl h)
 cannot_enter replica note number old new x v office.Memory both h = part_of_found old new v both.0
 cannot_enter replica note number old new x v f both h = absurd (enter_only x replica note (canon v) f h)
+
+-- ---- an entry, by its definition
+
+unentered : (replica note : List ℕ) (number : ℕ) (old new : SourceState) (d : List ℕ) (x : Content) (f : CliFault) → FindsDefinition old new d
+    → CannotMake replica note (Enter d ∷ []) x f → CannotEnter replica note number old new x f
+unentered replica note number old new d x (cli.Refused r) found (o, e, is) =
+    subst (CannotEnter replica note number old new x) is (cannot_enter replica note number old new x (value_of found) o (reads_definition old new d found)
+    (inl (subst (λ (k : List ℕ). made x replica note (Enter k ∷ []) ≡ Err o) (defined_is found) e)))
+unentered replica note number old new d x (cli.File k g) found h = absurd h
+unentered replica note number old new d x (cli.Out g) found h = absurd h
+unentered replica note number old new d x cli.Memory found h = part_of_found old new (value_of found) (found.0.0, found.0.1, found.0.2.spells)
+unentered replica note number old new d x (cli.Shelf p) found h = absurd h
+unentered replica note number old new d x (cli.Office t) found h = absurd h
+
+-- the same by an office that is equal to the command's
+pub unentered_as : (r s n m : List ℕ) (number : ℕ) (old new : SourceState) (d : List ℕ) (x : Content) (f : CliFault) → s ≡ r → m ≡ n → FindsDefinition old new d
+    → CannotMake s m (Enter d ∷ []) x f → CannotEnter r n number old new x f
+unentered_as r s n m number old new d x f e g found h =
+    unentered r n number old new d x f found (subst (λ (k : List ℕ). CannotMake k n (Enter d ∷ []) x f) e (subst (λ (k : List ℕ). CannotMake s k (Enter d ∷ []) x f) g h))
+
+pub entered_as : (r s n m : List ℕ) (old new : SourceState) (d : List ℕ) (x y : Content) (lines : List ℕ) → s ≡ r → m ≡ n → FindsDefinition old new d
+    → Makes s m (Enter d ∷ []) x y lines → Enters r n old new x y lines
+entered_as r s n m old new d x y lines e g found h = (
+  value_of found,
+  reads_definition old new d found,
+  subst (λ (k : List ℕ). Makes r n (Enter k ∷ []) x y lines) (defined_is found)
+      (subst (λ (k : List ℕ). Makes k n (Enter d ∷ []) x y lines) e (subst (λ (k : List ℕ). Makes s k (Enter d ∷ []) x y lines) g h)),
+)

@@ -134,6 +134,7 @@ module _ {S : Type 0} (st : S → SourceState) where
   unread_next was now next i number o s xs within size front back at (cli.Out f) h = absurd h
   unread_next was now next i number o s xs within size front back at cli.Memory h = none_fails_next was now i o s xs within size front back h
   unread_next was now next i number o s xs within size front back at (cli.Shelf p) h = absurd h
+  unread_next was now next i number o s xs within size front back at (cli.Office t) h = absurd h
 
   -- if the sources before index i gave files, and no other was read, none has failed
   pub none_fails_yet : (was now : List S) (i : ℕ) (xs : List Part) → i < length was → length now ≡ length was

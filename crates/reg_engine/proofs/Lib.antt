@@ -1,4 +1,5 @@
 pub mod ChangeLemmas
+pub mod DriverLemmas
 mod ExchangeLemmas
 mod ExportLemmas
 pub mod InputLemmas

@@ -135,10 +135,12 @@ ways r (cli.Refused refusal.NoEntry) h = absurd h
 ways r (cli.Refused (refusal.Several id)) h = absurd h
 ways r (cli.Refused refusal.Unsettled) h = absurd h
 ways r (cli.Refused (refusal.KeyTaken id)) h = absurd h
+ways r (cli.Refused (refusal.Behind id)) h = absurd h
 ways r (cli.File k f) h = absurd h
 ways r (cli.Out f) h = absurd h
 ways r cli.Memory h = inr (inr refl)
 ways r (cli.Shelf p) h = absurd h
+ways r (cli.Office t) h = absurd h
 
 refused_by : (old new : Ends) (ps : List Part) (r : Result Content PieceRefusal) → HoldAll old.sources new.sources ps → join_of ps ≡ r → new.place ≡ old.place
     → (f : CliFault) → Ways r f → IsMergeFault old new f
@@ -189,6 +191,7 @@ unmerged old new ps x held join (cli.File k f) h = absurd h
 unmerged old new ps x held join (cli.Out f) h = (ps, held, (x, join, h))
 unmerged old new ps x held join cli.Memory h = (none_failed old.sources new.sources ps held, h)
 unmerged old new ps x held join (cli.Shelf p) h = absurd h
+unmerged old new ps x held join (cli.Office t) h = absurd h
 
 -- the file of the empty content has 14 bytes
 empty_file : IsFileOf nothing (file (set.items nothing.ops) [])
@@ -214,3 +217,4 @@ unread old new same (cli.File k f) h = (stops_first k f old.sources new.sources 
 unread old new same (cli.Out f) h = absurd h
 unread old new same cli.Memory h = (h, same)
 unread old new same (cli.Shelf p) h = absurd h
+unread old new same (cli.Office t) h = absurd h

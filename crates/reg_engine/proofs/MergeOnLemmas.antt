@@ -22,6 +22,7 @@ merge_unrestored d sources old new (cli.File k f) h = absurd h
 merge_unrestored d sources old new (cli.Out f) h = absurd h
 merge_unrestored d sources old new cli.Memory h = (none_given sources, h)
 merge_unrestored d sources old new (cli.Shelf p) h = inl (h, refl)
+merge_unrestored d sources old new (cli.Office t) h = absurd h
 
 pub merge_unread : {D : Type 0} (d : Disks D) (old new : ShelfEnds D) (x : Content) → Has d old.disk x → StaysOn d old.disk new.disk
     → (f : CliFault) → AreUnread 1 old.sources new.sources f → IsMergeFaultOn d old new f
@@ -30,6 +31,7 @@ merge_unread d old new x has stays (cli.File k f) h = ((x, has), stops_first k f
 merge_unread d old new x has stays (cli.Out f) h = absurd h
 merge_unread d old new x has stays cli.Memory h = (h, stays)
 merge_unread d old new x has stays (cli.Shelf p) h = absurd h
+merge_unread d old new x has stays (cli.Office t) h = absurd h
 
 pub gives_from : (some others : List Content) (few none : List Piece) (old new : List SourceState) (xs : List Content) (qs : List Piece) → some ≡ others → few ≡ none
     → GivePartsAfter some few old new xs qs → GivePartsAfter others none old new xs qs
@@ -64,3 +66,4 @@ merge_unkept d old new x y has to (cli.File k f) h = absurd h
 merge_unkept d old new x y has to (cli.Out f) h = absurd h
 merge_unkept d old new x y has to cli.Memory h = (none_failed old.sources new.sources to.0 to.1, h)
 merge_unkept d old new x y has to (cli.Shelf p) h = inr (x, y, has, to, h)
+merge_unkept d old new x y has to (cli.Office t) h = absurd h

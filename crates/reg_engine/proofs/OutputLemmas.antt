@@ -39,6 +39,7 @@ unpublished_of (cli.Out out.Changed) Are Large read bytes old new is h = (bytes,
 unpublished_of (cli.Out out.NotSynced) Are Large read bytes old new is h = (bytes, is, h)
 unpublished_of cli.Memory Are Large read bytes old new is h = h
 unpublished_of (cli.Shelf p) Are Large read bytes old new is h = absurd h
+unpublished_of (cli.Office t) Are Large read bytes old new is h = absurd h
 
 pub unpublished_by : (r : Result (Unit {0}) CliFault) (Are : List ℕ → Type 0) (Large : Type 0) (read : Option (List ℕ)) (bytes : List ℕ) (old new : PlaceState)
     → Are bytes → IfErr r (IsUnpublishedOf read bytes old new) → IfErr r (IsUnpublishedBy Are Large read old new)

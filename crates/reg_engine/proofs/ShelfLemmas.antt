@@ -185,6 +185,7 @@ module _ {D : Type 0} (d : Disks D) (old mid new : D) (tells : d.tells mid ≡ d
   then_unkept x y (cli.Shelf problem.NotShelf) h = (λ told. h.0 (then_told told), then_stays h.1)
   then_unkept x y (cli.Shelf problem.TooLarge) h = (room_before y h.0, then_stays h.1)
   then_unkept x y (cli.Shelf problem.DiskFailed) h = (h.0 ∙ ap (λ (n : ℕ). n + 1) stays.quiet, then_passes x y h.1)
+  then_unkept x y (cli.Office t) h = h
 
   pub then_unready : (y : Content) (f : CliFault) → IsUnready d y mid new f → IsUnready d y old new f
   then_unready y (cli.Refused r) h = h
@@ -197,6 +198,7 @@ module _ {D : Type 0} (d : Disks D) (old mid new : D) (tells : d.tells mid ≡ d
   then_unready y (cli.Shelf problem.NotShelf) h = (λ told. h.0 (then_told told), then_stays h.1)
   then_unready y (cli.Shelf problem.TooLarge) h = (room_before y h.0, then_stays h.1)
   then_unready y (cli.Shelf problem.DiskFailed) h = (h.0 ∙ ap (λ (n : ℕ). n + 1) stays.quiet, then_nothing h.1)
+  then_unready y (cli.Office t) h = h
 
   pub then_unput : (x y : Content) (f : CliFault) → IsUnput d x y mid new f → IsUnput d x y old new f
   then_unput x y f h = (h.0, h.1 ∙ ap (λ (n : ℕ). n + 1) stays.quiet, then_passes x y h.2)

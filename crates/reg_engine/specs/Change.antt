@@ -5,7 +5,8 @@ use Rattle.crs_value.specs.declared.crs.Crs.{Crs}
 use Rattle.wkt_crs.specs.declared.fault.ReadFault.TheVariants as read
 use Rattle.wkt_crs.specs.Spells.{canon}
 use Rattle.wkt_crs.specs.Definition.{HasNone, IsDefinition}
-use Rattle.wkt_crs.specs.Source.{Finds, Refuses, FailsAt, RunsOut}
+use Rattle.wkt_crs.specs.declared.source.DefineFromFault.{DefineFromFault}
+use Rattle.wkt_crs.specs.Source.{Finds, Refuses, FailsAt, RunsOut, IsDefineFromFault}
 use Rattle.reg_op.specs.Ids.{Id}
 use Rattle.reg_op.specs.Contents.{Content}
 use Rattle.reg_op.specs.declared.operation.OpBody.{OpBody as Body}
@@ -19,7 +20,7 @@ use Rattle.reg_engine.specs.declared.fault.Refusal.{Refusal}
 use Rattle.reg_engine.specs.declared.fault.Refusal.TheVariants as refusal
 use Rattle.reg_engine.specs.declared.fault.CliFault.{CliFault}
 use Rattle.reg_engine.specs.declared.fault.CliFault.TheVariants as cli
-use Rattle.reg_engine.specs.Fault.{office_fault}
+use Rattle.reg_engine.specs.Fault.{office_fault, definition_fault}
 use Rattle.reg_engine.specs.Outputs.{id_lines}
 
 -- ---- operations with these bodies
@@ -47,6 +48,10 @@ ReadsDefinition v old new = Finds old new v × IsDefinition (canon v)
 -- and the office enters its canonical text
 abbrev pub Enters : List ℕ → List ℕ → SourceState → SourceState → Content → Content → List ℕ → Type 0
 Enters replica note old new x y lines = (v : Crs) × ReadsDefinition v old new × Makes replica note (Enter (canon v) ∷ []) x y lines
+
+-- the source gives no text of a definition; a fault of its file is that of the file with this number
+abbrev pub CannotDefine : ℕ → SourceState → SourceState → CliFault → Type 0
+CannotDefine number old new f = (g : DefineFromFault) × IsDefineFromFault old new g × (f ≡ definition_fault number g)
 
 -- why a value is not entered, in any register
 abbrev pub IsUndefined : Crs → Refusal → Type 0

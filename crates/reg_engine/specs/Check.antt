@@ -36,3 +36,4 @@ IsCheckFault old new (cli.Out (out.WriteFailed n)) = IsCutShort n old new
 IsCheckFault old new (cli.Out f) = ⊥
 IsCheckFault old new cli.Memory = RunsOut old.source new.source × (new.sink ≡ old.sink)
 IsCheckFault old new (cli.Shelf p) = ⊥
+IsCheckFault old new (cli.Office t) = ⊥

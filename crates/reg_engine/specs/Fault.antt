@@ -35,6 +35,7 @@ status_of (cli.File number f) = 3
 status_of (cli.Out f) = 3
 status_of cli.Memory = 4
 status_of (cli.Shelf p) = 3
+status_of (cli.Office t) = 3
 
 -- whether the fault comes after the new register is kept
 abbrev pub is_after : CliFault → Bool

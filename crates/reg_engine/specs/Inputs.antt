@@ -21,6 +21,8 @@ reading_fault file.NotOpened = None
 reading_fault (file.ReadFailed n) = Some (reading.ReadFailed n)
 reading_fault file.TooLarge = Some reading.TooLarge
 reading_fault (file.BadFile f place) = Some (reading.File f place)
+reading_fault file.Busy = None
+reading_fault file.NotOffice = None
 
 abbrev pub IsFaultBy : (ReadFileFault → Type 0) → Option ReadFileFault → Type 0
 IsFaultBy Is None = ⊥
@@ -47,6 +49,7 @@ IsUnread number old new (cli.File k f) = (k ≡ number) × IsFileFault f old new
 IsUnread number old new (cli.Out f) = ⊥
 IsUnread number old new cli.Memory = NeverFails old new
 IsUnread number old new (cli.Shelf p) = ⊥
+IsUnread number old new (cli.Office t) = ⊥
 
 -- the effect of a failed command on the summary in the file with this number
 abbrev pub IsSummaryUnread : ℕ → SourceState → SourceState → CliFault → Type 0
@@ -55,6 +58,7 @@ IsSummaryUnread number old new (cli.File k f) = (k ≡ number) × IsSummaryFault
 IsSummaryUnread number old new (cli.Out f) = ⊥
 IsSummaryUnread number old new cli.Memory = NeverFails old new
 IsSummaryUnread number old new (cli.Shelf p) = ⊥
+IsSummaryUnread number old new (cli.Office t) = ⊥
 
 -- the effect on the register or the piece there
 abbrev pub IsPartUnread : ℕ → SourceState → SourceState → CliFault → Type 0
@@ -63,6 +67,7 @@ IsPartUnread number old new (cli.File k f) = (k ≡ number) × IsPartFault f old
 IsPartUnread number old new (cli.Out f) = ⊥
 IsPartUnread number old new cli.Memory = NeverFails old new
 IsPartUnread number old new (cli.Shelf p) = ⊥
+IsPartUnread number old new (cli.Office t) = ⊥
 
 -- ---- a list of sources, of registers and of pieces
 
@@ -101,6 +106,7 @@ AreUnread next old new (cli.File k f) = StopsFrom next k f old new
 AreUnread next old new (cli.Out f) = ⊥
 AreUnread next old new cli.Memory = NoneFails old new
 AreUnread next old new (cli.Shelf p) = ⊥
+AreUnread next old new (cli.Office t) = ⊥
 
 -- ---- the registers and pieces that are joined
 

@@ -8,8 +8,10 @@ pub mod Merge
 pub mod Exchange
 pub mod Export
 pub mod Change
+pub mod ChangeLaws
 pub mod Report
 pub mod Shelf
 pub mod Store
+pub mod Either
 pub mod MergeOn
 pub mod WholeFile

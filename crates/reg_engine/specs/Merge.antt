@@ -35,6 +35,7 @@ IsUnjoined r (cli.File k f) = ⊥
 IsUnjoined r (cli.Out f) = ⊥
 IsUnjoined r cli.Memory = Unit {0}
 IsUnjoined r (cli.Shelf p) = ⊥
+IsUnjoined r (cli.Office t) = ⊥
 
 -- the parts join to this content; or the first step that has one meets this clash; or the first piece whose basis is not
 -- held by what was joined before it misses this id
@@ -81,3 +82,4 @@ IsMergeFault old new (cli.Out f) = (ps : List Part) × HoldAll old.sources new.s
     × ((x : Content) × JoinTo ps x × IsOutFault x new.read old.place new.place f)
 IsMergeFault old new cli.Memory = NoneFails old.sources new.sources × (new.place ≡ old.place)
 IsMergeFault old new (cli.Shelf p) = ⊥
+IsMergeFault old new (cli.Office t) = ⊥

@@ -38,3 +38,4 @@ IsMergeFaultOn d old new (cli.File k f) = ((x : Content) × Has d old.disk x) ×
 IsMergeFaultOn d old new (cli.Out f) = ⊥
 IsMergeFaultOn d old new cli.Memory = NoneFails old.sources new.sources × StaysOn d old.disk new.disk
 IsMergeFaultOn d old new (cli.Shelf p) = IsShelfFault d (new.sources ≡ old.sources) (MergesTo old.sources new.sources) old.disk new.disk p
+IsMergeFaultOn d old new (cli.Office t) = ⊥

@@ -5,6 +5,7 @@ use Rattle.wkt_crs.specs.Unspelled.{name_of, place_of}
 use Rattle.reg_op.specs.Ids.{Id}
 use Rattle.reg_file.specs.Names.{file_name}
 use Rattle.reg_office.specs.Names.{office_name, office_id}
+use Rattle.reg_number.specs.declared.fault.NoteFault.TheVariants as note
 use Rattle.reg_engine.specs.declared.fault.Refusal.{Refusal}
 use Rattle.reg_engine.specs.declared.fault.Refusal.TheVariants as refusal
 use Rattle.reg_engine.specs.declared.fault.InputFault.{InputFault}
@@ -34,6 +35,7 @@ refusal_name refusal.NoEntry = codes "NoEntry"
 refusal_name (refusal.Several id) = codes "Several"
 refusal_name refusal.Unsettled = codes "Unsettled"
 refusal_name (refusal.KeyTaken id) = codes "KeyTaken"
+refusal_name (refusal.Behind id) = codes "Behind"
 
 -- its place in a text, and the id that it names
 abbrev pub refusal_place : Refusal → Option ℕ
@@ -49,6 +51,7 @@ refusal_id (refusal.HasNote id) = Some id
 refusal_id (refusal.Office f) = office_id f
 refusal_id (refusal.Several id) = Some id
 refusal_id (refusal.KeyTaken id) = Some id
+refusal_id (refusal.Behind id) = Some id
 refusal_id r = None
 
 -- an input file
@@ -57,6 +60,8 @@ input_name file.NotOpened = codes "NotOpened"
 input_name (file.ReadFailed at) = codes "ReadFailed"
 input_name file.TooLarge = codes "TooLarge"
 input_name (file.BadFile f at) = file_name f
+input_name file.Busy = codes "Busy"
+input_name file.NotOffice = codes "NotOffice"
 
 abbrev pub input_place : InputFault → Option ℕ
 input_place (file.ReadFailed at) = Some at
@@ -94,11 +99,14 @@ fault_name (cli.File k f) = input_name f
 fault_name (cli.Out f) = out_name f
 fault_name cli.Memory = codes "Memory"
 fault_name (cli.Shelf p) = problem_name p
+fault_name (cli.Office note.NotOpened) = codes "NotOpened"
+fault_name (cli.Office (note.WriteFailed at)) = codes "WriteFailed"
 
 abbrev pub fault_place : CliFault → Option ℕ
 fault_place (cli.Refused r) = refusal_place r
 fault_place (cli.File k f) = input_place f
 fault_place (cli.Out f) = out_place f
+fault_place (cli.Office (note.WriteFailed at)) = Some at
 fault_place f = None
 
 abbrev pub fault_id : CliFault → Option Id

@@ -35,6 +35,7 @@ IsUnpublishedBy Are Large read old new (cli.File k f) = ⊥
 IsUnpublishedBy Are Large read old new (cli.Out f) = IsOutFaultBy Are Large read old new f
 IsUnpublishedBy Are Large read old new cli.Memory = new ≡ old
 IsUnpublishedBy Are Large read old new (cli.Shelf p) = ⊥
+IsUnpublishedBy Are Large read old new (cli.Office t) = ⊥
 
 -- the same for a file with exactly these bytes
 abbrev pub IsUnpublishedOf : Option (List ℕ) → List ℕ → PlaceState → PlaceState → CliFault → Type 0
@@ -49,6 +50,7 @@ IsUnpublishedOf read bytes old new (cli.Out out.Changed) = IsReplaceFault read b
 IsUnpublishedOf read bytes old new (cli.Out out.NotSynced) = IsReplaceFault read bytes old new replaced.NotSynced
 IsUnpublishedOf read bytes old new cli.Memory = new ≡ old
 IsUnpublishedOf read bytes old new (cli.Shelf p) = ⊥
+IsUnpublishedOf read bytes old new (cli.Office t) = ⊥
 
 -- the same for the file of a content
 abbrev pub PublishesFile : Content → Option (List ℕ) → PlaceState → PlaceState → Type 0

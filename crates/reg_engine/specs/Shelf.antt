@@ -89,6 +89,7 @@ IsUnrestored d old new (cli.Shelf problem.NotLocked) = ⊥
 IsUnrestored d old new (cli.Shelf problem.NotShelf) = HasNoContent d old × StaysOn d old new
 IsUnrestored d old new (cli.Shelf problem.TooLarge) = ⊥
 IsUnrestored d old new (cli.Shelf problem.DiskFailed) = Fails d old new × AddsNothingTo d old new
+IsUnrestored d old new (cli.Office t) = ⊥
 
 -- why the second content was not kept; a disk that tells is known to read as a shelf
 abbrev pub IsUnkept : {D : Type 0} → Disks D → Content → Content → D → D → CliFault → Type 0
@@ -102,6 +103,7 @@ IsUnkept d x y old new (cli.Shelf problem.NotLocked) = ⊥
 IsUnkept d x y old new (cli.Shelf problem.NotShelf) = (IsTrue (d.tells old) → ⊥) × StaysOn d old new
 IsUnkept d x y old new (cli.Shelf problem.TooLarge) = HasNoRoom d old y × StaysOn d old new
 IsUnkept d x y old new (cli.Shelf problem.DiskFailed) = Fails d old new × PassesOn d x y old new
+IsUnkept d x y old new (cli.Office t) = ⊥
 
 -- the content has a file, and on a disk that tells the frame is ready with it
 abbrev pub IsReadyOn : {D : Type 0} → Disks D → D → Content → Frame → Type 0
@@ -119,6 +121,7 @@ IsUnready d y old new (cli.Shelf problem.NotLocked) = ⊥
 IsUnready d y old new (cli.Shelf problem.NotShelf) = (IsTrue (d.tells old) → ⊥) × StaysOn d old new
 IsUnready d y old new (cli.Shelf problem.TooLarge) = HasNoRoom d old y × StaysOn d old new
 IsUnready d y old new (cli.Shelf problem.DiskFailed) = Fails d old new × AddsNothingTo d old new
+IsUnready d y old new (cli.Office t) = ⊥
 
 -- why the frame with the second content was not put on the shelf: the disk failed, and nothing else can be the reason
 abbrev pub IsUnput : {D : Type 0} → Disks D → Content → Content → D → D → CliFault → Type 0
@@ -162,3 +165,4 @@ IsUnformatted d openings size old new (cli.Shelf problem.NotLocked) = ⊥
 IsUnformatted d openings size old new (cli.Shelf problem.NotShelf) = ⊥
 IsUnformatted d openings size old new (cli.Shelf problem.TooLarge) = ⊥
 IsUnformatted {D = D} d openings size old new (cli.Shelf problem.DiskFailed) = IsSize size × Fails d old new × ((between : D) × IsEmptied d openings old between)
+IsUnformatted d openings size old new (cli.Office t) = ⊥

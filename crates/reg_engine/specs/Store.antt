@@ -52,6 +52,38 @@ on_shelf d old new = record {
   unleft = λ x y f. Has d old x × IsUnkept d x y old new f;
 }
 
+-- ---- the register on which a command works
+
+-- the one that was loaded; or one that the store makes of it, which it may also refuse to do
+pub data Admission : Type 1 where
+  AsLoaded : Admission
+  Screened : (makes : Content → Content → Type 0) → (bars : Content → CliFault → Type 0) → Admission
+
+-- the store admits the loaded register: a command works on the second one
+abbrev pub Admits : Admission → Content → Content → Type 0
+Admits AsLoaded x z = z ≡ x
+Admits (Screened makes bars) x z = makes x z
+
+-- it does not, for this reason
+abbrev pub Bars : Admission → Content → CliFault → Type 0
+Bars AsLoaded x f = ⊥
+Bars (Screened makes bars) x f = bars x f
+
+-- the register x was loaded, and this holds of the one on which the command works
+abbrev pub WorksOn : Admission → (Content → Type 0) → Content → Type 0
+WorksOn AsLoaded Holds x = Holds x
+WorksOn (Screened makes bars) Holds x = (z : Content) × makes x z × Holds z
+
+-- of that one y and these lines are made
+abbrev pub MakesIn : Admission → (Content → Content → Content → List ℕ → Type 0) → Content → Content → List ℕ → Type 0
+MakesIn a Makes x y lines = WorksOn a (λ z. Makes x z y lines) x
+
+-- why nothing is made: the command did not read what it needs; or it did, and the store does not admit the register; or it does,
+-- and the command is refused
+abbrev pub StopsIn : Admission → (Content → CliFault → Type 0) → (Content → Type 0) → (Content → Content → CliFault → Type 0) → Content → CliFault → Type 0
+StopsIn AsLoaded Unmet Reads Refuses x f = Refuses x x f
+StopsIn (Screened makes bars) Unmet Reads Refuses x f = Unmet x f ⊎ ((Reads x × bars x f) ⊎ ((z : Content) × makes x z × Refuses x z f))
+
 -- ---- a command that prints something of a register
 
 -- exactly the first bytes of the text were written
@@ -94,10 +126,16 @@ WritesIf false lines before after = after ≡ before
 abbrev pub IsKeptIn : Around → Content → Content → Type 0
 IsKeptIn a x y = a.left x y ⊎ ((f : CliFault) × IsTrue (is_after f) × a.unleft x y f)
 
--- none was read, and nothing else was; or none is made of it; or the one that is made is not kept, and nothing was written,
--- or not for sure, and all lines were; or it is, and not all of the lines were written
+-- the store has the second register in the place of the first, and then the lines were written
+abbrev pub IsTold : Around → Content → Content → List ℕ → SinkState → SinkState → Type 0
+IsTold a x y lines before after = a.left x y × WritesAll lines before after
+
+-- it does not, and nothing was written, or not for sure, and all lines were; or it does, and not all of them were
+abbrev pub IsUntold : Around → Content → Content → List ℕ → SinkState → SinkState → CliFault → Type 0
+IsUntold a x y lines before after f = (a.unleft x y f × WritesIf (is_after f) lines before after) ⊎ (IsKeptIn a x y × AreCut lines before after f)
+
+-- none was read, and nothing else was; or none is made of it; or the one that is made is not kept, or its lines were not written
 abbrev pub IsUnchanged : Around → (Content → Content → List ℕ → Type 0) → (Content → CliFault → Type 0) → Type 0 → SinkState → SinkState → CliFault → Type 0
 IsUnchanged a Makes Refuses Unread before after f = (a.none f × Unread × (after ≡ before))
     ⊎ (((x : Content) × a.came x × Refuses x f × (after ≡ before))
-    ⊎ (((x : Content) × (y : Content) × (lines : List ℕ) × Makes x y lines × a.unleft x y f × WritesIf (is_after f) lines before after)
-    ⊎ ((x : Content) × (y : Content) × (lines : List ℕ) × Makes x y lines × IsKeptIn a x y × AreCut lines before after f)))
+    ⊎ ((x : Content) × (y : Content) × (lines : List ℕ) × Makes x y lines × IsUntold a x y lines before after f))

@@ -19,6 +19,8 @@ IsFileFault file.NotOpened old new = ⊥
 IsFileFault (file.ReadFailed n) old new = FailsAfter n (most + 1) old new
 IsFileFault file.TooLarge old new = (bytes : List ℕ) × ReadsBytes old new bytes × (most < length bytes)
 IsFileFault (file.BadFile f place) old new = ⊥
+IsFileFault file.Busy old new = ⊥
+IsFileFault file.NotOffice old new = ⊥
 
 -- why the file with this number was not read
 abbrev pub IsUnread : ℕ → SourceState → SourceState → CliFault → Type 0
@@ -27,3 +29,4 @@ IsUnread number old new (cli.File k f) = (k ≡ number) × IsFileFault f old new
 IsUnread number old new (cli.Out f) = ⊥
 IsUnread number old new cli.Memory = NeverFails old new
 IsUnread number old new (cli.Shelf p) = ⊥
+IsUnread number old new (cli.Office t) = ⊥

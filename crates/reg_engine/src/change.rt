@@ -1,7 +1,8 @@
 //! Commands of an office: entries are entered, superseded and retired, in a register's file or on a shelf.
 
-ghost use Rattle.std.specs.Prelude.{◌≡◌, IfOk, OnOk, IfErr};
+ghost use Rattle.std.specs.Prelude.{◌≡◌, ◌∷◌, [], IfOk, OnOk, IfErr};
 ghost use Rattle.byte_out.specs.Input.{kept_of};
+ghost use Rattle.reg_op.specs.declared.operation.OpBody.TheVariants as body;
 ghost use Rattle.reg_office.specs.Commands.{retirements, supersessions};
 ghost use Rattle.reg_engine.specs.Outputs.{id_lines};
 ghost use Rattle.reg_engine.specs.Shelf.{disks};
@@ -20,7 +21,7 @@ use reg_op::OpId;
 use reg_state::Register;
 use std::alloc::Global;
 use uuid::Uuid;
-use wkt_crs::define_from;
+use wkt_crs::{Definition, define_from};
 
 /// Retires entries as the replica, with the note.
 #[derive(Drop)]
@@ -31,12 +32,20 @@ pub struct Retire<'a> {
 }
 
 impl Change for Retire<'_> {
+    type Read = ();
+
+    ghost use Rattle.std.specs.Prelude.{◌≡◌};
+    ghost use Rattle.std.proofs.Common.{refl, ◌∙◌};
     ghost use Rattle.reg_office.specs.Commands.{retirements};
     ghost use Rattle.reg_engine.specs.Change.{Makes, CannotMake};
 
-    ghost makes = { λ old. λ new. λ next. λ x. λ y. λ lines. Makes old.replica old.note.now (retirements old.entries.now) x y lines };
+    ghost reads = { λ old. λ new. λ next. λ x. λ r. new ≡ old };
 
-    ghost refuses = { λ old. λ new. λ next. λ x. λ f. CannotMake old.replica old.note.now (retirements old.entries.now) x f };
+    ghost unmet = { λ old. λ new. λ next. λ x. λ f. ⊥ };
+
+    ghost makes = { λ old. λ new. λ next. λ x. λ z. λ y. λ lines. Makes old.replica old.note.now (retirements old.entries.now) z y lines };
+
+    ghost refuses = { λ old. λ new. λ next. λ x. λ z. λ f. CannotMake old.replica old.note.now (retirements old.entries.now) z f };
 
     ghost same = { λ old. λ new. Unit {0} };
 
@@ -46,16 +55,47 @@ impl Change for Retire<'_> {
 
     ghost rests = { λ a. tt };
 
-    fn make(&mut self, alloc: Global, _next: usize, register: Register) -> Result<Made, CliFault> {
-        let mut office = Office::new(self.replica, register);
-        let ids = match office.retire(alloc, self.entries, self.note) {
-            Ok(ids) => ids,
-            Err(fault) => return Err(CliFault::of_office(fault)),
-        };
-        match made_by(alloc, office, &ids) {
+    ghost still = { λ a b c e f. tt };
+
+    ghost stops = { λ a b n x z f h. absurd h };
+
+    fn read(&mut self, _alloc: Global, _next: usize, _register: &Register) -> Result<(), CliFault> {
+        Ok(())
+    }
+
+    fn make(
+        &mut self,
+        alloc: Global,
+        _next: usize,
+        _read: (),
+        register: Register,
+    ) -> Result<Made, CliFault> {
+        match retired(alloc, register, self.replica, self.entries, self.note) {
             Ok(made) => Ok(made),
             Err(fault) => Err(fault),
         }
+    }
+}
+
+/// The register after the replica has retired the entries, with the note, and the lines of the new ids.
+pub fn retired(
+    alloc: Global,
+    register: Register,
+    replica: Uuid,
+    entries: &[OpId],
+    note: &str,
+) -> Result<Made, CliFault>
+    ensures made { IfOk result (λ made. Makes replica note.now (retirements entries.now) register made.register made.lines.items) }
+    ensures fault { IfErr result (λ f. CannotMake replica note.now (retirements entries.now) register f) }
+{
+    let mut office = Office::new(replica, register);
+    let ids = match office.retire(alloc, entries, note) {
+        Ok(ids) => ids,
+        Err(fault) => return Err(CliFault::of_office(fault)),
+    };
+    match made_by(alloc, office, &ids) {
+        Ok(made) => Ok(made),
+        Err(fault) => Err(fault),
     }
 }
 
@@ -69,12 +109,19 @@ pub struct Supersede<'a> {
 }
 
 impl Change for Supersede<'_> {
+    type Read = ();
+
+    ghost use Rattle.std.specs.Prelude.{◌≡◌};
     ghost use Rattle.reg_office.specs.Commands.{supersessions};
     ghost use Rattle.reg_engine.specs.Change.{Makes, CannotMake};
 
-    ghost makes = { λ old. λ new. λ next. λ x. λ y. λ lines. Makes old.replica old.note.now (supersessions old.old old.newer.now) x y lines };
+    ghost reads = { λ old. λ new. λ next. λ x. λ r. new ≡ old };
 
-    ghost refuses = { λ old. λ new. λ next. λ x. λ f. CannotMake old.replica old.note.now (supersessions old.old old.newer.now) x f };
+    ghost unmet = { λ old. λ new. λ next. λ x. λ f. ⊥ };
+
+    ghost makes = { λ old. λ new. λ next. λ x. λ z. λ y. λ lines. Makes old.replica old.note.now (supersessions old.old old.newer.now) z y lines };
+
+    ghost refuses = { λ old. λ new. λ next. λ x. λ z. λ f. CannotMake old.replica old.note.now (supersessions old.old old.newer.now) z f };
 
     ghost same = { λ old. λ new. Unit {0} };
 
@@ -84,16 +131,48 @@ impl Change for Supersede<'_> {
 
     ghost rests = { λ a. tt };
 
-    fn make(&mut self, alloc: Global, _next: usize, register: Register) -> Result<Made, CliFault> {
-        let mut office = Office::new(self.replica, register);
-        let ids = match office.supersede(alloc, self.old, self.newer, self.note) {
-            Ok(ids) => ids,
-            Err(fault) => return Err(CliFault::of_office(fault)),
-        };
-        match made_by(alloc, office, &ids) {
+    ghost still = { λ a b c e f. tt };
+
+    ghost stops = { λ a b n x z f h. absurd h };
+
+    fn read(&mut self, _alloc: Global, _next: usize, _register: &Register) -> Result<(), CliFault> {
+        Ok(())
+    }
+
+    fn make(
+        &mut self,
+        alloc: Global,
+        _next: usize,
+        _read: (),
+        register: Register,
+    ) -> Result<Made, CliFault> {
+        match superseded(alloc, register, self.replica, self.old, self.newer, self.note) {
             Ok(made) => Ok(made),
             Err(fault) => Err(fault),
         }
+    }
+}
+
+/// The register after the replica has superseded the old entry by the newer ones, with the note, and the lines of the new ids.
+pub fn superseded(
+    alloc: Global,
+    register: Register,
+    replica: Uuid,
+    old: OpId,
+    newer: &[OpId],
+    note: &str,
+) -> Result<Made, CliFault>
+    ensures made { IfOk result (λ made. Makes replica note.now (supersessions old newer.now) register made.register made.lines.items) }
+    ensures fault { IfErr result (λ f. CannotMake replica note.now (supersessions old newer.now) register f) }
+{
+    let mut office = Office::new(replica, register);
+    let ids = match office.supersede(alloc, old, newer, note) {
+        Ok(ids) => ids,
+        Err(fault) => return Err(CliFault::of_office(fault)),
+    };
+    match made_by(alloc, office, &ids) {
+        Ok(made) => Ok(made),
+        Err(fault) => Err(fault),
     }
 }
 
@@ -106,13 +185,21 @@ pub struct Enter<'a, X> {
 }
 
 impl<X: Source> Change for Enter<'_, X> {
+    type Read = Definition;
+
     ghost use Rattle.std.specs.Prelude.{◌≡◌};
-    ghost use Rattle.std.proofs.Common.{refl};
-    ghost use Rattle.reg_engine.specs.Change.{Enters, CannotEnter};
+    ghost use Rattle.std.proofs.Common.{refl, ◌∙◌};
+    ghost use Rattle.wkt_crs.specs.Source.{FindsDefinition};
+    ghost use Rattle.reg_engine.specs.Change.{Enters, CannotDefine, CannotEnter};
+    ghost use Rattle.reg_engine.specs.ChangeLaws.{undefined_is_unentered};
 
-    ghost makes = { λ old. λ new. λ next. λ x. λ y. λ lines. Enters old.replica old.note.now (X.state old.text.now) (X.state new.text.now) x y lines };
+    ghost reads = { λ old. λ new. λ next. λ x. λ r. (new.replica ≡ old.replica) × (new.note.now ≡ old.note.now) × FindsDefinition (X.state old.text.now) (X.state new.text.now) r };
 
-    ghost refuses = { λ old. λ new. λ next. λ x. λ f. CannotEnter old.replica old.note.now next (X.state old.text.now) (X.state new.text.now) x f };
+    ghost unmet = { λ old. λ new. λ next. λ x. λ f. CannotDefine next (X.state old.text.now) (X.state new.text.now) f };
+
+    ghost makes = { λ old. λ new. λ next. λ x. λ z. λ y. λ lines. Enters old.replica old.note.now (X.state old.text.now) (X.state new.text.now) z y lines };
+
+    ghost refuses = { λ old. λ new. λ next. λ x. λ z. λ f. CannotEnter old.replica old.note.now next (X.state old.text.now) (X.state new.text.now) z f };
 
     ghost same = { λ old. λ new. new.text.ghost_name ≡ old.text.ghost_name };
 
@@ -122,20 +209,55 @@ impl<X: Source> Change for Enter<'_, X> {
 
     ghost rests = { λ a. refl };
 
-    fn make(&mut self, alloc: Global, next: usize, register: Register) -> Result<Made, CliFault> {
-        let definition = match define_from(alloc, self.text) {
-            Ok(definition) => definition,
-            Err(fault) => return Err(CliFault::of_definition(next, fault)),
-        };
-        let mut office = Office::new(self.replica, register);
-        let id = match office.enter(definition, self.note) {
-            Ok(id) => id,
-            Err(fault) => return Err(CliFault::of_office(fault)),
-        };
-        match made_by(alloc, office, &[id]) {
+    ghost still = { λ a b c e f. f ∙ e };
+
+    ghost stops = { λ a b n x z f h. undefined_is_unentered a.replica a.note.now n (X.state a.text.now) (X.state b.text.now) z f h };
+
+    fn read(
+        &mut self,
+        alloc: Global,
+        next: usize,
+        _register: &Register,
+    ) -> Result<Definition, CliFault> {
+        match define_from(alloc, self.text) {
+            Ok(definition) => Ok(definition),
+            Err(fault) => Err(CliFault::of_definition(next, fault)),
+        }
+    }
+
+    fn make(
+        &mut self,
+        alloc: Global,
+        _next: usize,
+        read: Definition,
+        register: Register,
+    ) -> Result<Made, CliFault> {
+        match entered(alloc, register, self.replica, read, self.note) {
             Ok(made) => Ok(made),
             Err(fault) => Err(fault),
         }
+    }
+}
+
+// The register after the replica has entered the definition, with the note, and the line of the new id.
+fn entered(
+    alloc: Global,
+    register: Register,
+    replica: Uuid,
+    definition: Definition,
+    note: &str,
+) -> Result<Made, CliFault>
+    ensures made { IfOk result (λ made. Makes replica note.now (body.Enter definition ∷ []) register made.register made.lines.items) }
+    ensures fault { IfErr result (λ f. CannotMake replica note.now (body.Enter definition ∷ []) register f) }
+{
+    let mut office = Office::new(replica, register);
+    let id = match office.enter(definition, note) {
+        Ok(id) => id,
+        Err(fault) => return Err(CliFault::of_office(fault)),
+    };
+    match made_by(alloc, office, &[id]) {
+        Ok(made) => Ok(made),
+        Err(fault) => Err(fault),
     }
 }
 

@@ -4,6 +4,7 @@ ghost use Rattle.std.specs.Prelude.{◌≡◌};
 ghost use Rattle.reg_engine.specs.Fault.{status_of, is_after};
 
 use reg_file::FileFault;
+use reg_number::NoteFault;
 use reg_office::OfficeFault;
 use reg_op::OpId;
 use std::fmt::{self, Display};
@@ -43,6 +44,8 @@ pub enum Refusal {
     Unsettled,
     /// This entry has the key, with another text.
     KeyTaken(OpId),
+    /// The register has seen no number of the office that is as great as this one, which the office has given.
+    Behind(OpId),
 }
 
 impl Refusal {
@@ -69,6 +72,7 @@ impl Refusal {
             Refusal::Several(_) => "Several",
             Refusal::Unsettled => "Unsettled",
             Refusal::KeyTaken(_) => "KeyTaken",
+            Refusal::Behind(_) => "Behind",
         }
     }
 
@@ -95,6 +99,7 @@ impl Refusal {
             Refusal::Office(fault) => fault.id(),
             Refusal::Several(id) => Some(id),
             Refusal::KeyTaken(id) => Some(id),
+            Refusal::Behind(id) => Some(id),
             _ => None,
         }
     }
@@ -134,6 +139,10 @@ pub enum InputFault {
     TooLarge,
     /// The bytes are not a file of the kind that is read; this is their first fault.
     BadFile { fault: FileFault, place: usize },
+    /// The new file of an office file exists: another command of the office works, or one was killed.
+    Busy,
+    /// The bytes are not an office file.
+    NotOffice,
 }
 
 impl InputFault {
@@ -148,6 +157,8 @@ impl InputFault {
             InputFault::ReadFailed(_) => "ReadFailed",
             InputFault::TooLarge => "TooLarge",
             InputFault::BadFile { fault, .. } => fault.name(),
+            InputFault::Busy => "Busy",
+            InputFault::NotOffice => "NotOffice",
         }
     }
 
@@ -288,6 +299,9 @@ pub enum CliFault {
     Memory,
     #[error("shelf: {0}")]
     Shelf(ShelfProblem),
+    /// The office file was not replaced, or a power cut may undo that. The register is unchanged.
+    #[error("office: {0}")]
+    Office(NoteFault),
 }
 
 impl CliFault {
@@ -303,6 +317,8 @@ impl CliFault {
             CliFault::Out(fault) => fault.name(),
             CliFault::Memory => "Memory",
             CliFault::Shelf(problem) => problem.name(),
+            CliFault::Office(NoteFault::NotOpened) => "NotOpened",
+            CliFault::Office(NoteFault::WriteFailed(_)) => "WriteFailed",
         }
     }
 
@@ -314,6 +330,7 @@ impl CliFault {
             CliFault::Refused(refusal) => refusal.place(),
             CliFault::File { fault, .. } => fault.place(),
             CliFault::Out(fault) => fault.place(),
+            CliFault::Office(NoteFault::WriteFailed(place)) => Some(place),
             _ => None,
         }
     }
@@ -338,13 +355,16 @@ impl CliFault {
         }
     }
 
-    /// The exit status of the program: 1 for a refusal, 3 for a file, the output or a shelf, 4 for memory.
+    /// The exit status of the program: 1 for a refusal, 3 for a file, the output, a shelf or an office file, 4 for memory.
     pub fn status(&self) -> u8
         ensures { result ≡ status_of self.now }
     {
         match self {
             CliFault::Refused(_) => 1,
-            CliFault::File { .. } | CliFault::Out(_) | CliFault::Shelf(_) => 3,
+            CliFault::File { .. }
+            | CliFault::Out(_)
+            | CliFault::Shelf(_)
+            | CliFault::Office(_) => 3,
             CliFault::Memory => 4,
         }
     }

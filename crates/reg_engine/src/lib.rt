@@ -9,6 +9,7 @@ mod exchange;
 mod export;
 mod fault;
 mod inputs;
+mod kinds;
 pub mod laws;
 mod merge;
 mod merge_on;
@@ -21,15 +22,18 @@ mod whole_file;
 mod wkt;
 
 pub use change::{
-    Enter, Retire, Supersede, run_enter, run_enter_on, run_retire, run_retire_on, run_supersede,
-    run_supersede_on,
+    Enter, Retire, Supersede, retired, run_enter, run_enter_on, run_retire, run_retire_on,
+    run_supersede, run_supersede_on, superseded,
 };
 pub use check::run_check;
-pub use drivers::{Change, Give, Made, Print, run_change, run_give, run_print};
+pub use drivers::{
+    Change, Give, Made, Print, keep_and_tell, run_change, run_give, run_print, tell,
+};
 pub use exchange::{FirstVersion, PieceFor, Summary, Whole, run_piece, run_seen, run_unshelf};
 pub use export::{Export, run_export};
 pub use fault::{CliFault, InputFault, OutFault, Refusal, ShelfProblem};
 pub use inputs::{Parts, parts_of, read_file, read_parts, read_parts_after};
+pub use kinds::Either;
 pub use merge::{join_pieces, join_registers, run_merge, run_new};
 pub use merge_on::run_merge_on;
 pub use outputs::{id_lines, publish_register};

@@ -13,7 +13,7 @@ use std::alloc::Global;
 /// A store from which a command loads its register.
 pub trait Store {
     ghost use Rattle.std.specs.Prelude.{◌≡◌, ℕ, IfOk, IfErr};
-    ghost use Rattle.reg_engine.specs.Store.{Around};
+    ghost use Rattle.reg_engine.specs.Store.{Around, Admission, Admits, Bars};
 
     /// The events at the store between two moments.
     ghost around: { Self → Self → Around };
@@ -24,6 +24,9 @@ pub trait Store {
     /// It has the same devices.
     ghost same: { Self → Self → Type 0 };
 
+    /// The register on which a command works, given the one that was loaded.
+    ghost admission: { Self → Admission };
+
     fn next(&self) -> usize
         ensures { result ≡ next self.now };
 
@@ -31,6 +34,11 @@ pub trait Store {
         ensures same { same self.old self.new }
         ensures came { IfOk result (λ r. (around self.old self.new).came r) }
         ensures none { IfErr result (λ f. (around self.old self.new).none f) };
+
+    /// The register on which a command works, after this one was loaded and the command has read what it needs.
+    fn admit(&self, alloc: Global, register: Register) -> Result<Register, CliFault>
+        ensures admits { (first : Self) → same first self.now → IfOk result (λ r. Admits (admission first) register r) }
+        ensures bars { (first : Self) → same first self.now → IfErr result (λ f. Bars (admission first) register f) };
 
     /// This stays so after a further step.
     ghost still: { (a b c : Self) → same a b → same b c → same a c };
@@ -73,7 +81,7 @@ impl<S: Input, P: Place> Store for InFile<'_, S, P> {
     ghost use Rattle.std.specs.Prelude.{◌≡◌};
     ghost use Rattle.std.proofs.Common.{◌∙◌};
     ghost use Rattle.byte_out.specs.Input.{kept_of};
-    ghost use Rattle.reg_engine.specs.Store.{in_file};
+    ghost use Rattle.reg_engine.specs.Store.{in_file, AsLoaded};
 
     ghost around = { λ old. λ new. in_file (S.state old.source.now) (P.state old.place.now)
         (S.state new.source.now) (kept_of (S.keeps new.source.now) (S.state new.source.now)) (P.state new.place.now) };
@@ -81,6 +89,8 @@ impl<S: Input, P: Place> Store for InFile<'_, S, P> {
     ghost next = { λ s. 2 };
 
     ghost same = { λ old. λ new. (new.source.ghost_name ≡ old.source.ghost_name) × (new.place.ghost_name ≡ old.place.ghost_name) };
+
+    ghost admission = { λ s. AsLoaded };
 
     ghost still = { λ a b c e f. (f.0 ∙ e.0, f.1 ∙ e.1) };
 
@@ -93,6 +103,10 @@ impl<S: Input, P: Place> Store for InFile<'_, S, P> {
             Ok(register) => Ok(register),
             Err(fault) => Err(fault),
         }
+    }
+
+    fn admit(&self, _alloc: Global, register: Register) -> Result<Register, CliFault> {
+        Ok(register)
     }
 }
 
@@ -117,13 +131,15 @@ pub struct OfFile<'a, S> {
 impl<S: Source> Store for OfFile<'_, S> {
     ghost use Rattle.std.specs.Prelude.{◌≡◌};
     ghost use Rattle.std.proofs.Common.{◌∙◌};
-    ghost use Rattle.reg_engine.specs.Store.{of_file};
+    ghost use Rattle.reg_engine.specs.Store.{of_file, AsLoaded};
 
     ghost around = { λ old. λ new. of_file (S.state old.source.now) (S.state new.source.now) };
 
     ghost next = { λ s. 2 };
 
     ghost same = { λ old. λ new. new.source.ghost_name ≡ old.source.ghost_name };
+
+    ghost admission = { λ s. AsLoaded };
 
     ghost still = { λ a b c e f. f ∙ e };
 
@@ -136,6 +152,10 @@ impl<S: Source> Store for OfFile<'_, S> {
             Ok(register) => Ok(register),
             Err(fault) => Err(fault),
         }
+    }
+
+    fn admit(&self, _alloc: Global, register: Register) -> Result<Register, CliFault> {
+        Ok(register)
     }
 }
 
@@ -162,13 +182,15 @@ impl<D: Disk> Store for OnShelf<'_, D> {
     ghost use Rattle.std.specs.Prelude.{◌≡◌};
     ghost use Rattle.std.proofs.Common.{◌∙◌};
     ghost use Rattle.reg_engine.specs.Shelf.{disks};
-    ghost use Rattle.reg_engine.specs.Store.{on_shelf};
+    ghost use Rattle.reg_engine.specs.Store.{on_shelf, AsLoaded};
 
     ghost around = { λ old. λ new. on_shelf (disks D.tells D.seen D.images D.moment D.images_since D.failures) old.disk.now new.disk.now };
 
     ghost next = { λ s. 1 };
 
     ghost same = { λ old. λ new. (new.disk.ghost_name ≡ old.disk.ghost_name) × (D.tells new.disk.now ≡ D.tells old.disk.now) };
+
+    ghost admission = { λ s. AsLoaded };
 
     ghost still = { λ a b c e f. (f.0 ∙ e.0, f.1 ∙ e.1) };
 
@@ -181,6 +203,10 @@ impl<D: Disk> Store for OnShelf<'_, D> {
             Ok(register) => Ok(register),
             Err(fault) => Err(fault),
         }
+    }
+
+    fn admit(&self, _alloc: Global, register: Register) -> Result<Register, CliFault> {
+        Ok(register)
     }
 }
 

@@ -1,7 +1,6 @@
 pub mod Behind
-pub mod Guard
-pub mod Stores
 pub mod Keeping
+pub mod Stores
 pub mod Making
 pub mod Opening
 pub mod Left

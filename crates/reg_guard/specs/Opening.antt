@@ -4,10 +4,10 @@ use Rattle.byte_io.specs.Device.{SourceState}
 use Rattle.byte_out.specs.Place.{PlaceState, IfReported}
 use Rattle.reg_number.specs.Source.{IsLastUnread}
 use Rattle.reg_number.specs.declared.fault.NumberFault.{NumberFault}
-use Rattle.reg_guard.specs.Guard.{number_fault}
-use Rattle.reg_guard.specs.declared.fault.FileProblem.TheVariants as problem
-use Rattle.reg_guard.specs.declared.fault.GuardFault.{GuardFault}
-use Rattle.reg_guard.specs.declared.fault.GuardFault.TheVariants as guard
+use Rattle.reg_number.specs.declared.fault.NumberFault.TheVariants as number
+use Rattle.reg_engine.specs.declared.fault.InputFault.TheVariants as file
+use Rattle.reg_engine.specs.declared.fault.CliFault.{CliFault}
+use Rattle.reg_engine.specs.declared.fault.CliFault.TheVariants as cli
 
 -- an empty new file was made, and there was none before
 abbrev pub Locks : PlaceState → PlaceState → Type 0
@@ -15,11 +15,17 @@ Locks old new = (new.sink.openings ≡ old.sink.openings + 1)
     × IfReported (λ f g. (f.beside ≡ None) × (g.beside ≡ Some []) × (g.stands ≡ f.stands)) old.files new.files
 
 -- there was one, or none could be made; nothing changed
-abbrev pub IsUnlocked : PlaceState → PlaceState → GuardFault → Type 0
-IsUnlocked old new (guard.File problem.Busy) = (new.sink.openings ≡ old.sink.openings) × IfReported (λ f g. (g ≡ f) × IsSome f.beside) old.files new.files
-IsUnlocked old new (guard.File problem.NotOpened) = (new.sink.openings ≡ old.sink.openings) × IfReported (λ f g. (g ≡ f) × (f.beside ≡ None)) old.files new.files
+abbrev pub IsUnlocked : PlaceState → PlaceState → CliFault → Type 0
+IsUnlocked old new (cli.File k file.Busy) = (k ≡ 1) × (new.sink.openings ≡ old.sink.openings) × IfReported (λ f g. (g ≡ f) × IsSome f.beside) old.files new.files
+IsUnlocked old new (cli.File k file.NotOpened) = (k ≡ 1) × (new.sink.openings ≡ old.sink.openings) × IfReported (λ f g. (g ≡ f) × (f.beside ≡ None)) old.files new.files
 IsUnlocked old new f = ⊥
 
+-- the fault of reading the office file, which is file 1
+abbrev pub number_fault : NumberFault → CliFault
+number_fault (number.ReadFailed n) = cli.File 1 (file.ReadFailed n)
+number_fault number.NotOffice = cli.File 1 file.NotOffice
+number_fault number.Memory = cli.Memory
+
 -- no office file was read, for this reason
-abbrev pub IsUnfound : SourceState → SourceState → GuardFault → Type 0
+abbrev pub IsUnfound : SourceState → SourceState → CliFault → Type 0
 IsUnfound old new g = (f : NumberFault) × IsLastUnread old new f × (g ≡ number_fault f)

@@ -12,18 +12,9 @@ use byte_disk::Disk;
 use byte_out::Place;
 use reg_engine::{CliFault, OutFault, put_on, ready_on};
 use reg_file::{WriteFileFault, write_bytes};
-use reg_number::{LastNumber, NoteFault, NumberedFault, put_number, replace_numbered};
+use reg_number::{LastNumber, NumberedFault, put_number, replace_numbered};
 use reg_state::Register;
 use std::alloc::{AllocError, Global};
-
-/// Why a register was not kept.
-#[derive(Clone, Copy, Debug, PartialEq, Eq)]
-pub enum Unkept {
-    /// The fault of the store.
-    Store(CliFault),
-    /// The office file was not replaced, or a power cut may undo that.
-    Unnoted(NoteFault),
-}
 
 // The text of the office file for a register.
 fn number_text(alloc: Global, last: &LastNumber, register: &Register) -> Result<Vec<u8>, AllocError>
@@ -42,21 +33,19 @@ pub fn publish_numbered<P: Place, Q: Place>(
     read: Option<&[u8]>,
     place: &mut P,
     office: &mut Q,
-) -> Result<(), Unkept>
+) -> Result<(), CliFault>
     ensures published { OnOk result (PublishesNumbered last.now register.now (option_map (λ s. s.now) read.entry)
         (P.state place.old) (P.state place.new) (Q.state office.old) (Q.state office.new)) }
     ensures fault { IfErr result (IsUnpublishedNumbered last.now register.now (option_map (λ s. s.now) read.entry)
         (P.state place.old) (P.state place.new) (Q.state office.old) (Q.state office.new)) }
 {
     let Ok(text) = number_text(alloc, last, register) else {
-        return Err(Unkept::Store(CliFault::Memory));
+        return Err(CliFault::Memory);
     };
     let bytes = match write_bytes(alloc, register) {
         Ok(bytes) => bytes,
-        Err(WriteFileFault::TooLarge) => {
-            return Err(Unkept::Store(CliFault::Out(OutFault::TooLarge)));
-        }
-        Err(_) => return Err(Unkept::Store(CliFault::Memory)),
+        Err(WriteFileFault::TooLarge) => return Err(CliFault::Out(OutFault::TooLarge)),
+        Err(_) => return Err(CliFault::Memory),
     };
     match replace_numbered(place, read, &bytes, office, &text) {
         Ok(()) => Ok(()),
@@ -64,13 +53,13 @@ pub fn publish_numbered<P: Place, Q: Place>(
     }
 }
 
-fn unkept_by(fault: NumberedFault) -> Unkept
+fn unkept_by(fault: NumberedFault) -> CliFault
     ensures { result ≡ unkept_fault fault }
 {
     match fault {
-        NumberedFault::Unready(fault) => Unkept::Store(CliFault::of_replace(fault)),
-        NumberedFault::Unnoted(fault) => Unkept::Unnoted(fault),
-        NumberedFault::Late(fault) => Unkept::Store(CliFault::of_replace(fault)),
+        NumberedFault::Unready(fault) => CliFault::of_replace(fault),
+        NumberedFault::Unnoted(fault) => CliFault::Office(fault),
+        NumberedFault::Late(fault) => CliFault::of_replace(fault),
     }
 }
 
@@ -82,7 +71,7 @@ pub fn keep_on_numbered<D: Disk, Q: Place>(
     register: &Register,
     disk: &mut D,
     office: &mut Q,
-) -> Result<(), Unkept>
+) -> Result<(), CliFault>
     ensures kept { (was : Content) → Has (disks D.tells D.seen D.images D.moment D.images_since D.failures) disk.old was
         → IsSure (disks D.tells D.seen D.images D.moment D.images_since D.failures) disk.old
         → OnOk result (KeepsNumbered (disks D.tells D.seen D.images D.moment D.images_since D.failures) last.now was register.now
@@ -94,17 +83,17 @@ pub fn keep_on_numbered<D: Disk, Q: Place>(
     ensures tells { D.tells disk.new ≡ D.tells disk.old }
 {
     let Ok(text) = number_text(alloc, last, register) else {
-        return Err(Unkept::Store(CliFault::Memory));
+        return Err(CliFault::Memory);
     };
     let frame = match ready_on(alloc, disk, register) {
         Ok(frame) => frame,
-        Err(fault) => return Err(Unkept::Store(fault)),
+        Err(fault) => return Err(fault),
     };
     if let Err(fault) = put_number(office, &text) {
-        return Err(Unkept::Unnoted(fault));
+        return Err(CliFault::Office(fault));
     }
     match put_on(disk, &frame) {
         Ok(()) => Ok(()),
-        Err(fault) => Err(Unkept::Store(fault)),
+        Err(fault) => Err(fault),
     }
 }

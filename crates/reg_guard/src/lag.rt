@@ -1,12 +1,13 @@
 //! Whether a register is behind an office file.
 
-ghost use Rattle.std.specs.Prelude.{◌≡◌, max, if◌then◌else◌};
+ghost use Rattle.std.specs.Prelude.{◌≡◌, max, if◌then◌else◌, IfOk, IfErr};
 ghost use Rattle.std.specs.Ordering.{is_eq};
 ghost use Rattle.reg_op.specs.Operations.{named_in};
 ghost use Rattle.reg_state.specs.Runs.{replica_cmp};
 ghost use Rattle.reg_office.specs.Making.{greatest_of};
-ghost use Rattle.reg_guard.specs.Behind.{named_by, behind, next_of};
+ghost use Rattle.reg_guard.specs.Behind.{named_by, behind, next_of, IsFresh, IsBehind};
 
+use reg_engine::{CliFault, Refusal};
 use reg_number::LastNumber;
 use reg_office::last_count;
 use reg_op::{Op, OpBody, OpId};
@@ -26,6 +27,17 @@ pub fn behind(last: &LastNumber, register: &Register) -> Option<OpId>
         return OpId::new(replica, known);
     }
     None
+}
+
+/// The register, unless it is behind the office file.
+pub(crate) fn admitted(last: &LastNumber, register: Register) -> Result<Register, CliFault>
+    ensures fresh { IfOk result (λ r. IsFresh last.now register r) }
+    ensures behind { IfErr result (λ f. IsBehind last.now register f) }
+{
+    match behind(last, &register) {
+        Some(id) => Err(CliFault::Refused(Refusal::Behind(id))),
+        None => Ok(register),
+    }
 }
 
 /// The office, and the greatest of its numbers that the register has seen.

@@ -30,6 +30,7 @@ IsNotOut fs old new (cli.Out out.Changed) = ⊥
 IsNotOut fs old new (cli.Out out.NotSynced) = ⊥
 IsNotOut fs old new cli.Memory = ⊥
 IsNotOut fs old new (cli.Shelf p) = ⊥
+IsNotOut fs old new (cli.Office t) = ⊥
 
 -- no register was read; or nothing of it is handed on; or the folder is not in place
 abbrev pub IsNotPutInto : Around → Choice → Bool → FolderState → FolderState → CliFault → Type 0

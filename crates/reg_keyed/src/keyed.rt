@@ -5,7 +5,7 @@
 ghost use Rattle.std.specs.Prelude.{◌≡◌};
 ghost use Rattle.reg_keyed.specs.Keyed.{key_fault};
 
-use reg_engine::{Change, CliFault, Form, Made, Print, Refusal, Retire, Show, Supersede, Wkt};
+use reg_engine::{Change, CliFault, Form, Made, Print, Refusal, Show, Wkt, retired, superseded};
 use reg_keys::{KeyFault, named, named_one};
 use reg_op::OpId;
 use reg_state::Register;
@@ -82,12 +82,21 @@ pub struct ByWords<'a, C> {
 }
 
 impl<C: ChangeOf> Change for ByWords<'_, C> {
-    ghost use Rattle.std.specs.Prelude.{map};
-    ghost use Rattle.reg_keyed.specs.Keyed.{MakesFor, CannotMakeFor};
+    type Read = Vec<OpId>;
 
-    ghost makes = { λ old. λ new. λ next. λ x. λ y. λ lines. MakesFor (C.makes old.command.now) (map (λ w. w.now) old.words.now) x y lines };
+    ghost use Rattle.std.specs.Prelude.{◌≡◌, map};
+    ghost use Rattle.std.proofs.Common.{inl};
+    ghost use Rattle.reg_op.specs.Rows.{rows};
+    ghost use Rattle.reg_keys.specs.Named.{StandFor, Object};
+    ghost use Rattle.reg_keyed.specs.Keyed.{IsUnnamed, MakesFor, CannotMakeFor};
 
-    ghost refuses = { λ old. λ new. λ next. λ x. λ f. CannotMakeFor (C.refuses old.command.now) (map (λ w. w.now) old.words.now) x f };
+    ghost reads = { λ old. λ new. λ next. λ x. λ r. (new ≡ old) × StandFor (rows x.ops) (map (λ w. w.now) old.words.now) r.items };
+
+    ghost unmet = { λ old. λ new. λ next. λ x. λ f. IsUnnamed (Object (rows x.ops) (map (λ w. w.now) old.words.now)) f };
+
+    ghost makes = { λ old. λ new. λ next. λ x. λ z. λ y. λ lines. MakesFor (λ es. λ w. C.makes old.command.now es z) (map (λ w. w.now) old.words.now) x y lines };
+
+    ghost refuses = { λ old. λ new. λ next. λ x. λ z. λ f. CannotMakeFor (λ es. λ w. C.refuses old.command.now es z) (map (λ w. w.now) old.words.now) x f };
 
     ghost same = { λ old. λ new. Unit {0} };
 
@@ -97,12 +106,30 @@ impl<C: ChangeOf> Change for ByWords<'_, C> {
 
     ghost rests = { λ a. tt };
 
-    fn make(&mut self, alloc: Global, _next: usize, register: Register) -> Result<Made, CliFault> {
-        let entries = match named(alloc, &register, self.words) {
-            Ok(entries) => entries,
-            Err(fault) => return Err(fault_of(fault)),
-        };
-        match self.command.make_of(alloc, &entries, register) {
+    ghost still = { λ a b c e f. tt };
+
+    ghost stops = { λ a b n x z f h. inl h };
+
+    fn read(
+        &mut self,
+        alloc: Global,
+        _next: usize,
+        register: &Register,
+    ) -> Result<Vec<OpId>, CliFault> {
+        match named(alloc, register, self.words) {
+            Ok(entries) => Ok(entries),
+            Err(fault) => Err(fault_of(fault)),
+        }
+    }
+
+    fn make(
+        &mut self,
+        alloc: Global,
+        _next: usize,
+        read: Vec<OpId>,
+        register: Register,
+    ) -> Result<Made, CliFault> {
+        match self.command.make_of(alloc, &read, register) {
             Ok(made) => Ok(made),
             Err(fault) => Err(fault),
         }
@@ -193,12 +220,7 @@ impl ChangeOf for RetireOf<'_> {
         entries: &[OpId],
         register: Register,
     ) -> Result<Made, CliFault> {
-        let mut command = Retire {
-            replica: self.replica,
-            entries,
-            note: self.note,
-        };
-        match command.make(alloc, 0, register) {
+        match retired(alloc, register, self.replica, entries, self.note) {
             Ok(made) => Ok(made),
             Err(fault) => Err(fault),
         }
@@ -234,13 +256,7 @@ impl ChangeOf for SupersedeOf<'_> {
             };
             return none.make_of(alloc, entries, register);
         };
-        let mut command = Supersede {
-            replica: self.replica,
-            old: *old,
-            newer,
-            note: self.note,
-        };
-        match command.make(alloc, 0, register) {
+        match superseded(alloc, register, self.replica, *old, newer, self.note) {
             Ok(made) => Ok(made),
             Err(fault) => Err(fault),
         }

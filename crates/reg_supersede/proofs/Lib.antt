@@ -1,3 +1,4 @@
+mod EngineLemmas
 mod AfterLemmas
 mod PairLemmas
 mod LineLemmas

@@ -29,14 +29,25 @@ cause_of (line.Several id) = cli.Refused (refusal.Several id)
 cause_of (line.Office f) = office_fault f
 cause_of line.Memory = cli.Memory
 
--- the note is short, and the lines of the list were done, one after the other; these are left out, and those are the lines of the new ids
+-- the note is short, and the lines of a list of these bytes were done, one after the other; these are left out, and those are the
+-- lines of the new ids
+abbrev pub DoesList : Task → List ℕ → Content → Content → List ℕ → List RefusedLine → Type 0
+DoesList t bytes x y text left = (length t.note ≤ 200) × ((ids : List Id) × DoesAll t 1 x (lines bytes) y ids left × (text ≡ id_lines ids))
+
+-- the list was read, and its lines were done
 abbrev pub Supersedes : Task → SourceState → SourceState → Content → Content → List ℕ → List RefusedLine → Type 0
-Supersedes t old new x y text left = (length t.note ≤ 200) × (bytes : List ℕ) × Gives old new bytes × ((ids : List Id) × DoesAll t 1 x (lines bytes) y ids left × (text ≡ id_lines ids))
+Supersedes t old new x y text left = (bytes : List ℕ) × Gives old new bytes × DoesList t bytes x y text left
 
 -- the note is too long, whatever the lines are, and no line is refused; or a line refuses the command, and is appended to the refused lines
 abbrev pub RefusesList : Task → Content → List (List ℕ) → List RefusedLine → List RefusedLine → Refusal → Type 0
 RefusesList t x lines before told r = ((200 < length t.note) × (told ≡ before) × (r ≡ refusal.Office fault.NoteTooLong))
     ⊎ ((length t.note ≤ 200) × ((f : RefusedLine) × RefusesAll t x lines f × (told ≡ before ++ f ∷ []) × (cause_of f.fault ≡ cli.Refused r)))
+
+-- a list of these bytes is refused; or memory ran out
+abbrev pub CannotDoList : Task → List ℕ → Content → List RefusedLine → List RefusedLine → CliFault → Type 0
+CannotDoList t bytes x before told (cli.Refused r) = RefusesList t x (lines bytes) before told r
+CannotDoList t bytes x before told cli.Memory = Unit {0}
+CannotDoList t bytes x before told f = ⊥
 
 -- the list was not read; or it is refused; or memory ran out
 abbrev pub CannotSupersede : Task → ℕ → SourceState → SourceState → Content → List RefusedLine → List RefusedLine → CliFault → Type 0

@@ -108,13 +108,22 @@ fn made_of(
 }
 
 impl<S: Source> Change for SupersedeFrom<'_, S> {
+    type Read = Vec<u8>;
+
     ghost use Rattle.std.specs.Prelude.{◌≡◌};
-    ghost use Rattle.std.proofs.Common.{refl};
+    ghost use Rattle.std.proofs.Common.{refl, ◌∙◌};
+    ghost use Rattle.reg_engine.specs.WholeFile.{Gives, IsUnread};
     ghost use Rattle.reg_supersede.specs.Engine.{task, Supersedes, CannotSupersede};
+    ghost use Rattle.reg_supersede.specs.Laws.{unread_is_refused};
 
-    ghost makes = { λ old. λ new. λ next. λ x. λ y. λ text. Supersedes (task old.replica old.note.now old.keys old.keep_going x) (S.state old.list.now) (S.state new.list.now) x y text new.refused.items };
+    ghost reads = { λ old. λ new. λ next. λ x. λ r. (new.replica ≡ old.replica) × (new.note.now ≡ old.note.now) × (new.keys ≡ old.keys) × (new.keep_going ≡ old.keep_going)
+        × (new.refused.items ≡ old.refused.items) × Gives (S.state old.list.now) (S.state new.list.now) r.items };
 
-    ghost refuses = { λ old. λ new. λ next. λ x. λ f. CannotSupersede (task old.replica old.note.now old.keys old.keep_going x) next (S.state old.list.now) (S.state new.list.now) x old.refused.items new.refused.items f };
+    ghost unmet = { λ old. λ new. λ next. λ x. λ f. IsUnread next (S.state old.list.now) (S.state new.list.now) f };
+
+    ghost makes = { λ old. λ new. λ next. λ x. λ z. λ y. λ text. Supersedes (task old.replica old.note.now old.keys old.keep_going z) (S.state old.list.now) (S.state new.list.now) z y text new.refused.items };
+
+    ghost refuses = { λ old. λ new. λ next. λ x. λ z. λ f. CannotSupersede (task old.replica old.note.now old.keys old.keep_going z) next (S.state old.list.now) (S.state new.list.now) z old.refused.items new.refused.items f };
 
     ghost same = { λ old. λ new. new.list.ghost_name ≡ old.list.ghost_name };
 
@@ -124,11 +133,46 @@ impl<S: Source> Change for SupersedeFrom<'_, S> {
 
     ghost rests = { λ a. refl };
 
-    fn make(&mut self, alloc: Global, next: usize, register: Register) -> Result<Made, CliFault> {
-        let bytes = match read_whole(alloc, next, self.list) {
-            Ok(bytes) => bytes,
-            Err(fault) => return Err(fault),
-        };
+    ghost still = { λ a b c e f. f ∙ e };
+
+    ghost stops = { λ a b n x z f h. unread_is_refused (task a.replica a.note.now a.keys a.keep_going z) n (S.state a.list.now) (S.state b.list.now) z a.refused.items b.refused.items f h };
+
+    fn read(
+        &mut self,
+        alloc: Global,
+        next: usize,
+        _register: &Register,
+    ) -> Result<Vec<u8>, CliFault> {
+        match read_whole(alloc, next, self.list) {
+            Ok(bytes) => Ok(bytes),
+            Err(fault) => Err(fault),
+        }
+    }
+
+    fn make(
+        &mut self,
+        alloc: Global,
+        _next: usize,
+        read: Vec<u8>,
+        register: Register,
+    ) -> Result<Made, CliFault> {
+        match self.done(alloc, &read, register) {
+            Ok(made) => Ok(made),
+            Err(fault) => Err(fault),
+        }
+    }
+}
+
+impl<S> SupersedeFrom<'_, S> {
+    ghost use Rattle.std.specs.Prelude.{◌≡◌, IfOk, IfErr};
+    ghost use Rattle.reg_supersede.specs.Engine.{task, DoesList, CannotDoList};
+
+    // Supersedes the entries of the lines of a list of these bytes.
+    fn done(&mut self, alloc: Global, list: &[u8], register: Register) -> Result<Made, CliFault>
+        ensures made { IfOk result (λ made. DoesList (task self.old.replica self.old.note.now self.old.keys self.old.keep_going register) list.now register made.register made.lines.items self.new.refused.items) }
+        ensures fault { IfErr result (λ f. CannotDoList (task self.old.replica self.old.note.now self.old.keys self.old.keep_going register) list.now register self.old.refused.items self.new.refused.items f) }
+        ensures list { (self.new.list.now ≡ self.old.list.now) × (self.new.list.ghost_name ≡ self.old.list.ghost_name) }
+    {
         if self.note.len() > Note::MAX {
             return Err(CliFault::Refused(Refusal::Office(OfficeFault::NoteTooLong)));
         }
@@ -139,7 +183,7 @@ impl<S: Source> Change for SupersedeFrom<'_, S> {
             self.replica,
             self.note,
             self.keep_going,
-            &bytes,
+            list,
         );
         let Listed { bodies, left } = match planned {
             Ok(listed) => listed,

@@ -1,15 +1,12 @@
--- The content that a store has after a take, changed or not.
-use Rattle.std.proofs.Common.{◌≡◌, ◌↔◌, Bool, true, false, inl, inr}
+-- The store and the lines after a take, whether or not the register is changed.
+use Rattle.std.proofs.Common.{◌≡◌, ◌↔◌, ℕ, List, Bool, true, false, inl, inr}
 use Rattle.std.specs.Prelude.{IsTrue, ◌≢◌}
+use Rattle.byte_io.specs.Device.{SinkState}
+use Rattle.byte_io.specs.Whole.{WritesAll}
 use Rattle.reg_op.specs.Contents.{Content}
 use Rattle.reg_engine.specs.declared.fault.CliFault.{CliFault}
-use Rattle.reg_engine.specs.Store.{Around, IsKeptIn}
-use Rattle.reg_take.specs.Engines.{Leaves}
-
--- a content that is kept without a fault is kept
-pub has_more : (a : Around) (x y : Content) → Leaves a.left a x y → Leaves (IsKeptIn a) a x y
-has_more a x y (inl same) = inl same
-has_more a x y (inr (other, left)) = inr (other, inl left)
+use Rattle.reg_engine.specs.Store.{Around, AreCut, IsTold, IsUntold}
+use Rattle.reg_take.specs.Engines.{kept_if_changed}
 
 never : (b : Bool) → b ≡ false → b ≡ true → ⊥
 never b e h = absurd (cc)
@@ -17,11 +14,16 @@ never b e h = absurd (cc)
 other : (b : Bool) (x y : Content) → b ≡ false → (IsTrue b ↔ (y ≡ x)) → y ≢ x
 other b x y e same h = absurd (never b e (same.1 h))
 
-pub leaves_same : (a : Around) (b : Bool) (x y : Content) → b ≡ true → a.came x → (IsTrue b ↔ (y ≡ x)) → Leaves a.left a x y
-leaves_same a b x y e came same = inl (same.0 e, came)
+module _ (a : Around) (b : Bool) (x y : Content) (lines : List ℕ) (before after : SinkState) (same : IsTrue b ↔ (y ≡ x)) where
+  pub gave_same : b ≡ true → a.came x → WritesAll lines before after → (kept_if_changed a before after).gave x y lines
+  gave_same e came all = (inl (same.0 e, came), all)
 
-pub leaves_other : (a : Around) (b : Bool) (x y : Content) → b ≡ false → a.left x y → (IsTrue b ↔ (y ≡ x)) → Leaves a.left a x y
-leaves_other a b x y e left same = inr (other b x y e same, left)
+  pub cut_same : (f : CliFault) → b ≡ true → a.came x → AreCut lines before after f → (kept_if_changed a before after).failed x y lines f
+  cut_same f e came cut = inr (inl (same.0 e, came), cut)
 
-pub not_left : (a : Around) (b : Bool) (x y : Content) (f : CliFault) → b ≡ false → a.unleft x y f → (IsTrue b ↔ (y ≡ x)) → (y ≢ x) × a.unleft x y f
-not_left a b x y f e unleft same = (other b x y e same, unleft)
+  pub gave_other : b ≡ false → IsTold a x y lines before after → (kept_if_changed a before after).gave x y lines
+  gave_other e told = (inr (other b x y e same, told.0), told.1)
+
+  pub failed_other : (f : CliFault) → b ≡ false → IsUntold a x y lines before after f → (kept_if_changed a before after).failed x y lines f
+  failed_other f e (inl h) = inl (other b x y e same, h.0, h.1)
+  failed_other f e (inr h) = inr (inr (other b x y e same, h.0), h.1)

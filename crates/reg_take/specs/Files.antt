@@ -37,6 +37,8 @@ IsFault file.NotOpened old new = IsTrue new.shut × ((n : ℕ) × IsPartFault (f
 IsFault (file.ReadFailed n) old new = (new.shut ≡ false) × IsPartFault (file.ReadFailed n) old.source new.source
 IsFault file.TooLarge old new = IsPartFault file.TooLarge old.source new.source
 IsFault (file.BadFile f place) old new = IsPartFault (file.BadFile f place) old.source new.source
+IsFault file.Busy old new = ⊥
+IsFault file.NotOffice old new = ⊥
 
 -- that of this number has this fault
 abbrev pub HasFault : ℕ → FileState → FileState → CliFault → Type 0
@@ -45,6 +47,7 @@ HasFault number old new (cli.File k f) = (k ≡ number) × IsFault f old new
 HasFault number old new (cli.Out f) = ⊥
 HasFault number old new cli.Memory = ⊥
 HasFault number old new (cli.Shelf p) = ⊥
+HasFault number old new (cli.Office t) = ⊥
 
 -- it was not read, for this reason
 abbrev pub IsUnread : ℕ → FileState → FileState → CliFault → Type 0

@@ -1,48 +1,40 @@
 //! The command `take`, on a register in a file or on a shelf.
 
-ghost use Rattle.std.specs.Prelude.{◌≡◌, ◌≢◌, ◌↔◌, map, IsTrue, IfOk, OnOk, IfErr};
+ghost use Rattle.std.specs.Prelude.{◌≡◌, ◌↔◌, map, IsTrue, IfOk, OnOk, IfErr};
 ghost use Rattle.reg_op.specs.Contents.{Content};
-ghost use Rattle.byte_io.specs.Whole.{WritesAll};
-ghost use Rattle.reg_engine.specs.Store.{AreCut};
 ghost use Rattle.reg_take.specs.Files.{file_state};
-ghost use Rattle.reg_take.specs.Engines.{only_read, kept_if_changed, Leaves, IsTaken, IsUntaken};
+ghost use Rattle.reg_take.specs.Engines.{only_read, kept_if_changed, IsTaken, IsUntaken};
 
 use crate::ready::{Ready, make_ready};
 use crate::taking::LeftOut;
-use byte_io::{Sink, write_all};
+use byte_io::Sink;
 use byte_late::LateSource;
-use reg_engine::{CliFault, Keep, OutFault, Store};
+use reg_engine::{CliFault, Keep, Store, keep_and_tell, tell};
 use reg_state::Register;
 use std::alloc::Global;
 
-// Writes the lines.
-fn tell<K: Sink>(lines: &[u8], sink: &mut K) -> Result<(), CliFault>
-    ensures written { OnOk result (WritesAll lines.now (K.state sink.old) (K.state sink.new)) }
-    ensures fault { IfErr result (AreCut lines.now (K.state sink.old) (K.state sink.new)) }
-{
-    match write_all(sink, lines) {
-        Ok(()) => Ok(()),
-        Err(fault) => Err(CliFault::Out(OutFault::WriteFailed(fault.written))),
-    }
-}
-
-// Keeps the register, unless it is the one that was loaded.
-fn keep_changed<T: Keep>(
+// Keeps the register, unless it is the one that was loaded, and writes the lines.
+fn keep_changed<T: Keep, K: Sink>(
     alloc: Global,
     store: &mut T,
     register: &Register,
     is_same: bool,
+    lines: &[u8],
+    sink: &mut K,
 ) -> Result<(), CliFault>
     ensures same { (first : T) → T.same first store.old → T.same first store.new }
-    ensures left { (first : T) (was : Content) → T.same first store.old → (T.around first store.old).came was → (IsTrue is_same ↔ (register.now ≡ was))
-        → OnOk result (Leaves (T.around first store.new).left (T.around first store.new) was register.now) }
-    ensures unleft { (first : T) (was : Content) → T.same first store.old → (T.around first store.old).came was → (IsTrue is_same ↔ (register.now ≡ was))
-        → IfErr result (λ f. (register.now ≢ was) × (T.around first store.new).unleft was register.now f) }
+    ensures gave { (first : T) (was : Content) → T.same first store.old → (T.around first store.old).came was → (IsTrue is_same ↔ (register.now ≡ was))
+        → OnOk result ((kept_if_changed (T.around first store.new) (K.state sink.old) (K.state sink.new)).gave was register.now lines.now) }
+    ensures failed { (first : T) (was : Content) → T.same first store.old → (T.around first store.old).came was → (IsTrue is_same ↔ (register.now ≡ was))
+        → IfErr result (λ f. (kept_if_changed (T.around first store.new) (K.state sink.old) (K.state sink.new)).failed was register.now lines.now f) }
 {
     if is_same {
-        return Ok(());
+        match tell(lines, sink) {
+            Ok(()) => return Ok(()),
+            Err(fault) => return Err(fault),
+        }
     }
-    match store.keep(alloc, register) {
+    match keep_and_tell(alloc, store, register, lines, sink) {
         Ok(()) => Ok(()),
         Err(fault) => Err(fault),
     }
@@ -78,16 +70,7 @@ pub fn run_take<T: Keep, S: LateSource, K: Sink>(
         Ok(ready) => ready,
         Err(fault) => return Err(fault),
     };
-    if let Err(fault) = keep_changed(alloc, store, &register, is_same) {
-        if !fault.is_after() {
-            return Err(fault);
-        }
-        if let Err(cut) = write_all(sink, &lines) {
-            return Err(CliFault::Out(OutFault::WriteFailed(cut.written)));
-        }
-        return Err(fault);
-    }
-    match tell(&lines, sink) {
+    match keep_changed(alloc, store, &register, is_same, &lines, sink) {
         Ok(()) => Ok(left),
         Err(fault) => Err(fault),
     }

@@ -1,30 +1,21 @@
 //! The command `import` on a register in a file or on a shelf.
 
-ghost use Rattle.std.specs.Prelude.{map, OnOk, IfErr};
-ghost use Rattle.reg_desk.specs.ImportEngines.{IsTold, IsUntold, kept_in, tried_in, IsImported, IsUnimported};
+ghost use Rattle.std.specs.Prelude.{◌≡◌, map, None, Some, OnOk, IfErr};
+ghost use Rattle.reg_desk.specs.ImportEngines.{kept_in, tried_in, IsImported, IsUnimported};
 
 use super::fault::Unimported;
 use super::options::ImportOptions;
 use super::ready::{Ready, make_ready};
 use super::room::HasRoom;
-use byte_io::{Sink, Source, write_all};
-use reg_engine::{CliFault, Keep, OutFault};
+use byte_io::{Sink, Source};
+use reg_engine::{Keep, keep_and_tell, tell};
 use std::alloc::Global;
 
-// Writes the lines, and returns the fault of the texts that were passed over.
-fn tell<K: Sink>(
-    alloc: Global,
-    lines: &[u8],
-    passed: Option<Unimported>,
-    sink: &mut K,
-) -> Result<(), Unimported>
-    ensures told { OnOk result (IsTold lines.now passed (K.state sink.old) (K.state sink.new)) }
-    ensures fault { IfErr result (IsUntold lines.now passed (K.state sink.old) (K.state sink.new)) }
+// The answer of an import that is done: the fault of the texts that were passed over, if any were.
+fn answer(passed: Option<Unimported>) -> Result<(), Unimported>
+    ensures done { OnOk result (passed ≡ None) }
+    ensures passed { IfErr result (λ u. passed ≡ Some u) }
 {
-    if let Err(fault) = write_all(sink, lines) {
-        let fault = CliFault::Out(OutFault::WriteFailed(fault.written));
-        return Err(Unimported::plain(alloc, fault));
-    }
     match passed {
         None => Ok(()),
         Some(why) => Err(why),
@@ -41,9 +32,9 @@ pub fn run_import<T: Keep, F: Source, K: Sink>(
     sink: &mut K,
 ) -> Result<(), Unimported>
     ensures same { T.same store.old store.new }
-    ensures imported { OnOk result (IsImported (kept_in (T.around store.old store.new) (K.state sink.old) (K.state sink.new))
+    ensures imported { OnOk result (IsImported (kept_in (T.around store.old store.new) (K.state sink.old) (K.state sink.new)) (T.admission store.old)
         order.now (T.next store.old) (map F.state files.old) (map F.state files.new)) }
-    ensures fault { IfErr result (IsUnimported (kept_in (T.around store.old store.new) (K.state sink.old) (K.state sink.new))
+    ensures fault { IfErr result (IsUnimported (kept_in (T.around store.old store.new) (K.state sink.old) (K.state sink.new)) (T.admission store.old)
         order.now (T.next store.old) (map F.state files.old) (map F.state files.new)) }
 {
     let next = store.next();
@@ -55,21 +46,14 @@ pub fn run_import<T: Keep, F: Source, K: Sink>(
         register,
         lines,
         passed,
-    } = match make_ready(alloc, register, next, order, files) {
+    } = match make_ready(alloc, store, register, next, order, files) {
         Ok(ready) => ready,
         Err(why) => return Err(why),
     };
-    if let Err(fault) = store.keep(alloc, &register) {
-        if !fault.is_after() {
-            return Err(Unimported::plain(alloc, fault));
-        }
-        if let Err(cut) = write_all(sink, &lines) {
-            let fault = CliFault::Out(OutFault::WriteFailed(cut.written));
-            return Err(Unimported::plain(alloc, fault));
-        }
+    if let Err(fault) = keep_and_tell(alloc, store, &register, &lines, sink) {
         return Err(Unimported::plain(alloc, fault));
     }
-    match tell(alloc, &lines, passed, sink) {
+    match answer(passed) {
         Ok(()) => Ok(()),
         Err(why) => Err(why),
     }
@@ -84,9 +68,9 @@ pub fn try_import<T: HasRoom, F: Source, K: Sink>(
     sink: &mut K,
 ) -> Result<(), Unimported>
     ensures same { T.same store.old store.new }
-    ensures imported { OnOk result (IsImported (tried_in (T.around store.old store.new) (T.room store.old store.new) (K.state sink.old) (K.state sink.new))
+    ensures imported { OnOk result (IsImported (tried_in (T.around store.old store.new) (T.room store.old store.new) (K.state sink.old) (K.state sink.new)) (T.admission store.old)
         order.now (T.next store.old) (map F.state files.old) (map F.state files.new)) }
-    ensures fault { IfErr result (IsUnimported (tried_in (T.around store.old store.new) (T.room store.old store.new) (K.state sink.old) (K.state sink.new))
+    ensures fault { IfErr result (IsUnimported (tried_in (T.around store.old store.new) (T.room store.old store.new) (K.state sink.old) (K.state sink.new)) (T.admission store.old)
         order.now (T.next store.old) (map F.state files.old) (map F.state files.new)) }
 {
     let next = store.next();
@@ -98,14 +82,17 @@ pub fn try_import<T: HasRoom, F: Source, K: Sink>(
         register,
         lines,
         passed,
-    } = match make_ready(alloc, register, next, order, files) {
+    } = match make_ready(alloc, store, register, next, order, files) {
         Ok(ready) => ready,
         Err(why) => return Err(why),
     };
     if let Err(fault) = store.has_room(alloc, &register) {
         return Err(Unimported::plain(alloc, fault));
     }
-    match tell(alloc, &lines, passed, sink) {
+    if let Err(fault) = tell(&lines, sink) {
+        return Err(Unimported::plain(alloc, fault));
+    }
+    match answer(passed) {
         Ok(()) => Ok(()),
         Err(why) => Err(why),
     }

@@ -32,7 +32,7 @@ pub struct Unimported {
 
 impl Unimported {
     /// A fault without explanation.
-    pub(crate) fn plain(alloc: Global, fault: CliFault) -> Unimported
+    pub fn plain(alloc: Global, fault: CliFault) -> Unimported
         ensures fault { result.fault ≡ import.Cli fault }
         ensures notes { result.notes.items ≡ [] }
     {

@@ -1,9 +1,9 @@
 //! The result of an import, before anything is written.
 
-ghost use Rattle.std.specs.Prelude.{map, IfOk, IfErr};
+ghost use Rattle.std.specs.Prelude.{◌≡◌, map, IfOk, IfErr};
 ghost use Rattle.reg_desk.specs.ImportFiles.{bytes_of};
 ghost use Rattle.reg_desk.specs.ImportTexts.{text_at};
-ghost use Rattle.reg_desk.specs.Import.{IsRefusedBy, MakesOf, IsUnmadeOf, Makes, IsUnmade, IsReady, IsUnready};
+ghost use Rattle.reg_desk.specs.Import.{IsRefusedBy, MakesOf, IsUnmadeOf, Makes, IsUnmade, IsReadyIn, IsUnreadyIn};
 
 use crate::import::against::{passed_over, refused_here};
 use crate::import::fault::Unimported;
@@ -11,7 +11,7 @@ use crate::import::files::read_files;
 use crate::import::options::ImportOptions;
 use crate::import::texts::{FileCut, cut_files, read_cuts};
 use byte_io::Source;
-use reg_engine::{CliFault, Refusal};
+use reg_engine::{CliFault, Refusal, Store};
 use reg_import::{FileText, ImportRefusal, Listing, Refused, import_texts, lines_text};
 use reg_office::OfficeFault;
 use reg_state::Register;
@@ -129,20 +129,27 @@ fn made(
     }
 }
 
-/// Reads the files of texts, the first of which has this number among all that are read, and imports their texts into the
-/// register.
-pub fn make_ready<F: Source>(
+/// Reads the files of texts, the first of which has this number among all that are read, asks the store to admit the loaded register,
+/// and imports the texts.
+pub fn make_ready<T: Store, F: Source>(
     alloc: Global,
-    register: Register,
+    store: &T,
+    loaded: Register,
     first: usize,
     order: &ImportOptions<'_>,
     files: &mut [F],
 ) -> Result<Ready, Unimported>
-    ensures ready { IfOk result (λ r. IsReady order.now first register (map F.state files.old) (map F.state files.new) r.register r.lines.items r.passed) }
-    ensures fault { IfErr result (IsUnready order.now first register (map F.state files.old) (map F.state files.new)) }
+    ensures ready { (was : T) → T.same was store.now → IfOk result (λ r. IsReadyIn (T.admission was) order.now first loaded
+        (map F.state files.old) (map F.state files.new) r.register r.lines.items r.passed) }
+    ensures fault { (was : T) → T.same was store.now → IfErr result (λ u. IsUnreadyIn (T.admission was) order.now first loaded
+        (map F.state files.old) (map F.state files.new) u) }
 {
     let bytes = match read_files(alloc, first, files) {
         Ok(bytes) => bytes,
+        Err(fault) => return Err(Unimported::plain(alloc, fault)),
+    };
+    let register = match store.admit(alloc, loaded) {
+        Ok(register) => register,
         Err(fault) => return Err(Unimported::plain(alloc, fault)),
     };
     match made(alloc, register, first, order, &bytes) {

@@ -3,12 +3,17 @@
 ghost use Rattle.std.specs.Prelude.{◌≡◌, ◌⊎◌, ℕ, ◌≤◌, ◌<◌, IsTrue, IfOk, IfErr, OnOk, IsErrOf, length};
 ghost use Rattle.byte_shelf.specs.Shelf.{HasHead};
 ghost use Rattle.byte_shelf.specs.Keep.{AddsNothing, CountsFault};
+ghost use Rattle.reg_op.specs.Contents.{Content};
+ghost use Rattle.reg_engine.specs.Shelf.{disks};
+ghost use Rattle.reg_engine.specs.Store.{on_shelf};
+ghost use Rattle.reg_desk.specs.ImportRoom.{HasFile, HasNoFile, room_on_shelf};
 
 use byte_disk::Disk;
 use byte_io::Source;
 use byte_shelf::ShelfFault;
-use reg_engine::{CliFault, OfFile, OnShelf, OutFault, ShelfProblem, Store};
+use reg_engine::{CliFault, Either, OfFile, OnShelf, OutFault, ShelfProblem, Store};
 use reg_file::{WriteFileFault, write_bytes};
+use reg_guard::{TriedFile, TriedShelf};
 use reg_state::Register;
 use std::alloc::Global;
 
@@ -37,14 +42,52 @@ impl<S: Source> HasRoom for OfFile<'_, S> {
     ghost room = { λ old. λ new. room_in_file (of_file (S.state old.source.now) (S.state new.source.now)) };
 
     fn has_room(&mut self, alloc: Global, register: &Register) -> Result<(), CliFault> {
-        let bytes = match write_bytes(alloc, register) {
-            Ok(bytes) => bytes,
-            Err(WriteFileFault::TooLarge) => return Err(CliFault::Out(OutFault::TooLarge)),
-            Err(_) => return Err(CliFault::Memory),
-        };
-        drop(bytes);
-        Ok(())
+        match file_room(alloc, register) {
+            Ok(()) => Ok(()),
+            Err(fault) => Err(fault),
+        }
     }
+}
+
+impl<S: Source> HasRoom for TriedFile<'_, S> {
+    ghost use Rattle.reg_desk.specs.ImportRoom.{room_in_file};
+    ghost use Rattle.reg_guard.specs.Stores.{tried_file};
+
+    ghost room = { λ old. λ new. room_in_file (tried_file (S.state old.source.now) (S.state new.source.now)) };
+
+    fn has_room(&mut self, alloc: Global, register: &Register) -> Result<(), CliFault> {
+        match file_room(alloc, register) {
+            Ok(()) => Ok(()),
+            Err(fault) => Err(fault),
+        }
+    }
+}
+
+impl<A: HasRoom, B: HasRoom> HasRoom for Either<A, B> {
+    ghost use Rattle.reg_desk.specs.ImportRoom.{room_either};
+
+    ghost room = { λ old. λ new. room_either A.room B.room old new };
+
+    fn has_room(&mut self, alloc: Global, register: &Register) -> Result<(), CliFault> {
+        match self {
+            Either::One(store) => store.has_room(alloc, register),
+            Either::Other(store) => store.has_room(alloc, register),
+        }
+    }
+}
+
+// Whether the register has a file that is not too large.
+fn file_room(alloc: Global, register: &Register) -> Result<(), CliFault>
+    ensures fits { OnOk result (HasFile register.now) }
+    ensures full { IfErr result (λ f. HasNoFile register.now f) }
+{
+    let bytes = match write_bytes(alloc, register) {
+        Ok(bytes) => bytes,
+        Err(WriteFileFault::TooLarge) => return Err(CliFault::Out(OutFault::TooLarge)),
+        Err(_) => return Err(CliFault::Memory),
+    };
+    drop(bytes);
+    Ok(())
 }
 
 impl<D: Disk> HasRoom for OnShelf<'_, D> {
@@ -54,15 +97,45 @@ impl<D: Disk> HasRoom for OnShelf<'_, D> {
     ghost room = { λ old. λ new. room_on_shelf (disks D.tells D.seen D.images D.moment D.images_since D.failures) old.disk.now new.disk.now };
 
     fn has_room(&mut self, alloc: Global, register: &Register) -> Result<(), CliFault> {
-        let bytes = match write_bytes(alloc, register) {
-            Ok(bytes) => bytes,
-            Err(WriteFileFault::TooLarge) => return Err(CliFault::Shelf(ShelfProblem::TooLarge)),
-            Err(_) => return Err(CliFault::Memory),
-        };
-        match room_for(self.disk, bytes.len()) {
+        match shelf_room(alloc, self.disk, register) {
             Ok(()) => Ok(()),
-            Err(fault) => Err(CliFault::of_shelf(fault)),
+            Err(fault) => Err(fault),
         }
+    }
+}
+
+impl<D: Disk> HasRoom for TriedShelf<'_, D> {
+    ghost use Rattle.reg_engine.specs.Shelf.{disks};
+    ghost use Rattle.reg_desk.specs.ImportRoom.{room_on_shelf};
+
+    ghost room = { λ old. λ new. room_on_shelf (disks D.tells D.seen D.images D.moment D.images_since D.failures) old.disk.now new.disk.now };
+
+    fn has_room(&mut self, alloc: Global, register: &Register) -> Result<(), CliFault> {
+        match shelf_room(alloc, self.disk, register) {
+            Ok(()) => Ok(()),
+            Err(fault) => Err(fault),
+        }
+    }
+}
+
+// Whether the shelf from which another register was restored has room for this one.
+fn shelf_room<D: Disk>(alloc: Global, disk: &mut D, register: &Register) -> Result<(), CliFault>
+    ensures fits { (first : D) (was : Content) → D.tells disk.old ≡ D.tells first
+        → (on_shelf (disks D.tells D.seen D.images D.moment D.images_since D.failures) first disk.old).came was
+        → OnOk result ((room_on_shelf (disks D.tells D.seen D.images D.moment D.images_since D.failures) first disk.new).fits was register.now) }
+    ensures full { (first : D) (was : Content) → D.tells disk.old ≡ D.tells first
+        → (on_shelf (disks D.tells D.seen D.images D.moment D.images_since D.failures) first disk.old).came was
+        → IfErr result (λ f. (room_on_shelf (disks D.tells D.seen D.images D.moment D.images_since D.failures) first disk.new).full was register.now f) }
+    ensures tells { D.tells disk.new ≡ D.tells disk.old }
+{
+    let bytes = match write_bytes(alloc, register) {
+        Ok(bytes) => bytes,
+        Err(WriteFileFault::TooLarge) => return Err(CliFault::Shelf(ShelfProblem::TooLarge)),
+        Err(_) => return Err(CliFault::Memory),
+    };
+    match room_for(disk, bytes.len()) {
+        Ok(()) => Ok(()),
+        Err(fault) => Err(CliFault::of_shelf(fault)),
     }
 }
 
