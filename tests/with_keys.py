@@ -10,18 +10,24 @@ import re
 import subprocess
 import sys
 
-COMMANDS = {"show", "wkt", "supersede", "retire", "compare"}
-WITH_VALUE = {"--as", "--office", "--out", "--note", "--from", "--with"}
+# Of this command a key means all entries with it, so that an id and its key differ.
+OTHER_KEYS = "log"
 ID = re.compile(r"[0-9A-Fa-f-]{36}:[1-9][0-9]{0,9}")
 
 
-def places_of_words(arguments):
+def help_of(program, command):
+    """The help of the command, or nothing if there is no such command."""
+    asked = subprocess.run([program, command, "--help"], stdin=subprocess.DEVNULL, capture_output=True, check=False)
+    return asked.stdout.decode(errors="replace")
+
+
+def places_of_words(arguments, with_value):
     """The indices of the arguments that are neither options nor their values."""
     places, skips = [], False
     for at, word in enumerate(arguments):
         if skips:
             skips = False
-        elif word in WITH_VALUE:
+        elif word in with_value:
             skips = True
         elif not word.startswith("-"):
             places.append(at)
@@ -44,8 +50,12 @@ def keys_of(program, register, is_shelf):
 
 def swapped(program, arguments):
     """The arguments with keys, or as they are if there is nothing to replace."""
-    places = places_of_words(arguments)
-    if len(places) < 3 or arguments[places[0]] not in COMMANDS or {"-k", "--keys"} & set(arguments):
+    if not any(ID.fullmatch(it) for it in arguments) or {"-k", "--keys"} & set(arguments):
+        return arguments
+    asked = help_of(program, arguments[0])
+    with_value = set(re.findall(r"^ +(?:-\w, )?(--[a-z-]+) <", asked, re.MULTILINE))
+    places = places_of_words(arguments, with_value)
+    if len(places) < 3 or places[0] != 0 or "-k, --keys" not in asked or arguments[0] == OTHER_KEYS:
         return arguments
     register = arguments[places[1]]
     if not os.path.isfile(register) or not any(ID.fullmatch(arguments[at]) for at in places[2:]):

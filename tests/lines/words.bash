@@ -72,3 +72,20 @@ usage() { printf 'USAGE[SCOPE["%s"],%sBBOX[%s]],' "$@"; }
 
 # geometries BOX: prints the geometry of a system with this box, from the empty register new.crs.
 geometries() { flat F "$(usage s '' "$1")" 7 >d; crsreg enter new.crs --as $A --text d --out g.crs >/dev/null; crsreg export g.crs --geojson | grep -o '"type":"[MP][^}]*'; }
+
+# terminal COMMAND..: runs the command with a terminal as its standard error, and copies what it prints there.
+terminal() {
+    python3 -c '
+import os, pty, subprocess, sys, tty
+here, there = pty.openpty()
+tty.setraw(there)
+run = subprocess.Popen(sys.argv[1:], stderr=there)
+os.close(there)
+try:
+    while part := os.read(here, 4096):
+        sys.stderr.buffer.write(part)
+except OSError:
+    pass  # The other end is closed.
+sys.stderr.buffer.flush()
+sys.exit(run.wait())' "$@"
+}

@@ -2,12 +2,12 @@
 use byte_late::{LateFile, LateSource};
 use clap::ArgMatches;
 use cli_faults::sentences::Shown;
-use cli_faults::{Named, explain};
+use cli_faults::{CommandName, Named, explain};
 use cli_open::engines::CliFault;
 use cli_open::engines::places::Lockable;
 use cli_open::engines::streams::Writing;
 use cli_open::{
-    Opened, Outcome, Replaced, Rows, answered, open_register, open_shelf, target_of, word,
+    Opened, Outcome, Replaced, Rows, answered, explains, open_register, open_shelf, target_of, word,
 };
 use reg_take::{LeftOut, run_take, try_take};
 use std::alloc::{AllocError, Global};
@@ -70,7 +70,7 @@ fn take_into<S: LateSource>(
     register: Opened<File>,
     files: &mut [S],
 ) -> Result<Vec<LeftOut>, CliFault> {
-    let mut sink = Rows::sink(rt.alloc(), matches, io::writer(rt));
+    let mut sink = Rows::sink(rt, matches, io::writer(rt));
     let answer = take_to(rt, matches, register, files, &mut sink);
     match answered(rt.alloc(), sink, answer) {
         Ok(answer) => answer,
@@ -97,8 +97,8 @@ fn take_to<S: LateSource, W: Write>(
 
 // Names the files that are left out, each with its sentence if that is asked for. The status is that of the first of them.
 fn tell(rt: &HostRuntime, matches: &ArgMatches<'_>, paths: &[&str], left: &[LeftOut]) -> Outcome {
-    let named = if matches.get_flag("explain") {
-        Named::of(rt, "take", matches).ok()
+    let named = if explains(matches) {
+        Named::of(rt, CommandName::Take, matches).ok()
     } else {
         None
     };

@@ -6,6 +6,7 @@ mod paths;
 mod sentence;
 
 pub use cli_sentences as sentences;
+pub use cli_words::CommandName;
 pub use naming::Second;
 pub use paths::Named;
-pub use sentence::{add, explain, print_lines};
+pub use sentence::{add, explain, print_lines, say};

@@ -1,8 +1,9 @@
 //! The command and its files, for the sentence about a fault.
 use clap::ArgMatches;
 use cli_open::engines::places::FileId;
-use cli_open::{STANDARD_INPUT, office_file, word};
+use cli_open::{Name, STANDARD_INPUT, names, office_file, word};
 use cli_sentences::{Command, FileName, Paths};
+use cli_words::{CommandName, CommandRow, Role};
 use std::alloc::AllocError;
 use std::fs;
 use std::os::unix::fs::MetadataExt;
@@ -48,27 +49,36 @@ pub struct Named<'a> {
     pub shelf: &'a str,
     /// Whether it changes its shelf.
     pub changes_shelf: bool,
+    /// The names of offices; none if they cannot be read.
+    pub names: Vec<Name>,
 }
 
 impl<'a> Named<'a> {
-    /// The files of the command with this name.
+    /// The files of the command.
     pub fn of(
         rt: &HostRuntime,
-        name: &str,
+        name: CommandName,
         matches: &ArgMatches<'a>,
     ) -> Result<Named<'a>, AllocError> {
-        let shelf = shelf_of(name, matches);
-        let out = out_named(name, matches, shelf);
+        let row = name.row();
+        let shelf = row.shelf(matches.get_flag("shelf")).unwrap_or("");
+        let is_dry = matches.get_flag("dry-run");
+        let out = if is_dry {
+            ""
+        } else {
+            out_named(row, matches, shelf)
+        };
         Ok(Named {
             command: command_of(name, matches),
             keeps_going: matches.get_flag("keep-going"),
-            files: files_named(rt, name, matches, shelf)?,
+            files: files_named(rt, row, matches, shelf)?,
             has_office: office_file(matches).is_some(),
-            register: word(matches, register_of(name)),
+            register: word(matches, row.register().unwrap_or("")),
             out,
             before: Written::at(rt, out),
             shelf: word(matches, shelf),
-            changes_shelf: !shelf.is_empty() && !matches.get_flag("dry-run") && is_change(name),
+            changes_shelf: !shelf.is_empty() && !is_dry && row.keeps_shelf(),
+            names: names_if_read(rt, matches)?,
         })
     }
 
@@ -106,18 +116,27 @@ impl<'a> Named<'a> {
     }
 }
 
-// The command with this name, if it has sentences of its own.
-fn command_of(name: &str, matches: &ArgMatches<'_>) -> Command {
+// The names of offices; none if they cannot be read.
+fn names_if_read(rt: &HostRuntime, matches: &ArgMatches<'_>) -> Result<Vec<Name>, AllocError> {
+    match names(rt, matches) {
+        Ok(names) => Ok(names),
+        Err(problem) if problem.is_memory() => Err(AllocError),
+        Err(_) => Ok(Vec::new(rt.alloc())),
+    }
+}
+
+// The command, if it has sentences of its own.
+fn command_of(name: CommandName, matches: &ArgMatches<'_>) -> Command {
     match name {
-        "export" => Command::Export,
-        "import" => Command::Import,
-        "diff" | "merge" => Command::Merge,
-        "office" => Command::Office,
-        "settle" => Command::Settle,
-        "shelf" => Command::Shelf,
-        "status" => Command::Status,
-        "unshelf" => Command::Unshelf,
-        "supersede" if matches.contains_id("from") => Command::SupersedeFrom {
+        CommandName::Export => Command::Export,
+        CommandName::Import => Command::Import,
+        CommandName::Diff | CommandName::Merge => Command::Merge,
+        CommandName::Office => Command::Office,
+        CommandName::Settle => Command::Settle,
+        CommandName::Shelf => Command::Shelf,
+        CommandName::Status => Command::Status,
+        CommandName::Unshelf => Command::Unshelf,
+        CommandName::Supersede if matches.contains_id("from") => Command::SupersedeFrom {
             keys: matches.get_flag("keys"),
         },
         _ => Command::Other,
@@ -127,7 +146,7 @@ fn command_of(name: &str, matches: &ArgMatches<'_>) -> Command {
 // The files that the command reads, in the order of their numbers. A shelf has no number.
 fn files_named<'a>(
     rt: &HostRuntime,
-    name: &str,
+    row: &CommandRow,
     matches: &ArgMatches<'a>,
     shelf: &str,
 ) -> Result<Vec<FileName<'a>>, AllocError> {
@@ -135,112 +154,50 @@ fn files_named<'a>(
     if let Some(file) = office_file(matches) {
         files.push(FileName::Path(file))?;
     }
-    for argument in files_of(name) {
-        if *argument != shelf {
-            for path in matches.get_strs(argument).unwrap_or(&[]) {
-                files.push(file_named(name, argument, *path))?;
-            }
+    for argument in row.arguments {
+        if argument.role.is_read() && argument.name != shelf {
+            push_files(&mut files, argument.role, words(matches, argument.name))?;
         }
     }
-    if ids_are_listed(matches) {
+    if ids_are_listed(row, matches) {
         files.push(FileName::StandardInput)?;
     }
     Ok(files)
 }
 
-// The file that an argument names. Only where a command reads texts or a list, `-` is standard input.
-fn file_named<'a>(name: &str, argument: &str, path: &'a str) -> FileName<'a> {
-    let reads_standard_input = match name {
-        "compare" => argument == "with",
-        "import" => argument == "FILE",
-        "supersede" => argument == "from",
-        _ => false,
-    };
-    if reads_standard_input && path == STANDARD_INPUT {
-        FileName::StandardInput
-    } else {
-        FileName::Path(path)
-    }
+fn words<'m, 'a>(matches: &'m ArgMatches<'a>, argument: &str) -> &'m [&'a str] {
+    matches.get_strs(argument).unwrap_or(&[])
 }
 
-// The arguments that name files, in the order of their numbers.
-fn files_of(name: &str) -> &'static [&'static str] {
-    match name {
-        "check" => &["TEXT"],
-        "compare" => &["REG", "with"],
-        "diff" => &["OLD", "NEW"],
-        "enter" => &["REG", "text"],
-        "new" | "office" | "shelf" | "unshelf" => &[],
-        "supersede" => &["REG", "from"],
-        _ => &["REG", "SEEN", "FILE"],
+// Appends the files that an argument with this role names.
+fn push_files<'a>(
+    files: &mut Vec<FileName<'a>>,
+    role: Role,
+    paths: &[&'a str],
+) -> Result<(), AllocError> {
+    for path in paths {
+        let is_dash = role == Role::InputOrDash && *path == STANDARD_INPUT;
+        files.push(if is_dash {
+            FileName::StandardInput
+        } else {
+            FileName::Path(*path)
+        })?;
     }
-}
-
-// The argument that names the register.
-fn register_of(name: &str) -> &'static str {
-    match name {
-        "diff" => "OLD",
-        _ => "REG",
-    }
+    Ok(())
 }
 
 // The file that is written, if it is not the shelf.
-fn out_named<'a>(name: &str, matches: &ArgMatches<'a>, shelf: &str) -> &'a str {
-    if matches.get_flag("dry-run") {
-        return "";
-    }
-    let argument = out_of(name);
-    match matches.get_str("out") {
-        Some(path) => path,
-        None if argument == shelf => "",
-        None => word(matches, argument),
+fn out_named<'a>(row: &CommandRow, matches: &ArgMatches<'a>, shelf: &str) -> &'a str {
+    match row.output() {
+        Some(argument) if argument != shelf => word(matches, argument),
+        _ => "",
     }
 }
 
-// The argument that names the file that is written, other than `--out`.
-fn out_of(name: &str) -> &'static str {
-    match name {
-        "take" => "REG",
-        "office" => "NEW",
-        "export" => "into",
-        _ => "OUT",
+// Whether the ids of entries are read from standard input.
+fn ids_are_listed(row: &CommandRow, matches: &ArgMatches<'_>) -> bool {
+    match row.with_role(Role::Entries) {
+        Some(argument) => words(matches, argument).contains(&STANDARD_INPUT),
+        None => false,
     }
-}
-
-// The argument that names the shelf of the command, or the empty text. For `merge` it is OUT. `status` may have several shelves.
-fn shelf_of(name: &str, matches: &ArgMatches<'_>) -> &'static str {
-    match name {
-        "shelf" => return "NEW",
-        "status" => return "",
-        "unshelf" => return "SHELF",
-        _ if !matches.get_flag("shelf") => return "",
-        _ => {}
-    }
-    match name {
-        "merge" => "OUT",
-        "diff" => "OLD",
-        _ => "REG",
-    }
-}
-
-// Whether the command keeps a new register on its shelf.
-fn is_change(name: &str) -> bool {
-    match name {
-        "enter" | "import" | "merge" | "retire" | "settle" | "supersede" | "take" => true,
-        _ => false,
-    }
-}
-
-// Whether a command on entries reads their ids from standard input.
-fn ids_are_listed(matches: &ArgMatches<'_>) -> bool {
-    for argument in ["BY", "ENTRY", "KEEP"] {
-        if matches
-            .get_strs(argument)
-            .unwrap_or(&[])
-            .contains(&STANDARD_INPUT)
-        {
-            return true;
-        }
-    }
-    false
 }

@@ -2,9 +2,10 @@
 use crate::naming::{Second, paths_at};
 use crate::paths::Named;
 use cli_open::engines::CliFault;
+use cli_open::{Name, named};
 use cli_sentences::{FileName, Sentence, Shown, ShownLines};
 use std::alloc::{AllocError, Global};
-use std::str;
+use std::{fmt, str};
 
 /// Prints the sentence of a fault to standard error, below its line.
 pub fn explain(rt: &HostRuntime, fault: CliFault, named: &Option<Named<'_>>) {
@@ -20,7 +21,40 @@ fn explain_in(rt: &HostRuntime, fault: CliFault, named: &Named<'_>) {
         found: second.found(),
         paths: paths_at(rt, named, &fault),
     };
+    say(rt, &sentence, named);
+}
+
+/// Prints a sentence to standard error, with the names of offices in the place of their UUIDs. Hints keep the UUIDs, since a command
+/// line takes no names.
+pub fn say<D: fmt::Display>(rt: &HostRuntime, sentence: &D, named: &Named<'_>) {
+    if !named.names.is_empty() {
+        if let Ok(text) = format!(in rt.alloc(); "{sentence}") {
+            return say_lines(rt, text.as_str(), &named.names);
+        }
+    }
     let _ = eprint!(rt; "{sentence}");
+}
+
+fn say_lines(rt: &HostRuntime, text: &str, names: &[Name]) {
+    for line in text.lines() {
+        match shown_line(rt.alloc(), line, names) {
+            Ok(line) => {
+                let line = ShownLines(line.as_str());
+                let _ = eprintln!(rt; "{line}");
+            }
+            Err(_) => {
+                let _ = eprintln!(rt; "{line}");
+            }
+        }
+    }
+}
+
+fn shown_line(alloc: Global, line: &str, names: &[Name]) -> Result<String, AllocError> {
+    if line.starts_with("hint: ") {
+        return String::from_str(alloc, line);
+    }
+    let bytes = named(alloc, false, names, line.as_bytes())?;
+    String::from_utf8_lossy(alloc, &bytes)
 }
 
 /// Prints explanations of texts to standard error, below the line of the fault. They are UTF-8.

@@ -3,7 +3,7 @@ use clap::ArgMatches;
 use cli_change::{Desk, change_of, office_named, open_desk};
 use cli_open::engines::places::Place;
 use cli_open::engines::streams::Source;
-use cli_open::{Opened, Outcome, files_before, next_file, open, open_to_change, word};
+use cli_open::{Opened, Outcome, explains, files_before, next_file, open, open_to_change, word};
 use reg_desk::{CliFault, Enter, Explained, Recorded, explained_fault};
 use std::fs::File;
 
@@ -67,7 +67,7 @@ fn not_entered<X: Source>(
     text: &Recorded<X>,
     fault: CliFault,
 ) -> Result<Outcome, Explained> {
-    if matches.get_flag("explain") {
+    if explains(matches) {
         return Err(explained_fault(rt.alloc(), path, text, fault));
     }
     Ok(Outcome::Fault(fault))

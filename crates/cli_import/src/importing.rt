@@ -6,8 +6,8 @@ use cli_open::engines::Either;
 use cli_open::engines::places::Place;
 use cli_open::guards::{LastNumber, TriedFile, TriedShelf};
 use cli_open::{
-    Opened, Outcome, Rows, STANDARD_INPUT, STANDARD_INPUT_PATH, answered, files_before, is_twice,
-    next_file, open_to_change, target_of, word,
+    Opened, Outcome, Rows, STANDARD_INPUT, STANDARD_INPUT_PATH, answered, explains, files_before,
+    is_twice, next_file, open_to_change, target_of, word,
 };
 use reg_desk::{
     CliFault, Differs, FileDisk, ImportFault, ImportOptions, InputFault, InputOf, OfFile, OnShelf,
@@ -144,13 +144,13 @@ fn import_from<Q: Place, S: Source>(
         replica: desk.replica,
         differs: differs(word(matches, "differs")),
         keep_going: matches.get_flag("keep-going"),
-        explain: matches.get_flag("explain"),
+        explain: explains(matches),
         changes: matches.get_flag("changes"),
         gone: matches.get_str("gone"),
         note: word(matches, "note"),
         names,
     };
-    let mut sink = Rows::sink(rt.alloc(), matches, io::writer(rt));
+    let mut sink = Rows::sink(rt, matches, io::writer(rt));
     let answer = if matches.get_flag("dry-run") {
         import_tried(rt.alloc(), desk.last(), register, files, &order, &mut sink)
     } else {

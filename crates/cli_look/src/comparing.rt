@@ -1,7 +1,7 @@
 //! `compare`: what differs between the texts of entries, and of a file.
 use crate::look::told;
 use clap::ArgMatches;
-use cli_open::{Outcome, entry, next_file, open_register, open_text, word};
+use cli_open::{Outcome, entry, explains, next_file, open_register, open_text, word};
 use desk_texts::{Compare, CompareKey, CompareWith, WithFault, run_compared_with, run_differs};
 use reg_desk::{
     ByWord, CliFault, ImportFault, OpId, Print, Problem, Recorded, Source, Unimported, Writing,
@@ -119,7 +119,7 @@ fn uncompared<S: Source>(
         } => {
             let end = place.saturating_add(len);
             let bytes = text.bytes().unwrap_or(&[]);
-            let notes = if matches.get_flag("explain") {
+            let notes = if explains(matches) {
                 explain_within(alloc, path, bytes, place, end, fault)
             } else {
                 Ok(Vec::new(alloc))

@@ -2,8 +2,8 @@
 use byte_late::LateFile;
 use clap::ArgMatches;
 use cli_open::{
-    Outcome, Rows, STANDARD_INPUT, answered, entries, next_file, open, open_all, open_register,
-    open_to_read, print_of, push_words, wanted, word,
+    Outcome, Rows, STANDARD_INPUT, answered, entries, explains, next_file, open, open_all,
+    open_register, open_to_read, print_of, push_words, wanted, word,
 };
 use desk_texts::Texts;
 use reg_desk::{
@@ -40,7 +40,7 @@ fn check_from<S: Source + Drop>(
 ) -> Result<Outcome, Explained> {
     let mut text = Recorded::new(rt.alloc(), source);
     let mut sink = Writing::new(io::writer(rt));
-    if matches.get_flag("explain") {
+    if explains(matches) {
         return match run_check_explained(rt.alloc(), name, &mut text, &mut sink) {
             Ok(()) => Ok(Outcome::Done),
             Err(explained) => Err(explained),
@@ -134,7 +134,7 @@ pub fn status(rt: &HostRuntime, matches: &ArgMatches<'_>) -> Result<(), CliFault
     let Ok(names) = names_of(rt.alloc(), paths) else {
         return Err(CliFault::Memory);
     };
-    let mut sink = Rows::sink(rt.alloc(), matches, io::writer(rt));
+    let mut sink = Rows::sink(rt, matches, io::writer(rt));
     let answer = status_to(rt, matches, paths, &names, &mut sink);
     match answered(rt.alloc(), sink, answer) {
         Ok(answer) => answer,
@@ -220,7 +220,7 @@ pub fn told(matches: &ArgMatches<'_>, answer: Result<bool, CliFault>) -> Outcome
 }
 
 fn merged(rt: &HostRuntime, matches: &ArgMatches<'_>) -> Result<bool, CliFault> {
-    let mut sink = Rows::sink(rt.alloc(), matches, io::writer(rt));
+    let mut sink = Rows::sink(rt, matches, io::writer(rt));
     let answer = merged_to(rt, matches, &mut sink);
     match answered(rt.alloc(), sink, answer) {
         Ok(answer) => answer,

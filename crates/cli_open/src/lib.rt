@@ -2,6 +2,7 @@
 #![tactic(auto)]
 
 mod inputs;
+mod naming;
 mod outcome;
 mod reading;
 mod stores;
@@ -10,18 +11,20 @@ mod targets;
 mod words;
 
 pub use inputs::{Replaced, open_inputs, parts, real_path};
+pub use naming::{NamesProblem, names};
 pub use outcome::{MISUSE, Outcome, complain, failed, print};
 pub use stores::{
     Opened, ReadRegister, give_of, next_file, open_register, open_to_change, print_of,
 };
-pub use table::{Rows, answered};
+pub use table::{Rows, answered, is_table};
 pub use targets::{OfficeFile, Target, target_of};
 pub use words::{
-    STANDARD_INPUT, STANDARD_INPUT_PATH, changed_place, entries, entry, files_before, is_twice,
-    listed, lock_new_shelf, office_file, open, open_all, open_shelf, open_text, open_to_read,
-    place, printing_place, push_listed, push_words, replica, wanted, word,
+    STANDARD_INPUT, STANDARD_INPUT_PATH, changed_place, entries, entry, explains, files_before,
+    is_twice, listed, lock_new_shelf, office_file, open, open_all, open_shelf, open_text,
+    open_to_read, place, printing_place, push_listed, push_words, replica, wanted, word,
 };
 
 // The crates of which the commands above use items, so that they need only this one.
+pub use office_names::{Name, named};
 pub use reg_guard as guards;
 pub use reg_guard::engine as engines;

@@ -88,7 +88,7 @@ pub fn print_of<C: Print>(
     matches: &ArgMatches<'_>,
     command: &C,
 ) -> Result<(), CliFault> {
-    let mut sink = Rows::sink(rt.alloc(), matches, io::writer(rt));
+    let mut sink = Rows::sink(rt, matches, io::writer(rt));
     let answer = print_to(rt, matches, command, &mut sink);
     match answered(rt.alloc(), sink, answer) {
         Ok(answer) => answer,

@@ -1,33 +1,74 @@
 //! The rows that a command prints, or with `--table` the table of them.
+use crate::naming::names;
 use clap::ArgMatches;
 use csv_table::{TableFault, told_as_table};
+use office_names::{Name, with_names};
 use reg_guard::engine::streams::Writing;
 use reg_guard::engine::{CliFault, OutFault};
-use std::alloc::Global;
+use std::alloc::{AllocError, Global};
 use std::io::{self, ErrorKind, Write};
 
 /// Where a command writes its rows: standard output, or memory until the table of them is printed.
 #[derive(Drop)]
 pub struct Rows<W> {
     out: W,
-    kept: Option<Vec<u8>>,
+    kept: Option<Kept>,
     is_short: bool,
 }
 
+// Rows that are kept until their table is printed, with the names of offices in it.
+#[derive(Drop)]
+struct Kept {
+    rows: Vec<u8>,
+    names: Vec<Name>,
+}
+
+// How the rows of `offices` begin, whose table shows the UUID behind each name.
+const OF_OFFICES: &[u8] = b"replica,greatest,";
+
+impl Kept {
+    // The rows with names.
+    fn named(self, alloc: Global) -> Result<Vec<u8>, AllocError> {
+        let Kept { rows, names } = self;
+        if names.is_empty() {
+            return Ok(rows);
+        }
+        with_names(alloc, rows.starts_with(OF_OFFICES), &names, &rows)
+    }
+}
+
+/// Whether rows are printed as a table. The lines of `find --ids` are not rows.
+pub fn is_table(matches: &ArgMatches<'_>) -> bool {
+    matches.get_flag("table") && !matches.get_flag("ids")
+}
+
 impl<W: Write> Rows<W> {
-    /// The rows of a command that prints to this writer. The lines of `find --ids` are not rows.
-    pub fn sink(alloc: Global, matches: &ArgMatches<'_>, out: W) -> Writing<Rows<W>> {
-        let is_table = matches.get_flag("table") && !matches.get_flag("ids");
-        let kept = if is_table {
-            Some(Vec::new(alloc))
-        } else {
-            None
-        };
-        Writing::new(Rows {
+    /// The rows of a command that prints to this writer. If its names of offices cannot be read again, the table has none.
+    pub fn sink(rt: &HostRuntime, matches: &ArgMatches<'_>, out: W) -> Writing<Rows<W>> {
+        let mut rows = Rows {
             out,
-            kept,
+            kept: None,
             is_short: false,
-        })
+        };
+        if is_table(matches) {
+            rows.keep(rt, matches);
+        }
+        Writing::new(rows)
+    }
+
+    // Keeps the rows for a table.
+    fn keep(&mut self, rt: &HostRuntime, matches: &ArgMatches<'_>) {
+        let names = match names(rt, matches) {
+            Ok(names) => names,
+            Err(problem) => {
+                self.is_short = problem.is_memory();
+                Vec::new(rt.alloc())
+            }
+        };
+        self.kept = Some(Kept {
+            rows: Vec::new(rt.alloc()),
+            names,
+        });
     }
 }
 
@@ -36,7 +77,7 @@ impl<W: Write> Write for Rows<W> {
         let Some(kept) = &mut self.kept else {
             return self.out.write(bytes);
         };
-        if kept.extend_from_slice(bytes).is_err() {
+        if kept.rows.extend_from_slice(bytes).is_err() {
             self.is_short = true;
             return Err(io::Error::from(ErrorKind::OutOfMemory));
         }
@@ -62,8 +103,11 @@ pub fn answered<W: Write + Drop, A: Drop>(
     if is_short {
         return Err(CliFault::Memory);
     }
-    let Some(rows) = kept else {
+    let Some(kept) = kept else {
         return Ok(answer);
+    };
+    let Ok(rows) = kept.named(alloc) else {
+        return Err(CliFault::Memory);
     };
     match told_as_table(alloc, &rows, answer, &mut Writing::new(out)) {
         Ok(answer) => Ok(answer),

@@ -27,6 +27,11 @@ pub fn word<'a>(matches: &ArgMatches<'a>, name: &str) -> &'a str {
     matches.get_str(name).unwrap_or("")
 }
 
+/// Whether the command explains refusals.
+pub fn explains(matches: &ArgMatches<'_>) -> bool {
+    matches.get_flag("explain") && !matches.get_flag("no-explain")
+}
+
 /// The office file of a command, if it has one. The command line comes before the environment, where an office file comes before a
 /// UUID.
 pub fn office_file<'a>(matches: &ArgMatches<'a>) -> Option<&'a str> {

@@ -7,6 +7,7 @@ pub struct Argument {
     /// The name: of a word in help, of an option after `--`.
     pub name: &'static str,
     pub help: &'static str,
+    pub role: Role,
     pub kind: Kind,
     pub need: Need,
     /// The arguments that cannot be given with this one.
@@ -14,6 +15,54 @@ pub struct Argument {
     /// The values that it accepts, or none if it accepts any.
     pub values: &'static [&'static str],
     pub default: Preset,
+}
+
+/// What the value of an argument names.
+#[derive(Clone, Copy, PartialEq, Eq)]
+pub enum Role {
+    /// Neither a file nor an entry that can be listed.
+    Plain,
+    /// The register that the command reads; with `--shelf`, a shelf.
+    Register,
+    /// The register that the command reads and replaces; with `--shelf`, a shelf.
+    OwnRegister,
+    /// Files that the command reads.
+    Input,
+    /// Files that the command reads; `-` is standard input.
+    InputOrDash,
+    /// Entries; `-` stands for the ids on standard input.
+    Entries,
+    /// The file or folder that the command writes. With `--shelf` it is a shelf if the command reads no register.
+    Output,
+    /// A shelf.
+    Shelf,
+    /// The office file.
+    Office,
+    /// A file that people read names from.
+    Names,
+    /// Whether the register is on a shelf, which the command only reads.
+    OnReadShelf,
+    /// Whether the register is on a shelf, which the command changes.
+    OnKeptShelf,
+}
+
+impl Role {
+    /// Whether the value is the path of a file or a folder.
+    pub fn is_path(self) -> bool {
+        match self {
+            Role::Register | Role::OwnRegister | Role::Input | Role::InputOrDash => true,
+            Role::Output | Role::Shelf | Role::Office | Role::Names => true,
+            Role::Plain | Role::Entries | Role::OnReadShelf | Role::OnKeptShelf => false,
+        }
+    }
+
+    /// Whether the values are files that the command reads and numbers.
+    pub fn is_read(self) -> bool {
+        match self {
+            Role::Register | Role::OwnRegister | Role::Input | Role::InputOrDash => true,
+            _ => false,
+        }
+    }
 }
 
 /// How an argument stands on the command line.
@@ -58,6 +107,7 @@ pub enum Preset {
 pub const WORD: Argument = Argument {
     name: "",
     help: "",
+    role: Role::Plain,
     kind: Kind::Word,
     need: Need::Always,
     excludes: &[],
@@ -82,6 +132,7 @@ pub const FLAG: Argument = Argument {
 pub const REGISTER: Argument = Argument {
     name: "REG",
     help: "The register file to read",
+    role: Role::Register,
     ..WORD
 };
 
@@ -101,11 +152,29 @@ pub const KEYS: Argument = Argument {
     ..FLAG
 };
 
+/// The names of offices.
+pub const NAMES: Argument = Argument {
+    name: "names",
+    help: "Names of offices, for tables and sentences (default: $CRSREG_NAMES)",
+    role: Role::Names,
+    kind: Kind::Option("FILE"),
+    default: Preset::Variable(Variable::Names),
+    ..FLAG
+};
+
 /// Whether refusals are explained.
 pub const EXPLAIN: Argument = Argument {
     name: "explain",
-    help: "Explains a refusal in words (default: $CRSREG_EXPLAIN)",
+    help: "Explains a refusal in words (default: on a terminal, or $CRSREG_EXPLAIN)",
     default: Preset::Variable(Variable::Explain),
+    ..FLAG
+};
+
+/// Whether refusals are not explained.
+pub const NO_EXPLAIN: Argument = Argument {
+    name: "no-explain",
+    help: "Does not explain a refusal, also not on a terminal",
+    excludes: &["explain"],
     ..FLAG
 };
 
@@ -131,6 +200,7 @@ pub const REPLICA: Argument = Argument {
 pub const OFFICE_FILE: Argument = Argument {
     name: "office",
     help: "The office file, in the place of --as (default: $CRSREG_OFFICE)",
+    role: Role::Office,
     kind: Kind::Option("FILE"),
     excludes: &["as"],
     default: Preset::Variable(Variable::OfficeFile),
@@ -150,12 +220,14 @@ pub const NOTE: Argument = Argument {
 pub const READ_SHELF: Argument = Argument {
     name: "shelf",
     help: "REG is a shelf",
+    role: Role::OnReadShelf,
     ..FLAG
 };
 
 /// Whether the register is on a shelf, which is changed.
 pub const ON_SHELF: Argument = Argument {
     help: "REG is a shelf, and the new register is kept on it",
+    role: Role::OnKeptShelf,
     ..READ_SHELF
 };
 
@@ -163,6 +235,7 @@ pub const ON_SHELF: Argument = Argument {
 pub const OUT: Argument = Argument {
     name: "OUT",
     help: "The register file to write",
+    role: Role::Output,
     ..WORD
 };
 
@@ -170,8 +243,9 @@ pub const OUT: Argument = Argument {
 pub const CHANGED: Argument = Argument {
     name: "out",
     help: "The register file to write; can be REG",
+    role: Role::Output,
     kind: Kind::Option("OUT"),
-    need: Need::Unless(&["shelf"]),
+    need: Need::Unless(&["shelf", "dry-run"]),
     excludes: &["shelf"],
     ..WORD
 };
@@ -192,3 +266,15 @@ pub const AUTHORITY: Argument = Argument {
     kind: Kind::Text("A"),
     ..FLAG
 };
+
+/// The options of every command that changes a register as an office.
+pub static OF_OFFICE: [Argument; 5] = [REPLICA, OFFICE_FILE, NOTE, ON_SHELF, CHANGED];
+
+/// The options of every command that prints rows.
+pub static OF_ROWS: [Argument; 1] = [TABLE];
+
+/// The options of every command.
+pub static OF_ALL: [Argument; 3] = [NAMES, EXPLAIN, NO_EXPLAIN];
+
+/// No options.
+pub static OF_NONE: [Argument; 0] = [];

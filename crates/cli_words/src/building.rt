@@ -1,5 +1,5 @@
 //! Makes clap's table of a command from its row.
-use crate::argument::{Argument, EXPLAIN, Kind, Need, Preset, TABLE};
+use crate::argument::{Argument, Kind, Need, OF_ALL, Preset};
 use crate::command::CommandRow;
 use crate::defaults::Defaults;
 use clap::{Arg, ArgAction, Command};
@@ -15,12 +15,9 @@ pub fn command<'a>(
         .about(row.about)
         .after_help(row.help);
     let command = with_arguments(alloc, command, row.arguments, defaults)?;
-    let last: &[Argument] = if row.prints_rows {
-        &[TABLE, EXPLAIN]
-    } else {
-        &[EXPLAIN]
-    };
-    with_arguments(alloc, command, last, defaults)
+    let command = with_arguments(alloc, command, row.of_office(), defaults)?;
+    let command = with_arguments(alloc, command, row.of_rows(), defaults)?;
+    with_arguments(alloc, command, &OF_ALL, defaults)
 }
 
 fn with_arguments<'a>(

@@ -1,24 +1,15 @@
 //! The commands that enter one text, or change entries.
-use crate::argument::{
-    Argument, CHANGED, FLAG, KEYS, Kind, NOTE, Need, OFFICE_FILE, ON_SHELF, REGISTER, REPLICA,
-    WORD, WORDS,
-};
+use crate::argument::{Argument, FLAG, KEYS, Kind, Need, REGISTER, Role, WORD, WORDS};
 use crate::change_help::{ENTER_HELP, RETIRE_HELP, SUPERSEDE_HELP};
-use crate::command::CommandRow;
+use crate::command::{CommandRow, Group};
 
 static ENTER: CommandRow = CommandRow {
     name: "enter",
     about: "Enters a coordinate reference system into a register",
     help: ENTER_HELP,
-    arguments: &[
-        REGISTER,
-        REPLICA,
-        OFFICE_FILE,
-        NOTE,
-        TEXT,
-        ON_SHELF,
-        CHANGED,
-    ],
+    group: Group::Daily,
+    arguments: &[REGISTER, TEXT],
+    is_office: true,
     prints_rows: false,
 };
 
@@ -30,6 +21,7 @@ pub fn enter() -> &'static CommandRow {
 const TEXT: Argument = Argument {
     name: "text",
     help: "The file with the definition",
+    role: Role::Input,
     kind: Kind::Option("FILE"),
     ..WORD
 };
@@ -38,6 +30,7 @@ static SUPERSEDE: CommandRow = CommandRow {
     name: "supersede",
     about: "Marks an entry as superseded by others",
     help: SUPERSEDE_HELP,
+    group: Group::Daily,
     arguments: &[
         REGISTER,
         Argument {
@@ -50,6 +43,7 @@ static SUPERSEDE: CommandRow = CommandRow {
         Argument {
             name: "BY",
             help: "The ids or keys of the entries that supersede it; - reads ids",
+            role: Role::Entries,
             need: Need::Unless(&["from"]),
             excludes: &["from"],
             ..WORDS
@@ -57,6 +51,7 @@ static SUPERSEDE: CommandRow = CommandRow {
         Argument {
             name: "from",
             help: "A list with a line OLD BY.. for each entry; - is standard input",
+            role: Role::InputOrDash,
             kind: Kind::Option("FILE"),
             ..FLAG
         },
@@ -66,12 +61,8 @@ static SUPERSEDE: CommandRow = CommandRow {
             help: "With --from, leaves refused lines out, and goes on",
             ..FLAG
         },
-        REPLICA,
-        OFFICE_FILE,
-        NOTE,
-        ON_SHELF,
-        CHANGED,
     ],
+    is_office: true,
     prints_rows: false,
 };
 
@@ -84,20 +75,18 @@ static RETIRE: CommandRow = CommandRow {
     name: "retire",
     about: "Retires entries of a register",
     help: RETIRE_HELP,
+    group: Group::Daily,
     arguments: &[
         REGISTER,
         Argument {
             name: "ENTRY",
             help: "The ids of the entries, as UUID:NUMBER, or with -k their keys; - reads ids",
+            role: Role::Entries,
             ..WORDS
         },
         KEYS,
-        REPLICA,
-        OFFICE_FILE,
-        NOTE,
-        ON_SHELF,
-        CHANGED,
     ],
+    is_office: true,
     prints_rows: false,
 };
 

@@ -3,6 +3,7 @@ mod bash;
 mod fish;
 mod zsh;
 
+use crate::name::CommandName;
 use clap::builder::ValueParser;
 use clap::{Arg, Command};
 use std::alloc::{AllocError, Global};
@@ -59,11 +60,11 @@ fn takes_value(argument: &Arg<'_>) -> bool {
     argument.get_action().takes_values()
 }
 
-// Whether the value of the option is the path of a file or a folder.
-fn is_path(option: &str) -> bool {
-    match option {
-        "from" | "into" | "office" | "out" | "text" | "with" => true,
-        _ => false,
+// Whether the value of the argument is the path of a file or a folder.
+fn is_path(command: &Command<'_>, argument: &Arg<'_>) -> bool {
+    match CommandName::named(command.get_name()) {
+        Some(name) => name.row().role(argument.get_id()).is_path(),
+        None => false,
     }
 }
 

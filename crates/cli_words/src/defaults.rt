@@ -9,9 +9,11 @@ pub struct Defaults<'a> {
     pub office_file: Option<&'a str>,
     /// The note of `--note`.
     pub note: Option<&'a str>,
+    /// The names of `--names`.
+    pub names: Option<&'a str>,
     /// Whether commands accept keys, as with `--keys`.
     pub keys: bool,
-    /// Whether commands explain refusals, as with `--explain`.
+    /// Whether commands explain refusals, as with `--explain`, unless `--no-explain` is given.
     pub explain: bool,
     /// Whether commands print rows as a table, as with `--table`.
     pub table: bool,
@@ -23,6 +25,7 @@ pub enum Variable {
     Office,
     OfficeFile,
     Note,
+    Names,
     Keys,
     Explain,
     Table,
@@ -35,6 +38,7 @@ impl<'a> Defaults<'a> {
             office: None,
             office_file: None,
             note: None,
+            names: None,
             keys: false,
             explain: false,
             table: false,
@@ -47,6 +51,7 @@ impl<'a> Defaults<'a> {
             Variable::Office => self.office,
             Variable::OfficeFile => self.office_file,
             Variable::Note => self.note,
+            Variable::Names => self.names,
             Variable::Keys => set(self.keys),
             Variable::Explain => set(self.explain),
             Variable::Table => set(self.table),

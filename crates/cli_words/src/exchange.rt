@@ -1,6 +1,6 @@
 //! The commands that make and exchange registers, and keep them on shelves.
-use crate::argument::{Argument, FLAG, ON_SHELF, OUT, READ_SHELF, REGISTER, WORD, WORDS};
-use crate::command::CommandRow;
+use crate::argument::{Argument, FLAG, ON_SHELF, OUT, READ_SHELF, REGISTER, Role, WORD, WORDS};
+use crate::command::{CommandRow, Group};
 use crate::exchange_help::{
     DOWNGRADE_HELP, MERGE_HELP, NEW_HELP, OFFICE_HELP, PIECE_HELP, SEEN_HELP, SHELF_HELP,
     TAKE_HELP, UNSHELF_HELP,
@@ -10,7 +10,9 @@ static NEW: CommandRow = CommandRow {
     name: "new",
     about: "Writes an empty register",
     help: NEW_HELP,
+    group: Group::Daily,
     arguments: &[OUT],
+    is_office: false,
     prints_rows: false,
 };
 
@@ -23,11 +25,14 @@ static OFFICE: CommandRow = CommandRow {
     name: "office",
     about: "Makes an office file, and prints the UUID of the new office",
     help: OFFICE_HELP,
+    group: Group::Daily,
     arguments: &[Argument {
         name: "NEW",
         help: "The office file to make; nothing may have this name",
+        role: Role::Output,
         ..WORD
     }],
+    is_office: false,
     prints_rows: false,
 };
 
@@ -40,14 +45,17 @@ static TAKE: CommandRow = CommandRow {
     name: "take",
     about: "Joins registers and pieces of other offices to a register",
     help: TAKE_HELP,
+    group: Group::Exchange,
     arguments: &[
         Argument {
             help: "The register file to read and to change",
+            role: Role::OwnRegister,
             ..REGISTER
         },
         Argument {
             name: "FILE",
             help: "The files of registers and pieces to join",
+            role: Role::Input,
             ..WORDS
         },
         Argument {
@@ -62,6 +70,7 @@ static TAKE: CommandRow = CommandRow {
         },
         ON_SHELF,
     ],
+    is_office: false,
     prints_rows: true,
 };
 
@@ -74,6 +83,7 @@ static MERGE: CommandRow = CommandRow {
     name: "merge",
     about: "Merges registers and pieces",
     help: MERGE_HELP,
+    group: Group::Exchange,
     arguments: &[
         Argument {
             help: "OUT is a shelf, whose register is merged too",
@@ -83,9 +93,11 @@ static MERGE: CommandRow = CommandRow {
         Argument {
             name: "FILE",
             help: "The files of registers and pieces to merge",
+            role: Role::Input,
             ..WORDS
         },
     ],
+    is_office: false,
     prints_rows: false,
 };
 
@@ -98,6 +110,7 @@ static SEEN: CommandRow = CommandRow {
     name: "seen",
     about: "Writes a summary of the operations that a register has seen",
     help: SEEN_HELP,
+    group: Group::Exchange,
     arguments: &[
         REGISTER,
         READ_SHELF,
@@ -106,6 +119,7 @@ static SEEN: CommandRow = CommandRow {
             ..OUT
         },
     ],
+    is_office: false,
     prints_rows: false,
 };
 
@@ -118,12 +132,14 @@ static PIECE: CommandRow = CommandRow {
     name: "piece",
     about: "Writes what another office lacks of a register",
     help: PIECE_HELP,
+    group: Group::Exchange,
     arguments: &[
         REGISTER,
         READ_SHELF,
         Argument {
             name: "SEEN",
             help: "The summary file of the other office",
+            role: Role::Input,
             ..WORD
         },
         Argument {
@@ -131,6 +147,7 @@ static PIECE: CommandRow = CommandRow {
             ..OUT
         },
     ],
+    is_office: false,
     prints_rows: false,
 };
 
@@ -143,7 +160,9 @@ static DOWNGRADE: CommandRow = CommandRow {
     name: "downgrade",
     about: "Writes the register in file version 1, for crsreg 0.3 and older",
     help: DOWNGRADE_HELP,
+    group: Group::Rare,
     arguments: &[REGISTER, READ_SHELF, OUT],
+    is_office: false,
     prints_rows: false,
 };
 
@@ -156,10 +175,12 @@ static SHELF: CommandRow = CommandRow {
     name: "shelf",
     about: "Creates a crash-safe file (a shelf) that holds an empty register",
     help: SHELF_HELP,
+    group: Group::Rare,
     arguments: &[
         Argument {
             name: "NEW",
             help: "The shelf to create; an existing file is overwritten",
+            role: Role::Shelf,
             ..WORD
         },
         Argument {
@@ -168,6 +189,7 @@ static SHELF: CommandRow = CommandRow {
             ..WORD
         },
     ],
+    is_office: false,
     prints_rows: false,
 };
 
@@ -180,14 +202,17 @@ static UNSHELF: CommandRow = CommandRow {
     name: "unshelf",
     about: "Writes the register on a shelf to a file",
     help: UNSHELF_HELP,
+    group: Group::Rare,
     arguments: &[
         Argument {
             name: "SHELF",
             help: "The shelf to read",
+            role: Role::Shelf,
             ..WORD
         },
         OUT,
     ],
+    is_office: false,
     prints_rows: false,
 };
 

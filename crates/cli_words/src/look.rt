@@ -1,14 +1,15 @@
 //! The commands that search, count and compare registers.
 use crate::argument::{
-    AUTHORITY, Argument, FLAG, Kind, Need, READ_SHELF, REGISTER, STATUS, WORD, WORDS,
+    AUTHORITY, Argument, FLAG, Kind, Need, READ_SHELF, REGISTER, Role, STATUS, WORD, WORDS,
 };
-use crate::command::CommandRow;
+use crate::command::{CommandRow, Group};
 use crate::look_help::{DIFF_HELP, FIND_HELP, OFFICES_HELP, PAGE_HELP, STATUS_OF_HELP};
 
 static FIND: CommandRow = CommandRow {
     name: "find",
     about: "Prints the entries that match every option given",
     help: FIND_HELP,
+    group: Group::Daily,
     arguments: &[
         REGISTER,
         Argument {
@@ -69,6 +70,7 @@ static FIND: CommandRow = CommandRow {
         },
         READ_SHELF,
     ],
+    is_office: false,
     prints_rows: true,
 };
 
@@ -81,10 +83,12 @@ static STATUS_OF: CommandRow = CommandRow {
     name: "status",
     about: "Prints counts for each register, with conflicts and gaps",
     help: STATUS_OF_HELP,
+    group: Group::Daily,
     arguments: &[
         Argument {
             name: "FILE",
             help: "The files of registers",
+            role: Role::Input,
             ..WORDS
         },
         Argument {
@@ -97,6 +101,7 @@ static STATUS_OF: CommandRow = CommandRow {
             ..READ_SHELF
         },
     ],
+    is_office: false,
     prints_rows: true,
 };
 
@@ -109,7 +114,9 @@ static OFFICES: CommandRow = CommandRow {
     name: "offices",
     about: "Prints how many operations of each office a register has seen",
     help: OFFICES_HELP,
+    group: Group::Exchange,
     arguments: &[REGISTER, READ_SHELF],
+    is_office: false,
     prints_rows: true,
 };
 
@@ -122,6 +129,7 @@ static PAGE: CommandRow = CommandRow {
     name: "page",
     about: "Prints a page of HTML with the entries, conflicts and gaps",
     help: PAGE_HELP,
+    group: Group::HandOver,
     arguments: &[
         REGISTER,
         Argument {
@@ -132,6 +140,7 @@ static PAGE: CommandRow = CommandRow {
         },
         READ_SHELF,
     ],
+    is_office: false,
     prints_rows: false,
 };
 
@@ -144,15 +153,18 @@ static DIFF: CommandRow = CommandRow {
     name: "diff",
     about: "Prints the entries that differ between a register and a merge of others",
     help: DIFF_HELP,
+    group: Group::Exchange,
     arguments: &[
         Argument {
             name: "OLD",
             help: "The file of a register",
+            role: Role::Register,
             ..WORD
         },
         Argument {
             name: "NEW",
             help: "The files of registers and pieces to merge",
+            role: Role::Input,
             ..WORDS
         },
         Argument {
@@ -165,6 +177,7 @@ static DIFF: CommandRow = CommandRow {
             ..READ_SHELF
         },
     ],
+    is_office: false,
     prints_rows: true,
 };
 

@@ -1,25 +1,21 @@
 //! The commands `import` and `settle`.
-use crate::argument::{
-    Argument, CHANGED, FLAG, Kind, NOTE, Need, OFFICE_FILE, ON_SHELF, Preset, REGISTER, REPLICA,
-    WORDS,
-};
-use crate::command::CommandRow;
+use crate::argument::{Argument, FLAG, Kind, Need, Preset, REGISTER, Role, WORDS};
+use crate::command::{CommandRow, Group};
 use crate::many_help::{IMPORT_HELP, SETTLE_HELP};
 
 static IMPORT: CommandRow = CommandRow {
     name: "import",
     about: "Enters all texts of files into a register",
     help: IMPORT_HELP,
+    group: Group::Daily,
     arguments: &[
         REGISTER,
         Argument {
             name: "FILE",
             help: "The files with texts; - is standard input",
+            role: Role::InputOrDash,
             ..WORDS
         },
-        REPLICA,
-        OFFICE_FILE,
-        NOTE,
         Argument {
             name: "differs",
             help: "What to do if an entry with this key has another text",
@@ -49,13 +45,8 @@ static IMPORT: CommandRow = CommandRow {
             kind: Kind::Text("AUTHORITY"),
             ..FLAG
         },
-        ON_SHELF,
-        // Nothing is written by --dry-run.
-        Argument {
-            need: Need::Unless(&["shelf", "dry-run"]),
-            ..CHANGED
-        },
     ],
+    is_office: true,
     prints_rows: true,
 };
 
@@ -66,13 +57,15 @@ pub fn import() -> &'static CommandRow {
 
 static SETTLE: CommandRow = CommandRow {
     name: "settle",
-    about: "Keeps these entries, and retires every other entry with one of their keys",
+    about: "Keeps these entries, and retires all others with their keys",
     help: SETTLE_HELP,
+    group: Group::Daily,
     arguments: &[
         REGISTER,
         Argument {
             name: "KEEP",
             help: "The ids of the entries to keep, as UUID:NUMBER; - reads ids",
+            role: Role::Entries,
             need: Need::Unless(&["equal"]),
             excludes: &["equal"],
             ..WORDS
@@ -87,12 +80,8 @@ static SETTLE: CommandRow = CommandRow {
             help: "Prints no ids",
             ..FLAG
         },
-        REPLICA,
-        OFFICE_FILE,
-        NOTE,
-        ON_SHELF,
-        CHANGED,
     ],
+    is_office: true,
     prints_rows: false,
 };
 

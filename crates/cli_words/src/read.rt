@@ -1,8 +1,9 @@
 //! The commands that show a register, or an entry of it.
 use crate::argument::{
-    AUTHORITY, Argument, ENTRY, FLAG, KEYS, Kind, Need, READ_SHELF, REGISTER, STATUS, WORD, WORDS,
+    AUTHORITY, Argument, ENTRY, FLAG, KEYS, Kind, Need, READ_SHELF, REGISTER, Role, STATUS, WORD,
+    WORDS,
 };
-use crate::command::CommandRow;
+use crate::command::{CommandRow, Group};
 use crate::read_help::{
     COMPARE_HELP, EXPORT_HELP, GRAPH_HELP, LOG_HELP, OPS_HELP, REPORT_HELP, SHOW_HELP, TEXTS_HELP,
     WKT_HELP,
@@ -12,7 +13,9 @@ static SHOW: CommandRow = CommandRow {
     name: "show",
     about: "Prints the key, the name and the status of one entry",
     help: SHOW_HELP,
+    group: Group::Daily,
     arguments: &[REGISTER, KEYS, READ_SHELF, ENTRY],
+    is_office: false,
     prints_rows: true,
 };
 
@@ -25,6 +28,7 @@ static WKT: CommandRow = CommandRow {
     name: "wkt",
     about: "Prints the text of one entry",
     help: WKT_HELP,
+    group: Group::Daily,
     arguments: &[
         REGISTER,
         KEYS,
@@ -36,6 +40,7 @@ static WKT: CommandRow = CommandRow {
             ..FLAG
         },
     ],
+    is_office: false,
     prints_rows: false,
 };
 
@@ -48,7 +53,9 @@ static TEXTS: CommandRow = CommandRow {
     name: "texts",
     about: "Prints the indented texts of all entries that are not retired, by key",
     help: TEXTS_HELP,
+    group: Group::HandOver,
     arguments: &[REGISTER, READ_SHELF],
+    is_office: false,
     prints_rows: false,
 };
 
@@ -61,6 +68,7 @@ static COMPARE: CommandRow = CommandRow {
     name: "compare",
     about: "Prints the lines that differ between the texts of entries",
     help: COMPARE_HELP,
+    group: Group::Daily,
     arguments: &[
         REGISTER,
         Argument {
@@ -80,6 +88,7 @@ static COMPARE: CommandRow = CommandRow {
         Argument {
             name: "with",
             help: "Compares each text of FILE with the entries of its key; - is standard input",
+            role: Role::InputOrDash,
             kind: Kind::Option("FILE"),
             ..FLAG
         },
@@ -91,6 +100,7 @@ static COMPARE: CommandRow = CommandRow {
         },
         READ_SHELF,
     ],
+    is_office: false,
     prints_rows: false,
 };
 
@@ -103,11 +113,13 @@ static EXPORT: CommandRow = CommandRow {
     name: "export",
     about: "Prints the texts of all entries that are not retired, or hands them on",
     help: EXPORT_HELP,
+    group: Group::HandOver,
     arguments: &[
         REGISTER,
         Argument {
             name: "into",
             help: "Writes a file for each key into DIR, a new or empty folder",
+            role: Role::Output,
             kind: Kind::Option("DIR"),
             excludes: &["geojson", "proj-sql"],
             ..FLAG
@@ -132,6 +144,7 @@ static EXPORT: CommandRow = CommandRow {
         },
         READ_SHELF,
     ],
+    is_office: false,
     prints_rows: false,
 };
 
@@ -144,6 +157,7 @@ static GRAPH: CommandRow = CommandRow {
     name: "graph",
     about: "Prints a graph of entries that supersede each other or are in conflict",
     help: GRAPH_HELP,
+    group: Group::HandOver,
     arguments: &[
         REGISTER,
         Argument {
@@ -153,6 +167,7 @@ static GRAPH: CommandRow = CommandRow {
         },
         READ_SHELF,
     ],
+    is_office: false,
     prints_rows: false,
 };
 
@@ -165,7 +180,9 @@ static OPS: CommandRow = CommandRow {
     name: "ops",
     about: "Prints the operations that a register keeps",
     help: OPS_HELP,
+    group: Group::Rare,
     arguments: &[REGISTER, READ_SHELF],
+    is_office: false,
     prints_rows: true,
 };
 
@@ -178,6 +195,7 @@ static LOG: CommandRow = CommandRow {
     name: "log",
     about: "Prints the operations on entries, entry by entry",
     help: LOG_HELP,
+    group: Group::Daily,
     arguments: &[
         REGISTER,
         Argument {
@@ -189,6 +207,7 @@ static LOG: CommandRow = CommandRow {
         KEYS,
         READ_SHELF,
     ],
+    is_office: false,
     prints_rows: true,
 };
 
@@ -201,6 +220,7 @@ static REPORT: CommandRow = CommandRow {
     name: "report",
     about: "Prints a report on a register",
     help: REPORT_HELP,
+    group: Group::Daily,
     arguments: &[
         REGISTER,
         READ_SHELF,
@@ -219,6 +239,7 @@ static REPORT: CommandRow = CommandRow {
             ..WORD
         },
     ],
+    is_office: false,
     prints_rows: true,
 };
 

@@ -1,6 +1,14 @@
 //! Help for the program and for `check`, in lines of at most 80 columns.
 
-pub const STATUS_HELP: &str = "\
+pub const ABOUT: &str = "A replicated register of coordinate reference systems in WKT 2";
+
+pub const OPTIONS_HELP: &str = "
+Options:
+  -h, --help     Print help
+  -V, --version  Print version
+";
+
+pub const STATUS_HELP: &str = "
 Exit status:
   0  done
   1  refused, or left out by --keep-going; the fault is on standard error. Or
@@ -12,8 +20,10 @@ Exit status:
 
 A file is named by its number among those that the command reads, from 1:
 `file 2: Truncated at 0`. Lines with `out:` are about the output, lines with
-`shelf:` about the shelf, which has no number. With --explain (or
-CRSREG_EXPLAIN=1) a sentence below the line says what is wrong.
+`shelf:` about the shelf, which has no number. Where standard error is a
+terminal, a sentence below the line says what is wrong; --no-explain (or
+CRSREG_EXPLAIN=0) leaves it out, --explain (or CRSREG_EXPLAIN=1) prints it
+everywhere.
 
 Example:
   crsreg check < height.wkt";

@@ -11,8 +11,8 @@ use cli_import::changes::{misnamed, office, retire, supersede};
 use cli_import::{enter, import, settle};
 use cli_look::desk::CliFault;
 use cli_look::{check, compare, diff, find, log, offices, report, status as figures, texts};
-use cli_open::{MISUSE, Outcome, complain, failed, print};
-use cli_words::command_line;
+use cli_open::{MISUSE, Outcome, complain, explains, failed, is_table, names, print};
+use cli_words::{CommandName, command_line, overview};
 use std::alloc::AllocError;
 use std::{env, io};
 
@@ -44,7 +44,10 @@ pub fn answer(rt: &HostRuntime, words: &[String]) -> u8 {
         Ok(environment) => environment,
         Err(status) => return status,
     };
-    let Ok(command) = command_line(rt.alloc(), &environment.defaults()) else {
+    let Ok(help) = overview(rt.alloc()) else {
+        return failed(rt, &CliFault::Memory);
+    };
+    let Ok(command) = command_line(rt.alloc(), &environment.defaults(), help.as_str()) else {
         return failed(rt, &CliFault::Memory);
     };
     match command.try_get_matches_from(words) {
@@ -81,75 +84,90 @@ fn is_key_to_settle(words: &[String], error: &str) -> bool {
 
 // Runs the command. The names of its files, which explain a refusal, are found first: afterwards memory may be out.
 fn perform_explained(rt: &HostRuntime, matches: &ArgMatches<'_>) -> u8 {
-    let Ok(named) = named(rt, matches) else {
+    let Some((name, inner)) = command_named(matches) else {
+        return complain(rt, &NO_COMMAND, MISUSE);
+    };
+    if is_table(inner) {
+        if let Err(problem) = names(rt, inner) {
+            return complain(rt, &problem, problem.status());
+        }
+    }
+    let Ok(named) = named(rt, name, inner) else {
         return failed(rt, &CliFault::Memory);
     };
-    match perform(rt, matches) {
+    match perform(rt, name, inner) {
         Some(ending) => status(rt, ending, named),
         None => complain(rt, &NO_COMMAND, MISUSE),
     }
 }
 
+// The command and its arguments. clap rejects unknown commands.
+fn command_named<'m, 'a>(matches: &'m ArgMatches<'a>) -> Option<(CommandName, &'m ArgMatches<'a>)> {
+    let (word, inner) = matches.subcommand()?;
+    let name = CommandName::named(word)?;
+    Some((name, inner))
+}
+
 // The files of the command, if a refusal is to be explained.
-fn named<'a>(rt: &HostRuntime, matches: &ArgMatches<'a>) -> Result<Option<Named<'a>>, AllocError> {
-    match matches.subcommand() {
-        Some((name, inner)) if inner.get_flag("explain") => {
-            let named = Named::of(rt, name, inner)?;
-            Ok(Some(named))
+fn named<'a>(
+    rt: &HostRuntime,
+    name: CommandName,
+    inner: &ArgMatches<'a>,
+) -> Result<Option<Named<'a>>, AllocError> {
+    if !explains(inner) {
+        return Ok(None);
+    }
+    let named = Named::of(rt, name, inner)?;
+    Ok(Some(named))
+}
+
+// Runs the command, if clap passed only words that it knows.
+fn perform(rt: &HostRuntime, name: CommandName, inner: &ArgMatches<'_>) -> Option<Ending> {
+    if name.row().is_office {
+        if let Some(ending) = mistaken(rt, inner) {
+            return Some(ending);
         }
-        _ => Ok(None),
     }
-}
-
-// Runs the command. clap rejects unknown commands.
-fn perform(rt: &HostRuntime, matches: &ArgMatches<'_>) -> Option<Ending> {
-    let (name, inner) = matches.subcommand()?;
     let ending = match name {
-        "check" => Ending::of_explained(check(rt, inner)),
-        "new" => Ending::of(new(rt, inner)),
-        "office" => Ending::of(office(rt, inner)),
-        "enter" | "import" | "supersede" | "retire" | "settle" => changed(rt, name, inner)?,
-        "find" => Ending::Plain(find(rt, inner)),
-        "show" => Ending::of(show(rt, inner)),
-        "wkt" => Ending::of(wkt(rt, inner)),
-        "texts" => Ending::of(texts(rt, inner)),
-        "compare" => Ending::of_import(compare(rt, inner)),
-        "export" => Ending::Plain(export(rt, inner)),
-        "graph" => Ending::of(graph(rt, inner)),
-        "ops" => Ending::of(ops(rt, inner)),
-        "log" => Ending::of(log(rt, inner)),
-        "report" => Ending::of(report(rt, inner)?),
-        "status" => Ending::of(figures(rt, inner)),
-        "offices" => Ending::of(offices(rt, inner)),
-        "page" => Ending::of(page(rt, inner)),
-        "diff" => Ending::Plain(diff(rt, inner)),
-        "take" => Ending::Plain(take(rt, inner)),
-        "merge" => Ending::of(merge(rt, inner)),
-        "seen" => Ending::of(seen(rt, inner)),
-        "piece" => Ending::of(piece(rt, inner)),
-        "downgrade" => Ending::of(downgrade(rt, inner)),
-        "shelf" => Ending::of(shelf(rt, inner)),
-        "unshelf" => Ending::of(unshelf(rt, inner)),
-        "completions" => Ending::of(completions(rt, inner)?),
-        _ => return None,
+        CommandName::Check => Ending::of_explained(check(rt, inner)),
+        CommandName::New => Ending::of(new(rt, inner)),
+        CommandName::Office => Ending::of(office(rt, inner)),
+        CommandName::Enter => Ending::of_explained(enter(rt, inner)),
+        CommandName::Import => Ending::of_import(import(rt, inner)),
+        CommandName::Supersede => Ending::of_superseded(supersede(rt, inner)),
+        CommandName::Retire => Ending::Plain(retire(rt, inner)),
+        CommandName::Settle => Ending::Plain(settle(rt, inner)),
+        CommandName::Find => Ending::Plain(find(rt, inner)),
+        CommandName::Show => Ending::of(show(rt, inner)),
+        CommandName::Wkt => Ending::of(wkt(rt, inner)),
+        CommandName::Texts => Ending::of(texts(rt, inner)),
+        CommandName::Compare => Ending::of_import(compare(rt, inner)),
+        CommandName::Export => Ending::Plain(export(rt, inner)),
+        CommandName::Graph => Ending::of(graph(rt, inner)),
+        CommandName::Ops => Ending::of(ops(rt, inner)),
+        CommandName::Log => Ending::of(log(rt, inner)),
+        CommandName::Report => Ending::of(report(rt, inner)?),
+        CommandName::Status => Ending::of(figures(rt, inner)),
+        CommandName::Offices => Ending::of(offices(rt, inner)),
+        CommandName::Page => Ending::of(page(rt, inner)),
+        CommandName::Diff => Ending::Plain(diff(rt, inner)),
+        CommandName::Take => Ending::Plain(take(rt, inner)),
+        CommandName::Merge => Ending::of(merge(rt, inner)),
+        CommandName::Seen => Ending::of(seen(rt, inner)),
+        CommandName::Piece => Ending::of(piece(rt, inner)),
+        CommandName::Downgrade => Ending::of(downgrade(rt, inner)),
+        CommandName::Shelf => Ending::of(shelf(rt, inner)),
+        CommandName::Unshelf => Ending::of(unshelf(rt, inner)),
+        CommandName::Completions => Ending::of(completions(rt, inner)?),
     };
     Some(ending)
 }
 
-// Runs a command that changes a register as an office.
-fn changed(rt: &HostRuntime, name: &str, inner: &ArgMatches<'_>) -> Option<Ending> {
+// The end of a command that changes a register as an office, if its files cannot go together.
+fn mistaken(rt: &HostRuntime, inner: &ArgMatches<'_>) -> Option<Ending> {
     match misnamed(rt, rt.alloc(), inner) {
-        Ok(None) => {}
-        Ok(Some(line)) => return Some(Ending::Plain(Outcome::Misuse(line))),
-        Err(fault) => return Some(Ending::Plain(Outcome::Fault(fault))),
+        Ok(None) => None,
+        Ok(Some(line)) => Some(Ending::Plain(Outcome::Misuse(line))),
+        Err(fault) => Some(Ending::Plain(Outcome::Fault(fault))),
     }
-    let ending = match name {
-        "enter" => Ending::of_explained(enter(rt, inner)),
-        "import" => Ending::of_import(import(rt, inner)),
-        "supersede" => Ending::of_superseded(supersede(rt, inner)),
-        "retire" => Ending::Plain(retire(rt, inner)),
-        "settle" => Ending::Plain(settle(rt, inner)),
-        _ => return None,
-    };
-    Some(ending)
 }

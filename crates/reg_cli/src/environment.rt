@@ -3,6 +3,7 @@ use cli_look::desk::CliFault;
 use cli_open::{MISUSE, complain, failed};
 use cli_words::Defaults;
 use std::env::{self, VarError};
+use std::io::IsTerminal;
 
 /// The UUID of the office.
 const OFFICE: &str = "CRSREG_AS";
@@ -13,10 +14,13 @@ const OFFICE_FILE: &str = "CRSREG_OFFICE";
 /// The note of operations.
 const NOTE: &str = "CRSREG_NOTE";
 
+/// The file with the names of offices.
+const NAMES: &str = "CRSREG_NAMES";
+
 /// `1` if commands take keys instead of ids.
 const KEYS: &str = "CRSREG_KEYS";
 
-/// `1` if commands explain refusals.
+/// `1` if commands explain refusals, `0` if they do not. Otherwise they do if standard error is a terminal.
 const EXPLAIN: &str = "CRSREG_EXPLAIN";
 
 /// `1` if commands print rows as a table.
@@ -29,12 +33,15 @@ const NO_NOTE: &str = "error: CRSREG_NOTE is not UTF-8";
 
 const NO_FILE: &str = "error: CRSREG_OFFICE is not UTF-8";
 
+const NO_NAMES: &str = "error: CRSREG_NAMES is not UTF-8";
+
 /// The variables that are set.
 #[derive(Drop)]
 pub struct Environment {
     office: Option<String>,
     office_file: Option<String>,
     note: Option<String>,
+    names: Option<String>,
     keys: bool,
     explain: bool,
     table: bool,
@@ -50,20 +57,16 @@ impl Environment {
             },
             read => set(rt, read)?,
         };
-        let note = match env::var(rt, NOTE) {
-            Err(VarError::NotUnicode) => return Err(complain(rt, &NO_NOTE, MISUSE)),
-            read => set(rt, read)?,
-        };
-        let office_file = match env::var(rt, OFFICE_FILE) {
-            Err(VarError::NotUnicode) => return Err(complain(rt, &NO_FILE, MISUSE)),
-            read => set(rt, read)?,
-        };
+        let note = text(rt, NOTE, NO_NOTE)?;
+        let office_file = text(rt, OFFICE_FILE, NO_FILE)?;
+        let names = text(rt, NAMES, NO_NAMES)?;
         Ok(Environment {
             office,
             office_file,
             note,
+            names,
             keys: is_one(rt, KEYS)?,
-            explain: is_one(rt, EXPLAIN)?,
+            explain: explains(rt)?,
             table: is_one(rt, TABLE)?,
         })
     }
@@ -74,6 +77,7 @@ impl Environment {
             office: self.office.as_deref(),
             office_file: self.office_file.as_deref(),
             note: self.note.as_deref(),
+            names: self.names.as_deref(),
             keys: self.keys,
             explain: self.explain,
             table: self.table,
@@ -81,15 +85,39 @@ impl Environment {
     }
 }
 
+// The value of a variable, which has to be UTF-8.
+fn text(rt: &HostRuntime, name: &str, mistake: &'static str) -> Result<Option<String>, u8> {
+    match env::var(rt, name) {
+        Err(VarError::NotUnicode) => Err(complain(rt, &mistake, MISUSE)),
+        read => set(rt, read),
+    }
+}
+
 // Whether a variable is `1`.
 fn is_one(rt: &HostRuntime, name: &str) -> Result<bool, u8> {
-    let value = match env::var(rt, name) {
-        Err(VarError::NotUnicode) => None,
-        read => set(rt, read)?,
-    };
-    match value {
+    match value(rt, name)? {
         Some(word) => Ok(word.as_str() == "1"),
         None => Ok(false),
+    }
+}
+
+// Whether commands explain refusals.
+fn explains(rt: &HostRuntime) -> Result<bool, u8> {
+    let Some(word) = value(rt, EXPLAIN)? else {
+        return Ok(rt.stderr().is_terminal());
+    };
+    match word.as_str() {
+        "1" => Ok(true),
+        "0" => Ok(false),
+        _ => Ok(rt.stderr().is_terminal()),
+    }
+}
+
+// The value of a variable, or none if it is not UTF-8.
+fn value(rt: &HostRuntime, name: &str) -> Result<Option<String>, u8> {
+    match env::var(rt, name) {
+        Err(VarError::NotUnicode) => Ok(None),
+        read => set(rt, read),
     }
 }
 

@@ -1,6 +1,6 @@
 //! The end of a command: its messages and its exit status.
 use cli_exchange::faults::sentences::{Command, KeyTaken, LEAVES_OUT};
-use cli_exchange::faults::{Named, Second, add, explain};
+use cli_exchange::faults::{Named, Second, add, explain, say};
 use cli_import::changes::{RefusedLine, Superseded};
 use cli_look::desk::{CliFault, Explained, ImportFault, OpId, Unimported};
 use cli_open::{MISUSE, Outcome, complain, failed};
@@ -146,5 +146,5 @@ fn explain_taken(rt: &HostRuntime, entry: OpId, file: usize, named: &Named<'_>) 
         file: named.paths().file(file),
         paths: named.paths(),
     };
-    let _ = eprint!(rt; "{sentence}");
+    say(rt, &sentence, named);
 }

@@ -7,7 +7,7 @@ use cli_words::{Defaults, Shell, command_line, completion_script};
 /// `completions`, if there is a shell with this name.
 pub fn completions(rt: &HostRuntime, matches: &ArgMatches<'_>) -> Option<Result<(), CliFault>> {
     let shell = Shell::named(word(matches, "SHELL"))?;
-    let Ok(whole) = command_line(rt.alloc(), &Defaults::none()) else {
+    let Ok(whole) = command_line(rt.alloc(), &Defaults::none(), "") else {
         return Some(Err(CliFault::Memory));
     };
     match completion_script(rt.alloc(), &whole, shell) {

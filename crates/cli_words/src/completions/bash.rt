@@ -10,7 +10,7 @@ pub fn script(alloc: Global, whole: &Command<'_>) -> Result<String, AllocError> 
     script.push_str(WORDS)?;
     for command in whole.get_subcommands() {
         for argument in command.get_arguments() {
-            value(&mut script, command.get_name(), argument)?;
+            value(&mut script, command, argument)?;
         }
         others(&mut script, command)?;
     }
@@ -18,13 +18,14 @@ pub fn script(alloc: Global, whole: &Command<'_>) -> Result<String, AllocError> 
     Ok(script)
 }
 
-fn value(script: &mut String, name: &str, argument: &Arg<'_>) -> Result<(), AllocError> {
+fn value(script: &mut String, command: &Command<'_>, argument: &Arg<'_>) -> Result<(), AllocError> {
     let Some(long) = argument.get_long() else {
         return Ok(());
     };
-    if !takes_value(argument) || is_path(long) {
+    if !takes_value(argument) || is_path(command, argument) {
         return Ok(());
     }
+    let name = command.get_name();
     add(script, &["        '", name, " --", long, "') words='"])?;
     add_words(script, values_of(argument))?;
     script.push_str("' ;;\n")

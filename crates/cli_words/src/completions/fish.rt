@@ -62,7 +62,7 @@ fn names(script: &mut String, argument: &Arg<'_>) -> Result<(), AllocError> {
 // Whether the argument has a value, and whether files are offered for it.
 fn files(command: &Command<'_>, argument: &Arg<'_>) -> &'static str {
     match argument.get_long() {
-        Some(long) if takes_value(argument) && is_path(long) => " -r",
+        Some(_) if takes_value(argument) && is_path(command, argument) => " -r",
         Some(_) if takes_value(argument) => " -x",
         None if !takes_files(command) => " -f",
         _ => "",

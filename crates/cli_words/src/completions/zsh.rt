@@ -18,7 +18,7 @@ pub fn script(alloc: Global, whole: &Command<'_>) -> Result<String, AllocError> 
             &["    ", command.get_name(), ") _arguments $help"],
         )?;
         for argument in command.get_arguments() {
-            one(&mut script, argument)?;
+            one(&mut script, command, argument)?;
         }
         script.push_str(" ;;\n")?;
     }
@@ -26,15 +26,20 @@ pub fn script(alloc: Global, whole: &Command<'_>) -> Result<String, AllocError> 
     Ok(script)
 }
 
-fn one(script: &mut String, argument: &Arg<'_>) -> Result<(), AllocError> {
+fn one(script: &mut String, command: &Command<'_>, argument: &Arg<'_>) -> Result<(), AllocError> {
     match argument.get_long() {
-        Some(long) => option(script, long, argument),
+        Some(long) => option(script, command, long, argument),
         None => word(script, argument),
     }
 }
 
 // `{-k,--keys}'[HELP]'`, or `--status'=[HELP]:status:(valid live)'`.
-fn option(script: &mut String, long: &str, argument: &Arg<'_>) -> Result<(), AllocError> {
+fn option(
+    script: &mut String,
+    command: &Command<'_>,
+    long: &str,
+    argument: &Arg<'_>,
+) -> Result<(), AllocError> {
     names(script, long, argument)?;
     if takes_value(argument) {
         script.push_str("=")?;
@@ -44,7 +49,7 @@ fn option(script: &mut String, long: &str, argument: &Arg<'_>) -> Result<(), All
     script.push_str("]")?;
     if takes_value(argument) {
         add(script, &[":", long, ":"])?;
-        offered(script, values_of(argument), is_path(long))?;
+        offered(script, values_of(argument), is_path(command, argument))?;
     }
     script.push_str("'")
 }
