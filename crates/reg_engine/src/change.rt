@@ -146,7 +146,14 @@ impl Change for Supersede<'_> {
         _read: (),
         register: Register,
     ) -> Result<Made, CliFault> {
-        match superseded(alloc, register, self.replica, self.old, self.newer, self.note) {
+        match superseded(
+            alloc,
+            register,
+            self.replica,
+            self.old,
+            self.newer,
+            self.note,
+        ) {
             Ok(made) => Ok(made),
             Err(fault) => Err(fault),
         }

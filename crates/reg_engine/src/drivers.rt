@@ -151,13 +151,24 @@ pub trait Change {
     ghost same: { Self → Self → Type 0 };
 
     /// Reads its files, and looks up its words in the loaded register.
-    fn read(&mut self, alloc: Global, next: usize, register: &Register) -> Result<Self::Read, CliFault>
+    fn read(
+        &mut self,
+        alloc: Global,
+        next: usize,
+        register: &Register,
+    ) -> Result<Self::Read, CliFault>
         ensures same { same self.old self.new }
         ensures reads { IfOk result (λ r. reads self.old self.new next register.now r) }
         ensures unmet { IfErr result (λ f. unmet self.old self.new next register.now f) };
 
     /// Makes the new register from one that a store has admitted.
-    fn make(&mut self, alloc: Global, next: usize, read: Self::Read, register: Register) -> Result<Made, CliFault>
+    fn make(
+        &mut self,
+        alloc: Global,
+        next: usize,
+        read: Self::Read,
+        register: Register,
+    ) -> Result<Made, CliFault>
         ensures same { same self.old self.new }
         ensures makes { (first : Self) (was : Content) → reads first self.old next was read
             → IfOk result (λ made. makes first self.new next was register made.register made.lines.items) }
@@ -191,7 +202,7 @@ pub fn run_change<T: Keep, C: Change, K: Sink>(
     ensures fault { IfErr result (IsUnchanged (T.around store.old store.new)
         (MakesIn (T.admission store.old) (C.makes command.old command.new (T.next store.old)))
         (StopsIn (T.admission store.old) (C.unmet command.old command.new (T.next store.old))
-            (λ x. (r : C.Read) × C.reads command.old command.new (T.next store.old) x r) (C.refuses command.old command.new (T.next store.old)))
+        (λ x. (r : C.Read) × C.reads command.old command.new (T.next store.old) x r) (C.refuses command.old command.new (T.next store.old)))
         (C.unread command.old command.new) (K.state sink.old) (K.state sink.new)) }
 {
     let next = store.next();

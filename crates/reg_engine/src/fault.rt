@@ -361,10 +361,8 @@ impl CliFault {
     {
         match self {
             CliFault::Refused(_) => 1,
-            CliFault::File { .. }
-            | CliFault::Out(_)
-            | CliFault::Shelf(_)
-            | CliFault::Office(_) => 3,
+            CliFault::File { .. } | CliFault::Out(_) | CliFault::Shelf(_) | CliFault::Office(_) =>
+                3,
             CliFault::Memory => 4,
         }
     }

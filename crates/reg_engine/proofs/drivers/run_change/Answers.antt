@@ -13,7 +13,7 @@ returns-in-Err-read-clause-fault g c =
     let f = c.in-Err-read.fault in
     let n = c.next-next.result in
     let stops = subst (λ (k : ℕ). StopsIn a (g.C.Change.unmet old new k) (λ w. (r : g.row.C-Read.Denot) × g.C.Change.reads old new k w r) (g.C.Change.refuses old new k) x f) c.next-next.ensures
-        (unmet_in (g.C.Change.unmet old new n) (λ w. (r : g.row.C-Read.Denot) × g.C.Change.reads old new n w r) (g.C.Change.refuses old new n) x f a (g.met.C.Change.stops old new n x x f) c.in-Err-read.ensures.unmet) in
+    (unmet_in (g.C.Change.unmet old new n) (λ w. (r : g.row.C-Read.Denot) × g.C.Change.reads old new n w r) (g.C.Change.refuses old new n) x f a (g.met.C.Change.stops old new n x x f) c.in-Err-read.ensures.unmet) in
     inr (inl (x, c.in-Ok.ensures.came, stops, refl))
 
 pub returns-in-Err-admit-clause-fault : goal.returns-in-Err-admit-clause-fault
@@ -26,7 +26,7 @@ returns-in-Err-admit-clause-fault g c =
     let n = c.next-next.result in
     let bars = c.in-Err-admit.ensures.bars c.args.store.now c.load.ensures.same in
     let stops = subst (λ (k : ℕ). StopsIn a (g.C.Change.unmet old new k) (λ w. (r : g.row.C-Read.Denot) × g.C.Change.reads old new k w r) (g.C.Change.refuses old new k) x f) c.next-next.ensures
-        (barred_in (g.C.Change.unmet old new n) (λ w. (r : g.row.C-Read.Denot) × g.C.Change.reads old new n w r) (g.C.Change.refuses old new n) x f a (c.in-Ok-read.read, c.in-Ok-read.ensures.reads) bars) in
+    (barred_in (g.C.Change.unmet old new n) (λ w. (r : g.row.C-Read.Denot) × g.C.Change.reads old new n w r) (g.C.Change.refuses old new n) x f a (c.in-Ok-read.read, c.in-Ok-read.ensures.reads) bars) in
     inr (inl (x, c.in-Ok.ensures.came, stops, refl))
 
 pub returns-in-Err-make-clause-fault : goal.returns-in-Err-make-clause-fault
@@ -41,7 +41,7 @@ returns-in-Err-make-clause-fault g c =
     let admits = c.in-Ok-admit.ensures.admits c.args.store.now c.load.ensures.same in
     let refuses = c.in-Err-make.ensures.refuses old x c.in-Ok-read.ensures.reads in
     let stops = subst (λ (k : ℕ). StopsIn a (g.C.Change.unmet old new k) (λ w. (r : g.row.C-Read.Denot) × g.C.Change.reads old new k w r) (g.C.Change.refuses old new k) x f) c.next-next.ensures
-        (refused_in (g.C.Change.unmet old new n) (λ w. (r : g.row.C-Read.Denot) × g.C.Change.reads old new n w r) (g.C.Change.refuses old new n) x f a z admits refuses) in
+    (refused_in (g.C.Change.unmet old new n) (λ w. (r : g.row.C-Read.Denot) × g.C.Change.reads old new n w r) (g.C.Change.refuses old new n) x f a z admits refuses) in
     inr (inl (x, c.in-Ok.ensures.came, stops, refl))
 
 pub returns-in-Ok-keep_and_tell-clause-changed : goal.returns-in-Ok-keep_and_tell-clause-changed
@@ -55,10 +55,10 @@ returns-in-Ok-keep_and_tell-clause-changed g c =
     let n = c.next-next.result in
     let admits = c.in-Ok-admit.ensures.admits c.args.store.now c.load.ensures.same in
     let makes = subst (λ (k : ℕ). MakesIn a (g.C.Change.makes old new k) x made.register made.lines.items) c.next-next.ensures
-        (works_on a (λ (w : Content). g.C.Change.makes old new n x w made.register made.lines.items) x z admits (c.in-Ok-make.ensures.makes old x c.in-Ok-read.ensures.reads)) in
+    (works_on a (λ (w : Content). g.C.Change.makes old new n x w made.register made.lines.items) x z admits (c.in-Ok-make.ensures.makes old x c.in-Ok-read.ensures.reads)) in
     let around = g.T.Store.around c.args.store.now c.keep_and_tell.new.store in
     let told = subst (λ (l : List ℕ). IsTold around x made.register l (g.K.Sink.state c.args.sink.now) (g.K.Sink.state c.keep_and_tell.new.sink)) c.deref.ensures.value
-        (c.in-Ok-keep_and_tell.ensures.told c.args.store.now x c.load.ensures.same c.in-Ok.ensures.came) in
+    (c.in-Ok-keep_and_tell.ensures.told c.args.store.now x c.load.ensures.same c.in-Ok.ensures.came) in
     (x, made.register, made.lines.items, makes, told.0, told.1)
 
 pub returns-clause-fault : goal.returns-clause-fault
@@ -73,8 +73,8 @@ returns-clause-fault g c =
     let n = c.next-next.result in
     let admits = c.in-Ok-admit.ensures.admits c.args.store.now c.load.ensures.same in
     let makes = subst (λ (k : ℕ). MakesIn a (g.C.Change.makes old new k) x made.register made.lines.items) c.next-next.ensures
-        (works_on a (λ (w : Content). g.C.Change.makes old new n x w made.register made.lines.items) x z admits (c.in-Ok-make.ensures.makes old x c.in-Ok-read.ensures.reads)) in
+    (works_on a (λ (w : Content). g.C.Change.makes old new n x w made.register made.lines.items) x z admits (c.in-Ok-make.ensures.makes old x c.in-Ok-read.ensures.reads)) in
     let around = g.T.Store.around c.args.store.now c.keep_and_tell.new.store in
     let untold = subst (λ (l : List ℕ). IsUntold around x made.register l (g.K.Sink.state c.args.sink.now) (g.K.Sink.state c.keep_and_tell.new.sink) f) c.deref.ensures.value
-        (c.in-Err-keep_and_tell.ensures.fault c.args.store.now x c.load.ensures.same c.in-Ok.ensures.came) in
+    (c.in-Err-keep_and_tell.ensures.fault c.args.store.now x c.load.ensures.same c.in-Ok.ensures.came) in
     inr (inr (x, made.register, made.lines.items, makes, untold))
