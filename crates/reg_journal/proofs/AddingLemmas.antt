@@ -1,7 +1,7 @@
 -- What an office file has after a command.
-use Rattle.std.proofs.Common.{◌≡◌, ◌⊎◌, ℕ, ◌+◌, ◌-◌, ◌<◌, ◌≤◌, ◌^◌, max, Bool, true, false, ◌&&◌, ◌||◌, List, [], ◌∷◌, Option, Some, None, Result, Ok, Err, zero, suc, refl, sym, ap, ◌∙◌, subst, inl, inr, arith, nat_lt}
+use Rattle.std.proofs.Common.{◌≡◌, ◌⊎◌, ℕ, ◌+◌, ◌-◌, ◌<◌, ◌≤◌, ◌^◌, max, Bool, true, false, ◌&&◌, List, Option, Some, None, Result, Ok, Err, refl, sym, ap, ◌∙◌, subst, inl, inr, arith, nat_lt}
 use Rattle.std.proofs.lemmas.Bool.Decides.{nat_tests}
-use Rattle.std.proofs.lemmas.Bool.{true≢false, or_cases, or_left, or_right, and_from, and_parts}
+use Rattle.std.proofs.lemmas.Bool.{or_cases, or_left, or_right, and_parts}
 use Rattle.std.specs.Cmp.{both_ways}
 use Rattle.std.specs.List.{filter}
 use Rattle.reg_op.specs.Set as set
@@ -17,11 +17,11 @@ use Rattle.reg_op.proofs.ContentLemmas.{contains_op-union, joined_content, same_
 use Rattle.reg_op.proofs.OneLemmas.{merged_is_content}
 use Rattle.reg_op.proofs.PieceLemmas.{kept_part}
 use Rattle.reg_op.proofs.DroppedLemmas.{dropped_none}
-use Rattle.reg_state.specs.Runs.{ids_from, seen_of, id_at}
+use Rattle.reg_state.specs.Runs.{ids_from}
 use Rattle.reg_state.proofs.MergeLemmas.{ById-filter, has-filter}
 use Rattle.reg_office.specs.Making.{greatest}
 use Rattle.reg_office.proofs.NumberLemmas.{count-greatest}
-use Rattle.reg_journal.specs.Journal.{Journal, numbers, IsOffice, is_own}
+use Rattle.reg_journal.specs.Journal.{Journal, numbers, IsOffice}
 use Rattle.reg_journal.specs.Adding.{is_new, new_ops, new_in, added}
 use Rattle.reg_journal.proofs.NumbersLemmas.{IsNumber, ids_are_run, run_in, in_run_of, numbers_in, in_numbers, of_own, made_number}
 

@@ -8,8 +8,7 @@ use Rattle.std.specs.Ordering.{is_eq, eq_by_cmp}
 use Rattle.std.proofs.lemmas.List.Folds.{list_any_at}
 use Rattle.reg_op.specs.Set as set
 use Rattle.reg_op.specs.Set.{contains, contains-items}
-use Rattle.reg_op.specs.Ids.{Id, id_cmp, is_before, is_same}
-use Rattle.reg_op.specs.Finite.{any}
+use Rattle.reg_op.specs.Ids.{Id, is_before, is_same}
 use Rattle.reg_op.specs.Operations.{Op, Ops, op_cmp, named_in, replaces}
 use Rattle.reg_op.specs.Lists.{has, AllAfter, ById}
 use Rattle.reg_op.specs.declared.operation.OpBody.{OpBody as Body}
@@ -18,8 +17,7 @@ use Rattle.reg_op.specs.Contents.{Content}
 use Rattle.reg_op.proofs.OpLemmas.{op_total, op_exact, is_same_exact, id_total, not_before_itself}
 use Rattle.reg_state.specs.declared.run.Run.{Run}
 use Rattle.reg_state.specs.Runs.{IsBelow, IsBeyond, replica_cmp, id_at, first_of, is_in_run, is_in_runs, AreRuns, seen_of}
-use Rattle.reg_state.specs.Walks.{IsLeastOf}
-use Rattle.reg_state.proofs.RunLemmas.{contains-seen_of, same_replica, replica_itself, not_below_same, rest_runs}
+use Rattle.reg_state.proofs.RunLemmas.{contains-seen_of, same_replica, replica_itself, not_below_same}
 use Rattle.reg_state.proofs.SearchLemmas.{within, in_run, past_of}
 use Rattle.reg_state.proofs.CanonLemmas.{far_from}
 use Rattle.reg_office.proofs.NumberLemmas.{op_cases}

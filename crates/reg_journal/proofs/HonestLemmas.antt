@@ -1,9 +1,8 @@
 -- In a world of offices nobody makes numbers in another's name.
-use Rattle.std.proofs.Common.{◌≡◌, ◌⊎◌, ℕ, ◌<◌, ◌≤◌, Bool, true, false, not, ◌&&◌, ◌||◌, List, refl, sym, ap, ◌∙◌, subst, inl, inr, arith, nat_lt}
+use Rattle.std.proofs.Common.{◌≡◌, ℕ, ◌<◌, ◌≤◌, true, false, not, ◌&&◌, sym, ap, ◌∙◌, subst, inl, inr, arith, nat_lt}
 use Rattle.std.proofs.lemmas.Bool.Decides.{nat_tests}
 use Rattle.std.proofs.lemmas.Bool.{true≢false, or_cases, or_left, or_right, and_from, and_parts, cases_Bool, false_from_ne_true}
 use Rattle.std.specs.List.{list_any}
-use Rattle.reg_op.specs.Set as set
 use Rattle.reg_op.specs.Set.{contains}
 use Rattle.reg_op.specs.Ids.{Id, is_same}
 use Rattle.reg_op.specs.Finite.{any}
@@ -14,7 +13,7 @@ use Rattle.reg_op.proofs.FiniteLemmas.{member_from_any}
 use Rattle.reg_op.proofs.ContentLemmas.{contains-ids, contains-kept, kept_is_within, ids_has}
 use Rattle.reg_op.proofs.StatusLemmas.{any-kept}
 use Rattle.reg_journal.specs.Journal.{Journal, IsOffice, is_own}
-use Rattle.reg_journal.specs.Standing.{is_known, tells_forged, is_forged, IsHonest}
+use Rattle.reg_journal.specs.Standing.{is_known, tells_forged, IsHonest}
 use Rattle.reg_journal.specs.Journals.{Copy, World}
 use Rattle.reg_journal.proofs.NumbersLemmas.{numbers_in, of_own}
 use Rattle.reg_journal.proofs.JournalLemmas.{IsCopy, Invariant}

@@ -1,13 +1,10 @@
 -- A register that nobody forged has one body for each id together with the office file.
-use Rattle.std.proofs.Common.{◌≡◌, ◌<◌, ℕ, Bool, true, false, not, ◌&&◌, ◌||◌, List, [], ◌∷◌, Option, Some, None, Result, Ok, Err, refl, sym, ap, ◌∙◌, subst, inl, inr, arith, nat_lt}
-use Rattle.std.proofs.lemmas.Bool.Decides.{nat_tests}
-use Rattle.std.proofs.lemmas.Bool.{true≢false, or_cases, or_left, or_right, and_from, and_parts, false_from_ne_true}
-use Rattle.std.specs.List.{list_any}
-use Rattle.reg_op.specs.Set as set
+use Rattle.std.proofs.Common.{◌≡◌, true, false, not, ◌&&◌, Result, Ok, Err, refl, sym, ap, ◌∙◌, subst, inl, inr, nat_lt}
+use Rattle.std.proofs.lemmas.Bool.{true≢false, or_cases, or_right, and_from, and_parts}
 use Rattle.reg_op.specs.Set.{contains, union}
 use Rattle.reg_op.specs.Ids.{Id, is_same}
 use Rattle.reg_op.specs.Finite.{any}
-use Rattle.reg_op.specs.Operations.{Op, op_cmp, OneBody, replaces}
+use Rattle.reg_op.specs.Operations.{Op, OneBody}
 use Rattle.reg_op.specs.Contents.{Content, IsContent, joined, merged}
 use Rattle.reg_op.proofs.OpLemmas.{op_total, op_exact, id_total}
 use Rattle.reg_op.proofs.FiniteLemmas.{any_from_member}
@@ -15,7 +12,7 @@ use Rattle.reg_op.proofs.ContentLemmas.{contains_op-union, joined_content}
 use Rattle.std.specs.Cmp.{tied_itself}
 use Rattle.std.specs.Ordering.{is_eq}
 use Rattle.reg_journal.specs.Journal.{Journal, IsOffice, is_own}
-use Rattle.reg_journal.specs.Standing.{is_known, tells_forged, is_forged, IsHonest}
+use Rattle.reg_journal.specs.Standing.{is_known, tells_forged, IsHonest}
 use Rattle.reg_journal.proofs.NumbersLemmas.{made_number, own_of}
 
 same_itself : (i : Id) → is_same i i ≡ true

@@ -1,5 +1,5 @@
 -- A command that did not arrive, run again.
-use Rattle.std.proofs.Common.{◌≡◌, ◌⊎◌, ℕ, ◌+◌, ◌-◌, ◌<◌, ◌≤◌, Bool, true, false, not, ◌&&◌, ◌||◌, List, [], ◌∷◌, length, drop, get_or, Option, Some, None, zero, suc, refl, sym, ap, ◌∙◌, subst, inl, inr, arith, nat_lt}
+use Rattle.std.proofs.Common.{◌≡◌, ℕ, ◌+◌, ◌<◌, ◌≤◌, Bool, true, false, ◌&&◌, List, [], ◌∷◌, length, drop, get_or, zero, suc, refl, sym, ap, ◌∙◌, subst, arith, nat_lt}
 use Rattle.std.proofs.lemmas.Bool.Decides.{nat_tests}
 use Rattle.std.proofs.lemmas.Bool.{true≢false, and_from, and_parts, false_from_ne_true}
 use Rattle.std.proofs.Math.Seq.{drop-cons}
@@ -9,9 +9,9 @@ use Rattle.std.specs.Ordering.{is_eq}
 use Rattle.reg_op.specs.Set as set
 use Rattle.reg_op.specs.Set.{contains, contains-items}
 use Rattle.reg_op.specs.Ids.{Id, Ids, is_same}
-use Rattle.reg_op.specs.Operations.{Op, op_cmp}
+use Rattle.reg_op.specs.Operations.{Op}
 use Rattle.reg_op.specs.declared.operation.OpBody.{OpBody as Body}
-use Rattle.reg_op.specs.declared.operation.OpBody.TheVariants.{Enter, Supersede, Retire}
+use Rattle.reg_op.specs.declared.operation.OpBody.TheVariants.{Enter}
 use Rattle.reg_op.specs.Contents.{Content, IsContent}
 use Rattle.reg_op.specs.Lists.{ById, has}
 use Rattle.reg_op.specs.Status.{enters, is_enter}
@@ -20,7 +20,7 @@ use Rattle.reg_op.proofs.FiniteLemmas.{any_from_member}
 use Rattle.reg_state.specs.Runs.{id_at}
 use Rattle.reg_office.specs.Making.{greatest, numbered}
 use Rattle.reg_office.proofs.NumberLemmas.{count-greatest}
-use Rattle.reg_journal.specs.Again.{is_late, is_again, LastAgain}
+use Rattle.reg_journal.specs.Again.{is_late, is_again}
 use Rattle.reg_journal.proofs.ForgedLemmas.{one_by_id, has_any}
 
 of_lt : (m n : ℕ) → m < n → nat_lt m n ≡ true

@@ -1,5 +1,5 @@
 -- The least id that passes a test.
-use Rattle.std.proofs.Common.{◌≡◌, ℕ, Bool, true, false, ◌||◌, Option, Some, None, refl, sym, ap, ◌∙◌, subst, inl, inr}
+use Rattle.std.proofs.Common.{◌≡◌, Bool, true, false, ◌||◌, Option, Some, None, refl, sym, ap, ◌∙◌, subst, inl, inr}
 use Rattle.std.proofs.lemmas.Bool.{true≢false, or_cases, or_left, or_right, false_from_ne_true}
 use Rattle.std.specs.Ordering.{is_lt, is_gt, ordering_reverse}
 use Rattle.std.specs.Cmp.{upto}
@@ -7,7 +7,6 @@ use Rattle.std.specs.declared.cmp.Ordering.{Ordering}
 use Rattle.std.specs.declared.cmp.Ordering.TheVariants.{Less, Equal, Greater}
 use Rattle.reg_op.specs.Ids.{Id, id_cmp, is_before}
 use Rattle.reg_op.proofs.OpLemmas.{id_total, not_before_itself}
-use Rattle.reg_state.specs.Walks.{IsLeastOf}
 use Rattle.reg_journal.specs.Standing.{Leasts}
 
 lt_turned : (r : Ordering) → is_lt (ordering_reverse r) ≡ is_gt r

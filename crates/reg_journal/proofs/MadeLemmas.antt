@@ -1,13 +1,13 @@
 -- The operations that a command makes on a register joined with the office file, and what is new in the register that it leaves.
-use Rattle.std.proofs.Common.{◌≡◌, ◌⊎◌, ℕ, ◌+◌, ◌-◌, ◌<◌, ◌≤◌, max, Bool, true, false, not, cond, ◌&&◌, ◌||◌, List, [], ◌∷◌, map, length, Option, Some, None, Result, Ok, Err, refl, sym, ap, ◌∙◌, subst, inl, inr, arith, nat_lt}
+use Rattle.std.proofs.Common.{◌≡◌, ◌⊎◌, ℕ, ◌+◌, ◌-◌, ◌<◌, ◌≤◌, max, Bool, true, false, not, cond, ◌&&◌, ◌||◌, List, [], ◌∷◌, map, length, Option, Some, None, Result, Ok, refl, sym, ap, ◌∙◌, subst, inl, inr, arith, nat_lt}
 use Rattle.std.proofs.lemmas.Bool.Decides.{nat_tests}
-use Rattle.std.proofs.lemmas.Bool.{true≢false, or_cases, or_left, or_right, and_from, and_parts, false_from_ne_true}
+use Rattle.std.proofs.lemmas.Bool.{true≢false, or_cases, or_left, or_right, and_from, and_parts}
 use Rattle.std.specs.Cmp.{both_ways, tied_itself}
 use Rattle.std.specs.Ordering.{is_eq, eq_by_cmp}
 use Rattle.std.specs.List.{list_any}
 use Rattle.reg_op.specs.Set as set
 use Rattle.reg_op.specs.Set.{contains, union, contains-union, contains-from_list, contains-retain, same_set}
-use Rattle.reg_op.specs.Ids.{Id, Ids, id_cmp, is_same, is_before}
+use Rattle.reg_op.specs.Ids.{Id, id_cmp, is_same, is_before}
 use Rattle.reg_op.specs.Finite.{any}
 use Rattle.reg_op.specs.Operations.{Op, Ops, op_cmp, one, ids, kept, named_in, replaces, replaces_body}
 use Rattle.reg_op.specs.declared.operation.OpBody.{OpBody as Body}
@@ -15,20 +15,20 @@ use Rattle.reg_op.specs.declared.operation.OpBody.TheVariants.{Enter, Supersede,
 use Rattle.reg_op.specs.Status.{enters, is_enter, retires, is_replaced_by, is_retirement, is_supersession}
 use Rattle.reg_op.specs.Contents.{Content, IsContent, state, joined, merged}
 use Rattle.reg_op.specs.Lists.{has, ById}
-use Rattle.reg_op.proofs.OpLemmas.{op_total, op_exact, id_total, id_exact, is_same_exact, replaces_chain}
+use Rattle.reg_op.proofs.OpLemmas.{op_total, op_exact, id_total, is_same_exact, replaces_chain}
 use Rattle.reg_op.proofs.FiniteLemmas.{any_from_member, member_from_any}
-use Rattle.reg_op.proofs.ContentLemmas.{contains_op-union, contains-kept, kept_is_within, ids_has, same_content, joined_content}
+use Rattle.reg_op.proofs.ContentLemmas.{contains_op-union, kept_is_within, same_content}
 use Rattle.reg_op.proofs.OneLemmas.{kept_free, kept_has, one_is, merged_is_content}
 use Rattle.reg_op.proofs.StatusLemmas.{any-kept}
 use Rattle.reg_op.proofs.ClashLemmas.{items_are}
-use Rattle.reg_state.specs.Runs.{ids_from, id_at, IsGreatest}
+use Rattle.reg_state.specs.Runs.{ids_from, id_at}
 use Rattle.reg_office.specs.declared.fault.OfficeFault.{OfficeFault}
 use Rattle.reg_office.specs.Making.{greatest, numbered, made, objection, objections, else_next, with_op, made_unless, note_fault, is_spent}
 use Rattle.reg_office.proofs.NumberLemmas.{op_cases, numbered_on, numbered_ids, numbered_by_id, greatest_is, count-greatest}
 use Rattle.reg_office.proofs.EffectLemmas.{nothing_against}
 use Rattle.reg_office.proofs.LawLemmas.{made_are, they_join}
-use Rattle.reg_journal.specs.Journal.{Journal, IsOffice, numbers, is_own}
-use Rattle.reg_journal.specs.Standing.{is_forged, IsHonest}
+use Rattle.reg_journal.specs.Journal.{Journal, IsOffice, is_own}
+use Rattle.reg_journal.specs.Standing.{IsHonest}
 use Rattle.reg_journal.specs.Adding.{is_new, new_in, added}
 use Rattle.reg_journal.proofs.NumbersLemmas.{IsNumber, numbers_in, in_numbers, own_of, of_own}
 use Rattle.reg_journal.proofs.JoiningLemmas.{honest_agrees, honest_joins}

@@ -1,7 +1,7 @@
 -- A text is one office file, and an office file has one text.
-use Rattle.std.proofs.Common.{◌≡◌, ℕ, ◌<◌, ◌≤◌, ◌^◌, true, false, List, ◌++◌, length, refl, sym, ap, ◌∙◌, ◌+◌, subst, inl, arith, length-append}
+use Rattle.std.proofs.Common.{◌≡◌, ℕ, ◌<◌, ◌≤◌, true, false, List, ◌++◌, length, refl, sym, ap, ◌∙◌, ◌+◌, subst, arith, length-append}
 use Rattle.reg_op.specs.Contents.{Content}
-use Rattle.reg_file.specs.Files.{Holds, HoldsFirst, IsFileOf, IsTooLarge, most}
+use Rattle.reg_file.specs.Files.{Holds, HoldsFirst, IsTooLarge, most}
 use Rattle.reg_file.specs.Reading.{says_first}
 use Rattle.reg_file.proofs.HoldLemmas.{one_content, one_file}
 use Rattle.reg_journal.specs.declared.head.Head.{Head}

@@ -1,5 +1,5 @@
 -- What an office file has after a command.
-use Rattle.std.specs.Prelude.{ℕ, ◌+◌, ◌-◌, max, nat_lt, ◌&&◌, Bool, List}
+use Rattle.std.specs.Prelude.{◌+◌, ◌-◌, max, nat_lt, ◌&&◌, Bool, List}
 use Rattle.std.specs.List.{filter}
 use Rattle.reg_op.specs.Set as set
 use Rattle.reg_op.specs.Ids.{Id}

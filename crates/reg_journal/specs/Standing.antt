@@ -1,5 +1,5 @@
 -- What an office file says of a register, before it joins it.
-use Rattle.std.specs.Prelude.{◌≡◌, ℕ, nat_lt, max, Bool, false, not, ◌&&◌, ◌||◌, List, [], ◌∷◌, Option, Some, None, Ok, if◌then◌else◌}
+use Rattle.std.specs.Prelude.{◌≡◌, ℕ, nat_lt, Bool, false, not, ◌&&◌, ◌||◌, List, Option, Some, None, Ok, if◌then◌else◌}
 use Rattle.std.specs.List.{list_any}
 use Rattle.reg_op.specs.Set as set
 use Rattle.reg_op.specs.Ids.{Id, is_same}

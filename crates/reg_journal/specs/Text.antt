@@ -1,5 +1,5 @@
 -- The text of an office file: two lines, and the file of a register.
-use Rattle.std.specs.Prelude.{◌≡◌, ◌⊎◌, ℕ, ◌+◌, ◌<◌, ◌≤◌, ◌^◌, List, [], ◌∷◌, ◌++◌, All, length, decimal}
+use Rattle.std.specs.Prelude.{◌≡◌, ℕ, ◌+◌, ◌<◌, ◌≤◌, ◌^◌, List, [], ◌∷◌, ◌++◌, All, length, decimal}
 use Rattle.uuid.specs.Text.{hyphenated_text, lower}
 use Rattle.byte_io.specs.Device.{SourceState}
 use Rattle.byte_io.specs.Whole.{FailsAfter, GivesAtMost}

@@ -1,4 +1,4 @@
-use Rattle.std.proofs.Common.{◌∙◌, ◌≡◌, Some, sym, subst, refl, arith}
+use Rattle.std.proofs.Common.{◌∙◌, Some, sym, subst, arith}
 use Rattle.std.proofs.lemmas.Bool.{and_parts}
 use Rattle.reg_state.specs.Runs.{AreRuns, id_at}
 use Rattle.reg_state.proofs.RunLemmas.{rest_runs}

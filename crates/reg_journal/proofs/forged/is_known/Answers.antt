@@ -1,8 +1,7 @@
 use Rattle.std.proofs.Common.{◌≡◌, ◌∙◌, true, ap, sym, subst}
 use Rattle.std.specs.List.{list_any}
-use Rattle.reg_op.specs.Set as set
 use Rattle.reg_op.specs.Ids.{is_same}
-use Rattle.reg_op.specs.Operations.{Op, replaces}
+use Rattle.reg_op.specs.Operations.{replaces}
 use Rattle.reg_op.specs.Lists.{ById, has}
 use Rattle.reg_journal.proofs.ForgedLemmas.{known_by, known_beside}
 use Rattle.reg_journal.proofs.forged.is_known.Goals as goal

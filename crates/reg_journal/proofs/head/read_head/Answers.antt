@@ -1,4 +1,4 @@
-use Rattle.std.proofs.Common.{◌≡◌, ◌∙◌, ◌∷◌, ◌++◌, sym, arith}
+use Rattle.std.proofs.Common.{◌≡◌, ◌∙◌, ◌++◌, sym, arith}
 use Rattle.std.proofs.lemmas.Bool.Decides.{nat_tests}
 use Rattle.reg_journal.specs.Text.{line_text}
 use Rattle.reg_journal.proofs.LineLemmas.{head_long, head_front, head_back, no_line, one_head, one_rest, lines_of, same_line}

@@ -1,4 +1,4 @@
-use Rattle.std.proofs.Common.{◌≡◌, ◌∙◌, ap, sym, subst}
+use Rattle.std.proofs.Common.{◌∙◌, sym, subst}
 use Rattle.reg_op.specs.Lists.{ById}
 use Rattle.reg_journal.proofs.LateLemmas.{has_same, has_none}
 use Rattle.reg_journal.proofs.late.has_op.Goals as goal

@@ -2,7 +2,7 @@ use Rattle.std.proofs.Common.{◌≡◌, ◌∙◌, ap, subst, refl, true, slice
 use Rattle.reg_op.specs.Set as set
 use Rattle.reg_op.specs.Contents.{state}
 use Rattle.reg_op.proofs.ContentLemmas.{union_left, union_right}
-use Rattle.reg_journal.specs.Journals.{Copy, World, start, happens, Makes, Takes, makes_on, makes_at, takes_at, base, both, after}
+use Rattle.reg_journal.specs.Journals.{World, start, makes_on, makes_at, takes_at, base, both, after}
 use Rattle.reg_journal.proofs.JournalLemmas.{always, copy_at, copies_join, same_ok, base_is, new_id, makes_is, new_copy, noted_is, all_is_there, old_is_there, takes_is, after_grows}
 use Rattle.reg_journal.proofs.HonestLemmas.{nobody_forges}
 use Rattle.reg_journal.proofs.laws.office_files_keep.Goals as goal

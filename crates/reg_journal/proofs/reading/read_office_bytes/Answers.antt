@@ -1,8 +1,8 @@
-use Rattle.std.proofs.Common.{◌≡◌, ◌∙◌, ◌<◌, ℕ, Ok, Err, sym, ap, subst, inl, inr, rules, arith}
+use Rattle.std.proofs.Common.{◌≡◌, ◌∙◌, ◌<◌, Ok, Err, sym, ap, subst, inl, inr, rules, arith}
 use Rattle.reg_op.specs.Contents.{Content}
 use Rattle.reg_file.specs.Files.{Holds}
 use Rattle.reg_journal.specs.declared.head.Head.{Head}
-use Rattle.reg_journal.specs.Journal.{Journal, numbers}
+use Rattle.reg_journal.specs.Journal.{numbers}
 use Rattle.reg_journal.specs.Text.{HoldsOffice, IsUnread, head_of}
 use Rattle.reg_journal.proofs.TextLemmas.{head_is, file_holds, one_office, same_lines, same_made}
 use Rattle.reg_journal.proofs.reading.read_office_bytes.Goals as goal

@@ -1,4 +1,4 @@
-use Rattle.std.proofs.Common.{◌||◌, ◌&&◌, Bool, false, refl}
+use Rattle.std.proofs.Common.{◌||◌, ◌&&◌, false, refl}
 use Rattle.reg_op.specs.Ids.{Id}
 use Rattle.reg_journal.specs.Journal.{is_own}
 use Rattle.reg_journal.specs.Standing.{tells_forged}

@@ -1,4 +1,4 @@
-use Rattle.std.proofs.Common.{◌∙◌, sym, subst}
+use Rattle.std.proofs.Common.{◌∙◌, subst}
 use Rattle.reg_op.specs.Ids.{Id}
 use Rattle.reg_journal.specs.Standing.{Leasts}
 use Rattle.reg_journal.proofs.ForgedLemmas.{forged_whole, is_above, is_told}

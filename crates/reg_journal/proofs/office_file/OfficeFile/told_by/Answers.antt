@@ -1,5 +1,3 @@
-use Rattle.std.proofs.Common.{◌∙◌, sym, subst}
-use Rattle.reg_journal.specs.Standing.{Leasts}
 use Rattle.reg_journal.proofs.ForgedLemmas.{told_two, names_any, misuses}
 use Rattle.reg_journal.proofs.office_file.OfficeFile.told_by.Goals as goal
 
