@@ -9,3 +9,4 @@ pub mod ReturnLemmas
 pub mod ShownLemmas
 pub mod WalkLemmas
 pub mod WantedLemmas
+pub mod NamedLemmas

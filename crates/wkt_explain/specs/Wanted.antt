@@ -6,6 +6,7 @@ use Rattle.wkt_grammar.specs.declared.table.Slot.{Slot}
 use Rattle.wkt_grammar.specs.declared.table.Takes.{Takes}
 use Rattle.wkt_grammar.specs.declared.table.Takes.TheVariants as kinds
 use Rattle.wkt_grammar.specs.declared.table.Keyword.{Keyword}
+use Rattle.wkt_grammar.specs.declared.table.Keyword.TheVariants as keywords
 use Rattle.wkt_grammar.specs.declared.table.Node.{Node}
 use Rattle.wkt_grammar.specs.declared.table.Node.TheVariants.{Root}
 use Rattle.wkt_grammar.specs.Words.{keyword_of, spelling}
@@ -40,7 +41,31 @@ slots_of (Some n) = row_of Second n
 abbrev pub slots_in : List (List ℕ) → List Slot
 slots_in path = slots_of (innermost (Some Root) path)
 
--- what a slot takes
+-- the keywords of the nodes that a slot takes, in the order of its sentence
+abbrev pub admitted : Takes → List Keyword
+admitted kinds.Text = []
+admitted kinds.Number = []
+admitted kinds.NumberOrText = []
+admitted kinds.Count = []
+admitted kinds.CsKind = []
+admitted kinds.Direction = []
+admitted kinds.SingleCrs = keywords.GeographicCrs ∷ keywords.GeodeticCrs ∷ keywords.ProjectedCrs ∷ keywords.VerticalCrs ∷ []
+admitted kinds.AnyCrs = keywords.GeographicCrs ∷ keywords.GeodeticCrs ∷ keywords.ProjectedCrs ∷ keywords.VerticalCrs ∷ keywords.CompoundCrs ∷ []
+admitted kinds.GeodeticDatum = keywords.Datum ∷ keywords.Ensemble ∷ []
+admitted kinds.VerticalDatum = keywords.VerticalDatum ∷ keywords.Ensemble ∷ []
+admitted kinds.BaseCrs = keywords.BaseGeographicCrs ∷ keywords.BaseGeodeticCrs ∷ []
+admitted kinds.LengthUnit = keywords.LengthUnit ∷ keywords.Unit ∷ []
+admitted kinds.AngleUnit = keywords.AngleUnit ∷ keywords.Unit ∷ []
+admitted kinds.AnyUnit = keywords.LengthUnit ∷ keywords.AngleUnit ∷ keywords.ScaleUnit ∷ keywords.Unit ∷ []
+admitted (kinds.Node k n) = k ∷ []
+
+-- the spellings of keywords, with "or" between them
+abbrev pub alternatives : List Keyword → List ℕ
+alternatives [] = []
+alternatives (k ∷ []) = spelling k
+alternatives (k ∷ l ∷ ks) = spelling k ++ codes " or " ++ alternatives (l ∷ ks)
+
+-- what a slot takes: something that is no node, or nodes with these keywords
 abbrev pub taken : Takes → List ℕ
 taken kinds.Text = codes "a text"
 taken kinds.Number = codes "a number"
@@ -48,15 +73,15 @@ taken kinds.NumberOrText = codes "a number or a text"
 taken kinds.Count = codes "a whole number"
 taken kinds.CsKind = codes "a kind of coordinate system"
 taken kinds.Direction = codes "a direction"
-taken kinds.SingleCrs = codes "GEOGCRS or GEODCRS or PROJCRS or VERTCRS"
-taken kinds.AnyCrs = codes "GEOGCRS or GEODCRS or PROJCRS or VERTCRS or COMPOUNDCRS"
-taken kinds.GeodeticDatum = codes "DATUM or ENSEMBLE"
-taken kinds.VerticalDatum = codes "VDATUM or ENSEMBLE"
-taken kinds.BaseCrs = codes "BASEGEOGCRS or BASEGEODCRS"
-taken kinds.LengthUnit = codes "LENGTHUNIT or UNIT"
-taken kinds.AngleUnit = codes "ANGLEUNIT or UNIT"
-taken kinds.AnyUnit = codes "LENGTHUNIT or ANGLEUNIT or SCALEUNIT or UNIT"
-taken (kinds.Node k n) = spelling k
+taken kinds.SingleCrs = alternatives (admitted kinds.SingleCrs)
+taken kinds.AnyCrs = alternatives (admitted kinds.AnyCrs)
+taken kinds.GeodeticDatum = alternatives (admitted kinds.GeodeticDatum)
+taken kinds.VerticalDatum = alternatives (admitted kinds.VerticalDatum)
+taken kinds.BaseCrs = alternatives (admitted kinds.BaseCrs)
+taken kinds.LengthUnit = alternatives (admitted kinds.LengthUnit)
+taken kinds.AngleUnit = alternatives (admitted kinds.AngleUnit)
+taken kinds.AnyUnit = alternatives (admitted kinds.AnyUnit)
+taken (kinds.Node k n) = alternatives (admitted (kinds.Node k n))
 
 abbrev pub slot_words : Slot → List ℕ
 slot_words s = codes ", " ++ taken s.takes

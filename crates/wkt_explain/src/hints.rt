@@ -1,11 +1,11 @@
 //! Hints for common mistakes.
 
-ghost use Rattle.std.specs.Prelude.{◌≡◌};
-ghost use Rattle.std.specs.List.{prefix_len};
-ghost use Rattle.wkt_tree.specs.Bytes.{is_blank, is_word_byte};
-ghost use Rattle.wkt_explain.specs.Hints.{after_hint, begins_heading, begins_letter, begins_option, behind_blanks, behind_word, encoding_hint, front_hint, front_word, hint_of, hint_text, is_base, is_code, is_colon_word, is_extent, is_last_word, is_own_file, is_proj_string, is_wkt1, more_hint, start_hint, text_hint, word_at, word_hint};
+ghost use Rattle.std.specs.Prelude.{◌≡◌, drop};
+ghost use Rattle.wkt_explain.specs.Hints.{after_hint, byte_hint, encoding_hint, hint_of, hint_text, kind_hint, more_hint, number_hint, order_hint, part_hint, place_hint, text_hint, word_at, word_hint};
 
-use crate::path::{is_blank, is_word_byte};
+use crate::fronts::{behind_blanks, front_hint, front_word, is_own_file};
+use crate::marks::{is_comma_number, mark_hint};
+use crate::words::{is_base, is_derived, is_extent, is_operation, is_other_system, is_wkt1};
 use crs_part::same_word;
 use wkt_crs::{DefinitionFault, SlotFault, TextFault, Unspelled};
 use wkt_grammar::Keyword;
@@ -23,7 +23,18 @@ pub enum Hint {
     ProjString,
     Heading,
     Code,
+    Urn,
+    Row,
+    Quotation,
+    WideBlank,
+    Mail,
+    Comma,
     Wkt1,
+    OtherSystem,
+    Operation,
+    Derived,
+    TimeExtent,
+    Triaxial,
     OutsideUsage,
     UnitFirst,
     Dynamic,
@@ -44,15 +55,32 @@ impl Hint {
                 "this is a file of crsreg, such as a register: crsreg texts prints the texts of one",
             Hint::Latin => "this may be Latin-1 or Windows-1252: save the text as UTF-8",
             Hint::ProjJson =>
-                "this is JSON, perhaps PROJJSON: its WKT is wanted, as of projinfo -o WKT2:2019",
-            Hint::Gml => "this is XML, perhaps GML: its WKT is wanted",
+                "this is JSON, perhaps PROJJSON: projinfo @FILE -o WKT2:2019 -q prints its WKT",
+            Hint::Gml =>
+                "this is XML, perhaps GML: projinfo CODE -o WKT2:2019 -q prints the WKT of its identifier",
             Hint::ProjString =>
                 "this is a string of PROJ: its WKT is wanted, as of projinfo -o WKT2:2019",
             Hint::Heading =>
                 "the text begins with a heading of projinfo: call it with -o WKT2:2019 -q",
             Hint::Code =>
                 "this is a code, not a text: projinfo CODE -o WKT2:2019 -q prints its WKT",
+            Hint::Urn =>
+                "this is a name of OGC, not a text: projinfo NAME -o WKT2:2019 -q prints its WKT",
+            Hint::Row =>
+                "this may be a row of a table: only the text is wanted, without the quotation marks around it and with \" for each \"\"",
+            Hint::Quotation => "this is a typographic quotation mark: write \" in its place",
+            Hint::WideBlank =>
+                "this is a no-break space, or another character that looks like a blank: write a blank in its place",
+            Hint::Mail => "the line begins with > as in a mail: leave that out",
+            Hint::Comma => "this may be a decimal comma: write a point in its place, as in 298.257",
             Hint::Wkt1 => "this is WKT 1: WKT 2 is wanted, as of projinfo -o WKT2:2019",
+            Hint::OtherSystem =>
+                "this may be good WKT 2, but engineering, bound, temporal and parametric systems are not kept here",
+            Hint::Operation =>
+                "this may be good WKT 2, but operations and coordinate metadata are not kept here",
+            Hint::Derived => "this may be good WKT 2, but derived systems are not kept here",
+            Hint::TimeExtent => "a TIMEEXTENT is not kept here: leave it out",
+            Hint::Triaxial => "an ellipsoid of three axes is not kept here: ELLIPSOID has two",
             Hint::OutsideUsage =>
                 "here WKT of 2015 has it: WKT of 2019 puts SCOPE, AREA, BBOX and VERTICALEXTENT into a USAGE",
             Hint::UnitFirst =>
@@ -65,74 +93,12 @@ impl Hint {
     }
 }
 
-fn blank_len(bytes: &[u8]) -> usize
-    ensures { result ≡ prefix_len is_blank bytes.now }
-{
-    bytes.iter().take_while(|b| is_blank(**b)).count()
-}
-
-fn word_len(bytes: &[u8]) -> usize
-    ensures { result ≡ prefix_len is_word_byte bytes.now }
-{
-    bytes.iter().take_while(|b| is_word_byte(**b)).count()
-}
-
-fn behind_blanks(text: &[u8]) -> &[u8]
-    ensures { result.now ≡ behind_blanks text.now }
-{
-    let (_, rest) = text.split_at(blank_len(text));
-    rest
-}
-
-fn front_word(bytes: &[u8]) -> &[u8]
-    ensures { result.now ≡ front_word bytes.now }
-{
-    let (word, _) = bytes.split_at(word_len(bytes));
-    word
-}
-
-fn behind_word(bytes: &[u8]) -> &[u8]
-    ensures { result.now ≡ behind_word bytes.now }
-{
-    let (_, rest) = bytes.split_at(word_len(bytes));
-    rest
-}
-
 // The word at the place.
 fn word_at(text: &[u8], place: usize) -> &[u8]
     ensures { result.now ≡ word_at text.now place }
 {
     let (_, rest) = text.split_at(place.min(text.len()));
     front_word(rest)
-}
-
-fn is_wkt1(word: &[u8]) -> bool
-    ensures { result ≡ is_wkt1 word.now }
-{
-    same_word(b"PROJCS", word)
-        || same_word(b"GEOGCS", word)
-        || same_word(b"GEOCCS", word)
-        || same_word(b"VERT_CS", word)
-        || same_word(b"VERTCS", word)
-        || same_word(b"COMPD_CS", word)
-        || same_word(b"LOCAL_CS", word)
-        || same_word(b"FITTED_CS", word)
-}
-
-fn is_extent(word: &[u8]) -> bool
-    ensures { result ≡ is_extent word.now }
-{
-    same_word(Keyword::Scope.spelling(), word)
-        || same_word(Keyword::Area.spelling(), word)
-        || same_word(Keyword::BoundingBox.spelling(), word)
-        || same_word(Keyword::VerticalExtent.spelling(), word)
-}
-
-fn is_base(word: &[u8]) -> bool
-    ensures { result ≡ is_base word.now }
-{
-    same_word(Keyword::BaseGeographicCrs.spelling(), word)
-        || same_word(Keyword::BaseGeodeticCrs.spelling(), word)
 }
 
 // The hint for a word that this node does not take.
@@ -145,115 +111,60 @@ fn word_hint(word: &[u8], node: &[u8]) -> Option<Hint>
     if same_word(b"DYNAMIC", word) {
         return Some(Hint::Dynamic);
     }
+    part_hint(word, node)
+}
+
+// The hint for a part that is not kept, or that stands elsewhere.
+fn part_hint(word: &[u8], node: &[u8]) -> Option<Hint>
+    ensures { result ≡ part_hint word.now node.now }
+{
+    if same_word(b"TIMEEXTENT", word) {
+        return Some(Hint::TimeExtent);
+    }
+    if same_word(b"TRIAXIAL", word) {
+        return Some(Hint::Triaxial);
+    }
+    order_hint(word, node)
+}
+
+// The hint for a part that stands elsewhere.
+fn order_hint(word: &[u8], node: &[u8]) -> Option<Hint>
+    ensures { result ≡ order_hint word.now node.now }
+{
     if is_extent(word) && !same_word(Keyword::Usage.spelling(), node) {
         return Some(Hint::OutsideUsage);
     }
     if same_word(Keyword::PrimeMeridian.spelling(), word) && is_base(node) {
         return Some(Hint::UnitFirst);
     }
-    None
+    kind_hint(word, node)
 }
 
-fn begins_letter(bytes: &[u8]) -> bool
-    ensures { result ≡ begins_letter bytes.now }
+// The hint for a word of WKT 2 that is not read at all, or not in this node.
+fn kind_hint(word: &[u8], node: &[u8]) -> Option<Hint>
+    ensures { result ≡ kind_hint word.now node.now }
 {
-    let Some((first, _)) = bytes.split_first() else {
-        return false;
-    };
-    first.is_ascii_alphabetic()
-}
-
-fn begins_option(bytes: &[u8]) -> bool
-    ensures { result ≡ begins_option bytes.now }
-{
-    let Some((first, rest)) = bytes.split_first() else {
-        return false;
-    };
-    *first == b'+' && begins_letter(rest)
-}
-
-fn is_proj_string(bytes: &[u8]) -> bool
-    ensures { result ≡ is_proj_string bytes.now }
-{
-    begins_option(bytes) || bytes.starts_with(b"proj=") || bytes.starts_with(b"init=")
-}
-
-// Projinfo prints such a line before each text.
-fn begins_heading(bytes: &[u8]) -> bool
-    ensures { result ≡ begins_heading bytes.now }
-{
-    bytes.starts_with(b"WKT2:")
-        || bytes.starts_with(b"WKT1:")
-        || bytes.starts_with(b"PROJ string:")
-        || bytes.starts_with(b"PROJ.4 string:")
-        || bytes.starts_with(b"PROJJSON:")
-}
-
-fn is_last_word(bytes: &[u8]) -> bool
-    ensures { result ≡ is_last_word bytes.now }
-{
-    !front_word(bytes).is_empty() && behind_blanks(behind_word(bytes)).is_empty()
-}
-
-fn is_colon_word(bytes: &[u8]) -> bool
-    ensures { result ≡ is_colon_word bytes.now }
-{
-    let Some((first, rest)) = bytes.split_first() else {
-        return false;
-    };
-    *first == b':' && is_last_word(rest)
-}
-
-// A code such as `EPSG:4326`.
-fn is_code(bytes: &[u8]) -> bool
-    ensures { result ≡ is_code bytes.now }
-{
-    !front_word(bytes).is_empty() && is_colon_word(behind_word(bytes))
-}
-
-// The hint for the first bytes of a text that are not blank.
-fn start_hint(bytes: &[u8]) -> Option<Hint>
-    ensures { result ≡ start_hint bytes.now }
-{
-    if bytes.is_empty() {
-        return Some(Hint::Empty);
+    if is_other_system(word) {
+        return Some(Hint::OtherSystem);
     }
-    if bytes.starts_with(b"{") {
-        return Some(Hint::ProjJson);
+    if is_operation(word) {
+        return Some(Hint::Operation);
     }
-    if bytes.starts_with(b"<") {
-        return Some(Hint::Gml);
-    }
-    if is_proj_string(bytes) {
-        return Some(Hint::ProjString);
-    }
-    if begins_heading(bytes) {
-        return Some(Hint::Heading);
-    }
-    if is_code(bytes) {
-        return Some(Hint::Code);
+    if is_derived(word) || (is_base(word) && !same_word(Keyword::ProjectedCrs.spelling(), node)) {
+        return Some(Hint::Derived);
     }
     None
 }
 
-// A register, a summary or a piece, of either version.
-fn is_own_file(bytes: &[u8]) -> bool
-    ensures { result ≡ is_own_file bytes.now }
+// The hint for what does not fit at a place of this node.
+fn place_hint(text: &[u8], node: &[u8], place: usize) -> Option<Hint>
+    ensures { result ≡ place_hint text.now node.now place }
 {
-    bytes.starts_with(b"CRSR\x01") || bytes.starts_with(b"CRSR\x02")
-}
-
-// The hint for the front of a text without tokens.
-fn front_hint(text: &[u8]) -> Option<Hint>
-    ensures { result ≡ front_hint text.now }
-{
-    if text.starts_with(b"\xef\xbb\xbf") {
-        return Some(Hint::ByteOrderMark);
+    let word = word_at(text, place);
+    if is_comma_number(word, text, place) {
+        return Some(Hint::Comma);
     }
-    if is_own_file(text) {
-        return Some(Hint::OwnFile);
-    }
-    start_hint(behind_blanks(text))
+    word_hint(word, node)
 }
 
 // The hint for bytes that are not UTF-8.
@@ -269,16 +180,45 @@ fn encoding_hint(text: &[u8]) -> Hint
     Hint::Latin
 }
 
-fn text_hint(text: &[u8], fault: TextFault) -> Option<Hint>
-    ensures { result ≡ text_hint text.now fault }
+fn text_hint(text: &[u8], node: &[u8], fault: TextFault) -> Option<Hint>
+    ensures { result ≡ text_hint text.now node.now fault }
 {
     match fault {
         TextFault::NotUtf8(_) => Some(encoding_hint(text)),
         TextFault::After(place) => {
             after_hint(front_word(behind_blanks(text)), word_at(text, place))
         }
+        TextFault::BadByte(place) => byte_hint(text, place),
+        TextFault::BadNumber(_) => number_hint(text, node),
         _ => front_hint(text),
     }
+}
+
+fn behind(text: &[u8], place: usize) -> &[u8]
+    ensures { result.now ≡ drop place text.now }
+{
+    let (_, rest) = text.split_at(place.min(text.len()));
+    rest
+}
+
+// The hint for a character that no token begins with: for the front of the text, or for the character.
+fn byte_hint(text: &[u8], place: usize) -> Option<Hint>
+    ensures { result ≡ byte_hint text.now place }
+{
+    match front_hint(text) {
+        Some(hint) => Some(hint),
+        None => mark_hint(behind(text, place)),
+    }
+}
+
+// The hint for a number in this node that is none, such as a date.
+fn number_hint(text: &[u8], node: &[u8]) -> Option<Hint>
+    ensures { result ≡ number_hint text.now node.now }
+{
+    if same_word(b"TIMEEXTENT", node) {
+        return Some(Hint::TimeExtent);
+    }
+    front_hint(text)
 }
 
 // The hint for the word after a complete text.
@@ -306,9 +246,9 @@ pub(crate) fn hint_of(text: &[u8], node: &[u8], fault: DefinitionFault) -> Optio
     ensures { result ≡ hint_of text.now node.now fault }
 {
     match fault {
-        DefinitionFault::Read(Unspelled::Text(fault)) => text_hint(text, fault),
+        DefinitionFault::Read(Unspelled::Text(fault)) => text_hint(text, node, fault),
         DefinitionFault::Read(Unspelled::Slot(SlotFault::NotHere(place))) => {
-            word_hint(word_at(text, place), node)
+            place_hint(text, node, place)
         }
         DefinitionFault::NoIdentifier => Some(Hint::NoIdentifier),
         _ => None,

@@ -3,8 +3,10 @@
 
 mod characters;
 mod explain;
+mod fronts;
 mod hints;
 pub mod laws;
+mod marks;
 mod path;
 mod position;
 mod recorded;
@@ -12,6 +14,7 @@ mod sentences;
 mod shown;
 mod walk;
 mod wanted;
+mod words;
 
 pub use explain::{Explainer, explain_text, explain_within};
 pub use hints::Hint;
