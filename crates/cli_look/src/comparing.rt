@@ -2,7 +2,10 @@
 use crate::look::told;
 use clap::ArgMatches;
 use cli_open::{Outcome, entry, explains, next_file, open_register, open_text, word};
-use desk_texts::{Compare, CompareKey, CompareWith, WithFault, run_compared_with, run_differs};
+use desk_texts::{
+    Compare, CompareKey, CompareWith, WithFault, run_compared_where_read, run_compared_with,
+    run_differs,
+};
 use reg_desk::{
     ByWord, CliFault, ImportFault, OpId, Print, Problem, Recorded, Source, Unimported, Writing,
     explain_within,
@@ -13,10 +16,16 @@ use std::io;
 /// The message if an id is compared with nothing.
 const ALONE: &str = "error: compare needs a key, two entries, or --with FILE; one id is not enough";
 
+/// The message if there are no texts that could be passed over.
+const NO_FILE: &str = "error: --keep-going needs --with FILE";
+
 /// `compare`.
 pub fn compare(rt: &HostRuntime, matches: &ArgMatches<'_>) -> Result<Outcome, Unimported> {
     if let Some(path) = matches.get_str("with") {
         return compare_with(rt, matches, path);
+    }
+    if matches.get_flag("keep-going") {
+        return Ok(Outcome::Misuse(NO_FILE));
     }
     if matches.get_str("OTHER").is_none()
         && OpId::parse(word(matches, "ENTRY").as_bytes()).is_some()
@@ -94,6 +103,15 @@ fn compare_with(
     let mut sink = Writing::new(io::writer(rt));
     let mut store = register.reading();
     let name = path.as_bytes();
+    if matches.get_flag("keep-going") {
+        return match run_compared_where_read(rt.alloc(), &mut store, name, &mut text, &mut sink) {
+            Ok(part) => match part.left {
+                Some(why) => uncompared(rt.alloc(), matches, path, &text, why),
+                None => Ok(told(matches, Ok(part.differs))),
+            },
+            Err(fault) => Ok(Outcome::Fault(fault)),
+        };
+    }
     match run_compared_with(rt.alloc(), &mut store, name, &mut text, &mut sink) {
         Ok(differs) => Ok(told(matches, Ok(differs))),
         Err(why) => uncompared(rt.alloc(), matches, path, &text, why),

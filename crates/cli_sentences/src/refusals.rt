@@ -144,7 +144,7 @@ fn write_word<W: fmt::Write>(
             let register = Register::of(paths);
             writeln!(
                 f,
-                "hint: name one by its id: crsreg find {register} KEY --status live prints them"
+                "hint: crsreg compare {register} KEY shows what differs; crsreg settle keeps one of them, settle --equal one of each text"
             )
         }
         Refusal::Unsettled => f.write_str(

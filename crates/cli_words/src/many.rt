@@ -36,7 +36,7 @@ static IMPORT: CommandRow = CommandRow {
         },
         Argument {
             name: "changes",
-            help: "Leaves out texts that a valid entry already has",
+            help: "Leaves out texts that an entry already has",
             ..FLAG
         },
         Argument {

@@ -13,10 +13,10 @@ text is compared with the register, including what this command has entered:
 
 After OUT is written, a line for each text is printed: the file, the offset of
 the text, the action, the entry, its authority, code and name. With --changes
-there is no line for a text with the action same. With --gone AUTHORITY, a line
-with the action gone follows for each entry of this authority that is not
-retired and whose key no text has; A to Z match in either case. Nothing is done
-to these entries.
+there is none for a text with the action same or superseded. With --gone
+AUTHORITY, a line with the action gone follows for each entry of this authority
+that is not retired and whose key no text has; A to Z match in either case.
+Nothing is done to these entries.
 
 The first refused text ends the command, and nothing is written. With
 --keep-going it is listed with its fault, the others are entered, and the

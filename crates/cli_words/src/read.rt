@@ -92,6 +92,11 @@ static COMPARE: CommandRow = CommandRow {
             kind: Kind::Option("FILE"),
             ..FLAG
         },
+        Argument {
+            name: "keep-going",
+            help: "With --with: passes over texts that cannot be read, and names the first at the end",
+            ..FLAG
+        },
         KEYS,
         Argument {
             name: "exit-code",

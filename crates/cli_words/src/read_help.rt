@@ -4,9 +4,9 @@ pub const SHOW_HELP: &str = "\
 Prints the header of the report of entries, and the line of this entry.
 
 With -k, or if CRSREG_KEYS is 1, an argument that is not an id is a key, such
-as EPSG:7837. It means the one entry with this key that is not retired. The
-command is refused as NoEntry if there is none, and as Several ID if there are
-more.
+as EPSG:7837. It means the entry with this key that is not retired, or the least
+of several with one text. The command is refused as NoEntry if there is none,
+and as Several ID if their texts differ.
 
 Example:
   crsreg show -k office.crs EPSG:7837
@@ -18,9 +18,9 @@ a colon and a number. Its text is printed whatever its status, on one line, or
 indented with --pretty.
 
 With -k, or if CRSREG_KEYS is 1, an argument that is not an id is a key, such
-as EPSG:7837. It means the one entry with this key that is not retired. The
-command is refused as NoEntry if there is none, and as Several ID if there are
-more.
+as EPSG:7837. It means the entry with this key that is not retired, or the least
+of several with one text. The command is refused as NoEntry if there is none,
+and as Several ID if their texts differ.
 
 Example:
   crsreg wkt -k office.crs EPSG:7837
@@ -51,12 +51,14 @@ command is refused as NoEntry if there is none.
 
 With --with FILE, each text of FILE, as crsreg import splits it, is compared
 with the entries of its key that are not retired. Lines that the text adds begin
-with +. A text whose key has no such entry is added as a whole.
+with +. A text whose key has no such entry is added as a whole. With
+--keep-going, texts that cannot be read or have no identifier are passed over;
+the first is named at the end, with status 1, as by crsreg import.
 
 With -k, or if CRSREG_KEYS is 1, an argument that is not an id is a key, such
-as EPSG:7837. It means the one entry with this key that is not retired. The
-command is refused as NoEntry if there is none, and as Several ID if there are
-more.
+as EPSG:7837. It means the entry with this key that is not retired, or the least
+of several with one text. The command is refused as NoEntry if there is none,
+and as Several ID if their texts differ.
 
 Example:
   crsreg compare office.crs EPSG:7837

@@ -11,4 +11,4 @@ pub use compare::{Compare, CompareKey, CompareTo, CompareWith};
 pub use differs::run_differs;
 pub use heading::Heading;
 pub use texts::Texts;
-pub use with::{WithFault, run_compared_with};
+pub use with::{ComparedPart, WithFault, run_compared_where_read, run_compared_with};

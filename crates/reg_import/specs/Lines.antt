@@ -76,14 +76,15 @@ abbrev pub line_fields : List (List ℕ) → FileText → TextAction → List �
 line_fields names x t authority code name =
     name_at names x.file ∷ decimal x.place ∷ action_word t ∷ entry_text t ∷ authority ∷ code ∷ name ∷ fault_text t x.at ∷ []
 
-abbrev pub is_same : TextAction → Bool
-is_same (told.Same i) = true
-is_same (told.Superseded i) = false
-is_same (told.Entered i) = false
-is_same (told.Beside i) = false
-is_same (told.Revised i) = false
-is_same (told.Refused p) = false
-is_same told.Spent = false
+-- an entry that is not retired has the text already
+abbrev pub is_known : TextAction → Bool
+is_known (told.Same i) = true
+is_known (told.Superseded i) = true
+is_known (told.Entered i) = false
+is_known (told.Beside i) = false
+is_known (told.Revised i) = false
+is_known (told.Refused p) = false
+is_known told.Spent = false
 
 -- a text, and its action
 pub record Line : Type 0 where
@@ -95,9 +96,9 @@ lines_of [] ts = []
 lines_of (x ∷ xs) [] = []
 lines_of (x ∷ xs) (t ∷ ts) = record { text = x; told = t } ∷ lines_of xs ts
 
--- it is printed, unless only changes are, and a valid entry has the text
+-- it is printed, unless only changes are, and an entry that is not retired has the text already
 abbrev pub is_shown : Bool → Line → Bool
-is_shown changes l = not (changes && is_same l.told)
+is_shown changes l = not (changes && is_known l.told)
 
 -- they are the fields of such a line, with the key and the name of the definition; if there is none, with the first text in
 -- quotation marks as the name

@@ -4,7 +4,7 @@ ghost use Rattle.std.specs.Prelude.{◌≡◌, ◌+◌, ◌<◌, ◌≤◌, ℕ,
 ghost use Rattle.reg_state.specs.Runs.{id_at};
 ghost use Rattle.reg_import.specs.Imports.{least, any_entry, told_of, told_of_new, unless_spent, is_refused, is_spent};
 ghost use Rattle.reg_import.specs.Index.{bucket_seen};
-ghost use Rattle.reg_import.specs.Lines.{is_same};
+ghost use Rattle.reg_import.specs.Lines.{is_known};
 ghost use Rattle.reg_import.specs.Summary.{told_by};
 
 use crate::entries_of_key::EntriesOfKey;
@@ -65,13 +65,13 @@ impl TextAction {
         }
     }
 
-    /// Whether the text changes nothing, since a valid entry has it.
-    pub fn is_same(self) -> bool
-        ensures { result ≡ is_same self }
+    /// Whether the text changes nothing, since an entry that is not retired has it already.
+    pub fn is_known(self) -> bool
+        ensures { result ≡ is_known self }
     {
         match self {
             TextAction::Same(_) => true,
-            TextAction::Superseded(_) => false,
+            TextAction::Superseded(_) => true,
             TextAction::Entered(_) => false,
             TextAction::Beside(_) => false,
             TextAction::Revised(_) => false,

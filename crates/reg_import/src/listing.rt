@@ -6,7 +6,7 @@ ghost use Rattle.reg_op.specs.Rows.{rows};
 ghost use Rattle.reg_report.specs.Lines.{IsReady, WritesRow};
 ghost use Rattle.reg_report.specs.Seen.{row_seen};
 ghost use Rattle.reg_import.specs.Readings.{readings};
-ghost use Rattle.reg_import.specs.Lines.{lines_of, is_same, is_shown, IsImportLine, IsGoneLine};
+ghost use Rattle.reg_import.specs.Lines.{lines_of, is_known, is_shown, IsImportLine, IsGoneLine};
 ghost use Rattle.reg_import.specs.Listing.{AreGoneOf, WritesLines, IsListing};
 
 use crate::action::TextAction;
@@ -29,9 +29,9 @@ pub struct Listing<'a> {
 
 // Whether a text with this action has a line.
 fn is_shown(listing: &Listing<'_>, told: &TextAction) -> bool
-    ensures { result ≡ not (listing.now.changes && is_same told.now) }
+    ensures { result ≡ not (listing.now.changes && is_known told.now) }
 {
-    !(listing.changes && told.is_same())
+    !(listing.changes && told.is_known())
 }
 
 // Writes the line of a text, unless it is left out.

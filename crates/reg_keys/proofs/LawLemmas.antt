@@ -5,10 +5,11 @@ use Rattle.std.proofs.lemmas.Fmt.{decimal_injective}
 use Rattle.reg_op.specs.Ids.{Id}
 use Rattle.reg_op.specs.Rows.{Row}
 use Rattle.reg_op.specs.Text.{Spells, IsCount}
-use Rattle.reg_op.proofs.OpLemmas.{id_total}
+use Rattle.reg_op.proofs.ClashLemmas.{tied_of}
+use Rattle.reg_op.proofs.OpLemmas.{id_total, is_same_exact}
 use Rattle.reg_keys.specs.declared.fault.KeyFault.{KeyFault}
 use Rattle.reg_keys.specs.declared.fault.KeyFault.TheVariants.{NoEntry, Several, Memory}
-use Rattle.reg_keys.specs.Named.{HasWord, Answers, AreEntries, StandsFor, IsObjection, StandFor, Object}
+use Rattle.reg_keys.specs.Named.{HasWord, Answers, AreEntries, IsLeast, IsNotOne, StandsFor, IsObjection, NamesOnly, IsNotOnly, StandFor, Object}
 use Rattle.reg_keys.specs.Told.{TellsOf, IsUntold, TellOf, AreUntold}
 use Rattle.reg_keys.proofs.OrderLemmas.{same_elements}
 
@@ -62,26 +63,44 @@ not_two e f g more h = cc
 -- ---- the entry that a word names
 
 module _ (rs : List Row) where
+  one_least : (word : List ℕ) (a b : Row) → IsLeast rs word a → IsLeast rs word b → a.entry ≡ b.entry
+  one_least word a b h k = is_same_exact a.entry b.entry (tied_of id_total a.entry b.entry (k.first a h.there h.answers) (h.first b k.there k.answers))
+
   pub one_entry : (word : List ℕ) (e f : Id) → StandsFor rs word e → StandsFor rs word f → e ≡ f
   one_entry word e f (inl h) (inl k) = one_id word e f h k
   one_entry word e f (inl h) (inr k) = absurd (k.0 e h)
   one_entry word e f (inr h) (inl k) = absurd (h.0 f k)
-  one_entry word e f (inr h) (inr k) = one_first e f (one_list (Answers word) rs (e ∷ []) (f ∷ []) h.1 k.1)
+  one_entry word e f (inr h) (inr k) = sym h.1.2 ∙ one_least word h.1.0 k.1.0 h.1.1 k.1.1 ∙ k.1.2
 
   pub no_objection : (word : List ℕ) (e : Id) (f : KeyFault) → StandsFor rs word e → IsObjection rs word f → f ≡ Memory
-  no_objection word e NoEntry (inl h) (es, by, none) = absurd (by.0 e h)
-  no_objection word e NoEntry (inr h) (es, by, none) = absurd (not_none e (one_list (Answers word) rs (e ∷ []) es h.1 by.1 ∙ none))
-  no_objection word e (Several second) (inl h) (es, by, several) = absurd (by.0 e h)
-  no_objection word e (Several second) (inr h) (es, by, several) = absurd (not_two e several.0 second several.1 (one_list (Answers word) rs (e ∷ []) es h.1 by.1 ∙ several.2))
+  no_objection word e NoEntry (inl h) (free, none) = absurd (free e h)
+  no_objection word e NoEntry (inr h) (free, none) = absurd (none h.1.0 h.1.1.there h.1.1.answers)
+  no_objection word e (Several second) (inl h) (free, other) = absurd (free e h)
+  no_objection word e (Several second) (inr h) (free, other) = absurd (other.differs (h.1.3 other.other other.there other.answers ∙ sym (h.1.3 other.least other.is_least.there other.is_least.answers)))
   no_objection word e Memory h o = refl
+
+  -- ---- the only entry that a word names
+
+  one_only : (word : List ℕ) (e f : Id) → NamesOnly rs word e → NamesOnly rs word f → e ≡ f
+  one_only word e f (inl h) (inl k) = one_id word e f h k
+  one_only word e f (inl h) (inr k) = absurd (k.0 e h)
+  one_only word e f (inr h) (inl k) = absurd (h.0 f k)
+  one_only word e f (inr h) (inr k) = one_first e f (one_list (Answers word) rs (e ∷ []) (f ∷ []) h.1 k.1)
+
+  not_only : (word : List ℕ) (e : Id) (f : KeyFault) → NamesOnly rs word e → IsNotOnly rs word f → f ≡ Memory
+  not_only word e NoEntry (inl h) (es, by, none) = absurd (by.0 e h)
+  not_only word e NoEntry (inr h) (es, by, none) = absurd (not_none e (one_list (Answers word) rs (e ∷ []) es h.1 by.1 ∙ none))
+  not_only word e (Several second) (inl h) (es, by, several) = absurd (by.0 e h)
+  not_only word e (Several second) (inr h) (es, by, several) = absurd (not_two e several.0 second several.1 (one_list (Answers word) rs (e ∷ []) es h.1 by.1 ∙ several.2))
+  not_only word e Memory h o = refl
 
   pub one_meaning : (words : List (List ℕ)) (es fs : List Id) → StandFor rs words es → StandFor rs words fs → es ≡ fs
   one_meaning [] es fs h k = h ∙ sym k
-  one_meaning (w ∷ words) es fs (e, later, s, l, is) (f, after, t, m, so) = is ∙ (λ j. one_entry w e f s t j ∷ one_meaning words later after l m j) ∙ sym so
+  one_meaning (w ∷ words) es fs (e, later, s, l, is) (f, after, t, m, so) = is ∙ (λ j. one_only w e f s t j ∷ one_meaning words later after l m j) ∙ sym so
 
   pub no_objections : (words : List (List ℕ)) (es : List Id) (f : KeyFault) → StandFor rs words es → Object rs words f → f ≡ Memory
   no_objections [] es f h o = o
-  no_objections (w ∷ words) es f (e, later, s, l, is) (inl o) = no_objection w e f s o
+  no_objections (w ∷ words) es f (e, later, s, l, is) (inl o) = not_only w e f s o
   no_objections (w ∷ words) es f (e, later, s, l, is) (inr (d, t, o)) = no_objections words later f l o
 
   -- ---- the entries that a word selects

@@ -6,7 +6,7 @@ use Rattle.reg_op.specs.Rows.{Row}
 use Rattle.reg_op.specs.Text.{Spells}
 use Rattle.reg_keys.specs.declared.fault.KeyFault.{KeyFault}
 use Rattle.reg_keys.specs.declared.fault.KeyFault.TheVariants.{NoEntry, Several, Memory}
-use Rattle.reg_keys.specs.Named.{IsNoId, IsNotOne, AreEntries, Answers, StandsFor, IsObjection, StandFor, Object}
+use Rattle.reg_keys.specs.Named.{IsNoId, IsNotOne, AreEntries, Answers, NamesOnly, IsNotOnly, StandFor, Object}
 
 -- ---- the suffix of the words from index i
 
@@ -27,16 +27,16 @@ module _ (rs : List Row) where
   abbrev pub Passes : List (List ℕ) → List (List ℕ) → Type 0
   Passes all rest = (f : KeyFault) → Object rs rest f → Object rs all f
 
-  pub completes_more : (all rest others : List (List ℕ)) (word : List ℕ) (e : Id) (old new : List Id) → rest ≡ word ∷ others → StandsFor rs word e → new ≡ old ++ e ∷ []
+  pub completes_more : (all rest others : List (List ℕ)) (word : List ℕ) (e : Id) (old new : List Id) → rest ≡ word ∷ others → NamesOnly rs word e → new ≡ old ++ e ∷ []
       → Completes all rest old → Completes all others new
   completes_more all rest others word e old new first stands is c later l =
       subst (StandFor rs all) (sym (append_assoc old (e ∷ []) later) ∙ ap (λ (t : List Id). t ++ later) (sym is))
       (c (e ∷ later) (subst (λ (ws : List (List ℕ)). StandFor rs ws (e ∷ later)) (sym first) (e, later, stands, l, refl)))
 
-  pub passes_more : (all rest others : List (List ℕ)) (word : List ℕ) (e : Id) → rest ≡ word ∷ others → StandsFor rs word e → Passes all rest → Passes all others
+  pub passes_more : (all rest others : List (List ℕ)) (word : List ℕ) (e : Id) → rest ≡ word ∷ others → NamesOnly rs word e → Passes all rest → Passes all others
   passes_more all rest others word e first stands p f o = p f (subst (λ (ws : List (List ℕ)). Object rs ws f) (sym first) (inr (e, stands, o)))
 
-  pub passes_here : (all rest others : List (List ℕ)) (word : List ℕ) (f : KeyFault) → rest ≡ word ∷ others → IsObjection rs word f → Passes all rest → Object rs all f
+  pub passes_here : (all rest others : List (List ℕ)) (word : List ℕ) (f : KeyFault) → rest ≡ word ∷ others → IsNotOnly rs word f → Passes all rest → Object rs all f
   passes_here all rest others word f first is p = p f (subst (λ (ws : List (List ℕ)). Object rs ws f) (sym first) (inl is))
 
   pub all_named : (all rest : List (List ℕ)) (es : List Id) → length rest ≡ 0 → Completes all rest es → StandFor rs all es
@@ -59,7 +59,12 @@ no_id word only i spells = none_is_some (only i spells)
     none_is_some e = cc
 
 -- the fault of a word that is not an id and does not have exactly one entry
-pub objects : (rs : List Row) (word : List ℕ) (es : List Id) (f : KeyFault) → IsNoId word → AreEntries (Answers word) rs es → IsNotOne es f → IsObjection rs word f
+pub objects : (rs : List Row) (word : List ℕ) (es : List Id) (f : KeyFault) → IsNoId word → AreEntries (Answers word) rs es → IsNotOne es f → IsNotOnly rs word f
 objects rs word es NoEntry free are not = (es, (free, are), not)
 objects rs word es (Several second) free are not = (es, (free, are), not)
 objects rs word es Memory free are not = tt
+
+-- what is left of nothing is seen as nothing
+pub nothing_left : {X Y : Type 0} (f : X → Y) (xs : List X) → length xs ≡ 0 → map f xs ≡ []
+nothing_left f [] e = refl
+nothing_left f (x ∷ xs) e = absurd (omega (arith, e))

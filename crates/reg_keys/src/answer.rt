@@ -1,11 +1,12 @@
 //! The entries of a key.
 
-ghost use Rattle.std.specs.Prelude.{◌≢◌, ◌↔◌, map, IsTrue, IfOk, OnOk, Some};
+ghost use Rattle.std.specs.Prelude.{◌≡◌, ◌≢◌, ◌↔◌, map, false, Contains, IsTrue, IfOk, OnOk, IfSome, IfNone, Some};
+ghost use Rattle.reg_op.specs.Rows.{Row as OneRow};
 ghost use Rattle.reg_op.specs.Set.{Ascends};
 ghost use Rattle.reg_op.specs.declared.status.Status.TheVariants.{Retired};
 ghost use Rattle.reg_report.specs.Seen.{row_seen};
 ghost use Rattle.reg_keys.specs.Rows.{row_cmp};
-ghost use Rattle.reg_keys.specs.Named.{HasWord, Answers, AreEntries, AddsEntry};
+ghost use Rattle.reg_keys.specs.Named.{HasWord, Answers, AllHave, AreEntries, AddsEntry, IsFirstAnswer, IsFirstOther};
 
 use crate::word::names_key;
 use reg_op::{OpId, Status};
@@ -31,6 +32,50 @@ fn answers(row: &Row, word: &[u8]) -> bool
     ensures { IsTrue result ↔ Answers word.now (row_seen row.now) }
 {
     has_key(row, word) && is_live(row)
+}
+
+/// The first row that answers the word, and the rows after it.
+pub fn first_answering<'a>(rows: &'a [Row], word: &[u8]) -> Option<(&'a Row, &'a [Row])>
+    ensures found { IfSome result (λ found. IsFirstAnswer word.now (map row_seen rows.now) (row_seen found.0.now) (map row_seen found.1.now)) }
+    ensures none { IfNone result ((r : OneRow) → Contains (map row_seen rows.now) r → ¬ (Answers word.now r)) }
+{
+    let mut rest = rows;
+    while let Some((row, others)) = rest.split_first() {
+        if answers(row, word) {
+            return Some((row, others));
+        }
+        rest = others;
+    }
+    None
+}
+
+fn has_text_of(row: &Row, first: &Row) -> bool
+    ensures { IsTrue result ↔ ((row_seen row.now).definition ≡ (row_seen first.now).definition) }
+{
+    row.definition.as_bytes() == first.definition.as_bytes()
+}
+
+// Whether the row answers the word, and has another text than the first one.
+fn is_other(row: &Row, first: &Row, word: &[u8]) -> bool
+    ensures other { IsTrue result ↔ (Answers word.now (row_seen row.now) × ((row_seen row.now).definition ≢ (row_seen first.now).definition)) }
+    ensures alike { result ≡ false → Answers word.now (row_seen row.now) → (row_seen row.now).definition ≡ (row_seen first.now).definition }
+{
+    answers(row, word) && !has_text_of(row, first)
+}
+
+/// The entry of the first row that answers the word and has another text than the first one.
+pub fn first_other(rows: &[Row], first: &Row, word: &[u8]) -> Option<OpId>
+    ensures found { IfSome result (IsFirstOther word.now (row_seen first.now).definition (map row_seen rows.now)) }
+    ensures none { IfNone result (AllHave (row_seen first.now).definition (map row_seen rows.now) word.now) }
+{
+    let mut rest = rows;
+    while let Some((row, others)) = rest.split_first() {
+        if is_other(row, first, word) {
+            return Some(row.entry);
+        }
+        rest = others;
+    }
+    None
 }
 
 fn push_answer(ids: &mut Vec<OpId>, word: &[u8], row: &Row) -> Result<(), AllocError>

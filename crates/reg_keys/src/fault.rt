@@ -7,7 +7,8 @@ use reg_op::OpId;
 pub enum KeyFault {
     /// The key has no entry, or only retired ones.
     NoEntry,
-    /// Several entries of the key are not retired. This is the second least of them.
+    /// The entries of the key that are not retired have several texts, and this is the first with another text than the least of
+    /// them; or only one was asked for, and this is the second least.
     Several(OpId),
     Memory,
 }

@@ -1,14 +1,14 @@
 //! The entries that words name.
 
-ghost use Rattle.std.specs.Prelude.{◌≡◌, ◌++◌, ◌∷◌, [], map, IfOk, OnOk, IfErr};
+ghost use Rattle.std.specs.Prelude.{◌≡◌, ◌++◌, ◌∷◌, [], List, map, IfOk, OnOk, IfErr};
 ghost use Rattle.reg_op.specs.Ids.{Id};
 ghost use Rattle.reg_op.specs.Rows.{rows};
 ghost use Rattle.reg_op.specs.Set.{Ascends};
 ghost use Rattle.reg_report.specs.Seen.{row_seen};
 ghost use Rattle.reg_keys.specs.Rows.{row_cmp};
-ghost use Rattle.reg_keys.specs.Named.{StandsFor, IsObjection, IsNotOne, StandFor, Object};
+ghost use Rattle.reg_keys.specs.Named.{StandsFor, IsObjection, NamesOnly, IsNotOnly, IsNotOne, StandFor, Object};
 
-use crate::answer::entries_answering;
+use crate::answer::{entries_answering, first_answering, first_other};
 use crate::fault::KeyFault;
 use reg_op::OpId;
 use reg_report::{Row, rows};
@@ -16,11 +16,29 @@ use reg_state::Register;
 use std::alloc::{AllocError, Global};
 
 /// The entry that a word names, among rows that are ordered by entry. An id names its entry. Any other word is a key, and
-/// names the only entry with the key that is not retired.
-pub fn entry_of(alloc: Global, rows: &[Row], word: &[u8]) -> Result<OpId, KeyFault>
+/// names the least of its entries that are not retired, if these have one text.
+pub fn entry_of(rows: &[Row], word: &[u8]) -> Result<OpId, KeyFault>
     requires { Ascends row_cmp (map row_seen rows.now) }
     ensures ok { IfOk result (StandsFor (map row_seen rows.now) word.now) }
     ensures fault { IfErr result (IsObjection (map row_seen rows.now) word.now) }
+{
+    if let Some(id) = OpId::parse(word) {
+        return Ok(id);
+    }
+    let Some((first, later)) = first_answering(rows, word) else {
+        return Err(KeyFault::NoEntry);
+    };
+    match first_other(later, first, word) {
+        Some(other) => Err(KeyFault::Several(other)),
+        None => Ok(first.entry),
+    }
+}
+
+// The same for a command that changes entries: a key names its only entry that is not retired.
+fn only_entry_of(alloc: Global, rows: &[Row], word: &[u8]) -> Result<OpId, KeyFault>
+    requires { Ascends row_cmp (map row_seen rows.now) }
+    ensures ok { IfOk result (NamesOnly (map row_seen rows.now) word.now) }
+    ensures fault { IfErr result (IsNotOnly (map row_seen rows.now) word.now) }
 {
     if let Some(id) = OpId::parse(word) {
         return Ok(id);
@@ -74,13 +92,13 @@ pub fn named(alloc: Global, register: &Register, words: &[&[u8]]) -> Result<Vec<
     }
 }
 
-// Appends the entry that the word names.
+// Appends the only entry that the word names.
 fn push_named(alloc: Global, ids: &mut Vec<OpId>, rows: &[Row], word: &[u8]) -> Result<(), KeyFault>
     requires { Ascends row_cmp (map row_seen rows.now) }
-    ensures ok { OnOk result ((e : Id) × StandsFor (map row_seen rows.now) word.now e × (ids.new.items ≡ ids.old.items ++ e ∷ [])) }
-    ensures fault { IfErr result (IsObjection (map row_seen rows.now) word.now) }
+    ensures ok { OnOk result ((e : Id) × NamesOnly (map row_seen rows.now) word.now e × (ids.new.items ≡ ids.old.items ++ e ∷ [])) }
+    ensures fault { IfErr result (IsNotOnly (map row_seen rows.now) word.now) }
 {
-    let id = match entry_of(alloc, rows, word) {
+    let id = match only_entry_of(alloc, rows, word) {
         Ok(id) => id,
         Err(fault) => return Err(fault),
     };
@@ -112,7 +130,7 @@ pub fn named_one(alloc: Global, register: &Register, word: &[u8]) -> Result<OpId
         Ok(rows) => rows,
         Err(_) => return Err(KeyFault::Memory),
     };
-    match entry_of(alloc, &rows, word) {
+    match entry_of(&rows, word) {
         Ok(id) => Ok(id),
         Err(fault) => Err(fault),
     }

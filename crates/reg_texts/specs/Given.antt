@@ -1,5 +1,5 @@
 -- Texts of a file, each against the entries of its key.
-use Rattle.std.specs.Prelude.{◌≡◌, ◌≢◌, ◌⊎◌, ◌+◌, ℕ, List, [], ◌∷◌, ◌++◌, length, map, codes, decimal}
+use Rattle.std.specs.Prelude.{◌≡◌, ◌≢◌, ◌⊎◌, ◌+◌, ℕ, List, [], ◌∷◌, ◌++◌, length, map, codes, decimal, Option, Some, None}
 use Rattle.std.specs.Option.{unwrap_or}
 use Rattle.crs_value.specs.declared.crs.Crs.{Crs}
 use Rattle.wkt_tree.specs.Tree.{Piece}
@@ -87,6 +87,30 @@ IsUnread c unread.Memory = Unit {0}
 abbrev pub IsFirstUnread : List Piece → Unread → Type 0
 IsFirstUnread [] f = f ≡ unread.Memory
 IsFirstUnread (c ∷ cs) f = IsUnread c f ⊎ (((d : List ℕ) × Defines c.bytes d) × IsFirstUnread cs f)
+
+-- ---- texts that are passed over
+
+-- the text against its entries; or nothing, if it is not a definition
+abbrev pub IsTextOrNone : List ℕ → List Row → Piece → List ℕ → Type 0
+IsTextOrNone name rs c text = IsTextAgainst name rs c text ⊎ (((u : Unread) × IsUnread c u × (u ≢ unread.Memory)) × (text ≡ []))
+
+-- what one text adds, and why it is not a definition if it is none
+abbrev pub IsTold : List ℕ → List Row → Piece → List ℕ → Option Unread → Type 0
+IsTold name rs c text None = IsTextAgainst name rs c text
+IsTold name rs c text (Some u) = IsUnread c u × (u ≢ unread.Memory) × (text ≡ [])
+
+abbrev pub earlier : Option Unread → Option Unread → Option Unread
+earlier (Some u) next = Some u
+earlier None next = next
+
+-- why the first of some texts that is not a definition is not one, if there is such a text
+abbrev pub IsFirstLeft : List Piece → Option Unread → Type 0
+IsFirstLeft [] first = first ≡ None
+IsFirstLeft (c ∷ cs) first = (((d : List ℕ) × Defines c.bytes d) × IsFirstLeft cs first) ⊎ ((u : Unread) × IsUnread c u × (u ≢ unread.Memory) × (first ≡ Some u))
+
+-- what differs between each text of the file that is a definition and the entries of its key, and why the first other text is none
+abbrev pub IsFileAgainstWhereRead : List ℕ → List ℕ → Content → List ℕ → Option Unread → Type 0
+IsFileAgainstWhereRead name file x text first = (cuts : List Piece) × IsCutInto file cuts × Each (IsTextOrNone name (rows x.ops)) cuts text × IsFirstLeft cuts first
 
 -- the same of the texts of a file
 abbrev pub IsFileUnread : List ℕ → Unread → Type 0

@@ -7,7 +7,7 @@ ghost use Rattle.wkt_texts.specs.Texts.{piece_of};
 ghost use Rattle.reg_report.specs.Seen.{row_seen};
 ghost use Rattle.reg_texts.specs.Gathered.{Each};
 ghost use Rattle.reg_texts.specs.Compare.{seen_rows};
-ghost use Rattle.reg_texts.specs.Given.{IsPairWith, IsGivenAgainst, Defines, IsTextAgainst, IsFileAgainst, IsUnread, IsFirstUnread, IsFileUnread};
+ghost use Rattle.reg_texts.specs.Given.{IsPairWith, IsGivenAgainst, Defines, IsTextAgainst, IsTextOrNone, IsTold, IsFileAgainst, IsFileAgainstWhereRead, IsFirstLeft, IsUnread, IsFirstUnread, IsFileUnread, earlier};
 
 use crate::choice::{OfText, chosen};
 use crate::given::{given, new_text};
@@ -57,6 +57,75 @@ pub fn compared_texts(
         Ok(text) => Ok(text),
         Err(why) => Err(why),
     }
+}
+
+/// What differs where texts that are not definitions are passed over, and why the first of them is none.
+#[derive(Drop)]
+pub struct WhereRead {
+    pub text: Vec<u8>,
+    pub first: Option<Unread>,
+}
+
+/// The same, where texts that are not definitions are passed over.
+pub fn compared_where_read(
+    alloc: Global,
+    register: &Register,
+    name: &[u8],
+    file: &[u8],
+) -> Result<WhereRead, AllocError>
+    ensures { IfOk result (λ made. IsFileAgainstWhereRead name.now file.now register.now made.text.items made.first) }
+{
+    let rows = rows_in_order(alloc, register)?;
+    let cuts = texts(alloc, file)?;
+    let made = against_where_read(alloc, &rows, name, &cuts)?;
+    Ok(made)
+}
+
+fn against_where_read(
+    alloc: Global,
+    rows: &[Row],
+    name: &[u8],
+    cuts: &[Cut<'_>],
+) -> Result<WhereRead, AllocError>
+    ensures text { IfOk result (λ made. Each (IsTextOrNone name.now (map row_seen rows.now)) (map piece_of cuts.now) made.text.items) }
+    ensures first { IfOk result (λ made. IsFirstLeft (map piece_of cuts.now) made.first) }
+{
+    let mut text = Vec::new(alloc);
+    let mut first = None;
+    for cut in cuts {
+        let left = push_where_read(alloc, &mut text, rows, name, cut)?;
+        first = earlier(first, left);
+    }
+    Ok(WhereRead { text, first })
+}
+
+// The first of two reasons, if there is one.
+fn earlier(first: Option<Unread>, next: Option<Unread>) -> Option<Unread>
+    ensures { result ≡ earlier first next }
+{
+    match first {
+        Some(why) => Some(why),
+        None => next,
+    }
+}
+
+// Appends what differs, or returns why the text is not a definition.
+fn push_where_read(
+    alloc: Global,
+    text: &mut Vec<u8>,
+    rows: &[Row],
+    name: &[u8],
+    cut: &Cut<'_>,
+) -> Result<Option<Unread>, AllocError>
+    ensures { IfOk result (λ left. (mine : List ℕ) × IsTold name.now (map row_seen rows.now) (piece_of cut.now) mine left × (text.new.items ≡ text.old.items ++ mine)) }
+{
+    let mine = match text_against(alloc, rows, name, cut) {
+        Ok(mine) => mine,
+        Err(Unread::Memory) => return Err(AllocError),
+        Err(why) => return Ok(Some(why)),
+    };
+    text.extend_from_slice(&mine)?;
+    Ok(None)
 }
 
 // The same of these texts.

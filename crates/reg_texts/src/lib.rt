@@ -14,6 +14,6 @@ mod saying;
 mod texts;
 mod version;
 
-pub use against::{Unread, compared_texts};
+pub use against::{Unread, WhereRead, compared_texts, compared_where_read};
 pub use compare::{Uncompared, compared_key, compared_text, heading};
 pub use texts::texts_of;

@@ -1,15 +1,25 @@
-use Rattle.std.proofs.Common.{inr, map, sym, ◌∙◌, subst}
+use Rattle.std.proofs.Common.{map, inr, refl}
 use Rattle.reg_report.specs.Seen.{row_seen}
-use Rattle.reg_keys.specs.Named.{AreEntries, Answers, IsNotOne}
-use Rattle.reg_keys.proofs.NamedLemmas.{no_id, objects}
+use Rattle.reg_keys.proofs.AnswerWalks.{is_least, is_other, one_text}
+use Rattle.reg_keys.proofs.NamedLemmas.{no_id}
 use Rattle.reg_keys.proofs.naming.entry_of.Goals as goal
 
-pub returns-in-Ok-only-clause-ok : goal.returns-in-Ok-only-clause-ok
-returns-in-Ok-only-clause-ok c = inr (
-  no_id c.args.word.now c.in_default.ensures.only,
-  subst (AreEntries (Answers c.args.word.now) (map row_seen c.args.rows.now)) (sym c.deref.ensures.value ∙ c.in-Ok-only.ensures.ok) c.in-Ok.ensures,
-)
+pub returns-in_default-first_answering-clause-fault : goal.returns-in_default-first_answering-clause-fault
+returns-in_default-first_answering-clause-fault c = (no_id c.args.word.now c.in_default.ensures.only, c.in_default-first_answering.ensures.none)
 
-pub returns-clause-fault : goal.returns-clause-fault
-returns-clause-fault c = objects (map row_seen c.args.rows.now) c.args.word.now c.in-Ok.ids.items c.in-Err-only.fault
-    (no_id c.args.word.now c.in_default.ensures.only) c.in-Ok.ensures (subst (λ es. IsNotOne es c.in-Err-only.fault) c.deref.ensures.value c.in-Err-only.ensures.fault)
+pub returns-in-Some-first_other-clause-fault : goal.returns-in-Some-first_other-clause-fault
+returns-in-Some-first_other-clause-fault c =
+    let first = row_seen c.in-Some-first_answering.first.now in
+    let later = map row_seen c.in-Some-first_answering.later.now in
+    (no_id c.args.word.now c.in_default.ensures.only, is_other (map row_seen c.args.rows.now) c.requires c.args.word.now first later c.in-Some-first_answering.ensures.found c.in-Some-first_other.other c.in-Some-first_other.ensures.found)
+
+pub returns-in-None-clause-ok : goal.returns-in-None-clause-ok
+returns-in-None-clause-ok c =
+    let rs = map row_seen c.args.rows.now in
+    let first = row_seen c.in-Some-first_answering.first.now in
+    let later = map row_seen c.in-Some-first_answering.later.now in
+    let found = c.in-Some-first_answering.ensures.found in
+    inr (
+      no_id c.args.word.now c.in_default.ensures.only,
+      (first, is_least rs c.requires c.args.word.now first later found, refl, one_text rs c.requires c.args.word.now first later found c.in-None.ensures.none),
+    )

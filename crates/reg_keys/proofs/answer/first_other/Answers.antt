@@ -1,0 +1,25 @@
+use Rattle.std.proofs.Common.{◌≡◌, map, ap}
+use Rattle.reg_op.specs.Rows.{Row}
+use Rattle.reg_report.specs.Seen.{row_seen}
+use Rattle.reg_keys.specs.Named.{Answers}
+use Rattle.reg_keys.proofs.AnswerWalks.{none_passed, passed_more, all_passed, other_here}
+use Rattle.reg_keys.proofs.NamedLemmas.{nothing_left}
+use Rattle.reg_keys.proofs.answer.first_other.Goals as goal
+
+pub loop-row-init : goal.loop-row-init
+loop-row-init c = none_passed (λ (r : Row). Answers c.args.word.now r → r.definition ≡ c.args.first.now.definition) (map row_seen c.args.rows.now)
+
+pub loop-row-preserved : goal.loop-row-preserved
+loop-row-preserved c =
+    passed_more (λ (r : Row). Answers c.args.word.now r → r.definition ≡ c.args.first.now.definition) (map row_seen c.args.rows.now) (map row_seen c.loop-row.rest.now) (map row_seen c.in-Some.others.now) (row_seen c.in-Some.row.now)
+    (ap (map row_seen) c.in-Some.ensures.cases.0) (c.is_other.ensures.alike c.if-is_other.false) c.loop-row.invariant
+
+pub returns-then-is_other-clause-found : goal.returns-then-is_other-clause-found
+returns-then-is_other-clause-found c =
+    let t = c.is_other.ensures.other.0 c.if-is_other.true in
+    other_here c.args.word.now c.args.first.now.definition (map row_seen c.args.rows.now) (map row_seen c.loop-row.rest.now) (map row_seen c.in-Some.others.now) (row_seen c.in-Some.row.now)
+    (ap (map row_seen) c.in-Some.ensures.cases.0) t.0 t.1 c.loop-row.invariant
+
+pub returns-clause-none : goal.returns-clause-none
+returns-clause-none c =
+    all_passed (λ (r : Row). Answers c.args.word.now r → r.definition ≡ c.args.first.now.definition) (map row_seen c.args.rows.now) (map row_seen c.loop-row.rest.now) (nothing_left row_seen c.loop-row.rest.now c.in_default.ensures.cases) c.loop-row.invariant
