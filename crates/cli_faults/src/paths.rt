@@ -156,17 +156,14 @@ fn files_named<'a>(
     }
     for argument in row.arguments {
         if argument.role.is_read() && argument.name != shelf {
-            push_files(&mut files, argument.role, words(matches, argument.name))?;
+            let paths = matches.get_strs(argument.name).unwrap_or(&[]);
+            push_files(&mut files, argument.role, paths)?;
         }
     }
     if ids_are_listed(row, matches) {
         files.push(FileName::StandardInput)?;
     }
     Ok(files)
-}
-
-fn words<'m, 'a>(matches: &'m ArgMatches<'a>, argument: &str) -> &'m [&'a str] {
-    matches.get_strs(argument).unwrap_or(&[])
 }
 
 // Appends the files that an argument with this role names.
@@ -197,7 +194,10 @@ fn out_named<'a>(row: &CommandRow, matches: &ArgMatches<'a>, shelf: &str) -> &'a
 // Whether the ids of entries are read from standard input.
 fn ids_are_listed(row: &CommandRow, matches: &ArgMatches<'_>) -> bool {
     match row.with_role(Role::Entries) {
-        Some(argument) => words(matches, argument).contains(&STANDARD_INPUT),
+        Some(argument) => matches
+            .get_strs(argument)
+            .unwrap_or(&[])
+            .contains(&STANDARD_INPUT),
         None => false,
     }
 }

@@ -84,7 +84,11 @@ fn is_key_to_settle(words: &[String], error: &str) -> bool {
 
 // Runs the command. The names of its files, which explain a refusal, are found first: afterwards memory may be out.
 fn perform_explained(rt: &HostRuntime, matches: &ArgMatches<'_>) -> u8 {
-    let Some((name, inner)) = command_named(matches) else {
+    // clap rejects unknown commands.
+    let Some((word, inner)) = matches.subcommand() else {
+        return complain(rt, &NO_COMMAND, MISUSE);
+    };
+    let Some(name) = CommandName::named(word) else {
         return complain(rt, &NO_COMMAND, MISUSE);
     };
     if is_table(inner) {
@@ -99,13 +103,6 @@ fn perform_explained(rt: &HostRuntime, matches: &ArgMatches<'_>) -> u8 {
         Some(ending) => status(rt, ending, named),
         None => complain(rt, &NO_COMMAND, MISUSE),
     }
-}
-
-// The command and its arguments. clap rejects unknown commands.
-fn command_named<'m, 'a>(matches: &'m ArgMatches<'a>) -> Option<(CommandName, &'m ArgMatches<'a>)> {
-    let (word, inner) = matches.subcommand()?;
-    let name = CommandName::named(word)?;
-    Some((name, inner))
 }
 
 // The files of the command, if a refusal is to be explained.
