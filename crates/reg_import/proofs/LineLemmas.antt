@@ -5,7 +5,7 @@ use Rattle.csv.specs.Writing.{row_text, default_writer}
 use Rattle.reg_report.specs.Lines.{Sheet, sheet_text, IsReady, WritesRow, AreLines}
 use Rattle.reg_import.specs.declared.reading.FileText.{FileText}
 use Rattle.reg_import.specs.declared.action.TextAction.{TextAction}
-use Rattle.reg_import.specs.Lines.{Line, lines_of, is_same, is_shown, IsImportLine}
+use Rattle.reg_import.specs.Lines.{Line, lines_of, is_shown, IsImportLine}
 use Rattle.reg_import.specs.Listing.{WritesLines}
 
 -- ---- lines of some items
