@@ -10,7 +10,9 @@ use reg_into::Choice;
 use std::io;
 
 const NOT_HANDED: &str =
-    "error: --status, --authority and --keep-going go with --into, --geojson or --proj-sql";
+    "error: --status, --authority and --keep-going go with --into, --geojson, --csv or --proj-sql";
+
+const NOT_ALL: &str = "error: --all goes with --proj-sql";
 
 /// `export`.
 pub fn export(rt: &HostRuntime, matches: &ArgMatches<'_>) -> Outcome {
@@ -19,6 +21,9 @@ pub fn export(rt: &HostRuntime, matches: &ArgMatches<'_>) -> Outcome {
         authority: matches.get_str("authority"),
     };
     let keep_going = matches.get_flag("keep-going");
+    if matches.get_flag("all") && !matches.get_flag("proj-sql") {
+        return Outcome::Misuse(NOT_ALL);
+    }
     if matches.contains_id("into") {
         return Outcome::of(export_into(rt, matches, &choice, keep_going));
     }
@@ -42,7 +47,11 @@ fn format_of(matches: &ArgMatches<'_>) -> Option<Format> {
         return Some(Format::Geojson);
     }
     if matches.get_flag("proj-sql") {
-        return Some(Format::ProjSql);
+        let all = matches.get_flag("all");
+        return Some(Format::ProjSql { all });
+    }
+    if matches.get_flag("csv") {
+        return Some(Format::Csv);
     }
     None
 }

@@ -126,7 +126,7 @@ static EXPORT: CommandRow = CommandRow {
             help: "Writes a file for each key into DIR, a new or empty folder",
             role: Role::Output,
             kind: Kind::Option("DIR"),
-            excludes: &["geojson", "proj-sql"],
+            excludes: &["geojson", "proj-sql", "csv"],
             ..FLAG
         },
         Argument {
@@ -138,6 +138,17 @@ static EXPORT: CommandRow = CommandRow {
             name: "proj-sql",
             help: "Prints SQL for an auxiliary database of PROJ",
             excludes: &["geojson"],
+            ..FLAG
+        },
+        Argument {
+            name: "csv",
+            help: "Prints a row for each key, with kind, area and status",
+            excludes: &["geojson", "proj-sql"],
+            ..FLAG
+        },
+        Argument {
+            name: "all",
+            help: "With --proj-sql: entries of EPSG, too",
             ..FLAG
         },
         STATUS,

@@ -69,7 +69,7 @@ pub const EXPORT_HELP: &str = "\
 Prints the canonical text of each entry that is not retired, superseded ones
 included, one a line, ordered by id. Line breaks within quotation marks stay.
 
-With --into, --geojson or --proj-sql it hands these entries on to other
+With --into, --geojson, --proj-sql or --csv it hands these entries on to other
 programs, or those that match --status and --authority. If two of them have one
 key and different texts, it is refused as KeyTaken ID, the least such entry of
 the least key. With --keep-going such keys are left out; the first is named at
@@ -83,16 +83,22 @@ written to DIR.new, which is then renamed: DIR has all files or is not there.
 --geojson prints a feature for each USAGE that has a BBOX. A box whose west is
 greater than its east is cut at 180 degrees. QGIS opens it.
 
---proj-sql prints SQL that puts geodetic, geographic and projected entries into
-an auxiliary database of PROJ. What PROJ's tables cannot hold is left out, with
+--proj-sql prints SQL that puts the entries into an auxiliary database of PROJ,
+vertical and compound ones too. What PROJ's tables cannot hold is left out, with
 a line \"-- left out: ID NAME\". A code that PROJ's own database has stays
-PROJ's, so give variants an authority of your own. Set PROJ_AUX_DB for a
-project, not in a login profile: with it each look-up takes longer.
+PROJ's, so give variants an authority of your own; entries of EPSG are left out
+without --all. Set PROJ_AUX_DB for a project, not in a login profile: with it
+each look-up takes longer.
+
+--csv prints a row for each key, by key: authority, code, name, kind, area and
+bounding box of the first USAGE, status, and the keys of the entries that
+supersede it. Retired entries have none.
 
 Example:
   crsreg export office.crs > all.wkt
   crsreg export office.crs --into texts
   crsreg export office.crs --geojson > office.geojson
+  crsreg export office.crs --csv > office.csv
   (projinfo --dump-db-structure; crsreg export office.crs --proj-sql) |
     sqlite3 aux.db
   PROJ_AUX_DB=aux.db projinfo OFFICE:25832";

@@ -4,5 +4,8 @@ pub mod Tables
 pub mod Codes
 pub mod Places
 pub mod Held
+pub mod Names
+pub mod Heights
+pub mod Rows
 pub mod Sql
 pub mod Graphs

@@ -21,6 +21,8 @@ pub struct Filed<'a> {
     pub entry: Vec<u8>,
     pub name: &'a [u8],
     pub keyed: Keyed<'a>,
-    /// The table, if there is one for the kind of the reference system.
+    /// The table that takes its text, if there is one for the kind of the reference system.
     pub table: Option<Table>,
+    /// The statements of a reference system whose table takes no text; none if PROJ's tables cannot hold it.
+    pub rows: Vec<u8>,
 }

@@ -57,6 +57,49 @@ pub const ROW_END: &[u8] = b",0);\n";
 
 pub const LEFT_OUT: &[u8] = b"-- left out: ";
 
+/// The authority of rows that belong to the rows of one entry. Their code is its id.
+pub const OWNER: &[u8] = b"crsreg";
+
+pub const UNIT: &[u8] =
+    b"INSERT INTO unit_of_measure(auth_name,code,name,type,conv_factor,deprecated) VALUES('crsreg',";
+
+pub const LENGTH: &[u8] = b",'length',";
+
+pub const SYSTEM: &[u8] =
+    b"INSERT INTO coordinate_system(auth_name,code,type,dimension) VALUES('crsreg',";
+
+pub const SYSTEM_END: &[u8] = b",'vertical',1);\n";
+
+pub const AXIS: &[u8] =
+    b"INSERT INTO axis(auth_name,code,name,abbrev,orientation,coordinate_system_auth_name,coordinate_system_code,coordinate_system_order,uom_auth_name,uom_code) VALUES('crsreg',";
+
+/// The names of axes that have only a letter.
+pub const HEIGHT: &[u8] = b"Gravity-related height";
+
+pub const DEPTH: &[u8] = b"Depth";
+
+pub const OF_OWNER: &[u8] = b",'crsreg',";
+
+pub const FIRST_OF_OWNER: &[u8] = b",1,'crsreg',";
+
+pub const KEY_END: &[u8] = b");\n";
+
+pub const FRAME: &[u8] =
+    b"INSERT INTO vertical_datum(auth_name,code,name,deprecated) VALUES('crsreg',";
+
+pub const VERTICAL: &[u8] =
+    b"INSERT INTO vertical_crs(auth_name,code,name,coordinate_system_auth_name,coordinate_system_code,datum_auth_name,datum_code,deprecated) VALUES(";
+
+pub const COMPOUND: &[u8] =
+    b"INSERT INTO compound_crs(auth_name,code,name,horiz_crs_auth_name,horiz_crs_code,vertical_crs_auth_name,vertical_crs_code,deprecated) VALUES(";
+
+/// Before the code of a horizontal component, and after it.
+pub const BY_OWNER: &[u8] = b"'crsreg',";
+
+pub const HORIZONTAL: &[u8] = b"||' horizontal',";
+
+pub const HORIZONTAL_AND_OWNER: &[u8] = b"||' horizontal','crsreg',";
+
 /// Parts of the graph that are not linked stand in rows and columns, so that the picture of a large register is not long and narrow.
 pub const GRAPH_START: &[u8] =
     b"digraph register {\nrankdir=LR;\npack=true;\npackmode=array;\nnode [shape=box,style=filled];\n";

@@ -1,52 +1,16 @@
 //! Statements that put reference systems into PROJ's tables.
 
 ghost use Rattle.std.specs.Prelude.{◌≡◌, ◌++◌, ◌∷◌, [], map, IfOk, OnOk};
-ghost use Rattle.text_quotes.specs.Sql.{quoted};
 ghost use Rattle.crs_export.specs.declared.markup.TheConstants as markup;
-ghost use Rattle.crs_export.specs.Sql.{start_of, type_of, row, insertion, on_line, comment, inserted_as, line_as, lines, sql};
+ghost use Rattle.crs_export.specs.Sql.{row, insertion, on_line, comment, inserted_as, line_as, lines, sql};
 
 use crate::filed::Filed;
-use crate::markup::{
-    COMMA, GEOCENTRIC, GEODETIC, GEOGRAPHIC_2D, GEOGRAPHIC_3D, LEFT_OUT, OTHER, PROJECTED, ROW_END,
-    SQL_END, SQL_START,
-};
+use crate::markup::{COMMA, LEFT_OUT, ROW_END, SQL_END, SQL_START};
+use crate::row_text::{push_field, start_of, type_of};
 use crate::table::Table;
 use crate::verdict::{Verdict, judge};
 use std::alloc::{AllocError, Global};
 use std::collections::BTreeMap;
-use text_quotes::push_sql;
-
-fn start_of(table: Table) -> &'static [u8]
-    ensures { result.now ≡ start_of table }
-{
-    match table {
-        Table::Geographic2d | Table::Geographic3d | Table::Geocentric | Table::OtherGeodetic => {
-            GEODETIC
-        }
-        Table::Projected => PROJECTED,
-    }
-}
-
-fn type_of(table: Table) -> &'static [u8]
-    ensures { result.now ≡ type_of table }
-{
-    match table {
-        Table::Geographic2d => GEOGRAPHIC_2D,
-        Table::Geographic3d => GEOGRAPHIC_3D,
-        Table::Geocentric => GEOCENTRIC,
-        Table::OtherGeodetic => OTHER,
-        Table::Projected => COMMA,
-    }
-}
-
-// Appends constant bytes and a text.
-fn push_field(text: &mut Vec<u8>, before: &[u8], value: &[u8]) -> Result<(), AllocError>
-    ensures { OnOk result (text.new.items ≡ text.old.items ++ (before.now ++ quoted value.now)) }
-{
-    text.extend_from_slice(before)?;
-    push_sql(text, value)?;
-    Ok(())
-}
 
 // Appends a row between the start of a statement and the type of the row.
 fn push_between(
@@ -103,7 +67,7 @@ fn push_inserted(text: &mut Vec<u8>, filed: &Filed<'_>) -> Result<(), AllocError
 {
     match filed.table {
         Some(table) => push_insertion(text, filed, table),
-        None => Ok(()),
+        None => text.extend_from_slice(&filed.rows),
     }
 }
 

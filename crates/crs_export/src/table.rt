@@ -1,4 +1,4 @@
-//! The tables of PROJ's database that can hold a reference system by its text.
+//! The tables of PROJ's database that take a reference system as a text.
 
 ghost use Rattle.std.specs.Prelude.{◌≡◌};
 ghost use Rattle.crs_export.specs.Tables.{system_table, table_of};
@@ -15,7 +15,8 @@ pub enum Table {
     Projected,
 }
 
-fn system_table(system: &CoordSystem) -> Table
+/// The table of a geodetic system, by its kind and its number of axes.
+pub fn system_table(system: &CoordSystem) -> Table
     ensures { result ≡ system_table system.now.kind system.now.dimension }
 {
     match (system.kind, system.dimension) {
@@ -26,7 +27,7 @@ fn system_table(system: &CoordSystem) -> Table
     }
 }
 
-/// The table for a reference system. There is none for a vertical or a compound one.
+/// The table that takes the text of a reference system. There is none for a vertical or a compound one.
 pub fn table_of(crs: &CrsParts) -> Option<Table>
     ensures { result ≡ table_of crs.now }
 {

@@ -1,13 +1,15 @@
 //! Whether an entry is inserted into PROJ's tables.
 
 ghost use Rattle.std.specs.Prelude.{◌≡◌, ◌++◌, ◌∷◌, [], List, Some, IfOk};
-ghost use Rattle.std.specs.List.{list_any};
 ghost use Rattle.crs_export.specs.declared.filed.Filed.{Filed as OneFiled};
 ghost use Rattle.crs_export.specs.Held.{Holds};
-ghost use Rattle.crs_export.specs.Sql.{starts, is_long, is_zero, is_some_text, fits, text_at, by_text, judged};
+ghost use Rattle.crs_export.specs.declared.markup.TheConstants as markup;
+ghost use Rattle.crs_export.specs.Sql.{is_same_text, has_rows, has_key, fits, text_at, by_text, judged};
 
-use crate::filed::Filed;
+use crate::filed::{Filed, Keyed};
 use crate::held::{Held, RowPlace, held_at, hold, place_of};
+use crate::markup::OWNER;
+use crate::names::{has_zero, is_long, is_some_text};
 use std::alloc::AllocError;
 use std::collections::BTreeMap;
 
@@ -21,53 +23,28 @@ pub enum Verdict {
     LeftOut,
 }
 
-fn starts(byte: u8) -> bool
-    ensures { result ≡ starts byte }
+fn is_own(authority: &[u8]) -> bool
+    ensures { result ≡ is_same_text markup.OWNER.now authority.now }
 {
-    byte < 128 || byte > 191
+    OWNER == authority
 }
 
-fn has_start(text: &[u8]) -> bool
-    ensures { result ≡ list_any starts text.now }
+fn has_key(keyed: &Keyed<'_>) -> bool
+    ensures { result ≡ has_key keyed.now }
 {
-    text.iter().any(|byte| starts(*byte))
+    is_some_text(keyed.authority) && !is_own(keyed.authority) && is_some_text(keyed.code)
 }
 
-fn is_long(name: &[u8]) -> bool
-    ensures { result ≡ is_long name.now }
+fn has_rows(filed: &Filed<'_>) -> bool
+    ensures { result ≡ has_rows filed.now }
 {
-    let Some((_, others)) = name.split_first() else {
-        return false;
-    };
-    has_start(others)
-}
-
-fn is_zero(byte: u8) -> bool
-    ensures { result ≡ is_zero byte }
-{
-    byte == 0
-}
-
-fn has_zero(text: &[u8]) -> bool
-    ensures { result ≡ list_any is_zero text.now }
-{
-    text.iter().any(|byte| is_zero(*byte))
-}
-
-fn is_some_text(text: &[u8]) -> bool
-    ensures { result ≡ is_some_text text.now }
-{
-    !text.is_empty()
+    filed.table.is_some() || is_some_text(&filed.rows)
 }
 
 fn fits(filed: &Filed<'_>) -> bool
     ensures { result ≡ fits filed.now }
 {
-    filed.table.is_some()
-        && is_some_text(filed.keyed.authority)
-        && is_some_text(filed.keyed.code)
-        && is_long(filed.name)
-        && !has_zero(filed.keyed.text)
+    has_rows(filed) && has_key(&filed.keyed) && is_long(filed.name) && !has_zero(filed.keyed.text)
 }
 
 fn by_text(text: &[u8], earlier: &[u8]) -> Verdict

@@ -11,20 +11,22 @@ use Rattle.reg_formats.specs.declared.engine.Format.{Format}
 use Rattle.reg_formats.specs.declared.engine.Format.TheVariants as format
 use Rattle.reg_formats.specs.Geojson.{IsGeojson}
 use Rattle.reg_formats.specs.ProjSql.{IsSql}
+use Rattle.reg_texts.specs.KeySheet.{IsKeySheet}
 
--- the text of some rows
-abbrev pub IsTextIn : Format → List Row → List ℕ → Type 0
-IsTextIn format.Geojson rs text = IsGeojson rs text
-IsTextIn format.ProjSql rs text = IsSql rs text
+-- the text of some rows of a content
+abbrev pub IsTextIn : Format → Content → List Row → List ℕ → Type 0
+IsTextIn format.Geojson x rs text = IsGeojson rs text
+IsTextIn (format.ProjSql all) x rs text = IsSql all rs text
+IsTextIn format.Csv x rs text = IsKeySheet x rs text
 
 -- the text of the rows whose keys have one text. Only with `keep_going` may there be others, and the least entry of the least such
 -- key is named
-pub record IsHanded (format : Format) (keep_going : Bool) (found : List Row) (taken : Option Id) (text : List ℕ) : Type 0 where
+pub record IsHanded (format : Format) (x : Content) (keep_going : Bool) (found : List Row) (taken : Option Id) (text : List ℕ) : Type 0 where
   pub kept : List Row
   pub chosen : AreChosen found kept taken
   pub all : keep_going ≡ false → taken ≡ None
-  pub is : IsTextIn format kept text
+  pub is : IsTextIn format x kept text
 
 -- the same of the chosen entries of a content
 abbrev pub HandsText : Format → Choice → Bool → Option Id → Content → List ℕ → Type 0
-HandsText format c keep_going taken x text = (found : List Row) × AreFoundIn x (asked c) found × IsHanded format keep_going found taken text
+HandsText format c keep_going taken x text = (found : List Row) × AreFoundIn x (asked c) found × IsHanded format x keep_going found taken text

@@ -1,4 +1,4 @@
-//! The commands `export --geojson`, `export --proj-sql` and `graph`.
+//! The commands `export --geojson`, `export --proj-sql`, `export --csv` and `graph`.
 
 ghost use Rattle.std.specs.Prelude.{map, Option, IfOk, IfErr};
 ghost use Rattle.reg_op.specs.Ids.{Id};
@@ -17,6 +17,7 @@ use reg_handing::{Choice, found_for, pass, uncontested};
 use reg_op::OpId;
 use reg_report::Row;
 use reg_state::Register;
+use reg_texts::sheet_of_keys;
 use std::alloc::{AllocError, Global};
 
 /// How entries are handed on.
@@ -24,8 +25,10 @@ use std::alloc::{AllocError, Global};
 pub enum Format {
     /// As a collection of features.
     Geojson,
-    /// As statements for an auxiliary database of PROJ.
-    ProjSql,
+    /// As statements for an auxiliary database of PROJ; those for entries of EPSG only with `all`.
+    ProjSql { all: bool },
+    /// As a row for each key.
+    Csv,
 }
 
 // What is handed on.
@@ -36,12 +39,18 @@ struct HandedText {
     taken: Option<OpId>,
 }
 
-fn text_in(alloc: Global, format: Format, rows: &[&Row]) -> Result<Vec<u8>, AllocError>
-    ensures { IfOk result (λ text. IsTextIn format (map row_at rows.now) text.items) }
+fn text_in(
+    alloc: Global,
+    format: Format,
+    register: &Register,
+    rows: &[&Row],
+) -> Result<Vec<u8>, AllocError>
+    ensures { IfOk result (λ text. IsTextIn format register.now (map row_at rows.now) text.items) }
 {
     match format {
         Format::Geojson => geojson_text(alloc, rows),
-        Format::ProjSql => proj_sql_text(alloc, rows),
+        Format::ProjSql { all } => proj_sql_text(alloc, rows, all),
+        Format::Csv => sheet_of_keys(alloc, register, rows),
     }
 }
 
@@ -49,10 +58,11 @@ fn text_in(alloc: Global, format: Format, rows: &[&Row]) -> Result<Vec<u8>, Allo
 fn text_of_found(
     alloc: Global,
     format: Format,
+    register: &Register,
     found: &[Row],
     keep_going: bool,
 ) -> Result<HandedText, CliFault>
-    ensures ok { IfOk result (λ made. IsHanded format keep_going (map row_seen found.now) made.taken made.text.items) }
+    ensures ok { IfOk result (λ made. IsHanded format register.now keep_going (map row_seen found.now) made.taken made.text.items) }
     ensures fault { IfErr result (IsNoText keep_going (map row_seen found.now)) }
 {
     let chosen = match uncontested(alloc, found) {
@@ -62,7 +72,7 @@ fn text_of_found(
     if let Err(fault) = pass(keep_going, chosen.taken) {
         return Err(fault);
     }
-    match text_in(alloc, format, &chosen.rows) {
+    match text_in(alloc, format, register, &chosen.rows) {
         Ok(text) => Ok(HandedText {
             text,
             taken: chosen.taken,
@@ -86,7 +96,7 @@ fn handed(
         Ok(found) => found,
         Err(_) => return Err(CliFault::Memory),
     };
-    match text_of_found(alloc, format, &found, keep_going) {
+    match text_of_found(alloc, format, register, &found, keep_going) {
         Ok(made) => Ok(made),
         Err(fault) => Err(fault),
     }

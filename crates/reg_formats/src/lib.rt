@@ -1,4 +1,4 @@
-//! A register for other programs: as GeoJSON, as SQL for PROJ, and as a graph.
+//! A register for other programs: as GeoJSON, as SQL for PROJ, as a row for each key, and as a graph.
 #![tactic(auto)]
 
 mod engine;

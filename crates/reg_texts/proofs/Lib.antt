@@ -4,6 +4,7 @@ mod SaidLemmas
 mod OrderLemmas
 mod SayingLemmas
 mod ListingLemmas
+mod KeySheetLemmas
 mod HeadLemmas
 mod LawLemmas
 mod GivenLemmas

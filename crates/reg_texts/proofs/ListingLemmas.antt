@@ -12,10 +12,10 @@ next : (n : ℕ) → 1 + n ≡ suc n
 next n = omega arith
 
 -- the runs of s ∷ ss: s with the longest prefix of ss about its text, then the runs of the suffix after that
-abbrev first_run : Said → List Said → List Run
+abbrev pub first_run : Said → List Said → List Run
 first_run s ss = record { first = s; others = take (prefix_len (is_about s) ss) ss } ∷ runs (drop (prefix_len (is_about s) ss) ss)
 
-runs_first : (s : Said) (ss : List Said) → runs (s ∷ ss) ≡ first_run s ss
+pub runs_first : (s : Said) (ss : List Said) → runs (s ∷ ss) ≡ first_run s ss
 runs_first s [] = refl
 runs_first s (t ∷ ts) =
     ap (before_runs s) (runs_first t ts)
@@ -29,7 +29,7 @@ runs_first s (t ∷ ts) =
       | false ↦ λ e. ap (λ rs. record { first = s; others = [] } ∷ rs) (sym (runs_first t ts))
     ] refl)
 
-prefix_map : (s : Saying) (ss : List Saying) → prefix_len (both_about s) ss ≡ prefix_len (is_about (said s)) (map said ss)
+pub prefix_map : (s : Saying) (ss : List Saying) → prefix_len (both_about s) ss ≡ prefix_len (is_about (said s)) (map said ss)
 prefix_map s [] = refl
 prefix_map s (t ∷ ts) = ap (λ n. cond (both_about s t) (1 + n) 0) (prefix_map s ts)
 

@@ -4,6 +4,7 @@ ghost use Rattle.std.specs.Prelude.{◌≡◌, ◌++◌, List, map, IfOk, OnOk};
 ghost use Rattle.reg_op.specs.Set.{Ascends};
 ghost use Rattle.reg_report.specs.Seen.{row_seen};
 ghost use Rattle.reg_keys.specs.Rows.{row_cmp};
+ghost use Rattle.reg_texts.specs.Compare.{seen_rows};
 ghost use Rattle.reg_texts.specs.Said.{IsLive, Said, said, SaysStatus};
 ghost use Rattle.reg_texts.specs.Gathered.{Each, AreGathered, AreOfRow, IsSaidBy, IsOfSuccessor};
 
@@ -24,6 +25,22 @@ pub fn sayings<'a>(alloc: Global, rows: &'a [Row]) -> Result<Vec<Saying<'a>>, Al
     while let Some((row, others)) = rest.split_first() {
         push_row(&mut made, rows, row)?;
         rest = others;
+    }
+    Ok(made)
+}
+
+/// The same about the texts of some rows.
+pub fn sayings_about<'a>(
+    alloc: Global,
+    rows: &'a [Row],
+    some: &'a [&Row],
+) -> Result<Vec<Saying<'a>>, AllocError>
+    requires { Ascends row_cmp (map row_seen rows.now) }
+    ensures { IfOk result (λ made. Each (AreOfRow (map row_seen rows.now)) (seen_rows some.now) (map said made.items)) }
+{
+    let mut made = Vec::new(alloc);
+    for row in some {
+        push_row(&mut made, rows, *row)?;
     }
     Ok(made)
 }

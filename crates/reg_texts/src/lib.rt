@@ -7,6 +7,8 @@ mod compare;
 mod gathering;
 mod given;
 mod key;
+mod key_fields;
+mod key_lines;
 pub mod laws;
 mod listing;
 mod row;
@@ -16,4 +18,5 @@ mod version;
 
 pub use against::{Unread, WhereRead, compared_texts, compared_where_read};
 pub use compare::{Uncompared, compared_key, compared_text, heading};
+pub use key_lines::sheet_of_keys;
 pub use texts::texts_of;

@@ -34,8 +34,8 @@ fn is_about(one: &Saying, other: &Saying) -> bool
     one.text == other.text
 }
 
-// How many of the first statements are about the text of this one.
-fn run_len(first: &Saying, others: &[Saying]) -> usize
+/// How many of the first statements are about the text of this one.
+pub fn run_len(first: &Saying, others: &[Saying]) -> usize
     ensures { result ≡ prefix_len (both_about first.now) others.now }
 {
     others.iter().take_while(|s| is_about(first, s)).count()
@@ -97,7 +97,8 @@ fn is_named(saying: &Saying) -> bool
     saying.by.is_some()
 }
 
-fn push_successors(text: &mut Vec<u8>, sayings: &[Saying]) -> Result<(), AllocError>
+/// Appends the keys of successors, each after a space.
+pub fn push_successors(text: &mut Vec<u8>, sayings: &[Saying]) -> Result<(), AllocError>
     ensures { OnOk result (text.new.items ≡ text.old.items ++ flat_map successor_text (map said sayings.now)) }
 {
     for saying in sayings {

@@ -22,8 +22,8 @@ pub fn texts_of(alloc: Global, register: &Register) -> Result<Vec<u8>, AllocErro
     Ok(text)
 }
 
-// Sorted, each once.
-fn in_order(sayings: Vec<Saying<'_>>) -> Vec<Saying<'_>>
+/// Sorted, each once.
+pub fn in_order(sayings: Vec<Saying<'_>>) -> Vec<Saying<'_>>
     ensures { IsInOrder (map said sayings.entry.items) (map said result.items) }
 {
     let mut made = sayings;

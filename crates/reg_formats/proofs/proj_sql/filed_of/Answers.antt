@@ -10,7 +10,5 @@ returns c = record {
   named = c.as_bytes.ensures;
   text = c.as_bytes-3.ensures.bytes;
   number = c.number_of.ensures;
-  crs = c.in_ok-table.ensures.0;
-  spelled = c.in_ok-table.ensures.1;
-  table = c.in_ok-table.ensures.2;
+  taken = c.in_ok-taken.ensures;
 }

@@ -5,4 +5,4 @@ use Rattle.reg_formats.proofs.EachLemmas.{Gathers}
 use Rattle.reg_formats.proofs.proj_sql.proj_sql_text.Given as goal
 
 abbrev pub invariant-loop-row : goal.invariant-loop-row
-invariant-loop-row l = Gathers FilesAs (map row_at l.rows) (map row_at (drop l.row-index l.rows)) l.made.items
+invariant-loop-row l = Gathers (FilesAs l.all) (map row_at l.rows) (map row_at (drop l.row-index l.rows)) l.made.items
