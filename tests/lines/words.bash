@@ -67,6 +67,13 @@ END_OF_PROGRAM
 # flat NAME USAGES CODE: prints a geographic system with these usages.
 flat() { printf 'GEOGCRS["%s",DATUM["D",ELLIPSOID["E",6378137,298.25]],CS[ellipsoidal,2],AXIS["latitude (Lat)",north],AXIS["longitude (Lon)",east],ANGLEUNIT["degree",0.0174532925199433],%sID["X",%s]]' "$@"; }
 
+# base NAME: prints such a system without usages and identifier, as a component.
+base() { flat "$1" '' 1 | sed 's/,ID\["X",1\]]$/]/'; }
+
+# up NAME FRAME AXIS DIRECTION UNIT FACTOR: prints a vertical system up to the unit; keyed TEXT AUTHORITY CODE ends it.
+up() { printf 'VERTCRS["%s",VDATUM["%s"],CS[vertical,1],AXIS["%s",%s],LENGTHUNIT["%s",%s]' "$@"; }
+keyed() { printf '%s,ID["%s",%s]]' "$@"; }
+
 # usage SCOPE AREA BOX: prints a usage with a bounding box; AREA is empty, or an AREA and a comma.
 usage() { printf 'USAGE[SCOPE["%s"],%sBBOX[%s]],' "$@"; }
 
