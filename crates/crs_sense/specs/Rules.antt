@@ -1,24 +1,29 @@
 -- The rules, and whether a reference system breaks one.
-use Rattle.std.specs.Prelude.{ℕ, Bool, false, ◌||◌, List, codes}
+use Rattle.std.specs.Prelude.{ℕ, Bool, false, ◌||◌, List, [], ◌∷◌, codes}
 use Rattle.crs_part.specs.declared.crs.Single.{Single}
 use Rattle.crs_part.specs.declared.crs.Compound.{Compound}
 use Rattle.crs_part.specs.declared.crs.CrsParts.{CrsParts}
 use Rattle.crs_part.specs.declared.crs.CrsParts.TheVariants as whole
 use Rattle.crs_sense.specs.declared.rule.Rule.{Rule}
 use Rattle.crs_sense.specs.declared.rule.Rule.TheVariants as the
-use Rattle.crs_sense.specs.Accuracy.{accuracy}
-use Rattle.crs_sense.specs.Angle.{angle}
-use Rattle.crs_sense.specs.Axes.{axes}
-use Rattle.crs_sense.specs.AxisName.{axis_name}
-use Rattle.crs_sense.specs.Box.{box_of, some_box_odd}
-use Rattle.crs_sense.specs.Packed.{packed}
-use Rattle.crs_sense.specs.FalseUnit.{false_unit}
-use Rattle.crs_sense.specs.Figure.{figure}
-use Rattle.crs_sense.specs.Height.{height}
-use Rattle.crs_sense.specs.Parallels.{parallels}
-use Rattle.crs_sense.specs.Quantity.{quantity}
-use Rattle.crs_sense.specs.Scale.{scale}
-use Rattle.crs_sense.specs.UnitName.{unit_name}
+use Rattle.crs_axes.specs.Axes.{axes}
+use Rattle.crs_axes.specs.AxisName.{axis_name}
+use Rattle.crs_axes.specs.Box.{box_of, some_box_odd}
+use Rattle.crs_axes.specs.Height.{height}
+use Rattle.crs_axes.specs.UnitName.{unit_name}
+use Rattle.crs_conversion.specs.Angle.{angle}
+use Rattle.crs_conversion.specs.FalseUnit.{false_unit}
+use Rattle.crs_conversion.specs.Packed.{packed}
+use Rattle.crs_conversion.specs.Parallels.{parallels}
+use Rattle.crs_conversion.specs.Quantity.{quantity}
+use Rattle.crs_conversion.specs.Scale.{scale}
+use Rattle.crs_frame.specs.Accuracy.{accuracy}
+use Rattle.crs_frame.specs.Figure.{figure}
+use Rattle.crs_frame.specs.Prime.{prime}
+use Rattle.crs_names.specs.Key.{key, whole_key}
+use Rattle.crs_names.specs.Name.{name, whole_name}
+use Rattle.crs_units.specs.Unit.{unit, whole_unit}
+use Rattle.crs_zones.specs.Zone.{zone}
 
 -- the name that is printed
 abbrev pub rule_name : Rule → List ℕ
@@ -31,10 +36,19 @@ rule_name the.Packed = codes "dms"
 rule_name the.FalseUnit = codes "falseunit"
 rule_name the.Figure = codes "figure"
 rule_name the.Height = codes "height"
+rule_name the.Key = codes "key"
+rule_name the.Name = codes "name"
 rule_name the.Parallels = codes "parallels"
+rule_name the.Prime = codes "primem"
 rule_name the.Quantity = codes "quantity"
 rule_name the.Scale = codes "scale"
+rule_name the.Unit = codes "unit"
 rule_name the.UnitName = codes "unitname"
+rule_name the.Zone = codes "zone"
+
+-- all rules, by name
+abbrev pub rules_listed : List Rule
+rules_listed = the.Accuracy ∷ the.Angle ∷ the.Axes ∷ the.AxisName ∷ the.Box ∷ the.Packed ∷ the.FalseUnit ∷ the.Figure ∷ the.Height ∷ the.Key ∷ the.Name ∷ the.Parallels ∷ the.Prime ∷ the.Quantity ∷ the.Scale ∷ the.Unit ∷ the.UnitName ∷ the.Zone ∷ []
 
 -- a system of one part breaks the rule
 abbrev pub breaks_single : Rule → Single → Bool
@@ -47,10 +61,15 @@ breaks_single the.Packed crs = packed crs
 breaks_single the.FalseUnit crs = false_unit crs
 breaks_single the.Figure crs = figure crs
 breaks_single the.Height crs = height crs
+breaks_single the.Key crs = key crs
+breaks_single the.Name crs = name crs
 breaks_single the.Parallels crs = parallels crs
+breaks_single the.Prime crs = prime crs
 breaks_single the.Quantity crs = quantity crs
 breaks_single the.Scale crs = scale crs
+breaks_single the.Unit crs = unit crs
 breaks_single the.UnitName crs = unit_name crs
+breaks_single the.Zone crs = zone crs
 
 -- a compound breaks it, apart from its components
 abbrev pub breaks_whole : Rule → Compound → Bool
@@ -63,10 +82,15 @@ breaks_whole the.Packed crs = false
 breaks_whole the.FalseUnit crs = false
 breaks_whole the.Figure crs = false
 breaks_whole the.Height crs = false
+breaks_whole the.Key crs = whole_key crs
+breaks_whole the.Name crs = whole_name crs
 breaks_whole the.Parallels crs = false
+breaks_whole the.Prime crs = false
 breaks_whole the.Quantity crs = false
 breaks_whole the.Scale crs = false
+breaks_whole the.Unit crs = whole_unit crs
 breaks_whole the.UnitName crs = false
+breaks_whole the.Zone crs = false
 
 -- a reference system breaks it: one of its parts does
 abbrev pub breaks : Rule → CrsParts → Bool

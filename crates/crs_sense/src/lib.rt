@@ -1,23 +1,7 @@
-//! Whether a coordinate reference system makes sense: rules that an expert would ask about.
+//! Whether a coordinate reference system makes sense: the rules that an expert would ask about, and their sentences.
 #![tactic(auto)]
 
-mod accuracy;
-mod angle;
-mod axes;
-mod axis_name;
-mod boxes;
-mod false_unit;
-mod figure;
-mod height;
-mod names;
-mod packed;
-mod parallels;
-mod parts;
-mod quantity;
 mod rule;
-mod scale;
-mod sizes;
-mod unit_name;
+mod sentences;
 
 pub use rule::{RULES, Rule};
-pub use sizes::{is_below, is_beyond};

@@ -1,43 +1,65 @@
 //! The rules, and whether a reference system breaks one.
 
-ghost use Rattle.std.specs.Prelude.{◌≡◌, ◌||◌};
-ghost use Rattle.crs_sense.specs.Rules.{rule_name, breaks_single, breaks_whole, breaks};
+ghost use Rattle.std.specs.Prelude.{◌≡◌, ◌||◌, map};
+ghost use Rattle.std.specs.Char.{to_ascii_lowercase};
+ghost use Rattle.crs_part.specs.Words.{first_word};
+ghost use Rattle.crs_sense.specs.Rules.{rule_name, rules_listed, breaks_single, breaks_whole, breaks};
 
-use crate::accuracy::accuracy;
-use crate::angle::angle;
-use crate::axes::axes;
-use crate::axis_name::axis_name;
-use crate::boxes::{box_of, some_box_odd};
-use crate::false_unit::false_unit;
-use crate::figure::figure;
-use crate::height::height;
-use crate::packed::packed;
-use crate::parallels::parallels;
-use crate::quantity::quantity;
-use crate::scale::scale;
-use crate::unit_name::unit_name;
-use crs_part::{Compound, CrsParts, Single};
+use crs_axes::{
+    breaks_axes, breaks_axis_name, breaks_box, breaks_height, breaks_unit_name, some_box_odd,
+};
+use crs_conversion::{
+    breaks_angle, breaks_false_unit, breaks_packed, breaks_parallels, breaks_quantity, breaks_scale,
+};
+use crs_frame::{breaks_accuracy, breaks_figure, breaks_prime};
+use crs_names::{breaks_key, breaks_name, whole_breaks_key, whole_breaks_name};
+use crs_part::{Compound, CrsParts, Single, Word, first_of};
+use crs_units::{breaks_unit, whole_breaks_unit};
+use crs_zones::breaks_zone;
 
 /// What an expert would ask about, one rule each.
 #[derive(Clone, Copy, Debug, PartialEq, Eq)]
 pub enum Rule {
+    /// An ensemble of an odd accuracy, or of one member.
     Accuracy,
+    /// An angle that is too large.
     Angle,
+    /// Axes on one line.
     Axes,
+    /// An axis whose name tells another direction.
     AxisName,
+    /// A bounding box that is none.
     Box,
+    /// An angle in packed degrees, minutes and seconds.
     Packed,
+    /// A false easting or northing in another unit than the axes.
     FalseUnit,
+    /// An ellipsoid with odd numbers.
     Figure,
+    /// A vertical system whose axis runs against its name.
     Height,
+    /// An identifier that is odd, or nearly another one.
+    Key,
+    /// A name that is empty, or has odd blanks or control characters.
+    Name,
+    /// Standard parallels that are equal or opposite.
     Parallels,
+    /// A prime meridian with another longitude than its name says.
+    Prime,
+    /// A parameter whose unit measures something else than its name tells.
     Quantity,
+    /// A scale factor that is not near 1.
     Scale,
+    /// A unit with another factor than its name says.
+    Unit,
+    /// A system whose name has a unit that no axis has.
     UnitName,
+    /// A conversion that is not that of the zone in its name.
+    Zone,
 }
 
 /// All rules, by name.
-pub static RULES: [Rule; 13] = [
+pub static RULES: [Rule; 18] = [
     Rule::Accuracy,
     Rule::Angle,
     Rule::Axes,
@@ -47,11 +69,24 @@ pub static RULES: [Rule; 13] = [
     Rule::FalseUnit,
     Rule::Figure,
     Rule::Height,
+    Rule::Key,
+    Rule::Name,
     Rule::Parallels,
+    Rule::Prime,
     Rule::Quantity,
     Rule::Scale,
+    Rule::Unit,
     Rule::UnitName,
+    Rule::Zone,
 ];
+
+impl Word for Rule {
+    ghost spelled = { rule_name };
+
+    fn word(self) -> &'static [u8] {
+        self.name().as_bytes()
+    }
+}
 
 impl Rule {
     /// The name that is printed.
@@ -68,11 +103,23 @@ impl Rule {
             Rule::FalseUnit => "falseunit",
             Rule::Figure => "figure",
             Rule::Height => "height",
+            Rule::Key => "key",
+            Rule::Name => "name",
             Rule::Parallels => "parallels",
+            Rule::Prime => "primem",
             Rule::Quantity => "quantity",
             Rule::Scale => "scale",
+            Rule::Unit => "unit",
             Rule::UnitName => "unitname",
+            Rule::Zone => "zone",
         }
+    }
+
+    /// The rule of this name, in any letter case.
+    pub fn of_name(name: &[u8]) -> Option<Rule>
+        ensures { result ≡ first_word rule_name rules_listed (map to_ascii_lowercase name.now) }
+    {
+        first_of(&RULES, name)
     }
 
     /// Whether the reference system breaks the rule, in one of its parts.
@@ -92,23 +139,28 @@ impl Rule {
     }
 
     // Whether a system of one part does.
-    fn breaks_single(self, crs: &Single) -> bool
+    pub(crate) fn breaks_single(self, crs: &Single) -> bool
         ensures { result ≡ breaks_single self crs.now }
     {
         match self {
-            Rule::Accuracy => accuracy(crs),
-            Rule::Angle => angle(crs),
-            Rule::Axes => axes(crs),
-            Rule::AxisName => axis_name(crs),
-            Rule::Box => box_of(crs),
-            Rule::Packed => packed(crs),
-            Rule::FalseUnit => false_unit(crs),
-            Rule::Figure => figure(crs),
-            Rule::Height => height(crs),
-            Rule::Parallels => parallels(crs),
-            Rule::Quantity => quantity(crs),
-            Rule::Scale => scale(crs),
-            Rule::UnitName => unit_name(crs),
+            Rule::Accuracy => breaks_accuracy(crs),
+            Rule::Angle => breaks_angle(crs),
+            Rule::Axes => breaks_axes(crs),
+            Rule::AxisName => breaks_axis_name(crs),
+            Rule::Box => breaks_box(crs),
+            Rule::Packed => breaks_packed(crs),
+            Rule::FalseUnit => breaks_false_unit(crs),
+            Rule::Figure => breaks_figure(crs),
+            Rule::Height => breaks_height(crs),
+            Rule::Key => breaks_key(crs),
+            Rule::Name => breaks_name(crs),
+            Rule::Parallels => breaks_parallels(crs),
+            Rule::Prime => breaks_prime(crs),
+            Rule::Quantity => breaks_quantity(crs),
+            Rule::Scale => breaks_scale(crs),
+            Rule::Unit => breaks_unit(crs),
+            Rule::UnitName => breaks_unit_name(crs),
+            Rule::Zone => breaks_zone(crs),
         }
     }
 
@@ -118,6 +170,9 @@ impl Rule {
     {
         match self {
             Rule::Box => some_box_odd(crs.usages.as_slice()),
+            Rule::Key => whole_breaks_key(crs),
+            Rule::Name => whole_breaks_name(crs),
+            Rule::Unit => whole_breaks_unit(crs),
             _ => false,
         }
     }

@@ -1,9 +1,9 @@
 //! Units whose factors are known: their names and their factors.
 
-ghost use Rattle.std.specs.Prelude.{◌≡◌, ◌≤◌, map};
+ghost use Rattle.std.specs.Prelude.{◌≡◌, map};
 ghost use Rattle.std.specs.Char.{to_ascii_lowercase};
 ghost use Rattle.crs_part.specs.Words.{first_word};
-ghost use Rattle.crs_units.specs.Known.{unit_word, digits, places, units_listed};
+ghost use Rattle.crs_units.specs.Known.{unit_word, units_listed};
 
 use crs_part::{Word, first_of};
 
@@ -267,140 +267,5 @@ impl KnownUnit {
         ensures { result ≡ first_word unit_word units_listed (map to_ascii_lowercase name.now) }
     {
         first_of(&UNITS, name)
-    }
-
-    /// The factor's digits.
-    pub fn digits(self) -> u64
-        ensures { result ≡ digits self }
-    {
-        match self {
-            KnownUnit::Millimetre => 1,
-            KnownUnit::Centimetre => 1,
-            KnownUnit::Metre => 1,
-            KnownUnit::Foot => 3_048,
-            KnownUnit::USSurveyFoot => 304_800_609_601_219,
-            KnownUnit::ClarkeFoot => 3_047_972_654,
-            KnownUnit::Fathom => 18_288,
-            KnownUnit::NauticalMile => 1_852,
-            KnownUnit::GermanLegalMetre => 10_000_135_965,
-            KnownUnit::USSurveyChain => 201_168_402_336_805,
-            KnownUnit::USSurveyLink => 201_168_402_336_805,
-            KnownUnit::USSurveyMile => 160_934_721_869_444,
-            KnownUnit::Kilometre => 1_000,
-            KnownUnit::ClarkeYard => 9_143_917_962,
-            KnownUnit::ClarkeChain => 201_166_195_164,
-            KnownUnit::ClarkeLink => 201_166_195_164,
-            KnownUnit::BritishYardSears1922 => 914_398_414_616_029,
-            KnownUnit::BritishFootSears1922 => 304_799_471_538_676,
-            KnownUnit::BritishChainSears1922 => 201_167_651_215_526,
-            KnownUnit::BritishChainBenoit1895B => 201_167_824_943_759,
-            KnownUnit::IndianFoot => 304_799_510_248_147,
-            KnownUnit::IndianYard => 914_398_530_744_441,
-            KnownUnit::IndianYard1937 => 91_439_523,
-            KnownUnit::StatuteMile => 1_609_344,
-            KnownUnit::GoldCoastFoot => 304_799_710_181_509,
-            KnownUnit::BritishFoot1936 => 3_048_007_491,
-            KnownUnit::Yard => 9_144,
-            KnownUnit::Chain => 201_168,
-            KnownUnit::Link => 201_168,
-            KnownUnit::BritishChainSears1922Truncated => 20_116_756,
-            KnownUnit::Radian => 1,
-            KnownUnit::Degree => 174_532_925_199_433,
-            KnownUnit::ArcMinute => 290_888_208_665_721,
-            KnownUnit::ArcSecond => 484_813_681_109_535,
-            KnownUnit::Grad => 157_079_632_679_489,
-            KnownUnit::Microradian => 1,
-            KnownUnit::Unity => 1,
-            KnownUnit::PartsPerMillion => 1,
-            KnownUnit::Inch => 254,
-            KnownUnit::Decimetre => 1,
-            KnownUnit::Meter => 1,
-            KnownUnit::LetterM => 1,
-            KnownUnit::Kilometer => 1_000,
-            KnownUnit::Km => 1_000,
-            KnownUnit::Millimeter => 1,
-            KnownUnit::Centimeter => 1,
-            KnownUnit::Decimeter => 1,
-            KnownUnit::Ft => 3_048,
-            KnownUnit::Feet => 3_048,
-            KnownUnit::FootUs => 304_800_609_601_219,
-            KnownUnit::UsFoot => 304_800_609_601_219,
-            KnownUnit::Ftus => 304_800_609_601_219,
-            KnownUnit::DegreeMinuteSecondHemisphere => 174_532_925_199_433,
-            KnownUnit::Deg => 174_532_925_199_433,
-            KnownUnit::Gon => 157_079_632_679_489,
-            KnownUnit::Rad => 1,
-            KnownUnit::FootUsUnderscore => 304_800_609_601_219,
-            KnownUnit::MeterGermanUnderscore => 10_000_135_965,
-            KnownUnit::GermanLegalMeter => 10_000_135_965,
-        }
-    }
-
-    /// How many of these are decimal places.
-    pub fn places(self) -> u32
-        ensures value { result ≡ places self }
-        ensures few { result ≤ 30 }
-    {
-        match self {
-            KnownUnit::Millimetre => 3,
-            KnownUnit::Centimetre => 2,
-            KnownUnit::Metre => 0,
-            KnownUnit::Foot => 4,
-            KnownUnit::USSurveyFoot => 15,
-            KnownUnit::ClarkeFoot => 10,
-            KnownUnit::Fathom => 4,
-            KnownUnit::NauticalMile => 0,
-            KnownUnit::GermanLegalMetre => 10,
-            KnownUnit::USSurveyChain => 13,
-            KnownUnit::USSurveyLink => 15,
-            KnownUnit::USSurveyMile => 11,
-            KnownUnit::Kilometre => 0,
-            KnownUnit::ClarkeYard => 10,
-            KnownUnit::ClarkeChain => 10,
-            KnownUnit::ClarkeLink => 12,
-            KnownUnit::BritishYardSears1922 => 15,
-            KnownUnit::BritishFootSears1922 => 15,
-            KnownUnit::BritishChainSears1922 => 13,
-            KnownUnit::BritishChainBenoit1895B => 13,
-            KnownUnit::IndianFoot => 15,
-            KnownUnit::IndianYard => 15,
-            KnownUnit::IndianYard1937 => 8,
-            KnownUnit::StatuteMile => 3,
-            KnownUnit::GoldCoastFoot => 15,
-            KnownUnit::BritishFoot1936 => 10,
-            KnownUnit::Yard => 4,
-            KnownUnit::Chain => 4,
-            KnownUnit::Link => 6,
-            KnownUnit::BritishChainSears1922Truncated => 6,
-            KnownUnit::Radian => 0,
-            KnownUnit::Degree => 16,
-            KnownUnit::ArcMinute => 18,
-            KnownUnit::ArcSecond => 20,
-            KnownUnit::Grad => 16,
-            KnownUnit::Microradian => 6,
-            KnownUnit::Unity => 0,
-            KnownUnit::PartsPerMillion => 6,
-            KnownUnit::Inch => 4,
-            KnownUnit::Decimetre => 1,
-            KnownUnit::Meter => 0,
-            KnownUnit::LetterM => 0,
-            KnownUnit::Kilometer => 0,
-            KnownUnit::Km => 0,
-            KnownUnit::Millimeter => 3,
-            KnownUnit::Centimeter => 2,
-            KnownUnit::Decimeter => 1,
-            KnownUnit::Ft => 4,
-            KnownUnit::Feet => 4,
-            KnownUnit::FootUs => 15,
-            KnownUnit::UsFoot => 15,
-            KnownUnit::Ftus => 15,
-            KnownUnit::DegreeMinuteSecondHemisphere => 16,
-            KnownUnit::Deg => 16,
-            KnownUnit::Gon => 16,
-            KnownUnit::Rad => 0,
-            KnownUnit::FootUsUnderscore => 15,
-            KnownUnit::MeterGermanUnderscore => 10,
-            KnownUnit::GermanLegalMeter => 10,
-        }
     }
 }

@@ -1,31 +1,89 @@
 //! Units with another factor than their name says.
 
-ghost use Rattle.std.specs.Prelude.{◌≡◌, ◌||◌};
-ghost use Rattle.std.specs.List.{list_any};
+ghost use Rattle.std.specs.Prelude.{◌≡◌, IfOk};
+ghost use Rattle.std.specs.List.{find};
 ghost use Rattle.crs_value.specs.Units.{units_of, own_units};
-ghost use Rattle.crs_units.specs.Unit.{is_off, is_unit_odd, has_odd_unit};
+ghost use Rattle.crs_units.specs.Unit.{is_off, is_unit_odd, unit, whole_unit, source_said, unit_said, unit_told};
 
 use crate::known::KnownUnit;
 use crate::walk::HasUnits;
+use crs_exact::{is_below, is_beyond, joined, number};
 use crs_number::Decimal;
-use crs_part::{Compound, CrsParts, UnitDefinition};
-use crs_sense::{is_below, is_beyond};
+use crs_part::{Compound, Single, UnitDefinition};
+use std::alloc::{AllocError, Global};
 
-/// Whether a unit of the reference system has a known name, and a factor that differs from the known one by more than one part
-/// in 10^10.
-pub fn has_odd_unit(crs: &CrsParts) -> bool
-    ensures { result ≡ has_odd_unit crs.now }
+/// Whether a unit of the system has a known name, and a factor that differs from the known one by more than one part in 10^10.
+pub fn breaks_unit(crs: &Single) -> bool
+    ensures { result ≡ unit crs.now }
 {
-    match crs {
-        CrsParts::Single(crs) => crs.has_odd_unit(),
-        CrsParts::Compound(crs) => unit_of_compound(crs.get()),
+    match crs.odd_unit() {
+        Some(_) => true,
+        None => false,
     }
 }
 
-fn unit_of_compound(crs: &Compound) -> bool
-    ensures { result ≡ (list_any is_unit_odd (units_of crs.now.first) || list_any is_unit_odd (units_of crs.now.second) || list_any is_unit_odd (own_units crs.now)) }
+/// Whether a unit of a compound itself does, without those of its components.
+pub fn whole_breaks_unit(crs: &Compound) -> bool
+    ensures { result ≡ whole_unit crs.now }
 {
-    crs.first.has_odd_unit() || crs.second.has_odd_unit() || crs.usages.has_odd_unit()
+    match crs.usages.odd_unit() {
+        Some(_) => true,
+        None => false,
+    }
+}
+
+/// The first such unit of the system, with the known factor.
+pub fn tell_unit(alloc: Global, crs: &Single) -> Result<Vec<u8>, AllocError>
+    ensures { IfOk result (λ text. text.items ≡ unit_told (find is_unit_odd (units_of crs.now))) }
+{
+    match crs.odd_unit() {
+        Some(unit) => sourced(alloc, unit),
+        None => Ok(Vec::new(alloc)),
+    }
+}
+
+/// The first such unit of a compound itself.
+pub fn whole_tells_unit(alloc: Global, crs: &Compound) -> Result<Vec<u8>, AllocError>
+    ensures { IfOk result (λ text. text.items ≡ unit_told (find is_unit_odd (own_units crs.now))) }
+{
+    match crs.usages.odd_unit() {
+        Some(unit) => sourced(alloc, unit),
+        None => Ok(Vec::new(alloc)),
+    }
+}
+
+fn sourced(alloc: Global, unit: &UnitDefinition) -> Result<Vec<u8>, AllocError>
+    ensures { IfOk result (λ text. text.items ≡ unit_said unit.now (source_said unit.now.name.bytes)) }
+{
+    let source = source_said(unit.name.as_bytes());
+    let text = unit_said(alloc, unit, source)?;
+    Ok(text)
+}
+
+fn unit_said(alloc: Global, unit: &UnitDefinition, source: &[u8]) -> Result<Vec<u8>, AllocError>
+    ensures { IfOk result (λ text. text.items ≡ unit_said unit.now source.now) }
+{
+    let given = number(alloc, unit.factor)?;
+    joined(
+        alloc,
+        &[
+            b"\"",
+            unit.name.as_bytes(),
+            b"\" is given as ",
+            &given,
+            b", and ",
+            source,
+        ],
+    )
+}
+
+fn source_said(name: &[u8]) -> &'static [u8]
+    ensures { result.now ≡ source_said name.now }
+{
+    match KnownUnit::of_name(name) {
+        Some(known) => known.source(),
+        None => b"",
+    }
 }
 
 /// Whether the unit has a known name, and another factor.

@@ -1,8 +1,8 @@
 //! All units of a reference system.
 
-ghost use Rattle.std.specs.Prelude.{◌≡◌, List, []};
-ghost use Rattle.std.specs.List.{list_any, flat_map};
-ghost use Rattle.std.specs.Option.{option_map_or};
+ghost use Rattle.std.specs.Prelude.{◌≡◌, ◌++◌, List, []};
+ghost use Rattle.std.specs.List.{find, flat_map};
+ghost use Rattle.std.specs.Option.{option_map, option_map_or};
 ghost use Rattle.crs_part.specs.Slots.{items_of};
 ghost use Rattle.crs_part.specs.declared.units.UnitDefinition.{UnitDefinition};
 ghost use Rattle.crs_value.specs.Units.{any_units, length_units, angle_units, extent_units, usage_units, frame_units, prime_meridian_units, meridian_units, axis_units, parameter_units, conversion_units, base_units, units_of};
@@ -18,17 +18,18 @@ use crs_part::{
 pub(crate) trait HasUnits {
     ghost units: { Self → List UnitDefinition };
 
-    fn has_odd_unit(&self) -> bool
-        ensures { result ≡ list_any is_unit_odd (units self.now) };
+    /// The first unit with another factor than its name says.
+    fn odd_unit(&self) -> Option<&UnitDefinition>
+        ensures { option_map (λ unit. unit.now) result ≡ find is_unit_odd (units self.now) };
 }
 
 impl<T: HasUnits> HasUnits for Option<T> {
     ghost units = { λ part. option_map_or T.units part [] };
 
-    fn has_odd_unit(&self) -> bool {
+    fn odd_unit(&self) -> Option<&UnitDefinition> {
         match self {
-            Some(part) => part.has_odd_unit(),
-            None => false,
+            Some(part) => part.odd_unit(),
+            None => None,
         }
     }
 }
@@ -36,22 +37,43 @@ impl<T: HasUnits> HasUnits for Option<T> {
 impl<T: HasUnits> HasUnits for Many<T> {
     ghost units = { flat_map T.units };
 
-    fn has_odd_unit(&self) -> bool {
-        have_odd_unit(self.as_slice())
+    fn odd_unit(&self) -> Option<&UnitDefinition> {
+        odd_unit_in(self.as_slice())
     }
 }
 
-fn have_odd_unit<T: HasUnits>(parts: &[T]) -> bool
-    ensures { result ≡ list_any (λ part. list_any is_unit_odd (T.units part)) parts.now }
+fn odd_unit_in<T: HasUnits>(parts: &[T]) -> Option<&UnitDefinition>
+    ensures { option_map (λ unit. unit.now) result ≡ find is_unit_odd (flat_map T.units parts.now) }
 {
-    parts.iter().any(|part| part.has_odd_unit())
+    let mut rest = parts;
+    while let Some((part, others)) = rest.split_first() {
+        if let Some(unit) = part.odd_unit() {
+            return Some(unit);
+        }
+        rest = others;
+    }
+    None
+}
+
+// The first one, or else the second.
+fn or<'a>(
+    first: Option<&'a UnitDefinition>,
+    second: Option<&'a UnitDefinition>,
+) -> Option<&'a UnitDefinition>
+    ensures { (xs ys : List UnitDefinition) → option_map (λ unit. unit.now) first.entry ≡ find is_unit_odd xs
+        → option_map (λ unit. unit.now) second.entry ≡ find is_unit_odd ys → option_map (λ unit. unit.now) result ≡ find is_unit_odd (xs ++ ys) }
+{
+    match first {
+        Some(_) => first,
+        None => second,
+    }
 }
 
 impl<T: HasUnits> HasUnits for NonEmpty<T> {
     ghost units = { λ some. flat_map T.units (items_of some) };
 
-    fn has_odd_unit(&self) -> bool {
-        self.first.has_odd_unit() || self.others.has_odd_unit()
+    fn odd_unit(&self) -> Option<&UnitDefinition> {
+        or(self.first.odd_unit(), self.others.odd_unit())
     }
 }
 
@@ -60,20 +82,23 @@ impl HasUnits for UnitDefinition {
 
     ghost units = { λ unit. unit ∷ [] };
 
-    fn has_odd_unit(&self) -> bool {
-        is_unit_odd(self)
+    fn odd_unit(&self) -> Option<&UnitDefinition> {
+        if is_unit_odd(self) {
+            return Some(self);
+        }
+        None
     }
 }
 
 impl HasUnits for Unit {
     ghost units = { any_units };
 
-    fn has_odd_unit(&self) -> bool {
+    fn odd_unit(&self) -> Option<&UnitDefinition> {
         match self {
-            Unit::Length(unit) => unit.has_odd_unit(),
-            Unit::Angle(unit) => unit.has_odd_unit(),
-            Unit::Scale(unit) => unit.has_odd_unit(),
-            Unit::Generic(unit) => unit.has_odd_unit(),
+            Unit::Length(unit) => unit.odd_unit(),
+            Unit::Angle(unit) => unit.odd_unit(),
+            Unit::Scale(unit) => unit.odd_unit(),
+            Unit::Generic(unit) => unit.odd_unit(),
         }
     }
 }
@@ -81,9 +106,9 @@ impl HasUnits for Unit {
 impl HasUnits for LengthUnit {
     ghost units = { length_units };
 
-    fn has_odd_unit(&self) -> bool {
+    fn odd_unit(&self) -> Option<&UnitDefinition> {
         match self {
-            LengthUnit::Length(unit) | LengthUnit::Generic(unit) => unit.has_odd_unit(),
+            LengthUnit::Length(unit) | LengthUnit::Generic(unit) => unit.odd_unit(),
         }
     }
 }
@@ -91,9 +116,9 @@ impl HasUnits for LengthUnit {
 impl HasUnits for AngleUnit {
     ghost units = { angle_units };
 
-    fn has_odd_unit(&self) -> bool {
+    fn odd_unit(&self) -> Option<&UnitDefinition> {
         match self {
-            AngleUnit::Angle(unit) | AngleUnit::Generic(unit) => unit.has_odd_unit(),
+            AngleUnit::Angle(unit) | AngleUnit::Generic(unit) => unit.odd_unit(),
         }
     }
 }
@@ -101,96 +126,112 @@ impl HasUnits for AngleUnit {
 impl HasUnits for VerticalExtent {
     ghost units = { extent_units };
 
-    fn has_odd_unit(&self) -> bool {
-        self.unit.has_odd_unit()
+    fn odd_unit(&self) -> Option<&UnitDefinition> {
+        self.unit.odd_unit()
     }
 }
 
 impl HasUnits for Usage {
     ghost units = { usage_units };
 
-    fn has_odd_unit(&self) -> bool {
-        self.vertical_extent.has_odd_unit()
+    fn odd_unit(&self) -> Option<&UnitDefinition> {
+        self.vertical_extent.odd_unit()
     }
 }
 
 impl HasUnits for GeodeticFrame {
     ghost units = { frame_units };
 
-    fn has_odd_unit(&self) -> bool {
-        self.ellipsoid().unit.has_odd_unit()
+    fn odd_unit(&self) -> Option<&UnitDefinition> {
+        self.ellipsoid().unit.odd_unit()
     }
 }
 
 impl HasUnits for PrimeMeridian {
     ghost units = { prime_meridian_units };
 
-    fn has_odd_unit(&self) -> bool {
-        self.unit.has_odd_unit()
+    fn odd_unit(&self) -> Option<&UnitDefinition> {
+        self.unit.odd_unit()
     }
 }
 
 impl HasUnits for Meridian {
     ghost units = { meridian_units };
 
-    fn has_odd_unit(&self) -> bool {
-        self.unit.has_odd_unit()
+    fn odd_unit(&self) -> Option<&UnitDefinition> {
+        self.unit.odd_unit()
     }
 }
 
 impl HasUnits for Axis {
     ghost units = { axis_units };
 
-    fn has_odd_unit(&self) -> bool {
-        self.meridian.has_odd_unit() || self.unit.has_odd_unit()
+    fn odd_unit(&self) -> Option<&UnitDefinition> {
+        or(self.meridian.odd_unit(), self.unit.odd_unit())
     }
 }
 
 impl HasUnits for Parameter {
     ghost units = { parameter_units };
 
-    fn has_odd_unit(&self) -> bool {
-        self.unit.has_odd_unit()
+    fn odd_unit(&self) -> Option<&UnitDefinition> {
+        self.unit.odd_unit()
     }
 }
 
 impl HasUnits for Conversion {
     ghost units = { conversion_units };
 
-    fn has_odd_unit(&self) -> bool {
-        self.parameters.has_odd_unit()
+    fn odd_unit(&self) -> Option<&UnitDefinition> {
+        self.parameters.odd_unit()
     }
 }
 
 impl HasUnits for BaseCrs {
     ghost units = { base_units };
 
-    fn has_odd_unit(&self) -> bool {
-        self.datum.has_odd_unit() || self.prime_meridian.has_odd_unit() || self.unit.has_odd_unit()
+    fn odd_unit(&self) -> Option<&UnitDefinition> {
+        or(
+            or(self.datum.odd_unit(), self.prime_meridian.odd_unit()),
+            self.unit.odd_unit(),
+        )
     }
 }
 
 impl HasUnits for Single {
     ghost units = { units_of };
 
-    fn has_odd_unit(&self) -> bool {
+    fn odd_unit(&self) -> Option<&UnitDefinition> {
         match self {
             Single::Geodetic(crs) => {
-                crs.datum.has_odd_unit()
-                    || crs.prime_meridian.has_odd_unit()
-                    || crs.axes.has_odd_unit()
-                    || crs.unit.has_odd_unit()
-                    || crs.usages.has_odd_unit()
+                or(
+                    or(
+                        or(
+                            or(crs.datum.odd_unit(), crs.prime_meridian.odd_unit()),
+                            crs.axes.odd_unit(),
+                        ),
+                        crs.unit.odd_unit(),
+                    ),
+                    crs.usages.odd_unit(),
+                )
             }
             Single::Projected(crs) => {
-                crs.base.has_odd_unit()
-                    || crs.conversion.has_odd_unit()
-                    || crs.axes.has_odd_unit()
-                    || crs.unit.has_odd_unit()
-                    || crs.usages.has_odd_unit()
+                or(
+                    or(
+                        or(
+                            or(crs.base.odd_unit(), crs.conversion.odd_unit()),
+                            crs.axes.odd_unit(),
+                        ),
+                        crs.unit.odd_unit(),
+                    ),
+                    crs.usages.odd_unit(),
+                )
             }
             Single::Vertical(crs) => {
-                crs.axes.has_odd_unit() || crs.unit.has_odd_unit() || crs.usages.has_odd_unit()
+                or(
+                    or(crs.axes.odd_unit(), crs.unit.odd_unit()),
+                    crs.usages.odd_unit(),
+                )
             }
         }
     }

@@ -1,0 +1,76 @@
+-- A bounding box with a latitude beyond 90 or a longitude beyond 180, with no height, or with no width.
+use Rattle.std.specs.Prelude.{ℕ, Bool, int_lt, false, not, ◌&&◌, ◌||◌, List, [], ◌∷◌, Option, Some, None, codes, if◌then◌else◌}
+use Rattle.std.specs.Ordering.{int_eq}
+use Rattle.std.specs.List.{list_any, find, concat}
+use Rattle.crs_number.specs.Canonical.{canonical}
+use Rattle.crs_number.specs.declared.decimals.Decimal.{Decimal}
+use Rattle.crs_number.specs.Value.{units}
+use Rattle.crs_part.specs.declared.usages.BoundingBox.{BoundingBox}
+use Rattle.crs_part.specs.declared.usages.Usage.{Usage}
+use Rattle.crs_part.specs.declared.crs.Single.{Single}
+use Rattle.crs_part.specs.declared.crs.Single.TheVariants.{Geodetic, Projected, Vertical}
+use Rattle.crs_exact.specs.Sizes.{is_beyond}
+
+-- the first is below the second
+abbrev pub is_less : Decimal → Decimal → Bool
+is_less a b = int_lt (units a.coefficient a.exponent) (units b.coefficient b.exponent)
+
+-- a latitude beyond 90, a longitude beyond 180, south not below north, or west equal to east
+abbrev pub is_box_odd : BoundingBox → Bool
+is_box_odd b =
+    is_beyond b.south 90 0
+    || is_beyond b.north 90 0
+    || is_beyond b.west 180 0
+    || is_beyond b.east 180 0
+    || not (is_less b.south b.north)
+    || (int_eq b.west.coefficient b.east.coefficient && int_eq b.west.exponent b.east.exponent)
+
+abbrev pub has_box_odd : Option BoundingBox → Bool
+has_box_odd None = false
+has_box_odd (Some found) = is_box_odd found
+
+abbrev pub some_box_odd : List Usage → Bool
+some_box_odd usages = list_any (λ usage. has_box_odd usage.bounding_box) usages
+
+abbrev pub box_of : Single → Bool
+box_of (Geodetic crs) = some_box_odd crs.usages
+box_of (Projected crs) = some_box_odd crs.usages
+box_of (Vertical crs) = some_box_odd crs.usages
+
+abbrev pub box_what : BoundingBox → List ℕ
+box_what b =
+    if is_beyond b.south 90 0 || is_beyond b.north 90 0 then codes "a latitude ends at 90 degrees"
+    else if is_beyond b.west 180 0 || is_beyond b.east 180 0 then codes "a longitude ends at 180 degrees"
+    else if not (is_less b.south b.north) then codes "its south is not below its north"
+    else codes "its west is its east"
+
+abbrev pub box_said : BoundingBox → List ℕ
+box_said b =
+    concat
+    (codes "the box has south "
+    ∷ canonical b.south.coefficient b.south.exponent
+    ∷ codes ", west "
+    ∷ canonical b.west.coefficient b.west.exponent
+    ∷ codes ", north "
+    ∷ canonical b.north.coefficient b.north.exponent
+    ∷ codes ", east "
+    ∷ canonical b.east.coefficient b.east.exponent
+    ∷ codes ": "
+    ∷ box_what b
+    ∷ [])
+
+abbrev pub found_said : Option BoundingBox → List ℕ
+found_said None = []
+found_said (Some found) = box_said found
+
+abbrev pub boxes_told : Option Usage → List ℕ
+boxes_told None = []
+boxes_told (Some usage) = found_said usage.bounding_box
+
+abbrev odd_box_told : List Usage → List ℕ
+odd_box_told usages = boxes_told (find (λ usage. has_box_odd usage.bounding_box) usages)
+
+abbrev pub box_told : Single → List ℕ
+box_told (Geodetic crs) = odd_box_told crs.usages
+box_told (Projected crs) = odd_box_told crs.usages
+box_told (Vertical crs) = odd_box_told crs.usages

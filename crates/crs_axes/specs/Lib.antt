@@ -1,0 +1,5 @@
+pub mod UnitName
+pub mod Height
+pub mod Box
+pub mod Axes
+pub mod AxisName

@@ -1,0 +1,4 @@
+pub mod Accuracy
+pub mod Figure
+pub mod Meridians
+pub mod Prime

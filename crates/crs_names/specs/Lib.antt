@@ -1,0 +1,4 @@
+pub mod Names
+pub mod Idents
+pub mod Name
+pub mod Key

@@ -1,0 +1,212 @@
+//! Identifiers with odd blanks or control characters, of an authority that is nearly a known one, or with a padded number.
+
+ghost use Rattle.std.specs.Prelude.{◌≡◌, IfOk};
+ghost use Rattle.std.specs.List.{find, list_all};
+ghost use Rattle.std.specs.Str.{bytes_eq};
+ghost use Rattle.crs_value.specs.Keys.{text_of};
+ghost use Rattle.crs_names.specs.Idents.{single_ids, compound_ids};
+ghost use Rattle.crs_names.specs.Key.{is_digit, is_padded, is_code_odd, is_same_letter, is_swap, is_slip, near, is_known, is_near_known, is_id_odd, key, whole_key, id_what, id_said, id_told};
+
+use crate::id_walk::HasIds;
+use crate::name::is_text_odd;
+use crs_exact::{joined, number};
+use crs_part::{Compound, Ident, NumberOrText, Single, same_word};
+use std::alloc::{AllocError, Global};
+
+/// Whether an identifier of the system or of a part has an odd text, an authority that is nearly a known one, or a code that is a
+/// text of a number with a sign or leading zeros.
+pub fn breaks_key(crs: &Single) -> bool
+    ensures { result ≡ key crs.now }
+{
+    match crs.odd_id() {
+        Some(_) => true,
+        None => false,
+    }
+}
+
+/// Whether an identifier of a compound itself does, apart from those of its components.
+pub fn whole_breaks_key(crs: &Compound) -> bool
+    ensures { result ≡ whole_key crs.now }
+{
+    match crs.odd_id() {
+        Some(_) => true,
+        None => false,
+    }
+}
+
+/// The first such identifier of the system.
+pub fn tell_key(alloc: Global, crs: &Single) -> Result<Vec<u8>, AllocError>
+    ensures { IfOk result (λ text. text.items ≡ id_told (find is_id_odd (single_ids crs.now))) }
+{
+    match crs.odd_id() {
+        Some(id) => id_said(alloc, id, id_what(id)),
+        None => Ok(Vec::new(alloc)),
+    }
+}
+
+/// The first such identifier of a compound itself.
+pub fn whole_tells_key(alloc: Global, crs: &Compound) -> Result<Vec<u8>, AllocError>
+    ensures { IfOk result (λ text. text.items ≡ id_told (find is_id_odd (compound_ids crs.now))) }
+{
+    match crs.odd_id() {
+        Some(id) => id_said(alloc, id, id_what(id)),
+        None => Ok(Vec::new(alloc)),
+    }
+}
+
+fn id_said(alloc: Global, id: &Ident, what: &[u8]) -> Result<Vec<u8>, AllocError>
+    ensures { IfOk result (λ text. text.items ≡ id_said id.now what.now) }
+{
+    let code = code_said(alloc, &id.code)?;
+    joined(
+        alloc,
+        &[
+            b"the identifier \"",
+            id.authority.as_bytes(),
+            b"\", \"",
+            &code,
+            b"\" ",
+            what,
+        ],
+    )
+}
+
+fn code_said(alloc: Global, code: &NumberOrText) -> Result<Vec<u8>, AllocError>
+    ensures { IfOk result (λ text. text.items ≡ text_of code.now) }
+{
+    match code {
+        NumberOrText::Number(value) => number(alloc, *value),
+        NumberOrText::Text(text) => Vec::from_slice(alloc, text.as_bytes()),
+    }
+}
+
+fn id_what(id: &Ident) -> &'static [u8]
+    ensures { result.now ≡ id_what id.now }
+{
+    if is_near_known(id.authority.as_bytes()) {
+        return b"has an authority that is nearly a known one: EPSG, ESRI, IGNF, OGC, IAU_2015, NKG or PROJ";
+    }
+    b"is empty in part, has odd blanks or control characters, or is a number with a sign or leading zeros"
+}
+
+/// Whether the identifier is such an identifier.
+pub(crate) fn is_id_odd(id: &Ident) -> bool
+    ensures { result ≡ is_id_odd id.now }
+{
+    is_text_odd(id.authority.as_bytes())
+        || is_code_odd(&id.code)
+        || is_near_known(id.authority.as_bytes())
+}
+
+fn is_code_odd(code: &NumberOrText) -> bool
+    ensures { result ≡ is_code_odd code.now }
+{
+    match code {
+        NumberOrText::Number(_) => false,
+        NumberOrText::Text(text) => is_text_odd(text.as_bytes()) || is_padded(text.as_bytes()),
+    }
+}
+
+// A sign or a zero, and more digits.
+fn is_padded(text: &[u8]) -> bool
+    ensures { result ≡ is_padded text.now }
+{
+    let Some((first, others)) = text.split_first() else {
+        return false;
+    };
+    (*first == b'+' || *first == b'-' || *first == b'0') && others.len() != 0 && are_digits(others)
+}
+
+fn are_digits(text: &[u8]) -> bool
+    ensures { result ≡ list_all is_digit text.now }
+{
+    text.iter().all(|byte| is_digit(*byte))
+}
+
+fn is_digit(byte: u8) -> bool
+    ensures { result ≡ is_digit byte }
+{
+    48 <= byte && byte <= 57
+}
+
+// Whether the authority is none of the known ones, and differs from one by letter case, or from a longer one by a slip.
+fn is_near_known(authority: &[u8]) -> bool
+    ensures { result ≡ is_near_known authority.now }
+{
+    !is_known(authority)
+        && (near(b"EPSG", authority)
+            || near(b"ESRI", authority)
+            || near(b"IGNF", authority)
+            || near(b"IAU_2015", authority)
+            || near(b"PROJ", authority)
+            || same_word(b"OGC", authority)
+            || same_word(b"NKG", authority))
+}
+
+fn is_known(authority: &[u8]) -> bool
+    ensures { result ≡ is_known authority.now }
+{
+    is_same(authority, b"EPSG")
+        || is_same(authority, b"ESRI")
+        || is_same(authority, b"IGNF")
+        || is_same(authority, b"IAU_2015")
+        || is_same(authority, b"PROJ")
+        || is_same(authority, b"OGC")
+        || is_same(authority, b"NKG")
+}
+
+// Whether two words differ, apart from letter case, by at most one letter changed, left out or put in, or two neighbours swapped.
+fn near(known: &[u8], given: &[u8]) -> bool
+    ensures { result ≡ near known.now given.now }
+{
+    let mut wanted = known;
+    let mut rest = given;
+    while let (Some((a, others)), Some((b, more))) = (wanted.split_first(), rest.split_first()) {
+        if !is_same_letter(*a, *b) {
+            return is_slip(wanted, others, rest, more);
+        }
+        wanted = others;
+        rest = more;
+    }
+    wanted.len() <= 1 && rest.len() <= 1
+}
+
+// Whether the rest is the same after one letter of either word, or of both, or after two that are swapped.
+fn is_slip(wanted: &[u8], others: &[u8], rest: &[u8], more: &[u8]) -> bool
+    ensures { result ≡ is_slip wanted.now others.now rest.now more.now }
+{
+    same_word(others, more)
+        || same_word(others, rest)
+        || same_word(wanted, more)
+        || is_swap(wanted, rest)
+}
+
+fn is_swap(wanted: &[u8], rest: &[u8]) -> bool
+    ensures { result ≡ is_swap wanted.now rest.now }
+{
+    let Some((a, wanted)) = wanted.split_first() else {
+        return false;
+    };
+    let Some((b, wanted)) = wanted.split_first() else {
+        return false;
+    };
+    let Some((c, rest)) = rest.split_first() else {
+        return false;
+    };
+    let Some((d, rest)) = rest.split_first() else {
+        return false;
+    };
+    is_same_letter(*a, *d) && is_same_letter(*b, *c) && same_word(wanted, rest)
+}
+
+fn is_same_letter(a: u8, b: u8) -> bool
+    ensures { result ≡ is_same_letter a b }
+{
+    a.to_ascii_lowercase() == b.to_ascii_lowercase()
+}
+
+fn is_same(a: &[u8], b: &[u8]) -> bool
+    ensures { result ≡ bytes_eq a.now b.now }
+{
+    a == b
+}
