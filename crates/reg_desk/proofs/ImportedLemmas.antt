@@ -4,6 +4,7 @@ use Rattle.std.specs.Prelude.{map, ◌↔◌, Option}
 use Rattle.std.proofs.lemmas.List.{append-nil}
 use Rattle.wkt_tree.specs.Tree.{Piece}
 use Rattle.byte_io.specs.Device.{SourceState}
+use Rattle.reg_op.specs.Operations.{OneBody, kept}
 use Rattle.reg_op.specs.Contents.{Content, nothing, IsContent}
 use Rattle.reg_report.specs.Exports.{export}
 use Rattle.reg_import.specs.declared.reading.FileText.{FileText}
@@ -16,8 +17,15 @@ use Rattle.reg_import.specs.declared.import.ImportRefusal.TheVariants as refused
 use Rattle.reg_import.specs.Readings.{readings}
 use Rattle.reg_import.specs.Again.{HasStanding, AreReadings, RetiresNoneAhead}
 use Rattle.reg_import.specs.Plans.{Imports, IsImportRefusal}
-use Rattle.reg_import.proofs.LawLemmas.{are_keyed, import_again, refused_again, exported_pass, import_exported}
+use Rattle.reg_import.specs.declared.action.TextAction.{TextAction}
+use Rattle.reg_import.specs.Imports.{effects}
+use Rattle.reg_import.proofs.StandingLemmas.{then_one_body, then_kept}
+use Rattle.reg_import.proofs.LastLemmas.{AreKeyed, SameEntries}
+use Rattle.reg_import.proofs.LawLemmas.{are_keyed, import_alike, refused_alike, exported_pass, import_exported}
+use Rattle.reg_links.specs.Links.{links_in}
+use Rattle.reg_links.specs.Passing.{bodies_of, PassesOn, IsNotPassedOn}
 use Rattle.reg_office.specs.declared.fault.OfficeFault.TheVariants as office
+use Rattle.reg_engine.specs.Fault.{office_fault}
 use Rattle.reg_engine.specs.declared.fault.Refusal.TheVariants as refusal
 use Rattle.reg_engine.specs.declared.fault.CliFault.{CliFault}
 use Rattle.reg_engine.specs.declared.fault.CliFault.TheVariants as cli
@@ -26,6 +34,8 @@ use Rattle.reg_desk.specs.declared.import.fault.Unimported.{Unimported}
 use Rattle.reg_desk.specs.ImportFiles.{GiveAll}
 use Rattle.reg_desk.specs.ImportTexts.{TextAt, in_file, HaveTexts}
 use Rattle.reg_desk.specs.Import.{IsPlain, Makes, Refuses, IsRefusedBy, IsUnmade, IsReady}
+use Rattle.reg_desk.specs.ImportLinks.{ImportsLinked, IsOnlyImported}
+use Rattle.reg_desk.proofs.ImportedLinks.{same_entries, nothing_passed, only_note, its_own, none_there}
 use Rattle.reg_desk.proofs.ImportEngineLemmas.{weaker}
 use Rattle.reg_desk.proofs.SameTexts.{one_given, same_readings, are_readings}
 
@@ -36,21 +46,43 @@ module _ (o p : ImportOptions) (m n : ℕ) (x y : Content) (files : List (List �
   abbrev rs : List ReadText
   rs = readings made.1
 
-  abbrev once : Imports x o.replica o.note.now o.differs o.keep_going rs y made.3.0
-  once = made.3.1
+  abbrev first : ImportsLinked o x rs y made.3.0 made.3.1
+  first = made.3.2
 
-  pub made_again : (z : Content) (others : List ℕ) (skipped : Option Unimported) → Makes p n y files z others skipped → z ≡ y
-  made_again z others skipped (cuts, texts, have, (us, second, told, over)) =
+  abbrev between : Content
+  between = first.between
+
+  -- the second import is into a content with the entries that the first one left
+  alike : SameEntries between y
+  alike = same_entries between y o.replica o.note.now made.3.1 first.ids (first.passes).does
+
+  one : OneBody y.ops
+  one = then_one_body between y o.replica o.note.now (bodies_of made.3.1) first.ids (first.passes).does
+
+  its_kept : kept y.ops ≡ y.ops
+  its_kept = then_kept between y o.replica o.note.now (bodies_of made.3.1) first.ids (first.passes).does
+
+  keyed : AreKeyed rs
+  keyed = are_keyed (map (λ (c : TextAt). c.bytes) made.0) rs (are_readings made.0 made.1 made.2.read)
+
+  again_nothing : (z : Content) (us : List TextAction) (texts : List FileText) (cuts : List TextAt) → HaveTexts files cuts texts → Imports y p.replica p.note.now p.differs p.keep_going (readings texts) z us → z ≡ y
+  again_nothing z us texts cuts have second =
       let same : readings texts ≡ rs = same_readings files cuts made.0 texts made.1 have made.2 in
-      (import_again x y o.replica o.note.now p.replica p.note.now o.differs o.keep_going rs made.3.0 is ahead (are_keyed (map (λ (c : TextAt). c.bytes) made.0) rs (are_readings made.0 made.1 made.2.read)) once z us
+      (import_alike x between o.replica o.note.now p.replica p.note.now o.differs o.keep_going rs made.3.0 is ahead keyed first.imports y alike one its_kept z us
       (subst (λ (d : Differs). Imports y p.replica p.note.now d o.keep_going rs z us) differs
       (subst (λ (k : Bool). Imports y p.replica p.note.now p.differs k rs z us) keep_going
       (subst (λ (l : List ReadText). Imports y p.replica p.note.now p.differs p.keep_going l z us) same second)))).0
 
+  pub made_again : (z : Content) (others : List ℕ) (skipped : Option Unimported) → Makes p n y files z others skipped → z ≡ y
+  made_again z others skipped (cuts, texts, have, (us, links, second, told, over)) =
+      let same : second.between ≡ y = again_nothing second.between us texts cuts have second.imports in
+      let passes : PassesOn (links_in y.ops) y p.replica p.note.now z links second.ids = subst (λ (c : Content). PassesOn (links_in y.ops) c p.replica p.note.now z links second.ids) same second.passes in
+      nothing_passed (links_in y.ops) y z p.replica p.note.now links second.ids one its_kept (its_own y) passes
+
   refused_then : (texts : List FileText) (cuts : List TextAt) (r : ImportRefusal) → HaveTexts files cuts texts → Refuses p y texts r → (r ≡ refused.NoteTooLong) ⊎ (r ≡ refused.Memory)
   refused_then texts cuts r have h =
       let same : readings texts ≡ rs = same_readings files cuts made.0 texts made.1 have made.2 in
-      refused_again x y o.replica o.note.now p.replica p.note.now o.differs o.keep_going rs made.3.0 is ahead (are_keyed (map (λ (c : TextAt). c.bytes) made.0) rs (are_readings made.0 made.1 made.2.read)) once r
+      refused_alike x between y o.replica o.note.now p.replica p.note.now o.differs o.keep_going rs made.3.0 is ahead keyed first.imports alike r
       (subst (λ (d : Differs). IsImportRefusal y p.replica p.note.now d o.keep_going rs r) differs
       (subst (λ (k : Bool). IsImportRefusal y p.replica p.note.now p.differs k rs r) keep_going
       (subst (λ (l : List ReadText). IsImportRefusal y p.replica p.note.now p.differs p.keep_going l r) same h)))
@@ -65,7 +97,12 @@ module _ (o p : ImportOptions) (m n : ℕ) (x y : Content) (files : List (List �
 
   pub unmade_again : (u : Unimported) → IsUnmade p n y files u → IsPlain IsNote u
   unmade_again u (inl memory) = weaker (λ f. f ≡ cli.Memory) IsNote u.fault u.notes.items (λ f is. inr is) memory
-  unmade_again u (inr (cuts, texts, have, (r, h, by))) = of_refusal cuts texts r u (refused_then texts cuts r have h) by
+  unmade_again u (inr (cuts, texts, have, inl (r, h, by))) = of_refusal cuts texts r u (refused_then texts cuts r have h) by
+  unmade_again u (inr (cuts, texts, have, inr (f, only, plain))) =
+      let same : only.between ≡ y = again_nothing only.between only.told texts cuts have only.imports in
+      let not_passed : IsNotPassedOn (links_in y.ops) y p.replica p.note.now f = subst (λ (c : Content). IsNotPassedOn (links_in y.ops) c p.replica p.note.now f) same only.not_passed in
+      let long : f ≡ office.NoteTooLong = only_note (links_in y.ops) y p.replica p.note.now f (its_own y) not_passed in
+      weaker (λ g. g ≡ office_fault f) IsNote u.fault u.notes.items (λ g e. inl (e ∙ ap office_fault long)) plain
 
 -- a result that is ready is made of the bytes that the sources gave
 pub made_of : (o : ImportOptions) (m : ℕ) (x y : Content) (a b : List SourceState) (files : List (List ℕ)) (lines : List ℕ) (passed : Option Unimported) → GiveAll a b files
@@ -98,9 +135,14 @@ of_one bytes cuts texts h =
 
 exported_made : (o : ImportOptions) (first : ℕ) (x y : Content) (lines : List ℕ) (passed : Option Unimported) → IsContent x → o.differs ≡ Beside
     → Makes o first nothing (export x.ops ∷ []) y lines passed → (text : List ℕ) → HasStanding y.ops text ↔ HasStanding x.ops text
-exported_made o first x y lines passed is beside (cuts, texts, have, (ts, m, told, over)) =
+exported_made o first x y lines passed is beside (cuts, texts, have, (ts, links, m, told, over)) =
+    let does = m.imports.does in
+    let one = then_one_body nothing m.between o.replica o.note.now (effects (m.imports).steps) (m.imports).ids does in
+    let its = then_kept nothing m.between o.replica o.note.now (effects (m.imports).steps) (m.imports).ids does in
+    let same : y ≡ m.between = nothing_passed (links_in nothing.ops) m.between y o.replica o.note.now links m.ids one its (none_there m.between) m.passes in
     import_exported x y o.replica o.note.now o.keep_going have.cut.0 (readings texts) ts is have.cut.2 (of_one (export x.ops) cuts texts have)
-    (subst (λ (d : Differs). Imports nothing o.replica o.note.now d o.keep_going (readings texts) y ts) beside m)
+    (subst (λ (d : Differs). Imports nothing o.replica o.note.now d o.keep_going (readings texts) y ts) beside
+    (subst (λ (c : Content). Imports nothing o.replica o.note.now o.differs o.keep_going (readings texts) c ts) (sym same) m.imports))
 
 pub exported_ready : (o : ImportOptions) (first : ℕ) (x y : Content) (a b : List SourceState) (lines : List ℕ) (passed : Option Unimported) → IsContent x → o.differs ≡ Beside
     → GiveAll a b (export x.ops ∷ []) → IsReady o first nothing a b y lines passed → (text : List ℕ) → HasStanding y.ops text ↔ HasStanding x.ops text
@@ -128,4 +170,7 @@ exported_refusal o first x cuts texts refused.Memory u is beside have h by = wea
 
 pub exported_unmade : (o : ImportOptions) (first : ℕ) (x : Content) (u : Unimported) → IsContent x → o.differs ≡ Beside → IsUnmade o first nothing (export x.ops ∷ []) u → IsPlain IsOther u
 exported_unmade o first x u is beside (inl memory) = weaker (λ f. f ≡ cli.Memory) IsOther u.fault u.notes.items (λ f e. inr (inr e)) memory
-exported_unmade o first x u is beside (inr (cuts, texts, have, (r, h, by))) = exported_refusal o first x cuts texts r u is beside have h by
+exported_unmade o first x u is beside (inr (cuts, texts, have, inl (r, h, by))) = exported_refusal o first x cuts texts r u is beside have h by
+exported_unmade o first x u is beside (inr (cuts, texts, have, inr (f, only, plain))) =
+    let long : f ≡ office.NoteTooLong = only_note (links_in nothing.ops) only.between o.replica o.note.now f (none_there only.between) only.not_passed in
+    weaker (λ g. g ≡ office_fault f) IsOther u.fault u.notes.items (λ g e. inl (e ∙ ap office_fault long)) plain

@@ -12,5 +12,7 @@ pub mod AfterSettling
 mod SettledTwice
 mod LoggedLemmas
 mod SameTexts
+mod LinkedLemmas
+mod ImportedLinks
 mod ImportedLemmas
 pub mod RoomLemmas

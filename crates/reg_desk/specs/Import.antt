@@ -6,6 +6,8 @@ use Rattle.byte_io.specs.Device.{SourceState}
 use Rattle.reg_op.specs.Ids.{Id}
 use Rattle.reg_op.specs.Operations.{Ops}
 use Rattle.reg_op.specs.Contents.{Content}
+use Rattle.reg_op.specs.Rows.{Row, rows}
+use Rattle.reg_office.specs.declared.fault.OfficeFault.{OfficeFault}
 use Rattle.reg_office.specs.declared.fault.OfficeFault.TheVariants as office
 use Rattle.reg_import.specs.declared.reading.FileText.{FileText}
 use Rattle.reg_import.specs.declared.action.Problem.{Problem}
@@ -16,11 +18,13 @@ use Rattle.reg_import.specs.declared.import.ImportRefusal.{ImportRefusal}
 use Rattle.reg_import.specs.declared.import.ImportRefusal.TheVariants as refused
 use Rattle.reg_import.specs.Readings.{readings}
 use Rattle.reg_import.specs.Imports.{NoneRefused}
-use Rattle.reg_import.specs.Plans.{IsFirstRefused, Imports, IsImportRefusal}
+use Rattle.reg_import.specs.Plans.{IsFirstRefused, IsImportRefusal}
 use Rattle.reg_import.specs.declared.listing.Listing.{Listing}
 use Rattle.reg_import.specs.Listing.{IsListing}
 use Rattle.reg_engine.specs.declared.fault.Refusal.TheVariants as refusal
-use Rattle.reg_engine.specs.Fault.{status_of}
+use Rattle.reg_links.specs.declared.link.Link.{Link}
+use Rattle.reg_links.specs.Rows.{HaveRows}
+use Rattle.reg_engine.specs.Fault.{status_of, office_fault}
 use Rattle.reg_engine.specs.Store.{Admission, AsLoaded, Screened, WorksOn}
 use Rattle.reg_engine.specs.declared.fault.CliFault.{CliFault}
 use Rattle.reg_engine.specs.declared.fault.CliFault.TheVariants as cli
@@ -30,6 +34,7 @@ use Rattle.reg_desk.specs.declared.import.fault.ImportFault.TheVariants as impor
 use Rattle.reg_desk.specs.declared.import.fault.Unimported.{Unimported}
 use Rattle.reg_desk.specs.ImportFiles.{GiveAll, AreUnread}
 use Rattle.reg_desk.specs.ImportTexts.{TextAt, HaveTexts}
+use Rattle.reg_desk.specs.ImportLinks.{ImportsLinked, IsOnlyImported}
 use Rattle.reg_desk.specs.ImportNotes.{note_of, notes_of}
 
 abbrev pub names_of : ImportOptions → List (List ℕ)
@@ -87,15 +92,15 @@ IsPassed o first files cuts texts ts (Some u) = (at : ℕ) × (p : Problem) × I
 abbrev pub listing_of : ImportOptions → Listing
 listing_of o = record { names = o.names; changes = o.changes; gone = o.gone }
 
--- the lines are a header, a line for each text with its action, and a line for each entry that is listed, where the new content
--- has these operations
-abbrev pub AreLines : ImportOptions → Ops → List FileText → List TextAction → List ℕ → Type 0
-AreLines o s texts ts lines = IsListing (listing_of o) s texts ts lines
+-- the lines are a header, a line for each text with its action, a line for the old entry of each link, and a line for each entry
+-- that is listed, where the new content has these operations
+abbrev pub AreLines : ImportOptions → Ops → List FileText → List TextAction → List Link → List ℕ → Type 0
+AreLines o s texts ts links lines = (linked : List Row) × HaveRows (rows s) links linked × IsListing (listing_of o) s texts ts linked lines
 
 -- importing the texts into the content gives the second one and these lines, and this fault of those that were passed over
 abbrev pub MakesOf : ImportOptions → ℕ → Content → List (List ℕ) → List TextAt → List FileText → Content → List ℕ → Option Unimported → Type 0
-MakesOf o first x files cuts texts y lines passed = (ts : List TextAction) × Imports x o.replica o.note.now o.differs o.keep_going (readings texts) y ts
-    × AreLines o y.ops texts ts lines × IsPassed o first files cuts texts ts passed
+MakesOf o first x files cuts texts y lines passed = (ts : List TextAction) × (links : List Link) × ImportsLinked o x (readings texts) y ts links
+    × AreLines o y.ops texts ts links lines × IsPassed o first files cuts texts ts passed
 
 -- they are refused for this reason
 abbrev pub Refuses : ImportOptions → Content → List FileText → ImportRefusal → Type 0
@@ -108,9 +113,10 @@ IsRefusedBy o first files cuts texts (refused.Refused at p) u = IsRefusedAt o fi
 IsRefusedBy o first files cuts texts refused.CountSpent u = IsPlain (λ f. f ≡ cli.Refused (refusal.Office office.CountSpent)) u
 IsRefusedBy o first files cuts texts refused.Memory u = IsPlain (λ f. f ≡ cli.Memory) u
 
--- why they are not imported
+-- why they are not imported; or they were, and the office refuses the links
 abbrev pub IsUnmadeOf : ImportOptions → ℕ → Content → List (List ℕ) → List TextAt → List FileText → Unimported → Type 0
-IsUnmadeOf o first x files cuts texts u = (r : ImportRefusal) × Refuses o x texts r × IsRefusedBy o first files cuts texts r u
+IsUnmadeOf o first x files cuts texts u = ((r : ImportRefusal) × Refuses o x texts r × IsRefusedBy o first files cuts texts r u)
+    ⊎ ((f : OfficeFault) × IsOnlyImported o x (readings texts) f × IsPlain (λ g. g ≡ office_fault f) u)
 
 -- ---- files of these bytes
 

@@ -8,6 +8,7 @@ pub mod Settle
 pub mod ImportFiles
 pub mod ImportTexts
 pub mod ImportNotes
+pub mod ImportLinks
 pub mod Import
 pub mod ImportRoom
 pub mod ImportEngines

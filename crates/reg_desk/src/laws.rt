@@ -12,7 +12,11 @@ ghost use Rattle.reg_report.specs.Conflicts.{KeyBytes, HasKey};
 ghost use Rattle.reg_report.specs.Exports.{export};
 ghost use Rattle.reg_links.specs.Links.{is_linked};
 ghost use Rattle.reg_links.specs.Heirs.{IsHeir};
-ghost use Rattle.reg_links.specs.Law.{IsHeirOfBoth};
+ghost use Rattle.reg_links.specs.Law.{IsHeirOfBoth, WasAwaited};
+ghost use Rattle.reg_links.specs.declared.link.Link.{Link};
+ghost use Rattle.reg_import.specs.declared.reading.ReadText.{ReadText};
+ghost use Rattle.reg_import.specs.declared.action.TextAction.{TextAction};
+ghost use Rattle.reg_desk.specs.ImportLinks.{ImportsLinked};
 ghost use Rattle.reg_links.specs.Retiring.{RetiresFor};
 ghost use Rattle.reg_settle.specs.Settling.{IsSettled};
 ghost use Rattle.reg_settle.specs.Doubles.{AreDoubles, HasLesser};
@@ -61,6 +65,17 @@ pub fn settling_keeps_links()
         → IsContent x → a ≢ b → (is_linked y.ops a b ≡ true) ↔ IsHeirOfBoth x s.between a b }
     ensures superseded { (x y : Content) (replica note : List ℕ) (ids made : List Id) (old newer a b : Id) (s : RetiresFor x replica note ids y made)
         → is_linked x.ops old newer ≡ true → IsHeir s.between.ops old a → IsHeir s.between.ops newer b → a ≢ b → status y.ops a ≡ Some Superseded }
+{}
+
+/// An import makes the links of heirs: one entry that was not retired is superseded by another; then this is so of their heirs
+/// afterwards, unless both have one heir. No other link is there, apart from those whose entries came with the import.
+pub fn importing_keeps_links()
+    ensures passes { (o : ImportOptions) (x y : Content) (readings : List ReadText) (ts : List TextAction) (links : List Link) (old newer a b : Id) (l : ImportsLinked o x readings y ts links)
+        → is_linked x.ops old newer ≡ true → IsHeir l.between.ops old a → IsHeir l.between.ops newer b → a ≢ b → is_linked y.ops a b ≡ true }
+    ensures superseded { (o : ImportOptions) (x y : Content) (readings : List ReadText) (ts : List TextAction) (links : List Link) (old newer a b : Id) (l : ImportsLinked o x readings y ts links)
+        → is_linked x.ops old newer ≡ true → IsHeir l.between.ops old a → IsHeir l.between.ops newer b → a ≢ b → status y.ops a ≡ Some Superseded }
+    ensures no_other { (o : ImportOptions) (x y : Content) (readings : List ReadText) (ts : List TextAction) (links : List Link) (a b : Id) (l : ImportsLinked o x readings y ts links)
+        → is_linked y.ops a b ≡ true → IsHeirOfBoth x l.between a b ⊎ WasAwaited x a b }
 {}
 
 /// The same files, imported again in the same mode into the register that their import made, make nothing: whatever the office,

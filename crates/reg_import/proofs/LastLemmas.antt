@@ -281,6 +281,11 @@ module _ (x : Content) (one : OneBody x.ops) (os : List Op) (r note : List ℕ) 
 
 -- ---- an import
 
+-- the contents have the same entries, and the same of them are retired
+pub record SameEntries (y w : Content) : Type 0 where
+  pub entered : (i : Id) (text noted : List ℕ) → contains y.ops (entering i text noted) ≡ contains w.ops (entering i text noted)
+  pub retired : (i : Id) → retires y.ops i ≡ retires w.ops i
+
 module _ (x y : Content) (replica note : List ℕ) (d : Differs) (texts : List ReadText) (es : List StandingEntry) (ids : List Id) (is : IsContent x) (ahead : RetiresNoneAhead x replica) (keyed : AreKeyed texts)
     (are : AreStanding x.ops es) (does : Does x replica note (effects (imports d replica (greatest replica x.seen + 1) (by_key es) texts)) y ids) where
   abbrev first : ℕ
@@ -368,12 +373,13 @@ module _ (x y : Content) (replica note : List ℕ) (d : Differs) (texts : List R
         | inr new ↦ let end = enters_there replica note d first (by_key es) texts i text o.note keyed (subst (λ l. has l (entering i text o.note) ≡ true) made new) in inr (end.key, end.read)
       ]
 
-  module _ (fs : List StandingEntry) (then_are : AreStanding y.ops fs) where
+  -- a content with the same entries, and the same retired ones
+  module _ (w : Content) (alike : SameEntries y w) (fs : List StandingEntry) (then_are : AreStanding w.ops fs) where
     last_text_stands : (k : KeyBytes) (e : StandingEntry) → Contains (last k).known e → HasText (by_key fs k).known e.definition
     last_text_stands k e c =
         let h = up k e c in
         let its = h.0 in
-        let f = old_is_standing y.ops fs e.entry e.definition its.noted then_are its.entered its.stands in
+        let f = old_is_standing w.ops fs e.entry e.definition its.noted then_are (sym (alike.entered e.entry e.definition its.noted) ∙ its.entered) (sym (alike.retired e.entry) ∙ its.stands) in
         let same : key_of f.e ≡ key_of e = one_key e.definition f.e.key e.key f.keyed its.of_key in
         (f.e, to_filter (λ (g : StandingEntry). is_key k (key_of g)) fs f.e f.there (key_itself k (key_of f.e) (sym (same ∙ h.1))), f.definition)
 
@@ -381,7 +387,8 @@ module _ (x y : Content) (replica note : List ℕ) (d : Differs) (texts : List R
     standing_is_last k f c =
         let m = in_filter (λ (g : StandingEntry). is_key k (key_of g)) fs f c in
         let its : key_of f ≡ k = sym (same_key k (key_of f) m.1) in
-        let old : IsOld y f = standing_is_old y fs f then_are m.0 in
+        let now : IsOld w f = standing_is_old w fs f then_are m.0 in
+        let old : IsOld y f = record { note = now.note; entered = alike.entered f.entry f.definition now.note ∙ now.entered; stands = alike.retired f.entry ∙ now.stands; keyed = now.keyed } in
         let parts = or_parts (retires x.ops f.entry) (gone f.entry all) (sym (then_retired x y replica note all ids does f.entry) ∙ old.stands) in
         elim (was_entered x y replica note all ids does (entering f.entry f.definition old.note) old.entered) [
           | inl before ↦

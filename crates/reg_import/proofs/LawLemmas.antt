@@ -20,7 +20,7 @@ use Rattle.wkt_texts.proofs.Found.{printed_found}
 use Rattle.reg_op.specs.Set as set
 use Rattle.reg_op.specs.Set.{contains, contains-empty}
 use Rattle.reg_op.specs.Kept.{entering}
-use Rattle.reg_op.specs.Operations.{Op, op_cmp}
+use Rattle.reg_op.specs.Operations.{Op, OneBody, kept, op_cmp}
 use Rattle.reg_op.specs.Contents.{Content, nothing, IsContent}
 use Rattle.reg_op.specs.Rows.{Row, rows}
 use Rattle.reg_op.specs.Status.{is_retirement}
@@ -53,7 +53,7 @@ use Rattle.reg_import.proofs.KnownLemmas.{key_itself}
 use Rattle.reg_import.proofs.TextLemmas.{HasText, refused_of_beside, comes_ours}
 use Rattle.reg_import.proofs.AgainLemmas.{at_key, finally, ours_stay, quiet_all}
 use Rattle.reg_import.proofs.StandingLemmas.{in_filter, to_filter, nothing_done, then_one_body, then_kept}
-use Rattle.reg_import.proofs.LastLemmas.{IsKeyed, AreKeyed, same_texts, last_stands, stood_or_read}
+use Rattle.reg_import.proofs.LastLemmas.{IsKeyed, AreKeyed, SameEntries, same_texts, last_stands, stood_or_read}
 
 -- ---- texts that were read
 
@@ -81,6 +81,9 @@ text_of (w ∷ texts) readings r h c = elim (in_cons r h.0 h.1 (subst (λ l. Con
 
 -- ---- importing again
 
+same_itself : {y : Content} → SameEntries y y
+same_itself = record { entered = λ i text noted. refl; retired = λ i. refl }
+
 module _ (x y : Content) (replica note again noted : List ℕ) (d : Differs) (keep_going : Bool) (readings : List ReadText) (ts : List TextAction) (is : IsContent x) (ahead : RetiresNoneAhead x replica) (keyed : AreKeyed readings)
     (m : Imports x replica note d keep_going readings y ts) where
   abbrev es : List StandingEntry
@@ -95,19 +98,23 @@ module _ (x y : Content) (replica note again noted : List ℕ) (d : Differs) (ke
   abbrev ToldAgain : List Step → Type 0
   ToldAgain steps = IsToldAgain ts (tolds steps) × (effects steps ≡ [])
 
-  steps_again : (steps : List Step) → AreSteps y again d readings steps → ToldAgain steps
-  steps_again steps are =
+  steps_again : (w : Content) → SameEntries y w → (steps : List Step) → AreSteps w again d readings steps → ToldAgain steps
+  steps_again w alike steps are =
       let unspent : NoneSpent (tolds ran) = subst NoneSpent (m.told ∙ ap tolds m.are_steps.2) m.none_spent in
-      let same = same_texts x y replica note d readings es m.ids is ahead keyed m.are_steps.1 does are.0 are.1 in
-      let q = quiet_all d replica (greatest replica x.seen + 1) (by_key es) again (greatest again y.seen + 1) (by_key are.0) readings (λ k o. absurd (true≢false (sym o))) same unspent in
-      subst ToldAgain (sym are.2) (subst (λ l. IsToldAgain l (tolds (imports d again (greatest again y.seen + 1) (by_key are.0) readings))) (sym (m.told ∙ ap tolds m.are_steps.2)) q.told, q.nothing)
+      let same = same_texts x y replica note d readings es m.ids is ahead keyed m.are_steps.1 does w alike are.0 are.1 in
+      let q = quiet_all d replica (greatest replica x.seen + 1) (by_key es) again (greatest again w.seen + 1) (by_key are.0) readings (λ k o. absurd (true≢false (sym o))) same unspent in
+      subst ToldAgain (sym are.2) (subst (λ l. IsToldAgain l (tolds (imports d again (greatest again w.seen + 1) (by_key are.0) readings))) (sym (m.told ∙ ap tolds m.are_steps.2)) q.told, q.nothing)
 
-  pub import_again : (z : Content) (us : List TextAction) → Imports y again noted d keep_going readings z us → (z ≡ y) × IsToldAgain ts us
-  import_again z us n =
-      let s = steps_again n.steps n.are_steps in (
-        nothing_done y z again noted n.ids (then_one_body x y replica note (effects ran) m.ids does) (then_kept x y replica note (effects ran) m.ids does) (subst (λ bs. Does y again noted bs z n.ids) s.1 n.does),
+  -- into a content with the same entries
+  pub import_alike : (w : Content) → SameEntries y w → OneBody w.ops → kept w.ops ≡ w.ops → (z : Content) (us : List TextAction) → Imports w again noted d keep_going readings z us → (z ≡ w) × IsToldAgain ts us
+  import_alike w alike one is_kept z us n =
+      let s = steps_again w alike n.steps n.are_steps in (
+        nothing_done w z again noted n.ids one is_kept (subst (λ bs. Does w again noted bs z n.ids) s.1 n.does),
         subst (IsToldAgain ts) (sym n.told) s.0,
       )
+
+  pub import_again : (z : Content) (us : List TextAction) → Imports y again noted d keep_going readings z us → (z ≡ y) × IsToldAgain ts us
+  import_again z us n = import_alike y same_itself (then_one_body x y replica note (effects ran) m.ids does) (then_kept x y replica note (effects ran) m.ids does) z us n
 
 -- ---- importing again is refused only for its note, or if memory runs out
 
@@ -141,17 +148,21 @@ told_unspent ts us a = none_spent_again us (a.others ∙ map_not ts ∙ sym (ap 
 told_unrefused : (ts us : List TextAction) → IsToldAgain ts us → NoneRefused ts → NoneRefused us
 told_unrefused ts us a n = any_mapped is_refused us ∙ ap (list_any (λ b. b)) a.refused ∙ sym (any_mapped is_refused ts) ∙ n
 
-pub refused_again : (x y : Content) (replica note again noted : List ℕ) (d : Differs) (keep_going : Bool) (readings : List ReadText) (ts : List TextAction) → IsContent x → RetiresNoneAhead x replica → AreKeyed readings
-    → Imports x replica note d keep_going readings y ts → (f : ImportRefusal) → IsImportRefusal y again noted d keep_going readings f → (f ≡ refusal.NoteTooLong) ⊎ (f ≡ refusal.Memory)
-refused_again x y replica note again noted d keep_going readings ts is ahead keyed m refusal.NoteTooLong h = inl refl
-refused_again x y replica note again noted d keep_going readings ts is ahead keyed m refusal.Memory h = inr refl
-refused_again x y replica note again noted d keep_going readings ts is ahead keyed m refusal.CountSpent h =
-    let s = steps_again x y replica note again noted d keep_going readings ts is ahead keyed m h.1.0 h.1.1 in
+pub refused_alike : (x y w : Content) (replica note again noted : List ℕ) (d : Differs) (keep_going : Bool) (readings : List ReadText) (ts : List TextAction) → IsContent x → RetiresNoneAhead x replica → AreKeyed readings
+    → Imports x replica note d keep_going readings y ts → SameEntries y w → (f : ImportRefusal) → IsImportRefusal w again noted d keep_going readings f → (f ≡ refusal.NoteTooLong) ⊎ (f ≡ refusal.Memory)
+refused_alike x y w replica note again noted d keep_going readings ts is ahead keyed m alike refusal.NoteTooLong h = inl refl
+refused_alike x y w replica note again noted d keep_going readings ts is ahead keyed m alike refusal.Memory h = inr refl
+refused_alike x y w replica note again noted d keep_going readings ts is ahead keyed m alike refusal.CountSpent h =
+    let s = steps_again x y replica note again noted d keep_going readings ts is ahead keyed m w alike h.1.0 h.1.1 in
     absurd (h.1.2.1 (told_unspent ts (tolds h.1.0) s.0))
-refused_again x y replica note again noted d keep_going readings ts is ahead keyed m (refusal.Refused at p) h =
-    let s = steps_again x y replica note again noted d keep_going readings ts is ahead keyed m h.1.0 h.1.1 in
+refused_alike x y w replica note again noted d keep_going readings ts is ahead keyed m alike (refusal.Refused at p) h =
+    let s = steps_again x y replica note again noted d keep_going readings ts is ahead keyed m w alike h.1.0 h.1.1 in
     let none : NoneRefused (tolds h.1.0) = told_unrefused ts (tolds h.1.0) s.0 (m.passes h.1.2.0) in
     absurd (true≢false (sym (passes_at (tolds h.1.0) at (told.Refused p) h.1.2.1.refused refl) ∙ none))
+
+pub refused_again : (x y : Content) (replica note again noted : List ℕ) (d : Differs) (keep_going : Bool) (readings : List ReadText) (ts : List TextAction) → IsContent x → RetiresNoneAhead x replica → AreKeyed readings
+    → Imports x replica note d keep_going readings y ts → (f : ImportRefusal) → IsImportRefusal y again noted d keep_going readings f → (f ≡ refusal.NoteTooLong) ⊎ (f ≡ refusal.Memory)
+refused_again x y replica note again noted d keep_going readings ts is ahead keyed m f h = refused_alike x y y replica note again noted d keep_going readings ts is ahead keyed m same_itself f h
 
 -- ---- exported texts
 

@@ -5,8 +5,14 @@ use Rattle.csv.specs.Writing.{row_text, default_writer}
 use Rattle.reg_report.specs.Lines.{Sheet, sheet_text, IsReady, WritesRow, AreLines}
 use Rattle.reg_import.specs.declared.reading.FileText.{FileText}
 use Rattle.reg_import.specs.declared.action.TextAction.{TextAction}
-use Rattle.reg_import.specs.Lines.{Line, lines_of, is_shown, IsImportLine}
-use Rattle.reg_import.specs.Listing.{WritesLines}
+use Rattle.reg_import.specs.Lines.{Line, lines_of, is_shown, import_header, IsImportLine, IsLinkedLine, IsGoneLine}
+use Rattle.std.specs.Prelude.{map}
+use Rattle.std.specs.String.{string_bytes}
+use Rattle.reg_op.specs.Operations.{Ops}
+use Rattle.reg_op.specs.Rows.{Row, rows}
+use Rattle.reg_import.specs.Readings.{readings}
+use Rattle.reg_import.specs.declared.listing.Listing.{Listing}
+use Rattle.reg_import.specs.Listing.{AreGoneOf, WritesLines, WritesMade, IsListing}
 
 -- ---- lines of some items
 
@@ -25,6 +31,33 @@ module _ {T : Type 0} (R : T → List (List ℕ) → Type 0) where
     text = two.text ∙ ap (λ t. t ++ two.lines) one.text ∙ append_assoc (sheet_text old) one.lines two.lines;
     ready = two.ready;
   }
+
+-- lines of the texts, and then of linked entries
+pub made_lines : (l : Listing) (texts : List FileText) (ts : List TextAction) (linked : List Row) (old now new : Sheet)
+    → WritesLines (IsImportLine (map string_bytes l.names.now)) (filter (is_shown l.changes) (lines_of texts ts)) old now → WritesLines IsLinkedLine linked now new → WritesMade l texts ts linked old new
+made_lines l texts ts linked old now new one two = record {
+  lines = one.lines;
+  of_texts = one.are;
+  more = two.lines;
+  of_linked = two.are;
+  text = two.text ∙ ap (λ t. t ++ two.lines) one.text ∙ append_assoc (sheet_text old) one.lines two.lines;
+  ready = two.ready;
+}
+
+-- and then the lines of entries that no text has
+pub whole_listing : (l : Listing) (s : Ops) (texts : List FileText) (ts : List TextAction) (linked gone : List Row) (first head made last : Sheet) (text : List ℕ) → sheet_text first ≡ [] → WritesRow first head import_header
+    → WritesMade l texts ts linked head made → AreGoneOf l.gone (readings texts) (rows s) gone → WritesLines IsGoneLine gone made last → text ≡ sheet_text last → IsListing l s texts ts linked text
+whole_listing l s texts ts linked gone first head made last text empty h m are g e = record {
+  gone = gone;
+  are_gone = are;
+  lines = m.lines;
+  of_texts = m.of_texts;
+  more = m.more;
+  of_linked = m.of_linked;
+  last = g.lines;
+  of_gone = g.are;
+  is = e ∙ g.text ∙ ap (λ t. t ++ g.lines) (m.text ∙ ap (λ t. t ++ (m.lines ++ m.more)) (h.text ∙ ap (λ t. t ++ row_text default_writer import_header) empty));
+}
 
 -- ---- a loop over the texts
 

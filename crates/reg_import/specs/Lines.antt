@@ -110,12 +110,19 @@ IsLineOf names x t (reading.Unread f) fields = fields ≡ line_fields names x t 
 abbrev pub IsImportLine : List (List ℕ) → Line → List (List ℕ) → Type 0
 IsImportLine names l fields = IsLineOf names l.text l.told l.text.reading fields
 
--- ---- entries that no text has
+-- ---- entries with a line of their own
 
--- they are the fields of the line of such an entry: the action `gone`, the entry, its key and its name
-pub record IsGoneLine (r : Row) (fields : List (List ℕ)) : Type 0 where
+-- they are the fields of the line of an entry: this action, the entry, its key and its name
+pub record IsEntryLine (action : List ℕ) (r : Row) (fields : List (List ℕ)) : Type 0 where
   pub key : Key
   pub crs : Crs
   pub keyed : IsKeyIn key r.definition
   pub spelled : IsCrsOf crs r.definition
-  pub are : fields ≡ [] ∷ [] ∷ codes "gone" ∷ printed r.entry ∷ key.authority.bytes ∷ key.code.bytes ∷ (name_of crs.parts).bytes ∷ [] ∷ []
+  pub are : fields ≡ [] ∷ [] ∷ action ∷ printed r.entry ∷ key.authority.bytes ∷ key.code.bytes ∷ (name_of crs.parts).bytes ∷ [] ∷ []
+
+-- of an entry to which a supersession passed on; and of one that no text has
+abbrev pub IsLinkedLine : Row → List (List ℕ) → Type 0
+IsLinkedLine r fields = IsEntryLine (codes "linked") r fields
+
+abbrev pub IsGoneLine : Row → List (List ℕ) → Type 0
+IsGoneLine r fields = IsEntryLine (codes "gone") r fields

@@ -12,7 +12,7 @@ use Rattle.reg_import.specs.declared.reading.ReadText.{ReadText}
 use Rattle.reg_import.specs.declared.action.TextAction.{TextAction}
 use Rattle.reg_import.specs.Readings.{readings, keys_in}
 use Rattle.reg_import.specs.Gone.{AreGone}
-use Rattle.reg_import.specs.Lines.{lines_of, is_shown, import_header, IsImportLine, IsGoneLine}
+use Rattle.reg_import.specs.Lines.{lines_of, is_shown, import_header, IsImportLine, IsLinkedLine, IsGoneLine}
 
 -- lines of these items were appended
 pub record WritesLines {T : Type 0} (R : T → List (List ℕ) → Type 0) (items : List T) (old new : Sheet) : Type 0 where
@@ -26,12 +26,24 @@ abbrev pub AreGoneOf : Option (Bor (List ℕ)) → List ReadText → List Row �
 AreGoneOf None rs all gone = gone ≡ []
 AreGoneOf (Some authority) rs all gone = AreGone authority.now (keys_in rs) all gone
 
--- a header; a line for each text that is not left out; a line for each entry that no text has
-pub record IsListing (l : Listing) (s : Ops) (texts : List FileText) (ts : List TextAction) (text : List ℕ) : Type 0 where
+-- lines of the texts that are not left out were appended, and then of the entries to which a supersession passed on
+pub record WritesMade (l : Listing) (texts : List FileText) (ts : List TextAction) (linked : List Row) (old new : Sheet) : Type 0 where
+  pub lines : List ℕ
+  pub of_texts : AreLines (IsImportLine (map string_bytes l.names.now)) (filter (is_shown l.changes) (lines_of texts ts)) lines
+  pub more : List ℕ
+  pub of_linked : AreLines IsLinkedLine linked more
+  pub text : sheet_text new ≡ sheet_text old ++ (lines ++ more)
+  pub ready : IsReady new
+
+-- a header; a line for each text that is not left out; a line for each entry to which a supersession passed on; a line for each
+-- entry that no text has
+pub record IsListing (l : Listing) (s : Ops) (texts : List FileText) (ts : List TextAction) (linked : List Row) (text : List ℕ) : Type 0 where
   pub gone : List Row
   pub are_gone : AreGoneOf l.gone (readings texts) (rows s) gone
   pub lines : List ℕ
   pub of_texts : AreLines (IsImportLine (map string_bytes l.names.now)) (filter (is_shown l.changes) (lines_of texts ts)) lines
+  pub more : List ℕ
+  pub of_linked : AreLines IsLinkedLine linked more
   pub last : List ℕ
   pub of_gone : AreLines IsGoneLine gone last
-  pub is : text ≡ row_text default_writer import_header ++ lines ++ last
+  pub is : text ≡ row_text default_writer import_header ++ (lines ++ more) ++ last

@@ -6,8 +6,8 @@ ghost use Rattle.reg_op.specs.Rows.{rows};
 ghost use Rattle.reg_report.specs.Lines.{IsReady, WritesRow};
 ghost use Rattle.reg_report.specs.Seen.{row_seen};
 ghost use Rattle.reg_import.specs.Readings.{readings};
-ghost use Rattle.reg_import.specs.Lines.{lines_of, is_known, is_shown, IsImportLine, IsGoneLine};
-ghost use Rattle.reg_import.specs.Listing.{AreGoneOf, WritesLines, IsListing};
+ghost use Rattle.reg_import.specs.Lines.{lines_of, is_known, is_shown, IsImportLine, IsEntryLine};
+ghost use Rattle.reg_import.specs.Listing.{AreGoneOf, WritesLines, WritesMade, IsListing};
 
 use crate::action::TextAction;
 use crate::gone::gone;
@@ -90,9 +90,15 @@ fn gone_rows(
     }
 }
 
-fn write_gone(alloc: Global, wtr: &mut Writer<Vec<u8>>, row: &Row) -> Result<(), AllocError>
+// Writes the line of an entry, with this action.
+fn write_entry(
+    alloc: Global,
+    wtr: &mut Writer<Vec<u8>>,
+    action: &[u8],
+    row: &Row,
+) -> Result<(), AllocError>
     requires { IsReady wtr.old }
-    ensures { OnOk result ((fields : List (List ℕ)) × IsGoneLine (row_seen row.now) fields × WritesRow wtr.old wtr.new fields) }
+    ensures { OnOk result ((fields : List (List ℕ)) × IsEntryLine action.now (row_seen row.now) fields × WritesRow wtr.old wtr.new fields) }
 {
     let entry = printed(alloc, row.entry)?;
     let key = row.definition.key();
@@ -102,7 +108,7 @@ fn write_gone(alloc: Global, wtr: &mut Writer<Vec<u8>>, row: &Row) -> Result<(),
         &[
             b"",
             b"",
-            b"gone",
+            action,
             &entry,
             key.authority.as_bytes(),
             key.code.as_bytes(),
@@ -114,34 +120,57 @@ fn write_gone(alloc: Global, wtr: &mut Writer<Vec<u8>>, row: &Row) -> Result<(),
 }
 
 // Writes the lines of these entries.
-fn write_all_gone(alloc: Global, wtr: &mut Writer<Vec<u8>>, rows: &[Row]) -> Result<(), AllocError>
+fn write_entries(
+    alloc: Global,
+    wtr: &mut Writer<Vec<u8>>,
+    action: &[u8],
+    rows: &[Row],
+) -> Result<(), AllocError>
     requires { IsReady wtr.old }
-    ensures { OnOk result (WritesLines IsGoneLine (map row_seen rows.now) wtr.old wtr.new) }
+    ensures { OnOk result (WritesLines (IsEntryLine action.now) (map row_seen rows.now) wtr.old wtr.new) }
 {
     let mut rest = rows;
     while let Some((row, others)) = rest.split_first() {
-        write_gone(alloc, wtr, row)?;
+        write_entry(alloc, wtr, action, row)?;
         rest = others;
     }
     Ok(())
 }
 
-/// A header; a line for each text that is not left out; and a line for each listed entry, by id. The register is the one
-/// after the import.
+// Writes the lines of the texts, and those of the entries to which a supersession passed on.
+fn write_made(
+    alloc: Global,
+    wtr: &mut Writer<Vec<u8>>,
+    listing: &Listing<'_>,
+    texts: &[FileText],
+    told: &[TextAction],
+    linked: &[Row],
+) -> Result<(), AllocError>
+    requires { IsReady wtr.old }
+    ensures { OnOk result (WritesMade listing.now texts.now told.now (map row_seen linked.now) wtr.old wtr.new) }
+{
+    write_texts(alloc, wtr, listing, texts, told)?;
+    write_entries(alloc, wtr, b"linked", linked)?;
+    Ok(())
+}
+
+/// A header; a line for each text that is not left out; a line for each entry to which a supersession passed on; and a line for
+/// each listed entry, by id. The register is the one after the import.
 pub fn lines_text(
     alloc: Global,
     listing: &Listing<'_>,
     register: &Register,
     texts: &[FileText],
     told: &[TextAction],
+    linked: &[Row],
 ) -> Result<Vec<u8>, AllocError>
-    ensures { IfOk result (λ text. IsListing listing.now register.now.ops texts.now told.now text.items) }
+    ensures { IfOk result (λ text. IsListing listing.now register.now.ops texts.now told.now (map row_seen linked.now) text.items) }
 {
     let mut wtr = Writer::from_writer(Vec::new(alloc));
     write_header(&mut wtr)?;
-    write_texts(alloc, &mut wtr, listing, texts, told)?;
+    write_made(alloc, &mut wtr, listing, texts, told, linked)?;
     let rows = gone_rows(alloc, listing, register, texts)?;
-    write_all_gone(alloc, &mut wtr, &rows)?;
+    write_entries(alloc, &mut wtr, b"gone", &rows)?;
     match wtr.into_inner() {
         Ok(text) => Ok(text),
         Err(_) => Err(AllocError),

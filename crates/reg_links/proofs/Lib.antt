@@ -5,3 +5,4 @@ mod Listed
 mod ForHeirs
 pub mod Rows
 pub mod Passes
+mod OldRows

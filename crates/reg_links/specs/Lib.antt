@@ -3,3 +3,4 @@ pub mod Heirs
 pub mod Passing
 pub mod Law
 pub mod Retiring
+pub mod Rows

@@ -1,21 +1,26 @@
 //! The result of an import, before anything is written.
 
 ghost use Rattle.std.specs.Prelude.{◌≡◌, map, IfOk, IfErr};
+ghost use Rattle.reg_op.specs.Contents.{Content};
+ghost use Rattle.reg_import.specs.Readings.{readings};
+ghost use Rattle.reg_desk.specs.ImportLinks.{IsUnlinked};
 ghost use Rattle.reg_desk.specs.ImportFiles.{bytes_of};
 ghost use Rattle.reg_desk.specs.ImportTexts.{text_at};
-ghost use Rattle.reg_desk.specs.Import.{IsRefusedBy, MakesOf, IsUnmadeOf, Makes, IsUnmade, IsReadyIn, IsUnreadyIn};
+ghost use Rattle.reg_desk.specs.Import.{AreLines, IsRefusedBy, MakesOf, IsUnmadeOf, Makes, IsUnmade, IsReadyIn, IsUnreadyIn};
 
 use crate::import::against::{passed_over, refused_here};
 use crate::import::fault::Unimported;
 use crate::import::files::read_files;
+use crate::import::linked::{LinkRefusal, Linked, import_linked};
 use crate::import::options::ImportOptions;
 use crate::import::texts::{FileCut, cut_files, read_cuts};
 use byte_io::Source;
 use reg_engine::{CliFault, Refusal, Store};
-use reg_import::{FileText, ImportRefusal, Listing, Refused, import_texts, lines_text};
+use reg_import::{FileText, ImportRefusal, Listing, Refused, lines_text};
+use reg_links::old_rows;
 use reg_office::OfficeFault;
 use reg_state::Register;
-use std::alloc::Global;
+use std::alloc::{AllocError, Global};
 
 /// The result of an import: the register, the lines, and the fault of texts that were passed over.
 #[derive(Drop)]
@@ -61,6 +66,44 @@ fn refusal_of(
     }
 }
 
+// Why texts are not imported, or their links are not made.
+fn unlinked(
+    alloc: Global,
+    first: usize,
+    order: &ImportOptions<'_>,
+    files: &[Vec<u8>],
+    cuts: &[FileCut<'_>],
+    texts: &[FileText],
+    refusal: LinkRefusal,
+) -> Unimported
+    ensures { (x : Content) → IsUnlinked order.now x (readings texts.now) refusal
+        → IsUnmadeOf order.now first x (bytes_of files.now) (map text_at cuts.now) texts.now result }
+{
+    match refusal {
+        LinkRefusal::Import(refusal) => refusal_of(alloc, first, order, files, cuts, texts, refusal),
+        LinkRefusal::Office(fault) => Unimported::plain(alloc, CliFault::of_office(fault)),
+    }
+}
+
+// The lines of an import.
+fn lines_of(
+    alloc: Global,
+    order: &ImportOptions<'_>,
+    texts: &[FileText],
+    linked: &Linked,
+) -> Result<Vec<u8>, AllocError>
+    ensures { IfOk result (λ lines. AreLines order.now linked.now.register.ops texts.now linked.now.told.items linked.now.links.items lines.items) }
+{
+    let listing = Listing {
+        names: order.names,
+        changes: order.changes,
+        gone: order.gone,
+    };
+    let rows = old_rows(alloc, &linked.register, &linked.links)?;
+    let lines = lines_text(alloc, &listing, &linked.register, texts, &linked.told, &rows)?;
+    Ok(lines)
+}
+
 // Imports texts, and makes the lines.
 fn made_of(
     alloc: Global,
@@ -74,31 +117,16 @@ fn made_of(
     ensures made { IfOk result (λ r. MakesOf order.now first register (bytes_of files.now) (map text_at cuts.now) texts.now r.register r.lines.items r.passed) }
     ensures fault { IfErr result (IsUnmadeOf order.now first register (bytes_of files.now) (map text_at cuts.now) texts.now) }
 {
-    let imported = match import_texts(
-        alloc,
-        register,
-        order.replica,
-        order.note,
-        order.differs,
-        order.keep_going,
-        texts,
-    ) {
-        Ok(imported) => imported,
-        Err(refusal) => {
-            return Err(refusal_of(alloc, first, order, files, cuts, texts, refusal));
-        }
+    let linked = match import_linked(alloc, register, order, texts) {
+        Ok(linked) => linked,
+        Err(refusal) => return Err(unlinked(alloc, first, order, files, cuts, texts, refusal)),
     };
-    let Ok(passed) = passed_over(alloc, first, order, files, cuts, texts, &imported.told) else {
+    let Ok(passed) = passed_over(alloc, first, order, files, cuts, texts, &linked.told) else {
         return Err(Unimported::plain(alloc, CliFault::Memory));
     };
-    let listing = Listing {
-        names: order.names,
-        changes: order.changes,
-        gone: order.gone,
-    };
-    match lines_text(alloc, &listing, &imported.register, texts, &imported.told) {
+    match lines_of(alloc, order, texts, &linked) {
         Ok(lines) => Ok(Ready {
-            register: imported.register,
+            register: linked.register,
             lines,
             passed,
         }),

@@ -1,12 +1,12 @@
 use Rattle.std.proofs.Common.{◌≡◌, ◌++◌, List, length, map}
 use Rattle.reg_op.specs.Rows.{Row}
 use Rattle.reg_report.specs.Seen.{row_seen}
-use Rattle.reg_import.specs.Lines.{IsGoneLine}
+use Rattle.reg_import.specs.Lines.{IsEntryLine}
 use Rattle.reg_import.specs.Listing.{WritesLines}
-use Rattle.reg_import.proofs.listing.write_all_gone.Given as goal
+use Rattle.reg_import.proofs.listing.write_entries.Given as goal
 
 abbrev pub invariant-loop-row : goal.invariant-loop-row
-invariant-loop-row l = (done : List Row) × (map row_seen l.rows ≡ done ++ map row_seen l.rest) × WritesLines IsGoneLine done l.initial.wtr l.wtr
+invariant-loop-row l = (done : List Row) × (map row_seen l.rows ≡ done ++ map row_seen l.rest) × WritesLines (IsEntryLine l.action) done l.initial.wtr l.wtr
 
 abbrev pub decreases-loop-row : goal.decreases-loop-row
 decreases-loop-row l = length l.rest

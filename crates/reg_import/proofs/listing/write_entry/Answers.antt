@@ -1,17 +1,16 @@
 use Rattle.std.proofs.Common.{[], ◌∷◌, ◌∙◌}
-use Rattle.std.specs.Prelude.{codes}
-use Rattle.reg_import.proofs.listing.write_gone.Goals as goal
+use Rattle.reg_import.proofs.listing.write_entry.Goals as goal
 
 pub returns : goal.returns
 returns c = (
-  [] ∷ [] ∷ codes "gone" ∷ c.deref.result.now ∷ c.as_bytes.result.now ∷ c.as_bytes-2.result.now ∷ c.as_bytes-3.result.now ∷ [] ∷ [],
+  [] ∷ [] ∷ c.args.action.now ∷ c.deref.result.now ∷ c.as_bytes.result.now ∷ c.as_bytes-2.result.now ∷ c.as_bytes-3.result.now ∷ [] ∷ [],
   record {
     key = c.key-key.result.now;
     crs = c.name-name.ensures.0;
     keyed = c.key-key.ensures;
     spelled = c.name-name.ensures.1;
     are = λ k.
-        [] ∷ [] ∷ codes "gone"
+        [] ∷ [] ∷ c.args.action.now
         ∷ (c.deref.ensures.value ∙ c.in_ok-entry.ensures) k
         ∷ c.as_bytes.ensures k
         ∷ c.as_bytes-2.ensures k

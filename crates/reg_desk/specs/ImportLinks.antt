@@ -1,0 +1,34 @@
+-- The import of texts, with the links that pass on to the entries that it makes.
+use Rattle.std.specs.Prelude.{◌≡◌, ◌⊎◌, List}
+use Rattle.reg_op.specs.Ids.{Id}
+use Rattle.reg_op.specs.Contents.{Content}
+use Rattle.reg_office.specs.declared.fault.OfficeFault.{OfficeFault}
+use Rattle.reg_office.specs.declared.fault.OfficeFault.TheVariants as office
+use Rattle.reg_import.specs.declared.reading.ReadText.{ReadText}
+use Rattle.reg_import.specs.declared.action.TextAction.{TextAction}
+use Rattle.reg_import.specs.Plans.{Imports, IsImportRefusal}
+use Rattle.reg_links.specs.declared.link.Link.{Link}
+use Rattle.reg_links.specs.Links.{links_in}
+use Rattle.reg_links.specs.Passing.{PassesOn, IsNotPassedOn}
+use Rattle.reg_desk.specs.declared.import.options.ImportOptions.{ImportOptions}
+use Rattle.reg_desk.specs.declared.import.linked.LinkRefusal.{LinkRefusal}
+use Rattle.reg_desk.specs.declared.import.linked.LinkRefusal.TheVariants as refusal
+
+-- the texts are imported, and then the links pass on
+pub record ImportsLinked (o : ImportOptions) (x : Content) (readings : List ReadText) (y : Content) (ts : List TextAction) (links : List Link) : Type 0 where
+  pub between : Content
+  pub imports : Imports x o.replica o.note.now o.differs o.keep_going readings between ts
+  pub ids : List Id
+  pub passes : PassesOn (links_in x.ops) between o.replica o.note.now y links ids
+
+-- the texts are imported, but the links are not made, for this reason
+pub record IsOnlyImported (o : ImportOptions) (x : Content) (readings : List ReadText) (f : OfficeFault) : Type 0 where
+  pub between : Content
+  pub told : List TextAction
+  pub imports : Imports x o.replica o.note.now o.differs o.keep_going readings between told
+  pub not_passed : IsNotPassedOn (links_in x.ops) between o.replica o.note.now f
+
+-- why there is no result
+abbrev pub IsUnlinked : ImportOptions → Content → List ReadText → LinkRefusal → Type 0
+IsUnlinked o x readings (refusal.Import r) = IsImportRefusal x o.replica o.note.now o.differs o.keep_going readings r
+IsUnlinked o x readings (refusal.Office f) = IsOnlyImported o x readings f ⊎ (f ≡ office.Memory)

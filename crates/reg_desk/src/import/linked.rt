@@ -1,0 +1,64 @@
+//! The texts of an import, and the links that pass on to the entries that it makes.
+
+ghost use Rattle.std.specs.Prelude.{IfOk, IfErr};
+ghost use Rattle.reg_import.specs.Readings.{readings};
+ghost use Rattle.reg_desk.specs.ImportLinks.{ImportsLinked, IsUnlinked};
+
+use crate::import::options::ImportOptions;
+use reg_import::{FileText, ImportRefusal, Imported, TextAction, import_texts};
+use reg_links::{Link, Passed, links, pass_on};
+use reg_office::{Office, OfficeFault};
+use reg_state::Register;
+use std::alloc::Global;
+
+/// A register after an import, the action for each text, and the links that passed on.
+#[derive(Drop)]
+pub struct Linked {
+    pub register: Register,
+    pub told: Vec<TextAction>,
+    pub links: Vec<Link>,
+}
+
+/// Why texts are not imported, or their links are not made.
+#[derive(Clone, Copy)]
+pub enum LinkRefusal {
+    Import(ImportRefusal),
+    Office(OfficeFault),
+}
+
+/// Imports texts, and then makes the links that pass on to the entries that were made.
+pub fn import_linked(
+    alloc: Global,
+    register: Register,
+    order: &ImportOptions<'_>,
+    texts: &[FileText],
+) -> Result<Linked, LinkRefusal>
+    ensures ok { IfOk result (λ l. ImportsLinked order.now register (readings texts.now) l.register l.told.items l.links.items) }
+    ensures fault { IfErr result (IsUnlinked order.now register (readings texts.now)) }
+{
+    let Ok(before) = links(alloc, &register) else {
+        return Err(LinkRefusal::Import(ImportRefusal::Memory));
+    };
+    let Imported { register, told } = match import_texts(
+        alloc,
+        register,
+        order.replica,
+        order.note,
+        order.differs,
+        order.keep_going,
+        texts,
+    ) {
+        Ok(imported) => imported,
+        Err(refusal) => return Err(LinkRefusal::Import(refusal)),
+    };
+    let mut office = Office::new(order.replica, register);
+    let links = match pass_on(alloc, &mut office, &before, order.note) {
+        Ok(Passed { links, ids: _ }) => links,
+        Err(fault) => return Err(LinkRefusal::Office(fault)),
+    };
+    Ok(Linked {
+        register: office.into_register(),
+        told,
+        links,
+    })
+}
