@@ -55,7 +55,7 @@ module _ (x y : Content) (replica note : List ℕ) (bodies : List Body) (made : 
   abbrev new : Content
   new = state (set.from_list {R = op_cmp} d.ops)
 
-  entered_before : (e : Id) (text noted : List ℕ) → contains y.ops (entering e text noted) ≡ true → contains x.ops (entering e text noted) ≡ true
+  pub entered_before : (e : Id) (text noted : List ℕ) → contains y.ops (entering e text noted) ≡ true → contains x.ops (entering e text noted) ≡ true
   entered_before e text noted h =
       let o = entering e text noted in
       let kept : contains (merged x new).ops o ≡ true = subst (λ (z : Content). contains z.ops o ≡ true) (sym (joined_ok x new y d.are_joined).1) h in

@@ -1,5 +1,5 @@
 -- The same files imported again, and an exported file that is imported.
-use Rattle.std.proofs.Common.{◌≡◌, ◌⊎◌, Bool, ℕ, List, [], ◌∷◌, ◌++◌, refl, ap, ◌∙◌, subst, inl, inr}
+use Rattle.std.proofs.Common.{◌≡◌, ◌⊎◌, Bool, ℕ, List, [], ◌∷◌, ◌++◌, refl, sym, ap, ◌∙◌, subst, inl, inr}
 use Rattle.std.specs.Prelude.{map, ◌↔◌, Option}
 use Rattle.std.proofs.lemmas.List.{append-nil}
 use Rattle.wkt_tree.specs.Tree.{Piece}

@@ -1,5 +1,5 @@
 -- Why texts are not imported, or their links are not made.
-use Rattle.std.proofs.Common.{◌≡◌, ℕ, List, [], refl, sym, ap, subst, inl, inr}
+use Rattle.std.proofs.Common.{◌≡◌, ◌⊎◌, ℕ, List, [], refl, sym, ap, subst, inl, inr}
 use Rattle.reg_op.specs.Contents.{Content}
 use Rattle.reg_office.specs.declared.fault.OfficeFault.{OfficeFault}
 use Rattle.reg_office.specs.declared.fault.OfficeFault.TheVariants as office
@@ -16,7 +16,14 @@ use Rattle.reg_desk.specs.declared.import.fault.Unimported.{Unimported}
 use Rattle.reg_desk.specs.declared.import.linked.LinkRefusal.{LinkRefusal}
 use Rattle.reg_desk.specs.declared.import.linked.LinkRefusal.TheVariants as refusal
 use Rattle.reg_desk.specs.ImportTexts.{TextAt}
-use Rattle.reg_desk.specs.ImportLinks.{IsUnlinked}
+use Rattle.reg_op.specs.Ids.{Id}
+use Rattle.reg_import.specs.declared.reading.ReadText.{ReadText}
+use Rattle.reg_import.specs.declared.action.TextAction.{TextAction}
+use Rattle.reg_import.specs.Plans.{Imports}
+use Rattle.reg_links.specs.declared.link.Link.{Link}
+use Rattle.reg_links.specs.Links.{links_in}
+use Rattle.reg_links.specs.Passing.{PassesOn, IsNotPassedOn}
+use Rattle.reg_desk.specs.ImportLinks.{ImportsLinked, IsOnlyImported, IsUnlinked}
 use Rattle.reg_desk.specs.Import.{IsPlain, IsRefusedBy, IsUnmadeOf}
 use Rattle.reg_desk.proofs.ImportEngineLemmas.{plain_is}
 
@@ -29,3 +36,24 @@ module _ (o : ImportOptions) (first : ℕ) (x : Content) (files : List (List ℕ
     | inl only ↦ inr (f, only, plain_is (λ g. g ≡ office_fault f) u (office_fault f) fault notes refl)
     | inr memory ↦ inl (refused.Memory, tt, plain_is (λ g. g ≡ cli.Memory) u (office_fault f) fault notes (ap office_fault memory))
   ]
+
+-- ---- an import, and then an office with the register that it makes
+
+module _ (o : ImportOptions) (x between own : Content) (replica : List ℕ) (before : List Link) (texts : List ReadText) (ts : List TextAction) (same : own ≡ between) (its : replica ≡ o.replica) (are : before ≡ links_in x.ops)
+    (imports : Imports x o.replica o.note.now o.differs o.keep_going texts between ts) where
+  pub only_imported : (f : OfficeFault) → IsNotPassedOn before own replica o.note.now f ⊎ (f ≡ office.Memory) → IsOnlyImported o x texts f ⊎ (f ≡ office.Memory)
+  only_imported f (inr memory) = inr memory
+  only_imported f (inl n) = inl (record {
+    between = between;
+    told = ts;
+    imports = imports;
+    not_passed = subst (λ ls. IsNotPassedOn ls between o.replica o.note.now f) are (subst (λ r. IsNotPassedOn before between r o.note.now f) its (subst (λ (c : Content). IsNotPassedOn before c replica o.note.now f) same n));
+  })
+
+  pub linked_from : (y out : Content) (links : List Link) (ids : List Id) → PassesOn before own replica o.note.now y links ids → out ≡ y → ImportsLinked o x texts out ts links
+  linked_from y out links ids p end = subst (λ (c : Content). ImportsLinked o x texts c ts links) (sym end) (record {
+    between = between;
+    imports = imports;
+    ids = ids;
+    passes = subst (λ ls. PassesOn ls between o.replica o.note.now y links ids) are (subst (λ r. PassesOn before between r o.note.now y links ids) its (subst (λ (c : Content). PassesOn before c replica o.note.now y links ids) same p));
+  })

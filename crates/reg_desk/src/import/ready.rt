@@ -80,7 +80,9 @@ fn unlinked(
         → IsUnmadeOf order.now first x (bytes_of files.now) (map text_at cuts.now) texts.now result }
 {
     match refusal {
-        LinkRefusal::Import(refusal) => refusal_of(alloc, first, order, files, cuts, texts, refusal),
+        LinkRefusal::Import(refusal) => refusal_of(
+            alloc, first, order, files, cuts, texts, refusal,
+        ),
         LinkRefusal::Office(fault) => Unimported::plain(alloc, CliFault::of_office(fault)),
     }
 }
@@ -100,7 +102,14 @@ fn lines_of(
         gone: order.gone,
     };
     let rows = old_rows(alloc, &linked.register, &linked.links)?;
-    let lines = lines_text(alloc, &listing, &linked.register, texts, &linked.told, &rows)?;
+    let lines = lines_text(
+        alloc,
+        &listing,
+        &linked.register,
+        texts,
+        &linked.told,
+        &rows,
+    )?;
     Ok(lines)
 }
 
