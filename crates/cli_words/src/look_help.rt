@@ -3,10 +3,10 @@
 pub const FIND_HELP: &str = "\
 Prints the lines of the report of entries that match WORD and every option
 given, or all lines without these. WORD is a key if an entry has this key, and
-otherwise a part of the name or the code. In authorities, names and areas, the letters A to
-Z match in either case; codes match byte for byte. An empty WORD, PART, A, C or
-AUTH:CODE is an error, since it would match every entry or none. A point on the
-border of a bounding box is in it. If west is greater than east, the box crosses
+otherwise a part of the name or the code. In authorities, names and areas, the
+letters A to Z match in either case; codes match byte for byte. An empty WORD,
+PART, A, C or AUTH:CODE is an error, since it would match every entry or none. A
+point on the border of a bounding box is in it. If west is greater than east, the box crosses
 the meridian of 180 degrees.
 
 With --ids it prints only the ids. If no entry matches, it is refused as
