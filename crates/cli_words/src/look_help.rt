@@ -6,8 +6,8 @@ given, or all lines without these. WORD is a key if an entry has this key, and
 otherwise a part of the name or the code. In authorities, names and areas, the
 letters A to Z match in either case; codes match byte for byte. An empty WORD,
 PART, A, C or AUTH:CODE is an error, since it would match every entry or none. A
-point on the border of a bounding box is in it. If west is greater than east, the box crosses
-the meridian of 180 degrees.
+point on the border of a bounding box is in it. If west is greater than east,
+the box crosses the meridian of 180 degrees.
 
 With --ids it prints only the ids. If no entry matches, it is refused as
 NoEntry, so $(crsreg find .. --ids) is safe in scripts.

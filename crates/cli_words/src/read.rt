@@ -94,7 +94,7 @@ static COMPARE: CommandRow = CommandRow {
         },
         Argument {
             name: "keep-going",
-            help: "With --with: passes over texts that cannot be read, and names the first at the end",
+            help: "With --with: passes over texts that cannot be read, and names the first",
             ..FLAG
         },
         KEYS,
