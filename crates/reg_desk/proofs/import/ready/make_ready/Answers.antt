@@ -10,7 +10,7 @@ pub returns-in-Err-clause-fault : goal.returns-in-Err-clause-fault
 returns-in-Err-clause-fault g c = λ was same.
     let old = map g.F.Source.state c.args.files.now in
     let new = map g.F.Source.state c.read_files.new.files in
-    let u = c.plain-in-Err in
+    let u = c.plain in
     unread_in c.args.order.now c.args.first c.args.loaded old new u.result (g.T.Store.admission was)
     (plain_is (AreUnread c.args.first old new) u.result c.in-Err.fault u.ensures.fault u.ensures.notes c.in-Err.ensures.fault)
 
