@@ -121,7 +121,7 @@ fn outcome_of_list(
     keep_going: bool,
 ) -> Superseded {
     if let Err(fault) = answer {
-        return match refused_line(fault, &refused, keep_going) {
+        return match line_of(&fault, &refused, keep_going) {
             Some(line) => Superseded::AtLine(line),
             None => Superseded::Plain(Outcome::Fault(fault)),
         };
@@ -130,6 +130,11 @@ fn outcome_of_list(
         return Superseded::Plain(Outcome::Done);
     }
     Superseded::LeftLines(refused)
+}
+
+// The line that is the reason for the fault, if one is.
+fn line_of(fault: &CliFault, refused: &[RefusedLine], keep_going: bool) -> Option<RefusedLine> {
+    refused_line(*fault, refused, keep_going)
 }
 
 /// `retire`.

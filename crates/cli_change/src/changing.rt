@@ -39,9 +39,9 @@ pub fn change_of<Q: Place, C: Change>(
     change_to(rt, matches, desk, register, command, &mut sink)
 }
 
-fn change_to<Q: Place, C: Change, W: Write>(
-    rt: &HostRuntime,
-    matches: &ArgMatches<'_>,
+fn change_to<'x, Q: Place, C: Change, W: Write>(
+    rt: &'x HostRuntime,
+    matches: &ArgMatches<'x>,
     desk: &mut Desk<Q>,
     register: Opened<File>,
     command: &mut C,

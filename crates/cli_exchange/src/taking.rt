@@ -78,9 +78,9 @@ fn take_into<S: LateSource>(
     }
 }
 
-fn take_to<S: LateSource, W: Write>(
-    rt: &HostRuntime,
-    matches: &ArgMatches<'_>,
+fn take_to<'x, S: LateSource, W: Write>(
+    rt: &'x HostRuntime,
+    matches: &ArgMatches<'x>,
     register: Opened<File>,
     files: &mut [S],
     sink: &mut Writing<W>,

@@ -164,9 +164,9 @@ fn import_from<Q: Place, S: Source>(
 }
 
 // Imports the files, and prints the rows to the sink.
-fn import_to<Q: Place, S: Source, W: Write>(
-    rt: &HostRuntime,
-    matches: &ArgMatches<'_>,
+fn import_to<'x, Q: Place, S: Source, W: Write>(
+    rt: &'x HostRuntime,
+    matches: &ArgMatches<'x>,
     desk: &mut Desk<Q>,
     register: Opened<File>,
     files: &mut [S],
