@@ -197,21 +197,35 @@ fn import_tried<F: Read + Write + Seek + OpenFile + Drop, S: Source, W: Write>(
     try_import(alloc, &mut tried(&mut register, last), files, order, sink)
 }
 
-// The store of a register that a dry run reads, of an office without an office file or with one.
-type TriedRegister<'a, F> = Either<
-    Either<OfFile<'a, InputOf<Reading<F>>>, OnShelf<'a, FileDisk<F>>>,
-    Either<TriedFile<'a, InputOf<Reading<F>>>, TriedShelf<'a, FileDisk<F>>>,
+// The store of a register that a dry run reads, without an office file.
+type ReadRegister<'a, F> = Either<OfFile<'a, InputOf<Reading<F>>>, OnShelf<'a, FileDisk<F>>>;
+
+// The same with an office file.
+type AdmittedRegister<'a, F> = Either<
+    TriedFile<'a, InputOf<Reading<F>>>,
+    TriedShelf<'a, FileDisk<F>>,
 >;
 
-fn tried<'a, F>(register: &'a mut Opened<F>, last: Option<LastNumber>) -> TriedRegister<'a, F> {
+fn tried<'a, F>(
+    register: &'a mut Opened<F>,
+    last: Option<LastNumber>,
+) -> Either<ReadRegister<'a, F>, AdmittedRegister<'a, F>> {
     match last {
-        None => Either::One(match register {
-            Opened::File(source) => Either::One(OfFile { source }),
-            Opened::Shelf(disk) => Either::Other(OnShelf { disk }),
-        }),
-        Some(last) => Either::Other(match register {
-            Opened::File(source) => Either::One(TriedFile { source, last }),
-            Opened::Shelf(disk) => Either::Other(TriedShelf { disk, last }),
-        }),
+        None => Either::One(read_only(register)),
+        Some(last) => Either::Other(admitted(register, last)),
+    }
+}
+
+fn read_only<'a, F>(register: &'a mut Opened<F>) -> ReadRegister<'a, F> {
+    match register {
+        Opened::File(source) => Either::One(OfFile { source }),
+        Opened::Shelf(disk) => Either::Other(OnShelf { disk }),
+    }
+}
+
+fn admitted<'a, F>(register: &'a mut Opened<F>, last: LastNumber) -> AdmittedRegister<'a, F> {
+    match register {
+        Opened::File(source) => Either::One(TriedFile { source, last }),
+        Opened::Shelf(disk) => Either::Other(TriedShelf { disk, last }),
     }
 }
