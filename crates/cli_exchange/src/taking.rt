@@ -4,10 +4,11 @@ use clap::ArgMatches;
 use cli_faults::sentences::Shown;
 use cli_faults::{CommandName, Named, explain};
 use cli_open::engines::CliFault;
-use cli_open::engines::places::Lockable;
+use cli_open::engines::places::{FilePlace, Lockable};
 use cli_open::engines::streams::Writing;
 use cli_open::{
-    Opened, Outcome, Replaced, Rows, answered, explains, open_register, open_shelf, target_of, word,
+    Opened, Outcome, Replaced, Rows, Target, answered, changed_place, explains, open_register,
+    open_shelf, word,
 };
 use reg_take::{LeftOut, run_take, try_take};
 use std::alloc::{AllocError, Global};
@@ -78,9 +79,9 @@ fn take_into<S: LateSource>(
     }
 }
 
-fn take_to<'x, S: LateSource, W: Write>(
-    rt: &'x HostRuntime,
-    matches: &ArgMatches<'x>,
+fn take_to<S: LateSource, W: Write>(
+    rt: &HostRuntime,
+    matches: &ArgMatches<'_>,
     register: Opened<File>,
     files: &mut [S],
     sink: &mut Writing<W>,
@@ -89,7 +90,8 @@ fn take_to<'x, S: LateSource, W: Write>(
     if matches.get_flag("dry-run") {
         return try_take(rt.alloc(), &mut register.reading(), files, keep_going, sink);
     }
-    let mut target = target_of(rt, rt.alloc(), matches, register, "REG")?;
+    let is_quiet = matches.get_flag("quiet");
+    let mut target = target_at(rt, register, word(matches, "REG"), is_quiet)?;
     let answer = run_take(rt.alloc(), &mut target.plain(), files, keep_going, sink);
     drop(target);
     answer
@@ -110,5 +112,21 @@ fn tell(rt: &HostRuntime, matches: &ArgMatches<'_>, paths: &[&str], left: &[Left
     match left.first() {
         Some(first) => Outcome::LeftOut(first.fault().status()),
         None => Outcome::Done,
+    }
+}
+
+// The store of a register, and OUT if it is a file.
+fn target_at<'a>(
+    rt: &'a HostRuntime,
+    register: Opened<File>,
+    path: &'a str,
+    is_quiet: bool,
+) -> Result<Target<File, FilePlace<'a, HostRuntime>>, CliFault> {
+    match register {
+        Opened::File(source) => match changed_place(rt, rt.alloc(), path, is_quiet) {
+            Ok(place) => Ok(Target::File(source, place)),
+            Err(fault) => Err(fault),
+        },
+        Opened::Shelf(disk) => Ok(Target::Shelf(disk)),
     }
 }

@@ -1,13 +1,13 @@
 //! The command `import`.
 use byte_late::{LateFile, LateSource};
 use clap::ArgMatches;
-use cli_change::{Desk, TWICE, office_named, open_desk};
+use cli_change::{Desk, TWICE, office_named, open_desk, target_at};
 use cli_open::engines::Either;
 use cli_open::engines::places::Place;
 use cli_open::guards::{LastNumber, TriedFile, TriedShelf};
 use cli_open::{
     Opened, Outcome, Rows, STANDARD_INPUT, STANDARD_INPUT_PATH, answered, explains, files_before,
-    is_twice, next_file, open_to_change, target_of, word,
+    is_twice, next_file, open_to_change, word,
 };
 use reg_desk::{
     CliFault, Differs, FileDisk, ImportFault, ImportOptions, InputFault, InputOf, OfFile, OnShelf,
@@ -164,16 +164,17 @@ fn import_from<Q: Place, S: Source>(
 }
 
 // Imports the files, and prints the rows to the sink.
-fn import_to<'x, Q: Place, S: Source, W: Write>(
-    rt: &'x HostRuntime,
-    matches: &ArgMatches<'x>,
+fn import_to<Q: Place, S: Source, W: Write>(
+    rt: &HostRuntime,
+    matches: &ArgMatches<'_>,
     desk: &mut Desk<Q>,
     register: Opened<File>,
     files: &mut [S],
     order: &ImportOptions<'_>,
     sink: &mut Writing<W>,
 ) -> Result<(), Unimported> {
-    let mut target = match target_of(rt, rt.alloc(), matches, register, "out") {
+    let is_quiet = matches.get_flag("quiet");
+    let mut target = match target_at(rt, register, word(matches, "out"), is_quiet) {
         Ok(target) => target,
         Err(fault) => return Err(Unimported::plain(rt.alloc(), fault)),
     };
