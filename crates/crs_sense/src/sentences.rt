@@ -16,8 +16,8 @@ use crs_zones::tell_zone;
 use std::alloc::{AllocError, Global};
 
 impl Rule {
-    /// What is odd about a reference system that breaks the rule: the value that was found, and what would be expected. Of a
-    /// compound this is said of the first component that breaks the rule, or else of the whole.
+    /// What is odd about a reference system that breaks the rule: the value that was found, and what would be expected. For a
+    /// compound, the sentence is about the first component that breaks the rule, or else about the whole.
     pub fn sentence(self, alloc: Global, crs: &CrsParts) -> Result<Vec<u8>, AllocError>
         ensures { IfOk result (λ text. text.items ≡ sentence self crs.now) }
     {
