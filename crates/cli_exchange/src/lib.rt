@@ -1,7 +1,10 @@
 //! Commands that make and exchange registers.
 #![tactic(auto)]
 
+mod as_office;
+mod asked;
 mod exchange;
+mod noted;
 mod taking;
 
 pub use cli_faults as faults;

@@ -11,6 +11,7 @@ mod geometry;
 mod height;
 mod height_rows;
 mod held;
+pub mod laws;
 pub mod markup;
 mod names;
 mod row_text;

@@ -8,7 +8,7 @@ use Rattle.reg_state.specs.RegisterLaws.{register_laws}
 use Rattle.reg_file.specs.declared.parts.Part.{Part}
 use Rattle.reg_file.specs.declared.parts.Part.TheVariants as part
 use Rattle.reg_engine.specs.Inputs.{registers, pieces}
-use Rattle.reg_engine.specs.Merge.{begun, with_pieces, join_of, JoinTo, IsUnjoined}
+use Rattle.reg_commands.specs.Merge.{begun, with_pieces, join_of, JoinTo, IsUnjoined}
 use Rattle.reg_take.specs.declared.files.Arrival.{Arrival}
 use Rattle.reg_take.specs.declared.files.Arrival.TheVariants as arrival
 use Rattle.reg_take.specs.declared.taking.LeftOut.{LeftOut}
@@ -56,11 +56,11 @@ first_begins l all e = ([], ap (λ k. k ++ l ∷ []) e)
 abbrev Walked : List LeftOut → Content → Result Content PieceRefusal → Type 0
 Walked left y r = ((left ≡ []) × (r ≡ Ok y)) ⊎ ((i : ℕ) × (why : PieceRefusal) × Begins (left_out i why) left × (r ≡ Err why))
 
-refused_joined : (id : Id) (xs : List Content) → all_joined joined (Err id) xs ≡ Err id
+pub refused_joined : (id : Id) (xs : List Content) → all_joined joined (Err id) xs ≡ Err id
 refused_joined id [] = refl
 refused_joined id (x ∷ xs) = refused_joined id xs
 
-refused_pieces : (r : PieceRefusal) (ps : List Piece) → with_pieces (Err r) ps ≡ Err r
+pub refused_pieces : (r : PieceRefusal) (ps : List Piece) → with_pieces (Err r) ps ≡ Err r
 refused_pieces r [] = refl
 refused_pieces r (p ∷ ps) = refused_pieces r ps
 

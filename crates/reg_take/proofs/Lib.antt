@@ -3,3 +3,5 @@ mod FileLemmas
 mod TakenLemmas
 mod LawLemmas
 mod EngineLemmas
+pub mod AgainLemmas
+pub mod AtOnceLemmas

@@ -1,5 +1,5 @@
 -- Files are joined to a content in three walks.
-use Rattle.std.proofs.Common.{◌≡◌, ◌↔◌, ◌∷◌, ◌++◌, [], List, ℕ, ◌+◌, ◌≤◌, zero, suc, length, drop, arith, Result, Ok, Err, Option, None, Some, refl, sym, ap, subst, ◌∙◌}
+use Rattle.std.proofs.Common.{◌≡◌, ◌↔◌, ◌∷◌, ◌++◌, [], true, false, List, ℕ, ◌+◌, ◌≤◌, zero, suc, length, drop, arith, Result, Ok, Err, Option, None, Some, refl, sym, ap, subst, ◌∙◌}
 use Rattle.std.specs.Prelude.{IfOk}
 use Rattle.reg_join.specs.Joining.{all_joined, joined_with}
 use Rattle.reg_op.specs.Ids.{Id}
@@ -9,14 +9,15 @@ use Rattle.reg_state.specs.RegisterLaws.{register_laws}
 use Rattle.reg_state.specs.declared.piece.PieceFault.{PieceFault}
 use Rattle.reg_state.specs.declared.piece.PieceFault.TheVariants as piece
 use Rattle.reg_tree.specs.Chain.{with_piece, with_pieces}
-use Rattle.reg_engine.specs.Merge.{begun}
+use Rattle.reg_commands.specs.Merge.{begun}
 use Rattle.reg_take.specs.declared.files.Arrival.{Arrival}
 use Rattle.reg_take.specs.declared.files.Arrival.TheVariants as arrival
 use Rattle.reg_take.specs.declared.taking.Phase.{Phase}
 use Rattle.reg_take.specs.declared.taking.Phase.TheVariants as phase
 use Rattle.reg_take.specs.declared.taking.LeftOut.{LeftOut}
 use Rattle.reg_take.specs.declared.taking.Taking.{Taking}
-use Rattle.reg_take.specs.Taken.{Progress, Shows, left_out, leaving, starting, after_register, after_piece, taken, each_taken, all_taken, IsJoin, Keeps, IsTakenFrom, IsRefusal}
+use Rattle.reg_take.specs.Taken.{Progress, Shows, left_out, leaving, starting, after_register, after_piece, taken, each_taken, all_taken, rounds, AllWait, IsJoin, Keeps, IsTakenFrom, IsRefusal}
+use Rattle.reg_take.proofs.AgainLemmas.{rounds_keep}
 
 -- ---- one file
 
@@ -187,11 +188,38 @@ module _ (x : Content) where
       (each_keeps (λ t. Keeps x t.content) phase.Registers (step_has phase.Registers) unread 0 gave
       (each_keeps (λ t. Keeps x t.content) phase.Unread (step_has phase.Unread) (starting x) 0 gave (itself is)))
 
-  -- a state that shows the three walks is the result of the take
-  pub taken_from : IsContent x → (gave : List Arrival) (taking : Taking) → Shows taking (all_taken x gave) → IsTakenFrom x gave taking.register taking.left.items
+  -- ---- the pieces that are tried again
+
+  piece_joins : (t : Progress) (i : ℕ) (p : Piece) → IsJoin x t → IsJoin x (after_piece t i p (joined_piece t.content p))
+  piece_joins t i p h = with_one t i p (joined_piece t.content p) refl h
+
+  piece_holds : (t : Progress) (i : ℕ) (p : Piece) → Keeps x t.content → Keeps x (after_piece t i p (joined_piece t.content p)).content
+  piece_holds t i p h = piece_has t i p (joined_piece t.content p) refl h
+
+  pub rounds_join : IsContent x → (gave : List Arrival) (n : ℕ) → IsJoin x (rounds gave n (all_taken x gave))
+  rounds_join is gave n = rounds_keep (IsJoin x) gave (λ t l h. h) (λ t h. h) piece_joins n (all_taken x gave) (all_join is gave)
+
+  pub rounds_have : IsContent x → (gave : List Arrival) (n : ℕ) → Keeps x (rounds gave n (all_taken x gave)).content
+  rounds_have is gave n = rounds_keep (λ t. Keeps x t.content) gave (λ t l h. h) (λ t h. h) piece_holds n (all_taken x gave) (all_has is gave)
+
+  -- a state that shows the three walks, or these and some rounds, is the result of the take
+  pub taken_from : IsContent x → (gave : List Arrival) (taking : Taking) → Shows taking (all_taken x gave) → IsTakenFrom false x gave taking.register taking.left.items
   taken_from is gave taking shows = record {
+    end = all_taken x gave;
+    far = refl;
     content = shows.0;
     left_out = shows.1;
     join = all_join is gave;
     keeps = subst (Keeps x) (sym shows.0) (all_has is gave);
+  }
+
+  pub taken_again : IsContent x → (gave : List Arrival) (taking : Taking) (n : ℕ) → Shows taking (rounds gave n (all_taken x gave)) → AllWait gave (rounds gave n (all_taken x gave))
+      → IsTakenFrom true x gave taking.register taking.left.items
+  taken_again is gave taking n shows wait = record {
+    end = rounds gave n (all_taken x gave);
+    far = ((n, refl), wait);
+    content = shows.0;
+    left_out = shows.1;
+    join = rounds_join is gave n;
+    keeps = subst (Keeps x) (sym shows.0) (rounds_have is gave n);
   }

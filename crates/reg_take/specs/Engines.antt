@@ -1,5 +1,5 @@
 -- The engines of the command: what was read, and what was written.
-use Rattle.std.specs.Prelude.{◌≡◌, ◌≢◌, ◌⊎◌, Bool, List, ℕ}
+use Rattle.std.specs.Prelude.{◌≡◌, ◌≢◌, ◌⊎◌, List, ℕ}
 use Rattle.byte_io.specs.Device.{SinkState}
 use Rattle.byte_io.specs.Whole.{WritesAll}
 use Rattle.reg_op.specs.Contents.{Content}
@@ -7,6 +7,7 @@ use Rattle.reg_query.specs.DiffLines.{IsDiff}
 use Rattle.reg_engine.specs.declared.fault.CliFault.{CliFault}
 use Rattle.reg_engine.specs.Fault.{is_after}
 use Rattle.reg_engine.specs.Store.{Around, AreCut, WritesIf, IsKeptIn}
+use Rattle.reg_take.specs.declared.options.TakeOptions.{TakeOptions}
 use Rattle.reg_take.specs.declared.taking.LeftOut.{LeftOut}
 use Rattle.reg_take.specs.Files.{FileState}
 use Rattle.reg_take.specs.Take.{Takes, CannotTake}
@@ -45,11 +46,11 @@ kept_if_changed a before after = record {
 }
 
 -- a register was read; the files were joined to it, except those that are left out; and the rows that changed were written
-abbrev pub IsTaken : Way → Bool → ℕ → List FileState → List FileState → List LeftOut → Type 0
-IsTaken w going next old new left = (x : Content) × (y : Content) × (lines : List ℕ) × Takes going next old new x y left × IsDiff x y lines × w.gave x y lines
+abbrev pub IsTaken : Way → TakeOptions → ℕ → List FileState → List FileState → List LeftOut → Type 0
+IsTaken w how next old new left = (x : Content) × (y : Content) × (lines : List ℕ) × Takes how next old new x y left × IsDiff x y lines × w.gave x y lines
 
 -- none was read, and no file either; or nothing is joined to it; or the files were joined, and not everything was written
-abbrev pub IsUntaken : Way → Bool → ℕ → List FileState → List FileState → CliFault → Type 0
-IsUntaken w going next old new f = (w.none f × (new ≡ old))
-    ⊎ (((x : Content) × w.came x × CannotTake going next old new x f)
-    ⊎ ((x : Content) × (y : Content) × (lines : List ℕ) × (left : List LeftOut) × Takes going next old new x y left × IsDiff x y lines × w.failed x y lines f))
+abbrev pub IsUntaken : Way → TakeOptions → ℕ → List FileState → List FileState → CliFault → Type 0
+IsUntaken w how next old new f = (w.none f × (new ≡ old))
+    ⊎ (((x : Content) × w.came x × CannotTake how next old new x f)
+    ⊎ ((x : Content) × (y : Content) × (lines : List ℕ) × (left : List LeftOut) × Takes how next old new x y left × IsDiff x y lines × w.failed x y lines f))

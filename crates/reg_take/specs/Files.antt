@@ -1,6 +1,8 @@
 -- Files of registers and pieces that are opened in turn: what each gave.
 use Rattle.std.specs.Prelude.{◌≡◌, ◌⊎◌, ◌+◌, ◌∷◌, [], Bool, true, false, IsTrue, List, ℕ}
 use Rattle.byte_io.specs.Device.{SourceState}
+use Rattle.reg_op.specs.Pieces.{part_of}
+use Rattle.reg_from.specs.Offices.{from_offices}
 use Rattle.reg_file.specs.Parts.{FindsPart}
 use Rattle.reg_file.specs.declared.parts.Part.{Part}
 use Rattle.reg_file.specs.declared.parts.Part.TheVariants as part
@@ -12,6 +14,7 @@ use Rattle.reg_engine.specs.declared.fault.CliFault.{CliFault}
 use Rattle.reg_engine.specs.declared.fault.CliFault.TheVariants as cli
 use Rattle.reg_engine.specs.Fault.{file_fault}
 use Rattle.reg_engine.specs.Inputs.{IsPartFault}
+use Rattle.reg_take.specs.declared.options.TakeOptions.{TakeOptions}
 use Rattle.reg_take.specs.declared.files.Arrival.{Arrival}
 use Rattle.reg_take.specs.declared.files.Arrival.TheVariants as arrival
 
@@ -53,24 +56,35 @@ HasFault number old new (cli.Office t) = ⊥
 abbrev pub IsUnread : ℕ → FileState → FileState → CliFault → Type 0
 IsUnread number old new f = (f ≡ cli.Memory) ⊎ HasFault number old new f
 
--- what it gave: the file of this part; or this fault, after which the command continues
-abbrev pub IsArrival : Bool → ℕ → FileState → FileState → Arrival → Type 0
-IsArrival going number old new (arrival.Register x) = FindsPart old.source new.source (part.Register x)
-IsArrival going number old new (arrival.Piece p) = FindsPart old.source new.source (part.Piece p)
-IsArrival going number old new (arrival.Unread k f) = IsTrue going × HasFault number old new (cli.File k f)
+-- what is joined of a part: all of it, unless offices are named; then what the part has of these offices, as a register
+abbrev pub brought : List (List ℕ) → Part → Arrival
+brought [] (part.Register x) = arrival.Register x
+brought [] (part.Piece p) = arrival.Piece p
+brought (u ∷ us) (part.Register x) = arrival.Register (from_offices (u ∷ us) x)
+brought (u ∷ us) (part.Piece p) = arrival.Register (from_offices (u ∷ us) (part_of p))
+
+-- the file of some part was read, and this is joined of it
+abbrev pub Brings : List (List ℕ) → FileState → FileState → Arrival → Type 0
+Brings us old new a = (p : Part) × FindsPart old.source new.source p × (a ≡ brought us p)
+
+-- what a file gave: what is joined of it; or this fault, after which the command continues
+abbrev pub IsArrival : TakeOptions → ℕ → FileState → FileState → Arrival → Type 0
+IsArrival how number old new (arrival.Register x) = Brings how.offices.items old new (arrival.Register x)
+IsArrival how number old new (arrival.Piece p) = Brings how.offices.items old new (arrival.Piece p)
+IsArrival how number old new (arrival.Unread k f) = IsTrue how.keep_going × HasFault number old new (cli.File k f)
 
 -- the command ends with this fault
-abbrev pub IsLast : Bool → ℕ → FileState → FileState → CliFault → Type 0
-IsLast going number old new f = (f ≡ cli.Memory) ⊎ ((going ≡ false) × HasFault number old new f)
+abbrev pub IsLast : TakeOptions → ℕ → FileState → FileState → CliFault → Type 0
+IsLast how number old new f = (f ≡ cli.Memory) ⊎ ((how.keep_going ≡ false) × HasFault number old new f)
 
 -- each file, in order: the first has this number, and the others one more each
-abbrev pub AreArrivals : Bool → ℕ → List FileState → List FileState → List Arrival → Type 0
-AreArrivals going number [] [] [] = Unit {0}
-AreArrivals going number [] [] (a ∷ gave) = ⊥
-AreArrivals going number [] (n ∷ ns) gave = ⊥
-AreArrivals going number (o ∷ os) [] gave = ⊥
-AreArrivals going number (o ∷ os) (n ∷ ns) [] = ⊥
-AreArrivals going number (o ∷ os) (n ∷ ns) (a ∷ gave) = IsArrival going number o n a × AreArrivals going (number + 1) os ns gave
+abbrev pub AreArrivals : TakeOptions → ℕ → List FileState → List FileState → List Arrival → Type 0
+AreArrivals how number [] [] [] = Unit {0}
+AreArrivals how number [] [] (a ∷ gave) = ⊥
+AreArrivals how number [] (n ∷ ns) gave = ⊥
+AreArrivals how number (o ∷ os) [] gave = ⊥
+AreArrivals how number (o ∷ os) (n ∷ ns) [] = ⊥
+AreArrivals how number (o ∷ os) (n ∷ ns) (a ∷ gave) = IsArrival how number o n a × AreArrivals how (number + 1) os ns gave
 
 -- one has this fault; each before it gave the file of a part, and those after it were not read
 abbrev pub StopsAt : ℕ → CliFault → List FileState → List FileState → Type 0
@@ -79,5 +93,5 @@ StopsAt number f (o ∷ os) [] = ⊥
 StopsAt number f (o ∷ os) (n ∷ ns) = (HasFault number o n f × (ns ≡ os)) ⊎ (((p : Part) × FindsPart o.source n.source p) × StopsAt (number + 1) f os ns)
 
 -- not all were read: out of memory, or the first fault of a file ends the command
-abbrev pub IsStopped : Bool → ℕ → List FileState → List FileState → CliFault → Type 0
-IsStopped going number old new f = (f ≡ cli.Memory) ⊎ ((going ≡ false) × StopsAt number f old new)
+abbrev pub IsStopped : TakeOptions → ℕ → List FileState → List FileState → CliFault → Type 0
+IsStopped how number old new f = (f ≡ cli.Memory) ⊎ ((how.keep_going ≡ false) × StopsAt number f old new)

@@ -2,6 +2,7 @@
 use Rattle.std.specs.Prelude.{◌≡◌, ◌⊎◌, ◌∷◌, [], Bool, true, false, List, ℕ}
 use Rattle.reg_op.specs.Contents.{Content}
 use Rattle.reg_engine.specs.declared.fault.CliFault.{CliFault}
+use Rattle.reg_take.specs.declared.options.TakeOptions.{TakeOptions}
 use Rattle.reg_take.specs.declared.files.Arrival.{Arrival}
 use Rattle.reg_take.specs.declared.taking.LeftOut.{LeftOut}
 use Rattle.reg_take.specs.Files.{FileState, AreArrivals, IsStopped}
@@ -19,10 +20,10 @@ IsFirstFault false [] f = ⊥
 IsFirstFault false (l ∷ ls) f = f ≡ fault_of l
 
 -- the files were read, and joined to the content
-abbrev pub Takes : Bool → ℕ → List FileState → List FileState → Content → Content → List LeftOut → Type 0
-Takes going next old new x y left = (gave : List Arrival) × AreArrivals going next old new gave × IsTakenFrom x gave y left × MayLeave going left
+abbrev pub Takes : TakeOptions → ℕ → List FileState → List FileState → Content → Content → List LeftOut → Type 0
+Takes how next old new x y left = (gave : List Arrival) × AreArrivals how next old new gave × IsTakenFrom how.keep_going x gave y left × MayLeave how.keep_going left
 
 -- why nothing is joined: they were not all read, or one cannot be joined
-abbrev pub CannotTake : Bool → ℕ → List FileState → List FileState → Content → CliFault → Type 0
-CannotTake going next old new x f = IsStopped going next old new f
-    ⊎ ((gave : List Arrival) × AreArrivals going next old new gave × IsFirstFault going (all_taken x gave).left f)
+abbrev pub CannotTake : TakeOptions → ℕ → List FileState → List FileState → Content → CliFault → Type 0
+CannotTake how next old new x f = IsStopped how next old new f
+    ⊎ ((gave : List Arrival) × AreArrivals how next old new gave × IsFirstFault how.keep_going (all_taken x gave).left f)

@@ -5,6 +5,7 @@ ghost use Rattle.reg_op.specs.Contents.{Content};
 ghost use Rattle.reg_take.specs.Files.{file_state};
 ghost use Rattle.reg_take.specs.Engines.{only_read, kept_if_changed, IsTaken, IsUntaken};
 
+use crate::options::TakeOptions;
 use crate::ready::{Ready, make_ready};
 use crate::taking::LeftOut;
 use byte_io::Sink;
@@ -42,18 +43,18 @@ fn keep_changed<T: Keep, K: Sink>(
 
 /// Loads the register, joins the register or piece of each file to it, keeps the result if it differs, and then writes the rows
 /// that changed. Returns the files that are left out: with `keep_going` those that cannot be read, that clash, or whose basis is
-/// not held. Otherwise the first such file ends the command.
+/// not held. Otherwise the first such file ends the command. Where offices are named, their operations alone are joined.
 pub fn run_take<T: Keep, S: LateSource, K: Sink>(
     alloc: Global,
     store: &mut T,
     files: &mut [S],
-    keep_going: bool,
+    options: &TakeOptions,
     sink: &mut K,
 ) -> Result<Vec<LeftOut>, CliFault>
     ensures same { T.same store.old store.new }
-    ensures taken { IfOk result (λ left. IsTaken (kept_if_changed (T.around store.old store.new) (K.state sink.old) (K.state sink.new)) keep_going (T.next store.old)
+    ensures taken { IfOk result (λ left. IsTaken (kept_if_changed (T.around store.old store.new) (K.state sink.old) (K.state sink.new)) options.now (T.next store.old)
         (map (λ s. file_state (S.state s) (S.shut s)) files.old) (map (λ s. file_state (S.state s) (S.shut s)) files.new) left.items) }
-    ensures fault { IfErr result (IsUntaken (kept_if_changed (T.around store.old store.new) (K.state sink.old) (K.state sink.new)) keep_going (T.next store.old)
+    ensures fault { IfErr result (IsUntaken (kept_if_changed (T.around store.old store.new) (K.state sink.old) (K.state sink.new)) options.now (T.next store.old)
         (map (λ s. file_state (S.state s) (S.shut s)) files.old) (map (λ s. file_state (S.state s) (S.shut s)) files.new)) }
 {
     let next = store.next();
@@ -66,7 +67,7 @@ pub fn run_take<T: Keep, S: LateSource, K: Sink>(
         lines,
         is_same,
         left,
-    } = match make_ready(alloc, &old, next, files, keep_going) {
+    } = match make_ready(alloc, &old, next, files, options) {
         Ok(ready) => ready,
         Err(fault) => return Err(fault),
     };
@@ -81,13 +82,13 @@ pub fn try_take<T: Store, S: LateSource, K: Sink>(
     alloc: Global,
     store: &mut T,
     files: &mut [S],
-    keep_going: bool,
+    options: &TakeOptions,
     sink: &mut K,
 ) -> Result<Vec<LeftOut>, CliFault>
     ensures same { T.same store.old store.new }
-    ensures taken { IfOk result (λ left. IsTaken (only_read (T.around store.old store.new) (K.state sink.old) (K.state sink.new)) keep_going (T.next store.old)
+    ensures taken { IfOk result (λ left. IsTaken (only_read (T.around store.old store.new) (K.state sink.old) (K.state sink.new)) options.now (T.next store.old)
         (map (λ s. file_state (S.state s) (S.shut s)) files.old) (map (λ s. file_state (S.state s) (S.shut s)) files.new) left.items) }
-    ensures fault { IfErr result (IsUntaken (only_read (T.around store.old store.new) (K.state sink.old) (K.state sink.new)) keep_going (T.next store.old)
+    ensures fault { IfErr result (IsUntaken (only_read (T.around store.old store.new) (K.state sink.old) (K.state sink.new)) options.now (T.next store.old)
         (map (λ s. file_state (S.state s) (S.shut s)) files.old) (map (λ s. file_state (S.state s) (S.shut s)) files.new)) }
 {
     let next = store.next();
@@ -95,7 +96,7 @@ pub fn try_take<T: Store, S: LateSource, K: Sink>(
         Ok(old) => old,
         Err(fault) => return Err(fault),
     };
-    let ready = match make_ready(alloc, &old, next, files, keep_going) {
+    let ready = match make_ready(alloc, &old, next, files, options) {
         Ok(ready) => ready,
         Err(fault) => return Err(fault),
     };

@@ -2,14 +2,17 @@
 
 ghost use Rattle.std.specs.Prelude.{◌≡◌, map, false, IfOk, IfErr};
 ghost use Rattle.reg_file.specs.Parts.{FindsPart, IsPartReadFromFault};
-ghost use Rattle.reg_take.specs.Files.{file_state, fault_in, IsUnread, IsArrival, IsLast, AreArrivals, IsStopped};
+ghost use Rattle.reg_take.specs.Files.{file_state, fault_in, brought, IsUnread, IsArrival, IsLast, AreArrivals, IsStopped};
 
+use crate::options::TakeOptions;
 use byte_late::LateSource;
 use reg_engine::{CliFault, InputFault};
 use reg_file::{Part, ReadFileFault, read_part_beside};
+use reg_from::{from_piece, from_register};
 use reg_state::{Piece, Register};
-use std::alloc::Global;
+use std::alloc::{AllocError, Global};
 use std::slice;
+use uuid::Uuid;
 
 /// What a file gave: a register or a piece, or the fault for which it is left out.
 #[derive(Drop)]
@@ -51,23 +54,42 @@ fn read_next<S: LateSource>(
     }
 }
 
+// What is joined of a part: all of it, unless offices are named.
+fn brought(alloc: Global, offices: &[Uuid], part: Part) -> Result<Arrival, AllocError>
+    ensures { IfOk result (λ a. a ≡ brought offices.now part) }
+{
+    if offices.is_empty() {
+        return match part {
+            Part::Register(register) => Ok(Arrival::Register(register)),
+            Part::Piece(piece) => Ok(Arrival::Piece(piece)),
+        };
+    }
+    let theirs = match part {
+        Part::Register(register) => from_register(alloc, &register, offices)?,
+        Part::Piece(piece) => from_piece(alloc, &piece, offices)?,
+    };
+    Ok(Arrival::Register(theirs))
+}
+
 // What the file with this number gave. Its fault ends the command, unless the command keeps going.
 fn arrival_of<S: LateSource>(
     alloc: Global,
     known: &Register,
     number: usize,
-    keep_going: bool,
+    options: &TakeOptions,
     file: &mut S,
 ) -> Result<Arrival, CliFault>
-    ensures arrived { IfOk result (IsArrival keep_going number (file_state (S.state file.old) (S.shut file.old)) (file_state (S.state file.new) (S.shut file.new))) }
-    ensures fault { IfErr result (IsLast keep_going number (file_state (S.state file.old) (S.shut file.old)) (file_state (S.state file.new) (S.shut file.new))) }
+    ensures arrived { IfOk result (IsArrival options.now number (file_state (S.state file.old) (S.shut file.old)) (file_state (S.state file.new) (S.shut file.new))) }
+    ensures fault { IfErr result (IsLast options.now number (file_state (S.state file.old) (S.shut file.old)) (file_state (S.state file.new) (S.shut file.new))) }
     ensures closed { S.held file.new ≡ false }
 {
     match read_next(alloc, known, number, file) {
-        Ok(Part::Register(register)) => Ok(Arrival::Register(register)),
-        Ok(Part::Piece(piece)) => Ok(Arrival::Piece(piece)),
+        Ok(part) => match brought(alloc, &options.offices, part) {
+            Ok(arrival) => Ok(arrival),
+            Err(_) => Err(CliFault::Memory),
+        },
         Err(CliFault::File { number, fault }) => {
-            if keep_going {
+            if options.keep_going {
                 return Ok(Arrival::Unread { number, fault });
             }
             Err(CliFault::File { number, fault })
@@ -81,12 +103,12 @@ pub fn arrivals<S: LateSource>(
     alloc: Global,
     known: &Register,
     next: usize,
-    keep_going: bool,
+    options: &TakeOptions,
     files: &mut [S],
 ) -> Result<Vec<Arrival>, CliFault>
-    ensures arrived { IfOk result (λ all. AreArrivals keep_going next
+    ensures arrived { IfOk result (λ all. AreArrivals options.now next
         (map (λ s. file_state (S.state s) (S.shut s)) files.old) (map (λ s. file_state (S.state s) (S.shut s)) files.new) all.items) }
-    ensures fault { IfErr result (IsStopped keep_going next
+    ensures fault { IfErr result (IsStopped options.now next
         (map (λ s. file_state (S.state s) (S.shut s)) files.old) (map (λ s. file_state (S.state s) (S.shut s)) files.new)) }
 {
     let mut all = Vec::new(alloc);
@@ -94,7 +116,7 @@ pub fn arrivals<S: LateSource>(
         let Some(number) = next.checked_add(i) else {
             return Err(CliFault::Memory);
         };
-        let arrival = match arrival_of(alloc, known, number, keep_going, &mut files[i]) {
+        let arrival = match arrival_of(alloc, known, number, options, &mut files[i]) {
             Ok(arrival) => arrival,
             Err(fault) => return Err(fault),
         };

@@ -4,7 +4,7 @@ ghost use Rattle.std.specs.Prelude.{◌≡◌, List, [], ◌∷◌, map};
 ghost use Rattle.reg_op.specs.Contents.{Content, IsContent};
 ghost use Rattle.reg_file.specs.declared.parts.Part.{Part};
 ghost use Rattle.reg_file.specs.declared.parts.Part.TheVariants as part;
-ghost use Rattle.reg_engine.specs.Merge.{JoinTo, join_of, IsUnjoined};
+ghost use Rattle.reg_commands.specs.Merge.{JoinTo, join_of, IsUnjoined};
 ghost use Rattle.reg_take.specs.declared.taking.LeftOut.{LeftOut};
 ghost use Rattle.reg_take.specs.Taken.{fault_of, parts_given, all_taken};
 

@@ -5,9 +5,11 @@ ghost use Rattle.reg_query.specs.DiffLines.{IsDiff};
 ghost use Rattle.reg_take.specs.Files.{file_state};
 ghost use Rattle.reg_take.specs.Take.{Takes, CannotTake, IsFirstFault, MayLeave};
 
+use crate::all::take_all;
 use crate::files::arrivals;
+use crate::options::TakeOptions;
 use crate::same::is_same;
-use crate::taking::{LeftOut, Taking, take_all};
+use crate::taking::{LeftOut, Taking};
 use byte_late::LateSource;
 use reg_engine::CliFault;
 use reg_query::compare;
@@ -44,21 +46,21 @@ fn take_files<S: LateSource>(
     old: &Register,
     next: usize,
     files: &mut [S],
-    keep_going: bool,
+    options: &TakeOptions,
 ) -> Result<Taking, CliFault>
-    ensures taken { IfOk result (λ t. Takes keep_going next
+    ensures taken { IfOk result (λ t. Takes options.now next
         (map (λ s. file_state (S.state s) (S.shut s)) files.old) (map (λ s. file_state (S.state s) (S.shut s)) files.new) old.now t.register t.left.items) }
-    ensures fault { IfErr result (CannotTake keep_going next
+    ensures fault { IfErr result (CannotTake options.now next
         (map (λ s. file_state (S.state s) (S.shut s)) files.old) (map (λ s. file_state (S.state s) (S.shut s)) files.new) old.now) }
 {
-    let arrivals = match arrivals(alloc, old, next, keep_going, files) {
+    let arrivals = match arrivals(alloc, old, next, options, files) {
         Ok(arrivals) => arrivals,
         Err(fault) => return Err(fault),
     };
-    let Ok(taking) = take_all(alloc, old, &arrivals) else {
+    let Ok(taking) = take_all(alloc, old, &arrivals, options.keep_going) else {
         return Err(CliFault::Memory);
     };
-    match ending(keep_going, &taking.left) {
+    match ending(options.keep_going, &taking.left) {
         Some(fault) => Err(fault),
         None => Ok(taking),
     }
@@ -70,16 +72,16 @@ pub fn make_ready<S: LateSource>(
     old: &Register,
     next: usize,
     files: &mut [S],
-    keep_going: bool,
+    options: &TakeOptions,
 ) -> Result<Ready, CliFault>
-    ensures taken { IfOk result (λ r. Takes keep_going next
+    ensures taken { IfOk result (λ r. Takes options.now next
         (map (λ s. file_state (S.state s) (S.shut s)) files.old) (map (λ s. file_state (S.state s) (S.shut s)) files.new) old.now r.register r.left.items) }
     ensures lines { IfOk result (λ r. IsDiff old.now r.register r.lines.items) }
     ensures same { IfOk result (λ r. IsTrue r.is_same ↔ (r.register ≡ old.now)) }
-    ensures fault { IfErr result (CannotTake keep_going next
+    ensures fault { IfErr result (CannotTake options.now next
         (map (λ s. file_state (S.state s) (S.shut s)) files.old) (map (λ s. file_state (S.state s) (S.shut s)) files.new) old.now) }
 {
-    let Taking { register, left } = match take_files(alloc, old, next, files, keep_going) {
+    let Taking { register, left } = match take_files(alloc, old, next, files, options) {
         Ok(taking) => taking,
         Err(fault) => return Err(fault),
     };

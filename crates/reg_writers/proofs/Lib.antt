@@ -1,2 +1,1 @@
 pub mod RegisterLemmas
-pub mod CopyLemmas

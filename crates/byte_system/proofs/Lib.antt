@@ -1,0 +1,5 @@
+pub mod Walks
+pub mod EntryLemmas
+pub mod FilesLemmas
+pub mod Props
+pub mod Took

@@ -1,0 +1,297 @@
+//! The files of the system. What a call does there is read, not proved: each function makes the calls of its name, and notes them.
+
+ghost use Rattle.std.specs.Prelude.{◌≡◌, ◌≤◌, [], None, length};
+ghost use Rattle.byte_system.specs.System.{Took};
+ghost use Rattle.byte_system.specs.Noted.{call_said};
+
+use crate::system::{Failed, MakeFault, System};
+use crate::trail::{Note, Said, Trail};
+use std::alloc::Global;
+use std::fs::{self, File, Metadata, OpenFile, OpenOptions, TryLockError};
+use std::io::{ErrorKind, Read, Write};
+use std::os::unix::fs::MetadataExt;
+use std::rt::Files;
+use std::str;
+
+/// The files of the system, as this process sees them. An open file has the number of its place among those that the process has
+/// opened; a file that is opened again keeps its number.
+#[derive(Drop)]
+pub struct HostSystem<'a, R> {
+    rt: &'a R,
+    open: Vec<File>,
+    trail: Trail,
+}
+
+impl<'a, R: Files<File = File>> HostSystem<'a, R> {
+    /// The files of the system, of which none is open.
+    pub fn new(alloc: Global, rt: &'a R) -> HostSystem<'a, R>
+        ensures { ⟦<HostSystem<'a, R> as System>⟧.state result ≡ record { me = 0; first = None; trace = [] } }
+    {
+        HostSystem {
+            rt,
+            open: Vec::new(alloc),
+            trail: Trail::new(),
+        }
+    }
+
+    // Notes a call of this process.
+    fn note(&mut self, call: Said<'_>)
+        ensures { Took (call_said call.entry) (⟦<HostSystem<'a, R> as System>⟧.state self.old) (⟦<HostSystem<'a, R> as System>⟧.state self.new) }
+    {
+        self.trail = self.trail.then(&Note { by: 0, call });
+    }
+
+    // The number of an open file.
+    fn number(&mut self, file: File) -> Option<usize>
+        ensures { self.new.trail ≡ self.old.trail }
+    {
+        let opened = file.metadata().ok()?;
+        for (i, other) in self.open.iter().enumerate() {
+            match other.metadata() {
+                Ok(there) if is_same(&there, &opened) => return Some(i),
+                _ => {}
+            }
+        }
+        let number = self.open.len();
+        self.open.push(file).ok()?;
+        Some(number)
+    }
+}
+
+fn is_same(a: &Metadata, b: &Metadata) -> bool {
+    a.dev() == b.dev() && a.ino() == b.ino()
+}
+
+// Writes the bytes to a file, as many as it takes. Returns how many.
+fn write_to(file: &mut File, bytes: &[u8]) -> usize
+    ensures { result ≤ length bytes.now }
+{
+    let mut rest = bytes;
+    for _ in 0..bytes.len() {
+        let Ok(n) = file.write(rest) else {
+            break;
+        };
+        if n == 0 || n > rest.len() {
+            break;
+        }
+        rest = &rest[n..];
+        if rest.is_empty() {
+            break;
+        }
+    }
+    bytes.len().saturating_sub(rest.len())
+}
+
+// Whether the file gives exactly these bytes.
+fn gives(file: &mut File, bytes: &[u8]) -> Result<bool, Failed> {
+    let mut rest = bytes;
+    let mut chunk = [0; 4_096];
+    for _ in 0..u64::MAX {
+        let Ok(n) = file.read(&mut chunk) else {
+            return Err(Failed);
+        };
+        if n == 0 {
+            return Ok(rest.is_empty());
+        }
+        if n > rest.len() || chunk[..n] != rest[..n] {
+            return Ok(false);
+        }
+        rest = &rest[n..];
+    }
+    Err(Failed)
+}
+
+// The folder of the file at a path.
+fn folder(path: &str) -> &str {
+    match path.rsplit_once('/') {
+        Some(("", _)) => "/",
+        Some((folder, _)) => folder,
+        None => ".",
+    }
+}
+
+// The calls themselves, for names that are text.
+impl<'a, R: Files<File = File>> HostSystem<'a, R> {
+    fn make_at(&mut self, path: &[u8]) -> Result<usize, MakeFault>
+        ensures { self.new.trail ≡ self.old.trail }
+    {
+        let Ok(path) = str::from_utf8(path) else {
+            return Err(MakeFault::NotMade);
+        };
+        match OpenOptions::new()
+            .write(true)
+            .create_new(true)
+            .open(self.rt, path)
+        {
+            Ok(file) => self.number(file).ok_or(MakeFault::NotMade),
+            Err(error) if error.kind() == ErrorKind::AlreadyExists => Err(MakeFault::Exists),
+            Err(_) => Err(MakeFault::NotMade),
+        }
+    }
+
+    fn open_at(&mut self, path: &[u8]) -> Option<usize>
+        ensures { self.new.trail ≡ self.old.trail }
+    {
+        let path = str::from_utf8(path).ok()?;
+        let file = OpenOptions::new().write(true).open(self.rt, path).ok()?;
+        self.number(file)
+    }
+
+    fn is_locked(&self, file: usize) -> Option<bool> {
+        match self.open.get(file)?.try_lock() {
+            Ok(()) => Some(true),
+            Err(TryLockError::WouldBlock) => Some(false),
+            Err(TryLockError::Error(_)) => None,
+        }
+    }
+
+    fn is_at(&self, path: &[u8], file: usize) -> Option<bool> {
+        let opened = self.open.get(file)?.metadata().ok()?;
+        match fs::symlink_metadata(self.rt, str::from_utf8(path).ok()?) {
+            Ok(there) => Some(is_same(&there, &opened)),
+            Err(error) if error.kind() == ErrorKind::NotFound => Some(false),
+            Err(_) => None,
+        }
+    }
+
+    fn has_at(&self, path: &[u8], bytes: &[u8]) -> Result<bool, Failed> {
+        let Ok(path) = str::from_utf8(path) else {
+            return Err(Failed);
+        };
+        match fs::open(self.rt, path) {
+            Ok(mut file) => gives(&mut file, bytes),
+            Err(error) if error.kind() == ErrorKind::NotFound => Ok(false),
+            Err(_) => Err(Failed),
+        }
+    }
+
+    fn renames(&self, from: &[u8], to: &[u8]) -> bool {
+        match (str::from_utf8(from), str::from_utf8(to)) {
+            (Ok(from), Ok(to)) if from != to => fs::rename(self.rt, from, to).is_ok(),
+            _ => false,
+        }
+    }
+
+    fn removes(&self, path: &[u8]) -> bool {
+        match str::from_utf8(path) {
+            Ok(path) => fs::remove_file(self.rt, path).is_ok(),
+            Err(_) => false,
+        }
+    }
+
+    fn syncs_folder(&self, path: &[u8]) -> bool {
+        match str::from_utf8(path) {
+            Ok(path) => match fs::open(self.rt, folder(path)) {
+                Ok(folder) => folder.sync_all().is_ok(),
+                Err(_) => false,
+            },
+            Err(_) => false,
+        }
+    }
+}
+
+impl<R: Files<File = File>> System for HostSystem<'_, R> {
+    ghost state = { λ s. record { me = 0; first = None; trace = s.trail.events } };
+
+    fn make(&mut self, path: &[u8]) -> Result<usize, MakeFault> {
+        match self.make_at(path) {
+            Ok(file) => {
+                self.note(Said::Makes(path, Some(file)));
+                Ok(file)
+            }
+            Err(MakeFault::Exists) => {
+                self.note(Said::Makes(path, None));
+                Err(MakeFault::Exists)
+            }
+            Err(MakeFault::NotMade) => {
+                self.note(Said::Fails);
+                Err(MakeFault::NotMade)
+            }
+        }
+    }
+
+    fn open(&mut self, path: &[u8]) -> Result<usize, Failed> {
+        let Some(file) = self.open_at(path) else {
+            self.note(Said::Fails);
+            return Err(Failed);
+        };
+        self.note(Said::Opens(path, file));
+        Ok(file)
+    }
+
+    fn lock(&mut self, file: usize) -> Result<bool, Failed> {
+        let Some(is_locked) = self.is_locked(file) else {
+            self.note(Said::Fails);
+            return Err(Failed);
+        };
+        self.note(Said::Locks(file, is_locked));
+        Ok(is_locked)
+    }
+
+    fn is_named(&mut self, path: &[u8], file: usize) -> Result<bool, Failed> {
+        let Some(is_named) = self.is_at(path, file) else {
+            self.note(Said::Fails);
+            return Err(Failed);
+        };
+        self.note(Said::Looks(path, file, is_named));
+        Ok(is_named)
+    }
+
+    fn write(&mut self, file: usize, bytes: &[u8]) -> usize {
+        let written = match self.open.get_mut(file) {
+            Some(file) => write_to(file, bytes),
+            None => 0,
+        };
+        self.note(Said::Writes(file, &bytes[..written]));
+        written
+    }
+
+    fn sync(&mut self, file: usize) -> Result<(), Failed> {
+        let is_synced = match self.open.get(file) {
+            Some(file) => file.sync_all().is_ok(),
+            None => false,
+        };
+        if !is_synced {
+            self.note(Said::Fails);
+            return Err(Failed);
+        }
+        self.note(Said::Syncs(file));
+        Ok(())
+    }
+
+    fn has(&mut self, path: &[u8], bytes: &[u8]) -> Result<bool, Failed> {
+        let Ok(has) = self.has_at(path, bytes) else {
+            self.note(Said::Fails);
+            return Err(Failed);
+        };
+        self.note(Said::Compares(path, bytes, has));
+        Ok(has)
+    }
+
+    fn rename(&mut self, from: &[u8], to: &[u8]) -> Result<(), Failed> {
+        if !self.renames(from, to) {
+            self.note(Said::Fails);
+            return Err(Failed);
+        }
+        self.note(Said::Renames(from, to));
+        Ok(())
+    }
+
+    fn unlink(&mut self, path: &[u8]) -> Result<(), Failed> {
+        if !self.removes(path) {
+            self.note(Said::Fails);
+            return Err(Failed);
+        }
+        self.note(Said::Unlinks(path));
+        Ok(())
+    }
+
+    fn sync_folder(&mut self, path: &[u8]) -> Result<(), Failed> {
+        if !self.syncs_folder(path) {
+            self.note(Said::Fails);
+            return Err(Failed);
+        }
+        self.note(Said::SyncsFolder(path));
+        Ok(())
+    }
+}

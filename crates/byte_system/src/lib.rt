@@ -1,0 +1,13 @@
+//! The calls of the system on files, with contracts about all processes that make them.
+#![tactic(auto)]
+
+mod entries;
+mod files;
+mod host_system;
+mod mem_system;
+mod system;
+mod trail;
+
+pub use host_system::HostSystem;
+pub use mem_system::{Act, Does, MemSystem};
+pub use system::{Failed, MakeFault, System};

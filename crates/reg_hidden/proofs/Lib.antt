@@ -1,0 +1,2 @@
+mod CameLemmas
+mod RisenLemmas

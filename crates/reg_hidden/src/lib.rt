@@ -1,0 +1,10 @@
+//! What a register gained that no row shows, and that cannot be undone.
+#![tactic(auto)]
+
+mod came;
+mod hidden;
+mod risen;
+mod said;
+
+pub use hidden::{Hidden, hidden_in};
+pub use risen::Risen;

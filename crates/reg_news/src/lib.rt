@@ -1,0 +1,8 @@
+//! What a change of a register brings: how many entries it changed, and what is not in order since.
+#![tactic(auto)]
+
+mod keys;
+mod news;
+mod said;
+
+pub use news::{Grown, News, news_of};

@@ -1,0 +1,150 @@
+//! News as one sentence.
+
+use crate::news::{Grown, News};
+use crs_part::Text;
+use crs_value::Key;
+use std::fmt::{self, Write as _};
+use std::str;
+
+// The keys that are named; of others only the number is told.
+const NAMED: usize = 3;
+
+// The characters of an authority or a code that are shown.
+const SHOWN: usize = 60;
+
+/// Prints a sentence on one line, and a line for each way on; nothing if nothing grew. Control characters print as `?`.
+impl fmt::Display for News {
+    fn fmt<W: fmt::Write>(&self, f: &mut fmt::Formatter<W>) -> fmt::Result {
+        let News {
+            entries,
+            superseded,
+            retired,
+            conflicts,
+            duplicates,
+            dangling,
+            withdrawn,
+            awaited,
+            gaps,
+        } = self;
+        let mut parts = write_grown(f, 0, entries, "entry more", "entries more")?;
+        parts = write_grown(f, parts, superseded, "more superseded", "more superseded")?;
+        parts = write_grown(f, parts, retired, "more retired", "more retired")?;
+        parts = write_keys(f, parts, conflicts, "new conflict", "new conflicts")?;
+        parts = write_keys(
+            f,
+            parts,
+            duplicates,
+            "code has equal texts",
+            "codes have equal texts",
+        )?;
+        parts = write_keys(
+            f,
+            parts,
+            dangling,
+            "code leads to no valid entry",
+            "codes lead to no valid entry",
+        )?;
+        parts = write_keys(
+            f,
+            parts,
+            withdrawn,
+            "code has no entry any more",
+            "codes have no entry any more",
+        )?;
+        parts = write_grown(f, parts, awaited, "awaited id more", "awaited ids more")?;
+        parts = write_grown(f, parts, gaps, "gap more", "gaps more")?;
+        if parts > 0 {
+            f.write_char('\n')?;
+        }
+        write_hints(f, self)
+    }
+}
+
+// Writes the ways on.
+fn write_hints<W: fmt::Write>(f: &mut fmt::Formatter<W>, news: &News) -> fmt::Result {
+    if !news.conflicts.is_empty() {
+        f.write_str(
+            "hint: crsreg compare REG KEY shows what differs; crsreg settle REG ID keeps one entry of a key\n",
+        )?;
+    }
+    if !news.duplicates.is_empty() {
+        f.write_str("hint: crsreg settle REG --equal keeps one entry of each text\n")?;
+    }
+    if !news.dangling.is_empty() {
+        f.write_str("hint: crsreg report REG dangling lists the entries\n")?;
+    }
+    if !news.withdrawn.is_empty() {
+        f.write_str(
+            "hint: crsreg report REG withdrawn lists their entries; crsreg wkt ID prints the text of one\n",
+        )?;
+    }
+    Ok(())
+}
+
+// Writes what is between two parts.
+fn separate<W: fmt::Write>(f: &mut fmt::Formatter<W>, parts: usize) -> fmt::Result {
+    if parts > 0 {
+        f.write_str("; ")?;
+    }
+    Ok(())
+}
+
+// Writes by how much a number grew, if it did, after so many parts. Returns how many parts there are then.
+fn write_grown<W: fmt::Write>(
+    f: &mut fmt::Formatter<W>,
+    parts: usize,
+    count: &Grown,
+    one: &str,
+    many: &str,
+) -> Result<usize, fmt::Error> {
+    let more = count.now.saturating_sub(count.before);
+    if more == 0 {
+        return Ok(parts);
+    }
+    separate(f, parts)?;
+    let words = if more == 1 { one } else { many };
+    write!(f, "{more} {words}")?;
+    Ok(parts.saturating_add(1))
+}
+
+// Writes how many keys there are, and the first of them, if there are any.
+fn write_keys<W: fmt::Write>(
+    f: &mut fmt::Formatter<W>,
+    parts: usize,
+    keys: &[Key],
+    one: &str,
+    many: &str,
+) -> Result<usize, fmt::Error> {
+    let count = keys.len();
+    if count == 0 {
+        return Ok(parts);
+    }
+    separate(f, parts)?;
+    let words = if count == 1 { one } else { many };
+    write!(f, "{count} {words} (")?;
+    for (at, key) in keys.iter().take(NAMED).enumerate() {
+        if at > 0 {
+            f.write_str(", ")?;
+        }
+        write_cut(f, shown(&key.authority))?;
+        f.write_char(':')?;
+        write_cut(f, shown(&key.code))?;
+    }
+    f.write_str(if count > NAMED { ", ..)" } else { ")" })?;
+    Ok(parts.saturating_add(1))
+}
+
+fn shown(text: &Text) -> &str {
+    str::from_utf8(text.as_bytes()).unwrap_or("")
+}
+
+// Writes the first characters of a text.
+fn write_cut<W: fmt::Write>(f: &mut fmt::Formatter<W>, text: &str) -> fmt::Result {
+    for char in text.chars().take(SHOWN) {
+        f.write_char(if char.is_control() { '?' } else { char })?;
+    }
+    if text.chars().count() > SHOWN {
+        f.write_char('…')?;
+    }
+    Ok(())
+}
