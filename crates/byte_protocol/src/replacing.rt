@@ -1,6 +1,7 @@
 //! Replacing a file as a whole, while other processes use it.
 
-ghost use Rattle.std.specs.Prelude.{◌≡◌, ℕ, Option, OnOk, IfErr, IfOk, option_map};
+ghost use Rattle.std.specs.Prelude.{◌≡◌, ◌∷◌, ℕ, true, Option, Some, OnOk, IfErr, IfOk, option_map};
+ghost use Rattle.byte_system.specs.Disk.{Locks, Looks, Makes, Opens, Unlinks};
 ghost use Rattle.byte_system.specs.System.{GoesOn, calls};
 ghost use Rattle.byte_protocol.specs.Replacing.{Replaces, Stops, begun, owned, replacing, reserved};
 

@@ -80,6 +80,8 @@ pub enum Kind {
     Option(&'static str),
     /// The same, which can be given more than once.
     Options(&'static str),
+    /// An option with one or more values, which have this name in help.
+    Many(&'static str),
     /// An option with a value that can begin with a hyphen, which has this name in help.
     Text(&'static str),
 }

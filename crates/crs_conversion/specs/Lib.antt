@@ -4,3 +4,4 @@ pub mod FalseUnit
 pub mod Packed
 pub mod Quantity
 pub mod Angle
+pub mod Radian

@@ -10,7 +10,7 @@ use cli_hand::{export, graph, ops, page, show, wkt};
 use cli_import::changes::{misnamed, office, retire, supersede};
 use cli_import::{enter, import, settle};
 use cli_look::desk::CliFault;
-use cli_look::{check, compare, diff, find, log, offices, report, status as figures, texts};
+use cli_look::{check, compare, diff, find, lint, log, offices, report, status as figures, texts};
 use cli_open::{MISUSE, Outcome, complain, explains, failed, is_table, names, print};
 use cli_words::{CommandName, command_line, overview};
 use std::alloc::AllocError;
@@ -135,6 +135,7 @@ fn perform(rt: &HostRuntime, name: CommandName, inner: &ArgMatches<'_>) -> Optio
         CommandName::Retire => Ending::Plain(retire(rt, inner)),
         CommandName::Settle => Ending::Plain(settle(rt, inner)),
         CommandName::Find => Ending::Plain(find(rt, inner)),
+        CommandName::Lint => Ending::of_import(lint(rt, inner)),
         CommandName::Show => Ending::of(show(rt, inner)),
         CommandName::Wkt => Ending::of(wkt(rt, inner)),
         CommandName::Texts => Ending::of(texts(rt, inner)),

@@ -1,0 +1,4 @@
+pub mod Said
+pub mod Turn
+pub mod Meridian
+pub mod Away
