@@ -21,6 +21,9 @@ repeat() { printf "%0$1d" 0 | sed "s/0/$2/g"; }
 # single VERSION LETTER COUNT: prints the file of a register that has one operation, of the office of this letter, up to its kind.
 single() { bytes 43525352 "$1" 01 00000001 "0000000000004000800000000000000$2" 00000001 "$3" "$3" 00000001 "0000000000004000800000000000000$2" "$3"; }
 
+# office_of UUID: prints the office file of an office that has made nothing.
+office_of() { printf '%s:0\n0\n' "$1"; bytes 43525352 02 01 00000000 00000000; }
+
 # orders WORD..: prints the words in each order, one a line.
 orders() { python3 -c 'import itertools, sys; [print(*each) for each in itertools.permutations(sys.argv[1:])]' "$@"; }
 

@@ -59,6 +59,19 @@ where
         Lock::Missing => {}
         _ => return Err(MakeFault::Exists),
     }
+    alike(rt, beside, file, old)
+}
+
+/// The new file, open to the same people as the old one, if there is one. If the system does not permit that, it is removed.
+pub(crate) fn alike<R: Files>(
+    rt: &R,
+    beside: &str,
+    file: R::File,
+    old: &Option<Metadata>,
+) -> Result<Option<R::File>, MakeFault>
+where
+    R::File: AsFd,
+{
     match old {
         Some(old) => kept_alike(rt, beside, file, old),
         None => Ok(Some(file)),

@@ -32,6 +32,10 @@ impl fmt::Display for MakeFault {
     }
 }
 
+/// Another command has the new file.
+#[derive(Clone, Copy, Debug, PartialEq, Eq)]
+pub struct InUse;
+
 /// Why the file with the name is not known to have the bytes that were read.
 #[derive(Clone, Copy, Debug, PartialEq, Eq)]
 pub enum CompareFault {

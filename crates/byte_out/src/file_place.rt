@@ -7,21 +7,22 @@ ghost use Rattle.byte_out.specs.Own.{IsOwnPath, marked, file_of};
 ghost use Rattle.byte_out.specs.Place.{untold};
 
 use crate::beside::remove_own;
-use crate::fault::{CompareFault, MakeFault, PutFault};
+use crate::fault::{CompareFault, InUse, MakeFault, PutFault};
 use crate::lock::Lockable;
 use crate::place::Place;
-use crate::way::{FileId, Led, leads, open_for, sync_folder};
+use crate::reserved::make_own;
+use crate::way::{FileId, Led, leads, open_for, replaced, sync_folder};
 use crate::within::{compare_beside, compare_within, put_beside, write_within};
 use byte_io::{DeviceFault, Log, Sink, Tally, WriteFault, write_all};
 use std::alloc::{AllocError, Global};
 use std::fs::OpenFile;
 use std::io::Write;
 use std::os::fd::AsFd;
-use std::rt::Files;
+use std::rt::{Clock, Files};
+use std::time::Duration;
 
 /// The place of a path; if the path is a link to a plain file, the place of that file. The new file beside it has a name of its
 /// own. If it cannot be made, or the system refuses to rename it, the file itself is overwritten by `put`, and not before.
-#[derive(Drop)]
 pub struct FilePlace<'a, R: Files> {
     rt: &'a R,
     path: &'a str,
@@ -31,6 +32,8 @@ pub struct FilePlace<'a, R: Files> {
     is_lost: bool,
     beside: String,
     avoided: Option<FileId>,
+    /// The new file that `reserve` made and `make` has not taken.
+    reserved: Option<R::File>,
     file: Option<R::File>,
     is_beside: bool,
     taken: Log,
@@ -38,6 +41,30 @@ pub struct FilePlace<'a, R: Files> {
     stalls: Tally,
     openings: Tally,
     ghost counted: { IsSome file → 0 < openings.count },
+}
+
+// A new file that was reserved and not used is removed.
+impl<R: Files> Drop for FilePlace<'_, R> {
+    fn drop(self) {
+        if let Some(file) = &self.reserved {
+            remove_own(self.rt, &self.beside, file);
+        }
+        let FilePlace {
+            rt: _,
+            path: _,
+            led: _,
+            is_lost: _,
+            beside: _,
+            avoided: _,
+            reserved: _,
+            file: _,
+            is_beside: _,
+            taken: _,
+            failures: _,
+            stalls: _,
+            openings: _,
+        } = self;
+    }
 }
 
 impl<'a, R: Files> FilePlace<'a, R>
@@ -71,6 +98,7 @@ where
             is_lost,
             beside,
             avoided,
+            reserved: None,
             file: None,
             is_beside: false,
             taken: Log::empty(),
@@ -78,6 +106,47 @@ where
             stalls: Tally::none(),
             openings: Tally::none(),
         })
+    }
+
+    /// Makes and locks the new file, before the old one is read; `make` then finds it. While another command has it, this one waits, at
+    /// most this long, and only then is refused. Where the new file cannot be made at all, nothing is, and `make` reports it. Unless
+    /// `make` takes it, the new file is removed when the place is dropped.
+    pub fn reserve(&mut self, wait: Duration) -> Result<(), InUse>
+    where
+        R: Clock,
+        ensures state { ⟦<FilePlace<'a, R> as Place>⟧.state self.new ≡ ⟦<FilePlace<'a, R> as Place>⟧.state self.old }
+        ensures path { self.new.path ≡ self.old.path }
+        ensures led { self.new.led ≡ self.old.led }
+        ensures beside { self.new.beside ≡ self.old.beside }
+        ensures avoided { self.new.avoided ≡ self.old.avoided }
+    {
+        if self.reserved.is_some() || self.file.is_some() || self.is_closed() {
+            return Ok(());
+        }
+        let Some(old) = replaced(self.rt, file_of(&self.led, self.path)) else {
+            return Ok(());
+        };
+        match make_own(self.rt, &self.beside, &old, wait) {
+            Ok(made) => {
+                self.reserved = made;
+                Ok(())
+            }
+            Err(MakeFault::Exists) => Err(InUse),
+            Err(MakeFault::NotOpened) => Ok(()),
+        }
+    }
+
+    /// Whether the file that was made is a new one beside the old one, and not the old one itself.
+    pub fn is_beside(&self) -> bool
+        ensures { result ≡ self.now.is_beside }
+    {
+        self.is_beside
+    }
+
+    // Whether nobody knows where the path leads, or it leads to the file that is avoided.
+    fn is_closed(&self) -> bool {
+        let real = file_of(&self.led, self.path);
+        self.is_lost || self.avoided.is_some() && self.avoided == FileId::at(self.rt, real)
     }
 }
 
@@ -167,12 +236,12 @@ where
     } };
 
     fn make(&mut self) -> Result<(), MakeFault> {
-        let real = file_of(&self.led, self.path);
-        if self.is_lost || self.avoided.is_some() && self.avoided == FileId::at(self.rt, real) {
+        if self.is_closed() {
             self.failures = Tally::after(&self.failures);
             return Err(MakeFault::NotOpened);
         }
-        match open_for(self.rt, real, &self.beside) {
+        let real = file_of(&self.led, self.path);
+        match open_for(self.rt, real, &self.beside, &mut self.reserved) {
             Ok((file, is_beside)) => {
                 self.is_beside = is_beside;
                 self.openings = Tally::after(&self.openings);

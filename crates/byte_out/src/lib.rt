@@ -10,15 +10,17 @@ mod mem_place;
 mod memory_target;
 mod place;
 mod replacing;
+mod reserved;
 mod way;
 mod within;
 
 pub use beside::make_alike;
-pub use fault::{CompareFault, MakeFault, PutFault, ReplaceFault};
+pub use fault::{CompareFault, InUse, MakeFault, PutFault, ReplaceFault};
 pub use file_place::{FilePlace, own_path};
 pub use input::{Input, InputOf, first_kept};
 pub use lock::{Lock, Lockable};
 pub use mem_place::{MemPlace, Step};
 pub use place::Place;
 pub use replacing::{prepare, replace};
+pub use reserved::make_own;
 pub use way::FileId;

@@ -1,6 +1,6 @@
 //! How a path of the file system is written. No contract describes the file system.
 
-use crate::beside::make_beside;
+use crate::beside::{alike, make_beside};
 use crate::fault::MakeFault;
 use crate::lock::{Lock, Lockable};
 use std::alloc::{AllocError, Global};
@@ -83,11 +83,13 @@ enum Way {
     Within(bool),
 }
 
-/// The file to be written, and whether it is a new one beside. If not, its bytes stay as they are.
+/// The file to be written, and whether it is a new one beside, such as the one that was reserved. If not, its bytes stay as they
+/// are.
 pub(crate) fn open_for<R: Files>(
     rt: &R,
     path: &str,
     beside: &str,
+    reserved: &mut Option<R::File>,
 ) -> Result<(R::File, bool), MakeFault>
 where
     R::File: AsFd + Lockable,
@@ -95,7 +97,11 @@ where
     let is_there = match way_to(rt, path)? {
         Way::Within(is_there) => is_there,
         Way::Beside(old) => {
-            if let Some(file) = make_beside(rt, beside, &old)? {
+            let made = match reserved.take() {
+                Some(file) => alike(rt, beside, file, &old),
+                None => make_beside(rt, beside, &old),
+            };
+            if let Some(file) = made? {
                 return Ok((file, true));
             }
             old.is_some()
@@ -136,6 +142,15 @@ fn way_to<R: Files>(rt: &R, path: &str) -> Result<Way, MakeFault> {
             Ok(Way::Beside(None))
         }
         Err(_) => Err(MakeFault::NotOpened),
+    }
+}
+
+/// The file that is to be replaced: none if nothing is there yet. `None` if what is there is no plain file, and so is not replaced.
+pub(crate) fn replaced<R: Files>(rt: &R, path: &str) -> Option<Option<Metadata>> {
+    match fs::symlink_metadata(rt, path) {
+        Ok(there) if there.is_file() => Some(Some(there)),
+        Err(error) if error.kind() == ErrorKind::NotFound && !path.is_empty() => Some(None),
+        _ => None,
     }
 }
 

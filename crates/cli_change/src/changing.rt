@@ -1,22 +1,25 @@
 //! Changes a register, in its file or on its shelf, as an office with an office file or without one.
 use crate::offices::Desk;
 use clap::ArgMatches;
-use cli_open::engines::places::{FilePlace, Place};
+use cli_open::engines::places::Place;
 use cli_open::engines::streams::Writing;
-use cli_open::engines::{Change, CliFault, run_change};
-use cli_open::{Opened, Target, changed_place, open_to_change, word};
+use cli_open::engines::{Change, CliFault, Keep, run_change};
+use cli_open::{Target, explains, open_target, word};
+use reg_news::News;
+use reg_watch::Watched;
 use std::fs::File;
 use std::io::{self, Write};
 
-/// Opens the register and changes it as the office, whose new file is removed afterwards if it was not used.
+/// Opens the register and changes it as the office, whose new file is removed afterwards if it was not used. Where sentences are on, the
+/// last one says what the change brought.
 pub fn changed<Q: Place, C: Change>(
     rt: &HostRuntime,
     matches: &ArgMatches<'_>,
     desk: &mut Desk<Q>,
     command: &mut C,
 ) -> Result<(), CliFault> {
-    let answer = match open_to_change(rt, rt.alloc(), matches) {
-        Ok(register) => change_of(rt, matches, desk, register, command),
+    let answer = match open_target(rt, matches, word(matches, "out")) {
+        Ok(target) => change_in(rt, matches, desk, target, command, explains(matches)),
         Err(fault) => Err(fault),
     };
     desk.close();
@@ -24,48 +27,72 @@ pub fn changed<Q: Place, C: Change>(
 }
 
 /// Changes the register as the office, and prints the command's lines, unless `--quiet` is given.
-pub fn change_of<Q: Place, C: Change>(
+pub fn change_of<Q: Place, P: Place + Drop, C: Change>(
     rt: &HostRuntime,
     matches: &ArgMatches<'_>,
     desk: &mut Desk<Q>,
-    register: Opened<File>,
+    target: Target<File, P>,
     command: &mut C,
+) -> Result<(), CliFault> {
+    change_in(rt, matches, desk, target, command, false)
+}
+
+// The same; if it tells, the last sentence says what the change brought.
+fn change_in<Q: Place, P: Place + Drop, C: Change>(
+    rt: &HostRuntime,
+    matches: &ArgMatches<'_>,
+    desk: &mut Desk<Q>,
+    target: Target<File, P>,
+    command: &mut C,
+    tells: bool,
 ) -> Result<(), CliFault> {
     if matches.get_flag("quiet") {
         let mut sink = Writing::new(io::sink());
-        return change_to(rt, matches, desk, register, command, &mut sink);
+        return change_to(rt, tells, desk, target, command, &mut sink);
     }
     let mut sink = Writing::new(io::writer(rt));
-    change_to(rt, matches, desk, register, command, &mut sink)
+    change_to(rt, tells, desk, target, command, &mut sink)
 }
 
-fn change_to<Q: Place, C: Change, W: Write>(
+fn change_to<Q: Place, P: Place + Drop, C: Change, W: Write>(
     rt: &HostRuntime,
-    matches: &ArgMatches<'_>,
+    tells: bool,
     desk: &mut Desk<Q>,
-    register: Opened<File>,
+    target: Target<File, P>,
     command: &mut C,
     sink: &mut Writing<W>,
 ) -> Result<(), CliFault> {
-    let is_quiet = matches.get_flag("quiet");
-    let mut target = target_at(rt, register, word(matches, "out"), is_quiet)?;
-    let answer = run_change(rt.alloc(), &mut target.store(&mut desk.file), command, sink);
+    let mut target = target;
+    let mut store = target.store(&mut desk.file);
+    let answer = if tells {
+        change_and_tell(rt, &mut store, command, sink)
+    } else {
+        run_change(rt.alloc(), &mut store, command, sink)
+    };
+    drop(store);
     drop(target);
     answer
 }
 
-/// The store of a register, and OUT if it is a file.
-pub fn target_at<'a>(
-    rt: &'a HostRuntime,
-    register: Opened<File>,
-    path: &'a str,
-    is_quiet: bool,
-) -> Result<Target<File, FilePlace<'a, HostRuntime>>, CliFault> {
-    match register {
-        Opened::File(source) => match changed_place(rt, rt.alloc(), path, is_quiet) {
-            Ok(place) => Ok(Target::File(source, place)),
-            Err(fault) => Err(fault),
-        },
-        Opened::Shelf(disk) => Ok(Target::Shelf(disk)),
+fn change_and_tell<T: Keep, C: Change, W: Write>(
+    rt: &HostRuntime,
+    store: &mut T,
+    command: &mut C,
+    sink: &mut Writing<W>,
+) -> Result<(), CliFault> {
+    let mut watched = Watched {
+        store,
+        loaded: None,
+        kept: None,
+    };
+    let answer = run_change(rt.alloc(), &mut watched, command, sink);
+    say_news(rt, &watched.news(rt.alloc()));
+    answer
+}
+
+/// Says what a change brought, if that is known.
+pub fn say_news(rt: &HostRuntime, news: &Option<News>) {
+    if let Some(news) = news {
+        let _ = eprint!(rt; "{news}");
     }
 }

@@ -4,9 +4,11 @@
 mod change;
 mod changing;
 mod offices;
-mod stopped;
+mod once;
 
-pub use change::{Superseded, TWICE, retire, supersede};
-pub use changing::{change_of, changed, target_at};
+pub use change::{Superseded, TWICE, ToldLine, retire, supersede};
+pub use changing::{change_of, changed, say_news};
 pub use offices::{Desk, misnamed, office, office_named, open_desk};
-pub use reg_supersede::RefusedLine;
+pub use once::change_once;
+pub use reg_news::News;
+pub use reg_watch::Watched;

@@ -1,11 +1,10 @@
 //! Who changes a register: an office by its UUID, or one that works through its office file.
-use crate::stopped::put_left;
 use clap::ArgMatches;
-use cli_open::engines::places::{FileId, Lockable, Place};
-use cli_open::engines::streams::{Reading, Writing};
+use cli_open::engines::places::{FileId, FilePlace, Place, own_path};
+use cli_open::engines::streams::Writing;
 use cli_open::engines::{CliFault, OutFault};
-use cli_open::guards::{LastNumber, OfficePlace, last_of, lock_office, run_office, unopened};
-use cli_open::{OfficeFile, office_file, parts, replica, word};
+use cli_open::guards::{NewPlace, OfficeFile, run_office};
+use cli_open::{OpenOffice, office_at, office_file, open_office, parts, real_path, replica, word};
 use std::alloc::{AllocError, Global};
 use std::io::ErrorKind;
 use std::os::fd::AsFd;
@@ -19,7 +18,7 @@ const OUT_IS_OFFICE: &str = "error: OUT is the office file, or its new one";
 const REG_IS_OFFICE: &str = "error: REG is the office file, or its new one";
 
 const AS_IS_OFFICE: &str =
-    "error: --as is the office of the file in CRSREG_OFFICE, which would not know the new numbers: leave --as out";
+    "error: --as is the office of the file in CRSREG_OFFICE, which would not know what it makes: leave --as out";
 
 // How many links a path may lead through.
 const MOST_LINKS: usize = 40;
@@ -38,7 +37,7 @@ pub fn office_named(matches: &ArgMatches<'_>) -> Result<Option<Uuid>, CliFault> 
 /// An office that can make operations.
 pub struct Desk<Q> {
     pub replica: Uuid,
-    pub file: Option<OfficeFile<Q>>,
+    pub file: Option<OpenOffice<Q>>,
 }
 
 // By hand: otherwise the prover goes through the office file wherever a desk goes out of scope.
@@ -50,10 +49,10 @@ impl<Q: Drop> Drop for Desk<Q> {
 }
 
 impl<Q: Place> Desk<Q> {
-    /// The last number of the office, if it has an office file.
-    pub fn last(&self) -> Option<LastNumber> {
+    /// What the office file has, if the office has one.
+    pub fn made(&self) -> Option<&OfficeFile> {
         match &self.file {
-            Some(file) => Some(file.last),
+            Some(office) => Some(&office.file),
             None => None,
         }
     }
@@ -66,53 +65,25 @@ impl<Q: Place> Desk<Q> {
     }
 }
 
-/// The desk of the office with this UUID, or else of the command's office file. The new office file is made first, and the old one
-/// is read then: otherwise two commands could read one number. Then OUT is as the last command of the office meant to leave it.
-pub fn open_desk<'a, R: Files>(
-    rt: &'a R,
+/// The desk of the office with this UUID, or else of the office file at this path. The new office file is made first, and the old
+/// one is read then: otherwise two commands could read the same one. Another command of the office waits meanwhile.
+pub fn open_desk<'a>(
+    rt: &'a HostRuntime,
     alloc: Global,
-    matches: &ArgMatches<'_>,
     named: Option<Uuid>,
-) -> Result<Desk<OfficePlace<'a, R>>, CliFault>
-where
-    R::File: AsFd + Lockable,
-{
+    path: &'a str,
+) -> Result<Desk<FilePlace<'a, HostRuntime>>, CliFault> {
     if let Some(replica) = named {
         return Ok(Desk {
             replica,
             file: None,
         });
     }
-    let path = word(matches, "office");
-    let Ok(mut place) = OfficePlace::beside(alloc, rt, path) else {
-        return Err(CliFault::Memory);
-    };
-    if let Err(fault) = lock_office(&mut place) {
-        drop(place);
-        return Err(fault);
-    }
-    let last = match read(rt, alloc, path) {
-        Ok(last) => last,
-        Err(fault) => {
-            place.remove();
-            drop(place);
-            return Err(fault);
-        }
-    };
-    if !matches.get_flag("shelf") && !matches.get_flag("dry-run") {
-        put_left(rt, alloc, &last, word(matches, "out"));
-    }
+    let file = open_office(rt, alloc, path)?;
     Ok(Desk {
-        replica: last.replica(),
-        file: Some(OfficeFile { last, place }),
+        replica: file.file.replica(),
+        file: Some(file),
     })
-}
-
-fn read<R: Files>(rt: &R, alloc: Global, path: &str) -> Result<LastNumber, CliFault> {
-    match fs::open(rt, path) {
-        Ok(file) => last_of(alloc, &mut Reading::new(file)),
-        Err(_) => Err(unopened()),
-    }
 }
 
 /// What is wrong with a command line that names an office, if clap does not check it: `--as` is the office of the office file in
@@ -151,33 +122,39 @@ fn misnamed_office<R: Files>(
         Ok(file) if file.is_file() => {}
         _ => return Ok(None),
     }
-    match read(rt, alloc, path) {
-        Ok(last) if last.replica() == named => Ok(Some(AS_IS_OFFICE)),
+    match office_at(rt, alloc, path) {
+        Ok(file) if file.replica() == named => Ok(Some(AS_IS_OFFICE)),
         Err(CliFault::Memory) => Err(CliFault::Memory),
         _ => Ok(None),
     }
 }
 
-// Whether the path leads to the office file or its new one, by any name.
+// Whether the path leads to the office file or its new one, by any name, or the new file beside it is the office file.
 fn is_office_file<R: Files>(
     rt: &R,
     alloc: Global,
     path: &str,
     office: &str,
-) -> Result<bool, CliFault>
-where
-    R::File: AsFd,
-{
-    let Ok(place) = OfficePlace::beside(alloc, rt, office) else {
-        return Err(CliFault::Memory);
-    };
+) -> Result<bool, CliFault> {
     let Ok(target) = followed(rt, alloc, path) else {
         return Err(CliFault::Memory);
     };
-    let target = target.as_str();
-    let is_same = is_same(rt, target, place.path()) || is_same(rt, target, place.made());
-    drop(place);
-    Ok(is_same)
+    let file = match real_path(rt, alloc, office)? {
+        Some(real) => real,
+        None => match String::from_str(alloc, office) {
+            Ok(path) => path,
+            Err(_) => return Err(CliFault::Memory),
+        },
+    };
+    let (target, file) = (target.as_str(), file.as_str());
+    let (Ok(new_target), Ok(new_file)) = (own_path(alloc, target), own_path(alloc, file)) else {
+        return Err(CliFault::Memory);
+    };
+    Ok(
+        is_same(rt, target, file)
+            || is_same(rt, target, new_file.as_str())
+            || is_same(rt, new_target.as_str(), file),
+    )
 }
 
 // The path that the links lead to, even if nothing is there. The system follows no more links than these.
@@ -221,9 +198,7 @@ pub fn office(rt: &HostRuntime, matches: &ArgMatches<'_>) -> Result<(), CliFault
     if rt.fill_bytes(&mut random).is_err() {
         return Err(CliFault::Out(OutFault::NotOpened));
     }
-    let Ok(mut place) = OfficePlace::anew(rt.alloc(), rt, word(matches, "NEW")) else {
-        return Err(CliFault::Memory);
-    };
+    let mut place = NewPlace::new(rt, word(matches, "NEW"));
     let mut sink = Writing::new(io::writer(rt));
     let answer = run_office(rt.alloc(), random, &mut place, &mut sink);
     drop(place);

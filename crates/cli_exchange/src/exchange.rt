@@ -1,14 +1,15 @@
 //! Commands that make and exchange registers.
 use clap::ArgMatches;
 use cli_open::engines::disks::NewFile;
+use cli_open::engines::places::FilePlace;
 use cli_open::engines::shelf::is_size;
-use cli_open::engines::{
-    CliFault, FirstVersion, PieceFor, Refusal, ShelfProblem, Summary, Whole, run_merge,
-    run_merge_on, run_new, run_shelf,
-};
+use cli_open::engines::{CliFault, Refusal, ShelfProblem};
 use cli_open::{
     Opened, Replaced, give_of, lock_new_shelf, next_file, open, open_all, open_inputs,
-    open_register, open_shelf, open_to_read, parts, place, word,
+    open_register, open_shelf, open_to_read, parts, place, reserve, word,
+};
+use reg_commands::{
+    FirstVersion, PieceFor, Summary, Whole, run_merge, run_merge_on, run_new, run_shelf,
 };
 use std::fs::{self, File, OpenFile};
 use std::rt::Files;
@@ -29,12 +30,23 @@ pub fn merge(rt: &HostRuntime, matches: &ArgMatches<'_>) -> Result<(), CliFault>
         let mut sources = open_all(rt, rt.alloc(), 1, paths)?;
         return run_merge_on(rt.alloc(), &mut disk, &mut sources);
     }
+    let mut place = place_over(rt, word(matches, "OUT"), paths)?;
     let out = Some(Replaced::named(rt, rt.alloc(), matches, "OUT")?);
     let mut sources = open_inputs(rt, rt.alloc(), paths, &out)?;
-    let mut place = place(rt, rt.alloc(), word(matches, "OUT"))?;
     let answer = run_merge(rt.alloc(), &mut sources, &mut place);
     drop(place);
     answer
+}
+
+// The place of OUT. If it is one of these files, which the command reads, its new file is made before they are opened.
+fn place_over<'a>(
+    rt: &'a HostRuntime,
+    out: &'a str,
+    inputs: &[&str],
+) -> Result<FilePlace<'a, HostRuntime>, CliFault> {
+    let mut place = place(rt, rt.alloc(), out)?;
+    reserve(rt, &mut place, out, inputs)?;
+    Ok(place)
 }
 
 // Opens the register whose file is written to OUT.
@@ -45,24 +57,28 @@ fn open_to_give(rt: &HostRuntime, matches: &ArgMatches<'_>) -> Result<Opened<Fil
 
 /// `seen`.
 pub fn seen(rt: &HostRuntime, matches: &ArgMatches<'_>) -> Result<(), CliFault> {
+    let place = place_over(rt, word(matches, "OUT"), &[word(matches, "REG")])?;
     let register = open_to_give(rt, matches)?;
-    give_of(rt, matches, register, &mut Summary)
+    give_of(rt, register, &mut Summary, place)
 }
 
 /// `piece`.
 pub fn piece(rt: &HostRuntime, matches: &ArgMatches<'_>) -> Result<(), CliFault> {
+    let inputs = [word(matches, "REG"), word(matches, "SEEN")];
+    let place = place_over(rt, word(matches, "OUT"), &inputs)?;
     let register = open_to_give(rt, matches)?;
     let mut summary = open(rt, next_file(&register), word(matches, "SEEN"))?;
     let mut command = PieceFor {
         summary: &mut summary,
     };
-    give_of(rt, matches, register, &mut command)
+    give_of(rt, register, &mut command, place)
 }
 
 /// `downgrade`.
 pub fn downgrade(rt: &HostRuntime, matches: &ArgMatches<'_>) -> Result<(), CliFault> {
+    let place = place_over(rt, word(matches, "OUT"), &[word(matches, "REG")])?;
     let register = open_to_give(rt, matches)?;
-    give_of(rt, matches, register, &mut FirstVersion)
+    give_of(rt, register, &mut FirstVersion, place)
 }
 
 /// `shelf`. A size that is not a number is refused like a size out of range.
@@ -95,5 +111,6 @@ fn sync_folder<R: Files>(rt: &R, path: &str) -> Result<(), CliFault> {
 /// `unshelf`.
 pub fn unshelf(rt: &HostRuntime, matches: &ArgMatches<'_>) -> Result<(), CliFault> {
     let disk = open_to_read(rt, word(matches, "SHELF"))?;
-    give_of(rt, matches, Opened::Shelf(disk), &mut Whole)
+    let place = place(rt, rt.alloc(), word(matches, "OUT"))?;
+    give_of(rt, Opened::Shelf(disk), &mut Whole, place)
 }

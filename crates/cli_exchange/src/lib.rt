@@ -1,6 +1,9 @@
 //! Commands that make and exchange registers.
 #![tactic(auto)]
 
+mod as_office;
+mod asked;
+mod brought;
 mod exchange;
 mod taking;
 

@@ -1,55 +1,42 @@
 //! The command `take`.
+use crate::as_office::{catch_up, take_as};
+use crate::asked::take_options;
+use crate::brought::say_brought;
 use byte_late::{LateFile, LateSource};
 use clap::ArgMatches;
 use cli_faults::sentences::Shown;
 use cli_faults::{CommandName, Named, explain};
 use cli_open::engines::CliFault;
-use cli_open::engines::places::{FilePlace, Lockable};
-use cli_open::engines::streams::Writing;
-use cli_open::{
-    Opened, Outcome, Replaced, Rows, Target, answered, changed_place, explains, open_register,
-    open_shelf, word,
-};
-use reg_take::{LeftOut, run_take, try_take};
+use cli_open::{Outcome, Rows, answered, explains, office_file, open_register, open_target, word};
+use reg_take::{TakeEffect, run_take, try_take};
 use std::alloc::{AllocError, Global};
-use std::fs::File;
-use std::io::{self, Write};
+use std::io;
 use std::rt::Files;
 
-/// `take`. The register is opened first, and each file when its turn comes.
+/// The complaint if there is nothing to take.
+const NO_FILE: &str = "error: take needs a FILE, or an office file";
+
+/// `take`. The register is opened first, and each file when its turn comes. Without files it brings what an office made.
 pub fn take(rt: &HostRuntime, matches: &ArgMatches<'_>) -> Outcome {
     let paths = matches.get_strs("FILE").unwrap_or(&[]);
-    let register = match open_own(rt, rt.alloc(), matches) {
-        Ok(register) => register,
-        Err(fault) => return Outcome::Fault(fault),
-    };
+    if paths.is_empty() {
+        return match office_file(matches) {
+            Some(path) => Outcome::of(catch_up(rt, matches, path)),
+            None => Outcome::Misuse(NO_FILE),
+        };
+    }
     let Ok(mut files) = late_files(rt, rt.alloc(), paths) else {
         return Outcome::Fault(CliFault::Memory);
     };
-    match take_into(rt, matches, register, &mut files) {
-        Ok(left) => tell(rt, matches, paths, &left),
+    let taken = match office_file(matches) {
+        Some(path) => take_as(rt, matches, path, &mut files),
+        None if matches.get_flag("dry-run") => taken_dry(rt, matches, &mut files),
+        None => taken_in(rt, matches, &mut files),
+    };
+    match taken {
+        Ok(effect) => tell(rt, matches, paths, &effect),
         Err(fault) => Outcome::Fault(fault),
     }
-}
-
-// Opens the register, to replace it unless nothing is written.
-fn open_own<R: Files>(
-    rt: &R,
-    alloc: Global,
-    matches: &ArgMatches<'_>,
-) -> Result<Opened<R::File>, CliFault>
-where
-    R::File: Lockable,
-{
-    if matches.get_flag("dry-run") {
-        return open_register(rt, alloc, matches, "REG", &None);
-    }
-    if matches.get_flag("shelf") {
-        let disk = open_shelf(rt, word(matches, "REG"))?;
-        return Ok(Opened::Shelf(disk));
-    }
-    let own = Some(Replaced::named(rt, alloc, matches, "REG")?);
-    open_register(rt, alloc, matches, "REG", &own)
 }
 
 fn late_files<'a, R: Files>(
@@ -65,68 +52,65 @@ fn late_files<'a, R: Files>(
 }
 
 // Joins the files to the register, and prints what changed.
-fn take_into<S: LateSource>(
+fn taken_in<S: LateSource>(
     rt: &HostRuntime,
     matches: &ArgMatches<'_>,
-    register: Opened<File>,
     files: &mut [S],
-) -> Result<Vec<LeftOut>, CliFault> {
+) -> Result<TakeEffect, CliFault> {
+    let options = take_options(rt.alloc(), matches, None)?;
+    let mut target = open_target(rt, matches, word(matches, "REG"))?;
     let mut sink = Rows::sink(rt, matches, io::writer(rt));
-    let answer = take_to(rt, matches, register, files, &mut sink);
+    let answer = run_take(rt.alloc(), &mut target.plain(), files, &options, &mut sink);
+    drop(target);
     match answered(rt.alloc(), sink, answer) {
         Ok(answer) => answer,
         Err(fault) => Err(fault),
     }
 }
 
-fn take_to<S: LateSource, W: Write>(
+// Prints what would change, and writes nothing.
+fn taken_dry<S: LateSource>(
     rt: &HostRuntime,
     matches: &ArgMatches<'_>,
-    register: Opened<File>,
     files: &mut [S],
-    sink: &mut Writing<W>,
-) -> Result<Vec<LeftOut>, CliFault> {
-    let keep_going = matches.get_flag("keep-going");
-    if matches.get_flag("dry-run") {
-        return try_take(rt.alloc(), &mut register.reading(), files, keep_going, sink);
+) -> Result<TakeEffect, CliFault> {
+    let options = take_options(rt.alloc(), matches, None)?;
+    let register = open_register(rt, rt.alloc(), matches, "REG", &None)?;
+    let mut sink = Rows::sink(rt, matches, io::writer(rt));
+    let answer = try_take(
+        rt.alloc(),
+        &mut register.reading(),
+        files,
+        &options,
+        &mut sink,
+    );
+    match answered(rt.alloc(), sink, answer) {
+        Ok(answer) => answer,
+        Err(fault) => Err(fault),
     }
-    let is_quiet = matches.get_flag("quiet");
-    let mut target = target_at(rt, register, word(matches, "REG"), is_quiet)?;
-    let answer = run_take(rt.alloc(), &mut target.plain(), files, keep_going, sink);
-    drop(target);
-    answer
 }
 
-// Names the files that are left out, each with its sentence if that is asked for. The status is that of the first of them.
-fn tell(rt: &HostRuntime, matches: &ArgMatches<'_>, paths: &[&str], left: &[LeftOut]) -> Outcome {
+// Names the files that are left out, and says what the others brought, each with its sentences if that is asked for. The status is
+// that of the first file that is left out.
+fn tell(
+    rt: &HostRuntime,
+    matches: &ArgMatches<'_>,
+    paths: &[&str],
+    effect: &TakeEffect,
+) -> Outcome {
     let named = if explains(matches) {
         Named::of(rt, CommandName::Take, matches).ok()
     } else {
         None
     };
-    for one in left {
+    for one in &effect.left {
         let path = Shown(paths.get(one.file()).copied().unwrap_or(""));
         let _ = eprintln!(rt; "left out: {path}: {one}");
         explain(rt, one.fault(), &named);
     }
-    match left.first() {
+    say_brought(rt, effect, &named);
+    match effect.left.first() {
         Some(first) => Outcome::LeftOut(first.fault().status()),
         None => Outcome::Done,
-    }
-}
-
-// The store of a register, and OUT if it is a file.
-fn target_at<'a>(
-    rt: &'a HostRuntime,
-    register: Opened<File>,
-    path: &'a str,
-    is_quiet: bool,
-) -> Result<Target<File, FilePlace<'a, HostRuntime>>, CliFault> {
-    match register {
-        Opened::File(source) => match changed_place(rt, rt.alloc(), path, is_quiet) {
-            Ok(place) => Ok(Target::File(source, place)),
-            Err(fault) => Err(fault),
-        },
-        Opened::Shelf(disk) => Ok(Target::Shelf(disk)),
     }
 }

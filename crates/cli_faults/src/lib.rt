@@ -9,4 +9,4 @@ pub use cli_sentences as sentences;
 pub use cli_words::CommandName;
 pub use naming::Second;
 pub use paths::Named;
-pub use sentence::{add, explain, print_lines, say};
+pub use sentence::{add, explain, explain_word, print_lines, say};

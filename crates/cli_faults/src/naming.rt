@@ -47,11 +47,17 @@ impl Second {
 
     /// The same, borrowed.
     pub fn found(&self) -> Found<'_> {
+        self.found_for("")
+    }
+
+    /// The same for a fault about a word of a list; the word is empty if it is about none.
+    pub fn found_for<'a>(&'a self, word: &'a str) -> Found<'a> {
         Found {
             head: match &self.head {
                 Some(head) => str::from_utf8(head).ok(),
                 None => None,
             },
+            word,
             looks: self.looks,
             is_written: self.is_written,
         }

@@ -135,6 +135,7 @@ fn command_of(name: CommandName, matches: &ArgMatches<'_>) -> Command {
         CommandName::Settle => Command::Settle,
         CommandName::Shelf => Command::Shelf,
         CommandName::Status => Command::Status,
+        CommandName::Take => Command::Take,
         CommandName::Unshelf => Command::Unshelf,
         CommandName::Supersede if matches.contains_id("from") => Command::SupersedeFrom {
             keys: matches.get_flag("keys"),

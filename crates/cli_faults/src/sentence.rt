@@ -9,16 +9,21 @@ use std::{fmt, str};
 
 /// Prints the sentence of a fault to standard error, below its line.
 pub fn explain(rt: &HostRuntime, fault: CliFault, named: &Option<Named<'_>>) {
+    explain_word(rt, fault, "", named);
+}
+
+/// The same for a fault about a word of a list; the word is empty if it is about none.
+pub fn explain_word(rt: &HostRuntime, fault: CliFault, word: &str, named: &Option<Named<'_>>) {
     if let Some(named) = named {
-        explain_in(rt, fault, named);
+        explain_in(rt, fault, word, named);
     }
 }
 
-fn explain_in(rt: &HostRuntime, fault: CliFault, named: &Named<'_>) {
+fn explain_in(rt: &HostRuntime, fault: CliFault, word: &str, named: &Named<'_>) {
     let second = Second::look(rt, named, &fault);
     let sentence = Sentence {
         fault,
-        found: second.found(),
+        found: second.found_for(word),
         paths: paths_at(rt, named, &fault),
     };
     say(rt, &sentence, named);

@@ -3,8 +3,9 @@ use crate::into::export_into;
 use clap::ArgMatches;
 use cli_open::engines::operations::OpId;
 use cli_open::engines::streams::Writing;
-use cli_open::engines::{CliFault, Export, Refusal};
+use cli_open::engines::{CliFault, Refusal};
 use cli_open::{Outcome, open_register, print_of, wanted, word};
+use reg_commands::Export;
 use reg_formats::{Format, Graph, run_handed};
 use reg_into::Choice;
 use std::io;
@@ -25,7 +26,7 @@ pub fn export(rt: &HostRuntime, matches: &ArgMatches<'_>) -> Outcome {
         return Outcome::Misuse(NOT_ALL);
     }
     if matches.contains_id("into") {
-        return Outcome::of(export_into(rt, matches, &choice, keep_going));
+        return export_into(rt, matches, &choice, keep_going);
     }
     if let Some(format) = format_of(matches) {
         return Outcome::of(export_as(rt, matches, format, &choice, keep_going));

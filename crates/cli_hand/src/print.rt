@@ -1,7 +1,8 @@
 //! Commands that print something of a register: an entry, a text, ids, a page.
 use clap::ArgMatches;
-use cli_open::engines::{CliFault, Form, Ops, Show, Wkt};
+use cli_open::engines::CliFault;
 use cli_open::{entry, print_of, word};
+use reg_commands::{Form, Ops, Show, Wkt};
 use reg_keyed::{ByWord, PrintOf, ShowOf, WktOf};
 use reg_page::Page;
 

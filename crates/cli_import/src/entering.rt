@@ -1,9 +1,9 @@
 //! The command `enter`.
 use clap::ArgMatches;
-use cli_change::{Desk, change_of, office_named, open_desk};
+use cli_change::{Desk, change_once, office_named, open_desk};
 use cli_open::engines::places::Place;
 use cli_open::engines::streams::Source;
-use cli_open::{Opened, Outcome, explains, files_before, next_file, open, open_to_change, word};
+use cli_open::{Outcome, Target, explains, files_before, open, open_target, word};
 use reg_desk::{CliFault, Enter, Explained, Recorded, explained_fault};
 use std::fs::File;
 
@@ -13,7 +13,7 @@ pub fn enter(rt: &HostRuntime, matches: &ArgMatches<'_>) -> Result<Outcome, Expl
         Ok(named) => named,
         Err(fault) => return Ok(Outcome::Fault(fault)),
     };
-    let mut desk = match open_desk(rt, rt.alloc(), matches, named) {
+    let mut desk = match open_desk(rt, rt.alloc(), named, word(matches, "office")) {
         Ok(desk) => desk,
         Err(fault) => return Ok(Outcome::Fault(fault)),
     };
@@ -28,35 +28,35 @@ fn enter_at<Q: Place>(
     desk: &mut Desk<Q>,
 ) -> Result<Outcome, Explained> {
     let path = word(matches, "text");
-    let register = match open_to_change(rt, rt.alloc(), matches) {
-        Ok(register) => register,
+    let target = match open_target(rt, matches, word(matches, "out")) {
+        Ok(target) => target,
         Err(fault) => return Ok(Outcome::Fault(fault)),
     };
-    let number = next_file(&register).saturating_add(files_before(matches));
+    let number = target.next().saturating_add(files_before(matches));
     let mut text = match open(rt, number, path) {
         Ok(file) => Recorded::new(rt.alloc(), file),
         Err(fault) => return Ok(Outcome::Fault(fault)),
     };
-    match enter_text(rt, matches, desk, register, &mut text) {
+    match enter_text(rt, matches, desk, target, &mut text) {
         Ok(()) => Ok(Outcome::Done),
         Err(fault) => not_entered(rt, matches, path, &text, fault),
     }
 }
 
 // Enters the text that the source gives.
-fn enter_text<Q: Place, X: Source>(
+fn enter_text<Q: Place, P: Place + Drop, X: Source>(
     rt: &HostRuntime,
     matches: &ArgMatches<'_>,
     desk: &mut Desk<Q>,
-    register: Opened<File>,
+    target: Target<File, P>,
     text: &mut X,
 ) -> Result<(), CliFault> {
-    let mut command = Enter {
+    let command = Enter {
         replica: desk.replica,
         text,
         note: word(matches, "note"),
     };
-    change_of(rt, matches, desk, register, &mut command)
+    change_once(rt, matches, desk, target, command)
 }
 
 // The outcome if the text at the path was not entered.

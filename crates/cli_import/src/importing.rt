@@ -1,13 +1,13 @@
 //! The command `import`.
 use byte_late::{LateFile, LateSource};
 use clap::ArgMatches;
-use cli_change::{Desk, TWICE, office_named, open_desk, target_at};
-use cli_open::engines::Either;
+use cli_change::{Desk, News, TWICE, Watched, office_named, open_desk, say_news};
 use cli_open::engines::places::Place;
-use cli_open::guards::{LastNumber, TriedFile, TriedShelf};
+use cli_open::engines::{Either, Keep};
+use cli_open::guards::{OfficeFile, TriedFile, TriedShelf};
 use cli_open::{
-    Opened, Outcome, Rows, STANDARD_INPUT, STANDARD_INPUT_PATH, answered, explains, files_before,
-    is_twice, next_file, open_to_change, word,
+    Outcome, Rows, STANDARD_INPUT, STANDARD_INPUT_PATH, Target, answered, explains, files_before,
+    is_twice, open_target, word,
 };
 use reg_desk::{
     CliFault, Differs, FileDisk, ImportFault, ImportOptions, InputFault, InputOf, OfFile, OnShelf,
@@ -18,8 +18,15 @@ use std::fs::{File, OpenFile};
 use std::io::{self, Read, Seek, Write};
 use std::rt::Files;
 
-/// `import`.
-pub fn import(rt: &HostRuntime, matches: &ArgMatches<'_>) -> Result<Outcome, Unimported> {
+/// Why texts were not imported, or not all of them, and what the register has now, if sentences are on.
+#[derive(Drop)]
+pub struct NotImported {
+    pub why: Unimported,
+    pub news: Option<News>,
+}
+
+/// `import`. Where sentences are on, the last one says what it brought.
+pub fn import(rt: &HostRuntime, matches: &ArgMatches<'_>) -> Result<Outcome, NotImported> {
     let paths = matches.get_strs("FILE").unwrap_or(&[]);
     if is_twice(paths) {
         return Ok(Outcome::Misuse(TWICE));
@@ -31,13 +38,20 @@ pub fn import(rt: &HostRuntime, matches: &ArgMatches<'_>) -> Result<Outcome, Uni
     let Ok(names) = names_of(rt.alloc(), paths) else {
         return Ok(Outcome::Fault(CliFault::Memory));
     };
-    let mut desk = match open_desk(rt, rt.alloc(), matches, named) {
+    let mut desk = match open_desk(rt, rt.alloc(), named, word(matches, "office")) {
         Ok(desk) => desk,
         Err(fault) => return Ok(Outcome::Fault(fault)),
     };
-    let answer = import_at(rt, matches, &mut desk, paths, &names);
+    let mut news = None;
+    let answer = import_at(rt, matches, &mut desk, paths, &names, &mut news);
     desk.close();
-    answer
+    match answer {
+        Ok(outcome) => {
+            say_news(rt, &news);
+            Ok(outcome)
+        }
+        Err(why) => Err(NotImported { why, news }),
+    }
 }
 
 fn names_of(alloc: Global, paths: &[&str]) -> Result<Vec<String>, AllocError> {
@@ -55,17 +69,26 @@ fn import_at<Q: Place>(
     desk: &mut Desk<Q>,
     paths: &[&str],
     names: &[String],
+    news: &mut Option<News>,
 ) -> Result<Outcome, Unimported> {
-    let register = match open_to_change(rt, rt.alloc(), matches) {
-        Ok(register) => register,
+    let target = match open_target(rt, matches, out_of(matches)) {
+        Ok(target) => target,
         Err(fault) => return Ok(Outcome::Fault(fault)),
     };
     let Ok(mut files) = late_texts(rt, rt.alloc(), paths) else {
         return Ok(Outcome::Fault(CliFault::Memory));
     };
-    let first = next_file(&register).saturating_add(files_before(matches));
-    let answer = import_from(rt, matches, desk, register, &mut files, names);
+    let first = target.next().saturating_add(files_before(matches));
+    let answer = import_from(rt, matches, desk, target, &mut files, names, news);
     with_openings(answer, &files, first)
+}
+
+// The path of OUT. A dry run has none.
+fn out_of<'a>(matches: &ArgMatches<'a>) -> &'a str {
+    if matches.get_flag("dry-run") {
+        return "";
+    }
+    word(matches, "out")
 }
 
 // The action for a text whose key has another text. clap rejects other words.
@@ -132,13 +155,14 @@ fn fault_of_opening<S: LateSource>(fault: CliFault, files: &[S], first: usize) -
 }
 
 // Imports the files into the register, and prints the rows.
-fn import_from<Q: Place, S: Source>(
+fn import_from<Q: Place, P: Place + Drop, S: Source>(
     rt: &HostRuntime,
     matches: &ArgMatches<'_>,
     desk: &mut Desk<Q>,
-    register: Opened<File>,
+    target: Target<File, P>,
     files: &mut [S],
     names: &[String],
+    news: &mut Option<News>,
 ) -> Result<Outcome, Unimported> {
     let order = ImportOptions {
         replica: desk.replica,
@@ -152,9 +176,9 @@ fn import_from<Q: Place, S: Source>(
     };
     let mut sink = Rows::sink(rt, matches, io::writer(rt));
     let answer = if matches.get_flag("dry-run") {
-        import_tried(rt.alloc(), desk.last(), register, files, &order, &mut sink)
+        import_tried(rt.alloc(), desk.made(), target, files, &order, &mut sink)
     } else {
-        import_to(rt, matches, desk, register, files, &order, &mut sink)
+        import_to(rt, desk, target, files, &order, &mut sink, news)
     };
     match answered(rt.alloc(), sink, answer) {
         Ok(Ok(())) => Ok(Outcome::Done),
@@ -163,39 +187,59 @@ fn import_from<Q: Place, S: Source>(
     }
 }
 
-// Imports the files, and prints the rows to the sink.
-fn import_to<Q: Place, S: Source, W: Write>(
+// Imports the files, and prints the rows to the sink. If texts are explained, the news are noted.
+fn import_to<Q: Place, P: Place + Drop, S: Source, W: Write>(
     rt: &HostRuntime,
-    matches: &ArgMatches<'_>,
     desk: &mut Desk<Q>,
-    register: Opened<File>,
+    target: Target<File, P>,
     files: &mut [S],
     order: &ImportOptions<'_>,
     sink: &mut Writing<W>,
+    news: &mut Option<News>,
 ) -> Result<(), Unimported> {
-    let is_quiet = matches.get_flag("quiet");
-    let mut target = match target_at(rt, register, word(matches, "out"), is_quiet) {
-        Ok(target) => target,
-        Err(fault) => return Err(Unimported::plain(rt.alloc(), fault)),
-    };
+    let mut target = target;
     let mut store = target.store(&mut desk.file);
-    let answer = run_import(rt.alloc(), &mut store, files, order, sink);
+    let answer = if order.explain {
+        import_and_note(rt.alloc(), &mut store, files, order, sink, news)
+    } else {
+        run_import(rt.alloc(), &mut store, files, order, sink)
+    };
     drop(store);
     drop(target);
     answer
 }
 
-// `import --dry-run`, which opens no OUT.
-fn import_tried<F: Read + Write + Seek + OpenFile + Drop, S: Source, W: Write>(
+fn import_and_note<T: Keep, S: Source, W: Write>(
     alloc: Global,
-    last: Option<LastNumber>,
-    register: Opened<F>,
+    store: &mut T,
+    files: &mut [S],
+    order: &ImportOptions<'_>,
+    sink: &mut Writing<W>,
+    news: &mut Option<News>,
+) -> Result<(), Unimported> {
+    let mut watched = Watched {
+        store,
+        loaded: None,
+        kept: None,
+    };
+    let answer = run_import(alloc, &mut watched, files, order, sink);
+    *news = watched.news(alloc);
+    answer
+}
+
+// `import --dry-run`, which opens no OUT.
+fn import_tried<F: Read + Write + Seek + OpenFile + Drop, P: Place + Drop, S: Source, W: Write>(
+    alloc: Global,
+    office: Option<&OfficeFile>,
+    target: Target<F, P>,
     files: &mut [S],
     order: &ImportOptions<'_>,
     sink: &mut Writing<W>,
 ) -> Result<(), Unimported> {
-    let mut register = register;
-    try_import(alloc, &mut tried(&mut register, last), files, order, sink)
+    let mut target = target;
+    let answer = try_import(alloc, &mut tried(&mut target, office), files, order, sink);
+    drop(target);
+    answer
 }
 
 // The store of a register that a dry run reads, without an office file.
@@ -207,26 +251,29 @@ type AdmittedRegister<'a, F> = Either<
     TriedShelf<'a, FileDisk<F>>,
 >;
 
-fn tried<'a, F>(
-    register: &'a mut Opened<F>,
-    last: Option<LastNumber>,
+fn tried<'a, F, P>(
+    target: &'a mut Target<F, P>,
+    office: Option<&'a OfficeFile>,
 ) -> Either<ReadRegister<'a, F>, AdmittedRegister<'a, F>> {
-    match last {
-        None => Either::One(read_only(register)),
-        Some(last) => Either::Other(admitted(register, last)),
+    match office {
+        None => Either::One(read_only(target)),
+        Some(file) => Either::Other(admitted(target, file)),
     }
 }
 
-fn read_only<'a, F>(register: &'a mut Opened<F>) -> ReadRegister<'a, F> {
-    match register {
-        Opened::File(source) => Either::One(OfFile { source }),
-        Opened::Shelf(disk) => Either::Other(OnShelf { disk }),
+fn read_only<'a, F, P>(target: &'a mut Target<F, P>) -> ReadRegister<'a, F> {
+    match target {
+        Target::File(source, _) => Either::One(OfFile { source }),
+        Target::Shelf(disk) => Either::Other(OnShelf { disk }),
     }
 }
 
-fn admitted<'a, F>(register: &'a mut Opened<F>, last: LastNumber) -> AdmittedRegister<'a, F> {
-    match register {
-        Opened::File(source) => Either::One(TriedFile { source, last }),
-        Opened::Shelf(disk) => Either::Other(TriedShelf { disk, last }),
+fn admitted<'a, F, P>(
+    target: &'a mut Target<F, P>,
+    file: &'a OfficeFile,
+) -> AdmittedRegister<'a, F> {
+    match target {
+        Target::File(source, _) => Either::One(TriedFile { source, file }),
+        Target::Shelf(disk) => Either::Other(TriedShelf { disk, file }),
     }
 }

@@ -7,5 +7,5 @@ mod settling;
 
 pub use cli_change as changes;
 pub use entering::enter;
-pub use importing::import;
+pub use importing::{NotImported, import};
 pub use settling::settle;

@@ -20,7 +20,7 @@ fn settled(rt: &HostRuntime, matches: &ArgMatches<'_>) -> Result<(), CliFault> {
     push_listed(&mut given, matches.get_strs("KEEP").unwrap_or(&[]), &listed)?;
     let keeps = entries(rt.alloc(), &given)?;
     let note = word(matches, "note");
-    let mut desk = open_desk(rt, rt.alloc(), matches, named)?;
+    let mut desk = open_desk(rt, rt.alloc(), named, word(matches, "office"))?;
     let replica = desk.replica;
     if matches.get_flag("equal") {
         let mut command = SettleEqual { replica, note };

@@ -23,7 +23,11 @@ impl<'a> Replaced<'a> {
         matches: &ArgMatches<'a>,
         name: &str,
     ) -> Result<Replaced<'a>, CliFault> {
-        let path = matches.get_str(name).unwrap_or("");
+        Replaced::at(rt, alloc, matches.get_str(name).unwrap_or(""))
+    }
+
+    /// The file at this path.
+    pub fn at<R: Files>(rt: &R, alloc: Global, path: &'a str) -> Result<Replaced<'a>, CliFault> {
         let real = real_path(rt, alloc, path)?;
         Ok(Replaced { path, real })
     }

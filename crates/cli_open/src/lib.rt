@@ -3,21 +3,23 @@
 
 mod inputs;
 mod naming;
+mod offices;
 mod outcome;
 mod reading;
 mod stores;
 mod table;
 mod targets;
+mod waiting;
 mod words;
 
 pub use inputs::{Replaced, open_inputs, parts, real_path};
 pub use naming::{NamesProblem, names};
+pub use offices::{OpenOffice, office_at, open_office};
 pub use outcome::{MISUSE, Outcome, complain, failed, print};
-pub use stores::{
-    Opened, ReadRegister, give_of, next_file, open_register, open_to_change, print_of,
-};
+pub use stores::{Opened, ReadRegister, give_of, next_file, open_register, print_of};
 pub use table::{Rows, answered, is_table};
-pub use targets::{OfficeFile, Target, target_of};
+pub use targets::{Target, open_target};
+pub use waiting::{patience, reserve};
 pub use words::{
     STANDARD_INPUT, STANDARD_INPUT_PATH, changed_place, entries, entry, explains, files_before,
     is_twice, listed, lock_new_shelf, office_file, open, open_all, open_shelf, open_text,

@@ -3,10 +3,10 @@
 use crate::inputs::{Replaced, open_input};
 use crate::reading::{ReadFile, ReadShelf};
 use crate::table::{Rows, answered};
-use crate::words::{files_before, open_shelf, open_to_read, place, word};
+use crate::words::{files_before, open_to_read, word};
 use clap::ArgMatches;
 use reg_guard::engine::disks::FileDisk;
-use reg_guard::engine::places::{InputOf, Lockable};
+use reg_guard::engine::places::{InputOf, Lockable, Place};
 use reg_guard::engine::streams::{Reading, Writing};
 use reg_guard::engine::{CliFault, Either, Give, Print, run_give, run_print};
 use std::alloc::Global;
@@ -58,27 +58,8 @@ where
         let disk = open_to_read(rt, path)?;
         return Ok(Opened::Shelf(disk));
     }
-    let source = open_input(rt, alloc, 1, path, out)?;
-    Ok(Opened::File(source))
-}
-
-/// Opens the register that `REG` names, to change it: a shelf is written, a file is read.
-pub fn open_to_change<R: Files>(
-    rt: &R,
-    alloc: Global,
-    matches: &ArgMatches<'_>,
-) -> Result<Opened<R::File>, CliFault>
-where
-    R::File: Lockable,
-{
-    let path = word(matches, "REG");
-    if matches.get_flag("shelf") {
-        let disk = open_shelf(rt, path)?;
-        return Ok(Opened::Shelf(disk));
-    }
-    let out = Some(Replaced::named(rt, alloc, matches, "out")?);
     let number = files_before(matches).saturating_add(1);
-    let source = open_input(rt, alloc, number, path, &out)?;
+    let source = open_input(rt, alloc, number, path, out)?;
     Ok(Opened::File(source))
 }
 
@@ -106,14 +87,14 @@ fn print_to<C: Print, W: Write>(
     run_print(rt.alloc(), &mut register.reading(), command, sink)
 }
 
-/// Writes the command's file of the register to OUT.
-pub fn give_of<F: Read + Write + Seek + OpenFile + Drop, C: Give>(
+/// Writes the command's file of the register to the place.
+pub fn give_of<F: Read + Write + Seek + OpenFile + Drop, C: Give, P: Place + Drop>(
     rt: &HostRuntime,
-    matches: &ArgMatches<'_>,
     register: Opened<F>,
     command: &mut C,
+    place: P,
 ) -> Result<(), CliFault> {
-    let mut place = place(rt, rt.alloc(), word(matches, "OUT"))?;
+    let mut place = place;
     let answer = run_give(rt.alloc(), &mut register.reading(), command, &mut place);
     drop(place);
     answer

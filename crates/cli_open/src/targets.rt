@@ -1,22 +1,15 @@
 //! The stores of registers that a command changes, in a file or on a shelf, as an office with an office file or without one.
-use crate::stores::Opened;
-use crate::words::{changed_place, word};
+use crate::inputs::{Replaced, open_input};
+use crate::offices::OpenOffice;
+use crate::waiting::reserve;
+use crate::words::{changed_place, files_before, open_shelf, word};
 use clap::ArgMatches;
 use reg_guard::engine::disks::FileDisk;
-use reg_guard::engine::places::{FilePlace, InputOf, Lockable};
+use reg_guard::engine::places::{FilePlace, InputOf};
 use reg_guard::engine::streams::Reading;
 use reg_guard::engine::{CliFault, Either, InFile, OnShelf};
-use reg_guard::{GuardedFile, GuardedShelf, LastNumber};
-use std::alloc::Global;
-use std::os::fd::AsFd;
-use std::rt::Files;
-
-/// The last number of an office, and the place of its office file, where the new one is made already.
-#[derive(Drop)]
-pub struct OfficeFile<Q> {
-    pub last: LastNumber,
-    pub place: Q,
-}
+use reg_guard::{GuardedFile, GuardedShelf, OfficeFile};
+use std::fs::File;
 
 /// A register that a command changes: its file and the place of the next one, or its shelf.
 #[derive(Drop)]
@@ -44,15 +37,32 @@ pub type ChangedRegister<'a, F, P, Q> = Either<
 >;
 
 impl<F, P> Target<F, P> {
+    /// The number of the first file that is read after the register: a shelf has no number.
+    pub fn next(&self) -> usize {
+        match self {
+            Target::File(_, _) => 2,
+            Target::Shelf(_) => 1,
+        }
+    }
+
     /// The store of a command of an office.
     pub fn store<'a, Q>(
         &'a mut self,
-        office: &'a mut Option<OfficeFile<Q>>,
+        office: &'a mut Option<OpenOffice<Q>>,
     ) -> ChangedRegister<'a, F, P, Q> {
         match office {
             None => Either::One(self.plain()),
-            Some(office) => Either::Other(self.guarded(office)),
+            Some(office) => Either::Other(self.of_office(office)),
         }
+    }
+
+    // The same for an office with an office file.
+    fn of_office<'a, Q>(
+        &'a mut self,
+        office: &'a mut OpenOffice<Q>,
+    ) -> GuardedRegister<'a, F, P, Q> {
+        let OpenOffice { file, place } = office;
+        self.guarded(file, place)
     }
 
     /// The store of a command without an office file.
@@ -63,40 +73,46 @@ impl<F, P> Target<F, P> {
         }
     }
 
-    fn guarded<'a, Q>(&'a mut self, office: &'a mut OfficeFile<Q>) -> GuardedRegister<'a, F, P, Q> {
-        let last = office.last;
-        let office = &mut office.place;
+    /// The store of a command with this office file, which has this place.
+    pub fn guarded<'a, Q>(
+        &'a mut self,
+        file: &'a OfficeFile,
+        office: &'a mut Q,
+    ) -> GuardedRegister<'a, F, P, Q> {
         match self {
             Target::File(source, place) => Either::One(GuardedFile {
                 source,
                 place,
                 office,
-                last,
+                file,
+                stood: 0,
             }),
-            Target::Shelf(disk) => Either::Other(GuardedShelf { disk, office, last }),
+            Target::Shelf(disk) => Either::Other(GuardedShelf {
+                disk,
+                office,
+                file,
+                stood: 0,
+            }),
         }
     }
 }
 
-/// The register that was opened, with the file that this argument names as the place of its next file. That is not opened yet.
-pub fn target_of<'a, R: Files>(
-    rt: &'a R,
-    alloc: Global,
-    matches: &ArgMatches<'a>,
-    register: Opened<R::File>,
-    name: &str,
-) -> Result<Target<R::File, FilePlace<'a, R>>, CliFault>
-where
-    R::File: AsFd + Lockable,
-{
-    match register {
-        Opened::File(source) => {
-            let is_quiet = matches.get_flag("quiet");
-            match changed_place(rt, alloc, word(matches, name), is_quiet) {
-                Ok(place) => Ok(Target::File(source, place)),
-                Err(fault) => Err(fault),
-            }
-        }
-        Opened::Shelf(disk) => Ok(Target::Shelf(disk)),
+/// Opens the register that `REG` names, to change it: its shelf; or its file, and the place of OUT. If OUT is the register, its new
+/// file is made first.
+pub fn open_target<'a>(
+    rt: &'a HostRuntime,
+    matches: &ArgMatches<'_>,
+    out: &'a str,
+) -> Result<Target<File, FilePlace<'a, HostRuntime>>, CliFault> {
+    let register = word(matches, "REG");
+    if matches.get_flag("shelf") {
+        let disk = open_shelf(rt, register)?;
+        return Ok(Target::Shelf(disk));
     }
+    let number = files_before(matches).saturating_add(1);
+    let mut place = changed_place(rt, rt.alloc(), out, matches.get_flag("quiet"))?;
+    reserve(rt, &mut place, out, &[register])?;
+    let replaced = Some(Replaced::at(rt, rt.alloc(), out)?);
+    let source = open_input(rt, rt.alloc(), number, register, &replaced)?;
+    Ok(Target::File(source, place))
 }

@@ -1,11 +1,29 @@
 //! Sentences for commands with an office file.
-use crate::paths::{FileName, Paths};
-use crate::shown::{NewBeside, Shown};
+use crate::paths::{Command, FileName, Paths, Register};
+use crate::shown::NewBeside;
 use reg_guard::engine::operations::OpId;
 use std::fmt;
 
-/// Writes the sentence for a register that is older than its office, and the ways out.
+/// Writes the sentence for a register that knows no number of the office, and the ways out.
 pub fn write_behind<W: fmt::Write>(
+    f: &mut fmt::Formatter<W>,
+    id: OpId,
+    paths: &Paths<'_>,
+) -> fmt::Result {
+    let office = paths.file(1);
+    let register = Register::of(paths);
+    writeln!(
+        f,
+        "the office of {office} has given {id}, and the register knows no number of this office: it is another register, or a copy from before the office's first command"
+    )?;
+    writeln!(
+        f,
+        "hint: if it is the office's register, crsreg take {register} --office {office} brings all that the office made; else make a new office with crsreg office, since an office file is for one register"
+    )
+}
+
+/// Writes the sentence for a number that somebody else gave in the office's name, and the way out.
+pub fn write_forged<W: fmt::Write>(
     f: &mut fmt::Formatter<W>,
     id: OpId,
     paths: &Paths<'_>,
@@ -13,33 +31,47 @@ pub fn write_behind<W: fmt::Write>(
     let office = paths.file(1);
     writeln!(
         f,
-        "the register has not seen {id}, which the office of {office} has given: it is older than the office"
+        "{office} does not know {id}: somebody gave this number in the name of its office (with --as, or a second copy of the office file), or the office file was put back from a backup"
     )?;
-    write_way_out(f, paths.out)
-}
-
-/// Writes the sentence for an office file that was not replaced.
-pub fn write_unnoted<W: fmt::Write>(f: &mut fmt::Formatter<W>, paths: &Paths<'_>) -> fmt::Result {
-    let office = paths.file(1);
-    writeln!(
-        f,
-        "{office} could not be replaced by its new number: the disk is full, or you may not write there"
+    if let Command::Take = paths.command {
+        return f.write_str(
+            "hint: if a file has it, --keep-going leaves that file out, and --from UUID takes of it only what that office made; if the register has it, go on with a new office, which crsreg office makes\n",
+        );
+    }
+    f.write_str(
+        "hint: go on with a new office, which crsreg office makes: the register keeps all that it has\n",
     )
 }
 
-// Writes the ways out for a register that is older than its office.
-fn write_way_out<W: fmt::Write>(f: &mut fmt::Formatter<W>, out: &str) -> fmt::Result {
-    f.write_str("hint: another command may be at work: run this command again\n")?;
-    f.write_str("hint: otherwise take a file that has it")?;
-    if !out.is_empty() {
-        let (new, out) = (NewBeside(out), Shown(out));
-        write!(
+/// Writes the sentence for an office file that was not replaced.
+pub fn write_unnoted<W: fmt::Write>(
+    f: &mut fmt::Formatter<W>,
+    is_too_large: bool,
+    paths: &Paths<'_>,
+) -> fmt::Result {
+    let office = paths.file(1);
+    if is_too_large {
+        return writeln!(
             f,
-            "; if a stopped command left {new}, crsreg take {out} {new}"
-        )?;
+            "{office} would have more than 67,108,864 bytes with what this command makes\nhint: go on with a new office, which crsreg office makes"
+        );
     }
-    f.write_str(
-        "; if nobody has it, make a new office with crsreg office; an office file is for one register\n",
+    writeln!(
+        f,
+        "{office} could not be replaced by its new file: the disk is full, or you may not write there; the register is not changed"
+    )
+}
+
+/// Writes what to do about an entry that is retired or superseded already, if the office file may have what the register lacks.
+pub fn write_again<W: fmt::Write>(f: &mut fmt::Formatter<W>, paths: &Paths<'_>) -> fmt::Result {
+    if !paths.has_office {
+        return Ok(());
+    }
+    let office = paths.file(1);
+    let register = Register::of(paths);
+    writeln!(
+        f,
+        "hint: where the register does not show this, the office file has it, and crsreg take {register} --office {office} brings it"
     )
 }
 
@@ -50,19 +82,19 @@ pub fn write_unopened<W: fmt::Write>(
 ) -> fmt::Result {
     writeln!(
         f,
-        "{office} (file 1) cannot be opened, or {office}.new cannot be made: it is not there, you may not read it or write there, or it has a second name (a hard link), which would keep an old number"
+        "{office} (file 1) cannot be opened, or its new file cannot be made beside it: it is not there, you may not read it or write there, or it has a second name (a hard link), which would keep what it has now"
     )
 }
 
 /// Writes the sentence for an office file that another command has, and the way out.
 pub fn write_busy<W: fmt::Write>(f: &mut fmt::Formatter<W>, office: FileName<'_>) -> fmt::Result {
+    let FileName::Path(path) = office else {
+        return f.write_str("another command of this office works\n");
+    };
+    let new = NewBeside(path);
     writeln!(
         f,
-        "{office}.new is there: another command of this office works, or one was stopped"
-    )?;
-    writeln!(
-        f,
-        "hint: run this command again; if no crsreg runs, remove {office}.new"
+        "{new} is there: another command of this office works\nhint: run this command again; if no crsreg runs, remove {new}"
     )
 }
 

@@ -12,6 +12,7 @@ mod shown;
 
 pub use imports::{KeyTaken, LEAVES_OUT};
 pub use paths::{Command, FileName, Found, Looks, Paths};
+use reg_guard::NoteFault;
 use reg_guard::engine::CliFault;
 pub use shown::{Shown, ShownLines};
 use std::fmt;
@@ -28,13 +29,15 @@ pub struct Sentence<'a> {
 impl fmt::Display for Sentence<'_> {
     fn fmt<W: fmt::Write>(&self, f: &mut fmt::Formatter<W>) -> fmt::Result {
         match self.fault {
-            CliFault::Refused(refusal) => refusals::write(f, refusal, self.found.head, &self.paths),
+            CliFault::Refused(refusal) => refusals::write(f, refusal, &self.found, &self.paths),
             CliFault::File { number, fault } => {
                 inputs::write(f, number, fault, self.found.looks, &self.paths)
             }
             CliFault::Out(fault) => outputs::write(f, fault, self.found.is_written, &self.paths),
             CliFault::Shelf(problem) => shelves::write(f, problem, &self.paths),
-            CliFault::Office(_) => guard::write_unnoted(f, &self.paths),
+            CliFault::Office(fault) => {
+                guard::write_unnoted(f, fault == NoteFault::TooLarge, &self.paths)
+            }
             CliFault::Memory => f.write_str("there is not enough memory\n"),
         }
     }

@@ -57,6 +57,8 @@ pub enum Command {
     Status,
     /// `supersede --from`, with `-k` or without.
     SupersedeFrom { keys: bool },
+    /// `take`, which can leave out files.
+    Take,
     /// `unshelf`, which always reads a shelf.
     Unshelf,
     Other,
@@ -138,6 +140,8 @@ pub enum Looks {
 pub struct Found<'a> {
     /// The key, the id and the status of the entry that the fault names, where they are known.
     pub head: Option<&'a str>,
+    /// The word of a list that the fault is about; empty if it is about none.
+    pub word: &'a str,
     /// What the file that the fault is about seems to be.
     pub looks: Looks,
     /// Whether the command has replaced its output or changed its shelf, as far as can be seen.

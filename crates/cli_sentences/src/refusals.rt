@@ -1,6 +1,6 @@
 //! Sentences for refusals.
 use crate::guard;
-use crate::paths::{Command, Paths, Register};
+use crate::paths::{Command, Found, Paths, Register};
 use crate::shown::{Head, Shown};
 use reg_guard::engine::Refusal;
 use reg_guard::engine::offices::OfficeFault;
@@ -11,7 +11,7 @@ use std::fmt;
 pub fn write<W: fmt::Write>(
     f: &mut fmt::Formatter<W>,
     refusal: Refusal,
-    head: Option<&str>,
+    found: &Found<'_>,
     paths: &Paths<'_>,
 ) -> fmt::Result {
     match refusal {
@@ -21,7 +21,7 @@ pub fn write<W: fmt::Write>(
             f.write_str("the canonical text has more than 65,536 bytes\n")
         }
         Refusal::Clash(id) => write_clash(f, id),
-        Refusal::KeyTaken(id) => write_taken(f, id, head, paths),
+        Refusal::KeyTaken(id) => write_taken(f, id, found.head, paths),
         Refusal::Basis(id) => {
             writeln!(
                 f,
@@ -39,7 +39,8 @@ pub fn write<W: fmt::Write>(
         }
         Refusal::Office(fault) => write_office(f, fault, paths),
         Refusal::Behind(id) => guard::write_behind(f, id, paths),
-        refusal => write_word(f, refusal, paths),
+        Refusal::Forged(id) => guard::write_forged(f, id, paths),
+        refusal => write_word(f, refusal, found.word, paths),
     }
 }
 
@@ -102,13 +103,15 @@ fn write_office<W: fmt::Write>(
         }
         OfficeFault::SameEntry => f.write_str("an entry cannot supersede itself\n"),
         OfficeFault::AlreadyRetired(id) => {
-            writeln!(f, "the entry {id} is retired already, or is named twice")
+            writeln!(f, "the entry {id} is retired already, or is named twice")?;
+            guard::write_again(f, paths)
         }
         OfficeFault::AlreadySuperseded(id) => {
             writeln!(
                 f,
                 "the entry is superseded by {id} already, or that is named twice"
-            )
+            )?;
+            guard::write_again(f, paths)
         }
         OfficeFault::CountSpent => f.write_str(
             "the office has given the number 4,294,967,295, the last one\nhint: go on with a new UUID\n",
@@ -121,26 +124,24 @@ fn write_office<W: fmt::Write>(
 fn write_word<W: fmt::Write>(
     f: &mut fmt::Formatter<W>,
     refusal: Refusal,
+    word: &str,
     paths: &Paths<'_>,
 ) -> fmt::Result {
     match refusal {
-        Refusal::BadId => write_bad_id(f, paths.command),
+        Refusal::BadId => write_bad_id(f, word, paths.command),
         Refusal::BadReplica => f.write_str(
             "--as (or CRSREG_AS) is not a UUID\nhint: uuidgen makes one, once for each office; crsreg office makes an office file with one\n",
         ),
         Refusal::BadSize => f.write_str("a shelf has from 14 to 67,108,864 bytes\n"),
-        Refusal::NoEntry => {
-            let register = Shown(paths.register);
-            writeln!(
-                f,
-                "{register} has no such entry\nhint: crsreg find prints its entries"
-            )
-        }
+        Refusal::NoEntry => write_no_entry(f, word, paths),
         Refusal::Several(id) => {
-            writeln!(
-                f,
-                "this key has several entries that are not retired, {id} among them"
-            )?;
+            match word {
+                "" => writeln!(f, "this key has several texts, that of {id} among them")?,
+                word => {
+                    let word = Shown(word);
+                    writeln!(f, "{word} has several texts, that of {id} among them")?;
+                }
+            }
             let register = Register::of(paths);
             writeln!(
                 f,
@@ -154,20 +155,53 @@ fn write_word<W: fmt::Write>(
     }
 }
 
+// A word that names no entry.
+fn write_no_entry<W: fmt::Write>(
+    f: &mut fmt::Formatter<W>,
+    word: &str,
+    paths: &Paths<'_>,
+) -> fmt::Result {
+    let register = Shown(paths.register);
+    match word {
+        "" => writeln!(f, "{register} has no such entry")?,
+        word => {
+            let word = Shown(word);
+            writeln!(f, "{register} has no entry {word} that is not retired")?;
+        }
+    }
+    f.write_str("hint: crsreg find prints its entries\n")
+}
+
 // A word that should be an id, or a line of a list with only one word.
-fn write_bad_id<W: fmt::Write>(f: &mut fmt::Formatter<W>, command: Command) -> fmt::Result {
+fn write_bad_id<W: fmt::Write>(
+    f: &mut fmt::Formatter<W>,
+    word: &str,
+    command: Command,
+) -> fmt::Result {
     match command {
         Command::Settle => f.write_str(
             "a word is not an id of the form UUID:NUMBER\nhint: settle takes only ids: crsreg find REG KEY --status live --ids prints those of a key\n",
         ),
-        Command::SupersedeFrom { keys: true } => f.write_str(
-            "the line has only one word\nhint: a line has an entry, and then one or more that supersede it\n",
-        ),
-        Command::SupersedeFrom { keys: false } => f.write_str(
-            "a word of the line is not an id of the form UUID:NUMBER, or it is the only one\nhint: with -k, AUTHORITY:CODE names the entry of a key\n",
-        ),
+        Command::SupersedeFrom { keys } => write_bad_line(f, Shown(word), keys),
         _ => f.write_str(
             "a word is not an id of the form UUID:NUMBER\nhint: with -k, AUTHORITY:CODE names the entry of a key\n",
         ),
     }
+}
+
+fn write_bad_line<W: fmt::Write>(
+    f: &mut fmt::Formatter<W>,
+    word: Shown<'_>,
+    keys: bool,
+) -> fmt::Result {
+    if keys {
+        return writeln!(
+            f,
+            "{word} is the only word of the line\nhint: a line has an entry, and then one or more that supersede it"
+        );
+    }
+    writeln!(
+        f,
+        "{word} is not an id of the form UUID:NUMBER, or it is the only word of the line\nhint: with -k, AUTHORITY:CODE names the entry of a key"
+    )
 }

@@ -78,7 +78,9 @@ pub enum Kind {
     ShortFlag(char),
     /// An option with a value, which has this name in help.
     Option(&'static str),
-    /// The same, with a value that can begin with a hyphen.
+    /// The same, which can be given more than once.
+    Options(&'static str),
+    /// An option with a value that can begin with a hyphen, which has this name in help.
     Text(&'static str),
 }
 

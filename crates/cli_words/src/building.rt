@@ -52,6 +52,10 @@ fn of_kind<'a>(arg: Arg<'a>, row: &Argument) -> Arg<'a> {
         Kind::Flag => arg.long(row.name).action(ArgAction::SetTrue),
         Kind::ShortFlag(short) => arg.long(row.name).short(short).action(ArgAction::SetTrue),
         Kind::Option(value) => arg.long(row.name).value_name(value),
+        Kind::Options(value) => arg
+            .long(row.name)
+            .value_name(value)
+            .action(ArgAction::Append),
         Kind::Text(value) => arg
             .long(row.name)
             .value_name(value)

@@ -25,9 +25,10 @@ the operation redundant. With - for BY, the ids are read from standard input,
 one a line, as crsreg find --ids prints them.
 
 With -k, or if CRSREG_KEYS is 1, an argument that is not an id is a key, such
-as EPSG:7837. It means the one entry with this key that is not retired. The
-command is refused as NoEntry if there is none, and as Several ID if there are
-more.
+as EPSG:7837. It means the entry with this key that is not retired. Where equal
+texts have been entered several times, OLD means all of them, and BY the least.
+The command is refused as NoEntry if there is none, and as Several ID if their
+texts differ.
 
 Refused, with nothing written: NoteTooLong if the note has more than 200 bytes;
 then UnknownEntry ID, SameEntry, AlreadyRetired ID or AlreadySuperseded ID, for
@@ -37,7 +38,8 @@ With --from, FILE is a list: each line is an OLD and its BYs, separated by
 blanks. It has the result of one command for each line, in order, and all are
 done or none: the first refused line ends the command, and its number follows
 the fault, as in UnknownEntry ID at line 7. A line with one word is refused as
-BadId. With --keep-going, refused lines are left out. After OUT is written, a
+BadId. A BY that supersedes OLD already is passed over, so a list can be run
+again. With --keep-going, refused lines are left out. After OUT is written, a
 line left out: REFUSAL at line N is printed for each, and the status is 1.
 
 Example:
@@ -54,9 +56,9 @@ retirement with the lesser id is kept, with its note. With - for ENTRY, the ids
 are read from standard input, one a line, as crsreg find --ids prints them.
 
 With -k, or if CRSREG_KEYS is 1, an argument that is not an id is a key, such
-as EPSG:7837. It means the one entry with this key that is not retired. The
-command is refused as NoEntry if there is none, and as Several ID if there are
-more.
+as EPSG:7837. It means the entry with this key that is not retired, or all of
+them if equal texts have been entered several times. The command is refused as
+NoEntry if there is none, and as Several ID if their texts differ.
 
 Refused, with nothing written: NoteTooLong if the note has more than 200 bytes;
 then UnknownEntry ID or AlreadyRetired ID, for the first ENTRY that is not

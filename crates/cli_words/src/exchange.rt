@@ -1,5 +1,7 @@
 //! The commands that make and exchange registers, and keep them on shelves.
-use crate::argument::{Argument, FLAG, ON_SHELF, OUT, READ_SHELF, REGISTER, Role, WORD, WORDS};
+use crate::argument::{
+    Argument, FLAG, Kind, Need, OFFICE_FILE, ON_SHELF, OUT, READ_SHELF, REGISTER, Role, WORD, WORDS,
+};
 use crate::command::{CommandRow, Group};
 use crate::exchange_help::{
     DOWNGRADE_HELP, MERGE_HELP, NEW_HELP, OFFICE_HELP, PIECE_HELP, SEEN_HELP, SHELF_HELP,
@@ -56,7 +58,13 @@ static TAKE: CommandRow = CommandRow {
             name: "FILE",
             help: "The files of registers and pieces to join",
             role: Role::Input,
+            need: Need::Office,
             ..WORDS
+        },
+        Argument {
+            help: "The office file of REG (default: $CRSREG_OFFICE)",
+            excludes: &[],
+            ..OFFICE_FILE
         },
         Argument {
             name: "dry-run",
@@ -66,6 +74,12 @@ static TAKE: CommandRow = CommandRow {
         Argument {
             name: "keep-going",
             help: "Leaves out files that are refused, and joins the others",
+            ..FLAG
+        },
+        Argument {
+            name: "from",
+            help: "Joins only the operations of this office; can be repeated",
+            kind: Kind::Options("UUID"),
             ..FLAG
         },
         ON_SHELF,

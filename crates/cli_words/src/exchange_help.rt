@@ -13,32 +13,48 @@ and prints the lines of crsreg diff between REG before (-) and after (+). REG
 keeps all that it had. If the files bring nothing new, REG is not written. The
 files are opened one after another, so there can be thousands.
 
+With --office FILE it joins all that the office made first: what a stopped
+command did not bring to REG, or what an old copy of REG lacks; with no other
+file also to a REG that is Behind. A file in which somebody else gave a number
+in the office's name is refused as Forged UUID:NUMBER.
+
 Refused, with REG unchanged: Clash ID if two files have different operations
 under one id, so a number was given out twice; Basis ID if a piece was made for
 an office that had seen ID, and the registers before it have not. With
 --keep-going such a file, or one that cannot be read, is left out: standard
 error has a line with its name and the reason. The others are joined, and the
-exit status is that of the first line.
+exit status is that of the first line. A piece is tried again after the others,
+since its basis may come with a later one.
 
-Example:
-  crsreg take office.crs north.crs south.piece";
+With --from, only the operations that these offices made are joined, and REG
+has seen their numbers and no others of the files. Numbers without an operation
+are not joined, so a gap may stay. A piece needs no basis then.
+
+Examples:
+  crsreg take office.crs north.crs south.piece
+  crsreg new clean.crs
+  crsreg take clean.crs office.crs --from $NORTH --from $SOUTH";
 
 pub const OFFICE_HELP: &str = "\
-An office file has one line: the UUID of the office, a colon, and the last
-number that the office gave. NEW gets a fresh UUID and the number 0. It is never
-written over a file or through a link (out: NotOpened).
+An office file keeps what an office made: its UUID and the last number that it
+gave; the greatest of its numbers that is known to have stood in a register; and
+the register of all its operations. NEW gets a fresh UUID and no operation. It
+is never written over a file or through a link (out: NotOpened).
 
-With --office FILE a command works as this office, and replaces FILE before it
-writes OUT. So the office gives no number twice, even if REG is an old copy:
-then the command is refused as Behind UUID:NUMBER. Take a register that has
-this number, or make a new office if nobody has it any more. If a command is
-stopped after it replaced FILE, the next one with FILE and OUT renames the new
-file beside OUT (.OUT.crsreg) to OUT first, if it has all that OUT has.
+With --office FILE a command works as this office. It joins all that the office
+made to REG, and replaces FILE before it writes OUT. So an old REG, a stop, a
+full disk or a failed rename loses nothing: the next command brings it, and the
+same command, run again, has its effect once. What a command made comes back
+even if its OUT is thrown away: try with --dry-run.
 
-Have one office file for each register. Never copy an office file, restore an
-older one, or put it under version control. While a command has FILE, FILE.new
-is there, and other commands with FILE end with file 1: Busy. A command that was
-killed may leave FILE.new: remove it when no crsreg runs.
+A REG that knows no number of the office is refused as Behind UUID:NUMBER, once
+one stood in a register: crsreg take REG --office FILE brings what the office
+made. If somebody else gave a number in the office's name, REG is refused as
+Forged UUID:NUMBER: go on with a new office.
+
+Have one office file for each register. Never copy an office file to another
+machine, restore an older one, or put it under version control. Commands with
+FILE wait for each other, up to 5 seconds, and then end with file 1: Busy.
 
 Example:
   crsreg office north.office

@@ -18,10 +18,15 @@ AUTHORITY, a line with the action gone follows for each entry of this authority
 that is not retired and whose key no text has; A to Z match in either case.
 Nothing is done to these entries.
 
+What superseded a revised entry, or was superseded by it, holds for the entry
+that takes its place: the operations for this are made last, and a line with
+the action linked is printed for each, with the entry that is superseded.
+
 The first refused text ends the command, and nothing is written. With
 --keep-going it is listed with its fault, the others are entered, and the
 status is 1. With --explain, the place and the reason follow for each refused
-text. Importing the same files again in the same mode changes nothing.
+text, and a sentence that says what has changed in the register. Importing the
+same files again in the same mode changes nothing.
 
 Example:
   crsreg import office.crs --as 00000000-0000-4000-8000-00000000000a \\

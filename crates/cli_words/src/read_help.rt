@@ -77,8 +77,11 @@ the end, with status 1.
 
 --into writes a file AUTHORITY_CODE.wkt for each key, with the canonical text
 and a newline. Bytes other than A-Z, a-z, 0-9, . and - become % and two
-hexadecimal digits. DIR must be an empty folder, or not exist. The files are
-written to DIR.new, which is then renamed: DIR has all files or is not there.
+hexadecimal digits; so do the capitals of two names that differ by case alone.
+DIR must be an empty folder, or not exist. The files are written to DIR.new,
+which is then renamed: DIR has all files or is not there. With --keep-going, a
+key whose name would have more than 255 bytes is left out; a line left out:
+NameTooLong ID names the first.
 
 --geojson prints a feature for each USAGE that has a BBOX. A box whose west is
 greater than its east is cut at 180 degrees. QGIS opens it.

@@ -10,7 +10,7 @@ use clap::Command;
 use std::alloc::{AllocError, Global};
 
 /// The newest version of CHANGES.md, and `-dev` until it is released.
-const VERSION: &str = "0.7-dev";
+const VERSION: &str = "0.7";
 
 static CHECK: CommandRow = CommandRow {
     name: "check",

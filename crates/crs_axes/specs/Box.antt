@@ -1,4 +1,4 @@
--- A bounding box with a latitude beyond 90 or a longitude beyond 180, with no height, or with no width.
+-- A bounding box with a latitude beyond 90 or a longitude beyond 180, with no height, with no width, or the wrong way round.
 use Rattle.std.specs.Prelude.{ℕ, Bool, int_lt, false, not, ◌&&◌, ◌||◌, List, [], ◌∷◌, Option, Some, None, codes, if◌then◌else◌}
 use Rattle.std.specs.Ordering.{int_eq}
 use Rattle.std.specs.List.{list_any, find, concat}
@@ -10,20 +10,22 @@ use Rattle.crs_part.specs.declared.usages.Usage.{Usage}
 use Rattle.crs_part.specs.declared.crs.Single.{Single}
 use Rattle.crs_part.specs.declared.crs.Single.TheVariants.{Geodetic, Projected, Vertical}
 use Rattle.crs_exact.specs.Sizes.{is_beyond}
+use Rattle.crs_axes.specs.Swapped.{is_swapped}
 
 -- the first is below the second
 abbrev pub is_less : Decimal → Decimal → Bool
 is_less a b = int_lt (units a.coefficient a.exponent) (units b.coefficient b.exponent)
 
--- a latitude beyond 90, a longitude beyond 180, south not below north, or west equal to east
+-- a latitude beyond 90, or a longitude beyond 180
+abbrev pub is_off_globe : BoundingBox → Bool
+is_off_globe b = is_beyond b.south 90 0 || is_beyond b.north 90 0 || is_beyond b.west 180 0 || is_beyond b.east 180 0
+
+abbrev pub has_no_width : BoundingBox → Bool
+has_no_width b = int_eq b.west.coefficient b.east.coefficient && int_eq b.west.exponent b.east.exponent
+
+-- a latitude beyond 90, a longitude beyond 180, south not below north, west equal to east, or west and east swapped
 abbrev pub is_box_odd : BoundingBox → Bool
-is_box_odd b =
-    is_beyond b.south 90 0
-    || is_beyond b.north 90 0
-    || is_beyond b.west 180 0
-    || is_beyond b.east 180 0
-    || not (is_less b.south b.north)
-    || (int_eq b.west.coefficient b.east.coefficient && int_eq b.west.exponent b.east.exponent)
+is_box_odd b = is_off_globe b || not (is_less b.south b.north) || has_no_width b || is_swapped b
 
 abbrev pub has_box_odd : Option BoundingBox → Bool
 has_box_odd None = false
@@ -42,6 +44,7 @@ box_what b =
     if is_beyond b.south 90 0 || is_beyond b.north 90 0 then codes "a latitude ends at 90 degrees"
     else if is_beyond b.west 180 0 || is_beyond b.east 180 0 then codes "a longitude ends at 180 degrees"
     else if not (is_less b.south b.north) then codes "its south is not below its north"
+    else if is_swapped b then codes "it runs the long way, over the antimeridian; are west and east swapped?"
     else codes "its west is its east"
 
 abbrev pub box_said : BoundingBox → List ℕ

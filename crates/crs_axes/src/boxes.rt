@@ -3,14 +3,15 @@
 ghost use Rattle.std.specs.Prelude.{◌≡◌, IfOk};
 ghost use Rattle.std.specs.List.{find};
 ghost use Rattle.std.specs.Option.{option_map};
-ghost use Rattle.crs_axes.specs.Box.{is_less, is_box_odd, has_box_odd, some_box_odd, box_of, box_what, box_said, found_said, boxes_told, box_told};
+ghost use Rattle.crs_axes.specs.Box.{is_less, is_box_odd, is_off_globe, has_no_width, has_box_odd, some_box_odd, box_of, box_what, box_said, found_said, boxes_told, box_told};
 
+use crate::swapped::is_swapped;
 use crs_exact::{is_beyond, joined, number};
 use crs_number::Decimal;
 use crs_part::{BoundingBox, Single, Usage};
 use std::alloc::{AllocError, Global};
 
-/// Whether a box of the system has a latitude beyond 90 or a longitude beyond 180, no height, or no width.
+/// Whether a box of the system has a latitude beyond 90 or a longitude beyond 180, no height, no width, or runs the long way round.
 pub fn breaks_box(crs: &Single) -> bool
     ensures { result ≡ box_of crs.now }
 {
@@ -40,13 +41,26 @@ fn has_box_odd(found: &Option<BoundingBox>) -> bool
 fn is_box_odd(found: &BoundingBox) -> bool
     ensures { result ≡ is_box_odd found.now }
 {
+    is_off_globe(found)
+        || !is_less(&found.south, &found.north)
+        || has_no_width(found)
+        || is_swapped(found)
+}
+
+fn is_off_globe(found: &BoundingBox) -> bool
+    ensures { result ≡ is_off_globe found.now }
+{
     is_beyond(found.south, 90, 0)
         || is_beyond(found.north, 90, 0)
         || is_beyond(found.west, 180, 0)
         || is_beyond(found.east, 180, 0)
-        || !is_less(&found.south, &found.north)
-        || (found.west.coefficient() == found.east.coefficient()
-            && found.west.exponent() == found.east.exponent())
+}
+
+fn has_no_width(found: &BoundingBox) -> bool
+    ensures { result ≡ has_no_width found.now }
+{
+    found.west.coefficient() == found.east.coefficient()
+        && found.west.exponent() == found.east.exponent()
 }
 
 fn is_less(left: &Decimal, right: &Decimal) -> bool
@@ -126,6 +140,9 @@ fn box_what(found: &BoundingBox) -> &'static [u8]
     }
     if !is_less(&found.south, &found.north) {
         return b"its south is not below its north";
+    }
+    if is_swapped(found) {
+        return b"it runs the long way, over the antimeridian; are west and east swapped?";
     }
     b"its west is its east"
 }

@@ -5,6 +5,7 @@ mod axes;
 mod axis_name;
 mod boxes;
 mod height;
+mod swapped;
 mod unit_name;
 
 pub use axes::{breaks_axes, tell_axes};

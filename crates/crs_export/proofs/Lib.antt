@@ -1,3 +1,8 @@
 mod JoinLemmas
+mod NumeralLemmas
+pub mod DocumentLemmas
+mod InsertLemmas
+pub mod LineLemmas
+pub mod DrawingLemmas
 mod EndLemmas
 mod HeldLemmas

@@ -1,5 +1,6 @@
 pub mod Boxes
 pub mod Features
+pub mod Document
 pub mod Tables
 pub mod Codes
 pub mod Places
@@ -8,4 +9,6 @@ pub mod Names
 pub mod Heights
 pub mod Rows
 pub mod Sql
+pub mod Inserts
 pub mod Graphs
+pub mod Drawing

@@ -1,5 +1,5 @@
 -- Statements that put vertical and compound reference systems into PROJ's tables.
-use Rattle.std.specs.Prelude.{ℕ, ◌++◌, Bool, ◌&&◌, List, [], Option, Some, None, if◌then◌else◌}
+use Rattle.std.specs.Prelude.{ℕ, ◌++◌, ◌&&◌, List, [], Option, Some, None, if◌then◌else◌}
 use Rattle.wkt_grammar.specs.Canon.{canon}
 use Rattle.crs_part.specs.declared.crs.CrsParts.{CrsParts}
 use Rattle.crs_part.specs.declared.crs.CrsParts.TheVariants as whole

@@ -25,9 +25,15 @@ has_rows f = is_some f.table || is_some_text f.rows.items
 abbrev pub has_key : Keyed → Bool
 has_key k = is_some_text k.authority.now && (not (is_same_text OWNER.now k.authority.now) && is_some_text k.code.now)
 
--- it has rows, a key, a name of two characters, and no U+0000, where SQLite ends a text
+-- there is a U+0000 in it, where SQLite ends a text
+abbrev pub has_null : Filed → Bool
+has_null f =
+    list_any is_zero f.keyed.authority.now || (list_any is_zero f.keyed.code.now || (list_any is_zero f.name.now
+    || (list_any is_zero f.keyed.text.now || list_any is_zero f.rows.items)))
+
+-- it has rows, a key, a name of two characters, and no U+0000
 abbrev pub fits : Filed → Bool
-fits f = has_rows f && (has_key f.keyed && (is_long f.name.now && not (list_any is_zero f.keyed.text.now)))
+fits f = has_rows f && (has_key f.keyed && (is_long f.name.now && not (has_null f)))
 
 -- ---- texts of earlier entries
 
@@ -56,12 +62,12 @@ row start f type =
 abbrev pub insertion : Filed → Table → List ℕ
 insertion f t = row (start_of t) f (type_of t)
 
--- a control character is a space, so that the name stays on the line
+-- a control character is a space, so that a text stays on the line
 abbrev pub on_line : ℕ → ℕ
 on_line b = if nat_lt b 32 then 32 else b
 
 abbrev pub comment : Filed → List ℕ
-comment f = LEFT_OUT.now ++ f.entry.items ++ 32 ∷ (map on_line f.name.now ++ 10 ∷ [])
+comment f = LEFT_OUT.now ++ map on_line f.entry.items ++ 32 ∷ (map on_line f.name.now ++ 10 ∷ [])
 
 abbrev pub inserted_as : Filed → Option Table → List ℕ
 inserted_as f None = f.rows.items

@@ -3,11 +3,11 @@
 ghost use Rattle.std.specs.Prelude.{◌≡◌, ◌++◌, OnOk};
 ghost use Rattle.text_quotes.specs.Dot.{escaped};
 ghost use Rattle.crs_export.specs.declared.markup.TheConstants as markup;
-ghost use Rattle.crs_export.specs.Graphs.{node, edge, rivals};
+ghost use Rattle.crs_export.specs.Graphs.{node, caption, edge, rivals};
 
 use crate::markup::{
-    ARROW, BEFORE_CODE_IN_LABEL, BEFORE_COLOR, BEFORE_NAME_IN_LABEL, EDGE_END, LABEL, NODE_END,
-    NODE_START, RIVALS_END,
+    ARROW, BEFORE_CODE_IN_LABEL, BEFORE_COLOR, BEFORE_NAME_IN_LABEL, CAPTION_END, EDGE_END, LABEL,
+    NODE_END, NODE_START, RIVALS_END,
 };
 use crate::title::Title;
 use std::alloc::AllocError;
@@ -33,6 +33,16 @@ pub fn push_node(text: &mut Vec<u8>, title: &Title<'_>, color: &[u8]) -> Result<
     text.extend_from_slice(BEFORE_COLOR)?;
     text.extend_from_slice(color)?;
     text.extend_from_slice(NODE_END)?;
+    Ok(())
+}
+
+/// Appends the label of an id that was not entered.
+pub fn push_caption(text: &mut Vec<u8>, id: &[u8], shown: &[u8]) -> Result<(), AllocError>
+    ensures { OnOk result (text.new.items ≡ text.old.items ++ caption id.now shown.now) }
+{
+    push_field(text, NODE_START, id)?;
+    push_field(text, LABEL, shown)?;
+    text.extend_from_slice(CAPTION_END)?;
     Ok(())
 }
 

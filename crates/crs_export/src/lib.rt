@@ -11,6 +11,7 @@ mod geometry;
 mod height;
 mod height_rows;
 mod held;
+pub mod laws;
 pub mod markup;
 mod names;
 mod row_text;
@@ -22,7 +23,7 @@ mod verdict;
 
 pub use code::number_of;
 pub use collection::collection_text;
-pub use dot::{push_edge, push_node, push_rivals};
+pub use dot::{push_caption, push_edge, push_node, push_rivals};
 pub use feature::push_features;
 pub use filed::{Filed, Keyed};
 pub use rows::rows_of;

@@ -118,6 +118,8 @@ pub const BEFORE_COLOR: &[u8] = b"\",fillcolor=";
 
 pub const NODE_END: &[u8] = b"];\n";
 
+pub const CAPTION_END: &[u8] = b"\"];\n";
+
 pub const ARROW: &[u8] = b"\" -> \"";
 
 pub const EDGE_END: &[u8] = b"\";\n";

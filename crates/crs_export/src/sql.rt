@@ -55,7 +55,7 @@ fn push_comment(text: &mut Vec<u8>, filed: &Filed<'_>) -> Result<(), AllocError>
     ensures { OnOk result (text.new.items ≡ text.old.items ++ comment filed.now) }
 {
     text.extend_from_slice(LEFT_OUT)?;
-    text.extend_from_slice(&filed.entry)?;
+    push_on_line(text, &filed.entry)?;
     text.push(b' ')?;
     push_on_line(text, filed.name)?;
     text.push(b'\n')?;

@@ -4,7 +4,7 @@ ghost use Rattle.std.specs.Prelude.{◌≡◌, ◌++◌, ◌∷◌, [], List, So
 ghost use Rattle.crs_export.specs.declared.filed.Filed.{Filed as OneFiled};
 ghost use Rattle.crs_export.specs.Held.{Holds};
 ghost use Rattle.crs_export.specs.declared.markup.TheConstants as markup;
-ghost use Rattle.crs_export.specs.Sql.{is_same_text, has_rows, has_key, fits, text_at, by_text, judged};
+ghost use Rattle.crs_export.specs.Sql.{is_same_text, has_rows, has_key, has_null, fits, text_at, by_text, judged};
 
 use crate::filed::{Filed, Keyed};
 use crate::held::{Held, RowPlace, held_at, hold, place_of};
@@ -41,10 +41,20 @@ fn has_rows(filed: &Filed<'_>) -> bool
     filed.table.is_some() || is_some_text(&filed.rows)
 }
 
+fn has_null(filed: &Filed<'_>) -> bool
+    ensures { result ≡ has_null filed.now }
+{
+    has_zero(filed.keyed.authority)
+        || has_zero(filed.keyed.code)
+        || has_zero(filed.name)
+        || has_zero(filed.keyed.text)
+        || has_zero(&filed.rows)
+}
+
 fn fits(filed: &Filed<'_>) -> bool
     ensures { result ≡ fits filed.now }
 {
-    has_rows(filed) && has_key(&filed.keyed) && is_long(filed.name) && !has_zero(filed.keyed.text)
+    has_rows(filed) && has_key(&filed.keyed) && is_long(filed.name) && !has_null(filed)
 }
 
 fn by_text(text: &[u8], earlier: &[u8]) -> Verdict

@@ -10,7 +10,7 @@ use std::alloc::Global;
 pub struct Texts;
 
 impl Print for Texts {
-    ghost use Rattle.reg_engine.specs.Report.{Never};
+    ghost use Rattle.reg_engine.specs.Store.{Never};
     ghost use Rattle.reg_texts.specs.Texts.{IsTextsOf};
 
     ghost prints = { λ c. λ x. λ text. IsTextsOf x text };

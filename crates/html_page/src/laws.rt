@@ -9,7 +9,7 @@ ghost use Rattle.html_page.specs.declared.style.TheConstants.{STYLE};
 ghost use Rattle.html_page.specs.Shown.{Word, Shown};
 ghost use Rattle.html_page.specs.Shape.{shape};
 ghost use Rattle.html_page.specs.Templates.{page};
-ghost use Rattle.html_page.specs.Words.{compared};
+ghost use Rattle.html_page.specs.Words.{compared, unmarked};
 
 /// Each text is between tags, or in an id or a link within the page, and none is in a style or a script. So the tags of the page
 /// depend only on the shape of the page, and on no text in it.
@@ -27,4 +27,9 @@ pub fn style_and_script_have_no_tag()
 /// The words of a text without their marks are the text.
 pub fn words_are_the_text()
     ensures { (text other : List ℕ) → flat_map (λ (w : Word). w.text) (compared text other) ≡ text }
+{}
+
+/// The words that are not marked are the same on both sides.
+pub fn the_rest_is_common()
+    ensures { (text other : List ℕ) → unmarked text other ≡ unmarked other text }
 {}

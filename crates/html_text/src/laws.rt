@@ -18,6 +18,11 @@ pub fn nothing_else_is_marked()
     ensures { (feeds : Feeds) (text : List ℕ) → has_none feeds text ≡ true → marked feeds text ≡ text }
 {}
 
+/// A marked text has no hidden character, so nothing is hidden in what a page shows.
+pub fn nothing_hidden_is_shown()
+    ensures { (feeds : Feeds) (text : List ℕ) → has_none feeds (marked feeds text) ≡ true }
+{}
+
 /// If each text of a page stands between tags or in quotation marks, the tags of the page are those of the page
 /// without its texts.
 pub fn tags_are_of_markup()

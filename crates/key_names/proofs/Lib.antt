@@ -1,3 +1,5 @@
 pub mod NameLemmas
+pub mod CaseLemmas
 pub mod SortLemmas
+pub mod TwinLemmas
 pub mod FileLemmas

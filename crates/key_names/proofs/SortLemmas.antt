@@ -11,14 +11,14 @@ use Rattle.std.specs.Ordering.{is_eq}
 use Rattle.std.specs.declared.cmp.Ordering.{Ordering}
 use Rattle.std.specs.declared.cmp.Ordering.TheVariants.{Less, Equal}
 
-none_in : {X : Type 0} (x : X) → Contains [] x → ⊥
+pub none_in : {X : Type 0} (x : X) → Contains [] x → ⊥
 none_in x (k, lt, e) = omega (arith, lt)
 
-in_cons : {X : Type 0} (x y : X) (ys : List X) → Contains (y ∷ ys) x → (x ≡ y) ⊎ Contains ys x
+pub in_cons : {X : Type 0} (x y : X) (ys : List X) → Contains (y ∷ ys) x → (x ≡ y) ⊎ Contains ys x
 in_cons x y ys (zero, lt, e) = inl (sym e)
 in_cons x y ys (suc k, lt, e) = inr (k, omega arith, e)
 
-in_head : {X : Type 0} (x : X) (ys : List X) → Contains (x ∷ ys) x
+pub in_head : {X : Type 0} (x : X) (ys : List X) → Contains (x ∷ ys) x
 in_head x ys = (0, omega arith, refl)
 
 pub in_map : {X Y : Type 0} (f : X → Y) (xs : List X) (x : X) → Contains xs x → Contains (map f xs) (f x)

@@ -4,6 +4,7 @@
 mod files;
 pub mod laws;
 mod naming;
+mod twins;
 
-pub use files::{Keyed, files_of};
-pub use naming::{EXTENSION, file_name};
+pub use files::{Keyed, each_file, fitting, in_order, is_long};
+pub use naming::{Capitals, EXTENSION, file_name};

@@ -120,7 +120,7 @@ fn named<'a>(
 
 // Runs the command, if clap passed only words that it knows.
 fn perform(rt: &HostRuntime, name: CommandName, inner: &ArgMatches<'_>) -> Option<Ending> {
-    if name.row().is_office {
+    if inner.get_str("office").is_some() {
         if let Some(ending) = mistaken(rt, inner) {
             return Some(ending);
         }
@@ -138,7 +138,7 @@ fn perform(rt: &HostRuntime, name: CommandName, inner: &ArgMatches<'_>) -> Optio
         CommandName::Show => Ending::of(show(rt, inner)),
         CommandName::Wkt => Ending::of(wkt(rt, inner)),
         CommandName::Texts => Ending::of(texts(rt, inner)),
-        CommandName::Compare => Ending::of_import(compare(rt, inner)),
+        CommandName::Compare => Ending::of_compare(compare(rt, inner)),
         CommandName::Export => Ending::Plain(export(rt, inner)),
         CommandName::Graph => Ending::of(graph(rt, inner)),
         CommandName::Ops => Ending::of(ops(rt, inner)),
@@ -160,7 +160,7 @@ fn perform(rt: &HostRuntime, name: CommandName, inner: &ArgMatches<'_>) -> Optio
     Some(ending)
 }
 
-// The end of a command that changes a register as an office, if its files cannot go together.
+// The end of a command with an office file, if its files cannot go together.
 fn mistaken(rt: &HostRuntime, inner: &ArgMatches<'_>) -> Option<Ending> {
     match misnamed(rt, rt.alloc(), inner) {
         Ok(None) => None,

@@ -1,7 +1,8 @@
 //! The end of a command: its messages and its exit status.
 use cli_exchange::faults::sentences::{Command, KeyTaken, LEAVES_OUT};
-use cli_exchange::faults::{Named, Second, add, explain, say};
-use cli_import::changes::{RefusedLine, Superseded};
+use cli_exchange::faults::{Named, Second, add, explain, explain_word, say};
+use cli_import::NotImported;
+use cli_import::changes::{Superseded, ToldLine, say_news};
 use cli_look::desk::{CliFault, Explained, ImportFault, OpId, Unimported};
 use cli_open::{MISUSE, Outcome, complain, failed};
 
@@ -15,12 +16,14 @@ pub enum Ending {
     Plain(Outcome),
     /// Failed, with an explanation of the refused text.
     Explained(Explained),
+    /// Texts were not compared, or not all of them.
+    Unread(Unimported),
     /// Texts were not imported, or not all of them.
-    Import(Unimported),
+    Import(NotImported),
     /// A line of a list refuses the command.
-    AtLine(RefusedLine),
+    AtLine(ToldLine),
     /// These lines of a list were refused and left out; the others were done.
-    LeftLines(Vec<RefusedLine>),
+    LeftLines(Vec<ToldLine>),
 }
 
 impl Ending {
@@ -37,8 +40,16 @@ impl Ending {
         }
     }
 
-    /// The end of a command that reads texts.
-    pub fn of_import(answer: Result<Outcome, Unimported>) -> Ending {
+    /// The end of `compare`.
+    pub fn of_compare(answer: Result<Outcome, Unimported>) -> Ending {
+        match answer {
+            Ok(outcome) => Ending::Plain(outcome),
+            Err(why) => Ending::Unread(why),
+        }
+    }
+
+    /// The end of `import`.
+    pub fn of_import(answer: Result<Outcome, NotImported>) -> Ending {
         match answer {
             Ok(outcome) => Ending::Plain(outcome),
             Err(why) => Ending::Import(why),
@@ -67,7 +78,12 @@ pub fn status(rt: &HostRuntime, ending: Ending, named: Option<Named<'_>>) -> u8 
             add(rt, &explained.note, &named);
             status
         }
-        Ending::Import(why) => not_imported(rt, &why, &named),
+        Ending::Unread(why) => not_imported(rt, &why, &named),
+        Ending::Import(not) => {
+            let status = not_imported(rt, &not.why, &named);
+            say_news(rt, &not.news);
+            status
+        }
         Ending::AtLine(line) => {
             let _ = eprint!(rt; "refused: ");
             at_line(rt, &line, &named)
@@ -106,9 +122,9 @@ fn not_imported(rt: &HostRuntime, why: &Unimported, named: &Option<Named<'_>>) -
 }
 
 // Reports a refused line of a list, with its sentence.
-fn at_line(rt: &HostRuntime, line: &RefusedLine, named: &Option<Named<'_>>) -> u8 {
-    let status = complain(rt, line, REFUSED);
-    explain(rt, line.cause(), named);
+fn at_line(rt: &HostRuntime, told: &ToldLine, named: &Option<Named<'_>>) -> u8 {
+    let status = complain(rt, &told.line, REFUSED);
+    explain_word(rt, told.line.cause(), told.word.as_str(), named);
     status
 }
 

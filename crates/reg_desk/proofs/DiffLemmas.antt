@@ -9,7 +9,7 @@ use Rattle.reg_query.specs.DiffLines.{IsDiff}
 use Rattle.reg_engine.specs.declared.fault.CliFault.{CliFault}
 use Rattle.reg_engine.specs.declared.fault.CliFault.TheVariants as cli
 use Rattle.reg_engine.specs.Inputs.{AreUnread, GivePartsAfter, registers, pieces}
-use Rattle.reg_engine.specs.Merge.{begun, with_pieces, join_of, IsUnjoined}
+use Rattle.reg_commands.specs.Merge.{begun, with_pieces, join_of, IsUnjoined}
 use Rattle.reg_desk.specs.Diff.{joined_parts, joined_ones, IsUntold, Compares, CannotCompare}
 use Rattle.reg_desk.proofs.PartLemmas.{none_failed, of_parts}
 

@@ -14,7 +14,7 @@ use Rattle.reg_engine.specs.declared.fault.Refusal.TheVariants as refusal
 use Rattle.reg_engine.specs.declared.fault.CliFault.{CliFault}
 use Rattle.reg_engine.specs.declared.fault.CliFault.TheVariants as cli
 use Rattle.reg_engine.specs.Inputs.{NeverFails, HoldAll, NoneFails, GivePartsAfter, registers, pieces}
-use Rattle.reg_engine.specs.Merge.{begun, with_pieces, join_of, IsUnjoined}
+use Rattle.reg_commands.specs.Merge.{begun, with_pieces, join_of, IsUnjoined}
 
 -- ---- files that were read
 

@@ -12,7 +12,7 @@ use Rattle.reg_engine.specs.declared.fault.OutFault.TheVariants as out
 use Rattle.reg_engine.specs.declared.fault.CliFault.{CliFault}
 use Rattle.reg_engine.specs.declared.fault.CliFault.TheVariants as cli
 use Rattle.reg_engine.specs.Inputs.{HoldAll, StopsFrom, NoneFails}
-use Rattle.reg_engine.specs.Merge.{JoinTo, join_of, IsUnjoined}
+use Rattle.reg_commands.specs.Merge.{JoinTo, join_of, IsUnjoined}
 use Rattle.reg_engine.specs.Store.{Around}
 
 -- the joined contents: the older register and the parts, or only the parts

@@ -6,13 +6,12 @@ ghost use Rattle.reg_op.specs.Contents.{nothing, joined};
 ghost use Rattle.reg_report.specs.Reports.{Reports};
 ghost use Rattle.reg_query.specs.DiffLines.{IsDiff, Differ};
 ghost use Rattle.reg_engine.specs.Inputs.{AreUnread, GivePartsAfter};
-ghost use Rattle.reg_engine.specs.Merge.{begun, with_pieces, IsUnjoined};
+ghost use Rattle.reg_commands.specs.Merge.{begun, with_pieces, IsUnjoined};
 ghost use Rattle.reg_desk.specs.Diff.{joined_ones, IsCompared, IsUncompared, IsUntold};
 
 use byte_io::{Sink, Source, write_all};
-use reg_engine::{
-    CliFault, OutFault, Parts, Store, join_pieces, join_registers, parts_of, read_parts_after,
-};
+use reg_commands::{join_pieces, join_registers};
+use reg_engine::{CliFault, OutFault, Parts, Store, parts_of, read_parts_after};
 use reg_query::compare;
 use reg_state::{Piece, Register};
 use std::alloc::Global;

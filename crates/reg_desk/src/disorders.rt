@@ -12,7 +12,7 @@ pub struct Amiss {
 }
 
 impl Print for Amiss {
-    ghost use Rattle.reg_engine.specs.Report.{Never};
+    ghost use Rattle.reg_engine.specs.Store.{Never};
     ghost use Rattle.reg_disorder.specs.Reports.{IsAmissText};
 
     ghost prints = { λ c. λ x. λ text. IsAmissText c.way x text };

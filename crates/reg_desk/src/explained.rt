@@ -1,13 +1,14 @@
 //! Explanations of the faults of commands.
 
 ghost use Rattle.std.specs.Prelude.{◌≡◌, ◌⊎◌, IfOk, IfErr, OnOk, IsSome};
-ghost use Rattle.reg_engine.specs.Devices.{devices};
-ghost use Rattle.reg_engine.specs.Check.{IsPrinted, IsCheckFault};
+ghost use Rattle.reg_commands.specs.Devices.{devices};
+ghost use Rattle.reg_commands.specs.Check.{IsPrinted, IsCheckFault};
 ghost use Rattle.reg_engine.specs.declared.fault.CliFault.TheVariants as cli;
 ghost use Rattle.reg_desk.specs.Explained.{IsExplained, note_text, problem_of, text_problem};
 
 use byte_io::{Sink, Source};
-use reg_engine::{CliFault, Refusal, run_check};
+use reg_commands::run_check;
+use reg_engine::{CliFault, Refusal};
 use std::alloc::{AllocError, Global};
 use wkt_crs::{DefinitionFault, Unspelled};
 use wkt_explain::{Recorded, explain_text};

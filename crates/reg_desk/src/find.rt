@@ -12,7 +12,7 @@ pub struct Find<'a> {
 }
 
 impl Print for Find<'_> {
-    ghost use Rattle.reg_engine.specs.Report.{Never};
+    ghost use Rattle.reg_engine.specs.Store.{Never};
     ghost use Rattle.reg_query.specs.Found.{IsFoundText};
 
     ghost prints = { λ c. λ x. λ text. IsFoundText c.query.now x text };

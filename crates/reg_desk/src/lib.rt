@@ -27,25 +27,22 @@ pub use settle::{Settle, SettleEqual};
 pub use status::run_status;
 
 // Items of lower crates for the command line: engines, faults, options, and devices.
-pub use byte_disk::{FileDisk, NewFile};
-pub use byte_io::{Reading, Source, Writing, write_all};
-pub use byte_out::{FileId, FilePlace, Input, InputOf, Lock, Lockable};
-pub use crs_number::Decimal;
+pub use byte_disk::FileDisk;
+pub use byte_io::{Reading, Source, Writing};
+pub use byte_out::{InputOf, Lockable};
 pub use crs_search::{Kind, Point};
+pub use reg_commands::{
+    Enter, Form, Report, run_check, run_enter, run_enter_on, run_export, run_merge, run_merge_on,
+    run_new, run_ops, run_piece, run_report, run_retire, run_retire_on, run_seen, run_shelf,
+    run_show, run_supersede, run_supersede_on, run_unshelf, run_wkt,
+};
 pub use reg_disorder::Disorder;
 pub use reg_engine::{
-    Base, Change, CliFault, Enter, Export, FirstVersion, Form, Give, InFile, InputFault, Keep,
-    OfFile, OnShelf, Ops, OutFault, PieceFor, Print, Refusal, Report, Retire, ShelfProblem, Show,
-    Store, Summary, Supersede, Whole, Wkt, run_change, run_check, run_enter, run_enter_on,
-    run_export, run_give, run_merge, run_merge_on, run_new, run_ops, run_piece, run_print,
-    run_report, run_retire, run_retire_on, run_seen, run_shelf, run_show, run_supersede,
-    run_supersede_on, run_unshelf, run_wkt,
+    CliFault, InputFault, OfFile, OnShelf, OutFault, Print, Refusal, ShelfProblem,
 };
-pub use reg_file::MAX_FILE;
 pub use reg_import::{Differs, Problem};
-pub use reg_keyed::{ByWord, ByWords, ChangeOf, PrintOf, RetireOf, ShowOf, SupersedeOf, WktOf};
+pub use reg_keyed::ByWord;
 pub use reg_op::OpId;
-pub use reg_query::{Query, Wanted};
+pub use reg_query::Query;
 pub use reg_report::ReportKind;
-pub use reg_shelf::is_size;
 pub use wkt_explain::{Recorded, explain_within};

@@ -14,7 +14,7 @@ use std::alloc::Global;
 pub struct LogAll;
 
 impl Print for LogAll {
-    ghost use Rattle.reg_engine.specs.Report.{Never};
+    ghost use Rattle.reg_engine.specs.Store.{Never};
     ghost use Rattle.reg_desk.specs.Logged.{LogsAll};
 
     ghost prints = { λ c. λ x. λ text. LogsAll x text };
@@ -43,7 +43,10 @@ impl Print for LogOf<'_> {
     ghost refuses = { λ c. λ x. λ f. CannotLog c.entries.now x f };
 
     fn text(&self, alloc: Global, register: &Register) -> Result<Vec<u8>, CliFault> {
-        if let Some(entry) = first_unlogged(register.ops().as_slice(), self.entries) {
+        let Ok(first) = first_unlogged(alloc, register.ops().as_slice(), self.entries) else {
+            return Err(CliFault::Memory);
+        };
+        if let Some(entry) = first {
             return Err(CliFault::Refused(Refusal::Office(OfficeFault::UnknownEntry(entry))));
         }
         match log_text(alloc, register, &Asked::These(self.entries)) {

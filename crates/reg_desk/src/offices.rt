@@ -10,7 +10,7 @@ use std::alloc::Global;
 pub struct Offices;
 
 impl Print for Offices {
-    ghost use Rattle.reg_engine.specs.Report.{Never};
+    ghost use Rattle.reg_engine.specs.Store.{Never};
     ghost use Rattle.reg_desk.specs.Status.{IsOfficesText};
 
     ghost prints = { λ c. λ x. λ text. IsOfficesText x text };

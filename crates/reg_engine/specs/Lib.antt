@@ -1,17 +1,8 @@
 pub mod Fault
 pub mod Names
-pub mod Check
-pub mod Devices
 pub mod Inputs
 pub mod Outputs
-pub mod Merge
-pub mod Exchange
-pub mod Export
-pub mod Change
-pub mod ChangeLaws
-pub mod Report
 pub mod Shelf
 pub mod Store
 pub mod Either
-pub mod MergeOn
 pub mod WholeFile

@@ -5,7 +5,7 @@ use Rattle.wkt_crs.specs.Unspelled.{name_of, place_of}
 use Rattle.reg_op.specs.Ids.{Id}
 use Rattle.reg_file.specs.Names.{file_name}
 use Rattle.reg_office.specs.Names.{office_name, office_id}
-use Rattle.reg_number.specs.declared.fault.NoteFault.TheVariants as note
+use Rattle.byte_office.specs.declared.fault.NoteFault.TheVariants as note
 use Rattle.reg_engine.specs.declared.fault.Refusal.{Refusal}
 use Rattle.reg_engine.specs.declared.fault.Refusal.TheVariants as refusal
 use Rattle.reg_engine.specs.declared.fault.InputFault.{InputFault}
@@ -36,6 +36,7 @@ refusal_name (refusal.Several id) = codes "Several"
 refusal_name refusal.Unsettled = codes "Unsettled"
 refusal_name (refusal.KeyTaken id) = codes "KeyTaken"
 refusal_name (refusal.Behind id) = codes "Behind"
+refusal_name (refusal.Forged id) = codes "Forged"
 
 -- its place in a text, and the id that it names
 abbrev pub refusal_place : Refusal → Option ℕ
@@ -52,6 +53,7 @@ refusal_id (refusal.Office f) = office_id f
 refusal_id (refusal.Several id) = Some id
 refusal_id (refusal.KeyTaken id) = Some id
 refusal_id (refusal.Behind id) = Some id
+refusal_id (refusal.Forged id) = Some id
 refusal_id r = None
 
 -- an input file
@@ -100,6 +102,7 @@ fault_name (cli.Out f) = out_name f
 fault_name cli.Memory = codes "Memory"
 fault_name (cli.Shelf p) = problem_name p
 fault_name (cli.Office note.NotOpened) = codes "NotOpened"
+fault_name (cli.Office note.TooLarge) = codes "TooLarge"
 fault_name (cli.Office (note.WriteFailed at)) = codes "WriteFailed"
 
 abbrev pub fault_place : CliFault → Option ℕ

@@ -34,14 +34,18 @@ in_file source place next read after = record {
   unleft = λ x y f. Finds source next x × IsUnpublished y read place after f;
 }
 
--- a register's file that is only read, so it never has another register
-abbrev pub of_file : SourceState → SourceState → Around
-of_file source next = record {
+-- a register's file with this number that is only read, so it never has another register
+abbrev pub file_numbered : ℕ → SourceState → SourceState → Around
+file_numbered number source next = record {
   came = λ x. Finds source next x;
-  none = λ f. IsUnread 1 source next f;
+  none = λ f. IsUnread number source next f;
   left = λ x y. ⊥;
   unleft = λ x y f. ⊥;
 }
+
+-- the first file that a command reads
+abbrev pub of_file : SourceState → SourceState → Around
+of_file source next = file_numbered 1 source next
 
 -- a shelf
 abbrev pub on_shelf : {D : Type 0} → Disks D → D → D → Around
@@ -85,6 +89,10 @@ StopsIn AsLoaded Unmet Reads Refuses x f = Refuses x x f
 StopsIn (Screened makes bars) Unmet Reads Refuses x f = Unmet x f ⊎ ((Reads x × bars x f) ⊎ ((z : Content) × makes x z × Refuses x z f))
 
 -- ---- a command that prints something of a register
+
+-- it refuses no register; memory may run out
+abbrev pub Never : Content → CliFault → Type 0
+Never x f = f ≡ cli.Memory
 
 -- exactly the first bytes of the text were written
 abbrev pub AreCut : List ℕ → SinkState → SinkState → CliFault → Type 0

@@ -3,8 +3,8 @@
 ghost use Rattle.std.specs.Prelude.{◌≡◌};
 ghost use Rattle.reg_engine.specs.Fault.{status_of, is_after};
 
+use byte_office::NoteFault;
 use reg_file::FileFault;
-use reg_number::NoteFault;
 use reg_office::OfficeFault;
 use reg_op::OpId;
 use std::fmt::{self, Display};
@@ -44,8 +44,10 @@ pub enum Refusal {
     Unsettled,
     /// This entry has the key, with another text.
     KeyTaken(OpId),
-    /// The register has seen no number of the office that is as great as this one, which the office has given.
+    /// A number of the office stood in a register, and this one knows none. This is the last number that the office gave.
     Behind(OpId),
+    /// Somebody else gave this number in the office's name.
+    Forged(OpId),
 }
 
 impl Refusal {
@@ -73,6 +75,7 @@ impl Refusal {
             Refusal::Unsettled => "Unsettled",
             Refusal::KeyTaken(_) => "KeyTaken",
             Refusal::Behind(_) => "Behind",
+            Refusal::Forged(_) => "Forged",
         }
     }
 
@@ -100,6 +103,7 @@ impl Refusal {
             Refusal::Several(id) => Some(id),
             Refusal::KeyTaken(id) => Some(id),
             Refusal::Behind(id) => Some(id),
+            Refusal::Forged(id) => Some(id),
             _ => None,
         }
     }
@@ -318,6 +322,7 @@ impl CliFault {
             CliFault::Memory => "Memory",
             CliFault::Shelf(problem) => problem.name(),
             CliFault::Office(NoteFault::NotOpened) => "NotOpened",
+            CliFault::Office(NoteFault::TooLarge) => "TooLarge",
             CliFault::Office(NoteFault::WriteFailed(_)) => "WriteFailed",
         }
     }

@@ -27,7 +27,7 @@ pub fn read_file<S: Source>(
 }
 
 /// Reads the summary in the file with this number.
-pub(crate) fn read_summary<S: Source>(
+pub fn read_summary<S: Source>(
     alloc: Global,
     number: usize,
     source: &mut S,

@@ -1,3 +1,5 @@
 mod EachLemmas
 mod AmongLemmas
 mod DrawnLemmas
+mod ReadLemmas
+mod SheetLemmas

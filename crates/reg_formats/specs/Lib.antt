@@ -3,3 +3,4 @@ pub mod Geojson
 pub mod ProjSql
 pub mod Graph
 pub mod Handed
+pub mod Sheet

@@ -137,7 +137,7 @@ pub struct Graph {
 }
 
 impl Print for Graph {
-    ghost use Rattle.reg_handing.specs.Report.{Never};
+    ghost use Rattle.reg_handing.specs.Store.{Never};
     ghost use Rattle.reg_formats.specs.Graph.{IsGraph};
 
     ghost prints = { λ c. λ x. λ text. IsGraph c.all x text };

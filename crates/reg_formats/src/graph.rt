@@ -8,7 +8,7 @@ ghost use Rattle.reg_op.specs.Rows.{Row as OneRow};
 ghost use Rattle.reg_report.specs.Conflicts.{Contested};
 ghost use Rattle.reg_report.specs.Contenders.{conflict_seen};
 ghost use Rattle.reg_report.specs.Seen.{row_seen};
-ghost use Rattle.reg_formats.specs.Graph.{color_of, linked_by, linked, IsNodeOf, edges_from, edges_of, rivals_from, rivals_among, rivals_of, IsGraph};
+ghost use Rattle.reg_formats.specs.Graph.{color_of, linked_by, awaited_links, links_in, linked, IsNodeOf, edges_from, edges_of, awaited_edges, edges_in, all_edges, rivals_from, rivals_among, rivals_of, IsGraph};
 ghost use Rattle.reg_formats.specs.Titles.{IsTitle, Each};
 ghost use Rattle.crs_export.specs.declared.title.Title.{Title};
 ghost use Rattle.crs_export.specs.declared.markup.TheConstants as markup;
@@ -17,8 +17,8 @@ ghost use Rattle.crs_export.specs.Graphs.{node};
 use crate::title::title_of;
 use crs_export::markup::{GRAPH_END, GRAPH_START, RETIRED_COLOR, SUPERSEDED_COLOR, VALID_COLOR};
 use crs_export::{push_edge, push_node, push_rivals};
-use reg_op::{OpId, Status};
-use reg_report::{Conflict, Row, conflicts, printed, rows};
+use reg_op::{Op, OpBody, OpId, Status};
+use reg_report::{Conflict, Row, conflicts, is_entered, printed, rows};
 use reg_state::Register;
 use std::alloc::{AllocError, Global};
 
@@ -66,14 +66,53 @@ fn push_conflicts(ids: &mut Vec<OpId>, conflicts: &[Conflict]) -> Result<(), All
     Ok(())
 }
 
+// Appends an id that was not entered, and the entry that supersedes it, if the operation names such.
+fn push_awaited_link(ids: &mut Vec<OpId>, register: &Register, op: &Op) -> Result<(), AllocError>
+    ensures { OnOk result (ids.new.items ≡ ids.old.items ++ links_in register.now.ops op.now) }
+{
+    match op.body() {
+        OpBody::Enter(_) => {}
+        OpBody::Retire { entry: _ } => {}
+        OpBody::Supersede { old, newer } => {
+            if is_entered(register, *old) {
+                return Ok(());
+            }
+            ids.push(*old)?;
+            ids.push(*newer)?;
+        }
+    }
+    Ok(())
+}
+
+fn push_awaited_links(
+    ids: &mut Vec<OpId>,
+    register: &Register,
+    ops: &[Op],
+) -> Result<(), AllocError>
+    ensures { OnOk result (ids.new.items ≡ ids.old.items ++ flat_map (links_in register.now.ops) ops.now) }
+{
+    let mut rest = ops;
+    while let Some((op, others)) = rest.split_first() {
+        push_awaited_link(ids, register, op)?;
+        rest = others;
+    }
+    Ok(())
+}
+
 // The entries with an edge, and those in conflict, sorted.
-fn linked(alloc: Global, rows: &[Row], conflicts: &[Conflict]) -> Result<Vec<OpId>, AllocError>
-    ensures permutation { IfOk result (λ ids. IsPermutation (linked (map row_seen rows.now) (map conflict_seen conflicts.now)) ids.items) }
+fn linked(
+    alloc: Global,
+    register: &Register,
+    rows: &[Row],
+    conflicts: &[Conflict],
+) -> Result<Vec<OpId>, AllocError>
+    ensures permutation { IfOk result (λ ids. IsPermutation (linked register.now.ops (map row_seen rows.now) (map conflict_seen conflicts.now)) ids.items) }
     ensures sorted { IfOk result (λ ids. IsSorted id_cmp ids.items) }
 {
     let mut ids = Vec::new(alloc);
     push_rows(&mut ids, rows)?;
     push_conflicts(&mut ids, conflicts)?;
+    push_awaited_links(&mut ids, register, register.ops().as_slice())?;
     ids.sort_unstable();
     Ok(ids)
 }
@@ -168,6 +207,60 @@ fn push_edges(alloc: Global, text: &mut Vec<u8>, rows: &[Row]) -> Result<(), All
     Ok(())
 }
 
+// Appends an edge from an id that was not entered to the entry that supersedes it, if the operation names such.
+fn push_awaited_edge(
+    alloc: Global,
+    text: &mut Vec<u8>,
+    register: &Register,
+    op: &Op,
+) -> Result<(), AllocError>
+    ensures { OnOk result (text.new.items ≡ text.old.items ++ edges_in register.now.ops op.now) }
+{
+    match op.body() {
+        OpBody::Enter(_) => {}
+        OpBody::Retire { entry: _ } => {}
+        OpBody::Supersede { old, newer } => {
+            if is_entered(register, *old) {
+                return Ok(());
+            }
+            let before = printed(alloc, *old)?;
+            let after = printed(alloc, *newer)?;
+            push_edge(text, &before, &after)?;
+        }
+    }
+    Ok(())
+}
+
+fn push_awaited_edges(
+    alloc: Global,
+    text: &mut Vec<u8>,
+    register: &Register,
+    ops: &[Op],
+) -> Result<(), AllocError>
+    ensures { OnOk result (text.new.items ≡ text.old.items ++ flat_map (edges_in register.now.ops) ops.now) }
+{
+    let mut rest = ops;
+    while let Some((op, others)) = rest.split_first() {
+        push_awaited_edge(alloc, text, register, op)?;
+        rest = others;
+    }
+    Ok(())
+}
+
+// Appends the edges of the rows, and those from ids that were not entered.
+fn push_all_edges(
+    alloc: Global,
+    text: &mut Vec<u8>,
+    register: &Register,
+    rows: &[Row],
+) -> Result<(), AllocError>
+    ensures { OnOk result (text.new.items ≡ text.old.items ++ all_edges register.now.ops (map row_seen rows.now)) }
+{
+    push_edges(alloc, text, rows)?;
+    push_awaited_edges(alloc, text, register, register.ops().as_slice())?;
+    Ok(())
+}
+
 fn push_rivals_from(
     alloc: Global,
     text: &mut Vec<u8>,
@@ -216,16 +309,17 @@ fn push_graph(
     alloc: Global,
     text: &mut Vec<u8>,
     all: bool,
+    register: &Register,
     rows: &[Row],
     conflicts: &[Conflict],
 ) -> Result<(), AllocError>
-    ensures { OnOk result ((nodes : List ℕ) × Each (IsNodeOf all (linked (map row_seen rows.now) (map conflict_seen conflicts.now))) (map row_seen rows.now) nodes
-        × (text.new.items ≡ text.old.items ++ (markup.GRAPH_START.now ++ nodes ++ flat_map edges_of (map row_seen rows.now) ++ flat_map rivals_of (map conflict_seen conflicts.now) ++ markup.GRAPH_END.now))) }
+    ensures { OnOk result ((nodes : List ℕ) × Each (IsNodeOf all (linked register.now.ops (map row_seen rows.now) (map conflict_seen conflicts.now))) (map row_seen rows.now) nodes
+        × (text.new.items ≡ text.old.items ++ (markup.GRAPH_START.now ++ nodes ++ all_edges register.now.ops (map row_seen rows.now) ++ flat_map rivals_of (map conflict_seen conflicts.now) ++ markup.GRAPH_END.now))) }
 {
-    let ids = linked(alloc, rows, conflicts)?;
+    let ids = linked(alloc, register, rows, conflicts)?;
     text.extend_from_slice(GRAPH_START)?;
     push_nodes(alloc, text, all, &ids, rows)?;
-    push_edges(alloc, text, rows)?;
+    push_all_edges(alloc, text, register, rows)?;
     push_all_rivals(alloc, text, conflicts)?;
     text.extend_from_slice(GRAPH_END)?;
     Ok(())
@@ -238,6 +332,6 @@ pub fn graph_text(alloc: Global, register: &Register, all: bool) -> Result<Vec<u
     let rows = rows(alloc, register)?;
     let conflicts = conflicts(alloc, register)?;
     let mut text = Vec::new(alloc);
-    push_graph(alloc, &mut text, all, &rows, &conflicts)?;
+    push_graph(alloc, &mut text, all, register, &rows, &conflicts)?;
     Ok(text)
 }

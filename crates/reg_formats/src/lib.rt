@@ -4,6 +4,7 @@
 mod engine;
 mod geojson;
 mod graph;
+pub mod laws;
 mod proj_sql;
 mod title;
 

@@ -1,1 +1,2 @@
 pub mod OfficeLemmas
+mod PieceLemmas

@@ -3,6 +3,8 @@
 
 mod ids;
 pub mod laws;
+mod piece;
 mod theirs;
 
+pub use piece::register_in;
 pub use theirs::{from_piece, from_register, is_theirs};

@@ -1,23 +1,26 @@
 -- The file of a register is replaced after the office file.
-use Rattle.std.proofs.Common.{◌≡◌, ◌⊎◌, inl, inr, List, ℕ, Option, refl, sym, subst}
+use Rattle.std.proofs.Common.{◌≡◌, ◌⊎◌, inl, inr, List, ℕ, Option, Some, None, refl, sym, subst}
 use Rattle.byte_out.specs.Place.{PlaceState}
 use Rattle.byte_out.specs.Replace.{IsReplaceFault}
 use Rattle.byte_out.specs.declared.fault.ReplaceFault.{ReplaceFault}
 use Rattle.byte_out.specs.declared.fault.ReplaceFault.TheVariants as replaced
+use Rattle.byte_office.specs.Noting.{IsUnnotedIf}
+use Rattle.byte_office.specs.Replacing.{IsLate, IsUnreplaced}
+use Rattle.byte_office.specs.declared.fault.NoteFault.{NoteFault}
+use Rattle.byte_office.specs.declared.fault.NoteFault.TheVariants as note
+use Rattle.byte_office.specs.declared.fault.UnreplacedFault.{UnreplacedFault}
+use Rattle.byte_office.specs.declared.fault.UnreplacedFault.TheVariants as unreplaced
 use Rattle.reg_op.specs.Contents.{Content}
 use Rattle.reg_file.specs.Files.{Holds}
-use Rattle.reg_number.specs.Text.{Last, office_text}
-use Rattle.reg_number.specs.Noting.{Notes, IsUnnoted}
-use Rattle.reg_number.specs.Replacing.{IsLate, IsUnnumbered}
-use Rattle.reg_number.specs.declared.fault.NumberedFault.{NumberedFault}
-use Rattle.reg_number.specs.declared.fault.NumberedFault.TheVariants as numbered
+use Rattle.reg_journal.specs.Journal.{Journal}
+use Rattle.reg_journal.specs.Text.{HoldsOffice}
+use Rattle.reg_journal.specs.Adding.{is_changed}
 use Rattle.reg_engine.specs.declared.fault.CliFault.{CliFault}
 use Rattle.reg_engine.specs.declared.fault.CliFault.TheVariants as cli
 use Rattle.reg_engine.specs.Fault.{replace_fault}
 use Rattle.reg_engine.specs.Shelf.{Disks, IsUnready, IsUnput}
 use Rattle.reg_engine.specs.Outputs.{IsUnpublished}
-use Rattle.reg_guard.specs.Behind.{next_of}
-use Rattle.reg_guard.specs.Keeping.{Numbers, IsLateFile, IsUnpublishedNumbered, IsUnkeptNumbered, unkept_fault}
+use Rattle.reg_guard.specs.Keeping.{Notes, IsUnnotedBy, if_changed, IsLateFile, IsUnpublishedAfter, IsUnkeptAfter, unkept_fault}
 
 unready : (f : ReplaceFault) (y : Content) (read : Option (List ℕ)) (bytes : List ℕ) (old new : PlaceState) → Holds bytes y → IsReplaceFault read bytes old new f
     → IsUnpublished y read old new (replace_fault f)
@@ -38,37 +41,53 @@ late replaced.Changed y read bytes old new is h = (bytes, is, h)
 late replaced.NotSynced y read bytes old new is h = (bytes, is, h)
 
 -- a fault of the store, which is not that of the office file
-by_store : (f : ReplaceFault) (l : Last) (y : Content) (read : Option (List ℕ)) (place after office noted : PlaceState)
-    → (IsUnpublished y read place after (replace_fault f) × (noted ≡ office)) ⊎ (IsLateFile y read place after (replace_fault f) × Numbers l y office noted)
-    → IsUnpublishedNumbered l y read place after office noted (replace_fault f)
-by_store replaced.NotOpened l y read place after office noted h = h
-by_store replaced.NewExists l y read place after office noted h = h
-by_store (replaced.WriteFailed n) l y read place after office noted h = h
-by_store (replaced.ReadFailed n) l y read place after office noted h = h
-by_store replaced.Changed l y read place after office noted h = h
-by_store replaced.NotSynced l y read place after office noted h = h
+by_store : (f : ReplaceFault) (a b : Journal) (y : Content) (read : Option (List ℕ)) (place after office noted : PlaceState)
+    → (IsUnpublished y read place after (replace_fault f) × (noted ≡ office)) ⊎ (IsLateFile y read place after (replace_fault f) × Notes a b office noted)
+    → IsUnpublishedAfter a b y read place after office noted (replace_fault f)
+by_store replaced.NotOpened a b y read place after office noted h = h
+by_store replaced.NewExists a b y read place after office noted h = h
+by_store (replaced.WriteFailed n) a b y read place after office noted h = h
+by_store (replaced.ReadFailed n) a b y read place after office noted h = h
+by_store replaced.Changed a b y read place after office noted h = h
+by_store replaced.NotSynced a b y read place after office noted h = h
 
-pub unpublished : (f : NumberedFault) (l : Last) (y : Content) (read : Option (List ℕ)) (bytes text : List ℕ) (place after office noted : PlaceState)
-    → Holds bytes y → text ≡ office_text (next_of l y) → IsUnnumbered read bytes text place after office noted f → IsUnpublishedNumbered l y read place after office noted (unkept_fault f)
-unpublished (numbered.Unready f) l y read bytes text place after office noted is same h = by_store f l y read place after office noted (inl (unready f y read bytes place after is h.0, h.1))
-unpublished (numbered.Unnoted t) l y read bytes text place after office noted is same h = ((bytes, is, h.0), subst (λ (w : List ℕ). IsUnnoted w office noted t) same h.1)
-unpublished (numbered.Late f) l y read bytes text place after office noted is same h =
-    by_store f l y read place after office noted (inr (late f y read bytes place after is h.0, subst (λ (w : List ℕ). Notes w office noted) same h.1))
+-- the text is not found to be too large where it is written
+not_large : (text : Option (List ℕ)) (office noted : PlaceState) → IsUnnotedIf text office noted note.TooLarge → ⊥
+not_large (Some text) office noted h = h
+not_large None office noted h = h
+
+pub unnoted : (t : NoteFault) (a b : Journal) (text : List ℕ) (office noted : PlaceState) → HoldsOffice text b → IsUnnotedIf (if_changed (is_changed a b) text) office noted t
+    → IsUnnotedBy a b office noted t
+unnoted note.NotOpened a b text office noted is h = (text, is, h)
+unnoted note.TooLarge a b text office noted is h = absurd (not_large (if_changed (is_changed a b) text) office noted h)
+unnoted (note.WriteFailed n) a b text office noted is h = (text, is, h)
+
+pub unpublished : (f : UnreplacedFault) (a b : Journal) (y : Content) (read : Option (List ℕ)) (bytes text : List ℕ) (place after office noted : PlaceState)
+    → Holds bytes y → HoldsOffice text b → IsUnreplaced read bytes (if_changed (is_changed a b) text) place after office noted f
+    → IsUnpublishedAfter a b y read place after office noted (unkept_fault f)
+unpublished (unreplaced.Unready f) a b y read bytes text place after office noted is held h =
+    by_store f a b y read place after office noted (inl (unready f y read bytes place after is h.0, h.1))
+unpublished (unreplaced.Unnoted note.NotOpened) a b y read bytes text place after office noted is held h = ((bytes, is, h.0), (text, held, h.1))
+unpublished (unreplaced.Unnoted note.TooLarge) a b y read bytes text place after office noted is held h =
+    absurd (not_large (if_changed (is_changed a b) text) office noted h.1)
+unpublished (unreplaced.Unnoted (note.WriteFailed n)) a b y read bytes text place after office noted is held h = ((bytes, is, h.0), (text, held, h.1))
+unpublished (unreplaced.Late f) a b y read bytes text place after office noted is held h =
+    by_store f a b y read place after office noted (inr (late f y read bytes place after is h.0, (text, held, h.1)))
 
 -- ---- a shelf
 
 -- no frame was made ready, so the office file is unchanged
-pub unready_numbered : {D : Type 0} (d : Disks D) (l : Last) (x y : Content) (old new : D) (office noted : PlaceState) (f : CliFault) → IsUnready d y old new f → noted ≡ office
-    → IsUnkeptNumbered d l x y old new office noted f
-unready_numbered d l x y old new office noted (cli.Refused r) h e = absurd h
-unready_numbered d l x y old new office noted (cli.File k g) h e = absurd h
-unready_numbered d l x y old new office noted (cli.Out g) h e = absurd h
-unready_numbered d l x y old new office noted cli.Memory h e = inl (h, e)
-unready_numbered d l x y old new office noted (cli.Shelf p) h e = inl (h, e)
-unready_numbered d l x y old new office noted (cli.Office t) h e = absurd h
+pub unready_after : {D : Type 0} (d : Disks D) (a b : Journal) (x y : Content) (old new : D) (office noted : PlaceState) (f : CliFault) → IsUnready d y old new f → noted ≡ office
+    → IsUnkeptAfter d a b x y old new office noted f
+unready_after d a b x y old new office noted (cli.Refused r) h e = absurd h
+unready_after d a b x y old new office noted (cli.File k g) h e = absurd h
+unready_after d a b x y old new office noted (cli.Out g) h e = absurd h
+unready_after d a b x y old new office noted cli.Memory h e = inl (h, e)
+unready_after d a b x y old new office noted (cli.Shelf p) h e = inl (h, e)
+unready_after d a b x y old new office noted (cli.Office t) h e = absurd h
 
--- the disk failed, after the office file got its number
-pub unput_numbered : {D : Type 0} (d : Disks D) (l : Last) (x y : Content) (old new : D) (office noted : PlaceState) (f : CliFault) → IsUnput d x y old new f → Numbers l y office noted
-    → IsUnkeptNumbered d l x y old new office noted f
-unput_numbered d l x y old new office noted f h n =
-    subst (λ (k : CliFault). IsUnkeptNumbered d l x y old new office noted k) (sym h.0) (inr ((refl, h.1, h.2), n))
+-- the disk failed, after the office file got its text
+pub unput_after : {D : Type 0} (d : Disks D) (a b : Journal) (x y : Content) (old new : D) (office noted : PlaceState) (f : CliFault) → IsUnput d x y old new f → Notes a b office noted
+    → IsUnkeptAfter d a b x y old new office noted f
+unput_after d a b x y old new office noted f h n =
+    subst (λ (k : CliFault). IsUnkeptAfter d a b x y old new office noted k) (sym h.0) (inr ((refl, h.1, h.2), n))

@@ -1,31 +1,65 @@
--- Keeping a register after its greatest own number was written to the office file.
-use Rattle.std.specs.Prelude.{◌≡◌, ◌⊎◌, List, ℕ, Option}
+-- Keeping a register after the office file got what a command made.
+use Rattle.std.specs.Prelude.{◌≡◌, ◌⊎◌, ◌&&◌, nat_eq, Bool, true, false, List, ℕ, Option, Some, None, is_some}
 use Rattle.byte_out.specs.Place.{PlaceState}
+use Rattle.byte_out.specs.Replace.{Replaces, IsReplaceFault}
+use Rattle.byte_out.specs.declared.fault.ReplaceFault.{ReplaceFault}
 use Rattle.byte_out.specs.declared.fault.ReplaceFault.TheVariants as replaced
+use Rattle.byte_office.specs.Noting.{NotesIf, IsUnnotedIf}
+use Rattle.byte_office.specs.Replacing.{IsWithdrawn, IsLate}
+use Rattle.byte_office.specs.declared.fault.NoteFault.{NoteFault}
+use Rattle.byte_office.specs.declared.fault.NoteFault.TheVariants as note
+use Rattle.byte_office.specs.declared.fault.UnreplacedFault.{UnreplacedFault}
+use Rattle.byte_office.specs.declared.fault.UnreplacedFault.TheVariants as unreplaced
 use Rattle.reg_op.specs.Contents.{Content}
 use Rattle.reg_file.specs.Files.{Holds}
-use Rattle.reg_number.specs.Text.{Last, office_text}
-use Rattle.reg_number.specs.Noting.{Notes, IsUnnoted}
-use Rattle.reg_number.specs.Replacing.{IsWithdrawn, IsLate}
-use Rattle.reg_number.specs.declared.fault.NoteFault.{NoteFault}
-use Rattle.reg_number.specs.declared.fault.NumberedFault.{NumberedFault}
-use Rattle.reg_number.specs.declared.fault.NumberedFault.TheVariants as numbered
+use Rattle.reg_journal.specs.Journal.{Journal}
+use Rattle.reg_journal.specs.Text.{HoldsOffice, IsOfficeTooLarge}
+use Rattle.reg_journal.specs.Adding.{is_changed, landed}
 use Rattle.reg_engine.specs.declared.fault.OutFault.TheVariants as out
 use Rattle.reg_engine.specs.declared.fault.CliFault.{CliFault}
 use Rattle.reg_engine.specs.declared.fault.CliFault.TheVariants as cli
 use Rattle.reg_engine.specs.Fault.{replace_fault}
 use Rattle.reg_engine.specs.Outputs.{PublishesFile, IsUnpublished}
 use Rattle.reg_engine.specs.Shelf.{Disks, StaysOn, KeepsOn, IsUnready, IsUnput}
-use Rattle.reg_guard.specs.Behind.{next_of}
 
--- the office file has the greatest own number of a register; or it was not replaced, or not for sure
-abbrev pub Numbers : Last → Content → PlaceState → PlaceState → Type 0
-Numbers l y office noted = Notes (office_text (next_of l y)) office noted
+-- the text, if it is another one than before
+abbrev pub if_changed : Bool → List ℕ → Option (List ℕ)
+if_changed true text = Some text
+if_changed false text = None
 
-abbrev pub IsUnnumberedBy : Last → Content → PlaceState → PlaceState → NoteFault → Type 0
-IsUnnumberedBy l y office noted t = IsUnnoted (office_text (next_of l y)) office noted t
+-- the office file had the first office file's text, and has that of the second one
+abbrev pub Notes : Journal → Journal → PlaceState → PlaceState → Type 0
+Notes f g office noted = (text : List ℕ) × HoldsOffice text g × NotesIf (if_changed (is_changed f g) text) office noted
 
--- the file of the register was ready, and the old one is still there
+-- it does not, or not for sure
+abbrev pub IsUnnotedBy : Journal → Journal → PlaceState → PlaceState → NoteFault → Type 0
+IsUnnotedBy f g office noted note.TooLarge = IsOfficeTooLarge g × (noted ≡ office)
+IsUnnotedBy f g office noted t = (text : List ℕ) × HoldsOffice text g × IsUnnotedIf (if_changed (is_changed f g) text) office noted t
+
+-- the office file has this text, and gets that of the other office file; or it is as before, if another command is at work, the
+-- system fails or memory runs out
+abbrev pub Tries : Journal → Journal → PlaceState → PlaceState → Type 0
+Tries f g old new = (new ≡ old) ⊎ ((text : List ℕ) × (next : List ℕ) × HoldsOffice text f × HoldsOffice next g
+    × (Replaces (Some text) next old new ⊎ ((t : ReplaceFault) × IsReplaceFault (Some text) next old new t)))
+
+-- the register that is left is the one that was read, and the office file does not know yet that a number of it stood in one
+abbrev pub is_first : Bool → Journal → Bool
+is_first same f = same && nat_eq f.stood 0
+
+-- the office file has been told that its last number stands in a register, if it is the first one
+abbrev pub Tells : Bool → Journal → PlaceState → PlaceState → Type 0
+Tells true f old new = Tries f (landed f) old new
+Tells false f old new = new ≡ old
+
+-- the office file has the second one's text, and the register's file is there. If that is the file that was read, the office file
+-- knows that its last number stands in a register
+pub record PublishesAfter (f g : Journal) (y : Content) (read : Option (List ℕ)) (place after office told : PlaceState) : Type 0 where
+  pub noted : PlaceState
+  pub notes : Notes f g office noted
+  pub publishes : PublishesFile y read place after
+  pub tells : Tells (is_first (is_some read) g) g noted told
+
+-- the file of the register was ready, and the old one is still there; or nothing was made ready
 abbrev pub IsWithdrawnFile : Content → PlaceState → PlaceState → Type 0
 IsWithdrawnFile y old new = (bytes : List ℕ) × Holds bytes y × IsWithdrawn bytes old new
 
@@ -37,29 +71,30 @@ IsLateFile y read old new (cli.Out out.Changed) = (bytes : List ℕ) × Holds by
 IsLateFile y read old new (cli.Out out.NotSynced) = (bytes : List ℕ) × Holds bytes y × IsLate read bytes old new replaced.NotSynced
 IsLateFile y read old new f = ⊥
 
-abbrev pub unkept_fault : NumberedFault → CliFault
-unkept_fault (numbered.Unready f) = replace_fault f
-unkept_fault (numbered.Unnoted t) = cli.Office t
-unkept_fault (numbered.Late f) = replace_fault f
+abbrev pub unkept_fault : UnreplacedFault → CliFault
+unkept_fault (unreplaced.Unready f) = replace_fault f
+unkept_fault (unreplaced.Unnoted t) = cli.Office t
+unkept_fault (unreplaced.Late f) = replace_fault f
 
--- the office file has the number, and the register's file is there
-abbrev pub PublishesNumbered : Last → Content → Option (List ℕ) → PlaceState → PlaceState → PlaceState → PlaceState → Type 0
-PublishesNumbered l y read place after office noted = Numbers l y office noted × PublishesFile y read place after
-
--- the office file was not replaced, or not for sure, and the old file is there; or the new file was not made ready, and the office
--- file is unchanged; or that has the number, and the new file is not there, or not for sure
-abbrev pub IsUnpublishedNumbered : Last → Content → Option (List ℕ) → PlaceState → PlaceState → PlaceState → PlaceState → CliFault → Type 0
-IsUnpublishedNumbered l y read place after office noted (cli.Office t) = IsWithdrawnFile y place after × IsUnnumberedBy l y office noted t
-IsUnpublishedNumbered l y read place after office noted f = (IsUnpublished y read place after f × (noted ≡ office))
-    ⊎ (IsLateFile y read place after f × Numbers l y office noted)
+-- the office file would be too large, and nothing was written; or it was not replaced, or not for sure, and the old file is there;
+-- or the new file was not made ready, and the office file is unchanged; or that has its text, and the new file is not there, or
+-- not for sure
+abbrev pub IsUnpublishedAfter : Journal → Journal → Content → Option (List ℕ) → PlaceState → PlaceState → PlaceState → PlaceState → CliFault → Type 0
+IsUnpublishedAfter f g y read place after office noted (cli.Office note.TooLarge) = IsUnnotedBy f g office noted note.TooLarge × (after ≡ place)
+IsUnpublishedAfter f g y read place after office noted (cli.Office t) = IsWithdrawnFile y place after × IsUnnotedBy f g office noted t
+IsUnpublishedAfter f g y read place after office noted fault = (IsUnpublished y read place after fault × (noted ≡ office))
+    ⊎ (IsLateFile y read place after fault × Notes f g office noted)
 
 -- the same for a shelf of a first register
-abbrev pub KeepsNumbered : {D : Type 0} → Disks D → Last → Content → Content → D → D → PlaceState → PlaceState → Type 0
-KeepsNumbered d l x y old new office noted = Numbers l y office noted × KeepsOn d x y old new
+pub record KeepsAfter {D : Type 0} (d : Disks D) (f g : Journal) (x y : Content) (old new : D) (office told : PlaceState) : Type 0 where
+  pub noted : PlaceState
+  pub notes : Notes f g office noted
+  pub keeps : KeepsOn d x y old new
+  pub tells : Tells (is_first true g) g noted told
 
--- the office file was not replaced, or not for sure; or no frame was made ready, and the office file is unchanged; or that has the
--- number, and the disk failed
-abbrev pub IsUnkeptNumbered : {D : Type 0} → Disks D → Last → Content → Content → D → D → PlaceState → PlaceState → CliFault → Type 0
-IsUnkeptNumbered d l x y old new office noted (cli.Office t) = StaysOn d old new × IsUnnumberedBy l y office noted t
-IsUnkeptNumbered d l x y old new office noted f = (IsUnready d y old new f × (noted ≡ office))
-    ⊎ (IsUnput d x y old new f × Numbers l y office noted)
+-- the office file would be too large, and nothing was written; or it was not replaced, or not for sure; or no frame was made
+-- ready, and the office file is unchanged; or that has its text, and the disk failed
+abbrev pub IsUnkeptAfter : {D : Type 0} → Disks D → Journal → Journal → Content → Content → D → D → PlaceState → PlaceState → CliFault → Type 0
+IsUnkeptAfter d f g x y old new office noted (cli.Office t) = StaysOn d old new × IsUnnotedBy f g office noted t
+IsUnkeptAfter d f g x y old new office noted fault = (IsUnready d y old new fault × (noted ≡ office))
+    ⊎ (IsUnput d x y old new fault × Notes f g office noted)

@@ -1,6 +1,5 @@
-pub mod Behind
+pub mod Admitting
 pub mod Keeping
 pub mod Stores
 pub mod Making
 pub mod Opening
-pub mod Left

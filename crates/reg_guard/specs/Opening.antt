@@ -2,9 +2,9 @@
 use Rattle.std.specs.Prelude.{◌≡◌, ◌+◌, [], Some, None, IsSome}
 use Rattle.byte_io.specs.Device.{SourceState}
 use Rattle.byte_out.specs.Place.{PlaceState, IfReported}
-use Rattle.reg_number.specs.Source.{IsLastUnread}
-use Rattle.reg_number.specs.declared.fault.NumberFault.{NumberFault}
-use Rattle.reg_number.specs.declared.fault.NumberFault.TheVariants as number
+use Rattle.reg_journal.specs.Text.{IsUnfound}
+use Rattle.reg_journal.specs.declared.fault.OpenFault.{OpenFault}
+use Rattle.reg_journal.specs.declared.fault.OpenFault.TheVariants as opening
 use Rattle.reg_engine.specs.declared.fault.InputFault.TheVariants as file
 use Rattle.reg_engine.specs.declared.fault.CliFault.{CliFault}
 use Rattle.reg_engine.specs.declared.fault.CliFault.TheVariants as cli
@@ -21,11 +21,12 @@ IsUnlocked old new (cli.File k file.NotOpened) = (k ≡ 1) × (new.sink.openings
 IsUnlocked old new f = ⊥
 
 -- the fault of reading the office file, which is file 1
-abbrev pub number_fault : NumberFault → CliFault
-number_fault (number.ReadFailed n) = cli.File 1 (file.ReadFailed n)
-number_fault number.NotOffice = cli.File 1 file.NotOffice
-number_fault number.Memory = cli.Memory
+abbrev pub open_fault : OpenFault → CliFault
+open_fault (opening.ReadFailed n) = cli.File 1 (file.ReadFailed n)
+open_fault opening.TooLarge = cli.File 1 file.TooLarge
+open_fault opening.NotOffice = cli.File 1 file.NotOffice
+open_fault opening.Memory = cli.Memory
 
 -- no office file was read, for this reason
-abbrev pub IsUnfound : SourceState → SourceState → CliFault → Type 0
-IsUnfound old new g = (f : NumberFault) × IsLastUnread old new f × (g ≡ number_fault f)
+abbrev pub IsUnfoundBy : SourceState → SourceState → CliFault → Type 0
+IsUnfoundBy old new g = (f : OpenFault) × IsUnfound old new f × (g ≡ open_fault f)

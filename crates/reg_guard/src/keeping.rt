@@ -1,99 +1,149 @@
-//! Keeps a register, after the office file got its greatest own number.
+//! Keeps a register, after the office file got what a command made.
 
-ghost use Rattle.std.specs.Prelude.{◌≡◌, IfOk, OnOk, IfErr, option_map};
+ghost use Rattle.std.specs.Prelude.{◌≡◌, IfOk, OnOk, IfErr, ◌⊎◌, is_some, option_map};
 ghost use Rattle.reg_op.specs.Contents.{Content};
 ghost use Rattle.reg_engine.specs.Shelf.{disks, Has, IsSure};
-ghost use Rattle.reg_number.specs.Text.{office_text};
-ghost use Rattle.reg_guard.specs.Behind.{next_of};
-ghost use Rattle.reg_guard.specs.Keeping.{PublishesNumbered, IsUnpublishedNumbered, KeepsNumbered, IsUnkeptNumbered, unkept_fault};
+ghost use Rattle.reg_engine.specs.declared.fault.CliFault.TheVariants as cli;
+ghost use Rattle.byte_office.specs.declared.fault.NoteFault.TheVariants as note;
+ghost use Rattle.reg_journal.specs.Adding.{landed};
+ghost use Rattle.reg_journal.specs.Text.{HoldsOffice, IsOfficeTooLarge};
+ghost use Rattle.reg_guard.specs.Keeping.{if_changed, is_first, PublishesAfter, IsUnpublishedAfter, KeepsAfter, IsUnkeptAfter, Tells, Tries, unkept_fault};
 
-use crate::lag::next_number;
 use byte_disk::Disk;
-use byte_out::Place;
+use byte_office::{NoteFault, UnreplacedFault, put_changed, replace_after};
+use byte_out::{Place, replace};
 use reg_engine::{CliFault, OutFault, put_on, ready_on};
 use reg_file::{WriteFileFault, write_bytes};
-use reg_number::{LastNumber, NumberedFault, put_number, replace_numbered};
+use reg_journal::OfficeFile;
 use reg_state::Register;
-use std::alloc::{AllocError, Global};
+use std::alloc::Global;
 
-// The text of the office file for a register.
-fn number_text(alloc: Global, last: &LastNumber, register: &Register) -> Result<Vec<u8>, AllocError>
-    ensures { IfOk result (λ text. text.items ≡ office_text (next_of last.now register.now)) }
-{
-    let mut text = Vec::new(alloc);
-    next_number(last, register).write_to(&mut text)?;
-    Ok(text)
-}
-
-/// Makes the register's file ready, replaces the office file, and then the register's file, unless that was read and has changed.
-pub fn publish_numbered<P: Place, Q: Place>(
+/// Makes the register's file ready, replaces the office file by the next one, and then the register's file, unless that was read
+/// and has changed. If it was read, the office file is then told that its last number stands in a register.
+pub(crate) fn publish_after<P: Place, Q: Place>(
     alloc: Global,
-    last: &LastNumber,
+    file: &OfficeFile,
+    next: OfficeFile,
     register: &Register,
     read: Option<&[u8]>,
     place: &mut P,
     office: &mut Q,
 ) -> Result<(), CliFault>
-    ensures published { OnOk result (PublishesNumbered last.now register.now (option_map (λ s. s.now) read.entry)
+    ensures published { OnOk result (PublishesAfter file.now next register.now (option_map (λ s. s.now) read.entry)
         (P.state place.old) (P.state place.new) (Q.state office.old) (Q.state office.new)) }
-    ensures fault { IfErr result (IsUnpublishedNumbered last.now register.now (option_map (λ s. s.now) read.entry)
+    ensures fault { IfErr result (IsUnpublishedAfter file.now next register.now (option_map (λ s. s.now) read.entry)
         (P.state place.old) (P.state place.new) (Q.state office.old) (Q.state office.new)) }
 {
-    let Ok(text) = number_text(alloc, last, register) else {
-        return Err(CliFault::Memory);
+    let text = match office_text(alloc, &next) {
+        Ok(text) => text,
+        Err(fault) => return Err(fault),
     };
     let bytes = match write_bytes(alloc, register) {
         Ok(bytes) => bytes,
         Err(WriteFileFault::TooLarge) => return Err(CliFault::Out(OutFault::TooLarge)),
         Err(_) => return Err(CliFault::Memory),
     };
-    match replace_numbered(place, read, &bytes, office, &text) {
-        Ok(()) => Ok(()),
-        Err(fault) => Err(unkept_by(fault)),
+    let changed = changed(file.is_changed(&next), &text);
+    match replace_after(place, read, &bytes, office, changed) {
+        Ok(()) => {}
+        Err(fault) => return Err(unkept_by(fault)),
     }
+    tell_first(alloc, read.is_some(), next, &text, office);
+    Ok(())
 }
 
-fn unkept_by(fault: NumberedFault) -> CliFault
-    ensures { result ≡ unkept_fault fault }
-{
-    match fault {
-        NumberedFault::Unready(fault) => CliFault::of_replace(fault),
-        NumberedFault::Unnoted(fault) => CliFault::Office(fault),
-        NumberedFault::Late(fault) => CliFault::of_replace(fault),
-    }
-}
-
-/// Makes the register ready for the shelf from which another one was restored, replaces the office file, and then changes the
-/// shelf.
-pub fn keep_on_numbered<D: Disk, Q: Place>(
+/// Makes the register ready for the shelf from which another one was restored, replaces the office file by the next one, and then
+/// changes the shelf. Then the office file is told that its last number stands in a register.
+pub(crate) fn keep_after<D: Disk, Q: Place>(
     alloc: Global,
-    last: &LastNumber,
+    file: &OfficeFile,
+    next: OfficeFile,
     register: &Register,
     disk: &mut D,
     office: &mut Q,
 ) -> Result<(), CliFault>
     ensures kept { (was : Content) → Has (disks D.tells D.seen D.images D.moment D.images_since D.failures) disk.old was
         → IsSure (disks D.tells D.seen D.images D.moment D.images_since D.failures) disk.old
-        → OnOk result (KeepsNumbered (disks D.tells D.seen D.images D.moment D.images_since D.failures) last.now was register.now
+        → OnOk result (KeepsAfter (disks D.tells D.seen D.images D.moment D.images_since D.failures) file.now next was register.now
         disk.old disk.new (Q.state office.old) (Q.state office.new)) }
     ensures fault { (was : Content) → Has (disks D.tells D.seen D.images D.moment D.images_since D.failures) disk.old was
         → IsSure (disks D.tells D.seen D.images D.moment D.images_since D.failures) disk.old
-        → IfErr result (IsUnkeptNumbered (disks D.tells D.seen D.images D.moment D.images_since D.failures) last.now was register.now
+        → IfErr result (IsUnkeptAfter (disks D.tells D.seen D.images D.moment D.images_since D.failures) file.now next was register.now
         disk.old disk.new (Q.state office.old) (Q.state office.new)) }
     ensures tells { D.tells disk.new ≡ D.tells disk.old }
 {
-    let Ok(text) = number_text(alloc, last, register) else {
-        return Err(CliFault::Memory);
+    let text = match office_text(alloc, &next) {
+        Ok(text) => text,
+        Err(fault) => return Err(fault),
     };
     let frame = match ready_on(alloc, disk, register) {
         Ok(frame) => frame,
         Err(fault) => return Err(fault),
     };
-    if let Err(fault) = put_number(office, &text) {
+    let changed = changed(file.is_changed(&next), &text);
+    if let Err(fault) = put_changed(office, changed) {
         return Err(CliFault::Office(fault));
     }
     match put_on(disk, &frame) {
-        Ok(()) => Ok(()),
-        Err(fault) => Err(fault),
+        Ok(()) => {}
+        Err(fault) => return Err(fault),
+    }
+    tell_first(alloc, true, next, &text, office);
+    Ok(())
+}
+
+// The text of the office file.
+fn office_text(alloc: Global, next: &OfficeFile) -> Result<Vec<u8>, CliFault>
+    ensures held { IfOk result (λ text. HoldsOffice text.items next.now) }
+    ensures fault { IfErr result (λ f. (f ≡ cli.Memory) ⊎ ((f ≡ cli.Office note.TooLarge) × IsOfficeTooLarge next.now)) }
+{
+    match next.to_bytes(alloc) {
+        Ok(text) => Ok(text),
+        Err(WriteFileFault::TooLarge) => Err(CliFault::Office(NoteFault::TooLarge)),
+        Err(_) => Err(CliFault::Memory),
+    }
+}
+
+// The text, if it is another one than before.
+fn changed(is_changed: bool, text: &[u8]) -> Option<&[u8]>
+    ensures { option_map (λ s. s.now) result ≡ if_changed is_changed text.now }
+{
+    if is_changed { Some(text) } else { None }
+}
+
+fn unkept_by(fault: UnreplacedFault) -> CliFault
+    ensures { result ≡ unkept_fault fault }
+{
+    match fault {
+        UnreplacedFault::Unready(fault) => CliFault::of_replace(fault),
+        UnreplacedFault::Unnoted(fault) => CliFault::Office(fault),
+        UnreplacedFault::Late(fault) => CliFault::of_replace(fault),
+    }
+}
+
+// Tells the office file that its last number stands in a register, if that is the first one: the file that was read. The command
+// is done by then: if this fails, the next command finds the number in the register.
+fn tell_first<Q: Place>(alloc: Global, is_same: bool, next: OfficeFile, text: &[u8], office: &mut Q)
+    requires { HoldsOffice text.now next }
+    ensures { Tells (is_first is_same next) next (Q.state office.old) (Q.state office.new) }
+{
+    if is_same && next.stood() == 0 {
+        tell(alloc, next, text, office);
+    }
+}
+
+fn tell<Q: Place>(alloc: Global, next: OfficeFile, text: &[u8], office: &mut Q)
+    requires { HoldsOffice text.now next }
+    ensures { Tries next (landed next) (Q.state office.old) (Q.state office.new) }
+{
+    let mut landed = next;
+    let last = landed.last();
+    landed.stood_to(last);
+    let Ok(told) = landed.to_bytes(alloc) else {
+        return;
+    };
+    match replace(office, Some(text), &told) {
+        Ok(()) => {}
+        Err(_) => {}
     }
 }

@@ -1,19 +1,17 @@
 //! Commands of an office that works through its office file.
 #![tactic(auto)]
 
+mod admitting;
 mod keeping;
-mod lag;
-mod left;
 mod making;
 mod opening;
 mod store;
 mod trying;
 
-pub use lag::behind;
-pub use left::may_take_its_place;
+pub use byte_office::{NewPlace, NoteFault};
 pub use making::run_office;
-pub use opening::{last_of, lock_office, unopened};
+pub use opening::{busy, lock_office, office_in, unopened};
 pub use reg_engine as engine;
-pub use reg_number::{LastNumber, OfficePlace};
+pub use reg_journal::OfficeFile;
 pub use store::{GuardedFile, GuardedShelf};
 pub use trying::{TriedFile, TriedShelf};

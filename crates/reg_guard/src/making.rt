@@ -1,17 +1,18 @@
 //! The command `office`.
 
 ghost use Rattle.std.specs.Prelude.{◌≡◌, IfOk, OnOk, IfErr};
-ghost use Rattle.reg_number.specs.Text.{Last, office_text};
+ghost use Rattle.reg_journal.specs.Journal.{fresh};
+ghost use Rattle.reg_journal.specs.Text.{HoldsOffice};
 ghost use Rattle.reg_guard.specs.Making.{office_of, uuid_line, IsFounded, IsUnfounded};
 
 use byte_io::{Sink, write_all};
 use byte_out::{Place, replace};
 use reg_engine::{CliFault, OutFault};
-use reg_number::LastNumber;
+use reg_journal::OfficeFile;
 use std::alloc::{AllocError, Global};
 use uuid::{Builder, Uuid};
 
-/// Makes an office file with a UUID of version 4, which has these random bytes, and the number 0; and writes the UUID to the sink,
+/// Makes an office file with a UUID of version 4, which has these random bytes, and made nothing; and writes the UUID to the sink,
 /// with a newline.
 pub fn run_office<P: Place, K: Sink>(
     alloc: Global,
@@ -23,8 +24,8 @@ pub fn run_office<P: Place, K: Sink>(
     ensures fault { IfErr result (IsUnfounded (office_of random) (P.state place.old) (P.state place.new) (K.state sink.old) (K.state sink.new)) }
 {
     let replica = Builder::from_random_bytes(random).into_uuid();
-    let last = LastNumber::new(replica, 0);
-    let Ok(text) = text_of(alloc, &last) else {
+    let file = OfficeFile::new(alloc, replica);
+    let Ok(text) = file.to_bytes(alloc) else {
         return Err(CliFault::Memory);
     };
     let Ok(line) = line_of(alloc, replica) else {
@@ -46,17 +47,9 @@ pub fn run_office<P: Place, K: Sink>(
     }
 }
 
-fn text_of(alloc: Global, last: &LastNumber) -> Result<Vec<u8>, AllocError>
-    ensures { IfOk result (λ text. text.items ≡ office_text last.now) }
-{
-    let mut text = Vec::new(alloc);
-    last.write_to(&mut text)?;
-    Ok(text)
-}
-
 // The UUID in small letters, and a newline.
 fn line_of(alloc: Global, replica: Uuid) -> Result<Vec<u8>, AllocError>
-    ensures { IfOk result (λ line. line.items ≡ uuid_line (record { replica = replica; count = 0 })) }
+    ensures { IfOk result (λ line. line.items ≡ uuid_line (fresh replica)) }
 {
     let mut buffer = Uuid::encode_buffer();
     let text = replica.hyphenated().encode_lower(&mut buffer);

@@ -1,2 +1,1 @@
-mod CameLemmas
 mod RisenLemmas

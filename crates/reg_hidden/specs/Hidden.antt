@@ -1,5 +1,5 @@
 -- What a register gained that no row shows.
-use Rattle.std.specs.Prelude.{◌≡◌, ℕ, ◌-◌, nat_le, Bool, false, not, List, [], ◌∷◌, length, IfSome, if◌then◌else◌}
+use Rattle.std.specs.Prelude.{◌≡◌, ℕ, ◌-◌, nat_le, Bool, false, not, List, [], ◌∷◌, length, Option, Some, None, if◌then◌else◌}
 use Rattle.std.specs.List.{count_by, flat_map}
 use Rattle.std.specs.Ordering.{is_eq}
 use Rattle.reg_op.specs.Set as set
@@ -12,7 +12,7 @@ use Rattle.reg_op.specs.Pieces.{outside}
 use Rattle.reg_op.specs.Rows.{awaited}
 use Rattle.reg_state.specs.Runs.{replica_cmp}
 use Rattle.reg_office.specs.Making.{greatest}
-use Rattle.reg_file.specs.Files.{Holds}
+use Rattle.reg_file.specs.Files.{Holds, IsTooLarge}
 use Rattle.reg_query.specs.declared.figures.office.OfficeFigures.{OfficeFigures}
 use Rattle.reg_query.specs.Offices.{AreOffices}
 use Rattle.reg_hidden.specs.declared.risen.Risen.{Risen}
@@ -47,14 +47,15 @@ risen_of seen o = if nat_le (rise_of seen o) o.kept then [] else (record { offic
 abbrev pub AreRisen : Ids → Content → List Risen → Type 0
 AreRisen seen c rs = (os : List OfficeFigures) × AreOffices c os × (rs ≡ flat_map (risen_of seen) os)
 
--- a file of the content has this length
-abbrev pub IsLengthOf : Content → ℕ → Type 0
-IsLengthOf x n = (bytes : List ℕ) × Holds bytes x × (n ≡ length bytes)
+-- the file of the content has this length; or it would have too many bytes
+abbrev pub IsLength : Content → Option ℕ → Type 0
+IsLength x (Some n) = (bytes : List ℕ) × Holds bytes x × (n ≡ length bytes)
+IsLength x None = IsTooLarge x
 
 pub record IsHidden (x y : Content) (h : Hidden) : Type 0 where
   pub retired : h.retired ≡ count_by retires_of_others (set.items (came x y).ops)
   pub awaited_before : h.awaited_before ≡ length (set.items (awaited x.ops))
   pub awaited : h.awaited ≡ length (set.items (awaited y.ops))
   pub risen : AreRisen x.seen (came x y) h.risen.items
-  pub bytes_before : IfSome h.bytes_before (IsLengthOf x)
-  pub bytes : IfSome h.bytes (IsLengthOf y)
+  pub bytes_before : IsLength x h.bytes_before
+  pub bytes : IsLength y h.bytes

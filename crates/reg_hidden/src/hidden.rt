@@ -1,14 +1,14 @@
 //! What a register gained that no row shows, and that cannot be undone.
 
-ghost use Rattle.std.specs.Prelude.{◌≡◌, length, IfOk, IfSome};
+ghost use Rattle.std.specs.Prelude.{◌≡◌, length, IfOk};
 ghost use Rattle.std.specs.List.{count_by};
 ghost use Rattle.reg_op.specs.Set as set;
 ghost use Rattle.reg_op.specs.Rows.{awaited};
-ghost use Rattle.reg_hidden.specs.Hidden.{is_of_another, retires_of_others, IsLengthOf, IsHidden};
+ghost use Rattle.reg_hidden.specs.Hidden.{is_of_another, retires_of_others, IsLength, IsHidden};
 
 use crate::came::came;
 use crate::risen::{Risen, offices_risen};
-use reg_file::write_bytes;
+use reg_file::{WriteFileFault, write_bytes};
 use reg_op::{Op, OpBody, OpId};
 use reg_report::awaited;
 use reg_state::Register;
@@ -25,9 +25,9 @@ pub struct Hidden {
     pub awaited: usize,
     /// Offices whose greatest number rose by more than their operations that came.
     pub risen: Vec<Risen>,
-    /// The bytes of the register's file before, if it is not too large.
+    /// The bytes of the register's file before, unless it would be too large.
     pub bytes_before: Option<usize>,
-    /// The bytes of its file now.
+    /// The bytes of its file now, unless it would be too large.
     pub bytes: Option<usize>,
 }
 
@@ -62,13 +62,14 @@ fn count_awaited(alloc: Global, register: &Register) -> Result<usize, AllocError
     Ok(ids.len())
 }
 
-// The length of the register's file.
-fn length_of(alloc: Global, register: &Register) -> Option<usize>
-    ensures { IfSome result (IsLengthOf register.now) }
+// The length of the register's file, unless it would be too large.
+fn length_of(alloc: Global, register: &Register) -> Result<Option<usize>, AllocError>
+    ensures { IfOk result (IsLength register.now) }
 {
     match write_bytes(alloc, register) {
-        Ok(bytes) => Some(bytes.len()),
-        Err(_) => None,
+        Ok(bytes) => Ok(Some(bytes.len())),
+        Err(WriteFileFault::TooLarge) => Ok(None),
+        Err(_) => Err(AllocError),
     }
 }
 
@@ -80,12 +81,14 @@ pub fn hidden_in(alloc: Global, old: &Register, new: &Register) -> Result<Hidden
     let risen = offices_risen(alloc, old.seen(), &came)?;
     let awaited_before = count_awaited(alloc, old)?;
     let awaited = count_awaited(alloc, new)?;
+    let bytes_before = length_of(alloc, old)?;
+    let bytes = length_of(alloc, new)?;
     Ok(Hidden {
         retired: count_retired(came.ops().as_slice()),
         awaited_before,
         awaited,
         risen,
-        bytes_before: length_of(alloc, old),
-        bytes: length_of(alloc, new),
+        bytes_before,
+        bytes,
     })
 }

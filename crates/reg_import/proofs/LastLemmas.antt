@@ -57,7 +57,7 @@ AreKeyed (text ∷ texts) = IsKeyed text × AreKeyed texts
 
 -- ---- the entries that effects retire
 
-gone_both : (i : Id) (bs cs : List Body) → gone i bs ≡ false → gone i cs ≡ false → gone i (bs ++ cs) ≡ false
+pub gone_both : (i : Id) (bs cs : List Body) → gone i bs ≡ false → gone i cs ≡ false → gone i (bs ++ cs) ≡ false
 gone_both i bs cs h k = list_any-append (is_retirement i) bs cs ∙ (λ j. h j || k j)
 
 gone_parts : (i : Id) (bs cs : List Body) → gone i (bs ++ cs) ≡ false → (gone i bs ≡ false) × (gone i cs ≡ false)
@@ -91,7 +91,7 @@ stays_of (told.Revised j) key text there e c h = absurd (true≢false (sym (reti
 stays_of (told.Refused p) key text there e c h = c
 stays_of told.Spent key text there e c h = c
 
-old_stay : (d : Differs) (r : List ℕ) (n : ℕ) (at : At) (texts : List ReadText) (k : KeyBytes) (e : StandingEntry) → Contains (at k).known e → gone e.entry (effects (imports d r n at texts)) ≡ false → Contains (finally d r n at texts k).known e
+pub old_stay : (d : Differs) (r : List ℕ) (n : ℕ) (at : At) (texts : List ReadText) (k : KeyBytes) (e : StandingEntry) → Contains (at k).known e → gone e.entry (effects (imports d r n at texts)) ≡ false → Contains (finally d r n at texts k).known e
 old_stay d r n at [] k e c h = c
 old_stay d r n at (reading.Unread f ∷ texts) k e c h = old_stay d r (n + 0) at texts k e c h
 old_stay d r n at (reading.Defined text key ∷ texts) k e c h =
@@ -103,7 +103,7 @@ old_stay d r n at (reading.Defined text key ∷ texts) k e c h =
     old_stay d r (n + length bs) next texts k e
     (at_key (λ o. Contains o.known e) (bytes_of key) k (then_of t key text there) at (λ same. stays_of t key text there e (subst (λ l. Contains (at l).known e) (sym same) c) parts.0) (λ _. c)) parts.1
 
-once_gone : (ops : Ops) (before : List Id) (bs : List Body) (i : Id) → Once ops before bs → gone i bs ≡ true → enters ops i ≡ true
+pub once_gone : (ops : Ops) (before : List Id) (bs : List Body) (i : Id) → Once ops before bs → gone i bs ≡ true → enters ops i ≡ true
 once_gone ops before [] i once h = absurd (true≢false (sym h))
 once_gone ops before (Enter text ∷ bs) i once h = once_gone ops before bs i once h
 once_gone ops before (Supersede old newer ∷ bs) i once h = absurd once
@@ -115,7 +115,7 @@ once_gone ops before (Retire e ∷ bs) i once h = elim (or_cases (is_same i e) (
 -- ---- the entries that effects enter
 
 module _ (r : List ℕ) (note : List ℕ) where
-  has_both : (n : ℕ) (bs cs : List Body) (o : Op) → has (numbered r n note (bs ++ cs)) o ≡ (has (numbered r n note bs) o || has (numbered r (n + length bs) note cs) o)
+  pub has_both : (n : ℕ) (bs cs : List Body) (o : Op) → has (numbered r n note (bs ++ cs)) o ≡ (has (numbered r n note bs) o || has (numbered r (n + length bs) note cs) o)
   has_both n bs cs o = ap (λ l. has l o) (numbered_append r n note bs cs) ∙ list_any-append (eq_by_cmp op_cmp o) (numbered r n note bs) (numbered r (n + length bs) note cs)
 
   no_enter : (n : ℕ) (es : List StandingEntry) (i : Id) (text noted : List ℕ) → has (numbered r n note (retired es)) (entering i text noted) ≡ true → ⊥
@@ -160,7 +160,7 @@ module _ (r : List ℕ) (note : List ℕ) where
   abbrev IsEntered : TextAction → List ℕ → List ℕ → Type 0
   IsEntered t text other = (other ≡ text) × (is_refused t ≡ false) × (is_spent t ≡ false)
 
-  entered_is : (d : Differs) (n : ℕ) (text : List ℕ) (there : OfKey) (i : Id) (other noted : List ℕ) → has (numbered r n note (bodies_of (told_of d (id_at r n) there text) text there.known)) (entering i other noted) ≡ true
+  pub entered_is : (d : Differs) (n : ℕ) (text : List ℕ) (there : OfKey) (i : Id) (other noted : List ℕ) → has (numbered r n note (bodies_of (told_of d (id_at r n) there text) text there.known)) (entering i other noted) ≡ true
       → IsEntered (told_of d (id_at r n) there text) text other
   entered_is d n text there i other noted = told_has (λ t. has (numbered r n note (bodies_of t text there.known)) (entering i other noted) ≡ true → IsEntered t text other) d (id_at r n) there text (record {
     same = λ j h. absurd (true≢false (sym h));
@@ -188,7 +188,7 @@ module _ (r : List ℕ) (note : List ℕ) where
   later : (last : At) (first : ReadText) (texts : List ReadText) (text : List ℕ) → IsAtEnd last texts text → IsAtEnd last (first ∷ texts) text
   later last first texts text h = record { key = h.key; read = in_tail (reading.Defined text h.key) first texts h.read; keyed = h.keyed; there = h.there }
 
-  enters_there : (d : Differs) (n : ℕ) (at : At) (texts : List ReadText) (i : Id) (text noted : List ℕ) → AreKeyed texts → has (numbered r n note (effects (imports d r n at texts))) (entering i text noted) ≡ true → IsAtEnd (finally d r n at texts) texts text
+  pub enters_there : (d : Differs) (n : ℕ) (at : At) (texts : List ReadText) (i : Id) (text noted : List ℕ) → AreKeyed texts → has (numbered r n note (effects (imports d r n at texts))) (entering i text noted) ≡ true → IsAtEnd (finally d r n at texts) texts text
   enters_there d n at [] i text noted keyed h = absurd (true≢false (sym h))
   enters_there d n at (reading.Unread f ∷ texts) i text noted keyed h =
       later (finally d r (n + 0) at texts) (reading.Unread f) texts text (enters_there d (n + 0) at texts i text noted keyed.1

@@ -17,3 +17,4 @@ pub mod ReadingLemmas
 pub mod LastLemmas
 pub mod LawLemmas
 pub mod AheadLemmas
+pub mod ModeLemmas

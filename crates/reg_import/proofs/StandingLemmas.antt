@@ -94,7 +94,7 @@ at_op s e (Enter text) r h = elim (in_cons r _ [] h) [
 at_op s e (Supersede old newer) r h = absurd (none_in r h)
 at_op s e (Retire entry) r h = absurd (none_in r h)
 
-row_status : (s : Ops) (os : List Op) (r : Row) → Contains (rows_in s os) r → r.status ≡ status s r.entry
+pub row_status : (s : Ops) (os : List Op) (r : Row) → Contains (rows_in s os) r → r.status ≡ status s r.entry
 row_status s [] r h = absurd (none_in r h)
 row_status s (o ∷ os) r h = elim (Contains-append_cases (rows_at s o.id o.body) (rows_in s os) r h) [
   | inl here ↦ at_op s o.id o.body r here
@@ -141,7 +141,7 @@ pub record IsStandingEntry (s : Ops) (i : Id) (text : List ℕ) : Type 0 where
   pub entered : contains s (entering i text note) ≡ true
   pub stands : retires s i ≡ false
 
-row_stands : (s : Ops) (r : Row) → Contains (rows s) r → stands r ≡ true → IsStandingEntry s r.entry r.definition
+pub row_stands : (s : Ops) (r : Row) → Contains (rows s) r → stands r ≡ true → IsStandingEntry s r.entry r.definition
 row_stands s r c up =
     let p = row_is_entered s r c in
     let there : enters s r.entry ≡ true = it_enters s (entering r.entry r.definition p.0) r.entry r.definition (Enter r.definition) p.1 refl refl refl in

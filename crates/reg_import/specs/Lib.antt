@@ -9,3 +9,4 @@ pub mod Again
 pub mod Gone
 pub mod Lines
 pub mod Listing
+pub mod Modes

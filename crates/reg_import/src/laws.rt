@@ -11,7 +11,7 @@ ghost use Rattle.reg_report.specs.Exports.{export};
 ghost use Rattle.reg_office.specs.World.{World, IsWorld};
 ghost use Rattle.reg_import.specs.declared.reading.ReadText.{ReadText};
 ghost use Rattle.reg_import.specs.declared.action.Differs.{Differs};
-ghost use Rattle.reg_import.specs.declared.action.Differs.TheVariants.{Beside};
+ghost use Rattle.reg_import.specs.declared.action.Differs.TheVariants.{Refuse, Beside, Revise};
 ghost use Rattle.reg_import.specs.declared.action.Problem.{Problem};
 ghost use Rattle.reg_import.specs.declared.action.TextAction.{TextAction};
 ghost use Rattle.reg_import.specs.declared.import.ImportRefusal.{ImportRefusal};
@@ -19,6 +19,7 @@ ghost use Rattle.reg_import.specs.declared.import.ImportRefusal.TheVariants as r
 ghost use Rattle.reg_import.specs.Readings.{IsReading};
 ghost use Rattle.reg_import.specs.Plans.{Imports, IsImportRefusal};
 ghost use Rattle.reg_import.specs.Gone.{IsGone, AreGone, IsKeyOf, IsLiveKey};
+ghost use Rattle.reg_import.specs.Modes.{MakesNoConflict, RetiresNothing, LeavesOneText};
 ghost use Rattle.reg_import.specs.Again.{HasStanding, standing_texts, IsSameReading, AreReadings, RetiresNoneAhead, SupersedesNoneAhead, IsToldAgain};
 
 /// A text has one reading: the same bytes are read as the same definition with the same key, or refused for the same reason.
@@ -66,4 +67,20 @@ pub fn gone_keys_are_a_difference()
         → (r : Row) → Contains gone r ↔ (Contains rs r × IsGone authority texts r) }
     ensures keys { (authority : List ℕ) (texts : List KeyBytes) (rs gone : List Row) → AreGone authority texts rs gone
         → (key : KeyBytes) → IsKeyOf gone key ↔ (IsLiveKey authority rs key × (¬ (Contains texts key))) }
+{}
+
+/// An import in mode `refuse` brings no key into conflict. In mode `refuse` or `beside` it retires nothing.
+pub fn refuse_makes_no_conflict()
+    ensures conflicts { (x y : Content) (replica note : List ℕ) (keep_going : Bool) (texts : List (List ℕ)) (readings : List ReadText) (ts : List TextAction)
+        → IsContent x → AreReadings texts readings → Imports x replica note Refuse keep_going readings y ts → MakesNoConflict x y }
+    ensures retires { (x y : Content) (replica note : List ℕ) (keep_going : Bool) (texts : List (List ℕ)) (readings : List ReadText) (ts : List TextAction)
+        → IsContent x → AreReadings texts readings → Imports x replica note Refuse keep_going readings y ts → RetiresNothing x y }
+    ensures beside { (x y : Content) (replica note : List ℕ) (keep_going : Bool) (texts : List (List ℕ)) (readings : List ReadText) (ts : List TextAction)
+        → IsContent x → AreReadings texts readings → Imports x replica note Beside keep_going readings y ts → RetiresNothing x y }
+{}
+
+/// An import in mode `revise` leaves, for each key of a text that it entered, exactly one text that is not retired.
+pub fn revise_leaves_one_text()
+    ensures { (x y : Content) (replica note : List ℕ) (keep_going : Bool) (texts : List (List ℕ)) (readings : List ReadText) (ts : List TextAction)
+        → IsContent x → RetiresNoneAhead x replica → AreReadings texts readings → Imports x replica note Revise keep_going readings y ts → LeavesOneText x y }
 {}

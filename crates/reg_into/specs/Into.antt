@@ -1,16 +1,16 @@
 -- A register, handed on as a folder.
-use Rattle.std.specs.Prelude.{◌≡◌, ◌⊎◌, Bool, List, Option}
+use Rattle.std.specs.Prelude.{◌≡◌, ◌⊎◌, Bool, List}
 use Rattle.byte_folder.specs.Folder.{File, FolderState}
 use Rattle.byte_folder.specs.Put.{Puts, IsPutFault}
 use Rattle.byte_folder.specs.declared.fault.FolderFault.TheVariants as put
 use Rattle.reg_op.specs.Contents.{Content}
-use Rattle.reg_op.specs.Ids.{Id}
 use Rattle.reg_handing.specs.OutFault.TheVariants as out
 use Rattle.reg_handing.specs.CliFault.{CliFault}
 use Rattle.reg_handing.specs.CliFault.TheVariants as cli
 use Rattle.reg_handing.specs.Store.{Around}
 use Rattle.reg_handing.specs.declared.choice.Choice.{Choice}
 use Rattle.reg_handing.specs.Handed.{CannotHand}
+use Rattle.reg_into.specs.declared.rows.LeftOut.{LeftOut}
 use Rattle.reg_into.specs.Files.{HandsFiles}
 
 -- a register was read, and a folder with its files is in place
@@ -36,4 +36,4 @@ IsNotOut fs old new (cli.Office t) = ⊥
 abbrev pub IsNotPutInto : Around → Choice → Bool → FolderState → FolderState → CliFault → Type 0
 IsNotPutInto a c keep_going old new f = (a.none f × (new ≡ old))
     ⊎ ((x : Content) × a.came x
-    × ((CannotHand c keep_going x f × (new ≡ old)) ⊎ ((taken : Option Id) × (fs : List File) × HandsFiles c keep_going taken x fs × IsNotOut fs old new f)))
+    × ((CannotHand c keep_going x f × (new ≡ old)) ⊎ ((left : LeftOut) × (fs : List File) × HandsFiles c keep_going left x fs × IsNotOut fs old new f)))

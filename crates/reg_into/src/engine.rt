@@ -7,11 +7,10 @@ ghost use Rattle.reg_handing.specs.Handed.{CannotHand};
 ghost use Rattle.reg_into.specs.Files.{HandsFiles};
 ghost use Rattle.reg_into.specs.Into.{IsPutInto, IsNotPutInto, IsNotOut};
 
-use crate::rows::{Handed, files_of_found};
+use crate::rows::{Handed, LeftOut, files_of_found};
 use byte_folder::{FolderFault, FolderPlace, NamedFile, put_folder};
 use reg_handing::engine::{CliFault, OutFault, Store};
 use reg_handing::{Choice, found_for};
-use reg_op::OpId;
 use reg_state::Register;
 use std::alloc::Global;
 
@@ -22,7 +21,7 @@ fn handed(
     choice: &Choice<'_>,
     keep_going: bool,
 ) -> Result<Handed, CliFault>
-    ensures ok { IfOk result (λ made. HandsFiles choice.now keep_going made.taken register.now (map seen made.files.items)) }
+    ensures ok { IfOk result (λ made. HandsFiles choice.now keep_going made.left register.now (map seen made.files.items)) }
     ensures fault { IfErr result (CannotHand choice.now keep_going register.now) }
 {
     let found = match found_for(alloc, register, choice) {
@@ -48,28 +47,28 @@ fn put_files<F: FolderPlace>(place: &mut F, files: &[NamedFile]) -> Result<(), C
 }
 
 /// Loads the register, and puts a folder in place with a file for each key of the chosen entries. With `keep_going`, keys with two
-/// texts are left out, and the answer names the least entry of the least such key.
+/// texts are left out, and keys whose files would have names that are too long. The answer names them.
 pub fn run_into<T: Store, F: FolderPlace>(
     alloc: Global,
     store: &mut T,
     choice: &Choice<'_>,
     keep_going: bool,
     place: &mut F,
-) -> Result<Option<OpId>, CliFault>
+) -> Result<LeftOut, CliFault>
     ensures same { T.same store.old store.new }
-    ensures put { IfOk result (λ taken. IsPutInto (T.around store.old store.new) (HandsFiles choice.now keep_going taken) (F.state place.old) (F.state place.new)) }
+    ensures put { IfOk result (λ left. IsPutInto (T.around store.old store.new) (HandsFiles choice.now keep_going left) (F.state place.old) (F.state place.new)) }
     ensures fault { IfErr result (IsNotPutInto (T.around store.old store.new) choice.now keep_going (F.state place.old) (F.state place.new)) }
 {
     let register = match store.load(alloc) {
         Ok(register) => register,
         Err(fault) => return Err(fault),
     };
-    let Handed { files, taken } = match handed(alloc, &register, choice, keep_going) {
+    let Handed { files, left } = match handed(alloc, &register, choice, keep_going) {
         Ok(handed) => handed,
         Err(fault) => return Err(fault),
     };
     match put_files(place, &files) {
-        Ok(()) => Ok(taken),
+        Ok(()) => Ok(left),
         Err(fault) => Err(fault),
     }
 }

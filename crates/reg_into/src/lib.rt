@@ -6,4 +6,4 @@ mod rows;
 
 pub use engine::run_into;
 pub use reg_handing::Choice;
-pub use rows::{Handed, files_of_found};
+pub use rows::{Handed, LeftOut, files_of_found};

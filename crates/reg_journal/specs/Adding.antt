@@ -1,5 +1,5 @@
 -- What an office file has after a command.
-use Rattle.std.specs.Prelude.{◌+◌, ◌-◌, max, nat_lt, ◌&&◌, Bool, List}
+use Rattle.std.specs.Prelude.{ℕ, ◌+◌, ◌-◌, min, max, nat_lt, nat_eq, not, ◌&&◌, Bool, List}
 use Rattle.std.specs.List.{filter}
 use Rattle.reg_op.specs.Set as set
 use Rattle.reg_op.specs.Ids.{Id}
@@ -29,6 +29,18 @@ new_in f y = record {
 abbrev pub added : Journal → Content → Journal
 added f y = record { replica = f.replica; last = max f.last (greatest f.replica y.seen); stood = f.stood; made = merged f.made (new_in f y) }
 
--- the office file of an office that knows what stood in a register
-abbrev pub saw : Journal → Content → Journal
-saw f x = record { replica = f.replica; last = f.last; stood = max f.stood (greatest f.replica x.seen); made = f.made }
+-- the office file of an office that knows that this number, or else its last one, stood in a register
+abbrev pub stood_to : Journal → ℕ → Journal
+stood_to f n = record { replica = f.replica; last = f.last; stood = min f.last (max f.stood n); made = f.made }
+
+-- what the office file has after the office read the register x, and made y of it
+abbrev pub left_by : Journal → Content → Content → Journal
+left_by f x y = stood_to (added f y) (greatest f.replica x.seen)
+
+-- and once its last number stands in a register
+abbrev pub landed : Journal → Journal
+landed f = stood_to f f.last
+
+-- it has other numbers than before
+abbrev pub is_changed : Journal → Journal → Bool
+is_changed f g = not (nat_eq f.last g.last && nat_eq f.stood g.stood)

@@ -4,7 +4,8 @@ ghost use Rattle.std.specs.Prelude.{◌≡◌, ◌≤◌, ◌+◌, ◌-◌, ◌+
 ghost use Rattle.reg_op.specs.Set as set;
 ghost use Rattle.reg_state.specs.Runs.{ids_from};
 ghost use Rattle.reg_office.specs.Making.{greatest};
-ghost use Rattle.reg_journal.specs.Adding.{added, is_new, new_in, new_ops, saw};
+ghost use Rattle.reg_journal.specs.Adding.{added, is_changed, is_new, left_by, new_in, new_ops, stood_to};
+ghost use Rattle.reg_op.specs.Contents.{Content};
 
 use crate::forged::is_of;
 use crate::office_file::OfficeFile;
@@ -35,15 +36,37 @@ impl OfficeFile {
         }
     }
 
-    /// Notes which numbers of the office stood in a register.
-    pub fn saw(&mut self, register: &Register)
-        requires { greatest self.old.replica register.now.seen ≤ self.old.last }
-        ensures { self.new ≡ saw self.old register.now }
+    /// The office file after the office read a register that has seen this number of it, and made this one of it.
+    pub fn left_by(
+        &self,
+        alloc: Global,
+        stood: u32,
+        register: &Register,
+    ) -> Result<OfficeFile, AllocError>
+        ensures { (x : Content) → stood ≡ greatest self.now.replica x.seen → IfOk result (λ f. f ≡ left_by self.now x register.now) }
     {
-        let stands = last_count(register.seen(), self.replica);
-        if self.stood < stands {
-            self.stood = stands;
-        }
+        let mut next = self.with_made(alloc, register)?;
+        next.stood_to(stood);
+        Ok(next)
+    }
+
+    /// Notes that this number stood in a register, or else the last one that the office gave.
+    pub fn stood_to(&mut self, number: u32)
+        ensures { self.new ≡ stood_to self.old number }
+    {
+        let stood = if self.stood < number {
+            number
+        } else {
+            self.stood
+        };
+        self.stood = if stood < self.last { stood } else { self.last };
+    }
+
+    /// Whether it has other numbers than this one.
+    pub fn is_changed(&self, other: &OfficeFile) -> bool
+        ensures { result ≡ is_changed self.now other.now }
+    {
+        self.last != other.last || self.stood != other.stood
     }
 
     // The last number that the office gave, if it made what is in the register.

@@ -2,14 +2,16 @@
 use Rattle.std.proofs.Common.{◌≡◌, ◌↔◌, ◌⊎◌, ℕ, List, sym, ap, ◌∙◌, subst, inl, inr}
 use Rattle.reg_op.specs.Ids.{Id}
 use Rattle.reg_op.specs.Contents.{Content}
-use Rattle.reg_op.specs.Rows.{rows}
+use Rattle.reg_op.specs.Rows.{Row, rows}
+use Rattle.reg_keys.specs.declared.fault.KeyFault.{KeyFault}
 use Rattle.reg_keys.specs.declared.fault.KeyFault.TheVariants as key
-use Rattle.reg_keys.specs.Named.{StandsFor, StandFor}
+use Rattle.reg_keys.specs.Named.{StandsFor}
+use Rattle.reg_keys.specs.Every.{StandForEvery, StandForEach, FailsAt}
 use Rattle.reg_keys.proofs.LawLemmas as law
-use Rattle.reg_keys.proofs.NamedLemmas.{no_memory}
+use Rattle.reg_keys.proofs.EveryLemmas as every
 use Rattle.reg_engine.specs.declared.fault.CliFault.{CliFault}
 use Rattle.reg_engine.specs.declared.fault.CliFault.TheVariants as cli
-use Rattle.reg_keyed.specs.Keyed.{key_fault, PrintsFor, RefusesFor, MakesFor, CannotMakeFor}
+use Rattle.reg_keyed.specs.Keyed.{key_fault, IsUnnamed, PrintsFor, RefusesFor, StandForBoth, FailForBoth, MakesFor, CannotMakeFor}
 
 -- ---- a command on one entry
 
@@ -29,20 +31,44 @@ refuse_is Refuses word x e f s = (to, from)
     from (inl r) = inr (e, s, r)
     from (inr m) = inl (key.Memory, tt, sym m)
 
--- ---- a command on some entries
+-- ---- a command that changes entries
 
-pub make_is : (Makes : List Id → Content → Content → List ℕ → Type 0) (words : List (List ℕ)) (x y : Content) (es : List Id) (lines : List ℕ) → StandFor (rows x.ops) words es
-    → MakesFor Makes words x y lines ↔ Makes es x y lines
-make_is Makes words x y es lines s = (λ (ds, t, m). subst (λ is. Makes is x y lines) (law.one_meaning (rows x.ops) words ds es t s) m, λ m. (es, s, m))
+module _ (words newer : List (List ℕ)) (x : Content) (es fs : List Id) (s : StandForBoth (rows x.ops) words newer es fs) where
+  no_fault : (k : KeyFault) → FailForBoth (rows x.ops) words newer k → k ≡ key.Memory
+  no_fault k (inl (at, o)) = every.no_fault_every (rows x.ops) words 0 es at k s.0 o
+  no_fault k (inr (ds, t, (at, o))) = every.no_fault_each (rows x.ops) newer 0 fs at k s.1 o
 
-pub cannot_is : (Refuses : List Id → Content → CliFault → Type 0) (words : List (List ℕ)) (x : Content) (es : List Id) (f : CliFault) → StandFor (rows x.ops) words es
-    → CannotMakeFor Refuses words x f ↔ (Refuses es x f ⊎ (f ≡ cli.Memory))
-cannot_is Refuses words x es f s = (to, from)
-  where
-    to : CannotMakeFor Refuses words x f → Refuses es x f ⊎ (f ≡ cli.Memory)
-    to (inl (k, o, is)) = inr (sym is ∙ ap key_fault (law.no_objections (rows x.ops) words es k s o))
-    to (inr (ds, t, r)) = inl (subst (λ is. Refuses is x f) (law.one_meaning (rows x.ops) words ds es t s) r)
+  same : (P : List Id → List Id → Type 0) (ds gs : List Id) → StandForBoth (rows x.ops) words newer ds gs → P ds gs → P es fs
+  same P ds gs t p =
+      subst (λ (l : List Id). P l fs) (every.one_meaning_every (rows x.ops) words ds es t.0 s.0)
+      (subst (λ (l : List Id). P ds l) (every.one_meaning_each (rows x.ops) newer gs fs t.1 s.1) p)
 
-    from : Refuses es x f ⊎ (f ≡ cli.Memory) → CannotMakeFor Refuses words x f
-    from (inl r) = inr (es, s, r)
-    from (inr m) = inl (key.Memory, no_memory (rows x.ops) words, sym m)
+  pub make_is : (Makes : List Id → List Id → Content → Content → List ℕ → Type 0) (y : Content) (lines : List ℕ)
+      → MakesFor Makes words newer x y lines ↔ Makes es fs x y lines
+  make_is Makes y lines = (λ (ds, gs, t, m). same (λ a b. Makes a b x y lines) ds gs t m, λ m. (es, fs, s, m))
+
+  pub cannot_is : (Refuses : List Id → List Id → Content → CliFault → Type 0) (f : CliFault)
+      → CannotMakeFor Refuses words newer x f ↔ (Refuses es fs x f ⊎ (f ≡ cli.Memory))
+  cannot_is Refuses f = (to, from)
+    where
+      to : CannotMakeFor Refuses words newer x f → Refuses es fs x f ⊎ (f ≡ cli.Memory)
+      to (inl (k, o, is)) = inr (sym is ∙ ap key_fault (no_fault k o))
+      to (inr (ds, gs, t, r)) = inl (same (λ a b. Refuses a b x f) ds gs t r)
+
+      from : Refuses es fs x f ⊎ (f ≡ cli.Memory) → CannotMakeFor Refuses words newer x f
+      from (inl r) = inr (es, fs, s, r)
+      from (inr m) = inl (key.Memory, inl (0, every.no_memory (rows x.ops) words 0 0 (λ i. 0)), sym m)
+
+-- ---- why words stand for no entries
+
+module _ (rs : List Row) (words newer : List (List ℕ)) where
+  pub both_memory : IsUnnamed (FailForBoth rs words newer) cli.Memory
+  both_memory = (key.Memory, inl (0, every.no_memory rs words 0 0 (λ i. 0)), λ i. cli.Memory)
+
+  pub first_fails : (qs : List Row) (k : ℕ) (f : KeyFault) (g : CliFault) → qs ≡ rs → FailsAt qs 0 words k f → g ≡ key_fault f → IsUnnamed (FailForBoth rs words newer) g
+  first_fails qs k f g same fails is = (f, inl (k, subst (λ (l : List Row). FailsAt l 0 words k f) same fails), sym is)
+
+  pub other_fails : (qs ls : List Row) (es : List Id) (k : ℕ) (f : KeyFault) (g : CliFault) → qs ≡ rs → ls ≡ rs → StandForEvery qs words es → FailsAt ls 0 newer k f → g ≡ key_fault f
+      → IsUnnamed (FailForBoth rs words newer) g
+  other_fails qs ls es k f g same also stand fails is =
+      (f, inr (es, subst (λ (l : List Row). StandForEvery l words es) same stand, (k, subst (λ (l : List Row). FailsAt l 0 newer k f) also fails)), sym is)

@@ -1,1 +1,2 @@
 mod KeyedLemmas
+mod EachLemmas

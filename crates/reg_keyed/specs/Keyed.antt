@@ -1,13 +1,15 @@
 -- Commands on the entries that words name.
-use Rattle.std.specs.Prelude.{◌≡◌, ◌⊎◌, ℕ, List, [], ◌∷◌}
+use Rattle.std.specs.Prelude.{◌≡◌, ◌⊎◌, ◌++◌, ℕ, List, [], ◌∷◌}
 use Rattle.reg_op.specs.Ids.{Id}
 use Rattle.reg_op.specs.Contents.{Content}
-use Rattle.reg_op.specs.Rows.{rows}
+use Rattle.reg_op.specs.Rows.{Row, rows}
 use Rattle.reg_op.specs.declared.operation.OpBody.{OpBody as Body}
 use Rattle.reg_office.specs.Commands.{supersessions}
 use Rattle.reg_keys.specs.declared.fault.KeyFault.{KeyFault}
 use Rattle.reg_keys.specs.declared.fault.KeyFault.TheVariants as key
-use Rattle.reg_keys.specs.Named.{StandsFor, IsObjection, StandFor, Object}
+use Rattle.reg_keys.specs.Named.{StandsFor, IsObjection}
+use Rattle.reg_keys.specs.Every.{StandForEvery, StandForEach, FailsAt}
+use Rattle.reg_commands.specs.Change.{Makes, CannotMake}
 use Rattle.reg_engine.specs.declared.fault.Refusal.TheVariants as refusal
 use Rattle.reg_engine.specs.declared.fault.CliFault.{CliFault}
 use Rattle.reg_engine.specs.declared.fault.CliFault.TheVariants as cli
@@ -22,13 +24,6 @@ key_fault key.Memory = cli.Memory
 abbrev pub IsUnnamed : (KeyFault → Type 0) → CliFault → Type 0
 IsUnnamed Objects f = (k : KeyFault) × Objects k × (key_fault k ≡ f)
 
--- ---- the effects of commands on entries
-
--- the first is superseded by each of the others
-abbrev pub first_superseded : List Id → List Body
-first_superseded [] = []
-first_superseded (old ∷ newer) = supersessions old newer
-
 -- ---- a command on one entry
 
 -- the text is the one that the command prints for the entry that the word names
@@ -39,12 +34,41 @@ PrintsFor Prints word x text = (e : Id) × StandsFor (rows x.ops) word e × Prin
 abbrev pub RefusesFor : (Id → Content → CliFault → Type 0) → List ℕ → Content → CliFault → Type 0
 RefusesFor Refuses word x f = IsUnnamed (IsObjection (rows x.ops) word) f ⊎ ((e : Id) × StandsFor (rows x.ops) word e × Refuses e x f)
 
--- ---- a command on some entries
+-- ---- a command that changes some entries, maybe by others
 
--- the content and the lines are those that the command makes with the entries that the words name
-abbrev pub MakesFor : (List Id → Content → Content → List ℕ → Type 0) → List (List ℕ) → Content → Content → List ℕ → Type 0
-MakesFor Makes words x y lines = (es : List Id) × StandFor (rows x.ops) words es × Makes es x y lines
+-- all entries that the first words stand for, and the entry that each of the other words stands for
+abbrev pub StandForBoth : List Row → List (List ℕ) → List (List ℕ) → List Id → List Id → Type 0
+StandForBoth rs every each es fs = StandForEvery rs every es × StandForEach rs each fs
 
--- a word names no entry; or the command makes nothing with those that they name
-abbrev pub CannotMakeFor : (List Id → Content → CliFault → Type 0) → List (List ℕ) → Content → CliFault → Type 0
-CannotMakeFor Refuses words x f = IsUnnamed (Object (rows x.ops) words) f ⊎ ((es : List Id) × StandFor (rows x.ops) words es × Refuses es x f)
+-- a word stands for no entry: one of the first, or else one of the others
+abbrev pub FailForBoth : List Row → List (List ℕ) → List (List ℕ) → KeyFault → Type 0
+FailForBoth rs every each f = ((k : ℕ) × FailsAt rs 0 every k f) ⊎ ((es : List Id) × StandForEvery rs every es × ((k : ℕ) × FailsAt rs 0 each k f))
+
+-- the content and the lines are those that the command makes with the entries that the words stand for
+abbrev pub MakesFor : (List Id → List Id → Content → Content → List ℕ → Type 0) → List (List ℕ) → List (List ℕ) → Content → Content → List ℕ → Type 0
+MakesFor Makes every each x y lines = (es : List Id) × (fs : List Id) × StandForBoth (rows x.ops) every each es fs × Makes es fs x y lines
+
+-- a word stands for no entry; or the command makes nothing with those that they stand for
+abbrev pub CannotMakeFor : (List Id → List Id → Content → CliFault → Type 0) → List (List ℕ) → List (List ℕ) → Content → CliFault → Type 0
+CannotMakeFor Refuses every each x f = IsUnnamed (FailForBoth (rows x.ops) every each) f
+    ⊎ ((es : List Id) × (fs : List Id) × StandForBoth (rows x.ops) every each es fs × Refuses es fs x f)
+
+-- ---- `supersede` for one old entry after the other
+
+-- each old entry is superseded by the newer ones, as by the command supersede on the content that the earlier ones left; these are
+-- the lines of all new ids
+abbrev pub SupersedesEach : List ℕ → List ℕ → List Id → List Id → Content → Content → List ℕ → Type 0
+SupersedesEach replica note [] newer x y lines = (y ≡ x) × (lines ≡ [])
+SupersedesEach replica note (old ∷ olds) newer x y lines = (z : Content) × (now : List ℕ) × (later : List ℕ)
+    × Makes replica note (supersessions old newer) x z now × SupersedesEach replica note olds newer z y later × (lines ≡ now ++ later)
+
+-- why the first of them that is refused is
+abbrev pub CannotSupersedeEach : List ℕ → List ℕ → List Id → List Id → Content → CliFault → Type 0
+CannotSupersedeEach replica note [] newer x f = ⊥
+CannotSupersedeEach replica note (old ∷ olds) newer x f = CannotMake replica note (supersessions old newer) x f
+    ⊎ ((z : Content) × (now : List ℕ) × Makes replica note (supersessions old newer) x z now × CannotSupersedeEach replica note olds newer z f)
+
+-- all their effects
+abbrev pub each_superseded : List Id → List Id → List Body
+each_superseded [] newer = []
+each_superseded (old ∷ olds) newer = supersessions old newer ++ each_superseded olds newer

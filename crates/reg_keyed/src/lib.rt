@@ -1,9 +1,13 @@
 //! Commands on the entries that words name, by id or by key.
 #![tactic(auto)]
 
+mod changing;
 mod keyed;
 pub mod laws;
+mod retiring;
+mod superseding;
 
-pub use keyed::{
-    ByWord, ByWords, ChangeOf, PrintOf, RetireOf, ShowOf, SupersedeOf, WktOf, fault_of,
-};
+pub use changing::{ByWords, ChangeOf, Entries};
+pub use keyed::{ByWord, PrintOf, ShowOf, WktOf, fault_of};
+pub use retiring::RetireOf;
+pub use superseding::SupersedeOf;

@@ -48,7 +48,7 @@ one_id text i j h k = λ l. record { replica = replica l; count = count l }
 
 -- ---- rows have one list of entries
 
-one_list : (P : Row → Type 0) (rs : List Row) (es fs : List Id) → AreEntries P rs es → AreEntries P rs fs → es ≡ fs
+pub one_list : (P : Row → Type 0) (rs : List Row) (es fs : List Id) → AreEntries P rs es → AreEntries P rs fs → es ≡ fs
 one_list P rs es fs a b = same_elements id_total es fs a.ascend b.ascend (λ e. (λ h. (b.each e).1 ((a.each e).0 h), λ h. (a.each e).1 ((b.each e).0 h)))
 
 one_first : (e f : Id) → ◌≡◌ {A = List Id} (e ∷ []) (f ∷ []) → e ≡ f

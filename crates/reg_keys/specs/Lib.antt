@@ -1,4 +1,6 @@
 pub mod Words
 pub mod Rows
 pub mod Named
+pub mod Index
 pub mod Told
+pub mod Every

@@ -2,14 +2,16 @@
 
 ghost use Rattle.std.specs.Prelude.{◌≡◌, ◌++◌, ◌∷◌, [], List, map, IfOk, OnOk, IfErr};
 ghost use Rattle.reg_op.specs.Ids.{Id};
-ghost use Rattle.reg_op.specs.Rows.{rows};
+ghost use Rattle.reg_op.specs.Rows.{Row as OneRow, rows};
 ghost use Rattle.reg_op.specs.Set.{Ascends};
 ghost use Rattle.reg_report.specs.Seen.{row_seen};
 ghost use Rattle.reg_keys.specs.Rows.{row_cmp};
+ghost use Rattle.reg_keys.specs.Index.{IsIndex};
 ghost use Rattle.reg_keys.specs.Named.{StandsFor, IsObjection, NamesOnly, IsNotOnly, IsNotOne, StandFor, Object};
 
 use crate::answer::{entries_answering, first_answering, first_other};
 use crate::fault::KeyFault;
+use crate::index::{KeyIndex, index_of, rows_of_word};
 use reg_op::OpId;
 use reg_report::{Row, rows};
 use reg_state::Register;
@@ -31,6 +33,22 @@ pub fn entry_of(rows: &[Row], word: &[u8]) -> Result<OpId, KeyFault>
     match first_other(later, first, word) {
         Some(other) => Err(KeyFault::Several(other)),
         None => Ok(first.entry),
+    }
+}
+
+/// The same among indexed rows.
+pub fn entry_in(alloc: Global, index: &KeyIndex, word: &[u8]) -> Result<OpId, KeyFault>
+    requires { (rs : List OneRow) × IsIndex index.now rs }
+    ensures ok { (rs : List OneRow) → IsIndex index.now rs → IfOk result (StandsFor rs word.now) }
+    ensures fault { (rs : List OneRow) → IsIndex index.now rs → IfErr result (IsObjection rs word.now) }
+{
+    let rows = match rows_of_word(alloc, index, word) {
+        Ok(rows) => rows,
+        Err(_) => return Err(KeyFault::Memory),
+    };
+    match entry_of(rows, word) {
+        Ok(id) => Ok(id),
+        Err(fault) => Err(fault),
     }
 }
 
@@ -75,6 +93,15 @@ pub fn rows_in_order(alloc: Global, register: &Register) -> Result<Vec<Row>, All
     let _ops = register.ops();
     let made = rows(alloc, register)?;
     Ok(made)
+}
+
+/// The index of a register's rows.
+pub fn index_of_register(alloc: Global, register: &Register) -> Result<KeyIndex, AllocError>
+    ensures { IfOk result (λ index. IsIndex index (rows register.now.ops)) }
+{
+    let rows = rows_in_order(alloc, register)?;
+    let index = index_of(alloc, rows)?;
+    Ok(index)
 }
 
 /// The entries that some words name, in their order.

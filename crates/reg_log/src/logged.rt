@@ -3,24 +3,26 @@
 ghost use Rattle.std.specs.Prelude.{◌≡◌, ◌++◌, ◌∷◌, [], filter, IfOk, OnOk, if◌then◌else◌};
 ghost use Rattle.reg_op.specs.Operations.{Op as Operation};
 ghost use Rattle.reg_log.specs.Log.{subject, AreLogged};
-ghost use Rattle.reg_log.specs.Asked.{is_asked};
+ghost use Rattle.reg_log.specs.Asked.{AreWanted, is_asked};
+ghost use Rattle.reg_log.specs.declared.asked.Asked.{Asked as AskedOf};
 
-use crate::asked::{Asked, is_asked};
+use crate::asked::{Asked, Wanted, in_order, is_wanted};
 use crate::order::{order, subject};
 use reg_op::Op;
 use reg_state::Register;
 use std::alloc::{AllocError, Global};
 
 // Appends a copy of the operation, if its entry is requested.
-fn push_where_asked(
+fn push_where_wanted(
     alloc: Global,
     made: &mut Vec<Op>,
-    asked: &Asked<'_>,
+    wanted: &Wanted,
     op: &Op,
 ) -> Result<(), AllocError>
-    ensures { OnOk result (made.new.items ≡ made.old.items ++ (if is_asked asked.now (subject op.now) then op.now ∷ [] else [])) }
+    requires { (asked : AskedOf) × AreWanted asked wanted.now }
+    ensures { (asked : AskedOf) → AreWanted asked wanted.now → OnOk result (made.new.items ≡ made.old.items ++ (if is_asked asked (subject op.now) then op.now ∷ [] else [])) }
 {
-    if !is_asked(asked, subject(op)) {
+    if !is_wanted(wanted, subject(op)) {
         return Ok(());
     }
     let copy = op.try_clone(alloc)?;
@@ -28,13 +30,14 @@ fn push_where_asked(
     Ok(())
 }
 
-fn ops_asked(alloc: Global, ops: &[Op], asked: &Asked<'_>) -> Result<Vec<Op>, AllocError>
-    ensures { IfOk result (λ made. made.items ≡ filter (λ (o : Operation). is_asked asked.now (subject o)) ops.now) }
+fn ops_wanted(alloc: Global, ops: &[Op], wanted: &Wanted) -> Result<Vec<Op>, AllocError>
+    requires { (asked : AskedOf) × AreWanted asked wanted.now }
+    ensures { (asked : AskedOf) → AreWanted asked wanted.now → IfOk result (λ made. made.items ≡ filter (λ (o : Operation). is_asked asked (subject o)) ops.now) }
 {
     let mut made = Vec::new(alloc);
     let mut rest = ops;
     while let Some((op, others)) = rest.split_first() {
-        push_where_asked(alloc, &mut made, asked, op)?;
+        push_where_wanted(alloc, &mut made, wanted, op)?;
         rest = others;
     }
     Ok(made)
@@ -45,7 +48,8 @@ pub fn logged(alloc: Global, register: &Register, asked: &Asked<'_>) -> Result<V
     ensures { IfOk result (λ made. AreLogged (is_asked asked.now) register.now.ops made.items) }
 {
     let ops = register.ops().as_slice();
-    let mut made = ops_asked(alloc, ops, asked)?;
+    let wanted = in_order(alloc, asked)?;
+    let mut made = ops_wanted(alloc, ops, &wanted)?;
     made.sort_unstable_by(|left, right| order(left, right));
     Ok(made)
 }

@@ -6,6 +6,7 @@ pub mod EventLemmas
 pub mod SectionLemmas
 pub mod DescribeLemmas
 pub mod SideLemmas
+mod RowLemmas
 pub mod WholeLemmas
 pub mod IdLemmas
 pub mod FindLemmas

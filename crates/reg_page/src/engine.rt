@@ -12,7 +12,7 @@ pub struct Page<'a> {
 }
 
 impl Print for Page<'_> {
-    ghost use Rattle.reg_engine.specs.Report.{Never};
+    ghost use Rattle.reg_engine.specs.Store.{Never};
     ghost use Rattle.reg_page.specs.Page.{IsPage};
 
     ghost prints = { λ c. λ x. λ text. IsPage c.title.now x text };

@@ -1,15 +1,18 @@
 //! The laws of the page of a register. The functions do nothing: their contracts are the laws.
 
-ghost use Rattle.std.specs.Prelude.{◌≡◌, ◌<◌, ℕ, List, Contains, Some, Ok, true};
+ghost use Rattle.std.specs.Prelude.{◌≡◌, ◌<◌, ◌++◌, ℕ, List, map, Contains, Some, Ok, true};
+ghost use Rattle.std.specs.List.Sorted.{IsPermutation};
 ghost use Rattle.html_text.specs.Pieces.{html};
 ghost use Rattle.html_text.specs.Places.{Content as BetweenTags, tags, past_all};
 ghost use Rattle.html_page.specs.Shape.{shape};
-ghost use Rattle.html_page.specs.Shown.{Pair, Conflict, Shown};
+ghost use Rattle.html_page.specs.Shown.{Entry, Pair, Conflict, Shown};
 ghost use Rattle.html_page.specs.Templates.{page};
 ghost use Rattle.reg_op.specs.Set as set;
 ghost use Rattle.reg_op.specs.Ids.{Id};
 ghost use Rattle.reg_op.specs.Operations.{Op};
 ghost use Rattle.reg_op.specs.Contents.{Content, IsContent, joined};
+ghost use Rattle.reg_op.specs.Text.{printed};
+ghost use Rattle.reg_page.specs.Descriptions.{entry_ids};
 ghost use Rattle.reg_page.specs.Codes.{is_number, number_of, code_cmp};
 ghost use Rattle.reg_page.specs.Page.{IsShown, IsPage, IsSide};
 ghost use Rattle.std.specs.declared.cmp.Ordering.TheVariants.{Less};
@@ -31,6 +34,12 @@ pub fn no_text_leaves_its_place()
         × (past_all (Some BetweenTags) (page p.shows) ≡ Some BetweenTags) }
     ensures tags { (title other : List ℕ) (x y : Content) (bytes others : List ℕ) (p : IsPage title x bytes) (q : IsPage other y others)
         → shape p.shows ≡ shape q.shows → tags bytes ≡ tags others }
+{}
+
+/// The rows of the page are those of the register's entries: each entry has one, among those that are not retired or those that are.
+pub fn each_entry_has_one_row()
+    ensures { (title : List ℕ) (x : Content) (s : Shown) → IsShown title x s
+        → IsPermutation (map printed (entry_ids x.ops)) (map (λ (e : Entry). e.id) (s.entries ++ s.retired)) }
 {}
 
 /// Each side of a conflict is an entry of the page: its words, without their marks, are the text in the entry's row.

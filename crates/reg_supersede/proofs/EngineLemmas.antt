@@ -5,7 +5,7 @@ use Rattle.reg_op.specs.Contents.{Content}
 use Rattle.reg_engine.specs.WholeFile.{Gives}
 use Rattle.reg_engine.specs.declared.fault.CliFault.{CliFault}
 use Rattle.reg_engine.specs.declared.fault.CliFault.TheVariants as cli
-use Rattle.reg_supersede.specs.declared.list_options.RefusedLine.{RefusedLine}
+use Rattle.reg_supersede.specs.declared.fault.RefusedLine.{RefusedLine}
 use Rattle.reg_supersede.specs.Lists.{Task}
 use Rattle.reg_supersede.specs.Engine.{task, Supersedes, CannotSupersede, DoesList, CannotDoList}
 
@@ -17,12 +17,12 @@ module _ (r s n m : List ℕ) (k l g h : Bool) (replica : s ≡ r) (note : m ≡
       (subst (λ (w : Bool). P (task s m w g x)) keys (subst (λ (w : Bool). P (task s m l w x)) going p)))
 
   pub done_as : (old new : SourceState) (bytes : List ℕ) (x y : Content) (text : List ℕ) (left : List RefusedLine) → Gives old new bytes
-      → DoesList (task s m l h x) bytes x y text left → Supersedes (task r n k g x) old new x y text left
-  done_as old new bytes x y text left gives does = (bytes, gives, as_task (λ t. DoesList t bytes x y text left) x does)
+      → DoesList (task s m l h x) bytes x y text left → Supersedes (task r n k g x) old new bytes x y text left
+  done_as old new bytes x y text left gives does = (gives, as_task (λ t. DoesList t bytes x y text left) x does)
 
   refused_by : (number : ℕ) (old new : SourceState) (bytes : List ℕ) (x : Content) (before told : List RefusedLine) (f : CliFault) → Gives old new bytes
-      → CannotDoList (task r n k g x) bytes x before told f → CannotSupersede (task r n k g x) number old new x before told f
-  refused_by number old new bytes x before told (cli.Refused c) gives is = (bytes, gives, is)
+      → CannotDoList (task r n k g x) bytes x before told f → CannotSupersede (task r n k g x) number old new bytes x before told f
+  refused_by number old new bytes x before told (cli.Refused c) gives is = (gives, is)
   refused_by number old new bytes x before told (cli.File i c) gives is = absurd is
   refused_by number old new bytes x before told (cli.Out c) gives is = absurd is
   refused_by number old new bytes x before told cli.Memory gives is = tt
@@ -30,6 +30,6 @@ module _ (r s n m : List ℕ) (k l g h : Bool) (replica : s ≡ r) (note : m ≡
   refused_by number old new bytes x before told (cli.Office c) gives is = absurd is
 
   pub refused_as : (number : ℕ) (old new : SourceState) (bytes : List ℕ) (x : Content) (before past told : List RefusedLine) (f : CliFault) → Gives old new bytes → past ≡ before
-      → CannotDoList (task s m l h x) bytes x past told f → CannotSupersede (task r n k g x) number old new x before told f
+      → CannotDoList (task s m l h x) bytes x past told f → CannotSupersede (task r n k g x) number old new bytes x before told f
   refused_as number old new bytes x before past told f gives same is =
       refused_by number old new bytes x before told f gives (as_task (λ t. CannotDoList t bytes x before told f) x (subst (λ (b : List RefusedLine). CannotDoList (task s m l h x) bytes x b told f) same is))

@@ -2,6 +2,8 @@ mod EngineLemmas
 mod AfterLemmas
 mod PairLemmas
 mod LineLemmas
+mod LackingLemmas
+mod WordLemmas
 mod ListLemmas
 mod LawLemmas
 mod LastLemmas

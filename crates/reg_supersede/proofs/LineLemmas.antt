@@ -22,23 +22,23 @@ use Rattle.reg_office.specs.declared.command.Command.{Command}
 use Rattle.reg_office.specs.declared.fault.OfficeFault.{OfficeFault}
 use Rattle.reg_office.specs.declared.fault.OfficeFault.TheVariants as fault
 use Rattle.reg_office.specs.Making.{greatest, numbered, objections, else_next, note_fault, made}
-use Rattle.reg_office.specs.Commands.{supersessions, Does}
+use Rattle.reg_office.specs.Commands.{Does}
 use Rattle.reg_office.specs.Effects.{fault_of}
 use Rattle.reg_office.proofs.EffectLemmas.{faults}
 use Rattle.reg_office.proofs.NumberLemmas.{made_ok, made_refused, made_spent, length_map}
 use Rattle.reg_office.proofs.LawLemmas.{made_are, is_greatest}
 use Rattle.reg_keys.specs.Named.{StandFor}
-use Rattle.reg_supersede.specs.declared.list_options.Pair.{Pair}
-use Rattle.reg_supersede.specs.declared.list_options.RefusedLine.{RefusedLine}
+use Rattle.reg_supersede.specs.declared.pair.Pair.{Pair}
+use Rattle.reg_supersede.specs.declared.fault.RefusedLine.{RefusedLine}
 use Rattle.reg_supersede.specs.Lines.{words}
-use Rattle.reg_supersede.specs.Lists.{Task}
-use Rattle.reg_supersede.specs.Effects.{after, ids_of, AreSupersessions, has_pair, pair_cmp, ArePairs, CanMake, CanAdd, AreAllowed, effects_of, StepsOn}
+use Rattle.reg_supersede.specs.Lists.{Task, bodies_of, DoesFor}
+use Rattle.reg_supersede.specs.Effects.{after, ids_of, AreSupersessions, has_pair, pair_cmp, ArePairs, CanMake, CanAdd, AddsFor, StepsOn}
 use Rattle.reg_supersede.proofs.AfterLemmas.{of_list, more_of, merged_none, greatest_after, next_is, objections_more, ids_more, joins_more}
 use Rattle.reg_supersede.proofs.PairLemmas.{supersessions_both}
 
-all_supersede : (old : Id) (newer : List Id) → AreSupersessions (supersessions old newer)
-all_supersede old [] = tt
-all_supersede old (n ∷ ns) = all_supersede old ns
+pub all_supersede : (ps : List Pair) → AreSupersessions (bodies_of ps)
+all_supersede [] = tt
+all_supersede (p ∷ ps) = all_supersede ps
 
 module _ (t : Task) (x : Content) (bs : List Body) where
   abbrev r : List ℕ
@@ -65,60 +65,47 @@ module _ (t : Task) (x : Content) (bs : List Body) where
       let e = greatest_after x r t.note bs in
       made_spent here r t.note cs short (subst (λ k. objections here (numbered r k t.note cs) ≡ None) (sym (next_is x r t.note bs)) none) some (omega arith)
 
-  length_is : (old : Id) (newer : List Id) → length (supersessions old newer) ≡ length newer
-  length_is old newer = length_map (Supersede old) newer
+  pub does_line : IsContent x → (cs : List Body) → CanAdd t x bs cs → Does here r t.note cs (after t x (bs ++ cs)) (map (λ (o : Op). o.id) (more cs))
+  does_line is cs can = record {
+    ops = more cs;
+    are_made = made_at cs can.short can.none_refused can.fit;
+    are_joined = joins_more x r t.note is bs cs;
+    their_ids = refl;
+  }
 
-  pub does_line : IsContent x → (old : Id) (newer : List Id) → CanAdd t x bs old newer
-      → Does here r t.note (supersessions old newer) (after t x (bs ++ supersessions old newer)) (map (λ (o : Op). o.id) (more (supersessions old newer)))
-  does_line is old newer can =
-      let long = length_is old newer in
+  pub can_more : IsContent x → (cs : List Body) → AreSupersessions cs → CanMake t x bs → CanAdd t x bs cs → CanMake t x (bs ++ cs)
+  can_more is cs are make can =
+      let both = length-append bs cs in
       let fit = can.fit in
       record {
-        ops = more (supersessions old newer);
-        are_made = made_at (supersessions old newer) can.short can.none_refused (omega arith);
-        are_joined = joins_more x r t.note is bs (supersessions old newer);
-        their_ids = refl;
-      }
-
-  pub can_more : IsContent x → (old : Id) (newer : List Id) → CanMake t x bs → CanAdd t x bs old newer → CanMake t x (bs ++ supersessions old newer)
-  can_more is old newer make can =
-      let long = length_is old newer in
-      let both = length-append bs (supersessions old newer) in
-      let fit = can.fit in
-      record {
-        supersede = supersessions_both bs (supersessions old newer) make.supersede (all_supersede old newer);
-        none_refused = objections_more x r t.note is bs (supersessions old newer) ∙ (λ k. else_next (make.none_refused k) (can.none_refused k));
+        supersede = supersessions_both bs cs make.supersede are;
+        none_refused = objections_more x r t.note is bs cs ∙ (λ k. else_next (make.none_refused k) (can.none_refused k));
         fit = omega arith;
       }
-
-  pub refused_line : (old : Id) (newer : List Id) (f : OfficeFault) → note_fault t.note ≡ None → objections here (more (supersessions old newer)) ≡ Some f → made here r t.note (supersessions old newer) ≡ Err f
-  refused_line old newer f = refused_at (supersessions old newer) f
-
-  pub spent_line : (old : Id) (newer : List Id) → note_fault t.note ≡ None → objections here (more (supersessions old newer)) ≡ None → 0 < length newer → 4294967295 < greatest r x.seen + length bs + length newer
-      → made here r t.note (supersessions old newer) ≡ Err fault.CountSpent
-  spent_line old newer short none some over = let long = length_is old newer in spent_at (supersessions old newer) short none (omega arith) (omega arith)
 
 pub over_is : (a : ℕ) → nat_lt 4294967295 a ≡ true → 4294967295 < a
 over_is a h = grind (arith, nat_tests)
 
 -- ---- a line that is allowed
 
-pub steps_on : (t : Task) (x : Content) (n : ℕ) (text : List ℕ) (bs new : List Body) (left : List RefusedLine) (es : List Id) → IsContent x → StandFor t.rows (words text) es → AreAllowed t x bs es → new ≡ bs ++ effects_of es
-    → StepsOn t x n text bs left new left
-steps_on t x n text bs new left [] is stand can e =
-    let same : new ≡ bs = e ∙ append-nil bs in
-    inl ([], record { entries = []; stand = stand; does = (ap (after t x) same, refl) }, ap (ids_of t x) same ∙ sym (append-nil (ids_of t x bs)), refl)
-steps_on t x n text bs new left (old ∷ []) is stand can e = absurd can
-steps_on t x n text bs new left (old ∷ newer ∷ others) is stand can e =
-    let cs : List Body = supersessions old (newer ∷ others) in
+pub steps_on : (t : Task) (x : Content) (n : ℕ) (text : List ℕ) (bs new : List Body) (left : List RefusedLine) (ps : List Pair) → IsContent x → (ws : List (List ℕ)) → words text ≡ ws → AddsFor t x bs ws ps
+    → new ≡ bs ++ bodies_of ps → StepsOn t x n text bs left new left
+steps_on t x n text bs new left ps is [] same none e =
+    let unchanged : new ≡ bs = e ∙ ap (λ l. bs ++ bodies_of l) none ∙ append-nil bs in
+    inl ([], subst (λ l. DoesFor t (after t x bs) l (after t x new) []) (sym same) (ap (after t x) unchanged, refl), ap (ids_of t x) unchanged ∙ sym (append-nil (ids_of t x bs)), refl)
+steps_on t x n text bs new left ps is (w ∷ []) same can e = absurd can
+steps_on t x n text bs new left ps is (w ∷ v ∷ ws) same (olds, newer, s, u, lacks, can) e =
+    let cs : List Body = bodies_of ps in
     let now : List Id = map (λ (o : Op). o.id) (more_of x t.replica t.note bs cs) in
+    let does : DoesFor t (after t x bs) (w ∷ v ∷ ws) (after t x (bs ++ cs)) now =
+    (olds, newer, s, u, subst (λ l. Does (after t x bs) t.replica t.note (bodies_of l) (after t x (bs ++ cs)) now) lacks (does_line t x bs is cs can)) in
     subst (λ l. StepsOn t x n text bs left l left) (sym e)
-    (inl (now, record { entries = old ∷ newer ∷ others; stand = stand; does = does_line t x bs is old (newer ∷ others) can }, ids_more x t.replica t.note bs cs, refl))
+    (inl (now, subst (λ l. DoesFor t (after t x bs) l (after t x (bs ++ cs)) now) (sym same) does, ids_more x t.replica t.note bs cs, refl))
 
-pub can_on : (t : Task) (x : Content) (bs new : List Body) (es : List Id) → IsContent x → CanMake t x bs → AreAllowed t x bs es → new ≡ bs ++ effects_of es → CanMake t x new
-can_on t x bs new [] is make can e = subst (CanMake t x) (sym (e ∙ append-nil bs)) make
-can_on t x bs new (old ∷ []) is make can e = absurd can
-can_on t x bs new (old ∷ newer ∷ others) is make can e = subst (CanMake t x) (sym e) (can_more t x bs is old (newer ∷ others) make can)
+pub can_on : (t : Task) (x : Content) (bs new : List Body) (ps : List Pair) → IsContent x → CanMake t x bs → (ws : List (List ℕ)) → AddsFor t x bs ws ps → new ≡ bs ++ bodies_of ps → CanMake t x new
+can_on t x bs new ps is make [] none e = subst (CanMake t x) (sym (e ∙ ap (λ l. bs ++ bodies_of l) none ∙ append-nil bs)) make
+can_on t x bs new ps is make (w ∷ []) can e = absurd can
+can_on t x bs new ps is make (w ∷ v ∷ ws) (olds, newer, s, u, lacks, can) e = subst (CanMake t x) (sym e) (can_more t x bs is (bodies_of ps) (all_supersede ps) make can)
 
 -- ---- before any effect
 
@@ -148,38 +135,9 @@ pub none_is : (t : Task) (x : Content) (bs : List Body) → IsContent x → leng
 none_is t x [] is h = (sym (merged_none x is.is_kept), refl)
 none_is t x (b ∷ bs) is h = absurd (omega arith)
 
--- ---- a loop over the entries of a line
-
-pub walk_on : (c : Command) (ops : Ops) (named : List Id) (k : ℕ) (e : Id) → k < length named → e ≡ get_or named k e → fault_of c ops (list_any (is_same e) (take k named)) e ≡ None
-    → faults c ops [] named ≡ faults c ops (take k named) (drop k named) → faults c ops [] named ≡ faults c ops (take (k + 1) named) (drop (k + 1) named)
-walk_on c ops named k e h is none walked =
-    walked ∙ ap (faults c ops (take k named)) (drop_more named k e h)
-    ∙ (λ j. faults c ops (take k named) (sym is j ∷ drop (k + 1) named))
-    ∙ (λ j. else_next (none j) (faults c ops (take k named ++ e ∷ []) (drop (k + 1) named)))
-    ∙ (λ j. faults c ops (take k named ++ is j ∷ []) (drop (k + 1) named))
-    ∙ ap (λ l. faults c ops l (drop (k + 1) named)) (sym (take_more named k e h))
-
--- an element that an insertion does not add was in the set
-pub was_there : (there added : Bool) → added ≡ not there → not added ≡ there
-was_there true added h = ap not h
-was_there false added h = ap not h
-
--- inserting the entry at index k into the set of those before k gives the set of those before k + 1
-pub before_more : (named : List Id) (k : ℕ) (e q : Id) → k < length named → e ≡ get_or named k e → cond (is_same e q) true (list_any (is_same q) (take k named)) ≡ list_any (is_same q) (take (k + 1) named)
-before_more named k e q h is =
-    sym (ap (list_any (is_same q)) (take_more named k e h) ∙ ap (λ f. list_any (is_same q) (take k named ++ f ∷ [])) (sym is)
-    ∙ list_any-append (is_same q) (take k named) (e ∷ []) ∙ turned (is_same q e) (list_any (is_same q) (take k named))
-    ∙ ap (λ b. cond b true (list_any (is_same q) (take k named))) ((eq_by_cmp_equiv id_total).symm q e))
-  where
-    turned : (a b : Bool) → (b || (a || false)) ≡ cond a true b
-    turned true true = refl
-    turned true false = refl
-    turned false true = refl
-    turned false false = refl
-
 -- ---- the pairs of the effects
 
-then_eq : (a b : Ordering) → is_eq (ordering_then a b) ≡ (is_eq a && is_eq b)
+pub then_eq : (a b : Ordering) → is_eq (ordering_then a b) ≡ (is_eq a && is_eq b)
 then_eq Less b = refl
 then_eq Equal b = refl
 then_eq Greater b = refl
@@ -203,8 +161,8 @@ pairs_more old new p bs put are e m =
     turned false true = refl
     turned false false = refl
 
-pub bodies_more : (before bodies after : List Body) (old : Id) (newer : List Id) (k : ℕ) (e : Id) → k < length newer → e ≡ get_or newer k e → bodies ≡ before ++ supersessions old (take k newer) → after ≡ bodies ++ Supersede old e ∷ []
-    → after ≡ before ++ supersessions old (take (k + 1) newer)
-bodies_more before bodies after old newer k e h is so then =
-    then ∙ ap (λ l. l ++ Supersede old e ∷ []) so ∙ append_assoc before (supersessions old (take k newer)) (Supersede old e ∷ [])
-    ∙ ap (λ l. before ++ l) (sym (map-append (Supersede old) (take k newer) (e ∷ [])) ∙ ap (supersessions old) ((λ j. take k newer ++ is j ∷ []) ∙ sym (take_more newer k e h)))
+pub bodies_more : (before bodies after : List Body) (ps : List Pair) (k : ℕ) (p : Pair) → k < length ps → p ≡ get_or ps k p → bodies ≡ before ++ bodies_of (take k ps) → after ≡ bodies ++ Supersede p.old p.newer ∷ []
+    → after ≡ before ++ bodies_of (take (k + 1) ps)
+bodies_more before bodies after ps k p h is so then =
+    then ∙ ap (λ l. l ++ Supersede p.old p.newer ∷ []) so ∙ append_assoc before (bodies_of (take k ps)) (Supersede p.old p.newer ∷ [])
+    ∙ ap (λ l. before ++ l) (sym (map-append (λ (q : Pair). Supersede q.old q.newer) (take k ps) (p ∷ [])) ∙ ap bodies_of ((λ j. take k ps ++ is j ∷ []) ∙ sym (take_more ps k p h)))

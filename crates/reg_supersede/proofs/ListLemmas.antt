@@ -5,7 +5,7 @@ use Rattle.std.proofs.lemmas.List.{drop_more, length-map}
 use Rattle.reg_op.specs.Ids.{Id}
 use Rattle.reg_op.specs.declared.operation.OpBody.{OpBody as Body}
 use Rattle.reg_op.specs.Contents.{Content, IsContent}
-use Rattle.reg_supersede.specs.declared.list_options.RefusedLine.{RefusedLine}
+use Rattle.reg_supersede.specs.declared.fault.RefusedLine.{RefusedLine}
 use Rattle.reg_supersede.specs.Lists.{Task, DoesAll, StopsAt}
 use Rattle.reg_supersede.specs.Effects.{after, ids_of, StepsOn, IsStepFault, IsListFault}
 use Rattle.reg_supersede.proofs.AfterLemmas.{merged_none}

@@ -2,6 +2,7 @@
 use Rattle.std.proofs.Common.{◌≡◌, ℕ, ◌+◌, Bool, true, false, not, ◌&&◌, ◌||◌, List, [], ◌∷◌, ◌++◌, None, refl, sym, ap, ◌∙◌, subst, inl, inr}
 use Rattle.std.specs.Prelude.{option_map}
 use Rattle.std.proofs.lemmas.Bool.{true≢false, and_parts, and_from, or_left, or_right, false_from_ne_true}
+use Rattle.std.proofs.lemmas.List.Folds.{list_any-append}
 use Rattle.std.specs.List.{list_any}
 use Rattle.std.specs.Cmp.{tied_itself}
 use Rattle.std.specs.Ordering.{is_eq}
@@ -23,21 +24,17 @@ use Rattle.reg_op.proofs.OneLemmas.{any-from_list}
 use Rattle.reg_op.proofs.ClashLemmas.{find_none}
 use Rattle.reg_op.proofs.StatusLemmas.{enters-kept, retires-kept, replaced_by-kept}
 use Rattle.reg_state.specs.Runs.{id_at}
-use Rattle.reg_office.specs.declared.command.Command.TheVariants as command
 use Rattle.reg_office.specs.Making.{numbered, objection, objections, with_op}
-use Rattle.reg_office.specs.Effects.{fault_of}
 use Rattle.reg_office.proofs.EffectLemmas.{chain, nothing_against}
 use Rattle.reg_office.proofs.NumberLemmas.{op_cases}
-use Rattle.reg_supersede.specs.Effects.{AreSupersessions, has_pair}
+use Rattle.reg_supersede.specs.declared.pair.Pair.{Pair}
+use Rattle.reg_supersede.specs.Lists.{is_there}
+use Rattle.reg_supersede.specs.Effects.{AreSupersessions, has_pair, pair_fault}
 use Rattle.reg_supersede.proofs.AfterLemmas.{of_list, after, ops_of}
 
 or_end : (a : Bool) → (a || false) ≡ a
 or_end true = refl
 or_end false = refl
-
-or_assoc : (a b c : Bool) → ((a || b) || c) ≡ (a || (b || c))
-or_assoc true b c = refl
-or_assoc false b c = refl
 
 and_end : (a : Bool) → (a && false) ≡ false
 and_end true = refl
@@ -109,15 +106,40 @@ module _ (x : Content) (r note : List ℕ) (bs : List Body) (are : AreSupersessi
       ap (λ s. is_replaced_by s e m) kept_is ∙ replaced_by-kept union e m
       ∙ (λ k. not (off_is e k) && (any-with (supersession e m) x.ops (ops_of x r note bs) ∙ ap (λ b. any (supersession e m) x.ops || b) (pairs_are r note _ bs e m)) k)
 
-  chain_end : (old newer : Id) (a b same q p t u c : Bool) → chain old newer a b same p q ((not p && (t || u)) || c) ≡ chain old newer a b same p q ((not p && t) || (u || c))
-  chain_end old newer a b same q true t u c = refl
-  chain_end old newer a b same q false t u c = ap (chain old newer a b same false q) (or_assoc t u c)
+  -- whether a pair is there after the effects
+  pub there_is : (p : Pair) → is_there here p ≡ (enters x.ops p.old && (not (retires x.ops p.old) && (any (supersession p.old p.newer) x.ops || has_pair bs p.old p.newer)))
+  there_is p = λ k. entered p.old k && replaced p.old p.newer k
 
-  -- one more pair has the fault that it has in the register before, where the pairs of the effects count as repeated
-  pub fault_is : (old newer : Id) (c : Bool) → fault_of (command.Supersede old) here c newer ≡ fault_of (command.Supersede old) x.ops (has_pair bs old newer || c) newer
-  fault_is old newer c =
-      (λ k. chain old newer (entered old k) (entered newer k) (is_same old newer) (retired old k) (retired newer k) (replaced old newer k || c))
-      ∙ chain_end old newer (enters x.ops old) (enters x.ops newer) (is_same old newer) (retires x.ops newer) (retires x.ops old) (any (supersession old newer) x.ops) (has_pair bs old newer) c
+  pub not_entered : (p : Pair) → enters x.ops p.old ≡ false → is_there here p ≡ false
+  not_entered p e = there_is p ∙ ap (λ b. b && (not (retires x.ops p.old) && (any (supersession p.old p.newer) x.ops || has_pair bs p.old p.newer))) e
+
+  pub off_already : (p : Pair) → retires x.ops p.old ≡ true → is_there here p ≡ false
+  off_already p e = there_is p ∙ (λ k. enters x.ops p.old && (not (e k) && (any (supersession p.old p.newer) x.ops || has_pair bs p.old p.newer))) ∙ and_end (enters x.ops p.old)
+
+  pub there_now : (p : Pair) → enters x.ops p.old ≡ true → retires x.ops p.old ≡ false → is_there here p ≡ (any (supersession p.old p.newer) x.ops || has_pair bs p.old p.newer)
+  there_now p e f = there_is p ∙ (λ k. e k && (not (f k) && (any (supersession p.old p.newer) x.ops || has_pair bs p.old p.newer)))
+
+and_free : (a r y h g : Bool) → (a && (not r && (y || h))) ≡ false → g ≡ false → (a && (not r && (y || (h || g)))) ≡ false
+and_free false r y h g p q = refl
+and_free true true y h g p q = refl
+and_free true false true h g p q = p
+and_free true false false true g p q = p
+and_free true false false false g p q = q
+
+last_off : (old newer : Id) (a b same r q p : Bool) → (a && p) ≡ false → chain old newer a b same r q p ≡ chain old newer a b same r q false
+last_off old newer false b same r q p h = refl
+last_off old newer true b same r q p h = ap (chain old newer true b same r q) h
+
+-- a pair that is not there after the effects `bs`, nor one of the effects `cs`, has after both the fault that it has before
+module _ (x : Content) (r note : List ℕ) (bs cs : List Body) (are : AreSupersessions bs) (both : AreSupersessions (bs ++ cs)) (p : Pair) where
+  pub fresh_fault : is_there (after x r note bs).ops p ≡ false → has_pair cs p.old p.newer ≡ false → objection (after x r note (bs ++ cs)).ops (Supersede p.old p.newer) ≡ pair_fault x.ops p
+  fresh_fault free none =
+      let off : (enters x.ops p.old && is_replaced_by (after x r note (bs ++ cs)).ops p.old p.newer) ≡ false =
+      ap (λ b. enters x.ops p.old && b) (replaced x r note (bs ++ cs) both p.old p.newer ∙ ap (λ b. not (retires x.ops p.old) && (any (supersession p.old p.newer) x.ops || b)) (list_any-append (is_supersession p.old (is_same p.newer)) bs cs))
+      ∙ and_free (enters x.ops p.old) (retires x.ops p.old) (any (supersession p.old p.newer) x.ops) (has_pair bs p.old p.newer) (has_pair cs p.old p.newer) (sym (there_is x r note bs are p) ∙ free) none in
+      (λ k. chain p.old p.newer (entered x r note (bs ++ cs) both p.old k) (entered x r note (bs ++ cs) both p.newer k) (is_same p.old p.newer) (retired x r note (bs ++ cs) both p.old k)
+      (retired x r note (bs ++ cs) both p.newer k) (is_replaced_by (after x r note (bs ++ cs)).ops p.old p.newer))
+      ∙ last_off p.old p.newer (enters x.ops p.old) (enters x.ops p.newer) (is_same p.old p.newer) (retires x.ops p.old) (retires x.ops p.newer) _ off
 
 -- ---- supersessions without objections have distinct pairs
 

@@ -1,25 +1,27 @@
 -- The effects of the lines so far, and the content that they make.
-use Rattle.std.specs.Prelude.{◌≡◌, ◌⊎◌, ◌≤◌, ◌+◌, ◌++◌, [], ◌∷◌, ℕ, Bool, ◌&&◌, true, false, List, Option, Some, None, length, map}
+use Rattle.std.specs.Prelude.{◌≡◌, ◌⊎◌, ◌≤◌, ◌+◌, ◌++◌, [], ◌∷◌, ℕ, Bool, not, ◌&&◌, ◌||◌, true, false, List, Option, Some, None, Err, length, map, if◌then◌else◌}
 use Rattle.std.specs.List.{list_any}
 use Rattle.std.specs.BTreeSet.{BTreeSet, contains}
 use Rattle.std.specs.declared.cmp.Ordering.{Ordering}
 use Rattle.std.specs.Ordering.{ordering_then}
 use Rattle.reg_op.specs.Set as set
 use Rattle.reg_op.specs.Ids.{Id, id_cmp, is_same}
-use Rattle.reg_op.specs.Operations.{Op, op_cmp}
+use Rattle.reg_op.specs.Operations.{Op, Ops, op_cmp}
 use Rattle.reg_op.specs.declared.operation.OpBody.{OpBody as Body}
 use Rattle.reg_op.specs.declared.operation.OpBody.TheVariants.{Enter, Supersede, Retire}
 use Rattle.reg_op.specs.Contents.{Content, state, merged}
-use Rattle.reg_op.specs.Status.{is_supersession}
+use Rattle.reg_op.specs.Status.{enters, retires, is_supersession}
 use Rattle.reg_report.specs.Seen.{row_seen}
 use Rattle.reg_office.specs.declared.fault.OfficeFault.{OfficeFault}
-use Rattle.reg_office.specs.Making.{greatest, numbered, new_ops, objections, note_fault}
-use Rattle.reg_office.specs.Commands.{supersessions}
+use Rattle.reg_office.specs.declared.fault.OfficeFault.TheVariants as fault
+use Rattle.reg_office.specs.Making.{greatest, numbered, new_ops, objections, note_fault, made}
+use Rattle.reg_keys.specs.Every.{StandsForEvery, StandForEach}
 use Rattle.reg_supersede.specs.declared.list_options.ListOptions.{ListOptions}
-use Rattle.reg_supersede.specs.declared.list_options.Pair.{Pair}
-use Rattle.reg_supersede.specs.declared.list_options.RefusedLine.{RefusedLine}
-use Rattle.reg_supersede.specs.declared.list_options.LineFault.{LineFault}
-use Rattle.reg_supersede.specs.Lists.{Task, IsRefusal, DoesLine, RefusesFor, RefusesLine, RefusesAll}
+use Rattle.reg_supersede.specs.declared.pair.Pair.{Pair}
+use Rattle.reg_supersede.specs.declared.fault.RefusedLine.{RefusedLine}
+use Rattle.reg_supersede.specs.declared.fault.LineFault.{LineFault}
+use Rattle.reg_supersede.specs.declared.fault.LineFault.TheVariants as line
+use Rattle.reg_supersede.specs.Lists.{Task, is_there, is_pair, pairs_of, lacking, bodies_of, IsRefusal, DoesLine, RefusesLine, RefusesAll}
 
 abbrev pub task_of : ListOptions → Task
 task_of o = record { replica = o.replica; note = o.note.now; keys = o.keys; rows = map row_seen o.rows.now; keep_going = o.keep_going }
@@ -61,21 +63,47 @@ pub record CanMake (t : Task) (x : Content) (bs : List Body) : Type 0 where
   pub none_refused : objections x (new_ops x t.replica t.note bs) ≡ None
   pub fit : greatest t.replica x.seen + length bs ≤ 4294967295
 
--- and it can make the supersessions of one more line
-pub record CanAdd (t : Task) (x : Content) (bs : List Body) (old : Id) (newer : List Id) : Type 0 where
+-- and it can make those of one more line
+pub record CanAdd (t : Task) (x : Content) (bs cs : List Body) : Type 0 where
   pub short : note_fault t.note ≡ None
-  pub none_refused : objections (after t x bs) (numbered t.replica (next t x bs) t.note (supersessions old newer)) ≡ None
-  pub fit : greatest t.replica x.seen + length bs + length newer ≤ 4294967295
+  pub none_refused : objections (after t x bs) (numbered t.replica (next t x bs) t.note cs) ≡ None
+  pub fit : greatest t.replica x.seen + length bs + length cs ≤ 4294967295
 
--- the entries of a line that is not refused, and their effects
-abbrev pub AreAllowed : Task → Content → List Body → List Id → Type 0
-AreAllowed t x bs [] = Unit {0}
-AreAllowed t x bs (old ∷ []) = ⊥
-AreAllowed t x bs (old ∷ newer ∷ more) = CanAdd t x bs old (newer ∷ more)
+-- why a pair that is not there yet is not made
+abbrev pub pair_fault : Ops → Pair → Option OfficeFault
+pair_fault ops p =
+    if not (enters ops p.old) then Some (fault.UnknownEntry p.old)
+    else (if not (enters ops p.newer) then Some (fault.UnknownEntry p.newer)
+    else (if is_same p.old p.newer then Some fault.SameEntry
+    else (if retires ops p.old then Some (fault.AlreadyRetired p.old)
+    else (if retires ops p.newer then Some (fault.AlreadyRetired p.newer) else None))))
 
-abbrev pub effects_of : List Id → List Body
-effects_of [] = []
-effects_of (old ∷ newer) = supersessions old newer
+-- the set has exactly these pairs
+abbrev pub HasPairs : BTreeSet Pair → List Pair → Type 0
+HasPairs pairs ps = (p : Pair) → contains pair_cmp pairs p ≡ list_any (is_pair p) ps
+
+-- one pair more of a line is there already, in the content or among the earlier ones
+abbrev pub is_known : Ops → Pair → List Pair → Bool
+is_known now p before = is_there now p || list_any (is_pair p) before
+
+-- it is passed over; or nothing is against it, and it is added at the end
+abbrev pub AddsPair : Ops → Ops → Pair → List Pair → List Pair → Type 0
+AddsPair ops now p old new = ((is_known now p old ≡ true) × (new ≡ old)) ⊎ ((is_known now p old ≡ false) × (pair_fault ops p ≡ None) × (new ≡ old ++ p ∷ []))
+
+-- this is against it
+abbrev pub IsPairFault : Ops → Ops → Pair → List Pair → LineFault → Type 0
+IsPairFault ops now p old f = IsRefusal f → (g : OfficeFault) × (is_known now p old ≡ false) × (pair_fault ops p ≡ Some g) × (f ≡ line.Office g)
+
+-- why the pairs of a line are not added
+abbrev pub IsAddFault : Task → Content → List Pair → LineFault → Type 0
+IsAddFault t x ps f = IsRefusal f → (g : OfficeFault) × (made x t.replica t.note (bodies_of ps) ≡ Err g) × (f ≡ line.Office g)
+
+-- the pairs that a line of these words adds, which the office can make
+abbrev pub AddsFor : Task → Content → List Body → List (List ℕ) → List Pair → Type 0
+AddsFor t x bs [] ps = ps ≡ []
+AddsFor t x bs (w ∷ []) ps = ⊥
+AddsFor t x bs (w ∷ v ∷ ws) ps = (olds : List Id) × (newer : List Id) × StandsForEvery t.rows w olds × StandForEach t.rows (v ∷ ws) newer
+    × (ps ≡ lacking (after t x bs).ops [] (pairs_of olds newer)) × CanAdd t x bs (bodies_of ps)
 
 -- ---- one line more
 
@@ -86,9 +114,6 @@ StepsOn t x n text old left new more =
     ⊎ ((f : LineFault) × (t.keep_going ≡ true) × RefusesLine t (after t x old) text f × (new ≡ old) × (more ≡ left ++ record { line = n; fault = f } ∷ []))
 
 -- ---- why a line makes nothing, unless there is no memory
-
-abbrev pub IsFaultOf : Task → Content → List Id → LineFault → Type 0
-IsFaultOf t x es f = IsRefusal f → RefusesFor t x es f
 
 abbrev pub IsLineFault : Task → Content → List ℕ → LineFault → Type 0
 IsLineFault t x text f = IsRefusal f → RefusesLine t x text f

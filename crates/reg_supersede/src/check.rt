@@ -1,24 +1,25 @@
-//! Why an office refuses a line, after the lines before it.
+//! The pairs that a line adds after the lines before it, and why an office refuses them.
 
-ghost use Rattle.std.specs.Prelude.{◌≡◌, ◌+◌, ◌≤◌, ◌<◌, ◌||◌, not, nat_lt, length, IfOk, IfSome, IfNone, Err};
-ghost use Rattle.reg_office.specs.declared.command.Command.TheVariants as command;
-ghost use Rattle.reg_office.specs.Commands.{supersessions};
-ghost use Rattle.reg_office.specs.Effects.{fault_of};
-ghost use Rattle.reg_office.specs.Making.{greatest, numbered, objections, note_fault, made};
-ghost use Rattle.reg_supersede.specs.Effects.{task_of, after, next, has_pair, ArePairs, CanMake, CanAdd};
+ghost use Rattle.std.specs.Prelude.{◌≡◌, ◌+◌, ◌≤◌, ◌<◌, [], nat_lt, length, None, IfOk, OnOk, IfErr};
+ghost use Rattle.reg_office.specs.Making.{greatest, numbered, objections, note_fault};
+ghost use Rattle.reg_supersede.specs.Lists.{is_there, lacking, bodies_of};
+ghost use Rattle.reg_supersede.specs.Effects.{task_of, after, next, pair_fault, ArePairs, HasPairs, AddsPair, IsPairFault, IsAddFault, CanMake, CanAdd};
 
-use crate::list_options::{Effects, ListOptions, Pair};
+use crate::fault::LineFault;
+use crate::list_options::{Effects, ListOptions};
+use crate::pair::Pair;
 use reg_office::OfficeFault;
-use reg_op::{Note, OpId};
+use reg_op::Note;
 use reg_report::{is_entered, is_retired};
 use reg_state::Register;
-use std::alloc::{AllocError, Global};
+use std::alloc::Global;
 use std::collections::BTreeSet;
 
-// Why the office refuses the supersession of an entry by another (`again`: the command has made it before).
-fn pair_fault(register: &Register, again: bool, old: OpId, newer: OpId) -> Option<OfficeFault>
-    ensures { result ≡ fault_of (command.Supersede old) register.now.ops again newer }
+// Why the office refuses a pair that is not there yet.
+fn pair_fault(register: &Register, pair: Pair) -> Option<OfficeFault>
+    ensures { result ≡ pair_fault register.now.ops pair }
 {
+    let Pair { old, newer } = pair;
     if !is_entered(register, old) {
         return Some(OfficeFault::UnknownEntry(old));
     }
@@ -34,43 +35,89 @@ fn pair_fault(register: &Register, again: bool, old: OpId, newer: OpId) -> Optio
     if is_retired(register, newer) {
         return Some(OfficeFault::AlreadyRetired(newer));
     }
-    if register.is_superseded_by(old, newer) || again {
-        return Some(OfficeFault::AlreadySuperseded(newer));
-    }
     None
 }
 
-// Whether the command has made the pair before: in an earlier line, or in this one, unless its newer entry is the first there.
-fn is_again(effects: &Effects, pair: Pair, is_first: bool) -> bool
-    requires { ArePairs effects.now.pairs effects.now.bodies.items }
-    ensures { result ≡ (has_pair effects.now.bodies.items pair.old pair.newer || not is_first) }
+// Whether the old entry is superseded by the newer one already, in the register or by an earlier line.
+fn is_there(order: &ListOptions<'_>, effects: &Effects, pair: Pair) -> bool
+    requires made { CanMake (task_of order.now) order.now.register.now effects.now.bodies.items }
+    requires pairs { ArePairs effects.now.pairs effects.now.bodies.items }
+    ensures { result ≡ is_there (after (task_of order.now) order.now.register.now effects.now.bodies.items).ops pair }
 {
-    effects.pairs.contains(&pair) || !is_first
+    if !is_entered(order.register, pair.old) {
+        return false;
+    }
+    if is_retired(order.register, pair.old) {
+        return false;
+    }
+    order.register.is_superseded_by(pair.old, pair.newer) || effects.pairs.contains(&pair)
 }
 
-// The first refusal among the entries that supersede the old one.
-fn first_fault(
+// The pairs of a line so far, as a list and as a set.
+#[derive(Drop)]
+struct Added {
+    list: Vec<Pair>,
+    set: BTreeSet<Pair>,
+}
+
+// Adds one pair more, unless it is there.
+fn add_pair(
+    order: &ListOptions<'_>,
+    effects: &Effects,
+    added: &mut Added,
+    pair: Pair,
+) -> Result<(), LineFault>
+    requires made { CanMake (task_of order.now) order.now.register.now effects.now.bodies.items }
+    requires pairs { ArePairs effects.now.pairs effects.now.bodies.items }
+    requires set { HasPairs added.old.set added.old.list.items }
+    ensures ok { OnOk result (AddsPair order.now.register.now.ops (after (task_of order.now) order.now.register.now effects.now.bodies.items).ops pair added.old.list.items added.new.list.items) }
+    ensures set { OnOk result (HasPairs added.new.set added.new.list.items) }
+    ensures fault { IfErr result (IsPairFault order.now.register.now.ops (after (task_of order.now) order.now.register.now effects.now.bodies.items).ops pair added.old.list.items) }
+{
+    if is_there(order, effects, pair) {
+        return Ok(());
+    }
+    if added.set.contains(&pair) {
+        return Ok(());
+    }
+    if let Some(fault) = pair_fault(order.register, pair) {
+        return Err(LineFault::Office(fault));
+    }
+    let Ok(_) = added.set.insert(pair) else {
+        return Err(LineFault::Memory);
+    };
+    match added.list.push(pair) {
+        Ok(()) => Ok(()),
+        Err(_) => Err(LineFault::Memory),
+    }
+}
+
+// Of these pairs those that are not there yet, each once.
+fn lacking(
     alloc: Global,
     order: &ListOptions<'_>,
     effects: &Effects,
-    old: OpId,
-    newer: &[OpId],
-) -> Result<Option<OfficeFault>, AllocError>
+    pairs: &[Pair],
+) -> Result<Vec<Pair>, LineFault>
     requires made { CanMake (task_of order.now) order.now.register.now effects.now.bodies.items }
     requires pairs { ArePairs effects.now.pairs effects.now.bodies.items }
-    ensures { IfOk result (λ answer. answer ≡ objections (after (task_of order.now) order.now.register.now effects.now.bodies.items)
-        (numbered order.now.replica (next (task_of order.now) order.now.register.now effects.now.bodies.items) order.now.note.now (supersessions old newer.now))) }
+    requires short { note_fault order.now.note.now ≡ None }
+    ensures ok { IfOk result (λ v. (v.items ≡ lacking (after (task_of order.now) order.now.register.now effects.now.bodies.items).ops [] pairs.now)
+        × (objections (after (task_of order.now) order.now.register.now effects.now.bodies.items)
+        (numbered order.now.replica (next (task_of order.now) order.now.register.now effects.now.bodies.items) order.now.note.now (bodies_of v.items)) ≡ None)) }
+    ensures fault { IfErr result (IsAddFault (task_of order.now) (after (task_of order.now) order.now.register.now effects.now.bodies.items)
+        (lacking (after (task_of order.now) order.now.register.now effects.now.bodies.items).ops [] pairs.now)) }
 {
-    let mut before = BTreeSet::new(alloc);
-    for entry in newer {
-        let newer = *entry;
-        let is_first = before.insert(newer)?;
-        let again = is_again(effects, Pair { old, newer }, is_first);
-        if let Some(fault) = pair_fault(order.register, again, old, newer) {
-            return Ok(Some(fault));
-        }
+    let _content = order.register.seen();
+    let mut added = Added {
+        list: Vec::new(alloc),
+        set: BTreeSet::new(alloc),
+    };
+    for pair in pairs {
+        add_pair(order, effects, &mut added, *pair)?;
     }
-    Ok(None)
+    let Added { list, set: _ } = added;
+    Ok(list)
 }
 
 // The greatest own count seen before the first line.
@@ -81,12 +128,12 @@ fn last_count(order: &ListOptions<'_>) -> u32
 }
 
 // Whether the last number would be out of range.
-fn is_spent(order: &ListOptions<'_>, effects: &Effects, newer: &[OpId]) -> bool
+fn is_spent(order: &ListOptions<'_>, effects: &Effects, pairs: &[Pair]) -> bool
     requires { greatest order.now.replica order.now.register.now.seen + length effects.now.bodies.items ≤ 4294967295 }
-    ensures { result ≡ nat_lt 4294967295 (greatest order.now.replica order.now.register.now.seen + length effects.now.bodies.items + length newer.now) }
+    ensures { result ≡ nat_lt 4294967295 (greatest order.now.replica order.now.register.now.seen + length effects.now.bodies.items + length pairs.now) }
 {
     let left = u32::MAX - last_count(order);
-    left as usize - effects.bodies.len() < newer.len()
+    left as usize - effects.bodies.len() < pairs.len()
 }
 
 // Why the note is refused.
@@ -99,29 +146,29 @@ fn note_fault(note: &str) -> Option<OfficeFault>
     None
 }
 
-/// Why the office refuses the supersession of an entry by others.
-pub fn office_fault(
+/// Of these pairs those that a line adds: the ones that are not there yet, each once.
+pub fn pairs_to_add(
     alloc: Global,
     order: &ListOptions<'_>,
     effects: &Effects,
-    old: OpId,
-    newer: &[OpId],
-) -> Result<Option<OfficeFault>, AllocError>
+    pairs: &[Pair],
+) -> Result<Vec<Pair>, LineFault>
     requires made { CanMake (task_of order.now) order.now.register.now effects.now.bodies.items }
     requires pairs { ArePairs effects.now.pairs effects.now.bodies.items }
-    requires some { 0 < length newer.now }
-    ensures refused { IfOk result (λ answer. IfSome answer (λ fault. made (after (task_of order.now) order.now.register.now effects.now.bodies.items)
-        order.now.replica order.now.note.now (supersessions old newer.now) ≡ Err fault)) }
-    ensures allowed { IfOk result (λ answer. IfNone answer (CanAdd (task_of order.now) order.now.register.now effects.now.bodies.items old newer.now)) }
+    ensures lacking { IfOk result (λ v. v.items ≡ lacking (after (task_of order.now) order.now.register.now effects.now.bodies.items).ops [] pairs.now) }
+    ensures allowed { IfOk result (λ v. CanAdd (task_of order.now) order.now.register.now effects.now.bodies.items (bodies_of v.items)) }
+    ensures fault { IfErr result (IsAddFault (task_of order.now) (after (task_of order.now) order.now.register.now effects.now.bodies.items)
+        (lacking (after (task_of order.now) order.now.register.now effects.now.bodies.items).ops [] pairs.now)) }
 {
     if let Some(fault) = note_fault(order.note) {
-        return Ok(Some(fault));
+        return Err(LineFault::Office(fault));
     }
-    if let Some(fault) = first_fault(alloc, order, effects, old, newer)? {
-        return Ok(Some(fault));
+    let lacking = match lacking(alloc, order, effects, pairs) {
+        Ok(lacking) => lacking,
+        Err(fault) => return Err(fault),
+    };
+    if is_spent(order, effects, &lacking) {
+        return Err(LineFault::Office(OfficeFault::CountSpent));
     }
-    if is_spent(order, effects, newer) {
-        return Ok(Some(OfficeFault::CountSpent));
-    }
-    Ok(None)
+    Ok(lacking)
 }

@@ -8,9 +8,10 @@ ghost use Rattle.reg_supersede.specs.Lists.{DoesAll};
 ghost use Rattle.reg_supersede.specs.Effects.{after, ids_of, CanMake, IsListFault};
 ghost use Rattle.reg_supersede.specs.Engine.{task};
 
+use crate::fault::{LineFault, RefusedLine};
 use crate::lines::lines_of;
 use crate::list::{Listed, all_lines, leave_out};
-use crate::list_options::{LineFault, ListOptions, RefusedLine};
+use crate::list_options::ListOptions;
 use crate::naming::rows_for;
 use byte_io::Source;
 use reg_engine::{Change, CliFault, Made, Refusal, id_lines, read_whole};
@@ -20,9 +21,9 @@ use reg_state::Register;
 use std::alloc::Global;
 use uuid::Uuid;
 
-/// Reads a list after the register, and supersedes the entries of its lines as the replica, with the note. Where refused lines are
-/// left out, `refused` has them afterwards; otherwise it has the line that refuses the command. A note that is too long refuses the
-/// command whatever the lines are.
+/// Reads a list after the register, and supersedes the entries of its lines as the replica, with the note. Pairs that are there already
+/// are passed over. Where refused lines are left out, `refused` has them afterwards; otherwise it has the line that refuses the
+/// command. A note that is too long refuses the command whatever the lines are. `text` has the bytes of the list afterwards.
 #[derive(Drop)]
 pub struct SupersedeFrom<'a, S> {
     pub list: &'a mut S,
@@ -31,6 +32,7 @@ pub struct SupersedeFrom<'a, S> {
     pub note: &'a str,
     pub keep_going: bool,
     pub refused: Vec<RefusedLine>,
+    pub text: Vec<u8>,
 }
 
 const OUT_OF_MEMORY: RefusedLine = RefusedLine {
@@ -121,9 +123,9 @@ impl<S: Source> Change for SupersedeFrom<'_, S> {
 
     ghost unmet = { λ old. λ new. λ next. λ x. λ f. IsUnread next (S.state old.list.now) (S.state new.list.now) f };
 
-    ghost makes = { λ old. λ new. λ next. λ x. λ z. λ y. λ text. Supersedes (task old.replica old.note.now old.keys old.keep_going z) (S.state old.list.now) (S.state new.list.now) z y text new.refused.items };
+    ghost makes = { λ old. λ new. λ next. λ x. λ z. λ y. λ text. Supersedes (task old.replica old.note.now old.keys old.keep_going z) (S.state old.list.now) (S.state new.list.now) new.text.items z y text new.refused.items };
 
-    ghost refuses = { λ old. λ new. λ next. λ x. λ z. λ f. CannotSupersede (task old.replica old.note.now old.keys old.keep_going z) next (S.state old.list.now) (S.state new.list.now) z old.refused.items new.refused.items f };
+    ghost refuses = { λ old. λ new. λ next. λ x. λ z. λ f. CannotSupersede (task old.replica old.note.now old.keys old.keep_going z) next (S.state old.list.now) (S.state new.list.now) new.text.items z old.refused.items new.refused.items f };
 
     ghost same = { λ old. λ new. new.list.ghost_name ≡ old.list.ghost_name };
 
@@ -135,7 +137,7 @@ impl<S: Source> Change for SupersedeFrom<'_, S> {
 
     ghost still = { λ a b c e f. f ∙ e };
 
-    ghost stops = { λ a b n x z f h. unread_is_refused (task a.replica a.note.now a.keys a.keep_going z) n (S.state a.list.now) (S.state b.list.now) z a.refused.items b.refused.items f h };
+    ghost stops = { λ a b n x z f h. unread_is_refused (task a.replica a.note.now a.keys a.keep_going z) n (S.state a.list.now) (S.state b.list.now) b.text.items z a.refused.items b.refused.items f h };
 
     fn read(
         &mut self,
@@ -157,8 +159,14 @@ impl<S: Source> Change for SupersedeFrom<'_, S> {
         register: Register,
     ) -> Result<Made, CliFault> {
         match self.done(alloc, &read, register) {
-            Ok(made) => Ok(made),
-            Err(fault) => Err(fault),
+            Ok(made) => {
+                self.text = read;
+                Ok(made)
+            }
+            Err(fault) => {
+                self.text = read;
+                Err(fault)
+            }
         }
     }
 }

@@ -3,13 +3,15 @@
 
 mod check;
 mod engine;
+mod fault;
 pub mod laws;
 mod lines;
 mod list;
 mod list_options;
 mod naming;
+mod pair;
 mod told;
 
 pub use engine::SupersedeFrom;
-pub use list_options::{LineFault, RefusedLine};
-pub use told::refused_line;
+pub use fault::{LineFault, LineWord, RefusedLine};
+pub use told::{refused_line, refused_word};

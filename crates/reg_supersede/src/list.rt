@@ -1,88 +1,87 @@
 //! The lines of a list, one after the other.
 
-ghost use Rattle.std.specs.Prelude.{◌≡◌, ◌++◌, ◌∷◌, [], true, map, List, IfOk, OnOk, IfErr, IfSome, IfNone};
-ghost use Rattle.reg_op.specs.Ids.{Id};
+ghost use Rattle.std.specs.Prelude.{◌≡◌, ◌++◌, ◌∷◌, [], true, map, IfOk, OnOk, IfErr};
 ghost use Rattle.reg_op.specs.Set.{Ascends};
 ghost use Rattle.reg_report.specs.Seen.{row_seen};
 ghost use Rattle.reg_keys.specs.Rows.{row_cmp};
-ghost use Rattle.reg_keys.specs.Named.{StandFor};
 ghost use Rattle.reg_supersede.specs.Lines.{words};
-ghost use Rattle.reg_supersede.specs.Lists.{IsRefusal, DoesAll};
-ghost use Rattle.reg_supersede.specs.Effects.{task_of, after, ids_of, ArePairs, CanMake, AreAllowed, effects_of, StepsOn, IsFaultOf, IsLineFault, IsListFault, IsStepFault, IsNotLeft};
+ghost use Rattle.reg_supersede.specs.Lists.{IsRefusal, bodies_of, RefusesFor, DoesAll};
+ghost use Rattle.reg_supersede.specs.Effects.{task_of, after, ids_of, ArePairs, CanMake, AddsFor, StepsOn, IsLineFault, IsListFault, IsStepFault, IsNotLeft};
 
-use crate::check::office_fault;
+use crate::check::pairs_to_add;
+use crate::fault::{LineFault, LineWord, RefusedLine};
 use crate::lines::words_of;
-use crate::list_options::{Effects, LineFault, ListOptions, Pair, RefusedLine};
-use crate::naming::fault_of_word;
-use reg_keys::entries_of;
-use reg_op::{OpBody, OpId};
+use crate::list_options::{Effects, ListOptions};
+use crate::naming::{LineEntries, entries_for};
+use crate::pair::{Pair, pairs_of};
+use reg_op::OpBody;
 use std::alloc::{AllocError, Global};
 use std::collections::BTreeSet;
 
-// The entries of a line that is not refused.
+// The pairs that a line adds, if it is not refused.
 fn allowed(
     alloc: Global,
     order: &ListOptions<'_>,
     effects: &Effects,
     line: &[u8],
-) -> Result<Vec<OpId>, LineFault>
+) -> Result<Vec<Pair>, LineFault>
     requires rows { Ascends row_cmp (map row_seen order.now.rows.now) }
     requires made { CanMake (task_of order.now) order.now.register.now effects.now.bodies.items }
     requires pairs { ArePairs effects.now.pairs effects.now.bodies.items }
-    ensures named { IfOk result (λ es. StandFor (task_of order.now).rows (words line.now) es.items) }
-    ensures allowed { IfOk result (λ es. AreAllowed (task_of order.now) order.now.register.now effects.now.bodies.items es.items) }
+    ensures adds { IfOk result (λ ps. AddsFor (task_of order.now) order.now.register.now effects.now.bodies.items (words line.now) ps.items) }
     ensures fault { IfErr result (IsLineFault (task_of order.now) (after (task_of order.now) order.now.register.now effects.now.bodies.items) line.now) }
 {
     let Ok(words) = words_of(alloc, line) else {
         return Err(LineFault::Memory);
     };
-    let entries = match entries_of(alloc, order.rows, &words) {
-        Ok(entries) => entries,
-        Err(fault) => return Err(fault_of_word(order.keys, fault)),
-    };
-    match fault_of(alloc, order, effects, &entries) {
-        None => Ok(entries),
-        Some(fault) => Err(fault),
+    match allowed_for(alloc, order, effects, &words) {
+        Ok(pairs) => Ok(pairs),
+        Err(fault) => Err(fault),
     }
 }
 
-// Why a line with these entries is refused.
-fn fault_of(
+// The pairs that a line of these words adds.
+fn allowed_for(
     alloc: Global,
     order: &ListOptions<'_>,
     effects: &Effects,
-    entries: &[OpId],
-) -> Option<LineFault>
+    words: &[&[u8]],
+) -> Result<Vec<Pair>, LineFault>
+    requires rows { Ascends row_cmp (map row_seen order.now.rows.now) }
     requires made { CanMake (task_of order.now) order.now.register.now effects.now.bodies.items }
     requires pairs { ArePairs effects.now.pairs effects.now.bodies.items }
-    ensures refused { IfSome result (IsFaultOf (task_of order.now) (after (task_of order.now) order.now.register.now effects.now.bodies.items) entries.now) }
-    ensures allowed { IfNone result (AreAllowed (task_of order.now) order.now.register.now effects.now.bodies.items entries.now) }
+    ensures adds { IfOk result (λ ps. AddsFor (task_of order.now) order.now.register.now effects.now.bodies.items (map (λ w. w.now) words.now) ps.items) }
+    ensures fault { IfErr result (λ f. IsRefusal f → RefusesFor (task_of order.now) (after (task_of order.now) order.now.register.now effects.now.bodies.items) (map (λ w. w.now) words.now) f) }
 {
-    let Some((old, newer)) = entries.split_first() else {
-        return None;
+    let Some((first, others)) = words.split_first() else {
+        return Ok(Vec::new(alloc));
     };
-    if newer.is_empty() {
-        return Some(LineFault::BadId);
+    let LineEntries { olds, newer } = match entries_for(
+        alloc, order.rows, order.keys, *first, others,
+    ) {
+        Ok(entries) => entries,
+        Err(fault) => return Err(fault),
+    };
+    if others.is_empty() {
+        return Err(LineFault::BadId(LineWord::Old));
     }
-    match office_fault(alloc, order, effects, *old, newer) {
-        Ok(None) => None,
-        Ok(Some(fault)) => Some(LineFault::Office(fault)),
-        Err(_) => Some(LineFault::Memory),
+    let Ok(pairs) = pairs_of(alloc, &olds, &newer) else {
+        return Err(LineFault::Memory);
+    };
+    match pairs_to_add(alloc, order, effects, &pairs) {
+        Ok(added) => Ok(added),
+        Err(fault) => Err(fault),
     }
 }
 
 // Appends the effects of a line.
-fn push_line(effects: &mut Effects, entries: &[OpId]) -> Result<(), AllocError>
+fn push_line(effects: &mut Effects, pairs: &[Pair]) -> Result<(), AllocError>
     requires { ArePairs effects.old.pairs effects.old.bodies.items }
-    ensures bodies { OnOk result (effects.new.bodies.items ≡ effects.old.bodies.items ++ effects_of entries.now) }
+    ensures bodies { OnOk result (effects.new.bodies.items ≡ effects.old.bodies.items ++ bodies_of pairs.now) }
     ensures pairs { OnOk result (ArePairs effects.new.pairs effects.new.bodies.items) }
 {
-    let Some((old, newer)) = entries.split_first() else {
-        return Ok(());
-    };
-    let old = *old;
-    for entry in newer {
-        let newer = *entry;
+    for pair in pairs {
+        let Pair { old, newer } = *pair;
         effects.bodies.push(OpBody::Supersede { old, newer })?;
         effects.pairs.insert(Pair { old, newer })?;
     }
@@ -108,7 +107,7 @@ fn step(
 {
     let _content = order.register.seen();
     match allowed(alloc, order, effects, line) {
-        Ok(entries) => match push_line(effects, &entries) {
+        Ok(pairs) => match push_line(effects, &pairs) {
             Ok(()) => Ok(()),
             Err(_) => Err(RefusedLine {
                 line: number,

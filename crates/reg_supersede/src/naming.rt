@@ -1,13 +1,17 @@
-//! The rows in which words are looked up, and the fault of a word that names no entry.
+//! The rows in which words are looked up, and the entries that the words of a line name.
 
-ghost use Rattle.std.specs.Prelude.{◌≡◌, map, IfOk};
+ghost use Rattle.std.specs.Prelude.{◌≡◌, map, IfOk, IfErr};
 ghost use Rattle.reg_op.specs.Set.{Ascends};
 ghost use Rattle.reg_report.specs.Seen.{row_seen};
+ghost use Rattle.reg_keys.specs.declared.fault.KeyFault.{KeyFault};
 ghost use Rattle.reg_keys.specs.Rows.{row_cmp};
-ghost use Rattle.reg_supersede.specs.Lists.{rows_if, word_fault};
+ghost use Rattle.reg_keys.specs.Every.{StandsForEvery, StandForEach};
+ghost use Rattle.reg_supersede.specs.declared.fault.LineWord.{LineWord};
+ghost use Rattle.reg_supersede.specs.Lists.{rows_if, word_fault, FailsLine};
 
-use crate::list_options::LineFault;
-use reg_keys::{KeyFault, rows_in_order};
+use crate::fault::{LineFault, LineWord};
+use reg_keys::{KeyFault, each_of_words, every_of, rows_in_order};
+use reg_op::OpId;
 use reg_report::Row;
 use reg_state::Register;
 use std::alloc::{AllocError, Global};
@@ -23,19 +27,49 @@ pub fn rows_for(alloc: Global, register: &Register, keys: bool) -> Result<Vec<Ro
     Ok(Vec::new(alloc))
 }
 
+/// The old entries of a line, and those that supersede them.
+#[derive(Drop)]
+pub struct LineEntries {
+    pub olds: Vec<OpId>,
+    pub newer: Vec<OpId>,
+}
+
+/// The entries that the words of a line name: the first word all that it stands for, each of the others one.
+pub fn entries_for(
+    alloc: Global,
+    rows: &[Row],
+    keys: bool,
+    first: &[u8],
+    others: &[&[u8]],
+) -> Result<LineEntries, LineFault>
+    requires { Ascends row_cmp (map row_seen rows.now) }
+    ensures olds { IfOk result (λ r. StandsForEvery (map row_seen rows.now) first.now r.olds.items) }
+    ensures newer { IfOk result (λ r. StandForEach (map row_seen rows.now) (map (λ w. w.now) others.now) r.newer.items) }
+    ensures fault { IfErr result (λ f. (at : LineWord) × (k : KeyFault) × FailsLine (map row_seen rows.now) first.now (map (λ w. w.now) others.now) at k × (word_fault keys at k ≡ f)) }
+{
+    let olds = match every_of(alloc, rows, first) {
+        Ok(olds) => olds,
+        Err(fault) => return Err(fault_of_word(keys, LineWord::Old, fault)),
+    };
+    match each_of_words(alloc, rows, others) {
+        Ok(newer) => Ok(LineEntries { olds, newer }),
+        Err(why) => Err(fault_of_word(keys, LineWord::By(why.word), why.fault)),
+    }
+}
+
 /// The fault of a line with a word that names no entry. If keys are not accepted, the word is not an id.
-pub fn fault_of_word(keys: bool, fault: KeyFault) -> LineFault
-    ensures { result ≡ word_fault keys fault }
+pub fn fault_of_word(keys: bool, word: LineWord, fault: KeyFault) -> LineFault
+    ensures { result ≡ word_fault keys word fault }
 {
     match fault {
         KeyFault::NoEntry => {
             if keys {
-                LineFault::NoEntry
+                LineFault::NoEntry(word)
             } else {
-                LineFault::BadId
+                LineFault::BadId(word)
             }
         }
-        KeyFault::Several(id) => LineFault::Several(id),
+        KeyFault::Several(id) => LineFault::Several(word, id),
         KeyFault::Memory => LineFault::Memory,
     }
 }

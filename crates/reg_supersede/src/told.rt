@@ -1,11 +1,13 @@
 //! How a refused line prints, and when a command reports it.
 
-ghost use Rattle.std.specs.Prelude.{◌≡◌, false, IfSome, IfNone};
-ghost use Rattle.reg_supersede.specs.declared.list_options.RefusedLine.{RefusedLine};
-ghost use Rattle.reg_supersede.specs.Engine.{cause_of, Refuses};
+ghost use Rattle.std.specs.Prelude.{◌≡◌, false, map, option_map, IfOk, IfSome, IfNone};
+ghost use Rattle.reg_supersede.specs.declared.fault.RefusedLine.{RefusedLine};
+ghost use Rattle.reg_supersede.specs.Engine.{cause_of, Refuses, word_at, fault_word, word_of};
 
-use crate::list_options::{LineFault, RefusedLine};
+use crate::fault::{LineFault, LineWord, RefusedLine};
+use crate::lines::{lines_of, words_of};
 use reg_engine::{CliFault, Refusal};
+use std::alloc::{AllocError, Global};
 use std::fmt::{self, Display};
 
 impl RefusedLine {
@@ -14,9 +16,9 @@ impl RefusedLine {
         ensures { result ≡ cause_of self.now.fault }
     {
         match self.fault {
-            LineFault::BadId => CliFault::Refused(Refusal::BadId),
-            LineFault::NoEntry => CliFault::Refused(Refusal::NoEntry),
-            LineFault::Several(id) => CliFault::Refused(Refusal::Several(id)),
+            LineFault::BadId(_) => CliFault::Refused(Refusal::BadId),
+            LineFault::NoEntry(_) => CliFault::Refused(Refusal::NoEntry),
+            LineFault::Several(_, id) => CliFault::Refused(Refusal::Several(id)),
             LineFault::Office(fault) => CliFault::of_office(fault),
             LineFault::Memory => CliFault::Memory,
         }
@@ -44,6 +46,52 @@ pub fn refused_line(
         return Some(line);
     }
     None
+}
+
+/// The word for which a line of the list is refused, if it is for one.
+pub fn refused_word<'a>(
+    alloc: Global,
+    list: &'a [u8],
+    refused: &RefusedLine,
+) -> Result<Option<&'a [u8]>, AllocError>
+    ensures { IfOk result (λ word. option_map (λ w. w.now) word ≡ word_of list.now refused.now.line (fault_word refused.now.fault)) }
+{
+    let Some(at) = word_of_fault(refused.fault) else {
+        return Ok(None);
+    };
+    let lines = lines_of(alloc, list)?;
+    let Some(line) = lines.get(refused.line.saturating_sub(1)) else {
+        return Ok(None);
+    };
+    let words = words_of(alloc, *line)?;
+    Ok(word_at(at, &words))
+}
+
+fn word_of_fault(fault: LineFault) -> Option<LineWord>
+    ensures { result ≡ fault_word fault }
+{
+    match fault {
+        LineFault::BadId(word) => Some(word),
+        LineFault::NoEntry(word) => Some(word),
+        LineFault::Several(word, _) => Some(word),
+        LineFault::Office(_) => None,
+        LineFault::Memory => None,
+    }
+}
+
+fn word_at<'a>(at: LineWord, words: &[&'a [u8]]) -> Option<&'a [u8]>
+    ensures { option_map (λ w. w.now) result ≡ word_at at (map (λ w. w.now) words.now) }
+{
+    let Some((first, others)) = words.split_first() else {
+        return None;
+    };
+    match at {
+        LineWord::Old => Some(*first),
+        LineWord::By(k) => match others.get(k) {
+            Some(word) => Some(*word),
+            None => None,
+        },
+    }
 }
 
 /// Prints the text that follows `refused: `, and the number of the line.

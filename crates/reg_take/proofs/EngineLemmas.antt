@@ -5,8 +5,10 @@ use Rattle.byte_io.specs.Device.{SinkState}
 use Rattle.byte_io.specs.Whole.{WritesAll}
 use Rattle.reg_op.specs.Contents.{Content}
 use Rattle.reg_engine.specs.declared.fault.CliFault.{CliFault}
-use Rattle.reg_engine.specs.Store.{Around, AreCut, IsTold, IsUntold}
-use Rattle.reg_take.specs.Engines.{kept_if_changed}
+use Rattle.reg_engine.specs.Store.{Around, Admission, AreCut, IsTold, IsUntold}
+use Rattle.reg_take.specs.declared.options.TakeOptions.{TakeOptions}
+use Rattle.reg_take.specs.Files.{FileState}
+use Rattle.reg_take.specs.Engines.{Way, kept_if_changed, IsUnloaded, IsUntaken}
 
 never : (b : Bool) → b ≡ false → b ≡ true → ⊥
 never b e h = absurd (cc)
@@ -27,3 +29,9 @@ module _ (a : Around) (b : Bool) (x y : Content) (lines : List ℕ) (before afte
   pub failed_other : (f : CliFault) → b ≡ false → IsUntold a x y lines before after f → (kept_if_changed a before after).failed x y lines f
   failed_other f e (inl h) = inl (other b x y e same, h.0, h.1)
   failed_other f e (inr h) = inr (inr (other b x y e same, h.0), h.1)
+
+-- where nothing was written, what keeps the register from being loaded keeps the command from its end
+pub unloaded : (w : Way) (a : Around) (admission : Admission) (how : TakeOptions) (next : ℕ) (old new : List FileState) (f : CliFault) → ((g : CliFault) → a.none g → w.none g)
+    → ((x : Content) → a.came x → w.came x) → IsUnloaded a admission how next old new f → IsUntaken w admission how next old new f
+unloaded w a admission how next old new f none came (inl (h, same)) = inl (none f h, same)
+unloaded w a admission how next old new f none came (inr (x, h, why)) = inr (inl (x, came x h, why))

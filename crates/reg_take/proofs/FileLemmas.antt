@@ -7,11 +7,14 @@ use Rattle.reg_file.specs.declared.fault.ReadFileFault.{ReadFileFault}
 use Rattle.reg_file.specs.declared.fault.ReadFileFault.TheVariants as reading
 use Rattle.reg_file.specs.declared.parts.Part.{Part}
 use Rattle.reg_file.specs.declared.parts.Part.TheVariants as part
+use Rattle.std.specs.declared.option.Option.{Option}
+use Rattle.reg_journal.specs.Journal.{Journal}
 use Rattle.reg_engine.specs.declared.fault.CliFault.{CliFault}
 use Rattle.reg_engine.specs.declared.fault.CliFault.TheVariants as cli
+use Rattle.reg_take.specs.declared.options.TakeOptions.{TakeOptions}
 use Rattle.reg_take.specs.declared.files.Arrival.{Arrival}
 use Rattle.reg_take.specs.declared.files.Arrival.TheVariants as arrival
-use Rattle.reg_take.specs.Files.{FileState, file_state, fault_in, IsUnread, HasFault, IsArrival, IsLast, AreArrivals, StopsAt, IsStopped}
+use Rattle.reg_take.specs.Files.{FileState, file_state, fault_in, brought, arrived, content_of, judged, IsHonestTo, IsScreened, IsUnread, HasFault, IsArrival, IsLast, AreArrivals, StopsAt, IsStopped}
 
 abbrev head_of : {A : Type 0} → A → List A → A
 head_of d [] = d
@@ -25,10 +28,11 @@ never : (b : Bool) → b ≡ false → b ≡ true → ⊥
 never b e h = absurd (cc)
 
 -- if the command does not keep going, each file that arrived gave a part
-part_given : (going : Bool) (k : ℕ) (o n : FileState) (a : Arrival) → going ≡ false → IsArrival going k o n a → (p : Part) × FindsPart o.source n.source p
-part_given going k o n (arrival.Register x) dry h = (part.Register x, h)
-part_given going k o n (arrival.Piece p) dry h = (part.Piece p, h)
-part_given going k o n (arrival.Unread m f) dry h = absurd (never going dry h.0)
+part_given : (how : TakeOptions) (k : ℕ) (o n : FileState) (a : Arrival) → how.keep_going ≡ false → IsArrival how k o n a → (p : Part) × FindsPart o.source n.source p
+part_given how k o n (arrival.Register x) dry h = (h.0, h.1)
+part_given how k o n (arrival.Piece p) dry h = (h.0, h.1)
+part_given how k o n (arrival.Unread m f) dry h = absurd (never how.keep_going dry h.0)
+part_given how k o n (arrival.Forged id) dry h = (h.0, h.1)
 
 -- the fault of reading a file is a fault of the file
 pub fault_is : (number : ℕ) (was shut : Bool) (o n : SourceState) (f : ReadFileFault) → IsPartReadFromFault o n f
@@ -56,7 +60,7 @@ of_file number o n f other (inr fault) = fault
 next : (i : ℕ) → suc i ≡ i + 1
 next i = omega arith
 
-module _ {S : Type 0} (st : S → FileState) (going : Bool) where
+module _ {S : Type 0} (st : S → FileState) (how : TakeOptions) where
   first : (w n : S) (ws ns : List S) → map st (n ∷ ns) ≡ map st (w ∷ ws) → st n ≡ st w
   first w n ws ns e = ap (head_of (st n)) e
 
@@ -76,27 +80,27 @@ module _ {S : Type 0} (st : S → FileState) (going : Bool) where
   behind was now i s size back = subst (λ j. drop j (map st (slice_set now i s)) ≡ drop j (map st was)) (next i) (behind_suc was now i s size back)
 
   arrived_suc : (was now : List S) (number i k : ℕ) (o s : S) (gave : List Arrival) (a : Arrival) → i < length was → length now ≡ length was
-      → AreArrivals going number (take i (map st was)) (take i (map st now)) gave → drop i (map st now) ≡ drop i (map st was) → k ≡ number + i → IsArrival going k (st (get_or now i o)) (st s) a
-      → AreArrivals going number (take (suc i) (map st was)) (take (suc i) (map st (slice_set now i s))) (gave ++ a ∷ [])
+      → AreArrivals how number (take i (map st was)) (take i (map st now)) gave → drop i (map st now) ≡ drop i (map st was) → k ≡ number + i → IsArrival how k (st (get_or now i o)) (st s) a
+      → AreArrivals how number (take (suc i) (map st was)) (take (suc i) (map st (slice_set now i s))) (gave ++ a ∷ [])
   arrived_suc was [] number i k o s gave a within size front back at is = absurd (omega arith)
   arrived_suc [] (n ∷ ns) number i k o s gave a within size front back at is = absurd (omega arith)
   arrived_suc (w ∷ ws) (n ∷ ns) number zero k o s [] a within size front back at is =
       let same : k ≡ number = omega (arith, at) in
-      (subst (λ j. IsArrival going j (st w) (st s) a) same (subst (λ j. IsArrival going k j (st s) a) (first w n ws ns back) is), tt)
+      (subst (λ j. IsArrival how j (st w) (st s) a) same (subst (λ j. IsArrival how k j (st s) a) (first w n ws ns back) is), tt)
   arrived_suc (w ∷ ws) (n ∷ ns) number zero k o s (b ∷ bs) a within size front back at is = absurd front
   arrived_suc (w ∷ ws) (n ∷ ns) number (suc i) k o s [] a within size front back at is = absurd front
   arrived_suc (w ∷ ws) (n ∷ ns) number (suc i) k o s (b ∷ bs) a within size front back at is =
       (front.0, arrived_suc ws ns (number + 1) i k o s bs a (omega arith) (omega arith) front.1 back (omega (arith, at)) is)
 
   pub arrived_next : (was now : List S) (number i k : ℕ) (o s : S) (gave bs : List Arrival) (a : Arrival) → i < length was → length now ≡ length was
-      → AreArrivals going number (take i (map st was)) (take i (map st now)) gave → drop i (map st now) ≡ drop i (map st was) → k ≡ number + i → IsArrival going k (st (get_or now i o)) (st s) a
-      → bs ≡ gave ++ a ∷ [] → AreArrivals going number (take (i + 1) (map st was)) (take (i + 1) (map st (slice_set now i s))) bs
+      → AreArrivals how number (take i (map st was)) (take i (map st now)) gave → drop i (map st now) ≡ drop i (map st was) → k ≡ number + i → IsArrival how k (st (get_or now i o)) (st s) a
+      → bs ≡ gave ++ a ∷ [] → AreArrivals how number (take (i + 1) (map st was)) (take (i + 1) (map st (slice_set now i s))) bs
   arrived_next was now number i k o s gave bs a within size front back at is pushed =
-      subst (λ j. AreArrivals going number (take j (map st was)) (take j (map st (slice_set now i s))) bs) (next i)
-      (subst (λ ks. AreArrivals going number (take (suc i) (map st was)) (take (suc i) (map st (slice_set now i s))) ks) (sym pushed) (arrived_suc was now number i k o s gave a within size front back at is))
+      subst (λ j. AreArrivals how number (take j (map st was)) (take j (map st (slice_set now i s))) bs) (next i)
+      (subst (λ ks. AreArrivals how number (take (suc i) (map st was)) (take (suc i) (map st (slice_set now i s))) ks) (sym pushed) (arrived_suc was now number i k o s gave a within size front back at is))
 
-  stops_at : (was now : List S) (number i k : ℕ) (o s : S) (gave : List Arrival) (f : CliFault) → going ≡ false → i < length was → length now ≡ length was
-      → AreArrivals going number (take i (map st was)) (take i (map st now)) gave → drop i (map st now) ≡ drop i (map st was) → k ≡ number + i → HasFault k (st (get_or now i o)) (st s) f
+  stops_at : (was now : List S) (number i k : ℕ) (o s : S) (gave : List Arrival) (f : CliFault) → how.keep_going ≡ false → i < length was → length now ≡ length was
+      → AreArrivals how number (take i (map st was)) (take i (map st now)) gave → drop i (map st now) ≡ drop i (map st was) → k ≡ number + i → HasFault k (st (get_or now i o)) (st s) f
       → StopsAt number f (map st was) (map st (slice_set now i s))
   stops_at was [] number i k o s gave f dry within size front back at fault = absurd (omega arith)
   stops_at [] (n ∷ ns) number i k o s gave f dry within size front back at fault = absurd (omega arith)
@@ -105,18 +109,30 @@ module _ {S : Type 0} (st : S → FileState) (going : Bool) where
       inl (subst (λ j. HasFault j (st w) (st s) f) same (subst (λ j. HasFault k j (st s) f) (first w n ws ns back) fault), others w n ws ns back)
   stops_at (w ∷ ws) (n ∷ ns) number (suc i) k o s [] f dry within size front back at fault = absurd front
   stops_at (w ∷ ws) (n ∷ ns) number (suc i) k o s (b ∷ bs) f dry within size front back at fault =
-      inr (part_given going number (st w) (st n) b dry front.0, stops_at ws ns (number + 1) i k o s bs f dry (omega arith) (omega arith) front.1 back (omega (arith, at)) fault)
+      inr (part_given how number (st w) (st n) b dry front.0, stops_at ws ns (number + 1) i k o s bs f dry (omega arith) (omega arith) front.1 back (omega (arith, at)) fault)
 
   -- a fault that ends the reading of the next file ends that of all
   pub last_stops : (was now : List S) (number i k : ℕ) (o s : S) (gave : List Arrival) (f : CliFault) → i < length was → length now ≡ length was
-      → AreArrivals going number (take i (map st was)) (take i (map st now)) gave → drop i (map st now) ≡ drop i (map st was) → k ≡ number + i → IsLast going k (st (get_or now i o)) (st s) f
-      → IsStopped going number (map st was) (map st (slice_set now i s)) f
+      → AreArrivals how number (take i (map st was)) (take i (map st now)) gave → drop i (map st now) ≡ drop i (map st was) → k ≡ number + i → IsLast how k (st (get_or now i o)) (st s) f
+      → IsStopped how number (map st was) (map st (slice_set now i s)) f
   last_stops was now number i k o s gave f within size front back at (inl memory) = inl memory
   last_stops was now number i k o s gave f within size front back at (inr (dry, fault)) = inr (dry, stops_at was now number i k o s gave f dry within size front back at fault)
 
   -- after the last file, all have arrived
   pub arrived_all : (was now : List S) (number i : ℕ) (gave : List Arrival) → length was ≤ i → length now ≡ length was
-      → AreArrivals going number (take i (map st was)) (take i (map st now)) gave → AreArrivals going number (map st was) (map st now) gave
+      → AreArrivals how number (take i (map st was)) (take i (map st now)) gave → AreArrivals how number (map st was) (map st now) gave
   arrived_all was now number i gave past size h =
-      subst (λ os. AreArrivals going number os (map st now) gave) (take_all i (map st was) (omega (arith, length-map was st, past)))
-      (subst (λ ns. AreArrivals going number (take i (map st was)) ns gave) (take_all i (map st now) (omega (arith, length-map now st, size, past))) h)
+      subst (λ os. AreArrivals how number os (map st now) gave) (take_all i (map st was) (omega (arith, length-map was st, past)))
+      (subst (λ ns. AreArrivals how number (take i (map st was)) ns gave) (take_all i (map st now) (omega (arith, length-map now st, size, past))) h)
+
+-- what arrives of a part is what its file gave
+pub screened_arrival : (how : TakeOptions) (k : ℕ) (o n : FileState) (p : Part) (a : Arrival) → FindsPart o.source n.source p → IsScreened (judged how) (brought how.offices.items p) a → IsArrival how k o n a
+screened_arrival how k o n p (arrival.Register x) finds is = (p, finds, is)
+screened_arrival how k o n p (arrival.Piece q) finds is = (p, finds, is)
+screened_arrival how k o n p (arrival.Unread m f) finds is = absurd is
+screened_arrival how k o n p (arrival.Forged id) finds is = (p, finds, is)
+
+-- all of a part arrives, if nobody else gave a number in the office's name
+pub all_arrives : (office : Option Journal) (p : Part) → IsHonestTo office (content_of p) → IsScreened office p (arrived p)
+all_arrives office (part.Register x) h = (refl, h)
+all_arrives office (part.Piece q) h = (refl, h)

@@ -8,14 +8,14 @@ use Rattle.reg_state.specs.RegisterLaws.{register_laws}
 use Rattle.reg_file.specs.declared.parts.Part.{Part}
 use Rattle.reg_file.specs.declared.parts.Part.TheVariants as part
 use Rattle.reg_engine.specs.Inputs.{registers, pieces}
-use Rattle.reg_engine.specs.Merge.{begun, with_pieces, join_of, JoinTo, IsUnjoined}
+use Rattle.reg_commands.specs.Merge.{begun, with_pieces, join_of, JoinTo, IsUnjoined}
 use Rattle.reg_take.specs.declared.files.Arrival.{Arrival}
 use Rattle.reg_take.specs.declared.files.Arrival.TheVariants as arrival
 use Rattle.reg_take.specs.declared.taking.LeftOut.{LeftOut}
 use Rattle.reg_take.specs.declared.taking.LeftOut.TheVariants as left
 use Rattle.reg_take.specs.declared.taking.Phase.{Phase}
 use Rattle.reg_take.specs.declared.taking.Phase.TheVariants as phase
-use Rattle.reg_take.specs.Taken.{Progress, fault_of, left_out, leaving, starting, after_register, after_piece, taken, each_taken, all_taken, parts_given}
+use Rattle.reg_take.specs.Taken.{Progress, fault_of, left_out, leaving, starting, after_register, after_piece, taken, each_taken, sorted, all_taken, parts_given}
 use Rattle.reg_take.proofs.TakenLemmas.{each_keeps}
 
 -- ---- the first file that is left out remains the first
@@ -38,11 +38,18 @@ step_begins : (l : LeftOut) (w : Phase) (t : Progress) (i : ℕ) (a : Arrival) �
 step_begins l phase.Unread t i (arrival.Unread k f) h = more_begins l (left.Unread i k f) t.left h
 step_begins l phase.Unread t i (arrival.Register z) h = h
 step_begins l phase.Unread t i (arrival.Piece p) h = h
+step_begins l phase.Unread t i (arrival.Forged id) h = h
+step_begins l phase.Forged t i (arrival.Unread k f) h = h
+step_begins l phase.Forged t i (arrival.Register z) h = h
+step_begins l phase.Forged t i (arrival.Piece p) h = h
+step_begins l phase.Forged t i (arrival.Forged id) h = more_begins l (left.Forged i id) t.left h
 step_begins l phase.Registers t i (arrival.Unread k f) h = h
 step_begins l phase.Registers t i (arrival.Register z) h = register_begins l t i z (begun (joined t.content z)) h
 step_begins l phase.Registers t i (arrival.Piece p) h = h
+step_begins l phase.Registers t i (arrival.Forged id) h = h
 step_begins l phase.Pieces t i (arrival.Unread k f) h = h
 step_begins l phase.Pieces t i (arrival.Register z) h = h
+step_begins l phase.Pieces t i (arrival.Forged id) h = h
 step_begins l phase.Pieces t i (arrival.Piece p) h = piece_begins l t i p (joined_piece t.content p) h
 
 walk_begins : (l : LeftOut) (w : Phase) (t : Progress) (i : ℕ) (gave : List Arrival) → Begins l t.left → Begins l (each_taken w t i gave).left
@@ -56,11 +63,11 @@ first_begins l all e = ([], ap (λ k. k ++ l ∷ []) e)
 abbrev Walked : List LeftOut → Content → Result Content PieceRefusal → Type 0
 Walked left y r = ((left ≡ []) × (r ≡ Ok y)) ⊎ ((i : ℕ) × (why : PieceRefusal) × Begins (left_out i why) left × (r ≡ Err why))
 
-refused_joined : (id : Id) (xs : List Content) → all_joined joined (Err id) xs ≡ Err id
+pub refused_joined : (id : Id) (xs : List Content) → all_joined joined (Err id) xs ≡ Err id
 refused_joined id [] = refl
 refused_joined id (x ∷ xs) = refused_joined id xs
 
-refused_pieces : (r : PieceRefusal) (ps : List Piece) → with_pieces (Err r) ps ≡ Err r
+pub refused_pieces : (r : PieceRefusal) (ps : List Piece) → with_pieces (Err r) ps ≡ Err r
 refused_pieces r [] = refl
 refused_pieces r (p ∷ ps) = refused_pieces r ps
 
@@ -102,13 +109,21 @@ walk_pieces t i [] h = inl (h, refl)
 walk_pieces t i (part.Register z ∷ ps) h = walk_pieces t (i + 1) ps h
 walk_pieces t i (part.Piece p ∷ ps) h = one_piece t i p ps (λ u k. walk_pieces u (i + 1) ps k) (joined_piece t.content p) h
 
--- if all files gave a part, none is left out as unread
+-- if all files gave a part, none is left out before they are joined
 none_unread : (t : Progress) (i : ℕ) (ps : List Part) → each_taken phase.Unread t i (parts_given ps) ≡ t
 none_unread t i [] = refl
 none_unread t i (part.Register z ∷ ps) = none_unread t (i + 1) ps
 none_unread t i (part.Piece p ∷ ps) = none_unread t (i + 1) ps
 
--- ---- all three walks
+none_forged : (t : Progress) (i : ℕ) (ps : List Part) → each_taken phase.Forged t i (parts_given ps) ≡ t
+none_forged t i [] = refl
+none_forged t i (part.Register z ∷ ps) = none_forged t (i + 1) ps
+none_forged t i (part.Piece p ∷ ps) = none_forged t (i + 1) ps
+
+none_left : (x : Content) (ps : List Part) → sorted x (parts_given ps) ≡ starting x
+none_left x ps = ap (λ t. each_taken phase.Forged t 0 (parts_given ps)) (none_unread (starting x) 0 ps) ∙ none_forged (starting x) 0 ps
+
+-- ---- all walks
 
 abbrev head_of : LeftOut → List LeftOut → LeftOut
 head_of d [] = d
@@ -135,7 +150,7 @@ module _ (x : Content) (ps : List Part) (is : IsContent x) where
   walked : Walked (all_taken x (parts_given ps)).left (all_taken x (parts_given ps)).content (join_of (part.Register x ∷ ps))
   walked =
       let made = then_pieces (each_taken phase.Registers (starting x) 0 (parts_given ps)) (begun (all_joined joined (Ok x) (registers ps))) (walk_registers (starting x) 0 ps refl) in
-      subst (λ (t : Progress). Walked (whole t).left (whole t).content (join_of (part.Register x ∷ ps))) (sym (none_unread (starting x) 0 ps))
+      subst (λ (t : Progress). Walked (whole t).left (whole t).content (join_of (part.Register x ∷ ps))) (sym (none_left x ps))
       (subst (λ r. Walked (whole (starting x)).left (whole (starting x)).content r) (sym total) made)
 
 joins_where : (left : List LeftOut) (y : Content) (r : Result Content PieceRefusal) → Walked left y r → left ≡ [] → r ≡ Ok y

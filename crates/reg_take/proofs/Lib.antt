@@ -3,3 +3,6 @@ mod FileLemmas
 mod TakenLemmas
 mod LawLemmas
 mod EngineLemmas
+pub mod AgainLemmas
+pub mod AtOnceLemmas
+mod OwnLemmas

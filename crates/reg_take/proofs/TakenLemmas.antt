@@ -1,5 +1,5 @@
--- Files are joined to a content in three walks.
-use Rattle.std.proofs.Common.{◌≡◌, ◌↔◌, ◌∷◌, ◌++◌, [], List, ℕ, ◌+◌, ◌≤◌, zero, suc, length, drop, arith, Result, Ok, Err, Option, None, Some, refl, sym, ap, subst, ◌∙◌}
+-- Files are joined to a content in four walks.
+use Rattle.std.proofs.Common.{◌≡◌, ◌↔◌, ◌∷◌, ◌++◌, [], true, false, List, ℕ, ◌+◌, ◌≤◌, zero, suc, length, drop, arith, Result, Ok, Err, Option, None, Some, refl, sym, ap, subst, ◌∙◌}
 use Rattle.std.specs.Prelude.{IfOk}
 use Rattle.reg_join.specs.Joining.{all_joined, joined_with}
 use Rattle.reg_op.specs.Ids.{Id}
@@ -9,14 +9,15 @@ use Rattle.reg_state.specs.RegisterLaws.{register_laws}
 use Rattle.reg_state.specs.declared.piece.PieceFault.{PieceFault}
 use Rattle.reg_state.specs.declared.piece.PieceFault.TheVariants as piece
 use Rattle.reg_tree.specs.Chain.{with_piece, with_pieces}
-use Rattle.reg_engine.specs.Merge.{begun}
+use Rattle.reg_commands.specs.Merge.{begun}
 use Rattle.reg_take.specs.declared.files.Arrival.{Arrival}
 use Rattle.reg_take.specs.declared.files.Arrival.TheVariants as arrival
 use Rattle.reg_take.specs.declared.taking.Phase.{Phase}
 use Rattle.reg_take.specs.declared.taking.Phase.TheVariants as phase
 use Rattle.reg_take.specs.declared.taking.LeftOut.{LeftOut}
 use Rattle.reg_take.specs.declared.taking.Taking.{Taking}
-use Rattle.reg_take.specs.Taken.{Progress, Shows, left_out, leaving, starting, after_register, after_piece, taken, each_taken, all_taken, IsJoin, Keeps, IsTakenFrom, IsRefusal}
+use Rattle.reg_take.specs.Taken.{Progress, Shows, left_out, leaving, starting, after_register, after_piece, taken, each_taken, sorted, all_taken, rounds, AllWait, IsJoin, Keeps, IsTakenFrom, IsRefusal}
+use Rattle.reg_take.proofs.AgainLemmas.{rounds_keep}
 
 -- ---- one file
 
@@ -99,7 +100,7 @@ merged_of : (c : Option Id) (m y : Content) → joined_unless c m ≡ Ok y → m
 merged_of None m y e = cc
 merged_of (Some id) m y e = absurd (cc)
 
-joined_is : (x z y : Content) → joined x z ≡ Ok y → merged x z ≡ y
+pub joined_is : (x z y : Content) → joined x z ≡ Ok y → merged x z ≡ y
 joined_is x z y e = merged_of (clash_of x z) (merged x z) y e
 
 joined_of : (missing : Option Id) (r : Result Content Id) (y : Content) → joined_where missing r ≡ Ok y → r ≡ Ok y
@@ -107,7 +108,7 @@ joined_of None (Ok x) y e = cc
 joined_of None (Err id) y e = absurd (cc)
 joined_of (Some id) r y e = absurd (cc)
 
-piece_is : (x : Content) (p : Piece) (y : Content) → joined_piece x p ≡ Ok y → merged x (part_of p) ≡ y
+pub piece_is : (x : Content) (p : Piece) (y : Content) → joined_piece x p ≡ Ok y → merged x (part_of p) ≡ y
 piece_is x p y e = joined_is x (part_of p) y (joined_of (first_missing p.basis x.seen) (joined x (part_of p)) y e)
 
 module _ (x : Content) where
@@ -124,11 +125,19 @@ module _ (x : Content) where
   unread_keeps t i (arrival.Register z) h = h
   unread_keeps t i (arrival.Piece p) h = h
   unread_keeps t i (arrival.Unread k f) h = record { join = h.join; pieces = h.pieces }
+  unread_keeps t i (arrival.Forged id) h = h
+
+  forged_keeps : (t : Progress) (i : ℕ) (a : Arrival) → AreJoined t → AreJoined (taken phase.Forged t i a)
+  forged_keeps t i (arrival.Register z) h = h
+  forged_keeps t i (arrival.Piece p) h = h
+  forged_keeps t i (arrival.Unread k f) h = h
+  forged_keeps t i (arrival.Forged id) h = record { join = h.join; pieces = h.pieces }
 
   register_keeps : (t : Progress) (i : ℕ) (a : Arrival) → AreJoined t → AreJoined (taken phase.Registers t i a)
   register_keeps t i (arrival.Register z) h = joined_one t i z (joined t.content z) refl h
   register_keeps t i (arrival.Piece p) h = h
   register_keeps t i (arrival.Unread k f) h = h
+  register_keeps t i (arrival.Forged id) h = h
 
   with_one : (t : Progress) (i : ℕ) (p : Piece) (r : Result Content PieceRefusal) → joined_piece t.content p ≡ r → IsJoin x t → IsJoin x (after_piece t i p r)
   with_one t i p (Ok y) e h = with_pieces-push (begun (all_joined joined (Ok nothing) (x ∷ t.registers))) t.pieces p ∙ ap (λ r. with_piece r p) h ∙ e
@@ -138,18 +147,20 @@ module _ (x : Content) where
   piece_keeps t i (arrival.Register z) h = h
   piece_keeps t i (arrival.Piece p) h = with_one t i p (joined_piece t.content p) refl h
   piece_keeps t i (arrival.Unread k f) h = h
+  piece_keeps t i (arrival.Forged id) h = h
 
   is_join : (t : Progress) → AreJoined t → IsJoin x t
   is_join t h = ap (λ r. with_pieces (begun r) t.pieces) h.join ∙ ap (with_pieces (Ok t.content)) h.pieces
 
-  -- after the three walks, the content is the join of the first one with all files that are not left out
+  -- after the four walks, the content is the join of the first one with all files that are not left out
   pub all_join : IsContent x → (gave : List Arrival) → IsJoin x (all_taken x gave)
   all_join is gave =
       let unread = each_taken phase.Unread (starting x) 0 gave in
-      let registers = each_taken phase.Registers unread 0 gave in
+      let registers = each_taken phase.Registers (sorted x gave) 0 gave in
       each_keeps (IsJoin x) phase.Pieces piece_keeps registers 0 gave
-      (is_join registers (each_keeps AreJoined phase.Registers register_keeps unread 0 gave
-      (each_keeps AreJoined phase.Unread unread_keeps (starting x) 0 gave (record { join = register_laws.neutral x is; pieces = refl }))))
+      (is_join registers (each_keeps AreJoined phase.Registers register_keeps (sorted x gave) 0 gave
+      (each_keeps AreJoined phase.Forged forged_keeps unread 0 gave
+      (each_keeps AreJoined phase.Unread unread_keeps (starting x) 0 gave (record { join = register_laws.neutral x is; pieces = refl })))))
 
   -- ---- the content keeps all of the first one
 
@@ -167,12 +178,19 @@ module _ (x : Content) where
 
   step_has : (w : Phase) (t : Progress) (i : ℕ) (a : Arrival) → Keeps x t.content → Keeps x (taken w t i a).content
   step_has phase.Unread t i (arrival.Unread k f) h = h
+  step_has phase.Unread t i (arrival.Forged id) h = h
   step_has phase.Unread t i (arrival.Register z) h = h
   step_has phase.Unread t i (arrival.Piece p) h = h
+  step_has phase.Forged t i (arrival.Unread k f) h = h
+  step_has phase.Forged t i (arrival.Forged id) h = h
+  step_has phase.Forged t i (arrival.Register z) h = h
+  step_has phase.Forged t i (arrival.Piece p) h = h
   step_has phase.Registers t i (arrival.Unread k f) h = h
+  step_has phase.Registers t i (arrival.Forged id) h = h
   step_has phase.Registers t i (arrival.Register z) h = register_has t i z (joined t.content z) refl h
   step_has phase.Registers t i (arrival.Piece p) h = h
   step_has phase.Pieces t i (arrival.Unread k f) h = h
+  step_has phase.Pieces t i (arrival.Forged id) h = h
   step_has phase.Pieces t i (arrival.Register z) h = h
   step_has phase.Pieces t i (arrival.Piece p) h = piece_has t i p (joined_piece t.content p) refl h
 
@@ -182,16 +200,44 @@ module _ (x : Content) where
   pub all_has : IsContent x → (gave : List Arrival) → Keeps x (all_taken x gave).content
   all_has is gave =
       let unread = each_taken phase.Unread (starting x) 0 gave in
-      let registers = each_taken phase.Registers unread 0 gave in
+      let registers = each_taken phase.Registers (sorted x gave) 0 gave in
       each_keeps (λ t. Keeps x t.content) phase.Pieces (step_has phase.Pieces) registers 0 gave
-      (each_keeps (λ t. Keeps x t.content) phase.Registers (step_has phase.Registers) unread 0 gave
-      (each_keeps (λ t. Keeps x t.content) phase.Unread (step_has phase.Unread) (starting x) 0 gave (itself is)))
+      (each_keeps (λ t. Keeps x t.content) phase.Registers (step_has phase.Registers) (sorted x gave) 0 gave
+      (each_keeps (λ t. Keeps x t.content) phase.Forged (step_has phase.Forged) unread 0 gave
+      (each_keeps (λ t. Keeps x t.content) phase.Unread (step_has phase.Unread) (starting x) 0 gave (itself is))))
 
-  -- a state that shows the three walks is the result of the take
-  pub taken_from : IsContent x → (gave : List Arrival) (taking : Taking) → Shows taking (all_taken x gave) → IsTakenFrom x gave taking.register taking.left.items
+  -- ---- the pieces that are tried again
+
+  piece_joins : (t : Progress) (i : ℕ) (p : Piece) → IsJoin x t → IsJoin x (after_piece t i p (joined_piece t.content p))
+  piece_joins t i p h = with_one t i p (joined_piece t.content p) refl h
+
+  piece_holds : (t : Progress) (i : ℕ) (p : Piece) → Keeps x t.content → Keeps x (after_piece t i p (joined_piece t.content p)).content
+  piece_holds t i p h = piece_has t i p (joined_piece t.content p) refl h
+
+  pub rounds_join : IsContent x → (gave : List Arrival) (n : ℕ) → IsJoin x (rounds gave n (all_taken x gave))
+  rounds_join is gave n = rounds_keep (IsJoin x) gave (λ t l h. h) (λ t h. h) piece_joins n (all_taken x gave) (all_join is gave)
+
+  pub rounds_have : IsContent x → (gave : List Arrival) (n : ℕ) → Keeps x (rounds gave n (all_taken x gave)).content
+  rounds_have is gave n = rounds_keep (λ t. Keeps x t.content) gave (λ t l h. h) (λ t h. h) piece_holds n (all_taken x gave) (all_has is gave)
+
+  -- a state that shows the four walks, or these and some rounds, is the result of the take
+  pub taken_from : IsContent x → (gave : List Arrival) (taking : Taking) → Shows taking (all_taken x gave) → IsTakenFrom false x gave taking.register taking.left.items
   taken_from is gave taking shows = record {
+    end = all_taken x gave;
+    far = refl;
     content = shows.0;
     left_out = shows.1;
     join = all_join is gave;
     keeps = subst (Keeps x) (sym shows.0) (all_has is gave);
+  }
+
+  pub taken_again : IsContent x → (gave : List Arrival) (taking : Taking) (n : ℕ) → Shows taking (rounds gave n (all_taken x gave)) → AllWait gave (rounds gave n (all_taken x gave))
+      → IsTakenFrom true x gave taking.register taking.left.items
+  taken_again is gave taking n shows wait = record {
+    end = rounds gave n (all_taken x gave);
+    far = ((n, refl), wait);
+    content = shows.0;
+    left_out = shows.1;
+    join = rounds_join is gave n;
+    keeps = subst (Keeps x) (sym shows.0) (rounds_have is gave n);
   }

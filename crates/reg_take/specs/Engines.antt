@@ -1,15 +1,19 @@
 -- The engines of the command: what was read, and what was written.
-use Rattle.std.specs.Prelude.{◌≡◌, ◌≢◌, ◌⊎◌, Bool, List, ℕ}
+use Rattle.std.specs.Prelude.{◌≡◌, ◌≢◌, ◌⊎◌, List, ℕ}
 use Rattle.byte_io.specs.Device.{SinkState}
 use Rattle.byte_io.specs.Whole.{WritesAll}
 use Rattle.reg_op.specs.Contents.{Content}
 use Rattle.reg_query.specs.DiffLines.{IsDiff}
 use Rattle.reg_engine.specs.declared.fault.CliFault.{CliFault}
 use Rattle.reg_engine.specs.Fault.{is_after}
-use Rattle.reg_engine.specs.Store.{Around, AreCut, WritesIf, IsKeptIn}
+use Rattle.reg_engine.specs.Store.{Around, Admission, Admits, AreCut, WritesIf, IsKeptIn}
+use Rattle.reg_take.specs.declared.options.TakeOptions.{TakeOptions}
 use Rattle.reg_take.specs.declared.taking.LeftOut.{LeftOut}
-use Rattle.reg_take.specs.Files.{FileState}
-use Rattle.reg_take.specs.Take.{Takes, CannotTake}
+use Rattle.reg_take.specs.declared.effect.TakeEffect.{TakeEffect}
+use Rattle.reg_take.specs.declared.files.Arrival.{Arrival}
+use Rattle.reg_take.specs.declared.loading.Loaded.{Loaded}
+use Rattle.reg_take.specs.Files.{FileState, AreArrivals, IsStopped}
+use Rattle.reg_take.specs.Take.{Takes, CannotJoin, IsBarred}
 
 -- the register that a store gives, and what is written for the register that replaces it
 pub record Way : Type 1 where
@@ -44,12 +48,39 @@ kept_if_changed a before after = record {
   failed = λ x y lines f. ((y ≢ x) × a.unleft x y f × WritesIf (is_after f) lines before after) ⊎ (Leaves (IsKeptIn a) a x y × AreCut lines before after f);
 }
 
--- a register was read; the files were joined to it, except those that are left out; and the rows that changed were written
-abbrev pub IsTaken : Way → Bool → ℕ → List FileState → List FileState → List LeftOut → Type 0
-IsTaken w going next old new left = (x : Content) × (y : Content) × (lines : List ℕ) × Takes going next old new x y left × IsDiff x y lines × w.gave x y lines
+-- the store gave this register and admits another one, to which files are joined; and they gave this
+abbrev pub IsLoaded : Around → Admission → TakeOptions → ℕ → List FileState → List FileState → Loaded → Type 0
+IsLoaded a admission how next old new l = a.came l.register × AreArrivals how next old new l.arrivals.items × Admits admission l.register l.base
 
--- none was read, and no file either; or nothing is joined to it; or the files were joined, and not everything was written
-abbrev pub IsUntaken : Way → Bool → ℕ → List FileState → List FileState → CliFault → Type 0
-IsUntaken w going next old new f = (w.none f × (new ≡ old))
-    ⊎ (((x : Content) × w.came x × CannotTake going next old new x f)
-    ⊎ ((x : Content) × (y : Content) × (lines : List ℕ) × (left : List LeftOut) × Takes going next old new x y left × IsDiff x y lines × w.failed x y lines f))
+-- the files were all read, and the store does not admit the register
+abbrev pub IsUnadmitted : Admission → TakeOptions → ℕ → List FileState → List FileState → Content → CliFault → Type 0
+IsUnadmitted admission how next old new x f = (gave : List Arrival) × AreArrivals how next old new gave × IsBarred admission x f
+
+-- it gave none, and no file was read; or they were not all read; or it does not admit the register
+abbrev pub IsUnloaded : Around → Admission → TakeOptions → ℕ → List FileState → List FileState → CliFault → Type 0
+IsUnloaded a admission how next old new f = (a.none f × (new ≡ old))
+    ⊎ ((x : Content) × a.came x × (IsStopped how next old new f ⊎ IsUnadmitted admission how next old new x f))
+
+-- the first register was read, and admitted; the files were joined to it, except those that are left out, which gave the second one;
+-- and the rows that changed were written
+abbrev pub IsTaken : Way → Admission → TakeOptions → ℕ → List FileState → List FileState → TakeEffect → Type 0
+IsTaken w admission how next old new t = (z : Content) × (lines : List ℕ) × Admits admission t.before z × Takes how next old new z t.after t.left.items
+    × IsDiff t.before t.after lines × w.gave t.before t.after lines
+
+-- the files were read, and cannot be joined to the admitted register
+abbrev pub IsUnjoinable : Admission → TakeOptions → ℕ → List FileState → List FileState → Content → CliFault → Type 0
+IsUnjoinable admission how next old new x f = (z : Content) × (gave : List Arrival) × Admits admission x z × AreArrivals how next old new gave
+    × CannotJoin how.keep_going z gave f
+
+-- the files were joined, and not everything was written
+abbrev pub IsUnwritten : Way → Admission → TakeOptions → ℕ → List FileState → List FileState → Content → CliFault → Type 0
+IsUnwritten w admission how next old new x f = (z : Content) × (y : Content) × (lines : List ℕ) × (left : List LeftOut) × Admits admission x z
+    × Takes how next old new z y left × IsDiff x y lines × w.failed x y lines f
+
+-- none was read, and no file either; or not all files were; or the register is not admitted; or nothing is joined to it; or the files were
+-- joined, and not everything was written
+abbrev pub IsUntaken : Way → Admission → TakeOptions → ℕ → List FileState → List FileState → CliFault → Type 0
+IsUntaken w admission how next old new f = (w.none f × (new ≡ old))
+    ⊎ (((x : Content) × w.came x × (IsStopped how next old new f ⊎ IsUnadmitted admission how next old new x f))
+    ⊎ (((x : Content) × w.came x × IsUnjoinable admission how next old new x f)
+    ⊎ ((x : Content) × IsUnwritten w admission how next old new x f)))

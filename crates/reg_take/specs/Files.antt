@@ -1,6 +1,13 @@
 -- Files of registers and pieces that are opened in turn: what each gave.
-use Rattle.std.specs.Prelude.{◌≡◌, ◌⊎◌, ◌+◌, ◌∷◌, [], Bool, true, false, IsTrue, List, ℕ}
+use Rattle.std.specs.Prelude.{◌≡◌, ◌⊎◌, ◌+◌, ◌∷◌, [], Bool, true, false, IsTrue, List, ℕ, Option, Some, None, option_map}
 use Rattle.byte_io.specs.Device.{SourceState}
+use Rattle.reg_op.specs.Ids.{Id}
+use Rattle.reg_op.specs.Contents.{Content}
+use Rattle.reg_op.specs.Pieces.{part_of}
+use Rattle.reg_state.specs.Walks.{IsLeastOf}
+use Rattle.reg_journal.specs.Journal.{Journal}
+use Rattle.reg_journal.specs.Standing.{is_forged, IsHonest}
+use Rattle.reg_from.specs.Offices.{from_offices}
 use Rattle.reg_file.specs.Parts.{FindsPart}
 use Rattle.reg_file.specs.declared.parts.Part.{Part}
 use Rattle.reg_file.specs.declared.parts.Part.TheVariants as part
@@ -12,6 +19,7 @@ use Rattle.reg_engine.specs.declared.fault.CliFault.{CliFault}
 use Rattle.reg_engine.specs.declared.fault.CliFault.TheVariants as cli
 use Rattle.reg_engine.specs.Fault.{file_fault}
 use Rattle.reg_engine.specs.Inputs.{IsPartFault}
+use Rattle.reg_take.specs.declared.options.TakeOptions.{TakeOptions}
 use Rattle.reg_take.specs.declared.files.Arrival.{Arrival}
 use Rattle.reg_take.specs.declared.files.Arrival.TheVariants as arrival
 
@@ -53,24 +61,65 @@ HasFault number old new (cli.Office t) = ⊥
 abbrev pub IsUnread : ℕ → FileState → FileState → CliFault → Type 0
 IsUnread number old new f = (f ≡ cli.Memory) ⊎ HasFault number old new f
 
--- what it gave: the file of this part; or this fault, after which the command continues
-abbrev pub IsArrival : Bool → ℕ → FileState → FileState → Arrival → Type 0
-IsArrival going number old new (arrival.Register x) = FindsPart old.source new.source (part.Register x)
-IsArrival going number old new (arrival.Piece p) = FindsPart old.source new.source (part.Piece p)
-IsArrival going number old new (arrival.Unread k f) = IsTrue going × HasFault number old new (cli.File k f)
+-- what is joined of a part: all of it, unless offices are named; then what the part has of these offices, as a register
+abbrev pub brought : List (List ℕ) → Part → Part
+brought [] p = p
+brought (u ∷ us) (part.Register x) = part.Register (from_offices (u ∷ us) x)
+brought (u ∷ us) (part.Piece p) = part.Register (from_offices (u ∷ us) (part_of p))
+
+-- the operations and the numbers that a part brings
+abbrev pub content_of : Part → Content
+content_of (part.Register x) = x
+content_of (part.Piece p) = part_of p
+
+abbrev pub arrived : Part → Arrival
+arrived (part.Register x) = arrival.Register x
+arrived (part.Piece p) = arrival.Piece p
+
+-- the office file that tells which numbers its office gave, if there is one
+abbrev pub judged : TakeOptions → Option Journal
+judged how = option_map (λ f. f.now) how.office
+
+-- nobody else gave a number in the office's name
+abbrev pub IsHonestTo : Option Journal → Content → Type 0
+IsHonestTo None x = Unit {0}
+IsHonestTo (Some f) x = IsHonest f x
+
+-- somebody did, and this is the least such number
+abbrev pub IsForgedTo : Option Journal → Content → Id → Type 0
+IsForgedTo None x id = ⊥
+IsForgedTo (Some f) x id = IsLeastOf (is_forged f x) id
+
+-- this arrives of what is joined of a part: all of it; or the number that somebody else gave in the office's name
+abbrev pub IsScreened : Option Journal → Part → Arrival → Type 0
+IsScreened office p (arrival.Register x) = (arrival.Register x ≡ arrived p) × IsHonestTo office (content_of p)
+IsScreened office p (arrival.Piece q) = (arrival.Piece q ≡ arrived p) × IsHonestTo office (content_of p)
+IsScreened office p (arrival.Unread k f) = ⊥
+IsScreened office p (arrival.Forged id) = IsForgedTo office (content_of p) id
+
+-- the file of some part was read, and this arrives of it
+abbrev pub Brings : TakeOptions → FileState → FileState → Arrival → Type 0
+Brings how old new a = (p : Part) × FindsPart old.source new.source p × IsScreened (judged how) (brought how.offices.items p) a
+
+-- what a file gave: what arrives of it; or this fault, after which the command continues
+abbrev pub IsArrival : TakeOptions → ℕ → FileState → FileState → Arrival → Type 0
+IsArrival how number old new (arrival.Register x) = Brings how old new (arrival.Register x)
+IsArrival how number old new (arrival.Piece p) = Brings how old new (arrival.Piece p)
+IsArrival how number old new (arrival.Unread k f) = IsTrue how.keep_going × HasFault number old new (cli.File k f)
+IsArrival how number old new (arrival.Forged id) = Brings how old new (arrival.Forged id)
 
 -- the command ends with this fault
-abbrev pub IsLast : Bool → ℕ → FileState → FileState → CliFault → Type 0
-IsLast going number old new f = (f ≡ cli.Memory) ⊎ ((going ≡ false) × HasFault number old new f)
+abbrev pub IsLast : TakeOptions → ℕ → FileState → FileState → CliFault → Type 0
+IsLast how number old new f = (f ≡ cli.Memory) ⊎ ((how.keep_going ≡ false) × HasFault number old new f)
 
 -- each file, in order: the first has this number, and the others one more each
-abbrev pub AreArrivals : Bool → ℕ → List FileState → List FileState → List Arrival → Type 0
-AreArrivals going number [] [] [] = Unit {0}
-AreArrivals going number [] [] (a ∷ gave) = ⊥
-AreArrivals going number [] (n ∷ ns) gave = ⊥
-AreArrivals going number (o ∷ os) [] gave = ⊥
-AreArrivals going number (o ∷ os) (n ∷ ns) [] = ⊥
-AreArrivals going number (o ∷ os) (n ∷ ns) (a ∷ gave) = IsArrival going number o n a × AreArrivals going (number + 1) os ns gave
+abbrev pub AreArrivals : TakeOptions → ℕ → List FileState → List FileState → List Arrival → Type 0
+AreArrivals how number [] [] [] = Unit {0}
+AreArrivals how number [] [] (a ∷ gave) = ⊥
+AreArrivals how number [] (n ∷ ns) gave = ⊥
+AreArrivals how number (o ∷ os) [] gave = ⊥
+AreArrivals how number (o ∷ os) (n ∷ ns) [] = ⊥
+AreArrivals how number (o ∷ os) (n ∷ ns) (a ∷ gave) = IsArrival how number o n a × AreArrivals how (number + 1) os ns gave
 
 -- one has this fault; each before it gave the file of a part, and those after it were not read
 abbrev pub StopsAt : ℕ → CliFault → List FileState → List FileState → Type 0
@@ -79,5 +128,5 @@ StopsAt number f (o ∷ os) [] = ⊥
 StopsAt number f (o ∷ os) (n ∷ ns) = (HasFault number o n f × (ns ≡ os)) ⊎ (((p : Part) × FindsPart o.source n.source p) × StopsAt (number + 1) f os ns)
 
 -- not all were read: out of memory, or the first fault of a file ends the command
-abbrev pub IsStopped : Bool → ℕ → List FileState → List FileState → CliFault → Type 0
-IsStopped going number old new f = (f ≡ cli.Memory) ⊎ ((going ≡ false) × StopsAt number f old new)
+abbrev pub IsStopped : TakeOptions → ℕ → List FileState → List FileState → CliFault → Type 0
+IsStopped how number old new f = (f ≡ cli.Memory) ⊎ ((how.keep_going ≡ false) × StopsAt number f old new)

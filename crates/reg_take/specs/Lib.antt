@@ -1,4 +1,6 @@
 pub mod Files
+pub mod AtOnce
 pub mod Taken
 pub mod Take
 pub mod Engines
+pub mod Own

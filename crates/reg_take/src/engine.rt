@@ -5,8 +5,10 @@ ghost use Rattle.reg_op.specs.Contents.{Content};
 ghost use Rattle.reg_take.specs.Files.{file_state};
 ghost use Rattle.reg_take.specs.Engines.{only_read, kept_if_changed, IsTaken, IsUntaken};
 
+use crate::effect::TakeEffect;
+use crate::loading::{Loaded, load_all};
+use crate::options::TakeOptions;
 use crate::ready::{Ready, make_ready};
-use crate::taking::LeftOut;
 use byte_io::Sink;
 use byte_late::LateSource;
 use reg_engine::{CliFault, Keep, Store, keep_and_tell, tell};
@@ -40,38 +42,46 @@ fn keep_changed<T: Keep, K: Sink>(
     }
 }
 
-/// Loads the register, joins the register or piece of each file to it, keeps the result if it differs, and then writes the rows
-/// that changed. Returns the files that are left out: with `keep_going` those that cannot be read, that clash, or whose basis is
-/// not held. Otherwise the first such file ends the command.
+/// Loads the register, reads the files, and joins the register or piece of each to the register that the store admits; keeps the result if it differs
+/// from the loaded one, and then writes the rows that changed. Returns the register before and after, and the files that are left
+/// out: with `keep_going` those that cannot be read, that have forged numbers of the office, that clash, or whose basis is not held.
+/// Otherwise the first such file ends the command. Where offices are named, their operations alone are joined.
 pub fn run_take<T: Keep, S: LateSource, K: Sink>(
     alloc: Global,
     store: &mut T,
     files: &mut [S],
-    keep_going: bool,
+    options: &TakeOptions<'_>,
     sink: &mut K,
-) -> Result<Vec<LeftOut>, CliFault>
+) -> Result<TakeEffect, CliFault>
     ensures same { T.same store.old store.new }
-    ensures taken { IfOk result (λ left. IsTaken (kept_if_changed (T.around store.old store.new) (K.state sink.old) (K.state sink.new)) keep_going (T.next store.old)
-        (map (λ s. file_state (S.state s) (S.shut s)) files.old) (map (λ s. file_state (S.state s) (S.shut s)) files.new) left.items) }
-    ensures fault { IfErr result (IsUntaken (kept_if_changed (T.around store.old store.new) (K.state sink.old) (K.state sink.new)) keep_going (T.next store.old)
+    ensures taken { IfOk result (λ t. IsTaken (kept_if_changed (T.around store.old store.new) (K.state sink.old) (K.state sink.new)) (T.admission store.old) options.now (T.next store.old)
+        (map (λ s. file_state (S.state s) (S.shut s)) files.old) (map (λ s. file_state (S.state s) (S.shut s)) files.new) t) }
+    ensures fault { IfErr result (IsUntaken (kept_if_changed (T.around store.old store.new) (K.state sink.old) (K.state sink.new)) (T.admission store.old) options.now (T.next store.old)
         (map (λ s. file_state (S.state s) (S.shut s)) files.old) (map (λ s. file_state (S.state s) (S.shut s)) files.new)) }
 {
-    let next = store.next();
-    let old = match store.load(alloc) {
-        Ok(old) => old,
+    let Loaded {
+        register: before,
+        arrivals,
+        base,
+    } = match load_all(alloc, store, files, options) {
+        Ok(loaded) => loaded,
         Err(fault) => return Err(fault),
     };
     let Ready {
-        register,
+        register: after,
         lines,
         is_same,
         left,
-    } = match make_ready(alloc, &old, next, files, keep_going) {
+    } = match make_ready(alloc, &before, &base, &arrivals, options.keep_going) {
         Ok(ready) => ready,
         Err(fault) => return Err(fault),
     };
-    match keep_changed(alloc, store, &register, is_same, &lines, sink) {
-        Ok(()) => Ok(left),
+    match keep_changed(alloc, store, &after, is_same, &lines, sink) {
+        Ok(()) => Ok(TakeEffect {
+            before,
+            after,
+            left,
+        }),
         Err(fault) => Err(fault),
     }
 }
@@ -81,26 +91,38 @@ pub fn try_take<T: Store, S: LateSource, K: Sink>(
     alloc: Global,
     store: &mut T,
     files: &mut [S],
-    keep_going: bool,
+    options: &TakeOptions<'_>,
     sink: &mut K,
-) -> Result<Vec<LeftOut>, CliFault>
+) -> Result<TakeEffect, CliFault>
     ensures same { T.same store.old store.new }
-    ensures taken { IfOk result (λ left. IsTaken (only_read (T.around store.old store.new) (K.state sink.old) (K.state sink.new)) keep_going (T.next store.old)
-        (map (λ s. file_state (S.state s) (S.shut s)) files.old) (map (λ s. file_state (S.state s) (S.shut s)) files.new) left.items) }
-    ensures fault { IfErr result (IsUntaken (only_read (T.around store.old store.new) (K.state sink.old) (K.state sink.new)) keep_going (T.next store.old)
+    ensures taken { IfOk result (λ t. IsTaken (only_read (T.around store.old store.new) (K.state sink.old) (K.state sink.new)) (T.admission store.old) options.now (T.next store.old)
+        (map (λ s. file_state (S.state s) (S.shut s)) files.old) (map (λ s. file_state (S.state s) (S.shut s)) files.new) t) }
+    ensures fault { IfErr result (IsUntaken (only_read (T.around store.old store.new) (K.state sink.old) (K.state sink.new)) (T.admission store.old) options.now (T.next store.old)
         (map (λ s. file_state (S.state s) (S.shut s)) files.old) (map (λ s. file_state (S.state s) (S.shut s)) files.new)) }
 {
-    let next = store.next();
-    let old = match store.load(alloc) {
-        Ok(old) => old,
+    let Loaded {
+        register: before,
+        arrivals,
+        base,
+    } = match load_all(alloc, store, files, options) {
+        Ok(loaded) => loaded,
         Err(fault) => return Err(fault),
     };
-    let ready = match make_ready(alloc, &old, next, files, keep_going) {
+    let Ready {
+        register: after,
+        lines,
+        is_same: _,
+        left,
+    } = match make_ready(alloc, &before, &base, &arrivals, options.keep_going) {
         Ok(ready) => ready,
         Err(fault) => return Err(fault),
     };
-    match tell(&ready.lines, sink) {
-        Ok(()) => Ok(ready.left),
+    match tell(&lines, sink) {
+        Ok(()) => Ok(TakeEffect {
+            before,
+            after,
+            left,
+        }),
         Err(fault) => Err(fault),
     }
 }

@@ -1,22 +1,30 @@
 //! Files of registers and pieces, which are opened, read and closed in turn.
 
-ghost use Rattle.std.specs.Prelude.{◌≡◌, map, false, IfOk, IfErr};
+ghost use Rattle.std.specs.Prelude.{◌≡◌, map, option_map, false, IfOk, IfErr};
 ghost use Rattle.reg_file.specs.Parts.{FindsPart, IsPartReadFromFault};
-ghost use Rattle.reg_take.specs.Files.{file_state, fault_in, IsUnread, IsArrival, IsLast, AreArrivals, IsStopped};
+ghost use Rattle.reg_journal.specs.Standing.{is_forged, Leasts};
+ghost use Rattle.reg_take.specs.Files.{file_state, fault_in, brought, arrived, content_of, judged, IsScreened, IsUnread, IsArrival, IsLast, AreArrivals, IsStopped};
 
+use crate::options::TakeOptions;
 use byte_late::LateSource;
 use reg_engine::{CliFault, InputFault};
 use reg_file::{Part, ReadFileFault, read_part_beside};
+use reg_from::{from_piece, from_register, register_in};
+use reg_journal::OfficeFile;
+use reg_op::OpId;
 use reg_state::{Piece, Register};
-use std::alloc::Global;
+use std::alloc::{AllocError, Global};
 use std::slice;
+use uuid::Uuid;
 
-/// What a file gave: a register or a piece, or the fault for which it is left out.
+/// What a file gave: a register or a piece, or the reason why it is left out.
 #[derive(Drop)]
 pub enum Arrival {
     Register(Register),
     Piece(Piece),
     Unread { number: usize, fault: InputFault },
+    /// Somebody else gave this number in the name of the office.
+    Forged(OpId),
 }
 
 // The fault of the file with this number, which may have failed to open.
@@ -51,23 +59,84 @@ fn read_next<S: LateSource>(
     }
 }
 
+// What is joined of a part: all of it, unless offices are named.
+fn brought(alloc: Global, offices: &[Uuid], part: Part) -> Result<Part, AllocError>
+    ensures { IfOk result (λ p. p ≡ brought offices.now part) }
+{
+    if offices.is_empty() {
+        return Ok(part);
+    }
+    let theirs = match part {
+        Part::Register(register) => from_register(alloc, &register, offices)?,
+        Part::Piece(piece) => from_piece(alloc, &piece, offices)?,
+    };
+    Ok(Part::Register(theirs))
+}
+
+// The least id that somebody else gave in the office's name, of which a part tells.
+fn forged_in(alloc: Global, file: &OfficeFile, part: &Part) -> Result<Option<OpId>, AllocError>
+    ensures { IfOk result (Leasts (is_forged file.now (content_of part.now))) }
+{
+    match part {
+        Part::Register(register) => Ok(file.forged(register)),
+        Part::Piece(piece) => {
+            let register = register_in(alloc, piece)?;
+            Ok(file.forged(&register))
+        }
+    }
+}
+
+fn arrived(part: Part) -> Arrival
+    ensures { result ≡ arrived part }
+{
+    match part {
+        Part::Register(register) => Arrival::Register(register),
+        Part::Piece(piece) => Arrival::Piece(piece),
+    }
+}
+
+// What arrives of a part: all of it, unless somebody else gave a number in the office's name.
+fn screened(alloc: Global, office: Option<&OfficeFile>, part: Part) -> Result<Arrival, AllocError>
+    ensures { IfOk result (IsScreened (option_map (λ f. f.now) office.entry) part) }
+{
+    let Some(file) = office else {
+        return Ok(arrived(part));
+    };
+    let forged = forged_in(alloc, file, &part)?;
+    match forged {
+        Some(id) => Ok(Arrival::Forged(id)),
+        None => Ok(arrived(part)),
+    }
+}
+
+// What arrives of the part that a file gave.
+fn arrival_in(alloc: Global, options: &TakeOptions<'_>, part: Part) -> Result<Arrival, AllocError>
+    ensures { IfOk result (IsScreened (judged options.now) (brought options.now.offices.items part)) }
+{
+    let joined = brought(alloc, &options.offices, part)?;
+    let arrival = screened(alloc, options.office, joined)?;
+    Ok(arrival)
+}
+
 // What the file with this number gave. Its fault ends the command, unless the command keeps going.
 fn arrival_of<S: LateSource>(
     alloc: Global,
     known: &Register,
     number: usize,
-    keep_going: bool,
+    options: &TakeOptions<'_>,
     file: &mut S,
 ) -> Result<Arrival, CliFault>
-    ensures arrived { IfOk result (IsArrival keep_going number (file_state (S.state file.old) (S.shut file.old)) (file_state (S.state file.new) (S.shut file.new))) }
-    ensures fault { IfErr result (IsLast keep_going number (file_state (S.state file.old) (S.shut file.old)) (file_state (S.state file.new) (S.shut file.new))) }
+    ensures arrived { IfOk result (IsArrival options.now number (file_state (S.state file.old) (S.shut file.old)) (file_state (S.state file.new) (S.shut file.new))) }
+    ensures fault { IfErr result (IsLast options.now number (file_state (S.state file.old) (S.shut file.old)) (file_state (S.state file.new) (S.shut file.new))) }
     ensures closed { S.held file.new ≡ false }
 {
     match read_next(alloc, known, number, file) {
-        Ok(Part::Register(register)) => Ok(Arrival::Register(register)),
-        Ok(Part::Piece(piece)) => Ok(Arrival::Piece(piece)),
+        Ok(part) => match arrival_in(alloc, options, part) {
+            Ok(arrival) => Ok(arrival),
+            Err(_) => Err(CliFault::Memory),
+        },
         Err(CliFault::File { number, fault }) => {
-            if keep_going {
+            if options.keep_going {
                 return Ok(Arrival::Unread { number, fault });
             }
             Err(CliFault::File { number, fault })
@@ -81,12 +150,12 @@ pub fn arrivals<S: LateSource>(
     alloc: Global,
     known: &Register,
     next: usize,
-    keep_going: bool,
+    options: &TakeOptions<'_>,
     files: &mut [S],
 ) -> Result<Vec<Arrival>, CliFault>
-    ensures arrived { IfOk result (λ all. AreArrivals keep_going next
+    ensures arrived { IfOk result (λ all. AreArrivals options.now next
         (map (λ s. file_state (S.state s) (S.shut s)) files.old) (map (λ s. file_state (S.state s) (S.shut s)) files.new) all.items) }
-    ensures fault { IfErr result (IsStopped keep_going next
+    ensures fault { IfErr result (IsStopped options.now next
         (map (λ s. file_state (S.state s) (S.shut s)) files.old) (map (λ s. file_state (S.state s) (S.shut s)) files.new)) }
 {
     let mut all = Vec::new(alloc);
@@ -94,7 +163,7 @@ pub fn arrivals<S: LateSource>(
         let Some(number) = next.checked_add(i) else {
             return Err(CliFault::Memory);
         };
-        let arrival = match arrival_of(alloc, known, number, keep_going, &mut files[i]) {
+        let arrival = match arrival_of(alloc, known, number, options, &mut files[i]) {
             Ok(arrival) => arrival,
             Err(fault) => return Err(fault),
         };

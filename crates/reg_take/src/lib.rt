@@ -1,12 +1,20 @@
 //! The command `take`: registers and pieces of other offices are joined to a register.
 #![tactic(auto)]
 
+mod again;
+mod all;
+mod at_once;
+mod effect;
 mod engine;
 mod files;
 pub mod laws;
+mod loading;
+mod options;
 mod ready;
 mod same;
 mod taking;
 
+pub use effect::TakeEffect;
 pub use engine::{run_take, try_take};
+pub use options::TakeOptions;
 pub use taking::LeftOut;

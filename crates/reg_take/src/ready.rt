@@ -1,14 +1,14 @@
 //! The result of taking files, before anything is written.
 
-ghost use Rattle.std.specs.Prelude.{◌≡◌, ◌↔◌, map, IsTrue, IfOk, IfSome, IfNone, IfErr};
+ghost use Rattle.std.specs.Prelude.{◌≡◌, ◌↔◌, IsTrue, IfOk, IfSome, IfNone, IfErr};
 ghost use Rattle.reg_query.specs.DiffLines.{IsDiff};
-ghost use Rattle.reg_take.specs.Files.{file_state};
-ghost use Rattle.reg_take.specs.Take.{Takes, CannotTake, IsFirstFault, MayLeave};
+ghost use Rattle.reg_take.specs.Taken.{IsTakenFrom};
+ghost use Rattle.reg_take.specs.Take.{CannotJoin, IsFirstFault, MayLeave};
 
-use crate::files::arrivals;
+use crate::all::take_all;
+use crate::files::Arrival;
 use crate::same::is_same;
-use crate::taking::{LeftOut, Taking, take_all};
-use byte_late::LateSource;
+use crate::taking::{LeftOut, Taking};
 use reg_engine::CliFault;
 use reg_query::compare;
 use reg_state::Register;
@@ -38,24 +38,17 @@ fn ending(keep_going: bool, left: &[LeftOut]) -> Option<CliFault>
     }
 }
 
-// Joins the files to the register.
-fn take_files<S: LateSource>(
+// Joins what the files gave to a register.
+fn join_arrivals(
     alloc: Global,
-    old: &Register,
-    next: usize,
-    files: &mut [S],
+    base: &Register,
+    arrivals: &[Arrival],
     keep_going: bool,
 ) -> Result<Taking, CliFault>
-    ensures taken { IfOk result (λ t. Takes keep_going next
-        (map (λ s. file_state (S.state s) (S.shut s)) files.old) (map (λ s. file_state (S.state s) (S.shut s)) files.new) old.now t.register t.left.items) }
-    ensures fault { IfErr result (CannotTake keep_going next
-        (map (λ s. file_state (S.state s) (S.shut s)) files.old) (map (λ s. file_state (S.state s) (S.shut s)) files.new) old.now) }
+    ensures taken { IfOk result (λ t. IsTakenFrom keep_going base.now arrivals.now t.register t.left.items × MayLeave keep_going t.left.items) }
+    ensures fault { IfErr result (CannotJoin keep_going base.now arrivals.now) }
 {
-    let arrivals = match arrivals(alloc, old, next, keep_going, files) {
-        Ok(arrivals) => arrivals,
-        Err(fault) => return Err(fault),
-    };
-    let Ok(taking) = take_all(alloc, old, &arrivals) else {
+    let Ok(taking) = take_all(alloc, base, arrivals, keep_going) else {
         return Err(CliFault::Memory);
     };
     match ending(keep_going, &taking.left) {
@@ -64,29 +57,27 @@ fn take_files<S: LateSource>(
     }
 }
 
-/// Joins the files to the register, and makes the rows of the changes. The first file has this number.
-pub fn make_ready<S: LateSource>(
+/// Joins what the files gave to a register, and makes the rows of what differs from the loaded one.
+pub fn make_ready(
     alloc: Global,
-    old: &Register,
-    next: usize,
-    files: &mut [S],
+    loaded: &Register,
+    base: &Register,
+    arrivals: &[Arrival],
     keep_going: bool,
 ) -> Result<Ready, CliFault>
-    ensures taken { IfOk result (λ r. Takes keep_going next
-        (map (λ s. file_state (S.state s) (S.shut s)) files.old) (map (λ s. file_state (S.state s) (S.shut s)) files.new) old.now r.register r.left.items) }
-    ensures lines { IfOk result (λ r. IsDiff old.now r.register r.lines.items) }
-    ensures same { IfOk result (λ r. IsTrue r.is_same ↔ (r.register ≡ old.now)) }
-    ensures fault { IfErr result (CannotTake keep_going next
-        (map (λ s. file_state (S.state s) (S.shut s)) files.old) (map (λ s. file_state (S.state s) (S.shut s)) files.new) old.now) }
+    ensures taken { IfOk result (λ r. IsTakenFrom keep_going base.now arrivals.now r.register r.left.items × MayLeave keep_going r.left.items) }
+    ensures lines { IfOk result (λ r. IsDiff loaded.now r.register r.lines.items) }
+    ensures same { IfOk result (λ r. IsTrue r.is_same ↔ (r.register ≡ loaded.now)) }
+    ensures fault { IfErr result (CannotJoin keep_going base.now arrivals.now) }
 {
-    let Taking { register, left } = match take_files(alloc, old, next, files, keep_going) {
+    let Taking { register, left } = match join_arrivals(alloc, base, arrivals, keep_going) {
         Ok(taking) => taking,
         Err(fault) => return Err(fault),
     };
-    let Ok(made) = compare(alloc, old, &register) else {
+    let Ok(made) = compare(alloc, loaded, &register) else {
         return Err(CliFault::Memory);
     };
-    let is_same = is_same(&register, old);
+    let is_same = is_same(&register, loaded);
     Ok(Ready {
         register,
         lines: made.text,

@@ -3,8 +3,8 @@
 ghost use Rattle.std.specs.Prelude.{◌≡◌, ◌++◌, ◌∷◌, [], IfOk};
 ghost use Rattle.reg_op.specs.Contents.{joined};
 ghost use Rattle.reg_op.specs.Pieces.{PieceRefusal, joined_piece};
-ghost use Rattle.reg_engine.specs.Merge.{begun};
-ghost use Rattle.reg_take.specs.Taken.{Progress, Shows, file_of, fault_of, left_out, after_register, after_piece, taken, each_taken, IsTakenFrom, IsRefusal};
+ghost use Rattle.reg_commands.specs.Merge.{begun};
+ghost use Rattle.reg_take.specs.Taken.{Progress, Shows, file_of, fault_of, left_out, after_register, after_piece, taken, each_taken, IsRefusal};
 
 use crate::files::Arrival;
 use reg_engine::{CliFault, InputFault, Refusal};
@@ -33,6 +33,11 @@ pub enum LeftOut {
         file: usize,
         id: OpId,
     },
+    /// Somebody else gave this number in the name of the office.
+    Forged {
+        file: usize,
+        id: OpId,
+    },
 }
 
 impl LeftOut {
@@ -44,6 +49,7 @@ impl LeftOut {
             LeftOut::Unread { file, .. } => *file,
             LeftOut::Clash { file, .. } => *file,
             LeftOut::Basis { file, .. } => *file,
+            LeftOut::Forged { file, .. } => *file,
         }
     }
 
@@ -58,6 +64,7 @@ impl LeftOut {
             },
             LeftOut::Clash { id, .. } => CliFault::Refused(Refusal::Clash(*id)),
             LeftOut::Basis { id, .. } => CliFault::Refused(Refusal::Basis(*id)),
+            LeftOut::Forged { id, .. } => CliFault::Refused(Refusal::Forged(*id)),
         }
     }
 }
@@ -68,14 +75,17 @@ impl fmt::Display for LeftOut {
             LeftOut::Unread { fault, .. } => fault.fmt(f),
             LeftOut::Clash { id, .. } => Refusal::Clash(*id).fmt(f),
             LeftOut::Basis { id, .. } => Refusal::Basis(*id).fmt(f),
+            LeftOut::Forged { id, .. } => Refusal::Forged(*id).fmt(f),
         }
     }
 }
 
-/// What a walk over the files does: it leaves out those that were not read, joins the registers, or joins the pieces.
+/// What a walk over the files does: it leaves out those that were not read, or those with forged numbers; it joins the registers, or
+/// the pieces.
 #[derive(Clone, Copy)]
 pub enum Phase {
     Unread,
+    Forged,
     Registers,
     Pieces,
 }
@@ -88,7 +98,7 @@ pub struct Taking {
 }
 
 impl Taking {
-    fn leave(self, one: LeftOut) -> Result<Taking, AllocError>
+    pub(crate) fn leave(self, one: LeftOut) -> Result<Taking, AllocError>
         ensures register { IfOk result (λ new. new.register ≡ self.register) }
         ensures left { IfOk result (λ new. new.left.items ≡ self.left.items ++ one ∷ []) }
     {
@@ -112,7 +122,7 @@ impl Taking {
         }
     }
 
-    fn with(self, joined: Register) -> Taking
+    pub(crate) fn with(self, joined: Register) -> Taking
         ensures register { result.register ≡ joined }
         ensures left { result.left.items ≡ self.left.items }
     {
@@ -140,7 +150,12 @@ impl Taking {
     }
 
     // Joins a piece, unless its basis is not held or it clashes.
-    fn take_piece(self, alloc: Global, file: usize, piece: &Piece) -> Result<Taking, AllocError>
+    pub(crate) fn take_piece(
+        self,
+        alloc: Global,
+        file: usize,
+        piece: &Piece,
+    ) -> Result<Taking, AllocError>
         ensures { (t : Progress) → Shows self t → IfOk result (λ new. Shows new (after_piece t file piece.now (joined_piece t.content piece.now))) }
     {
         match self.register.join_piece(alloc, piece) {
@@ -166,23 +181,38 @@ impl Taking {
                     number: *number,
                     fault: *fault,
                 }),
+                Phase::Forged => Ok(self),
                 Phase::Registers => Ok(self),
                 Phase::Pieces => Ok(self),
             },
             Arrival::Register(register) => match phase {
                 Phase::Unread => Ok(self),
+                Phase::Forged => Ok(self),
                 Phase::Registers => self.take_register(alloc, file, register),
                 Phase::Pieces => Ok(self),
             },
             Arrival::Piece(piece) => match phase {
                 Phase::Unread => Ok(self),
+                Phase::Forged => Ok(self),
                 Phase::Registers => Ok(self),
                 Phase::Pieces => self.take_piece(alloc, file, piece),
+            },
+            Arrival::Forged(id) => match phase {
+                Phase::Unread => Ok(self),
+                Phase::Forged => self.leave(LeftOut::Forged { file, id: *id }),
+                Phase::Registers => Ok(self),
+                Phase::Pieces => Ok(self),
             },
         }
     }
 
-    fn walk(self, alloc: Global, phase: Phase, arrivals: &[Arrival]) -> Result<Taking, AllocError>
+    /// One of the walks over the files.
+    pub(crate) fn walk(
+        self,
+        alloc: Global,
+        phase: Phase,
+        arrivals: &[Arrival],
+    ) -> Result<Taking, AllocError>
         ensures { (t : Progress) → Shows self t → IfOk result (λ new. Shows new (each_taken phase t 0 arrivals.now)) }
     {
         let mut taking = self;
@@ -191,22 +221,4 @@ impl Taking {
         }
         Ok(taking)
     }
-}
-
-/// Joins all registers, and then all pieces. Those that cannot be joined are left out, as are those that were not read.
-pub fn take_all(
-    alloc: Global,
-    register: &Register,
-    arrivals: &[Arrival],
-) -> Result<Taking, AllocError>
-    ensures { IfOk result (λ t. IsTakenFrom register.now arrivals.now t.register t.left.items) }
-{
-    let _seen = register.seen();
-    let taking = Taking {
-        register: register.try_clone(alloc)?,
-        left: Vec::new(alloc),
-    };
-    let unread = taking.walk(alloc, Phase::Unread, arrivals)?;
-    let joined = unread.walk(alloc, Phase::Registers, arrivals)?;
-    joined.walk(alloc, Phase::Pieces, arrivals)
 }

@@ -1,14 +1,21 @@
 -- The faults of the texts of a file, one text at a time.
-use Rattle.std.proofs.Common.{◌≡◌, ◌≢◌, ℕ, Option, Some, None, List, [], ◌∷◌, length, refl, ap, sym, subst, inl, inr, arith}
+use Rattle.std.proofs.Common.{◌≡◌, ◌≢◌, ℕ, Option, Some, None, List, [], ◌∷◌, ◌++◌, length, refl, ap, sym, subst, inl, inr, arith}
 use Rattle.std.specs.Borrow.{Bor}
 use Rattle.wkt_tree.specs.Tree.{Piece}
 use Rattle.reg_op.specs.Rows.{Row}
 use Rattle.reg_report.specs.declared.row.Row.{Row as MadeRow}
-use Rattle.reg_texts.specs.Compare.{seen_rows}
+use Rattle.reg_texts.specs.Compare.{seen_rows, IsChosen}
+use Rattle.reg_texts.specs.Gathered.{Each}
 use Rattle.reg_texts.specs.declared.against.Unread.{Unread}
 use Rattle.reg_texts.specs.declared.against.Unread.TheVariants as unread
-use Rattle.reg_texts.specs.Given.{Defines, IsUnread, IsTextOrNone, IsTold, IsFirstLeft, IsFirstUnread, IsFileUnread, earlier}
+use Rattle.reg_texts.specs.Given.{Defines, IsRival, IsUnread, IsTextOrNone, IsTold, IsFirstLeft, IsFirstUnread, IsFileUnread, earlier}
 use Rattle.wkt_texts.specs.Texts.{IsCutInto}
+use Rattle.crs_value.specs.declared.key.Key.{Key}
+use Rattle.reg_op.specs.Definition.{IsKeyIn}
+use Rattle.reg_report.specs.Conflicts.{bytes_of}
+use Rattle.reg_report.proofs.ContenderLemmas.{one_key}
+use Rattle.reg_keys.specs.Index.{spelling, IsSpelled, AreChosen, AreSpelled}
+use Rattle.reg_keys.proofs.IndexLemmas.{key_spelled}
 
 -- each fault of `rest` is a fault of `all`
 abbrev pub Passes : List Piece → List Piece → Type 0
@@ -58,3 +65,18 @@ some_seen (r ∷ rs) some none = absurd (omega (arith, ap length none))
 pub file_unread : (file : List ℕ) (cuts : List Piece) (f : Unread) → IsCutInto file cuts → IsFirstUnread cuts f → IsFileUnread file f
 file_unread file cuts (unread.Refused f at place len) cut first = (cuts, cut, first)
 file_unread file cuts unread.Memory cut first = tt
+
+-- ---- the entries of a key, among the rows that are spelled as it
+
+each_again : (P Q : Row → Type 0) → ((r : Row) → Q r → P r) → (rs some found : List Row) → AreChosen P rs some → Each (IsChosen Q) some found → Each (IsChosen Q) rs found
+each_again P Q sub [] some found e each = subst (λ l. Each (IsChosen Q) l found) e each
+each_again P Q sub (x ∷ rs) some found (inl (p, (rest, e, later))) each =
+    let h = subst (λ l. Each (IsChosen Q) l found) e each in
+    (h.0, h.1, h.2, each_again P Q sub rs rest h.1 later h.3, h.4)
+each_again P Q sub (x ∷ rs) some found (inr (not, later)) each = ([], found, inr (λ q. not (sub x q), refl), each_again P Q sub rs some found later each, refl)
+
+pub rivals_again : (d : List ℕ) (key : Key) (rs some found : List Row) → IsKeyIn key d → AreSpelled (spelling (bytes_of key)) rs some → Each (IsChosen (IsRival d)) some found → Each (IsChosen (IsRival d)) rs found
+rivals_again d key rs some found is are each =
+    each_again (IsSpelled (spelling (bytes_of key))) (IsRival d)
+    (λ r v. subst (λ t. IsSpelled (spelling t) r) (one_key d v.0.0 (bytes_of key) v.0.1 (key, is, refl)) (key_spelled v.0.0 r v.0.2))
+    rs some found are.chosen each

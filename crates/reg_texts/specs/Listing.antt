@@ -3,6 +3,7 @@ use Rattle.std.specs.Prelude.{◌≡◌, ◌==◌, ◌||◌, ℕ, Bool, List, []
 use Rattle.std.specs.List.{flat_map, list_any}
 use Rattle.std.specs.Str.{bytes_eq}
 use Rattle.crs_value.specs.declared.crs.Crs.{Crs}
+use Rattle.text_short.specs.Short.{short}
 use Rattle.wkt_crs.specs.Spells.{Spells, pretty}
 use Rattle.reg_report.specs.Conflicts.{KeyBytes}
 use Rattle.reg_texts.specs.declared.saying.Saying.{Saying}
@@ -23,9 +24,9 @@ names_successor s = is_some s.by
 
 abbrev pub spaced_key : Option KeyBytes → List ℕ
 spaced_key None = []
-spaced_key (Some k) = 32 ∷ key_text k
+spaced_key (Some k) = 32 ∷ short (key_text k)
 
--- a space and the key of a successor, if the statement has one
+-- a space and the key of a successor, cut after 200 characters, if the statement has one
 abbrev pub successor_text : Said → List ℕ
 successor_text s = spaced_key s.by
 

@@ -4,7 +4,9 @@ ghost use Rattle.std.specs.Prelude.{◌≡◌, ◌≢◌, ◌++◌, List, ℕ, m
 ghost use Rattle.wkt_crs.specs.Definition.{IsTextFault};
 ghost use Rattle.wkt_crs.specs.declared.definition.DefinitionFault.TheVariants.{Memory as NoMemory};
 ghost use Rattle.wkt_texts.specs.Texts.{piece_of};
+ghost use Rattle.reg_op.specs.Rows.{Row as OneRow};
 ghost use Rattle.reg_report.specs.Seen.{row_seen};
+ghost use Rattle.reg_keys.specs.Index.{IsIndex};
 ghost use Rattle.reg_texts.specs.Gathered.{Each};
 ghost use Rattle.reg_texts.specs.Compare.{seen_rows};
 ghost use Rattle.reg_texts.specs.Given.{IsPairWith, IsGivenAgainst, Defines, IsTextAgainst, IsTextOrNone, IsTold, IsFileAgainst, IsFileAgainstWhereRead, IsFirstLeft, IsUnread, IsFirstUnread, IsFileUnread, earlier};
@@ -12,7 +14,7 @@ ghost use Rattle.reg_texts.specs.Given.{IsPairWith, IsGivenAgainst, Defines, IsT
 use crate::choice::{OfText, chosen};
 use crate::given::{given, new_text};
 use crate::version::{Version, is_none, push_pair, version_of};
-use reg_keys::rows_in_order;
+use reg_keys::{KeyIndex, index_of_register, rows_of_key};
 use reg_report::Row;
 use reg_state::Register;
 use std::alloc::{AllocError, Global};
@@ -47,13 +49,13 @@ pub fn compared_texts(
     ensures ok { IfOk result (λ text. IsFileAgainst name.now file.now register.now text.items) }
     ensures fault { IfErr result (IsFileUnread file.now) }
 {
-    let Ok(rows) = rows_in_order(alloc, register) else {
+    let Ok(index) = index_of_register(alloc, register) else {
         return Err(Unread::Memory);
     };
     let Ok(cuts) = texts(alloc, file) else {
         return Err(Unread::Memory);
     };
-    match all_against(alloc, &rows, name, &cuts) {
+    match all_against(alloc, &index, name, &cuts) {
         Ok(text) => Ok(text),
         Err(why) => Err(why),
     }
@@ -75,25 +77,26 @@ pub fn compared_where_read(
 ) -> Result<WhereRead, AllocError>
     ensures { IfOk result (λ made. IsFileAgainstWhereRead name.now file.now register.now made.text.items made.first) }
 {
-    let rows = rows_in_order(alloc, register)?;
+    let index = index_of_register(alloc, register)?;
     let cuts = texts(alloc, file)?;
-    let made = against_where_read(alloc, &rows, name, &cuts)?;
+    let made = against_where_read(alloc, &index, name, &cuts)?;
     Ok(made)
 }
 
 fn against_where_read(
     alloc: Global,
-    rows: &[Row],
+    index: &KeyIndex,
     name: &[u8],
     cuts: &[Cut<'_>],
 ) -> Result<WhereRead, AllocError>
-    ensures text { IfOk result (λ made. Each (IsTextOrNone name.now (map row_seen rows.now)) (map piece_of cuts.now) made.text.items) }
+    requires { (rs : List OneRow) × IsIndex index.now rs }
+    ensures text { (rs : List OneRow) → IsIndex index.now rs → IfOk result (λ made. Each (IsTextOrNone name.now rs) (map piece_of cuts.now) made.text.items) }
     ensures first { IfOk result (λ made. IsFirstLeft (map piece_of cuts.now) made.first) }
 {
     let mut text = Vec::new(alloc);
     let mut first = None;
     for cut in cuts {
-        let left = push_where_read(alloc, &mut text, rows, name, cut)?;
+        let left = push_where_read(alloc, &mut text, index, name, cut)?;
         first = earlier(first, left);
     }
     Ok(WhereRead { text, first })
@@ -113,13 +116,13 @@ fn earlier(first: Option<Unread>, next: Option<Unread>) -> Option<Unread>
 fn push_where_read(
     alloc: Global,
     text: &mut Vec<u8>,
-    rows: &[Row],
+    index: &KeyIndex,
     name: &[u8],
     cut: &Cut<'_>,
 ) -> Result<Option<Unread>, AllocError>
-    ensures { IfOk result (λ left. (mine : List ℕ) × IsTold name.now (map row_seen rows.now) (piece_of cut.now) mine left × (text.new.items ≡ text.old.items ++ mine)) }
+    ensures { (rs : List OneRow) → IsIndex index.now rs → IfOk result (λ left. (mine : List ℕ) × IsTold name.now rs (piece_of cut.now) mine left × (text.new.items ≡ text.old.items ++ mine)) }
 {
-    let mine = match text_against(alloc, rows, name, cut) {
+    let mine = match text_against(alloc, index, name, cut) {
         Ok(mine) => mine,
         Err(Unread::Memory) => return Err(AllocError),
         Err(why) => return Ok(Some(why)),
@@ -131,16 +134,17 @@ fn push_where_read(
 // The same of these texts.
 fn all_against(
     alloc: Global,
-    rows: &[Row],
+    index: &KeyIndex,
     name: &[u8],
     cuts: &[Cut<'_>],
 ) -> Result<Vec<u8>, Unread>
-    ensures ok { IfOk result (λ text. Each (IsTextAgainst name.now (map row_seen rows.now)) (map piece_of cuts.now) text.items) }
+    requires { (rs : List OneRow) × IsIndex index.now rs }
+    ensures ok { (rs : List OneRow) → IsIndex index.now rs → IfOk result (λ text. Each (IsTextAgainst name.now rs) (map piece_of cuts.now) text.items) }
     ensures fault { IfErr result (IsFirstUnread (map piece_of cuts.now)) }
 {
     let mut text = Vec::new(alloc);
     for cut in cuts {
-        push_text(alloc, &mut text, rows, name, cut)?;
+        push_text(alloc, &mut text, index, name, cut)?;
     }
     Ok(text)
 }
@@ -148,14 +152,14 @@ fn all_against(
 fn push_text(
     alloc: Global,
     text: &mut Vec<u8>,
-    rows: &[Row],
+    index: &KeyIndex,
     name: &[u8],
     cut: &Cut<'_>,
 ) -> Result<(), Unread>
-    ensures ok { OnOk result ((mine : List ℕ) × IsTextAgainst name.now (map row_seen rows.now) (piece_of cut.now) mine × (text.new.items ≡ text.old.items ++ mine)) }
+    ensures ok { (rs : List OneRow) → IsIndex index.now rs → OnOk result ((mine : List ℕ) × IsTextAgainst name.now rs (piece_of cut.now) mine × (text.new.items ≡ text.old.items ++ mine)) }
     ensures fault { IfErr result (IsUnread (piece_of cut.now)) }
 {
-    let mine = match text_against(alloc, rows, name, cut) {
+    let mine = match text_against(alloc, index, name, cut) {
         Ok(mine) => mine,
         Err(why) => return Err(why),
     };
@@ -165,15 +169,20 @@ fn push_text(
     }
 }
 
-fn text_against(alloc: Global, rows: &[Row], name: &[u8], cut: &Cut<'_>) -> Result<Vec<u8>, Unread>
-    ensures ok { IfOk result (λ mine. IsTextAgainst name.now (map row_seen rows.now) (piece_of cut.now) mine.items) }
+fn text_against(
+    alloc: Global,
+    index: &KeyIndex,
+    name: &[u8],
+    cut: &Cut<'_>,
+) -> Result<Vec<u8>, Unread>
+    ensures ok { (rs : List OneRow) → IsIndex index.now rs → IfOk result (λ mine. IsTextAgainst name.now rs (piece_of cut.now) mine.items) }
     ensures fault { IfErr result (IsUnread (piece_of cut.now)) }
 {
     let definition = match definition_at(alloc, cut) {
         Ok(definition) => definition,
         Err(why) => return Err(why),
     };
-    match given_against(alloc, rows, name, cut.place, &definition) {
+    match given_against(alloc, index, name, cut.place, &definition) {
         Ok(text) => Ok(text),
         Err(_) => Err(Unread::Memory),
     }
@@ -208,14 +217,15 @@ fn refused(cut: &Cut<'_>, fault: DefinitionFault) -> Unread
 
 fn given_against(
     alloc: Global,
-    rows: &[Row],
+    index: &KeyIndex,
     name: &[u8],
     place: usize,
     definition: &Definition,
 ) -> Result<Vec<u8>, AllocError>
-    ensures { IfOk result (λ text. IsGivenAgainst name.now place definition.now (map row_seen rows.now) text.items) }
+    ensures { (rs : List OneRow) → IsIndex index.now rs → IfOk result (λ text. IsGivenAgainst name.now place definition.now rs text.items) }
 {
     let given = given(alloc, name, place, definition)?;
+    let rows = rows_of_key(alloc, index, definition.key())?;
     let found = chosen(alloc, rows, &OfText { definition })?;
     if is_none(&found) {
         let text = new_text(alloc, definition, &given)?;

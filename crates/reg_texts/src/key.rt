@@ -5,9 +5,11 @@ ghost use Rattle.reg_report.specs.Conflicts.{HasKey};
 ghost use Rattle.reg_report.specs.Seen.{row_seen};
 ghost use Rattle.reg_texts.specs.Said.{key_bytes};
 ghost use Rattle.reg_texts.specs.Listing.{key_text, on_line};
+ghost use Rattle.text_short.specs.Short.{short};
 
 use reg_report::Row;
-use std::alloc::AllocError;
+use std::alloc::{AllocError, Global};
+use text_short::push_short;
 use wkt_crs::Definition;
 
 /// The bytes of a key, ordered by the authority and then by the code.
@@ -49,6 +51,16 @@ pub fn push_key(text: &mut Vec<u8>, key: &KeyText) -> Result<(), AllocError>
     push_on_line(text, key.authority)?;
     text.push(b':')?;
     push_on_line(text, key.code)?;
+    Ok(())
+}
+
+/// Appends the key of an entry that is only pointed at: its first 200 characters, and `…` if it has more.
+pub fn push_short_key(alloc: Global, text: &mut Vec<u8>, key: &KeyText) -> Result<(), AllocError>
+    ensures { OnOk result (text.new.items ≡ text.old.items ++ short (key_text (key_bytes key.now))) }
+{
+    let mut whole = Vec::new(alloc);
+    push_key(&mut whole, key)?;
+    push_short(text, &whole)?;
     Ok(())
 }
 

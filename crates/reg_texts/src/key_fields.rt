@@ -154,7 +154,7 @@ fn successors(alloc: Global, others: &[Saying]) -> Result<Vec<u8>, AllocError>
     ensures { IfOk result (λ text. text.items ≡ flat_map successor_text (map said others.now)) }
 {
     let mut text = Vec::new(alloc);
-    push_successors(&mut text, others)?;
+    push_successors(alloc, &mut text, others)?;
     Ok(text)
 }
 

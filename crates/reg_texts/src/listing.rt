@@ -7,7 +7,7 @@ ghost use Rattle.wkt_crs.specs.Spells.{Spells, pretty};
 ghost use Rattle.reg_texts.specs.Said.{said};
 ghost use Rattle.reg_texts.specs.Listing.{IsListing, IsBlock, status_text, by_text, successor_text, names_successor, is_about, both_about};
 
-use crate::key::push_key;
+use crate::key::{push_key, push_short_key};
 use crate::saying::Saying;
 use std::alloc::{AllocError, Global};
 use wkt_crs::{read_crs, write_pretty};
@@ -51,14 +51,19 @@ fn push_block(
 {
     push_key(text, &first.key)?;
     text.push(b' ')?;
-    push_status(text, first, others)?;
+    push_status(alloc, text, first, others)?;
     text.push(b'\n')?;
     push_indented(alloc, text, first.text)?;
     text.extend_from_slice(b"\n\n")?;
     Ok(())
 }
 
-fn push_status(text: &mut Vec<u8>, first: &Saying, others: &[Saying]) -> Result<(), AllocError>
+fn push_status(
+    alloc: Global,
+    text: &mut Vec<u8>,
+    first: &Saying,
+    others: &[Saying],
+) -> Result<(), AllocError>
     ensures { OnOk result (text.new.items ≡ text.old.items ++ status_text (said first.now) (map said others.now)) }
 {
     if !first.superseded {
@@ -66,18 +71,18 @@ fn push_status(text: &mut Vec<u8>, first: &Saying, others: &[Saying]) -> Result<
         return Ok(());
     }
     text.extend_from_slice(b"superseded")?;
-    push_by(text, others)
+    push_by(alloc, text, others)
 }
 
 // Appends the keys of successors, if some are named.
-fn push_by(text: &mut Vec<u8>, sayings: &[Saying]) -> Result<(), AllocError>
+fn push_by(alloc: Global, text: &mut Vec<u8>, sayings: &[Saying]) -> Result<(), AllocError>
     ensures { OnOk result (text.new.items ≡ text.old.items ++ by_text (map said sayings.now)) }
 {
     if !is_any_named(sayings) {
         return Ok(());
     }
     text.extend_from_slice(b" by")?;
-    push_successors(text, sayings)
+    push_successors(alloc, text, sayings)
 }
 
 fn is_any_named(sayings: &[Saying]) -> bool
@@ -97,23 +102,27 @@ fn is_named(saying: &Saying) -> bool
     saying.by.is_some()
 }
 
-/// Appends the keys of successors, each after a space.
-pub fn push_successors(text: &mut Vec<u8>, sayings: &[Saying]) -> Result<(), AllocError>
+/// Appends the keys of successors, each after a space and cut after 200 characters.
+pub fn push_successors(
+    alloc: Global,
+    text: &mut Vec<u8>,
+    sayings: &[Saying],
+) -> Result<(), AllocError>
     ensures { OnOk result (text.new.items ≡ text.old.items ++ flat_map successor_text (map said sayings.now)) }
 {
     for saying in sayings {
-        push_successor(text, saying)?;
+        push_successor(alloc, text, saying)?;
     }
     Ok(())
 }
 
-fn push_successor(text: &mut Vec<u8>, saying: &Saying) -> Result<(), AllocError>
+fn push_successor(alloc: Global, text: &mut Vec<u8>, saying: &Saying) -> Result<(), AllocError>
     ensures { OnOk result (text.new.items ≡ text.old.items ++ successor_text (said saying.now)) }
 {
     match saying.by {
         Some(key) => {
             text.push(b' ')?;
-            push_key(text, &key)?;
+            push_short_key(alloc, text, &key)?;
             Ok(())
         }
         None => Ok(()),

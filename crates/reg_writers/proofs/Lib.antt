@@ -1,2 +1,2 @@
 pub mod RegisterLemmas
-pub mod CopyLemmas
+pub mod StepLemmas

@@ -1,10 +1,8 @@
-//! The laws of many commands that change registers, and of offices that work through office files on any copies.
+//! The law of many commands that change the register of one file.
 #![tactic(auto)]
 
-mod copies;
-mod refused;
+mod commands;
 mod registers;
 
-pub use copies::office_files_suffice;
-pub use refused::what_is_behind_is_refused;
+pub use commands::{a_list_is_steps, a_merge_is_steps, an_import_is_steps, retiring_is_steps};
 pub use registers::nothing_printed_is_lost;

@@ -4,21 +4,21 @@ ghost use Rattle.std.specs.Prelude.{◌≡◌, ◌⊎◌, ℕ, List};
 ghost use Rattle.byte_writers.specs.Path.{Content as File, Event, start, happens, after};
 ghost use Rattle.byte_writers.specs.Writers.{IsReplacedBy};
 ghost use Rattle.reg_op.specs.Ids.{Id};
-ghost use Rattle.reg_writers.specs.Registers.{Command, AreChanges, HasSeen, HasGiven};
+ghost use Rattle.reg_writers.specs.Registers.{AreChanges, HasSeen, HasGiven};
 
 /// Any number of commands change the register of one file at the same time. Their steps come in any order, and each
-/// command may be stopped after any step. Each is a command of an office, or joins registers.
+/// command may be stopped after any step. Each makes operations and joins registers and pieces, one after the other.
 pub fn nothing_printed_is_lost()
     // The file is replaced only by the result of a command that read exactly that file.
-    ensures replaced { (commands : ℕ → Command) (change : ℕ → File → List ℕ) → AreChanges commands change → (file : File) (events : List Event) (e : Event) →
+    ensures replaced { (change : ℕ → File → List ℕ) → AreChanges change → (file : File) (events : List Event) (e : Event) →
         let old = after change events (start file) in let new = happens change old e in
         (new.stands ≡ old.stands) ⊎ ((k : ℕ) × IsReplacedBy change k old new) }
     // An id that a command gave, and may have printed, is seen in the file from then on.
-    ensures kept { (commands : ℕ → Command) (change : ℕ → File → List ℕ) → AreChanges commands change → (file : File) (events more : List Event) (k : ℕ) (i : Id) →
+    ensures kept { (change : ℕ → File → List ℕ) → AreChanges change → (file : File) (events more : List Event) (k : ℕ) (i : Id) →
         let then = after change events (start file) in
-        HasGiven (commands k) (change k) (then.stage k) i → HasSeen (after change more then).stands i }
+        HasGiven (change k) (then.stage k) i → HasSeen (after change more then).stands i }
     // No two commands gave the same id, so no office gave a number twice.
-    ensures once { (commands : ℕ → Command) (change : ℕ → File → List ℕ) → AreChanges commands change → (file : File) (events : List Event) (j k : ℕ) (i : Id) →
+    ensures once { (change : ℕ → File → List ℕ) → AreChanges change → (file : File) (events : List Event) (j k : ℕ) (i : Id) →
         let then = after change events (start file) in
-        HasGiven (commands j) (change j) (then.stage j) i → HasGiven (commands k) (change k) (then.stage k) i → j ≡ k }
+        HasGiven (change j) (then.stage j) i → HasGiven (change k) (then.stage k) i → j ≡ k }
 {}

@@ -3,7 +3,8 @@
 use crate::outcome::Outcome;
 use crate::{ready, word};
 use byte_io::{MemoryTarget, Reading, Writing};
-use reg_engine::{CliFault, Refusal, run_merge};
+use reg_commands::run_merge;
+use reg_engine::{CliFault, Refusal};
 use reg_file::{ReadFileFault, read_bytes, read_piece_bytes, write_bytes};
 use reg_office::{Office, OfficeFault, ReportFault, ReportKind};
 use reg_op::OpId;

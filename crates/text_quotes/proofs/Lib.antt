@@ -1,3 +1,4 @@
 pub mod DotLemmas
 pub mod JsonLemmas
+pub mod JsonDocuments
 pub mod SqlLemmas

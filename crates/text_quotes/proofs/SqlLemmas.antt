@@ -1,28 +1,55 @@
--- Escaped texts of SQL stay inside their quotation marks, and are read back as they were.
-use Rattle.std.proofs.Common.{◌≡◌, ℕ, ◌==◌, Bool, true, false, List, [], ◌∷◌, ◌++◌, if◌then◌else◌, refl, sym, ap, ◌∙◌}
+-- What a reader of SQL makes of bytes, part by part. A quoted text is read as the text.
+use Rattle.std.proofs.Common.{◌≡◌, ℕ, ◌==◌, Bool, true, false, List, [], ◌∷◌, ◌++◌, if◌then◌else◌, refl, sym, ap, ◌∙◌, append_assoc, append-nil, subst}
 use Rattle.std.proofs.lemmas.Bool.Decides.{Decides-eqb}
-use Rattle.text_quotes.specs.Scanned.{read_after}
-use Rattle.text_quotes.specs.Sql.{escaped, stays, stays_after, read}
+use Rattle.text_quotes.specs.Sql.{escaped, quoted}
+use Rattle.text_quotes.specs.Statements.{Place, Statement, InText, AfterMark, Part, to, step, parts_from, place_after}
+
+-- the bytes lead from one place to another, and add these parts
+pub record Takes (p : Place) (bytes : List ℕ) (parts : List Part) (q : Place) : Type 0 where
+  pub read : parts_from p bytes ≡ parts
+  pub place : place_after p bytes ≡ q
+
+parts_both : (p : Place) (a b : List ℕ) → parts_from p (a ++ b) ≡ parts_from p a ++ parts_from (place_after p a) b
+parts_both p [] b = refl
+parts_both p (x ∷ a) b = ap (λ ps. (step p x).adds ++ ps) (parts_both (step p x).place a b) ∙ sym (append_assoc (step p x).adds _ _)
+
+place_both : (p : Place) (a b : List ℕ) → place_after p (a ++ b) ≡ place_after (place_after p a) b
+place_both p [] b = refl
+place_both p (x ∷ a) b = place_both (step p x).place a b
+
+pub takes_both : {p q r : Place} {a b : List ℕ} {xs ys : List Part} → Takes p a xs q → Takes q b ys r → Takes p (a ++ b) (xs ++ ys) r
+takes_both {p = p} {q = q} {r = r} {a = a} {b = b} {xs = xs} {ys = ys} first second = record {
+  read = parts_both p a b ∙ (λ j. first.read j ++ parts_from (first.place j) b) ∙ ap (λ ps. xs ++ ps) second.read;
+  place = place_both p a b ∙ ap (λ here. place_after here b) first.place ∙ second.place;
+}
+
+-- ---- texts
 
 -- the bytes that a byte is escaped to, by the result of the test on it
 abbrev picked : ℕ → Bool → List ℕ
 picked b t = if t then 39 ∷ 39 ∷ [] else b ∷ []
 
-stays_picked : (b : ℕ) (rest : List ℕ) (t : Bool) → (b == 39) ≡ t → stays (picked b t ++ rest) ≡ stays rest
-stays_picked b rest true _ = refl
-stays_picked b rest false t = ap (λ m. stays_after m rest) t
+text_step : (b : ℕ) (text : List ℕ) → (b == 39) ≡ false → step (InText text) b ≡ to (InText (text ++ b ∷ []))
+text_step b text e = rw e refl
 
-pub inside : (text : List ℕ) → stays (escaped text) ≡ true
-inside [] = refl
-inside (b ∷ text) = stays_picked b (escaped text) _ refl ∙ inside text
+takes_picked : (b : ℕ) (text : List ℕ) (t : Bool) → (b == 39) ≡ t → Takes (InText text) (picked b t) [] (InText (text ++ b ∷ []))
+takes_picked b text true e = let is = sym ((Decides-eqb b 39).0 e) in record { read = refl; place = ap (λ c. InText (text ++ c ∷ [])) is }
+takes_picked b text false e = let here = text_step b text e in record { read = ap (λ s. s.adds ++ []) here; place = ap (λ s. s.place) here }
 
-is_byte : (b n : ℕ) (rest : List ℕ) → (b == n) ≡ true → n ∷ rest ≡ b ∷ rest
-is_byte b n rest e = ap (λ c. c ∷ rest) (sym ((Decides-eqb b n).0 e))
+takes_escaped : (more text : List ℕ) → Takes (InText text) (escaped more) [] (InText (text ++ more))
+takes_escaped [] text = record { read = refl; place = ap InText (sym (append-nil text)) }
+takes_escaped (b ∷ more) text =
+    subst (λ l. Takes (InText text) (escaped (b ∷ more)) [] (InText l)) (append_assoc text (b ∷ []) more) (takes_both (takes_picked b text _ refl) (takes_escaped more (text ++ b ∷ [])))
 
-read_picked : (b : ℕ) (rest : List ℕ) (t : Bool) → (b == 39) ≡ t → read_after read 0 (picked b t ++ rest) ≡ b ∷ read_after read 0 rest
-read_picked b rest true e = is_byte b 39 _ e
-read_picked b rest false t = rw t refl
+opened : Takes Statement (39 ∷ []) [] (InText [])
+opened = record { read = refl; place = refl }
 
-pub read_back : (text : List ℕ) → read_after read 0 (escaped text) ≡ text
-read_back [] = refl
-read_back (b ∷ text) = read_picked b (escaped text) _ refl ∙ ap (λ cs. b ∷ cs) (read_back text)
+closed : (text : List ℕ) → Takes (InText text) (39 ∷ []) [] (AfterMark text)
+closed text = record { read = refl; place = refl }
+
+-- a quoted text in a statement
+pub takes_quoted : (text : List ℕ) → Takes Statement (quoted text) [] (AfterMark text)
+takes_quoted text = takes_both opened (takes_both (takes_escaped text []) (closed text))
+
+pub read_back : (text : List ℕ) → parts_from Statement (quoted text ++ 44 ∷ []) ≡ Part.Text text ∷ Part.Byte 44 ∷ []
+read_back text = (takes_both (takes_quoted text) (record { read = refl; place = refl })).read

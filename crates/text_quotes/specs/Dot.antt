@@ -1,7 +1,6 @@
 -- Labels of DOT, the language of Graphviz.
-use Rattle.std.specs.Prelude.{ℕ, Bool, true, false, not, ◌==◌, ◌&&◌, List, [], ◌∷◌, ◌++◌, codes, if◌then◌else◌}
-use Rattle.std.specs.List.{flat_map, list_all}
-use Rattle.text_quotes.specs.Scanned as scanned
+use Rattle.std.specs.Prelude.{ℕ, Bool, true, false, ◌==◌, ◌&&◌, List, [], ◌∷◌, ◌++◌, codes, if◌then◌else◌}
+use Rattle.std.specs.List.{flat_map}
 use Rattle.text_quotes.specs.Scanned.{Read, read_after}
 
 -- `⟨U+0000⟩`, which is shown for U+0000: a reader of DOT ends a line there
@@ -27,12 +26,7 @@ quoted text = 34 ∷ (escaped text ++ 34 ∷ [])
 abbrev pub marked : List ℕ → List ℕ
 marked text = flat_map (λ b. if b == 0 then null_mark else b ∷ []) text
 
--- ---- how a label is read and shown
-
--- a reader who is between the quotation marks of a label is still there after these bytes: no mark ends the label, and no
--- U+0000 the line
-abbrev pub stays : List ℕ → Bool
-stays bytes = scanned.stays bytes && list_all (λ b. not (b == 0)) bytes
+-- ---- how a label is shown
 
 -- after a backslash
 abbrev pub read_escape : List ℕ → Read

@@ -1,16 +1,5 @@
--- Bytes between quotation marks, where a backslash takes the meaning of what follows it.
-use Rattle.std.specs.Prelude.{ℕ, Bool, true, false, ◌==◌, zero, suc, List, [], ◌∷◌, if◌then◌else◌}
-
--- no mark ends these bytes, nor does a backslash at their end reach beyond them. `escaped`: a backslash is before them
-abbrev pub stays_after : Bool → List ℕ → Bool
-stays_after true [] = false
-stays_after false [] = true
-stays_after true (b ∷ bs) = stays_after false bs
-stays_after false (b ∷ bs) = if b == 34 then false else stays_after (b == 92) bs
-
--- a reader who is between quotation marks is still there after these bytes
-abbrev pub stays : List ℕ → Bool
-stays bytes = stays_after false bytes
+-- Bytes in which one byte that is read may be written as several.
+use Rattle.std.specs.Prelude.{ℕ, zero, suc, List, [], ◌∷◌}
 
 -- a byte that was read, and how many more bytes belong to it
 pub record Read : Type 0 where

@@ -1,26 +1,24 @@
 //! The laws of texts between quotation marks. The functions do nothing: their contracts are the laws.
 
-ghost use Rattle.std.specs.Prelude.{◌≡◌, ℕ, List, true};
-ghost use Rattle.text_quotes.specs.Scanned.{stays};
+ghost use Rattle.std.specs.Prelude.{◌≡◌, ℕ, List, [], ◌∷◌, ◌++◌, Some};
+ghost use Rattle.json.specs.Json.{document, string};
 ghost use Rattle.text_quotes.specs.Json as json;
 ghost use Rattle.text_quotes.specs.Dot as dot;
 ghost use Rattle.text_quotes.specs.Sql as sql;
+ghost use Rattle.text_quotes.specs.Graph as graph;
+ghost use Rattle.text_quotes.specs.Statements as statements;
 
-/// A quoted text is a string of RFC 8259, and a reader takes it for the text. A reader is still between the quotation marks after
-/// the escaped text.
-pub fn json_stays_inside()
-    ensures inside { (text : List ℕ) → stays (json.escaped text) ≡ true }
-    ensures string { (text : List ℕ) → json.IsString (json.quoted text) text }
+/// A quoted text is a string of JSON (RFC 8259) that stands for the text.
+pub fn json_texts_are_read()
+    ensures { (text : List ℕ) → document (json.quoted text) ≡ Some (string text) }
 {}
 
-/// A reader of DOT is still between the quotation marks after an escaped text. The label shows the text, with a mark for U+0000.
-pub fn dot_stays_inside()
-    ensures inside { (text : List ℕ) → dot.stays (dot.escaped text) ≡ true }
-    ensures read { (text : List ℕ) → dot.unescaped (dot.escaped text) ≡ dot.marked text }
+/// A quoted text in a statement of DOT is one text, and is shown as it was, with a mark for each U+0000.
+pub fn dot_texts_are_read()
+    ensures { (text : List ℕ) → graph.parts_from graph.Statement (dot.quoted text) ≡ graph.Text (dot.marked text) ∷ [] }
 {}
 
-/// A reader of SQL is still between the quotation marks after an escaped text, and reads it as the text.
-pub fn sql_stays_inside()
-    ensures inside { (text : List ℕ) → sql.stays (sql.escaped text) ≡ true }
-    ensures read { (text : List ℕ) → sql.unescaped (sql.escaped text) ≡ text }
+/// A quoted text in a statement of SQL, before a comma, is the text and the comma.
+pub fn sql_texts_are_read()
+    ensures { (text : List ℕ) → statements.parts_from statements.Statement (sql.quoted text ++ 44 ∷ []) ≡ statements.Text text ∷ statements.Byte 44 ∷ [] }
 {}

@@ -2,10 +2,10 @@
 #![tactic(auto)]
 
 mod dot;
-mod json;
+mod json_text;
 pub mod laws;
 mod sql;
 
 pub use dot::push_dot;
-pub use json::push_json;
+pub use json_text::push_json;
 pub use sql::push_sql;

@@ -1,7 +1,8 @@
 //! Checks of texts, with their faults, over devices that fail and that cut.
 
 use byte_io::{Endless, Full, Pieces, Reading, Room, Then, Writing};
-use reg_engine::{CliFault, InputFault, OutFault, Refusal, run_check};
+use reg_commands::run_check;
+use reg_engine::{CliFault, InputFault, OutFault, Refusal};
 use std::alloc::Global;
 use wkt_crs::{Condition, SlotFault, SlotName, TextFault};
 

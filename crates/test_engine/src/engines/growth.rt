@@ -3,7 +3,8 @@
 
 use super::{OTHER_HEIGHT, joined, one_retired, sources};
 use byte_io::{MemoryTarget, Reading, Writing};
-use reg_engine::{CliFault, run_export, run_merge};
+use reg_commands::{run_export, run_merge};
+use reg_engine::CliFault;
 
 #[test]
 fn a_refused_growth_in_a_merge_opens_nothing(rt: HostRuntime) {

@@ -2,7 +2,8 @@
 
 use super::{EMPTY, HEIGHT, entry_file, sources};
 use byte_io::{MemoryTarget, Pieces, Then};
-use reg_engine::{CliFault, InputFault, run_merge};
+use reg_commands::run_merge;
+use reg_engine::{CliFault, InputFault};
 
 #[test]
 fn tells_which_file_failed_and_where(rt: HostRuntime) {
@@ -28,7 +29,7 @@ fn tells_which_file_failed_and_where(rt: HostRuntime) {
 
 #[test]
 fn laws_can_be_called() {
-    reg_engine::laws::merge_of_many();
-    reg_engine::laws::exported_is_read();
-    reg_engine::laws::nothing_is_small();
+    reg_commands::laws::merge_of_many();
+    reg_commands::laws::exported_is_read();
+    reg_commands::laws::nothing_is_small();
 }

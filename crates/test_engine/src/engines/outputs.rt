@@ -3,7 +3,8 @@
 use super::{EMPTY, HEIGHT, OFFICE_A, entry_file, id};
 use byte_io::{Pieces, Then, Writing};
 use byte_out::{InputOf, MemPlace, Step};
-use reg_engine::{CliFault, OutFault, run_new, run_retire};
+use reg_commands::{run_new, run_retire};
+use reg_engine::{CliFault, OutFault};
 use std::alloc::Global;
 use std::process::Abort;
 use uuid::Uuid;

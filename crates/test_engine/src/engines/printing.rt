@@ -5,10 +5,10 @@ use super::{
     one_retired, two_entries,
 };
 use byte_io::{Full, MemoryTarget, Pieces, Room, Then};
-use reg_engine::{
-    CliFault, Form, OutFault, run_enter, run_export, run_ops, run_report, run_show, run_supersede,
-    run_wkt,
+use reg_commands::{
+    Form, run_enter, run_export, run_ops, run_report, run_show, run_supersede, run_wkt,
 };
+use reg_engine::{CliFault, OutFault};
 use reg_office::ReportKind;
 use uuid::Uuid;
 

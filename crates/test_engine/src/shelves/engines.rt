@@ -7,10 +7,8 @@ use crate::engines::{
 };
 use byte_disk::MemDisk;
 use byte_io::{Full, Pieces, Room, Then};
-use reg_engine::{
-    CliFault, Form, InputFault, OnShelf, OutFault, Refusal, ShelfProblem, Wkt, run_enter_on,
-    run_print, run_retire_on, run_shelf, run_supersede_on,
-};
+use reg_commands::{Form, Wkt, run_enter_on, run_retire_on, run_shelf, run_supersede_on};
+use reg_engine::{CliFault, InputFault, OnShelf, OutFault, Refusal, ShelfProblem, run_print};
 use reg_shelf::keep;
 use std::alloc::Global;
 use std::process::Abort;

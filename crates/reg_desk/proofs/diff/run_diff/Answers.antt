@@ -6,7 +6,7 @@ use Rattle.reg_join.specs.Joining.{all_joined}
 use Rattle.reg_report.specs.Reports.{Reports}
 use Rattle.reg_query.specs.DiffLines.{IsDiff, Differ}
 use Rattle.reg_engine.specs.Inputs.{AreUnread, registers}
-use Rattle.reg_engine.specs.Merge.{begun, with_pieces, IsUnjoined}
+use Rattle.reg_commands.specs.Merge.{begun, with_pieces, IsUnjoined}
 use Rattle.reg_desk.specs.Diff.{joined_ones, IsUntold}
 use Rattle.reg_desk.proofs.PartLemmas.{first_is}
 use Rattle.reg_desk.proofs.DiffLemmas.{unread, unjoined, compares, untold}

@@ -28,7 +28,7 @@ returns-clause-fault g c =
       c.in-Ok.register,
       c.in-Ok.ensures.came,
       inr (
-        c.in-Ok-handed.handed.taken,
+        c.in-Ok-handed.handed.left,
         map seen c.in-Ok-handed.handed.files.items,
         c.in-Ok-handed.ensures.ok,
         subst (λ l. IsNotOut (map seen l) old new c.in-Err-put_files.fault) c.deref.ensures.value c.in-Err-put_files.ensures.fault,

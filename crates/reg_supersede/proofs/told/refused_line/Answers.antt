@@ -1,5 +1,5 @@
 use Rattle.std.proofs.Common.{rules, ◌≡◌, sym, ap, ◌∙◌}
-use Rattle.reg_supersede.specs.declared.list_options.RefusedLine.{RefusedLine}
+use Rattle.reg_supersede.specs.declared.fault.RefusedLine.{RefusedLine}
 use Rattle.reg_supersede.specs.Engine.{cause_of}
 use Rattle.reg_supersede.proofs.LastLemmas.{same_end}
 use Rattle.reg_supersede.proofs.told.refused_line.Goals as goal

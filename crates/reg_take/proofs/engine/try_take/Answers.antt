@@ -1,30 +1,68 @@
-use Rattle.std.proofs.Common.{List, ℕ, refl, subst, map, inl, inr}
+use Rattle.std.proofs.Common.{List, ℕ, map, refl, subst, inl, inr}
+use Rattle.reg_take.specs.declared.files.Arrival.{Arrival}
+use Rattle.reg_take.specs.Files.{file_state}
+use Rattle.reg_take.specs.Taken.{IsTakenFrom}
+use Rattle.reg_take.specs.Take.{CannotJoin, MayLeave}
 use Rattle.byte_io.specs.Whole.{WritesAll}
 use Rattle.reg_engine.specs.Store.{AreCut}
-use Rattle.reg_take.specs.Files.{file_state}
-use Rattle.reg_take.specs.Take.{Takes, CannotTake}
+use Rattle.reg_take.specs.Engines.{only_read}
+use Rattle.reg_take.proofs.EngineLemmas.{unloaded}
 use Rattle.reg_take.proofs.engine.try_take.Goals as goal
+
+pub returns-in-Err-clause-fault : goal.returns-in-Err-clause-fault
+returns-in-Err-clause-fault g c =
+    let a = g.T.Store.around c.args.store.now c.load_all.new.store in
+    let s = g.K.Sink.state c.args.sink.now in
+    unloaded (only_read a s s) a (g.T.Store.admission c.args.store.now) c.args.options.now (g.T.Store.next c.args.store.now)
+    (map (λ s. file_state (g.S.Source.state s) (g.S.LateSource.shut s)) c.args.files.now) (map (λ s. file_state (g.S.Source.state s) (g.S.LateSource.shut s)) c.load_all.new.files) c.in-Err.fault (λ f h. (h, refl)) (λ x h. (h, refl)) c.in-Err.ensures.fault
 
 pub returns-in-Err-make_ready-clause-fault : goal.returns-in-Err-make_ready-clause-fault
 returns-in-Err-make_ready-clause-fault g c =
-    let old = map (λ s. file_state (g.S.Source.state s) (g.S.LateSource.shut s)) c.args.files.now in
-    let new = map (λ s. file_state (g.S.Source.state s) (g.S.LateSource.shut s)) c.make_ready.new.files in
-    inr (inl (c.in-Ok.old, (c.in-Ok.ensures.came, refl), subst (λ (k : ℕ). CannotTake c.args.keep_going k old new c.in-Ok.old c.in-Err-make_ready.fault) c.next-next.ensures c.in-Err-make_ready.ensures.fault))
+    let l = c.in-Ok.loaded in
+    inr (inr (inl (
+      l.register,
+      (c.in-Ok.ensures.loaded.0, refl),
+      (
+        l.base,
+        l.arrivals.items,
+        c.in-Ok.ensures.loaded.2,
+        c.in-Ok.ensures.loaded.1,
+        subst (λ (v : List Arrival). CannotJoin c.args.options.now.keep_going l.base v c.in-Err-make_ready.fault) c.deref.ensures.value c.in-Err-make_ready.ensures.fault,
+      ),
+    )))
 
 pub returns-in-Ok-tell-clause-taken : goal.returns-in-Ok-tell-clause-taken
 returns-in-Ok-tell-clause-taken g c =
+    let l = c.in-Ok.loaded in
     let made = c.in-Ok-make_ready.ready in
-    let old = map (λ s. file_state (g.S.Source.state s) (g.S.LateSource.shut s)) c.args.files.now in
-    let new = map (λ s. file_state (g.S.Source.state s) (g.S.LateSource.shut s)) c.make_ready.new.files in
-    let takes = subst (λ (k : ℕ). Takes c.args.keep_going k old new c.in-Ok.old made.register made.left.items) c.next-next.ensures c.in-Ok-make_ready.ensures.taken in
-    let all = subst (λ (l : List ℕ). WritesAll l (g.K.Sink.state c.args.sink.now) (g.K.Sink.state c.tell.new.sink)) c.deref.ensures.value c.in-Ok-tell.ensures.written in
-    (c.in-Ok.old, made.register, made.lines.items, takes, c.in-Ok-make_ready.ensures.lines, (c.in-Ok.ensures.came, all))
+    let takes = subst (λ (v : List Arrival). IsTakenFrom c.args.options.now.keep_going l.base v made.register made.left.items × MayLeave c.args.options.now.keep_going made.left.items)
+    c.deref.ensures.value c.in-Ok-make_ready.ensures.taken in
+    let all = subst (λ (t : List ℕ). WritesAll t (g.K.Sink.state c.args.sink.now) (g.K.Sink.state c.tell.new.sink)) c.deref-2.ensures.value c.in-Ok-tell.ensures.written in (
+      l.base,
+      made.lines.items,
+      c.in-Ok.ensures.loaded.2,
+      (l.arrivals.items, c.in-Ok.ensures.loaded.1, takes.0, takes.1),
+      c.in-Ok-make_ready.ensures.lines,
+      (c.in-Ok.ensures.loaded.0, all),
+    )
 
-pub returns-clause-fault : goal.returns-clause-fault
-returns-clause-fault g c =
+pub returns-in-Err-tell-clause-fault : goal.returns-in-Err-tell-clause-fault
+returns-in-Err-tell-clause-fault g c =
+    let l = c.in-Ok.loaded in
     let made = c.in-Ok-make_ready.ready in
-    let old = map (λ s. file_state (g.S.Source.state s) (g.S.LateSource.shut s)) c.args.files.now in
-    let new = map (λ s. file_state (g.S.Source.state s) (g.S.LateSource.shut s)) c.make_ready.new.files in
-    let takes = subst (λ (k : ℕ). Takes c.args.keep_going k old new c.in-Ok.old made.register made.left.items) c.next-next.ensures c.in-Ok-make_ready.ensures.taken in
-    let cut = subst (λ (l : List ℕ). AreCut l (g.K.Sink.state c.args.sink.now) (g.K.Sink.state c.tell.new.sink) c.in-Err-tell.fault) c.deref.ensures.value c.in-Err-tell.ensures.fault in
-    inr (inr (c.in-Ok.old, made.register, made.lines.items, made.left.items, takes, c.in-Ok-make_ready.ensures.lines, (c.in-Ok.ensures.came, cut)))
+    let takes = subst (λ (v : List Arrival). IsTakenFrom c.args.options.now.keep_going l.base v made.register made.left.items × MayLeave c.args.options.now.keep_going made.left.items)
+    c.deref.ensures.value c.in-Ok-make_ready.ensures.taken in
+    let cut = subst (λ (t : List ℕ). AreCut t (g.K.Sink.state c.args.sink.now) (g.K.Sink.state c.tell.new.sink) c.in-Err-tell.fault) c.deref-2.ensures.value c.in-Err-tell.ensures.fault in
+    inr (inr (inr (
+      l.register,
+      (
+        l.base,
+        made.register,
+        made.lines.items,
+        made.left.items,
+        c.in-Ok.ensures.loaded.2,
+        (l.arrivals.items, c.in-Ok.ensures.loaded.1, takes.0, takes.1),
+        c.in-Ok-make_ready.ensures.lines,
+        (c.in-Ok.ensures.loaded.0, cut),
+      ),
+    )))

@@ -7,15 +7,15 @@ pub returns-in-Err-clause-fault : goal.returns-in-Err-clause-fault
 returns-in-Err-clause-fault g c =
     let was = c.loop-i.invariant in
     let at : c.in-Some.number ≡ c.args.next + c.loop-i.i = search rules in
-    last_stops (λ s. file_state (g.S.Source.state s) (g.S.LateSource.shut s)) c.args.keep_going c.args.files.now c.loop-i.files c.args.next c.loop-i.i c.in-Some.number
+    last_stops (λ s. file_state (g.S.Source.state s) (g.S.LateSource.shut s)) c.args.options.now c.args.files.now c.loop-i.files c.args.next c.loop-i.i c.in-Some.number
     c.index-files-i.result c.arrival_of.new.file c.loop-i.all.items c.in-Err.fault c.loop-i-test.true was.size was.front was.back at c.in-Err.ensures.fault
 
 pub loop-i-preserved : goal.loop-i-preserved
 loop-i-preserved g c =
     let was = c.loop-i.invariant in
     let at : c.in-Some.number ≡ c.args.next + c.loop-i.i = search rules in record {
-      front = arrived_next (λ s. file_state (g.S.Source.state s) (g.S.LateSource.shut s)) c.args.keep_going c.args.files.now c.loop-i.files c.args.next c.loop-i.i c.in-Some.number
+      front = arrived_next (λ s. file_state (g.S.Source.state s) (g.S.LateSource.shut s)) c.args.options.now c.args.files.now c.loop-i.files c.args.next c.loop-i.i c.in-Some.number
           c.index-files-i.result c.arrival_of.new.file c.loop-i.all.items c.push.new.self.items c.in-Ok.arrival c.loop-i-test.true was.size was.front was.back at c.in-Ok.ensures.arrived c.in_default-push.ensures.items;
-      back = behind (λ s. file_state (g.S.Source.state s) (g.S.LateSource.shut s)) c.args.keep_going c.args.files.now c.loop-i.files c.loop-i.i c.arrival_of.new.file was.size was.back;
+      back = behind (λ s. file_state (g.S.Source.state s) (g.S.LateSource.shut s)) c.args.options.now c.args.files.now c.loop-i.files c.loop-i.i c.arrival_of.new.file was.size was.back;
       size = search rules;
     }

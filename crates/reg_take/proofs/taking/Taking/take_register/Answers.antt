@@ -1,7 +1,7 @@
 use Rattle.std.proofs.Common.{◌≡◌, ◌++◌, ◌∷◌, [], Err, ap, ◌∙◌}
 use Rattle.reg_op.specs.Contents.{joined}
 use Rattle.reg_op.specs.Pieces.{Clash}
-use Rattle.reg_engine.specs.Merge.{begun}
+use Rattle.reg_commands.specs.Merge.{begun}
 use Rattle.reg_take.specs.declared.taking.Taking.{Taking}
 use Rattle.reg_take.specs.Taken.{Shows, left_out, after_register}
 use Rattle.reg_take.proofs.TakenLemmas.{register_left, if_ok_weaker}

@@ -1,0 +1,12 @@
+//! An office file, replaced as a whole, and before the file of a register.
+#![tactic(auto)]
+
+mod fault;
+mod new_place;
+mod noting;
+mod replacing;
+
+pub use fault::{NoteFault, UnreplacedFault};
+pub use new_place::NewPlace;
+pub use noting::{put_changed, put_office};
+pub use replacing::replace_after;

@@ -1,0 +1,173 @@
+//! The place of a new file in the file system. No contract is about the file system.
+
+ghost use Rattle.std.specs.Prelude.{◌≡◌, ◌<◌, None, IsSome};
+ghost use Rattle.byte_io.specs.Device.{target_of};
+ghost use Rattle.byte_out.specs.Place.{untold};
+
+use byte_io::{DeviceFault, Log, Sink, Tally, WriteFault, write_all};
+use byte_out::{CompareFault, MakeFault, Place, PutFault};
+use std::fs::{self, OpenFile, OpenOptions};
+use std::io::{self, Write};
+use std::rt::Files;
+
+/// The place of a file that does not exist yet, such as a new office file. It is made with its name.
+#[derive(Drop)]
+pub struct NewPlace<'a, R: Files> {
+    rt: &'a R,
+    path: &'a str,
+    file: Option<R::File>,
+    taken: Log,
+    failures: Tally,
+    stalls: Tally,
+    openings: Tally,
+    ghost counted: { IsSome file → 0 < openings.count },
+}
+
+impl<'a, R: Files> NewPlace<'a, R> {
+    /// The place of a file that does not exist yet. Nothing is made yet.
+    pub fn new(rt: &'a R, path: &'a str) -> NewPlace<'a, R>
+        ensures path { result.path ≡ path.entry }
+        ensures untold { ⟦<NewPlace<'a, R> as Place>⟧.state result ≡ untold (target_of None) }
+    {
+        NewPlace {
+            rt,
+            path,
+            file: None,
+            taken: Log::empty(),
+            failures: Tally::none(),
+            stalls: Tally::none(),
+            openings: Tally::none(),
+        }
+    }
+}
+
+impl<R: Files> Sink for NewPlace<'_, R> {
+    ghost state = { λ s. record {
+      written = None;
+      taken = s.taken.bytes;
+      failures = s.failures.count;
+      stalls = s.stalls.count;
+      openings = s.openings.count;
+    } };
+
+    fn write_some(&mut self, buf: &[u8]) -> Result<usize, DeviceFault> {
+        let written = match &mut self.file {
+            None => Ok(0),
+            Some(file) => file.write(buf),
+        };
+        match written {
+            Ok(n) => {
+                if n == 0 && !buf.is_empty() {
+                    self.stalls = Tally::after(&self.stalls);
+                }
+                self.taken.note(&buf[..n]);
+                Ok(n)
+            }
+            Err(_) => {
+                self.failures = Tally::after(&self.failures);
+                Err(DeviceFault)
+            }
+        }
+    }
+}
+
+impl<R: Files> Place for NewPlace<'_, R> {
+    ghost state = { λ s. record {
+      sink = record {
+        written = None;
+        taken = s.taken.bytes;
+        failures = s.failures.count;
+        stalls = s.stalls.count;
+        openings = s.openings.count;
+      };
+      files = None;
+    } };
+
+    fn make(&mut self) -> Result<(), MakeFault> {
+        match made_anew(self.rt, self.path) {
+            Ok(file) => {
+                self.openings = Tally::after(&self.openings);
+                self.file = Some(file);
+                Ok(())
+            }
+            Err(fault) => {
+                self.failures = Tally::after(&self.failures);
+                Err(fault)
+            }
+        }
+    }
+
+    fn write(&mut self, bytes: &[u8]) -> Result<(), WriteFault> {
+        write_all(self, bytes)
+    }
+
+    fn sync(&mut self) -> Result<(), DeviceFault> {
+        if let Some(file) = &self.file {
+            if file.sync_all().is_ok() {
+                return Ok(());
+            }
+        }
+        self.failures = Tally::after(&self.failures);
+        Err(DeviceFault)
+    }
+
+    fn compare(&mut self, _read: &[u8]) -> Result<(), CompareFault> {
+        // Nothing had the name.
+        Ok(())
+    }
+
+    fn put(&mut self, _read: Option<&[u8]>, _bytes: &[u8]) -> Result<(), PutFault> {
+        // It has its name already.
+        if self.file.is_some() {
+            self.file = None;
+            return Ok(());
+        }
+        self.failures = Tally::after(&self.failures);
+        Err(PutFault::NotOpened)
+    }
+
+    fn land(&mut self) -> Result<(), DeviceFault> {
+        match sync_folder(self.rt, self.path) {
+            Ok(()) => Ok(()),
+            Err(_) => {
+                self.failures = Tally::after(&self.failures);
+                Err(DeviceFault)
+            }
+        }
+    }
+
+    fn remove(&mut self) {
+        if self.file.is_some() {
+            let _ = fs::remove_file(self.rt, self.path);
+            self.file = None;
+        }
+    }
+}
+
+// The file is made with its name: never over another file, nor through a link.
+fn made_anew<R: Files>(rt: &R, path: &str) -> Result<R::File, MakeFault> {
+    match OpenOptions::new()
+        .write(true)
+        .create_new(true)
+        .open(rt, path)
+    {
+        Ok(file) => Ok(file),
+        Err(_) => Err(MakeFault::NotOpened),
+    }
+}
+
+// Syncs the folder of a path, if it can be opened: otherwise a power cut could undo the new name.
+fn sync_folder<R: Files>(rt: &R, path: &str) -> io::Result<()> {
+    match fs::open(rt, folder(path)) {
+        Ok(folder) => folder.sync_all(),
+        Err(_) => Ok(()),
+    }
+}
+
+fn folder(path: &str) -> &str {
+    match path.rsplit_once('/') {
+        Some(("", _)) => "/",
+        Some((folder, _)) => folder,
+        None => ".",
+    }
+}

@@ -1,0 +1,254 @@
+-- What a process that replaces OUT does, call by call, and any number of such processes.
+use Rattle.std.specs.Prelude.{◌≡◌, ◌≢◌, ℕ, true, List, [], ◌∷◌, ◌++◌, Option, Some, None, take}
+use Rattle.byte_system.specs.Disk.{Content, content, Disk, Event, Call, Makes, Opens, Locks, Looks, Writes, Syncs, Reads, Compares, Renames, Unlinks, Ends, step, after, numbered, Honest, SyncsFolder}
+use Rattle.byte_system.specs.System.{own}
+
+-- how far the new file has come, once there are bytes in it
+pub data Progress : Type 0 where
+  IsWhole : Progress
+  IsSynced : Progress
+  -- since it was made, OUT was found to be the file that was read
+  FoundSame : Progress
+  -- it has a part of the bytes
+  IsPart : Progress
+
+-- how far a process has come. i is a file, x is the content of OUT that it has read
+pub data Stage : Type 0 where
+  Begins : Stage
+  -- it made the file, which another process may remove until it is locked
+  HasMade : (i : ℕ) → Stage
+  HasLocked : (i : ℕ) → Stage
+  -- it has the lock, and then found that the new name leads to this file: from now on the name is its own
+  Owns : (i : ℕ) → Stage
+  -- what it makes of x, or a part of that, is in the file
+  Fills : (x : Content) (i : ℕ) (p : Progress) → Stage
+  -- it has the lock of a file that it did not make, and then found that the new name leads to it
+  HasLeft : (i : ℕ) → Stage
+  Sweeps : (i : ℕ) → Stage
+  Replaced : (x : Content) → Stage
+  Ended : Stage
+
+-- a step of a process, from one stage to the next. Each is one call
+pub data Move : Type 0 where
+  MakesNew : (i : ℕ) → Move
+  LocksOwn : (i : ℕ) → Move
+  FindsOwn : (i : ℕ) → Move
+  GivesUp : (i : ℕ) → Move
+  WritesAll : (x : Content) (i : ℕ) → Move
+  WritesPart : (x : Content) (i n : ℕ) → Move
+  SyncsNew : (x : Content) (i : ℕ) → Move
+  FindsSame : (x : Content) (i : ℕ) → Move
+  Puts : (x : Content) (i : ℕ) → Move
+  Withdraws : (x : Content) (i : ℕ) (p : Progress) → Move
+  LocksLeft : (i : ℕ) → Move
+  FindsLeft : (i : ℕ) → Move
+  SweepsLeft : (i : ℕ) → Move
+  -- any call on other files, or one that changes no file, such as a read of OUT
+  Strays : (s : Stage) (c : Call) → Move
+  -- after such a call it begins anew
+  Forgets : (s : Stage) (c : Call) → Move
+  -- the process ends, or is killed
+  Dies : (s : Stage) → Move
+
+-- the two names, and what each process makes of the content that it read
+pub record Job : Type 0 where
+  pub out : List ℕ
+  pub new : List ℕ
+  pub change : ℕ → Content → List ℕ
+
+abbrev pub from : Move → Stage
+from (MakesNew i) = Begins
+from (LocksOwn i) = HasMade i
+from (FindsOwn i) = HasLocked i
+from (GivesUp i) = Owns i
+from (WritesAll x i) = Owns i
+from (WritesPart x i n) = Owns i
+from (SyncsNew x i) = Fills x i IsWhole
+from (FindsSame x i) = Fills x i IsSynced
+from (Puts x i) = Fills x i FoundSame
+from (Withdraws x i p) = Fills x i p
+from (LocksLeft i) = Begins
+from (FindsLeft i) = HasLeft i
+from (SweepsLeft i) = Sweeps i
+from (Strays s c) = s
+from (Forgets s c) = s
+from (Dies s) = s
+
+-- a process that has replaced OUT stays one that has
+abbrev pub dead : Stage → Stage
+dead (Replaced x) = Replaced x
+dead s = Ended
+
+abbrev pub to : Move → Stage
+to (MakesNew i) = HasMade i
+to (LocksOwn i) = HasLocked i
+to (FindsOwn i) = Owns i
+to (GivesUp i) = Ended
+to (WritesAll x i) = Fills x i IsWhole
+to (WritesPart x i n) = Fills x i IsPart
+to (SyncsNew x i) = Fills x i IsSynced
+to (FindsSame x i) = Fills x i FoundSame
+to (Puts x i) = Replaced x
+to (Withdraws x i p) = Ended
+to (LocksLeft i) = HasLeft i
+to (FindsLeft i) = Sweeps i
+to (SweepsLeft i) = Begins
+to (Strays s c) = s
+to (Forgets s c) = Begins
+to (Dies s) = dead s
+
+-- OUT is read again, and is the same
+abbrev pub finds_call : List ℕ → Content → Call
+finds_call out None = Reads out None
+finds_call out (Some read) = Compares out read true
+
+-- the call of a move of process k
+abbrev pub call_of : Job → ℕ → Move → Call
+call_of j k (MakesNew i) = Makes j.new (Some i)
+call_of j k (LocksOwn i) = Locks i true
+call_of j k (FindsOwn i) = Looks j.new i true
+call_of j k (GivesUp i) = Unlinks j.new
+call_of j k (WritesAll x i) = Writes i (j.change k x)
+call_of j k (WritesPart x i n) = Writes i (take n (j.change k x))
+call_of j k (SyncsNew x i) = Syncs i
+call_of j k (FindsSame x i) = finds_call j.out x
+call_of j k (Puts x i) = Renames j.new j.out
+call_of j k (Withdraws x i p) = Unlinks j.new
+call_of j k (LocksLeft i) = Locks i true
+call_of j k (FindsLeft i) = Looks j.new i true
+call_of j k (SweepsLeft i) = Unlinks j.new
+call_of j k (Strays s c) = c
+call_of j k (Forgets s c) = c
+call_of j k (Dies s) = Ends
+
+-- the new file of a process that has come this far, or the one that it removes
+abbrev pub file_of : Stage → Option ℕ
+file_of (HasMade i) = Some i
+file_of (HasLocked i) = Some i
+file_of (Owns i) = Some i
+file_of (Fills x i p) = Some i
+file_of (HasLeft i) = Some i
+file_of (Sweeps i) = Some i
+file_of s = None
+
+pub record IsSameFile (i : ℕ) (old new : Disk) : Type 0 where
+  pub bytes : new.bytes i ≡ old.bytes i
+  pub holder : new.holder i ≡ old.holder i
+  pub maker : new.maker i ≡ old.maker i
+
+-- a call of process k, which has come this far, leaves OUT and the new name, the files that others made or locked, their locks, and its own file
+pub record IsElsewhere (j : Job) (k : ℕ) (s : Stage) (old new : Disk) : Type 0 where
+  pub at_new : new.names j.new ≡ old.names j.new
+  pub at_out : new.names j.out ≡ old.names j.out
+  pub content : content new j.out ≡ content old j.out
+  pub made : (i m : ℕ) → m ≢ k → old.maker i ≡ Some m → (new.maker i ≡ Some m) × (new.bytes i ≡ old.bytes i)
+  pub held : (i m : ℕ) → m ≢ k → old.holder i ≡ Some m → (new.holder i ≡ Some m) × (new.bytes i ≡ old.bytes i)
+  pub own : (i : ℕ) → file_of s ≡ Some i → IsSameFile i old new
+
+abbrev pub IsFair : Job → Disk → ℕ → Move → Type 0
+IsFair j d k (Strays s c) = IsElsewhere j k s d (step d k c)
+IsFair j d k (Forgets s c) = IsElsewhere j k s d (step d k c)
+IsFair j d k m = Unit {0}
+
+pub record Deed : Type 0 where
+  pub by : ℕ
+  pub move : Move
+
+-- the events of the deeds. The last deed comes first
+abbrev pub events : Job → List Deed → List Event
+events j [] = []
+events j (e ∷ es) = record { by = e.by; call = call_of j e.by e.move } ∷ events j es
+
+abbrev pub stages : List Deed → ℕ → Stage
+stages [] = λ k. Begins
+stages (e ∷ es) = numbered (stages es) e.by (to e.move)
+
+-- each process makes moves in the order of its stages
+abbrev pub Chains : List Deed → Type 0
+Chains [] = Unit {0}
+Chains (e ∷ es) = Chains es × (stages es e.by ≡ from e.move)
+
+-- other calls leave alone what the protocol is about
+abbrev pub AreFair : Job → Disk → List Deed → Type 0
+AreFair j first [] = Unit {0}
+AreFair j first (e ∷ es) = AreFair j first es × IsFair j (after first (events j es)) e.by e.move
+
+pub record Follows (j : Job) (first : Disk) (es : List Deed) : Type 0 where
+  pub chains : Chains es
+  pub fair : AreFair j first es
+  -- a system gives such answers
+  pub honest : Honest first (events j es)
+
+-- OUT and the new name are two names, and not of one file
+pub record IsStart (j : Job) (first : Disk) : Type 0 where
+  pub two : j.new ≢ j.out
+  pub apart : (i : ℕ) → first.names j.new ≡ Some i → first.names j.out ≢ Some i
+
+-- a process replaced exactly the content that it had read by what it makes of it
+pub record IsReplacedBy (j : Job) (k : ℕ) (stage : Stage) (old new : Disk) : Type 0 where
+  pub found : (i : ℕ) × (stage ≡ Fills (content old j.out) i FoundSame)
+  pub made : content new j.out ≡ Some (j.change k (content old j.out))
+
+-- the moves of one process, the last one first
+abbrev pub end : List Move → Stage
+end [] = Begins
+end (m ∷ ms) = to m
+
+abbrev pub IsPath : List Move → Type 0
+IsPath [] = Unit {0}
+IsPath (m ∷ ms) = IsPath ms × (end ms ≡ from m)
+
+abbrev pub calls_of : Job → ℕ → List Move → List Call
+calls_of j k [] = []
+calls_of j k (m ∷ ms) = call_of j k m ∷ calls_of j k ms
+
+abbrev pub rest : List Move → List Move
+rest [] = []
+rest (m ∷ ms) = ms
+
+abbrev pub deed : ℕ → List Move → List Deed → List Deed
+deed k [] es = []
+deed k (m ∷ ms) es = record { by = k; move = m } ∷ es
+
+-- the deeds in a trace, if each process made these moves
+abbrev pub deeds : List Event → (ℕ → List Move) → List Deed
+deeds [] paths = []
+deeds (e ∷ es) paths = deed e.by (paths e.by) (deeds es (numbered paths e.by (rest (paths e.by))))
+
+-- the calls of each process in the trace are those of its path
+pub record ArePaths (j : Job) (trace : List Event) (paths : ℕ → List Move) : Type 0 where
+  pub each : (k : ℕ) → IsPath (paths k)
+  pub calls : (k : ℕ) → own k trace ≡ calls_of j k (paths k)
+
+-- at one moment process k put what it makes of x in the place of x
+pub record WasPut (j : Job) (first : Disk) (k : ℕ) (x : Content) (es : List Deed) : Type 0 where
+  pub later : List Deed
+  pub earlier : List Deed
+  pub file : ℕ
+  pub split : es ≡ later ++ (record { by = k; move = Puts x file } ∷ earlier)
+  pub found : content (after first (events j earlier)) j.out ≡ x
+  pub made : content (after first (events j (record { by = k; move = Puts x file } ∷ earlier))) j.out ≡ Some (j.change k x)
+
+-- the moves of one that makes the new file its own; the last one first. One that a stopped process left is removed before
+abbrev pub begun_moves : Job → Option ℕ → List Move
+begun_moves j None = []
+begun_moves j (Some n) = SweepsLeft n ∷ FindsLeft n ∷ LocksLeft n ∷ Strays Begins (Opens j.new (Some n)) ∷ Strays Begins (Makes j.new None) ∷ []
+
+abbrev pub reserving_moves : Job → ℕ → Option ℕ → List Move
+reserving_moves j i left = FindsOwn i ∷ LocksOwn i ∷ MakesNew i ∷ begun_moves j left
+
+-- the moves of one that then replaces OUT, which it has read
+abbrev pub replacing_moves : Job → Content → ℕ → Option ℕ → List Move
+replacing_moves j x i left =
+    Strays (Replaced x) (SyncsFolder j.out) ∷ Puts x i ∷ Strays (Fills x i FoundSame) (Looks j.new i true) ∷ FindsSame x i ∷ SyncsNew x i ∷ WritesAll x i ∷ reserving_moves j i left
+
+-- one process, which makes OUT on a disk without files
+abbrev pub sample_job : Job
+sample_job = record { out = 1 ∷ []; new = 2 ∷ []; change = λ k x. 7 ∷ [] }
+
+abbrev pub all_by : ℕ → List Move → List Deed
+all_by k [] = []
+all_by k (m ∷ ms) = record { by = k; move = m } ∷ all_by k ms
+
+abbrev pub sample_deeds : List Deed
+sample_deeds = all_by 0 (replacing_moves sample_job None 0 None)

@@ -1,0 +1,65 @@
+//! The laws of all processes that replace one file. The functions do nothing: their contracts are the laws.
+
+ghost use Rattle.std.specs.Prelude.{◌≡◌, ◌⊎◌, ℕ, Bool, true, List, ◌∷◌, [], Option, Some};
+ghost use Rattle.byte_system.specs.Disk.{Call, Content, content, no_files, Disk, Event, after, Honest};
+ghost use Rattle.byte_system.specs.System.{SystemState, calls};
+ghost use Rattle.byte_protocol.specs.declared.replacing.Fault.{Fault};
+ghost use Rattle.byte_protocol.specs.Replacing.{Replaces, Stops, reserved};
+ghost use Rattle.byte_protocol.specs.Cuts.{AreSparing};
+ghost use Rattle.byte_protocol.specs.Protocol.{Job, Deed, Move, Replaced, events, stages, Follows, IsStart, IsReplacedBy, WasPut, AreFair, deeds, end, IsPath, ArePaths, calls_of, sample_job, sample_deeds};
+
+/// Each event leaves the content of OUT, or a process replaces exactly the content that it had read by what it makes of it.
+pub fn no_work_is_lost()
+    ensures { (j : Job) (first : Disk) → IsStart j first → (es : List Deed) (e : Deed) → Follows j first (e ∷ es) →
+        let old = after first (events j es) in let new = after first (events j (e ∷ es)) in
+        (content new j.out ≡ content old j.out) ⊎ IsReplacedBy j e.by (stages es e.by) old new }
+{}
+
+/// OUT is at each moment the first content, or all the bytes of a process.
+pub fn out_is_whole()
+    ensures { (j : Job) (first : Disk) → IsStart j first → (es : List Deed) → Follows j first es →
+        let now = content (after first (events j es)) j.out in
+        (now ≡ content first j.out) ⊎ ((k : ℕ) × (x : Content) × (now ≡ Some (j.change k x))) }
+{}
+
+/// A process that has replaced OUT put what it makes of the content that it had read in the place of exactly that content.
+pub fn replaced_what_it_read()
+    ensures { (j : Job) (first : Disk) → IsStart j first → (k : ℕ) (x : Content) (es : List Deed) →
+        Follows j first es → stages es k ≡ Replaced x → WasPut j first k x es }
+{}
+
+/// What no process takes away, such as an id that was seen, stays in OUT, once a process that replaced OUT has put it there.
+pub fn what_is_kept_stays()
+    ensures { (j : Job) (first : Disk) → IsStart j first → (p : Content → Bool) → ((k : ℕ) (x : Content) → p x ≡ true → p (Some (j.change k x)) ≡ true) →
+        (es : List Deed) (k : ℕ) (x : Content) → Follows j first es → stages es k ≡ Replaced x →
+        p (Some (j.change k x)) ≡ true → p (content (after first (events j es)) j.out) ≡ true }
+{}
+
+/// A trace of honest answers in which each process made the calls of a path of moves is one of processes that follow the
+/// protocol, if their other calls are elsewhere.
+pub fn paths_are_followed()
+    ensures { (j : Job) (first : Disk) (trace : List Event) (paths : ℕ → List Move) → ArePaths j trace paths → Honest first trace →
+        let es = deeds trace paths in AreFair j first es →
+        (events j es ≡ trace) × Follows j first es × ((k : ℕ) → stages es k ≡ end (paths k)) }
+{}
+
+/// The calls of `replace` are a path, and lead to `Replaced`.
+pub fn replace_is_a_path()
+    ensures { (j : Job) (left : Option ℕ) (read bytes : List ℕ) (old last : SystemState) →
+        calls old ≡ [] → j.change old.me (Some read) ≡ bytes →
+        Replaces j.out j.new left (Some read) bytes old last →
+        (ms : List Move) × IsPath ms × (calls last ≡ calls_of j last.me ms) × (end ms ≡ Replaced (Some read)) }
+{}
+
+/// The calls of `replace_by` that stops with a fault are a path too.
+pub fn a_fault_is_a_path()
+    ensures { (j : Job) (k i : ℕ) (left : Option ℕ) (read : List ℕ) (e : Fault) (now : List Call) →
+        Stops e j.out j.new i (Some read) (j.change k (Some read)) (reserved j.new left i []) now →
+        (ms : List Move) × IsPath ms × (now ≡ calls_of j k ms) }
+{}
+
+/// One process alone replaces OUT, so the laws speak of something.
+pub fn one_alone_is_done()
+    ensures { IsStart sample_job no_files × Follows sample_job no_files sample_deeds × AreSparing sample_job no_files sample_deeds
+        × (content (after no_files (events sample_job sample_deeds)) sample_job.out ≡ Some (7 ∷ [])) }
+{}

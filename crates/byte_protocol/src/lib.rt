@@ -1,0 +1,15 @@
+//! Replacing a file, as calls on files that other processes use as well; and the law of all processes that do so.
+#![tactic(auto)]
+
+mod cuts;
+mod laws;
+mod replacing;
+#[cfg(test)]
+mod tests;
+
+pub use cuts::{what_is_left_is_whole, what_is_left_was_there, what_is_synced_stays};
+pub use laws::{
+    a_fault_is_a_path, no_work_is_lost, one_alone_is_done, out_is_whole, paths_are_followed,
+    replace_is_a_path, replaced_what_it_read, what_is_kept_stays,
+};
+pub use replacing::{Fault, Made, replace, replace_by, reserve};

@@ -1,0 +1,86 @@
+//! Changes a register by a command that has its effects once, also if it is run again after a stop.
+use crate::offices::Desk;
+use clap::ArgMatches;
+use cli_open::engines::places::Place;
+use cli_open::engines::streams::Writing;
+use cli_open::engines::{CliFault, run_change};
+use cli_open::{OpenOffice, Target, open_target, word};
+use reg_again::{Effects, Once};
+use std::alloc::Global;
+use std::fs::File;
+use std::io::{self, Write};
+
+/// Opens the register and changes it as the office, whose new file is removed afterwards if it was not used.
+pub fn changed_once<Q: Place, C: Effects + Drop>(
+    rt: &HostRuntime,
+    matches: &ArgMatches<'_>,
+    desk: &mut Desk<Q>,
+    command: C,
+) -> Result<(), CliFault> {
+    let answer = match open_target(rt, matches, word(matches, "out")) {
+        Ok(target) => change_once(rt, matches, desk, target, command),
+        Err(fault) => Err(fault),
+    };
+    desk.close();
+    answer
+}
+
+/// Changes the register as the office, and prints the command's lines, unless `--quiet` is given.
+pub fn change_once<Q: Place, P: Place + Drop, C: Effects + Drop>(
+    rt: &HostRuntime,
+    matches: &ArgMatches<'_>,
+    desk: &mut Desk<Q>,
+    target: Target<File, P>,
+    command: C,
+) -> Result<(), CliFault> {
+    if matches.get_flag("quiet") {
+        let mut sink = Writing::new(io::sink());
+        return change_to(rt.alloc(), desk, target, command, &mut sink);
+    }
+    let mut sink = Writing::new(io::writer(rt));
+    change_to(rt.alloc(), desk, target, command, &mut sink)
+}
+
+fn change_to<Q: Place, P: Place + Drop, C: Effects + Drop, W: Write>(
+    alloc: Global,
+    desk: &mut Desk<Q>,
+    target: Target<File, P>,
+    command: C,
+    sink: &mut Writing<W>,
+) -> Result<(), CliFault> {
+    let mut target = target;
+    let answer = match &mut desk.file {
+        Some(office) => change_guarded(alloc, &mut target, office, command, sink),
+        None => change_plainly(alloc, &mut target, command, sink),
+    };
+    drop(target);
+    answer
+}
+
+// As an office with an office file. If the office has made this before, and it did not arrive, nothing is made.
+fn change_guarded<P: Place, Q: Place, C: Effects + Drop, W: Write>(
+    alloc: Global,
+    target: &mut Target<File, P>,
+    office: &mut OpenOffice<Q>,
+    command: C,
+    sink: &mut Writing<W>,
+) -> Result<(), CliFault> {
+    let OpenOffice { file, place } = office;
+    let file = &*file;
+    let mut once = Once {
+        command,
+        office: file,
+    };
+    let mut store = target.guarded(file, place);
+    run_change(alloc, &mut store, &mut once, sink)
+}
+
+fn change_plainly<P: Place, C: Effects + Drop, W: Write>(
+    alloc: Global,
+    target: &mut Target<File, P>,
+    command: C,
+    sink: &mut Writing<W>,
+) -> Result<(), CliFault> {
+    let mut command = command;
+    run_change(alloc, &mut target.plain(), &mut command, sink)
+}

@@ -1,0 +1,9 @@
+pub mod Check
+pub mod Devices
+pub mod Merge
+pub mod Exchange
+pub mod Export
+pub mod Change
+pub mod ChangeLaws
+pub mod Report
+pub mod MergeOn

@@ -1,7 +1,0 @@
-use Rattle.std.proofs.Common.{◌≡◌, take}
-use Rattle.std.specs.List.{flat_map}
-use Rattle.reg_engine.specs.Export.{op_line}
-use Rattle.reg_engine.proofs.export.lines_of.Given as goal
-
-abbrev pub invariant-loop-op : goal.invariant-loop-op
-invariant-loop-op l = l.lines.items ≡ flat_map (op_line l.register.ops) (take l.op-index l.ops)

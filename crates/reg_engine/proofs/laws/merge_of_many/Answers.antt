@@ -1,5 +1,0 @@
-use Rattle.reg_engine.proofs.MergeLemmas
-use Rattle.reg_engine.proofs.laws.merge_of_many.Goals as goal
-
-pub returns : goal.returns
-returns c = record { order = MergeLemmas.order; states = MergeLemmas.states }

@@ -1,5 +1,0 @@
-use Rattle.reg_engine.proofs.MergeLemmas
-use Rattle.reg_engine.proofs.laws.nothing_is_small.Goals as goal
-
-pub returns : goal.returns
-returns c = MergeLemmas.nothing_is_small

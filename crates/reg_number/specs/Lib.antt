@@ -1,4 +1,0 @@
-pub mod Text
-pub mod Source
-pub mod Noting
-pub mod Replacing

@@ -1,0 +1,4 @@
+pub mod Works
+pub mod Desk
+pub mod Worlds
+pub mod Again

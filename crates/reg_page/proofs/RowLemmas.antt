@@ -1,0 +1,51 @@
+-- Each entry of a content has one row of the page.
+use Rattle.std.proofs.Common.{◌≡◌, ℕ, Bool, true, false, not, All, List, [], ◌∷◌, ◌++◌, map, filter, refl, sym, ap₂, ◌∙◌, subst}
+use Rattle.std.proofs.lemmas.List.{map-append}
+use Rattle.std.proofs.lemmas.List.Elements.{All-head, All-tail}
+use Rattle.std.proofs.lemmas.List.Sorted.{IsPermutation-map, IsPermutation-trans, IsPermutation-filter_both}
+use Rattle.std.proofs.lemmas.Simd.{map-map}
+use Rattle.std.specs.List.Sorted.{IsPermutation}
+use Rattle.html_page.specs.Shown as shown
+use Rattle.reg_op.specs.Contents.{Content}
+use Rattle.reg_op.specs.Operations.{Op, Ops}
+use Rattle.reg_op.specs.Status.{status}
+use Rattle.reg_op.specs.Text.{printed}
+use Rattle.reg_page.specs.declared.described.Described.{Described}
+use Rattle.reg_page.specs.Descriptions.{IsDescribed, entry_ids}
+use Rattle.reg_page.specs.Page.{standing_of, is_retired, is_among, entry_of, acts_in, rows_of, IsShown}
+
+abbrev id_of : Described → List ℕ
+id_of t = t.printed.items
+
+twice : (b : Bool) → b ≡ not (not b)
+twice true = refl
+twice false = refl
+
+-- the ids of the descriptions, as they are printed
+printed_ids : (s : Ops) (ts : List Described) → All (IsDescribed s) ts → map printed (map (λ (t : Described). t.id) ts) ≡ map id_of ts
+printed_ids s [] all = refl
+printed_ids s (t ∷ ts) all =
+    let d = All-head (IsDescribed s) t ts all in
+    ap₂ (λ i is. i ∷ is) (sym d.described.prints) (printed_ids s ts (All-tail (IsDescribed s) t ts all))
+
+module _ (s : Ops) (described : List Described) (os : List Op) where
+  ids_of_rows : (gone : Bool) → map (λ (e : shown.Entry). e.id) (rows_of gone s described os described) ≡ map id_of (filter (is_among gone s) described)
+  ids_of_rows gone = map-map (λ (e : shown.Entry). e.id) (entry_of s described os) (filter (is_among gone s) described)
+
+  all_rows : IsPermutation (map id_of described) (map (λ (e : shown.Entry). e.id) (rows_of false s described os described ++ rows_of true s described os described))
+  all_rows =
+      let parts = IsPermutation-filter_both (is_among false s) (is_among true s) (λ t. twice (is_retired (standing_of (status s t.id)))) described in
+      let ids = IsPermutation-map id_of described (filter (is_among false s) described ++ filter (is_among true s) described) parts in
+      let is : map id_of (filter (is_among false s) described ++ filter (is_among true s) described) ≡ map (λ (e : shown.Entry). e.id) (rows_of false s described os described ++ rows_of true s described os described) =
+      map-append id_of (filter (is_among false s) described) (filter (is_among true s) described)
+      ∙ sym (map-append (λ (e : shown.Entry). e.id) (rows_of false s described os described) (rows_of true s described os described) ∙ ap₂ (λ a b. a ++ b) (ids_of_rows false) (ids_of_rows true)) in
+      subst (λ l. IsPermutation (map id_of described) l) is ids
+
+pub one_row : (title : List ℕ) (x : Content) (s : shown.Shown) → IsShown title x s → IsPermutation (map printed (entry_ids x.ops)) (map (λ (e : shown.Entry). e.id) (s.entries ++ s.retired))
+one_row title x s h =
+    let ts = h.described in
+    let ids = IsPermutation-map printed (entry_ids x.ops) (map (λ (t : Described). t.id) ts) h.are_described.ids in
+    let as_printed = subst (λ l. IsPermutation (map printed (entry_ids x.ops)) l) (printed_ids x.ops ts h.are_described.each) ids in
+    let rows = all_rows x.ops ts (acts_in x.ops) in
+    subst (λ (z : shown.Shown). IsPermutation (map printed (entry_ids x.ops)) (map (λ (e : shown.Entry). e.id) (z.entries ++ z.retired))) (sym h.is)
+    (IsPermutation-trans (map printed (entry_ids x.ops)) (map id_of ts) (map (λ (e : shown.Entry). e.id) (rows_of false x.ops ts (acts_in x.ops) ts ++ rows_of true x.ops ts (acts_in x.ops) ts)) as_printed rows)
