@@ -6,7 +6,7 @@ use cli_open::engines::streams::Writing;
 use cli_open::engines::{Change, CliFault, Keep, run_change};
 use cli_open::{Target, explains, open_target, word};
 use reg_news::News;
-use reg_watch::Watched;
+use reg_watch::{Told, change_and_tell};
 use std::fs::File;
 use std::io::{self, Write};
 
@@ -65,7 +65,7 @@ fn change_to<Q: Place, P: Place + Drop, C: Change, W: Write>(
     let mut target = target;
     let mut store = target.store(&mut desk.file);
     let answer = if tells {
-        change_and_tell(rt, &mut store, command, sink)
+        change_and_say(rt, &mut store, command, sink)
     } else {
         run_change(rt.alloc(), &mut store, command, sink)
     };
@@ -74,19 +74,16 @@ fn change_to<Q: Place, P: Place + Drop, C: Change, W: Write>(
     answer
 }
 
-fn change_and_tell<T: Keep, C: Change, W: Write>(
+fn change_and_say<T: Keep, C: Change, W: Write>(
     rt: &HostRuntime,
     store: &mut T,
     command: &mut C,
     sink: &mut Writing<W>,
 ) -> Result<(), CliFault> {
-    let mut watched = Watched {
-        store,
-        loaded: None,
-        kept: None,
-    };
-    let answer = run_change(rt.alloc(), &mut watched, command, sink);
-    say_news(rt, &watched.news(rt.alloc()));
+    let Told { answer, news } = change_and_tell(rt.alloc(), store, command, sink);
+    if let Ok(news) = &news {
+        say_news(rt, news);
+    }
     answer
 }
 

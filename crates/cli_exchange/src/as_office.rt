@@ -1,13 +1,12 @@
-//! `take` as an office with an office file. Without files it brings what the office made to its register.
+//! `take` of files, as an office with an office file.
 use crate::asked::take_options;
 use byte_late::LateSource;
 use clap::ArgMatches;
+use cli_open::engines::CliFault;
 use cli_open::engines::places::Place;
 use cli_open::engines::streams::Writing;
-use cli_open::engines::{CliFault, run_change, run_print};
 use cli_open::guards::{OfficeFile, TriedFile, TriedShelf};
 use cli_open::{OpenOffice, Opened, Rows, answered, open_office, open_register, open_target, word};
-use reg_catch::{CatchUp, Catching, WouldCatchUp};
 use reg_take::{TakeEffect, run_take, try_take};
 use std::io::{self, Write};
 
@@ -75,79 +74,6 @@ fn try_take_to<S: LateSource, W: Write>(
                 file,
             };
             try_take(rt.alloc(), &mut store, files, &options, sink)
-        }
-    }
-}
-
-/// Joins all that the office of the office file at this path made to the register, and prints what changed.
-pub fn catch_up(rt: &HostRuntime, matches: &ArgMatches<'_>, path: &str) -> Result<(), CliFault> {
-    let mut office = open_office(rt, rt.alloc(), path)?;
-    let answer = catch_up_by(rt, matches, &mut office);
-    office.place.remove();
-    drop(office);
-    answer
-}
-
-fn catch_up_by<Q: Place>(
-    rt: &HostRuntime,
-    matches: &ArgMatches<'_>,
-    office: &mut OpenOffice<Q>,
-) -> Result<(), CliFault> {
-    let mut sink = Rows::sink(rt, matches, io::writer(rt));
-    let answer = if matches.get_flag("dry-run") {
-        try_to(rt, matches, &office.file, &mut sink)
-    } else {
-        catch_up_to(rt, matches, office, &mut sink)
-    };
-    match answered(rt.alloc(), sink, answer) {
-        Ok(answer) => answer,
-        Err(fault) => Err(fault),
-    }
-}
-
-fn catch_up_to<Q: Place, W: Write>(
-    rt: &HostRuntime,
-    matches: &ArgMatches<'_>,
-    office: &mut OpenOffice<Q>,
-    sink: &mut Writing<W>,
-) -> Result<(), CliFault> {
-    let mut target = open_target(rt, matches, word(matches, "REG"))?;
-    let OpenOffice { file, place } = office;
-    let file = &*file;
-    let mut store = Catching {
-        store: target.guarded(file, place),
-        file,
-    };
-    let answer = run_change(rt.alloc(), &mut store, &mut CatchUp, sink);
-    drop(store);
-    drop(target);
-    answer
-}
-
-// Prints what would change, and writes nothing.
-fn try_to<W: Write>(
-    rt: &HostRuntime,
-    matches: &ArgMatches<'_>,
-    file: &OfficeFile,
-    sink: &mut Writing<W>,
-) -> Result<(), CliFault> {
-    let command = WouldCatchUp { file };
-    match open_register(rt, rt.alloc(), matches, "REG", &None)? {
-        Opened::File(source) => {
-            let mut source = source;
-            let mut store = TriedFile {
-                source: &mut source,
-                file,
-            };
-            run_print(rt.alloc(), &mut store, &command, sink)
-        }
-        Opened::Shelf(disk) => {
-            let mut disk = disk;
-            let mut store = TriedShelf {
-                disk: &mut disk,
-                file,
-            };
-            run_print(rt.alloc(), &mut store, &command, sink)
         }
     }
 }

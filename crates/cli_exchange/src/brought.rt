@@ -1,18 +1,31 @@
-//! Says what a take brought, and what no row shows of it.
+//! Says what a command brought, and what no row shows of it.
 use cli_faults::{Named, say};
+use cli_open::engines::registers::Register;
 use reg_hidden::hidden_in;
+use reg_merge::Merged;
 use reg_news::news_of;
-use reg_take::TakeEffect;
 
 /// Says what a take changed, and what cannot be undone of it, if sentences are asked for and there is memory for them.
-pub fn say_brought(rt: &HostRuntime, effect: &TakeEffect, named: &Option<Named<'_>>) {
+pub fn say_brought(
+    rt: &HostRuntime,
+    before: &Register,
+    after: &Register,
+    named: &Option<Named<'_>>,
+) {
     let Some(named) = named else {
         return;
     };
-    if let Ok(news) = news_of(rt.alloc(), &effect.before, &effect.after) {
+    if let Ok(news) = news_of(rt.alloc(), before, after) {
         say(rt, &news, named);
     }
-    if let Ok(hidden) = hidden_in(rt.alloc(), &effect.before, &effect.after) {
+    if let Ok(hidden) = hidden_in(rt.alloc(), before, after) {
         say(rt, &hidden, named);
+    }
+}
+
+/// Says what a merge brought to the first register, if there is memory for the sentence.
+pub fn say_merged(rt: &HostRuntime, merged: &Merged, named: &Named<'_>) {
+    if let Ok(news) = merged.news(rt.alloc()) {
+        say(rt, &news, named);
     }
 }

@@ -1,17 +1,21 @@
 //! Commands that make and exchange registers.
+use crate::brought::say_merged;
 use clap::ArgMatches;
+use cli_faults::{CommandName, Named};
 use cli_open::engines::disks::NewFile;
 use cli_open::engines::places::FilePlace;
 use cli_open::engines::shelf::is_size;
 use cli_open::engines::{CliFault, Refusal, ShelfProblem};
 use cli_open::{
-    Opened, Replaced, give_of, lock_new_shelf, next_file, open, open_all, open_inputs,
+    Opened, Replaced, explains, give_of, lock_new_shelf, next_file, open, open_all, open_inputs,
     open_register, open_shelf, open_to_read, parts, place, reserve, word,
 };
 use reg_commands::{
     FirstVersion, PieceFor, Summary, Whole, run_merge, run_merge_on, run_new, run_shelf,
 };
+use reg_merge::{Merged, merge_files, merge_shelf};
 use std::fs::{self, File, OpenFile};
+use std::mem::forget;
 use std::rt::Files;
 
 /// `new`.
@@ -22,8 +26,11 @@ pub fn new(rt: &HostRuntime, matches: &ArgMatches<'_>) -> Result<(), CliFault> {
     answer
 }
 
-/// `merge`.
+/// `merge`. Where sentences are on, the last one says what it brought.
 pub fn merge(rt: &HostRuntime, matches: &ArgMatches<'_>) -> Result<(), CliFault> {
+    if explains(matches) {
+        return merge_and_tell(rt, matches);
+    }
     let paths = matches.get_strs("FILE").unwrap_or(&[]);
     if matches.get_flag("shelf") {
         let mut disk = open_shelf(rt, word(matches, "OUT"))?;
@@ -34,6 +41,31 @@ pub fn merge(rt: &HostRuntime, matches: &ArgMatches<'_>) -> Result<(), CliFault>
     let out = Some(Replaced::named(rt, rt.alloc(), matches, "OUT")?);
     let mut sources = open_inputs(rt, rt.alloc(), paths, &out)?;
     let answer = run_merge(rt.alloc(), &mut sources, &mut place);
+    drop(place);
+    answer
+}
+
+// The memory of the registers is not freed, as in `run_merge`.
+fn merge_and_tell(rt: &HostRuntime, matches: &ArgMatches<'_>) -> Result<(), CliFault> {
+    let merged = merge_registers(rt, matches)?;
+    if let Ok(named) = Named::of(rt, CommandName::Merge, matches) {
+        say_merged(rt, &merged, &named);
+    }
+    forget(merged);
+    Ok(())
+}
+
+fn merge_registers(rt: &HostRuntime, matches: &ArgMatches<'_>) -> Result<Merged, CliFault> {
+    let paths = matches.get_strs("FILE").unwrap_or(&[]);
+    if matches.get_flag("shelf") {
+        let mut disk = open_shelf(rt, word(matches, "OUT"))?;
+        let mut sources = open_all(rt, rt.alloc(), 1, paths)?;
+        return merge_shelf(rt.alloc(), &mut disk, &mut sources);
+    }
+    let mut place = place_over(rt, word(matches, "OUT"), paths)?;
+    let out = Some(Replaced::named(rt, rt.alloc(), matches, "OUT")?);
+    let mut sources = open_inputs(rt, rt.alloc(), paths, &out)?;
+    let answer = merge_files(rt.alloc(), &mut sources, &mut place);
     drop(place);
     answer
 }

@@ -4,6 +4,7 @@
 mod as_office;
 mod asked;
 mod brought;
+mod catching;
 mod exchange;
 mod taking;
 

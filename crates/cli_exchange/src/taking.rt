@@ -1,7 +1,8 @@
 //! The command `take`.
-use crate::as_office::{catch_up, take_as};
+use crate::as_office::take_as;
 use crate::asked::take_options;
 use crate::brought::say_brought;
+use crate::catching::catch_up;
 use byte_late::{LateFile, LateSource};
 use clap::ArgMatches;
 use cli_faults::sentences::Shown;
@@ -21,7 +22,7 @@ pub fn take(rt: &HostRuntime, matches: &ArgMatches<'_>) -> Outcome {
     let paths = matches.get_strs("FILE").unwrap_or(&[]);
     if paths.is_empty() {
         return match office_file(matches) {
-            Some(path) => Outcome::of(catch_up(rt, matches, path)),
+            Some(path) => catch_up(rt, matches, path),
             None => Outcome::Misuse(NO_FILE),
         };
     }
@@ -108,7 +109,7 @@ fn tell(
         let _ = eprintln!(rt; "left out: {path}: {one}");
         explain(rt, one.fault(), &named);
     }
-    say_brought(rt, effect, &named);
+    say_brought(rt, &effect.before, &effect.after, &named);
     match effect.left.first() {
         Some(first) => Outcome::LeftOut(first.fault().status()),
         None => Outcome::Done,

@@ -4,7 +4,7 @@ use clap::ArgMatches;
 use cli_open::engines::operations::OpId;
 use cli_open::engines::streams::Writing;
 use cli_open::engines::{CliFault, Refusal};
-use cli_open::{Outcome, open_register, print_of, wanted, word};
+use cli_open::{Outcome, names_again, open_register, print_of, wanted, word};
 use reg_commands::Export;
 use reg_formats::{Format, Graph, run_handed};
 use reg_into::Choice;
@@ -39,8 +39,15 @@ pub fn export(rt: &HostRuntime, matches: &ArgMatches<'_>) -> Outcome {
 
 /// `graph`.
 pub fn graph(rt: &HostRuntime, matches: &ArgMatches<'_>) -> Result<(), CliFault> {
-    let all = matches.get_flag("all");
-    print_of(rt, matches, &Graph { all })
+    let names = match names_again(rt, matches) {
+        Ok(names) => names,
+        Err(fault) => return Err(fault),
+    };
+    let graph = Graph {
+        all: matches.get_flag("all"),
+        names: names.as_slice(),
+    };
+    print_of(rt, matches, &graph)
 }
 
 fn format_of(matches: &ArgMatches<'_>) -> Option<Format> {

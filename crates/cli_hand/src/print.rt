@@ -1,7 +1,7 @@
 //! Commands that print something of a register: an entry, a text, ids, a page.
 use clap::ArgMatches;
 use cli_open::engines::CliFault;
-use cli_open::{entry, print_of, word};
+use cli_open::{entry, names_again, print_of, word};
 use reg_commands::{Form, Ops, Show, Wkt};
 use reg_keyed::{ByWord, PrintOf, ShowOf, WktOf};
 use reg_page::Page;
@@ -67,6 +67,13 @@ pub fn ops(rt: &HostRuntime, matches: &ArgMatches<'_>) -> Result<(), CliFault> {
 
 /// `page`.
 pub fn page(rt: &HostRuntime, matches: &ArgMatches<'_>) -> Result<(), CliFault> {
-    let title = matches.get_str("title").unwrap_or(NO_TITLE).as_bytes();
-    print_of(rt, matches, &Page { title })
+    let names = match names_again(rt, matches) {
+        Ok(names) => names,
+        Err(fault) => return Err(fault),
+    };
+    let page = Page {
+        title: matches.get_str("title").unwrap_or(NO_TITLE).as_bytes(),
+        names: names.as_slice(),
+    };
+    print_of(rt, matches, &page)
 }

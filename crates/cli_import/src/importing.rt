@@ -223,7 +223,9 @@ fn import_and_note<T: Keep, S: Source, W: Write>(
         kept: None,
     };
     let answer = run_import(alloc, &mut watched, files, order, sink);
-    *news = watched.news(alloc);
+    if let Ok(told) = watched.news(alloc) {
+        *news = told;
+    }
     answer
 }
 

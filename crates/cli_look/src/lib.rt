@@ -2,10 +2,12 @@
 #![tactic(auto)]
 
 mod comparing;
+mod linting;
 mod look;
 mod reporting;
 
 pub use comparing::compare;
+pub use linting::lint;
 pub use look::{check, diff, find, log, offices, status, texts};
 pub use reg_desk as desk;
 pub use reporting::report;

@@ -1,16 +1,18 @@
 //! Commands that print something of a text, of a register, or of several registers.
 use byte_late::LateFile;
 use clap::ArgMatches;
+use cli_faults::{CommandName, Named, say};
 use cli_open::{
     Outcome, Rows, STANDARD_INPUT, answered, entries, explains, next_file, open, open_all,
     open_register, open_to_read, print_of, push_words, wanted, word,
 };
 use desk_texts::Texts;
 use reg_desk::{
-    CliFault, Explained, FileDisk, Find, FindIds, Kind, LateAt, Lockable, LogAll, LogByWords,
-    LogOf, Offices, Opened, Point, Query, Reading, Recorded, ShelfAt, Source, Writing, run_check,
-    run_check_explained, run_diff, run_status,
+    CliFault, Comparison, Explained, FileDisk, Find, FindIds, Kind, LateAt, Lockable, LogAll,
+    LogByWords, LogOf, Offices, Opened, Point, Query, Reading, Recorded, ShelfAt, Source, Writing,
+    run_check, run_check_explained, run_diff, run_status,
 };
+use reg_hidden::hidden_in;
 use std::alloc::{AllocError, Global};
 use std::io::{self, Write};
 use std::rt::Files;
@@ -207,7 +209,27 @@ where
 
 /// `diff`.
 pub fn diff(rt: &HostRuntime, matches: &ArgMatches<'_>) -> Outcome {
-    told(matches, merged(rt, matches))
+    match merged(rt, matches) {
+        Ok(found) => {
+            say_hidden(rt, matches, &found);
+            told(matches, Ok(found.differ))
+        }
+        Err(fault) => Outcome::Fault(fault),
+    }
+}
+
+// Says what no row shows of the newer register, and what cannot be undone of it, if sentences are asked for and there is memory for
+// them.
+fn say_hidden(rt: &HostRuntime, matches: &ArgMatches<'_>, found: &Comparison) {
+    if !explains(matches) {
+        return;
+    }
+    let Ok(named) = Named::of(rt, CommandName::Diff, matches) else {
+        return;
+    };
+    if let Ok(hidden) = hidden_in(rt.alloc(), &found.before, &found.after) {
+        say(rt, &hidden, &named);
+    }
 }
 
 /// Whether something differs is an exit status, if that is asked for.
@@ -219,7 +241,7 @@ pub fn told(matches: &ArgMatches<'_>, answer: Result<bool, CliFault>) -> Outcome
     }
 }
 
-fn merged(rt: &HostRuntime, matches: &ArgMatches<'_>) -> Result<bool, CliFault> {
+fn merged(rt: &HostRuntime, matches: &ArgMatches<'_>) -> Result<Comparison, CliFault> {
     let mut sink = Rows::sink(rt, matches, io::writer(rt));
     let answer = merged_to(rt, matches, &mut sink);
     match answered(rt.alloc(), sink, answer) {
@@ -233,7 +255,7 @@ fn merged_to<W: Write>(
     rt: &HostRuntime,
     matches: &ArgMatches<'_>,
     sink: &mut Writing<W>,
-) -> Result<bool, CliFault> {
+) -> Result<Comparison, CliFault> {
     let register = open_register(rt, rt.alloc(), matches, "OLD", &None)?;
     let paths = matches.get_strs("NEW").unwrap_or(&[]);
     let mut others = open_all(rt, rt.alloc(), next_file(&register), paths)?;

@@ -13,7 +13,7 @@ mod waiting;
 mod words;
 
 pub use inputs::{Replaced, open_inputs, parts, real_path};
-pub use naming::{NamesProblem, names};
+pub use naming::{NamesProblem, names, names_again};
 pub use offices::{OpenOffice, office_at, open_office};
 pub use outcome::{MISUSE, Outcome, complain, failed, print};
 pub use stores::{Opened, ReadRegister, give_of, next_file, open_register, print_of};

@@ -65,6 +65,19 @@ pub fn names(rt: &HostRuntime, matches: &ArgMatches<'_>) -> Result<Vec<Name>, Na
     }
 }
 
+/// The same for a command that found before that they can be read. If they cannot be read again, there are none.
+pub fn names_again(rt: &HostRuntime, matches: &ArgMatches<'_>) -> Result<Vec<Name>, CliFault> {
+    match names(rt, matches) {
+        Ok(names) => Ok(names),
+        Err(problem) => {
+            if problem.is_memory() {
+                return Err(CliFault::Memory);
+            }
+            Ok(Vec::new(rt.alloc()))
+        }
+    }
+}
+
 // A pipe could be read only once.
 fn names_at(rt: &HostRuntime, alloc: Global, path: &str) -> Result<Vec<Name>, NamesProblem> {
     match fs::metadata(rt, path) {

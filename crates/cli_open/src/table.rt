@@ -1,5 +1,5 @@
 //! The rows that a command prints, or with `--table` the table of them.
-use crate::naming::names;
+use crate::naming::names_again;
 use clap::ArgMatches;
 use csv_table::{TableFault, told_as_table};
 use office_names::{Name, with_names};
@@ -58,10 +58,10 @@ impl<W: Write> Rows<W> {
 
     // Keeps the rows for a table.
     fn keep(&mut self, rt: &HostRuntime, matches: &ArgMatches<'_>) {
-        let names = match names(rt, matches) {
+        let names = match names_again(rt, matches) {
             Ok(names) => names,
-            Err(problem) => {
-                self.is_short = problem.is_memory();
+            Err(_) => {
+                self.is_short = true;
                 Vec::new(rt.alloc())
             }
         };

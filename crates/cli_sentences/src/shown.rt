@@ -1,7 +1,8 @@
-//! Texts as they are printed: without characters that a terminal would act on.
+//! Texts as they are printed: without characters that a reader does not see, or that a terminal would act on.
 use std::fmt::{self, Write as _};
+use text_hidden::is_hidden;
 
-/// A path as it is printed: a control character prints as `?`, and no path at all as `''`.
+/// A path as it is printed: a hidden character prints as `?`, and no path at all as `''`.
 #[derive(Clone, Copy)]
 pub struct Shown<'a>(pub &'a str);
 
@@ -34,7 +35,7 @@ impl fmt::Display for NewBeside<'_> {
     }
 }
 
-/// The key, the id and the status of an entry as they are printed: a control character prints as `?`.
+/// The key, the id and the status of an entry as they are printed: a hidden character prints as `?`.
 #[derive(Clone, Copy)]
 pub struct Head<'a>(pub &'a str);
 
@@ -44,7 +45,7 @@ impl fmt::Display for Head<'_> {
     }
 }
 
-/// Lines as they are printed: a control character prints as `?`, except for the ends of the lines.
+/// Lines as they are printed: a hidden character prints as `?`, except for the ends of the lines.
 #[derive(Clone, Copy)]
 pub struct ShownLines<'a>(pub &'a str);
 
@@ -63,13 +64,4 @@ fn write_shown<W: fmt::Write>(f: &mut fmt::Formatter<W>, text: &str) -> fmt::Res
         f.write_char(if is_hidden(char) { '?' } else { char })?;
     }
     Ok(())
-}
-
-// Whether a terminal would act on the character, hide it, or reorder other characters because of it.
-fn is_hidden(char: char) -> bool {
-    match char {
-        '\u{0}'..='\u{1f}' | '\u{7f}'..='\u{9f}' => true,
-        '\u{200b}'..='\u{200f}' | '\u{2028}'..='\u{202e}' | '\u{2066}'..='\u{2069}' => true,
-        _ => false,
-    }
 }

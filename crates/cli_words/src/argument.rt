@@ -80,6 +80,8 @@ pub enum Kind {
     Option(&'static str),
     /// The same, which can be given more than once.
     Options(&'static str),
+    /// An option with one or more values, which have this name in help.
+    Many(&'static str),
     /// An option with a value that can begin with a hyphen, which has this name in help.
     Text(&'static str),
 }
@@ -157,7 +159,7 @@ pub const KEYS: Argument = Argument {
 /// The names of offices.
 pub const NAMES: Argument = Argument {
     name: "names",
-    help: "Names of offices, for tables and sentences (default: $CRSREG_NAMES)",
+    help: "Names of offices for tables, sentences, page, graph (default: $CRSREG_NAMES)",
     role: Role::Names,
     kind: Kind::Option("FILE"),
     default: Preset::Variable(Variable::Names),

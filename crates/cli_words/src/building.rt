@@ -56,6 +56,11 @@ fn of_kind<'a>(arg: Arg<'a>, row: &Argument) -> Arg<'a> {
             .long(row.name)
             .value_name(value)
             .action(ArgAction::Append),
+        Kind::Many(value) => arg
+            .long(row.name)
+            .value_name(value)
+            .action(ArgAction::Append)
+            .num_args(1..),
         Kind::Text(value) => arg
             .long(row.name)
             .value_name(value)

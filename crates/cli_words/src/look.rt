@@ -3,7 +3,7 @@ use crate::argument::{
     AUTHORITY, Argument, FLAG, Kind, Need, READ_SHELF, REGISTER, Role, STATUS, WORD, WORDS,
 };
 use crate::command::{CommandRow, Group};
-use crate::look_help::{DIFF_HELP, FIND_HELP, OFFICES_HELP, PAGE_HELP, STATUS_OF_HELP};
+use crate::look_help::{DIFF_HELP, FIND_HELP, LINT_HELP, OFFICES_HELP, PAGE_HELP, STATUS_OF_HELP};
 
 static FIND: CommandRow = CommandRow {
     name: "find",
@@ -108,6 +108,56 @@ static STATUS_OF: CommandRow = CommandRow {
 /// `status`.
 pub fn status() -> &'static CommandRow {
     &STATUS_OF
+}
+
+static LINT: CommandRow = CommandRow {
+    name: "lint",
+    about: "Prints what an expert would ask about entries or texts",
+    help: LINT_HELP,
+    group: Group::Daily,
+    arguments: &[
+        Argument {
+            need: Need::Unless(&["texts"]),
+            excludes: &["texts"],
+            ..REGISTER
+        },
+        Argument {
+            name: "texts",
+            help: "The files of texts to look at, in the place of a register",
+            role: Role::InputOrDash,
+            kind: Kind::Many("FILE"),
+            ..FLAG
+        },
+        Argument {
+            name: "rule",
+            help: "Only by these rules, with commas between",
+            kind: Kind::Option("RULES"),
+            ..FLAG
+        },
+        Argument {
+            name: "known",
+            help: "Leaves out the rows of this file, which were looked at before",
+            role: Role::Input,
+            kind: Kind::Option("ROWS"),
+            ..FLAG
+        },
+        Argument {
+            name: "exit-code",
+            help: "Exits with status 1 if there are rows",
+            ..FLAG
+        },
+        Argument {
+            excludes: &["texts"],
+            ..READ_SHELF
+        },
+    ],
+    is_office: false,
+    prints_rows: true,
+};
+
+/// `lint`.
+pub fn lint() -> &'static CommandRow {
+    &LINT
 }
 
 static OFFICES: CommandRow = CommandRow {

@@ -31,6 +31,31 @@ FILE is a shelf, and the size is that of the register's file on it.
 Example:
   crsreg status north.crs south.crs --settled";
 
+pub const LINT_HELP: &str = "\
+Prints comma-separated values for each rule of sense and each entry that breaks
+it and is not retired: rule, entry, authority, code, name, detail; by rule, then
+by id. A text can be correct in form and still say what an expert would ask
+about, such as a scale factor of 9996. The detail is a sentence with the value
+found and the value expected. Nothing is refused.
+
+With --texts it looks at the texts of files, and entry is the file and the
+offset of the text, as a.wkt:0. A text needs no identifier. A text that cannot
+be read is refused as by crsreg check.
+
+With --known it leaves out the rows of a file that earlier calls printed and
+somebody looked at. A row is known again by its rule, authority, code, name and
+detail; further columns are passed over.
+
+With --exit-code the status is 1 if there are rows.
+
+The rules are accuracy, angle, away, axes, axisname, box, dms, ellipsoid,
+falseunit, figure, height, key, meridian, name, operation, parallels, primem,
+quantity, scale, unit, unitname and zone.
+
+Example:
+  crsreg lint office.crs --known looked-at.csv --table
+  crsreg lint --texts *.wkt --rule zone,unit";
+
 pub const OFFICES_HELP: &str = "\
 Prints comma-separated values for each office with a seen operation: the
 greatest number seen, how many lower numbers were not seen, and how many of its

@@ -2,7 +2,7 @@
 use crate::change::{enter, retire, supersede};
 use crate::command::CommandRow;
 use crate::exchange::{downgrade, merge, new, office, piece, seen, shelf, take, unshelf};
-use crate::look::{diff, find, offices, page, status};
+use crate::look::{diff, find, lint, offices, page, status};
 use crate::many::{import, settle};
 use crate::read::{compare, export, graph, log, ops, report, show, texts, wkt};
 use crate::whole::{check, completions};
@@ -21,6 +21,7 @@ pub enum CommandName {
     Settle,
     // They show registers.
     Find,
+    Lint,
     Show,
     Wkt,
     Texts,
@@ -47,7 +48,7 @@ pub enum CommandName {
 }
 
 /// All commands, in the order of the help.
-pub static COMMANDS: [CommandName; 30] = [
+pub static COMMANDS: [CommandName; 31] = [
     CommandName::Check,
     CommandName::New,
     CommandName::Office,
@@ -60,6 +61,7 @@ pub static COMMANDS: [CommandName; 30] = [
     CommandName::Log,
     CommandName::Report,
     CommandName::Status,
+    CommandName::Lint,
     CommandName::Supersede,
     CommandName::Retire,
     CommandName::Settle,
@@ -93,6 +95,7 @@ impl CommandName {
             CommandName::Retire => retire(),
             CommandName::Settle => settle(),
             CommandName::Find => find(),
+            CommandName::Lint => lint(),
             CommandName::Show => show(),
             CommandName::Wkt => wkt(),
             CommandName::Texts => texts(),

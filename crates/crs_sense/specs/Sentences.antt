@@ -19,9 +19,13 @@ use Rattle.crs_conversion.specs.Packed.{is_parameter_packed, has_prime_packed, p
 use Rattle.crs_conversion.specs.Parallels.{is_first_parallel, is_second_parallel, parallels_told}
 use Rattle.crs_conversion.specs.Quantity.{is_unit_against, quantity_told}
 use Rattle.crs_conversion.specs.Scale.{is_scale_odd, scale_told}
+use Rattle.crs_ellipsoids.specs.Ellipsoid.{ellipsoid_told}
 use Rattle.crs_frame.specs.Accuracy.{accuracy_told}
 use Rattle.crs_frame.specs.Figure.{figure_told}
 use Rattle.crs_frame.specs.Prime.{prime_told}
+use Rattle.crs_meridians.specs.Away.{away_told}
+use Rattle.crs_meridians.specs.Meridian.{found_in as found_meridian, meridian_told}
+use Rattle.crs_methods.specs.Operation.{operation_told}
 use Rattle.crs_names.specs.Idents.{single_ids, compound_ids}
 use Rattle.crs_names.specs.Names.{single_names, compound_names}
 use Rattle.crs_names.specs.Key.{is_id_odd, id_told}
@@ -36,15 +40,19 @@ use Rattle.crs_sense.specs.Rules.{breaks_single}
 abbrev pub told : Rule → Single → List ℕ
 told the.Accuracy crs = accuracy_told crs
 told the.Angle crs = angle_told (find (λ p. is_angle_odd p.unit p.value p.name.bytes) (parameters_of crs))
+told the.Away crs = away_told crs
 told the.Axes crs = axes_told crs
 told the.AxisName crs = axis_name_told (find is_axis_odd (axes_of crs))
 told the.Box crs = box_told crs
 told the.Packed crs = packed_told (find (λ p. is_parameter_packed p.value p.unit) (parameters_of crs)) (has_prime_packed crs)
+told the.Ellipsoid crs = ellipsoid_told crs
 told the.FalseUnit crs = false_unit_told crs
 told the.Figure crs = figure_told crs
 told the.Height crs = height_told crs
 told the.Key crs = id_told (find is_id_odd (single_ids crs))
+told the.Meridian crs = meridian_told (found_meridian crs)
 told the.Name crs = name_told (find is_name_odd (single_names crs))
+told the.Operation crs = operation_told crs
 told the.Parallels crs = parallels_told (find is_first_parallel (parameters_of crs)) (find is_second_parallel (parameters_of crs))
 told the.Prime crs = prime_told crs
 told the.Quantity crs = quantity_told (find (λ p. is_unit_against p.unit p.name.bytes) (parameters_of crs))
@@ -57,15 +65,19 @@ told the.Zone crs = zone_told (found_in crs)
 abbrev pub whole_told : Rule → Compound → List ℕ
 whole_told the.Accuracy crs = []
 whole_told the.Angle crs = []
+whole_told the.Away crs = []
 whole_told the.Axes crs = []
 whole_told the.AxisName crs = []
 whole_told the.Box crs = boxes_told (find (λ usage. has_box_odd usage.bounding_box) crs.usages)
 whole_told the.Packed crs = []
+whole_told the.Ellipsoid crs = []
 whole_told the.FalseUnit crs = []
 whole_told the.Figure crs = []
 whole_told the.Height crs = []
 whole_told the.Key crs = id_told (find is_id_odd (compound_ids crs))
+whole_told the.Meridian crs = []
 whole_told the.Name crs = name_told (find is_name_odd (compound_names crs))
+whole_told the.Operation crs = []
 whole_told the.Parallels crs = []
 whole_told the.Prime crs = []
 whole_told the.Quantity crs = []

@@ -11,7 +11,10 @@ use crs_axes::{
 use crs_conversion::{
     breaks_angle, breaks_false_unit, breaks_packed, breaks_parallels, breaks_quantity, breaks_scale,
 };
+use crs_ellipsoids::breaks_ellipsoid;
 use crs_frame::{breaks_accuracy, breaks_figure, breaks_prime};
+use crs_meridians::{breaks_away, breaks_meridian};
+use crs_methods::breaks_operation;
 use crs_names::{breaks_key, breaks_name, whole_breaks_key, whole_breaks_name};
 use crs_part::{Compound, CrsParts, Single, Word, first_of};
 use crs_units::{breaks_unit, whole_breaks_unit};
@@ -24,6 +27,8 @@ pub enum Rule {
     Accuracy,
     /// An angle that is too large.
     Angle,
+    /// A central meridian or a standard parallel that is far from the area of use.
+    Away,
     /// Axes on one line.
     Axes,
     /// An axis whose name tells another direction.
@@ -32,6 +37,8 @@ pub enum Rule {
     Box,
     /// An angle in packed degrees, minutes and seconds.
     Packed,
+    /// An ellipsoid with other numbers than its name says.
+    Ellipsoid,
     /// A false easting or northing in another unit than the axes.
     FalseUnit,
     /// An ellipsoid with odd numbers.
@@ -40,8 +47,12 @@ pub enum Rule {
     Height,
     /// An identifier that is odd, or nearly another one.
     Key,
+    /// A central meridian that is not that in the name.
+    Meridian,
     /// A name that is empty, or has odd blanks or control characters.
     Name,
+    /// A conversion that does not fit its method.
+    Operation,
     /// Standard parallels that are equal or opposite.
     Parallels,
     /// A prime meridian with another longitude than its name says.
@@ -59,18 +70,22 @@ pub enum Rule {
 }
 
 /// All rules, by name.
-pub static RULES: [Rule; 18] = [
+pub static RULES: [Rule; 22] = [
     Rule::Accuracy,
     Rule::Angle,
+    Rule::Away,
     Rule::Axes,
     Rule::AxisName,
     Rule::Box,
     Rule::Packed,
+    Rule::Ellipsoid,
     Rule::FalseUnit,
     Rule::Figure,
     Rule::Height,
     Rule::Key,
+    Rule::Meridian,
     Rule::Name,
+    Rule::Operation,
     Rule::Parallels,
     Rule::Prime,
     Rule::Quantity,
@@ -96,15 +111,19 @@ impl Rule {
         match self {
             Rule::Accuracy => "accuracy",
             Rule::Angle => "angle",
+            Rule::Away => "away",
             Rule::Axes => "axes",
             Rule::AxisName => "axisname",
             Rule::Box => "box",
             Rule::Packed => "dms",
+            Rule::Ellipsoid => "ellipsoid",
             Rule::FalseUnit => "falseunit",
             Rule::Figure => "figure",
             Rule::Height => "height",
             Rule::Key => "key",
+            Rule::Meridian => "meridian",
             Rule::Name => "name",
+            Rule::Operation => "operation",
             Rule::Parallels => "parallels",
             Rule::Prime => "primem",
             Rule::Quantity => "quantity",
@@ -145,15 +164,19 @@ impl Rule {
         match self {
             Rule::Accuracy => breaks_accuracy(crs),
             Rule::Angle => breaks_angle(crs),
+            Rule::Away => breaks_away(crs),
             Rule::Axes => breaks_axes(crs),
             Rule::AxisName => breaks_axis_name(crs),
             Rule::Box => breaks_box(crs),
             Rule::Packed => breaks_packed(crs),
+            Rule::Ellipsoid => breaks_ellipsoid(crs),
             Rule::FalseUnit => breaks_false_unit(crs),
             Rule::Figure => breaks_figure(crs),
             Rule::Height => breaks_height(crs),
             Rule::Key => breaks_key(crs),
+            Rule::Meridian => breaks_meridian(crs),
             Rule::Name => breaks_name(crs),
+            Rule::Operation => breaks_operation(crs),
             Rule::Parallels => breaks_parallels(crs),
             Rule::Prime => breaks_prime(crs),
             Rule::Quantity => breaks_quantity(crs),

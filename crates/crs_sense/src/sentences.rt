@@ -8,7 +8,10 @@ use crs_axes::{tell_axes, tell_axis_name, tell_box, tell_boxes, tell_height, tel
 use crs_conversion::{
     tell_angle, tell_false_unit, tell_packed, tell_parallels, tell_quantity, tell_scale,
 };
+use crs_ellipsoids::tell_ellipsoid;
 use crs_frame::{tell_accuracy, tell_figure, tell_prime};
+use crs_meridians::{tell_away, tell_meridian};
+use crs_methods::tell_operation;
 use crs_names::{tell_key, tell_name, whole_tells_key, whole_tells_name};
 use crs_part::{Compound, CrsParts, Single};
 use crs_units::{tell_unit, whole_tells_unit};
@@ -45,15 +48,19 @@ impl Rule {
         match self {
             Rule::Accuracy => tell_accuracy(alloc, crs),
             Rule::Angle => tell_angle(alloc, crs),
+            Rule::Away => tell_away(alloc, crs),
             Rule::Axes => tell_axes(alloc, crs),
             Rule::AxisName => tell_axis_name(alloc, crs),
             Rule::Box => tell_box(alloc, crs),
             Rule::Packed => tell_packed(alloc, crs),
+            Rule::Ellipsoid => tell_ellipsoid(alloc, crs),
             Rule::FalseUnit => tell_false_unit(alloc, crs),
             Rule::Figure => tell_figure(alloc, crs),
             Rule::Height => tell_height(alloc, crs),
             Rule::Key => tell_key(alloc, crs),
+            Rule::Meridian => tell_meridian(alloc, crs),
             Rule::Name => tell_name(alloc, crs),
+            Rule::Operation => tell_operation(alloc, crs),
             Rule::Parallels => tell_parallels(alloc, crs),
             Rule::Prime => tell_prime(alloc, crs),
             Rule::Quantity => tell_quantity(alloc, crs),

@@ -1,3 +1,5 @@
 mod FieldLemmas
 mod ColumnLemmas
 mod LawLemmas
+mod LossyLemmas
+mod HiddenLemmas

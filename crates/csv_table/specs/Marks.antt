@@ -1,26 +1,14 @@
 -- Texts as they are shown to people.
-use Rattle.std.specs.Prelude.{ℕ, nat_lt, nat_le, ◌+◌, ◌/◌, ◌%◌, Bool, ◌&&◌, ◌||◌, List, [], ◌∷◌, ◌++◌, length, take, if◌then◌else◌, chars}
+use Rattle.std.specs.Prelude.{ℕ, nat_lt, Bool, List, [], ◌∷◌, ◌++◌, length, take, if◌then◌else◌, chars}
 use Rattle.std.specs.Char.{encode_utf8}
 use Rattle.std.specs.List.{flat_map}
 use Rattle.std.specs.Str.Lossy.{utf8_lossy}
+use Rattle.text_hidden.specs.Set.{is_hidden}
+use Rattle.text_hidden.specs.Marks.{mark}
 
--- control characters, and those that embed, override or isolate a direction
-abbrev pub is_marked : ℕ → Bool
-is_marked c = nat_lt c 32 || ((nat_le 127 c && nat_lt c 160) || ((nat_le 8234 c && nat_lt c 8239) || (nat_le 8294 c && nat_lt c 8298)))
-
--- a hexadecimal digit
-abbrev pub digit : ℕ → ℕ
-digit d = if nat_lt d 10 then 48 + d else 55 + d
-
-abbrev pub digits : ℕ → List ℕ
-digits c = digit (c / 4096 % 16) ∷ digit (c / 256 % 16) ∷ digit (c / 16 % 16) ∷ digit (c % 16) ∷ []
-
--- U+27E8, `U+`, four digits and U+27E9
-abbrev pub mark : ℕ → List ℕ
-mark c = (226 ∷ 159 ∷ 168 ∷ 85 ∷ 43 ∷ []) ++ digits c ++ (226 ∷ 159 ∷ 169 ∷ [])
-
+-- a character as it is shown: with a mark in the place of a hidden one
 abbrev pub shown : ℕ → List ℕ
-shown c = if is_marked c then mark c else encode_utf8 c
+shown c = if is_hidden c then mark c else encode_utf8 c
 
 -- the most characters of a text that are shown
 abbrev pub most : ℕ

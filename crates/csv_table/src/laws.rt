@@ -1,12 +1,19 @@
-//! The law of reading. The function does nothing: its contract is the law.
+//! The laws of tables. The functions do nothing: their contracts are the laws.
 
-ghost use Rattle.std.specs.Prelude.{◌≡◌, ℕ, List, map};
+ghost use Rattle.std.specs.Prelude.{◌≡◌, ℕ, List, map, true};
 ghost use Rattle.std.specs.List.{flat_map};
 ghost use Rattle.csv.specs.Reading.{AreRecords, default_config};
 ghost use Rattle.csv.specs.Writing.{default_writer, read_back, row_text};
 ghost use Rattle.csv.specs.declared.parser.State.TheVariants as st;
+ghost use Rattle.text_hidden.specs.Marks.{hides_nothing};
+ghost use Rattle.csv_table.specs.Cells.{cell};
 
 /// The records of rows that csv's default writer wrote are these rows; a row without a field is written as one empty field.
 pub fn rows_are_read()
     ensures { (rows records : List (List (List ℕ))) → AreRecords default_config st.StartRecord (flat_map (row_text default_writer) rows) records → records ≡ map read_back rows }
+{}
+
+/// No character of a cell is hidden, whatever the bytes of its field are.
+pub fn nothing_hidden_is_shown()
+    ensures { (field : List ℕ) (columns : ℕ) → hides_nothing (cell field columns) ≡ true }
 {}

@@ -2,15 +2,17 @@
 
 ghost use Rattle.std.specs.Prelude.{◌≡◌, ◌<◌, ◌++◌, IfOk, OnOk, string_bytes, chars, length, take};
 ghost use Rattle.std.specs.List.{flat_map};
-ghost use Rattle.csv_table.specs.Marks.{most, is_marked, digit, digits, mark, shown, marked};
+ghost use Rattle.text_hidden.specs.Marks.{digit, digits, mark};
+ghost use Rattle.csv_table.specs.Marks.{most, shown, marked};
 
 use std::alloc::{AllocError, Global};
+use text_hidden::is_hidden;
 
 // A field is cut after this many characters: one long name does not make a table that nobody can read.
 const MOST: usize = 200;
 
-/// The field, with a mark in the place of each character that could move the cursor of a terminal or change the direction of the
-/// text. A field of more than 200 characters is cut after these, and ends with an ellipsis.
+/// The field, with a mark in the place of each character that could move the cursor of a terminal, change the direction of the text,
+/// or not be seen. A field of more than 200 characters is cut after these, and ends with an ellipsis.
 pub fn marked(alloc: Global, field: &[u8]) -> Result<String, AllocError>
     ensures { IfOk result (λ text. string_bytes text ≡ marked field.now) }
 {
@@ -42,21 +44,11 @@ fn push_characters(out: &mut String, text: &str) -> Result<(), AllocError>
 fn push_shown(out: &mut String, c: char) -> Result<(), AllocError>
     ensures { OnOk result (string_bytes out.new ≡ string_bytes out.old ++ shown c) }
 {
-    if is_marked(u32::from(c)) {
+    if is_hidden(c) {
         return push_mark(out, u32::from(c));
     }
     out.push(c)?;
     Ok(())
-}
-
-// Control characters, and those that embed, override or isolate a direction.
-fn is_marked(code: u32) -> bool
-    ensures { result ≡ is_marked code }
-{
-    code < 0x20
-        || (0x7f <= code && code < 0xa0)
-        || (0x202a <= code && code < 0x202f)
-        || (0x2066 <= code && code < 0x206a)
 }
 
 fn push_mark(out: &mut String, code: u32) -> Result<(), AllocError>

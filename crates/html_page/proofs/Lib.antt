@@ -1,3 +1,4 @@
 pub mod PageLemmas
 pub mod WordLemmas
 mod MarkLemmas
+pub mod TextLemmas

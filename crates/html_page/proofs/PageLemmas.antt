@@ -15,9 +15,9 @@ use Rattle.html_page.specs.Templates.{head, figures, end, link, word, side_start
 
 -- ---- places
 
-link_closed : (l : Link) → Closed (link l)
-link_closed (Entered id authority code) = record { is = refl }
-link_closed (Awaited id) = record { is = refl }
+link_closed : (named : List ℕ → List ℕ) (l : Link) → Closed (link named l)
+link_closed named (Entered id authority code) = record { is = refl }
+link_closed named (Awaited id) = record { is = refl }
 
 word_closed_at : (b : Bool) (text : List ℕ) → Closed (word (record { differs = b; text = text }))
 word_closed_at true text = record { is = refl }
@@ -26,16 +26,16 @@ word_closed_at false text = record { is = refl }
 word_closed : (w : Word) → Closed (word w)
 word_closed w = word_closed_at w.differs w.text
 
-side_closed : (s : Side) → Closed (side s)
-side_closed s =
-    closed-append (closed-append (is_closed (side_start s.id s.note) refl) (closed-flat_map word word_closed s.words)) (is_closed (Markup AFTER_SIDE.now ∷ []) refl)
+side_closed : (named : List ℕ → List ℕ) (s : Side) → Closed (side named s)
+side_closed named s =
+    closed-append (closed-append (is_closed (side_start s.id (named s.id) s.note) refl) (closed-flat_map word word_closed s.words)) (is_closed (Markup AFTER_SIDE.now ∷ []) refl)
 
-pair_closed : (p : Pair) → Closed (pair p)
-pair_closed p =
-    closed-append (closed-append (closed-append (is_closed (Markup PAIR.now ∷ []) refl) (side_closed p.first)) (side_closed p.second)) (is_closed (Markup AFTER_PAIR.now ∷ []) refl)
+pair_closed : (named : List ℕ → List ℕ) (p : Pair) → Closed (pair named p)
+pair_closed named p =
+    closed-append (closed-append (closed-append (is_closed (Markup PAIR.now ∷ []) refl) (side_closed named p.first)) (side_closed named p.second)) (is_closed (Markup AFTER_PAIR.now ∷ []) refl)
 
-conflict_closed : (c : Conflict) → Closed (conflict c)
-conflict_closed c = closed-append (is_closed (conflict_start c.authority c.code) refl) (closed-flat_map pair pair_closed c.pairs)
+conflict_closed : (named : List ℕ → List ℕ) (c : Conflict) → Closed (conflict named c)
+conflict_closed named c = closed-append (is_closed (conflict_start c.authority c.code) refl) (closed-flat_map (pair named) (pair_closed named) c.pairs)
 
 section_closed_at : {T : Type 0} (b : Bool) (start finish : List ℕ) (item : T → List Piece) → Closed (Markup start ∷ []) → Closed (Markup finish ∷ []) → ((x : T) → Closed (item x)) → (xs : List T)
     → Closed (if b then [] else (Markup start ∷ []) ++ flat_map item xs ++ Markup finish ∷ [])
@@ -45,17 +45,18 @@ section_closed_at false start finish item first last each xs = closed-append (cl
 section_closed : {T : Type 0} (start finish : List ℕ) (item : T → List Piece) → Closed (Markup start ∷ []) → Closed (Markup finish ∷ []) → ((x : T) → Closed (item x)) → (xs : List T) → Closed (section start item finish xs)
 section_closed start finish item first last each xs = section_closed_at (length xs == 0) start finish item first last each xs
 
-event_closed : (e : Event) → Closed (event e)
-event_closed (SupersededBy newer id note) = closed-append (closed-append (is_closed (Markup SUPERSEDED_BY.now ∷ []) refl) (link_closed newer)) (is_closed (operation id note) refl)
-event_closed (RetiredBy id note) = record { is = refl }
+event_closed : (named : List ℕ → List ℕ) (e : Event) → Closed (event named e)
+event_closed named (SupersededBy newer id note) =
+    closed-append (closed-append (is_closed (Markup SUPERSEDED_BY.now ∷ []) refl) (link_closed named newer)) (is_closed (operation (named id) note) refl)
+event_closed named (RetiredBy id note) = record { is = refl }
 
 standing_closed : (kind : List ℕ) (s : Standing) → Closed (kind_and_standing kind s)
 standing_closed kind Valid = record { is = refl }
 standing_closed kind Superseded = record { is = refl }
 standing_closed kind Retired = record { is = refl }
 
-by_closed : (l : Link) → Closed (by l)
-by_closed l = closed-append (closed-append (is_closed (Markup BY.now ∷ []) refl) (link_closed l)) (is_closed (Markup AFTER_BY.now ∷ []) refl)
+by_closed : (named : List ℕ → List ℕ) (l : Link) → Closed (by named l)
+by_closed named l = closed-append (closed-append (is_closed (Markup BY.now ∷ []) refl) (link_closed named l)) (is_closed (Markup AFTER_BY.now ∷ []) refl)
 
 drawing_closed : (south west north east : List ℕ) (crosses : Bool) → Closed (drawing south west north east crosses)
 drawing_closed south west north east true = record { is = refl }
@@ -66,32 +67,36 @@ map_closed b =
     closed-append (closed-append (is_closed (Markup MAP.now ∷ []) refl) (drawing_closed b.south b.west b.north b.east b.crosses))
     (is_closed (caption b.south b.west b.north b.east) refl)
 
-entry_closed : (e : Entry) → Closed (entry e)
-entry_closed e =
+entry_closed : (named : List ℕ → List ℕ) (e : Entry) → Closed (entry named e)
+entry_closed named e =
     closed-append (closed-append (closed-append (closed-append (closed-append (closed-append (closed-append (closed-append
-    (is_closed (entry_start e.id e.authority e.code e.name) refl) (closed-flat_map map_of map_closed e.boxes)) (is_closed (entry_text e.text e.id e.note) refl))
-    (closed-flat_map event event_closed e.events)) (is_closed (Markup AFTER_HISTORY.now ∷ []) refl))
+    (is_closed (entry_start e.id e.authority e.code e.name) refl) (closed-flat_map map_of map_closed e.boxes)) (is_closed (entry_text e.text (named e.id) e.note) refl))
+    (closed-flat_map (event named) (event_closed named) e.events)) (is_closed (Markup AFTER_HISTORY.now ∷ []) refl))
     (closed-flat_map area (λ text. record { is = refl }) e.areas)) (standing_closed e.kind e.standing))
-    (closed-flat_map by by_closed e.links)) (is_closed (Markup AFTER_ENTRY.now ∷ []) refl)
+    (closed-flat_map (by named) (by_closed named) e.links)) (is_closed (Markup AFTER_ENTRY.now ∷ []) refl)
 
-page_closed : (s : Shown) → Closed (page s)
-page_closed s =
+page_closed : (named : List ℕ → List ℕ) (s : Shown) → Closed (page named s)
+page_closed named s =
     closed-append (closed-append (closed-append (closed-append (closed-append (closed-append (closed-append (closed-append (closed-append (closed-append
     (is_closed (head s.title) refl) (is_closed (figures s.figures) refl)) (is_closed (Markup AFTER_FIGURES.now ∷ []) refl))
-    (section_closed CONFLICTS_START.now CONFLICTS_END.now conflict (record { is = refl }) (record { is = refl }) conflict_closed s.conflicts))
-    (section_closed AWAITED_START.now AWAITED_END.now awaited (record { is = refl }) (record { is = refl }) (λ id. record { is = refl }) s.awaited))
-    (section_closed GAPS_START.now GAPS_END.now gap (record { is = refl }) (record { is = refl }) (λ g. record { is = refl }) s.gaps))
-    (is_closed (Markup ENTRIES_START.now ∷ []) refl)) (closed-flat_map entry entry_closed s.entries)) (is_closed (Markup ENTRIES_END.now ∷ []) refl))
-    (section_closed RETIRED_START.now RETIRED_END.now entry (record { is = refl }) (record { is = refl }) entry_closed s.retired)) (is_closed end refl)
+    (section_closed CONFLICTS_START.now CONFLICTS_END.now (conflict named) (record { is = refl }) (record { is = refl }) (conflict_closed named) s.conflicts))
+    (section_closed AWAITED_START.now AWAITED_END.now (awaited named) (record { is = refl }) (record { is = refl }) (λ id. record { is = refl }) s.awaited))
+    (section_closed GAPS_START.now GAPS_END.now (gap named) (record { is = refl }) (record { is = refl }) (λ g. record { is = refl }) s.gaps))
+    (is_closed (Markup ENTRIES_START.now ∷ []) refl)) (closed-flat_map (entry named) (entry_closed named) s.entries)) (is_closed (Markup ENTRIES_END.now ∷ []) refl))
+    (section_closed RETIRED_START.now RETIRED_END.now (entry named) (record { is = refl }) (record { is = refl }) (entry_closed named) s.retired)) (is_closed end refl)
 
-pub places : (s : Shown) → past_all (Some Content) (page s) ≡ Some Content
-places s = (page_closed s).is
+pub places : (named : List ℕ → List ℕ) (s : Shown) → past_all (Some Content) (page named s) ≡ Some Content
+places named s = (page_closed named s).is
 
 -- ---- without texts
 
-link_alike : (l : Link) → Alike (link l) (link (link_shape l))
-link_alike (Entered id authority code) = record { is = refl }
-link_alike (Awaited id) = record { is = refl }
+each_alike : {T : Type 0} (f g : T → List Piece) (shape : T → T) → ((x : T) → Alike (f x) (g (shape x))) → (xs : List T) → Alike (flat_map f xs) (flat_map g (map shape xs))
+each_alike f g shape each [] = record { is = refl }
+each_alike f g shape each (x ∷ xs) = alike-append (each x) (each_alike f g shape each xs)
+
+link_alike : (named other : List ℕ → List ℕ) (l : Link) → Alike (link named l) (link other (link_shape l))
+link_alike named other (Entered id authority code) = record { is = refl }
+link_alike named other (Awaited id) = record { is = refl }
 
 word_alike_at : (b : Bool) (text : List ℕ) → Alike (word (record { differs = b; text = text })) (word (record { differs = b; text = [] }))
 word_alike_at true text = record { is = refl }
@@ -100,39 +105,41 @@ word_alike_at false text = record { is = refl }
 word_alike : (w : Word) → Alike (word w) (word (word_shape w))
 word_alike w = word_alike_at w.differs w.text
 
-side_alike : (s : Side) → Alike (side s) (side (side_shape s))
-side_alike s =
-    alike-append (alike-append (is_alike (side_start s.id s.note) (side_start [] []) refl) (alike-flat_map word word_shape word_alike s.words))
+side_alike : (named other : List ℕ → List ℕ) (s : Side) → Alike (side named s) (side other (side_shape s))
+side_alike named other s =
+    alike-append (alike-append (is_alike (side_start s.id (named s.id) s.note) (side_start [] (other []) []) refl) (alike-flat_map word word_shape word_alike s.words))
     (is_alike (Markup AFTER_SIDE.now ∷ []) (Markup AFTER_SIDE.now ∷ []) refl)
 
-pair_alike : (p : Pair) → Alike (pair p) (pair (pair_shape p))
-pair_alike p =
-    alike-append (alike-append (alike-append (is_alike (Markup PAIR.now ∷ []) (Markup PAIR.now ∷ []) refl) (side_alike p.first)) (side_alike p.second))
+pair_alike : (named other : List ℕ → List ℕ) (p : Pair) → Alike (pair named p) (pair other (pair_shape p))
+pair_alike named other p =
+    alike-append (alike-append (alike-append (is_alike (Markup PAIR.now ∷ []) (Markup PAIR.now ∷ []) refl) (side_alike named other p.first)) (side_alike named other p.second))
     (is_alike (Markup AFTER_PAIR.now ∷ []) (Markup AFTER_PAIR.now ∷ []) refl)
 
-conflict_alike : (c : Conflict) → Alike (conflict c) (conflict (conflict_shape c))
-conflict_alike c = alike-append (is_alike (conflict_start c.authority c.code) (conflict_start [] []) refl) (alike-flat_map pair pair_shape pair_alike c.pairs)
+conflict_alike : (named other : List ℕ → List ℕ) (c : Conflict) → Alike (conflict named c) (conflict other (conflict_shape c))
+conflict_alike named other c =
+    alike-append (is_alike (conflict_start c.authority c.code) (conflict_start [] []) refl) (each_alike (pair named) (pair other) pair_shape (pair_alike named other) c.pairs)
 
-section_alike_at : {T : Type 0} (b c : Bool) → b ≡ c → (start finish : List ℕ) (item : T → List Piece) (shape : T → T) → ((x : T) → Alike (item x) (item (shape x))) → (xs : List T)
-    → Alike (if b then [] else (Markup start ∷ []) ++ flat_map item xs ++ Markup finish ∷ []) (if c then [] else (Markup start ∷ []) ++ flat_map item (map shape xs) ++ Markup finish ∷ [])
-section_alike_at true true e start finish item shape each xs = record { is = refl }
-section_alike_at true false e start finish item shape each xs = absurd cc
-section_alike_at false true e start finish item shape each xs = absurd cc
-section_alike_at false false e start finish item shape each xs =
-    alike-append (alike-append (is_alike (Markup start ∷ []) (Markup start ∷ []) refl) (alike-flat_map item shape each xs)) (is_alike (Markup finish ∷ []) (Markup finish ∷ []) refl)
+section_alike_at : {T : Type 0} (b c : Bool) → b ≡ c → (start finish : List ℕ) (item other : T → List Piece) (shape : T → T) → ((x : T) → Alike (item x) (other (shape x))) → (xs : List T)
+    → Alike (if b then [] else (Markup start ∷ []) ++ flat_map item xs ++ Markup finish ∷ []) (if c then [] else (Markup start ∷ []) ++ flat_map other (map shape xs) ++ Markup finish ∷ [])
+section_alike_at true true e start finish item other shape each xs = record { is = refl }
+section_alike_at true false e start finish item other shape each xs = absurd cc
+section_alike_at false true e start finish item other shape each xs = absurd cc
+section_alike_at false false e start finish item other shape each xs =
+    alike-append (alike-append (is_alike (Markup start ∷ []) (Markup start ∷ []) refl) (each_alike item other shape each xs)) (is_alike (Markup finish ∷ []) (Markup finish ∷ []) refl)
 
-section_alike : {T : Type 0} (start finish : List ℕ) (item : T → List Piece) (shape : T → T) → ((x : T) → Alike (item x) (item (shape x))) → (xs : List T)
-    → Alike (section start item finish xs) (section start item finish (map shape xs))
-section_alike start finish item shape each xs = section_alike_at (length xs == 0) (length (map shape xs) == 0) (ap (λ n. n == 0) (sym (length-map xs shape))) start finish item shape each xs
+section_alike : {T : Type 0} (start finish : List ℕ) (item other : T → List Piece) (shape : T → T) → ((x : T) → Alike (item x) (other (shape x))) → (xs : List T)
+    → Alike (section start item finish xs) (section start other finish (map shape xs))
+section_alike start finish item other shape each xs = section_alike_at (length xs == 0) (length (map shape xs) == 0) (ap (λ n. n == 0) (sym (length-map xs shape))) start finish item other shape each xs
 
-event_alike : (e : Event) → Alike (event e) (event (event_shape e))
-event_alike (SupersededBy newer id note) =
-    alike-append (alike-append (is_alike (Markup SUPERSEDED_BY.now ∷ []) (Markup SUPERSEDED_BY.now ∷ []) refl) (link_alike newer)) (is_alike (operation id note) (operation [] []) refl)
-event_alike (RetiredBy id note) = record { is = refl }
+event_alike : (named other : List ℕ → List ℕ) (e : Event) → Alike (event named e) (event other (event_shape e))
+event_alike named other (SupersededBy newer id note) =
+    alike-append (alike-append (is_alike (Markup SUPERSEDED_BY.now ∷ []) (Markup SUPERSEDED_BY.now ∷ []) refl) (link_alike named other newer))
+    (is_alike (operation (named id) note) (operation (other []) []) refl)
+event_alike named other (RetiredBy id note) = record { is = refl }
 
-by_alike : (l : Link) → Alike (by l) (by (link_shape l))
-by_alike l =
-    alike-append (alike-append (is_alike (Markup BY.now ∷ []) (Markup BY.now ∷ []) refl) (link_alike l)) (is_alike (Markup AFTER_BY.now ∷ []) (Markup AFTER_BY.now ∷ []) refl)
+by_alike : (named other : List ℕ → List ℕ) (l : Link) → Alike (by named l) (by other (link_shape l))
+by_alike named other l =
+    alike-append (alike-append (is_alike (Markup BY.now ∷ []) (Markup BY.now ∷ []) refl) (link_alike named other l)) (is_alike (Markup AFTER_BY.now ∷ []) (Markup AFTER_BY.now ∷ []) refl)
 
 drawing_alike : (south west north east : List ℕ) (crosses : Bool) → Alike (drawing south west north east crosses) (drawing [] [] [] [] crosses)
 drawing_alike south west north east true = record { is = refl }
@@ -143,26 +150,26 @@ map_alike b =
     alike-append (alike-append (is_alike (Markup MAP.now ∷ []) (Markup MAP.now ∷ []) refl) (drawing_alike b.south b.west b.north b.east b.crosses))
     (is_alike (caption b.south b.west b.north b.east) (caption [] [] [] []) refl)
 
-entry_alike : (e : Entry) → Alike (entry e) (entry (entry_shape e))
-entry_alike e =
+entry_alike : (named other : List ℕ → List ℕ) (e : Entry) → Alike (entry named e) (entry other (entry_shape e))
+entry_alike named other e =
     alike-append (alike-append (alike-append (alike-append (alike-append (alike-append (alike-append (alike-append
-    (is_alike (entry_start e.id e.authority e.code e.name) (entry_start [] [] [] []) refl) (alike-flat_map map_of box_shape map_alike e.boxes)) (is_alike (entry_text e.text e.id e.note) (entry_text [] [] []) refl))
-    (alike-flat_map event event_shape event_alike e.events)) (is_alike (Markup AFTER_HISTORY.now ∷ []) (Markup AFTER_HISTORY.now ∷ []) refl))
+    (is_alike (entry_start e.id e.authority e.code e.name) (entry_start [] [] [] []) refl) (alike-flat_map map_of box_shape map_alike e.boxes)) (is_alike (entry_text e.text (named e.id) e.note) (entry_text [] (other []) []) refl))
+    (each_alike (event named) (event other) event_shape (event_alike named other) e.events)) (is_alike (Markup AFTER_HISTORY.now ∷ []) (Markup AFTER_HISTORY.now ∷ []) refl))
     (alike-flat_map area no_text (λ text. record { is = refl }) e.areas)) (is_alike (kind_and_standing e.kind e.standing) (kind_and_standing [] e.standing) refl))
-    (alike-flat_map by link_shape by_alike e.links)) (is_alike (Markup AFTER_ENTRY.now ∷ []) (Markup AFTER_ENTRY.now ∷ []) refl)
+    (each_alike (by named) (by other) link_shape (by_alike named other) e.links)) (is_alike (Markup AFTER_ENTRY.now ∷ []) (Markup AFTER_ENTRY.now ∷ []) refl)
 
-page_alike : (s : Shown) → Alike (page s) (page (shape s))
-page_alike s =
+page_alike : (named other : List ℕ → List ℕ) (s : Shown) → Alike (page named s) (page other (shape s))
+page_alike named other s =
     alike-append (alike-append (alike-append (alike-append (alike-append (alike-append (alike-append (alike-append (alike-append (alike-append
     (is_alike (head s.title) (head []) refl) (is_alike (figures s.figures) (figures figures_shape) refl)) (is_alike (Markup AFTER_FIGURES.now ∷ []) (Markup AFTER_FIGURES.now ∷ []) refl))
-    (section_alike CONFLICTS_START.now CONFLICTS_END.now conflict conflict_shape conflict_alike s.conflicts))
-    (section_alike AWAITED_START.now AWAITED_END.now awaited no_text (λ id. record { is = refl }) s.awaited))
-    (section_alike GAPS_START.now GAPS_END.now gap gap_shape (λ g. record { is = refl }) s.gaps))
-    (is_alike (Markup ENTRIES_START.now ∷ []) (Markup ENTRIES_START.now ∷ []) refl)) (alike-flat_map entry entry_shape entry_alike s.entries)) (is_alike (Markup ENTRIES_END.now ∷ []) (Markup ENTRIES_END.now ∷ []) refl))
-    (section_alike RETIRED_START.now RETIRED_END.now entry entry_shape entry_alike s.retired)) (is_alike end end refl)
+    (section_alike CONFLICTS_START.now CONFLICTS_END.now (conflict named) (conflict other) conflict_shape (conflict_alike named other) s.conflicts))
+    (section_alike AWAITED_START.now AWAITED_END.now (awaited named) (awaited other) no_text (λ id. record { is = refl }) s.awaited))
+    (section_alike GAPS_START.now GAPS_END.now (gap named) (gap other) gap_shape (λ g. record { is = refl }) s.gaps))
+    (is_alike (Markup ENTRIES_START.now ∷ []) (Markup ENTRIES_START.now ∷ []) refl)) (each_alike (entry named) (entry other) entry_shape (entry_alike named other) s.entries)) (is_alike (Markup ENTRIES_END.now ∷ []) (Markup ENTRIES_END.now ∷ []) refl))
+    (section_alike RETIRED_START.now RETIRED_END.now (entry named) (entry other) entry_shape (entry_alike named other) s.retired)) (is_alike end end refl)
 
-pub same : (s : Shown) → tags (html (page s)) ≡ tags (html (page (shape s)))
-same s =
-    (same_tags (page s) Content Content (places s)).0
-    ∙ ap (λ ps. tags (html ps)) (page_alike s).is
-    ∙ sym (same_tags (page (shape s)) Content Content (places (shape s))).0
+pub same : (named other : List ℕ → List ℕ) (s : Shown) → tags (html (page named s)) ≡ tags (html (page other (shape s)))
+same named other s =
+    (same_tags (page named s) Content Content (places named s)).0
+    ∙ ap (λ ps. tags (html ps)) (page_alike named other s).is
+    ∙ sym (same_tags (page other (shape s)) Content Content (places other (shape s))).0

@@ -1,4 +1,4 @@
--- The page: its contents as a list of pieces.
+-- The page: its contents as a list of pieces. `named` gives what is read in the place of an id or a UUID; links keep it.
 use Rattle.std.specs.Prelude.{ℕ, Bool, ◌==◌, List, [], ◌∷◌, ◌++◌, length, decimal, if◌then◌else◌}
 use Rattle.std.specs.List.{flat_map}
 use Rattle.html_text.specs.Pieces.{Piece, Markup, Text, Lines, Short, Attribute, Numeral}
@@ -31,34 +31,40 @@ figures f =
 
 -- ---- links to entries
 
-abbrev pub link : Link → List Piece
-link (Entered id authority code) =
+abbrev pub link_entered : List ℕ → List ℕ → List ℕ → List Piece
+link_entered id authority code =
     Markup LINK.now ∷ Attribute id ∷ Markup BEFORE_LINK_KEY.now ∷ Short authority ∷ Markup COLON.now ∷ Short code
     ∷ Markup AFTER_LINK.now ∷ []
-link (Awaited id) = Markup MISSING.now ∷ Text id ∷ Markup AFTER_MISSING.now ∷ []
+
+abbrev pub link_awaited : List ℕ → List Piece
+link_awaited read = Markup MISSING.now ∷ Text read ∷ Markup AFTER_MISSING.now ∷ []
+
+abbrev pub link : (List ℕ → List ℕ) → Link → List Piece
+link named (Entered id authority code) = link_entered id authority code
+link named (Awaited id) = link_awaited (named id)
 
 -- ---- conflicts
 
 abbrev pub word : Word → List Piece
 word w = if w.differs then Markup WORD.now ∷ Lines w.text ∷ Markup AFTER_WORD.now ∷ [] else Lines w.text ∷ []
 
-abbrev pub side_start : List ℕ → List ℕ → List Piece
-side_start id note =
-    Markup SIDE.now ∷ Attribute id ∷ Markup BEFORE_SIDE_ID.now ∷ Text id ∷ Markup BEFORE_SIDE_NOTE.now ∷ Text note
+abbrev pub side_start : List ℕ → List ℕ → List ℕ → List Piece
+side_start id read note =
+    Markup SIDE.now ∷ Attribute id ∷ Markup BEFORE_SIDE_ID.now ∷ Text read ∷ Markup BEFORE_SIDE_NOTE.now ∷ Text note
     ∷ Markup BEFORE_SIDE_WORDS.now ∷ []
 
-abbrev pub side : Side → List Piece
-side s = side_start s.id s.note ++ flat_map word s.words ++ Markup AFTER_SIDE.now ∷ []
+abbrev pub side : (List ℕ → List ℕ) → Side → List Piece
+side named s = side_start s.id (named s.id) s.note ++ flat_map word s.words ++ Markup AFTER_SIDE.now ∷ []
 
-abbrev pub pair : Pair → List Piece
-pair p = (Markup PAIR.now ∷ []) ++ side p.first ++ side p.second ++ Markup AFTER_PAIR.now ∷ []
+abbrev pub pair : (List ℕ → List ℕ) → Pair → List Piece
+pair named p = (Markup PAIR.now ∷ []) ++ side named p.first ++ side named p.second ++ Markup AFTER_PAIR.now ∷ []
 
 abbrev pub conflict_start : List ℕ → List ℕ → List Piece
 conflict_start authority code =
     Markup CONFLICT.now ∷ Text authority ∷ Markup COLON.now ∷ Text code ∷ Markup AFTER_CONFLICT_KEY.now ∷ []
 
-abbrev pub conflict : Conflict → List Piece
-conflict c = conflict_start c.authority c.code ++ flat_map pair c.pairs
+abbrev pub conflict : (List ℕ → List ℕ) → Conflict → List Piece
+conflict named c = conflict_start c.authority c.code ++ flat_map (pair named) c.pairs
 
 -- a list between its start and its end, unless it is empty
 abbrev pub section : {T : Type 0} → List ℕ → (T → List Piece) → List ℕ → List T → List Piece
@@ -66,17 +72,20 @@ section start item end xs = if length xs == 0 then [] else (Markup start ∷ [])
 
 -- ---- missing entries and operations
 
-abbrev pub awaited : List ℕ → List Piece
-awaited id = Markup AWAITED_ITEM.now ∷ Text id ∷ Markup AFTER_AWAITED_ITEM.now ∷ []
+abbrev pub awaited_item : List ℕ → List Piece
+awaited_item read = Markup AWAITED_ITEM.now ∷ Text read ∷ Markup AFTER_AWAITED_ITEM.now ∷ []
+
+abbrev pub awaited : (List ℕ → List ℕ) → List ℕ → List Piece
+awaited named id = awaited_item (named id)
 
 abbrev pub gap_start : List ℕ → List Piece
-gap_start replica = Markup GAP.now ∷ Text replica ∷ []
+gap_start read = Markup GAP.now ∷ Text read ∷ []
 
 abbrev pub gap_counts : ℕ → ℕ → List Piece
 gap_counts low high = number BEFORE_LOW.now low AFTER_LOW.now ++ number BEFORE_HIGH.now high AFTER_GAP.now
 
-abbrev pub gap : Gap → List Piece
-gap g = gap_start g.replica ++ gap_counts g.low g.high
+abbrev pub gap : (List ℕ → List ℕ) → Gap → List Piece
+gap named g = gap_start (named g.replica) ++ gap_counts g.low g.high
 
 -- ---- maps
 
@@ -112,23 +121,23 @@ entry_start id authority code name =
     ∷ Text authority ∷ Markup COLON.now ∷ Text code ∷ Markup BEFORE_NAME.now ∷ Text name ∷ Markup AFTER_NAME.now ∷ []
 
 abbrev pub entry_text : List ℕ → List ℕ → List ℕ → List Piece
-entry_text text id note =
-    Markup BEFORE_TEXT.now ∷ Lines text ∷ Markup BEFORE_ENTRY_ID.now ∷ Text id ∷ Markup BEFORE_ENTRY_NOTE.now ∷ Text note
+entry_text text read note =
+    Markup BEFORE_TEXT.now ∷ Lines text ∷ Markup BEFORE_ENTRY_ID.now ∷ Text read ∷ Markup BEFORE_ENTRY_NOTE.now ∷ Text note
     ∷ Markup AFTER_ENTRY_NOTE.now ∷ []
 
 -- the id and the note of an operation
 abbrev pub operation_id : List ℕ → List Piece
-operation_id id = Markup BEFORE_OPERATION.now ∷ Text id ∷ []
+operation_id read = Markup BEFORE_OPERATION.now ∷ Text read ∷ []
 
 abbrev pub operation_note : List ℕ → List Piece
 operation_note note = Markup BEFORE_NOTE.now ∷ Text note ∷ Markup AFTER_NOTE.now ∷ []
 
 abbrev pub operation : List ℕ → List ℕ → List Piece
-operation id note = operation_id id ++ operation_note note
+operation read note = operation_id read ++ operation_note note
 
-abbrev pub event : Event → List Piece
-event (SupersededBy newer id note) = (Markup SUPERSEDED_BY.now ∷ []) ++ link newer ++ operation id note
-event (RetiredBy id note) = (Markup RETIRED_BY.now ∷ []) ++ operation id note
+abbrev pub event : (List ℕ → List ℕ) → Event → List Piece
+event named (SupersededBy newer id note) = (Markup SUPERSEDED_BY.now ∷ []) ++ link named newer ++ operation (named id) note
+event named (RetiredBy id note) = (Markup RETIRED_BY.now ∷ []) ++ operation (named id) note
 
 abbrev pub area : List ℕ → List Piece
 area text = Markup AREA.now ∷ Text text ∷ Markup AFTER_AREA.now ∷ []
@@ -141,25 +150,25 @@ standing_cell standing.Retired = RETIRED_CELL.now
 abbrev pub kind_and_standing : List ℕ → Standing → List Piece
 kind_and_standing kind s = Markup BEFORE_KIND.now ∷ Text kind ∷ Markup BEFORE_STANDING.now ∷ Markup (standing_cell s) ∷ []
 
-abbrev pub by : Link → List Piece
-by newer = (Markup BY.now ∷ []) ++ link newer ++ Markup AFTER_BY.now ∷ []
+abbrev pub by : (List ℕ → List ℕ) → Link → List Piece
+by named newer = (Markup BY.now ∷ []) ++ link named newer ++ Markup AFTER_BY.now ∷ []
 
-abbrev pub entry : Entry → List Piece
-entry e =
-    entry_start e.id e.authority e.code e.name ++ flat_map map_of e.boxes ++ entry_text e.text e.id e.note ++ flat_map event e.events ++ (Markup AFTER_HISTORY.now ∷ []) ++ flat_map area e.areas
-    ++ kind_and_standing e.kind e.standing ++ flat_map by e.links ++ Markup AFTER_ENTRY.now ∷ []
+abbrev pub entry : (List ℕ → List ℕ) → Entry → List Piece
+entry named e =
+    entry_start e.id e.authority e.code e.name ++ flat_map map_of e.boxes ++ entry_text e.text (named e.id) e.note ++ flat_map (event named) e.events ++ (Markup AFTER_HISTORY.now ∷ [])
+    ++ flat_map area e.areas ++ kind_and_standing e.kind e.standing ++ flat_map (by named) e.links ++ Markup AFTER_ENTRY.now ∷ []
 
 -- ---- the page
 
 abbrev pub end : List Piece
 end = Markup MAIN_END.now ∷ Markup SCRIPT.now ∷ Markup PAGE_END.now ∷ []
 
-abbrev pub page : Shown → List Piece
-page s =
+abbrev pub page : (List ℕ → List ℕ) → Shown → List Piece
+page named s =
     head s.title ++ figures s.figures ++ (Markup AFTER_FIGURES.now ∷ [])
-    ++ section CONFLICTS_START.now conflict CONFLICTS_END.now s.conflicts
-    ++ section AWAITED_START.now awaited AWAITED_END.now s.awaited
-    ++ section GAPS_START.now gap GAPS_END.now s.gaps
-    ++ (Markup ENTRIES_START.now ∷ []) ++ flat_map entry s.entries ++ (Markup ENTRIES_END.now ∷ [])
-    ++ section RETIRED_START.now entry RETIRED_END.now s.retired
+    ++ section CONFLICTS_START.now (conflict named) CONFLICTS_END.now s.conflicts
+    ++ section AWAITED_START.now (awaited named) AWAITED_END.now s.awaited
+    ++ section GAPS_START.now (gap named) GAPS_END.now s.gaps
+    ++ (Markup ENTRIES_START.now ∷ []) ++ flat_map (entry named) s.entries ++ (Markup ENTRIES_END.now ∷ [])
+    ++ section RETIRED_START.now (entry named) RETIRED_END.now s.retired
     ++ end

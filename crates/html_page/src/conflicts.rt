@@ -32,13 +32,14 @@ pub fn push_conflict_start<'a>(
     )
 }
 
-/// Appends the start of one side, up to its words.
+/// Appends the start of one side, up to its words: the id as a link, and what is read in its place.
 pub fn push_side_start<'a>(
     page: &mut Vec<u8>,
     id: &'a [u8],
+    read: &'a [u8],
     note: &'a [u8],
 ) -> Result<(), AllocError>
-    ensures { OnOk result (Appends page.old.items page.new.items (side_start id.now note.now)) }
+    ensures { OnOk result (Appends page.old.items page.new.items (side_start id.now read.now note.now)) }
 {
     push_pieces(
         page,
@@ -46,7 +47,7 @@ pub fn push_side_start<'a>(
             Markup(SIDE),
             Attribute(id),
             Markup(BEFORE_SIDE_ID),
-            Text(id),
+            Text(read),
             Markup(BEFORE_SIDE_NOTE),
             Text(note),
             Markup(BEFORE_SIDE_WORDS),

@@ -42,14 +42,14 @@ pub fn push_entry_start<'a>(
     )
 }
 
-/// Appends its indented text, its id, and its note.
+/// Appends its indented text, what is read in the place of its id, and its note.
 pub fn push_entry_text<'a>(
     page: &mut Vec<u8>,
     text: &'a [u8],
-    id: &'a [u8],
+    read: &'a [u8],
     note: &'a [u8],
 ) -> Result<(), AllocError>
-    ensures { OnOk result (Appends page.old.items page.new.items (entry_text text.now id.now note.now)) }
+    ensures { OnOk result (Appends page.old.items page.new.items (entry_text text.now read.now note.now)) }
 {
     push_pieces(
         page,
@@ -57,7 +57,7 @@ pub fn push_entry_text<'a>(
             Markup(BEFORE_TEXT),
             Lines(text),
             Markup(BEFORE_ENTRY_ID),
-            Text(id),
+            Text(read),
             Markup(BEFORE_ENTRY_NOTE),
             Text(note),
             Markup(AFTER_ENTRY_NOTE),
@@ -65,11 +65,11 @@ pub fn push_entry_text<'a>(
     )
 }
 
-/// Appends the id of an operation on it.
-pub fn push_operation_id(page: &mut Vec<u8>, id: &[u8]) -> Result<(), AllocError>
-    ensures { OnOk result (Appends page.old.items page.new.items (operation_id id.now)) }
+/// Appends what is read in the place of the id of an operation on it.
+pub fn push_operation_id(page: &mut Vec<u8>, read: &[u8]) -> Result<(), AllocError>
+    ensures { OnOk result (Appends page.old.items page.new.items (operation_id read.now)) }
 {
-    push_pieces(page, &[Markup(BEFORE_OPERATION), Text(id)])
+    push_pieces(page, &[Markup(BEFORE_OPERATION), Text(read)])
 }
 
 /// Appends the note of an operation on it.

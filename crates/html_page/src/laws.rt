@@ -9,13 +9,19 @@ ghost use Rattle.html_page.specs.declared.style.TheConstants.{STYLE};
 ghost use Rattle.html_page.specs.Shown.{Word, Shown};
 ghost use Rattle.html_page.specs.Shape.{shape};
 ghost use Rattle.html_page.specs.Templates.{page};
+ghost use Rattle.html_page.specs.Texts.{texts, shown_texts};
 ghost use Rattle.html_page.specs.Words.{compared, unmarked};
 
 /// Each text is between tags, or in an id or a link within the page, and none is in a style or a script. So the tags of the page
-/// depend only on the shape of the page, and on no text in it.
+/// depend only on the shape of the page, on no text in it, and not on what is read in the place of an id.
 pub fn no_text_leaves_its_place()
-    ensures places { (s : Shown) → past_all (Some Content) (page s) ≡ Some Content }
-    ensures tags { (s : Shown) → tags (html (page s)) ≡ tags (html (page (shape s))) }
+    ensures places { (named : List ℕ → List ℕ) (s : Shown) → past_all (Some Content) (page named s) ≡ Some Content }
+    ensures tags { (named other : List ℕ → List ℕ) (s : Shown) → tags (html (page named s)) ≡ tags (html (page other (shape s))) }
+{}
+
+/// The texts of the page are those of its content, in order: the words of each side of a conflict, and then the text of each row.
+pub fn texts_are_in_order()
+    ensures { (named : List ℕ → List ℕ) (s : Shown) → texts (page named s) ≡ shown_texts s }
 {}
 
 /// The style and the script have no `<`, so that no tag begins in them.

@@ -2,8 +2,7 @@
 
 ghost use Rattle.std.specs.Prelude.{OnOk};
 ghost use Rattle.html_text.specs.Pieces.{Appends};
-ghost use Rattle.html_page.specs.Shown.{Entered, Awaited};
-ghost use Rattle.html_page.specs.Templates.{link};
+ghost use Rattle.html_page.specs.Templates.{link_entered, link_awaited};
 
 use crate::markup::{AFTER_LINK, AFTER_MISSING, BEFORE_LINK_KEY, COLON, LINK, MISSING};
 use html_text::Piece::{Attribute, Markup, Short, Text};
@@ -17,7 +16,7 @@ pub fn push_link<'a>(
     authority: &'a [u8],
     code: &'a [u8],
 ) -> Result<(), AllocError>
-    ensures { OnOk result (Appends page.old.items page.new.items (link (Entered id.now authority.now code.now))) }
+    ensures { OnOk result (Appends page.old.items page.new.items (link_entered id.now authority.now code.now)) }
 {
     push_pieces(
         page,
@@ -33,9 +32,9 @@ pub fn push_link<'a>(
     )
 }
 
-/// Appends the id of an entry that the register does not have.
-pub fn push_awaited_link(page: &mut Vec<u8>, id: &[u8]) -> Result<(), AllocError>
-    ensures { OnOk result (Appends page.old.items page.new.items (link (Awaited id.now))) }
+/// Appends what is read in the place of the id of an entry that the register does not have.
+pub fn push_awaited_link(page: &mut Vec<u8>, read: &[u8]) -> Result<(), AllocError>
+    ensures { OnOk result (Appends page.old.items page.new.items (link_awaited read.now)) }
 {
-    push_pieces(page, &[Markup(MISSING), Text(id), Markup(AFTER_MISSING)])
+    push_pieces(page, &[Markup(MISSING), Text(read), Markup(AFTER_MISSING)])
 }

@@ -2,7 +2,7 @@
 
 ghost use Rattle.std.specs.Prelude.{OnOk};
 ghost use Rattle.html_text.specs.Pieces.{Appends};
-ghost use Rattle.html_page.specs.Templates.{awaited, gap_start, gap_counts};
+ghost use Rattle.html_page.specs.Templates.{awaited_item, gap_start, gap_counts};
 
 use crate::head::push_number;
 use crate::markup::{
@@ -12,21 +12,21 @@ use html_text::Piece::{Markup, Text};
 use html_text::push_pieces;
 use std::alloc::{AllocError, Global};
 
-/// Appends the id of an awaited entry.
-pub fn push_awaited(page: &mut Vec<u8>, id: &[u8]) -> Result<(), AllocError>
-    ensures { OnOk result (Appends page.old.items page.new.items (awaited id.now)) }
+/// Appends what is read in the place of an awaited id.
+pub fn push_awaited(page: &mut Vec<u8>, read: &[u8]) -> Result<(), AllocError>
+    ensures { OnOk result (Appends page.old.items page.new.items (awaited_item read.now)) }
 {
     push_pieces(
         page,
-        &[Markup(AWAITED_ITEM), Text(id), Markup(AFTER_AWAITED_ITEM)],
+        &[Markup(AWAITED_ITEM), Text(read), Markup(AFTER_AWAITED_ITEM)],
     )
 }
 
-/// Appends an office with missing operations.
-pub fn push_gap_start(page: &mut Vec<u8>, replica: &[u8]) -> Result<(), AllocError>
-    ensures { OnOk result (Appends page.old.items page.new.items (gap_start replica.now)) }
+/// Appends what is read in the place of the UUID of an office with missing operations.
+pub fn push_gap_start(page: &mut Vec<u8>, read: &[u8]) -> Result<(), AllocError>
+    ensures { OnOk result (Appends page.old.items page.new.items (gap_start read.now)) }
 {
-    push_pieces(page, &[Markup(GAP), Text(replica)])
+    push_pieces(page, &[Markup(GAP), Text(read)])
 }
 
 /// Appends a range of missing counts.

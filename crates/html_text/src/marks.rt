@@ -1,11 +1,13 @@
 //! Marks for characters that a reader cannot see.
 
 ghost use Rattle.std.specs.Prelude.{◌≡◌, ◌++◌, ◌%◌, drop, IfOk, OnOk};
+ghost use Rattle.text_hidden.specs.Marks.{digit, mark};
 ghost use Rattle.html_text.specs.Escaped.{escaped};
-ghost use Rattle.html_text.specs.Marks.{is_control, control_after, is_unseen, unseen_after, hidden_at, hex_digit, mark, shown, more_of, marked};
+ghost use Rattle.html_text.specs.Marks.{is_kept, marked_at, shown, more_of, marked};
 
 use crate::escaping::{push_byte, push_escaped};
 use std::alloc::AllocError;
+use text_hidden::{Hidden, hidden_at};
 
 /// Whether line feeds are marked like other control characters, or kept.
 #[derive(Clone, Copy, Debug, PartialEq, Eq)]
@@ -14,97 +16,30 @@ pub enum Feeds {
     Kept,
 }
 
-/// A character that is marked.
-#[derive(Clone, Copy, Debug, PartialEq, Eq)]
-pub struct Hidden {
-    /// Its code point.
-    pub number: u32,
-    /// The number of bytes after its first one.
-    pub more: usize,
-}
-
-fn is_control(feeds: Feeds, byte: u8) -> bool
-    ensures { result ≡ is_control feeds byte }
+fn is_kept(feeds: Feeds, byte: u8) -> bool
+    ensures { result ≡ is_kept feeds byte }
 {
-    if byte == b'\n' {
-        return feeds == Feeds::Marked;
-    }
-    byte < 32 || byte == 127
-}
-
-// The character that 194 and these bytes begin with, if it is a control character.
-fn control_after(rest: &[u8]) -> Option<Hidden>
-    ensures { result ≡ control_after rest.now }
-{
-    let Some((byte, _)) = rest.split_first() else {
-        return None;
-    };
-    if *byte < 128 || 159 < *byte {
-        return None;
-    }
-    Some(Hidden {
-        number: u32::from(*byte),
-        more: 1,
-    })
-}
-
-// Whether 226, 128 and this byte are a character without width, a line end, or a change of direction.
-fn is_unseen(third: u8) -> bool
-    ensures { result ≡ is_unseen third }
-{
-    (138 < third && third < 144) || (167 < third && third < 175)
-}
-
-// The same for 226: a character without width, a line end, or one that changes the direction of the text after it.
-fn unseen_after(rest: &[u8]) -> Option<Hidden>
-    ensures { result ≡ unseen_after rest.now }
-{
-    let Some((second, others)) = rest.split_first() else {
-        return None;
-    };
-    let Some((third, _)) = others.split_first() else {
-        return None;
-    };
-    if *second == 128 && is_unseen(*third) {
-        return Some(Hidden {
-            number: 8064 + u32::from(*third),
-            more: 2,
-        });
-    }
-    if *second == 129 && 165 < *third && *third < 170 {
-        return Some(Hidden {
-            number: 8128 + u32::from(*third),
-            more: 2,
-        });
-    }
-    None
+    byte == b'\n' && feeds == Feeds::Kept
 }
 
 // The character that these bytes begin with, if it is marked.
-fn hidden_at(feeds: Feeds, byte: u8, rest: &[u8]) -> Option<Hidden>
-    ensures { result ≡ hidden_at feeds byte rest.now }
+fn marked_at(feeds: Feeds, byte: u8, rest: &[u8]) -> Option<Hidden>
+    ensures { result ≡ marked_at feeds byte rest.now }
 {
-    if is_control(feeds, byte) {
-        return Some(Hidden {
-            number: u32::from(byte),
-            more: 0,
-        });
+    if is_kept(feeds, byte) {
+        return None;
     }
-    match byte {
-        194 => control_after(rest),
-        226 => unseen_after(rest),
-        _ => None,
-    }
+    hidden_at(byte, rest)
 }
 
 fn hex_digit(number: u32) -> u8
-    ensures { result ≡ hex_digit (number % 16) }
+    ensures { result ≡ digit (number % 16) }
 {
-    let digit = (number % 16) as u8;
-    if digit < 10 {
-        b'0' + digit
+    let value = (number % 16) as u8;
+    if value < 10 {
+        b'0' + value
     } else {
-        b'7' + digit
+        b'7' + value
     }
 }
 
@@ -156,7 +91,7 @@ pub fn push_marked(page: &mut Vec<u8>, feeds: Feeds, text: &[u8]) -> Result<(), 
 {
     let mut rest = text;
     while let Some((byte, others)) = rest.split_first() {
-        let hidden = hidden_at(feeds, *byte, others);
+        let hidden = marked_at(feeds, *byte, others);
         let more = push_first(page, *byte, hidden)?;
         rest = after(others, more);
     }

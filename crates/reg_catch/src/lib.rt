@@ -5,4 +5,4 @@ mod catching;
 mod store;
 
 pub use catching::{CatchUp, WouldCatchUp};
-pub use store::Catching;
+pub use store::{Catching, caught_up};

@@ -59,8 +59,8 @@ impl<T: Keep> Keep for Catching<'_, T> {
     }
 }
 
-// The register with all that the office made.
-pub(crate) fn caught_up(
+/// The register with all that the office made.
+pub fn caught_up(
     alloc: Global,
     file: &OfficeFile,
     register: &Register,

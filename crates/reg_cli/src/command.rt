@@ -10,7 +10,7 @@ use cli_hand::{export, graph, ops, page, show, wkt};
 use cli_import::changes::{misnamed, office, retire, supersede};
 use cli_import::{enter, import, settle};
 use cli_look::desk::CliFault;
-use cli_look::{check, compare, diff, find, log, offices, report, status as figures, texts};
+use cli_look::{check, compare, diff, find, lint, log, offices, report, status as figures, texts};
 use cli_open::{MISUSE, Outcome, complain, explains, failed, is_table, names, print};
 use cli_words::{CommandName, command_line, overview};
 use std::alloc::AllocError;
@@ -91,7 +91,7 @@ fn perform_explained(rt: &HostRuntime, matches: &ArgMatches<'_>) -> u8 {
     let Some(name) = CommandName::named(word) else {
         return complain(rt, &NO_COMMAND, MISUSE);
     };
-    if is_table(inner) {
+    if is_table(inner) || is_named(name) {
         if let Err(problem) = names(rt, inner) {
             return complain(rt, &problem, problem.status());
         }
@@ -102,6 +102,14 @@ fn perform_explained(rt: &HostRuntime, matches: &ArgMatches<'_>) -> u8 {
     match perform(rt, name, inner) {
         Some(ending) => status(rt, ending, named),
         None => complain(rt, &NO_COMMAND, MISUSE),
+    }
+}
+
+// Whether the command shows names of offices, also if it prints no table.
+fn is_named(name: CommandName) -> bool {
+    match name {
+        CommandName::Graph | CommandName::Page => true,
+        _ => false,
     }
 }
 
@@ -135,10 +143,11 @@ fn perform(rt: &HostRuntime, name: CommandName, inner: &ArgMatches<'_>) -> Optio
         CommandName::Retire => Ending::Plain(retire(rt, inner)),
         CommandName::Settle => Ending::Plain(settle(rt, inner)),
         CommandName::Find => Ending::Plain(find(rt, inner)),
+        CommandName::Lint => Ending::of_read(lint(rt, inner)),
         CommandName::Show => Ending::of(show(rt, inner)),
         CommandName::Wkt => Ending::of(wkt(rt, inner)),
         CommandName::Texts => Ending::of(texts(rt, inner)),
-        CommandName::Compare => Ending::of_compare(compare(rt, inner)),
+        CommandName::Compare => Ending::of_read(compare(rt, inner)),
         CommandName::Export => Ending::Plain(export(rt, inner)),
         CommandName::Graph => Ending::of(graph(rt, inner)),
         CommandName::Ops => Ending::of(ops(rt, inner)),

@@ -16,7 +16,7 @@ pub enum Ending {
     Plain(Outcome),
     /// Failed, with an explanation of the refused text.
     Explained(Explained),
-    /// Texts were not compared, or not all of them.
+    /// Texts were not compared or looked at, or not all of them.
     Unread(Unimported),
     /// Texts were not imported, or not all of them.
     Import(NotImported),
@@ -40,8 +40,8 @@ impl Ending {
         }
     }
 
-    /// The end of `compare`.
-    pub fn of_compare(answer: Result<Outcome, Unimported>) -> Ending {
+    /// The end of a command that reads texts.
+    pub fn of_read(answer: Result<Outcome, Unimported>) -> Ending {
         match answer {
             Ok(outcome) => Ending::Plain(outcome),
             Err(why) => Ending::Unread(why),

@@ -14,6 +14,7 @@ use Rattle.reg_engine.specs.declared.fault.CliFault.TheVariants as cli
 use Rattle.reg_engine.specs.Inputs.{HoldAll, StopsFrom, NoneFails}
 use Rattle.reg_commands.specs.Merge.{JoinTo, join_of, IsUnjoined}
 use Rattle.reg_engine.specs.Store.{Around}
+use Rattle.reg_desk.specs.declared.comparison.Comparison.{Comparison}
 
 -- the joined contents: the older register and the parts, or only the parts
 abbrev pub joined_parts : Bool → Content → List Part → List Part
@@ -30,9 +31,9 @@ joined_ones false (x ∷ xs) = xs
 abbrev pub Compares : Bool → List SourceState → List SourceState → Content → Content → Type 0
 Compares joins old new x y = (ps : List Part) × HoldAll old new ps × JoinTo (joined_parts joins x ps) y
 
--- the older register came in; the changes from it to the newer content went out, and the answer is whether there are any
-abbrev pub IsCompared : Around → Bool → List SourceState → List SourceState → SinkState → SinkState → Bool → Type 0
-IsCompared a joins old new before after differ = (x : Content) × (y : Content) × a.came x × Compares joins old new x y × Reports (IsDiff x y) before after × (IsTrue differ ↔ Differ x y)
+-- the older register came in; the changes from it to the newer content went out, and the answer is both and whether there are any
+abbrev pub IsCompared : Around → Bool → List SourceState → List SourceState → SinkState → SinkState → Comparison → Type 0
+IsCompared a joins old new before after c = a.came c.before × Compares joins old new c.before c.after × Reports (IsDiff c.before c.after) before after × (IsTrue c.differ ↔ Differ c.before c.after)
 
 -- exactly the first n bytes of a text with this property were written
 abbrev pub IsCutOut : (List ℕ → Type 0) → SinkState → SinkState → OutFault → Type 0

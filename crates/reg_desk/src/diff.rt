@@ -9,6 +9,7 @@ ghost use Rattle.reg_engine.specs.Inputs.{AreUnread, GivePartsAfter};
 ghost use Rattle.reg_commands.specs.Merge.{begun, with_pieces, IsUnjoined};
 ghost use Rattle.reg_desk.specs.Diff.{joined_ones, IsCompared, IsUncompared, IsUntold};
 
+use crate::comparison::Comparison;
 use byte_io::{Sink, Source, write_all};
 use reg_commands::{join_pieces, join_registers};
 use reg_engine::{CliFault, OutFault, Parts, Store, parts_of, read_parts_after};
@@ -17,15 +18,15 @@ use reg_state::{Piece, Register};
 use std::alloc::Global;
 
 /// Loads the older register, and then reads a register or a piece from each source. Writes the rows that only one of the
-/// older register and the join of the others has, and returns whether there are any. If `joins`, the older register is part
-/// of the join.
+/// older register and the join of the others has, and returns both and whether there are any. If `joins`, the older register is
+/// part of the join.
 pub fn run_diff<T: Store, S: Source, K: Sink>(
     alloc: Global,
     store: &mut T,
     others: &mut [S],
     joins: bool,
     sink: &mut K,
-) -> Result<bool, CliFault>
+) -> Result<Comparison, CliFault>
     ensures same { T.same store.old store.new }
     ensures compared { IfOk result (IsCompared (T.around store.old store.new) joins
         (map S.state others.old) (map S.state others.new) (K.state sink.old) (K.state sink.new)) }
@@ -44,14 +45,22 @@ pub fn run_diff<T: Store, S: Source, K: Sink>(
     let Some((first, _later)) = registers.split_first() else {
         unreachable!();
     };
-    let new = match join_some(alloc, &registers, &pieces, joins) {
-        Ok(new) => new,
+    let after = match join_some(alloc, &registers, &pieces, joins) {
+        Ok(after) => after,
         Err(fault) => return Err(fault),
     };
-    match write_diff(alloc, first, &new, sink) {
-        Ok(differ) => Ok(differ),
-        Err(fault) => Err(fault),
-    }
+    let differ = match write_diff(alloc, first, &after, sink) {
+        Ok(differ) => differ,
+        Err(fault) => return Err(fault),
+    };
+    let Some(before) = registers.into_iter().next() else {
+        unreachable!();
+    };
+    Ok(Comparison {
+        before,
+        after,
+        differ,
+    })
 }
 
 // Reads the files, with a known register, whose definitions are not read again.

@@ -1,6 +1,7 @@
 //! Engines of the steward's desk, one function for each command.
 #![tactic(auto)]
 
+mod comparison;
 mod diff;
 mod disorders;
 mod explained;
@@ -15,6 +16,7 @@ mod status;
 mod status_lines;
 mod words;
 
+pub use comparison::Comparison;
 pub use diff::run_diff;
 pub use disorders::Amiss;
 pub use explained::{Explained, explained_fault, problem_of, run_check_explained};

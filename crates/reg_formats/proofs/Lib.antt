@@ -3,3 +3,4 @@ mod AmongLemmas
 mod DrawnLemmas
 mod ReadLemmas
 mod SheetLemmas
+mod LabelLemmas

@@ -1,7 +1,9 @@
 -- What other programs read of some rows.
 use Rattle.std.proofs.Common.{◌≡◌, ℕ, Bool, true, false, List, [], ◌∷◌, ◌++◌, map, Option, Some, None, if◌then◌else◌, refl, sym, ap, ◌∙◌, inl, inr, append_assoc, subst}
 use Rattle.std.specs.List.{flat_map, list_all}
+use Rattle.std.specs.Str.{bytes_eq}
 use Rattle.json.specs.Json.{document}
+use Rattle.office_names.specs.declared.names.Name.{Name}
 use Rattle.text_quotes.specs.Statements as sql_text
 use Rattle.text_quotes.specs.Graph as graph_text
 use Rattle.crs_value.specs.declared.crs.Crs.{Crs}
@@ -15,14 +17,14 @@ use Rattle.crs_export.specs.declared.verdict.Verdict.TheVariants.{Insert, Again,
 use Rattle.crs_export.specs.declared.markup.TheConstants.{GRAPH_START, GRAPH_END}
 use Rattle.crs_export.specs.Features.{features, collection}
 use Rattle.crs_export.specs.Document.{Described, collection_value}
-use Rattle.crs_export.specs.Graphs.{node, edge}
-use Rattle.crs_export.specs.Drawing.{is_color, node_statement, edge_statement, rivals_statement, graph_statements}
+use Rattle.crs_export.specs.Graphs.{node, caption}
+use Rattle.crs_export.specs.Drawing.{is_color, node_statement, caption_statement, rivals_statement, graph_statements}
 use Rattle.crs_export.specs.Rows.{rows_of}
 use Rattle.crs_export.specs.Sql.{judged}
 use Rattle.crs_export.specs.Inserts.{Statement, insert_filed, row_statements, AreFor, AreOf, AreInserts, transaction}
 use Rattle.crs_export.proofs.DocumentLemmas.{collection_read}
 use Rattle.crs_export.proofs.LineLemmas.{sql_read}
-use Rattle.crs_export.proofs.DrawingLemmas.{TakesAll, all_none, all_both, all_read, takes_node, takes_edge, takes_rivals, head_read, end_read}
+use Rattle.crs_export.proofs.DrawingLemmas.{TakesAll, all_none, all_both, all_read, takes_node, takes_caption, takes_edge, takes_rivals, head_read, end_read}
 use Rattle.reg_op.specs.Contents.{Content}
 use Rattle.reg_op.specs.Ids.{Id}
 use Rattle.reg_op.specs.Set as set
@@ -38,7 +40,7 @@ use Rattle.reg_report.specs.Conflicts.{Contested, AreConflicts}
 use Rattle.reg_formats.specs.Titles.{IsTitle, Each}
 use Rattle.reg_formats.specs.Geojson.{AreFeaturesOf, IsGeojson, AreDescribed}
 use Rattle.reg_formats.specs.ProjSql.{IsTaken, IsFiled, passes_over, FilesUnless, FilesAs, IsSql}
-use Rattle.reg_formats.specs.Graph.{color_of, IsDrawn, IsNodeOf, edges_from, edges_of, awaited_edges, edges_in, all_edges, rivals_from, rivals_among, rivals_of, linked, IsGraphOf, IsGraph, IsNodeStatement, edge_statements, awaited_statements, edge_statements_in, rivals_statements_among, rivals_statements, AreGraphStatements}
+use Rattle.reg_formats.specs.Graph.{color_of, IsDrawn, IsNodeOf, named, label_for, label_of, edge_of, edges_from, edges_of, awaited_edges, edges_in, all_edges, rivals_from, rivals_among, rivals_of, linked, IsGraphOf, IsGraph, IsNodeStatement, label_statements_for, label_statements, edge_statements_of, edge_statements, awaited_statements, edge_statements_in, rivals_statements_among, rivals_statements, AreGraphStatements}
 
 -- ---- GeoJSON
 
@@ -116,18 +118,27 @@ is_a_color (Some Valid) = refl
 is_a_color (Some Superseded) = refl
 is_a_color (Some Retired) = refl
 
-awaited_read : (s : Ops) (b : Body) → TakesAll (awaited_edges s b) (awaited_statements s b)
-awaited_read s (Enter text) = all_none
-awaited_read s (Supersede old newer) = unless_entered (enters s old) old newer
-  where
-    unless_entered : (e : Bool) (old newer : Id) → TakesAll (if e then [] else edge (printed old) (printed newer)) (if e then [] else edge_statement (printed old) (printed newer) ∷ [])
-    unless_entered true old newer = all_none
-    unless_entered false old newer = takes_edge (printed old) (printed newer)
-awaited_read s (Retire entry) = all_none
+unless_so : (b : Bool) (bytes : List ℕ) (ss : List (List graph_text.Part)) → TakesAll bytes ss → TakesAll (if b then [] else bytes) (if b then [] else ss)
+unless_so true bytes ss h = all_none
+unless_so false bytes ss h = h
 
-awaited_edges_read : (s : Ops) (os : List Op) → TakesAll (flat_map (edges_in s) os) (flat_map (edge_statements_in s) os)
-awaited_edges_read s [] = all_none
-awaited_edges_read s (o ∷ os) = all_both (awaited_read s o.body) (awaited_edges_read s os)
+label_for_read : (id read : List ℕ) → TakesAll (label_for id read) (label_statements_for id read)
+label_for_read id read = unless_so (bytes_eq read id) (caption id read) (caption_statement id read ∷ []) (takes_caption id read)
+
+label_read : (names : List Name) (s : Ops) (i : Id) → TakesAll (label_of names s i) (label_statements names s i)
+label_read names s i = unless_so (enters s i) (label_for (printed i) (named names i)) (label_statements_for (printed i) (named names i)) (label_for_read (printed i) (named names i))
+
+edge_read : (names : List Name) (s : Ops) (old newer : Id) → TakesAll (edge_of names s old newer) (edge_statements_of names s old newer)
+edge_read names s old newer = all_both (all_both (label_read names s old) (label_read names s newer)) (takes_edge (printed old) (printed newer))
+
+awaited_read : (names : List Name) (s : Ops) (b : Body) → TakesAll (awaited_edges names s b) (awaited_statements names s b)
+awaited_read names s (Enter text) = all_none
+awaited_read names s (Supersede old newer) = unless_so (enters s old) (edge_of names s old newer) (edge_statements_of names s old newer) (edge_read names s old newer)
+awaited_read names s (Retire entry) = all_none
+
+awaited_edges_read : (names : List Name) (s : Ops) (os : List Op) → TakesAll (flat_map (edges_in names s) os) (flat_map (edge_statements_in names s) os)
+awaited_edges_read names s [] = all_none
+awaited_edges_read names s (o ∷ os) = all_both (awaited_read names s o.body) (awaited_edges_read names s os)
 
 abbrev Nodes : Bool → List Id → List Row → List ℕ → Type 0
 Nodes all ids rs bytes = (ss : List (List graph_text.Part)) × Each (IsNodeStatement all ids) rs ss × TakesAll bytes ss
@@ -150,13 +161,13 @@ nodes_read all ids (r ∷ rs) bytes (mine, later, gives, rest, is) =
       subst (λ l. TakesAll l (one.0 ++ others.0)) (sym is) (all_both one.2 others.2),
     )
 
-edges_from_read : (e : Id) (ns : List Id) → TakesAll (edges_from e ns) (map (λ (n : Id). edge_statement (printed e) (printed n)) ns)
-edges_from_read e [] = all_none
-edges_from_read e (n ∷ ns) = all_both (takes_edge (printed e) (printed n)) (edges_from_read e ns)
+edges_from_read : (names : List Name) (s : Ops) (e : Id) (ns : List Id) → TakesAll (edges_from names s e ns) (flat_map (λ (n : Id). edge_statements_of names s e n) ns)
+edges_from_read names s e [] = all_none
+edges_from_read names s e (n ∷ ns) = all_both (edge_read names s e n) (edges_from_read names s e ns)
 
-edges_read : (rs : List Row) → TakesAll (flat_map edges_of rs) (flat_map edge_statements rs)
-edges_read [] = all_none
-edges_read (r ∷ rs) = all_both (edges_from_read r.entry r.newer) (edges_read rs)
+edges_read : (names : List Name) (s : Ops) (rs : List Row) → TakesAll (flat_map (edges_of names s) rs) (flat_map (edge_statements names s) rs)
+edges_read names s [] = all_none
+edges_read names s (r ∷ rs) = all_both (edges_from_read names s r.entry r.newer) (edges_read names s rs)
 
 rivals_from_read : (i : Id) (is : List Id) → TakesAll (rivals_from i is) (map (λ (j : Id). rivals_statement (printed i) (printed j)) is)
 rivals_from_read i [] = all_none
@@ -170,15 +181,15 @@ rivals_read : (cs : List Contested) → TakesAll (flat_map rivals_of cs) (flat_m
 rivals_read [] = all_none
 rivals_read (c ∷ cs) = all_both (rivals_among_read c.entries) (rivals_read cs)
 
-pub graph_read : (all : Bool) (x : Content) (text : List ℕ) → IsGraph all x text
-    → (cs : List Contested) × (ss : List (List graph_text.Part)) × AreConflicts (rows x.ops) cs × AreGraphStatements all x.ops (rows x.ops) cs ss × graph_text.AreStatements text ss
-graph_read all x text (cs, conflicts, g) =
+pub graph_read : (all : Bool) (names : List Name) (x : Content) (text : List ℕ) → IsGraph all names x text
+    → (cs : List Contested) × (ss : List (List graph_text.Part)) × AreConflicts (rows x.ops) cs × AreGraphStatements all names x.ops (rows x.ops) cs ss × graph_text.AreStatements text ss
+graph_read all names x text (cs, conflicts, g) =
     let s = x.ops in
     let rs = rows s in
     let nodes = nodes_read all (linked s rs cs) rs g.nodes g.are_nodes in
-    let ss = graph_statements (nodes.0 ++ (flat_map edge_statements rs ++ flat_map (edge_statements_in s) (set.items s)) ++ flat_map rivals_statements cs) in
-    let edges = all_both (edges_read rs) (awaited_edges_read s (set.items s)) in
-    let whole : TakesAll (GRAPH_START.now ++ g.nodes ++ all_edges s rs ++ flat_map rivals_of cs ++ GRAPH_END.now) ss =
+    let ss = graph_statements (nodes.0 ++ (flat_map (edge_statements names s) rs ++ flat_map (edge_statements_in names s) (set.items s)) ++ flat_map rivals_statements cs) in
+    let edges = all_both (edges_read names s rs) (awaited_edges_read names s (set.items s)) in
+    let whole : TakesAll (GRAPH_START.now ++ g.nodes ++ all_edges names s rs ++ flat_map rivals_of cs ++ GRAPH_END.now) ss =
     all_both (all_both (all_both (all_both head_read nodes.2) edges) (rivals_read cs)) end_read in (
       cs,
       ss,

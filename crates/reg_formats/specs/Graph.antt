@@ -1,6 +1,9 @@
 -- The graph of a register.
-use Rattle.std.specs.Prelude.{◌≡◌, ◌⊎◌, ◌++◌, ℕ, Bool, true, List, [], ◌∷◌, map, Contains, Option, Some, None, if◌then◌else◌}
+use Rattle.std.specs.Prelude.{◌≡◌, ◌⊎◌, ◌++◌, ℕ, Bool, true, false, List, [], ◌∷◌, map, Contains, Option, Some, None, if◌then◌else◌}
 use Rattle.std.specs.List.{flat_map}
+use Rattle.std.specs.Str.{bytes_eq}
+use Rattle.office_names.specs.declared.names.Name.{Name}
+use Rattle.office_names.specs.Shown.{shown}
 use Rattle.reg_op.specs.Contents.{Content}
 use Rattle.reg_op.specs.Ids.{Id}
 use Rattle.reg_op.specs.Set as set
@@ -15,8 +18,8 @@ use Rattle.reg_op.specs.declared.status.Status.TheVariants.{Valid, Superseded, R
 use Rattle.reg_report.specs.Conflicts.{Contested, AreConflicts}
 use Rattle.crs_export.specs.declared.title.Title.{Title}
 use Rattle.crs_export.specs.declared.markup.TheConstants.{GRAPH_START, GRAPH_END, VALID_COLOR, SUPERSEDED_COLOR, RETIRED_COLOR}
-use Rattle.crs_export.specs.Graphs.{node, edge, rivals}
-use Rattle.crs_export.specs.Drawing.{Statement, node_statement, edge_statement, rivals_statement, graph_statements}
+use Rattle.crs_export.specs.Graphs.{node, caption, edge, rivals}
+use Rattle.crs_export.specs.Drawing.{Statement, node_statement, caption_statement, edge_statement, rivals_statement, graph_statements}
 use Rattle.reg_formats.specs.Titles.{IsTitle, Each}
 
 abbrev pub color_of : Option Status → List ℕ
@@ -50,25 +53,41 @@ IsDrawn all ids r = (all ≡ true) ⊎ Contains ids r.entry
 abbrev pub IsNodeOf : Bool → List Id → Row → List ℕ → Type 0
 IsNodeOf all ids r bytes = (IsDrawn all ids r × ((t : Title) × IsTitle r t × (bytes ≡ node t (color_of r.status)))) ⊎ ((¬ (IsDrawn all ids r)) × (bytes ≡ []))
 
--- an edge to each entry that supersedes the row's
-abbrev pub edges_from : Id → List Id → List ℕ
-edges_from e ns = flat_map (λ (n : Id). edge (printed e) (printed n)) ns
+-- what is read in the place of an id: it has the name of its office, if there is one
+abbrev pub named : List Name → Id → List ℕ
+named names i = shown false names (printed i)
 
-abbrev pub edges_of : Row → List ℕ
-edges_of r = edges_from r.entry r.newer
+-- the label of an id, if something else is read in its place
+abbrev pub label_for : List ℕ → List ℕ → List ℕ
+label_for id read = if bytes_eq read id then [] else caption id read
+
+-- the same of an id that was not entered; an entry has its key and its name as label
+abbrev pub label_of : List Name → Ops → Id → List ℕ
+label_of names s i = if enters s i then [] else label_for (printed i) (named names i)
+
+-- an edge from an id to the entry that supersedes it, behind their labels
+abbrev pub edge_of : List Name → Ops → Id → Id → List ℕ
+edge_of names s old newer = label_of names s old ++ label_of names s newer ++ edge (printed old) (printed newer)
+
+-- an edge to each entry that supersedes the row's
+abbrev pub edges_from : List Name → Ops → Id → List Id → List ℕ
+edges_from names s e ns = flat_map (λ (n : Id). edge_of names s e n) ns
+
+abbrev pub edges_of : List Name → Ops → Row → List ℕ
+edges_of names s r = edges_from names s r.entry r.newer
 
 -- an edge from an id that was not entered to the entry that supersedes it
-abbrev pub awaited_edges : Ops → Body → List ℕ
-awaited_edges s (Enter text) = []
-awaited_edges s (Supersede old newer) = if enters s old then [] else edge (printed old) (printed newer)
-awaited_edges s (Retire entry) = []
+abbrev pub awaited_edges : List Name → Ops → Body → List ℕ
+awaited_edges names s (Enter text) = []
+awaited_edges names s (Supersede old newer) = if enters s old then [] else edge_of names s old newer
+awaited_edges names s (Retire entry) = []
 
-abbrev pub edges_in : Ops → Op → List ℕ
-edges_in s o = awaited_edges s o.body
+abbrev pub edges_in : List Name → Ops → Op → List ℕ
+edges_in names s o = awaited_edges names s o.body
 
 -- the edges of the rows, and those from ids that were not entered
-abbrev pub all_edges : Ops → List Row → List ℕ
-all_edges s rs = flat_map edges_of rs ++ flat_map (edges_in s) (set.items s)
+abbrev pub all_edges : List Name → Ops → List Row → List ℕ
+all_edges names s rs = flat_map (edges_of names s) rs ++ flat_map (edges_in names s) (set.items s)
 
 -- a line from the first entry of a key in conflict to each of the others
 abbrev pub rivals_from : Id → List Id → List ℕ
@@ -82,14 +101,14 @@ abbrev pub rivals_of : Contested → List ℕ
 rivals_of c = rivals_among c.entries
 
 -- nodes, edges, and lines between entries in conflict
-pub record IsGraphOf (all : Bool) (s : Ops) (rs : List Row) (cs : List Contested) (text : List ℕ) : Type 0 where
+pub record IsGraphOf (all : Bool) (names : List Name) (s : Ops) (rs : List Row) (cs : List Contested) (text : List ℕ) : Type 0 where
   pub nodes : List ℕ
   pub are_nodes : Each (IsNodeOf all (linked s rs cs)) rs nodes
-  pub is : text ≡ GRAPH_START.now ++ nodes ++ all_edges s rs ++ flat_map rivals_of cs ++ GRAPH_END.now
+  pub is : text ≡ GRAPH_START.now ++ nodes ++ all_edges names s rs ++ flat_map rivals_of cs ++ GRAPH_END.now
 
--- the graph of a content, of all its entries or of those that are linked
-abbrev pub IsGraph : Bool → Content → List ℕ → Type 0
-IsGraph all x text = (cs : List Contested) × AreConflicts (rows x.ops) cs × IsGraphOf all x.ops (rows x.ops) cs text
+-- the graph of a content, of all its entries or of those that are linked, with these names of offices
+abbrev pub IsGraph : Bool → List Name → Content → List ℕ → Type 0
+IsGraph all names x text = (cs : List Contested) × AreConflicts (rows x.ops) cs × IsGraphOf all names x.ops (rows x.ops) cs text
 
 -- ---- as Graphviz reads it
 
@@ -97,16 +116,25 @@ IsGraph all x text = (cs : List Contested) × AreConflicts (rows x.ops) cs × Is
 abbrev pub IsNodeStatement : Bool → List Id → Row → List Statement → Type 0
 IsNodeStatement all ids r ss = (IsDrawn all ids r × ((t : Title) × IsTitle r t × (ss ≡ node_statement t (color_of r.status) ∷ []))) ⊎ ((¬ (IsDrawn all ids r)) × (ss ≡ []))
 
-abbrev pub edge_statements : Row → List Statement
-edge_statements r = map (λ (n : Id). edge_statement (printed r.entry) (printed n)) r.newer
+abbrev pub label_statements_for : List ℕ → List ℕ → List Statement
+label_statements_for id read = if bytes_eq read id then [] else caption_statement id read ∷ []
 
-abbrev pub awaited_statements : Ops → Body → List Statement
-awaited_statements s (Enter text) = []
-awaited_statements s (Supersede old newer) = if enters s old then [] else edge_statement (printed old) (printed newer) ∷ []
-awaited_statements s (Retire entry) = []
+abbrev pub label_statements : List Name → Ops → Id → List Statement
+label_statements names s i = if enters s i then [] else label_statements_for (printed i) (named names i)
 
-abbrev pub edge_statements_in : Ops → Op → List Statement
-edge_statements_in s o = awaited_statements s o.body
+abbrev pub edge_statements_of : List Name → Ops → Id → Id → List Statement
+edge_statements_of names s old newer = label_statements names s old ++ label_statements names s newer ++ edge_statement (printed old) (printed newer) ∷ []
+
+abbrev pub edge_statements : List Name → Ops → Row → List Statement
+edge_statements names s r = flat_map (λ (n : Id). edge_statements_of names s r.entry n) r.newer
+
+abbrev pub awaited_statements : List Name → Ops → Body → List Statement
+awaited_statements names s (Enter text) = []
+awaited_statements names s (Supersede old newer) = if enters s old then [] else edge_statements_of names s old newer
+awaited_statements names s (Retire entry) = []
+
+abbrev pub edge_statements_in : List Name → Ops → Op → List Statement
+edge_statements_in names s o = awaited_statements names s o.body
 
 abbrev pub rivals_statements_among : List Id → List Statement
 rivals_statements_among [] = []
@@ -115,8 +143,8 @@ rivals_statements_among (i ∷ is) = map (λ (j : Id). rivals_statement (printed
 abbrev pub rivals_statements : Contested → List Statement
 rivals_statements c = rivals_statements_among c.entries
 
--- the statements are those of the nodes, of the edges, and of the lines between entries in conflict
-pub record AreGraphStatements (all : Bool) (s : Ops) (rs : List Row) (cs : List Contested) (ss : List Statement) : Type 0 where
+-- the statements are those of the nodes, of the edges with the labels of their ids, and of the lines between entries in conflict
+pub record AreGraphStatements (all : Bool) (names : List Name) (s : Ops) (rs : List Row) (cs : List Contested) (ss : List Statement) : Type 0 where
   pub nodes : List Statement
   pub are_nodes : Each (IsNodeStatement all (linked s rs cs)) rs nodes
-  pub are : ss ≡ graph_statements (nodes ++ (flat_map edge_statements rs ++ flat_map (edge_statements_in s) (set.items s)) ++ flat_map rivals_statements cs)
+  pub are : ss ≡ graph_statements (nodes ++ (flat_map (edge_statements names s) rs ++ flat_map (edge_statements_in names s) (set.items s)) ++ flat_map rivals_statements cs)

@@ -12,6 +12,7 @@ use crate::geojson::geojson_text;
 use crate::graph::graph_text;
 use crate::proj_sql::proj_sql_text;
 use byte_io::{Sink, write_all};
+use office_names::Name;
 use reg_handing::engine::{CliFault, OutFault, Print, Store};
 use reg_handing::{Choice, found_for, pass, uncontested};
 use reg_op::OpId;
@@ -130,22 +131,23 @@ pub fn run_handed<T: Store, K: Sink>(
     }
 }
 
-/// Prints the graph of a register: of all its entries, or of those that have an edge or are in conflict.
-#[derive(Clone, Copy)]
-pub struct Graph {
+/// Prints the graph of a register: of all its entries, or of those that have an edge or are in conflict, with names of offices.
+#[derive(Drop)]
+pub struct Graph<'a> {
     pub all: bool,
+    pub names: &'a [Name],
 }
 
-impl Print for Graph {
+impl Print for Graph<'_> {
     ghost use Rattle.reg_handing.specs.Store.{Never};
     ghost use Rattle.reg_formats.specs.Graph.{IsGraph};
 
-    ghost prints = { λ c. λ x. λ text. IsGraph c.all x text };
+    ghost prints = { λ c. λ x. λ text. IsGraph c.all c.names.now x text };
 
     ghost refuses = { λ c. λ x. λ f. Never x f };
 
     fn text(&self, alloc: Global, register: &Register) -> Result<Vec<u8>, CliFault> {
-        match graph_text(alloc, register, self.all) {
+        match graph_text(alloc, register, self.all, self.names) {
             Ok(text) => Ok(text),
             Err(_) => Err(CliFault::Memory),
         }

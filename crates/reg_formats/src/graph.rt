@@ -14,9 +14,11 @@ ghost use Rattle.crs_export.specs.declared.title.Title.{Title};
 ghost use Rattle.crs_export.specs.declared.markup.TheConstants as markup;
 ghost use Rattle.crs_export.specs.Graphs.{node};
 
+use crate::edges::push_edge_of;
 use crate::title::title_of;
 use crs_export::markup::{GRAPH_END, GRAPH_START, RETIRED_COLOR, SUPERSEDED_COLOR, VALID_COLOR};
-use crs_export::{push_edge, push_node, push_rivals};
+use crs_export::{push_node, push_rivals};
+use office_names::Name;
 use reg_op::{Op, OpBody, OpId, Status};
 use reg_report::{Conflict, Row, conflicts, is_entered, printed, rows};
 use reg_state::Register;
@@ -181,27 +183,33 @@ fn push_nodes(
 fn push_edges_from(
     alloc: Global,
     text: &mut Vec<u8>,
+    names: &[Name],
+    register: &Register,
     entry: OpId,
     newer: &[OpId],
 ) -> Result<(), AllocError>
-    ensures { OnOk result (text.new.items ≡ text.old.items ++ edges_from entry newer.now) }
+    ensures { OnOk result (text.new.items ≡ text.old.items ++ edges_from names.now register.now.ops entry newer.now) }
 {
-    let old = printed(alloc, entry)?;
     let mut rest = newer;
     while let Some((one, others)) = rest.split_first() {
-        let new = printed(alloc, *one)?;
-        push_edge(text, &old, &new)?;
+        push_edge_of(alloc, text, names, register, entry, *one)?;
         rest = others;
     }
     Ok(())
 }
 
-fn push_edges(alloc: Global, text: &mut Vec<u8>, rows: &[Row]) -> Result<(), AllocError>
-    ensures { OnOk result (text.new.items ≡ text.old.items ++ flat_map edges_of (map row_seen rows.now)) }
+fn push_edges(
+    alloc: Global,
+    text: &mut Vec<u8>,
+    names: &[Name],
+    register: &Register,
+    rows: &[Row],
+) -> Result<(), AllocError>
+    ensures { OnOk result (text.new.items ≡ text.old.items ++ flat_map (edges_of names.now register.now.ops) (map row_seen rows.now)) }
 {
     let mut rest = rows;
     while let Some((row, others)) = rest.split_first() {
-        push_edges_from(alloc, text, row.entry, &row.newer)?;
+        push_edges_from(alloc, text, names, register, row.entry, &row.newer)?;
         rest = others;
     }
     Ok(())
@@ -211,10 +219,11 @@ fn push_edges(alloc: Global, text: &mut Vec<u8>, rows: &[Row]) -> Result<(), All
 fn push_awaited_edge(
     alloc: Global,
     text: &mut Vec<u8>,
+    names: &[Name],
     register: &Register,
     op: &Op,
 ) -> Result<(), AllocError>
-    ensures { OnOk result (text.new.items ≡ text.old.items ++ edges_in register.now.ops op.now) }
+    ensures { OnOk result (text.new.items ≡ text.old.items ++ edges_in names.now register.now.ops op.now) }
 {
     match op.body() {
         OpBody::Enter(_) => {}
@@ -223,9 +232,7 @@ fn push_awaited_edge(
             if is_entered(register, *old) {
                 return Ok(());
             }
-            let before = printed(alloc, *old)?;
-            let after = printed(alloc, *newer)?;
-            push_edge(text, &before, &after)?;
+            push_edge_of(alloc, text, names, register, *old, *newer)?;
         }
     }
     Ok(())
@@ -234,14 +241,15 @@ fn push_awaited_edge(
 fn push_awaited_edges(
     alloc: Global,
     text: &mut Vec<u8>,
+    names: &[Name],
     register: &Register,
     ops: &[Op],
 ) -> Result<(), AllocError>
-    ensures { OnOk result (text.new.items ≡ text.old.items ++ flat_map (edges_in register.now.ops) ops.now) }
+    ensures { OnOk result (text.new.items ≡ text.old.items ++ flat_map (edges_in names.now register.now.ops) ops.now) }
 {
     let mut rest = ops;
     while let Some((op, others)) = rest.split_first() {
-        push_awaited_edge(alloc, text, register, op)?;
+        push_awaited_edge(alloc, text, names, register, op)?;
         rest = others;
     }
     Ok(())
@@ -251,13 +259,14 @@ fn push_awaited_edges(
 fn push_all_edges(
     alloc: Global,
     text: &mut Vec<u8>,
+    names: &[Name],
     register: &Register,
     rows: &[Row],
 ) -> Result<(), AllocError>
-    ensures { OnOk result (text.new.items ≡ text.old.items ++ all_edges register.now.ops (map row_seen rows.now)) }
+    ensures { OnOk result (text.new.items ≡ text.old.items ++ all_edges names.now register.now.ops (map row_seen rows.now)) }
 {
-    push_edges(alloc, text, rows)?;
-    push_awaited_edges(alloc, text, register, register.ops().as_slice())?;
+    push_edges(alloc, text, names, register, rows)?;
+    push_awaited_edges(alloc, text, names, register, register.ops().as_slice())?;
     Ok(())
 }
 
@@ -309,29 +318,36 @@ fn push_graph(
     alloc: Global,
     text: &mut Vec<u8>,
     all: bool,
+    names: &[Name],
     register: &Register,
     rows: &[Row],
     conflicts: &[Conflict],
 ) -> Result<(), AllocError>
     ensures { OnOk result ((nodes : List ℕ) × Each (IsNodeOf all (linked register.now.ops (map row_seen rows.now) (map conflict_seen conflicts.now))) (map row_seen rows.now) nodes
-        × (text.new.items ≡ text.old.items ++ (markup.GRAPH_START.now ++ nodes ++ all_edges register.now.ops (map row_seen rows.now) ++ flat_map rivals_of (map conflict_seen conflicts.now) ++ markup.GRAPH_END.now))) }
+        × (text.new.items ≡ text.old.items ++ (markup.GRAPH_START.now ++ nodes ++ all_edges names.now register.now.ops (map row_seen rows.now) ++ flat_map rivals_of (map conflict_seen conflicts.now) ++ markup.GRAPH_END.now))) }
 {
     let ids = linked(alloc, register, rows, conflicts)?;
     text.extend_from_slice(GRAPH_START)?;
     push_nodes(alloc, text, all, &ids, rows)?;
-    push_all_edges(alloc, text, register, rows)?;
+    push_all_edges(alloc, text, names, register, rows)?;
     push_all_rivals(alloc, text, conflicts)?;
     text.extend_from_slice(GRAPH_END)?;
     Ok(())
 }
 
-/// The graph of a register: of all its entries, or of those that have an edge or are in conflict.
-pub fn graph_text(alloc: Global, register: &Register, all: bool) -> Result<Vec<u8>, AllocError>
-    ensures { IfOk result (λ text. IsGraph all register.now text.items) }
+/// The graph of a register: of all its entries, or of those that have an edge or are in conflict. In the place of ids, names of
+/// offices are read.
+pub fn graph_text(
+    alloc: Global,
+    register: &Register,
+    all: bool,
+    names: &[Name],
+) -> Result<Vec<u8>, AllocError>
+    ensures { IfOk result (λ text. IsGraph all names.now register.now text.items) }
 {
     let rows = rows(alloc, register)?;
     let conflicts = conflicts(alloc, register)?;
     let mut text = Vec::new(alloc);
-    push_graph(alloc, &mut text, all, register, &rows, &conflicts)?;
+    push_graph(alloc, &mut text, all, names, register, &rows, &conflicts)?;
     Ok(text)
 }

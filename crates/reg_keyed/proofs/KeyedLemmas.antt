@@ -65,10 +65,8 @@ module _ (rs : List Row) (words newer : List (List ℕ)) where
   pub both_memory : IsUnnamed (FailForBoth rs words newer) cli.Memory
   both_memory = (key.Memory, inl (0, every.no_memory rs words 0 0 (λ i. 0)), λ i. cli.Memory)
 
-  pub first_fails : (qs : List Row) (k : ℕ) (f : KeyFault) (g : CliFault) → qs ≡ rs → FailsAt qs 0 words k f → g ≡ key_fault f → IsUnnamed (FailForBoth rs words newer) g
-  first_fails qs k f g same fails is = (f, inl (k, subst (λ (l : List Row). FailsAt l 0 words k f) same fails), sym is)
+  pub first_fails : (k : ℕ) (f : KeyFault) (g : CliFault) → FailsAt rs 0 words k f → g ≡ key_fault f → IsUnnamed (FailForBoth rs words newer) g
+  first_fails k f g fails is = (f, inl (k, fails), sym is)
 
-  pub other_fails : (qs ls : List Row) (es : List Id) (k : ℕ) (f : KeyFault) (g : CliFault) → qs ≡ rs → ls ≡ rs → StandForEvery qs words es → FailsAt ls 0 newer k f → g ≡ key_fault f
-      → IsUnnamed (FailForBoth rs words newer) g
-  other_fails qs ls es k f g same also stand fails is =
-      (f, inr (es, subst (λ (l : List Row). StandForEvery l words es) same stand, (k, subst (λ (l : List Row). FailsAt l 0 newer k f) also fails)), sym is)
+  pub other_fails : (es : List Id) (k : ℕ) (f : KeyFault) (g : CliFault) → StandForEvery rs words es → FailsAt rs 0 newer k f → g ≡ key_fault f → IsUnnamed (FailForBoth rs words newer) g
+  other_fails es k f g stand fails is = (f, inr (es, stand, (k, fails)), sym is)

@@ -8,7 +8,7 @@ ghost use Rattle.reg_keyed.specs.Keyed.{StandForBoth, FailForBoth, IsUnnamed};
 
 use crate::keyed::fault_of;
 use reg_engine::{Change, CliFault, Made};
-use reg_keys::{each_of_words, every_of_words, rows_in_order};
+use reg_keys::{each_of_words_in, every_of_words_in, index_of_register};
 use reg_op::OpId;
 use reg_state::Register;
 use std::alloc::Global;
@@ -62,15 +62,15 @@ fn entries_of(
     ensures ok { IfOk result (λ r. StandForBoth (rows register.now.ops) (map (λ w. w.now) words.now) (map (λ w. w.now) newer.now) r.changed.items r.newer.items) }
     ensures fault { IfErr result (IsUnnamed (FailForBoth (rows register.now.ops) (map (λ w. w.now) words.now) (map (λ w. w.now) newer.now))) }
 {
-    let rows = match rows_in_order(alloc, register) {
-        Ok(rows) => rows,
+    let index = match index_of_register(alloc, register) {
+        Ok(index) => index,
         Err(_) => return Err(CliFault::Memory),
     };
-    let changed = match every_of_words(alloc, &rows, words) {
+    let changed = match every_of_words_in(alloc, &index, words) {
         Ok(changed) => changed,
         Err(why) => return Err(fault_of(why.fault)),
     };
-    match each_of_words(alloc, &rows, newer) {
+    match each_of_words_in(alloc, &index, newer) {
         Ok(newer) => Ok(Entries { changed, newer }),
         Err(why) => Err(fault_of(why.fault)),
     }

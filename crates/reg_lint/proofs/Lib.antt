@@ -1,2 +1,5 @@
+mod LawLemmas
 mod LiveLemmas
+mod MarkLemmas
 mod StepLemmas
+mod TextLemmas

@@ -5,14 +5,14 @@ use Rattle.std.specs.List.{cons_option}
 use Rattle.reg_op.specs.Rows.{Row as RowOf}
 use Rattle.reg_report.specs.declared.row.Row.{Row}
 use Rattle.reg_report.specs.Seen.{row_seen}
-use Rattle.reg_lint.specs.declared.live.Live.{Live}
-use Rattle.reg_lint.specs.Findings.{IsLiveOf, AreLive}
+use Rattle.reg_lint.specs.declared.subject.Subject.{Subject}
+use Rattle.reg_lint.specs.Subjects.{IsLiveOf, AreLive}
 
-put : (live : Option Live) (rest more : List Live) → cons_option live rest ++ more ≡ cons_option live (rest ++ more)
+put : (live : Option Subject) (rest more : List Subject) → cons_option live rest ++ more ≡ cons_option live (rest ++ more)
 put None rest more = refl
 put (Some x) rest more = refl
 
-pub live_more : (done : List RowOf) (r : RowOf) (live : Option Live) (old new : List Live) → IsLiveOf r live → new ≡ old ++ cons_option live [] → AreLive done old → AreLive (done ++ r ∷ []) new
+pub live_more : (done : List RowOf) (r : RowOf) (live : Option Subject) (old new : List Subject) → IsLiveOf r live → new ≡ old ++ cons_option live [] → AreLive done old → AreLive (done ++ r ∷ []) new
 live_more [] r live old new is e none = (live, [], is, refl, e ∙ ap (λ t. t ++ cons_option live []) none)
 live_more (d ∷ done) r live old new is e (o, rest, is_o, later, last) = (
   o,
@@ -23,6 +23,6 @@ live_more (d ∷ done) r live old new is e (o, rest, is_o, later, last) = (
 )
 
 -- the same for rows of the program
-pub more_lives : (xs : List Row) (row : Row) (live : Option Live) (old new : List Live) → IsLiveOf (row_seen row) live → new ≡ old ++ cons_option live []
+pub more_lives : (xs : List Row) (row : Row) (live : Option Subject) (old new : List Subject) → IsLiveOf (row_seen row) live → new ≡ old ++ cons_option live []
     → AreLive (map row_seen xs) old → AreLive (map row_seen (xs ++ row ∷ [])) new
 more_lives xs row live old new is e are = subst (λ l. AreLive l new) (sym (map-append row_seen xs (row ∷ []))) (live_more (map row_seen xs) (row_seen row) live old new is e are)

@@ -5,6 +5,7 @@ use crs_part::Text;
 use crs_value::Key;
 use std::fmt::{self, Write as _};
 use std::str;
+use text_hidden::is_hidden;
 
 // The keys that are named; of others only the number is told.
 const NAMED: usize = 3;
@@ -12,7 +13,7 @@ const NAMED: usize = 3;
 // The characters of an authority or a code that are shown.
 const SHOWN: usize = 60;
 
-/// Prints a sentence on one line, and a line for each way on; nothing if nothing grew. Control characters print as `?`.
+/// Prints a sentence on one line, and a line for each way on; nothing if nothing grew. Hidden characters print as `?`.
 impl fmt::Display for News {
     fn fmt<W: fmt::Write>(&self, f: &mut fmt::Formatter<W>) -> fmt::Result {
         let News {
@@ -141,7 +142,7 @@ fn shown(text: &Text) -> &str {
 // Writes the first characters of a text.
 fn write_cut<W: fmt::Write>(f: &mut fmt::Formatter<W>, text: &str) -> fmt::Result {
     for char in text.chars().take(SHOWN) {
-        f.write_char(if char.is_control() { '?' } else { char })?;
+        f.write_char(if is_hidden(char) { '?' } else { char })?;
     }
     if text.chars().count() > SHOWN {
         f.write_char('…')?;

@@ -17,51 +17,51 @@ use Rattle.reg_page.proofs.LoopLemmas.{as_others}
 alone : {T : Type 0} (f : T → List Piece) (x : T) {start end : List ℕ} → Appends start end (f x) → Appends start end (flat_map f (x ∷ []))
 alone f x h = as_others (f x) (flat_map f (x ∷ [])) (sym (append-nil (f x))) h
 
-pub entering_shows : (described : List Described) (e : Id) (o : Op) (d page : List ℕ) → o.body ≡ Enter d → Appends page page (flat_map event (events_in described e o))
-entering_shows described e o d page is = rw is (nothing page)
+pub entering_shows : (named : List ℕ → List ℕ) (described : List Described) (e : Id) (o : Op) (d page : List ℕ) → o.body ≡ Enter d → Appends page page (flat_map (event named) (events_in described e o))
+entering_shows named described e o d page is = rw is (nothing page)
 
-pub superseding_other : (described : List Described) (e old newer : Id) (o : Op) (page : List ℕ) → o.body ≡ Supersede old newer → is_same old e ≡ false → Appends page page (flat_map event (events_in described e o))
-superseding_other described e old newer o page is other = rw (is, other) (nothing page)
+pub superseding_other : (named : List ℕ → List ℕ) (described : List Described) (e old newer : Id) (o : Op) (page : List ℕ) → o.body ≡ Supersede old newer → is_same old e ≡ false → Appends page page (flat_map (event named) (events_in described e o))
+superseding_other named described e old newer o page is other = rw (is, other) (nothing page)
 
-pub retiring_other : (described : List Described) (e entry : Id) (o : Op) (page : List ℕ) → o.body ≡ Retire entry → is_same entry e ≡ false → Appends page page (flat_map event (events_in described e o))
-retiring_other described e entry o page is other = rw (is, other) (nothing page)
+pub retiring_other : (named : List ℕ → List ℕ) (described : List Described) (e entry : Id) (o : Op) (page : List ℕ) → o.body ≡ Retire entry → is_same entry e ≡ false → Appends page page (flat_map (event named) (events_in described e o))
+retiring_other named described e entry o page is other = rw (is, other) (nothing page)
 
-pub superseding_shows : (described : List Described) (e old newer : Id) (o : Op) {start end : List ℕ} → o.body ≡ Supersede old newer → is_same old e ≡ true
-    → Appends start end (event (SupersededBy (link_to described newer) (printed o.id) o.note)) → Appends start end (flat_map event (events_in described e o))
-superseding_shows described e old newer o is same shown = rw (is, same) (alone event (SupersededBy (link_to described newer) (printed o.id) o.note) shown)
+pub superseding_shows : (named : List ℕ → List ℕ) (described : List Described) (e old newer : Id) (o : Op) {start end : List ℕ} → o.body ≡ Supersede old newer → is_same old e ≡ true
+    → Appends start end (event named (SupersededBy (link_to described newer) (printed o.id) o.note)) → Appends start end (flat_map (event named) (events_in described e o))
+superseding_shows named described e old newer o is same shown = rw (is, same) (alone (event named) (SupersededBy (link_to described newer) (printed o.id) o.note) shown)
 
-pub retiring_shows : (described : List Described) (e entry : Id) (o : Op) {start end : List ℕ} → o.body ≡ Retire entry → is_same entry e ≡ true
-    → Appends start end (event (RetiredBy (printed o.id) o.note)) → Appends start end (flat_map event (events_in described e o))
-retiring_shows described e entry o is same shown = rw (is, same) (alone event (RetiredBy (printed o.id) o.note) shown)
+pub retiring_shows : (named : List ℕ → List ℕ) (described : List Described) (e entry : Id) (o : Op) {start end : List ℕ} → o.body ≡ Retire entry → is_same entry e ≡ true
+    → Appends start end (event named (RetiredBy (printed o.id) o.note)) → Appends start end (flat_map (event named) (events_in described e o))
+retiring_shows named described e entry o is same shown = rw (is, same) (alone (event named) (RetiredBy (printed o.id) o.note) shown)
 
-pub entering_leads : (described : List Described) (e : Id) (o : Op) (d page : List ℕ) → o.body ≡ Enter d → Appends page page (flat_map by (links_in described e o))
-entering_leads described e o d page is = rw is (nothing page)
+pub entering_leads : (named : List ℕ → List ℕ) (described : List Described) (e : Id) (o : Op) (d page : List ℕ) → o.body ≡ Enter d → Appends page page (flat_map (by named) (links_in described e o))
+entering_leads named described e o d page is = rw is (nothing page)
 
-pub retiring_leads : (described : List Described) (e entry : Id) (o : Op) (page : List ℕ) → o.body ≡ Retire entry → Appends page page (flat_map by (links_in described e o))
-retiring_leads described e entry o page is = rw is (nothing page)
+pub retiring_leads : (named : List ℕ → List ℕ) (described : List Described) (e entry : Id) (o : Op) (page : List ℕ) → o.body ≡ Retire entry → Appends page page (flat_map (by named) (links_in described e o))
+retiring_leads named described e entry o page is = rw is (nothing page)
 
-pub other_leads : (described : List Described) (e old newer : Id) (o : Op) (page : List ℕ) → o.body ≡ Supersede old newer → is_same old e ≡ false → Appends page page (flat_map by (links_in described e o))
-other_leads described e old newer o page is other = rw (is, other) (nothing page)
+pub other_leads : (named : List ℕ → List ℕ) (described : List Described) (e old newer : Id) (o : Op) (page : List ℕ) → o.body ≡ Supersede old newer → is_same old e ≡ false → Appends page page (flat_map (by named) (links_in described e o))
+other_leads named described e old newer o page is other = rw (is, other) (nothing page)
 
-pub superseding_leads : (described : List Described) (e old newer : Id) (o : Op) {start end : List ℕ} → o.body ≡ Supersede old newer → is_same old e ≡ true
-    → Appends start end (by (link_to described newer)) → Appends start end (flat_map by (links_in described e o))
-superseding_leads described e old newer o is same shown = rw (is, same) (alone by (link_to described newer) shown)
+pub superseding_leads : (named : List ℕ → List ℕ) (described : List Described) (e old newer : Id) (o : Op) {start end : List ℕ} → o.body ≡ Supersede old newer → is_same old e ≡ true
+    → Appends start end (by named (link_to described newer)) → Appends start end (flat_map (by named) (links_in described e o))
+superseding_leads named described e old newer o is same shown = rw (is, same) (alone (by named) (link_to described newer) shown)
 
-pub no_pair : (one other : Option Described) (page : List ℕ) → (one ≡ None) → Appends page page (flat_map pair (pairs_of one other))
-no_pair one other page is = rw is (nothing page)
+pub no_pair : (named : List ℕ → List ℕ) (one other : Option Described) (page : List ℕ) → (one ≡ None) → Appends page page (flat_map (pair named) (pairs_of one other))
+no_pair named one other page is = rw is (nothing page)
 
-pub no_second : (one other : Option Described) (t : Described) (page : List ℕ) → one ≡ Some t → other ≡ None → Appends page page (flat_map pair (pairs_of one other))
-no_second one other t page is none = rw (is, none) (nothing page)
+pub no_second : (named : List ℕ → List ℕ) (one other : Option Described) (t : Described) (page : List ℕ) → one ≡ Some t → other ≡ None → Appends page page (flat_map (pair named) (pairs_of one other))
+no_second named one other t page is none = rw (is, none) (nothing page)
 
-pub both_sides : (one other : Option Described) (t u : Described) {start end : List ℕ} → one ≡ Some t → other ≡ Some u
-    → Appends start end (pair (record { first = side_of t u; second = side_of u t })) → Appends start end (flat_map pair (pairs_of one other))
-both_sides one other t u is also shown = rw (is, also) (alone pair (record { first = side_of t u; second = side_of u t }) shown)
+pub both_sides : (named : List ℕ → List ℕ) (one other : Option Described) (t u : Described) {start end : List ℕ} → one ≡ Some t → other ≡ Some u
+    → Appends start end (pair named (record { first = side_of t u; second = side_of u t })) → Appends start end (flat_map (pair named) (pairs_of one other))
+both_sides named one other t u is also shown = rw (is, also) (alone (pair named) (record { first = side_of t u; second = side_of u t }) shown)
 
-pub no_pairs : (described : List Described) (entries : List Id) (page : List ℕ) → entries ≡ [] → Appends page page (flat_map pair (pairs_among described entries))
-no_pairs described entries page none = rw none (nothing page)
+pub no_pairs : (named : List ℕ → List ℕ) (described : List Described) (entries : List Id) (page : List ℕ) → entries ≡ [] → Appends page page (flat_map (pair named) (pairs_among described entries))
+no_pairs named described entries page none = rw none (nothing page)
 
-pub link_known : (described : List Described) (i : Id) (t : Described) {start end : List ℕ} → Some t ≡ described_at described i → Appends start end (link (Entered t.printed.items t.authority.items t.code.items)) → Appends start end (link (link_to described i))
-link_known described i t is shown = rw (← is) shown
+pub link_known : (named : List ℕ → List ℕ) (described : List Described) (i : Id) (t : Described) {start end : List ℕ} → Some t ≡ described_at described i → Appends start end (link named (Entered t.printed.items t.authority.items t.code.items)) → Appends start end (link named (link_to described i))
+link_known named described i t is shown = rw (← is) shown
 
-pub link_unknown : (described : List Described) (i : Id) {start end : List ℕ} → None ≡ described_at described i → Appends start end (link (Awaited (printed i))) → Appends start end (link (link_to described i))
-link_unknown described i is shown = rw (← is) shown
+pub link_unknown : (named : List ℕ → List ℕ) (described : List Described) (i : Id) {start end : List ℕ} → None ≡ described_at described i → Appends start end (link named (Awaited (printed i))) → Appends start end (link named (link_to described i))
+link_unknown named described i is shown = rw (← is) shown

@@ -36,7 +36,7 @@ missing : (ts : List Described) (i : Id) → ((t : Described) → Contains ts t 
 missing [] i h = refl
 missing (t ∷ ts) i h = ap (λ b. cond b (Some t) (described_at ts i)) (h t (in_head t ts)) ∙ missing ts i (λ u c. h u (in_tail u t ts c))
 
-has_id : (ts : List Described) (i : Id) (t : Described) → described_at ts i ≡ Some t → is_same t.id i ≡ true
+pub has_id : (ts : List Described) (i : Id) (t : Described) → described_at ts i ≡ Some t → is_same t.id i ≡ true
 has_id [] i t e = absurd cc
 has_id (u ∷ ts) i t e =
     elim (is_same u.id i) as (λ b. is_same u.id i ≡ b → cond b (Some u) (described_at ts i) ≡ Some t → is_same t.id i ≡ true) [
@@ -44,7 +44,7 @@ has_id (u ∷ ts) i t e =
       | false ↦ λ _ h. has_id ts i t h
     ] refl e
 
-lacks : (ts : List Described) (i : Id) → described_at ts i ≡ None → (t : Described) → Contains ts t → is_same t.id i ≡ false
+pub lacks : (ts : List Described) (i : Id) → described_at ts i ≡ None → (t : Described) → Contains ts t → is_same t.id i ≡ false
 lacks [] i e t c = absurd (none_in t c)
 lacks (u ∷ ts) i e t c =
     elim (is_same u.id i) as (λ b. is_same u.id i ≡ b → cond b (Some u) (described_at ts i) ≡ None → is_same t.id i ≡ false) [

@@ -13,3 +13,5 @@ pub mod FindLemmas
 pub mod ActLemmas
 pub mod SameLemmas
 pub mod OneLemmas
+mod NeighbourLemmas
+mod TextLemmas

@@ -13,6 +13,7 @@ use Rattle.std.specs.Cmp.Lexicographic.{slice_cmp}
 use Rattle.std.specs.Ordering.{nat_cmp, ordering_then, is_lt, is_eq}
 use Rattle.std.specs.declared.cmp.Ordering.{Ordering}
 use Rattle.std.specs.declared.cmp.Ordering.TheVariants.{Less, Equal, Greater}
+use Rattle.office_names.specs.declared.names.Name.{Name}
 use Rattle.html_text.specs.Pieces.{html}
 use Rattle.html_page.specs.Shown as shown
 use Rattle.html_page.specs.Templates.{page}
@@ -55,7 +56,7 @@ use Rattle.reg_page.specs.Codes.{code_cmp}
 use Rattle.reg_page.proofs.CodeLemmas.{code_total}
 use Rattle.reg_page.specs.declared.described.Described.{Described}
 use Rattle.reg_page.specs.Descriptions.{IsDescribed, described_cmp, entry_ids, AreDescribed}
-use Rattle.reg_page.specs.Page.{described_at, link_as, link_to, side_of, pairs_of, acts_in, entry_of, gap_of, standing_of, is_valid, is_superseded, is_retired, is_among, figures_of, shown_of, IsPage}
+use Rattle.reg_page.specs.Page.{described_at, link_as, link_to, side_of, pairs_of, acts_in, entry_of, gap_of, standing_of, is_valid, is_superseded, is_retired, is_among, figures_of, shown_of, IsPage, named}
 use Rattle.reg_page.proofs.IdLemmas.{ids_ascend, distinct, still_distinct, differs}
 use Rattle.reg_page.proofs.FindLemmas.{ids_of}
 use Rattle.reg_page.proofs.SameLemmas.{Same, entry_same, conflict_same}
@@ -278,8 +279,8 @@ module _ (x : Content) (title : List ℕ) (ts us : List Described) (same : AllSa
     retired = parts_same ts us same true x.ops (entry_of x.ops ts os) (entry_of x.ops us os) (entry_same ts us link x.ops os os (λ e. refl)) j;
   }
 
-pub one_page : (title : List ℕ) (x : Content) (a b : List ℕ) → IsContent x → IsPage title x a → IsPage title x b → a ≡ b
-one_page title x a b is p q =
+pub one_page : (title : List ℕ) (names : List Name) (x : Content) (a b : List ℕ) → IsContent x → IsPage title names x a → IsPage title names x b → a ≡ b
+one_page title names x a b is p q =
     let h = p.are in
     let k = q.are in
     let same : AllSame h.described k.described =
@@ -292,22 +293,22 @@ one_page title x a b is p q =
     ∙ shown_same x title h.described k.described same os h.conflicts wanted h.gaps
     ∙ (λ j. shown_of x title k.described os (contested.one_list (rows x.ops) h.conflicts k.conflicts h.are_conflicts k.are_conflicts j) wanted (missing.one_list x.seen h.gaps k.gaps h.are_gaps k.are_gaps j))
     ∙ sym k.is in
-    p.is ∙ ap (λ s. html (page s)) shows ∙ sym q.is
+    p.is ∙ ap (λ s. html (page (named names) s)) shows ∙ sym q.is
 
 -- registers with the same operations and the same seen ids have one page
-pub one_of_replicas : (title : List ℕ) (x y : Content) (a b : List ℕ) → IsContent x → ((o : Op) → set.contains x.ops o ≡ set.contains y.ops o) → ((i : Id) → set.contains x.seen i ≡ set.contains y.seen i)
-    → IsPage title x a → IsPage title y b → a ≡ b
-one_of_replicas title x y a b is ops seen p q =
+pub one_of_replicas : (title : List ℕ) (names : List Name) (x y : Content) (a b : List ℕ) → IsContent x → ((o : Op) → set.contains x.ops o ≡ set.contains y.ops o) → ((i : Id) → set.contains x.seen i ≡ set.contains y.seen i)
+    → IsPage title names x a → IsPage title names y b → a ≡ b
+one_of_replicas title names x y a b is ops seen p q =
     let same_ops : x.ops ≡ y.ops = set.same_set op_total op_exact x.ops y.ops ops in
     let same_seen : x.seen ≡ y.seen = set.same_set id_total id_exact x.seen y.seen seen in
     let same : x ≡ y = λ j. record { ops = same_ops j; seen = same_seen j } in
-    one_page title y a b (subst IsContent same is) (subst (λ (z : Content). IsPage title z a) same p) q
+    one_page title names y a b (subst IsContent same is) (subst (λ (z : Content). IsPage title names z a) same p) q
 
 -- joining two registers in either order gives one page
-pub one_of_merges : (title : List ℕ) (x y z w : Content) (a b : List ℕ) → IsContent x → IsContent y → joined x y ≡ Ok z → joined y x ≡ Ok w → IsPage title z a → IsPage title w b → a ≡ b
-one_of_merges title x y z w a b one other e f p q =
+pub one_of_merges : (title : List ℕ) (names : List Name) (x y z w : Content) (a b : List ℕ) → IsContent x → IsContent y → joined x y ≡ Ok z → joined y x ≡ Ok w → IsPage title names z a → IsPage title names w b → a ≡ b
+one_of_merges title names x y z w a b one other e f p q =
     let same : z ≡ w = ok_exact z w (sym e ∙ joined_comm x y ∙ f) in
-    one_page title w a b (joined_is_content y x w other one f) (subst (λ (v : Content). IsPage title v a) same p) q
+    one_page title names w a b (joined_is_content y x w other one f) (subst (λ (v : Content). IsPage title names v a) same p) q
   where
     ok_exact : (v u : Content) → ◌≡◌ {A = Result Content Id} (Ok v) (Ok u) → v ≡ u
     ok_exact v u h = cc

@@ -21,16 +21,16 @@ part_more p rows i x made new lt is so_far pushed =
     ∙ ap (filter p) (sym (map-append (λ (t : Bor Described). t.now) (take i rows) (x ∷ [])))
     ∙ ap (λ l. filter p (at l)) (sym (take_more rows i x lt ∙ ap (λ y. take i rows ++ y ∷ []) (sym is)))
 
-pub pair_step : (ts : List Described) (last second : Id) (later rest : List Id) (page new all : List ℕ) → rest ≡ second ∷ later
-    → Appends page new (flat_map pair (pairs_of (described_at ts last) (described_at ts second))) → page ++ html (flat_map pair (pairs_from ts last rest)) ≡ all
-    → new ++ html (flat_map pair (pairs_from ts second later)) ≡ all
-pair_step ts last second later rest page new all is pushed so_far =
-    let first : List Piece = flat_map pair (pairs_of (described_at ts last) (described_at ts second)) in
-    let rests : List Piece = flat_map pair (pairs_from ts second later) in
+pub pair_step : (named : List ℕ → List ℕ) (ts : List Described) (last second : Id) (later rest : List Id) (page new all : List ℕ) → rest ≡ second ∷ later
+    → Appends page new (flat_map (pair named) (pairs_of (described_at ts last) (described_at ts second))) → page ++ html (flat_map (pair named) (pairs_from ts last rest)) ≡ all
+    → new ++ html (flat_map (pair named) (pairs_from ts second later)) ≡ all
+pair_step named ts last second later rest page new all is pushed so_far =
+    let first : List Piece = flat_map (pair named) (pairs_of (described_at ts last) (described_at ts second)) in
+    let rests : List Piece = flat_map (pair named) (pairs_from ts second later) in
     ap (λ m. m ++ html rests) pushed.is ∙ append_assoc page (html first) (html rests) ∙ ap (λ m. page ++ m) (sym (html-append first rests))
-    ∙ ap (λ m. page ++ html m) (sym (flat_map-append pair (pairs_of (described_at ts last) (described_at ts second)) (pairs_from ts second later)))
-    ∙ ap (λ l. page ++ html (flat_map pair (pairs_from ts last l))) (sym is) ∙ so_far
+    ∙ ap (λ m. page ++ html m) (sym (flat_map-append (pair named) (pairs_of (described_at ts last) (described_at ts second)) (pairs_from ts second later)))
+    ∙ ap (λ l. page ++ html (flat_map (pair named) (pairs_from ts last l))) (sym is) ∙ so_far
 
-pub pairs_done : (ts : List Described) (last : Id) (rest : List Id) (start page : List ℕ) (ps : List Piece) → page ++ html (flat_map pair (pairs_from ts last rest)) ≡ start ++ html ps → rest ≡ [] → Appends start page ps
+pub pairs_done : (named : List ℕ → List ℕ) (ts : List Described) (last : Id) (rest : List Id) (start page : List ℕ) (ps : List Piece) → page ++ html (flat_map (pair named) (pairs_from ts last rest)) ≡ start ++ html ps → rest ≡ [] → Appends start page ps
 unfolding html
-pairs_done ts last rest start page ps so_far none = record { is = sym (append-nil page) ∙ ap (λ l. page ++ html (flat_map pair (pairs_from ts last l))) (sym none) ∙ so_far }
+pairs_done named ts last rest start page ps so_far none = record { is = sym (append-nil page) ∙ ap (λ l. page ++ html (flat_map (pair named) (pairs_from ts last l))) (sym none) ∙ so_far }

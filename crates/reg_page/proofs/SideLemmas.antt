@@ -24,7 +24,7 @@ found_in t (y ∷ ys) x e =
       | false ↦ λ h. in_tail x y ys (found_in t ys x h)
     ] e
 
-filter_in : {X : Type 0} (p : X → Bool) (xs : List X) (x : X) → Contains xs x → p x ≡ true → Contains (filter p xs) x
+pub filter_in : {X : Type 0} (p : X → Bool) (xs : List X) (x : X) → Contains xs x → p x ≡ true → Contains (filter p xs) x
 filter_in p [] x c e = absurd (none_in x c)
 filter_in p (y ∷ ys) x c e = elim (in_cons x y ys c) [
   | inl is ↦ let passes : p y ≡ true = subst (λ z. p z ≡ true) is e in

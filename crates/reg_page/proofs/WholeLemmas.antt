@@ -6,6 +6,7 @@ use Rattle.html_text.proofs.JoinLemmas.{next}
 use Rattle.html_page.specs.declared.markup.TheConstants.{AFTER_FIGURES, CONFLICTS_START, CONFLICTS_END, AWAITED_START, AWAITED_END, GAPS_START, GAPS_END, ENTRIES_START, ENTRIES_END, RETIRED_START, RETIRED_END}
 use Rattle.html_page.specs.Templates.{head, figures, section, conflict, awaited as waiting, gap, entry, end, page}
 use Rattle.reg_page.proofs.LoopLemmas.{as_others}
+use Rattle.office_names.specs.declared.names.Name.{Name}
 use Rattle.reg_op.specs.Set as set
 use Rattle.reg_op.specs.Ids.{Id}
 use Rattle.reg_op.specs.Operations.{Op}
@@ -16,7 +17,7 @@ use Rattle.reg_report.specs.Gaps.{AreGaps}
 use Rattle.reg_report.specs.Conflicts.{Contested, AreConflicts}
 use Rattle.reg_page.specs.declared.described.Described.{Described}
 use Rattle.reg_page.specs.Descriptions.{AreDescribed}
-use Rattle.reg_page.specs.Page.{is_on, acts_in, conflict_of, gap_of, is_among, rows_of, figures_of, shown_of, IsPage}
+use Rattle.reg_page.specs.Page.{is_on, acts_in, conflict_of, gap_of, is_among, rows_of, figures_of, shown_of, IsPage, named}
 use Rattle.reg_page.specs.Parts.{top, open_ends, table}
 use Rattle.reg_op.specs.Text.{printed}
 use Rattle.reg_page.proofs.SameLemmas.{itself, entry_same}
@@ -35,22 +36,22 @@ joined p q r s t u v w x y z one two three =
     (next (as_others _ (p ++ q ++ r ++ s ++ t ++ u) (regrouped (p ++ q ++ r) s t u) (next one two)) three)
 
 -- appending the three parts of a page appends the page
-pub in_parts : (x : Content) (title : List ℕ) (described : List Described) (acts : List Op) (cs : List Contested) (is : List Id) (gaps : List Gap) {a b c d : List ℕ}
-    → Appends a b (top title (figures_of x described cs is gaps)) → Appends b c (open_ends (map (conflict_of described) cs) (map printed is) (map gap_of gaps)) → Appends c d (table (rows_of false x.ops described acts described) (rows_of true x.ops described acts described))
-    → Appends a d (page (shown_of x title described acts cs is gaps))
-in_parts x title described acts cs is gaps one two three =
+pub in_parts : (read : List ℕ → List ℕ) (x : Content) (title : List ℕ) (described : List Described) (acts : List Op) (cs : List Contested) (is : List Id) (gaps : List Gap) {a b c d : List ℕ}
+    → Appends a b (top title (figures_of x described cs is gaps)) → Appends b c (open_ends read (map (conflict_of described) cs) (map printed is) (map gap_of gaps)) → Appends c d (table read (rows_of false x.ops described acts described) (rows_of true x.ops described acts described))
+    → Appends a d (page read (shown_of x title described acts cs is gaps))
+in_parts read x title described acts cs is gaps one two three =
     joined (head title) (figures (figures_of x described cs is gaps)) (Markup AFTER_FIGURES.now ∷ [])
-    (section CONFLICTS_START.now conflict CONFLICTS_END.now (map (conflict_of described) cs)) (section AWAITED_START.now waiting AWAITED_END.now (map printed is)) (section GAPS_START.now gap GAPS_END.now (map gap_of gaps))
-    (Markup ENTRIES_START.now ∷ []) (flat_map entry (rows_of false x.ops described acts described)) (Markup ENTRIES_END.now ∷ [])
-    (section RETIRED_START.now entry RETIRED_END.now (rows_of true x.ops described acts described)) end one two three
+    (section CONFLICTS_START.now (conflict read) CONFLICTS_END.now (map (conflict_of described) cs)) (section AWAITED_START.now (waiting read) AWAITED_END.now (map printed is)) (section GAPS_START.now (gap read) GAPS_END.now (map gap_of gaps))
+    (Markup ENTRIES_START.now ∷ []) (flat_map (entry read) (rows_of false x.ops described acts described)) (Markup ENTRIES_END.now ∷ [])
+    (section RETIRED_START.now (entry read) RETIRED_END.now (rows_of true x.ops described acts described)) end one two three
 
 -- appending the page of what the content shows to an empty text gives the page of the content
-pub is_page : (title : List ℕ) (x : Content) (rows : List Described) (cs : List Contested) (gaps : List Gap)
+pub is_page : (title : List ℕ) (names : List Name) (x : Content) (rows : List Described) (cs : List Contested) (gaps : List Gap)
     (acts : List Op) (cs' : List Contested) (is : List Id) (gaps' : List Gap) (start last : List ℕ)
     → AreDescribed x.ops rows → AreConflicts (entry_rows x.ops) cs → AreGaps x.seen gaps
     → ((e : Id) → filter (is_on e) acts ≡ filter (is_on e) (acts_in x.ops)) → cs' ≡ cs → is ≡ set.items (awaited x.ops) → gaps' ≡ gaps → start ≡ []
-    → Appends start last (page (shown_of x title rows acts cs' is gaps')) → IsPage title x last
-is_page title x rows cs gaps acts cs' is gaps' start last t c g on ec ei eg es h =
+    → Appends start last (page (named names) (shown_of x title rows acts cs' is gaps')) → IsPage title names x last
+is_page title names x rows cs gaps acts cs' is gaps' start last t c g on ec ei eg es h =
     let wanted = set.items (awaited x.ops) in
     let shows : shown_of x title rows acts cs wanted gaps ≡ shown_of x title rows (acts_in x.ops) cs wanted gaps = λ j. record {
       title = title;
@@ -64,5 +65,5 @@ is_page title x rows cs gaps acts cs' is gaps' start last t c g on ec ei eg es h
     record {
       shows = shown_of x title rows (acts_in x.ops) cs wanted gaps;
       are = record { described = rows; are_described = t; conflicts = cs; are_conflicts = c; gaps = gaps; are_gaps = g; is = refl };
-      is = h.is ∙ (λ j. es j ++ html (page (shown_of x title rows acts (ec j) (ei j) (eg j)))) ∙ ap (λ s. html (page s)) shows;
+      is = h.is ∙ (λ j. es j ++ html (page (named names) (shown_of x title rows acts (ec j) (ei j) (eg j)))) ∙ ap (λ s. html (page (named names) s)) shows;
     }

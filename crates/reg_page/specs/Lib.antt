@@ -4,3 +4,5 @@ pub mod Codes
 pub mod Descriptions
 pub mod Page
 pub mod Parts
+pub mod Pairs
+pub mod Rows

@@ -3,6 +3,8 @@ use Rattle.std.specs.Prelude.{◌≡◌, ◌⊎◌, ℕ, Bool, true, false, not,
 use Rattle.std.specs.Global.{Vec}
 use Rattle.std.specs.List.{flat_map, count_by}
 use Rattle.uuid.specs.Text.{hyphenated_text, lower}
+use Rattle.office_names.specs.declared.names.Name.{Name}
+use Rattle.office_names.specs.Shown as office
 use Rattle.html_text.specs.Pieces.{html}
 use Rattle.html_page.specs.declared.head.Figures.{Figures}
 use Rattle.html_page.specs.declared.standing.Standing.{Standing}
@@ -185,11 +187,15 @@ pub record IsShown (title : List ℕ) (x : Content) (s : shown.Shown) : Type 0 w
   pub are_gaps : AreGaps x.seen gaps
   pub is : s ≡ shown_of x title described (acts_in x.ops) conflicts (set.items (awaited x.ops)) gaps
 
--- the page of a content with this title
-pub record IsPage (title : List ℕ) (x : Content) (bytes : List ℕ) : Type 0 where
+-- what is read in the place of an id or a UUID: it has the name of its office, if there is one
+abbrev pub named : List Name → List ℕ → List ℕ
+named names id = office.shown false names id
+
+-- the page of a content with this title and these names of offices
+pub record IsPage (title : List ℕ) (names : List Name) (x : Content) (bytes : List ℕ) : Type 0 where
   pub shows : shown.Shown
   pub are : IsShown title x shows
-  pub is : bytes ≡ html (page shows)
+  pub is : bytes ≡ html (page (named names) shows)
 
 -- the side is an entry of the page, retired or not: its words, without marks, are the entry's text
 pub record IsSide (s : shown.Shown) (side : shown.Side) : Type 0 where

@@ -12,11 +12,12 @@ abbrev pub top : List ℕ → Figures → List Piece
 top title f = head title ++ figures f ++ (Markup AFTER_FIGURES.now ∷ [])
 
 -- the conflicts, the awaited ids and the gaps
-abbrev pub open_ends : List Conflict → List (List ℕ) → List Gap → List Piece
-open_ends cs is gs =
-    section CONFLICTS_START.now conflict CONFLICTS_END.now cs ++ section AWAITED_START.now awaited AWAITED_END.now is
-    ++ section GAPS_START.now gap GAPS_END.now gs
+abbrev pub open_ends : (List ℕ → List ℕ) → List Conflict → List (List ℕ) → List Gap → List Piece
+open_ends named cs is gs =
+    section CONFLICTS_START.now (conflict named) CONFLICTS_END.now cs ++ section AWAITED_START.now (awaited named) AWAITED_END.now is
+    ++ section GAPS_START.now (gap named) GAPS_END.now gs
 
 -- the rows of the entries that are not retired, and of those that are
-abbrev pub table : List Entry → List Entry → List Piece
-table es rs = (Markup ENTRIES_START.now ∷ []) ++ flat_map entry es ++ (Markup ENTRIES_END.now ∷ []) ++ section RETIRED_START.now entry RETIRED_END.now rs ++ end
+abbrev pub table : (List ℕ → List ℕ) → List Entry → List Entry → List Piece
+table named es rs =
+    (Markup ENTRIES_START.now ∷ []) ++ flat_map (entry named) es ++ (Markup ENTRIES_END.now ∷ []) ++ section RETIRED_START.now (entry named) RETIRED_END.now rs ++ end

@@ -12,20 +12,21 @@ ghost use Rattle.reg_op.specs.Status.{status};
 ghost use Rattle.reg_op.specs.Ids.{id_cmp};
 ghost use Rattle.reg_page.specs.Boxes.{box_seen};
 ghost use Rattle.reg_page.specs.Descriptions.{AscendById, at};
-ghost use Rattle.reg_page.specs.Page.{standing_of, link_to, subject, links_in, events_in, entry_of};
+ghost use Rattle.reg_page.specs.Page.{standing_of, link_to, subject, links_in, events_in, entry_of, named};
 
 use crate::acts::acts_on;
 use crate::boxes::Edges;
 use crate::described::Described;
 use crate::kind::kind_word;
 use crate::links::push_link_to;
+use crate::names::{read_for_entry, read_for_id};
 use html_page::markup::{AFTER_BY, AFTER_ENTRY, AFTER_HISTORY, BY, RETIRED_BY, SUPERSEDED_BY};
 use html_page::{
     Standing, push_area, push_entry_start, push_entry_text, push_map, push_mark, push_operation_id,
     push_operation_note, push_standing,
 };
+use office_names::Name;
 use reg_op::{Op, OpBody, OpId, Status};
-use reg_report::printed;
 use reg_state::Register;
 use std::alloc::{AllocError, Global};
 
@@ -41,11 +42,16 @@ pub fn standing_of(register: &Register, id: OpId) -> Standing
 }
 
 // Appends the id and the note of an operation.
-fn push_operation(alloc: Global, page: &mut Vec<u8>, op: &Op) -> Result<(), AllocError>
-    ensures { OnOk result (Appends page.old.items page.new.items (operation (printed op.now.id) op.now.note)) }
+fn push_operation(
+    alloc: Global,
+    page: &mut Vec<u8>,
+    names: &[Name],
+    op: &Op,
+) -> Result<(), AllocError>
+    ensures { OnOk result (Appends page.old.items page.new.items (operation (named names.now (printed op.now.id)) op.now.note)) }
 {
-    let id = printed(alloc, op.id())?;
-    push_operation_id(page, &id)?;
+    let read = read_for_id(alloc, names, op.id())?;
+    push_operation_id(page, &read)?;
     push_operation_note(page, op.note().as_bytes())?;
     Ok(())
 }
@@ -53,24 +59,30 @@ fn push_operation(alloc: Global, page: &mut Vec<u8>, op: &Op) -> Result<(), Allo
 fn push_superseded(
     alloc: Global,
     page: &mut Vec<u8>,
+    names: &[Name],
     described: &[Described],
     newer: OpId,
     op: &Op,
 ) -> Result<(), AllocError>
     requires { AscendById described.now }
-    ensures { OnOk result (Appends page.old.items page.new.items (event (SupersededBy (link_to described.now newer) (printed op.now.id) op.now.note))) }
+    ensures { OnOk result (Appends page.old.items page.new.items (event (named names.now) (SupersededBy (link_to described.now newer) (printed op.now.id) op.now.note))) }
 {
     push_mark(page, SUPERSEDED_BY)?;
-    push_link_to(alloc, page, described, newer)?;
-    push_operation(alloc, page, op)?;
+    push_link_to(alloc, page, names, described, newer)?;
+    push_operation(alloc, page, names, op)?;
     Ok(())
 }
 
-fn push_retired(alloc: Global, page: &mut Vec<u8>, op: &Op) -> Result<(), AllocError>
-    ensures { OnOk result (Appends page.old.items page.new.items (event (RetiredBy (printed op.now.id) op.now.note))) }
+fn push_retired(
+    alloc: Global,
+    page: &mut Vec<u8>,
+    names: &[Name],
+    op: &Op,
+) -> Result<(), AllocError>
+    ensures { OnOk result (Appends page.old.items page.new.items (event (named names.now) (RetiredBy (printed op.now.id) op.now.note))) }
 {
     push_mark(page, RETIRED_BY)?;
-    push_operation(alloc, page, op)?;
+    push_operation(alloc, page, names, op)?;
     Ok(())
 }
 
@@ -78,25 +90,26 @@ fn push_retired(alloc: Global, page: &mut Vec<u8>, op: &Op) -> Result<(), AllocE
 fn push_event(
     alloc: Global,
     page: &mut Vec<u8>,
+    names: &[Name],
     described: &[Described],
     entry: OpId,
     op: &Op,
 ) -> Result<(), AllocError>
     requires { AscendById described.now }
-    ensures { OnOk result (Appends page.old.items page.new.items (flat_map event (events_in described.now entry op.now))) }
+    ensures { OnOk result (Appends page.old.items page.new.items (flat_map (event (named names.now)) (events_in described.now entry op.now))) }
 {
     match op.body() {
         OpBody::Enter(_) => Ok(()),
         OpBody::Supersede { old, newer } => {
             if old.is_same(&entry) {
-                push_superseded(alloc, page, described, *newer, op)?;
+                push_superseded(alloc, page, names, described, *newer, op)?;
                 return Ok(());
             }
             Ok(())
         }
         OpBody::Retire { entry: retired } => {
             if retired.is_same(&entry) {
-                push_retired(alloc, page, op)?;
+                push_retired(alloc, page, names, op)?;
                 return Ok(());
             }
             Ok(())
@@ -108,16 +121,17 @@ fn push_event(
 fn push_events(
     alloc: Global,
     page: &mut Vec<u8>,
+    names: &[Name],
     described: &[Described],
     entry: OpId,
     acts: &[Op],
 ) -> Result<(), AllocError>
     requires { AscendById described.now }
-    ensures { OnOk result (Appends page.old.items page.new.items (flat_map event (flat_map (events_in described.now entry) acts.now))) }
+    ensures { OnOk result (Appends page.old.items page.new.items (flat_map (event (named names.now)) (flat_map (events_in described.now entry) acts.now))) }
 {
     let mut rest = acts;
     while let Some((op, others)) = rest.split_first() {
-        push_event(alloc, page, described, entry, op)?;
+        push_event(alloc, page, names, described, entry, op)?;
         rest = others;
     }
     Ok(())
@@ -126,14 +140,15 @@ fn push_events(
 fn push_link_by(
     alloc: Global,
     page: &mut Vec<u8>,
+    names: &[Name],
     described: &[Described],
     newer: OpId,
 ) -> Result<(), AllocError>
     requires { AscendById described.now }
-    ensures { OnOk result (Appends page.old.items page.new.items (by (link_to described.now newer))) }
+    ensures { OnOk result (Appends page.old.items page.new.items (by (named names.now) (link_to described.now newer))) }
 {
     push_mark(page, BY)?;
-    push_link_to(alloc, page, described, newer)?;
+    push_link_to(alloc, page, names, described, newer)?;
     push_mark(page, AFTER_BY)?;
     Ok(())
 }
@@ -142,18 +157,19 @@ fn push_link_by(
 fn push_by(
     alloc: Global,
     page: &mut Vec<u8>,
+    names: &[Name],
     described: &[Described],
     entry: OpId,
     op: &Op,
 ) -> Result<(), AllocError>
     requires { AscendById described.now }
-    ensures { OnOk result (Appends page.old.items page.new.items (flat_map by (links_in described.now entry op.now))) }
+    ensures { OnOk result (Appends page.old.items page.new.items (flat_map (by (named names.now)) (links_in described.now entry op.now))) }
 {
     match op.body() {
         OpBody::Enter(_) => Ok(()),
         OpBody::Supersede { old, newer } => {
             if old.is_same(&entry) {
-                push_link_by(alloc, page, described, *newer)?;
+                push_link_by(alloc, page, names, described, *newer)?;
                 return Ok(());
             }
             Ok(())
@@ -166,16 +182,17 @@ fn push_by(
 fn push_bys(
     alloc: Global,
     page: &mut Vec<u8>,
+    names: &[Name],
     described: &[Described],
     entry: OpId,
     acts: &[Op],
 ) -> Result<(), AllocError>
     requires { AscendById described.now }
-    ensures { OnOk result (Appends page.old.items page.new.items (flat_map by (flat_map (links_in described.now entry) acts.now))) }
+    ensures { OnOk result (Appends page.old.items page.new.items (flat_map (by (named names.now)) (flat_map (links_in described.now entry) acts.now))) }
 {
     let mut rest = acts;
     while let Some((op, others)) = rest.split_first() {
-        push_by(alloc, page, described, entry, op)?;
+        push_by(alloc, page, names, described, entry, op)?;
         rest = others;
     }
     Ok(())
@@ -215,6 +232,7 @@ fn push_areas(page: &mut Vec<u8>, areas: &[Vec<u8>]) -> Result<(), AllocError>
 fn push_entry(
     alloc: Global,
     page: &mut Vec<u8>,
+    names: &[Name],
     register: &Register,
     described: &[Described],
     acts: &[Op],
@@ -222,18 +240,19 @@ fn push_entry(
 ) -> Result<(), AllocError>
     requires ascend { AscendById described.now }
     requires sorted { IsSortedByKey subject id_cmp acts.now }
-    ensures { OnOk result (Appends page.old.items page.new.items (entry (entry_of register.now.ops described.now acts.now one.now))) }
+    ensures { OnOk result (Appends page.old.items page.new.items (entry (named names.now) (entry_of register.now.ops described.now acts.now one.now))) }
 {
     let system = &one.system;
     let mine = acts_on(acts, one.id);
+    let read = read_for_entry(alloc, names, one)?;
     push_entry_start(page, &one.printed, &one.authority, &one.code, &system.name)?;
     push_maps(page, &system.boxes)?;
-    push_entry_text(page, &system.text, &one.printed, &one.note)?;
-    push_events(alloc, page, described, one.id, mine)?;
+    push_entry_text(page, &system.text, &read, &one.note)?;
+    push_events(alloc, page, names, described, one.id, mine)?;
     push_mark(page, AFTER_HISTORY)?;
     push_areas(page, &system.areas)?;
     push_standing(page, kind_word(system.kind), standing_of(register, one.id))?;
-    push_bys(alloc, page, described, one.id, mine)?;
+    push_bys(alloc, page, names, described, one.id, mine)?;
     push_mark(page, AFTER_ENTRY)?;
     Ok(())
 }
@@ -242,6 +261,7 @@ fn push_entry(
 pub fn push_rows(
     alloc: Global,
     page: &mut Vec<u8>,
+    names: &[Name],
     register: &Register,
     described: &[Described],
     acts: &[Op],
@@ -249,10 +269,10 @@ pub fn push_rows(
 ) -> Result<(), AllocError>
     requires ascend { AscendById described.now }
     requires sorted { IsSortedByKey subject id_cmp acts.now }
-    ensures { OnOk result (Appends page.old.items page.new.items (flat_map entry (map (entry_of register.now.ops described.now acts.now) (at rows.now)))) }
+    ensures { OnOk result (Appends page.old.items page.new.items (flat_map (entry (named names.now)) (map (entry_of register.now.ops described.now acts.now) (at rows.now)))) }
 {
     for i in 0..rows.len() {
-        push_entry(alloc, page, register, described, acts, rows[i])?;
+        push_entry(alloc, page, names, register, described, acts, rows[i])?;
     }
     Ok(())
 }

@@ -12,6 +12,7 @@ mod kind;
 pub mod laws;
 mod links;
 mod missing;
+mod names;
 mod order;
 mod page;
 mod table;

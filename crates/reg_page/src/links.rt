@@ -6,12 +6,13 @@ ghost use Rattle.html_page.specs.Shown.{Entered, Awaited};
 ghost use Rattle.html_page.specs.Templates.{link};
 ghost use Rattle.reg_op.specs.Text.{printed};
 ghost use Rattle.reg_page.specs.Descriptions.{AscendById};
-ghost use Rattle.reg_page.specs.Page.{described_at, link_to};
+ghost use Rattle.reg_page.specs.Page.{described_at, link_to, named};
 
 use crate::described::Described;
+use crate::names::read_for_id;
 use html_page::{push_awaited_link, push_link};
+use office_names::Name;
 use reg_op::OpId;
-use reg_report::printed;
 use std::alloc::{AllocError, Global};
 
 /// What the page shows of an entry, if it was entered.
@@ -25,18 +26,23 @@ pub fn described_at<'a>(described: &'a [Described], id: OpId) -> Option<&'a Desc
     }
 }
 
-fn push_known(page: &mut Vec<u8>, one: &Described) -> Result<(), AllocError>
-    ensures { OnOk result (Appends page.old.items page.new.items (link (Entered one.now.printed.items one.now.authority.items one.now.code.items))) }
+fn push_known(page: &mut Vec<u8>, names: &[Name], one: &Described) -> Result<(), AllocError>
+    ensures { OnOk result (Appends page.old.items page.new.items (link (named names.now) (Entered one.now.printed.items one.now.authority.items one.now.code.items))) }
 {
     push_link(page, &one.printed, &one.authority, &one.code)?;
     Ok(())
 }
 
-fn push_unknown(alloc: Global, page: &mut Vec<u8>, id: OpId) -> Result<(), AllocError>
-    ensures { OnOk result (Appends page.old.items page.new.items (link (Awaited (printed id)))) }
+fn push_unknown(
+    alloc: Global,
+    page: &mut Vec<u8>,
+    names: &[Name],
+    id: OpId,
+) -> Result<(), AllocError>
+    ensures { OnOk result (Appends page.old.items page.new.items (link (named names.now) (Awaited (printed id)))) }
 {
-    let text = printed(alloc, id)?;
-    push_awaited_link(page, &text)?;
+    let read = read_for_id(alloc, names, id)?;
+    push_awaited_link(page, &read)?;
     Ok(())
 }
 
@@ -44,19 +50,20 @@ fn push_unknown(alloc: Global, page: &mut Vec<u8>, id: OpId) -> Result<(), Alloc
 pub fn push_link_to(
     alloc: Global,
     page: &mut Vec<u8>,
+    names: &[Name],
     described: &[Described],
     id: OpId,
 ) -> Result<(), AllocError>
     requires { AscendById described.now }
-    ensures { OnOk result (Appends page.old.items page.new.items (link (link_to described.now id))) }
+    ensures { OnOk result (Appends page.old.items page.new.items (link (named names.now) (link_to described.now id))) }
 {
     match described_at(described, id) {
         Some(one) => {
-            push_known(page, one)?;
+            push_known(page, names, one)?;
             Ok(())
         }
         None => {
-            push_unknown(alloc, page, id)?;
+            push_unknown(alloc, page, names, id)?;
             Ok(())
         }
     }

@@ -9,7 +9,7 @@ ghost use Rattle.std.specs.List.Sorted.{IsSortedByKey};
 ghost use Rattle.reg_op.specs.Ids.{id_cmp};
 ghost use Rattle.reg_page.specs.declared.described.Described.{Described as OneDescribed};
 ghost use Rattle.reg_page.specs.Descriptions.{AscendById, InOrder};
-ghost use Rattle.reg_page.specs.Page.{subject, conflict_of, gap_of, figures_of, shown_of, IsPage};
+ghost use Rattle.reg_page.specs.Page.{subject, conflict_of, gap_of, figures_of, shown_of, named, IsPage};
 ghost use Rattle.reg_page.specs.Parts.{top, open_ends};
 
 use crate::acts::acts_by_entry;
@@ -20,6 +20,7 @@ use crate::missing::{push_all_awaited, push_gaps};
 use crate::table::push_table;
 use html_page::markup::AFTER_FIGURES;
 use html_page::{Figures, push_figures, push_head, push_mark};
+use office_names::Name;
 use reg_op::{Op, OpId};
 use reg_report::{Conflict, Gap, awaited, conflicts, gaps};
 use reg_state::Register;
@@ -64,17 +65,18 @@ fn push_top(
 fn push_open_ends(
     alloc: Global,
     page: &mut Vec<u8>,
+    names: &[Name],
     described: &[Described],
     conflicts: &[Conflict],
     awaited: &[OpId],
     gaps: &[Gap],
 ) -> Result<(), AllocError>
     requires { AscendById described.now }
-    ensures { OnOk result (Appends page.old.items page.new.items (open_ends (map (conflict_of described.now) (map conflict_seen conflicts.now)) (map printed awaited.now) (map gap_of gaps.now))) }
+    ensures { OnOk result (Appends page.old.items page.new.items (open_ends (named names.now) (map (conflict_of described.now) (map conflict_seen conflicts.now)) (map printed awaited.now) (map gap_of gaps.now))) }
 {
-    push_conflicts(alloc, page, described, conflicts)?;
-    push_all_awaited(alloc, page, awaited)?;
-    push_gaps(alloc, page, gaps)?;
+    push_conflicts(alloc, page, names, described, conflicts)?;
+    push_all_awaited(alloc, page, names, awaited)?;
+    push_gaps(alloc, page, names, gaps)?;
     Ok(())
 }
 
@@ -82,6 +84,7 @@ fn push_open_ends(
 fn push_page(
     alloc: Global,
     page: &mut Vec<u8>,
+    names: &[Name],
     register: &Register,
     title: &[u8],
     described: &[Described],
@@ -92,18 +95,23 @@ fn push_page(
 ) -> Result<(), AllocError>
     requires ascend { AscendById described.now }
     requires sorted { IsSortedByKey subject id_cmp acts.now }
-    ensures { OnOk result ((rows : List OneDescribed) × InOrder described.now rows × Appends page.old.items page.new.items (page_pieces (shown_of register.now title.now rows acts.now (map conflict_seen conflicts.now) awaited.now gaps.now))) }
+    ensures { OnOk result ((rows : List OneDescribed) × InOrder described.now rows × Appends page.old.items page.new.items (page_pieces (named names.now) (shown_of register.now title.now rows acts.now (map conflict_seen conflicts.now) awaited.now gaps.now))) }
 {
     let figures = figures_of(register, described, conflicts, awaited, gaps);
     push_top(alloc, page, title, &figures)?;
-    push_open_ends(alloc, page, described, conflicts, awaited, gaps)?;
-    push_table(alloc, page, register, described, acts)?;
+    push_open_ends(alloc, page, names, described, conflicts, awaited, gaps)?;
+    push_table(alloc, page, names, register, described, acts)?;
     Ok(())
 }
 
-/// The page of a register.
-pub fn page_text(alloc: Global, register: &Register, title: &[u8]) -> Result<Vec<u8>, AllocError>
-    ensures { IfOk result (λ text. IsPage title.now register.now text.items) }
+/// The page of a register. In the place of ids, names of offices are read.
+pub fn page_text(
+    alloc: Global,
+    register: &Register,
+    title: &[u8],
+    names: &[Name],
+) -> Result<Vec<u8>, AllocError>
+    ensures { IfOk result (λ text. IsPage title.now names.now register.now text.items) }
 {
     let described = all_described(alloc, register)?;
     let acts = acts_by_entry(alloc, register)?;
@@ -112,7 +120,7 @@ pub fn page_text(alloc: Global, register: &Register, title: &[u8]) -> Result<Vec
     let gaps = gaps(alloc, register)?;
     let mut page = Vec::new(alloc);
     push_page(
-        alloc, &mut page, register, title, &described, &acts, &conflicts, &awaited, &gaps,
+        alloc, &mut page, names, register, title, &described, &acts, &conflicts, &awaited, &gaps,
     )?;
     Ok(page)
 }

@@ -9,7 +9,7 @@ ghost use Rattle.html_page.specs.declared.markup.TheConstants as markup;
 ghost use Rattle.reg_op.specs.Ids.{id_cmp};
 ghost use Rattle.reg_page.specs.declared.described.Described.{Described as OneDescribed};
 ghost use Rattle.reg_page.specs.Descriptions.{AscendById, at, InOrder};
-ghost use Rattle.reg_page.specs.Page.{subject, entry_of, is_among, rows_of};
+ghost use Rattle.reg_page.specs.Page.{subject, entry_of, is_among, rows_of, named};
 ghost use Rattle.reg_page.specs.Parts.{table};
 
 use crate::described::{Described, by_key};
@@ -17,6 +17,7 @@ use crate::entries::push_rows;
 use crate::figures::is_retired;
 use html_page::markup::{ENTRIES_END, ENTRIES_START, RETIRED_END, RETIRED_START};
 use html_page::{push_end, push_mark};
+use office_names::Name;
 use reg_op::Op;
 use reg_state::Register;
 use std::alloc::{AllocError, Global};
@@ -67,6 +68,7 @@ fn part_of<'a>(
 fn push_live(
     alloc: Global,
     page: &mut Vec<u8>,
+    names: &[Name],
     register: &Register,
     described: &[Described],
     acts: &[Op],
@@ -74,16 +76,17 @@ fn push_live(
 ) -> Result<(), AllocError>
     requires ascend { AscendById described.now }
     requires sorted { IsSortedByKey subject id_cmp acts.now }
-    ensures { OnOk result (Appends page.old.items page.new.items (flat_map entry (rows_of false register.now.ops described.now acts.now (at rows.now)))) }
+    ensures { OnOk result (Appends page.old.items page.new.items (flat_map (entry (named names.now)) (rows_of false register.now.ops described.now acts.now (at rows.now)))) }
 {
     let live = part_of(alloc, false, register, rows)?;
-    push_rows(alloc, page, register, described, acts, &live)?;
+    push_rows(alloc, page, names, register, described, acts, &live)?;
     Ok(())
 }
 
 fn push_gone_rows(
     alloc: Global,
     page: &mut Vec<u8>,
+    names: &[Name],
     register: &Register,
     described: &[Described],
     acts: &[Op],
@@ -91,13 +94,13 @@ fn push_gone_rows(
 ) -> Result<(), AllocError>
     requires ascend { AscendById described.now }
     requires sorted { IsSortedByKey subject id_cmp acts.now }
-    ensures { OnOk result (Appends page.old.items page.new.items (section markup.RETIRED_START.now entry markup.RETIRED_END.now (map (entry_of register.now.ops described.now acts.now) (at gone.now)))) }
+    ensures { OnOk result (Appends page.old.items page.new.items (section markup.RETIRED_START.now (entry (named names.now)) markup.RETIRED_END.now (map (entry_of register.now.ops described.now acts.now) (at gone.now)))) }
 {
     if gone.is_empty() {
         return Ok(());
     }
     push_mark(page, RETIRED_START)?;
-    push_rows(alloc, page, register, described, acts, gone)?;
+    push_rows(alloc, page, names, register, described, acts, gone)?;
     push_mark(page, RETIRED_END)?;
     Ok(())
 }
@@ -106,6 +109,7 @@ fn push_gone_rows(
 fn push_gone(
     alloc: Global,
     page: &mut Vec<u8>,
+    names: &[Name],
     register: &Register,
     described: &[Described],
     acts: &[Op],
@@ -113,16 +117,17 @@ fn push_gone(
 ) -> Result<(), AllocError>
     requires ascend { AscendById described.now }
     requires sorted { IsSortedByKey subject id_cmp acts.now }
-    ensures { OnOk result (Appends page.old.items page.new.items (section markup.RETIRED_START.now entry markup.RETIRED_END.now (rows_of true register.now.ops described.now acts.now (at rows.now)))) }
+    ensures { OnOk result (Appends page.old.items page.new.items (section markup.RETIRED_START.now (entry (named names.now)) markup.RETIRED_END.now (rows_of true register.now.ops described.now acts.now (at rows.now)))) }
 {
     let gone = part_of(alloc, true, register, rows)?;
-    push_gone_rows(alloc, page, register, described, acts, &gone)?;
+    push_gone_rows(alloc, page, names, register, described, acts, &gone)?;
     Ok(())
 }
 
 fn push_both(
     alloc: Global,
     page: &mut Vec<u8>,
+    names: &[Name],
     register: &Register,
     described: &[Described],
     acts: &[Op],
@@ -130,12 +135,12 @@ fn push_both(
 ) -> Result<(), AllocError>
     requires ascend { AscendById described.now }
     requires sorted { IsSortedByKey subject id_cmp acts.now }
-    ensures { OnOk result (Appends page.old.items page.new.items (table (rows_of false register.now.ops described.now acts.now (at rows.now)) (rows_of true register.now.ops described.now acts.now (at rows.now)))) }
+    ensures { OnOk result (Appends page.old.items page.new.items (table (named names.now) (rows_of false register.now.ops described.now acts.now (at rows.now)) (rows_of true register.now.ops described.now acts.now (at rows.now)))) }
 {
     push_mark(page, ENTRIES_START)?;
-    push_live(alloc, page, register, described, acts, rows)?;
+    push_live(alloc, page, names, register, described, acts, rows)?;
     push_mark(page, ENTRIES_END)?;
-    push_gone(alloc, page, register, described, acts, rows)?;
+    push_gone(alloc, page, names, register, described, acts, rows)?;
     push_end(page)?;
     Ok(())
 }
@@ -144,15 +149,16 @@ fn push_both(
 pub fn push_table(
     alloc: Global,
     page: &mut Vec<u8>,
+    names: &[Name],
     register: &Register,
     described: &[Described],
     acts: &[Op],
 ) -> Result<(), AllocError>
     requires ascend { AscendById described.now }
     requires sorted { IsSortedByKey subject id_cmp acts.now }
-    ensures { OnOk result ((rows : List OneDescribed) × InOrder described.now rows × Appends page.old.items page.new.items (table (rows_of false register.now.ops described.now acts.now rows) (rows_of true register.now.ops described.now acts.now rows))) }
+    ensures { OnOk result ((rows : List OneDescribed) × InOrder described.now rows × Appends page.old.items page.new.items (table (named names.now) (rows_of false register.now.ops described.now acts.now rows) (rows_of true register.now.ops described.now acts.now rows))) }
 {
     let rows = by_key(alloc, described)?;
-    push_both(alloc, page, register, described, acts, &rows)?;
+    push_both(alloc, page, names, register, described, acts, &rows)?;
     Ok(())
 }

@@ -72,10 +72,10 @@ module _ (now : Ops) where
   pub leads_first : (all ps : List Pair) → ps ≡ [] → Leads all all ps
   leads_first all ps e = λ k. sym e k ++ lacking now (sym e k) all
 
-  known_is : (p : Pair) (ps others : List Pair) → is_known now p ps ≡ true → lacking now ps (p ∷ others) ≡ lacking now ps others
+  pub known_is : (p : Pair) (ps others : List Pair) → is_known now p ps ≡ true → lacking now ps (p ∷ others) ≡ lacking now ps others
   known_is p ps others h = λ k. if h k then lacking now ps others else p ∷ lacking now (ps ++ p ∷ []) others
 
-  new_is : (p : Pair) (ps others : List Pair) → is_known now p ps ≡ false → lacking now ps (p ∷ others) ≡ p ∷ lacking now (ps ++ p ∷ []) others
+  pub new_is : (p : Pair) (ps others : List Pair) → is_known now p ps ≡ false → lacking now ps (p ∷ others) ≡ p ∷ lacking now (ps ++ p ∷ []) others
   new_is p ps others h = λ k. if h k then lacking now ps others else p ∷ lacking now (ps ++ p ∷ []) others
 
   pub leads_more : (before : Ops) (all rest others old new : List Pair) (p : Pair) → rest ≡ p ∷ others → AddsPair before now p old new → Leads all rest old → Leads all others new

@@ -7,3 +7,7 @@ mod WordLemmas
 mod ListLemmas
 mod LawLemmas
 mod LastLemmas
+mod SameRows
+mod StillRows
+mod MadeLemmas
+mod AgainLemmas

@@ -1,7 +1,7 @@
 -- Supersessions after others: the fault of one more, and that none of them replaces another.
 use Rattle.std.proofs.Common.{◌≡◌, ℕ, ◌+◌, Bool, true, false, not, ◌&&◌, ◌||◌, List, [], ◌∷◌, ◌++◌, None, refl, sym, ap, ◌∙◌, subst, inl, inr}
 use Rattle.std.specs.Prelude.{option_map}
-use Rattle.std.proofs.lemmas.Bool.{true≢false, and_parts, and_from, or_left, or_right, false_from_ne_true}
+use Rattle.std.proofs.lemmas.Bool.{true≢false, not-true, and_parts, and_from, or_cases, or_left, or_right, false_from_ne_true}
 use Rattle.std.proofs.lemmas.List.Folds.{list_any-append}
 use Rattle.std.specs.List.{list_any}
 use Rattle.std.specs.Cmp.{tied_itself}
@@ -24,7 +24,7 @@ use Rattle.reg_op.proofs.OneLemmas.{any-from_list}
 use Rattle.reg_op.proofs.ClashLemmas.{find_none}
 use Rattle.reg_op.proofs.StatusLemmas.{enters-kept, retires-kept, replaced_by-kept}
 use Rattle.reg_state.specs.Runs.{id_at}
-use Rattle.reg_office.specs.Making.{numbered, objection, objections, with_op}
+use Rattle.reg_office.specs.Making.{greatest, numbered, objection, objections, with_op}
 use Rattle.reg_office.proofs.EffectLemmas.{chain, nothing_against}
 use Rattle.reg_office.proofs.NumberLemmas.{op_cases}
 use Rattle.reg_supersede.specs.declared.pair.Pair.{Pair}
@@ -32,11 +32,11 @@ use Rattle.reg_supersede.specs.Lists.{is_there}
 use Rattle.reg_supersede.specs.Effects.{AreSupersessions, has_pair, pair_fault}
 use Rattle.reg_supersede.proofs.AfterLemmas.{of_list, after, ops_of}
 
-or_end : (a : Bool) → (a || false) ≡ a
+pub or_end : (a : Bool) → (a || false) ≡ a
 or_end true = refl
 or_end false = refl
 
-and_end : (a : Bool) → (a && false) ≡ false
+pub and_end : (a : Bool) → (a && false) ≡ false
 and_end true = refl
 and_end false = refl
 
@@ -49,7 +49,7 @@ supersessions_both (Supersede old newer ∷ bs) cs h k = supersessions_both bs c
 supersessions_both (Enter text ∷ bs) cs h k = absurd h
 supersessions_both (Retire entry ∷ bs) cs h k = absurd h
 
-abbrev supersession : Id → Id → Op → Bool
+abbrev pub supersession : Id → Id → Op → Bool
 supersession e m o = is_supersession e (is_same m) o.body
 
 abbrev is_off : Id → Op → Bool
@@ -89,7 +89,7 @@ module _ (x : Content) (r note : List ℕ) (bs : List Body) (are : AreSupersessi
   abbrev union : Ops
   union = set.union x.ops (of_list (ops_of x r note bs))
 
-  kept_is : here ≡ kept union
+  pub kept_is : here ≡ kept union
   kept_is = kept-union_right x.ops (of_list (ops_of x r note bs))
 
   pub entered : (e : Id) → enters here e ≡ enters x.ops e
@@ -119,6 +119,13 @@ module _ (x : Content) (r note : List ℕ) (bs : List Body) (are : AreSupersessi
   pub there_now : (p : Pair) → enters x.ops p.old ≡ true → retires x.ops p.old ≡ false → is_there here p ≡ (any (supersession p.old p.newer) x.ops || has_pair bs p.old p.newer)
   there_now p e f = there_is p ∙ (λ k. e k && (not (f k) && (any (supersession p.old p.newer) x.ops || has_pair bs p.old p.newer)))
 
+  -- a pair that is there stays there
+  pub still_there : (p : Pair) → is_there x.ops p ≡ true → is_there here p ≡ true
+  still_there p h =
+      let a = and_parts (enters x.ops p.old) (is_replaced_by x.ops p.old p.newer) h in
+      let b = and_parts (not (retires x.ops p.old)) (any (supersession p.old p.newer) x.ops) a.1 in
+      there_now p a.0 (not-true (retires x.ops p.old) b.0) ∙ or_left (any (supersession p.old p.newer) x.ops) (has_pair bs p.old p.newer) b.1
+
 and_free : (a r y h g : Bool) → (a && (not r && (y || h))) ≡ false → g ≡ false → (a && (not r && (y || (h || g)))) ≡ false
 and_free false r y h g p q = refl
 and_free true true y h g p q = refl
@@ -126,7 +133,7 @@ and_free true false true h g p q = p
 and_free true false false true g p q = p
 and_free true false false false g p q = q
 
-last_off : (old newer : Id) (a b same r q p : Bool) → (a && p) ≡ false → chain old newer a b same r q p ≡ chain old newer a b same r q false
+pub last_off : (old newer : Id) (a b same r q p : Bool) → (a && p) ≡ false → chain old newer a b same r q p ≡ chain old newer a b same r q false
 last_off old newer false b same r q p h = refl
 last_off old newer true b same r q p h = ap (chain old newer true b same r q) h
 
@@ -152,6 +159,10 @@ open_chain old newer true true false false true c h = cc
 open_chain old newer true true false false false true h = cc
 open_chain old newer true true false false false false h = (refl, refl)
 
+open_entered : (old newer : Id) (a b same p q c : Bool) → chain old newer a b same p q c ≡ None → a ≡ true
+open_entered old newer false b same p q c h = cc
+open_entered old newer true b same p q c h = refl
+
 open_pair : (ops : Ops) (old newer : Id) → objection ops (Supersede old newer) ≡ None → (retires ops old ≡ false) × (is_replaced_by ops old newer ≡ false)
 open_pair ops old newer h = open_chain old newer (enters ops old) (enters ops newer) (is_same old newer) (retires ops old) (retires ops newer) (is_replaced_by ops old newer) h
 
@@ -165,7 +176,15 @@ module _ (y : Content) (o : Op) (old newer : Id) (is : o.body ≡ Supersede old 
   two_off : (e : Id) → retires two e ≡ retires y.ops e
   two_off e = two_any (is_off e) ∙ ap (λ b. retires y.ops e || is_retirement e b) is ∙ or_end (retires y.ops e)
 
-  with_is : (e m : Id) → is_replaced_by (with_op y o).ops e m ≡ (not (retires y.ops e) && (any (supersession e m) y.ops || is_supersession e (is_same m) (Supersede old newer)))
+  pub with_entered : (e : Id) → enters (with_op y o).ops e ≡ enters y.ops e
+  with_entered e =
+      ap (λ s. enters s e) (kept-union_right y.ops (one o)) ∙ enters-kept two e ∙ two_any (is_in e)
+      ∙ ap (λ b. enters y.ops e || (is_same e o.id && is_enter b)) is ∙ ap (λ b. enters y.ops e || b) (and_end (is_same e o.id)) ∙ or_end (enters y.ops e)
+
+  pub with_retired : (e : Id) → retires (with_op y o).ops e ≡ retires y.ops e
+  with_retired e = ap (λ s. retires s e) (kept-union_right y.ops (one o)) ∙ retires-kept two e ∙ two_off e
+
+  pub with_is : (e m : Id) → is_replaced_by (with_op y o).ops e m ≡ (not (retires y.ops e) && (any (supersession e m) y.ops || is_supersession e (is_same m) (Supersede old newer)))
   with_is e m =
       ap (λ s. is_replaced_by s e m) (kept-union_right y.ops (one o)) ∙ replaced_by-kept two e m
       ∙ (λ k. not (two_off e k) && (two_any (supersession e m) ∙ ap (λ b. any (supersession e m) y.ops || is_supersession e (is_same m) b) is) k)
@@ -201,10 +220,28 @@ module _ (r : List ℕ) (note : List ℕ) where
       true≢false (sym at ∙ (open_pair y.ops old newer p.0).1)) in
       λ k. other k || fresh (n + 1) bs (with_op y (first n old newer)) are p.1 e m (stays_replaced y (first n old newer) old newer refl e m there) k
 
+  -- without objections the old entry of each pair is entered, and not retired
+  may_pair : (n : ℕ) (bs : List Body) (y : Content) → AreSupersessions bs → objections y (numbered r n note bs) ≡ None → (e m : Id) → has_pair bs e m ≡ true → (enters y.ops e ≡ true) × (retires y.ops e ≡ false)
+  may_pair n [] y are none e m h = absurd (true≢false (sym h))
+  may_pair n (Enter text ∷ bs) y are none e m h = absurd are
+  may_pair n (Retire entry ∷ bs) y are none e m h = absurd are
+  may_pair n (Supersede old newer ∷ bs) y are none e m h =
+      let it : Op = first n old newer in
+      let p = nothing_against (objection y.ops (Supersede old newer)) (objections (with_op y it) (numbered r (n + 1) note bs)) none in
+      elim (or_cases (is_supersession e (is_same m) (Supersede old newer)) (has_pair bs e m) h) [
+        | inl here ↦
+            let same = is_same_exact e old (and_parts (is_same e old) (is_same m newer) here).0 in
+            subst (λ (i : Id). (enters y.ops i ≡ true) × (retires y.ops i ≡ false)) (sym same)
+            (open_entered old newer (enters y.ops old) (enters y.ops newer) (is_same old newer) (retires y.ops old) (retires y.ops newer) (is_replaced_by y.ops old newer) p.0, (open_pair y.ops old newer p.0).0)
+        | inr later ↦
+            let may = may_pair (n + 1) bs (with_op y it) are p.1 e m later in
+            (sym (with_entered y it old newer refl e) ∙ may.0, sym (with_retired y it old newer refl e) ∙ may.1)
+      ]
+
   abbrev IsSupersession : Body → Type 0
   IsSupersession b = AreSupersessions (b ∷ [])
 
-  each_is : (n : ℕ) (bs : List Body) (q : Op) → AreSupersessions bs → has (numbered r n note bs) q ≡ true → IsSupersession q.body
+  pub each_is : (n : ℕ) (bs : List Body) (q : Op) → AreSupersessions bs → has (numbered r n note bs) q ≡ true → IsSupersession q.body
   each_is n [] q are h = absurd (true≢false (sym h))
   each_is n (Enter text ∷ bs) q are h = absurd are
   each_is n (Retire entry ∷ bs) q are h = absurd are
@@ -268,3 +305,9 @@ module _ (r : List ℕ) (note : List ℕ) where
 
   pub none_dropped : (n : ℕ) (bs : List Body) (y : Content) → AreSupersessions bs → objections y (numbered r n note bs) ≡ None → first_dropped (of_list (numbered r n note bs)) ≡ None
   none_dropped n bs y are none = drops_none (numbered r n note bs) (unreplaced n bs y are none)
+
+-- a pair that was made is there
+pub made_there : (x : Content) (r note : List ℕ) (bs : List Body) → AreSupersessions bs → objections x (ops_of x r note bs) ≡ None → (p : Pair) → has_pair bs p.old p.newer ≡ true → is_there (after x r note bs).ops p ≡ true
+made_there x r note bs are none p h =
+    let may = may_pair r note (greatest r x.seen + 1) bs x are none p.old p.newer h in
+    there_now x r note bs are p may.0 may.1 ∙ or_right (any (supersession p.old p.newer) x.ops) (has_pair bs p.old p.newer) h

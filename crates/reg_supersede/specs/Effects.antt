@@ -11,7 +11,6 @@ use Rattle.reg_op.specs.declared.operation.OpBody.{OpBody as Body}
 use Rattle.reg_op.specs.declared.operation.OpBody.TheVariants.{Enter, Supersede, Retire}
 use Rattle.reg_op.specs.Contents.{Content, state, merged}
 use Rattle.reg_op.specs.Status.{enters, retires, is_supersession}
-use Rattle.reg_report.specs.Seen.{row_seen}
 use Rattle.reg_office.specs.declared.fault.OfficeFault.{OfficeFault}
 use Rattle.reg_office.specs.declared.fault.OfficeFault.TheVariants as fault
 use Rattle.reg_office.specs.Making.{greatest, numbered, new_ops, objections, note_fault, made}
@@ -21,10 +20,10 @@ use Rattle.reg_supersede.specs.declared.pair.Pair.{Pair}
 use Rattle.reg_supersede.specs.declared.fault.RefusedLine.{RefusedLine}
 use Rattle.reg_supersede.specs.declared.fault.LineFault.{LineFault}
 use Rattle.reg_supersede.specs.declared.fault.LineFault.TheVariants as line
-use Rattle.reg_supersede.specs.Lists.{Task, is_there, is_pair, pairs_of, lacking, bodies_of, IsRefusal, DoesLine, RefusesLine, RefusesAll}
+use Rattle.reg_supersede.specs.Lists.{Task, rows_if, is_there, is_pair, pairs_of, lacking, bodies_of, IsRefusal, DoesLine, RefusesLine, RefusesAll}
 
 abbrev pub task_of : ListOptions → Task
-task_of o = record { replica = o.replica; note = o.note.now; keys = o.keys; rows = map row_seen o.rows.now; keep_going = o.keep_going }
+task_of o = record { replica = o.replica; note = o.note.now; keys = o.keys; rows = rows_if o.keys o.register.now; keep_going = o.keep_going }
 
 -- ---- effects on a content
 

@@ -12,7 +12,7 @@ use crate::fault::{LineFault, RefusedLine};
 use crate::lines::lines_of;
 use crate::list::{Listed, all_lines, leave_out};
 use crate::list_options::ListOptions;
-use crate::naming::rows_for;
+use crate::naming::index_for;
 use byte_io::Source;
 use reg_engine::{Change, CliFault, Made, Refusal, id_lines, read_whole};
 use reg_office::{Office, OfficeFault};
@@ -56,7 +56,7 @@ fn planned(
     ensures made { IfOk result (λ l. CanMake (task replica note.now keys keep_going register.now) register.now l.bodies.items) }
     ensures fault { IfErr result (IsListFault (task replica note.now keys keep_going register.now) register.now (lines bytes.now)) }
 {
-    let Ok(rows) = rows_for(alloc, register, keys) else {
+    let Ok(index) = index_for(alloc, register, keys) else {
         return Err(OUT_OF_MEMORY);
     };
     let Ok(lines) = lines_of(alloc, bytes) else {
@@ -64,7 +64,7 @@ fn planned(
     };
     let order = ListOptions {
         register,
-        rows: &rows,
+        index: &index,
         keys,
         replica,
         note,

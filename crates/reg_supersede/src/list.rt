@@ -1,11 +1,9 @@
 //! The lines of a list, one after the other.
 
 ghost use Rattle.std.specs.Prelude.{◌≡◌, ◌++◌, ◌∷◌, [], true, map, IfOk, OnOk, IfErr};
-ghost use Rattle.reg_op.specs.Set.{Ascends};
-ghost use Rattle.reg_report.specs.Seen.{row_seen};
-ghost use Rattle.reg_keys.specs.Rows.{row_cmp};
+ghost use Rattle.reg_keys.specs.Index.{IsIndex};
 ghost use Rattle.reg_supersede.specs.Lines.{words};
-ghost use Rattle.reg_supersede.specs.Lists.{IsRefusal, bodies_of, RefusesFor, DoesAll};
+ghost use Rattle.reg_supersede.specs.Lists.{rows_if, IsRefusal, bodies_of, RefusesFor, DoesAll};
 ghost use Rattle.reg_supersede.specs.Effects.{task_of, after, ids_of, ArePairs, CanMake, AddsFor, StepsOn, IsLineFault, IsListFault, IsStepFault, IsNotLeft};
 
 use crate::check::pairs_to_add;
@@ -25,7 +23,7 @@ fn allowed(
     effects: &Effects,
     line: &[u8],
 ) -> Result<Vec<Pair>, LineFault>
-    requires rows { Ascends row_cmp (map row_seen order.now.rows.now) }
+    requires index { IsIndex order.now.index.now (rows_if order.now.keys order.now.register.now) }
     requires made { CanMake (task_of order.now) order.now.register.now effects.now.bodies.items }
     requires pairs { ArePairs effects.now.pairs effects.now.bodies.items }
     ensures adds { IfOk result (λ ps. AddsFor (task_of order.now) order.now.register.now effects.now.bodies.items (words line.now) ps.items) }
@@ -47,7 +45,7 @@ fn allowed_for(
     effects: &Effects,
     words: &[&[u8]],
 ) -> Result<Vec<Pair>, LineFault>
-    requires rows { Ascends row_cmp (map row_seen order.now.rows.now) }
+    requires index { IsIndex order.now.index.now (rows_if order.now.keys order.now.register.now) }
     requires made { CanMake (task_of order.now) order.now.register.now effects.now.bodies.items }
     requires pairs { ArePairs effects.now.pairs effects.now.bodies.items }
     ensures adds { IfOk result (λ ps. AddsFor (task_of order.now) order.now.register.now effects.now.bodies.items (map (λ w. w.now) words.now) ps.items) }
@@ -57,7 +55,11 @@ fn allowed_for(
         return Ok(Vec::new(alloc));
     };
     let LineEntries { olds, newer } = match entries_for(
-        alloc, order.rows, order.keys, *first, others,
+        alloc,
+        order.index,
+        order.keys,
+        *first,
+        others,
     ) {
         Ok(entries) => entries,
         Err(fault) => return Err(fault),
@@ -97,7 +99,7 @@ fn step(
     number: usize,
     line: &[u8],
 ) -> Result<(), RefusedLine>
-    requires rows { Ascends row_cmp (map row_seen order.now.rows.now) }
+    requires index { IsIndex order.now.index.now (rows_if order.now.keys order.now.register.now) }
     requires made { CanMake (task_of order.now) order.now.register.now effects.old.bodies.items }
     requires pairs { ArePairs effects.old.pairs effects.old.bodies.items }
     ensures ok { OnOk result (StepsOn (task_of order.now) order.now.register.now number line.now effects.old.bodies.items left.old.items effects.new.bodies.items left.new.items) }
@@ -165,7 +167,7 @@ pub fn all_lines(
     order: &ListOptions<'_>,
     lines: &[&[u8]],
 ) -> Result<Listed, RefusedLine>
-    requires { Ascends row_cmp (map row_seen order.now.rows.now) }
+    requires { IsIndex order.now.index.now (rows_if order.now.keys order.now.register.now) }
     ensures done { IfOk result (λ l. DoesAll (task_of order.now) 1 order.now.register.now (map (λ w. w.now) lines.now)
         (after (task_of order.now) order.now.register.now l.bodies.items) (ids_of (task_of order.now) order.now.register.now l.bodies.items) l.left.items) }
     ensures made { IfOk result (λ l. CanMake (task_of order.now) order.now.register.now l.bodies.items) }

@@ -1,57 +1,80 @@
 //! A store that notes the register which a command loads, and the one which it keeps.
 
-ghost use Rattle.std.specs.Prelude.{◌≡◌, Some, IfSome};
+ghost use Rattle.std.specs.Prelude.{◌≡◌, None, Ok};
 ghost use Rattle.reg_op.specs.Contents.{Content};
-ghost use Rattle.reg_news.specs.News.{IsNews};
+ghost use Rattle.reg_watch.specs.Watching.{IsNoted, Tells};
 
 use reg_engine::{CliFault, Keep, Store};
 use reg_news::{News, news_of};
 use reg_state::Register;
-use std::alloc::Global;
+use std::alloc::{AllocError, Global};
 
-/// A store, the register that was loaded from it, and the one that was kept in it, as far as there was memory for their copies.
+/// A store, and copies of the register that was loaded from it, and of the one that was kept in it. A copy for which there was no
+/// memory is an `Err`: a command never fails for that.
 #[derive(Drop)]
 pub struct Watched<'a, T> {
     pub store: &'a mut T,
-    pub loaded: Option<Register>,
-    pub kept: Option<Register>,
+    pub loaded: Option<Result<Register, AllocError>>,
+    pub kept: Option<Result<Register, AllocError>>,
 }
 
-// What the later register has and the earlier one has not, if both are known.
-fn news_between(alloc: Global, loaded: &Option<Register>, kept: &Option<Register>) -> Option<News>
-    ensures { IfSome result (λ n. (x : Content) × (y : Content) × (loaded.now ≡ Some x) × (kept.now ≡ Some y) × IsNews x y n) }
+fn note(alloc: Global, register: &Register) -> Option<Result<Register, AllocError>>
+    ensures { IsNoted register.now result }
 {
-    let Some(earlier) = loaded else {
-        return None;
+    Some(register.try_clone(alloc))
+}
+
+// What the later register has and the earlier one has not, unless memory ran out; nothing if none was kept.
+fn news_between(
+    alloc: Global,
+    loaded: &Option<Result<Register, AllocError>>,
+    kept: &Option<Result<Register, AllocError>>,
+) -> Result<Option<News>, AllocError>
+    ensures told { (x y : Content) → IsNoted x loaded.now → IsNoted y kept.now → Tells x y result }
+    ensures none { kept.now ≡ None → result ≡ Ok None }
+{
+    let Some(kept) = kept else {
+        return Ok(None);
     };
-    let Some(later) = kept else {
-        return None;
+    let Some(loaded) = loaded else {
+        return Ok(None);
     };
-    let Ok(news) = news_of(alloc, earlier, later) else {
-        return None;
+    let Ok(later) = kept else {
+        return Err(AllocError);
     };
-    Some(news)
+    let Ok(earlier) = loaded else {
+        return Err(AllocError);
+    };
+    match news_of(alloc, earlier, later) {
+        Ok(news) => Ok(Some(news)),
+        Err(_) => Err(AllocError),
+    }
 }
 
 impl<T> Watched<'_, T> {
-    /// What the register that was kept has and the one that was loaded has not, if both are known.
-    pub fn news(&self, alloc: Global) -> Option<News>
-        ensures { IfSome result (λ n. (x : Content) × (y : Content) × (self.now.loaded ≡ Some x) × (self.now.kept ≡ Some y) × IsNews x y n) }
+    /// What the register that was kept has and the one that was loaded has not, unless memory ran out; nothing if none was kept.
+    pub fn news(&self, alloc: Global) -> Result<Option<News>, AllocError>
+        ensures told { (x y : Content) → IsNoted x self.now.loaded → IsNoted y self.now.kept → Tells x y result }
+        ensures none { self.now.kept ≡ None → result ≡ Ok None }
     {
         news_between(alloc, &self.loaded, &self.kept)
     }
 }
 
 impl<T: Store> Store for Watched<'_, T> {
-    ghost around = { λ old. λ new. T.around old.store.now new.store.now };
+    ghost use Rattle.std.specs.Prelude.{◌≡◌};
+    ghost use Rattle.std.proofs.Common.{◌∙◌};
+    ghost use Rattle.reg_watch.specs.Watching.{noting};
+
+    ghost around = { λ old. λ new. noting (T.around old.store.now new.store.now) old.kept new.loaded new.kept };
 
     ghost next = { λ s. T.next s.store.now };
 
-    ghost same = { λ old. λ new. T.same old.store.now new.store.now };
+    ghost same = { λ old. λ new. (new.store.ghost_name ≡ old.store.ghost_name) × T.same old.store.now new.store.now };
 
     ghost admission = { λ s. T.admission s.store.now };
 
-    ghost still = { λ a b c e f. T.still a.store.now b.store.now c.store.now e f };
+    ghost still = { λ a b c e f. (f.0 ∙ e.0, T.still a.store.now b.store.now c.store.now e.1 f.1) };
 
     fn next(&self) -> usize {
         self.store.next()
@@ -60,7 +83,7 @@ impl<T: Store> Store for Watched<'_, T> {
     fn load(&mut self, alloc: Global) -> Result<Register, CliFault> {
         match self.store.load(alloc) {
             Ok(register) => {
-                self.loaded = register.try_clone(alloc).ok();
+                self.loaded = note(alloc, &register);
                 Ok(register)
             }
             Err(fault) => Err(fault),
@@ -79,7 +102,7 @@ impl<T: Keep> Keep for Watched<'_, T> {
     fn keep(&mut self, alloc: Global, register: &Register) -> Result<(), CliFault> {
         match self.store.keep(alloc, register) {
             Ok(()) => {
-                self.kept = register.try_clone(alloc).ok();
+                self.kept = note(alloc, register);
                 Ok(())
             }
             Err(fault) => Err(fault),

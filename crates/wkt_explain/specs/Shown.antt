@@ -1,30 +1,22 @@
 -- A line as it is shown, with a caret under one of its places.
-use Rattle.std.specs.Prelude.{ℕ, zero, suc, ◌+◌, ◌-◌, ◌*◌, ◌%◌, ◌==◌, ◌||◌, ◌&&◌, Bool, List, [], ◌∷◌, ◌++◌, length, take, drop, min, max, nat_le, nat_lt, if◌then◌else◌}
+use Rattle.std.specs.Prelude.{ℕ, zero, suc, ◌-◌, ◌==◌, ◌||◌, Bool, false, List, [], ◌∷◌, ◌++◌, length, take, drop, min, max, nat_lt, is_some, if◌then◌else◌}
 use Rattle.std.specs.List.{flat_map}
+use Rattle.text_hidden.specs.Bytes.{hidden_at}
 
 -- a tab is shown as a blank, and what can't be shown as a question mark
 abbrev pub shown_byte : ℕ → ℕ
 shown_byte b = if b == 9 then 32 else (if nat_lt b 32 || nat_lt 126 b then 63 else b)
 
--- the code of a character of two or three bytes
-abbrev pub code_of : List ℕ → ℕ
-code_of (b ∷ c ∷ []) = b % 32 * 64 + c % 64
-code_of (b ∷ c ∷ d ∷ []) = b % 16 * 4096 + c % 64 * 64 + d % 64
-code_of _ = 0
+-- the character is one of those that a reader does not see, or that act on a terminal or on other characters
+abbrev pub is_hidden : List ℕ → Bool
+is_hidden [] = false
+is_hidden (b ∷ rest) = is_some (hidden_at b rest)
 
-abbrev pub is_within : ℕ → ℕ → ℕ → Bool
-is_within code first last = nat_le first code && nat_le code last
-
--- the codes U+0080 to U+009F, U+200B to U+200F, U+2028 to U+202E, U+2066 to U+2069: controls of terminals, characters without
--- a width, ends of lines, and marks that turn the direction of a text
-abbrev pub is_hidden : ℕ → Bool
-is_hidden code = is_within code 128 159 || is_within code 8203 8207 || is_within code 8232 8238 || is_within code 8294 8297
-
--- a character of several bytes is shown as it is, or as a question mark if it would hide or move others
+-- a character of several bytes is shown as it is, or as a question mark if it is hidden
 abbrev pub shown_char : List ℕ → List ℕ
 shown_char [] = []
 shown_char (b ∷ []) = shown_byte b ∷ []
-shown_char (b ∷ c ∷ cs) = if is_hidden (code_of (b ∷ c ∷ cs)) then 63 ∷ [] else b ∷ c ∷ cs
+shown_char (b ∷ c ∷ cs) = if is_hidden (b ∷ c ∷ cs) then 63 ∷ [] else b ∷ c ∷ cs
 
 abbrev pub shown : List (List ℕ) → List ℕ
 shown cs = flat_map shown_char cs

@@ -1,11 +1,12 @@
 //! Shows the line of a place.
 
-ghost use Rattle.std.specs.Prelude.{◌≡◌, ◌<◌, ◌%◌, ◌++◌, take, OnOk};
+ghost use Rattle.std.specs.Prelude.{◌≡◌, ◌++◌, take, OnOk};
 ghost use Rattle.wkt_explain.specs.Characters.{chars};
-ghost use Rattle.wkt_explain.specs.Shown.{blanks, code_of, is_hidden, is_within, shown, shown_before, shown_byte, shown_char, shown_lines};
+ghost use Rattle.wkt_explain.specs.Shown.{blanks, is_hidden, shown, shown_before, shown_byte, shown_char, shown_lines};
 
 use crate::characters::{after_chars, count_chars, split_char};
 use std::alloc::AllocError;
+use text_hidden::hidden_at;
 
 /// The most characters of a line that are shown.
 const WIDTH: usize = 80;
@@ -26,38 +27,14 @@ fn shown_byte(b: u8) -> u8
     b
 }
 
-// The code of a character of two or three bytes.
-fn code_of(char: &[u8]) -> usize
-    ensures { result ≡ code_of char.now }
+// Whether the character is hidden.
+fn is_hidden(char: &[u8]) -> bool
+    ensures { result ≡ is_hidden char.now }
 {
-    match char.len() {
-        2 => bits(char[0], 32) * 64 + bits(char[1], 64),
-        3 => bits(char[0], 16) * 4096 + bits(char[1], 64) * 64 + bits(char[2], 64),
-        _ => 0,
-    }
-}
-
-// The bits of a character's code in one of its bytes.
-fn bits(b: u8, below: usize) -> usize
-    requires { 0 < below }
-    ensures { result ≡ b % below }
-{
-    usize::from(b) % below
-}
-
-fn is_within(code: usize, first: usize, last: usize) -> bool
-    ensures { result ≡ is_within code first last }
-{
-    first <= code && code <= last
-}
-
-fn is_hidden(code: usize) -> bool
-    ensures { result ≡ is_hidden code }
-{
-    is_within(code, 0x80, 0x9f)
-        || is_within(code, 0x200b, 0x200f)
-        || is_within(code, 0x2028, 0x202e)
-        || is_within(code, 0x2066, 0x2069)
+    let Some((first, rest)) = char.split_first() else {
+        return false;
+    };
+    hidden_at(*first, rest).is_some()
 }
 
 fn push_char(out: &mut Vec<u8>, char: &[u8]) -> Result<(), AllocError>
@@ -67,7 +44,7 @@ fn push_char(out: &mut Vec<u8>, char: &[u8]) -> Result<(), AllocError>
         out.push(shown_byte(char[0]))?;
         return Ok(());
     }
-    if is_hidden(code_of(char)) {
+    if is_hidden(char) {
         out.push(b'?')?;
         return Ok(());
     }

@@ -1,10 +1,8 @@
-use Rattle.std.proofs.Common.{◌≡◌, ◌↔◌, List, ℕ, Ok, map, refl, inr, sym, subst, ◌∙◌}
-use Rattle.std.specs.Prelude.{IsTrue}
+use Rattle.std.proofs.Common.{◌≡◌, List, ℕ, Ok, map, refl, inr, sym, subst, ◌∙◌}
 use Rattle.reg_op.specs.Contents.{Content, nothing, joined}
 use Rattle.reg_op.specs.Pieces.{Piece}
 use Rattle.reg_join.specs.Joining.{all_joined}
-use Rattle.reg_report.specs.Reports.{Reports}
-use Rattle.reg_query.specs.DiffLines.{IsDiff, Differ}
+use Rattle.reg_query.specs.DiffLines.{IsDiff}
 use Rattle.reg_engine.specs.Inputs.{AreUnread, registers}
 use Rattle.reg_commands.specs.Merge.{begun, with_pieces, IsUnjoined}
 use Rattle.reg_desk.specs.Diff.{joined_ones, IsUntold}
@@ -37,34 +35,15 @@ returns-in-Err-join_some-clause-fault g c =
           (subst (λ (xs : List Content). IsUnjoined (with_pieces (begun (all_joined joined (Ok nothing) (joined_ones c.args.joins xs))) parts.pieces.items) c.in-Err-join_some.fault) c.deref-2.ensures.value err),
     )
 
-pub returns-in-Ok-write_diff-clause-compared : goal.returns-in-Ok-write_diff-clause-compared
-returns-in-Ok-write_diff-clause-compared g c =
-    let old = map g.S.Source.state c.args.others.now in
-    let new = map g.S.Source.state c.read_others.new.others in
-    let parts = c.in-Ok-read_others.parts in
-    let found = c.in-Ok-read_others.ensures.found in
-    let y = c.in-Ok-join_some.new in
-    let is = first_is c.in-Ok.old c.in-Some.first.now parts.registers.items (registers found.0) c.in-Some._later.now found.2 (sym c.deref.ensures.value ∙ c.in-Some.ensures.cases.0) in
-    let ok = subst (λ (xs : List Content). with_pieces (begun (all_joined joined (Ok nothing) (joined_ones c.args.joins xs))) parts.pieces.items ≡ Ok y) c.deref-2.ensures.value
-    (subst (λ (qs : List Piece). with_pieces (begun (all_joined joined (Ok nothing) (joined_ones c.args.joins c.deref-2.result.now))) qs ≡ Ok y) c.deref-3.ensures.value c.in-Ok-join_some.ensures.ok) in
-    let told = c.in-Ok-write_diff.ensures.told in (
-      c.in-Ok.old,
-      y,
-      c.in-Ok.ensures.came,
-      compares c.args.joins (g.T.Store.next c.args.store.now) c.in-Ok.old old new parts.registers.items parts.pieces.items found y ok,
-      subst (λ (k : Content). Reports (IsDiff k y) (g.K.Sink.state c.args.sink.now) (g.K.Sink.state c.write_diff.new.sink)) is told.0,
-      subst (λ (k : Content). IsTrue c.in-Ok-write_diff.differ ↔ Differ k y) is told.1,
-    )
-
-pub returns-clause-fault : goal.returns-clause-fault
-returns-clause-fault g c =
+pub returns-in-Err-write_diff-clause-fault : goal.returns-in-Err-write_diff-clause-fault
+returns-in-Err-write_diff-clause-fault g c =
     let old = map g.S.Source.state c.args.others.now in
     let new = map g.S.Source.state c.read_others.new.others in
     let before = g.K.Sink.state c.args.sink.now in
     let after = g.K.Sink.state c.write_diff.new.sink in
     let parts = c.in-Ok-read_others.parts in
     let found = c.in-Ok-read_others.ensures.found in
-    let y = c.in-Ok-join_some.new in
+    let y = c.in-Ok-join_some.after in
     let is = first_is c.in-Ok.old c.in-Some.first.now parts.registers.items (registers found.0) c.in-Some._later.now found.2 (sym c.deref.ensures.value ∙ c.in-Some.ensures.cases.0) in
     let ok = subst (λ (xs : List Content). with_pieces (begun (all_joined joined (Ok nothing) (joined_ones c.args.joins xs))) parts.pieces.items ≡ Ok y) c.deref-2.ensures.value
     (subst (λ (qs : List Piece). with_pieces (begun (all_joined joined (Ok nothing) (joined_ones c.args.joins c.deref-2.result.now))) qs ≡ Ok y) c.deref-3.ensures.value c.in-Ok-join_some.ensures.ok) in

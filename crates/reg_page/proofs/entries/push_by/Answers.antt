@@ -1,12 +1,13 @@
 use Rattle.std.proofs.Common.{sym, ◌∙◌}
+use Rattle.reg_page.specs.Page.{named}
 use Rattle.reg_page.proofs.EventLemmas.{entering_leads, other_leads, retiring_leads}
 use Rattle.reg_page.proofs.entries.push_by.Goals as goal
 
 pub returns-in-Enter : goal.returns-in-Enter
-returns-in-Enter c = entering_leads c.args.described.now c.args.entry c.args.op.now c.in-Enter.field-0 c.args.page.now.items (sym c.body.ensures ∙ c.in-Enter.is)
+returns-in-Enter c = entering_leads (named c.args.names.now) c.args.described.now c.args.entry c.args.op.now c.in-Enter.field-0 c.args.page.now.items (sym c.body.ensures ∙ c.in-Enter.is)
 
 pub returns-else-is_same : goal.returns-else-is_same
-returns-else-is_same c = other_leads c.args.described.now c.args.entry c.in-Supersede.old c.in-Supersede.newer c.args.op.now c.args.page.now.items (sym c.body.ensures ∙ c.in-Supersede.is) (sym c.if-is_same.ensures)
+returns-else-is_same c = other_leads (named c.args.names.now) c.args.described.now c.args.entry c.in-Supersede.old c.in-Supersede.newer c.args.op.now c.args.page.now.items (sym c.body.ensures ∙ c.in-Supersede.is) (sym c.if-is_same.ensures)
 
 pub returns-in-Retire : goal.returns-in-Retire
-returns-in-Retire c = retiring_leads c.args.described.now c.args.entry c.in-Retire.entry c.args.op.now c.args.page.now.items (sym c.body.ensures ∙ c.in-Retire.is)
+returns-in-Retire c = retiring_leads (named c.args.names.now) c.args.described.now c.args.entry c.in-Retire.entry c.args.op.now c.args.page.now.items (sym c.body.ensures ∙ c.in-Retire.is)

@@ -4,14 +4,14 @@ use Rattle.html_text.proofs.JoinLemmas.{leads_init, leads_more}
 use Rattle.reg_page.proofs.LoopLemmas.{flattened}
 use Rattle.reg_op.specs.Operations.{Op}
 use Rattle.html_page.specs.Templates.{event}
-use Rattle.reg_page.specs.Page.{events_in}
+use Rattle.reg_page.specs.Page.{events_in, named}
 use Rattle.reg_page.proofs.entries.push_events.Goals as goal
 
 pub loop-op-init : goal.loop-op-init
-loop-op-init c = leads_init (λ (o : Op). flat_map event (events_in c.args.described.now c.args.entry o)) c.args.page.now.items c.args.acts.now
+loop-op-init c = leads_init (λ (o : Op). flat_map (event (named c.args.names.now)) (events_in c.args.described.now c.args.entry o)) c.args.page.now.items c.args.acts.now
 
 pub loop-op-preserved : goal.loop-op-preserved
 loop-op-preserved c = leads_more {x = c.in-Some.op.now} c.loop-op.invariant c.in-Some.ensures.cases.0 c.in_ok-push_event.ensures
 
 pub returns : goal.returns
-returns c = flattened event (events_in c.args.described.now c.args.entry) c.args.page.now.items c.args.acts.now c.loop-op.invariant (nil_from_length _ c.in_default.ensures.cases)
+returns c = flattened (event (named c.args.names.now)) (events_in c.args.described.now c.args.entry) c.args.page.now.items c.args.acts.now c.loop-op.invariant (nil_from_length _ c.in_default.ensures.cases)

@@ -4,11 +4,11 @@ use Rattle.html_text.specs.Pieces.{html}
 use Rattle.html_text.proofs.JoinLemmas.{Leads}
 use Rattle.reg_op.specs.Operations.{Op}
 use Rattle.html_page.specs.Templates.{event}
-use Rattle.reg_page.specs.Page.{events_in}
+use Rattle.reg_page.specs.Page.{events_in, named}
 use Rattle.reg_page.proofs.entries.push_events.Given as goal
 
 abbrev pub invariant-loop-op : goal.invariant-loop-op
-invariant-loop-op l = Leads (λ (o : Op). flat_map event (events_in l.described l.entry o)) l.page.items l.rest (l.initial.page.items ++ html (flat_map (λ (o : Op). flat_map event (events_in l.described l.entry o)) l.acts))
+invariant-loop-op l = Leads (λ (o : Op). flat_map (event (named l.names)) (events_in l.described l.entry o)) l.page.items l.rest (l.initial.page.items ++ html (flat_map (λ (o : Op). flat_map (event (named l.names)) (events_in l.described l.entry o)) l.acts))
 
 abbrev pub decreases-loop-op : goal.decreases-loop-op
 decreases-loop-op l = length l.rest

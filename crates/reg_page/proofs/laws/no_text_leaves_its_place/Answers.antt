@@ -3,11 +3,12 @@ use Rattle.html_text.specs.Pieces.{html}
 use Rattle.html_text.specs.Places.{tags}
 use Rattle.html_page.specs.Templates.{page}
 use Rattle.html_page.proofs.PageLemmas.{places, same}
+use Rattle.reg_page.specs.Page.{named}
 use Rattle.reg_page.proofs.laws.no_text_leaves_its_place.Goals as goal
 
 pub returns : goal.returns
 returns c = record {
-  places = λ title x bytes p. (p.is, places p.shows);
-  tags = λ title other x y bytes others p q alike.
-      ap tags p.is ∙ same p.shows ∙ ap (λ s. tags (html (page s))) alike ∙ sym (same q.shows) ∙ sym (ap tags q.is);
+  places = λ title names x bytes p. (p.is, places (named names) p.shows);
+  tags = λ title other names many x y bytes others p q alike.
+      ap tags p.is ∙ same (named names) (named many) p.shows ∙ ap (λ s. tags (html (page (named many) s))) alike ∙ sym (same (named many) (named many) q.shows) ∙ sym (ap tags q.is);
 }

@@ -5,10 +5,11 @@ use Rattle.html_text.proofs.JoinLemmas.{Leads}
 use Rattle.reg_op.specs.Ids.{Id}
 use Rattle.reg_op.specs.Text.{printed}
 use Rattle.html_page.specs.Templates.{awaited}
+use Rattle.reg_page.specs.Page.{named}
 use Rattle.reg_page.proofs.missing.push_each_awaited.Given as goal
 
 abbrev pub invariant-loop-id : goal.invariant-loop-id
-invariant-loop-id l = Leads (λ (i : Id). awaited (printed i)) l.page.items l.rest (l.initial.page.items ++ html (flat_map (λ (i : Id). awaited (printed i)) l.ids))
+invariant-loop-id l = Leads (λ (i : Id). awaited (named l.names) (printed i)) l.page.items l.rest (l.initial.page.items ++ html (flat_map (λ (i : Id). awaited (named l.names) (printed i)) l.ids))
 
 abbrev pub decreases-loop-id : goal.decreases-loop-id
 decreases-loop-id l = length l.rest

@@ -1,7 +1,7 @@
 use Rattle.std.proofs.Common.{true, false, map, ap, ◌∙◌}
 use Rattle.reg_op.specs.Text.{printed}
 use Rattle.reg_report.specs.Contenders.{conflict_seen}
-use Rattle.reg_page.specs.Page.{figures_of, conflict_of, gap_of, rows_of}
+use Rattle.reg_page.specs.Page.{figures_of, conflict_of, gap_of, rows_of, named}
 use Rattle.reg_page.specs.Parts.{top, open_ends, table}
 use Rattle.reg_page.proofs.LoopLemmas.{as_others}
 use Rattle.reg_page.proofs.SameLemmas.{figures_moved, conflicts_moved, rows_moved}
@@ -22,10 +22,10 @@ returns c =
     let same = entries.1.same in (
       rows,
       entries.1,
-      in_parts x title rows acts cs is gaps
+      in_parts (named c.args.names.now) x title rows acts cs is gaps
           (as_others _ (top title (figures_of x rows cs is gaps)) (ap (top title) (c.figures_of-figures.ensures ∙ figures_moved ts rows c.requires.ascend same x cs is gaps)) c.in_ok-push_top.ensures)
-          (as_others (open_ends (map (conflict_of ts) cs) (map printed is) (map gap_of gaps)) (open_ends (map (conflict_of rows) cs) (map printed is) (map gap_of gaps))
-          (ap (λ l. open_ends l (map printed is) (map gap_of gaps)) (conflicts_moved ts rows c.requires.ascend same cs)) c.in_ok-push_open_ends.ensures)
-          (as_others (table (rows_of false x.ops ts acts rows) (rows_of true x.ops ts acts rows)) (table (rows_of false x.ops rows acts rows) (rows_of true x.ops rows acts rows))
-          (λ j. table (rows_moved ts rows c.requires.ascend same false x.ops acts rows j) (rows_moved ts rows c.requires.ascend same true x.ops acts rows j)) entries.2),
+          (as_others (open_ends (named c.args.names.now) (map (conflict_of ts) cs) (map printed is) (map gap_of gaps)) (open_ends (named c.args.names.now) (map (conflict_of rows) cs) (map printed is) (map gap_of gaps))
+          (ap (λ l. open_ends (named c.args.names.now) l (map printed is) (map gap_of gaps)) (conflicts_moved ts rows c.requires.ascend same cs)) c.in_ok-push_open_ends.ensures)
+          (as_others (table (named c.args.names.now) (rows_of false x.ops ts acts rows) (rows_of true x.ops ts acts rows)) (table (named c.args.names.now) (rows_of false x.ops rows acts rows) (rows_of true x.ops rows acts rows))
+          (λ j. table (named c.args.names.now) (rows_moved ts rows c.requires.ascend same false x.ops acts rows j) (rows_moved ts rows c.requires.ascend same true x.ops acts rows j)) entries.2),
     )

@@ -1,0 +1,171 @@
+//! `take` without files, which brings what an office made to its register.
+use crate::brought::say_brought;
+use clap::ArgMatches;
+use cli_faults::{CommandName, Named};
+use cli_open::engines::places::Place;
+use cli_open::engines::registers::Register;
+use cli_open::engines::streams::Writing;
+use cli_open::engines::{CliFault, Keep, Store, run_change, run_print};
+use cli_open::guards::{OfficeFile, TriedFile, TriedShelf};
+use cli_open::{
+    OpenOffice, Opened, Outcome, Rows, answered, explains, open_office, open_register, open_target,
+    word,
+};
+use reg_catch::{CatchUp, Catching, WouldCatchUp, caught_up};
+use reg_watch::Watched;
+use std::alloc::Global;
+use std::io::{self, Write};
+
+// The register before and after.
+#[derive(Drop)]
+struct Brought {
+    before: Register,
+    after: Register,
+}
+
+/// Joins all that the office of the office file at this path made to the register, and prints what changed. Where sentences are on,
+/// the last ones say what it brought.
+pub fn catch_up(rt: &HostRuntime, matches: &ArgMatches<'_>, path: &str) -> Outcome {
+    match caught_up_by(rt, matches, path) {
+        Ok(Some(brought)) => {
+            let named = Named::of(rt, CommandName::Take, matches).ok();
+            say_brought(rt, &brought.before, &brought.after, &named);
+            Outcome::Done
+        }
+        Ok(None) => Outcome::Done,
+        Err(fault) => Outcome::Fault(fault),
+    }
+}
+
+// The register before and after, where sentences are on and there was memory for copies.
+fn caught_up_by(
+    rt: &HostRuntime,
+    matches: &ArgMatches<'_>,
+    path: &str,
+) -> Result<Option<Brought>, CliFault> {
+    let mut office = open_office(rt, rt.alloc(), path)?;
+    let mut sink = Rows::sink(rt, matches, io::writer(rt));
+    let answer = if matches.get_flag("dry-run") {
+        try_to(rt, matches, &office.file, &mut sink)
+    } else {
+        catch_up_to(rt, matches, &mut office, &mut sink)
+    };
+    let answer = answered(rt.alloc(), sink, answer);
+    office.place.remove();
+    drop(office);
+    match answer {
+        Ok(answer) => answer,
+        Err(fault) => Err(fault),
+    }
+}
+
+fn catch_up_to<Q: Place, W: Write>(
+    rt: &HostRuntime,
+    matches: &ArgMatches<'_>,
+    office: &mut OpenOffice<Q>,
+    sink: &mut Writing<W>,
+) -> Result<Option<Brought>, CliFault> {
+    let mut target = open_target(rt, matches, word(matches, "REG"))?;
+    let OpenOffice { file, place } = office;
+    let file = &*file;
+    let mut store = Catching {
+        store: target.guarded(file, place),
+        file,
+    };
+    let answer = changed(rt.alloc(), &mut store, explains(matches), sink);
+    drop(store);
+    drop(target);
+    answer
+}
+
+fn changed<T: Keep, W: Write>(
+    alloc: Global,
+    store: &mut T,
+    tells: bool,
+    sink: &mut Writing<W>,
+) -> Result<Option<Brought>, CliFault> {
+    if !tells {
+        run_change(alloc, store, &mut CatchUp, sink)?;
+        return Ok(None);
+    }
+    let mut watched = Watched {
+        store,
+        loaded: None,
+        kept: None,
+    };
+    let answer = run_change(alloc, &mut watched, &mut CatchUp, sink);
+    let Watched {
+        store: _,
+        loaded,
+        kept,
+    } = watched;
+    answer?;
+    let Some(Ok(before)) = loaded else {
+        return Ok(None);
+    };
+    let Some(Ok(after)) = kept else {
+        return Ok(None);
+    };
+    Ok(Some(Brought { before, after }))
+}
+
+// Prints what would change, and writes nothing.
+fn try_to<W: Write>(
+    rt: &HostRuntime,
+    matches: &ArgMatches<'_>,
+    file: &OfficeFile,
+    sink: &mut Writing<W>,
+) -> Result<Option<Brought>, CliFault> {
+    let tells = explains(matches);
+    match open_register(rt, rt.alloc(), matches, "REG", &None)? {
+        Opened::File(source) => {
+            let mut source = source;
+            let mut store = TriedFile {
+                source: &mut source,
+                file,
+            };
+            printed(rt.alloc(), &mut store, file, tells, sink)
+        }
+        Opened::Shelf(disk) => {
+            let mut disk = disk;
+            let mut store = TriedShelf {
+                disk: &mut disk,
+                file,
+            };
+            printed(rt.alloc(), &mut store, file, tells, sink)
+        }
+    }
+}
+
+fn printed<T: Store, W: Write>(
+    alloc: Global,
+    store: &mut T,
+    file: &OfficeFile,
+    tells: bool,
+    sink: &mut Writing<W>,
+) -> Result<Option<Brought>, CliFault> {
+    let command = WouldCatchUp { file };
+    if !tells {
+        run_print(alloc, store, &command, sink)?;
+        return Ok(None);
+    }
+    let mut watched = Watched {
+        store,
+        loaded: None,
+        kept: None,
+    };
+    let answer = run_print(alloc, &mut watched, &command, sink);
+    let Watched {
+        store: _,
+        loaded,
+        kept: _,
+    } = watched;
+    answer?;
+    let Some(Ok(before)) = loaded else {
+        return Ok(None);
+    };
+    match caught_up(alloc, file, &before) {
+        Ok(after) => Ok(Some(Brought { before, after })),
+        Err(_) => Ok(None),
+    }
+}

@@ -1,0 +1,188 @@
+//! `lint`: what an expert would ask about the entries of a register, or about texts.
+use crate::look::told;
+use clap::ArgMatches;
+use cli_open::{
+    Outcome, Rows, answered, explains, is_twice, next_file, open, open_register, open_text,
+};
+use desk_lint::{RULES, Rule, Subject, TextsFault, read_texts, run_lint, run_lint_subjects};
+use reg_desk::{
+    CliFault, ImportFault, Problem, Reading, Recorded, Source, Unimported, Writing, explain_within,
+};
+use std::alloc::{AllocError, Global};
+use std::io::{self, Write};
+
+/// The message if a rule is named that does not exist.
+const NO_RULE: &str =
+    "error: --rule takes names of rules with commas between; crsreg help lint lists them";
+
+/// The message if standard input is named twice.
+const TWICE: &str = "error: standard input, -, is named twice";
+
+/// `lint`.
+pub fn lint(rt: &HostRuntime, matches: &ArgMatches<'_>) -> Result<Outcome, Unimported> {
+    let rules = match rules_of(rt.alloc(), matches) {
+        Ok(Some(rules)) => rules,
+        Ok(None) => return Ok(Outcome::Misuse(NO_RULE)),
+        Err(_) => return Ok(Outcome::Fault(CliFault::Memory)),
+    };
+    let paths = matches.get_strs("texts").unwrap_or(&[]);
+    if is_twice(paths) {
+        return Ok(Outcome::Misuse(TWICE));
+    }
+    if paths.is_empty() {
+        return Ok(told(matches, lint_register(rt, matches, &rules)));
+    }
+    let subjects = read_all(rt, matches, paths)?;
+    Ok(told(
+        matches,
+        lint_subjects(rt, matches, &rules, paths.len(), &subjects),
+    ))
+}
+
+// The rules of the option, or all; each once, in the order of all rules. None if a word is the name of no rule.
+fn rules_of(alloc: Global, matches: &ArgMatches<'_>) -> Result<Option<Vec<Rule>>, AllocError> {
+    let Some(list) = matches.get_str("rule") else {
+        return Ok(Some(Vec::from_slice(alloc, &RULES)?));
+    };
+    let mut named = Vec::new(alloc);
+    for word in list.as_bytes().split(|byte| *byte == b',') {
+        let Some(rule) = Rule::of_name(word) else {
+            return Ok(None);
+        };
+        named.push(rule)?;
+    }
+    let mut chosen = Vec::new(alloc);
+    for rule in RULES {
+        if named.contains(&rule) {
+            chosen.push(rule)?;
+        }
+    }
+    Ok(Some(chosen))
+}
+
+// Prints the rows of the register. Answers whether there are any.
+fn lint_register(
+    rt: &HostRuntime,
+    matches: &ArgMatches<'_>,
+    rules: &[Rule],
+) -> Result<bool, CliFault> {
+    let mut sink = Rows::sink(rt, matches, io::writer(rt));
+    let answer = lint_register_to(rt, matches, rules, &mut sink);
+    match answered(rt.alloc(), sink, answer) {
+        Ok(answer) => answer,
+        Err(fault) => Err(fault),
+    }
+}
+
+// The rows that were looked at before are in a file that is opened after the register, and read after it.
+fn lint_register_to<W: Write>(
+    rt: &HostRuntime,
+    matches: &ArgMatches<'_>,
+    rules: &[Rule],
+    sink: &mut Writing<W>,
+) -> Result<bool, CliFault> {
+    let register = open_register(rt, rt.alloc(), matches, "REG", &None)?;
+    let Some(path) = matches.get_str("known") else {
+        let mut none = Reading::new(b"".as_slice());
+        return run_lint(rt.alloc(), &mut register.reading(), rules, &mut none, sink);
+    };
+    let mut known = open(rt, next_file(&register), path)?;
+    run_lint(rt.alloc(), &mut register.reading(), rules, &mut known, sink)
+}
+
+// Prints the rows of the texts of so many files.
+fn lint_subjects(
+    rt: &HostRuntime,
+    matches: &ArgMatches<'_>,
+    rules: &[Rule],
+    files: usize,
+    subjects: &[Subject],
+) -> Result<bool, CliFault> {
+    let mut sink = Rows::sink(rt, matches, io::writer(rt));
+    let number = files.saturating_add(1);
+    let answer = lint_subjects_to(rt, matches, rules, number, subjects, &mut sink);
+    match answered(rt.alloc(), sink, answer) {
+        Ok(answer) => answer,
+        Err(fault) => Err(fault),
+    }
+}
+
+fn lint_subjects_to<W: Write>(
+    rt: &HostRuntime,
+    matches: &ArgMatches<'_>,
+    rules: &[Rule],
+    number: usize,
+    subjects: &[Subject],
+    sink: &mut Writing<W>,
+) -> Result<bool, CliFault> {
+    let Some(path) = matches.get_str("known") else {
+        let mut none = Reading::new(b"".as_slice());
+        return run_lint_subjects(rt.alloc(), subjects, rules, number, &mut none, sink);
+    };
+    let mut known = open(rt, number, path)?;
+    run_lint_subjects(rt.alloc(), subjects, rules, number, &mut known, sink)
+}
+
+// The reference systems of the texts. The files are opened and read one after another.
+fn read_all(
+    rt: &HostRuntime,
+    matches: &ArgMatches<'_>,
+    paths: &[&str],
+) -> Result<Vec<Subject>, Unimported> {
+    let mut subjects = Vec::new(rt.alloc());
+    for (i, path) in paths.iter().enumerate() {
+        let number = i.saturating_add(1);
+        let file = match open_text(rt, number, *path) {
+            Ok(file) => file,
+            Err(fault) => return Err(Unimported::plain(rt.alloc(), fault)),
+        };
+        let mut text = Recorded::new(rt.alloc(), file);
+        match read_texts(
+            rt.alloc(),
+            number,
+            path.as_bytes(),
+            &mut text,
+            &mut subjects,
+        ) {
+            Ok(()) => {}
+            Err(why) => return Err(unread(rt.alloc(), matches, *path, &text, why)),
+        }
+    }
+    Ok(subjects)
+}
+
+// A text that cannot be read is refused as by `import`.
+fn unread<S: Source>(
+    alloc: Global,
+    matches: &ArgMatches<'_>,
+    path: &str,
+    text: &Recorded<S>,
+    why: TextsFault,
+) -> Unimported {
+    match why {
+        TextsFault::Cli(fault) => Unimported::plain(alloc, fault),
+        TextsFault::Refused {
+            fault,
+            place,
+            len,
+            file,
+        } => {
+            let end = place.saturating_add(len);
+            let bytes = text.bytes().unwrap_or(&[]);
+            let notes = if explains(matches) {
+                explain_within(alloc, path, bytes, place, end, fault)
+            } else {
+                Ok(Vec::new(alloc))
+            };
+            let Ok(notes) = notes else {
+                return Unimported::plain(alloc, CliFault::Memory);
+            };
+            let fault = ImportFault::Refused {
+                problem: Problem::Unread(fault),
+                place: place.saturating_add(fault.place().unwrap_or(0)),
+                file,
+            };
+            Unimported { fault, notes }
+        }
+    }
+}

@@ -1,0 +1,76 @@
+//! The steps of `lint`.
+
+ghost use Rattle.std.specs.Prelude.{◌≡◌, IfOk, IfErr};
+ghost use Rattle.desk_lint.specs.Lint.{IsLintOf, IsLinted, IsUnlinted, AreLinted, AreUnlinted};
+
+use byte_io::{Sink, Source, write_all};
+use reg_engine::{CliFault, OutFault, Store, read_whole};
+use reg_lint::{Rule, Subject, has_rows, known_rows, lint_text, live_subjects};
+use std::alloc::{AllocError, Global};
+
+/// Loads the register, reads the rows that were looked at before from the file after it, and writes the other rows of the entries
+/// that are not retired and break one of the rules. Returns whether there are any.
+pub fn run_lint<T: Store, S: Source, K: Sink>(
+    alloc: Global,
+    store: &mut T,
+    rules: &[Rule],
+    known: &mut S,
+    sink: &mut K,
+) -> Result<bool, CliFault>
+    ensures same { T.same store.old store.new }
+    ensures printed { IfOk result (IsLinted rules.now (T.around store.old store.new) (S.state known.old) (S.state known.new) (K.state sink.old) (K.state sink.new)) }
+    ensures fault { IfErr result (IsUnlinted rules.now (T.around store.old store.new) (T.next store.old) (S.state known.old) (S.state known.new) (K.state sink.old) (K.state sink.new)) }
+{
+    let next = store.next();
+    let register = match store.load(alloc) {
+        Ok(register) => register,
+        Err(fault) => return Err(fault),
+    };
+    let subjects = match live_subjects(alloc, &register) {
+        Ok(subjects) => subjects,
+        Err(_) => return Err(CliFault::Memory),
+    };
+    match run_lint_subjects(alloc, &subjects, rules, next, known, sink) {
+        Ok(any) => Ok(any),
+        Err(fault) => Err(fault),
+    }
+}
+
+/// The same of these reference systems. The file of the rows that were looked at before has this number.
+pub fn run_lint_subjects<S: Source, K: Sink>(
+    alloc: Global,
+    subjects: &[Subject],
+    rules: &[Rule],
+    number: usize,
+    known: &mut S,
+    sink: &mut K,
+) -> Result<bool, CliFault>
+    ensures printed { IfOk result (AreLinted rules.now subjects.now (S.state known.old) (S.state known.new) (K.state sink.old) (K.state sink.new)) }
+    ensures fault { IfErr result (AreUnlinted rules.now subjects.now number (S.state known.old) (S.state known.new) (K.state sink.old) (K.state sink.new)) }
+{
+    let bytes = match read_whole(alloc, number, known) {
+        Ok(bytes) => bytes,
+        Err(fault) => return Err(fault),
+    };
+    let text = match lint_beside(alloc, subjects, rules, &bytes) {
+        Ok(text) => text,
+        Err(_) => return Err(CliFault::Memory),
+    };
+    match write_all(sink, &text) {
+        Ok(()) => Ok(has_rows(&text)),
+        Err(fault) => Err(CliFault::Out(OutFault::WriteFailed(fault.written))),
+    }
+}
+
+fn lint_beside(
+    alloc: Global,
+    subjects: &[Subject],
+    rules: &[Rule],
+    known: &[u8],
+) -> Result<Vec<u8>, AllocError>
+    ensures { IfOk result (λ text. IsLintOf rules.now known.now subjects.now text.items) }
+{
+    let known = known_rows(alloc, known)?;
+    let text = lint_text(alloc, &known, rules, subjects)?;
+    Ok(text)
+}

@@ -1,0 +1,130 @@
+//! The texts of a file.
+
+ghost use Rattle.std.specs.Prelude.{◌≡◌, ◌++◌, ◌∷◌, [], decimal, IfOk, IfErr, OnOk, map};
+ghost use Rattle.wkt_crs.specs.Spells.{Spells};
+ghost use Rattle.wkt_texts.specs.Texts.{piece_of};
+ghost use Rattle.reg_lint.specs.declared.subject.Subject.{Subject};
+ghost use Rattle.reg_lint.specs.Texts.{label_of, IsTextSubject, AreTextSubjects, AreSubjectsOf, IsUnread, IsFirstUnread, IsFileUnread, why_of};
+
+use crate::subject::Subject;
+use crs_value::Crs;
+use itoa::Buffer;
+use std::alloc::{AllocError, Global};
+use wkt_crs::{Unspelled, read_crs};
+use wkt_texts::{Cut, texts};
+
+/// Why the texts of a file are not looked at.
+#[derive(Clone, Copy, Debug, PartialEq, Eq)]
+pub enum Unread {
+    /// A text spells no reference system, for this reason.
+    Refused {
+        fault: Unspelled,
+        /// The offset in the file of the text's first byte.
+        place: usize,
+        /// The length of the text in bytes.
+        len: usize,
+    },
+    Memory,
+}
+
+/// Appends the reference systems of a file's texts, in order. Each is named by the file and the offset of its text.
+pub fn push_texts(
+    alloc: Global,
+    subjects: &mut Vec<Subject>,
+    name: &[u8],
+    file: &[u8],
+) -> Result<(), Unread>
+    ensures ok { OnOk result (AreSubjectsOf name.now file.now subjects.old.items subjects.new.items) }
+    ensures fault { IfErr result (IsFileUnread file.now) }
+{
+    let Ok(cuts) = texts(alloc, file) else {
+        return Err(Unread::Memory);
+    };
+    match push_cuts(alloc, subjects, name, &cuts) {
+        Ok(()) => Ok(()),
+        Err(why) => Err(why),
+    }
+}
+
+fn push_cuts(
+    alloc: Global,
+    subjects: &mut Vec<Subject>,
+    name: &[u8],
+    cuts: &[Cut<'_>],
+) -> Result<(), Unread>
+    ensures ok { OnOk result (AreTextSubjects name.now (map piece_of cuts.now) subjects.old.items subjects.new.items) }
+    ensures fault { IfErr result (IsFirstUnread (map piece_of cuts.now)) }
+{
+    for cut in cuts {
+        push_text(alloc, subjects, name, cut)?;
+    }
+    Ok(())
+}
+
+fn push_text(
+    alloc: Global,
+    subjects: &mut Vec<Subject>,
+    name: &[u8],
+    cut: &Cut<'_>,
+) -> Result<(), Unread>
+    ensures ok { OnOk result ((s : Subject) × IsTextSubject name.now (piece_of cut.now) s × (subjects.new.items ≡ subjects.old.items ++ s ∷ [])) }
+    ensures fault { IfErr result (IsUnread (piece_of cut.now)) }
+{
+    let subject = match subject_at(alloc, name, cut) {
+        Ok(subject) => subject,
+        Err(why) => return Err(why),
+    };
+    match subjects.push(subject) {
+        Ok(()) => Ok(()),
+        Err(_) => Err(Unread::Memory),
+    }
+}
+
+fn subject_at(alloc: Global, name: &[u8], cut: &Cut<'_>) -> Result<Subject, Unread>
+    ensures ok { IfOk result (IsTextSubject name.now (piece_of cut.now)) }
+    ensures fault { IfErr result (IsUnread (piece_of cut.now)) }
+{
+    let crs = match read_at(alloc, cut) {
+        Ok(crs) => crs,
+        Err(why) => return Err(why),
+    };
+    let Ok(label) = label_of(alloc, name, cut.place) else {
+        return Err(Unread::Memory);
+    };
+    Ok(Subject { label, crs })
+}
+
+fn read_at(alloc: Global, cut: &Cut<'_>) -> Result<Crs, Unread>
+    ensures ok { IfOk result (Spells cut.now.bytes.now) }
+    ensures fault { IfErr result (IsUnread (piece_of cut.now)) }
+{
+    match read_crs(alloc, cut.bytes) {
+        Ok(crs) => Ok(crs),
+        Err(fault) => Err(why_of(cut, fault.unspelled())),
+    }
+}
+
+// Why the text is refused.
+fn why_of(cut: &Cut<'_>, fault: Option<Unspelled>) -> Unread
+    ensures { result ≡ why_of (piece_of cut.now) fault }
+{
+    match fault {
+        Some(fault) => Unread::Refused {
+            fault,
+            place: cut.place,
+            len: cut.bytes.len(),
+        },
+        None => Unread::Memory,
+    }
+}
+
+fn label_of(alloc: Global, name: &[u8], place: usize) -> Result<Vec<u8>, AllocError>
+    ensures { IfOk result (λ label. label.items ≡ label_of name.now place) }
+{
+    let mut label = Vec::new(alloc);
+    label.extend_from_slice(name)?;
+    label.push(b':')?;
+    let mut buffer = Buffer::new();
+    label.extend_from_slice(buffer.format(place).as_bytes())?;
+    Ok(label)
+}

@@ -1,0 +1,11 @@
+use Rattle.html_page.proofs.TextLemmas.{in_order}
+use Rattle.reg_page.specs.Page.{named}
+use Rattle.reg_page.proofs.TextLemmas.{all_show, all_in_order}
+use Rattle.reg_page.proofs.laws.texts_are_in_order.Goals as goal
+
+pub returns : goal.returns
+returns c = record {
+  rows = all_show;
+  sorted = all_in_order;
+  page = λ title names x bytes p. (p.is, in_order (named names) p.shows);
+}

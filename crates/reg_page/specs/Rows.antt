@@ -1,0 +1,37 @@
+-- What a row of the page shows of the register, and the order of rows.
+use Rattle.std.specs.Prelude.{◌≡◌, ℕ, true, List}
+use Rattle.std.specs.declared.cmp.Ordering.{Ordering}
+use Rattle.std.specs.Ordering.{nat_cmp, ordering_then}
+use Rattle.std.specs.Cmp.Lexicographic.{slice_cmp}
+use Rattle.crs_part.specs.Slots.{name_of}
+use Rattle.crs_value.specs.declared.crs.Crs.{Crs}
+use Rattle.crs_value.specs.declared.key.Key.{Key}
+use Rattle.wkt_crs.specs.Spells.{pretty}
+use Rattle.wkt_crs.specs.Definition.{IsCrsOf, IsKeyIn}
+use Rattle.html_page.specs.Shown as shown
+use Rattle.reg_op.specs.Ids.{Id}
+use Rattle.reg_op.specs.Kept.{entering}
+use Rattle.reg_op.specs.Operations.{Ops}
+use Rattle.reg_op.specs.Set as set
+use Rattle.reg_op.specs.Text.{printed}
+use Rattle.reg_page.specs.Codes.{code_cmp}
+
+-- the row is that of an entry of the register: it has the key and the name of the reference system that the definition spells, and
+-- its indented text
+pub record ShowsEntry (s : Ops) (e : shown.Entry) : Type 0 where
+  pub id : Id
+  pub definition : List ℕ
+  pub entered : set.contains s (entering id definition e.note) ≡ true
+  pub prints : e.id ≡ printed id
+  pub key : Key
+  pub keyed : IsKeyIn key definition
+  pub authority : e.authority ≡ key.authority.bytes
+  pub code : e.code ≡ key.code.bytes
+  pub crs : Crs
+  pub spelled : IsCrsOf crs definition
+  pub name : e.name ≡ (name_of crs.parts).bytes
+  pub text : e.text ≡ pretty crs
+
+-- by the bytes of the authority, and then by the code
+abbrev pub entry_cmp : shown.Entry → shown.Entry → Ordering
+entry_cmp a b = ordering_then (slice_cmp nat_cmp a.authority b.authority) (code_cmp a.code b.code)

@@ -1,0 +1,9 @@
+//! Characters that a reader does not see, or that act on a terminal or on other characters: which they are, and where bytes have one.
+#![tactic(auto)]
+
+mod bytes;
+pub mod laws;
+mod set;
+
+pub use bytes::{Hidden, hidden_at};
+pub use set::{is_hidden, is_hidden_code};
