@@ -72,9 +72,9 @@ first_write s c was bytes gate size head slot fits torn =
       (slot.0, kept),
     )
 
--- after a write of the gate, even if it is cut short, the image is a shelf with the old bytes or with the new ones
+-- after a write of the gate, even if it is cut short, the image is a shelf of the same size with the old bytes or with the new ones
 pub second_write : (d c was bytes : List ℕ) (gate size : ℕ) → HasHead d gate size → HasSlot d gate size was → IsSize size → length bytes ≤ size
-    → StandAt d (place size (1 - gate % 2)) (framed bytes) → Torn 0 1 d c → IsShelf c was ⊎ IsShelf c bytes
+    → StandAt d (place size (1 - gate % 2)) (framed bytes) → Torn 0 1 d c → IsShelfOf c size was ⊎ IsShelfOf c size bytes
 second_write d c was bytes gate size head slot range fits there torn =
     let g = get_or c 0 0 in
     let long : 1 ≤ length c = omega (arith, torn.no_shorter, ap length head.gate_stands, length-take 1 d) in
@@ -84,15 +84,15 @@ second_write d c was bytes gate size head slot range fits there torn =
     let new_slot = stays_after d c (framed bytes) (place size (1 - gate % 2)) 0 1 torn there (omega (arith, behind size (1 - gate % 2))) in
     let which : (g % 2 ≡ gate % 2) ⊎ (g % 2 ≡ 1 - gate % 2) = two_ways (g % 2) (gate % 2) (omega arith) (omega arith) in
     elim which [
-      | inl same ↦ inl (record { gate = g; size = size; in_range = range; head = new_head; within = slot.0; slot = subst (λ (k : ℕ). StandAt c (place size k) (framed was)) (sym same) old_slot })
-      | inr other ↦ inr (record { gate = g; size = size; in_range = range; head = new_head; within = fits; slot = subst (λ (k : ℕ). StandAt c (place size k) (framed bytes)) (sym other) new_slot })
+      | inl same ↦ inl (record { gate = g; size = size; in_range = range; head = new_head; within = slot.0; slot = subst (λ (k : ℕ). StandAt c (place size k) (framed was)) (sym same) old_slot }, refl)
+      | inr other ↦ inr (record { gate = g; size = size; in_range = range; head = new_head; within = fits; slot = subst (λ (k : ℕ). StandAt c (place size k) (framed bytes)) (sym other) new_slot }, refl)
     ]
 
 pub each_stop : (s was bytes : List ℕ) (gate size : ℕ) → HasHead s gate size → IsShelf s was → length bytes ≤ size → (c : List ℕ)
-    → InTwo (place size (1 - gate % 2)) (framed bytes) 0 1 s c → IsShelf c was ⊎ IsShelf c bytes
+    → InTwo (place size (1 - gate % 2)) (framed bytes) 0 1 s c → IsShelfOf c size was ⊎ IsShelfOf c size bytes
 each_stop s was bytes gate size head shelf fits c (inl torn) =
     let left = first_write s c was bytes gate size head (slot_of s was gate size head shelf) fits torn in
-    inl (record { gate = gate; size = size; in_range = range_of s was gate size head shelf; head = left.0; within = left.1.0; slot = left.1.1 })
+    inl (record { gate = gate; size = size; in_range = range_of s was gate size head shelf; head = left.0; within = left.1.0; slot = left.1.1 }, refl)
 each_stop s was bytes gate size head shelf fits c (inr (d, holds, torn)) =
     let left = first_write s d was bytes gate size head (slot_of s was gate size head shelf) fits holds.torn in
     second_write d c was bytes gate size left.0 left.1 (range_of s was gate size head shelf) fits holds.here torn

@@ -73,6 +73,11 @@ pub fn put<D: Disk>(disk: &mut D, frame: &Frame) -> Result<(), ShelfFault>
         → (was bytes : List ℕ) → IsShelf (D.seen disk.old) was → IsReady (D.seen disk.old) bytes frame.now
         → LeavesOnly D.moment D.images_since disk.old disk.new
         (λ c. IsShelf c was ⊎ IsShelf c bytes) }
+    // Its slots have the size that they had.
+    ensures size_stays { IsTrue (D.tells disk.old) → Only (D.seen disk.old) (D.images disk.old)
+        → (was bytes : List ℕ) (size : ℕ) → IsShelfOf (D.seen disk.old) size was → IsReady (D.seen disk.old) bytes frame.now
+        → LeavesOnly D.moment D.images_since disk.old disk.new
+        (λ c. IsShelfOf c size was ⊎ IsShelfOf c size bytes) }
     ensures kept { IsTrue (D.tells disk.old)
         → (was bytes : List ℕ) → IsShelf (D.seen disk.old) was → IsReady (D.seen disk.old) bytes frame.now
         → OnOk result (Only (D.seen disk.new) (D.images disk.new)
@@ -98,6 +103,10 @@ pub fn keep<D: Disk>(alloc: Global, disk: &mut D, bytes: &[u8]) -> Result<(), Sh
     ensures any_moment { IsTrue (D.tells disk.old) → (was : List ℕ) → IsShelf (D.seen disk.old) was
         → LeavesOnly D.moment D.images_since disk.old disk.new
         (λ c. D.images disk.old c ⊎ (IsShelf c was ⊎ IsShelf c bytes.now)) }
+    // Its slots have the size that they had.
+    ensures size_stays { IsTrue (D.tells disk.old) → (was : List ℕ) (size : ℕ) → IsShelfOf (D.seen disk.old) size was
+        → LeavesOnly D.moment D.images_since disk.old disk.new
+        (λ c. D.images disk.old c ⊎ (IsShelfOf c size was ⊎ IsShelfOf c size bytes.now)) }
     ensures kept { IsTrue (D.tells disk.old) → (was : List ℕ) → IsShelf (D.seen disk.old) was
         → OnOk result (Only (D.seen disk.new) (D.images disk.new)
         × IsShelf (D.seen disk.new) bytes.now) }

@@ -12,7 +12,7 @@ use cli_open::{
     word,
 };
 use reg_catch::{CatchUp, Catching, WouldCatchUp, caught_up};
-use reg_watch::Watched;
+use reg_watch::{Notes, Watched};
 use std::alloc::Global;
 use std::io::{self, Write};
 
@@ -88,18 +88,16 @@ fn changed<T: Keep, W: Write>(
         run_change(alloc, store, &mut CatchUp, sink)?;
         return Ok(None);
     }
-    let mut watched = Watched {
-        store,
-        loaded: None,
-        kept: None,
+    let mut notes = Notes::none();
+    let answer = {
+        let mut watched = Watched {
+            store,
+            notes: &mut notes,
+        };
+        run_change(alloc, &mut watched, &mut CatchUp, sink)
     };
-    let answer = run_change(alloc, &mut watched, &mut CatchUp, sink);
-    let Watched {
-        store: _,
-        loaded,
-        kept,
-    } = watched;
     answer?;
+    let Notes { loaded, kept } = notes;
     let Some(Ok(before)) = loaded else {
         return Ok(None);
     };
@@ -149,18 +147,16 @@ fn printed<T: Store, W: Write>(
         run_print(alloc, store, &command, sink)?;
         return Ok(None);
     }
-    let mut watched = Watched {
-        store,
-        loaded: None,
-        kept: None,
+    let mut notes = Notes::none();
+    let answer = {
+        let mut watched = Watched {
+            store,
+            notes: &mut notes,
+        };
+        run_print(alloc, &mut watched, &command, sink)
     };
-    let answer = run_print(alloc, &mut watched, &command, sink);
-    let Watched {
-        store: _,
-        loaded,
-        kept: _,
-    } = watched;
     answer?;
+    let Notes { loaded, kept: _ } = notes;
     let Some(Ok(before)) = loaded else {
         return Ok(None);
     };

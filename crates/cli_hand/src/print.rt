@@ -4,7 +4,7 @@ use cli_open::engines::CliFault;
 use cli_open::{entry, names_again, print_of, word};
 use reg_commands::{Form, Ops, Show, Wkt};
 use reg_keyed::{ByWord, PrintOf, ShowOf, WktOf};
-use reg_page::Page;
+use reg_page::{Page, RULES};
 
 /// The title of a page without one.
 const NO_TITLE: &str = "The register";
@@ -74,6 +74,11 @@ pub fn page(rt: &HostRuntime, matches: &ArgMatches<'_>) -> Result<(), CliFault> 
     let page = Page {
         title: matches.get_str("title").unwrap_or(NO_TITLE).as_bytes(),
         names: names.as_slice(),
+        rules: if matches.get_flag("lint") {
+            &RULES
+        } else {
+            &[]
+        },
     };
     print_of(rt, matches, &page)
 }

@@ -1,7 +1,9 @@
 //! The command `import`.
+use crate::brought::{Brought, say_brought};
+use crate::tried::Tried;
 use byte_late::{LateFile, LateSource};
 use clap::ArgMatches;
-use cli_change::{Desk, News, TWICE, Watched, office_named, open_desk, say_news};
+use cli_change::{Desk, Notes, TWICE, Watched, office_named, open_desk};
 use cli_open::engines::places::Place;
 use cli_open::engines::{Either, Keep};
 use cli_open::guards::{OfficeFile, TriedFile, TriedShelf};
@@ -10,22 +12,22 @@ use cli_open::{
     is_twice, open_target, word,
 };
 use reg_desk::{
-    CliFault, Differs, FileDisk, ImportFault, ImportOptions, InputFault, InputOf, OfFile, OnShelf,
-    Reading, Source, Unimported, Writing, run_import, try_import,
+    CliFault, Differs, FileDisk, HasRoom, ImportFault, ImportOptions, InputFault, InputOf, OfFile,
+    OnShelf, Reading, Source, Unimported, Writing, run_import, try_import,
 };
 use std::alloc::{AllocError, Global};
 use std::fs::{File, OpenFile};
 use std::io::{self, Read, Seek, Write};
 use std::rt::Files;
 
-/// Why texts were not imported, or not all of them, and what the register has now, if sentences are on.
+/// Why texts were not imported, or not all of them, and what the others brought, if sentences are on.
 #[derive(Drop)]
 pub struct NotImported {
     pub why: Unimported,
-    pub news: Option<News>,
+    pub brought: Brought,
 }
 
-/// `import`. Where sentences are on, the last one says what it brought.
+/// `import`. Where sentences are on, the last ones say what it brought.
 pub fn import(rt: &HostRuntime, matches: &ArgMatches<'_>) -> Result<Outcome, NotImported> {
     let paths = matches.get_strs("FILE").unwrap_or(&[]);
     if is_twice(paths) {
@@ -42,15 +44,15 @@ pub fn import(rt: &HostRuntime, matches: &ArgMatches<'_>) -> Result<Outcome, Not
         Ok(desk) => desk,
         Err(fault) => return Ok(Outcome::Fault(fault)),
     };
-    let mut news = None;
-    let answer = import_at(rt, matches, &mut desk, paths, &names, &mut news);
+    let mut brought = Brought::nothing(rt.alloc());
+    let answer = import_at(rt, matches, &mut desk, paths, &names, &mut brought);
     desk.close();
     match answer {
         Ok(outcome) => {
-            say_news(rt, &news);
+            say_brought(rt, &brought);
             Ok(outcome)
         }
-        Err(why) => Err(NotImported { why, news }),
+        Err(why) => Err(NotImported { why, brought }),
     }
 }
 
@@ -69,7 +71,7 @@ fn import_at<Q: Place>(
     desk: &mut Desk<Q>,
     paths: &[&str],
     names: &[String],
-    news: &mut Option<News>,
+    brought: &mut Brought,
 ) -> Result<Outcome, Unimported> {
     let target = match open_target(rt, matches, out_of(matches)) {
         Ok(target) => target,
@@ -79,7 +81,7 @@ fn import_at<Q: Place>(
         return Ok(Outcome::Fault(CliFault::Memory));
     };
     let first = target.next().saturating_add(files_before(matches));
-    let answer = import_from(rt, matches, desk, target, &mut files, names, news);
+    let answer = import_from(rt, matches, desk, target, &mut files, names, brought);
     with_openings(answer, &files, first)
 }
 
@@ -162,7 +164,7 @@ fn import_from<Q: Place, P: Place + Drop, S: Source>(
     target: Target<File, P>,
     files: &mut [S],
     names: &[String],
-    news: &mut Option<News>,
+    brought: &mut Brought,
 ) -> Result<Outcome, Unimported> {
     let order = ImportOptions {
         replica: desk.replica,
@@ -176,9 +178,18 @@ fn import_from<Q: Place, P: Place + Drop, S: Source>(
     };
     let mut sink = Rows::sink(rt, matches, io::writer(rt));
     let answer = if matches.get_flag("dry-run") {
-        import_tried(rt.alloc(), desk.made(), target, files, &order, &mut sink)
+        import_tried(
+            rt,
+            matches,
+            desk.made(),
+            target,
+            files,
+            &order,
+            &mut sink,
+            brought,
+        )
     } else {
-        import_to(rt, desk, target, files, &order, &mut sink, news)
+        import_to(rt, matches, desk, target, files, &order, &mut sink, brought)
     };
     match answered(rt.alloc(), sink, answer) {
         Ok(Ok(())) => Ok(Outcome::Done),
@@ -187,20 +198,26 @@ fn import_from<Q: Place, P: Place + Drop, S: Source>(
     }
 }
 
-// Imports the files, and prints the rows to the sink. If texts are explained, the news are noted.
+// Whether rows are printed about the entries that are entered: if sentences are on.
+fn lints(matches: &ArgMatches<'_>, order: &ImportOptions<'_>) -> bool {
+    order.explain && matches.get_flag("lint")
+}
+
+// Imports the files, and prints the rows to the sink. If texts are explained, what it brings is noted.
 fn import_to<Q: Place, P: Place + Drop, S: Source, W: Write>(
     rt: &HostRuntime,
+    matches: &ArgMatches<'_>,
     desk: &mut Desk<Q>,
     target: Target<File, P>,
     files: &mut [S],
     order: &ImportOptions<'_>,
     sink: &mut Writing<W>,
-    news: &mut Option<News>,
+    brought: &mut Brought,
 ) -> Result<(), Unimported> {
     let mut target = target;
     let mut store = target.store(&mut desk.file);
     let answer = if order.explain {
-        import_and_note(rt.alloc(), &mut store, files, order, sink, news)
+        import_and_note(rt, matches, &mut store, files, order, sink, brought)
     } else {
         run_import(rt.alloc(), &mut store, files, order, sink)
     };
@@ -210,37 +227,70 @@ fn import_to<Q: Place, P: Place + Drop, S: Source, W: Write>(
 }
 
 fn import_and_note<T: Keep, S: Source, W: Write>(
-    alloc: Global,
+    rt: &HostRuntime,
+    matches: &ArgMatches<'_>,
     store: &mut T,
     files: &mut [S],
     order: &ImportOptions<'_>,
     sink: &mut Writing<W>,
-    news: &mut Option<News>,
+    brought: &mut Brought,
 ) -> Result<(), Unimported> {
-    let mut watched = Watched {
-        store,
-        loaded: None,
-        kept: None,
+    let mut notes = Notes::none();
+    let answer = {
+        let mut watched = Watched {
+            store,
+            notes: &mut notes,
+        };
+        run_import(rt.alloc(), &mut watched, files, order, sink)
     };
-    let answer = run_import(alloc, &mut watched, files, order, sink);
-    if let Ok(told) = watched.news(alloc) {
-        *news = told;
+    if let Ok(told) = notes.news(rt.alloc()) {
+        brought.news = told;
+    }
+    if lints(matches, order) {
+        brought.ask(rt, matches, &notes.loaded, &notes.kept);
     }
     answer
 }
 
 // `import --dry-run`, which opens no OUT.
 fn import_tried<F: Read + Write + Seek + OpenFile + Drop, P: Place + Drop, S: Source, W: Write>(
-    alloc: Global,
+    rt: &HostRuntime,
+    matches: &ArgMatches<'_>,
     office: Option<&OfficeFile>,
     target: Target<F, P>,
     files: &mut [S],
     order: &ImportOptions<'_>,
     sink: &mut Writing<W>,
+    brought: &mut Brought,
 ) -> Result<(), Unimported> {
     let mut target = target;
-    let answer = try_import(alloc, &mut tried(&mut target, office), files, order, sink);
+    let mut store = tried(&mut target, office);
+    let answer = if lints(matches, order) {
+        try_and_note(rt, matches, &mut store, files, order, sink, brought)
+    } else {
+        try_import(rt.alloc(), &mut store, files, order, sink)
+    };
+    drop(store);
     drop(target);
+    answer
+}
+
+fn try_and_note<T: HasRoom, S: Source, W: Write>(
+    rt: &HostRuntime,
+    matches: &ArgMatches<'_>,
+    store: &mut T,
+    files: &mut [S],
+    order: &ImportOptions<'_>,
+    sink: &mut Writing<W>,
+    brought: &mut Brought,
+) -> Result<(), Unimported> {
+    let mut tried = Tried {
+        store,
+        loaded: None,
+        fitting: None,
+    };
+    let answer = try_import(rt.alloc(), &mut tried, files, order, sink);
+    brought.ask(rt, matches, &tried.loaded, &tried.fitting);
     answer
 }
 

@@ -1,10 +1,13 @@
 //! The commands `enter`, `import` and `settle`.
 #![tactic(auto)]
 
+mod brought;
 mod entering;
 mod importing;
 mod settling;
+mod tried;
 
+pub use brought::{Brought, say_brought};
 pub use cli_change as changes;
 pub use entering::enter;
 pub use importing::{NotImported, import};

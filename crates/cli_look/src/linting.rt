@@ -4,7 +4,9 @@ use clap::ArgMatches;
 use cli_open::{
     Outcome, Rows, answered, explains, is_twice, next_file, open, open_register, open_text,
 };
-use desk_lint::{RULES, Rule, Subject, TextsFault, read_texts, run_lint, run_lint_subjects};
+use desk_lint::{
+    ANY_RULES, AnyRule, Subject, TextsFault, read_texts, run_lint, run_lint_subjects, usual_of,
+};
 use reg_desk::{
     CliFault, ImportFault, Problem, Reading, Recorded, Source, Unimported, Writing, explain_within,
 };
@@ -39,20 +41,21 @@ pub fn lint(rt: &HostRuntime, matches: &ArgMatches<'_>) -> Result<Outcome, Unimp
     ))
 }
 
-// The rules of the option, or all; each once, in the order of all rules. None if a word is the name of no rule.
-fn rules_of(alloc: Global, matches: &ArgMatches<'_>) -> Result<Option<Vec<Rule>>, AllocError> {
+// The rules of the option, or those that need not be named; each once, in the order of all rules. None if a word is the name of no rule.
+fn rules_of(alloc: Global, matches: &ArgMatches<'_>) -> Result<Option<Vec<AnyRule>>, AllocError> {
     let Some(list) = matches.get_str("rule") else {
-        return Ok(Some(Vec::from_slice(alloc, &RULES)?));
+        let usual = usual_of(alloc, &ANY_RULES)?;
+        return Ok(Some(usual));
     };
     let mut named = Vec::new(alloc);
     for word in list.as_bytes().split(|byte| *byte == b',') {
-        let Some(rule) = Rule::of_name(word) else {
+        let Some(rule) = AnyRule::of_name(word) else {
             return Ok(None);
         };
         named.push(rule)?;
     }
     let mut chosen = Vec::new(alloc);
-    for rule in RULES {
+    for rule in ANY_RULES {
         if named.contains(&rule) {
             chosen.push(rule)?;
         }
@@ -64,7 +67,7 @@ fn rules_of(alloc: Global, matches: &ArgMatches<'_>) -> Result<Option<Vec<Rule>>
 fn lint_register(
     rt: &HostRuntime,
     matches: &ArgMatches<'_>,
-    rules: &[Rule],
+    rules: &[AnyRule],
 ) -> Result<bool, CliFault> {
     let mut sink = Rows::sink(rt, matches, io::writer(rt));
     let answer = lint_register_to(rt, matches, rules, &mut sink);
@@ -78,7 +81,7 @@ fn lint_register(
 fn lint_register_to<W: Write>(
     rt: &HostRuntime,
     matches: &ArgMatches<'_>,
-    rules: &[Rule],
+    rules: &[AnyRule],
     sink: &mut Writing<W>,
 ) -> Result<bool, CliFault> {
     let register = open_register(rt, rt.alloc(), matches, "REG", &None)?;
@@ -94,7 +97,7 @@ fn lint_register_to<W: Write>(
 fn lint_subjects(
     rt: &HostRuntime,
     matches: &ArgMatches<'_>,
-    rules: &[Rule],
+    rules: &[AnyRule],
     files: usize,
     subjects: &[Subject],
 ) -> Result<bool, CliFault> {
@@ -110,7 +113,7 @@ fn lint_subjects(
 fn lint_subjects_to<W: Write>(
     rt: &HostRuntime,
     matches: &ArgMatches<'_>,
-    rules: &[Rule],
+    rules: &[AnyRule],
     number: usize,
     subjects: &[Subject],
     sink: &mut Writing<W>,

@@ -159,7 +159,7 @@ pub const KEYS: Argument = Argument {
 /// The names of offices.
 pub const NAMES: Argument = Argument {
     name: "names",
-    help: "Names of offices for tables, sentences, page, graph (default: $CRSREG_NAMES)",
+    help: "Office names for tables, sentences, page, graph (default: $CRSREG_NAMES)",
     role: Role::Names,
     kind: Kind::Option("FILE"),
     default: Preset::Variable(Variable::Names),

@@ -188,6 +188,11 @@ static PAGE: CommandRow = CommandRow {
             kind: Kind::Text("T"),
             ..FLAG
         },
+        Argument {
+            name: "lint",
+            help: "Shows what looks wrong in an entry below its text",
+            ..FLAG
+        },
         READ_SHELF,
     ],
     is_office: false,

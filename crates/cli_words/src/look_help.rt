@@ -48,9 +48,12 @@ detail; further columns are passed over.
 
 With --exit-code the status is 1 if there are rows.
 
-The rules are accuracy, angle, away, axes, axisname, box, dms, ellipsoid,
-falseunit, figure, height, key, meridian, name, operation, parallels, primem,
-quantity, scale, unit, unitname and zone.
+The rules are accuracy, angle, away, axes, axisname, box, case, datum, dms,
+ellipsoid, falseunit, figure, height, key, meridian, name, operation, parallels,
+parts, primem, quantity, radian, refname, samename, scale, twin, unit, unitname
+and zone. Without --rule it looks by all of these but twin. The rules case,
+datum, parts, refname, samename and twin look at a text beside all others of the
+register or of the files.
 
 Example:
   crsreg lint office.crs --known looked-at.csv --table
@@ -70,7 +73,8 @@ with their texts side by side, awaited ids, gaps, and a row for each entry with
 its text and its history. The file needs no network and no other file. A browser
 can search and print it.
 
-Equal registers have equal pages: there is no date. Without --title the title is
+With --lint, the sentences of lint about an entry follow its text. Equal
+registers have equal pages: there is no date. Without --title the title is
 \"The register\".
 
 Example:

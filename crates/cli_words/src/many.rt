@@ -45,6 +45,11 @@ static IMPORT: CommandRow = CommandRow {
             kind: Kind::Text("AUTHORITY"),
             ..FLAG
         },
+        Argument {
+            name: "lint",
+            help: "Where sentences are on, prints what looks wrong in what is entered",
+            ..FLAG
+        },
     ],
     is_office: true,
     prints_rows: true,

@@ -25,8 +25,10 @@ the action linked is printed for each, with the entry that is superseded.
 The first refused text ends the command, and nothing is written. With
 --keep-going it is listed with its fault, the others are entered, and the
 status is 1. With --explain, the place and the reason follow for each refused
-text, and a sentence that says what has changed in the register. Importing the
-same files again in the same mode changes nothing.
+text, and a sentence that says what has changed in the register. With --lint,
+the rows of lint about the entries that came are printed below it; with
+--dry-run, those about the entries that would come. Importing the same files
+again in the same mode changes nothing.
 
 Example:
   crsreg import office.crs --as 00000000-0000-4000-8000-00000000000a \\

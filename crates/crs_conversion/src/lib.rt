@@ -10,7 +10,7 @@ mod scale;
 
 pub use angle::{breaks_angle, tell_angle};
 pub use false_unit::{breaks_false_unit, tell_false_unit};
-pub use packed::{breaks_packed, tell_packed};
+pub use packed::{breaks_packed, is_packed_unit, tell_packed};
 pub use parallels::{breaks_parallels, tell_parallels};
-pub use quantity::{breaks_quantity, tell_quantity};
+pub use quantity::{breaks_quantity, is_angle_name, tell_quantity};
 pub use scale::{breaks_scale, tell_scale};

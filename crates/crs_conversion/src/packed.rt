@@ -127,7 +127,7 @@ fn is_packed(value: Decimal, unit: &UnitDefinition) -> bool
 }
 
 /// Whether a unit of this name packs degrees, minutes and seconds into one number.
-pub(crate) fn is_packed_unit(name: &[u8]) -> bool
+pub fn is_packed_unit(name: &[u8]) -> bool
     ensures { result ≡ is_packed_unit name.now }
 {
     begins(name, b"sexagesimal")

@@ -71,7 +71,7 @@ fn is_unit_against(unit: &Option<Unit>, name: &[u8]) -> bool
 }
 
 /// Whether the name of a parameter is that of an angle.
-fn is_angle_name(name: &[u8]) -> bool
+pub fn is_angle_name(name: &[u8]) -> bool
     ensures { result ≡ is_angle_name name.now }
 {
     is_latitude_name(name) || is_longitude_name(name) || is_turn_name(name)

@@ -57,6 +57,11 @@ known_said (Some k) = known_at k
 abbrev pub source_said : List ℕ → List ℕ
 source_said name = known_said (first_word meridian_word meridians_listed (map to_ascii_lowercase name))
 
+-- the name of its unit; without one of its own it is in degrees
+abbrev pub unit_named : Option AngleUnit → List ℕ
+unit_named None = codes "degrees"
+unit_named (Some unit) = (angle_of unit).name.bytes
+
 abbrev pub prime_said : PrimeMeridian → List ℕ → List ℕ
 prime_said m source =
     concat
@@ -64,6 +69,8 @@ prime_said m source =
     ∷ m.name.bytes
     ∷ codes "\" is given at "
     ∷ canonical m.longitude.coefficient m.longitude.exponent
+    ∷ codes " "
+    ∷ unit_named m.unit
     ∷ codes ", and "
     ∷ source
     ∷ [])

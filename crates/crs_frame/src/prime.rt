@@ -3,7 +3,7 @@
 ghost use Rattle.std.specs.Prelude.{◌≡◌, ◌<◌, ◌≤◌, ◌+◌, ◌*◌, ◌-◌, ◌^◌, not, ◌&&◌, ◌||◌, IfOk};
 ghost use Rattle.std.specs.Int.{is_negative};
 ghost use Rattle.crs_frame.specs.Meridians.{longitude, is_west};
-ghost use Rattle.crs_frame.specs.Prime.{is_other_side, is_off_degrees, is_off, is_known_off, is_prime_odd, is_found_odd, prime, source_said, prime_said, found_said, prime_told};
+ghost use Rattle.crs_frame.specs.Prime.{is_other_side, is_off_degrees, is_off, is_known_off, is_prime_odd, is_found_odd, prime, source_said, unit_named, prime_said, found_said, prime_told};
 
 use crate::meridians::KnownMeridian;
 use crs_exact::{
@@ -67,10 +67,21 @@ fn prime_said(alloc: Global, meridian: &PrimeMeridian, source: &[u8]) -> Result<
             meridian.name.as_bytes(),
             b"\" is given at ",
             &given,
+            b" ",
+            unit_named(&meridian.unit),
             b", and ",
             source,
         ],
     )
+}
+
+fn unit_named(unit: &Option<AngleUnit>) -> &[u8]
+    ensures { result.now ≡ unit_named unit.now }
+{
+    match unit {
+        Some(unit) => angle_of(unit).name.as_bytes(),
+        None => b"degrees",
+    }
 }
 
 fn source_said(name: &[u8]) -> &'static [u8]

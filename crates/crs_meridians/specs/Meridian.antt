@@ -1,8 +1,8 @@
 -- A projected system whose central meridian is more than 0.01 degrees from that in its name.
-use Rattle.std.specs.Prelude.{ℕ, ◌+◌, ◌*◌, ◌-◌, nat_le, nat_lt, Bool, true, false, not, ◌&&◌, ◌||◌, List, [], Option, Some, None, codes, pos, if◌then◌else◌}
+use Rattle.std.specs.Prelude.{ℕ, ◌+◌, ◌*◌, ◌-◌, ◌/◌, ◌%◌, ◌==◌, nat_le, nat_lt, Bool, true, false, not, ◌&&◌, ◌||◌, List, [], ◌∷◌, Option, Some, None, codes, decimal, pos, if◌then◌else◌}
 use Rattle.std.specs.Int.{is_negative}
 use Rattle.std.specs.Ordering.{int_eq}
-use Rattle.std.specs.List.{find}
+use Rattle.std.specs.List.{find, concat}
 use Rattle.std.specs.Option.{is_some}
 use Rattle.crs_number.specs.declared.decimals.Decimal.{Decimal}
 use Rattle.crs_part.specs.declared.units.UnitDefinition.{UnitDefinition}
@@ -75,6 +75,30 @@ found_in (single.Vertical crs) = None
 abbrev pub meridian : Single → Bool
 meridian crs = is_some (found_in crs)
 
-abbrev pub meridian_told : Option Parameter → List ℕ
-meridian_told None = []
-meridian_told (Some p) = parameter_said p (codes "the name says another meridian")
+-- ---- what is said
+
+abbrev pub side_said : Bool → List ℕ
+side_said is_west = if is_west then codes " degrees west" else codes " degrees east"
+
+-- so many whole degrees
+abbrev pub whole_said : ℕ → Bool → List ℕ
+whole_said n is_west = concat (codes "the name says " ∷ decimal n ∷ side_said is_west ∷ [])
+
+-- so many tenths of a degree
+abbrev pub tenths_said : ℕ → Bool → List ℕ
+tenths_said n is_west = concat (codes "the name says " ∷ decimal (n / 10) ∷ codes "." ∷ decimal (n % 10) ∷ side_said is_west ∷ [])
+
+-- a name has one decimal at most
+abbrev pub name_says : SaidMeridian → List ℕ
+name_says said = if said.micro % 1000000 == 0 then whole_said (said.micro / 1000000) said.is_west else tenths_said (said.micro / 100000) said.is_west
+
+abbrev pub beside_name : Option SaidMeridian → Option Parameter → List ℕ
+beside_name None p = []
+beside_name (Some said) None = []
+beside_name (Some said) (Some p) = parameter_said p (name_says said)
+
+-- the central meridian beside that in the name
+abbrev pub meridian_told : Single → List ℕ
+meridian_told (single.Geodetic crs) = []
+meridian_told (single.Projected crs) = beside_name (meridian_said crs.name.bytes) (off_parameter crs)
+meridian_told (single.Vertical crs) = []

@@ -1,18 +1,21 @@
 //! Central meridians that are not those in the names of systems.
 
-ghost use Rattle.std.specs.Prelude.{◌≡◌, ◌<◌, ◌^◌, ◌+◌, ◌-◌, IfOk};
+ghost use Rattle.std.specs.Prelude.{◌≡◌, ◌<◌, ◌^◌, ◌+◌, ◌-◌, ◌/◌, ◌%◌, IfOk};
 ghost use Rattle.std.specs.List.{find};
 ghost use Rattle.std.specs.Option.{option_map};
 ghost use Rattle.crs_part.specs.declared.units.UnitDefinition.{UnitDefinition};
-ghost use Rattle.crs_meridians.specs.Meridian.{is_central, is_at_greenwich, is_packed, base_unit, angle_unit, is_on_side, is_at, is_off, is_parameter_off, off_in, off_parameter, found_in, meridian, meridian_told};
+ghost use Rattle.crs_meridians.specs.Meridian.{is_central, is_at_greenwich, is_packed, base_unit, angle_unit, is_on_side, is_at, is_off, is_parameter_off, off_in, off_parameter, found_in, meridian, side_said, whole_said, tenths_said, name_says, beside_name, meridian_told};
+ghost use Rattle.crs_meridians.specs.Said.{meridian_said};
+ghost use Rattle.crs_exact.specs.Said.{parameter_said};
 
 use crate::said::{SaidMeridian, meridian_said};
 use crs_exact::{
-    angle_of, begins, is_below, is_beyond, is_named, is_product_below, is_product_beyond,
+    angle_of, begins, is_below, is_beyond, is_named, is_product_below, is_product_beyond, joined,
     parameter_said, unit_of,
 };
 use crs_number::Decimal;
 use crs_part::{AngleUnit, Parameter, PrimeMeridian, Projected, Single, Unit, UnitDefinition};
+use itoa::Buffer;
 use std::alloc::{AllocError, Global};
 
 /// The digits of a degree of 0.0174532925199433 radians.
@@ -29,14 +32,93 @@ pub fn breaks_meridian(crs: &Single) -> bool
     }
 }
 
-/// The central meridian of the system, which is not that in its name.
+/// The central meridian of the system, and that in its name.
 pub fn tell_meridian(alloc: Global, crs: &Single) -> Result<Vec<u8>, AllocError>
-    ensures { IfOk result (λ text. text.items ≡ meridian_told (found_in crs.now)) }
+    ensures { IfOk result (λ text. text.items ≡ meridian_told crs.now) }
 {
-    match found_in(crs) {
-        Some(parameter) => parameter_said(alloc, parameter, b"the name says another meridian"),
-        None => Ok(Vec::new(alloc)),
+    match crs {
+        Single::Geodetic(_) => Ok(Vec::new(alloc)),
+        Single::Projected(crs) => beside_name(
+            alloc,
+            meridian_said(crs.name.as_bytes()),
+            off_parameter(crs),
+        ),
+        Single::Vertical(_) => Ok(Vec::new(alloc)),
     }
+}
+
+fn beside_name(
+    alloc: Global,
+    said: Option<SaidMeridian>,
+    parameter: Option<&Parameter>,
+) -> Result<Vec<u8>, AllocError>
+    ensures { IfOk result (λ text. text.items ≡ beside_name said (option_map (λ p. p.now) parameter.entry)) }
+{
+    match (said, parameter) {
+        (Some(said), Some(parameter)) => said_beside(alloc, said, parameter),
+        _ => Ok(Vec::new(alloc)),
+    }
+}
+
+fn said_beside(
+    alloc: Global,
+    said: SaidMeridian,
+    parameter: &Parameter,
+) -> Result<Vec<u8>, AllocError>
+    ensures { IfOk result (λ text. text.items ≡ parameter_said parameter.now (name_says said)) }
+{
+    let what = name_says(alloc, said)?;
+    let text = parameter_said(alloc, parameter, &what)?;
+    Ok(text)
+}
+
+fn name_says(alloc: Global, said: SaidMeridian) -> Result<Vec<u8>, AllocError>
+    ensures { IfOk result (λ text. text.items ≡ name_says said) }
+{
+    if said.micro % 1_000_000 == 0 {
+        return whole_said(alloc, said.micro / 1_000_000, said.is_west);
+    }
+    tenths_said(alloc, said.micro / 100_000, said.is_west)
+}
+
+fn whole_said(alloc: Global, number: u64, is_west: bool) -> Result<Vec<u8>, AllocError>
+    ensures { IfOk result (λ text. text.items ≡ whole_said number is_west) }
+{
+    let mut buffer = Buffer::new();
+    joined(
+        alloc,
+        &[
+            b"the name says ",
+            buffer.format(number).as_bytes(),
+            side_said(is_west),
+        ],
+    )
+}
+
+fn tenths_said(alloc: Global, number: u64, is_west: bool) -> Result<Vec<u8>, AllocError>
+    ensures { IfOk result (λ text. text.items ≡ tenths_said number is_west) }
+{
+    let mut whole = Buffer::new();
+    let mut tenth = Buffer::new();
+    joined(
+        alloc,
+        &[
+            b"the name says ",
+            whole.format(number / 10).as_bytes(),
+            b".",
+            tenth.format(number % 10).as_bytes(),
+            side_said(is_west),
+        ],
+    )
+}
+
+fn side_said(is_west: bool) -> &'static [u8]
+    ensures { result.now ≡ side_said is_west }
+{
+    if is_west {
+        return b" degrees west";
+    }
+    b" degrees east"
 }
 
 fn found_in(crs: &Single) -> Option<&Parameter>

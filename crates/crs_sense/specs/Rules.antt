@@ -26,6 +26,7 @@ use Rattle.crs_meridians.specs.Meridian.{meridian}
 use Rattle.crs_methods.specs.Operation.{operation}
 use Rattle.crs_names.specs.Key.{key, whole_key}
 use Rattle.crs_names.specs.Name.{name, whole_name}
+use Rattle.crs_radian.specs.Radian.{radian}
 use Rattle.crs_units.specs.Unit.{unit, whole_unit}
 use Rattle.crs_zones.specs.Zone.{zone}
 
@@ -49,6 +50,7 @@ rule_name the.Operation = codes "operation"
 rule_name the.Parallels = codes "parallels"
 rule_name the.Prime = codes "primem"
 rule_name the.Quantity = codes "quantity"
+rule_name the.Radian = codes "radian"
 rule_name the.Scale = codes "scale"
 rule_name the.Unit = codes "unit"
 rule_name the.UnitName = codes "unitname"
@@ -56,7 +58,7 @@ rule_name the.Zone = codes "zone"
 
 -- all rules, by name
 abbrev pub rules_listed : List Rule
-rules_listed = the.Accuracy ∷ the.Angle ∷ the.Away ∷ the.Axes ∷ the.AxisName ∷ the.Box ∷ the.Packed ∷ the.Ellipsoid ∷ the.FalseUnit ∷ the.Figure ∷ the.Height ∷ the.Key ∷ the.Meridian ∷ the.Name ∷ the.Operation ∷ the.Parallels ∷ the.Prime ∷ the.Quantity ∷ the.Scale ∷ the.Unit ∷ the.UnitName ∷ the.Zone ∷ []
+rules_listed = the.Accuracy ∷ the.Angle ∷ the.Away ∷ the.Axes ∷ the.AxisName ∷ the.Box ∷ the.Packed ∷ the.Ellipsoid ∷ the.FalseUnit ∷ the.Figure ∷ the.Height ∷ the.Key ∷ the.Meridian ∷ the.Name ∷ the.Operation ∷ the.Parallels ∷ the.Prime ∷ the.Quantity ∷ the.Radian ∷ the.Scale ∷ the.Unit ∷ the.UnitName ∷ the.Zone ∷ []
 
 -- a system of one part breaks the rule
 abbrev pub breaks_single : Rule → Single → Bool
@@ -78,6 +80,7 @@ breaks_single the.Operation crs = operation crs
 breaks_single the.Parallels crs = parallels crs
 breaks_single the.Prime crs = prime crs
 breaks_single the.Quantity crs = quantity crs
+breaks_single the.Radian crs = radian crs
 breaks_single the.Scale crs = scale crs
 breaks_single the.Unit crs = unit crs
 breaks_single the.UnitName crs = unit_name crs
@@ -103,6 +106,7 @@ breaks_whole the.Operation crs = false
 breaks_whole the.Parallels crs = false
 breaks_whole the.Prime crs = false
 breaks_whole the.Quantity crs = false
+breaks_whole the.Radian crs = false
 breaks_whole the.Scale crs = false
 breaks_whole the.Unit crs = whole_unit crs
 breaks_whole the.UnitName crs = false

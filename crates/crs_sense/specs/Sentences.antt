@@ -24,14 +24,15 @@ use Rattle.crs_frame.specs.Accuracy.{accuracy_told}
 use Rattle.crs_frame.specs.Figure.{figure_told}
 use Rattle.crs_frame.specs.Prime.{prime_told}
 use Rattle.crs_meridians.specs.Away.{away_told}
-use Rattle.crs_meridians.specs.Meridian.{found_in as found_meridian, meridian_told}
+use Rattle.crs_meridians.specs.Meridian.{meridian_told}
 use Rattle.crs_methods.specs.Operation.{operation_told}
 use Rattle.crs_names.specs.Idents.{single_ids, compound_ids}
 use Rattle.crs_names.specs.Names.{single_names, compound_names}
 use Rattle.crs_names.specs.Key.{is_id_odd, id_told}
 use Rattle.crs_names.specs.Name.{is_name_odd, name_told}
+use Rattle.crs_radian.specs.Radian.{radian_told}
 use Rattle.crs_units.specs.Unit.{is_unit_odd, unit_told}
-use Rattle.crs_zones.specs.Zone.{found_in, zone_told}
+use Rattle.crs_zones.specs.Told.{zone_told}
 use Rattle.crs_sense.specs.declared.rule.Rule.{Rule}
 use Rattle.crs_sense.specs.declared.rule.Rule.TheVariants as the
 use Rattle.crs_sense.specs.Rules.{breaks_single}
@@ -50,16 +51,17 @@ told the.FalseUnit crs = false_unit_told crs
 told the.Figure crs = figure_told crs
 told the.Height crs = height_told crs
 told the.Key crs = id_told (find is_id_odd (single_ids crs))
-told the.Meridian crs = meridian_told (found_meridian crs)
+told the.Meridian crs = meridian_told crs
 told the.Name crs = name_told (find is_name_odd (single_names crs))
 told the.Operation crs = operation_told crs
 told the.Parallels crs = parallels_told (find is_first_parallel (parameters_of crs)) (find is_second_parallel (parameters_of crs))
 told the.Prime crs = prime_told crs
 told the.Quantity crs = quantity_told (find (λ p. is_unit_against p.unit p.name.bytes) (parameters_of crs))
+told the.Radian crs = radian_told crs
 told the.Scale crs = scale_told (find is_scale_odd (parameters_of crs))
 told the.Unit crs = unit_told (find is_unit_odd (units_of crs))
 told the.UnitName crs = unit_name_told crs
-told the.Zone crs = zone_told (found_in crs)
+told the.Zone crs = zone_told crs
 
 -- of a compound that breaks it, apart from its components
 abbrev pub whole_told : Rule → Compound → List ℕ
@@ -81,6 +83,7 @@ whole_told the.Operation crs = []
 whole_told the.Parallels crs = []
 whole_told the.Prime crs = []
 whole_told the.Quantity crs = []
+whole_told the.Radian crs = []
 whole_told the.Scale crs = []
 whole_told the.Unit crs = unit_told (find is_unit_odd (own_units crs))
 whole_told the.UnitName crs = []

@@ -17,6 +17,7 @@ use crs_meridians::{breaks_away, breaks_meridian};
 use crs_methods::breaks_operation;
 use crs_names::{breaks_key, breaks_name, whole_breaks_key, whole_breaks_name};
 use crs_part::{Compound, CrsParts, Single, Word, first_of};
+use crs_radian::breaks_radian;
 use crs_units::{breaks_unit, whole_breaks_unit};
 use crs_zones::breaks_zone;
 
@@ -59,6 +60,8 @@ pub enum Rule {
     Prime,
     /// A parameter whose unit measures something else than its name tells.
     Quantity,
+    /// An angle in degrees that looks like radians.
+    Radian,
     /// A scale factor that is not near 1.
     Scale,
     /// A unit with another factor than its name says.
@@ -70,7 +73,7 @@ pub enum Rule {
 }
 
 /// All rules, by name.
-pub static RULES: [Rule; 22] = [
+pub static RULES: [Rule; 23] = [
     Rule::Accuracy,
     Rule::Angle,
     Rule::Away,
@@ -89,6 +92,7 @@ pub static RULES: [Rule; 22] = [
     Rule::Parallels,
     Rule::Prime,
     Rule::Quantity,
+    Rule::Radian,
     Rule::Scale,
     Rule::Unit,
     Rule::UnitName,
@@ -127,6 +131,7 @@ impl Rule {
             Rule::Parallels => "parallels",
             Rule::Prime => "primem",
             Rule::Quantity => "quantity",
+            Rule::Radian => "radian",
             Rule::Scale => "scale",
             Rule::Unit => "unit",
             Rule::UnitName => "unitname",
@@ -180,6 +185,7 @@ impl Rule {
             Rule::Parallels => breaks_parallels(crs),
             Rule::Prime => breaks_prime(crs),
             Rule::Quantity => breaks_quantity(crs),
+            Rule::Radian => breaks_radian(crs),
             Rule::Scale => breaks_scale(crs),
             Rule::Unit => breaks_unit(crs),
             Rule::UnitName => breaks_unit_name(crs),

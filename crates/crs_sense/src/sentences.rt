@@ -14,6 +14,7 @@ use crs_meridians::{tell_away, tell_meridian};
 use crs_methods::tell_operation;
 use crs_names::{tell_key, tell_name, whole_tells_key, whole_tells_name};
 use crs_part::{Compound, CrsParts, Single};
+use crs_radian::tell_radian;
 use crs_units::{tell_unit, whole_tells_unit};
 use crs_zones::tell_zone;
 use std::alloc::{AllocError, Global};
@@ -64,6 +65,7 @@ impl Rule {
             Rule::Parallels => tell_parallels(alloc, crs),
             Rule::Prime => tell_prime(alloc, crs),
             Rule::Quantity => tell_quantity(alloc, crs),
+            Rule::Radian => tell_radian(alloc, crs),
             Rule::Scale => tell_scale(alloc, crs),
             Rule::Unit => tell_unit(alloc, crs),
             Rule::UnitName => tell_unit_name(alloc, crs),

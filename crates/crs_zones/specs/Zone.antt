@@ -1,8 +1,8 @@
 -- A projected system whose conversion is not that of the zone that its name says.
-use Rattle.std.specs.Prelude.{ℕ, ◌+◌, ◌*◌, ◌-◌, ◌%◌, ◌==◌, nat_le, Bool, true, false, not, ◌&&◌, ◌||◌, List, [], Option, Some, None, codes, pos, negsuc, if◌then◌else◌}
+use Rattle.std.specs.Prelude.{ℕ, ◌+◌, ◌*◌, ◌-◌, ◌%◌, ◌==◌, nat_le, Bool, true, false, not, ◌&&◌, ◌||◌, List, Option, Some, None, codes, pos, negsuc, if◌then◌else◌}
 use Rattle.std.specs.Int.{is_negative}
 use Rattle.std.specs.Ordering.{int_eq}
-use Rattle.std.specs.List.{list_any, find}
+use Rattle.std.specs.List.{find}
 use Rattle.std.specs.Option.{option_or}
 use Rattle.crs_number.specs.declared.decimals.Decimal.{Decimal}
 use Rattle.crs_part.specs.declared.units.UnitDefinition.{UnitDefinition}
@@ -15,7 +15,6 @@ use Rattle.crs_part.specs.declared.crs.Single.{Single}
 use Rattle.crs_part.specs.declared.crs.Single.TheVariants as single
 use Rattle.crs_exact.specs.Names.{begins, is_named}
 use Rattle.crs_exact.specs.Parts.{unit_of, angle_of}
-use Rattle.crs_exact.specs.Said.{parameter_said}
 use Rattle.crs_exact.specs.Sizes.{is_below, is_beyond, is_product_below, is_product_beyond}
 use Rattle.crs_zones.specs.declared.grid.Grid.{Grid}
 use Rattle.crs_zones.specs.declared.grid.Grid.TheVariants.{UtmNorth, UtmSouth, Utm, Three, Six}
@@ -116,11 +115,14 @@ abbrev pub off_in : Option Zone → Option AngleUnit → Option Unit → List Pa
 off_in None base axis ps = None
 off_in (Some z) base axis ps = find (is_parameter_off z base axis) ps
 
--- the first parameter that is not that of the zone in the system's name, or else in the conversion's
+-- the zone in the name of the system, or else in that of its conversion
+abbrev pub zone_in : Projected → Option Zone
+zone_in crs = option_or (zone_said crs.name.bytes) (zone_said crs.conversion.name.bytes)
+
+-- the first parameter that is not that of the zone
 abbrev pub off_parameter : Projected → Option Parameter
 off_parameter crs =
-    if is_at_greenwich crs.base.prime_meridian then
-    off_in (option_or (zone_said crs.name.bytes) (zone_said crs.conversion.name.bytes)) crs.base.unit (option_or crs.axes.first.unit crs.unit) crs.conversion.parameters
+    if is_at_greenwich crs.base.prime_meridian then off_in (zone_in crs) crs.base.unit (option_or crs.axes.first.unit crs.unit) crs.conversion.parameters
     else None
 
 abbrev pub found_in : Single → Option Parameter
@@ -134,15 +136,3 @@ is_found (Some p) = true
 
 abbrev pub zone : Single → Bool
 zone crs = is_found (found_in crs)
-
-abbrev pub zone_what : List ℕ → List ℕ
-zone_what n =
-    if is_longitude n then codes "the zone in the name has another central meridian: 6 degrees times its number less 183 in UTM, 3 degrees times its number or 6 degrees times its number less 3 in Gauss-Kruger zones"
-    else if is_latitude n then codes "zones of UTM have 0"
-    else if is_scale n then codes "zones of UTM have 0.9996"
-    else if is_named (codes "false easting") n then codes "zones of UTM have 500000 metres, perhaps behind their number"
-    else codes "zones of UTM have 0 in the north and 10000000 metres in the south"
-
-abbrev pub zone_told : Option Parameter → List ℕ
-zone_told None = []
-zone_told (Some p) = parameter_said p (zone_what p.name.bytes)

@@ -4,6 +4,7 @@
 mod grid;
 mod off;
 mod said;
+mod told;
 mod zone;
 
 pub use zone::{breaks_zone, tell_zone};

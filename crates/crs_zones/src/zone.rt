@@ -2,14 +2,15 @@
 
 ghost use Rattle.std.specs.Prelude.{◌≡◌, IfOk};
 ghost use Rattle.std.specs.List.{find};
-ghost use Rattle.std.specs.Option.{option_map, option_or};
-ghost use Rattle.crs_zones.specs.Said.{zone_said};
-ghost use Rattle.crs_zones.specs.Zone.{is_parameter_off, is_at_greenwich, off_in, off_parameter, found_in, zone, zone_what, zone_told};
+ghost use Rattle.std.specs.Option.{option_map};
+ghost use Rattle.crs_zones.specs.Zone.{is_parameter_off, is_at_greenwich, zone_in, off_in, off_parameter, found_in, zone};
+ghost use Rattle.crs_zones.specs.Told.{zone_told};
 
 use crate::grid::Zone;
-use crate::off::{is_latitude, is_longitude, is_parameter_off, is_scale};
+use crate::off::is_parameter_off;
 use crate::said::zone_said;
-use crs_exact::{either, is_named, parameter_said};
+use crate::told::beside;
+use crs_exact::either;
 use crs_part::{AngleUnit, Parameter, PrimeMeridian, Projected, Single, Unit};
 use std::alloc::{AllocError, Global};
 
@@ -23,34 +24,15 @@ pub fn breaks_zone(crs: &Single) -> bool
     }
 }
 
-/// The first such parameter of the system.
+/// The first such parameter of the system, with its value and that of the zone.
 pub fn tell_zone(alloc: Global, crs: &Single) -> Result<Vec<u8>, AllocError>
-    ensures { IfOk result (λ text. text.items ≡ zone_told (found_in crs.now)) }
+    ensures { IfOk result (λ text. text.items ≡ zone_told crs.now) }
 {
-    match found_in(crs) {
-        Some(parameter) => {
-            parameter_said(alloc, parameter, zone_what(parameter.name.as_bytes()))
-        }
-        None => Ok(Vec::new(alloc)),
+    match crs {
+        Single::Geodetic(_) => Ok(Vec::new(alloc)),
+        Single::Projected(crs) => beside(alloc, zone_in(crs), off_parameter(crs)),
+        Single::Vertical(_) => Ok(Vec::new(alloc)),
     }
-}
-
-fn zone_what(name: &[u8]) -> &'static [u8]
-    ensures { result.now ≡ zone_what name.now }
-{
-    if is_longitude(name) {
-        return b"the zone in the name has another central meridian: 6 degrees times its number less 183 in UTM, 3 degrees times its number or 6 degrees times its number less 3 in Gauss-Kruger zones";
-    }
-    if is_latitude(name) {
-        return b"zones of UTM have 0";
-    }
-    if is_scale(name) {
-        return b"zones of UTM have 0.9996";
-    }
-    if is_named(name, b"false easting") {
-        return b"zones of UTM have 500000 metres, perhaps behind their number";
-    }
-    b"zones of UTM have 0 in the north and 10000000 metres in the south"
 }
 
 fn found_in(crs: &Single) -> Option<&Parameter>
@@ -79,7 +61,7 @@ fn off_parameter(crs: &Projected) -> Option<&Parameter>
 
 // The zone in the name of the system, or else in that of its conversion.
 fn zone_in(crs: &Projected) -> Option<Zone>
-    ensures { result ≡ option_or (zone_said crs.now.name.bytes) (zone_said crs.now.conversion.name.bytes) }
+    ensures { result ≡ zone_in crs.now }
 {
     if let Some(zone) = zone_said(crs.name.as_bytes()) {
         return Some(zone);

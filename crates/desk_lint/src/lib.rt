@@ -1,9 +1,13 @@
-//! Engines of `lint`: of a register, and of the texts of files.
+//! Engines of `lint`: of a register, of the texts of files, and of the entries that a register has gained.
 #![tactic(auto)]
 
+mod entered;
 mod lint;
+mod rules;
 mod texts;
 
+pub use entered::entered_text;
 pub use lint::{run_lint, run_lint_subjects};
-pub use reg_lint::{RULES, Rule, Subject};
+pub use reg_lint::{ANY_RULES, AnyRule, Subject};
+pub use rules::usual_of;
 pub use texts::{TextsFault, read_texts};

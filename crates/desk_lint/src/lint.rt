@@ -5,7 +5,7 @@ ghost use Rattle.desk_lint.specs.Lint.{IsLintOf, IsLinted, IsUnlinted, AreLinted
 
 use byte_io::{Sink, Source, write_all};
 use reg_engine::{CliFault, OutFault, Store, read_whole};
-use reg_lint::{Rule, Subject, has_rows, known_rows, lint_text, live_subjects};
+use reg_lint::{AnyRule, Subject, has_rows, known_rows, lint_text, live_subjects};
 use std::alloc::{AllocError, Global};
 
 /// Loads the register, reads the rows that were looked at before from the file after it, and writes the other rows of the entries
@@ -13,7 +13,7 @@ use std::alloc::{AllocError, Global};
 pub fn run_lint<T: Store, S: Source, K: Sink>(
     alloc: Global,
     store: &mut T,
-    rules: &[Rule],
+    rules: &[AnyRule],
     known: &mut S,
     sink: &mut K,
 ) -> Result<bool, CliFault>
@@ -40,7 +40,7 @@ pub fn run_lint<T: Store, S: Source, K: Sink>(
 pub fn run_lint_subjects<S: Source, K: Sink>(
     alloc: Global,
     subjects: &[Subject],
-    rules: &[Rule],
+    rules: &[AnyRule],
     number: usize,
     known: &mut S,
     sink: &mut K,
@@ -65,7 +65,7 @@ pub fn run_lint_subjects<S: Source, K: Sink>(
 fn lint_beside(
     alloc: Global,
     subjects: &[Subject],
-    rules: &[Rule],
+    rules: &[AnyRule],
     known: &[u8],
 ) -> Result<Vec<u8>, AllocError>
     ensures { IfOk result (λ text. IsLintOf rules.now known.now subjects.now text.items) }

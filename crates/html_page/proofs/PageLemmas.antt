@@ -11,7 +11,7 @@ use Rattle.html_page.specs.declared.standing.Standing.TheVariants.{Valid, Supers
 use Rattle.html_page.specs.Shown.{Link, Entered, Awaited, Event, SupersededBy, RetiredBy, Box, Entry, Word, Side, Pair, Conflict, Shown}
 use Rattle.html_page.specs.Shape.{no_text, figures_shape, link_shape, event_shape, box_shape, entry_shape, word_shape, side_shape, pair_shape, conflict_shape, gap_shape, shape}
 use Rattle.html_page.specs.declared.markup.TheConstants.{AFTER_FIGURES, PAIR, AFTER_PAIR, AFTER_SIDE, CONFLICTS_START, CONFLICTS_END, AWAITED_START, AWAITED_END, GAPS_START, GAPS_END, ENTRIES_START, MAP, SUPERSEDED_BY, AFTER_HISTORY, BY, AFTER_BY, AFTER_ENTRY, ENTRIES_END, RETIRED_START, RETIRED_END}
-use Rattle.html_page.specs.Templates.{head, figures, end, link, word, side_start, side, pair, conflict_start, conflict, section, awaited, gap, drawing, caption, map_of, entry_start, entry_text, operation, event, area, kind_and_standing, by, entry, page}
+use Rattle.html_page.specs.Templates.{head, figures, end, link, word, side_start, side, pair, conflict_start, conflict, section, awaited, gap, drawing, caption, map_of, entry_start, entry_text, question, entry_id, operation, event, area, kind_and_standing, by, entry, page}
 
 -- ---- places
 
@@ -69,8 +69,9 @@ map_closed b =
 
 entry_closed : (named : List ℕ → List ℕ) (e : Entry) → Closed (entry named e)
 entry_closed named e =
-    closed-append (closed-append (closed-append (closed-append (closed-append (closed-append (closed-append (closed-append
-    (is_closed (entry_start e.id e.authority e.code e.name) refl) (closed-flat_map map_of map_closed e.boxes)) (is_closed (entry_text e.text (named e.id) e.note) refl))
+    closed-append (closed-append (closed-append (closed-append (closed-append (closed-append (closed-append (closed-append (closed-append (closed-append
+    (is_closed (entry_start e.id e.authority e.code e.name) refl) (closed-flat_map map_of map_closed e.boxes)) (is_closed (entry_text e.text) refl))
+    (closed-flat_map question (λ text. record { is = refl }) e.questions)) (is_closed (entry_id (named e.id) e.note) refl))
     (closed-flat_map (event named) (event_closed named) e.events)) (is_closed (Markup AFTER_HISTORY.now ∷ []) refl))
     (closed-flat_map area (λ text. record { is = refl }) e.areas)) (standing_closed e.kind e.standing))
     (closed-flat_map (by named) (by_closed named) e.links)) (is_closed (Markup AFTER_ENTRY.now ∷ []) refl)
@@ -152,8 +153,9 @@ map_alike b =
 
 entry_alike : (named other : List ℕ → List ℕ) (e : Entry) → Alike (entry named e) (entry other (entry_shape e))
 entry_alike named other e =
-    alike-append (alike-append (alike-append (alike-append (alike-append (alike-append (alike-append (alike-append
-    (is_alike (entry_start e.id e.authority e.code e.name) (entry_start [] [] [] []) refl) (alike-flat_map map_of box_shape map_alike e.boxes)) (is_alike (entry_text e.text (named e.id) e.note) (entry_text [] (other []) []) refl))
+    alike-append (alike-append (alike-append (alike-append (alike-append (alike-append (alike-append (alike-append (alike-append (alike-append
+    (is_alike (entry_start e.id e.authority e.code e.name) (entry_start [] [] [] []) refl) (alike-flat_map map_of box_shape map_alike e.boxes)) (is_alike (entry_text e.text) (entry_text []) refl))
+    (alike-flat_map question no_text (λ text. record { is = refl }) e.questions)) (is_alike (entry_id (named e.id) e.note) (entry_id (other []) []) refl))
     (each_alike (event named) (event other) event_shape (event_alike named other) e.events)) (is_alike (Markup AFTER_HISTORY.now ∷ []) (Markup AFTER_HISTORY.now ∷ []) refl))
     (alike-flat_map area no_text (λ text. record { is = refl }) e.areas)) (is_alike (kind_and_standing e.kind e.standing) (kind_and_standing [] e.standing) refl))
     (each_alike (by named) (by other) link_shape (by_alike named other) e.links)) (is_alike (Markup AFTER_ENTRY.now ∷ []) (Markup AFTER_ENTRY.now ∷ []) refl)

@@ -6,8 +6,8 @@ use Rattle.std.proofs.lemmas.Grind.{flat_map-append}
 use Rattle.html_text.specs.Pieces.{Piece, Markup}
 use Rattle.html_page.specs.Shown.{Link, Entered, Awaited, Event, SupersededBy, RetiredBy, Box, Entry, Word, Side, Pair, Conflict, Shown}
 use Rattle.html_page.specs.declared.markup.TheConstants.{AFTER_FIGURES, PAIR, AFTER_PAIR, AFTER_SIDE, CONFLICTS_START, CONFLICTS_END, AWAITED_START, AWAITED_END, GAPS_START, GAPS_END, ENTRIES_START, MAP, SUPERSEDED_BY, AFTER_HISTORY, BY, AFTER_BY, AFTER_ENTRY, ENTRIES_END, RETIRED_START, RETIRED_END}
-use Rattle.html_page.specs.Templates.{head, figures, end, link, word, side_start, side, pair, conflict_start, conflict, section, awaited, gap, drawing, caption, map_of, entry_start, entry_text, operation, event, area, kind_and_standing, by, entry, page}
-use Rattle.html_page.specs.Texts.{text_in, texts, side_texts, pair_texts, conflict_texts, shown_texts}
+use Rattle.html_page.specs.Templates.{head, figures, end, link, word, side_start, side, pair, conflict_start, conflict, section, awaited, gap, drawing, caption, map_of, entry_start, entry_text, question, entry_id, operation, event, area, kind_and_standing, by, entry, page}
+use Rattle.html_page.specs.Texts.{text_in, texts, side_texts, pair_texts, conflict_texts, row_texts, shown_texts}
 
 -- the pieces have these texts
 record Has (ps : List Piece) (ts : List (List ℕ)) : Type 0 where
@@ -49,9 +49,6 @@ without (x ∷ xs) e = absurd (omega (arith, eqb-true (length (x ∷ xs)) 0 e))
 section_has : {T : Type 0} (start finish : List ℕ) (item : T → List Piece) (g : T → List (List ℕ)) → ((x : T) → Has (item x) (g x)) → (xs : List T) → Has (section start item finish xs) (flat_map g xs)
 section_has start finish item g each xs = section_at (length xs == 0) start finish item xs (flat_map g xs) (λ e j. flat_map g (without xs e j)) (each_has item g each xs)
 
-section_one : {T : Type 0} (start finish : List ℕ) (item : T → List Piece) (g : T → List ℕ) → ((x : T) → Has (item x) (g x ∷ [])) → (xs : List T) → Has (section start item finish xs) (map g xs)
-section_one start finish item g each xs = section_at (length xs == 0) start finish item xs (map g xs) (λ e j. map g (without xs e j)) (each_one item g each xs)
-
 section_none : {T : Type 0} (start finish : List ℕ) (item : T → List Piece) → ((x : T) → Has (item x) []) → (xs : List T) → Has (section start item finish xs) []
 section_none start finish item each xs = section_at (length xs == 0) start finish item xs [] (λ e. refl) (each_none item each xs)
 
@@ -89,10 +86,16 @@ drawing_has south west north east false = record { is = refl }
 map_has : (b : Box) → Has (map_of b) []
 map_has b = both (both (has (Markup MAP.now ∷ []) [] refl) (drawing_has b.south b.west b.north b.east b.crosses)) (has (caption b.south b.west b.north b.east) [] refl)
 
-entry_has : (named : List ℕ → List ℕ) (e : Entry) → Has (entry named e) (e.text ∷ [])
+-- each question is one text
+questions_are : (qs : List (List ℕ)) → Has (flat_map question qs) qs
+questions_are [] = record { is = refl }
+questions_are (q ∷ qs) = both (has (question q) (q ∷ []) refl) (questions_are qs)
+
+entry_has : (named : List ℕ → List ℕ) (e : Entry) → Has (entry named e) (row_texts e)
 entry_has named e =
-    ended (ended (ended (ended (ended (ended
-    (both (both (has (entry_start e.id e.authority e.code e.name) [] refl) (each_none map_of map_has e.boxes)) (has (entry_text e.text (named e.id) e.note) (e.text ∷ []) refl))
+    ended (ended (ended (ended (ended (ended (ended (both
+    (both (both (has (entry_start e.id e.authority e.code e.name) [] refl) (each_none map_of map_has e.boxes)) (has (entry_text e.text) (e.text ∷ []) refl))
+    (questions_are e.questions)) (has (entry_id (named e.id) e.note) [] refl))
     (each_none (event named) (event_has named) e.events)) (has (Markup AFTER_HISTORY.now ∷ []) [] refl))
     (each_none area (λ text. record { is = refl }) e.areas)) (has (kind_and_standing e.kind e.standing) [] refl))
     (each_none (by named) (by_has named) e.links)) (has (Markup AFTER_ENTRY.now ∷ []) [] refl)
@@ -104,9 +107,9 @@ page_has named s =
     let waiting = ended conflicts (section_none AWAITED_START.now AWAITED_END.now (awaited named) (λ id. record { is = refl }) s.awaited) in
     let gaps = ended waiting (section_none GAPS_START.now GAPS_END.now (gap named) (λ g. record { is = refl }) s.gaps) in
     let start = ended gaps (has (Markup ENTRIES_START.now ∷ []) [] refl) in
-    let entries = both start (each_one (entry named) (λ (e : Entry). e.text) (entry_has named) s.entries) in
+    let entries = both start (each_has (entry named) row_texts (entry_has named) s.entries) in
     let finish = ended entries (has (Markup ENTRIES_END.now ∷ []) [] refl) in
-    ended (both finish (section_one RETIRED_START.now RETIRED_END.now (entry named) (λ (e : Entry). e.text) (entry_has named) s.retired)) (has end [] refl)
+    ended (both finish (section_has RETIRED_START.now RETIRED_END.now (entry named) row_texts (entry_has named) s.retired)) (has end [] refl)
 
 pub in_order : (named : List ℕ → List ℕ) (s : Shown) → texts (page named s) ≡ shown_texts s
 in_order named s = (page_has named s).is

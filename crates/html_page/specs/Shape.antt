@@ -21,7 +21,7 @@ event_shape (RetiredBy id note) = RetiredBy [] []
 abbrev pub box_shape : Box → Box
 box_shape b = record { south = []; west = []; north = []; east = []; crosses = b.crosses }
 
--- of an entry: the numbers of its boxes, areas, links and operations, and its status
+-- of an entry: the numbers of its boxes, areas, links, questions and operations, and its status
 abbrev pub entry_shape : Entry → Entry
 entry_shape e = record {
   id = [];
@@ -34,6 +34,7 @@ entry_shape e = record {
   standing = e.standing;
   links = map link_shape e.links;
   text = [];
+  questions = map no_text e.questions;
   note = [];
   events = map event_shape e.events;
 }

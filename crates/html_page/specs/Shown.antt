@@ -21,6 +21,7 @@ pub record Box : Type 0 where
   pub east : List ℕ
   pub crosses : Bool
 
+-- an entry, with its text, what an expert would ask about it, and its history
 pub record Entry : Type 0 where
   pub id : List ℕ
   pub authority : List ℕ
@@ -32,6 +33,7 @@ pub record Entry : Type 0 where
   pub standing : Standing
   pub links : List Link
   pub text : List ℕ
+  pub questions : List (List ℕ)
   pub note : List ℕ
   pub events : List Event
 

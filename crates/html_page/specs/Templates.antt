@@ -2,7 +2,7 @@
 use Rattle.std.specs.Prelude.{ℕ, Bool, ◌==◌, List, [], ◌∷◌, ◌++◌, length, decimal, if◌then◌else◌}
 use Rattle.std.specs.List.{flat_map}
 use Rattle.html_text.specs.Pieces.{Piece, Markup, Text, Lines, Short, Attribute, Numeral}
-use Rattle.html_page.specs.declared.markup.TheConstants.{BEFORE_TITLE, BEFORE_STYLE, BEFORE_HEADING, BEFORE_FIGURES, COUNT, ENTRIES, OPERATIONS, VALID, SUPERSEDED, RETIRED, IN_CONFLICT, AWAITED, GAPS, AFTER_FIGURES, CONFLICTS_START, CONFLICT, COLON, AFTER_CONFLICT_KEY, PAIR, SIDE, BEFORE_SIDE_ID, BEFORE_SIDE_NOTE, BEFORE_SIDE_WORDS, AFTER_SIDE, AFTER_PAIR, CONFLICTS_END, WORD, AFTER_WORD, AWAITED_START, AWAITED_ITEM, AFTER_AWAITED_ITEM, AWAITED_END, GAPS_START, GAP, BEFORE_LOW, AFTER_LOW, BEFORE_HIGH, AFTER_GAP, GAPS_END, ENTRIES_START, MAP, BOX, COMMA, ACROSS, UP, AFTER_BOX, TO_EAST_END, FROM_WEST_END, AFTER_WEST_END, BEFORE_SOUTH, BEFORE_NORTH, BEFORE_WEST, BEFORE_EAST, AFTER_MAP, ENTRY, BEFORE_ENTRY_LINK, BEFORE_ENTRY_KEY, BEFORE_NAME, AFTER_NAME, BEFORE_TEXT, BEFORE_ENTRY_ID, BEFORE_ENTRY_NOTE, AFTER_ENTRY_NOTE, SUPERSEDED_BY, RETIRED_BY, BEFORE_OPERATION, BEFORE_NOTE, AFTER_NOTE, AFTER_HISTORY, AREA, AFTER_AREA, BEFORE_KIND, BEFORE_STANDING, VALID_CELL, SUPERSEDED_CELL, RETIRED_CELL, BY, AFTER_BY, AFTER_ENTRY, LINK, BEFORE_LINK_KEY, AFTER_LINK, MISSING, AFTER_MISSING, ENTRIES_END, RETIRED_START, RETIRED_END, MAIN_END, PAGE_END}
+use Rattle.html_page.specs.declared.markup.TheConstants.{BEFORE_TITLE, BEFORE_STYLE, BEFORE_HEADING, BEFORE_FIGURES, COUNT, ENTRIES, OPERATIONS, VALID, SUPERSEDED, RETIRED, IN_CONFLICT, AWAITED, GAPS, AFTER_FIGURES, CONFLICTS_START, CONFLICT, COLON, AFTER_CONFLICT_KEY, PAIR, SIDE, BEFORE_SIDE_ID, BEFORE_SIDE_NOTE, BEFORE_SIDE_WORDS, AFTER_SIDE, AFTER_PAIR, CONFLICTS_END, WORD, AFTER_WORD, AWAITED_START, AWAITED_ITEM, AFTER_AWAITED_ITEM, AWAITED_END, GAPS_START, GAP, BEFORE_LOW, AFTER_LOW, BEFORE_HIGH, AFTER_GAP, GAPS_END, ENTRIES_START, MAP, BOX, COMMA, ACROSS, UP, AFTER_BOX, TO_EAST_END, FROM_WEST_END, AFTER_WEST_END, BEFORE_SOUTH, BEFORE_NORTH, BEFORE_WEST, BEFORE_EAST, AFTER_MAP, ENTRY, BEFORE_ENTRY_LINK, BEFORE_ENTRY_KEY, BEFORE_NAME, AFTER_NAME, BEFORE_TEXT, AFTER_TEXT, QUESTION, AFTER_QUESTION, BEFORE_ENTRY_ID, BEFORE_ENTRY_NOTE, AFTER_ENTRY_NOTE, SUPERSEDED_BY, RETIRED_BY, BEFORE_OPERATION, BEFORE_NOTE, AFTER_NOTE, AFTER_HISTORY, AREA, AFTER_AREA, BEFORE_KIND, BEFORE_STANDING, VALID_CELL, SUPERSEDED_CELL, RETIRED_CELL, BY, AFTER_BY, AFTER_ENTRY, LINK, BEFORE_LINK_KEY, AFTER_LINK, MISSING, AFTER_MISSING, ENTRIES_END, RETIRED_START, RETIRED_END, MAIN_END, PAGE_END}
 use Rattle.html_page.specs.declared.style.TheConstants.{STYLE}
 use Rattle.html_page.specs.declared.script.TheConstants.{SCRIPT}
 use Rattle.html_page.specs.declared.standing.Standing.{Standing}
@@ -120,10 +120,15 @@ entry_start id authority code name =
     Markup ENTRY.now ∷ Attribute id ∷ Markup BEFORE_ENTRY_LINK.now ∷ Attribute id ∷ Markup BEFORE_ENTRY_KEY.now
     ∷ Text authority ∷ Markup COLON.now ∷ Text code ∷ Markup BEFORE_NAME.now ∷ Text name ∷ Markup AFTER_NAME.now ∷ []
 
-abbrev pub entry_text : List ℕ → List ℕ → List ℕ → List Piece
-entry_text text read note =
-    Markup BEFORE_TEXT.now ∷ Lines text ∷ Markup BEFORE_ENTRY_ID.now ∷ Text read ∷ Markup BEFORE_ENTRY_NOTE.now ∷ Text note
-    ∷ Markup AFTER_ENTRY_NOTE.now ∷ []
+abbrev pub entry_text : List ℕ → List Piece
+entry_text text = Markup BEFORE_TEXT.now ∷ Lines text ∷ Markup AFTER_TEXT.now ∷ []
+
+-- what an expert would ask about it
+abbrev pub question : List ℕ → List Piece
+question text = Markup QUESTION.now ∷ Lines text ∷ Markup AFTER_QUESTION.now ∷ []
+
+abbrev pub entry_id : List ℕ → List ℕ → List Piece
+entry_id read note = Markup BEFORE_ENTRY_ID.now ∷ Text read ∷ Markup BEFORE_ENTRY_NOTE.now ∷ Text note ∷ Markup AFTER_ENTRY_NOTE.now ∷ []
 
 -- the id and the note of an operation
 abbrev pub operation_id : List ℕ → List Piece
@@ -155,8 +160,8 @@ by named newer = (Markup BY.now ∷ []) ++ link named newer ++ Markup AFTER_BY.n
 
 abbrev pub entry : (List ℕ → List ℕ) → Entry → List Piece
 entry named e =
-    entry_start e.id e.authority e.code e.name ++ flat_map map_of e.boxes ++ entry_text e.text (named e.id) e.note ++ flat_map (event named) e.events ++ (Markup AFTER_HISTORY.now ∷ [])
-    ++ flat_map area e.areas ++ kind_and_standing e.kind e.standing ++ flat_map (by named) e.links ++ Markup AFTER_ENTRY.now ∷ []
+    entry_start e.id e.authority e.code e.name ++ flat_map map_of e.boxes ++ entry_text e.text ++ flat_map question e.questions ++ entry_id (named e.id) e.note
+    ++ flat_map (event named) e.events ++ (Markup AFTER_HISTORY.now ∷ []) ++ flat_map area e.areas ++ kind_and_standing e.kind e.standing ++ flat_map (by named) e.links ++ Markup AFTER_ENTRY.now ∷ []
 
 -- ---- the page
 

@@ -25,9 +25,13 @@ pair_texts p = side_texts p.first ++ side_texts p.second
 abbrev pub conflict_texts : Conflict → List (List ℕ)
 conflict_texts c = flat_map pair_texts c.pairs
 
-abbrev pub entry_texts : List Entry → List (List ℕ)
-entry_texts es = map (λ (e : Entry). e.text) es
+-- the text of a row, and then its questions
+abbrev pub row_texts : Entry → List (List ℕ)
+row_texts e = e.text ∷ e.questions
 
--- the words of each side of each pair, the text of each row, and the text of each row of a retired entry
+abbrev pub entry_texts : List Entry → List (List ℕ)
+entry_texts es = flat_map row_texts es
+
+-- the words of each side of each pair, the texts of each row, and those of each row of a retired entry
 abbrev pub shown_texts : Shown → List (List ℕ)
 shown_texts s = flat_map conflict_texts s.conflicts ++ entry_texts s.entries ++ entry_texts s.retired

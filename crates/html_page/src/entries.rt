@@ -2,12 +2,13 @@
 
 ghost use Rattle.std.specs.Prelude.{OnOk};
 ghost use Rattle.html_text.specs.Pieces.{Appends};
-ghost use Rattle.html_page.specs.Templates.{entry_start, entry_text, operation_id, operation_note, area, kind_and_standing};
+ghost use Rattle.html_page.specs.Templates.{entry_start, entry_text, question, entry_id, operation_id, operation_note, area, kind_and_standing};
 
 use crate::markup::{
-    AFTER_AREA, AFTER_ENTRY_NOTE, AFTER_NAME, AFTER_NOTE, AREA, BEFORE_ENTRY_ID, BEFORE_ENTRY_KEY,
-    BEFORE_ENTRY_LINK, BEFORE_ENTRY_NOTE, BEFORE_KIND, BEFORE_NAME, BEFORE_NOTE, BEFORE_OPERATION,
-    BEFORE_STANDING, BEFORE_TEXT, COLON, ENTRY, RETIRED_CELL, SUPERSEDED_CELL, VALID_CELL,
+    AFTER_AREA, AFTER_ENTRY_NOTE, AFTER_NAME, AFTER_NOTE, AFTER_QUESTION, AFTER_TEXT, AREA,
+    BEFORE_ENTRY_ID, BEFORE_ENTRY_KEY, BEFORE_ENTRY_LINK, BEFORE_ENTRY_NOTE, BEFORE_KIND,
+    BEFORE_NAME, BEFORE_NOTE, BEFORE_OPERATION, BEFORE_STANDING, BEFORE_TEXT, COLON, ENTRY,
+    QUESTION, RETIRED_CELL, SUPERSEDED_CELL, VALID_CELL,
 };
 use crate::standing::Standing;
 use html_text::Piece::{Attribute, Lines, Markup, Text};
@@ -42,20 +43,37 @@ pub fn push_entry_start<'a>(
     )
 }
 
-/// Appends its indented text, what is read in the place of its id, and its note.
-pub fn push_entry_text<'a>(
+/// Appends its indented text.
+pub fn push_entry_text(page: &mut Vec<u8>, text: &[u8]) -> Result<(), AllocError>
+    ensures { OnOk result (Appends page.old.items page.new.items (entry_text text.now)) }
+{
+    push_pieces(
+        page,
+        &[Markup(BEFORE_TEXT), Lines(text), Markup(AFTER_TEXT)],
+    )
+}
+
+/// Appends what an expert would ask about it.
+pub fn push_question(page: &mut Vec<u8>, text: &[u8]) -> Result<(), AllocError>
+    ensures { OnOk result (Appends page.old.items page.new.items (question text.now)) }
+{
+    push_pieces(
+        page,
+        &[Markup(QUESTION), Lines(text), Markup(AFTER_QUESTION)],
+    )
+}
+
+/// Appends what is read in the place of its id, and its note.
+pub fn push_entry_id<'a>(
     page: &mut Vec<u8>,
-    text: &'a [u8],
     read: &'a [u8],
     note: &'a [u8],
 ) -> Result<(), AllocError>
-    ensures { OnOk result (Appends page.old.items page.new.items (entry_text text.now read.now note.now)) }
+    ensures { OnOk result (Appends page.old.items page.new.items (entry_id read.now note.now)) }
 {
     push_pieces(
         page,
         &[
-            Markup(BEFORE_TEXT),
-            Lines(text),
             Markup(BEFORE_ENTRY_ID),
             Text(read),
             Markup(BEFORE_ENTRY_NOTE),

@@ -19,7 +19,8 @@ pub fn no_text_leaves_its_place()
     ensures tags { (named other : List ℕ → List ℕ) (s : Shown) → tags (html (page named s)) ≡ tags (html (page other (shape s))) }
 {}
 
-/// The texts of the page are those of its content, in order: the words of each side of a conflict, and then the text of each row.
+/// The texts of the page are those of its content, in order: the words of each side of a conflict, and then the text of each row,
+/// which its questions follow.
 pub fn texts_are_in_order()
     ensures { (named : List ℕ → List ℕ) (s : Shown) → texts (page named s) ≡ shown_texts s }
 {}

@@ -16,8 +16,8 @@ mod words;
 
 pub use conflicts::{push_conflict_start, push_side_start, push_word};
 pub use entries::{
-    push_area, push_entry_start, push_entry_text, push_operation_id, push_operation_note,
-    push_standing,
+    push_area, push_entry_id, push_entry_start, push_entry_text, push_operation_id,
+    push_operation_note, push_question, push_standing,
 };
 pub use head::{Figures, push_end, push_figures, push_head, push_mark, push_number};
 pub use links::{push_awaited_link, push_link};

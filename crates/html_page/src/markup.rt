@@ -212,8 +212,15 @@ pub const AFTER_NAME: &[u8] = b"</bdi></summary>
 
 pub const BEFORE_TEXT: &[u8] = b"<pre>";
 
-pub const BEFORE_ENTRY_ID: &[u8] = b"</pre>
-<ul>
+pub const AFTER_TEXT: &[u8] = b"</pre>
+";
+
+pub const QUESTION: &[u8] = b"<p><bdi>";
+
+pub const AFTER_QUESTION: &[u8] = b"</bdi></p>
+";
+
+pub const BEFORE_ENTRY_ID: &[u8] = b"<ul>
 <li>Entered as <code>";
 
 pub const BEFORE_ENTRY_NOTE: &[u8] = b"</code> <bdi class=\"soft\">";

@@ -1,8 +1,8 @@
 //! The end of a command: its messages and its exit status.
 use cli_exchange::faults::sentences::{Command, KeyTaken, LEAVES_OUT};
 use cli_exchange::faults::{Named, Second, add, explain, explain_word, say};
-use cli_import::NotImported;
-use cli_import::changes::{Superseded, ToldLine, say_news};
+use cli_import::changes::{Superseded, ToldLine};
+use cli_import::{NotImported, say_brought};
 use cli_look::desk::{CliFault, Explained, ImportFault, OpId, Unimported};
 use cli_open::{MISUSE, Outcome, complain, failed};
 
@@ -81,7 +81,7 @@ pub fn status(rt: &HostRuntime, ending: Ending, named: Option<Named<'_>>) -> u8 
         Ending::Unread(why) => not_imported(rt, &why, &named),
         Ending::Import(not) => {
             let status = not_imported(rt, &not.why, &named);
-            say_news(rt, &not.news);
+            say_brought(rt, &not.brought);
             status
         }
         Ending::AtLine(line) => {

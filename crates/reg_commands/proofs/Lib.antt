@@ -1,6 +1,6 @@
 pub mod ChangeLemmas
 mod ExchangeLemmas
 mod ExportLemmas
-mod MergeLemmas
-mod MergeOnLemmas
+pub mod MergeLemmas
+pub mod MergeOnLemmas
 mod ReportLemmas

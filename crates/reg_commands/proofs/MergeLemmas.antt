@@ -149,7 +149,7 @@ refused_by old new ps r held is same f (inl (id, e, h)) = subst (λ k. IsMergeFa
 refused_by old new ps r held is same f (inr (inl (id, e, h))) = subst (λ k. IsMergeFault old new k) (sym e) (ps, held, is ∙ h, same)
 refused_by old new ps r held is same f (inr (inr e)) = subst (λ k. IsMergeFault old new k) (sym e) (none_failed old.sources new.sources ps held, same)
 
-refused_as : (old new : Ends) (ps : List Part) (r : Result Content PieceRefusal) → HoldAll old.sources new.sources ps → join_of ps ≡ r → new.place ≡ old.place
+pub refused_as : (old new : Ends) (ps : List Part) (r : Result Content PieceRefusal) → HoldAll old.sources new.sources ps → join_of ps ≡ r → new.place ≡ old.place
     → (f : CliFault) → IsUnjoined r f → IsMergeFault old new f
 refused_as old new ps r held is same f h = refused_by old new ps r held is same f (ways r f h)
 

@@ -38,7 +38,8 @@ pub gives_from : (some others : List Content) (few none : List Piece) (old new :
 gives_from some others few none old new xs qs e f h =
     subst (λ k. GivePartsAfter k none old new xs qs) e (subst (λ k. GivePartsAfter some k old new xs qs) f h)
 
-refused_on : {D : Type 0} (d : Disks D) (old new : ShelfEnds D) (x : Content) (ps : List Part) (r : Result Content PieceRefusal) → Has d old.disk x → StaysOn d old.disk new.disk
+-- the parts that were read are not joined
+pub refused_on : {D : Type 0} (d : Disks D) (old new : ShelfEnds D) (x : Content) (ps : List Part) (r : Result Content PieceRefusal) → Has d old.disk x → StaysOn d old.disk new.disk
     → HoldAll old.sources new.sources ps → join_of (part.Register x ∷ ps) ≡ r → (f : CliFault) → Ways r f → IsMergeFaultOn d old new f
 refused_on d old new x ps r has stays held is f (inl (id, e, h)) = subst (λ k. IsMergeFaultOn d old new k) (sym e) (x, has, (ps, held, is ∙ h), stays)
 refused_on d old new x ps r has stays held is f (inr (inl (id, e, h))) = subst (λ k. IsMergeFaultOn d old new k) (sym e) (x, has, (ps, held, is ∙ h), stays)

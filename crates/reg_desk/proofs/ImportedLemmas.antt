@@ -1,7 +1,7 @@
 -- The same files imported again, and an exported file that is imported.
 use Rattle.std.proofs.Common.{◌≡◌, ◌⊎◌, Bool, ℕ, List, [], ◌∷◌, ◌++◌, refl, sym, ap, ◌∙◌, subst, inl, inr}
 use Rattle.std.specs.Prelude.{map, ◌↔◌, Option}
-use Rattle.std.proofs.lemmas.List.{append-nil}
+use Rattle.std.proofs.lemmas.List.{append-nil, map-append}
 use Rattle.wkt_tree.specs.Tree.{Piece}
 use Rattle.byte_io.specs.Device.{SourceState}
 use Rattle.reg_op.specs.Operations.{OneBody, kept}
@@ -21,7 +21,7 @@ use Rattle.reg_import.specs.declared.action.TextAction.{TextAction}
 use Rattle.reg_import.specs.Imports.{effects}
 use Rattle.reg_import.proofs.StandingLemmas.{then_one_body, then_kept}
 use Rattle.reg_import.proofs.LastLemmas.{AreKeyed, SameEntries}
-use Rattle.reg_import.proofs.LawLemmas.{are_keyed, import_alike, refused_alike, exported_pass, import_exported}
+use Rattle.reg_import.proofs.LawLemmas.{are_keyed, import_alike, refused_alike, exported_pass, exported_read, import_exported}
 use Rattle.reg_links.specs.Links.{links_in}
 use Rattle.reg_links.specs.Passing.{bodies_of, PassesOn, IsNotPassedOn}
 use Rattle.reg_office.specs.declared.fault.OfficeFault.TheVariants as office
@@ -32,12 +32,13 @@ use Rattle.reg_engine.specs.declared.fault.CliFault.TheVariants as cli
 use Rattle.reg_desk.specs.declared.import.options.ImportOptions.{ImportOptions}
 use Rattle.reg_desk.specs.declared.import.fault.Unimported.{Unimported}
 use Rattle.reg_desk.specs.ImportFiles.{GiveAll}
-use Rattle.reg_desk.specs.ImportTexts.{TextAt, in_file, HaveTexts}
-use Rattle.reg_desk.specs.Import.{IsPlain, Makes, Refuses, IsRefusedBy, IsUnmade, IsReady}
+use Rattle.reg_desk.specs.ImportTexts.{TextAt, in_file, HaveTexts, BeginWith}
+use Rattle.reg_desk.specs.Import.{IsPlain, Makes, Refuses, IsRefusedBy, IsUnmadeOf, IsUnmade, IsReady}
 use Rattle.reg_desk.specs.ImportLinks.{ImportsLinked, IsOnlyImported}
 use Rattle.reg_desk.proofs.ImportedLinks.{same_entries, nothing_passed, only_note, its_own, none_there}
 use Rattle.reg_desk.proofs.ImportEngineLemmas.{weaker}
 use Rattle.reg_desk.proofs.SameTexts.{one_given, same_readings, are_readings}
+use Rattle.reg_desk.proofs.GivenLemmas.{as_all_are}
 
 -- ---- the same files again
 
@@ -95,14 +96,17 @@ module _ (o p : ImportOptions) (m n : ℕ) (x y : Content) (files : List (List �
       weaker (λ f. f ≡ cli.Refused (refusal.Office office.NoteTooLong)) IsNote u.fault u.notes.items (λ f is. inl is) (subst (λ (k : ImportRefusal). IsRefusedBy p n files cuts texts k u) e h)
   of_refusal cuts texts r u (inr e) h = weaker (λ f. f ≡ cli.Memory) IsNote u.fault u.notes.items (λ f is. inr is) (subst (λ (k : ImportRefusal). IsRefusedBy p n files cuts texts k u) e h)
 
-  pub unmade_again : (u : Unimported) → IsUnmade p n y files u → IsPlain IsNote u
-  unmade_again u (inl memory) = weaker (λ f. f ≡ cli.Memory) IsNote u.fault u.notes.items (λ f is. inr is) memory
-  unmade_again u (inr (cuts, texts, have, inl (r, h, by))) = of_refusal cuts texts r u (refused_then texts cuts r have h) by
-  unmade_again u (inr (cuts, texts, have, inr (f, only, plain))) =
-      let same : only.between ≡ y = again_nothing only.between only.told texts cuts have only.imports in
+  unmade_of : (u : Unimported) → IsUnmadeOf p n y files made.0 made.1 u → IsPlain IsNote u
+  unmade_of u (inl (r, h, by)) = of_refusal made.0 made.1 r u (refused_then made.1 made.0 r made.2 h) by
+  unmade_of u (inr (f, only, plain)) =
+      let same : only.between ≡ y = again_nothing only.between only.told made.1 made.0 made.2 only.imports in
       let not_passed : IsNotPassedOn (links_in y.ops) y p.replica p.note.now f = subst (λ (c : Content). IsNotPassedOn (links_in y.ops) c p.replica p.note.now f) same only.not_passed in
       let long : f ≡ office.NoteTooLong = only_note (links_in y.ops) y p.replica p.note.now f (its_own y) not_passed in
       weaker (λ g. g ≡ office_fault f) IsNote u.fault u.notes.items (λ g e. inl (e ∙ ap office_fault long)) plain
+
+  pub unmade_again : (u : Unimported) → IsUnmade p n y files u → IsPlain IsNote u
+  unmade_again u (inl memory) = weaker (λ f. f ≡ cli.Memory) IsNote u.fault u.notes.items (λ f is. inr is) memory
+  unmade_again u (inr (cuts, texts, given, h)) = unmade_of u (as_all_are p n y files cuts made.0 texts made.1 given made.2 u h)
 
 -- a result that is ready is made of the bytes that the sources gave
 pub made_of : (o : ImportOptions) (m : ℕ) (x y : Content) (a b : List SourceState) (files : List (List ℕ)) (lines : List ℕ) (passed : Option Unimported) → GiveAll a b files
@@ -155,6 +159,14 @@ exported_passes o x cuts texts at p is beside have h =
     exported_pass x o.replica o.note.now o.keep_going have.cut.0 (readings texts) at p is have.cut.2 (of_one (export x.ops) cuts texts have)
     (subst (λ (d : Differs). IsImportRefusal nothing o.replica o.note.now d o.keep_going (readings texts) (refused.Refused at p)) beside h)
 
+-- each of the first texts of an exported file is a definition
+exported_begin : (x : Content) (cuts : List TextAt) (texts : List FileText) → IsContent x → BeginWith (export x.ops ∷ []) cuts texts → ⊥
+exported_begin x cuts texts is b =
+    let all : cuts ++ b.later ≡ map (in_file 0) b.cut.0 = b.cut.4 ∙ ap (λ rest. map (in_file 0) b.cut.0 ++ rest) b.cut.3 ∙ append-nil (map (in_file 0) b.cut.0) in
+    let bytes : map (λ (p : Piece). p.bytes) b.cut.0 ≡ map (λ (c : TextAt). c.bytes) cuts ++ map (λ (c : TextAt). c.bytes) b.later =
+    sym (same_bytes b.cut.0) ∙ ap (map (λ (c : TextAt). c.bytes)) (sym all) ∙ map-append (λ (c : TextAt). c.bytes) cuts b.later in
+    exported_read x b.cut.0 (map (λ (c : TextAt). c.bytes) cuts) (map (λ (c : TextAt). c.bytes) b.later) (readings texts) is b.cut.2 bytes (are_readings cuts texts b.read) b.unread
+
 -- a fault that no text has: the note is too long, the counts are spent, or memory ran out
 abbrev pub IsOther : CliFault → Type 0
 IsOther f = (f ≡ cli.Refused (refusal.Office office.NoteTooLong)) ⊎ ((f ≡ cli.Refused (refusal.Office office.CountSpent)) ⊎ (f ≡ cli.Memory))
@@ -170,7 +182,8 @@ exported_refusal o first x cuts texts refused.Memory u is beside have h by = wea
 
 pub exported_unmade : (o : ImportOptions) (first : ℕ) (x : Content) (u : Unimported) → IsContent x → o.differs ≡ Beside → IsUnmade o first nothing (export x.ops ∷ []) u → IsPlain IsOther u
 exported_unmade o first x u is beside (inl memory) = weaker (λ f. f ≡ cli.Memory) IsOther u.fault u.notes.items (λ f e. inr (inr e)) memory
-exported_unmade o first x u is beside (inr (cuts, texts, have, inl (r, h, by))) = exported_refusal o first x cuts texts r u is beside have h by
-exported_unmade o first x u is beside (inr (cuts, texts, have, inr (f, only, plain))) =
+exported_unmade o first x u is beside (inr (cuts, texts, inr (ends, begins), h)) = absurd (exported_begin x cuts texts is begins)
+exported_unmade o first x u is beside (inr (cuts, texts, inl have, inl (r, h, by))) = exported_refusal o first x cuts texts r u is beside have h by
+exported_unmade o first x u is beside (inr (cuts, texts, inl have, inr (f, only, plain))) =
     let long : f ≡ office.NoteTooLong = only_note (links_in nothing.ops) only.between o.replica o.note.now f (none_there only.between) only.not_passed in
     weaker (λ g. g ≡ office_fault f) IsOther u.fault u.notes.items (λ g e. inl (e ∙ ap office_fault long)) plain

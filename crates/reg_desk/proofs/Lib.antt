@@ -12,6 +12,7 @@ pub mod AfterSettling
 mod SettledTwice
 mod LoggedLemmas
 mod SameTexts
+mod GivenLemmas
 mod LinkedLemmas
 mod ImportedLinks
 mod ImportedLemmas

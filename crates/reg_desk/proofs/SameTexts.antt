@@ -38,19 +38,19 @@ same_key key other e =
     ap (λ a. make a key.code) (same_text key.authority other.authority (ap (λ (k : KeyBytes). k.authority) e))
     ∙ ap (make other.authority) (same_text key.code other.code (ap (λ (k : KeyBytes). k.code) e))
 
-same_reading : (r s : ReadText) → IsSameReading r s → r ≡ s
+pub same_reading : (r s : ReadText) → IsSameReading r s → r ≡ s
 same_reading (reading.Defined text key) (reading.Defined other its) h = ap (λ t. reading.Defined t key) h.0 ∙ ap (reading.Defined other) (same_key key its h.1)
 same_reading (reading.Defined text key) (reading.Unread g) h = absurd h
 same_reading (reading.Unread f) (reading.Defined other its) h = absurd h
 same_reading (reading.Unread f) (reading.Unread g) h = ap reading.Unread h
 
-one_cuts : (file : ℕ) (files : List (List ℕ)) (cs ds : List TextAt) → AreCuts file files cs → AreCuts file files ds → cs ≡ ds
+pub one_cuts : (file : ℕ) (files : List (List ℕ)) (cs ds : List TextAt) → AreCuts file files cs → AreCuts file files ds → cs ≡ ds
 one_cuts file [] cs ds h k = h ∙ sym k
 one_cuts file (bytes ∷ others) cs ds (these, rest, cut, are, whole) (those, more, slit, be, all) =
     whole ∙ ap (λ ps. map (in_file file) ps ++ rest) (one_cut bytes these those cut slit)
     ∙ ap (λ m. map (in_file file) those ++ m) (one_cuts (file + 1) others rest more are be) ∙ sym all
 
-one_read : (cuts : List TextAt) (ts us : List FileText) → AreRead cuts ts → AreRead cuts us → readings ts ≡ readings us
+pub one_read : (cuts : List TextAt) (ts us : List FileText) → AreRead cuts ts → AreRead cuts us → readings ts ≡ readings us
 one_read [] [] [] h k = refl
 one_read [] [] (u ∷ us) h k = absurd k
 one_read [] (t ∷ ts) us h k = absurd h

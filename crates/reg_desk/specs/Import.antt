@@ -33,7 +33,7 @@ use Rattle.reg_desk.specs.declared.import.fault.ImportFault.{ImportFault}
 use Rattle.reg_desk.specs.declared.import.fault.ImportFault.TheVariants as import
 use Rattle.reg_desk.specs.declared.import.fault.Unimported.{Unimported}
 use Rattle.reg_desk.specs.ImportFiles.{GiveAll, AreUnread}
-use Rattle.reg_desk.specs.ImportTexts.{TextAt, HaveTexts}
+use Rattle.reg_desk.specs.ImportTexts.{TextAt, HaveTexts, AreGiven}
 use Rattle.reg_desk.specs.ImportLinks.{ImportsLinked, IsOnlyImported}
 use Rattle.reg_desk.specs.ImportNotes.{note_of, notes_of}
 
@@ -123,10 +123,11 @@ IsUnmadeOf o first x files cuts texts u = ((r : ImportRefusal) × Refuses o x te
 abbrev pub Makes : ImportOptions → ℕ → Content → List (List ℕ) → Content → List ℕ → Option Unimported → Type 0
 Makes o first x files y lines passed = (cuts : List TextAt) × (texts : List FileText) × HaveTexts files cuts texts × MakesOf o first x files cuts texts y lines passed
 
--- out of memory before they were read, or not imported
+-- out of memory before they were read, or not imported; where the import ends at the first refused text, the texts after one that
+-- is no definition need not be read
 abbrev pub IsUnmade : ImportOptions → ℕ → Content → List (List ℕ) → Unimported → Type 0
 IsUnmade o first x files u = IsPlain (λ f. f ≡ cli.Memory) u
-    ⊎ ((cuts : List TextAt) × (texts : List FileText) × HaveTexts files cuts texts × IsUnmadeOf o first x files cuts texts u)
+    ⊎ ((cuts : List TextAt) × (texts : List FileText) × AreGiven o.keep_going files cuts texts × IsUnmadeOf o first x files cuts texts u)
 
 -- ---- files
 

@@ -1,9 +1,10 @@
 -- The texts of files: their places and readings.
-use Rattle.std.specs.Prelude.{◌≡◌, ◌+◌, ◌++◌, ℕ, List, [], ◌∷◌, map}
+use Rattle.std.specs.Prelude.{◌≡◌, ◌⊎◌, ◌+◌, ◌++◌, ℕ, Bool, true, false, not, ◌&&◌, List, [], ◌∷◌, map}
+use Rattle.std.specs.List.{list_any}
 use Rattle.wkt_tree.specs.Tree.{Piece}
 use Rattle.wkt_texts.specs.Texts.{IsCutInto}
 use Rattle.reg_import.specs.declared.reading.FileText.{FileText}
-use Rattle.reg_import.specs.Readings.{IsFileText}
+use Rattle.reg_import.specs.Readings.{IsFileText, is_unread, readings}
 use Rattle.reg_desk.specs.declared.import.texts.FileCut.{FileCut}
 
 -- a text: the index of its file, from 0, the place of its first byte there, and its bytes
@@ -35,3 +36,36 @@ AreRead (c ∷ cs) (t ∷ ts) = IsFileText c.file c.place c.bytes t × AreRead c
 pub record HaveTexts (files : List (List ℕ)) (cuts : List TextAt) (texts : List FileText) : Type 0 where
   pub cut : AreCuts 0 files cuts
   pub read : AreRead cuts texts
+
+-- files of these bytes begin with these texts, which are read as these, and one of them is no definition
+pub record BeginWith (files : List (List ℕ)) (cuts : List TextAt) (texts : List FileText) : Type 0 where
+  pub later : List TextAt
+  pub cut : AreCuts 0 files (cuts ++ later)
+  pub read : AreRead cuts texts
+  pub unread : list_any is_unread (readings texts) ≡ true
+
+-- they are all texts of the files; or, unless refused ones are passed over, the first, one of which is no definition
+abbrev pub AreGiven : Bool → List (List ℕ) → List TextAt → List FileText → Type 0
+AreGiven keep_going files cuts texts = HaveTexts files cuts texts ⊎ ((keep_going ≡ false) × BeginWith files cuts texts)
+
+-- ---- reading
+
+-- this text of a file was appended, with its reading; whether the import ends there
+pub record OneMore (keep_going : Bool) (file : ℕ) (p : Piece) (ends : Bool) (old new : List TextAt) (before after : List FileText) : Type 0 where
+  pub text : FileText
+  pub read : IsFileText file p.place p.bytes text
+  pub cuts : new ≡ old ++ in_file file p ∷ []
+  pub texts : after ≡ before ++ text ∷ []
+  pub is : ends ≡ (not keep_going && is_unread text.reading)
+
+-- the texts of a file of these bytes were appended, with their readings; if the import ends in it, perhaps only the first
+pub record ReadsFile (keep_going : Bool) (file : ℕ) (bytes : List ℕ) (ends : Bool) (old new : List TextAt) (before after : List FileText) : Type 0 where
+  pub these : List Piece
+  pub later : List Piece
+  pub cut : IsCutInto bytes (these ++ later)
+  pub texts : List FileText
+  pub read : AreRead (map (in_file file) these) texts
+  pub cuts : new ≡ old ++ map (in_file file) these
+  pub told : after ≡ before ++ texts
+  pub all : ends ≡ false → later ≡ []
+  pub unread : ends ≡ true → (keep_going ≡ false) × (list_any is_unread (readings texts) ≡ true)

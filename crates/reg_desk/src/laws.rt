@@ -29,7 +29,9 @@ ghost use Rattle.reg_engine.specs.declared.fault.CliFault.TheVariants as cli;
 ghost use Rattle.reg_desk.specs.declared.import.options.ImportOptions.{ImportOptions};
 ghost use Rattle.reg_desk.specs.declared.import.fault.Unimported.{Unimported};
 ghost use Rattle.reg_desk.specs.ImportFiles.{GiveAll};
-ghost use Rattle.reg_desk.specs.Import.{IsPlain, IsUnmade, IsReady};
+ghost use Rattle.reg_import.specs.declared.reading.FileText.{FileText};
+ghost use Rattle.reg_desk.specs.ImportTexts.{TextAt, HaveTexts};
+ghost use Rattle.reg_desk.specs.Import.{IsPlain, IsUnmadeOf, IsUnmade, IsReady};
 ghost use Rattle.reg_desk.specs.Logged.{LogsOf, CannotLog, LogsFor, CannotLogFor};
 
 /// After an office has retired the entries that settling lists, no key of a kept entry is in conflict.
@@ -88,6 +90,12 @@ pub fn the_same_files_make_nothing()
         → IsContent x → RetiresNoneAhead x o.replica → p.differs ≡ o.differs → p.keep_going ≡ o.keep_going → GiveAll a b files
         → IsReady o m x a b y lines passed → IsUnmade p n y files u
         → IsPlain (λ f. (f ≡ cli.Refused (refusal.Office office.NoteTooLong)) ⊎ (f ≡ cli.Memory)) u }
+{}
+
+/// The texts after the first refused one need not be read: whatever their readings are, the fault is that of all texts of the files.
+pub fn the_first_refused_text_is_told()
+    ensures { (o : ImportOptions) (first : ℕ) (x : Content) (files : List (List ℕ)) (cuts : List TextAt) (texts : List FileText) (u : Unimported) → HaveTexts files cuts texts
+        → IsUnmade o first x files u → IsPlain (λ f. f ≡ cli.Memory) u ⊎ IsUnmadeOf o first x files cuts texts u }
 {}
 
 /// The file that `Export` prints of a register, imported in mode `beside` into an empty one, gives a register with the same texts.

@@ -80,11 +80,13 @@ unready d old new x y shelf.DiskFailed has good counts head large nothing = (cou
 all_shelves : {D : Type 0} (d : Disks D) (old : D) (x : Content) → Has d old x → IsSure d old → IsTrue (d.tells old) → (c : List ℕ) → d.images old c → IsShelf c x
 all_shelves d old x has sure told c may = subst (λ (t : List ℕ). IsShelf t x) (sym (sure told c may)) (has told)
 
-pub passes_on : {D : Type 0} (d : Disks D) (old new : D) (x y : Content) → Has d old x → IsSure d old
-    → (IsTrue (d.tells old) → (was : Content) → ((c : List ℕ) → d.images old c → IsShelf c was) → LeavesOnly d.moment d.since old new (λ c. IsShelf c was ⊎ IsShelf c y))
+pub passes_on : {D : Type 0} (d : Disks D) (old new : D) (x y : Content) → IsSure d old
+    → (IsTrue (d.tells old) → (was : Content) (size : ℕ) → ((c : List ℕ) → d.images old c → IsShelfOf c size was)
+    → LeavesOnly d.moment d.since old new (λ c. IsShelfOf c size was ⊎ IsShelfOf c size y))
     → PassesOn d x y old new
-passes_on d old new x y has sure leaves = λ told.
-    weaker d.moment d.since old new (λ c. IsShelf c x ⊎ IsShelf c y) (λ c. d.images old c ⊎ (IsShelf c x ⊎ IsShelf c y)) (leaves told x (all_shelves d old x has sure told)) (λ c left. inr left)
+passes_on d old new x y sure leaves = λ told size shelf.
+    weaker d.moment d.since old new (λ c. IsShelfOf c size x ⊎ IsShelfOf c size y) (λ c. d.images old c ⊎ (IsShelfOf c size x ⊎ IsShelfOf c size y))
+    (leaves told x size (λ c may. subst (λ (t : List ℕ). IsShelfOf t size x) (sym (sure told c may)) shelf)) (λ c left. inr left)
 
 pub keeps_on : {D : Type 0} (d : Disks D) (old new : D) (x y : Content) → Has d old x → IsSure d old → d.tells new ≡ d.tells old → d.failures new ≡ d.failures old → HasFile y
     → (IsTrue (d.tells old) → (was : Content) → ((c : List ℕ) → d.images old c → IsShelf c was) → Only (d.seen new) (d.images new) × IsShelf (d.seen new) y)
@@ -96,25 +98,26 @@ keeps_on d old new x y has sure tells quiet file kept sized passes =
 
 -- ---- a frame that is put on a shelf
 
-put_passes : {D : Type 0} (d : Disks D) (old new : D) (x y : Content) (frame : Frame) → Has d old x → IsSure d old → IsReadyOn d old y frame
-    → (IsTrue (d.tells old) → Only (d.seen old) (d.images old) → (was next : Content) → IsShelf (d.seen old) was → IsReady (d.seen old) next frame
-    → LeavesOnly d.moment d.since old new (λ c. IsShelf c was ⊎ IsShelf c next)) → PassesOn d x y old new
-put_passes d old new x y frame has sure ready leaves = λ told.
-    weaker d.moment d.since old new (λ c. IsShelf c x ⊎ IsShelf c y) (λ c. d.images old c ⊎ (IsShelf c x ⊎ IsShelf c y)) (leaves told (sure told) x y (has told) (ready.1 told)) (λ c left. inr left)
+put_passes : {D : Type 0} (d : Disks D) (old new : D) (x y : Content) (frame : Frame) → IsSure d old → IsReadyOn d old y frame
+    → (IsTrue (d.tells old) → Only (d.seen old) (d.images old) → (was next : Content) (size : ℕ) → IsShelfOf (d.seen old) size was → IsReady (d.seen old) next frame
+    → LeavesOnly d.moment d.since old new (λ c. IsShelfOf c size was ⊎ IsShelfOf c size next)) → PassesOn d x y old new
+put_passes d old new x y frame sure ready leaves = λ told size shelf.
+    weaker d.moment d.since old new (λ c. IsShelfOf c size x ⊎ IsShelfOf c size y) (λ c. d.images old c ⊎ (IsShelfOf c size x ⊎ IsShelfOf c size y))
+    (leaves told (sure told) x y size shelf (ready.1 told)) (λ c left. inr left)
 
-pub unput : {D : Type 0} (d : Disks D) (old new : D) (x y : Content) (frame : Frame) (f : ShelfFault) → Has d old x → IsSure d old → IsReadyOn d old y frame
+pub unput : {D : Type 0} (d : Disks D) (old new : D) (x y : Content) (frame : Frame) (f : ShelfFault) → IsSure d old → IsReadyOn d old y frame
     → f ≡ shelf.DiskFailed → CountsFault {T = Unit {0}} (Err f) (d.failures old) (d.failures new)
-    → (IsTrue (d.tells old) → Only (d.seen old) (d.images old) → (was next : Content) → IsShelf (d.seen old) was → IsReady (d.seen old) next frame
-    → LeavesOnly d.moment d.since old new (λ c. IsShelf c was ⊎ IsShelf c next)) → IsUnput d x y old new (shelf_fault f)
-unput d old new x y frame f has sure ready is counts leaves = (
+    → (IsTrue (d.tells old) → Only (d.seen old) (d.images old) → (was next : Content) (size : ℕ) → IsShelfOf (d.seen old) size was → IsReady (d.seen old) next frame
+    → LeavesOnly d.moment d.since old new (λ c. IsShelfOf c size was ⊎ IsShelfOf c size next)) → IsUnput d x y old new (shelf_fault f)
+unput d old new x y frame f sure ready is counts leaves = (
   ap shelf_fault is,
   subst (λ (g : ShelfFault). CountsFault {T = Unit {0}} (Err g) (d.failures old) (d.failures new)) is counts,
-  put_passes d old new x y frame has sure ready leaves,
+  put_passes d old new x y frame sure ready leaves,
 )
 
 pub puts_on : {D : Type 0} (d : Disks D) (old new : D) (x y : Content) (frame : Frame) → Has d old x → IsSure d old → IsReadyOn d old y frame → d.tells new ≡ d.tells old → d.failures new ≡ d.failures old
-    → (IsTrue (d.tells old) → Only (d.seen old) (d.images old) → (was next : Content) → IsShelf (d.seen old) was → IsReady (d.seen old) next frame
-    → LeavesOnly d.moment d.since old new (λ c. IsShelf c was ⊎ IsShelf c next))
+    → (IsTrue (d.tells old) → Only (d.seen old) (d.images old) → (was next : Content) (size : ℕ) → IsShelfOf (d.seen old) size was → IsReady (d.seen old) next frame
+    → LeavesOnly d.moment d.since old new (λ c. IsShelfOf c size was ⊎ IsShelfOf c size next))
     → (IsTrue (d.tells old) → (was next : Content) → IsShelf (d.seen old) was → IsReady (d.seen old) next frame → Only (d.seen new) (d.images new) × IsShelf (d.seen new) next)
     → (IsTrue (d.tells old) → (was next : Content) (size : ℕ) → IsShelfOf (d.seen old) size was → IsReady (d.seen old) next frame
     → IsShelfOf (d.seen new) size next × EndsWithin size (d.seen old) (d.seen new))
@@ -128,7 +131,7 @@ puts_on d old new x y frame has sure ready tells quiet leaves kept sized =
       has = λ told. (now told).1;
       sized = λ told size was. sized told x y size was (ready.1 told);
       sure = λ told. (now told).0;
-      passes = put_passes d old new x y frame has sure ready leaves;
+      passes = put_passes d old new x y frame sure ready leaves;
     }
 
 -- ---- a step that changes nothing, and the step after it
@@ -156,11 +159,12 @@ module _ {D : Type 0} (d : Disks D) (old mid new : D) (tells : d.tells mid ≡ d
   then_stays more = record { quiet = more.quiet ∙ stays.quiet; nothing = then_nothing more.nothing }
 
   pub then_passes : (x y : Content) → PassesOn d x y mid new → PassesOn d x y old new
-  then_passes x y passes = λ told.
+  then_passes x y passes = λ told size shelf.
       let first = stays.nothing told in
-      let P : List ℕ → Type 0 = λ c. d.images old c ⊎ (IsShelf c x ⊎ IsShelf c y) in
+      let P : List ℕ → Type 0 = λ c. d.images old c ⊎ (IsShelfOf c size x ⊎ IsShelfOf c size y) in
+      let still = subst (λ (t : List ℕ). IsShelfOf t size x) (sym first.same) shelf in
       joined d.moment d.since old mid new P (weaker d.moment d.since old mid (d.images old) P first.any_moment (λ c may. inl may))
-      (weaker d.moment d.since mid new (λ c. d.images mid c ⊎ (IsShelf c x ⊎ IsShelf c y)) P (passes (then_told told)) (λ c left. ⊎_elim (λ may. inl (first.fewer c may)) inr left))
+      (weaker d.moment d.since mid new (λ c. d.images mid c ⊎ (IsShelfOf c size x ⊎ IsShelfOf c size y)) P (passes (then_told told) size still) (λ c left. ⊎_elim (λ may. inl (first.fewer c may)) inr left))
 
   then_sized : (x y : Content) → KeepsSize d x y mid new → KeepsSize d x y old new
   then_sized x y sized = λ told size was.

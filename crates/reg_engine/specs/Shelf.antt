@@ -50,9 +50,11 @@ pub record StaysOn {D : Type 0} (d : Disks D) (old new : D) : Type 0 where
   pub quiet : d.failures new ≡ d.failures old
   pub nothing : AddsNothingTo d old new
 
--- a stop on the way leaves what it might have left before, or a shelf of the first content, or of the second
+-- of a shelf of the first content and of this size, a stop on the way leaves what it might have left before, or a shelf of that size
+-- of the first content, or of the second
 abbrev pub PassesOn : {D : Type 0} → Disks D → Content → Content → D → D → Type 0
-PassesOn d x y old new = IsTrue (d.tells old) → LeavesOnly d.moment d.since old new (λ c. d.images old c ⊎ (IsShelf c x ⊎ IsShelf c y))
+PassesOn d x y old new = IsTrue (d.tells old) → (size : ℕ) → IsShelfOf (d.seen old) size x
+    → LeavesOnly d.moment d.since old new (λ c. d.images old c ⊎ (IsShelfOf c size x ⊎ IsShelfOf c size y))
 
 -- the slots of a shelf of the first content keep their size under the second, and the disk does not grow past them
 abbrev pub KeepsSize : {D : Type 0} → Disks D → Content → Content → D → D → Type 0

@@ -2,7 +2,7 @@
 use Rattle.std.proofs.Common.{◌≡◌, ◌↔◌, ℕ, ◌+◌, Bool, true, false, not, ◌||◌, cond, List, [], ◌∷◌, ◌++◌, map, filter, length, Some, refl, sym, ap, ◌∙◌, subst, inl, inr, ◌⊎◌, arith, zero, suc}
 use Rattle.std.specs.Prelude.{Contains, All}
 use Rattle.std.specs.List.{list_any, flat_map, slice_get}
-use Rattle.std.proofs.lemmas.List.Elements.{All-nil, All-cons}
+use Rattle.std.proofs.lemmas.List.Elements.{All-nil, All-cons, Contains-append_left}
 use Rattle.std.proofs.lemmas.Bool.{true≢false, or_parts, or_right, false_from_ne_true}
 use Rattle.crs_value.specs.declared.key.Key.{Key}
 use Rattle.wkt_tree.specs.Tree.{Piece}
@@ -45,7 +45,7 @@ use Rattle.reg_import.specs.declared.action.TextAction.TheVariants as told
 use Rattle.reg_import.specs.declared.import.ImportRefusal.{ImportRefusal}
 use Rattle.reg_import.specs.declared.import.ImportRefusal.TheVariants as refusal
 use Rattle.reg_import.specs.Known.{stands, OfKey, At, by_key, with_key}
-use Rattle.reg_import.specs.Readings.{IsReading}
+use Rattle.reg_import.specs.Readings.{IsReading, is_unread}
 use Rattle.reg_import.specs.Imports.{told_of, bodies_of, then_of, imports, Step, tolds, effects, is_refused, is_spent, NoneRefused, NoneSpent}
 use Rattle.reg_import.specs.Plans.{AreSteps, Imports, IsImportRefusal}
 use Rattle.reg_import.specs.Again.{HasStanding, standing_texts, AreReadings, RetiresNoneAhead, is_there, IsToldAgain}
@@ -263,6 +263,19 @@ all_defined (text ∷ texts) readings are h =
     let k = defined_as text h.0 h.2 (are text (in_head text texts)) in
     let rest = all_defined texts h.1 (λ w c. are w (in_tail w text texts c)) h.3 in
     subst AllDefined (sym (h.4 ∙ ap (λ r. r ∷ h.1) k.1)) rest
+
+none_unread : (readings : List ReadText) → AllDefined readings → list_any is_unread readings ≡ false
+none_unread [] h = refl
+none_unread (reading.Unread f ∷ readings) h = absurd h
+none_unread (reading.Defined text key ∷ readings) h = none_unread readings h
+
+-- the first texts of an exported file are definitions, as all are
+pub exported_read : (x : Content) (cuts : List Piece) (front behind : List (List ℕ)) (readings : List ReadText) → IsContent x → IsCutInto (export x.ops) cuts → map (λ (c : Piece). c.bytes) cuts ≡ front ++ behind
+    → AreReadings front readings → list_any is_unread readings ≡ true → ⊥
+exported_read x cuts front behind readings is cut e read unread =
+    let whole : standing_texts x.ops ≡ front ++ behind = sym (cut_texts x is cuts cut) ∙ e in
+    let are : (text : List ℕ) → Contains front text → IsDefinition text = λ text c. exported_defined x is text (subst (λ l. Contains l text) (sym whole) (Contains-append_left front behind text c)) in
+    true≢false (sym unread ∙ none_unread readings (all_defined front readings are read))
 
 beside_unrefused : (r : List ℕ) (n : ℕ) (at : At) (readings : List ReadText) → AllDefined readings → NoneRefused (tolds (imports differs.Beside r n at readings))
 beside_unrefused r n at [] h = refl

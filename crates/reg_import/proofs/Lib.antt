@@ -14,6 +14,7 @@ pub mod AgainLemmas
 pub mod StandingLemmas
 pub mod GoneLemmas
 pub mod ReadingLemmas
+pub mod FrontLemmas
 pub mod LastLemmas
 pub mod LawLemmas
 pub mod AheadLemmas

@@ -1,5 +1,5 @@
 -- The readings of texts.
-use Rattle.std.specs.Prelude.{◌≡◌, ◌≢◌, ℕ, ◌+◌, List, [], ◌∷◌, map}
+use Rattle.std.specs.Prelude.{◌≡◌, ◌≢◌, ℕ, ◌+◌, Bool, true, false, List, [], ◌∷◌, map}
 use Rattle.std.specs.Option.{unwrap_or}
 use Rattle.wkt_crs.specs.Spells.{SpellsCanon}
 use Rattle.wkt_crs.specs.Definition.{IsDefinition, IsKeyIn, IsTextFault, fault_place}
@@ -14,6 +14,11 @@ use Rattle.reg_import.specs.declared.reading.ReadText.TheVariants as reading
 abbrev pub IsReading : List ℕ → ReadText → Type 0
 IsReading text (reading.Defined definition key) = SpellsCanon text definition × IsDefinition definition × IsKeyIn key definition
 IsReading text (reading.Unread f) = IsTextFault text f × (f ≢ Memory)
+
+-- the text is no definition
+abbrev pub is_unread : ReadText → Bool
+is_unread (reading.Defined definition key) = false
+is_unread (reading.Unread f) = true
 
 -- the place in the text that is reported if it is rejected: that of its fault, or its first byte
 abbrev pub place_in : ReadText → ℕ

@@ -1,7 +1,7 @@
 //! Readings of texts.
 
 ghost use Rattle.std.specs.Prelude.{◌≡◌, ◌+◌, IfOk, IfSome};
-ghost use Rattle.reg_import.specs.Readings.{IsReading, place_in, quoted_in, IsFileText};
+ghost use Rattle.reg_import.specs.Readings.{IsReading, is_unread, place_in, quoted_in, IsFileText};
 
 use crate::quoted::shown_quoted;
 use crs_part::TryClone;
@@ -16,6 +16,21 @@ pub enum ReadText {
     Defined { definition: Definition, key: Key },
     /// Not a definition, for this reason.
     Unread(DefinitionFault),
+}
+
+impl ReadText {
+    /// Whether the text is not a definition.
+    pub fn is_unread(&self) -> bool
+        ensures { result ≡ is_unread self.now }
+    {
+        match self {
+            ReadText::Defined {
+                definition: _,
+                key: _,
+            } => false,
+            ReadText::Unread(_) => true,
+        }
+    }
 }
 
 /// A text of a file: the index of the file, from 0; the offset of its first byte; the offset that is reported if it is

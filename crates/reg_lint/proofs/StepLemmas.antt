@@ -1,14 +1,14 @@
 -- One rule, and one reference system at a time.
 use Rattle.std.proofs.Common.{◌≡◌, Bool, ℕ, Option, List, [], ◌∷◌, ◌++◌, map, length, refl, sym, ap, ◌∙◌, arith}
 use Rattle.std.proofs.lemmas.List.{append_assoc, append-nil}
-use Rattle.crs_sense.specs.declared.rule.Rule.{Rule}
+use Rattle.reg_lint.specs.declared.rule.AnyRule.{AnyRule}
 use Rattle.reg_lint.specs.declared.subject.Subject.{Subject}
 use Rattle.reg_lint.specs.Details.{details}
 use Rattle.reg_lint.specs.Lines.{line_of, lines_of, all_lines}
 
 module _ (known : List ℕ → Bool) where
   -- the rows of one rule were written
-  pub rule_step : (rule : Rule) (others rest : List Rule) (ss : List Subject) (ds : List (Option (List ℕ))) (old new end : List ℕ)
+  pub rule_step : (rule : AnyRule) (others rest : List AnyRule) (ss : List Subject) (ds : List (Option (List ℕ))) (old new end : List ℕ)
       → rest ≡ rule ∷ others → ds ≡ details rule ss → new ≡ old ++ lines_of known rule ss ds
       → old ++ all_lines known rest ss ≡ end → new ++ all_lines known others ss ≡ end
   rule_step rule others rest ss ds old new end r d e inv =
@@ -17,12 +17,12 @@ module _ (known : List ℕ → Bool) where
       ∙ ap (λ l. old ++ all_lines known l ss) (sym r)
       ∙ inv
 
-  pub no_rule : (rest : List Rule) (ss : List Subject) (old end : List ℕ) → length rest ≡ 0 → old ++ all_lines known rest ss ≡ end → old ≡ end
+  pub no_rule : (rest : List AnyRule) (ss : List Subject) (old end : List ℕ) → length rest ≡ 0 → old ++ all_lines known rest ss ≡ end → old ≡ end
   no_rule [] ss old end e inv = sym (append-nil old) ∙ inv
   no_rule (r ∷ rs) ss old end e inv = absurd (omega (arith, e))
 
   -- the row of one reference system was written
-  pub line_step : (rule : Rule) (s : Subject) (later left : List Subject) (d : Option (List ℕ)) (others rest : List (Option (List ℕ))) (old new end : List ℕ)
+  pub line_step : (rule : AnyRule) (s : Subject) (later left : List Subject) (d : Option (List ℕ)) (others rest : List (Option (List ℕ))) (old new end : List ℕ)
       → left ≡ s ∷ later → rest ≡ d ∷ others → new ≡ old ++ line_of known rule s d
       → old ++ lines_of known rule left rest ≡ end → new ++ lines_of known rule later others ≡ end
   line_step rule s later left d others rest old new end l r e inv =
@@ -31,11 +31,11 @@ module _ (known : List ℕ → Bool) where
       ∙ (λ j. old ++ lines_of known rule (sym l j) (sym r j))
       ∙ inv
 
-  pub no_subject : (rule : Rule) (left : List Subject) (rest : List (Option (List ℕ))) (old end : List ℕ) → length left ≡ 0 → old ++ lines_of known rule left rest ≡ end → old ≡ end
+  pub no_subject : (rule : AnyRule) (left : List Subject) (rest : List (Option (List ℕ))) (old end : List ℕ) → length left ≡ 0 → old ++ lines_of known rule left rest ≡ end → old ≡ end
   no_subject rule [] rest old end e inv = sym (append-nil old) ∙ inv
   no_subject rule (s ∷ ss) rest old end e inv = absurd (omega (arith, e))
 
-  pub no_detail : (rule : Rule) (left : List Subject) (rest : List (Option (List ℕ))) (old end : List ℕ) → length rest ≡ 0 → old ++ lines_of known rule left rest ≡ end → old ≡ end
+  pub no_detail : (rule : AnyRule) (left : List Subject) (rest : List (Option (List ℕ))) (old end : List ℕ) → length rest ≡ 0 → old ++ lines_of known rule left rest ≡ end → old ≡ end
   no_detail rule [] [] old end e inv = sym (append-nil old) ∙ inv
   no_detail rule (s ∷ ss) [] old end e inv = sym (append-nil old) ∙ inv
   no_detail rule left (d ∷ ds) old end e inv = absurd (omega (arith, e))

@@ -1,18 +1,41 @@
 -- What is said of each reference system that breaks a rule.
 use Rattle.std.specs.Prelude.{ℕ, List, map, Option, Some, None, if◌then◌else◌}
-use Rattle.std.specs.Global.{Vec}
+use Rattle.std.specs.List.{flat_map}
+use Rattle.crs_part.specs.Slots.{name_of, ids_of}
+use Rattle.crs_said.specs.References.{system_names}
 use Rattle.crs_sense.specs.declared.rule.Rule.{Rule}
 use Rattle.crs_sense.specs.Rules.{breaks}
 use Rattle.crs_sense.specs.Sentences.{sentence}
+use Rattle.reg_sense.specs.declared.rule.WideRule.{WideRule}
+use Rattle.reg_sense.specs.Claimants.{Voice}
+use Rattle.reg_sense.specs.Rules.{claims_of, wide_told}
+use Rattle.reg_lint.specs.declared.rule.AnyRule.{AnyRule}
+use Rattle.reg_lint.specs.declared.rule.AnyRule.TheVariants as any
 use Rattle.reg_lint.specs.declared.subject.Subject.{Subject}
-
-abbrev pub detail_seen : Option (Vec ℕ) → Option (List ℕ)
-detail_seen None = None
-detail_seen (Some text) = Some text.items
+use Rattle.reg_lint.specs.Subjects.{authority_of, code_of}
 
 -- the sentence of a reference system that breaks the rule
 abbrev pub told : Rule → Subject → Option (List ℕ)
 told rule s = if breaks rule s.crs.parts then Some (sentence rule s.crs.parts) else None
 
-abbrev pub details : Rule → List Subject → List (Option (List ℕ))
-details rule subjects = map (told rule) subjects
+abbrev pub own_details : Rule → List Subject → List (Option (List ℕ))
+own_details rule subjects = map (told rule) subjects
+
+-- its key, its name, and what it claims, as far as the rule asks
+abbrev pub voice_of : WideRule → Subject → Voice
+voice_of rule s = record { authority = authority_of (ids_of s.crs.parts); code = code_of (ids_of s.crs.parts); name = (name_of s.crs.parts).bytes; claims = claims_of rule s.crs.parts }
+
+-- the names of some reference systems, and of their parts
+abbrev pub names_in : List Subject → List (List ℕ)
+names_in subjects = flat_map (λ (s : Subject). system_names s.crs.parts) subjects
+
+-- the sentence of one that breaks the rule beside the others
+abbrev pub told_beside : WideRule → List Subject → Subject → Option (List ℕ)
+told_beside rule subjects s = wide_told rule (names_in subjects) (map (voice_of rule) subjects) (voice_of rule s)
+
+abbrev pub wide_details : WideRule → List Subject → List (Option (List ℕ))
+wide_details rule subjects = map (told_beside rule subjects) subjects
+
+abbrev pub details : AnyRule → List Subject → List (Option (List ℕ))
+details (any.Own rule) subjects = own_details rule subjects
+details (any.Wide rule) subjects = wide_details rule subjects

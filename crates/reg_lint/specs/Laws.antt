@@ -1,5 +1,5 @@
 -- What the rows of a content depend on: the texts of its entries that are not retired, and nothing else.
-use Rattle.std.specs.Prelude.{◌≡◌, ◌↔◌, Bool, true, false, ℕ, List, Contains}
+use Rattle.std.specs.Prelude.{◌≡◌, ◌↔◌, Bool, true, false, not, ℕ, List, map, filter, Contains}
 use Rattle.crs_part.specs.Slots.{ids_of}
 use Rattle.crs_value.specs.declared.crs.Crs.{Crs}
 use Rattle.crs_sense.specs.declared.rule.Rule.{Rule}
@@ -39,3 +39,9 @@ pub record HasRow (ss : List Subject) (rule : Rule) (authority code : List ℕ) 
   pub subject : Subject
   pub there : Contains ss subject
   pub breaks : Breaks rule authority code subject.crs
+
+-- ---- the order of entries
+
+-- the texts of the entries that are not retired, by id
+abbrev pub live_texts : Content → List (List ℕ)
+live_texts x = map (λ (r : Row). r.definition) (filter (λ (r : Row). not (is_retired r.status)) (rows x.ops))

@@ -1,5 +1,8 @@
 pub mod Subjects
+pub mod AnyRules
+pub mod Entered
 pub mod Details
+pub mod Questions
 pub mod Known
 pub mod Lines
 pub mod Texts

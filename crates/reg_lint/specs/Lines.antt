@@ -2,11 +2,11 @@
 use Rattle.std.specs.Prelude.{◌≡◌, ℕ, Bool, nat_lt, List, [], ◌∷◌, ◌++◌, length, Option, Some, None, codes, if◌then◌else◌}
 use Rattle.csv.specs.Writing.{row_text, default_writer}
 use Rattle.crs_part.specs.Slots.{name_of, ids_of}
-use Rattle.crs_sense.specs.declared.rule.Rule.{Rule}
-use Rattle.crs_sense.specs.Rules.{rule_name}
 use Rattle.reg_op.specs.Contents.{Content}
 use Rattle.reg_report.specs.Lines.{Sheet, sheet_text, IsReady}
 use Rattle.reg_lint.specs.declared.subject.Subject.{Subject}
+use Rattle.reg_lint.specs.declared.rule.AnyRule.{AnyRule}
+use Rattle.reg_lint.specs.AnyRules.{any_name}
 use Rattle.reg_lint.specs.Subjects.{authority_of, code_of, AreLiveIn}
 use Rattle.reg_lint.specs.Details.{details}
 use Rattle.reg_lint.specs.Known.{mark_of}
@@ -15,31 +15,31 @@ abbrev pub lint_header : List (List ℕ)
 lint_header = codes "rule" ∷ codes "entry" ∷ codes "authority" ∷ codes "code" ∷ codes "name" ∷ codes "detail" ∷ []
 
 -- the fields of a row
-abbrev pub fields_of : Rule → Subject → List ℕ → List (List ℕ)
-fields_of rule s detail = rule_name rule ∷ s.label.items ∷ authority_of (ids_of s.crs.parts) ∷ code_of (ids_of s.crs.parts) ∷ (name_of s.crs.parts).bytes ∷ detail ∷ []
+abbrev pub fields_of : AnyRule → Subject → List ℕ → List (List ℕ)
+fields_of rule s detail = any_name rule ∷ s.label.items ∷ authority_of (ids_of s.crs.parts) ∷ code_of (ids_of s.crs.parts) ∷ (name_of s.crs.parts).bytes ∷ detail ∷ []
 
 -- the row, unless its mark is known
 abbrev pub row_of : (List ℕ → Bool) → List (List ℕ) → List ℕ
 row_of known fields = if known (mark_of fields) then [] else row_text default_writer fields
 
 -- the row of a reference system of which something is said
-abbrev pub line_of : (List ℕ → Bool) → Rule → Subject → Option (List ℕ) → List ℕ
+abbrev pub line_of : (List ℕ → Bool) → AnyRule → Subject → Option (List ℕ) → List ℕ
 line_of known rule s None = []
 line_of known rule s (Some detail) = row_of known (fields_of rule s detail)
 
 -- those of some reference systems, each with what is said of it
-abbrev pub lines_of : (List ℕ → Bool) → Rule → List Subject → List (Option (List ℕ)) → List ℕ
+abbrev pub lines_of : (List ℕ → Bool) → AnyRule → List Subject → List (Option (List ℕ)) → List ℕ
 lines_of known rule [] ds = []
 lines_of known rule (s ∷ ss) [] = []
 lines_of known rule (s ∷ ss) (d ∷ ds) = line_of known rule s d ++ lines_of known rule ss ds
 
 -- those of each rule, one rule after another
-abbrev pub all_lines : (List ℕ → Bool) → List Rule → List Subject → List ℕ
+abbrev pub all_lines : (List ℕ → Bool) → List AnyRule → List Subject → List ℕ
 all_lines known [] ss = []
 all_lines known (rule ∷ rules) ss = lines_of known rule ss (details rule ss) ++ all_lines known rules ss
 
 -- a header, and the rows
-abbrev pub lint_sheet : (List ℕ → Bool) → List Rule → List Subject → List ℕ
+abbrev pub lint_sheet : (List ℕ → Bool) → List AnyRule → List Subject → List ℕ
 lint_sheet known rules ss = row_text default_writer lint_header ++ all_lines known rules ss
 
 -- something follows the header, which has 38 bytes
@@ -47,7 +47,7 @@ abbrev pub has_rows : List ℕ → Bool
 has_rows text = nat_lt 38 (length text)
 
 -- the rows of the entries of a content that are not retired
-abbrev pub IsLintText : (List ℕ → Bool) → List Rule → Content → List ℕ → Type 0
+abbrev pub IsLintText : (List ℕ → Bool) → List AnyRule → Content → List ℕ → Type 0
 IsLintText known rules x text = (ss : List Subject) × AreLiveIn x ss × (text ≡ lint_sheet known rules ss)
 
 -- ---- writing

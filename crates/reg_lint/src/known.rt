@@ -1,6 +1,6 @@
 //! Rows that were looked at before.
 
-ghost use Rattle.std.specs.Prelude.{◌≡◌, map, IfOk, OnOk};
+ghost use Rattle.std.specs.Prelude.{◌≡◌, ℕ, List, false, map, IfOk, OnOk};
 ghost use Rattle.csv.specs.Records.{fields_of};
 ghost use Rattle.reg_lint.specs.Known.{mark_of, has_mark, PutsMark, HasMarks, IsKnownFrom};
 
@@ -17,6 +17,15 @@ pub struct Known {
 }
 
 impl Known {
+    /// No rows.
+    pub fn none(alloc: Global) -> Known
+        ensures { (mark : List ℕ) → has_mark result mark ≡ false }
+    {
+        Known {
+            marks: BTreeSet::new(alloc),
+        }
+    }
+
     /// Whether the row of this mark was looked at before.
     pub(crate) fn has(&self, mark: &Vec<u8>) -> bool
         ensures { result ≡ has_mark self.now mark.now.items }

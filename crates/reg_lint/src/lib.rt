@@ -1,18 +1,26 @@
 //! Which entries of a register, or texts of files, break which rules of sense, and the rows that say so.
 #![tactic(auto)]
 
+mod asked;
 mod details;
+mod entered;
 mod known;
 pub mod laws;
 mod lines;
 mod live;
 mod marks;
+mod rule;
 mod subject;
 mod texts;
+mod voices;
 
-pub use crs_sense::{RULES, Rule};
+pub use asked::questions;
+pub use crs_sense::Rule;
+pub use entered::entered_subjects;
 pub use known::{Known, known_rows};
 pub use lines::{has_rows, lint_text};
 pub use live::live_subjects;
+pub use reg_sense::WideRule;
+pub use rule::{ANY_RULES, AnyRule};
 pub use subject::Subject;
 pub use texts::{Unread, push_texts};

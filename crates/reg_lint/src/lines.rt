@@ -2,15 +2,15 @@
 
 ghost use Rattle.std.specs.Prelude.{◌≡◌, map, IfOk, OnOk};
 ghost use Rattle.reg_report.specs.Lines.{IsReady, WritesRow};
-ghost use Rattle.reg_lint.specs.Details.{detail_seen};
+ghost use Rattle.reg_sense.specs.Claimants.{detail_seen};
 ghost use Rattle.reg_lint.specs.Known.{has_mark};
 ghost use Rattle.reg_lint.specs.Lines.{lint_header, row_of, line_of, lines_of, all_lines, lint_sheet, has_rows, fields_of, Writes};
 
 use crate::details::details;
 use crate::known::Known;
 use crate::marks::mark_of;
+use crate::rule::AnyRule;
 use crate::subject::{Subject, authority_of, code_of, copied};
-use crs_sense::Rule;
 use csv::Writer;
 use reg_report::write_fields;
 use std::alloc::{AllocError, Global};
@@ -22,7 +22,7 @@ const HEADER: &[u8] = b"rule,entry,authority,code,name,detail\n";
 pub fn lint_text(
     alloc: Global,
     known: &Known,
-    rules: &[Rule],
+    rules: &[AnyRule],
     subjects: &[Subject],
 ) -> Result<Vec<u8>, AllocError>
     ensures { IfOk result (λ text. text.items ≡ lint_sheet (has_mark known.now) rules.now subjects.now) }
@@ -58,7 +58,7 @@ fn write_all_lines(
     alloc: Global,
     wtr: &mut Writer<Vec<u8>>,
     known: &Known,
-    rules: &[Rule],
+    rules: &[AnyRule],
     subjects: &[Subject],
 ) -> Result<(), AllocError>
     requires { IsReady wtr.old }
@@ -78,7 +78,7 @@ fn write_lines(
     alloc: Global,
     wtr: &mut Writer<Vec<u8>>,
     known: &Known,
-    rule: Rule,
+    rule: AnyRule,
     subjects: &[Subject],
     found: &[Option<Vec<u8>>],
 ) -> Result<(), AllocError>
@@ -102,7 +102,7 @@ fn write_line(
     alloc: Global,
     wtr: &mut Writer<Vec<u8>>,
     known: &Known,
-    rule: Rule,
+    rule: AnyRule,
     subject: &Subject,
     detail: &Option<Vec<u8>>,
 ) -> Result<(), AllocError>
@@ -119,7 +119,7 @@ fn write_found(
     alloc: Global,
     wtr: &mut Writer<Vec<u8>>,
     known: &Known,
-    rule: Rule,
+    rule: AnyRule,
     subject: &Subject,
     detail: &[u8],
 ) -> Result<(), AllocError>

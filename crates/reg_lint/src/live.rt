@@ -20,7 +20,8 @@ pub fn live_subjects(alloc: Global, register: &Register) -> Result<Vec<Subject>,
     Ok(subjects)
 }
 
-fn live_of_rows(alloc: Global, rows: Vec<Row>) -> Result<Vec<Subject>, AllocError>
+/// The entries of these rows that are not retired, in order.
+pub(crate) fn live_of_rows(alloc: Global, rows: Vec<Row>) -> Result<Vec<Subject>, AllocError>
     ensures { IfOk result (λ subjects. AreLive (map row_seen rows.items) subjects.items) }
 {
     let mut subjects = Vec::new(alloc);

@@ -1,2 +1,1 @@
 mod MergingLemmas
-mod ShelfMergingLemmas

@@ -12,13 +12,14 @@ use Rattle.reg_op.specs.Operations.{Op, Ops}
 use Rattle.reg_op.specs.declared.operation.OpBody.TheVariants.{Enter}
 use Rattle.reg_op.specs.Text.{printed}
 use Rattle.reg_op.proofs.OpLemmas.{id_total}
+use Rattle.crs_sense.specs.declared.rule.Rule.{Rule}
 use Rattle.reg_page.specs.declared.described.Described.{Described}
 use Rattle.reg_page.proofs.CodeLemmas.{code_total}
 use Rattle.reg_page.specs.Descriptions.{DescribesEntry, IsDescribed, described_cmp, AreDescribed, AreById, at, InOrder}
 
 -- a description of the entry that an operation of s enters describes an entry of s
-pub described_here : (s : Ops) (o : Op) (i : Id) (d written : List ℕ) (t : Described) → set.contains s o ≡ true → o.body ≡ Enter d → i ≡ o.id → written ≡ o.note → DescribesEntry i d written t → IsDescribed s t
-described_here s o i d written t there body id note h = record {
+pub described_here : (rules : List Rule) (s : Ops) (o : Op) (i : Id) (d written : List ℕ) (t : Described) → set.contains s o ≡ true → o.body ≡ Enter d → i ≡ o.id → written ≡ o.note → DescribesEntry rules i d written t → IsDescribed rules s t
+described_here rules s o i d written t there body id note h = record {
   definition = d;
   note = written;
   entered = subst (λ (p : Op). set.contains s p ≡ true) (λ j. record { id = (sym (h.id ∙ id)) j; body = body j; note = (sym note) j }) there;
@@ -61,9 +62,9 @@ sorted_at (t ∷ u ∷ ts) up (suc k) d low h =
     subst (λ m. is_lt (described_cmp (get_or (t ∷ u ∷ ts) m v).now (get_or (u ∷ ts) i v).now) ≡ false) f (up (suc i) v (omega arith) (omega arith))) k d (omega arith) (omega (arith, h)))
 
 -- the descriptions by id, sorted by key, are those of the page
-pub in_order : (s : Ops) (ts rows : List Described) → AreById s ts → InOrder ts rows → AreDescribed s rows
-in_order s ts rows h order = record {
-  each = All-permutation (IsDescribed s) ts rows order.same h.each;
+pub in_order : (rules : List Rule) (s : Ops) (ts rows : List Described) → AreById rules s ts → InOrder ts rows → AreDescribed rules s rows
+in_order rules s ts rows h order = record {
+  each = All-permutation (IsDescribed rules s) ts rows order.same h.each;
   ids = subst (λ l. IsPermutation l (map (λ (t : Described). t.id) rows)) h.ids (IsPermutation-map (λ (t : Described). t.id) ts rows order.same);
   sorted = order.sorted;
 }

@@ -22,6 +22,7 @@ use Rattle.reg_op.proofs.OpLemmas.{id_total, op_exact, is_same_exact}
 use Rattle.reg_report.specs.Conflicts.{KeyBytes, HasKey, Stands, Contested, AreConflicts}
 use Rattle.reg_report.proofs.ConflictLemmas.{none_in, in_cons, in_head, in_tail, in_map, from_map, any_of_member}
 use Rattle.reg_report.proofs.EntryLemmas.{row_is_entered}
+use Rattle.crs_sense.specs.declared.rule.Rule.{Rule}
 use Rattle.reg_page.specs.declared.described.Described.{Described}
 use Rattle.reg_page.specs.Descriptions.{IsDescribed, entry_ids}
 use Rattle.reg_page.specs.Page.{described_at, pairs_of, pairs_from, pairs_among, conflict_of, IsShown}
@@ -43,7 +44,7 @@ entered s r h =
     let o = entering r.entry r.definition there.0 in
     in_map (λ (p : Op). p.id) (filter (λ (p : Op). is_enter p.body) (set.items s)) o (filter_in (λ (p : Op). is_enter p.body) (set.items s) o (in_items s o there.1) refl)
 
-module _ (s : Ops) (described : List Described) (each : All (IsDescribed s) described) (ids : IsPermutation (entry_ids s) (ids_of described)) where
+module _ (rules : List Rule) (s : Ops) (described : List Described) (each : All (IsDescribed rules s) described) (ids : IsPermutation (entry_ids s) (ids_of described)) where
   abbrev IsThere : Id → Type 0
   IsThere i = (t : Described) × (described_at described i ≡ Some t) × (t.printed.items ≡ printed i)
 
@@ -53,7 +54,7 @@ module _ (s : Ops) (described : List Described) (each : All (IsDescribed s) desc
       elim (described_at described i) as (λ (o : Option Described). described_at described i ≡ o → IsThere i) [
         | None ↦ λ e. absurd (true≢false (sym (subst (λ k. is_same k i ≡ true) m.2 (same_itself i)) ∙ lacks described i e m.0 m.1))
         | Some t ↦ λ e.
-            let d = All-contains (IsDescribed s) described t each (found_in (λ (u : Described). is_same u.id i) described t e) in
+            let d = All-contains (IsDescribed rules s) described t each (found_in (λ (u : Described). is_same u.id i) described t e) in
             (t, e, d.described.prints ∙ ap printed (is_same_exact t.id i (has_id described i t e)))
       ] refl
 
@@ -91,10 +92,10 @@ stands_in rs cs h c there i stands =
     let e = h.entries c there in
     subst (λ is. Contains is i) (sym e.1) (Contains-from_any {eq = eq_by_cmp id_cmp} is_same_exact i (set.items e.0) (sym (set.contains-items e.0 i) ∙ (e.2 i).1 stands))
 
-pub are_paired : (title : List ℕ) (x : Content) (s : shown.Shown) → IsShown title x s → (cs : List Contested) × AreConflicts (rows x.ops) cs × (map paired s.conflicts ≡ map contested cs)
-are_paired title x s h =
+pub are_paired : (rules : List Rule) (title : List ℕ) (x : Content) (s : shown.Shown) → IsShown rules title x s → (cs : List Contested) × AreConflicts (rows x.ops) cs × (map paired s.conflicts ≡ map contested cs)
+are_paired rules title x s h =
     let rs = rows x.ops in
-    let listed = all_paired x.ops h.described h.are_described.each h.are_described.ids h.conflicts (λ c there i has.
+    let listed = all_paired rules x.ops h.described h.are_described.each h.are_described.ids h.conflicts (λ c there i has.
     let stands = stands_from rs h.conflicts h.are_conflicts c there i has in
     subst (Contains (entry_ids x.ops)) stands.is (entered x.ops stands.row stands.there)) in
     (h.conflicts, h.are_conflicts, (λ j. map paired (h.is j).conflicts) ∙ listed)
@@ -141,10 +142,10 @@ one_text x is a b ha hb e =
     let second = row_is_entered x.ops b hb in
     ap (λ (o : Op). text_of o.body) (is.one_body (entering a.entry a.definition first.0) (entering b.entry b.definition second.0) first.1 second.1 e)
 
-pub is_paired : (title : List ℕ) (x : Content) (s : shown.Shown) → IsContent x → IsShown title x s → (k : KeyBytes) → IsInConflict HasKey (rows x.ops) k → (i : Id) → Stands (rows x.ops) k i → IsPaired s k i
-is_paired title x s is h k conflict i stands =
+pub is_paired : (rules : List Rule) (title : List ℕ) (x : Content) (s : shown.Shown) → IsContent x → IsShown rules title x s → (k : KeyBytes) → IsInConflict HasKey (rows x.ops) k → (i : Id) → Stands (rows x.ops) k i → IsPaired s k i
+is_paired rules title x s is h k conflict i stands =
     let rs = rows x.ops in
-    let all = are_paired title x s h in
+    let all = are_paired rules title x s h in
     let m = from_map (λ (c : Contested). c.key) all.0 k ((all.1.each k).1 conflict) in
     let c : Contested = m.0 in
     let at : (j : Id) → Stands rs k j → Contains c.entries j = λ j st. stands_in rs all.0 all.1 c m.1 j (subst (λ l. Stands rs l j) m.2 st) in

@@ -50,6 +50,8 @@ use Rattle.reg_report.proofs.ConflictLemmas.{in_head, in_tail, in_map, from_map}
 use Rattle.reg_report.proofs.OneLemmas as contested
 use Rattle.reg_report.proofs.GapLists as missing
 use Rattle.reg_keys.proofs.OrderLemmas.{same_elements}
+use Rattle.reg_lint.specs.Questions.{questions_of}
+use Rattle.crs_sense.specs.declared.rule.Rule.{Rule}
 use Rattle.reg_page.specs.Kinds.{areas_in}
 use Rattle.reg_page.specs.Boxes.{boxes_in}
 use Rattle.reg_page.specs.Codes.{code_cmp}
@@ -76,8 +78,8 @@ one_key text key other h k =
     let same : h.0 ≡ k.0 = one_value text h.0 k.0 h.1 k.1 in
     key_of_first (identifiers_of k.0.parts) key other k.2 (subst (λ crs. HasKey crs key) same h.3) k.3
 
-same_of : (s : Ops) → OneBody s → (t u : Described) → IsDescribed s t → IsDescribed s u → t.id ≡ u.id → Same t u
-same_of s one t u h k e =
+same_of : (rules : List Rule) (s : Ops) → OneBody s → (t u : Described) → IsDescribed rules s t → IsDescribed rules s u → t.id ≡ u.id → Same t u
+same_of rules s one t u h k e =
     let op : entering t.id h.definition h.note ≡ entering u.id k.definition k.note = one (entering t.id h.definition h.note) (entering u.id k.definition k.note) h.entered k.entered e in
     let definition : h.definition ≡ k.definition = ap (λ (o : Op). text_of o.body) op in
     let note : h.note ≡ k.note = ap (λ (o : Op). o.note) op in
@@ -97,6 +99,7 @@ same_of s one t u h k e =
       areas = one_system.areas ∙ ap (λ (c : Crs). areas_in (usages_of c.parts)) crs ∙ sym other.areas;
       kind = one_system.kind ∙ ap (λ (c : Crs). kind_of c.parts) crs ∙ sym other.kind;
       text = one_system.text ∙ ap pretty crs ∙ sym other.text;
+      questions = one_system.questions ∙ ap (λ (c : Crs). questions_of rules c.parts) crs ∙ sym other.questions;
       note = a.note ∙ note ∙ sym b.note;
     }
 
@@ -139,22 +142,22 @@ ranks_ascend (t ∷ u ∷ ts) up d = (
       subst (λ m. is_lt (described_cmp (get_or (t ∷ u ∷ ts) m v) (get_or (u ∷ ts) i v)) ≡ false) e (up (suc i) v (omega arith) (omega arith))) (IsDistinct-tail is_same t.id (ids_of (u ∷ ts)) d),
 )
 
-module _ (s : Ops) (one : OneBody s) where
-  no_twice : (ts : List Described) → AreDescribed s ts → IsDistinct is_same (ids_of ts)
+module _ (rules : List Rule) (s : Ops) (one : OneBody s) where
+  no_twice : (ts : List Described) → AreDescribed rules s ts → IsDistinct is_same (ids_of ts)
   no_twice ts h = still_distinct (entry_ids s) (ids_of ts) h.ids (distinct (entry_ids s) (ids_ascend (set.items s) (items_by_id s one)))
 
-  also_there : (ts us : List Described) → AreDescribed s ts → AreDescribed s us → (r : Rank) → Contains (map rank ts) r → Contains (map rank us) r
+  also_there : (ts us : List Described) → AreDescribed rules s ts → AreDescribed rules s us → (r : Rank) → Contains (map rank ts) r → Contains (map rank us) r
   also_there ts us h k r c =
       let m = from_map rank ts r c in
       let t : Described = m.0 in
       let id = Contains-permutation (entry_ids s) (ids_of us) t.id k.ids (Contains-permutation (ids_of ts) (entry_ids s) t.id (IsPermutation-sym (entry_ids s) (ids_of ts) h.ids) (in_map (λ (v : Described). v.id) ts t m.1)) in
       let n = from_map (λ (v : Described). v.id) us t.id id in
       let u : Described = n.0 in
-      let same = same_of s one u t (All-contains (IsDescribed s) us u k.each n.1) (All-contains (IsDescribed s) ts t h.each m.1) (sym n.2) in
+      let same = same_of rules s one u t (All-contains (IsDescribed rules s) us u k.each n.1) (All-contains (IsDescribed rules s) ts t h.each m.1) (sym n.2) in
       let is : rank u ≡ r = (λ j. (same.authority j, (same.code j, same.id j))) ∙ sym m.2 in
       subst (Contains (map rank us)) is (in_map rank us u n.1)
 
-  same_ranks : (ts us : List Described) → AreDescribed s ts → AreDescribed s us → map rank ts ≡ map rank us
+  same_ranks : (ts us : List Described) → AreDescribed rules s ts → AreDescribed rules s us → map rank ts ≡ map rank us
   same_ranks ts us h k =
       same_elements rank_total (map rank ts) (map rank us) (ranks_ascend ts h.sorted (no_twice ts h)) (ranks_ascend us k.sorted (no_twice us k))
       (λ r. (also_there ts us h k r, also_there us ts k h r))
@@ -279,13 +282,13 @@ module _ (x : Content) (title : List ℕ) (ts us : List Described) (same : AllSa
     retired = parts_same ts us same true x.ops (entry_of x.ops ts os) (entry_of x.ops us os) (entry_same ts us link x.ops os os (λ e. refl)) j;
   }
 
-pub one_page : (title : List ℕ) (names : List Name) (x : Content) (a b : List ℕ) → IsContent x → IsPage title names x a → IsPage title names x b → a ≡ b
-one_page title names x a b is p q =
+pub one_page : (rules : List Rule) (title : List ℕ) (names : List Name) (x : Content) (a b : List ℕ) → IsContent x → IsPage rules title names x a → IsPage rules title names x b → a ≡ b
+one_page rules title names x a b is p q =
     let h = p.are in
     let k = q.are in
     let same : AllSame h.described k.described =
-    in_pairs h.described k.described (same_ranks x.ops is.one_body h.described k.described h.are_described k.are_described)
-    (λ t u c d. same_of x.ops is.one_body t u (All-contains (IsDescribed x.ops) h.described t h.are_described.each c) (All-contains (IsDescribed x.ops) k.described u k.are_described.each d)) in
+    in_pairs h.described k.described (same_ranks rules x.ops is.one_body h.described k.described h.are_described k.are_described)
+    (λ t u c d. same_of rules x.ops is.one_body t u (All-contains (IsDescribed rules x.ops) h.described t h.are_described.each c) (All-contains (IsDescribed rules x.ops) k.described u k.are_described.each d)) in
     let os = acts_in x.ops in
     let wanted = set.items (awaited x.ops) in
     let shows : p.shows ≡ q.shows =
@@ -296,19 +299,19 @@ one_page title names x a b is p q =
     p.is ∙ ap (λ s. html (page (named names) s)) shows ∙ sym q.is
 
 -- registers with the same operations and the same seen ids have one page
-pub one_of_replicas : (title : List ℕ) (names : List Name) (x y : Content) (a b : List ℕ) → IsContent x → ((o : Op) → set.contains x.ops o ≡ set.contains y.ops o) → ((i : Id) → set.contains x.seen i ≡ set.contains y.seen i)
-    → IsPage title names x a → IsPage title names y b → a ≡ b
-one_of_replicas title names x y a b is ops seen p q =
+pub one_of_replicas : (rules : List Rule) (title : List ℕ) (names : List Name) (x y : Content) (a b : List ℕ) → IsContent x → ((o : Op) → set.contains x.ops o ≡ set.contains y.ops o) → ((i : Id) → set.contains x.seen i ≡ set.contains y.seen i)
+    → IsPage rules title names x a → IsPage rules title names y b → a ≡ b
+one_of_replicas rules title names x y a b is ops seen p q =
     let same_ops : x.ops ≡ y.ops = set.same_set op_total op_exact x.ops y.ops ops in
     let same_seen : x.seen ≡ y.seen = set.same_set id_total id_exact x.seen y.seen seen in
     let same : x ≡ y = λ j. record { ops = same_ops j; seen = same_seen j } in
-    one_page title names y a b (subst IsContent same is) (subst (λ (z : Content). IsPage title names z a) same p) q
+    one_page rules title names y a b (subst IsContent same is) (subst (λ (z : Content). IsPage rules title names z a) same p) q
 
 -- joining two registers in either order gives one page
-pub one_of_merges : (title : List ℕ) (names : List Name) (x y z w : Content) (a b : List ℕ) → IsContent x → IsContent y → joined x y ≡ Ok z → joined y x ≡ Ok w → IsPage title names z a → IsPage title names w b → a ≡ b
-one_of_merges title names x y z w a b one other e f p q =
+pub one_of_merges : (rules : List Rule) (title : List ℕ) (names : List Name) (x y z w : Content) (a b : List ℕ) → IsContent x → IsContent y → joined x y ≡ Ok z → joined y x ≡ Ok w → IsPage rules title names z a → IsPage rules title names w b → a ≡ b
+one_of_merges rules title names x y z w a b one other e f p q =
     let same : z ≡ w = ok_exact z w (sym e ∙ joined_comm x y ∙ f) in
-    one_page title names w a b (joined_is_content y x w other one f) (subst (λ (v : Content). IsPage title names v a) same p) q
+    one_page rules title names w a b (joined_is_content y x w other one f) (subst (λ (v : Content). IsPage rules title names v a) same p) q
   where
     ok_exact : (v u : Content) → ◌≡◌ {A = Result Content Id} (Ok v) (Ok u) → v ≡ u
     ok_exact v u h = cc

@@ -10,6 +10,7 @@ use Rattle.reg_op.specs.Contents.{Content}
 use Rattle.reg_op.specs.Operations.{Op, Ops}
 use Rattle.reg_op.specs.Status.{status}
 use Rattle.reg_op.specs.Text.{printed}
+use Rattle.crs_sense.specs.declared.rule.Rule.{Rule}
 use Rattle.reg_page.specs.declared.described.Described.{Described}
 use Rattle.reg_page.specs.Descriptions.{IsDescribed, entry_ids}
 use Rattle.reg_page.specs.Page.{standing_of, is_retired, is_among, entry_of, acts_in, rows_of, IsShown}
@@ -22,11 +23,11 @@ twice true = refl
 twice false = refl
 
 -- the ids of the descriptions, as they are printed
-printed_ids : (s : Ops) (ts : List Described) → All (IsDescribed s) ts → map printed (map (λ (t : Described). t.id) ts) ≡ map id_of ts
-printed_ids s [] all = refl
-printed_ids s (t ∷ ts) all =
-    let d = All-head (IsDescribed s) t ts all in
-    ap₂ (λ i is. i ∷ is) (sym d.described.prints) (printed_ids s ts (All-tail (IsDescribed s) t ts all))
+printed_ids : (rules : List Rule) (s : Ops) (ts : List Described) → All (IsDescribed rules s) ts → map printed (map (λ (t : Described). t.id) ts) ≡ map id_of ts
+printed_ids rules s [] all = refl
+printed_ids rules s (t ∷ ts) all =
+    let d = All-head (IsDescribed rules s) t ts all in
+    ap₂ (λ i is. i ∷ is) (sym d.described.prints) (printed_ids rules s ts (All-tail (IsDescribed rules s) t ts all))
 
 module _ (s : Ops) (described : List Described) (os : List Op) where
   ids_of_rows : (gone : Bool) → map (λ (e : shown.Entry). e.id) (rows_of gone s described os described) ≡ map id_of (filter (is_among gone s) described)
@@ -41,11 +42,11 @@ module _ (s : Ops) (described : List Described) (os : List Op) where
       ∙ sym (map-append (λ (e : shown.Entry). e.id) (rows_of false s described os described) (rows_of true s described os described) ∙ ap₂ (λ a b. a ++ b) (ids_of_rows false) (ids_of_rows true)) in
       subst (λ l. IsPermutation (map id_of described) l) is ids
 
-pub one_row : (title : List ℕ) (x : Content) (s : shown.Shown) → IsShown title x s → IsPermutation (map printed (entry_ids x.ops)) (map (λ (e : shown.Entry). e.id) (s.entries ++ s.retired))
-one_row title x s h =
+pub one_row : (rules : List Rule) (title : List ℕ) (x : Content) (s : shown.Shown) → IsShown rules title x s → IsPermutation (map printed (entry_ids x.ops)) (map (λ (e : shown.Entry). e.id) (s.entries ++ s.retired))
+one_row rules title x s h =
     let ts = h.described in
     let ids = IsPermutation-map printed (entry_ids x.ops) (map (λ (t : Described). t.id) ts) h.are_described.ids in
-    let as_printed = subst (λ l. IsPermutation (map printed (entry_ids x.ops)) l) (printed_ids x.ops ts h.are_described.each) ids in
+    let as_printed = subst (λ l. IsPermutation (map printed (entry_ids x.ops)) l) (printed_ids rules x.ops ts h.are_described.each) ids in
     let rows = all_rows x.ops ts (acts_in x.ops) in
     subst (λ (z : shown.Shown). IsPermutation (map printed (entry_ids x.ops)) (map (λ (e : shown.Entry). e.id) (z.entries ++ z.retired))) (sym h.is)
     (IsPermutation-trans (map printed (entry_ids x.ops)) (map id_of ts) (map (λ (e : shown.Entry). e.id) (rows_of false x.ops ts (acts_in x.ops) ts ++ rows_of true x.ops ts (acts_in x.ops) ts)) as_printed rows)

@@ -34,10 +34,11 @@ pub record Same (t u : Described) : Type 0 where
   pub areas : map (λ (a : Vec ℕ). a.items) t.system.areas.items ≡ map (λ (a : Vec ℕ). a.items) u.system.areas.items
   pub kind : t.system.kind ≡ u.system.kind
   pub text : t.system.text.items ≡ u.system.text.items
+  pub questions : map (λ (q : Vec ℕ). q.items) t.system.questions.items ≡ map (λ (q : Vec ℕ). q.items) u.system.questions.items
   pub note : t.note.items ≡ u.note.items
 
 pub itself : (t : Described) → Same t t
-itself t = record { id = refl; printed = refl; authority = refl; code = refl; name = refl; boxes = refl; areas = refl; kind = refl; text = refl; note = refl }
+itself t = record { id = refl; printed = refl; authority = refl; code = refl; name = refl; boxes = refl; areas = refl; kind = refl; text = refl; questions = refl; note = refl }
 
 -- if both lists have the same links, descriptions that show the same give the same row
 module _ (ts us : List Described) (link : (i : Id) → link_to ts i ≡ link_to us i) where
@@ -68,6 +69,7 @@ module _ (ts us : List Described) (link : (i : Id) → link_to ts i ≡ link_to 
         standing = standing_of (status s (same.id j));
         links = links j;
         text = same.text j;
+        questions = same.questions j;
         note = same.note j;
         events = events j;
       }

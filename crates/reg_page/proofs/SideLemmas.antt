@@ -13,6 +13,7 @@ use Rattle.reg_report.specs.declared.gap.Gap.{Gap}
 use Rattle.reg_op.specs.Contents.{Content}
 use Rattle.reg_report.specs.Conflicts.{Contested}
 use Rattle.reg_report.proofs.ConflictLemmas.{none_in, in_cons, in_head, in_tail, in_map, from_map}
+use Rattle.crs_sense.specs.declared.rule.Rule.{Rule}
 use Rattle.reg_page.specs.declared.described.Described.{Described}
 use Rattle.reg_page.specs.Page.{described_at, standing_of, is_retired, is_among, entry_of, side_of, pairs_of, pairs_from, pairs_among, conflict_of, acts_in, shown_of, IsShown, IsSide}
 
@@ -78,7 +79,7 @@ module _ (title : List ℕ) (y : Content) (described : List Described) (acts : L
       let r = from_map (conflict_of described) cs c h in
       among (r.0).entries p (subst (λ (d : shown.Conflict). Contains d.pairs p) r.2 k)
 
-pub are_sides : (title : List ℕ) (x : Content) (s : shown.Shown) → IsShown title x s → (c : shown.Conflict) → Contains s.conflicts c → (p : shown.Pair) → Contains c.pairs p → IsSide s p.first × IsSide s p.second
-are_sides title x s h c k p l =
+pub are_sides : (rules : List Rule) (title : List ℕ) (x : Content) (s : shown.Shown) → IsShown rules title x s → (c : shown.Conflict) → Contains s.conflicts c → (p : shown.Pair) → Contains c.pairs p → IsSide s p.first × IsSide s p.second
+are_sides rules title x s h c k p l =
     subst (λ (z : shown.Shown). Contains z.conflicts c → IsSide z p.first × IsSide z p.second) (sym h.is)
     (λ m. all_sides title x h.described (acts_in x.ops) h.conflicts (set.items (awaited x.ops)) h.gaps h.conflicts c m p l) k

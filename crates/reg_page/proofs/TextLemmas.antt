@@ -14,6 +14,7 @@ use Rattle.reg_op.specs.Ids.{id_cmp}
 use Rattle.reg_op.specs.Kept.{entering}
 use Rattle.reg_op.specs.Operations.{Op, Ops}
 use Rattle.reg_op.specs.Set as set
+use Rattle.crs_sense.specs.declared.rule.Rule.{Rule}
 use Rattle.reg_page.specs.declared.described.Described.{Described}
 use Rattle.reg_page.specs.Codes.{code_cmp}
 use Rattle.reg_page.specs.Descriptions.{IsDescribed, described_cmp}
@@ -23,8 +24,8 @@ use Rattle.reg_page.proofs.DescribeLemmas.{described_total}
 
 -- ---- texts
 
-module _ (s : Ops) (described : List Described) (os : List Op) where
-  shows : (t : Described) → IsDescribed s t → ShowsEntry s (entry_of s described os t)
+module _ (rules : List Rule) (s : Ops) (described : List Described) (os : List Op) where
+  shows : (t : Described) → IsDescribed rules s t → ShowsEntry rules s (entry_of s described os t)
   shows t h =
       let d = h.described in
       record {
@@ -40,19 +41,20 @@ module _ (s : Ops) (described : List Described) (os : List Op) where
         spelled = d.system.spelled;
         name = d.system.shows.name;
         text = d.system.shows.text;
+        questions = d.system.shows.questions;
       }
 
-  rows_show : (ts : List Described) → All (IsDescribed s) ts → (gone : Bool) → All (ShowsEntry s) (rows_of gone s described os ts)
+  rows_show : (ts : List Described) → All (IsDescribed rules s) ts → (gone : Bool) → All (ShowsEntry rules s) (rows_of gone s described os ts)
   rows_show ts each gone =
-      All-map (ShowsEntry s) (entry_of s described os) (filter (is_among gone s) ts)
-      (All-filter (is_among gone s) (λ t. ShowsEntry s (entry_of s described os t)) ts (λ k d h. shows (get_or ts k d) (each k d h)))
+      All-map (ShowsEntry rules s) (entry_of s described os) (filter (is_among gone s) ts)
+      (All-filter (is_among gone s) (λ t. ShowsEntry rules s (entry_of s described os t)) ts (λ k d h. shows (get_or ts k d) (each k d h)))
 
-pub all_show : (title : List ℕ) (x : Content) (s : shown.Shown) → IsShown title x s → All (ShowsEntry x.ops) s.entries × All (ShowsEntry x.ops) s.retired
-all_show title x s h =
+pub all_show : (rules : List Rule) (title : List ℕ) (x : Content) (s : shown.Shown) → IsShown rules title x s → All (ShowsEntry rules x.ops) s.entries × All (ShowsEntry rules x.ops) s.retired
+all_show rules title x s h =
     let ts = h.described in
     let each = h.are_described.each in
-    subst (λ (z : shown.Shown). All (ShowsEntry x.ops) z.entries × All (ShowsEntry x.ops) z.retired) (sym h.is)
-    (rows_show x.ops ts (acts_in x.ops) ts each false, rows_show x.ops ts (acts_in x.ops) ts each true)
+    subst (λ (z : shown.Shown). All (ShowsEntry rules x.ops) z.entries × All (ShowsEntry rules x.ops) z.retired) (sym h.is)
+    (rows_show rules x.ops ts (acts_in x.ops) ts each false, rows_show rules x.ops ts (acts_in x.ops) ts each true)
 
 -- ---- order
 
@@ -80,8 +82,8 @@ module _ (s : Ops) (described : List Described) (os : List Op) where
       rows_sorted (entry_of s described os) (λ t u h. first_two (slice_cmp nat_cmp u.authority.items t.authority.items) (code_cmp u.code.items t.code.items) (id_cmp u.id t.id) h) (filter (is_among gone s) ts)
       (IsSortedBy-filter (λ (a b : Described). is_lt (described_cmp a b)) (ranks_by described_total (λ (t : Described). t)) (is_among gone s) ts up)
 
-pub all_in_order : (title : List ℕ) (x : Content) (s : shown.Shown) → IsShown title x s → IsSorted entry_cmp s.entries × IsSorted entry_cmp s.retired
-all_in_order title x s h =
+pub all_in_order : (rules : List Rule) (title : List ℕ) (x : Content) (s : shown.Shown) → IsShown rules title x s → IsSorted entry_cmp s.entries × IsSorted entry_cmp s.retired
+all_in_order rules title x s h =
     let ts = h.described in
     let up = h.are_described.sorted in
     subst (λ (z : shown.Shown). IsSorted entry_cmp z.entries × IsSorted entry_cmp z.retired) (sym h.is)

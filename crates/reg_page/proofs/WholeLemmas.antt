@@ -5,6 +5,7 @@ use Rattle.html_text.specs.Pieces.{Piece, Markup, html, Appends}
 use Rattle.html_text.proofs.JoinLemmas.{next}
 use Rattle.html_page.specs.declared.markup.TheConstants.{AFTER_FIGURES, CONFLICTS_START, CONFLICTS_END, AWAITED_START, AWAITED_END, GAPS_START, GAPS_END, ENTRIES_START, ENTRIES_END, RETIRED_START, RETIRED_END}
 use Rattle.html_page.specs.Templates.{head, figures, section, conflict, awaited as waiting, gap, entry, end, page}
+use Rattle.crs_sense.specs.declared.rule.Rule.{Rule}
 use Rattle.reg_page.proofs.LoopLemmas.{as_others}
 use Rattle.office_names.specs.declared.names.Name.{Name}
 use Rattle.reg_op.specs.Set as set
@@ -46,12 +47,12 @@ in_parts read x title described acts cs is gaps one two three =
     (section RETIRED_START.now (entry read) RETIRED_END.now (rows_of true x.ops described acts described)) end one two three
 
 -- appending the page of what the content shows to an empty text gives the page of the content
-pub is_page : (title : List ℕ) (names : List Name) (x : Content) (rows : List Described) (cs : List Contested) (gaps : List Gap)
+pub is_page : (rules : List Rule) (title : List ℕ) (names : List Name) (x : Content) (rows : List Described) (cs : List Contested) (gaps : List Gap)
     (acts : List Op) (cs' : List Contested) (is : List Id) (gaps' : List Gap) (start last : List ℕ)
-    → AreDescribed x.ops rows → AreConflicts (entry_rows x.ops) cs → AreGaps x.seen gaps
+    → AreDescribed rules x.ops rows → AreConflicts (entry_rows x.ops) cs → AreGaps x.seen gaps
     → ((e : Id) → filter (is_on e) acts ≡ filter (is_on e) (acts_in x.ops)) → cs' ≡ cs → is ≡ set.items (awaited x.ops) → gaps' ≡ gaps → start ≡ []
-    → Appends start last (page (named names) (shown_of x title rows acts cs' is gaps')) → IsPage title names x last
-is_page title names x rows cs gaps acts cs' is gaps' start last t c g on ec ei eg es h =
+    → Appends start last (page (named names) (shown_of x title rows acts cs' is gaps')) → IsPage rules title names x last
+is_page rules title names x rows cs gaps acts cs' is gaps' start last t c g on ec ei eg es h =
     let wanted = set.items (awaited x.ops) in
     let shows : shown_of x title rows acts cs wanted gaps ≡ shown_of x title rows (acts_in x.ops) cs wanted gaps = λ j. record {
       title = title;

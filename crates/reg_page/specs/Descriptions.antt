@@ -20,28 +20,31 @@ use Rattle.reg_op.specs.Status.{is_enter}
 use Rattle.crs_value.specs.declared.key.Key.{Key}
 use Rattle.reg_page.specs.declared.described.System.{System}
 use Rattle.reg_page.specs.declared.described.Described.{Described}
+use Rattle.crs_sense.specs.declared.rule.Rule.{Rule}
+use Rattle.reg_lint.specs.Questions.{questions_of}
 use Rattle.crs_search.specs.Kinds.{kind_of}
 use Rattle.crs_search.specs.Usages.{usages_of}
 use Rattle.reg_page.specs.Kinds.{areas_in}
 use Rattle.reg_page.specs.Boxes.{box_seen, boxes_in}
 use Rattle.reg_page.specs.Codes.{code_cmp}
 
--- what the page shows of a reference system: its name, boxes, areas, kind and indented text
-pub record IsSystemOf (crs : Crs) (d : System) : Type 0 where
+-- what the page shows of a reference system: its name, boxes, areas, kind and indented text, and what is asked by these rules
+pub record IsSystemOf (rules : List Rule) (crs : Crs) (d : System) : Type 0 where
   pub name : d.name.items ≡ (name_of crs.parts).bytes
   pub boxes : map box_seen d.boxes.items ≡ boxes_in (usages_of crs.parts)
   pub areas : map (λ (a : Vec ℕ). a.items) d.areas.items ≡ areas_in (usages_of crs.parts)
   pub kind : d.kind ≡ kind_of crs.parts
   pub text : d.text.items ≡ pretty crs
+  pub questions : map (λ (q : Vec ℕ). q.items) d.questions.items ≡ questions_of rules crs.parts
 
 -- it describes the reference system that the definition spells
-pub record IsSystemIn (definition : List ℕ) (d : System) : Type 0 where
+pub record IsSystemIn (rules : List Rule) (definition : List ℕ) (d : System) : Type 0 where
   pub crs : Crs
   pub spelled : IsCrsOf crs definition
-  pub shows : IsSystemOf crs d
+  pub shows : IsSystemOf rules crs d
 
 -- what the page shows of an entry with this definition and note
-pub record DescribesEntry (entry : Id) (definition written : List ℕ) (t : Described) : Type 0 where
+pub record DescribesEntry (rules : List Rule) (entry : Id) (definition written : List ℕ) (t : Described) : Type 0 where
   pub id : t.id ≡ entry
   pub prints : t.printed.items ≡ printed entry
   pub key : Key
@@ -49,14 +52,14 @@ pub record DescribesEntry (entry : Id) (definition written : List ℕ) (t : Desc
   pub authority : t.authority.items ≡ key.authority.bytes
   pub code : t.code.items ≡ key.code.bytes
   pub note : t.note.items ≡ written
-  pub system : IsSystemIn definition t.system
+  pub system : IsSystemIn rules definition t.system
 
 -- it describes an entry of the register
-pub record IsDescribed (s : Ops) (t : Described) : Type 0 where
+pub record IsDescribed (rules : List Rule) (s : Ops) (t : Described) : Type 0 where
   pub definition : List ℕ
   pub note : List ℕ
   pub entered : set.contains s (entering t.id definition note) ≡ true
-  pub described : DescribesEntry t.id definition note t
+  pub described : DescribesEntry rules t.id definition note t
 
 -- by the bytes of the authority, then by the code, and then by the id
 abbrev pub described_cmp : Described → Described → Ordering
@@ -68,8 +71,8 @@ abbrev pub entry_ids : Ops → List Id
 entry_ids s = map (λ (o : Op). o.id) (filter (λ (o : Op). is_enter o.body) (set.items s))
 
 -- each entry is described once, by key and then by id
-pub record AreDescribed (s : Ops) (ts : List Described) : Type 0 where
-  pub each : All (IsDescribed s) ts
+pub record AreDescribed (rules : List Rule) (s : Ops) (ts : List Described) : Type 0 where
+  pub each : All (IsDescribed rules s) ts
   pub ids : IsPermutation (entry_ids s) (map (λ (t : Described). t.id) ts)
   pub sorted : IsSorted described_cmp ts
 
@@ -78,8 +81,8 @@ abbrev pub AscendById : List Described → Type 0
 AscendById ts = Ascends id_cmp (map (λ (t : Described). t.id) ts)
 
 -- each entry is described once, by id
-pub record AreById (s : Ops) (ts : List Described) : Type 0 where
-  pub each : All (IsDescribed s) ts
+pub record AreById (rules : List Rule) (s : Ops) (ts : List Described) : Type 0 where
+  pub each : All (IsDescribed rules s) ts
   pub ids : map (λ (t : Described). t.id) ts ≡ entry_ids s
   pub ascend : AscendById ts
 

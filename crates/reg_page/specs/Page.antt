@@ -12,6 +12,7 @@ use Rattle.html_page.specs.declared.standing.Standing.TheVariants as standing
 use Rattle.html_page.specs.Shown as shown
 use Rattle.html_page.specs.Templates.{page}
 use Rattle.html_page.specs.Words.{compared}
+use Rattle.crs_sense.specs.declared.rule.Rule.{Rule}
 use Rattle.reg_op.specs.Set as set
 use Rattle.reg_op.specs.Ids.{Id, is_same}
 use Rattle.reg_op.specs.Text.{printed}
@@ -97,6 +98,7 @@ entry_of s described os t = record {
   standing = standing_of (status s t.id);
   links = flat_map (links_in described t.id) os;
   text = t.system.text.items;
+  questions = map (λ (q : Vec ℕ). q.items) t.system.questions.items;
   note = t.note.items;
   events = flat_map (events_in described t.id) os;
 }
@@ -177,10 +179,10 @@ shown_of x title described os cs is gs = record {
   retired = rows_of true x.ops described os described;
 }
 
--- what the page of a content with this title shows
-pub record IsShown (title : List ℕ) (x : Content) (s : shown.Shown) : Type 0 where
+-- what the page of a content with this title shows, with what is asked by these rules
+pub record IsShown (rules : List Rule) (title : List ℕ) (x : Content) (s : shown.Shown) : Type 0 where
   pub described : List Described
-  pub are_described : AreDescribed x.ops described
+  pub are_described : AreDescribed rules x.ops described
   pub conflicts : List Contested
   pub are_conflicts : AreConflicts (rows x.ops) conflicts
   pub gaps : List Gap
@@ -192,9 +194,9 @@ abbrev pub named : List Name → List ℕ → List ℕ
 named names id = office.shown false names id
 
 -- the page of a content with this title and these names of offices
-pub record IsPage (title : List ℕ) (names : List Name) (x : Content) (bytes : List ℕ) : Type 0 where
+pub record IsPage (rules : List Rule) (title : List ℕ) (names : List Name) (x : Content) (bytes : List ℕ) : Type 0 where
   pub shows : shown.Shown
-  pub are : IsShown title x shows
+  pub are : IsShown rules title x shows
   pub is : bytes ≡ html (page (named names) shows)
 
 -- the side is an entry of the page, retired or not: its words, without marks, are the entry's text

@@ -9,6 +9,8 @@ use Rattle.crs_value.specs.declared.key.Key.{Key}
 use Rattle.wkt_crs.specs.Spells.{pretty}
 use Rattle.wkt_crs.specs.Definition.{IsCrsOf, IsKeyIn}
 use Rattle.html_page.specs.Shown as shown
+use Rattle.crs_sense.specs.declared.rule.Rule.{Rule}
+use Rattle.reg_lint.specs.Questions.{questions_of}
 use Rattle.reg_op.specs.Ids.{Id}
 use Rattle.reg_op.specs.Kept.{entering}
 use Rattle.reg_op.specs.Operations.{Ops}
@@ -17,8 +19,8 @@ use Rattle.reg_op.specs.Text.{printed}
 use Rattle.reg_page.specs.Codes.{code_cmp}
 
 -- the row is that of an entry of the register: it has the key and the name of the reference system that the definition spells, and
--- its indented text
-pub record ShowsEntry (s : Ops) (e : shown.Entry) : Type 0 where
+-- its indented text, and then what is asked by these rules
+pub record ShowsEntry (rules : List Rule) (s : Ops) (e : shown.Entry) : Type 0 where
   pub id : Id
   pub definition : List ℕ
   pub entered : set.contains s (entering id definition e.note) ≡ true
@@ -31,6 +33,7 @@ pub record ShowsEntry (s : Ops) (e : shown.Entry) : Type 0 where
   pub spelled : IsCrsOf crs definition
   pub name : e.name ≡ (name_of crs.parts).bytes
   pub text : e.text ≡ pretty crs
+  pub questions : e.questions ≡ questions_of rules crs.parts
 
 -- by the bytes of the authority, and then by the code
 abbrev pub entry_cmp : shown.Entry → shown.Entry → Ordering

@@ -11,6 +11,7 @@ use crate::kind::{areas_of, kind_of};
 use crate::order::compare_codes;
 use crs_search::Kind;
 use crs_value::Crs;
+use reg_lint::{Rule, questions};
 use reg_op::{Op, OpBody, OpId};
 use reg_report::printed;
 use reg_state::Register;
@@ -27,6 +28,8 @@ pub struct System {
     pub kind: Kind,
     /// The indented text.
     pub text: Vec<u8>,
+    /// What an expert would ask.
+    pub questions: Vec<Vec<u8>>,
 }
 
 /// What the page shows of an entry.
@@ -41,39 +44,42 @@ pub struct Described {
     pub note: Vec<u8>,
 }
 
-fn system_of(alloc: Global, crs: &Crs) -> Result<System, AllocError>
-    ensures { IfOk result (IsSystemOf crs.now) }
+fn system_of(alloc: Global, rules: &[Rule], crs: &Crs) -> Result<System, AllocError>
+    ensures { IfOk result (IsSystemOf rules.now crs.now) }
 {
     let name = Vec::from_slice(alloc, crs.name().as_bytes())?;
     let boxes = boxes_of(alloc, crs.parts())?;
     let areas = areas_of(alloc, crs.parts())?;
     let text = write_pretty(alloc, crs)?;
+    let questions = questions(alloc, rules, crs.parts())?;
     Ok(System {
         name,
         boxes,
         areas,
         kind: kind_of(crs.parts()),
         text,
+        questions,
     })
 }
 
-fn system_in(alloc: Global, definition: &Definition) -> Result<System, AllocError>
-    ensures { IfOk result (IsSystemIn definition.now) }
+fn system_in(alloc: Global, rules: &[Rule], definition: &Definition) -> Result<System, AllocError>
+    ensures { IfOk result (IsSystemIn rules.now definition.now) }
 {
     let crs = definition.crs(alloc)?;
-    let made = system_of(alloc, &crs)?;
+    let made = system_of(alloc, rules, &crs)?;
     Ok(made)
 }
 
 fn describe_entry(
     alloc: Global,
+    rules: &[Rule],
     id: OpId,
     definition: &Definition,
     note: &[u8],
 ) -> Result<Described, AllocError>
-    ensures { IfOk result (DescribesEntry id definition.now note.now) }
+    ensures { IfOk result (DescribesEntry rules.now id definition.now note.now) }
 {
-    let system = system_in(alloc, definition)?;
+    let system = system_in(alloc, rules, definition)?;
     let key = definition.key();
     let authority = Vec::from_slice(alloc, key.authority.as_bytes())?;
     let code = Vec::from_slice(alloc, key.code.as_bytes())?;
@@ -91,13 +97,14 @@ fn describe_entry(
 
 fn push_described(
     alloc: Global,
+    rules: &[Rule],
     described: &mut Vec<Described>,
     register: &Register,
     op: &Op,
 ) -> Result<(), AllocError>
     requires there { set.contains register.now.ops op.now ≡ true }
-    requires before { All (IsDescribed register.now.ops) described.old.items }
-    ensures each { OnOk result (All (IsDescribed register.now.ops) described.new.items) }
+    requires before { All (IsDescribed rules.now register.now.ops) described.old.items }
+    ensures each { OnOk result (All (IsDescribed rules.now register.now.ops) described.new.items) }
     ensures ids { OnOk result (map (λ (t : Described). t.id) described.new.items ≡ map (λ (t : Described). t.id) described.old.items ++ map (λ (o : Operation). o.id) (filter (λ (o : Operation). is_enter o.body) (op.now ∷ []))) }
 {
     let definition = match op.body() {
@@ -105,7 +112,7 @@ fn push_described(
         OpBody::Supersede { old: _, newer: _ } => return Ok(()),
         OpBody::Retire { entry: _ } => return Ok(()),
     };
-    let one = describe_entry(alloc, op.id(), definition, op.note().as_bytes())?;
+    let one = describe_entry(alloc, rules, op.id(), definition, op.note().as_bytes())?;
     described.push(one)?;
     Ok(())
 }
@@ -122,13 +129,17 @@ fn compare(left: &Described, right: &Described) -> Ordering
 }
 
 /// What the page shows of each entry, by id.
-pub fn all_described(alloc: Global, register: &Register) -> Result<Vec<Described>, AllocError>
-    ensures { IfOk result (λ made. AreById register.now.ops made.items) }
+pub fn all_described(
+    alloc: Global,
+    rules: &[Rule],
+    register: &Register,
+) -> Result<Vec<Described>, AllocError>
+    ensures { IfOk result (λ made. AreById rules.now register.now.ops made.items) }
 {
     let mut made = Vec::new(alloc);
     let ops = register.ops().as_slice();
     for op in ops {
-        push_described(alloc, &mut made, register, op)?;
+        push_described(alloc, rules, &mut made, register, op)?;
     }
     Ok(made)
 }

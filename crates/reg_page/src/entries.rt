@@ -6,7 +6,7 @@ ghost use Rattle.std.specs.List.Sorted.{IsSortedByKey};
 ghost use Rattle.std.specs.Global.{Vec as Owned};
 ghost use Rattle.html_text.specs.Pieces.{Appends};
 ghost use Rattle.html_page.specs.Shown.{SupersededBy, RetiredBy};
-ghost use Rattle.html_page.specs.Templates.{operation, event, map_of, area, by, entry};
+ghost use Rattle.html_page.specs.Templates.{operation, event, map_of, question, area, by, entry};
 ghost use Rattle.reg_op.specs.Text.{printed};
 ghost use Rattle.reg_op.specs.Status.{status};
 ghost use Rattle.reg_op.specs.Ids.{id_cmp};
@@ -22,8 +22,8 @@ use crate::links::push_link_to;
 use crate::names::{read_for_entry, read_for_id};
 use html_page::markup::{AFTER_BY, AFTER_ENTRY, AFTER_HISTORY, BY, RETIRED_BY, SUPERSEDED_BY};
 use html_page::{
-    Standing, push_area, push_entry_start, push_entry_text, push_map, push_mark, push_operation_id,
-    push_operation_note, push_standing,
+    Standing, push_area, push_entry_id, push_entry_start, push_entry_text, push_map, push_mark,
+    push_operation_id, push_operation_note, push_question, push_standing,
 };
 use office_names::Name;
 use reg_op::{Op, OpBody, OpId, Status};
@@ -228,6 +228,17 @@ fn push_areas(page: &mut Vec<u8>, areas: &[Vec<u8>]) -> Result<(), AllocError>
     Ok(())
 }
 
+fn push_questions(page: &mut Vec<u8>, questions: &[Vec<u8>]) -> Result<(), AllocError>
+    ensures { OnOk result (Appends page.old.items page.new.items (flat_map question (map (λ (q : Owned ℕ). q.items) questions.now))) }
+{
+    let mut rest = questions;
+    while let Some((one, others)) = rest.split_first() {
+        push_question(page, one)?;
+        rest = others;
+    }
+    Ok(())
+}
+
 // Appends the row of an entry.
 fn push_entry(
     alloc: Global,
@@ -247,7 +258,9 @@ fn push_entry(
     let read = read_for_entry(alloc, names, one)?;
     push_entry_start(page, &one.printed, &one.authority, &one.code, &system.name)?;
     push_maps(page, &system.boxes)?;
-    push_entry_text(page, &system.text, &read, &one.note)?;
+    push_entry_text(page, &system.text)?;
+    push_questions(page, &system.questions)?;
+    push_entry_id(page, &read, &one.note)?;
     push_events(alloc, page, names, described, one.id, mine)?;
     push_mark(page, AFTER_HISTORY)?;
     push_areas(page, &system.areas)?;

@@ -8,6 +8,7 @@ ghost use Rattle.html_page.specs.Shape.{shape};
 ghost use Rattle.html_page.specs.Shown.{Entry, Pair, Conflict, Shown};
 ghost use Rattle.html_page.specs.Templates.{page};
 ghost use Rattle.html_page.specs.Texts.{texts, shown_texts};
+ghost use Rattle.crs_sense.specs.declared.rule.Rule.{Rule};
 ghost use Rattle.reg_op.specs.Set as set;
 ghost use Rattle.reg_op.specs.Ids.{Id};
 ghost use Rattle.reg_op.specs.Operations.{Op};
@@ -28,20 +29,20 @@ use office_names::laws::nothing_is_named;
 /// A register has one page with a title and names of offices. So registers with the same operations and seen ids have the same page,
 /// and both orders of a merge do.
 pub fn one_page()
-    ensures content { (title : List ℕ) (names : List Name) (x : Content) (a b : List ℕ) → IsContent x → IsPage title names x a → IsPage title names x b → a ≡ b }
-    ensures replicas { (title : List ℕ) (names : List Name) (x y : Content) (a b : List ℕ) → IsContent x → ((o : Op) → set.contains x.ops o ≡ set.contains y.ops o)
-        → ((i : Id) → set.contains x.seen i ≡ set.contains y.seen i) → IsPage title names x a → IsPage title names y b → a ≡ b }
-    ensures merges { (title : List ℕ) (names : List Name) (x y z w : Content) (a b : List ℕ) → IsContent x → IsContent y → joined x y ≡ Ok z → joined y x ≡ Ok w
-        → IsPage title names z a → IsPage title names w b → a ≡ b }
+    ensures content { (rules : List Rule) (title : List ℕ) (names : List Name) (x : Content) (a b : List ℕ) → IsContent x → IsPage rules title names x a → IsPage rules title names x b → a ≡ b }
+    ensures replicas { (rules : List Rule) (title : List ℕ) (names : List Name) (x y : Content) (a b : List ℕ) → IsContent x → ((o : Op) → set.contains x.ops o ≡ set.contains y.ops o)
+        → ((i : Id) → set.contains x.seen i ≡ set.contains y.seen i) → IsPage rules title names x a → IsPage rules title names y b → a ≡ b }
+    ensures merges { (rules : List Rule) (title : List ℕ) (names : List Name) (x y z w : Content) (a b : List ℕ) → IsContent x → IsContent y → joined x y ≡ Ok z → joined y x ≡ Ok w
+        → IsPage rules title names z a → IsPage rules title names w b → a ≡ b }
 {}
 
 /// A page is the list of pieces that shows the register. In it each text is between tags, or in an id or a link within the page,
 /// and none is in a style or a script. The tags of two pages of one shape are the same, whatever texts their registers have, and
 /// whatever the names of offices are.
 pub fn no_text_leaves_its_place()
-    ensures places { (title : List ℕ) (names : List Name) (x : Content) (bytes : List ℕ) (p : IsPage title names x bytes) → (bytes ≡ html (page (named names) p.shows))
+    ensures places { (rules : List Rule) (title : List ℕ) (names : List Name) (x : Content) (bytes : List ℕ) (p : IsPage rules title names x bytes) → (bytes ≡ html (page (named names) p.shows))
         × (past_all (Some BetweenTags) (page (named names) p.shows) ≡ Some BetweenTags) }
-    ensures tags { (title other : List ℕ) (names many : List Name) (x y : Content) (bytes others : List ℕ) (p : IsPage title names x bytes) (q : IsPage other many y others)
+    ensures tags { (rules also : List Rule) (title other : List ℕ) (names many : List Name) (x y : Content) (bytes others : List ℕ) (p : IsPage rules title names x bytes) (q : IsPage also other many y others)
         → shape p.shows ≡ shape q.shows → tags bytes ≡ tags others }
 {}
 
@@ -54,7 +55,7 @@ pub fn ids_without_names()
 
 /// The rows of the page are those of the register's entries: each entry has one, among those that are not retired or those that are.
 pub fn each_entry_has_one_row()
-    ensures { (title : List ℕ) (x : Content) (s : Shown) → IsShown title x s
+    ensures { (rules : List Rule) (title : List ℕ) (x : Content) (s : Shown) → IsShown rules title x s
         → IsPermutation (map printed (entry_ids x.ops)) (map (λ (e : Entry). e.id) (s.entries ++ s.retired)) }
 {}
 
@@ -62,24 +63,24 @@ pub fn each_entry_has_one_row()
 /// system that the definition spells. The rows are in the order of their keys. What a page has of texts is the words of the sides of
 /// its conflicts, and then the texts of its rows.
 pub fn texts_are_in_order()
-    ensures rows { (title : List ℕ) (x : Content) (s : Shown) → IsShown title x s → All (ShowsEntry x.ops) s.entries × All (ShowsEntry x.ops) s.retired }
-    ensures sorted { (title : List ℕ) (x : Content) (s : Shown) → IsShown title x s → IsSorted entry_cmp s.entries × IsSorted entry_cmp s.retired }
-    ensures page { (title : List ℕ) (names : List Name) (x : Content) (bytes : List ℕ) (p : IsPage title names x bytes) → (bytes ≡ html (page (named names) p.shows))
+    ensures rows { (rules : List Rule) (title : List ℕ) (x : Content) (s : Shown) → IsShown rules title x s → All (ShowsEntry rules x.ops) s.entries × All (ShowsEntry rules x.ops) s.retired }
+    ensures sorted { (rules : List Rule) (title : List ℕ) (x : Content) (s : Shown) → IsShown rules title x s → IsSorted entry_cmp s.entries × IsSorted entry_cmp s.retired }
+    ensures page { (rules : List Rule) (title : List ℕ) (names : List Name) (x : Content) (bytes : List ℕ) (p : IsPage rules title names x bytes) → (bytes ≡ html (page (named names) p.shows))
         × (texts (page (named names) p.shows) ≡ shown_texts p.shows) }
 {}
 
 /// The conflicts of the page are those of the register's report, in order: each key has each of its entries beside the next one. So
 /// each entry of a key in conflict that is not retired is in a pair.
 pub fn contested_entries_are_in_pairs()
-    ensures pairs { (title : List ℕ) (x : Content) (s : Shown) → IsShown title x s → (cs : List Contested) × AreConflicts (rows x.ops) cs
+    ensures pairs { (rules : List Rule) (title : List ℕ) (x : Content) (s : Shown) → IsShown rules title x s → (cs : List Contested) × AreConflicts (rows x.ops) cs
         × (map paired s.conflicts ≡ map contested cs) }
-    ensures each { (title : List ℕ) (x : Content) (s : Shown) → IsContent x → IsShown title x s → (k : KeyBytes) → IsInConflict HasKey (rows x.ops) k
+    ensures each { (rules : List Rule) (title : List ℕ) (x : Content) (s : Shown) → IsContent x → IsShown rules title x s → (k : KeyBytes) → IsInConflict HasKey (rows x.ops) k
         → (entry : Id) → Stands (rows x.ops) k entry → IsPaired s k entry }
 {}
 
 /// Each side of a conflict is an entry of the page: its words, without their marks, are the text in the entry's row.
 pub fn words_are_texts()
-    ensures { (title : List ℕ) (x : Content) (s : Shown) → IsShown title x s → (c : Conflict) → Contains s.conflicts c → (p : Pair) → Contains c.pairs p
+    ensures { (rules : List Rule) (title : List ℕ) (x : Content) (s : Shown) → IsShown rules title x s → (c : Conflict) → Contains s.conflicts c → (p : Pair) → Contains c.pairs p
         → IsSide s p.first × IsSide s p.second }
 {}
 

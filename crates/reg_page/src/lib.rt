@@ -17,5 +17,6 @@ mod order;
 mod page;
 mod table;
 
+pub use crs_sense::{RULES, Rule};
 pub use engine::Page;
 pub use page::page_text;

@@ -21,6 +21,7 @@ use crate::table::push_table;
 use html_page::markup::AFTER_FIGURES;
 use html_page::{Figures, push_figures, push_head, push_mark};
 use office_names::Name;
+use reg_lint::Rule;
 use reg_op::{Op, OpId};
 use reg_report::{Conflict, Gap, awaited, conflicts, gaps};
 use reg_state::Register;
@@ -104,16 +105,17 @@ fn push_page(
     Ok(())
 }
 
-/// The page of a register. In the place of ids, names of offices are read.
+/// The page of a register, with what is asked by these rules. In the place of ids, names of offices are read.
 pub fn page_text(
     alloc: Global,
+    rules: &[Rule],
     register: &Register,
     title: &[u8],
     names: &[Name],
 ) -> Result<Vec<u8>, AllocError>
-    ensures { IfOk result (λ text. IsPage title.now names.now register.now text.items) }
+    ensures { IfOk result (λ text. IsPage rules.now title.now names.now register.now text.items) }
 {
-    let described = all_described(alloc, register)?;
+    let described = all_described(alloc, rules, register)?;
     let acts = acts_by_entry(alloc, register)?;
     let conflicts = conflicts(alloc, register)?;
     let awaited = awaited(alloc, register)?;

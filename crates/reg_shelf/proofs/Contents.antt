@@ -36,6 +36,15 @@ pub either_of : (was x : Content) (old new : List ℕ) → ReadsAs old was → R
 either_of was x old new before after c (inl shelf) = inl (shelf_of c old was shelf before)
 either_of was x old new before after c (inr shelf) = inr (shelf_of c new x shelf after)
 
+-- and the same of shelves whose slots have a size
+sized_of : (was : Content) (old : List ℕ) (size : ℕ) → ReadsAs old was → (c : List ℕ) → slots.IsShelfOf c size old → IsShelfOf c size was
+sized_of was old size before c (shelf, is-size) = (record { bytes = old; shelf = shelf; held = before }, is-size)
+
+pub either_sized : (was x : Content) (old new : List ℕ) (size : ℕ) → ReadsAs old was → ReadsAs new x → (c : List ℕ) → slots.IsShelfOf c size old ⊎ slots.IsShelfOf c size new
+    → IsShelfOf c size was ⊎ IsShelfOf c size x
+either_sized was x old new size before after c (inl shelf) = inl (sized_of was old size before c shelf)
+either_sized was x old new size before after c (inr shelf) = inr (sized_of x new size after c shelf)
+
 -- an image that is a shelf of no bytes, or of bytes that are no content's file, is a shelf of no content
 pub none_by_slots : (image : List ℕ) → slots.IsNoShelf image → IsNoShelf image
 none_by_slots image none x s = none s.bytes s.shelf

@@ -6,7 +6,7 @@ use Rattle.byte_shelf.specs.Shelf as slots
 use Rattle.reg_file.specs.Contents.{Content}
 use Rattle.reg_file.specs.Files.{Holds, ReadsAs}
 use Rattle.reg_shelf.specs.Shelf.{IsShelf, IsShelfOf}
-use Rattle.reg_shelf.proofs.Contents.{either_of, shelf_of}
+use Rattle.reg_shelf.proofs.Contents.{either_of, either_sized, shelf_of}
 
 -- if the bytes that were sent are the file of the content, they hold the content
 sent_holds : (sent file : List ℕ) (x : Content) → sent ≡ file → Holds file x → Holds sent x
@@ -18,6 +18,14 @@ pub moments_of : {D : Type 0} (moment : D → ℕ) (since : D → ℕ → List �
 moments_of moment since images old new before sent file was x leaves all is held holds =
     weaker moment since old new (λ c. images c ⊎ (slots.IsShelf c before ⊎ slots.IsShelf c sent)) (λ c. IsShelf c was ⊎ IsShelf c x) leaves
     (λ c left. ⊎_elim (λ may. inl (all c may)) (either_of was x before sent held (inl (sent_holds sent file x is holds)) c) left)
+
+-- and its slots have the size that they had
+pub sized_moments_of : {D : Type 0} (moment : D → ℕ) (since : D → ℕ → List ℕ → Type 0) (images : List ℕ → Type 0) (old new : D) (before sent file : List ℕ) (size : ℕ) (was x : Content)
+    → LeavesOnly moment since old new (λ c. images c ⊎ (slots.IsShelfOf c size before ⊎ slots.IsShelfOf c size sent)) → ((c : List ℕ) → images c → IsShelfOf c size was)
+    → sent ≡ file → ReadsAs before was → Holds file x → LeavesOnly moment since old new (λ c. IsShelfOf c size was ⊎ IsShelfOf c size x)
+sized_moments_of moment since images old new before sent file size was x leaves all is held holds =
+    weaker moment since old new (λ c. images c ⊎ (slots.IsShelfOf c size before ⊎ slots.IsShelfOf c size sent)) (λ c. IsShelfOf c size was ⊎ IsShelfOf c size x) leaves
+    (λ c left. ⊎_elim (λ may. inl (all c may)) (either_sized was x before sent size held (inl (sent_holds sent file x is holds)) c) left)
 
 pub kept_of : (image sent file : List ℕ) (x : Content) → slots.IsShelf image sent → sent ≡ file → Holds file x → IsShelf image x
 kept_of image sent file x shelf is holds = shelf_of image sent x shelf (inl (sent_holds sent file x is holds))
@@ -32,3 +40,11 @@ pub put_moments : {D : Type 0} (moment : D → ℕ) (since : D → ℕ → List 
 put_moments moment since old new before after was x leaves held holds =
     weaker moment since old new (λ c. slots.IsShelf c before ⊎ slots.IsShelf c after) (λ c. IsShelf c was ⊎ IsShelf c x) leaves
     (either_of was x before after held (inl holds))
+
+-- and its slots have the size that they had
+pub put_sized_moments : {D : Type 0} (moment : D → ℕ) (since : D → ℕ → List ℕ → Type 0) (old new : D) (before after : List ℕ) (size : ℕ) (was x : Content)
+    → LeavesOnly moment since old new (λ c. slots.IsShelfOf c size before ⊎ slots.IsShelfOf c size after) → ReadsAs before was → Holds after x
+    → LeavesOnly moment since old new (λ c. IsShelfOf c size was ⊎ IsShelfOf c size x)
+put_sized_moments moment since old new before after size was x leaves held holds =
+    weaker moment since old new (λ c. slots.IsShelfOf c size before ⊎ slots.IsShelfOf c size after) (λ c. IsShelfOf c size was ⊎ IsShelfOf c size x) leaves
+    (either_sized was x before after size held (inl holds))

@@ -22,6 +22,11 @@ pub fn keep<D: Disk>(alloc: Global, disk: &mut D, register: &Register) -> Result
         → ((c : List ℕ) → D.images disk.old c → IsShelf c was)
         → LeavesOnly D.moment D.images_since disk.old disk.new
         (λ c. IsShelf c was ⊎ IsShelf c register.now) }
+    // Its slots have the size that they had.
+    ensures size_stays { IsTrue (D.tells disk.old) → (was : Content) (size : ℕ)
+        → ((c : List ℕ) → D.images disk.old c → IsShelfOf c size was)
+        → LeavesOnly D.moment D.images_since disk.old disk.new
+        (λ c. IsShelfOf c size was ⊎ IsShelfOf c size register.now) }
     ensures kept { IsTrue (D.tells disk.old) → (was : Content)
         → ((c : List ℕ) → D.images disk.old c → IsShelf c was)
         → OnOk result (Only (D.seen disk.new) (D.images disk.new)

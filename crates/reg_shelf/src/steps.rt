@@ -48,6 +48,11 @@ pub fn put<D: Disk>(disk: &mut D, frame: &Frame) -> Result<(), ShelfFault>
         → (was next : Content) → IsShelf (D.seen disk.old) was → IsReady (D.seen disk.old) next frame.now
         → LeavesOnly D.moment D.images_since disk.old disk.new
         (λ c. IsShelf c was ⊎ IsShelf c next) }
+    // Its slots have the size that they had.
+    ensures size_stays { IsTrue (D.tells disk.old) → Only (D.seen disk.old) (D.images disk.old)
+        → (was next : Content) (size : ℕ) → IsShelfOf (D.seen disk.old) size was → IsReady (D.seen disk.old) next frame.now
+        → LeavesOnly D.moment D.images_since disk.old disk.new
+        (λ c. IsShelfOf c size was ⊎ IsShelfOf c size next) }
     ensures kept { IsTrue (D.tells disk.old)
         → (was next : Content) → IsShelf (D.seen disk.old) was → IsReady (D.seen disk.old) next frame.now
         → OnOk result (Only (D.seen disk.new) (D.images disk.new)

@@ -27,3 +27,12 @@ abbrev pub Tells : {E : Type 0} → Content → Content → Result (Option News)
 Tells x y (Ok None) = ⊥
 Tells x y (Ok (Some n)) = IsNews x y n
 Tells x y (Err e) = Unit {0}
+
+-- the events at a store with what is told of them: of a register that is kept, what is new in it; nothing otherwise
+abbrev pub telling : {E : Type 0} → Around → Result (Option News) E → Around
+telling a news = record {
+  came = λ x. a.came x × (news ≡ Ok None);
+  none = λ f. a.none f × (news ≡ Ok None);
+  left = λ x y. a.left x y × Tells x y news;
+  unleft = λ x y f. a.unleft x y f × (news ≡ Ok None);
+}

@@ -5,4 +5,4 @@ mod telling;
 mod watched;
 
 pub use telling::{Told, change_and_tell};
-pub use watched::Watched;
+pub use watched::{Notes, Watched};

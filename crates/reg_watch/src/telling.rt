@@ -1,6 +1,10 @@
 //! A command that changes a register, and what that brought.
 
-use crate::watched::Watched;
+ghost use Rattle.std.specs.Prelude.{OnOk, IfErr};
+ghost use Rattle.reg_engine.specs.Store.{IsChanged, IsUnchanged, MakesIn, StopsIn};
+ghost use Rattle.reg_watch.specs.Watching.{telling};
+
+use crate::watched::{Notes, Watched};
 use byte_io::Sink;
 use reg_engine::{Change, CliFault, Keep, run_change};
 use reg_news::News;
@@ -20,13 +24,26 @@ pub fn change_and_tell<T: Keep, C: Change, K: Sink>(
     store: &mut T,
     command: &mut C,
     sink: &mut K,
-) -> Told {
-    let mut watched = Watched {
-        store,
-        loaded: None,
-        kept: None,
-    };
-    let answer = run_change(alloc, &mut watched, command, sink);
-    let news = watched.news(alloc);
+) -> Told
+    ensures same { T.same store.old store.new × C.same command.old command.new }
+    ensures changed { OnOk result.answer (IsChanged (telling (T.around store.old store.new) result.news)
+        (MakesIn (T.admission store.old) (C.makes command.old command.new (T.next store.old))) (K.state sink.old) (K.state sink.new)) }
+    ensures fault { IfErr result.answer (IsUnchanged (telling (T.around store.old store.new) result.news)
+        (MakesIn (T.admission store.old) (C.makes command.old command.new (T.next store.old)))
+        (StopsIn (T.admission store.old) (C.unmet command.old command.new (T.next store.old))
+        (λ x. (r : C.Read) × C.reads command.old command.new (T.next store.old) x r) (C.refuses command.old command.new (T.next store.old)))
+        (C.unread command.old command.new) (K.state sink.old) (K.state sink.new)) }
+{
+    let mut notes = Notes::none();
+    let answer = run_change(
+        alloc,
+        &mut Watched {
+            store,
+            notes: &mut notes,
+        },
+        command,
+        sink,
+    );
+    let news = notes.news(alloc);
     Told { answer, news }
 }

@@ -1,6 +1,7 @@
 mod Steps
 mod Firsts
-mod Nexts
+pub mod Nexts
+pub mod EachCut
 pub mod OneCut
 mod Skips
 pub mod Found

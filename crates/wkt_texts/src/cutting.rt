@@ -38,8 +38,8 @@ fn blank_len(bytes: &[u8]) -> usize
     blank_count(bytes)
 }
 
-// The offset of the first text or blank, after a byte order mark if there is one.
-fn begin(file: &[u8]) -> usize
+/// The offset of the first text or blank, after a byte order mark if there is one.
+pub fn begin(file: &[u8]) -> usize
     ensures is { result ≡ begin file.now }
     ensures within { result ≤ length file.now }
 {
@@ -50,8 +50,8 @@ fn begin(file: &[u8]) -> usize
     }
 }
 
-// The first text at or after a place in the file, and the rest.
-fn next_text<'a>(place: usize, bytes: &'a [u8]) -> Option<(Cut<'a>, &'a [u8])>
+/// The first text at or after a place in the file, and the rest. These bytes of the file begin at the place.
+pub fn next_text<'a>(place: usize, bytes: &'a [u8]) -> Option<(Cut<'a>, &'a [u8])>
     requires { place + length bytes.now < 2 ^ 64 }
     ensures some { IfSome result (λ p. IsNext place bytes.now (piece_of p.0) p.1.now) }
     ensures none { IfNone result (AllPass is_blank bytes.now) }

@@ -5,7 +5,12 @@ ghost use Rattle.wkt_tree.specs.Tree.{Piece};
 ghost use Rattle.wkt_texts.specs.Texts.{IsCutInto};
 ghost use Rattle.wkt_texts.specs.Printed.{IsCanonical, printed, AreFound};
 
-/// A file is split into texts in exactly one way.
+/// Each file is split into some texts.
+pub fn each_cut()
+    ensures { (file : List ℕ) → (texts : List Piece) × IsCutInto file texts }
+{}
+
+/// A file is split into texts in at most one way.
 pub fn one_cut()
     ensures { (file : List ℕ) (texts others : List Piece) → IsCutInto file texts → IsCutInto file others → texts ≡ others }
 {}

@@ -5,4 +5,4 @@ mod counting;
 mod cutting;
 pub mod laws;
 
-pub use cutting::{Cut, texts};
+pub use cutting::{Cut, begin, next_text, texts};

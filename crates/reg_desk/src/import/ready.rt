@@ -13,7 +13,7 @@ use crate::import::fault::Unimported;
 use crate::import::files::read_files;
 use crate::import::linked::{LinkRefusal, Linked, import_linked};
 use crate::import::options::ImportOptions;
-use crate::import::texts::{FileCut, cut_files, read_cuts};
+use crate::import::texts::{FileCut, read_texts};
 use byte_io::Source;
 use reg_engine::{CliFault, Refusal, Store};
 use reg_import::{FileText, ImportRefusal, Listing, Refused, lines_text};
@@ -154,13 +154,18 @@ fn made(
     ensures made { IfOk result (λ r. Makes order.now first register (bytes_of files.now) r.register r.lines.items r.passed) }
     ensures fault { IfErr result (IsUnmade order.now first register (bytes_of files.now)) }
 {
-    let Ok(cuts) = cut_files(alloc, files) else {
+    let Ok(given) = read_texts(alloc, order.keep_going, files) else {
         return Err(Unimported::plain(alloc, CliFault::Memory));
     };
-    let Ok(texts) = read_cuts(alloc, &cuts) else {
-        return Err(Unimported::plain(alloc, CliFault::Memory));
-    };
-    match made_of(alloc, register, first, order, files, &cuts, &texts) {
+    match made_of(
+        alloc,
+        register,
+        first,
+        order,
+        files,
+        &given.cuts,
+        &given.texts,
+    ) {
         Ok(ready) => Ok(ready),
         Err(why) => Err(why),
     }

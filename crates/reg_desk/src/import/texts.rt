@@ -1,13 +1,14 @@
 //! The texts of files: their places and readings.
 
-ghost use Rattle.std.specs.Prelude.{◌≡◌, ◌++◌, map, IfOk, OnOk};
+ghost use Rattle.std.specs.Prelude.{◌≡◌, map, not, ◌&&◌, IfOk};
 ghost use Rattle.wkt_texts.specs.Texts.{piece_of};
+ghost use Rattle.reg_import.specs.Readings.{is_unread};
 ghost use Rattle.reg_desk.specs.ImportFiles.{bytes_of};
-ghost use Rattle.reg_desk.specs.ImportTexts.{in_file, text_at, AreCuts, AreRead};
+ghost use Rattle.reg_desk.specs.ImportTexts.{text_at, OneMore, ReadsFile, AreGiven};
 
-use reg_import::{FileText, read_at};
+use reg_import::{FileText, ReadText, read_at};
 use std::alloc::{AllocError, Global};
-use wkt_texts::{Cut, texts};
+use wkt_texts::{Cut, begin, next_text};
 
 /// A text: the index of its file, from 0, the offset of its first byte there, and its bytes.
 #[derive(Clone, Copy)]
@@ -17,41 +18,79 @@ pub struct FileCut<'a> {
     pub bytes: &'a [u8],
 }
 
-// Appends the texts of a file.
-fn push_cuts<'a>(
-    all: &mut Vec<FileCut<'a>>,
+/// Texts of files, and the reading of each.
+#[derive(Drop)]
+pub struct Given<'a> {
+    pub cuts: Vec<FileCut<'a>>,
+    pub texts: Vec<FileText>,
+}
+
+// Whether an import ends at a text with this reading, whatever the register is.
+fn ends_at(keep_going: bool, reading: &ReadText) -> bool
+    ensures { result ≡ (not keep_going && is_unread reading.now) }
+{
+    !keep_going && reading.is_unread()
+}
+
+// Appends a text of a file, and its reading. Returns whether the import ends there.
+fn push_text<'a>(
+    alloc: Global,
+    keep_going: bool,
     file: usize,
-    cuts: &[Cut<'a>],
-) -> Result<(), AllocError>
-    ensures { OnOk result (map text_at all.new.items ≡ map text_at all.old.items ++ map (in_file file) (map piece_of cuts.now)) }
+    cut: &Cut<'a>,
+    cuts: &mut Vec<FileCut<'a>>,
+    texts: &mut Vec<FileText>,
+) -> Result<bool, AllocError>
+    ensures { IfOk result (λ ends. OneMore keep_going file (piece_of cut.now) ends (map text_at cuts.old.items) (map text_at cuts.new.items) texts.old.items texts.new.items) }
 {
-    for cut in cuts {
-        let Cut { place, bytes } = *cut;
-        all.push(FileCut { file, place, bytes })?;
-    }
-    Ok(())
+    let Cut { place, bytes } = *cut;
+    cuts.push(FileCut { file, place, bytes })?;
+    let text = read_at(alloc, file, place, bytes)?;
+    let ends = ends_at(keep_going, &text.reading);
+    texts.push(text)?;
+    Ok(ends)
 }
 
-/// The places of the texts of the files, in order.
-pub fn cut_files<'a>(alloc: Global, files: &'a [Vec<u8>]) -> Result<Vec<FileCut<'a>>, AllocError>
-    ensures { IfOk result (λ cuts. AreCuts 0 (bytes_of files.now) (map text_at cuts.items)) }
+// Appends the texts of a file, up to one at which the import ends. Returns whether there is one.
+fn read_file<'a>(
+    alloc: Global,
+    keep_going: bool,
+    file: usize,
+    bytes: &'a [u8],
+    cuts: &mut Vec<FileCut<'a>>,
+    texts: &mut Vec<FileText>,
+) -> Result<bool, AllocError>
+    ensures { IfOk result (λ ends. ReadsFile keep_going file bytes.now ends (map text_at cuts.old.items) (map text_at cuts.new.items) texts.old.items texts.new.items) }
 {
-    let mut all = Vec::new(alloc);
+    let mut place = begin(bytes);
+    let mut rest = &bytes[place..];
+    while let Some((cut, later)) = next_text(place, rest) {
+        let ends = push_text(alloc, keep_going, file, &cut, cuts, texts)?;
+        if ends {
+            return Ok(true);
+        }
+        place = cut.place + cut.bytes.len();
+        rest = later;
+    }
+    Ok(false)
+}
+
+/// The texts of the files, in order. Unless refused texts are passed over, they end with the first that is no definition: an import
+/// needs none after it.
+pub fn read_texts<'a>(
+    alloc: Global,
+    keep_going: bool,
+    files: &'a [Vec<u8>],
+) -> Result<Given<'a>, AllocError>
+    ensures { IfOk result (λ g. AreGiven keep_going (bytes_of files.now) (map text_at g.cuts.items) g.texts.items) }
+{
+    let mut cuts = Vec::new(alloc);
+    let mut texts = Vec::new(alloc);
     for (file, bytes) in files.iter().enumerate() {
-        let cuts = texts(alloc, bytes)?;
-        push_cuts(&mut all, file, &cuts)?;
+        let ends = read_file(alloc, keep_going, file, bytes, &mut cuts, &mut texts)?;
+        if ends {
+            return Ok(Given { cuts, texts });
+        }
     }
-    Ok(all)
-}
-
-/// The reading of each.
-pub fn read_cuts(alloc: Global, cuts: &[FileCut<'_>]) -> Result<Vec<FileText>, AllocError>
-    ensures { IfOk result (λ texts. AreRead (map text_at cuts.now) texts.items) }
-{
-    let mut read = Vec::new(alloc);
-    for cut in cuts {
-        let text = read_at(alloc, cut.file, cut.place, cut.bytes)?;
-        read.push(text)?;
-    }
-    Ok(read)
+    Ok(Given { cuts, texts })
 }

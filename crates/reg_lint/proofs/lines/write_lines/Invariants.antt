@@ -1,7 +1,7 @@
 use Rattle.std.proofs.Common.{◌≡◌, ◌++◌, map, length}
 use Rattle.reg_report.specs.Lines.{IsReady, sheet_text}
 use Rattle.reg_lint.specs.Known.{has_mark}
-use Rattle.reg_lint.specs.Details.{detail_seen}
+use Rattle.reg_sense.specs.Claimants.{detail_seen}
 use Rattle.reg_lint.specs.Lines.{lines_of}
 use Rattle.reg_lint.proofs.lines.write_lines.Given as goal
 

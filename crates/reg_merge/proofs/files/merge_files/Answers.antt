@@ -3,7 +3,8 @@ use Rattle.byte_out.specs.Input.{kept_of, first_kept}
 use Rattle.reg_engine.specs.Outputs.{PublishesFile, IsUnpublished}
 use Rattle.reg_engine.proofs.InputLemmas.{none_failed}
 use Rattle.reg_commands.specs.Merge.{ends}
-use Rattle.reg_merge.proofs.MergingLemmas.{unread, unjoined, unmerged, of_parts}
+use Rattle.reg_commands.proofs.MergeLemmas.{unread, unmerged, of_parts}
+use Rattle.reg_merge.proofs.MergingLemmas.{unjoined}
 use Rattle.reg_merge.proofs.files.merge_files.Goals as goal
 
 pub returns-in-Err-clause-fault : goal.returns-in-Err-clause-fault

@@ -2,7 +2,7 @@ use Rattle.std.proofs.Common.{◌≡◌, Ok, ap, sym, subst, ◌∙◌}
 use Rattle.reg_op.specs.Contents.{nothing, joined}
 use Rattle.reg_join.specs.Joining.{all_joined}
 use Rattle.reg_commands.specs.Merge.{begun, with_pieces, IsUnjoined}
-use Rattle.reg_merge.proofs.MergingLemmas.{refusal_stays}
+use Rattle.reg_commands.proofs.MergeLemmas.{refusal_stays}
 use Rattle.reg_merge.proofs.joining.join_parts.Goals as goal
 
 pub returns-in-Err-clause-err : goal.returns-in-Err-clause-err

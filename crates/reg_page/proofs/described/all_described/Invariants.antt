@@ -7,5 +7,5 @@ use Rattle.reg_page.proofs.described.all_described.Given as goal
 
 abbrev pub invariant-loop-op : goal.invariant-loop-op
 invariant-loop-op l =
-    (All (IsDescribed l.register.ops) l.made.items)
+    (All (IsDescribed l.rules l.register.ops) l.made.items)
     × (map (λ (t : Described). t.id) l.made.items ≡ map (λ (o : Op). o.id) (filter (λ (o : Op). is_enter o.body) (take l.op-index l.ops)))

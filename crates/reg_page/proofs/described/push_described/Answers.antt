@@ -8,6 +8,6 @@ pub returns-clause-each : goal.returns-clause-each
 returns-clause-each c =
     let s = c.args.register.now.ops in
     let one = c.in_ok-one.one in
-    let here : IsDescribed s one =
-    described_here s c.args.op.now c.id.result c.in-Enter.definition c.as_bytes.result.now one c.requires.there (sym c.body.ensures ∙ c.in-Enter.is) c.id.ensures.value (c.as_bytes.ensures.bytes ∙ c.note.ensures) c.in_ok-one.ensures in
-    subst (All (IsDescribed s)) (sym c.in_ok-push.ensures.items) (All-append (IsDescribed s) c.args.described.now.items (one ∷ []) c.requires.before (alone (IsDescribed s) one here))
+    let here : IsDescribed c.args.rules.now s one =
+    described_here c.args.rules.now s c.args.op.now c.id.result c.in-Enter.definition c.as_bytes.result.now one c.requires.there (sym c.body.ensures ∙ c.in-Enter.is) c.id.ensures.value (c.as_bytes.ensures.bytes ∙ c.note.ensures) c.in_ok-one.ensures in
+    subst (All (IsDescribed c.args.rules.now s)) (sym c.in_ok-push.ensures.items) (All-append (IsDescribed c.args.rules.now s) c.args.described.now.items (one ∷ []) c.requires.before (alone (IsDescribed c.args.rules.now s) one here))

@@ -8,7 +8,7 @@ use Rattle.reg_page.proofs.laws.no_text_leaves_its_place.Goals as goal
 
 pub returns : goal.returns
 returns c = record {
-  places = λ title names x bytes p. (p.is, places (named names) p.shows);
-  tags = λ title other names many x y bytes others p q alike.
+  places = λ rules title names x bytes p. (p.is, places (named names) p.shows);
+  tags = λ rules also title other names many x y bytes others p q alike.
       ap tags p.is ∙ same (named names) (named many) p.shows ∙ ap (λ s. tags (html (page (named many) s))) alike ∙ sym (same (named many) (named many) q.shows) ∙ sym (ap tags q.is);
 }

@@ -7,5 +7,5 @@ pub returns : goal.returns
 returns c = record {
   rows = all_show;
   sorted = all_in_order;
-  page = λ title names x bytes p. (p.is, in_order (named names) p.shows);
+  page = λ rules title names x bytes p. (p.is, in_order (named names) p.shows);
 }

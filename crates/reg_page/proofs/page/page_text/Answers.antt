@@ -21,9 +21,9 @@ returns c =
     let ts = c.in_ok-described.described.items in
     let made = c.in_ok-push_page.ensures in
     let order = subst (λ l. InOrder l made.0) c.deref.ensures.value made.1 in
-    is_page c.args.title.now c.args.names.now x made.0 (map conflict_seen c.in_ok-conflicts.conflicts.items) c.in_ok-gaps.gaps.items
+    is_page c.args.rules.now c.args.title.now c.args.names.now x made.0 (map conflict_seen c.in_ok-conflicts.conflicts.items) c.in_ok-gaps.gaps.items
     c.deref-2.result.now (map conflict_seen c.deref-3.result.now) c.deref-4.result.now c.deref-5.result.now c.new-page.result.items c.push_page.new.page.items
-    (in_order x.ops ts made.0 c.in_ok-described.ensures order) c.in_ok-conflicts.ensures c.in_ok-gaps.ensures
+    (in_order c.args.rules.now x.ops ts made.0 c.in_ok-described.ensures order) c.in_ok-conflicts.ensures c.in_ok-gaps.ensures
     (same_on (acts_in x.ops) c.deref-2.result.now (subst (IsStableByKey subject id_cmp (acts_in x.ops)) (sym c.deref-2.ensures.value) c.in_ok-acts.ensures.same))
     (ap (map conflict_seen) c.deref-3.ensures.value) (c.deref-4.ensures.value ∙ c.in_ok-awaited.ensures) c.deref-5.ensures.value c.new-page.ensures.items
     made.2

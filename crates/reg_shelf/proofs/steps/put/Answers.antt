@@ -2,13 +2,18 @@ use Rattle.std.proofs.Common.{refl}
 use Rattle.std.proofs.lemmas.Result.{on_ok_weaker}
 use Rattle.byte_disk.specs.Disk.{Only}
 use Rattle.byte_shelf.specs.Shelf as slots
-use Rattle.reg_shelf.proofs.Kept.{put_moments, kept_of, sized_of}
+use Rattle.reg_shelf.proofs.Kept.{put_moments, put_sized_moments, kept_of, sized_of}
 use Rattle.reg_shelf.proofs.steps.put.Goals as goal
 
 pub returns-clause-any_moment : goal.returns-clause-any_moment
 returns-clause-any_moment g c = λ told only was next shelf ready.
     put_moments g.D.Disk.moment g.D.Disk.images_since c.args.disk.now c.put.new.disk shelf.bytes ready.bytes was next
     (c.put.ensures.any_moment told only shelf.bytes ready.bytes shelf.shelf ready.ready) shelf.held ready.held
+
+pub returns-clause-size_stays : goal.returns-clause-size_stays
+returns-clause-size_stays g c = λ told only was next size first ready.
+    put_sized_moments g.D.Disk.moment g.D.Disk.images_since c.args.disk.now c.put.new.disk first.0.bytes ready.bytes size was next
+    (c.put.ensures.size_stays told only first.0.bytes ready.bytes size (first.0.shelf, first.1) ready.ready) first.0.held ready.held
 
 pub returns-clause-kept : goal.returns-clause-kept
 returns-clause-kept g c = λ told was next shelf ready.

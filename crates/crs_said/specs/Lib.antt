@@ -1,0 +1,9 @@
+pub mod Fields
+pub mod Content
+pub mod Claims
+pub mod Rounded
+pub mod Datums
+pub mod Parts
+pub mod Spellings
+pub mod Letters
+pub mod References

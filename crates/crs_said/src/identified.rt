@@ -1,0 +1,119 @@
+//! Claims about first identifiers.
+
+ghost use Rattle.std.specs.Prelude.{◌≡◌, ◌++◌, ◌∷◌, [], true, false, map, IfOk, OnOk};
+ghost use Rattle.crs_value.specs.Keys.{text_of};
+ghost use Rattle.crs_said.specs.Fields.{name_field};
+ghost use Rattle.crs_said.specs.Claims.{claim_seen};
+ghost use Rattle.crs_said.specs.Parts.{id_word, part_said, id_said, id_claim, id_claims};
+
+use crate::claim::{Claim, push_claim};
+use crate::fields::push_name;
+use crate::says::Says;
+use crs_exact::{joined, number};
+use crs_part::{Ident, NumberOrText, Text};
+use std::alloc::{AllocError, Global};
+
+/// Claims that the first identifier of a part has what the part says.
+pub(crate) fn push_part<T: Says>(
+    alloc: Global,
+    claims: &mut Vec<Claim>,
+    kind: &[u8],
+    name: &Text,
+    ids: &[Ident],
+    part: &T,
+) -> Result<(), AllocError>
+    ensures { OnOk result (map claim_seen claims.new.items ≡ map claim_seen claims.old.items ++ id_claims kind.now name.now.bytes (T.said true part.now) ids.now) }
+{
+    let Some(id) = ids.first() else {
+        return Ok(());
+    };
+    let mut content = Vec::new(alloc);
+    part.say(true, &mut content)?;
+    push_id(alloc, claims, kind, name, content, id)
+}
+
+/// Claims that the first identifier of a part has its name.
+pub(crate) fn push_named(
+    alloc: Global,
+    claims: &mut Vec<Claim>,
+    kind: &[u8],
+    name: &Text,
+    ids: &[Ident],
+) -> Result<(), AllocError>
+    ensures { OnOk result (map claim_seen claims.new.items ≡ map claim_seen claims.old.items ++ id_claims kind.now name.now.bytes (name_field false name.now.bytes) ids.now) }
+{
+    let Some(id) = ids.first() else {
+        return Ok(());
+    };
+    let mut content = Vec::new(alloc);
+    push_name(false, name, &mut content)?;
+    push_id(alloc, claims, kind, name, content, id)
+}
+
+/// Claims that an identifier has this content.
+pub(crate) fn push_id(
+    alloc: Global,
+    claims: &mut Vec<Claim>,
+    kind: &[u8],
+    name: &Text,
+    content: Vec<u8>,
+    id: &Ident,
+) -> Result<(), AllocError>
+    ensures { OnOk result (map claim_seen claims.new.items ≡ map claim_seen claims.old.items ++ id_claim kind.now name.now.bytes content.items id.now ∷ []) }
+{
+    let word = id_word(alloc, kind, id)?;
+    let said = id_said(alloc, kind, name, id)?;
+    push_claim(
+        claims,
+        Claim {
+            word,
+            content,
+            said,
+        },
+    )
+}
+
+fn id_word(alloc: Global, kind: &[u8], id: &Ident) -> Result<Vec<u8>, AllocError>
+    ensures { IfOk result (λ text. text.items ≡ id_word kind.now id.now) }
+{
+    let code = code_said(alloc, &id.code)?;
+    joined(
+        alloc,
+        &[kind, &[255], id.authority.as_bytes(), &[255], &code],
+    )
+}
+
+fn id_said(alloc: Global, kind: &[u8], name: &Text, id: &Ident) -> Result<Vec<u8>, AllocError>
+    ensures { IfOk result (λ text. text.items ≡ id_said kind.now name.now.bytes id.now) }
+{
+    let part = part_said(alloc, kind, name.as_bytes())?;
+    let code = code_said(alloc, &id.code)?;
+    joined(
+        alloc,
+        &[
+            &part,
+            b" has the identifier ",
+            id.authority.as_bytes(),
+            b":",
+            &code,
+            b" and another content than",
+        ],
+    )
+}
+
+#[tactic(auto, unfolding(crate::specs::Parts::part_said))]
+fn part_said(alloc: Global, kind: &[u8], name: &[u8]) -> Result<Vec<u8>, AllocError>
+    ensures { IfOk result (λ text. text.items ≡ part_said kind.now name.now) }
+{
+    joined(alloc, &[b"the ", kind, b" \"", name, b"\""])
+}
+
+/// The text of a code.
+pub(crate) fn code_said(alloc: Global, code: &NumberOrText) -> Result<Vec<u8>, AllocError>
+    ensures { IfOk result (λ text. text.items ≡ text_of code.now) }
+{
+    match code {
+        NumberOrText::Number(value) => number(alloc, *value),
+        NumberOrText::Text(text) => Vec::from_slice(alloc, text.as_bytes()),
+    }
+}

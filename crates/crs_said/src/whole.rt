@@ -1,0 +1,49 @@
+//! What a whole system says.
+
+ghost use Rattle.std.specs.Prelude.{◌≡◌, ◌++◌, IfOk, OnOk};
+ghost use Rattle.crs_said.specs.Content.{without_names, single_kind, kind_said, kind_and_name};
+
+use crate::fields::{push_field, push_folded};
+use crate::says::Says;
+use crate::systems::single_word;
+use crs_part::{CrsParts, Single};
+use std::alloc::{AllocError, Global};
+
+/// All that a system says, but for names of systems, conversions, units and axes, identifiers, usages, anchors, remarks and the
+/// order of axes. Other names are without letter case, and with underscores as blanks.
+pub fn without_names(alloc: Global, crs: &CrsParts) -> Result<Vec<u8>, AllocError>
+    ensures { IfOk result (λ text. text.items ≡ without_names crs.now) }
+{
+    let mut text = Vec::new(alloc);
+    match crs {
+        CrsParts::Single(crs) => crs.say(false, &mut text)?,
+        CrsParts::Compound(crs) => crs.get().say(false, &mut text)?,
+    }
+    Ok(text)
+}
+
+/// The kind of a system, the kind of its coordinate system, how many axes it has, and its name without letter case.
+pub fn kind_and_name(alloc: Global, crs: &CrsParts) -> Result<Vec<u8>, AllocError>
+    ensures { IfOk result (λ text. text.items ≡ kind_and_name crs.now) }
+{
+    let mut text = Vec::new(alloc);
+    push_kind(&mut text, crs)?;
+    push_folded(&mut text, crs.name().as_bytes())?;
+    Ok(text)
+}
+
+fn push_kind(out: &mut Vec<u8>, crs: &CrsParts) -> Result<(), AllocError>
+    ensures { OnOk result (out.new.items ≡ out.old.items ++ kind_said crs.now) }
+{
+    match crs {
+        CrsParts::Single(crs) => push_single_kind(out, crs),
+        CrsParts::Compound(_) => push_field(out, b"compound"),
+    }
+}
+
+fn push_single_kind(out: &mut Vec<u8>, crs: &Single) -> Result<(), AllocError>
+    ensures { OnOk result (out.new.items ≡ out.old.items ++ single_kind crs.now) }
+{
+    push_field(out, single_word(crs))?;
+    crs.system().say(false, out)
+}

@@ -1,8 +1,0 @@
-use Rattle.std.proofs.Common.{map, drop}
-use Rattle.reg_desk.specs.ImportFiles.{bytes_of}
-use Rattle.reg_desk.specs.ImportTexts.{text_at}
-use Rattle.reg_desk.proofs.ImportTextLemmas.{CutsComplete}
-use Rattle.reg_desk.proofs.import.texts.cut_files.Given as goal
-
-abbrev pub invariant-loop-file : goal.invariant-loop-file
-invariant-loop-file l = CutsComplete (bytes_of l.files) l.file (bytes_of (drop l.file l.files)) (map text_at l.all.items)

@@ -1,0 +1,15 @@
+use Rattle.std.proofs.Common.{List, map, filter, ap, ◌∙◌, subst}
+use Rattle.reg_op.specs.Rows.{Row}
+use Rattle.reg_report.specs.Seen.{row_seen}
+use Rattle.reg_lint.specs.Entered.{is_new}
+use Rattle.reg_lint.specs.Subjects.{AreLive}
+use Rattle.reg_lint.proofs.EnteredLemmas.{new_seen}
+use Rattle.reg_lint.proofs.entered.entered_subjects.Goals as goal
+
+pub returns : goal.returns
+returns c =
+    subst (λ (rs : List Row). AreLive rs c.in_ok-subjects.subjects.items)
+    (ap (map row_seen) c.keep_new.ensures
+    ∙ new_seen c.args.earlier.now c.in_ok-rows.rows.items
+    ∙ ap (filter (is_new c.args.earlier.now)) c.in_ok-rows.ensures)
+    c.in_ok-subjects.ensures

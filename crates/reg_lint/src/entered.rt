@@ -1,0 +1,39 @@
+//! Entries that a register has gained.
+
+ghost use Rattle.std.specs.Prelude.{◌≡◌, filter, IfOk};
+ghost use Rattle.reg_report.specs.Seen.{row_seen};
+ghost use Rattle.reg_lint.specs.Entered.{is_new, AreEntered};
+
+use crate::live::live_of_rows;
+use crate::subject::Subject;
+use reg_report::{Row, is_entered, rows};
+use reg_state::Register;
+use std::alloc::{AllocError, Global};
+
+/// The entries that are not retired, and that the earlier register has not, by id, each with its reference system. Only their texts
+/// are read.
+pub fn entered_subjects(
+    alloc: Global,
+    earlier: &Register,
+    later: &Register,
+) -> Result<Vec<Subject>, AllocError>
+    ensures { IfOk result (λ subjects. AreEntered earlier.now later.now subjects.items) }
+{
+    let mut rows = rows(alloc, later)?;
+    keep_new(&mut rows, earlier);
+    let subjects = live_of_rows(alloc, rows)?;
+    Ok(subjects)
+}
+
+fn keep_new(rows: &mut Vec<Row>, earlier: &Register)
+    ensures { rows.new.items ≡ filter (λ r. is_new earlier.now (row_seen r)) rows.old.items }
+{
+    rows.retain(|row| is_new(row, earlier));
+}
+
+// Whether the earlier register has no such entry.
+fn is_new(row: &Row, earlier: &Register) -> bool
+    ensures { result ≡ is_new earlier.now (row_seen row.now) }
+{
+    !is_entered(earlier, row.entry)
+}

@@ -1,0 +1,6 @@
+mod LeastLemmas
+mod TallyLemmas
+mod MostLemmas
+mod NameLemmas
+mod TwinLemmas
+mod OtherLemmas

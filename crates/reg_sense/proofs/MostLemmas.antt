@@ -1,0 +1,61 @@
+-- What most claim, one claim at a time.
+use Rattle.std.proofs.Common.{◌≡◌, ℕ, true, false, cond, Option, Some, None, List, [], ◌∷◌, ◌++◌, ◌-◌, length, map, filter, refl, sym, ap, ◌∙◌, append-nil, arith, codes}
+use Rattle.std.proofs.lemmas.Cmp.{nat_cmp_total, nat_list_cmp_total, then_total, on_total}
+use Rattle.std.proofs.lemmas.List.MinMax.{ranks_by}
+use Rattle.std.proofs.lemmas.Slice.Eq.{bytes_eq-Decides}
+use Rattle.std.specs.Borrow.{Bor}
+use Rattle.std.specs.BTreeMap.{BTreeMap}
+use Rattle.std.specs.Cmp.{IsStrictWeakOrder, IsTotalOrder, back_total}
+use Rattle.std.specs.Cmp.Lexicographic.{texts_ties}
+use Rattle.std.specs.Map.{lookup}
+use Rattle.std.specs.Ordering.{is_eq}
+use Rattle.std.specs.Str.{bytes_eq}
+use Rattle.crs_said.specs.Claims.{Said}
+use Rattle.reg_sense.specs.Claimants.{Voice, key_text, is_about}
+use Rattle.reg_sense.specs.Least.{least, lesser}
+use Rattle.reg_sense.specs.Most.{claiming, count, contents, most_cmp, is_more, more_told, those_told}
+use Rattle.reg_sense.specs.Tallies.{Counted, tally, bytes_cmp, seen_in, HasMost}
+use Rattle.reg_sense.proofs.LeastLemmas.{least_cons}
+use Rattle.reg_sense.proofs.TallyLemmas.{says, nobody_claims}
+
+most_total : (vs : List Voice) (w : List ℕ) → IsTotalOrder (most_cmp vs w)
+most_total vs w = then_total (back_total (on_total (λ c. count w c vs) nat_cmp_total)) nat_list_cmp_total
+
+most_ranks : (vs : List Voice) (w : List ℕ) → IsStrictWeakOrder (is_more vs w)
+most_ranks vs w = ranks_by (most_total vs w) (λ c. c)
+
+-- one more content in front
+pub most_step : (vs : List Voice) (x : Said) (xs : List Said) (own made q : Bor (List ℕ)) (was old new : Option (Bor (List ℕ))) → own.now ≡ x.word
+    → made.now ≡ lesser (is_more vs x.word) x.content (seen_in was) → seen_in was ≡ least (is_more vs x.word) (contents x.word xs)
+    → new ≡ cond (is_eq (bytes_cmp own q)) (Some made) old → seen_in old ≡ least (is_more vs q.now) (contents q.now xs)
+    → seen_in new ≡ least (is_more vs q.now) (contents q.now (x ∷ xs))
+most_step vs x xs own made q was old new w is before put had = elim (is_about q.now x) as (λ b. is_about q.now x ≡ b → seen_in new ≡ least (is_more vs q.now) (contents q.now (x ∷ xs))) [
+  | true ↦ λ y.
+      let here : x.word ≡ q.now = (bytes_eq-Decides x.word q.now).0 y in
+      ap seen_in (put ∙ (λ j. cond ((sym (texts_ties own.now q.now) ∙ (λ i. bytes_eq (w i) q.now) ∙ y) j) (Some made) old))
+      ∙ ap Some (is ∙ ap (lesser (is_more vs x.word) x.content) before)
+      ∙ sym (least_cons (is_more vs x.word) (most_ranks vs x.word) x.content (contents x.word xs))
+      ∙ (λ j. least (is_more vs (here j)) (x.content ∷ contents (here j) xs))
+      ∙ (λ j. least (is_more vs q.now) (map (λ (z : Said). z.content) (cond (sym y j) (x ∷ filter (is_about q.now) xs) (filter (is_about q.now) xs))))
+  | false ↦ λ n.
+      ap seen_in (put ∙ (λ j. cond ((sym (texts_ties own.now q.now) ∙ (λ i. bytes_eq (w i) q.now) ∙ n) j) (Some made) old))
+      ∙ had
+      ∙ (λ j. least (is_more vs q.now) (map (λ (z : Said). z.content) (cond (sym n j) (x ∷ filter (is_about q.now) xs) (filter (is_about q.now) xs))))
+] refl
+
+pub none_most : (vs : List Voice) (m : BTreeMap (Bor (List ℕ)) (Bor (List ℕ))) → m.entries ≡ [] → HasMost vs m []
+none_most vs m e q = ap (λ es. seen_in (lookup (λ k. is_eq (bytes_cmp q k)) es)) e
+
+-- ---- those who claim what most claim
+
+pub told_some : (w c said : List ℕ) (vs : List Voice) (t : Counted) → tally w c 0 vs ≡ Some t → said ++ (codes " in " ++ (key_text t.first ++ more_told (t.count - 1))) ≡ said ++ (codes " in " ++ those_told (claiming w c vs))
+told_some w c said vs t e =
+    let s = says w c 0 vs t e in
+    let n : t.count - 1 ≡ length s.others = let k = s.count in omega (arith, k) in
+    (λ j. said ++ (codes " in " ++ (key_text t.first ++ more_told (n j))))
+    ∙ (λ j. said ++ (codes " in " ++ those_told (sym s.are j)))
+
+pub told_none : (w c said : List ℕ) (vs : List Voice) → tally w c 0 vs ≡ None → said ++ codes " in " ≡ said ++ (codes " in " ++ those_told (claiming w c vs))
+told_none w c said vs e =
+    (λ j. said ++ sym (append-nil (codes " in ")) j)
+    ∙ (λ j. said ++ (codes " in " ++ those_told (sym (nobody_claims w c 0 vs e) j)))

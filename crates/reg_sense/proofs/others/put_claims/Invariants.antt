@@ -1,0 +1,12 @@
+use Rattle.std.proofs.Common.{◌≡◌, ◌++◌, List, length, map}
+use Rattle.crs_said.specs.Claims.{Said, claim_seen}
+use Rattle.reg_sense.specs.Claimants.{Voice, voice}
+use Rattle.reg_sense.specs.Others.{HasSides, HasPart}
+use Rattle.reg_sense.proofs.others.put_claims.Given as goal
+
+abbrev pub invariant-loop-claim : goal.invariant-loop-claim
+invariant-loop-claim l = (done : List Said) × (map claim_seen l.claimant.claims.items ≡ map claim_seen l.rest ++ done)
+    × ((vs : List Voice) → HasSides l.initial.sides vs → HasPart l.sides (voice l.claimant) done vs)
+
+abbrev pub decreases-loop-claim : goal.decreases-loop-claim
+decreases-loop-claim l = length l.rest

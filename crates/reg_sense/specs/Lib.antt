@@ -1,0 +1,9 @@
+pub mod Claimants
+pub mod Least
+pub mod Most
+pub mod Tallies
+pub mod Names
+pub mod Keys
+pub mod Twins
+pub mod Others
+pub mod Rules

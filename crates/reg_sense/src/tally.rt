@@ -1,0 +1,97 @@
+//! How many claim each content, and who is the first.
+
+ghost use Rattle.std.specs.Prelude.{◌≡◌, ◌<◌, ◌+◌, ◌^◌, ◌∷◌, ℕ, suc, List, length, map, Some, IfOk, OnOk};
+ghost use Rattle.std.specs.Option.{option_copied};
+ghost use Rattle.crs_said.specs.Claims.{Said, claim_seen};
+ghost use Rattle.reg_sense.specs.Claimants.{Voice, voice};
+ghost use Rattle.reg_sense.specs.Tallies.{IsRoomy, counted, with_one, HasTallies, HasPart};
+
+use crate::claimant::Claimant;
+use crs_said::Claim;
+use std::alloc::{AllocError, Global};
+use std::collections::BTreeMap;
+
+/// A word and a content, ordered by the word and then by the content.
+#[derive(Clone, Copy, PartialEq, Eq, PartialOrd, Ord)]
+pub struct Pair<'a> {
+    pub word: &'a [u8],
+    pub content: &'a [u8],
+}
+
+/// How many claim a content for a word, and the first of them with its place.
+#[derive(Clone, Copy)]
+pub struct Tally<'a> {
+    pub first: &'a Claimant,
+    pub place: usize,
+    pub count: usize,
+}
+
+// The tally after one before the others, at this place, has claimed it too, perhaps again.
+fn with_one<'a>(before: Option<&Tally<'a>>, place: usize, claimant: &'a Claimant) -> Tally<'a>
+    ensures { IsRoomy place (counted (option_copied before.entry)) → counted (Some result) ≡ Some (with_one place (voice claimant.now) (counted (option_copied before.entry))) }
+{
+    let Some(tally) = before else {
+        return Tally {
+            first: claimant,
+            place,
+            count: 1,
+        };
+    };
+    if tally.place == place {
+        return *tally;
+    }
+    Tally {
+        first: claimant,
+        place,
+        count: tally.count.saturating_add(1),
+    }
+}
+
+fn put_claim<'a>(
+    tallies: &mut BTreeMap<Pair<'a>, Tally<'a>>,
+    place: usize,
+    claimant: &'a Claimant,
+    claim: &'a Claim,
+) -> Result<(), AllocError>
+    ensures { (done : List Said) (vs : List Voice) → length vs + 1 < 2 ^ 64 → HasPart tallies.old place (voice claimant.now) done vs → OnOk result (HasPart tallies.new place (voice claimant.now) (claim_seen claim.now ∷ done) vs) }
+{
+    let pair = Pair {
+        word: &claim.word,
+        content: &claim.content,
+    };
+    let made = with_one(tallies.get(&pair), place, claimant);
+    let _ = tallies.insert(pair, made)?;
+    Ok(())
+}
+
+// Counts the claims of one who stands at this place, before the others.
+fn put_claims<'a>(
+    tallies: &mut BTreeMap<Pair<'a>, Tally<'a>>,
+    place: usize,
+    claimant: &'a Claimant,
+) -> Result<(), AllocError>
+    ensures { (vs : List Voice) → length vs + 1 < 2 ^ 64 → HasTallies tallies.old (suc place) vs → OnOk result (HasTallies tallies.new place (voice claimant.now ∷ vs)) }
+{
+    let mut rest = claimant.claims.as_slice();
+    while let Some((claim, others)) = rest.split_last() {
+        put_claim(tallies, place, claimant, claim)?;
+        rest = others;
+    }
+    Ok(())
+}
+
+/// The tallies of all claims of these.
+pub fn tallies_of<'a>(
+    alloc: Global,
+    claimants: &'a [Claimant],
+) -> Result<BTreeMap<Pair<'a>, Tally<'a>>, AllocError>
+    ensures { IfOk result (λ made. HasTallies made 0 (map voice claimants.now)) }
+{
+    let mut made = BTreeMap::new(alloc);
+    let mut rest = claimants;
+    while let Some((claimant, others)) = rest.split_last() {
+        put_claims(&mut made, others.len(), claimant)?;
+        rest = others;
+    }
+    Ok(made)
+}
