@@ -3,8 +3,9 @@
 
 mod command;
 mod environment;
-mod outcome;
+mod said;
 mod shells;
+mod telling;
 
 pub use cli_look::desk::{
     CliFault, Form, InputFault, OutFault, Refusal, ShelfProblem, run_check, run_enter,
