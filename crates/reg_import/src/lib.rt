@@ -18,6 +18,8 @@ mod standing_entry;
 mod summary;
 
 pub use action::{Differs, Problem, TextAction};
-pub use import::{ImportRefusal, Imported, Refused, first_refused, import_texts};
+pub use import::{
+    ImportRefusal, Imported, Refused, first_refused, import_texts, refused_at_once,
+};
 pub use listing::{Listing, lines_text};
-pub use reading::{FileText, ReadText, read_at};
+pub use reading::{FileText, ReadText, read_at, told_at};

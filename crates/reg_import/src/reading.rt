@@ -1,6 +1,6 @@
 //! Readings of texts.
 
-ghost use Rattle.std.specs.Prelude.{◌≡◌, ◌+◌, IfOk, IfSome};
+ghost use Rattle.std.specs.Prelude.{◌≡◌, ◌+◌, ◌^◌, ◌≤◌, IfOk, IfSome, IfNone};
 ghost use Rattle.reg_import.specs.Readings.{IsReading, is_unread, place_in, quoted_in, IsFileText};
 
 use crate::quoted::shown_quoted;
@@ -44,9 +44,10 @@ pub struct FileText {
     pub quoted: Vec<u8>,
 }
 
-// The place of a text's fault, or its first byte, in the file. The text begins at this place.
-fn told_at(place: usize, reading: &ReadText) -> Option<usize>
-    ensures { IfSome result (λ at. at ≡ place + place_in reading.now) }
+/// The place of a text's fault, or its first byte, in the file, if it is a number of 64 bits. The text begins at this place.
+pub fn told_at(place: usize, reading: &ReadText) -> Option<usize>
+    ensures some { IfSome result (λ at. at ≡ place + place_in reading.now) }
+    ensures none { IfNone result (2 ^ 64 ≤ place + place_in reading.now) }
 {
     match reading {
         ReadText::Defined {
