@@ -13,6 +13,7 @@ ghost use Rattle.reg_import.specs.Plans.{MayRunOut, IsFirstRefused, IsRefusedPla
 
 use crate::action::{Differs, Problem, TextAction};
 use crate::making::join_ops;
+use crate::packed_action::PackedAction;
 use crate::plan::{Plan, plan_of};
 use crate::reading::{FileText, ReadText};
 use reg_office::note_of;
@@ -25,7 +26,7 @@ use uuid::Uuid;
 #[derive(Drop)]
 pub struct Imported {
     pub register: Register,
-    pub told: Vec<TextAction>,
+    pub told: Vec<PackedAction>,
 }
 
 /// Why an import is refused.
@@ -48,26 +49,32 @@ pub struct Refused {
 }
 
 /// The first text that is refused.
-pub fn first_refused(told: &[TextAction]) -> Option<Refused>
+pub fn first_refused(told: &[PackedAction]) -> Option<Refused>
     ensures some { IfSome result (λ f. IsFirstRefused told.now f.at f.problem) }
     ensures none { IfNone result (NoneRefused told.now) }
 {
     for (at, this) in told.iter().enumerate() {
-        if let TextAction::Refused(problem) = *this {
+        if let TextAction::Refused(problem) = this.get() {
             return Some(Refused { at, problem });
         }
     }
     None
 }
 
-fn some_spent(told: &[TextAction]) -> bool
+fn is_spent(told: &PackedAction) -> bool
+    ensures { result ≡ is_spent told.now }
+{
+    told.get().is_spent()
+}
+
+fn some_spent(told: &[PackedAction]) -> bool
     ensures { result ≡ list_any is_spent told.now }
 {
-    told.iter().any(|this| this.is_spent())
+    told.iter().any(|this| is_spent(this))
 }
 
 // Why the plan is refused.
-fn refusal_of(told: &[TextAction], keep_going: bool) -> Option<ImportRefusal>
+fn refusal_of(told: &[PackedAction], keep_going: bool) -> Option<ImportRefusal>
     ensures some { IfSome result (IsRefusedPlan keep_going told.now) }
     ensures none { IfNone result (IsPassedPlan keep_going told.now) }
 {
@@ -104,7 +111,7 @@ pub fn refused_at_once(
     match &text.reading {
         ReadText::Unread(fault) => Some(ImportRefusal::Refused {
             at: 0,
-            problem: Problem::Unread(*fault),
+            problem: Problem::Unread(fault.get()),
         }),
         ReadText::Defined {
             definition: _,

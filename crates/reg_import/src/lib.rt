@@ -11,6 +11,8 @@ mod least;
 mod lines;
 mod listing;
 mod making;
+mod packed;
+mod packed_action;
 mod plan;
 mod quoted;
 mod reading;
@@ -22,4 +24,6 @@ pub use import::{
     ImportRefusal, Imported, Refused, first_refused, import_texts, refused_at_once,
 };
 pub use listing::{Listing, lines_text};
+pub use packed::PackedFault;
+pub use packed_action::PackedAction;
 pub use reading::{FileText, ReadText, read_at, told_at};

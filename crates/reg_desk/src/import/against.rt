@@ -9,7 +9,7 @@ use crate::import::fault::{ImportFault, Unimported};
 use crate::import::notes::{note_of, notes_of};
 use crate::import::options::ImportOptions;
 use crate::import::texts::FileCut;
-use reg_import::{FileText, Problem, Refused, TextAction, first_refused};
+use reg_import::{FileText, PackedAction, Problem, Refused, TextAction, first_refused};
 use std::alloc::{AllocError, Global};
 
 // Why a text is rejected. The file with index 0 has this number among the files that are read.
@@ -80,7 +80,7 @@ fn all_notes(
     order: &ImportOptions<'_>,
     files: &[Vec<u8>],
     cuts: &[FileCut<'_>],
-    told: &[TextAction],
+    told: &[PackedAction],
 ) -> Result<Vec<u8>, AllocError>
     ensures { IfOk result (λ notes. notes.items ≡ if_explained order.now (all_notes order.now (bytes_of files.now) (map text_at cuts.now) told.now)) }
 {
@@ -98,7 +98,7 @@ pub fn passed_over(
     files: &[Vec<u8>],
     cuts: &[FileCut<'_>],
     texts: &[FileText],
-    told: &[TextAction],
+    told: &[PackedAction],
 ) -> Result<Option<Unimported>, AllocError>
     ensures { IfOk result (IsPassed order.now first (bytes_of files.now) (map text_at cuts.now) texts.now told.now) }
 {

@@ -6,7 +6,7 @@ ghost use Rattle.reg_desk.specs.ImportLinks.{ImportsLinked, IsUnlinked};
 
 use crate::import::options::ImportOptions;
 use reg_import::{
-    FileText, ImportRefusal, Imported, TextAction, import_texts, refused_at_once,
+    FileText, ImportRefusal, Imported, PackedAction, import_texts, refused_at_once,
 };
 use reg_links::{Link, Passed, links, pass_on};
 use reg_office::{Office, OfficeFault};
@@ -17,7 +17,7 @@ use std::alloc::Global;
 #[derive(Drop)]
 pub struct Linked {
     pub register: Register,
-    pub told: Vec<TextAction>,
+    pub told: Vec<PackedAction>,
     pub links: Vec<Link>,
 }
 

@@ -14,7 +14,7 @@ use crate::import::files::read_files;
 use crate::import::first::run_out;
 use crate::import::linked::{LinkRefusal, Linked, import_linked};
 use crate::import::options::ImportOptions;
-use crate::import::texts::{FileCut, read_texts};
+use crate::import::texts::{FileCut, Given, read_texts};
 use byte_io::Source;
 use reg_engine::{CliFault, Refusal, Store};
 use reg_import::{FileText, ImportRefusal, Listing, Refused, lines_text};
@@ -114,26 +114,29 @@ fn lines_of(
     Ok(lines)
 }
 
-// Imports texts, and makes the lines.
+// Imports texts, and makes the lines. The texts' bytes are needed only for explanations, so their places are dropped before the lines
+// are made.
 fn made_of(
     alloc: Global,
     register: Register,
     first: usize,
     order: &ImportOptions<'_>,
     files: &[Vec<u8>],
-    cuts: &[FileCut<'_>],
-    texts: &[FileText],
+    given: Given<'_>,
 ) -> Result<Ready, Unimported>
-    ensures made { IfOk result (λ r. MakesOf order.now first register (bytes_of files.now) (map text_at cuts.now) texts.now r.register r.lines.items r.passed) }
-    ensures fault { IfErr result (IsUnmadeOf order.now first register (bytes_of files.now) (map text_at cuts.now) texts.now) }
+    ensures made { IfOk result (λ r. MakesOf order.now first register (bytes_of files.now) (map text_at given.cuts.items) given.texts.items r.register r.lines.items r.passed) }
+    ensures fault { IfErr result (IsUnmadeOf order.now first register (bytes_of files.now) (map text_at given.cuts.items) given.texts.items) }
 {
+    let Given { cuts, texts } = given;
+    let texts = texts.as_slice();
     let linked = match import_linked(alloc, register, order, texts) {
         Ok(linked) => linked,
-        Err(refusal) => return Err(unlinked(alloc, first, order, files, cuts, texts, refusal)),
+        Err(refusal) => return Err(unlinked(alloc, first, order, files, &cuts, texts, refusal)),
     };
-    let Ok(passed) = passed_over(alloc, first, order, files, cuts, texts, &linked.told) else {
+    let Ok(passed) = passed_over(alloc, first, order, files, &cuts, texts, &linked.told) else {
         return Err(Unimported::plain(alloc, CliFault::Memory));
     };
+    drop(cuts);
     match lines_of(alloc, order, texts, &linked) {
         Ok(lines) => Ok(Ready {
             register: linked.register,
@@ -159,15 +162,7 @@ fn made(
     let Ok(given) = read_texts(alloc, order.keep_going, files) else {
         return Err(run_out(alloc, first, order, files));
     };
-    match made_of(
-        alloc,
-        register,
-        first,
-        order,
-        files,
-        &given.cuts,
-        &given.texts,
-    ) {
+    match made_of(alloc, register, first, order, files, given) {
         Ok(ready) => Ok(ready),
         Err(why) => Err(why),
     }
