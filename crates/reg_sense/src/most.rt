@@ -5,8 +5,8 @@ ghost use Rattle.std.specs.Option.{option_copied};
 ghost use Rattle.crs_said.specs.Claims.{Said, claim_seen};
 ghost use Rattle.reg_sense.specs.Claimants.{Voice, voice, key_text, detail_seen, first_told};
 ghost use Rattle.reg_sense.specs.declared.claimant.Claimant.{Claimant};
-ghost use Rattle.reg_sense.specs.Least.{lesser};
-ghost use Rattle.reg_sense.specs.Most.{count, is_more, all_claims, most, otherwise, more_told, against, odd_told, told_against};
+ghost use Rattle.reg_sense.specs.Least.{least, lesser};
+ghost use Rattle.reg_sense.specs.Most.{count, contents, is_more, all_claims, most, otherwise, is_content, more_told, against, odd_told, told_against};
 ghost use Rattle.reg_sense.specs.Tallies.{HasTallies, HasMost, seen_in};
 
 use crate::claimant::{Claimant, key_text};
@@ -57,6 +57,18 @@ fn better<'a>(
     content
 }
 
+// Whether the map has the content of the claim for its word.
+fn has_content<'a>(best: &BTreeMap<&'a [u8], &'a [u8]>, claim: &'a Claim) -> bool
+    ensures { (vs : List Voice) (xs : List Said) → HasMost vs best.now xs → result ≡ is_content (least (is_more vs (claim_seen claim.now).word) (contents (claim_seen claim.now).word xs)) (claim_seen claim.now).content }
+{
+    let word = claim.word.as_slice();
+    let Some(content) = best.get(&word) else {
+        return false;
+    };
+    *content == claim.content.as_slice()
+}
+
+// Most claims say what most say, and change nothing.
 fn put_content<'a>(
     tallies: &BTreeMap<Pair<'a>, Tally<'a>>,
     best: &mut BTreeMap<&'a [u8], &'a [u8]>,
@@ -64,6 +76,9 @@ fn put_content<'a>(
 ) -> Result<(), AllocError>
     ensures { (vs : List Voice) (xs : List Said) → HasTallies tallies.now 0 vs → HasMost vs best.old xs → OnOk result (HasMost vs best.new (claim_seen claim.now ∷ xs)) }
 {
+    if has_content(best, claim) {
+        return Ok(());
+    }
     let word = claim.word.as_slice();
     let content = better(tallies, word, claim.content.as_slice(), best.get(&word));
     let _ = best.insert(word, content)?;
