@@ -85,7 +85,7 @@ fn id_word(alloc: Global, kind: &[u8], id: &Ident) -> Result<Vec<u8>, AllocError
     let mut word = Vec::with_capacity(alloc, WORD)?;
     push_field(&mut word, kind)?;
     push_field(&mut word, id.authority.as_bytes())?;
-    push_code(&mut word, &id.code)?;
+    push_code_text(&mut word, &id.code)?;
     Ok(word)
 }
 
@@ -115,7 +115,7 @@ fn part_said(alloc: Global, kind: &[u8], name: &[u8]) -> Result<Vec<u8>, AllocEr
 }
 
 // Appends the text of a code.
-fn push_code(out: &mut Vec<u8>, code: &NumberOrText) -> Result<(), AllocError>
+fn push_code_text(out: &mut Vec<u8>, code: &NumberOrText) -> Result<(), AllocError>
     ensures { OnOk result (out.new.items ≡ out.old.items ++ text_of code.now) }
 {
     match code {
