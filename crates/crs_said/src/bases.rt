@@ -19,7 +19,7 @@ use std::alloc::{AllocError, Global};
 /// usages, anchors and remarks. A method or a parameter has its name as its content, without letter case. A base has its name, its
 /// datum and its prime meridian; a geodetic or geographic system counts as one. Members of ensembles, geoid models, axes and
 /// coordinate systems are passed over.
-pub fn part_claims(alloc: Global, crs: &CrsParts) -> Result<Vec<Claim>, AllocError>
+pub fn part_claims<'a>(alloc: Global, crs: &'a CrsParts) -> Result<Vec<Claim<'a>>, AllocError>
     ensures { IfOk result (λ claims. map claim_seen claims.items ≡ part_claims crs.now) }
 {
     let mut claims = Vec::new(alloc);
@@ -35,11 +35,11 @@ pub fn part_claims(alloc: Global, crs: &CrsParts) -> Result<Vec<Claim>, AllocErr
     Ok(claims)
 }
 
-fn claim_both(
+fn claim_both<'a>(
     alloc: Global,
-    claims: &mut Vec<Claim>,
-    first: &Single,
-    second: &Single,
+    claims: &mut Vec<Claim<'a>>,
+    first: &'a Single,
+    second: &'a Single,
 ) -> Result<(), AllocError>
     ensures { OnOk result (map claim_seen claims.new.items ≡ map claim_seen claims.old.items ++ (single_claims first.now ++ single_claims second.now)) }
 {
@@ -50,7 +50,7 @@ fn claim_both(
 impl HasParts for Single {
     ghost claimed = { single_claims };
 
-    fn claim(&self, alloc: Global, claims: &mut Vec<Claim>) -> Result<(), AllocError> {
+    fn claim<'a>(&'a self, alloc: Global, claims: &mut Vec<Claim<'a>>) -> Result<(), AllocError> {
         match self {
             Single::Geodetic(crs) => crs.claim(alloc, claims),
             Single::Projected(crs) => crs.claim(alloc, claims),
@@ -62,7 +62,7 @@ impl HasParts for Single {
 impl HasParts for Geodetic {
     ghost claimed = { geodetic_claims };
 
-    fn claim(&self, alloc: Global, claims: &mut Vec<Claim>) -> Result<(), AllocError> {
+    fn claim<'a>(&'a self, alloc: Global, claims: &mut Vec<Claim<'a>>) -> Result<(), AllocError> {
         claim_base(
             alloc,
             claims,
@@ -79,7 +79,7 @@ impl HasParts for Geodetic {
 impl HasParts for Projected {
     ghost claimed = { projected_claims };
 
-    fn claim(&self, alloc: Global, claims: &mut Vec<Claim>) -> Result<(), AllocError> {
+    fn claim<'a>(&'a self, alloc: Global, claims: &mut Vec<Claim<'a>>) -> Result<(), AllocError> {
         self.base.claim(alloc, claims)?;
         self.conversion.claim(alloc, claims)?;
         self.axes.claim(alloc, claims)?;
@@ -90,7 +90,7 @@ impl HasParts for Projected {
 impl HasParts for Vertical {
     ghost claimed = { vertical_claims };
 
-    fn claim(&self, alloc: Global, claims: &mut Vec<Claim>) -> Result<(), AllocError> {
+    fn claim<'a>(&'a self, alloc: Global, claims: &mut Vec<Claim<'a>>) -> Result<(), AllocError> {
         self.datum.claim(alloc, claims)?;
         self.axes.claim(alloc, claims)?;
         self.unit.claim(alloc, claims)
@@ -100,7 +100,7 @@ impl HasParts for Vertical {
 impl HasParts for BaseCrs {
     ghost claimed = { base_crs_claims };
 
-    fn claim(&self, alloc: Global, claims: &mut Vec<Claim>) -> Result<(), AllocError> {
+    fn claim<'a>(&'a self, alloc: Global, claims: &mut Vec<Claim<'a>>) -> Result<(), AllocError> {
         claim_base(
             alloc,
             claims,
@@ -116,7 +116,7 @@ impl HasParts for BaseCrs {
 impl HasParts for Meridian {
     ghost claimed = { meridian_claims };
 
-    fn claim(&self, alloc: Global, claims: &mut Vec<Claim>) -> Result<(), AllocError> {
+    fn claim<'a>(&'a self, alloc: Global, claims: &mut Vec<Claim<'a>>) -> Result<(), AllocError> {
         self.unit.claim(alloc, claims)
     }
 }
@@ -124,19 +124,19 @@ impl HasParts for Meridian {
 impl HasParts for Axis {
     ghost claimed = { axis_claims };
 
-    fn claim(&self, alloc: Global, claims: &mut Vec<Claim>) -> Result<(), AllocError> {
+    fn claim<'a>(&'a self, alloc: Global, claims: &mut Vec<Claim<'a>>) -> Result<(), AllocError> {
         self.meridian.claim(alloc, claims)?;
         self.unit.claim(alloc, claims)
     }
 }
 
-fn claim_base(
+fn claim_base<'a>(
     alloc: Global,
-    claims: &mut Vec<Claim>,
-    name: &Text,
-    frame: &GeodeticFrame,
-    prime: &Option<PrimeMeridian>,
-    ids: &[Ident],
+    claims: &mut Vec<Claim<'a>>,
+    name: &'a Text,
+    frame: &'a GeodeticFrame,
+    prime: &'a Option<PrimeMeridian>,
+    ids: &'a [Ident],
 ) -> Result<(), AllocError>
     ensures { OnOk result (map claim_seen claims.new.items ≡ map claim_seen claims.old.items ++ base_claims name.now frame.now prime.now ids.now) }
 {
@@ -146,13 +146,13 @@ fn claim_base(
 }
 
 // The base itself.
-fn push_base(
+fn push_base<'a>(
     alloc: Global,
-    claims: &mut Vec<Claim>,
-    name: &Text,
-    frame: &GeodeticFrame,
-    prime: &Option<PrimeMeridian>,
-    ids: &[Ident],
+    claims: &mut Vec<Claim<'a>>,
+    name: &'a Text,
+    frame: &'a GeodeticFrame,
+    prime: &'a Option<PrimeMeridian>,
+    ids: &'a [Ident],
 ) -> Result<(), AllocError>
     ensures { OnOk result (map claim_seen claims.new.items ≡ map claim_seen claims.old.items ++ id_claims (codes "base") name.now.bytes (base_content name.now frame.now prime.now) ids.now) }
 {

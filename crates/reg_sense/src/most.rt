@@ -58,7 +58,7 @@ fn better<'a>(
 }
 
 // Whether the map has the content of the claim for its word.
-fn has_content<'a>(best: &BTreeMap<&'a [u8], &'a [u8]>, claim: &'a Claim) -> bool
+fn has_content<'a>(best: &BTreeMap<&'a [u8], &'a [u8]>, claim: &'a Claim<'a>) -> bool
     ensures { (vs : List Voice) (xs : List Said) → HasMost vs best.now xs → result ≡ is_content (least (is_more vs (claim_seen claim.now).word) (contents (claim_seen claim.now).word xs)) (claim_seen claim.now).content }
 {
     let word = claim.word.as_slice();
@@ -72,7 +72,7 @@ fn has_content<'a>(best: &BTreeMap<&'a [u8], &'a [u8]>, claim: &'a Claim) -> boo
 fn put_content<'a>(
     tallies: &BTreeMap<Pair<'a>, Tally<'a>>,
     best: &mut BTreeMap<&'a [u8], &'a [u8]>,
-    claim: &'a Claim,
+    claim: &'a Claim<'a>,
 ) -> Result<(), AllocError>
     ensures { (vs : List Voice) (xs : List Said) → HasTallies tallies.now 0 vs → HasMost vs best.old xs → OnOk result (HasMost vs best.new (claim_seen claim.now ∷ xs)) }
 {
@@ -88,7 +88,7 @@ fn put_content<'a>(
 fn put_contents<'a>(
     tallies: &BTreeMap<Pair<'a>, Tally<'a>>,
     best: &mut BTreeMap<&'a [u8], &'a [u8]>,
-    claims: &'a [Claim],
+    claims: &'a [Claim<'a>],
 ) -> Result<(), AllocError>
     ensures { (vs : List Voice) (xs : List Said) → HasTallies tallies.now 0 vs → HasMost vs best.old xs → OnOk result (HasMost vs best.new (map claim_seen claims.now ++ xs)) }
 {
@@ -104,7 +104,7 @@ fn put_contents<'a>(
 fn most_of<'a>(
     alloc: Global,
     tallies: &BTreeMap<Pair<'a>, Tally<'a>>,
-    claimants: &'a [Claimant],
+    claimants: &'a [Claimant<'a>],
 ) -> Result<BTreeMap<&'a [u8], &'a [u8]>, AllocError>
     ensures { (vs : List Voice) → HasTallies tallies.now 0 vs → IfOk result (λ best. HasMost vs best (all_claims (map voice claimants.now))) }
 {
@@ -118,7 +118,7 @@ fn most_of<'a>(
 }
 
 // The content that most claim for the word, if it is another.
-fn other_content<'a>(best: &BTreeMap<&'a [u8], &'a [u8]>, claim: &'a Claim) -> Option<&'a [u8]>
+fn other_content<'a>(best: &BTreeMap<&'a [u8], &'a [u8]>, claim: &'a Claim<'a>) -> Option<&'a [u8]>
     ensures { (vs : List Voice) → HasMost vs best.now (all_claims vs) → seen_in result ≡ otherwise (most vs (claim_seen claim.now).word) (claim_seen claim.now).content }
 {
     let word = claim.word.as_slice();
@@ -148,7 +148,7 @@ fn more_told(alloc: Global, more: usize) -> Result<Vec<u8>, AllocError>
 fn sentence(
     alloc: Global,
     said: &[u8],
-    first: &Claimant,
+    first: &Claimant<'_>,
     more: usize,
 ) -> Result<Vec<u8>, AllocError>
     ensures { IfOk result (λ text. text.items ≡ said.now ++ (codes " in " ++ (key_text (voice first.now) ++ more_told more))) }
@@ -166,11 +166,12 @@ fn sentence(
 fn told_of<'a>(
     alloc: Global,
     tallies: &BTreeMap<Pair<'a>, Tally<'a>>,
-    claim: &'a Claim,
+    claim: &'a Claim<'a>,
     content: &'a [u8],
 ) -> Result<Vec<u8>, AllocError>
     ensures { (vs : List Voice) → HasTallies tallies.now 0 vs → IfOk result (λ text. text.items ≡ against vs (claim_seen claim.now) content.now) }
 {
+    let said = claim.opening.text(alloc)?;
     let pair = Pair {
         word: claim.word.as_slice(),
         content,
@@ -178,11 +179,11 @@ fn told_of<'a>(
     match tallies.get(&pair) {
         Some(tally) => sentence(
             alloc,
-            &claim.said,
+            &said,
             tally.first,
             tally.count.saturating_sub(1),
         ),
-        None => in_none(alloc, &claim.said),
+        None => in_none(alloc, &said),
     }
 }
 
@@ -199,7 +200,7 @@ fn odd_told<'a>(
     alloc: Global,
     tallies: &BTreeMap<Pair<'a>, Tally<'a>>,
     best: &BTreeMap<&'a [u8], &'a [u8]>,
-    claim: &'a Claim,
+    claim: &'a Claim<'a>,
 ) -> Result<Option<Vec<u8>>, AllocError>
     ensures { (vs : List Voice) → HasTallies tallies.now 0 vs → HasMost vs best.now (all_claims vs) → IfOk result (λ told. detail_seen told ≡ odd_told vs (claim_seen claim.now)) }
 {
@@ -214,7 +215,7 @@ fn first_odd<'a>(
     alloc: Global,
     tallies: &BTreeMap<Pair<'a>, Tally<'a>>,
     best: &BTreeMap<&'a [u8], &'a [u8]>,
-    claims: &'a [Claim],
+    claims: &'a [Claim<'a>],
 ) -> Result<Option<Vec<u8>>, AllocError>
     ensures { (vs : List Voice) → HasTallies tallies.now 0 vs → HasMost vs best.now (all_claims vs) → IfOk result (λ told. detail_seen told ≡ first_told (odd_told vs) (map claim_seen claims.now)) }
 {
@@ -234,7 +235,7 @@ fn each_told<'a>(
     alloc: Global,
     tallies: &BTreeMap<Pair<'a>, Tally<'a>>,
     best: &BTreeMap<&'a [u8], &'a [u8]>,
-    claimants: &'a [Claimant],
+    claimants: &'a [Claimant<'a>],
 ) -> Result<Vec<Option<Vec<u8>>>, AllocError>
     requires tallies { HasTallies tallies.now 0 (map voice claimants.now) }
     requires most { HasMost (map voice claimants.now) best.now (all_claims (map voice claimants.now)) }
@@ -248,9 +249,9 @@ fn each_told<'a>(
 }
 
 /// Of each who claims something where most claim otherwise, what is said of the first such claim.
-pub(crate) fn told_against(
+pub(crate) fn told_against<'a>(
     alloc: Global,
-    claimants: &[Claimant],
+    claimants: &'a [Claimant<'a>],
 ) -> Result<Vec<Option<Vec<u8>>>, AllocError>
     ensures { IfOk result (λ made. map detail_seen made.items ≡ map (λ (c : Claimant). told_against (map voice claimants.now) (voice c)) claimants.now) }
 {

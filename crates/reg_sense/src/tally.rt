@@ -21,13 +21,13 @@ pub struct Pair<'a> {
 /// How many claim a content for a word, and the first of them with its place.
 #[derive(Clone, Copy)]
 pub struct Tally<'a> {
-    pub first: &'a Claimant,
+    pub first: &'a Claimant<'a>,
     pub place: usize,
     pub count: usize,
 }
 
 // The tally after one before the others, at this place, has claimed it too, perhaps again.
-fn with_one<'a>(before: Option<&Tally<'a>>, place: usize, claimant: &'a Claimant) -> Tally<'a>
+fn with_one<'a>(before: Option<&Tally<'a>>, place: usize, claimant: &'a Claimant<'a>) -> Tally<'a>
     ensures { IsRoomy place (counted (option_copied before.entry)) → counted (Some result) ≡ Some (with_one place (voice claimant.now) (counted (option_copied before.entry))) }
 {
     let Some(tally) = before else {
@@ -50,8 +50,8 @@ fn with_one<'a>(before: Option<&Tally<'a>>, place: usize, claimant: &'a Claimant
 fn put_claim<'a>(
     tallies: &mut BTreeMap<Pair<'a>, Tally<'a>>,
     place: usize,
-    claimant: &'a Claimant,
-    claim: &'a Claim,
+    claimant: &'a Claimant<'a>,
+    claim: &'a Claim<'a>,
 ) -> Result<(), AllocError>
     ensures { (done : List Said) (vs : List Voice) → length vs + 1 < 2 ^ 64 → HasPart tallies.old place (voice claimant.now) done vs → OnOk result (HasPart tallies.new place (voice claimant.now) (claim_seen claim.now ∷ done) vs) }
 {
@@ -68,7 +68,7 @@ fn put_claim<'a>(
 fn put_claims<'a>(
     tallies: &mut BTreeMap<Pair<'a>, Tally<'a>>,
     place: usize,
-    claimant: &'a Claimant,
+    claimant: &'a Claimant<'a>,
 ) -> Result<(), AllocError>
     ensures { (vs : List Voice) → length vs + 1 < 2 ^ 64 → HasTallies tallies.old (suc place) vs → OnOk result (HasTallies tallies.new place (voice claimant.now ∷ vs)) }
 {
@@ -83,7 +83,7 @@ fn put_claims<'a>(
 /// The tallies of all claims of these.
 pub fn tallies_of<'a>(
     alloc: Global,
-    claimants: &'a [Claimant],
+    claimants: &'a [Claimant<'a>],
 ) -> Result<BTreeMap<Pair<'a>, Tally<'a>>, AllocError>
     ensures { IfOk result (λ made. HasTallies made 0 (map voice claimants.now)) }
 {
