@@ -1,71 +1,103 @@
--- The calls of a process that stops with a fault are those of a path of moves.
-use Rattle.std.proofs.Common.{◌≡◌, inl, inr, ℕ, true, false, List, [], ◌∷◌, Option, Some, take, refl, sym, ◌∙◌, ap}
-use Rattle.byte_system.specs.Disk.{Content, Call, Looks, Writes, Syncs, Compares, Renames, Unlinks, Fails}
+-- The calls of a process that does not replace OUT are those of a path of moves.
+use Rattle.std.proofs.Common.{◌≡◌, ◌⊎◌, inl, inr, ℕ, Bool, true, false, List, [], ◌∷◌, Option, Some, None, take, refl, ◌∙◌}
+use Rattle.byte_system.specs.Disk.{Content, Call, Makes, Opens, Locks, Looks, Writes, Syncs, Compares, Renames, Unlinks, Fails}
 use Rattle.byte_protocol.specs.declared.replacing.Fault.{Fault}
 use Rattle.byte_protocol.specs.declared.replacing.Fault.TheVariants as fault
-use Rattle.byte_protocol.specs.Replacing.{reserved, ready, Removes, Stops}
-use Rattle.byte_protocol.specs.Protocol.{Progress, IsWhole, IsSynced, FoundSame, IsPart, Fills, Replaced, Move, WritesAll, WritesPart, SyncsNew, FindsSame, Puts, Withdraws, Strays, Job, from, call_of, end, IsPath, calls_of, reserving_moves}
-use Rattle.byte_protocol.proofs.Paths.{begun_path, reserved_calls}
+use Rattle.byte_protocol.specs.Replacing.{begun, reserved, Denies, Disowns, Unswept, Refuses, Removes, Stops, Abandons}
+use Rattle.byte_protocol.specs.Protocol.{Progress, IsWhole, IsSynced, IsPart, Stage, Begins, HasMade, HasLocked, Fills, HasLeft, Sweeps, Ended, Move, MakesNew, LocksOwn, WritesPart, Withdraws, LocksLeft, FindsLeft, Job, IsPath, calls_of, ChangesNone, AreIdle, finished}
+use Rattle.byte_protocol.proofs.Led.{IsLed, nothing, then_by, then_other, begun_led, reserved_led, written_led, synced_led, checked, compared_led, ready_led, put_led}
 
 abbrev MakesPath : Job → ℕ → List Call → Type 0
-MakesPath j k now = (ms : List Move) × IsPath ms × (now ≡ calls_of j k ms)
+MakesPath j k now = (ms : List Move) × IsPath ms × AreIdle ms × (now ≡ calls_of j k ms)
 
--- one call more, which is a move from the stage at the end of the path
-more_path : (j : Job) (k : ℕ) (m : Move) (ms : List Move) (c : Call) (before now : List Call) → IsPath ms → end ms ≡ from m → before ≡ calls_of j k ms → call_of j k m ≡ c → now ≡ c ∷ before
-    → MakesPath j k now
-more_path j k m ms c before now path at was is e = (m ∷ ms, (path, at), e ∙ ap (λ d. d ∷ before) (sym is) ∙ ap (λ cs. call_of j k m ∷ cs) was)
+is_path : (j : Job) (k : ℕ) (s : Stage) {known now : List Call} → now ≡ known → IsLed j k s known → MakesPath j k now
+is_path j k s e l = (l.moves, l.path, l.idle, e ∙ l.calls)
 
-removed_path : (j : Job) (k : ℕ) (x : Content) (i : ℕ) (p : Progress) (ms : List Move) (before now : List Call) → IsPath ms → end ms ≡ Fills x i p → before ≡ calls_of j k ms
-    → Removes j.new before now → MakesPath j k now
-removed_path j k x i p ms before now path at was r = elim r [
-  | inl done ↦ more_path j k (Withdraws x i p) ms (Unlinks j.new) before now path at was refl done
-  | inr failed ↦ more_path j k (Strays (Fills x i p) Fails) ms Fails before now path at was refl failed
+-- a call that failed at the end
+fails_path : (j : Job) (k : ℕ) (s : Stage) {before now : List Call} → now ≡ Fails ∷ before → IsLed j k s before → MakesPath j k now
+fails_path j k s e l = is_path j k s e (then_other j k s Fails l (λ d m. refl))
+
+-- a call at the end whose answer was no, or that failed
+denied_path : (j : Job) (k : ℕ) (s : Stage) (call : Bool → Call) {before now : List Call} → ChangesNone (call false) → IsLed j k s before → Denies call before now → MakesPath j k now
+denied_path j k s call idle l r = elim r [
+  | inl denied ↦ is_path j k s denied (then_other j k s (call false) l idle)
+  | inr failed ↦ fails_path j k s failed l
 ]
 
-reserving_path : (j : Job) (i : ℕ) (left : Option ℕ) → IsPath (reserving_moves j i left)
-reserving_path j i left = let b = begun_path j left in (((b.0, b.1), refl), refl)
+-- the new file that was made is not the process's own
+lost_path : (j : Job) (k i : ℕ) {before now : List Call} → IsLed j k (HasMade i) before → Disowns j.new i before now → MakesPath j k now
+lost_path j k i l r = elim r [
+  | inl unlocked ↦ denied_path j k (HasMade i) (Locks i) (λ d m. refl) l unlocked
+  | inr unfound ↦ denied_path j k (HasLocked i) (Looks j.new i) (λ d m. refl) (then_by j k (LocksOwn i) l tt) unfound
+]
 
-pub fault_path : (j : Job) (k i : ℕ) (left : Option ℕ) (read : List ℕ) (e : Fault) (now : List Call)
-    → Stops e j.out j.new i (Some read) (j.change k (Some read)) (reserved j.new left i []) now → (ms : List Move) × IsPath ms × (now ≡ calls_of j k ms)
-fault_path j k i left read fault.NotMade now s = absurd s
-fault_path j k i left read fault.NewExists now s = absurd s
-fault_path j k i left read (fault.NotWritten n) now s =
-    removed_path j k (Some read) i IsPart (WritesPart (Some read) i n ∷ reserving_moves j i left) (Writes i (take n (j.change k (Some read))) ∷ reserved j.new left i []) now
-    (reserving_path j i left, refl) refl (ap (λ cs. Writes i (take n (j.change k (Some read))) ∷ cs) (reserved_calls j k i left)) s
-fault_path j k i left read fault.NotSure now s =
-    removed_path j k (Some read) i IsWhole (Strays (Fills (Some read) i IsWhole) Fails ∷ WritesAll (Some read) i ∷ reserving_moves j i left)
-    (Fails ∷ Writes i (j.change k (Some read)) ∷ reserved j.new left i []) now
-    ((reserving_path j i left, refl), refl) refl (ap (λ cs. Fails ∷ Writes i (j.change k (Some read)) ∷ cs) (reserved_calls j k i left)) s
-fault_path j k i left read fault.NotRead now s =
-    removed_path j k (Some read) i IsSynced (Strays (Fills (Some read) i IsSynced) Fails ∷ SyncsNew (Some read) i ∷ WritesAll (Some read) i ∷ reserving_moves j i left)
-    (Fails ∷ Syncs i ∷ Writes i (j.change k (Some read)) ∷ reserved j.new left i []) now
-    (((reserving_path j i left, refl), refl), refl) refl (ap (λ cs. Fails ∷ Syncs i ∷ Writes i (j.change k (Some read)) ∷ cs) (reserved_calls j k i left)) s
-fault_path j k i left read fault.Changed now s =
+-- nor is the one that was left
+held_path : (j : Job) (k n : ℕ) {before now : List Call} → IsLed j k Begins before → Disowns j.new n before now → MakesPath j k now
+held_path j k n l r = elim r [
+  | inl unlocked ↦ denied_path j k Begins (Locks n) (λ d m. refl) l unlocked
+  | inr unfound ↦ denied_path j k (HasLeft n) (Looks j.new n) (λ d m. refl) (then_by j k (LocksLeft n) l tt) unfound
+]
+
+unswept_path : (j : Job) (k : ℕ) {before now : List Call} → IsLed j k Begins before → Unswept j.new before now → MakesPath j k now
+unswept_path j k l r = elim r [
+  | inl failed ↦ fails_path j k Begins failed l
+  | inr there ↦
+      let n = there.0 in
+      let opened = then_other j k Begins (Opens j.new (Some n)) l (λ d m. refl) in
+      elim there.1 [
+        | inl held ↦ held_path j k n opened held
+        | inr failed ↦ fails_path j k (Sweeps n) failed (then_by j k (FindsLeft n) (then_by j k (LocksLeft n) opened tt) tt)
+      ]
+]
+
+refused_path : (j : Job) (k : ℕ) (e : Fault) (now : List Call) → Refuses e j.new [] now → MakesPath j k now
+refused_path j k fault.NotMade now r = fails_path j k Begins r.1 (begun_led j k r.0)
+refused_path j k fault.NewExists now r = elim r [
+  | inl unswept ↦ unswept_path j k (then_other j k Begins (Makes j.new None) (nothing j k) (λ d m. refl)) unswept
+  | inr other ↦ elim other [
+    | inl again ↦ is_path j k Begins again.1 (then_other j k Begins (Makes j.new None) (begun_led j k (Some again.0)) (λ d m. refl))
+    | inr lost ↦ lost_path j k lost.1 (then_by j k (MakesNew lost.1) (begun_led j k lost.0) tt) lost.2
+  ]
+]
+refused_path j k (fault.NotWritten n) now r = absurd r
+refused_path j k fault.NotSure now r = absurd r
+refused_path j k fault.NotRead now r = absurd r
+refused_path j k fault.Changed now r = absurd r
+refused_path j k fault.NotLooked now r = absurd r
+refused_path j k fault.Lost now r = absurd r
+refused_path j k fault.NotPut now r = absurd r
+refused_path j k fault.NotSynced now r = absurd r
+
+removed_path : (j : Job) (k : ℕ) (x : Content) (i : ℕ) (p : Progress) {before now : List Call} → IsLed j k (Fills x i p) before → Removes j.new before now → MakesPath j k now
+removed_path j k x i p l r = elim r [
+  | inl removed ↦ is_path j k Ended removed (then_by j k (Withdraws x i p) l tt)
+  | inr failed ↦ fails_path j k (Fills x i p) failed l
+]
+
+-- one that has the new file removes it after a call that failed
+failed_path : (j : Job) (k : ℕ) (x : Content) (i : ℕ) (p : Progress) {before now : List Call} → IsLed j k (Fills x i p) before → Removes j.new (Fails ∷ before) now → MakesPath j k now
+failed_path j k x i p l r = removed_path j k x i p (then_other j k (Fills x i p) Fails l (λ d m. refl)) r
+
+stopped_path : (j : Job) (k i : ℕ) (left : Option ℕ) (read : Option (List ℕ)) (e : Fault) (now : List Call)
+    → Stops e j.out j.new i read (j.change k read) (reserved j.new left i []) now → MakesPath j k now
+stopped_path j k i left read fault.NotMade now s = absurd s
+stopped_path j k i left read fault.NewExists now s = absurd s
+stopped_path j k i left read (fault.NotWritten n) now s = removed_path j k read i IsPart (then_by j k (WritesPart read i n) (reserved_led j k i left) tt) s
+stopped_path j k i left read fault.NotSure now s = failed_path j k read i IsWhole (written_led j k i left read) s
+stopped_path j k i left read fault.NotRead now s = failed_path j k read i IsSynced (synced_led j k i left read) s
+stopped_path j k i left None fault.Changed now s = removed_path j k None i IsSynced (synced_led j k i left None) s
+stopped_path j k i left (Some read) fault.Changed now s =
     removed_path j k (Some read) i IsSynced
-    (Strays (Fills (Some read) i IsSynced) (Compares j.out read false) ∷ SyncsNew (Some read) i ∷ WritesAll (Some read) i ∷ reserving_moves j i left)
-    (Compares j.out read false ∷ Syncs i ∷ Writes i (j.change k (Some read)) ∷ reserved j.new left i []) now
-    (((reserving_path j i left, refl), refl), refl) refl
-    (ap (λ cs. Compares j.out read false ∷ Syncs i ∷ Writes i (j.change k (Some read)) ∷ cs) (reserved_calls j k i left)) s
-fault_path j k i left read fault.NotLooked now s = (
-  Strays (Fills (Some read) i FoundSame) Fails ∷ FindsSame (Some read) i ∷ SyncsNew (Some read) i ∷ WritesAll (Some read) i ∷ reserving_moves j i left,
-  ((((reserving_path j i left, refl), refl), refl), refl),
-  s ∙ ap (λ cs. Fails ∷ Compares j.out read true ∷ Syncs i ∷ Writes i (j.change k (Some read)) ∷ cs) (reserved_calls j k i left),
-)
-fault_path j k i left read fault.Lost now s = (
-  Strays (Fills (Some read) i FoundSame) (Looks j.new i false) ∷ FindsSame (Some read) i ∷ SyncsNew (Some read) i ∷ WritesAll (Some read) i ∷ reserving_moves j i left,
-  ((((reserving_path j i left, refl), refl), refl), refl),
-  s ∙ ap (λ cs. Looks j.new i false ∷ Compares j.out read true ∷ Syncs i ∷ Writes i (j.change k (Some read)) ∷ cs) (reserved_calls j k i left),
-)
-fault_path j k i left read fault.NotPut now s =
-    removed_path j k (Some read) i FoundSame
-    (Strays (Fills (Some read) i FoundSame) Fails ∷ Strays (Fills (Some read) i FoundSame) (Looks j.new i true) ∷ FindsSame (Some read) i ∷ SyncsNew (Some read) i
-    ∷ WritesAll (Some read) i ∷ reserving_moves j i left)
-    (Fails ∷ ready j.out j.new i (Some read) (j.change k (Some read)) (reserved j.new left i [])) now
-    (((((reserving_path j i left, refl), refl), refl), refl), refl) refl
-    (ap (λ cs. Fails ∷ ready j.out j.new i (Some read) (j.change k (Some read)) cs) (reserved_calls j k i left)) s
-fault_path j k i left read fault.NotSynced now s = (
-  Strays (Replaced (Some read)) Fails ∷ Puts (Some read) i ∷ Strays (Fills (Some read) i FoundSame) (Looks j.new i true) ∷ FindsSame (Some read) i ∷ SyncsNew (Some read) i
-      ∷ WritesAll (Some read) i ∷ reserving_moves j i left,
-  ((((((reserving_path j i left, refl), refl), refl), refl), refl), refl),
-  s ∙ ap (λ cs. Fails ∷ Renames j.new j.out ∷ ready j.out j.new i (Some read) (j.change k (Some read)) cs) (reserved_calls j k i left),
-)
+    (then_other j k (Fills (Some read) i IsSynced) (Compares j.out read false) (synced_led j k i left (Some read)) (λ d m. refl)) s
+stopped_path j k i left read fault.NotLooked now s = fails_path j k (Fills read i (checked read)) s (compared_led j k i left read)
+stopped_path j k i left read fault.Lost now s =
+    is_path j k (Fills read i (checked read)) s (then_other j k (Fills read i (checked read)) (Looks j.new i false) (compared_led j k i left read) (λ d m. refl))
+stopped_path j k i left read fault.NotPut now s = failed_path j k read i (checked read) (ready_led j k i left read) s
+stopped_path j k i left read fault.NotSynced now s = fails_path j k (finished read) s (put_led j k i left read)
+
+pub fault_path : (j : Job) (k : ℕ) (read : Option (List ℕ)) (e : Fault) (now : List Call) → Abandons e j.out j.new read (j.change k read) [] now
+    → (ms : List Move) × IsPath ms × AreIdle ms × (now ≡ calls_of j k ms)
+fault_path j k read e now a = elim a [
+  | inl refused ↦ refused_path j k e now refused
+  | inr stopped ↦ stopped_path j k stopped.1 stopped.0 read e now stopped.2
+]

@@ -3,7 +3,7 @@ use Rattle.std.proofs.Common.{◌≡◌, ◌≢◌, ◌⊎◌, inl, inr, ℕ, Bo
 use Rattle.std.proofs.lemmas.Bool.Decides.{eqb_tells, nat_tests}
 use lib.Pointwise.{bytes_decides}
 use Rattle.byte_system.specs.Disk.{Content, content_of, content, named, numbered, released, Disk, Makes, Locks, Writes, Renames, Unlinks, Ends, step, after, Gives, Honest}
-use Rattle.byte_protocol.specs.Protocol.{Progress, IsWhole, IsSynced, FoundSame, IsPart, Stage, Begins, HasMade, HasLocked, Owns, Fills, HasLeft, Sweeps, Replaced, Ended, Move, MakesNew, LocksOwn, FindsOwn, GivesUp, WritesAll, WritesPart, SyncsNew, FindsSame, Puts, Withdraws, LocksLeft, FindsLeft, SweepsLeft, Strays, Forgets, Dies, Job, from, dead, to, finds_call, call_of, IsFair, file_of, IsSameFile, IsElsewhere, Deed, events, stages, Chains, AreFair, Follows, IsStart, IsReplacedBy}
+use Rattle.byte_protocol.specs.Protocol.{Progress, IsWhole, IsSynced, FoundSame, IsPart, Stage, Begins, HasMade, HasLocked, Owns, Fills, HasLeft, Sweeps, Replaced, ReplacedUnread, Ended, Move, MakesNew, LocksOwn, FindsOwn, GivesUp, WritesAll, WritesPart, SyncsNew, FindsSame, Puts, PutsUnread, Withdraws, LocksLeft, FindsLeft, SweepsLeft, Strays, Forgets, Dies, Job, from, dead, to, finds_call, call_of, IsFair, file_of, IsSameFile, IsElsewhere, Deed, events, stages, Chains, AreFair, Follows, IsStart, IsReplacedBy, IsPutUnread}
 
 -- the new file of process k has come this far
 abbrev pub Good : Job → ℕ → Disk → Content → ℕ → Progress → Type 0
@@ -26,6 +26,7 @@ Fits j k d (Fills x i p) = (d.maker i ≡ Some k) × IsOwn j k d i × Good j k d
 Fits j k d (HasLeft i) = d.holder i ≡ Some k
 Fits j k d (Sweeps i) = IsOwn j k d i
 Fits j k d (Replaced x) = Unit {0}
+Fits j k d ReplacedUnread = Unit {0}
 Fits j k d Ended = Unit {0}
 
 abbrev pub AreApart : Job → Disk → Type 0
@@ -62,6 +63,7 @@ spared j m d e s (Fills x i p) f = (s.made i f.0, spares_own j m d e s i f.1, sp
 spared j m d e s (HasLeft i) f = s.held i f
 spared j m d e s (Sweeps i) f = spares_own j m d e s i f
 spared j m d e s (Replaced x) f = tt
+spared j m d e s ReplacedUnread f = tt
 spared j m d e s Ended f = tt
 
 pub same_number : (k : ℕ) → eqb k k ≡ true
@@ -218,6 +220,7 @@ dead_fits j k d (Fills x i p) = tt
 dead_fits j k d (HasLeft i) = tt
 dead_fits j k d (Sweeps i) = tt
 dead_fits j k d (Replaced x) = tt
+dead_fits j k d ReplacedUnread = tt
 dead_fits j k d Ended = tt
 
 written : (d : Disk) (i : ℕ) (bs : List ℕ) → d.bytes i ≡ [] → numbered d.bytes i (d.bytes i ++ bs) i ≡ bs
@@ -260,6 +263,7 @@ alone j k d e new out (Fills x i p) same f = ((same i refl).maker ∙ f.0, alone
 alone j k d e new out (HasLeft i) same f = (same i refl).holder ∙ f
 alone j k d e new out (Sweeps i) same f = alone_own j k d e i new (same i refl) f
 alone j k d e new out (Replaced x) same f = tt
+alone j k d e new out ReplacedUnread same f = tt
 alone j k d e new out Ended same f = tt
 
 -- each move keeps the invariant
@@ -286,6 +290,9 @@ keeps j d stage k (FindsSame x i) two h f g fair =
     subst (λ e. Holds j e (numbered stage k (Fills x i FoundSame))) (sym e) (still j d stage k (Fills x i FoundSame) h (f.0, f.1, (f.2, found_same d k j.out x g)))
 keeps j d stage k (Puts x i) two h f g fair =
     moved j d (step d k (Renames j.new j.out)) stage k (Replaced x) h (λ m ne. renames_spares j d k i m f.1 ne)
+    (none_apart j (step d k (Renames j.new j.out)) (named_at (named d.names j.out (d.names j.new)) j.new None)) tt
+keeps j d stage k (PutsUnread i) two h f g fair =
+    moved j d (step d k (Renames j.new j.out)) stage k ReplacedUnread h (λ m ne. renames_spares j d k i m f.1 ne)
     (none_apart j (step d k (Renames j.new j.out)) (named_at (named d.names j.out (d.names j.new)) j.new None)) tt
 keeps j d stage k (Withdraws x i p) two h f g fair =
     moved j d (step d k (Unlinks j.new)) stage k Ended h (λ m ne. unlinks_spares j d k i m f.1 ne)
@@ -324,9 +331,10 @@ new_content j d k i two o =
 pub puts_content : (j : Job) (d : Disk) (k : ℕ) (x : Content) (i : ℕ) → j.new ≢ j.out → Fits j k d (Fills x i FoundSame) → content (step d k (Renames j.new j.out)) j.out ≡ Some (j.change k x)
 puts_content j d k x i two f = new_content j d k i two f.1 ∙ ap Some f.2.0
 
--- the content of OUT stays, or is replaced by what is made of it
+-- the content of OUT stays, or is replaced by what is made of it, or one that did not read it puts its file there
 pub changes : (j : Job) (d : Disk) (stage : ℕ → Stage) (k : ℕ) (m : Move) → j.new ≢ j.out → Holds j d stage → Fits j k d (from m) → IsFair j d k m
-    → (content (step d k (call_of j k m)) j.out ≡ content d j.out) ⊎ IsReplacedBy j k (from m) d (step d k (call_of j k m))
+    → (content (step d k (call_of j k m)) j.out ≡ content d j.out)
+    ⊎ (IsReplacedBy j k (from m) d (step d k (call_of j k m)) ⊎ IsPutUnread j k m d (step d k (call_of j k m)))
 changes j d stage k (MakesNew i) two h f fair = inl (ap (content_of d.bytes) (named_other d.names j.new (Some i) j.out (λ q. two (sym q))))
 changes j d stage k (LocksOwn i) two h f fair = inl refl
 changes j d stage k (FindsOwn i) two h f fair = inl refl
@@ -336,7 +344,8 @@ changes j d stage k (WritesPart x i n) two h f fair = inl (written_apart d i (ta
 changes j d stage k (SyncsNew x i) two h f fair = inl refl
 changes j d stage k (FindsSame x i) two h f fair = inl (ap (λ e. content e j.out) (finds_same d k j.out x))
 changes j d stage k (Puts x i) two h f fair =
-    inr (record { found = (i, ap (λ y. Fills y i FoundSame) (sym f.2.1)); made = puts_content j d k x i two f ∙ ap (λ y. Some (j.change k y)) (sym f.2.1) })
+    inr (inl (record { found = (i, ap (λ y. Fills y i FoundSame) (sym f.2.1)); made = puts_content j d k x i two f ∙ ap (λ y. Some (j.change k y)) (sym f.2.1) }))
+changes j d stage k (PutsUnread i) two h f fair = inr (inr (record { moved = (i, refl); made = new_content j d k i two f.1 ∙ ap Some f.2 }))
 changes j d stage k (Withdraws x i p) two h f fair = inl (ap (content_of d.bytes) (named_other d.names j.new None j.out (λ q. two (sym q))))
 changes j d stage k (LocksLeft i) two h f fair = inl refl
 changes j d stage k (FindsLeft i) two h f fair = inl refl
@@ -347,12 +356,12 @@ changes j d stage k (Dies s) two h f fair = inl refl
 
 pub follows_changes : (j : Job) (first : Disk) → IsStart j first → (es : List Deed) (e : Deed) → Follows j first (e ∷ es)
     → let old = after first (events j es) in let new = after first (events j (e ∷ es)) in
-    (content new j.out ≡ content old j.out) ⊎ IsReplacedBy j e.by (stages es e.by) old new
+    (content new j.out ≡ content old j.out) ⊎ (IsReplacedBy j e.by (stages es e.by) old new ⊎ IsPutUnread j e.by e.move old new)
 follows_changes j first s es e f =
     let old = after first (events j es) in
     let new = after first (events j (e ∷ es)) in
     let h = always j first s es f.chains.0 f.fair.0 f.honest.0 in
-    subst (λ t. (content new j.out ≡ content old j.out) ⊎ IsReplacedBy j e.by t old new) (sym f.chains.1)
+    subst (λ t. (content new j.out ≡ content old j.out) ⊎ (IsReplacedBy j e.by t old new ⊎ IsPutUnread j e.by e.move old new)) (sym f.chains.1)
     (changes j old (stages es) e.by e.move s.two h (subst (Fits j e.by old) f.chains.1 (h.each e.by)) f.fair.1)
 
 -- OUT is the first content, or all the bytes of a process
@@ -365,5 +374,8 @@ whole j first s (e ∷ es) f =
         | inl was ↦ inl (same ∙ was)
         | inr made ↦ inr (made.0, made.1, same ∙ made.2)
       ]
-      | inr by ↦ inr (e.by, content (after first (events j es)) j.out, by.made)
+      | inr other ↦ elim other [
+        | inl by ↦ inr (e.by, content (after first (events j es)) j.out, by.made)
+        | inr put ↦ inr (e.by, None, put.made)
+      ]
     ]

@@ -3,7 +3,7 @@ use Rattle.std.proofs.Common.{◌≡◌, ◌≢◌, ◌⊎◌, inl, inr, ℕ, Bo
 use Rattle.std.proofs.lemmas.Bool.Decides.{eqb_tells}
 use lib.Pointwise.{bytes_decides}
 use Rattle.byte_system.specs.Disk.{Content, content_of, content, named, Disk, Event, Call, Makes, Opens, Locks, Looks, Writes, Syncs, Reads, Compares, Renames, Unlinks, SyncsFolder, Fails, Ends, step, after}
-use Rattle.byte_protocol.specs.Protocol.{IsWhole, IsSynced, FoundSame, IsPart, Stage, Begins, HasMade, HasLocked, Owns, Fills, HasLeft, Sweeps, Replaced, Ended, Move, MakesNew, LocksOwn, FindsOwn, GivesUp, WritesAll, WritesPart, SyncsNew, FindsSame, Puts, Withdraws, LocksLeft, FindsLeft, SweepsLeft, Strays, Forgets, Dies, Job, from, dead, to, finds_call, call_of, IsFair, Deed, events, stages, Follows, IsStart}
+use Rattle.byte_protocol.specs.Protocol.{IsWhole, IsSynced, FoundSame, IsPart, Stage, Begins, HasMade, HasLocked, Owns, Fills, HasLeft, Sweeps, Replaced, ReplacedUnread, Ended, Move, MakesNew, LocksOwn, FindsOwn, GivesUp, WritesAll, WritesPart, SyncsNew, FindsSame, Puts, PutsUnread, Withdraws, LocksLeft, FindsLeft, SweepsLeft, Strays, Forgets, Dies, Job, from, dead, to, finds_call, call_of, IsFair, Deed, events, stages, Follows, IsStart, AreRead}
 use Rattle.byte_protocol.specs.Cuts.{clean_after, is_clean, MayLead, IsLeft, IsSince, WasAt, written, Spares, AreSparing}
 use Rattle.byte_protocol.proofs.Kept.{same_number, numbered_at, numbered_other, named_at, named_other, not_both, at_each, IsOwn, Fits, always, whole}
 use Rattle.byte_protocol.proofs.Put.{fewer, stays, is_kept}
@@ -82,6 +82,7 @@ unwritten j first es k (WritesPart x n l) s sp i w e = s (subst (WasAt first es 
 unwritten j first es k (SyncsNew x n) s sp i w e = none_is_some i e
 unwritten j first es k (FindsSame x n) s sp i w e = finds_unwritten j.out x i e
 unwritten j first es k (Puts x n) s sp i w e = none_is_some i e
+unwritten j first es k (PutsUnread n) s sp i w e = none_is_some i e
 unwritten j first es k (Withdraws x n p) s sp i w e = none_is_some i e
 unwritten j first es k (LocksLeft n) s sp i w e = none_is_some i e
 unwritten j first es k (FindsLeft n) s sp i w e = none_is_some i e
@@ -104,6 +105,7 @@ unwritten_other j first es k (WritesPart x n l) f sp q i ne made o e =
 unwritten_other j first es k (SyncsNew x n) f sp q i ne made o e = none_is_some i e
 unwritten_other j first es k (FindsSame x n) f sp q i ne made o e = finds_unwritten j.out x i e
 unwritten_other j first es k (Puts x n) f sp q i ne made o e = none_is_some i e
+unwritten_other j first es k (PutsUnread n) f sp q i ne made o e = none_is_some i e
 unwritten_other j first es k (Withdraws x n p) f sp q i ne made o e = none_is_some i e
 unwritten_other j first es k (LocksLeft n) f sp q i ne made o e = none_is_some i e
 unwritten_other j first es k (FindsLeft n) f sp q i ne made o e = none_is_some i e
@@ -135,6 +137,11 @@ comes j first es k (Puts x n) two f s fair i e =
     let at : named names j.out (names j.new) j.out ≡ Some i = stays_out j (named names j.out (names j.new)) None i two e in
     let is : n ≡ i = ap or_zero (sym f.1.named ∙ sym (named_at names j.out (names j.new)) ∙ at) in
     inr (subst (ComesTo j first es k (Puts x n)) is (f.0, s, λ w. none_is_some n w))
+comes j first es k (PutsUnread n) two f s fair i e =
+    let names = (after first es).names in
+    let at : named names j.out (names j.new) j.out ≡ Some i = stays_out j (named names j.out (names j.new)) None i two e in
+    let is : n ≡ i = ap or_zero (sym f.1.named ∙ sym (named_at names j.out (names j.new)) ∙ at) in
+    inr (subst (ComesTo j first es k (PutsUnread n)) is (f.0, s, λ w. none_is_some n w))
 comes j first es k (Withdraws x n p) two f s fair i e = inl (stays_out j (after first es).names None i two e)
 comes j first es k (LocksLeft n) two f s fair i e = inl e
 comes j first es k (FindsLeft n) two f s fair i e = inl e
@@ -159,6 +166,7 @@ carried j first es fs k (Fills x i IsPart) f was clean s = tt
 carried j first es fs k (HasLeft i) f was clean s = tt
 carried j first es fs k (Sweeps i) f was clean s = tt
 carried j first es fs k (Replaced x) f was clean s = tt
+carried j first es fs k ReplacedUnread f was clean s = tt
 carried j first es fs k Ended f was clean s = tt
 
 dead_safe : (j : Job) (first : Disk) (es : List Event) (s : Stage) → IsSafe j first es (dead s)
@@ -170,6 +178,7 @@ dead_safe j first es (Fills x i p) = tt
 dead_safe j first es (HasLeft i) = tt
 dead_safe j first es (Sweeps i) = tt
 dead_safe j first es (Replaced x) = tt
+dead_safe j first es ReplacedUnread = tt
 dead_safe j first es Ended = tt
 
 -- the files that had the name before, if the name is the same now
@@ -197,6 +206,7 @@ own_safe j first es k (SyncsNew x n) two f s fair sp = ap (λ q. cond q true (is
 own_safe j first es k (FindsSame None n) two f s fair sp = s
 own_safe j first es k (FindsSame (Some read) n) two f s fair sp = s
 own_safe j first es k (Puts x n) two f s fair sp = tt
+own_safe j first es k (PutsUnread n) two f s fair sp = tt
 own_safe j first es k (Withdraws x n p) two f s fair sp = tt
 own_safe j first es k (LocksLeft n) two f s fair sp = tt
 own_safe j first es k (FindsLeft n) two f s fair sp = tt
@@ -312,6 +322,10 @@ dropped : (j : Job) (first : Disk) (later earlier : List Deed) → Follows j fir
 dropped j first [] earlier f = f
 dropped j first (e ∷ later) earlier f = dropped j first later earlier (fewer j first e (later ++ earlier) f)
 
+dropped_read : (later earlier : List Deed) → AreRead (later ++ earlier) → AreRead earlier
+dropped_read [] earlier r = r
+dropped_read (e ∷ later) earlier r = dropped_read later earlier r.0
+
 not_both_bits : (b : Bool) → b ≡ true → b ≡ false → ⊥
 not_both_bits b t f = cc
 
@@ -320,23 +334,23 @@ synced_by j k x = record { by = k; move = Strays (Replaced x) (SyncsFolder j.out
 
 -- what was put, and whose folder was then synced, is in each content since
 kept_since : (j : Job) (first : Disk) → IsStart j first → (P : Content → Type 0) → ((k : ℕ) (x : Content) → P x → P (Some (j.change k x)))
-    → (later earlier : List Deed) (k : ℕ) (x : Content) → Follows j first (later ++ (synced_by j k x ∷ earlier)) → P (Some (j.change k x))
+    → (later earlier : List Deed) (k : ℕ) (x : Content) → Follows j first (later ++ (synced_by j k x ∷ earlier)) → AreRead (later ++ (synced_by j k x ∷ earlier)) → P (Some (j.change k x))
     → (c : Content) → IsSince first (events j (later ++ (synced_by j k x ∷ earlier))) j.out c → P c
-kept_since j first s P keep [] earlier k x f p c i = elim i [
-  | inl now ↦ subst P now (is_kept j first s P keep (synced_by j k x ∷ earlier) k x f (numbered_at (stages earlier) k (Replaced x)) p)
+kept_since j first s P keep [] earlier k x f r p c i = elim i [
+  | inl now ↦ subst P now (is_kept j first s P keep (synced_by j k x ∷ earlier) k x f r (numbered_at (stages earlier) k (Replaced x)) p)
   | inr b ↦ absurd (not_both_bits (bytes_eq j.out j.out) ((bytes_decides j.out j.out).1 refl) b.0)
 ]
-kept_since j first s P keep (e ∷ later) earlier k x f p c i = elim i [
+kept_since j first s P keep (e ∷ later) earlier k x f r p c i = elim i [
   | inl now ↦
       let here = dropped j first (e ∷ later) (synced_by j k x ∷ earlier) f in
-      let put = is_kept j first s P keep (synced_by j k x ∷ earlier) k x here (numbered_at (stages earlier) k (Replaced x)) p in
-      subst P now (stays j first s P keep (e ∷ later) (synced_by j k x ∷ earlier) f put)
-  | inr b ↦ kept_since j first s P keep later earlier k x (fewer j first e (later ++ (synced_by j k x ∷ earlier)) f) p c b.1
+      let put = is_kept j first s P keep (synced_by j k x ∷ earlier) k x here (dropped_read (e ∷ later) (synced_by j k x ∷ earlier) r) (numbered_at (stages earlier) k (Replaced x)) p in
+      subst P now (stays j first s P keep (e ∷ later) (synced_by j k x ∷ earlier) f r put)
+  | inr b ↦ kept_since j first s P keep later earlier k x (fewer j first e (later ++ (synced_by j k x ∷ earlier)) f) r.0 p c b.1
 ]
 
 pub left_keeps : (j : Job) (first : Disk) → IsStart j first → (p : Content → Bool) → ((k : ℕ) (x : Content) → p x ≡ true → p (Some (j.change k x)) ≡ true)
     → (later earlier : List Deed) (k : ℕ) (x : Content) → let es = later ++ (record { by = k; move = Strays (Replaced x) (SyncsFolder j.out) } ∷ earlier) in
-    Follows j first es → AreSparing j first es → p (Some (j.change k x)) ≡ true → (left : Disk) → IsLeft first (events j es) j.out left → p (content left j.out) ≡ true
-left_keeps j first s p keep later earlier k x f sp kept left l =
+    Follows j first es → AreSparing j first es → AreRead es → p (Some (j.change k x)) ≡ true → (left : Disk) → IsLeft first (events j es) j.out left → p (content left j.out) ≡ true
+left_keeps j first s p keep later earlier k x f sp r kept left l =
     let es = later ++ (synced_by j k x ∷ earlier) in
-    kept_since j first s (λ c. p c ≡ true) keep later earlier k x f kept (content left j.out) (left_since j first s es f sp left l)
+    kept_since j first s (λ c. p c ≡ true) keep later earlier k x f r kept (content left j.out) (left_since j first s es f sp left l)

@@ -1,11 +1,12 @@
--- A trace in which the calls of each process are those of a path of moves is a list of deeds.
+-- A trace in which the calls of each process are those of a path of moves is a list of deeds; and the path of `replace`.
 use Rattle.std.proofs.Common.{◌≡◌, ◌≢◌, inl, inr, ℕ, List, [], ◌∷◌, Option, Some, None, refl, sym, ◌∙◌, ap, subst, cond}
 use Rattle.std.proofs.lemmas.Bool.Decides.{eqb_tells}
-use Rattle.byte_system.specs.Disk.{numbered, Disk, Event, Call, Honest}
+use Rattle.byte_system.specs.Disk.{numbered, Disk, Event, Call, SyncsFolder, step, after, Honest}
 use Rattle.byte_system.specs.System.{SystemState, own, calls}
 use Rattle.byte_protocol.specs.Replacing.{replacing, reserved, Replaces}
-use Rattle.byte_protocol.specs.Protocol.{Begins, Move, Job, to, Deed, events, stages, Chains, AreFair, Follows, end, IsPath, calls_of, rest, deed, deeds, ArePaths, Replaced, begun_moves, reserving_moves, replacing_moves}
+use Rattle.byte_protocol.specs.Protocol.{Stage, Begins, Move, MakesNew, LocksOwn, FindsOwn, GivesUp, WritesAll, WritesPart, SyncsNew, FindsSame, Puts, PutsUnread, Withdraws, LocksLeft, FindsLeft, SweepsLeft, Strays, Forgets, Dies, Job, to, IsElsewhere, IsFair, Deed, events, stages, Chains, AreFair, Follows, end, IsPath, calls_of, ChangesNone, IsIdle, AreIdle, finished, rest, deed, deeds, ArePaths}
 use Rattle.byte_protocol.proofs.Kept.{same_number, numbered_at, numbered_other}
+use Rattle.byte_protocol.proofs.Led.{then_other, put_led}
 
 own_here : (e : Event) (es : List Event) → own e.by (e ∷ es) ≡ e.call ∷ own e.by es
 own_here e es = ap (λ b. cond b (e.call ∷ own e.by es) (own e.by es)) (same_number e.by)
@@ -81,23 +82,69 @@ followed j first trace paths p honest fair =
     let d = are_deeds j trace paths p in
     (d.led, record { chains = d.chains; fair = fair; honest = subst (Honest first) (sym d.led) honest }, d.stage)
 
-pub begun_path : (j : Job) (left : Option ℕ) → IsPath (begun_moves j left) × (end (begun_moves j left) ≡ Begins)
-begun_path j None = (tt, refl)
-begun_path j (Some n) = ((((((tt, refl), refl), refl), refl), refl), refl)
-
-pub reserved_calls : (j : Job) (k i : ℕ) (left : Option ℕ) → reserved j.new left i [] ≡ calls_of j k (reserving_moves j i left)
-reserved_calls j k i None = refl
-reserved_calls j k i (Some n) = refl
-
-pub replaced_path : (j : Job) (left : Option ℕ) (read bytes : List ℕ) (old last : SystemState) → calls old ≡ [] → j.change old.me (Some read) ≡ bytes
-    → Replaces j.out j.new left (Some read) bytes old last
-    → (ms : List Move) × IsPath ms × (calls last ≡ calls_of j last.me ms) × (end ms ≡ Replaced (Some read))
+pub replaced_path : (j : Job) (left : Option ℕ) (read : Option (List ℕ)) (bytes : List ℕ) (old last : SystemState) → calls old ≡ [] → j.change old.me read ≡ bytes
+    → Replaces j.out j.new left read bytes old last
+    → (ms : List Move) × IsPath ms × AreIdle ms × (calls last ≡ calls_of j last.me ms) × (end ms ≡ finished read)
 replaced_path j left read bytes old last was makes r =
     let i = r.mine.0 in
-    let b = begun_path j left in (
-      replacing_moves j (Some read) i left,
-      (((((((((b.0, b.1), refl), refl), refl), refl), refl), refl), refl), refl),
-      r.mine.1 ∙ ap (λ b. replacing j.out j.new i (Some read) b (reserved j.new left i (calls old))) (sym makes ∙ ap (λ k. j.change k (Some read)) (sym r.goes.same_me))
-          ∙ ap (λ cs. replacing j.out j.new i (Some read) (j.change last.me (Some read)) cs) (ap (reserved j.new left i) was ∙ reserved_calls j last.me i left),
-      refl,
+    let l = then_other j last.me (finished read) (SyncsFolder j.out) (put_led j last.me i left read) (λ d m. refl) in (
+      l.moves,
+      l.path,
+      l.idle,
+      r.mine.1 ∙ ap (λ b. replacing j.out j.new i read b (reserved j.new left i (calls old))) (sym makes ∙ ap (λ k. j.change k read) (sym r.goes.same_me))
+          ∙ ap (λ cs. replacing j.out j.new i read (j.change last.me read) (reserved j.new left i cs)) was ∙ l.calls,
+      l.ends,
     )
+
+same_disk : (j : Job) (k : ℕ) (s : Stage) (d : Disk) → IsElsewhere j k s d d
+same_disk j k s d = record {
+  at_new = refl;
+  at_out = refl;
+  content = refl;
+  made = λ i m ne e. (e, refl);
+  held = λ i m ne e. (e, refl);
+  own = λ i e. record { bytes = refl; holder = refl; maker = refl };
+}
+
+elsewhere : (j : Job) (d : Disk) (k : ℕ) (s : Stage) (c : Call) → ChangesNone c → IsElsewhere j k s d (step d k c)
+elsewhere j d k s c idle = subst (IsElsewhere j k s d) (sym (idle d k)) (same_disk j k s d)
+
+idle_fair : (j : Job) (d : Disk) (k : ℕ) (m : Move) → IsIdle m → IsFair j d k m
+idle_fair j d k (MakesNew i) idle = tt
+idle_fair j d k (LocksOwn i) idle = tt
+idle_fair j d k (FindsOwn i) idle = tt
+idle_fair j d k (GivesUp i) idle = tt
+idle_fair j d k (WritesAll x i) idle = tt
+idle_fair j d k (WritesPart x i n) idle = tt
+idle_fair j d k (SyncsNew x i) idle = tt
+idle_fair j d k (FindsSame x i) idle = tt
+idle_fair j d k (Puts x i) idle = tt
+idle_fair j d k (PutsUnread i) idle = tt
+idle_fair j d k (Withdraws x i p) idle = tt
+idle_fair j d k (LocksLeft i) idle = tt
+idle_fair j d k (FindsLeft i) idle = tt
+idle_fair j d k (SweepsLeft i) idle = tt
+idle_fair j d k (Strays s c) idle = elsewhere j d k s c idle
+idle_fair j d k (Forgets s c) idle = elsewhere j d k s c idle
+idle_fair j d k (Dies s) idle = tt
+
+rest_is_idle : (ms : List Move) → AreIdle ms → AreIdle (rest ms)
+rest_is_idle [] a = tt
+rest_is_idle (m ∷ ms) a = a.0
+
+still_idle : (paths : ℕ → List Move) (n : ℕ) → ((k : ℕ) → AreIdle (paths k)) → (k : ℕ) → AreIdle (numbered paths n (rest (paths n)) k)
+still_idle paths n idle k = elim (eqb_tells k n) [
+  | inl (t, same) ↦ subst (λ b. AreIdle (cond b (rest (paths n)) (paths k))) (sym t) (rest_is_idle (paths n) (idle n))
+  | inr (f, ne) ↦ subst (λ b. AreIdle (cond b (rest (paths n)) (paths k))) (sym f) (idle k)
+]
+
+deed_fair : (j : Job) (first : Disk) (k : ℕ) (ms : List Move) (es : List Deed) → AreIdle ms → AreFair j first es → AreFair j first (deed k ms es)
+deed_fair j first k [] es idle fair = fair
+deed_fair j first k (m ∷ ms) es idle fair = (fair, idle_fair j (after first (events j es)) k m idle.1)
+
+-- processes that change no file by other calls leave alone what the protocol is about
+pub idle_are_fair : (j : Job) (first : Disk) (trace : List Event) (paths : ℕ → List Move) → ((k : ℕ) → AreIdle (paths k)) → AreFair j first (deeds trace paths)
+idle_are_fair j first [] paths idle = tt
+idle_are_fair j first (e ∷ trace) paths idle =
+    deed_fair j first e.by (paths e.by) (deeds trace (numbered paths e.by (rest (paths e.by)))) (idle e.by)
+    (idle_are_fair j first trace (numbered paths e.by (rest (paths e.by))) (still_idle paths e.by idle))

@@ -2,7 +2,7 @@
 use Rattle.std.proofs.Common.{◌≡◌, ◌⊎◌, inl, inr, ℕ, Bool, true, List, [], ◌∷◌, ◌++◌, Some, None, sym, ◌∙◌, ap, subst, cond}
 use Rattle.std.proofs.lemmas.Bool.Decides.{eqb_tells}
 use Rattle.byte_system.specs.Disk.{Content, content, Disk, after}
-use Rattle.byte_protocol.specs.Protocol.{Stage, Begins, HasMade, HasLocked, Owns, Fills, HasLeft, Sweeps, Replaced, Ended, FoundSame, Move, MakesNew, LocksOwn, FindsOwn, GivesUp, WritesAll, WritesPart, SyncsNew, FindsSame, Puts, Withdraws, LocksLeft, FindsLeft, SweepsLeft, Strays, Forgets, Dies, Job, from, dead, to, Deed, events, stages, Follows, IsStart, WasPut}
+use Rattle.byte_protocol.specs.Protocol.{Stage, Begins, HasMade, HasLocked, Owns, Fills, HasLeft, Sweeps, Replaced, ReplacedUnread, Ended, FoundSame, Move, MakesNew, LocksOwn, FindsOwn, GivesUp, WritesAll, WritesPart, SyncsNew, FindsSame, Puts, PutsUnread, Withdraws, LocksLeft, FindsLeft, SweepsLeft, Strays, Forgets, Dies, Job, from, dead, to, Deed, events, stages, Follows, IsStart, WasPut, IsRead, AreRead}
 use Rattle.byte_protocol.proofs.Kept.{follows_changes, Fits, always, puts_content}
 
 abbrev read_in : Stage → Content
@@ -18,6 +18,7 @@ dead_replaced (Fills y i p) x e = cc
 dead_replaced (HasLeft i) x e = cc
 dead_replaced (Sweeps i) x e = cc
 dead_replaced (Replaced y) x e = e
+dead_replaced ReplacedUnread x e = cc
 dead_replaced Ended x e = cc
 
 -- a move to `Replaced` is the rename, or the process was there before
@@ -31,6 +32,7 @@ came (WritesPart y i n) x e = cc
 came (SyncsNew y i) x e = cc
 came (FindsSame y i) x e = cc
 came (Puts y i) x e = inl (i, ap (λ z. Puts z i) (ap read_in e))
+came (PutsUnread i) x e = cc
 came (Withdraws y i p) x e = cc
 came (LocksLeft i) x e = cc
 came (FindsLeft i) x e = cc
@@ -66,24 +68,28 @@ was_put j first s k x (e ∷ es) f at =
 
 -- what every process keeps, stays
 pub stays : (j : Job) (first : Disk) → IsStart j first → (P : Content → Type 0) → ((k : ℕ) (x : Content) → P x → P (Some (j.change k x)))
-    → (later earlier : List Deed) → Follows j first (later ++ earlier) → P (content (after first (events j earlier)) j.out) → P (content (after first (events j (later ++ earlier))) j.out)
-stays j first s P keep [] earlier f p = p
-stays j first s P keep (e ∷ later) earlier f p =
+    → (later earlier : List Deed) → Follows j first (later ++ earlier) → AreRead (later ++ earlier)
+    → P (content (after first (events j earlier)) j.out) → P (content (after first (events j (later ++ earlier))) j.out)
+stays j first s P keep [] earlier f r p = p
+stays j first s P keep (e ∷ later) earlier f r p =
     let old = content (after first (events j (later ++ earlier))) j.out in
-    let was : P old = stays j first s P keep later earlier (fewer j first e (later ++ earlier) f) p in
+    let was : P old = stays j first s P keep later earlier (fewer j first e (later ++ earlier) f) r.0 p in
     elim (follows_changes j first s (later ++ earlier) e f) [
       | inl same ↦ subst P (sym same) was
-      | inr by ↦ subst P (sym by.made) (keep e.by old was)
+      | inr other ↦ elim other [
+        | inl by ↦ subst P (sym by.made) (keep e.by old was)
+        | inr put ↦ absurd (subst IsRead put.moved.1 r.1)
+      ]
     ]
 
 pub is_kept : (j : Job) (first : Disk) → IsStart j first → (P : Content → Type 0) → ((k : ℕ) (x : Content) → P x → P (Some (j.change k x)))
-    → (es : List Deed) (k : ℕ) (x : Content) → Follows j first es → stages es k ≡ Replaced x → P (Some (j.change k x)) → P (content (after first (events j es)) j.out)
-is_kept j first s P keep es k x f at p =
+    → (es : List Deed) (k : ℕ) (x : Content) → Follows j first es → AreRead es → stages es k ≡ Replaced x → P (Some (j.change k x)) → P (content (after first (events j es)) j.out)
+is_kept j first s P keep es k x f r at p =
     let w = was_put j first s k x es f at in
     let put = record { by = k; move = Puts x w.file } ∷ w.earlier in
     subst (λ t. P (content (after first (events j t)) j.out)) (sym w.split)
-    (stays j first s P keep w.later put (subst (Follows j first) w.split f) (subst P (sym w.made) p))
+    (stays j first s P keep w.later put (subst (Follows j first) w.split f) (subst AreRead w.split r) (subst P (sym w.made) p))
 
 pub bit_kept : (j : Job) (first : Disk) → IsStart j first → (p : Content → Bool) → ((k : ℕ) (x : Content) → p x ≡ true → p (Some (j.change k x)) ≡ true)
-    → (es : List Deed) (k : ℕ) (x : Content) → Follows j first es → stages es k ≡ Replaced x → p (Some (j.change k x)) ≡ true → p (content (after first (events j es)) j.out) ≡ true
+    → (es : List Deed) (k : ℕ) (x : Content) → Follows j first es → AreRead es → stages es k ≡ Replaced x → p (Some (j.change k x)) ≡ true → p (content (after first (events j es)) j.out) ≡ true
 bit_kept j first s p keep = is_kept j first s (λ c. p c ≡ true) keep

@@ -26,6 +26,8 @@ pub data Stage : Type 0 where
   HasLeft : (i : ℕ) → Stage
   Sweeps : (i : ℕ) → Stage
   Replaced : (x : Content) → Stage
+  -- its file is in the place of OUT, which it had not read
+  ReplacedUnread : Stage
   Ended : Stage
 
 -- a step of a process, from one stage to the next. Each is one call
@@ -39,6 +41,8 @@ pub data Move : Type 0 where
   SyncsNew : (x : Content) (i : ℕ) → Move
   FindsSame : (x : Content) (i : ℕ) → Move
   Puts : (x : Content) (i : ℕ) → Move
+  -- the file of one that has not read OUT
+  PutsUnread : (i : ℕ) → Move
   Withdraws : (x : Content) (i : ℕ) (p : Progress) → Move
   LocksLeft : (i : ℕ) → Move
   FindsLeft : (i : ℕ) → Move
@@ -50,7 +54,7 @@ pub data Move : Type 0 where
   -- the process ends, or is killed
   Dies : (s : Stage) → Move
 
--- the two names, and what each process makes of the content that it read
+-- the two names, and what each process makes of the content that it read. It is None if OUT was not there, or was not read
 pub record Job : Type 0 where
   pub out : List ℕ
   pub new : List ℕ
@@ -66,6 +70,7 @@ from (WritesPart x i n) = Owns i
 from (SyncsNew x i) = Fills x i IsWhole
 from (FindsSame x i) = Fills x i IsSynced
 from (Puts x i) = Fills x i FoundSame
+from (PutsUnread i) = Fills None i IsSynced
 from (Withdraws x i p) = Fills x i p
 from (LocksLeft i) = Begins
 from (FindsLeft i) = HasLeft i
@@ -77,6 +82,7 @@ from (Dies s) = s
 -- a process that has replaced OUT stays one that has
 abbrev pub dead : Stage → Stage
 dead (Replaced x) = Replaced x
+dead ReplacedUnread = ReplacedUnread
 dead s = Ended
 
 abbrev pub to : Move → Stage
@@ -89,6 +95,7 @@ to (WritesPart x i n) = Fills x i IsPart
 to (SyncsNew x i) = Fills x i IsSynced
 to (FindsSame x i) = Fills x i FoundSame
 to (Puts x i) = Replaced x
+to (PutsUnread i) = ReplacedUnread
 to (Withdraws x i p) = Ended
 to (LocksLeft i) = HasLeft i
 to (FindsLeft i) = Sweeps i
@@ -113,6 +120,7 @@ call_of j k (WritesPart x i n) = Writes i (take n (j.change k x))
 call_of j k (SyncsNew x i) = Syncs i
 call_of j k (FindsSame x i) = finds_call j.out x
 call_of j k (Puts x i) = Renames j.new j.out
+call_of j k (PutsUnread i) = Renames j.new j.out
 call_of j k (Withdraws x i p) = Unlinks j.new
 call_of j k (LocksLeft i) = Locks i true
 call_of j k (FindsLeft i) = Looks j.new i true
@@ -189,6 +197,20 @@ pub record IsReplacedBy (j : Job) (k : ℕ) (stage : Stage) (old new : Disk) : T
   pub found : (i : ℕ) × (stage ≡ Fills (content old j.out) i FoundSame)
   pub made : content new j.out ≡ Some (j.change k (content old j.out))
 
+-- a process that had not read OUT put its file in the place of OUT
+pub record IsPutUnread (j : Job) (k : ℕ) (move : Move) (old new : Disk) : Type 0 where
+  pub moved : (i : ℕ) × (move ≡ PutsUnread i)
+  pub made : content new j.out ≡ Some (j.change k None)
+
+abbrev pub IsRead : Move → Type 0
+IsRead (PutsUnread i) = ⊥
+IsRead m = Unit {0}
+
+-- each process that put its file in the place of OUT had read OUT
+abbrev pub AreRead : List Deed → Type 0
+AreRead [] = Unit {0}
+AreRead (e ∷ es) = AreRead es × IsRead e.move
+
 -- the moves of one process, the last one first
 abbrev pub end : List Move → Stage
 end [] = Begins
@@ -201,6 +223,25 @@ IsPath (m ∷ ms) = IsPath ms × (end ms ≡ from m)
 abbrev pub calls_of : Job → ℕ → List Move → List Call
 calls_of j k [] = []
 calls_of j k (m ∷ ms) = call_of j k m ∷ calls_of j k ms
+
+-- the call changes no files
+abbrev pub ChangesNone : Call → Type 0
+ChangesNone c = (d : Disk) (k : ℕ) → step d k c ≡ d
+
+abbrev pub IsIdle : Move → Type 0
+IsIdle (Strays s c) = ChangesNone c
+IsIdle (Forgets s c) = ChangesNone c
+IsIdle m = Unit {0}
+
+-- the calls that are no moves of the protocol change no files
+abbrev pub AreIdle : List Move → Type 0
+AreIdle [] = Unit {0}
+AreIdle (m ∷ ms) = AreIdle ms × IsIdle m
+
+-- how far one has come that replaced OUT, from which it read these bytes, or none if it did not read it
+abbrev pub finished : Option (List ℕ) → Stage
+finished None = ReplacedUnread
+finished (Some read) = Replaced (Some read)
 
 abbrev pub rest : List Move → List Move
 rest [] = []
@@ -229,19 +270,6 @@ pub record WasPut (j : Job) (first : Disk) (k : ℕ) (x : Content) (es : List De
   pub found : content (after first (events j earlier)) j.out ≡ x
   pub made : content (after first (events j (record { by = k; move = Puts x file } ∷ earlier))) j.out ≡ Some (j.change k x)
 
--- the moves of one that makes the new file its own; the last one first. One that a stopped process left is removed before
-abbrev pub begun_moves : Job → Option ℕ → List Move
-begun_moves j None = []
-begun_moves j (Some n) = SweepsLeft n ∷ FindsLeft n ∷ LocksLeft n ∷ Strays Begins (Opens j.new (Some n)) ∷ Strays Begins (Makes j.new None) ∷ []
-
-abbrev pub reserving_moves : Job → ℕ → Option ℕ → List Move
-reserving_moves j i left = FindsOwn i ∷ LocksOwn i ∷ MakesNew i ∷ begun_moves j left
-
--- the moves of one that then replaces OUT, which it has read
-abbrev pub replacing_moves : Job → Content → ℕ → Option ℕ → List Move
-replacing_moves j x i left =
-    Strays (Replaced x) (SyncsFolder j.out) ∷ Puts x i ∷ Strays (Fills x i FoundSame) (Looks j.new i true) ∷ FindsSame x i ∷ SyncsNew x i ∷ WritesAll x i ∷ reserving_moves j i left
-
 -- one process, which makes OUT on a disk without files
 abbrev pub sample_job : Job
 sample_job = record { out = 1 ∷ []; new = 2 ∷ []; change = λ k x. 7 ∷ [] }
@@ -251,4 +279,5 @@ all_by k [] = []
 all_by k (m ∷ ms) = record { by = k; move = m } ∷ all_by k ms
 
 abbrev pub sample_deeds : List Deed
-sample_deeds = all_by 0 (replacing_moves sample_job None 0 None)
+sample_deeds = all_by 0 (Strays (Replaced None) (SyncsFolder (1 ∷ [])) ∷ Puts None 0 ∷ Strays (Fills None 0 FoundSame) (Looks (2 ∷ []) 0 true) ∷ FindsSame None 0 ∷ SyncsNew None 0
+    ∷ WritesAll None 0 ∷ FindsOwn 0 ∷ LocksOwn 0 ∷ MakesNew 0 ∷ [])

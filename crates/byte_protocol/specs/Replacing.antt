@@ -1,5 +1,5 @@
 -- The calls of one process that replaces OUT by its new file.
-use Rattle.std.specs.Prelude.{◌≡◌, ◌⊎◌, ℕ, true, false, List, ◌∷◌, Option, Some, None, take}
+use Rattle.std.specs.Prelude.{◌≡◌, ◌⊎◌, ℕ, Bool, true, false, List, ◌∷◌, Option, Some, None, take}
 use Rattle.byte_system.specs.Disk.{Call, Makes, Opens, Locks, Looks, Writes, Syncs, Compares, Renames, Unlinks, SyncsFolder, Fails}
 use Rattle.byte_system.specs.System.{SystemState, calls, GoesOn}
 use Rattle.byte_protocol.specs.declared.replacing.Fault.{Fault}
@@ -19,6 +19,30 @@ owned new i before = Looks new i true ∷ Locks i true ∷ Makes new (Some i) �
 -- it was made, after one that was left was removed
 abbrev pub reserved : List ℕ → Option ℕ → ℕ → List Call → List Call
 reserved new left i before = owned new i (begun new left before)
+
+-- the answer of the call was no, or it failed
+abbrev pub Denies : (Bool → Call) → List Call → List Call → Type 0
+Denies call before now = (now ≡ call false ∷ before) ⊎ (now ≡ Fails ∷ before)
+
+-- a file is not the process's own: its lock was not taken, or then the name was not found to lead to it
+abbrev pub Disowns : List ℕ → ℕ → List Call → List Call → Type 0
+Disowns new i before now = Denies (Locks i) before now ⊎ Denies (Looks new i) (Locks i true ∷ before) now
+
+-- the file that has the name is still there: it was not opened, it is not the process's own, or it was not removed
+abbrev pub Unswept : List ℕ → List Call → List Call → Type 0
+Unswept new before now =
+    (now ≡ Fails ∷ before)
+    ⊎ ((n : ℕ) × (Disowns new n (Opens new (Some n) ∷ before) now ⊎ (now ≡ Fails ∷ Looks new n true ∷ Locks n true ∷ Opens new (Some n) ∷ before)))
+
+-- all calls of one that did not get the new file
+abbrev pub Refuses : Fault → List ℕ → List Call → List Call → Type 0
+-- no file could be made
+Refuses fault.NotMade new before now = (left : Option ℕ) × (now ≡ Fails ∷ begun new left before)
+-- there is one that stays; there was another one once that was removed; or the one that was made is not the process's own
+Refuses fault.NewExists new before now =
+    Unswept new (Makes new None ∷ before) now
+    ⊎ (((n : ℕ) × (now ≡ Makes new None ∷ begun new (Some n) before)) ⊎ ((left : Option ℕ) × (i : ℕ) × Disowns new i (Makes new (Some i) ∷ begun new left before) now))
+Refuses e new before now = ⊥
 
 -- OUT was compared with the bytes that were read from it, if they were
 abbrev pub compared : List ℕ → Option (List ℕ) → List Call → List Call
@@ -54,6 +78,10 @@ Stops fault.NotLooked out new i read bytes before now = now ≡ Fails ∷ compar
 Stops fault.Lost out new i read bytes before now = now ≡ Looks new i false ∷ compared out read (Syncs i ∷ Writes i bytes ∷ before)
 Stops fault.NotPut out new i read bytes before now = Removes new (Fails ∷ ready out new i read bytes before) now
 Stops fault.NotSynced out new i read bytes before now = now ≡ Fails ∷ Renames new out ∷ ready out new i read bytes before
+
+-- all calls of one that did not replace OUT: it did not get the new file, or it stopped with it
+abbrev pub Abandons : Fault → List ℕ → List ℕ → Option (List ℕ) → List ℕ → List Call → List Call → Type 0
+Abandons e out new read bytes before now = Refuses e new before now ⊎ ((left : Option ℕ) × (i : ℕ) × Stops e out new i read bytes (reserved new left i before) now)
 
 -- the process made exactly these calls, with these answers, which the files gave
 pub record Replaces (out new : List ℕ) (left : Option ℕ) (read : Option (List ℕ)) (bytes : List ℕ) (old last : SystemState) : Type 0 where

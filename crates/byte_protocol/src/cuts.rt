@@ -2,7 +2,7 @@
 
 ghost use Rattle.std.specs.Prelude.{◌≡◌, ◌⊎◌, ℕ, Bool, true, List, ◌∷◌, ◌++◌, Some};
 ghost use Rattle.byte_system.specs.Disk.{Content, content, Disk, SyncsFolder};
-ghost use Rattle.byte_protocol.specs.Protocol.{Job, Deed, Replaced, Strays, events, Follows, IsStart};
+ghost use Rattle.byte_protocol.specs.Protocol.{Job, Deed, Replaced, Strays, events, Follows, IsStart, AreRead};
 ghost use Rattle.byte_protocol.specs.Cuts.{IsLeft, IsSince, AreSparing};
 
 /// After a loss of power OUT has a content that it had at a moment since its folder was synced.
@@ -18,11 +18,12 @@ pub fn what_is_left_is_whole()
         (content left j.out ≡ content first j.out) ⊎ ((k : ℕ) × (x : Content) × (content left j.out ≡ Some (j.change k x))) }
 {}
 
-/// What no process takes away survives a loss of power, once a process that replaced OUT has put it there and synced the folder.
+/// What no process takes away survives a loss of power, once a process that replaced OUT has put it there and synced the folder, if
+/// OUT is not replaced by one that did not read it.
 pub fn what_is_synced_stays()
     ensures { (j : Job) (first : Disk) → IsStart j first → (p : Content → Bool) → ((k : ℕ) (x : Content) → p x ≡ true → p (Some (j.change k x)) ≡ true) →
         (later earlier : List Deed) (k : ℕ) (x : Content) →
         let es = later ++ (record { by = k; move = Strays (Replaced x) (SyncsFolder j.out) } ∷ earlier) in
-        Follows j first es → AreSparing j first es → p (Some (j.change k x)) ≡ true →
+        Follows j first es → AreSparing j first es → AreRead es → p (Some (j.change k x)) ≡ true →
         (left : Disk) → IsLeft first (events j es) j.out left → p (content left j.out) ≡ true }
 {}

@@ -4,15 +4,16 @@ ghost use Rattle.std.specs.Prelude.{◌≡◌, ◌⊎◌, ℕ, Bool, true, List,
 ghost use Rattle.byte_system.specs.Disk.{Call, Content, content, no_files, Disk, Event, after, Honest};
 ghost use Rattle.byte_system.specs.System.{SystemState, calls};
 ghost use Rattle.byte_protocol.specs.declared.replacing.Fault.{Fault};
-ghost use Rattle.byte_protocol.specs.Replacing.{Replaces, Stops, reserved};
+ghost use Rattle.byte_protocol.specs.Replacing.{Abandons, Replaces};
 ghost use Rattle.byte_protocol.specs.Cuts.{AreSparing};
-ghost use Rattle.byte_protocol.specs.Protocol.{Job, Deed, Move, Replaced, events, stages, Follows, IsStart, IsReplacedBy, WasPut, AreFair, deeds, end, IsPath, ArePaths, calls_of, sample_job, sample_deeds};
+ghost use Rattle.byte_protocol.specs.Protocol.{Job, Deed, Move, Replaced, events, stages, Follows, IsStart, IsReplacedBy, IsPutUnread, AreRead, WasPut, AreFair, AreIdle, deeds, end, finished, IsPath, ArePaths, calls_of, sample_job, sample_deeds};
 
-/// Each event leaves the content of OUT, or a process replaces exactly the content that it had read by what it makes of it.
+/// Each event leaves the content of OUT, or a process replaces exactly the content that it had read by what it makes of it, or one
+/// that has not read OUT puts its file there.
 pub fn no_work_is_lost()
     ensures { (j : Job) (first : Disk) → IsStart j first → (es : List Deed) (e : Deed) → Follows j first (e ∷ es) →
         let old = after first (events j es) in let new = after first (events j (e ∷ es)) in
-        (content new j.out ≡ content old j.out) ⊎ IsReplacedBy j e.by (stages es e.by) old new }
+        (content new j.out ≡ content old j.out) ⊎ (IsReplacedBy j e.by (stages es e.by) old new ⊎ IsPutUnread j e.by e.move old new) }
 {}
 
 /// OUT is at each moment the first content, or all the bytes of a process.
@@ -28,10 +29,11 @@ pub fn replaced_what_it_read()
         Follows j first es → stages es k ≡ Replaced x → WasPut j first k x es }
 {}
 
-/// What no process takes away, such as an id that was seen, stays in OUT, once a process that replaced OUT has put it there.
+/// What no process takes away, such as an id that was seen, stays in OUT, once a process that replaced OUT has put it there, if OUT
+/// is not replaced by one that did not read it.
 pub fn what_is_kept_stays()
     ensures { (j : Job) (first : Disk) → IsStart j first → (p : Content → Bool) → ((k : ℕ) (x : Content) → p x ≡ true → p (Some (j.change k x)) ≡ true) →
-        (es : List Deed) (k : ℕ) (x : Content) → Follows j first es → stages es k ≡ Replaced x →
+        (es : List Deed) (k : ℕ) (x : Content) → Follows j first es → AreRead es → stages es k ≡ Replaced x →
         p (Some (j.change k x)) ≡ true → p (content (after first (events j es)) j.out) ≡ true }
 {}
 
@@ -43,19 +45,24 @@ pub fn paths_are_followed()
         (events j es ≡ trace) × Follows j first es × ((k : ℕ) → stages es k ≡ end (paths k)) }
 {}
 
-/// The calls of `replace` are a path, and lead to `Replaced`.
+/// The calls of `replace` are a path that leads to its end. Those that are no moves change no file.
 pub fn replace_is_a_path()
-    ensures { (j : Job) (left : Option ℕ) (read bytes : List ℕ) (old last : SystemState) →
-        calls old ≡ [] → j.change old.me (Some read) ≡ bytes →
-        Replaces j.out j.new left (Some read) bytes old last →
-        (ms : List Move) × IsPath ms × (calls last ≡ calls_of j last.me ms) × (end ms ≡ Replaced (Some read)) }
+    ensures { (j : Job) (left : Option ℕ) (read : Option (List ℕ)) (bytes : List ℕ) (old last : SystemState) →
+        calls old ≡ [] → j.change old.me read ≡ bytes →
+        Replaces j.out j.new left read bytes old last →
+        (ms : List Move) × IsPath ms × AreIdle ms × (calls last ≡ calls_of j last.me ms) × (end ms ≡ finished read) }
 {}
 
-/// The calls of `replace_by` that stops with a fault are a path too.
+/// The calls of `replace` with a fault are such a path too.
 pub fn a_fault_is_a_path()
-    ensures { (j : Job) (k i : ℕ) (left : Option ℕ) (read : List ℕ) (e : Fault) (now : List Call) →
-        Stops e j.out j.new i (Some read) (j.change k (Some read)) (reserved j.new left i []) now →
-        (ms : List Move) × IsPath ms × (now ≡ calls_of j k ms) }
+    ensures { (j : Job) (k : ℕ) (read : Option (List ℕ)) (e : Fault) (now : List Call) →
+        Abandons e j.out j.new read (j.change k read) [] now →
+        (ms : List Move) × IsPath ms × AreIdle ms × (now ≡ calls_of j k ms) }
+{}
+
+/// Processes whose other calls change no file leave alone what the protocol is about, so `paths_are_followed` speaks of them.
+pub fn idle_paths_are_fair()
+    ensures { (j : Job) (first : Disk) (trace : List Event) (paths : ℕ → List Move) → ((k : ℕ) → AreIdle (paths k)) → AreFair j first (deeds trace paths) }
 {}
 
 /// One process alone replaces OUT, so the laws speak of something.

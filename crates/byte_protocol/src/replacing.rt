@@ -1,9 +1,9 @@
 //! Replacing a file as a whole, while other processes use it.
 
-ghost use Rattle.std.specs.Prelude.{◌≡◌, ◌∷◌, ℕ, true, Option, Some, OnOk, IfErr, IfOk, option_map};
+ghost use Rattle.std.specs.Prelude.{◌≡◌, ◌∷◌, ℕ, true, Option, Some, OnErr, OnOk, IfErr, IfOk, option_map};
 ghost use Rattle.byte_system.specs.Disk.{Locks, Looks, Makes, Opens, Unlinks};
 ghost use Rattle.byte_system.specs.System.{GoesOn, calls};
-ghost use Rattle.byte_protocol.specs.Replacing.{Replaces, Stops, begun, owned, replacing, reserved};
+ghost use Rattle.byte_protocol.specs.Replacing.{Abandons, Disowns, Refuses, Replaces, Stops, Unswept, begun, owned, replacing, reserved};
 
 use byte_system::{Failed, MakeFault, System};
 
@@ -47,6 +47,8 @@ pub fn replace<S: System>(
 ) -> Result<(), Fault>
     ensures goes { GoesOn (S.state system.old) (S.state system.new) }
     ensures ok { OnOk result ((left : Option ℕ) × Replaces out.now new.now left (option_map (λ s. s.now) read.entry) bytes.now (S.state system.old) (S.state system.new)) }
+    ensures fault { IfErr result (λ e. Abandons e out.now new.now (option_map (λ s. s.now) read.entry) bytes.now
+        (calls (S.state system.old)) (calls (S.state system.new))) }
 {
     let made = match reserve(system, new) {
         Ok(made) => made,
@@ -63,6 +65,7 @@ pub fn replace<S: System>(
 pub fn reserve<S: System>(system: &mut S, new: &[u8]) -> Result<Made, Fault>
     ensures goes { GoesOn (S.state system.old) (S.state system.new) }
     ensures ok { IfOk result (λ m. calls (S.state system.new) ≡ reserved new.now m.left m.file (calls (S.state system.old))) }
+    ensures fault { IfErr result (λ e. Refuses e new.now (calls (S.state system.old)) (calls (S.state system.new))) }
 {
     let made = match make_new(system, new) {
         Ok(made) => made,
@@ -78,6 +81,7 @@ pub fn reserve<S: System>(system: &mut S, new: &[u8]) -> Result<Made, Fault>
 fn make_new<S: System>(system: &mut S, new: &[u8]) -> Result<Made, Fault>
     ensures goes { GoesOn (S.state system.old) (S.state system.new) }
     ensures ok { IfOk result (λ m. calls (S.state system.new) ≡ Makes new.now (Some m.file) ∷ begun new.now m.left (calls (S.state system.old))) }
+    ensures fault { IfErr result (λ e. Refuses e new.now (calls (S.state system.old)) (calls (S.state system.new))) }
 {
     match system.make(new) {
         Ok(file) => return Ok(Made { file, left: None }),
@@ -102,6 +106,7 @@ fn make_new<S: System>(system: &mut S, new: &[u8]) -> Result<Made, Fault>
 fn own<S: System>(system: &mut S, new: &[u8], file: usize) -> Result<(), Failed>
     ensures goes { GoesOn (S.state system.old) (S.state system.new) }
     ensures ok { OnOk result (calls (S.state system.new) ≡ Looks new.now file true ∷ Locks file true ∷ calls (S.state system.old)) }
+    ensures err { OnErr result (Disowns new.now file (calls (S.state system.old)) (calls (S.state system.new))) }
 {
     match system.lock(file) {
         Ok(true) => {}
@@ -118,6 +123,7 @@ fn own<S: System>(system: &mut S, new: &[u8], file: usize) -> Result<(), Failed>
 // Removes the file that a stopped process left.
 fn sweep<S: System>(system: &mut S, new: &[u8]) -> Result<usize, Failed>
     ensures goes { GoesOn (S.state system.old) (S.state system.new) }
+    ensures err { OnErr result (Unswept new.now (calls (S.state system.old)) (calls (S.state system.new))) }
     ensures swept { IfOk result (λ n. calls (S.state system.new) ≡ Unlinks new.now ∷ Looks new.now n true ∷ Locks n true ∷ Opens new.now (Some n) ∷ calls (S.state system.old)) }
 {
     let file = match system.open(new) {

@@ -71,9 +71,24 @@ fn ends(
     Ok(result == want && system.read(b"out") == Some(left))
 }
 
+// Replaces a file that was not read, and whose bytes another process changes. Whether that ends so.
+fn replaces_unread(alloc: Global) -> Result<bool, AllocError> {
+    let mut acts = Vec::new(alloc);
+    acts_of(alloc, &mut acts, Second::WritesToOut(5))?;
+    let mut system = MemSystem::new(alloc, 1, acts, Vec::new(alloc));
+    let result = replace(&mut system, b"out", b"new", None, b"mine");
+    Ok(result == Ok(()) && system.read(b"out") == Some(b"mine"))
+}
+
 #[test]
 fn replaces(rt: HostRuntime) -> Result<(), Fail> {
     assert!(rt; ends(rt.alloc(), Second::Nothing, &[], Ok(()), b"mine")?);
+    Ok(())
+}
+
+#[test]
+fn replaces_what_was_not_read(rt: HostRuntime) -> Result<(), Fail> {
+    assert!(rt; replaces_unread(rt.alloc())?);
     Ok(())
 }
 
@@ -112,6 +127,29 @@ fn sweeps_a_new_file_that_was_left(rt: HostRuntime) -> Result<(), Fail> {
 }
 
 #[test]
+fn fails_while_it_sweeps(rt: HostRuntime) -> Result<(), Fail> {
+    assert!(rt;
+        ends(
+            rt.alloc(),
+            Second::LeavesNew,
+            &[4],
+            Err(Fault::NewExists),
+            b"old"
+        )?
+    );
+    assert!(rt;
+        ends(
+            rt.alloc(),
+            Second::LeavesNew,
+            &[5],
+            Err(Fault::NotMade),
+            b"old"
+        )?
+    );
+    Ok(())
+}
+
+#[test]
 fn is_overtaken(rt: HostRuntime) -> Result<(), Fail> {
     assert!(rt;
         ends(
@@ -141,6 +179,15 @@ fn finds_that_the_name_is_lost(rt: HostRuntime) -> Result<(), Fail> {
 
 #[test]
 fn fails_as_told(rt: HostRuntime) -> Result<(), Fail> {
+    assert!(rt;
+        ends(
+            rt.alloc(),
+            Second::Nothing,
+            &[0],
+            Err(Fault::NotMade),
+            b"old"
+        )?
+    );
     assert!(rt;
         ends(
             rt.alloc(),
