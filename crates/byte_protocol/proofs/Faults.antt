@@ -4,8 +4,8 @@ use Rattle.byte_system.specs.Disk.{Content, Call, Makes, Opens, Locks, Looks, Wr
 use Rattle.byte_protocol.specs.declared.replacing.Fault.{Fault}
 use Rattle.byte_protocol.specs.declared.replacing.Fault.TheVariants as fault
 use Rattle.byte_protocol.specs.Replacing.{begun, reserved, Denies, Disowns, Unswept, Refuses, Removes, Stops, Abandons}
-use Rattle.byte_protocol.specs.Protocol.{Progress, IsWhole, IsSynced, IsPart, Stage, Begins, HasMade, HasLocked, Fills, HasLeft, Sweeps, Ended, Move, MakesNew, LocksOwn, WritesPart, Withdraws, LocksLeft, FindsLeft, Job, IsPath, calls_of, ChangesNone, AreIdle, finished}
-use Rattle.byte_protocol.proofs.Led.{IsLed, nothing, then_by, then_other, begun_led, reserved_led, written_led, synced_led, checked, compared_led, ready_led, put_led}
+use Rattle.byte_protocol.specs.Protocol.{Progress, IsWhole, IsSynced, IsPart, Stage, Begins, HasMade, HasLocked, Fills, HasLeft, Sweeps, Ended, Move, MakesNew, LocksOwn, WritesPart, Withdraws, LocksLeft, Job, IsPath, calls_of, ChangesNone, AreIdle, finished}
+use Rattle.byte_protocol.proofs.Led.{IsLed, nothing, then_by, then_other, entered_led, begun_led, reserved_led, written_led, synced_led, checked, compared_led, ready_led, put_led}
 
 abbrev MakesPath : Job → ℕ → List Call → Type 0
 MakesPath j k now = (ms : List Move) × IsPath ms × AreIdle ms × (now ≡ calls_of j k ms)
@@ -40,14 +40,11 @@ held_path j k n l r = elim r [
 
 unswept_path : (j : Job) (k : ℕ) {before now : List Call} → IsLed j k Begins before → Unswept j.new before now → MakesPath j k now
 unswept_path j k l r = elim r [
-  | inl failed ↦ fails_path j k Begins failed l
-  | inr there ↦
-      let n = there.0 in
-      let opened = then_other j k Begins (Opens j.new (Some n)) l (λ d m. refl) in
-      elim there.1 [
-        | inl held ↦ held_path j k n opened held
-        | inr failed ↦ fails_path j k (Sweeps n) failed (then_by j k (FindsLeft n) (then_by j k (LocksLeft n) opened tt) tt)
-      ]
+  | inl unentered ↦ elim unentered [
+    | inl failed ↦ fails_path j k Begins failed l
+    | inr held ↦ held_path j k held.0 (then_other j k Begins (Opens j.new (Some held.0)) l (λ d m. refl)) held.1
+  ]
+  | inr failed ↦ fails_path j k (Sweeps failed.0) failed.1 (entered_led j k failed.0 l)
 ]
 
 refused_path : (j : Job) (k : ℕ) (e : Fault) (now : List Call) → Refuses e j.new [] now → MakesPath j k now

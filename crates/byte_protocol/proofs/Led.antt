@@ -1,8 +1,8 @@
 -- Calls that lead a process along the protocol, one after another.
 use Rattle.std.proofs.Common.{◌≡◌, ◌⊎◌, inl, inr, ℕ, Bool, true, false, List, [], ◌∷◌, Option, Some, None, refl, ◌∙◌, ap}
 use Rattle.byte_system.specs.Disk.{Content, Call, Makes, Opens, Locks, Looks, Writes, Syncs, Renames, Fails}
-use Rattle.byte_protocol.specs.Replacing.{begun, reserved, compared, ready}
-use Rattle.byte_protocol.specs.Protocol.{Progress, IsWhole, IsSynced, FoundSame, Stage, Begins, Owns, Fills, Move, MakesNew, LocksOwn, FindsOwn, WritesAll, SyncsNew, FindsSame, Puts, PutsUnread, LocksLeft, FindsLeft, SweepsLeft, Strays, Job, from, to, call_of, end, IsPath, calls_of, ChangesNone, IsIdle, AreIdle, finished}
+use Rattle.byte_protocol.specs.Replacing.{entered, begun, reserved, compared, ready}
+use Rattle.byte_protocol.specs.Protocol.{Progress, IsWhole, IsSynced, FoundSame, Stage, Begins, Owns, Fills, Sweeps, Move, MakesNew, LocksOwn, FindsOwn, WritesAll, SyncsNew, FindsSame, Puts, PutsUnread, LocksLeft, FindsLeft, SweepsLeft, Strays, Job, from, to, call_of, end, IsPath, calls_of, ChangesNone, IsIdle, AreIdle, finished}
 
 -- moves that make these calls and lead to this stage, and that change no file by other calls
 pub record IsLed (j : Job) (k : ℕ) (s : Stage) (now : List Call) : Type 0 where
@@ -30,12 +30,12 @@ then_by j k m l idle = record {
 pub then_other : (j : Job) (k : ℕ) (s : Stage) (c : Call) {before : List Call} → IsLed j k s before → ChangesNone c → IsLed j k s (c ∷ before)
 then_other j k s c l idle = then_by j k (Strays s c) l idle
 
+pub entered_led : (j : Job) (k n : ℕ) {before : List Call} → IsLed j k Begins before → IsLed j k (Sweeps n) (entered j.new n before)
+entered_led j k n l = then_by j k (FindsLeft n) (then_by j k (LocksLeft n) (then_other j k Begins (Opens j.new (Some n)) l (λ d m. refl)) tt) tt
+
 pub begun_led : (j : Job) (k : ℕ) (left : Option ℕ) → IsLed j k Begins (begun j.new left [])
 begun_led j k None = nothing j k
-begun_led j k (Some n) =
-    let found = then_other j k Begins (Makes j.new None) (nothing j k) (λ d m. refl) in
-    let opened = then_other j k Begins (Opens j.new (Some n)) found (λ d m. refl) in
-    then_by j k (SweepsLeft n) (then_by j k (FindsLeft n) (then_by j k (LocksLeft n) opened tt) tt) tt
+begun_led j k (Some n) = then_by j k (SweepsLeft n) (entered_led j k n (then_other j k Begins (Makes j.new None) (nothing j k) (λ d m. refl))) tt
 
 pub reserved_led : (j : Job) (k i : ℕ) (left : Option ℕ) → IsLed j k (Owns i) (reserved j.new left i [])
 reserved_led j k i left = then_by j k (FindsOwn i) (then_by j k (LocksOwn i) (then_by j k (MakesNew i) (begun_led j k left) tt) tt) tt

@@ -7,10 +7,14 @@ use Rattle.byte_protocol.specs.declared.replacing.Fault.TheVariants as fault
 
 -- In each list of calls the last one comes first.
 
+-- a file that was there was opened, locked, and found under its name
+abbrev pub entered : List ℕ → ℕ → List Call → List Call
+entered path i before = Looks path i true ∷ Locks i true ∷ Opens path (Some i) ∷ before
+
 -- the calls before the new file is made: none, or those that remove one which a stopped process left
 abbrev pub begun : List ℕ → Option ℕ → List Call → List Call
 begun new None before = before
-begun new (Some n) before = Unlinks new ∷ Looks new n true ∷ Locks n true ∷ Opens new (Some n) ∷ Makes new None ∷ before
+begun new (Some n) before = Unlinks new ∷ entered new n (Makes new None ∷ before)
 
 -- the new file was made, locked, and found under its name: from now on the name is the process's own
 abbrev pub owned : List ℕ → ℕ → List Call → List Call
@@ -26,13 +30,15 @@ Denies call before now = (now ≡ call false ∷ before) ⊎ (now ≡ Fails ∷ 
 
 -- a file is not the process's own: its lock was not taken, or then the name was not found to lead to it
 abbrev pub Disowns : List ℕ → ℕ → List Call → List Call → Type 0
-Disowns new i before now = Denies (Locks i) before now ⊎ Denies (Looks new i) (Locks i true ∷ before) now
+Disowns path i before now = Denies (Locks i) before now ⊎ Denies (Looks path i) (Locks i true ∷ before) now
 
--- the file that has the name is still there: it was not opened, it is not the process's own, or it was not removed
+-- a file that was there was not opened, or is not the process's own
+abbrev pub Unentered : List ℕ → List Call → List Call → Type 0
+Unentered path before now = (now ≡ Fails ∷ before) ⊎ ((i : ℕ) × Disowns path i (Opens path (Some i) ∷ before) now)
+
+-- nor was one removed that a stopped process left
 abbrev pub Unswept : List ℕ → List Call → List Call → Type 0
-Unswept new before now =
-    (now ≡ Fails ∷ before)
-    ⊎ ((n : ℕ) × (Disowns new n (Opens new (Some n) ∷ before) now ⊎ (now ≡ Fails ∷ Looks new n true ∷ Locks n true ∷ Opens new (Some n) ∷ before)))
+Unswept new before now = Unentered new before now ⊎ ((n : ℕ) × (now ≡ Fails ∷ entered new n before))
 
 -- all calls of one that did not get the new file
 abbrev pub Refuses : Fault → List ℕ → List Call → List Call → Type 0

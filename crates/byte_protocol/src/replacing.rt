@@ -1,9 +1,9 @@
 //! Replacing a file as a whole, while other processes use it.
 
 ghost use Rattle.std.specs.Prelude.{◌≡◌, ◌∷◌, ℕ, true, Option, Some, OnErr, OnOk, IfErr, IfOk, option_map};
-ghost use Rattle.byte_system.specs.Disk.{Locks, Looks, Makes, Opens, Unlinks};
+ghost use Rattle.byte_system.specs.Disk.{Locks, Looks, Makes, Unlinks};
 ghost use Rattle.byte_system.specs.System.{GoesOn, calls};
-ghost use Rattle.byte_protocol.specs.Replacing.{Abandons, Disowns, Refuses, Replaces, Stops, Unswept, begun, owned, replacing, reserved};
+ghost use Rattle.byte_protocol.specs.Replacing.{Abandons, Disowns, Refuses, Replaces, Stops, Unentered, Unswept, begun, entered, replacing, reserved};
 
 use byte_system::{Failed, MakeFault, System};
 
@@ -120,20 +120,32 @@ fn own<S: System>(system: &mut S, new: &[u8], file: usize) -> Result<(), Failed>
     }
 }
 
-// Removes the file that a stopped process left.
-fn sweep<S: System>(system: &mut S, new: &[u8]) -> Result<usize, Failed>
+// Opens the file with the name and locks it, and then looks whether the name leads to it.
+fn enter<S: System>(system: &mut S, path: &[u8]) -> Result<usize, Failed>
     ensures goes { GoesOn (S.state system.old) (S.state system.new) }
-    ensures err { OnErr result (Unswept new.now (calls (S.state system.old)) (calls (S.state system.new))) }
-    ensures swept { IfOk result (λ n. calls (S.state system.new) ≡ Unlinks new.now ∷ Looks new.now n true ∷ Locks n true ∷ Opens new.now (Some n) ∷ calls (S.state system.old)) }
+    ensures ok { IfOk result (λ i. calls (S.state system.new) ≡ entered path.now i (calls (S.state system.old))) }
+    ensures err { OnErr result (Unentered path.now (calls (S.state system.old)) (calls (S.state system.new))) }
 {
-    let file = match system.open(new) {
+    let file = match system.open(path) {
         Ok(file) => file,
         Err(_) => return Err(Failed),
     };
-    match own(system, new, file) {
-        Ok(()) => {}
-        Err(_) => return Err(Failed),
+    match own(system, path, file) {
+        Ok(()) => Ok(file),
+        Err(_) => Err(Failed),
     }
+}
+
+// Removes the file that a stopped process left.
+fn sweep<S: System>(system: &mut S, new: &[u8]) -> Result<usize, Failed>
+    ensures goes { GoesOn (S.state system.old) (S.state system.new) }
+    ensures swept { IfOk result (λ n. calls (S.state system.new) ≡ Unlinks new.now ∷ entered new.now n (calls (S.state system.old))) }
+    ensures err { OnErr result (Unswept new.now (calls (S.state system.old)) (calls (S.state system.new))) }
+{
+    let file = match enter(system, new) {
+        Ok(file) => file,
+        Err(_) => return Err(Failed),
+    };
     match system.unlink(new) {
         Ok(()) => Ok(file),
         Err(_) => Err(Failed),
