@@ -75,26 +75,26 @@ removed_path j k x i p l r = elim r [
 failed_path : (j : Job) (k : ℕ) (x : Content) (i : ℕ) (p : Progress) {before now : List Call} → IsLed j k (Fills x i p) before → Removes j.new (Fails ∷ before) now → MakesPath j k now
 failed_path j k x i p l r = removed_path j k x i p (then_other j k (Fills x i p) Fails l (λ d m. refl)) r
 
-stopped_path : (j : Job) (k i : ℕ) (left : Option ℕ) (read : Option (List ℕ)) (e : Fault) (now : List Call)
+halted_path : (j : Job) (k i : ℕ) (left : Option ℕ) (read : Option (List ℕ)) (e : Fault) (now : List Call)
     → Stops e j.out j.new i read (j.change k read) (reserved j.new left i []) now → MakesPath j k now
-stopped_path j k i left read fault.NotMade now s = absurd s
-stopped_path j k i left read fault.NewExists now s = absurd s
-stopped_path j k i left read (fault.NotWritten n) now s = removed_path j k read i IsPart (then_by j k (WritesPart read i n) (reserved_led j k i left) tt) s
-stopped_path j k i left read fault.NotSure now s = failed_path j k read i IsWhole (written_led j k i left read) s
-stopped_path j k i left read fault.NotRead now s = failed_path j k read i IsSynced (synced_led j k i left read) s
-stopped_path j k i left None fault.Changed now s = removed_path j k None i IsSynced (synced_led j k i left None) s
-stopped_path j k i left (Some read) fault.Changed now s =
+halted_path j k i left read fault.NotMade now s = absurd s
+halted_path j k i left read fault.NewExists now s = absurd s
+halted_path j k i left read (fault.NotWritten n) now s = removed_path j k read i IsPart (then_by j k (WritesPart read i n) (reserved_led j k i left) tt) s
+halted_path j k i left read fault.NotSure now s = failed_path j k read i IsWhole (written_led j k i left read) s
+halted_path j k i left read fault.NotRead now s = failed_path j k read i IsSynced (synced_led j k i left read) s
+halted_path j k i left None fault.Changed now s = removed_path j k None i IsSynced (synced_led j k i left None) s
+halted_path j k i left (Some read) fault.Changed now s =
     removed_path j k (Some read) i IsSynced
     (then_other j k (Fills (Some read) i IsSynced) (Compares j.out read false) (synced_led j k i left (Some read)) (λ d m. refl)) s
-stopped_path j k i left read fault.NotLooked now s = fails_path j k (Fills read i (checked read)) s (compared_led j k i left read)
-stopped_path j k i left read fault.Lost now s =
+halted_path j k i left read fault.NotLooked now s = fails_path j k (Fills read i (checked read)) s (compared_led j k i left read)
+halted_path j k i left read fault.Lost now s =
     is_path j k (Fills read i (checked read)) s (then_other j k (Fills read i (checked read)) (Looks j.new i false) (compared_led j k i left read) (λ d m. refl))
-stopped_path j k i left read fault.NotPut now s = failed_path j k read i (checked read) (ready_led j k i left read) s
-stopped_path j k i left read fault.NotSynced now s = fails_path j k (finished read) s (put_led j k i left read)
+halted_path j k i left read fault.NotPut now s = failed_path j k read i (checked read) (ready_led j k i left read) s
+halted_path j k i left read fault.NotSynced now s = fails_path j k (finished read) s (put_led j k i left read)
 
 pub fault_path : (j : Job) (k : ℕ) (read : Option (List ℕ)) (e : Fault) (now : List Call) → Abandons e j.out j.new read (j.change k read) [] now
     → (ms : List Move) × IsPath ms × AreIdle ms × (now ≡ calls_of j k ms)
 fault_path j k read e now a = elim a [
   | inl refused ↦ refused_path j k e now refused
-  | inr stopped ↦ stopped_path j k stopped.1 stopped.0 read e now stopped.2
+  | inr stopped ↦ halted_path j k stopped.1 stopped.0 read e now stopped.2
 ]

@@ -1,7 +1,7 @@
 -- A trace in which the calls of each process are those of a path of moves is a list of deeds; and the path of `replace`.
-use Rattle.std.proofs.Common.{◌≡◌, ◌≢◌, inl, inr, ℕ, List, [], ◌∷◌, Option, Some, None, refl, sym, ◌∙◌, ap, subst, cond}
+use Rattle.std.proofs.Common.{◌≡◌, ◌≢◌, inl, inr, ℕ, zero, suc, List, [], ◌∷◌, Option, Some, None, drop, refl, sym, ◌∙◌, ap, subst, cond}
 use Rattle.std.proofs.lemmas.Bool.Decides.{eqb_tells}
-use Rattle.byte_system.specs.Disk.{numbered, Disk, Event, Call, SyncsFolder, step, after, Honest}
+use Rattle.byte_system.specs.Disk.{numbered, Disk, Event, Call, Ends, SyncsFolder, step, after, Honest}
 use Rattle.byte_system.specs.System.{SystemState, own, calls}
 use Rattle.byte_protocol.specs.Replacing.{replacing, reserved, Replaces}
 use Rattle.byte_protocol.specs.Protocol.{Stage, Begins, Move, MakesNew, LocksOwn, FindsOwn, GivesUp, WritesAll, WritesPart, SyncsNew, FindsSame, Puts, PutsUnread, Withdraws, LocksLeft, FindsLeft, SweepsLeft, Strays, Forgets, Dies, Job, to, IsElsewhere, IsFair, Deed, events, stages, Chains, AreFair, Follows, end, IsPath, calls_of, ChangesNone, IsIdle, AreIdle, finished, rest, deed, deeds, ArePaths}
@@ -95,6 +95,18 @@ replaced_path j left read bytes old last was makes r =
           ∙ ap (λ cs. replacing j.out j.new i read (j.change last.me read) (reserved j.new left i cs)) was ∙ l.calls,
       l.ends,
     )
+
+first_moves : (j : Job) (k n : ℕ) (ms : List Move) → IsPath ms → AreIdle ms → IsPath (drop n ms) × AreIdle (drop n ms) × (calls_of j k (drop n ms) ≡ drop n (calls_of j k ms))
+first_moves j k zero ms p a = (p, a, refl)
+first_moves j k (suc n) [] p a = (tt, tt, refl)
+first_moves j k (suc n) (m ∷ ms) p a = first_moves j k n ms p.0 a.0
+
+-- a process that stops in the middle of a path
+pub stopped_path : (j : Job) (k n : ℕ) (ms : List Move) → IsPath ms → AreIdle ms
+    → let made = drop n ms in let stopped = Dies (end made) ∷ made in IsPath stopped × AreIdle stopped × (calls_of j k stopped ≡ Ends ∷ drop n (calls_of j k ms))
+stopped_path j k n ms p a =
+    let f = first_moves j k n ms p a in
+    ((f.0, refl), (f.1, tt), ap (λ cs. Ends ∷ cs) f.2)
 
 same_disk : (j : Job) (k : ℕ) (s : Stage) (d : Disk) → IsElsewhere j k s d d
 same_disk j k s d = record {

@@ -1,12 +1,12 @@
 //! The laws of all processes that replace one file. The functions do nothing: their contracts are the laws.
 
-ghost use Rattle.std.specs.Prelude.{◌≡◌, ◌⊎◌, ℕ, Bool, true, List, ◌∷◌, [], Option, Some};
-ghost use Rattle.byte_system.specs.Disk.{Call, Content, content, no_files, Disk, Event, after, Honest};
+ghost use Rattle.std.specs.Prelude.{◌≡◌, ◌⊎◌, ℕ, Bool, true, List, ◌∷◌, [], Option, Some, drop};
+ghost use Rattle.byte_system.specs.Disk.{Call, Content, Ends, content, no_files, Disk, Event, after, Honest};
 ghost use Rattle.byte_system.specs.System.{SystemState, calls};
 ghost use Rattle.byte_protocol.specs.declared.replacing.Fault.{Fault};
 ghost use Rattle.byte_protocol.specs.Replacing.{Abandons, Replaces};
 ghost use Rattle.byte_protocol.specs.Cuts.{AreSparing};
-ghost use Rattle.byte_protocol.specs.Protocol.{Job, Deed, Move, Replaced, events, stages, Follows, IsStart, IsReplacedBy, IsPutUnread, AreRead, WasPut, AreFair, AreIdle, deeds, end, finished, IsPath, ArePaths, calls_of, sample_job, sample_deeds};
+ghost use Rattle.byte_protocol.specs.Protocol.{Job, Deed, Move, Dies, Replaced, events, stages, Follows, IsStart, IsReplacedBy, IsPutUnread, AreRead, WasPut, AreFair, AreIdle, deeds, end, finished, IsPath, ArePaths, calls_of, sample_job, sample_deeds};
 
 /// Each event leaves the content of OUT, or a process replaces exactly the content that it had read by what it makes of it, or one
 /// that has not read OUT puts its file there.
@@ -58,6 +58,13 @@ pub fn a_fault_is_a_path()
     ensures { (j : Job) (k : ℕ) (read : Option (List ℕ)) (e : Fault) (now : List Call) →
         Abandons e j.out j.new read (j.change k read) [] now →
         (ms : List Move) × IsPath ms × AreIdle ms × (now ≡ calls_of j k ms) }
+{}
+
+/// One that stops in the middle of such a path, or is killed there, makes such a path too.
+pub fn a_stop_is_a_path()
+    ensures { (j : Job) (k n : ℕ) (ms : List Move) → IsPath ms → AreIdle ms →
+        let made = drop n ms in let stopped = Dies (end made) ∷ made in
+        IsPath stopped × AreIdle stopped × (calls_of j k stopped ≡ Ends ∷ drop n (calls_of j k ms)) }
 {}
 
 /// Processes whose other calls change no file leave alone what the protocol is about, so `paths_are_followed` speaks of them.

@@ -9,7 +9,7 @@ mod tests;
 
 pub use cuts::{what_is_left_is_whole, what_is_left_was_there, what_is_synced_stays};
 pub use laws::{
-    a_fault_is_a_path, idle_paths_are_fair, no_work_is_lost, one_alone_is_done, out_is_whole,
-    paths_are_followed, replace_is_a_path, replaced_what_it_read, what_is_kept_stays,
+    a_fault_is_a_path, a_stop_is_a_path, idle_paths_are_fair, no_work_is_lost, one_alone_is_done,
+    out_is_whole, paths_are_followed, replace_is_a_path, replaced_what_it_read, what_is_kept_stays,
 };
 pub use replacing::{Fault, Made, replace, replace_by, reserve};
