@@ -2,7 +2,7 @@
 use Rattle.std.proofs.Common.{◌≡◌, ◌≢◌, ◌⊎◌, inl, inr, ℕ, Bool, true, false, List, [], ◌∷◌, ◌++◌, Option, Some, None, bytes_eq, eqb, refl, sym, ◌∙◌, ap, subst, cond}
 use Rattle.std.proofs.lemmas.Bool.Decides.{eqb_tells}
 use lib.Pointwise.{bytes_decides}
-use Rattle.byte_system.specs.Disk.{Content, content_of, content, named, Disk, Event, Call, Makes, Opens, Locks, Looks, Writes, Syncs, Reads, Compares, Renames, Unlinks, SyncsFolder, Fails, Ends, step, after}
+use Rattle.byte_system.specs.Disk.{Content, content_of, content, named, Disk, Event, Call, Makes, Opens, Locks, Looks, Writes, Truncates, Syncs, Reads, Compares, Renames, Unlinks, SyncsFolder, Fails, Ends, step, after}
 use Rattle.byte_protocol.specs.Protocol.{IsWhole, IsSynced, FoundSame, IsPart, Stage, Begins, HasMade, HasLocked, Owns, Fills, HasLeft, Sweeps, Replaced, ReplacedUnread, Ended, Move, MakesNew, LocksOwn, FindsOwn, GivesUp, WritesAll, WritesPart, SyncsNew, FindsSame, Puts, PutsUnread, Withdraws, LocksLeft, FindsLeft, SweepsLeft, Strays, Forgets, Dies, Job, from, dead, to, finds_call, call_of, IsFair, Deed, events, stages, Follows, IsStart, AreRead}
 use Rattle.byte_protocol.specs.Cuts.{clean_after, is_clean, MayLead, IsLeft, IsSince, WasAt, written, Spares, AreSparing}
 use Rattle.byte_protocol.proofs.Kept.{same_number, numbered_at, numbered_other, named_at, named_other, not_both, at_each, IsOwn, Fits, always, whole}
@@ -45,6 +45,13 @@ leaves d k i (Locks n false) ne = idle d k i (Locks n false) refl (λ b. refl)
 leaves d k i (Looks p n t) ne = idle d k i (Looks p n t) refl (λ b. refl)
 leaves d k i (Writes n bs) ne = record {
   bytes = numbered_other d.bytes n (d.bytes n ++ bs) i (λ e. ne (ap Some (sym e)));
+  clean = λ b t. elim (eqb_tells i n) [
+    | inl (same, e) ↦ absurd (ne (ap Some (sym e)))
+    | inr (other, e) ↦ ap (λ q. cond q false b) other ∙ t
+  ];
+}
+leaves d k i (Truncates n) ne = record {
+  bytes = numbered_other d.bytes n [] i (λ e. ne (ap Some (sym e)));
   clean = λ b t. elim (eqb_tells i n) [
     | inl (same, e) ↦ absurd (ne (ap Some (sym e)))
     | inr (other, e) ↦ ap (λ q. cond q false b) other ∙ t

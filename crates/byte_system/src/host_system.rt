@@ -8,7 +8,7 @@ use crate::system::{Failed, MakeFault, System};
 use crate::trail::{Note, Said, Trail};
 use std::alloc::Global;
 use std::fs::{self, File, Metadata, OpenFile, OpenOptions, TryLockError};
-use std::io::{ErrorKind, Read, Write};
+use std::io::{ErrorKind, Read, Seek, SeekFrom, Write};
 use std::os::unix::fs::MetadataExt;
 use std::rt::Files;
 use std::str;
@@ -80,6 +80,11 @@ fn write_to(file: &mut File, bytes: &[u8]) -> usize
         }
     }
     bytes.len().saturating_sub(rest.len())
+}
+
+// Whether the file was emptied. What is written next is at its start.
+fn empties(file: &mut File) -> bool {
+    file.set_len(0).is_ok() && file.seek(SeekFrom::Start(0)).is_ok()
 }
 
 // Whether the file gives exactly these bytes.
@@ -244,6 +249,19 @@ impl<R: Files<File = File>> System for HostSystem<'_, R> {
         };
         self.note(Said::Writes(file, &bytes[..written]));
         written
+    }
+
+    fn truncate(&mut self, file: usize) -> Result<(), Failed> {
+        let is_empty = match self.open.get_mut(file) {
+            Some(file) => empties(file),
+            None => false,
+        };
+        if !is_empty {
+            self.note(Said::Fails);
+            return Err(Failed);
+        }
+        self.note(Said::Truncates(file));
+        Ok(())
     }
 
     fn sync(&mut self, file: usize) -> Result<(), Failed> {

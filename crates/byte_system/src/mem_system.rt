@@ -140,6 +140,11 @@ impl System for MemSystem {
         self.files.write(self.me, file, bytes, works)
     }
 
+    fn truncate(&mut self, file: usize) -> Result<(), Failed> {
+        let works = self.works();
+        self.files.truncate(self.me, file, works)
+    }
+
     fn sync(&mut self, file: usize) -> Result<(), Failed> {
         let works = self.works();
         self.files.sync(self.me, file, works)

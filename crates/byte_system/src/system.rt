@@ -1,6 +1,6 @@
 //! The calls on files that a command makes. Other processes make calls before and between them.
 
-ghost use Rattle.byte_system.specs.Disk.{Locks, Looks, Syncs, Compares, Renames, Unlinks, SyncsFolder};
+ghost use Rattle.byte_system.specs.Disk.{Locks, Looks, Truncates, Syncs, Compares, Renames, Unlinks, SyncsFolder};
 ghost use Rattle.byte_system.specs.System.{SystemState, Took, make_call, open_call, done_or_failed, told_or_failed, write_call};
 
 /// Why no new file was made.
@@ -38,6 +38,10 @@ pub trait System {
     /// Appends bytes to an open file, as many as it takes. Returns how many.
     fn write(&mut self, file: usize, bytes: &[u8]) -> usize
         ensures { Took (write_call file bytes.now result) (state self.old) (state self.new) };
+
+    /// Empties an open file. What is written after that is at its start.
+    fn truncate(&mut self, file: usize) -> Result<(), Failed>
+        ensures { Took (done_or_failed (Truncates file) result) (state self.old) (state self.new) };
 
     /// Syncs an open file.
     fn sync(&mut self, file: usize) -> Result<(), Failed>

@@ -41,6 +41,7 @@ pub fn answer_to<S: System>(system: &mut S, line: &str) -> Answer {
         "lock" => is(system.lock(file(first))),
         "named" => is(system.is_named(first.as_bytes(), file(second))),
         "write" => Answer::Number(system.write(file(first), second.as_bytes())),
+        "empty" => done(system.truncate(file(first))),
         "sync" => done(system.sync(file(first))),
         "has" => is(system.has(first.as_bytes(), second.as_bytes())),
         "rename" => done(system.rename(first.as_bytes(), second.as_bytes())),
