@@ -1,5 +1,5 @@
 -- The calls of a process that writes OUT in place are turns, one after another.
-use Rattle.std.proofs.Common.{◌≡◌, ◌⊎◌, inl, inr, ℕ, Bool, true, false, List, [], ◌∷◌, Some, length, take, refl, sym, ◌∙◌, ap}
+use Rattle.std.proofs.Common.{◌≡◌, ◌⊎◌, inl, inr, ℕ, Bool, true, false, List, [], ◌∷◌, Some, length, take, refl, sym, ◌∙◌, ap, subst}
 use Rattle.std.proofs.Math.Seq.{take-length}
 use Rattle.byte_system.specs.Disk.{Call, Opens, Locks, Looks, Writes, Syncs, Compares, Fails}
 use Rattle.byte_protocol.specs.declared.within.WriteFault.{WriteFault}
@@ -93,3 +93,15 @@ pub written_round : (t : Task) (k i : ℕ) (x : List ℕ) (now : List Call) → 
 written_round t k i x now e =
     let g = one_other t k (HasPart x i (length (t.change k x))) (Syncs i) (all_gone t k i x) (λ d m. refl) in
     (g.turns, g.round, g.calm, e ∙ g.calls, g.ends)
+
+-- one that has OUT and stops does not write it whole
+pub faltered : (e : WriteFault) (out : List ℕ) (i : ℕ) (read bytes : List ℕ) (mid before now : List Call) → mid ≡ entered out i before → Breaks e out i read bytes mid now
+    → Falters e out read bytes before now
+faltered e out i read bytes mid before now is b = each e (subst (λ cs. Breaks e out i read bytes cs now) is b) where
+  each : (f : WriteFault) → Breaks f out i read bytes (entered out i before) now → Falters f out read bytes before now
+  each fault.NotOpened c = absurd c
+  each fault.NotRead c = (i, c)
+  each fault.Changed c = (i, c)
+  each fault.NotEmptied c = (i, c)
+  each (fault.NotWritten n) c = (i, c)
+  each fault.NotSure c = (i, c)
