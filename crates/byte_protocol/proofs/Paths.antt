@@ -151,7 +151,7 @@ still_idle paths n idle k = elim (eqb_tells k n) [
 ]
 
 deed_fair : (j : Job) (first : Disk) (k : ℕ) (ms : List Move) (es : List Deed) → AreIdle ms → AreFair j first es → AreFair j first (deed k ms es)
-deed_fair j first k [] es idle fair = fair
+deed_fair j first k [] es idle fair = tt
 deed_fair j first k (m ∷ ms) es idle fair = (fair, idle_fair j (after first (events j es)) k m idle.1)
 
 -- processes that change no file by other calls leave alone what the protocol is about
