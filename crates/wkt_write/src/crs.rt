@@ -5,6 +5,7 @@ ghost use Rattle.wkt_grammar.specs.Denotes.{base_keyword, geodetic_keyword};
 ghost use Rattle.wkt_grammar.specs.Trees.{base_tree, geodetic_tree, projected_tree, vertical_tree, single_tree, compound_tree, parts_tree};
 
 use crate::arguments::{push_close, push_each, push_maybe, push_one, push_open, push_some};
+use crate::counted::CountedBytes;
 use crate::identifiers::push_geoid_models;
 use crate::layout::Layout;
 use crate::values::push_remark;
@@ -34,7 +35,7 @@ fn base_keyword(kind: GeodeticKind) -> Keyword
 impl Written for BaseCrs {
     ghost tree = { base_tree };
 
-    fn push_to(&self, out: &mut Vec<u8>, layout: Layout) -> Result<(), AllocError> {
+    fn push_to(&self, out: &mut CountedBytes, layout: Layout) -> Result<(), AllocError> {
         let inside = push_open(out, layout, base_keyword(self.kind))?;
         self.name.push_to(out, inside)?;
         push_one(out, inside, &self.datum)?;
@@ -48,7 +49,7 @@ impl Written for BaseCrs {
 impl Written for Geodetic {
     ghost tree = { geodetic_tree };
 
-    fn push_to(&self, out: &mut Vec<u8>, layout: Layout) -> Result<(), AllocError> {
+    fn push_to(&self, out: &mut CountedBytes, layout: Layout) -> Result<(), AllocError> {
         let inside = push_open(out, layout, geodetic_keyword(self.kind))?;
         self.name.push_to(out, inside)?;
         push_one(out, inside, &self.datum)?;
@@ -66,7 +67,7 @@ impl Written for Geodetic {
 impl Written for Projected {
     ghost tree = { projected_tree };
 
-    fn push_to(&self, out: &mut Vec<u8>, layout: Layout) -> Result<(), AllocError> {
+    fn push_to(&self, out: &mut CountedBytes, layout: Layout) -> Result<(), AllocError> {
         let inside = push_open(out, layout, Keyword::ProjectedCrs)?;
         self.name.push_to(out, inside)?;
         push_one(out, inside, &self.base)?;
@@ -84,7 +85,7 @@ impl Written for Projected {
 impl Written for Vertical {
     ghost tree = { vertical_tree };
 
-    fn push_to(&self, out: &mut Vec<u8>, layout: Layout) -> Result<(), AllocError> {
+    fn push_to(&self, out: &mut CountedBytes, layout: Layout) -> Result<(), AllocError> {
         let inside = push_open(out, layout, Keyword::VerticalCrs)?;
         self.name.push_to(out, inside)?;
         push_one(out, inside, &self.datum)?;
@@ -102,7 +103,7 @@ impl Written for Vertical {
 impl Written for Single {
     ghost tree = { single_tree };
 
-    fn push_to(&self, out: &mut Vec<u8>, layout: Layout) -> Result<(), AllocError> {
+    fn push_to(&self, out: &mut CountedBytes, layout: Layout) -> Result<(), AllocError> {
         match self {
             Single::Geodetic(geodetic) => geodetic.push_to(out, layout),
             Single::Projected(projected) => projected.push_to(out, layout),
@@ -114,7 +115,7 @@ impl Written for Single {
 impl Written for Compound {
     ghost tree = { compound_tree };
 
-    fn push_to(&self, out: &mut Vec<u8>, layout: Layout) -> Result<(), AllocError> {
+    fn push_to(&self, out: &mut CountedBytes, layout: Layout) -> Result<(), AllocError> {
         let inside = push_open(out, layout, Keyword::CompoundCrs)?;
         self.name.push_to(out, inside)?;
         push_one(out, inside, &self.first)?;
@@ -129,7 +130,7 @@ impl Written for Compound {
 impl Written for CrsParts {
     ghost tree = { parts_tree };
 
-    fn push_to(&self, out: &mut Vec<u8>, layout: Layout) -> Result<(), AllocError> {
+    fn push_to(&self, out: &mut CountedBytes, layout: Layout) -> Result<(), AllocError> {
         match self {
             CrsParts::Single(single) => single.push_to(out, layout),
             CrsParts::Compound(compound) => compound.get().push_to(out, layout),

@@ -1,10 +1,12 @@
 //! Datums, and ensembles of them.
 
 ghost use Rattle.std.specs.Prelude.{◌≡◌, ◌++◌, OnOk};
+ghost use Rattle.byte_io.specs.Device.{CountsFailure};
 ghost use Rattle.wkt_grammar.specs.Trees.{one, accuracy_tree, ellipsoid_tree, prime_meridian_tree, datum_tree, vertical_datum_tree, geodetic_ensemble_tree, vertical_ensemble_tree, geodetic_frame_tree, vertical_frame_tree};
 ghost use Rattle.wkt_write.specs.Layout.{laid, behind};
 
 use crate::arguments::{push_close, push_comma, push_each, push_maybe, push_one, push_open};
+use crate::counted::CountedBytes;
 use crate::identifiers::push_members;
 use crate::layout::Layout;
 use crate::values::push_maybe_value;
@@ -20,7 +22,7 @@ use wkt_grammar::Keyword;
 impl Written for Ellipsoid {
     ghost tree = { ellipsoid_tree };
 
-    fn push_to(&self, out: &mut Vec<u8>, layout: Layout) -> Result<(), AllocError> {
+    fn push_to(&self, out: &mut CountedBytes, layout: Layout) -> Result<(), AllocError> {
         let inside = push_open(out, layout, Keyword::Ellipsoid)?;
         self.name.push_to(out, inside)?;
         push_one(out, inside, &self.radius)?;
@@ -34,7 +36,7 @@ impl Written for Ellipsoid {
 impl Written for PrimeMeridian {
     ghost tree = { prime_meridian_tree };
 
-    fn push_to(&self, out: &mut Vec<u8>, layout: Layout) -> Result<(), AllocError> {
+    fn push_to(&self, out: &mut CountedBytes, layout: Layout) -> Result<(), AllocError> {
         let inside = push_open(out, layout, Keyword::PrimeMeridian)?;
         self.name.push_to(out, inside)?;
         push_one(out, inside, &self.longitude)?;
@@ -47,7 +49,7 @@ impl Written for PrimeMeridian {
 impl Written for Datum {
     ghost tree = { datum_tree };
 
-    fn push_to(&self, out: &mut Vec<u8>, layout: Layout) -> Result<(), AllocError> {
+    fn push_to(&self, out: &mut CountedBytes, layout: Layout) -> Result<(), AllocError> {
         let inside = push_open(out, layout, Keyword::Datum)?;
         self.name.push_to(out, inside)?;
         push_one(out, inside, &self.ellipsoid)?;
@@ -60,7 +62,7 @@ impl Written for Datum {
 impl Written for VerticalDatum {
     ghost tree = { vertical_datum_tree };
 
-    fn push_to(&self, out: &mut Vec<u8>, layout: Layout) -> Result<(), AllocError> {
+    fn push_to(&self, out: &mut CountedBytes, layout: Layout) -> Result<(), AllocError> {
         let inside = push_open(out, layout, Keyword::VerticalDatum)?;
         self.name.push_to(out, inside)?;
         push_maybe_value(out, inside, Keyword::Anchor, &self.anchor)?;
@@ -70,19 +72,21 @@ impl Written for VerticalDatum {
 }
 
 fn push_node_of_accuracy(
-    out: &mut Vec<u8>,
+    out: &mut CountedBytes,
     layout: Layout,
     accuracy: &Decimal,
 ) -> Result<(), AllocError>
-    ensures { OnOk result (out.new.items ≡ out.old.items ++ laid layout (accuracy_tree accuracy.now)) }
+    ensures text { OnOk result (out.new.bytes.items ≡ out.old.bytes.items ++ laid layout (accuracy_tree accuracy.now)) }
+    ensures memory { CountsFailure result out.old.refused.count out.new.refused.count }
 {
     let inside = push_open(out, layout, Keyword::EnsembleAccuracy)?;
     accuracy.push_to(out, inside)?;
     push_close(out)
 }
 
-fn push_accuracy(out: &mut Vec<u8>, layout: Layout, accuracy: &Decimal) -> Result<(), AllocError>
-    ensures { OnOk result (out.new.items ≡ out.old.items ++ behind layout (one (accuracy_tree accuracy.now))) }
+fn push_accuracy(out: &mut CountedBytes, layout: Layout, accuracy: &Decimal) -> Result<(), AllocError>
+    ensures text { OnOk result (out.new.bytes.items ≡ out.old.bytes.items ++ behind layout (one (accuracy_tree accuracy.now))) }
+    ensures memory { CountsFailure result out.old.refused.count out.new.refused.count }
 {
     push_comma(out)?;
     push_node_of_accuracy(out, layout, accuracy)
@@ -91,7 +95,7 @@ fn push_accuracy(out: &mut Vec<u8>, layout: Layout, accuracy: &Decimal) -> Resul
 impl Written for GeodeticEnsemble {
     ghost tree = { geodetic_ensemble_tree };
 
-    fn push_to(&self, out: &mut Vec<u8>, layout: Layout) -> Result<(), AllocError> {
+    fn push_to(&self, out: &mut CountedBytes, layout: Layout) -> Result<(), AllocError> {
         let inside = push_open(out, layout, Keyword::Ensemble)?;
         self.name.push_to(out, inside)?;
         push_members(out, inside, &self.members)?;
@@ -105,7 +109,7 @@ impl Written for GeodeticEnsemble {
 impl Written for VerticalEnsemble {
     ghost tree = { vertical_ensemble_tree };
 
-    fn push_to(&self, out: &mut Vec<u8>, layout: Layout) -> Result<(), AllocError> {
+    fn push_to(&self, out: &mut CountedBytes, layout: Layout) -> Result<(), AllocError> {
         let inside = push_open(out, layout, Keyword::Ensemble)?;
         self.name.push_to(out, inside)?;
         push_members(out, inside, &self.members)?;
@@ -118,7 +122,7 @@ impl Written for VerticalEnsemble {
 impl Written for GeodeticFrame {
     ghost tree = { geodetic_frame_tree };
 
-    fn push_to(&self, out: &mut Vec<u8>, layout: Layout) -> Result<(), AllocError> {
+    fn push_to(&self, out: &mut CountedBytes, layout: Layout) -> Result<(), AllocError> {
         match self {
             GeodeticFrame::Datum(datum) => datum.push_to(out, layout),
             GeodeticFrame::Ensemble(ensemble) => ensemble.push_to(out, layout),
@@ -129,7 +133,7 @@ impl Written for GeodeticFrame {
 impl Written for VerticalFrame {
     ghost tree = { vertical_frame_tree };
 
-    fn push_to(&self, out: &mut Vec<u8>, layout: Layout) -> Result<(), AllocError> {
+    fn push_to(&self, out: &mut CountedBytes, layout: Layout) -> Result<(), AllocError> {
         match self {
             VerticalFrame::Datum(datum) => datum.push_to(out, layout),
             VerticalFrame::Ensemble(ensemble) => ensemble.push_to(out, layout),

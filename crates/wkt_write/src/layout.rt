@@ -1,8 +1,10 @@
 //! The layout of nodes on lines.
 
-ghost use Rattle.std.specs.Prelude.{◌≡◌, ℕ, ◌*◌, ◌++◌, ◌∷◌, [], List, replicate, OnOk, IfOk};
+ghost use Rattle.std.specs.Prelude.{◌≡◌, ℕ, ◌*◌, ◌^◌, ◌<◌, ◌++◌, ◌∷◌, [], List, replicate, OnOk, IfOk};
+ghost use Rattle.byte_io.specs.Device.{CountsFailure};
 ghost use Rattle.wkt_write.specs.Layout.{before, inner};
 
+use crate::counted::CountedBytes;
 use std::alloc::AllocError;
 
 /// The layout of a node: all nodes on one line, or each node except the root on a line of its own.
@@ -16,37 +18,27 @@ pub(crate) enum Layout {
 }
 
 impl Layout {
-    /// The layout of a node's arguments.
-    pub(crate) fn inner(self) -> Result<Layout, AllocError>
-        ensures { IfOk result (λ layout. layout ≡ inner self) }
+    /// Appends the newline and margin before a node's keyword, and returns the layout of its arguments.
+    pub(crate) fn push_before(self, out: &mut CountedBytes) -> Result<Layout, AllocError>
+        ensures text { OnOk result (out.new.bytes.items ≡ out.old.bytes.items ++ before self) }
+        ensures inside { IfOk result (λ inside. inside ≡ inner self) }
+        ensures memory { CountsFailure result out.old.refused.count out.new.refused.count }
     {
         match self {
             Layout::OneLine => Ok(Layout::OneLine),
             Layout::Root => Ok(Layout::Inside(1)),
             Layout::Inside(depth) => {
-                let Some(deeper) = depth.checked_add(1) else {
-                    // No margin is that wide.
-                    return Err(AllocError);
-                };
-                Ok(Layout::Inside(deeper))
+                push_new_line(out, depth)?;
+                Ok(Layout::Inside(depth + 1))
             }
-        }
-    }
-
-    /// Appends the newline and margin before a node's keyword.
-    pub(crate) fn push_before(self, out: &mut Vec<u8>) -> Result<(), AllocError>
-        ensures { OnOk result (out.new.items ≡ out.old.items ++ before self) }
-    {
-        match self {
-            Layout::OneLine => Ok(()),
-            Layout::Root => Ok(()),
-            Layout::Inside(depth) => push_new_line(out, depth),
         }
     }
 }
 
-fn push_new_line(out: &mut Vec<u8>, depth: usize) -> Result<(), AllocError>
-    ensures { OnOk result (out.new.items ≡ out.old.items ++ (10 ∷ replicate (4 * depth) 32)) }
+fn push_new_line(out: &mut CountedBytes, depth: usize) -> Result<(), AllocError>
+    ensures text { OnOk result (out.new.bytes.items ≡ out.old.bytes.items ++ (10 ∷ replicate (4 * depth) 32)) }
+    ensures fits { OnOk result (4 * depth < 2 ^ 63) }
+    ensures memory { CountsFailure result out.old.refused.count out.new.refused.count }
 {
     out.push(b'\n')?;
     for _ in 0..depth {

@@ -1,10 +1,12 @@
 //! Texts, numbers and words.
 
 ghost use Rattle.std.specs.Prelude.{◌≡◌, ◌++◌, OnOk};
+ghost use Rattle.byte_io.specs.Device.{CountsFailure};
 ghost use Rattle.std.specs.List.{flat_map};
 ghost use Rattle.wkt_tree.specs.Tokens.{doubled};
 ghost use Rattle.wkt_grammar.specs.Trees.{text_tree, number_tree, count_tree, kind_tree, direction_tree, code_tree};
 
+use crate::counted::CountedBytes;
 use crate::layout::Layout;
 use crate::written::Written;
 use crs_number::Decimal;
@@ -17,7 +19,7 @@ use wkt_tree::first_mark;
 impl Written for Text {
     ghost tree = { text_tree };
 
-    fn push_to(&self, out: &mut Vec<u8>, _layout: Layout) -> Result<(), AllocError> {
+    fn push_to(&self, out: &mut CountedBytes, _layout: Layout) -> Result<(), AllocError> {
         out.push(b'"')?;
         push_doubled(out, self.as_bytes())?;
         out.push(b'"')?;
@@ -26,8 +28,9 @@ impl Written for Text {
 }
 
 /// Appends the bytes with each mark doubled.
-fn push_doubled(out: &mut Vec<u8>, bytes: &[u8]) -> Result<(), AllocError>
-    ensures { OnOk result (out.new.items ≡ out.old.items ++ flat_map doubled bytes.now) }
+fn push_doubled(out: &mut CountedBytes, bytes: &[u8]) -> Result<(), AllocError>
+    ensures text { OnOk result (out.new.bytes.items ≡ out.old.bytes.items ++ flat_map doubled bytes.now) }
+    ensures memory { CountsFailure result out.old.refused.count out.new.refused.count }
 {
     let mut rest = bytes;
     while let Some(mark) = first_mark(rest) {
@@ -43,8 +46,8 @@ fn push_doubled(out: &mut Vec<u8>, bytes: &[u8]) -> Result<(), AllocError>
 impl Written for Decimal {
     ghost tree = { number_tree };
 
-    fn push_to(&self, out: &mut Vec<u8>, _layout: Layout) -> Result<(), AllocError> {
-        self.write_to(out)
+    fn push_to(&self, out: &mut CountedBytes, _layout: Layout) -> Result<(), AllocError> {
+        out.push_number(self)
     }
 }
 
@@ -52,7 +55,7 @@ impl Written for Decimal {
 impl Written for u32 {
     ghost tree = { count_tree };
 
-    fn push_to(&self, out: &mut Vec<u8>, _layout: Layout) -> Result<(), AllocError> {
+    fn push_to(&self, out: &mut CountedBytes, _layout: Layout) -> Result<(), AllocError> {
         let mut buffer = Buffer::new();
         out.extend_from_slice(buffer.format(*self).as_bytes())
     }
@@ -62,7 +65,7 @@ impl Written for u32 {
 impl Written for SystemKind {
     ghost tree = { kind_tree };
 
-    fn push_to(&self, out: &mut Vec<u8>, _layout: Layout) -> Result<(), AllocError> {
+    fn push_to(&self, out: &mut CountedBytes, _layout: Layout) -> Result<(), AllocError> {
         out.extend_from_slice(self.word())
     }
 }
@@ -71,7 +74,7 @@ impl Written for SystemKind {
 impl Written for NumberOrText {
     ghost tree = { code_tree };
 
-    fn push_to(&self, out: &mut Vec<u8>, layout: Layout) -> Result<(), AllocError> {
+    fn push_to(&self, out: &mut CountedBytes, layout: Layout) -> Result<(), AllocError> {
         match self {
             NumberOrText::Number(number) => number.push_to(out, layout),
             NumberOrText::Text(text) => text.push_to(out, layout),
@@ -83,7 +86,7 @@ impl Written for NumberOrText {
 impl Written for Direction {
     ghost tree = { direction_tree };
 
-    fn push_to(&self, out: &mut Vec<u8>, _layout: Layout) -> Result<(), AllocError> {
+    fn push_to(&self, out: &mut CountedBytes, _layout: Layout) -> Result<(), AllocError> {
         out.extend_from_slice(self.word())
     }
 }

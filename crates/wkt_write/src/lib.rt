@@ -4,6 +4,7 @@
 mod arguments;
 pub mod condensing;
 mod conversions;
+mod counted;
 mod crs;
 mod datums;
 mod identifiers;
@@ -18,5 +19,6 @@ mod write;
 mod written;
 
 pub use condensing::condense;
+pub use counted::CountedBytes;
 pub use laws::{reading_laws, token_laws};
-pub use write::{write_crs, write_crs_with_room, write_pretty};
+pub use write::{push_crs, push_pretty, write_crs, write_crs_with_room, write_pretty};

@@ -3,6 +3,7 @@
 ghost use Rattle.wkt_grammar.specs.Trees.{system_tree, meridian_tree, order_tree, axis_tree};
 
 use crate::arguments::{push_close, push_each, push_maybe, push_one, push_open};
+use crate::counted::CountedBytes;
 use crate::layout::Layout;
 use crate::written::Written;
 use crs_part::{Axis, CoordSystem, Meridian, Order};
@@ -12,7 +13,7 @@ use wkt_grammar::Keyword;
 impl Written for CoordSystem {
     ghost tree = { system_tree };
 
-    fn push_to(&self, out: &mut Vec<u8>, layout: Layout) -> Result<(), AllocError> {
+    fn push_to(&self, out: &mut CountedBytes, layout: Layout) -> Result<(), AllocError> {
         let inside = push_open(out, layout, Keyword::CoordinateSystem)?;
         self.kind.push_to(out, inside)?;
         push_one(out, inside, &self.dimension)?;
@@ -24,7 +25,7 @@ impl Written for CoordSystem {
 impl Written for Meridian {
     ghost tree = { meridian_tree };
 
-    fn push_to(&self, out: &mut Vec<u8>, layout: Layout) -> Result<(), AllocError> {
+    fn push_to(&self, out: &mut CountedBytes, layout: Layout) -> Result<(), AllocError> {
         let inside = push_open(out, layout, Keyword::Meridian)?;
         self.longitude.push_to(out, inside)?;
         push_one(out, inside, &self.unit)?;
@@ -35,7 +36,7 @@ impl Written for Meridian {
 impl Written for Order {
     ghost tree = { order_tree };
 
-    fn push_to(&self, out: &mut Vec<u8>, layout: Layout) -> Result<(), AllocError> {
+    fn push_to(&self, out: &mut CountedBytes, layout: Layout) -> Result<(), AllocError> {
         let inside = push_open(out, layout, Keyword::Order)?;
         self.position.push_to(out, inside)?;
         push_close(out)
@@ -45,7 +46,7 @@ impl Written for Order {
 impl Written for Axis {
     ghost tree = { axis_tree };
 
-    fn push_to(&self, out: &mut Vec<u8>, layout: Layout) -> Result<(), AllocError> {
+    fn push_to(&self, out: &mut CountedBytes, layout: Layout) -> Result<(), AllocError> {
         let inside = push_open(out, layout, Keyword::Axis)?;
         self.name.push_to(out, inside)?;
         push_one(out, inside, &self.direction)?;

@@ -1,10 +1,12 @@
 //! Units.
 
 ghost use Rattle.std.specs.Prelude.{◌≡◌, ◌++◌, OnOk};
+ghost use Rattle.byte_io.specs.Device.{CountsFailure};
 ghost use Rattle.wkt_grammar.specs.Trees.{unit_of_tree, unit_tree, length_unit_tree, angle_unit_tree};
 ghost use Rattle.wkt_write.specs.Layout.{laid};
 
 use crate::arguments::{push_close, push_each, push_one, push_open};
+use crate::counted::CountedBytes;
 use crate::layout::Layout;
 use crate::written::Written;
 use crs_part::{AngleUnit, LengthUnit, Unit, UnitDefinition};
@@ -12,12 +14,13 @@ use std::alloc::AllocError;
 use wkt_grammar::Keyword;
 
 fn push_unit(
-    out: &mut Vec<u8>,
+    out: &mut CountedBytes,
     layout: Layout,
     keyword: Keyword,
     unit: &UnitDefinition,
 ) -> Result<(), AllocError>
-    ensures { OnOk result (out.new.items ≡ out.old.items ++ laid layout (unit_of_tree keyword unit.now)) }
+    ensures text { OnOk result (out.new.bytes.items ≡ out.old.bytes.items ++ laid layout (unit_of_tree keyword unit.now)) }
+    ensures memory { CountsFailure result out.old.refused.count out.new.refused.count }
 {
     let inside = push_open(out, layout, keyword)?;
     unit.name.push_to(out, inside)?;
@@ -29,7 +32,7 @@ fn push_unit(
 impl Written for Unit {
     ghost tree = { unit_tree };
 
-    fn push_to(&self, out: &mut Vec<u8>, layout: Layout) -> Result<(), AllocError> {
+    fn push_to(&self, out: &mut CountedBytes, layout: Layout) -> Result<(), AllocError> {
         match self {
             Unit::Length(unit) => push_unit(out, layout, Keyword::LengthUnit, unit),
             Unit::Angle(unit) => push_unit(out, layout, Keyword::AngleUnit, unit),
@@ -42,7 +45,7 @@ impl Written for Unit {
 impl Written for LengthUnit {
     ghost tree = { length_unit_tree };
 
-    fn push_to(&self, out: &mut Vec<u8>, layout: Layout) -> Result<(), AllocError> {
+    fn push_to(&self, out: &mut CountedBytes, layout: Layout) -> Result<(), AllocError> {
         match self {
             LengthUnit::Length(unit) => push_unit(out, layout, Keyword::LengthUnit, unit),
             LengthUnit::Generic(unit) => push_unit(out, layout, Keyword::Unit, unit),
@@ -53,7 +56,7 @@ impl Written for LengthUnit {
 impl Written for AngleUnit {
     ghost tree = { angle_unit_tree };
 
-    fn push_to(&self, out: &mut Vec<u8>, layout: Layout) -> Result<(), AllocError> {
+    fn push_to(&self, out: &mut CountedBytes, layout: Layout) -> Result<(), AllocError> {
         match self {
             AngleUnit::Angle(unit) => push_unit(out, layout, Keyword::AngleUnit, unit),
             AngleUnit::Generic(unit) => push_unit(out, layout, Keyword::Unit, unit),

@@ -3,6 +3,7 @@
 ghost use Rattle.wkt_grammar.specs.Trees.{bounding_box_tree, vertical_extent_tree, usage_tree};
 
 use crate::arguments::{push_close, push_maybe, push_one, push_open};
+use crate::counted::CountedBytes;
 use crate::layout::Layout;
 use crate::values::{push_maybe_value, push_value};
 use crate::written::Written;
@@ -13,7 +14,7 @@ use wkt_grammar::Keyword;
 impl Written for BoundingBox {
     ghost tree = { bounding_box_tree };
 
-    fn push_to(&self, out: &mut Vec<u8>, layout: Layout) -> Result<(), AllocError> {
+    fn push_to(&self, out: &mut CountedBytes, layout: Layout) -> Result<(), AllocError> {
         let inside = push_open(out, layout, Keyword::BoundingBox)?;
         self.south.push_to(out, inside)?;
         push_one(out, inside, &self.west)?;
@@ -26,7 +27,7 @@ impl Written for BoundingBox {
 impl Written for VerticalExtent {
     ghost tree = { vertical_extent_tree };
 
-    fn push_to(&self, out: &mut Vec<u8>, layout: Layout) -> Result<(), AllocError> {
+    fn push_to(&self, out: &mut CountedBytes, layout: Layout) -> Result<(), AllocError> {
         let inside = push_open(out, layout, Keyword::VerticalExtent)?;
         self.low.push_to(out, inside)?;
         push_one(out, inside, &self.high)?;
@@ -38,7 +39,7 @@ impl Written for VerticalExtent {
 impl Written for Usage {
     ghost tree = { usage_tree };
 
-    fn push_to(&self, out: &mut Vec<u8>, layout: Layout) -> Result<(), AllocError> {
+    fn push_to(&self, out: &mut CountedBytes, layout: Layout) -> Result<(), AllocError> {
         let inside = push_open(out, layout, Keyword::Usage)?;
         push_value(out, inside, Keyword::Scope, &self.scope)?;
         push_maybe_value(out, inside, Keyword::Area, &self.area)?;

@@ -4,7 +4,7 @@ use Rattle.wkt_grammar.specs.Trees.{one}
 use Rattle.wkt_write.proofs.Writes.{runs}
 use Rattle.wkt_write.proofs.arguments.push_some.Goals as goal
 
-pub returns : goal.returns
-returns g c =
+pub returns-clause-text : goal.returns-clause-text
+returns-clause-text g c =
     let v = c.args.items.now in
-    on_ok_weaker c.push_each.result (runs c.args.layout _ (one (g.T.Written.tree v.first)) (map g.T.Written.tree v.others) c.in_ok-push_one.ensures) c.push_each.ensures
+    on_ok_weaker c.push_each.result (runs c.args.layout _ (one (g.T.Written.tree v.first)) (map g.T.Written.tree v.others) c.in_ok-push_one.ensures.text) c.push_each.ensures.text

@@ -1,9 +1,13 @@
+use Rattle.std.proofs.Common.{refl, ◌∙◌}
 use Rattle.wkt_grammar.specs.Trees.{named_tree}
 use Rattle.wkt_write.proofs.Writes.{nothing_more, one_more}
 use Rattle.wkt_write.proofs.identifiers.push_each_named.Goals as goal
 
 pub loop-item-init : goal.loop-item-init
-loop-item-init c = nothing_more _ _
+loop-item-init c = (nothing_more _ _, refl)
 
 pub loop-item-preserved : goal.loop-item-preserved
-loop-item-preserved c = one_more (named_tree c.args.keyword) _ _ _ _ c.as_slice-item-items.result.now c.loop-item.item-index c.item-item.result c.loop-item-test.true c.item-item.is c.loop-item.invariant c.in_ok-push_one_named.ensures
+loop-item-preserved c = (
+  one_more (named_tree c.args.keyword) _ _ _ _ c.as_slice-item-items.result.now c.loop-item.item-index c.item-item.result c.loop-item-test.true c.item-item.is c.loop-item.invariant.0 c.in_ok-push_one_named.ensures.text,
+  c.in_ok-push_one_named.ensures.memory ∙ c.loop-item.invariant.1,
+)

@@ -2,7 +2,7 @@ use Rattle.std.proofs.lemmas.Result.{on_ok_weaker}
 use Rattle.wkt_write.proofs.Writes.{also_last, whole}
 use Rattle.wkt_write.proofs.identifiers.push_named.Goals as goal
 
-pub returns : goal.returns
-returns c =
-    on_ok_weaker c.push_close.result (λ e. whole _ _ _ _ _ c.in_ok-inside.ensures.text c.in_ok-inside.ensures.inside c.in_ok-push_to.ensures
-    (also_last _ c.in_ok-push_each.ensures e)) c.push_close.ensures
+pub returns-clause-text : goal.returns-clause-text
+returns-clause-text c =
+    on_ok_weaker c.push_close.result (λ e. whole _ _ _ _ _ c.in_ok-inside.ensures.text c.in_ok-inside.ensures.inside c.in_ok-push_to.ensures.text
+    (also_last _ c.in_ok-push_each.ensures.text e)) c.push_close.ensures.text

@@ -2,7 +2,7 @@ use Rattle.std.proofs.lemmas.Result.{on_ok_weaker}
 use Rattle.wkt_write.proofs.Writes.{done, whole}
 use Rattle.wkt_write.proofs.values.push_value.Goals as goal
 
-pub returns : goal.returns
-returns c =
-    on_ok_weaker c.push_close.result (λ e. whole _ _ _ _ _ c.in_ok-inside.ensures.text c.in_ok-inside.ensures.inside c.in_ok-push_to.ensures
-    (done e)) c.push_close.ensures
+pub returns-clause-text : goal.returns-clause-text
+returns-clause-text c =
+    on_ok_weaker c.push_close.result (λ e. whole _ _ _ _ _ c.in_ok-inside.ensures.text c.in_ok-inside.ensures.inside c.in_ok-push_to.ensures.text
+    (done e)) c.push_close.ensures.text

@@ -2,11 +2,11 @@ use Rattle.std.proofs.lemmas.Result.{on_ok_weaker}
 use Rattle.wkt_write.proofs.Writes.{also, also_last, also_one, whole}
 use Rattle.wkt_write.proofs.systems.AxisWritten.push_to.Goals as goal
 
-pub returns : goal.returns
-returns c =
-    on_ok_weaker c.push_close.result (λ e. whole _ _ _ _ _ c.in_ok-inside.ensures.text c.in_ok-inside.ensures.inside c.in_ok-push_to.ensures
-    (also_one c.in_ok-push_one.ensures
-    (also _ _ c.in_ok-push_maybe.ensures
-    (also _ _ c.in_ok-push_maybe-2.ensures
-    (also _ _ c.in_ok-push_maybe-3.ensures
-    (also_last _ c.in_ok-push_each.ensures e)))))) c.push_close.ensures
+pub returns-clause-text : goal.returns-clause-text
+returns-clause-text c =
+    on_ok_weaker c.push_close.result (λ e. whole _ _ _ _ _ c.in_ok-inside.ensures.text c.in_ok-inside.ensures.inside c.in_ok-push_to.ensures.text
+    (also_one c.in_ok-push_one.ensures.text
+    (also _ _ c.in_ok-push_maybe.ensures.text
+    (also _ _ c.in_ok-push_maybe-2.ensures.text
+    (also _ _ c.in_ok-push_maybe-3.ensures.text
+    (also_last _ c.in_ok-push_each.ensures.text e)))))) c.push_close.ensures.text
