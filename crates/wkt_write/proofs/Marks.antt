@@ -1,8 +1,8 @@
 -- Doubled marks, and margins.
 use Rattle.std.proofs.Common.{◌≡◌, ℕ, zero, suc, ◌+◌, ◌*◌, ◌<◌, true, false, List, [], ◌∷◌, ◌++◌, length, take, drop, get_or, replicate, Some, None, refl, sym, ap, ◌∙◌, subst, append_assoc, arith, inl, inr}
-use Rattle.std.specs.Prelude.{position, Result, Ok, Err, OnOk, is_ok, if◌then◌else◌}
+use Rattle.std.specs.Prelude.{position}
 use Rattle.std.specs.List.{flat_map, position_from}
-use Rattle.std.proofs.lemmas.List.{replicate-append-replicate}
+use Rattle.std.proofs.lemmas.List.{length-append, length-replicate, replicate-append-replicate}
 use Rattle.std.proofs.lemmas.List.Quantifiers.{position-Some}
 use Rattle.std.proofs.lemmas.Iterator.Adapters.{position_from-zero}
 use Rattle.wkt_tree.specs.Tokens.{doubled, is_mark}
@@ -57,8 +57,10 @@ wider old mid new n e f =
     let more : replicate (4 * n) 32 ++ (32 ∷ 32 ∷ 32 ∷ 32 ∷ []) ≡ replicate (4 * (n + 1)) 32 = replicate-append-replicate (4 * n) 4 32 ∙ ap (λ k. replicate {A = ℕ} k 32) (omega arith) in
     f ∙ (ap (λ l. l ++ (32 ∷ 32 ∷ 32 ∷ 32 ∷ [])) e ∙ (append_assoc old (10 ∷ replicate (4 * n) 32) (32 ∷ 32 ∷ 32 ∷ 32 ∷ []) ∙ ap (λ l. old ++ (10 ∷ l)) more))
 
--- ---- results
-
-pub ok_items : {E : Type 0} (r : Result (Unit {0}) E) (new a b : List ℕ) → new ≡ (if is_ok r then a else b) → OnOk r (new ≡ a)
-ok_items (Ok u) new a b e = e
-ok_items (Err x) new a b e = tt
+-- a margin is shorter than the bytes that end with it
+pub margin_fits : (old new : List ℕ) (n k : ℕ) → new ≡ old ++ (10 ∷ replicate n 32) → length new < k → n < k
+margin_fits old new n k e h =
+    let l = ap length e in
+    let a = length-append old (10 ∷ replicate {A = ℕ} n 32) in
+    let r = length-replicate {A = ℕ} n 32 in
+    omega (arith, l, a, r, h)
