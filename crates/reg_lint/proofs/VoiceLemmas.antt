@@ -1,8 +1,8 @@
--- What is said of reference systems beside each other.
-use Rattle.std.proofs.Common.{◌≡◌, ℕ, Option, List, [], ◌∷◌, map, refl, sym, ap, ◌∙◌}
+-- The sentences about reference systems beside each other.
+use Rattle.std.proofs.Common.{◌≡◌, ℕ, List, [], ◌∷◌, map, refl, sym, ap, ◌∙◌}
 use Rattle.reg_sense.specs.declared.claimant.Claimant.{Claimant}
 use Rattle.reg_sense.specs.declared.rule.WideRule.{WideRule}
-use Rattle.reg_sense.specs.Claimants.{Voice, voice}
+use Rattle.reg_sense.specs.Claimants.{voice}
 use Rattle.reg_sense.specs.Rules.{wide_told}
 use Rattle.reg_lint.specs.declared.subject.Subject.{Subject}
 use Rattle.reg_lint.specs.Details.{voice_of, names_in, wide_details}
@@ -11,7 +11,7 @@ pub map_twice : {X Y Z : Type 0} (f : Y → Z) (g : X → Y) (xs : List X) → m
 map_twice f g [] = refl
 map_twice f g (x ∷ xs) = ap (λ l. f (g x) ∷ l) (map_twice f g xs)
 
--- what is said of claimants is said of the reference systems
+-- those about claimants are those about the reference systems
 pub told_of_claimants : (rule : WideRule) (names : List (List ℕ)) (cs : List Claimant) (ss : List Subject) → names ≡ names_in ss → map voice cs ≡ map (voice_of rule) ss
     → map (λ (c : Claimant). wide_told rule names (map voice cs) (voice c)) cs ≡ wide_details rule ss
 told_of_claimants rule names cs ss e h =

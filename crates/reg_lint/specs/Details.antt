@@ -1,4 +1,4 @@
--- What is said of each reference system that breaks a rule.
+-- The sentence about each reference system that breaks a rule.
 use Rattle.std.specs.Prelude.{ℕ, List, map, Option, Some, None, if◌then◌else◌}
 use Rattle.std.specs.List.{flat_map}
 use Rattle.crs_part.specs.Slots.{name_of, ids_of}
@@ -36,6 +36,10 @@ told_beside rule subjects s = wide_told rule (names_in subjects) (map (voice_of 
 abbrev pub wide_details : WideRule → List Subject → List (Option (List ℕ))
 wide_details rule subjects = map (told_beside rule subjects) subjects
 
+-- the sentence of one that breaks the rule, which may look at the others
+abbrev pub detail_of : AnyRule → List Subject → Subject → Option (List ℕ)
+detail_of (any.Own rule) subjects = told rule
+detail_of (any.Wide rule) subjects = told_beside rule subjects
+
 abbrev pub details : AnyRule → List Subject → List (Option (List ℕ))
-details (any.Own rule) subjects = own_details rule subjects
-details (any.Wide rule) subjects = wide_details rule subjects
+details rule subjects = map (detail_of rule subjects) subjects

@@ -1,4 +1,4 @@
-//! What is said of each reference system that breaks a rule.
+//! The sentence about each reference system that breaks a rule.
 
 ghost use Rattle.std.specs.Prelude.{◌≡◌, map, IfOk};
 ghost use Rattle.reg_sense.specs.Claimants.{detail_seen};
@@ -11,7 +11,7 @@ use crs_sense::Rule;
 use reg_sense::WideRule;
 use std::alloc::{AllocError, Global};
 
-/// For each reference system what is said if it breaks the rule.
+/// For each reference system the sentence, if it breaks the rule.
 pub(crate) fn details(
     alloc: Global,
     rule: AnyRule,
