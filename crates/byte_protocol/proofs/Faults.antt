@@ -1,17 +1,26 @@
 -- The calls of a process that does not replace OUT are those of a path of moves.
-use Rattle.std.proofs.Common.{◌≡◌, ◌⊎◌, inl, inr, ℕ, Bool, true, false, List, [], ◌∷◌, Option, Some, None, take, refl, ◌∙◌}
-use Rattle.byte_system.specs.Disk.{Content, Call, Makes, Opens, Locks, Looks, Writes, Syncs, Compares, Renames, Unlinks, Fails}
+use Rattle.std.proofs.Common.{◌≡◌, inl, inr, ℕ, Bool, false, List, [], ◌∷◌, Option, Some, None, refl, ◌∙◌}
+use Rattle.byte_system.specs.Disk.{Content, Call, Makes, Opens, Locks, Looks, Compares, Fails}
 use Rattle.byte_protocol.specs.declared.replacing.Fault.{Fault}
 use Rattle.byte_protocol.specs.declared.replacing.Fault.TheVariants as fault
-use Rattle.byte_protocol.specs.Replacing.{begun, reserved, Denies, Disowns, Unswept, Refuses, Removes, Stops, Abandons}
-use Rattle.byte_protocol.specs.Protocol.{Progress, IsWhole, IsSynced, IsPart, Stage, Begins, HasMade, HasLocked, Fills, HasLeft, Sweeps, Ended, Move, MakesNew, LocksOwn, WritesPart, Withdraws, LocksLeft, Job, IsPath, calls_of, ChangesNone, AreIdle, finished}
-use Rattle.byte_protocol.proofs.Led.{IsLed, nothing, then_by, then_other, entered_led, begun_led, reserved_led, written_led, synced_led, checked, compared_led, ready_led, put_led}
+use Rattle.byte_protocol.specs.Replacing.{reserved, Denies, Disowns, Unswept, Refuses, Removes, Stops, Abandons}
+use Rattle.byte_protocol.specs.Protocol.{Progress, IsWhole, IsSynced, IsPart, Stage, Begins, HasMade, HasLocked, Fills, HasLeft, Sweeps, Ended, Move, MakesNew, LocksOwn, WritesPart, Withdraws, LocksLeft, Job, IsPath, calls_of, ChangesNone, AreIdle}
+use Rattle.byte_protocol.specs.Unread.{HasRead, HasReadIf}
+use Rattle.byte_protocol.proofs.Led.{IsLed, nothing, then_by, then_other, entered_led, begun_led, reserved_led, written_led, synced_led, checked, compared_led, ready_led, put_led, put_then}
 
 abbrev MakesPath : Job → ℕ → List Call → Type 0
-MakesPath j k now = (ms : List Move) × IsPath ms × AreIdle ms × (now ≡ calls_of j k ms)
+MakesPath j k now = (ms : List Move) × IsPath ms × AreIdle ms × (now ≡ calls_of j k ms) × HasRead ms
 
 is_path : (j : Job) (k : ℕ) (s : Stage) {known now : List Call} → now ≡ known → IsLed j k s known → MakesPath j k now
-is_path j k s e l = (l.moves, l.path, l.idle, e ∙ l.calls)
+is_path j k s e l = (l.moves, l.path, l.idle, e ∙ l.calls, l.seen)
+
+-- the same of one that had read these bytes, or none
+abbrev EndsPath : Job → ℕ → Option (List ℕ) → List Call → Type 0
+EndsPath j k read now = (ms : List Move) × IsPath ms × AreIdle ms × (now ≡ calls_of j k ms) × HasReadIf read ms
+
+whether_read : (j : Job) (k : ℕ) (read : Option (List ℕ)) {now : List Call} → MakesPath j k now → EndsPath j k read now
+whether_read j k None p = (p.0, p.1, p.2, p.3, tt)
+whether_read j k (Some read) p = p
 
 -- a call that failed at the end
 fails_path : (j : Job) (k : ℕ) (s : Stage) {before now : List Call} → now ≡ Fails ∷ before → IsLed j k s before → MakesPath j k now
@@ -28,14 +37,14 @@ denied_path j k s call idle l r = elim r [
 lost_path : (j : Job) (k i : ℕ) {before now : List Call} → IsLed j k (HasMade i) before → Disowns j.new i before now → MakesPath j k now
 lost_path j k i l r = elim r [
   | inl unlocked ↦ denied_path j k (HasMade i) (Locks i) (λ d m. refl) l unlocked
-  | inr unfound ↦ denied_path j k (HasLocked i) (Looks j.new i) (λ d m. refl) (then_by j k (LocksOwn i) l tt) unfound
+  | inr unfound ↦ denied_path j k (HasLocked i) (Looks j.new i) (λ d m. refl) (then_by j k (LocksOwn i) l tt tt) unfound
 ]
 
 -- nor is the one that was left
 held_path : (j : Job) (k n : ℕ) {before now : List Call} → IsLed j k Begins before → Disowns j.new n before now → MakesPath j k now
 held_path j k n l r = elim r [
   | inl unlocked ↦ denied_path j k Begins (Locks n) (λ d m. refl) l unlocked
-  | inr unfound ↦ denied_path j k (HasLeft n) (Looks j.new n) (λ d m. refl) (then_by j k (LocksLeft n) l tt) unfound
+  | inr unfound ↦ denied_path j k (HasLeft n) (Looks j.new n) (λ d m. refl) (then_by j k (LocksLeft n) l tt tt) unfound
 ]
 
 unswept_path : (j : Job) (k : ℕ) {before now : List Call} → IsLed j k Begins before → Unswept j.new before now → MakesPath j k now
@@ -47,13 +56,13 @@ unswept_path j k l r = elim r [
   | inr failed ↦ fails_path j k (Sweeps failed.0) failed.1 (entered_led j k failed.0 l)
 ]
 
-refused_path : (j : Job) (k : ℕ) (e : Fault) (now : List Call) → Refuses e j.new [] now → MakesPath j k now
+pub refused_path : (j : Job) (k : ℕ) (e : Fault) (now : List Call) → Refuses e j.new [] now → MakesPath j k now
 refused_path j k fault.NotMade now r = fails_path j k Begins r.1 (begun_led j k r.0)
 refused_path j k fault.NewExists now r = elim r [
   | inl unswept ↦ unswept_path j k (then_other j k Begins (Makes j.new None) (nothing j k) (λ d m. refl)) unswept
   | inr other ↦ elim other [
     | inl again ↦ is_path j k Begins again.1 (then_other j k Begins (Makes j.new None) (begun_led j k (Some again.0)) (λ d m. refl))
-    | inr lost ↦ lost_path j k lost.1 (then_by j k (MakesNew lost.1) (begun_led j k lost.0) tt) lost.2
+    | inr lost ↦ lost_path j k lost.1 (then_by j k (MakesNew lost.1) (begun_led j k lost.0) tt tt) lost.2
   ]
 ]
 refused_path j k (fault.NotWritten n) now r = absurd r
@@ -67,7 +76,7 @@ refused_path j k fault.NotSynced now r = absurd r
 
 removed_path : (j : Job) (k : ℕ) (x : Content) (i : ℕ) (p : Progress) {before now : List Call} → IsLed j k (Fills x i p) before → Removes j.new before now → MakesPath j k now
 removed_path j k x i p l r = elim r [
-  | inl removed ↦ is_path j k Ended removed (then_by j k (Withdraws x i p) l tt)
+  | inl removed ↦ is_path j k Ended removed (then_by j k (Withdraws x i p) l tt tt)
   | inr failed ↦ fails_path j k (Fills x i p) failed l
 ]
 
@@ -76,25 +85,29 @@ failed_path : (j : Job) (k : ℕ) (x : Content) (i : ℕ) (p : Progress) {before
 failed_path j k x i p l r = removed_path j k x i p (then_other j k (Fills x i p) Fails l (λ d m. refl)) r
 
 halted_path : (j : Job) (k i : ℕ) (left : Option ℕ) (read : Option (List ℕ)) (e : Fault) (now : List Call)
-    → Stops e j.out j.new i read (j.change k read) (reserved j.new left i []) now → MakesPath j k now
+    → Stops e j.out j.new i read (j.change k read) (reserved j.new left i []) now → EndsPath j k read now
 halted_path j k i left read fault.NotMade now s = absurd s
 halted_path j k i left read fault.NewExists now s = absurd s
-halted_path j k i left read (fault.NotWritten n) now s = removed_path j k read i IsPart (then_by j k (WritesPart read i n) (reserved_led j k i left) tt) s
-halted_path j k i left read fault.NotSure now s = failed_path j k read i IsWhole (written_led j k i left read) s
-halted_path j k i left read fault.NotRead now s = failed_path j k read i IsSynced (synced_led j k i left read) s
-halted_path j k i left None fault.Changed now s = removed_path j k None i IsSynced (synced_led j k i left None) s
+halted_path j k i left read (fault.NotWritten n) now s =
+    whether_read j k read (removed_path j k read i IsPart (then_by j k (WritesPart read i n) (reserved_led j k i left) tt tt) s)
+halted_path j k i left read fault.NotSure now s = whether_read j k read (failed_path j k read i IsWhole (written_led j k i left read) s)
+halted_path j k i left read fault.NotRead now s = whether_read j k read (failed_path j k read i IsSynced (synced_led j k i left read) s)
+halted_path j k i left None fault.Changed now s = whether_read j k None (removed_path j k None i IsSynced (synced_led j k i left None) s)
 halted_path j k i left (Some read) fault.Changed now s =
     removed_path j k (Some read) i IsSynced
     (then_other j k (Fills (Some read) i IsSynced) (Compares j.out read false) (synced_led j k i left (Some read)) (λ d m. refl)) s
-halted_path j k i left read fault.NotLooked now s = fails_path j k (Fills read i (checked read)) s (compared_led j k i left read)
+halted_path j k i left read fault.NotLooked now s = whether_read j k read (fails_path j k (Fills read i (checked read)) s (compared_led j k i left read))
 halted_path j k i left read fault.Lost now s =
-    is_path j k (Fills read i (checked read)) s (then_other j k (Fills read i (checked read)) (Looks j.new i false) (compared_led j k i left read) (λ d m. refl))
-halted_path j k i left read fault.NotPut now s = failed_path j k read i (checked read) (ready_led j k i left read) s
-halted_path j k i left read fault.NotSynced now s = fails_path j k (finished read) s (put_led j k i left read)
+    whether_read j k read
+    (is_path j k (Fills read i (checked read)) s (then_other j k (Fills read i (checked read)) (Looks j.new i false) (compared_led j k i left read) (λ d m. refl)))
+halted_path j k i left read fault.NotPut now s = whether_read j k read (failed_path j k read i (checked read) (ready_led j k i left read) s)
+halted_path j k i left read fault.NotSynced now s =
+    let p = put_then j k read Fails (put_led j k i left read) (λ d m. refl) in
+    (p.moves, p.path, p.idle, s ∙ p.calls, p.seen)
 
 pub fault_path : (j : Job) (k : ℕ) (read : Option (List ℕ)) (e : Fault) (now : List Call) → Abandons e j.out j.new read (j.change k read) [] now
-    → (ms : List Move) × IsPath ms × AreIdle ms × (now ≡ calls_of j k ms)
+    → (ms : List Move) × IsPath ms × AreIdle ms × (now ≡ calls_of j k ms) × HasReadIf read ms
 fault_path j k read e now a = elim a [
-  | inl refused ↦ refused_path j k e now refused
+  | inl refused ↦ whether_read j k read (refused_path j k e now refused)
   | inr stopped ↦ halted_path j k stopped.1 stopped.0 read e now stopped.2
 ]

@@ -96,7 +96,7 @@ or_zero (Some n) = n
 pub not_both : (x : Option ℕ) (m k : ℕ) → m ≢ k → x ≡ Some m → x ≡ Some k → ⊥
 not_both x m k ne a b = ne (ap or_zero (sym a ∙ b))
 
-none_some : (x : Option ℕ) (k : ℕ) → x ≡ None → x ≡ Some k → ⊥
+pub none_some : (x : Option ℕ) (k : ℕ) → x ≡ None → x ≡ Some k → ⊥
 none_some x k a b = cc
 
 -- two processes do not both own the new name
@@ -193,7 +193,7 @@ none_apart : (j : Job) (d : Disk) → d.names j.new ≡ None → AreApart j d
 none_apart j d none i e = absurd (none_some (d.names j.new) i none e)
 
 -- a process ends
-still_held : (x : Option ℕ) (k m : ℕ) → m ≢ k → x ≡ Some m → released k x ≡ Some m
+pub still_held : (x : Option ℕ) (k m : ℕ) → m ≢ k → x ≡ Some m → released k x ≡ Some m
 still_held None k m ne e = cc
 still_held (Some n) k m ne e =
     elim (eqb_tells n k) [
@@ -331,6 +331,9 @@ new_content j d k i two o =
 pub puts_content : (j : Job) (d : Disk) (k : ℕ) (x : Content) (i : ℕ) → j.new ≢ j.out → Fits j k d (Fills x i FoundSame) → content (step d k (Renames j.new j.out)) j.out ≡ Some (j.change k x)
 puts_content j d k x i two f = new_content j d k i two f.1 ∙ ap Some f.2.0
 
+pub unread_content : (j : Job) (d : Disk) (k i : ℕ) → j.new ≢ j.out → Fits j k d (Fills None i IsSynced) → content (step d k (Renames j.new j.out)) j.out ≡ Some (j.change k None)
+unread_content j d k i two f = new_content j d k i two f.1 ∙ ap Some f.2
+
 -- the content of OUT stays, or is replaced by what is made of it, or one that did not read it puts its file there
 pub changes : (j : Job) (d : Disk) (stage : ℕ → Stage) (k : ℕ) (m : Move) → j.new ≢ j.out → Holds j d stage → Fits j k d (from m) → IsFair j d k m
     → (content (step d k (call_of j k m)) j.out ≡ content d j.out)
@@ -345,7 +348,7 @@ changes j d stage k (SyncsNew x i) two h f fair = inl refl
 changes j d stage k (FindsSame x i) two h f fair = inl (ap (λ e. content e j.out) (finds_same d k j.out x))
 changes j d stage k (Puts x i) two h f fair =
     inr (inl (record { found = (i, ap (λ y. Fills y i FoundSame) (sym f.2.1)); made = puts_content j d k x i two f ∙ ap (λ y. Some (j.change k y)) (sym f.2.1) }))
-changes j d stage k (PutsUnread i) two h f fair = inr (inr (record { moved = (i, refl); made = new_content j d k i two f.1 ∙ ap Some f.2 }))
+changes j d stage k (PutsUnread i) two h f fair = inr (inr (record { moved = (i, refl); made = unread_content j d k i two f }))
 changes j d stage k (Withdraws x i p) two h f fair = inl (ap (content_of d.bytes) (named_other d.names j.new None j.out (λ q. two (sym q))))
 changes j d stage k (LocksLeft i) two h f fair = inl refl
 changes j d stage k (FindsLeft i) two h f fair = inl refl

@@ -2,11 +2,12 @@
 use Rattle.std.proofs.Common.{◌≡◌, ◌≢◌, ◌⊎◌, inl, inr, ℕ, Bool, true, false, List, [], ◌∷◌, ◌++◌, Option, Some, None, bytes_eq, eqb, refl, sym, ◌∙◌, ap, subst, cond}
 use Rattle.std.proofs.lemmas.Bool.Decides.{eqb_tells}
 use lib.Pointwise.{bytes_decides}
-use Rattle.byte_system.specs.Disk.{Content, content_of, content, named, Disk, Event, Call, Makes, Opens, Locks, Looks, Writes, Syncs, Reads, Compares, Renames, Unlinks, SyncsFolder, Fails, Ends, step, after}
+use Rattle.byte_system.specs.Disk.{Content, content_of, content, named, Disk, Event, Call, Makes, Opens, Locks, Looks, Writes, Truncates, Syncs, Reads, Compares, Renames, Unlinks, SyncsFolder, Fails, Ends, step, after}
 use Rattle.byte_protocol.specs.Protocol.{IsWhole, IsSynced, FoundSame, IsPart, Stage, Begins, HasMade, HasLocked, Owns, Fills, HasLeft, Sweeps, Replaced, ReplacedUnread, Ended, Move, MakesNew, LocksOwn, FindsOwn, GivesUp, WritesAll, WritesPart, SyncsNew, FindsSame, Puts, PutsUnread, Withdraws, LocksLeft, FindsLeft, SweepsLeft, Strays, Forgets, Dies, Job, from, dead, to, finds_call, call_of, IsFair, Deed, events, stages, Follows, IsStart, AreRead}
+use Rattle.byte_protocol.specs.Unread.{UnreadHave}
 use Rattle.byte_protocol.specs.Cuts.{clean_after, is_clean, MayLead, IsLeft, IsSince, WasAt, written, Spares, AreSparing}
 use Rattle.byte_protocol.proofs.Kept.{same_number, numbered_at, numbered_other, named_at, named_other, not_both, at_each, IsOwn, Fits, always, whole}
-use Rattle.byte_protocol.proofs.Put.{fewer, stays, is_kept}
+use Rattle.byte_protocol.proofs.Put.{fewer, stays, is_kept, read_have, later_have, earlier_have}
 
 -- what is known of the files of a stage: before the name OUT is taken, the new file never had it, and once it is synced, it stays clean
 abbrev IsSafe : Job → Disk → List Event → Stage → Type 0
@@ -45,6 +46,13 @@ leaves d k i (Locks n false) ne = idle d k i (Locks n false) refl (λ b. refl)
 leaves d k i (Looks p n t) ne = idle d k i (Looks p n t) refl (λ b. refl)
 leaves d k i (Writes n bs) ne = record {
   bytes = numbered_other d.bytes n (d.bytes n ++ bs) i (λ e. ne (ap Some (sym e)));
+  clean = λ b t. elim (eqb_tells i n) [
+    | inl (same, e) ↦ absurd (ne (ap Some (sym e)))
+    | inr (other, e) ↦ ap (λ q. cond q false b) other ∙ t
+  ];
+}
+leaves d k i (Truncates n) ne = record {
+  bytes = numbered_other d.bytes n [] i (λ e. ne (ap Some (sym e)));
   clean = λ b t. elim (eqb_tells i n) [
     | inl (same, e) ↦ absurd (ne (ap Some (sym e)))
     | inr (other, e) ↦ ap (λ q. cond q false b) other ∙ t
@@ -322,35 +330,41 @@ dropped : (j : Job) (first : Disk) (later earlier : List Deed) → Follows j fir
 dropped j first [] earlier f = f
 dropped j first (e ∷ later) earlier f = dropped j first later earlier (fewer j first e (later ++ earlier) f)
 
-dropped_read : (later earlier : List Deed) → AreRead (later ++ earlier) → AreRead earlier
-dropped_read [] earlier r = r
-dropped_read (e ∷ later) earlier r = dropped_read later earlier r.0
-
 not_both_bits : (b : Bool) → b ≡ true → b ≡ false → ⊥
 not_both_bits b t f = cc
 
-abbrev synced_by : Job → ℕ → Content → Deed
-synced_by j k x = record { by = k; move = Strays (Replaced x) (SyncsFolder j.out) }
+abbrev syncs_out : Job → ℕ → Stage → Deed
+syncs_out j k t = record { by = k; move = Strays t (SyncsFolder j.out) }
 
--- what was put, and whose folder was then synced, is in each content since
+-- what OUT has when its folder is synced is in each content since
 kept_since : (j : Job) (first : Disk) → IsStart j first → (P : Content → Type 0) → ((k : ℕ) (x : Content) → P x → P (Some (j.change k x)))
-    → (later earlier : List Deed) (k : ℕ) (x : Content) → Follows j first (later ++ (synced_by j k x ∷ earlier)) → AreRead (later ++ (synced_by j k x ∷ earlier)) → P (Some (j.change k x))
-    → (c : Content) → IsSince first (events j (later ++ (synced_by j k x ∷ earlier))) j.out c → P c
-kept_since j first s P keep [] earlier k x f r p c i = elim i [
-  | inl now ↦ subst P now (is_kept j first s P keep (synced_by j k x ∷ earlier) k x f r (numbered_at (stages earlier) k (Replaced x)) p)
+    → (later earlier : List Deed) (k : ℕ) (t : Stage) → Follows j first (later ++ (syncs_out j k t ∷ earlier)) → UnreadHave j P later
+    → P (content (after first (events j (syncs_out j k t ∷ earlier))) j.out)
+    → (c : Content) → IsSince first (events j (later ++ (syncs_out j k t ∷ earlier))) j.out c → P c
+kept_since j first s P keep [] earlier k t f u p c i = elim i [
+  | inl now ↦ subst P now p
   | inr b ↦ absurd (not_both_bits (bytes_eq j.out j.out) ((bytes_decides j.out j.out).1 refl) b.0)
 ]
-kept_since j first s P keep (e ∷ later) earlier k x f r p c i = elim i [
-  | inl now ↦
-      let here = dropped j first (e ∷ later) (synced_by j k x ∷ earlier) f in
-      let put = is_kept j first s P keep (synced_by j k x ∷ earlier) k x here (dropped_read (e ∷ later) (synced_by j k x ∷ earlier) r) (numbered_at (stages earlier) k (Replaced x)) p in
-      subst P now (stays j first s P keep (e ∷ later) (synced_by j k x ∷ earlier) f r put)
-  | inr b ↦ kept_since j first s P keep later earlier k x (fewer j first e (later ++ (synced_by j k x ∷ earlier)) f) r.0 p c b.1
+kept_since j first s P keep (e ∷ later) earlier k t f u p c i = elim i [
+  | inl now ↦ subst P now (stays j first s P keep (e ∷ later) (syncs_out j k t ∷ earlier) f u p)
+  | inr b ↦ kept_since j first s P keep later earlier k t (fewer j first e (later ++ (syncs_out j k t ∷ earlier)) f) u.0 p c b.1
 ]
+
+pub left_has : (j : Job) (first : Disk) → IsStart j first → (p : Content → Bool) → ((k : ℕ) (x : Content) → p x ≡ true → p (Some (j.change k x)) ≡ true)
+    → (later earlier : List Deed) (k : ℕ) (t : Stage) → let es = later ++ (record { by = k; move = Strays t (SyncsFolder j.out) } ∷ earlier) in
+    Follows j first es → AreSparing j first es → UnreadHave j (λ c. p c ≡ true) later → p (content (after first (events j earlier)) j.out) ≡ true
+    → (left : Disk) → IsLeft first (events j es) j.out left → p (content left j.out) ≡ true
+left_has j first s p keep later earlier k t f sp u had left l =
+    let es = later ++ (syncs_out j k t ∷ earlier) in
+    kept_since j first s (λ c. p c ≡ true) keep later earlier k t f u had (content left j.out) (left_since j first s es f sp left l)
 
 pub left_keeps : (j : Job) (first : Disk) → IsStart j first → (p : Content → Bool) → ((k : ℕ) (x : Content) → p x ≡ true → p (Some (j.change k x)) ≡ true)
     → (later earlier : List Deed) (k : ℕ) (x : Content) → let es = later ++ (record { by = k; move = Strays (Replaced x) (SyncsFolder j.out) } ∷ earlier) in
     Follows j first es → AreSparing j first es → AreRead es → p (Some (j.change k x)) ≡ true → (left : Disk) → IsLeft first (events j es) j.out left → p (content left j.out) ≡ true
 left_keeps j first s p keep later earlier k x f sp r kept left l =
-    let es = later ++ (synced_by j k x ∷ earlier) in
-    kept_since j first s (λ c. p c ≡ true) keep later earlier k x f r kept (content left j.out) (left_since j first s es f sp left l)
+    let synced = syncs_out j k (Replaced x) ∷ earlier in
+    let es = later ++ synced in
+    let u : UnreadHave j (λ c. p c ≡ true) es = read_have j (λ c. p c ≡ true) es r in
+    let had : p (content (after first (events j synced)) j.out) ≡ true =
+    is_kept j first s (λ c. p c ≡ true) keep synced k x (dropped j first later synced f) (earlier_have j (λ c. p c ≡ true) later synced u) (numbered_at (stages earlier) k (Replaced x)) kept
+    in kept_since j first s (λ c. p c ≡ true) keep later earlier k (Replaced x) f (later_have j (λ c. p c ≡ true) later synced u) had (content left j.out) (left_since j first s es f sp left l)

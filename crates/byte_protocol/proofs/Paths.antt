@@ -1,17 +1,18 @@
 -- A trace in which the calls of each process are those of a path of moves is a list of deeds; and the path of `replace`.
-use Rattle.std.proofs.Common.{◌≡◌, ◌≢◌, inl, inr, ℕ, zero, suc, List, [], ◌∷◌, Option, Some, None, drop, refl, sym, ◌∙◌, ap, subst, cond}
+use Rattle.std.proofs.Common.{◌≡◌, ◌≢◌, inl, inr, ℕ, zero, suc, List, [], ◌∷◌, Option, drop, refl, sym, ◌∙◌, ap, subst, cond}
 use Rattle.std.proofs.lemmas.Bool.Decides.{eqb_tells}
 use Rattle.byte_system.specs.Disk.{numbered, Disk, Event, Call, Ends, SyncsFolder, step, after, Honest}
 use Rattle.byte_system.specs.System.{SystemState, own, calls}
 use Rattle.byte_protocol.specs.Replacing.{replacing, reserved, Replaces}
 use Rattle.byte_protocol.specs.Protocol.{Stage, Begins, Move, MakesNew, LocksOwn, FindsOwn, GivesUp, WritesAll, WritesPart, SyncsNew, FindsSame, Puts, PutsUnread, Withdraws, LocksLeft, FindsLeft, SweepsLeft, Strays, Forgets, Dies, Job, to, IsElsewhere, IsFair, Deed, events, stages, Chains, AreFair, Follows, end, IsPath, calls_of, ChangesNone, IsIdle, AreIdle, finished, rest, deed, deeds, ArePaths}
+use Rattle.byte_protocol.specs.Unread.{HasRead, HasReadIf}
 use Rattle.byte_protocol.proofs.Kept.{same_number, numbered_at, numbered_other}
-use Rattle.byte_protocol.proofs.Led.{then_other, put_led}
+use Rattle.byte_protocol.proofs.Led.{put_led, put_then}
 
 own_here : (e : Event) (es : List Event) → own e.by (e ∷ es) ≡ e.call ∷ own e.by es
 own_here e es = ap (λ b. cond b (e.call ∷ own e.by es) (own e.by es)) (same_number e.by)
 
-own_other : (k : ℕ) (e : Event) (es : List Event) → e.by ≢ k → own k (e ∷ es) ≡ own k es
+pub own_other : (k : ℕ) (e : Event) (es : List Event) → e.by ≢ k → own k (e ∷ es) ≡ own k es
 own_other k e es ne =
     elim (eqb_tells e.by k) [
       | inl (t, same) ↦ absurd (ne same)
@@ -84,16 +85,17 @@ followed j first trace paths p honest fair =
 
 pub replaced_path : (j : Job) (left : Option ℕ) (read : Option (List ℕ)) (bytes : List ℕ) (old last : SystemState) → calls old ≡ [] → j.change old.me read ≡ bytes
     → Replaces j.out j.new left read bytes old last
-    → (ms : List Move) × IsPath ms × AreIdle ms × (calls last ≡ calls_of j last.me ms) × (end ms ≡ finished read)
+    → (ms : List Move) × IsPath ms × AreIdle ms × (calls last ≡ calls_of j last.me ms) × (end ms ≡ finished read) × HasReadIf read ms
 replaced_path j left read bytes old last was makes r =
     let i = r.mine.0 in
-    let l = then_other j last.me (finished read) (SyncsFolder j.out) (put_led j last.me i left read) (λ d m. refl) in (
+    let l = put_then j last.me read (SyncsFolder j.out) (put_led j last.me i left read) (λ d m. refl) in (
       l.moves,
       l.path,
       l.idle,
       r.mine.1 ∙ ap (λ b. replacing j.out j.new i read b (reserved j.new left i (calls old))) (sym makes ∙ ap (λ k. j.change k read) (sym r.goes.same_me))
           ∙ ap (λ cs. replacing j.out j.new i read (j.change last.me read) (reserved j.new left i cs)) was ∙ l.calls,
       l.ends,
+      l.seen,
     )
 
 first_moves : (j : Job) (k n : ℕ) (ms : List Move) → IsPath ms → AreIdle ms → IsPath (drop n ms) × AreIdle (drop n ms) × (calls_of j k (drop n ms) ≡ drop n (calls_of j k ms))
@@ -101,12 +103,18 @@ first_moves j k zero ms p a = (p, a, refl)
 first_moves j k (suc n) [] p a = (tt, tt, refl)
 first_moves j k (suc n) (m ∷ ms) p a = first_moves j k n ms p.0 a.0
 
+first_read : (n : ℕ) (ms : List Move) → HasRead ms → HasRead (drop n ms)
+first_read zero ms r = r
+first_read (suc n) [] r = tt
+first_read (suc n) (m ∷ ms) r = first_read n ms r.0
+
 -- a process that stops in the middle of a path
 pub stopped_path : (j : Job) (k n : ℕ) (ms : List Move) → IsPath ms → AreIdle ms
-    → let made = drop n ms in let stopped = Dies (end made) ∷ made in IsPath stopped × AreIdle stopped × (calls_of j k stopped ≡ Ends ∷ drop n (calls_of j k ms))
+    → let made = drop n ms in let stopped = Dies (end made) ∷ made in
+    IsPath stopped × AreIdle stopped × (calls_of j k stopped ≡ Ends ∷ drop n (calls_of j k ms)) × (HasRead ms → HasRead stopped)
 stopped_path j k n ms p a =
     let f = first_moves j k n ms p a in
-    ((f.0, refl), (f.1, tt), ap (λ cs. Ends ∷ cs) f.2)
+    ((f.0, refl), (f.1, tt), ap (λ cs. Ends ∷ cs) f.2, λ r. (first_read n ms r, tt))
 
 same_disk : (j : Job) (k : ℕ) (s : Stage) (d : Disk) → IsElsewhere j k s d d
 same_disk j k s d = record {

@@ -3,6 +3,7 @@ use Rattle.std.proofs.Common.{◌≡◌, ◌⊎◌, inl, inr, ℕ, Bool, true, L
 use Rattle.std.proofs.lemmas.Bool.Decides.{eqb_tells}
 use Rattle.byte_system.specs.Disk.{Content, content, Disk, after}
 use Rattle.byte_protocol.specs.Protocol.{Stage, Begins, HasMade, HasLocked, Owns, Fills, HasLeft, Sweeps, Replaced, ReplacedUnread, Ended, FoundSame, Move, MakesNew, LocksOwn, FindsOwn, GivesUp, WritesAll, WritesPart, SyncsNew, FindsSame, Puts, PutsUnread, Withdraws, LocksLeft, FindsLeft, SweepsLeft, Strays, Forgets, Dies, Job, from, dead, to, Deed, events, stages, Follows, IsStart, WasPut, IsRead, AreRead}
+use Rattle.byte_protocol.specs.Unread.{HasIfUnread, UnreadHave}
 use Rattle.byte_protocol.proofs.Kept.{follows_changes, Fits, always, puts_content}
 
 abbrev read_in : Stage → Content
@@ -66,30 +67,64 @@ was_put j first s k x (e ∷ es) f at =
       | inr (n, ne) ↦ later_put j first k x e es (was_put j first s k x es (fewer j first e es f) (sym (ap (λ b. cond b (to e.move) (stages es k)) n) ∙ at))
     ]
 
+read_has : (j : Job) (P : Content → Type 0) (k : ℕ) (m : Move) → IsRead m → HasIfUnread j P k m
+read_has j P k (MakesNew i) r = tt
+read_has j P k (LocksOwn i) r = tt
+read_has j P k (FindsOwn i) r = tt
+read_has j P k (GivesUp i) r = tt
+read_has j P k (WritesAll x i) r = tt
+read_has j P k (WritesPart x i n) r = tt
+read_has j P k (SyncsNew x i) r = tt
+read_has j P k (FindsSame x i) r = tt
+read_has j P k (Puts x i) r = tt
+read_has j P k (PutsUnread i) r = absurd r
+read_has j P k (Withdraws x i p) r = tt
+read_has j P k (LocksLeft i) r = tt
+read_has j P k (FindsLeft i) r = tt
+read_has j P k (SweepsLeft i) r = tt
+read_has j P k (Strays s c) r = tt
+read_has j P k (Forgets s c) r = tt
+read_has j P k (Dies s) r = tt
+
+-- where no file was put unread, each that was has anything
+pub read_have : (j : Job) (P : Content → Type 0) (es : List Deed) → AreRead es → UnreadHave j P es
+read_have j P [] r = tt
+read_have j P (e ∷ es) r = (read_have j P es r.0, read_has j P e.by e.move r.1)
+
+pub later_have : (j : Job) (P : Content → Type 0) (later earlier : List Deed) → UnreadHave j P (later ++ earlier) → UnreadHave j P later
+later_have j P [] earlier u = tt
+later_have j P (e ∷ later) earlier u = (later_have j P later earlier u.0, u.1)
+
+pub earlier_have : (j : Job) (P : Content → Type 0) (later earlier : List Deed) → UnreadHave j P (later ++ earlier) → UnreadHave j P earlier
+earlier_have j P [] earlier u = u
+earlier_have j P (e ∷ later) earlier u = earlier_have j P later earlier u.0
+
 -- what every process keeps, stays
 pub stays : (j : Job) (first : Disk) → IsStart j first → (P : Content → Type 0) → ((k : ℕ) (x : Content) → P x → P (Some (j.change k x)))
-    → (later earlier : List Deed) → Follows j first (later ++ earlier) → AreRead (later ++ earlier)
+    → (later earlier : List Deed) → Follows j first (later ++ earlier) → UnreadHave j P later
     → P (content (after first (events j earlier)) j.out) → P (content (after first (events j (later ++ earlier))) j.out)
-stays j first s P keep [] earlier f r p = p
-stays j first s P keep (e ∷ later) earlier f r p =
+stays j first s P keep [] earlier f u p = p
+stays j first s P keep (e ∷ later) earlier f u p =
     let old = content (after first (events j (later ++ earlier))) j.out in
-    let was : P old = stays j first s P keep later earlier (fewer j first e (later ++ earlier) f) r.0 p in
+    let was : P old = stays j first s P keep later earlier (fewer j first e (later ++ earlier) f) u.0 p in
     elim (follows_changes j first s (later ++ earlier) e f) [
       | inl same ↦ subst P (sym same) was
       | inr other ↦ elim other [
         | inl by ↦ subst P (sym by.made) (keep e.by old was)
-        | inr put ↦ absurd (subst IsRead put.moved.1 r.1)
+        | inr put ↦ subst P (sym put.made) (subst (HasIfUnread j P e.by) put.moved.1 u.1)
       ]
     ]
 
 pub is_kept : (j : Job) (first : Disk) → IsStart j first → (P : Content → Type 0) → ((k : ℕ) (x : Content) → P x → P (Some (j.change k x)))
-    → (es : List Deed) (k : ℕ) (x : Content) → Follows j first es → AreRead es → stages es k ≡ Replaced x → P (Some (j.change k x)) → P (content (after first (events j es)) j.out)
-is_kept j first s P keep es k x f r at p =
+    → (es : List Deed) (k : ℕ) (x : Content) → Follows j first es → UnreadHave j P es → stages es k ≡ Replaced x → P (Some (j.change k x))
+    → P (content (after first (events j es)) j.out)
+is_kept j first s P keep es k x f u at p =
     let w = was_put j first s k x es f at in
     let put = record { by = k; move = Puts x w.file } ∷ w.earlier in
     subst (λ t. P (content (after first (events j t)) j.out)) (sym w.split)
-    (stays j first s P keep w.later put (subst (Follows j first) w.split f) (subst AreRead w.split r) (subst P (sym w.made) p))
+    (stays j first s P keep w.later put (subst (Follows j first) w.split f) (later_have j P w.later put (subst (UnreadHave j P) w.split u)) (subst P (sym w.made) p))
 
 pub bit_kept : (j : Job) (first : Disk) → IsStart j first → (p : Content → Bool) → ((k : ℕ) (x : Content) → p x ≡ true → p (Some (j.change k x)) ≡ true)
     → (es : List Deed) (k : ℕ) (x : Content) → Follows j first es → AreRead es → stages es k ≡ Replaced x → p (Some (j.change k x)) ≡ true → p (content (after first (events j es)) j.out) ≡ true
-bit_kept j first s p keep = is_kept j first s (λ c. p c ≡ true) keep
+bit_kept j first s p keep es k x f r at q =
+    is_kept j first s (λ c. p c ≡ true) keep es k x f (read_have j (λ c. p c ≡ true) es r) at q

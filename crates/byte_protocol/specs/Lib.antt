@@ -1,3 +1,6 @@
 pub mod Cuts
+pub mod InPlace
+pub mod Overwriting
 pub mod Protocol
 pub mod Replacing
+pub mod Unread

@@ -1,6 +1,6 @@
 -- What a process that replaces OUT does, call by call, and any number of such processes.
 use Rattle.std.specs.Prelude.{◌≡◌, ◌≢◌, ℕ, true, List, [], ◌∷◌, ◌++◌, Option, Some, None, take}
-use Rattle.byte_system.specs.Disk.{Content, content, Disk, Event, Call, Makes, Opens, Locks, Looks, Writes, Syncs, Reads, Compares, Renames, Unlinks, Ends, step, after, numbered, Honest, SyncsFolder}
+use Rattle.byte_system.specs.Disk.{Content, content, Disk, Event, Call, Makes, Locks, Looks, Writes, Syncs, Reads, Compares, Renames, Unlinks, Ends, step, after, numbered, Honest, SyncsFolder}
 use Rattle.byte_system.specs.System.{own}
 
 -- how far the new file has come, once there are bytes in it

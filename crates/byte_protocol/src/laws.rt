@@ -2,10 +2,11 @@
 
 ghost use Rattle.std.specs.Prelude.{◌≡◌, ◌⊎◌, ℕ, Bool, true, List, ◌∷◌, [], Option, Some, drop};
 ghost use Rattle.byte_system.specs.Disk.{Call, Content, Ends, content, no_files, Disk, Event, after, Honest};
-ghost use Rattle.byte_system.specs.System.{SystemState, calls};
+ghost use Rattle.byte_system.specs.System.{SystemState, calls, own};
 ghost use Rattle.byte_protocol.specs.declared.replacing.Fault.{Fault};
 ghost use Rattle.byte_protocol.specs.Replacing.{Abandons, Replaces};
 ghost use Rattle.byte_protocol.specs.Cuts.{AreSparing};
+ghost use Rattle.byte_protocol.specs.Unread.{HasRead, HasReadIf};
 ghost use Rattle.byte_protocol.specs.Protocol.{Job, Deed, Move, Dies, Replaced, events, stages, Follows, IsStart, IsReplacedBy, IsPutUnread, AreRead, WasPut, AreFair, AreIdle, deeds, end, finished, IsPath, ArePaths, calls_of, sample_job, sample_deeds};
 
 /// Each event leaves the content of OUT, or a process replaces exactly the content that it had read by what it makes of it, or one
@@ -45,26 +46,34 @@ pub fn paths_are_followed()
         (events j es ≡ trace) × Follows j first es × ((k : ℕ) → stages es k ≡ end (paths k)) }
 {}
 
-/// The calls of `replace` are a path that leads to its end. Those that are no moves change no file.
+/// If the calls of each process are those of a path, there are paths of all processes.
+pub fn each_path_is_chosen()
+    ensures { (j : Job) (trace : List Event) (read : ℕ → Option (List ℕ)) →
+        ((k : ℕ) → ∥ ((ms : List Move) × IsPath ms × AreIdle ms × (own k trace ≡ calls_of j k ms) × HasReadIf (read k) ms) ∥₁) →
+        ∥ ((paths : ℕ → List Move) × ArePaths j trace paths × ((k : ℕ) → AreIdle (paths k)) × ((k : ℕ) → HasReadIf (read k) (paths k))) ∥₁ }
+{}
+
+/// The calls of `replace` are a path that leads to its end. Those that are no moves change no file. One that has read OUT puts no file
+/// there unread.
 pub fn replace_is_a_path()
     ensures { (j : Job) (left : Option ℕ) (read : Option (List ℕ)) (bytes : List ℕ) (old last : SystemState) →
         calls old ≡ [] → j.change old.me read ≡ bytes →
         Replaces j.out j.new left read bytes old last →
-        (ms : List Move) × IsPath ms × AreIdle ms × (calls last ≡ calls_of j last.me ms) × (end ms ≡ finished read) }
+        (ms : List Move) × IsPath ms × AreIdle ms × (calls last ≡ calls_of j last.me ms) × (end ms ≡ finished read) × HasReadIf read ms }
 {}
 
 /// The calls of `replace` with a fault are such a path too.
 pub fn a_fault_is_a_path()
     ensures { (j : Job) (k : ℕ) (read : Option (List ℕ)) (e : Fault) (now : List Call) →
         Abandons e j.out j.new read (j.change k read) [] now →
-        (ms : List Move) × IsPath ms × AreIdle ms × (now ≡ calls_of j k ms) }
+        (ms : List Move) × IsPath ms × AreIdle ms × (now ≡ calls_of j k ms) × HasReadIf read ms }
 {}
 
 /// One that stops in the middle of such a path, or is killed there, makes such a path too.
 pub fn a_stop_is_a_path()
     ensures { (j : Job) (k n : ℕ) (ms : List Move) → IsPath ms → AreIdle ms →
         let made = drop n ms in let stopped = Dies (end made) ∷ made in
-        IsPath stopped × AreIdle stopped × (calls_of j k stopped ≡ Ends ∷ drop n (calls_of j k ms)) }
+        IsPath stopped × AreIdle stopped × (calls_of j k stopped ≡ Ends ∷ drop n (calls_of j k ms)) × (HasRead ms → HasRead stopped) }
 {}
 
 /// Processes whose other calls change no file leave alone what the protocol is about, so `paths_are_followed` speaks of them.

@@ -2,14 +2,31 @@
 #![tactic(auto)]
 
 mod cuts;
+mod in_turn;
 mod laws;
+mod reading;
 mod replacing;
 #[cfg(test)]
 mod tests;
+mod within;
 
-pub use cuts::{what_is_left_is_whole, what_is_left_was_there, what_is_synced_stays};
+pub use cuts::{
+    what_is_left_is_whole, what_is_left_was_there, what_is_synced_stays,
+    what_is_there_when_synced_stays,
+};
+pub use in_turn::{
+    a_write_fault_is_a_round, one_alone_overwrites, out_may_be_a_part,
+    what_was_read_is_overwritten, what_was_written_is_there, writing_is_a_round,
+};
 pub use laws::{
-    a_fault_is_a_path, a_stop_is_a_path, idle_paths_are_fair, no_work_is_lost, one_alone_is_done,
-    out_is_whole, paths_are_followed, replace_is_a_path, replaced_what_it_read, what_is_kept_stays,
+    a_fault_is_a_path, a_stop_is_a_path, each_path_is_chosen, idle_paths_are_fair, no_work_is_lost,
+    one_alone_is_done, out_is_whole, paths_are_followed, replace_is_a_path, replaced_what_it_read,
+    what_is_kept_stays,
+};
+pub use reading::{
+    a_reader_sees_a_whole_file, a_reader_sees_what_stays, what_is_there_stays,
+    what_readers_put_stays, what_unread_files_have_stays, what_was_put_unread,
+    who_has_read_is_read,
 };
 pub use replacing::{Fault, Made, replace, replace_by, reserve};
+pub use within::{WriteFault, write_within};

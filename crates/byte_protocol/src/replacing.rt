@@ -120,8 +120,8 @@ fn own<S: System>(system: &mut S, new: &[u8], file: usize) -> Result<(), Failed>
     }
 }
 
-// Opens the file with the name and locks it, and then looks whether the name leads to it.
-fn enter<S: System>(system: &mut S, path: &[u8]) -> Result<usize, Failed>
+/// Opens the file with the name and locks it, and then looks whether the name leads to it.
+pub(crate) fn enter<S: System>(system: &mut S, path: &[u8]) -> Result<usize, Failed>
     ensures goes { GoesOn (S.state system.old) (S.state system.new) }
     ensures ok { IfOk result (λ i. calls (S.state system.new) ≡ entered path.now i (calls (S.state system.old))) }
     ensures err { OnErr result (Unentered path.now (calls (S.state system.old)) (calls (S.state system.new))) }

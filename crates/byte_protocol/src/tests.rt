@@ -1,6 +1,7 @@
 //! `replace` beside a second process, which acts between its calls.
 
 use crate::replacing::{Fault, replace};
+use crate::within::{WriteFault, write_within};
 use byte_system::{Act, Does, MemSystem};
 use std::alloc::{AllocError, Global};
 use std::test::Fail;
@@ -78,6 +79,64 @@ fn replaces_unread(alloc: Global) -> Result<bool, AllocError> {
     let mut system = MemSystem::new(alloc, 1, acts, Vec::new(alloc));
     let result = replace(&mut system, b"out", b"new", None, b"mine");
     Ok(result == Ok(()) && system.read(b"out") == Some(b"mine"))
+}
+
+// Writes "mine" in the place of "old", where the calls of these numbers fail. Whether that ends so, and leaves these bytes.
+fn overwrites(
+    alloc: Global,
+    second: Second,
+    fails: &[usize],
+    want: Result<(), WriteFault>,
+    left: &[u8],
+) -> Result<bool, AllocError> {
+    let mut acts = Vec::new(alloc);
+    acts_of(alloc, &mut acts, second)?;
+    let fails = fails.to_vec(alloc)?;
+    let mut system = MemSystem::new(alloc, 1, acts, fails);
+    let result = write_within(&mut system, b"out", b"old", b"mine");
+    Ok(result == want && system.read(b"out") == Some(left))
+}
+
+#[test]
+fn writes_in_place(rt: HostRuntime) -> Result<(), Fail> {
+    assert!(rt; overwrites(rt.alloc(), Second::Nothing, &[], Ok(()), b"mine")?);
+    assert!(rt;
+        overwrites(
+            rt.alloc(),
+            Second::Nothing,
+            &[1],
+            Err(WriteFault::NotOpened),
+            b"old"
+        )?
+    );
+    assert!(rt;
+        overwrites(
+            rt.alloc(),
+            Second::WritesToOut(3),
+            &[],
+            Err(WriteFault::Changed),
+            b"old!"
+        )?
+    );
+    assert!(rt;
+        overwrites(
+            rt.alloc(),
+            Second::Nothing,
+            &[4],
+            Err(WriteFault::NotEmptied),
+            b"old"
+        )?
+    );
+    assert!(rt;
+        overwrites(
+            rt.alloc(),
+            Second::Nothing,
+            &[5],
+            Err(WriteFault::NotWritten(2)),
+            b"mi"
+        )?
+    );
+    Ok(())
 }
 
 #[test]

@@ -5,9 +5,10 @@ ghost use Rattle.byte_system.specs.Files.{Shows};
 ghost use Rattle.byte_system.specs.Entries.{may_lock, is_file};
 
 use crate::entries::{
-    Held, Lock, Name, append, bytes_of, file_named, holder_of, move_name, set_lock, set_name,
+    Held, Lock, Name, append, bytes_of, file_named, holder_of, move_name, set_empty, set_lock,
+    set_name,
 };
-use crate::system::{Failed, MakeFault};
+use crate::system::{Failed, FolderFault, MakeFault};
 use crate::trail::{Note, Said, Trail};
 use std::alloc::Global;
 
@@ -24,7 +25,7 @@ pub(crate) struct Files {
 }
 
 impl Files {
-    ghost use Rattle.byte_system.specs.Disk.{Makes, Opens, Locks, Looks, Writes, Syncs, Compares, Renames, Unlinks, SyncsFolder, Fails, Ends};
+    ghost use Rattle.byte_system.specs.Disk.{Makes, Opens, Locks, Looks, Writes, Truncates, Syncs, Compares, Renames, Unlinks, SyncsFolder, Fails, Ends};
     ghost use Rattle.byte_system.specs.System.{make_call, open_call, done_or_failed, told_or_failed, write_call};
 
     /// No files.
@@ -195,6 +196,31 @@ impl Files {
         n
     }
 
+    pub(crate) fn truncate(&mut self, by: usize, file: usize, works: bool) -> Result<(), Failed>
+        ensures { self.new.trail.events ≡ record { by = by; call = done_or_failed (Truncates file) result } ∷ self.old.trail.events }
+    {
+        if !works {
+            self.fail(by);
+            return Err(Failed);
+        }
+        if self.count <= file {
+            self.fail(by);
+            return Err(Failed);
+        }
+        if let Err(_) = set_empty(self.alloc, &mut self.held, file) {
+            self.trail = self.trail.then(&Note {
+                by,
+                call: Said::Fails,
+            });
+            return Err(Failed);
+        }
+        self.trail = self.trail.then(&Note {
+            by,
+            call: Said::Truncates(file),
+        });
+        Ok(())
+    }
+
     pub(crate) fn sync(&mut self, by: usize, file: usize, works: bool) -> Result<(), Failed>
         ensures { self.new.trail.events ≡ record { by = by; call = done_or_failed (Syncs file) result } ∷ self.old.trail.events }
     {
@@ -299,12 +325,17 @@ impl Files {
         Ok(())
     }
 
-    pub(crate) fn sync_folder(&mut self, by: usize, path: &[u8], works: bool) -> Result<(), Failed>
+    pub(crate) fn sync_folder(
+        &mut self,
+        by: usize,
+        path: &[u8],
+        works: bool,
+    ) -> Result<(), FolderFault>
         ensures { self.new.trail.events ≡ record { by = by; call = done_or_failed (SyncsFolder path.now) result } ∷ self.old.trail.events }
     {
         if !works {
             self.fail(by);
-            return Err(Failed);
+            return Err(FolderFault::NotSynced);
         }
         self.trail = self.trail.then(&Note {
             by,

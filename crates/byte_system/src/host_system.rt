@@ -4,7 +4,7 @@ ghost use Rattle.std.specs.Prelude.{◌≡◌, ◌≤◌, [], None, length};
 ghost use Rattle.byte_system.specs.System.{Took};
 ghost use Rattle.byte_system.specs.Noted.{call_said};
 
-use crate::system::{Failed, MakeFault, System};
+use crate::system::{Failed, FolderFault, MakeFault, System};
 use crate::trail::{Note, Said, Trail};
 use std::alloc::Global;
 use std::fs::{self, File, Metadata, OpenFile, OpenOptions, TryLockError};
@@ -118,22 +118,37 @@ impl<'a, R: Files<File = File>> HostSystem<'a, R> {
         let Ok(path) = str::from_utf8(path) else {
             return Err(MakeFault::NotMade);
         };
+        // Without room for its number, no file is made.
+        if self.open.reserve(1).is_err() {
+            return Err(MakeFault::NotMade);
+        }
         match OpenOptions::new()
-            .write(true)
+            .append(true)
             .create_new(true)
             .open(self.rt, path)
         {
-            Ok(file) => self.number(file).ok_or(MakeFault::NotMade),
+            Ok(file) => self.number_made(file, path),
             Err(error) if error.kind() == ErrorKind::AlreadyExists => Err(MakeFault::Exists),
             Err(_) => Err(MakeFault::NotMade),
         }
+    }
+
+    // The number of a file that was made. One that gets none is removed.
+    fn number_made(&mut self, file: File, path: &str) -> Result<usize, MakeFault>
+        ensures { self.new.trail ≡ self.old.trail }
+    {
+        let Some(number) = self.number(file) else {
+            let _ = fs::remove_file(self.rt, path);
+            return Err(MakeFault::NotMade);
+        };
+        Ok(number)
     }
 
     fn open_at(&mut self, path: &[u8]) -> Option<usize>
         ensures { self.new.trail ≡ self.old.trail }
     {
         let path = str::from_utf8(path).ok()?;
-        let file = OpenOptions::new().write(true).open(self.rt, path).ok()?;
+        let file = OpenOptions::new().append(true).open(self.rt, path).ok()?;
         self.number(file)
     }
 
@@ -179,13 +194,19 @@ impl<'a, R: Files<File = File>> HostSystem<'a, R> {
         }
     }
 
-    fn syncs_folder(&self, path: &[u8]) -> bool {
-        match str::from_utf8(path) {
-            Ok(path) => match fs::open(self.rt, folder(path)) {
-                Ok(folder) => folder.sync_all().is_ok(),
-                Err(_) => false,
+    fn syncs_folder(&self, path: &[u8]) -> Result<(), FolderFault> {
+        let Ok(path) = str::from_utf8(path) else {
+            return Err(FolderFault::NotOpened);
+        };
+        match fs::open(self.rt, folder(path)) {
+            Ok(folder) => match folder.sync_all() {
+                Ok(()) => Ok(()),
+                Err(_) => Err(FolderFault::NotSynced),
             },
-            Err(_) => false,
+            Err(error) if error.kind() == ErrorKind::PermissionDenied => {
+                Err(FolderFault::Forbidden)
+            }
+            Err(_) => Err(FolderFault::NotOpened),
         }
     }
 }
@@ -246,6 +267,19 @@ impl<R: Files<File = File>> System for HostSystem<'_, R> {
         written
     }
 
+    fn truncate(&mut self, file: usize) -> Result<(), Failed> {
+        let is_empty = match self.open.get(file) {
+            Some(file) => file.set_len(0).is_ok(),
+            None => false,
+        };
+        if !is_empty {
+            self.note(Said::Fails);
+            return Err(Failed);
+        }
+        self.note(Said::Truncates(file));
+        Ok(())
+    }
+
     fn sync(&mut self, file: usize) -> Result<(), Failed> {
         let is_synced = match self.open.get(file) {
             Some(file) => file.sync_all().is_ok(),
@@ -286,10 +320,10 @@ impl<R: Files<File = File>> System for HostSystem<'_, R> {
         Ok(())
     }
 
-    fn sync_folder(&mut self, path: &[u8]) -> Result<(), Failed> {
-        if !self.syncs_folder(path) {
+    fn sync_folder(&mut self, path: &[u8]) -> Result<(), FolderFault> {
+        if let Err(fault) = self.syncs_folder(path) {
             self.note(Said::Fails);
-            return Err(Failed);
+            return Err(fault);
         }
         self.note(Said::SyncsFolder(path));
         Ok(())

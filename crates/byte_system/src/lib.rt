@@ -10,4 +10,4 @@ mod trail;
 
 pub use host_system::HostSystem;
 pub use mem_system::{Act, Does, MemSystem};
-pub use system::{Failed, MakeFault, System};
+pub use system::{Failed, FolderFault, MakeFault, System};

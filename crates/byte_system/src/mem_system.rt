@@ -1,11 +1,11 @@
 //! A system in memory, for tests. Other processes act between its calls as they are told to, and calls fail as they are told to.
 
-ghost use Rattle.std.specs.Prelude.{◌≡◌, Some};
+ghost use Rattle.std.specs.Prelude.{◌≡◌, [], Some};
 ghost use Rattle.byte_system.specs.Disk.{no_files};
 ghost use Rattle.byte_system.specs.Quiet.{IsOne, IsQuiet};
 
 use crate::files::Files;
-use crate::system::{Failed, MakeFault, System};
+use crate::system::{Failed, FolderFault, MakeFault, System};
 use std::alloc::Global;
 
 /// What another process does. A file's number is how many files were made before it.
@@ -39,7 +39,9 @@ pub struct MemSystem {
 
 impl MemSystem {
     /// No files, as this process sees them. The acts happen in their order, and the calls with the numbers fail.
-    pub fn new(alloc: Global, me: usize, acts: Vec<Act>, fails: Vec<usize>) -> MemSystem {
+    pub fn new(alloc: Global, me: usize, acts: Vec<Act>, fails: Vec<usize>) -> MemSystem
+        ensures { ⟦<MemSystem as System>⟧.state result ≡ record { me = me; first = Some no_files; trace = [] } }
+    {
         MemSystem {
             me,
             files: Files::new(alloc),
@@ -140,6 +142,11 @@ impl System for MemSystem {
         self.files.write(self.me, file, bytes, works)
     }
 
+    fn truncate(&mut self, file: usize) -> Result<(), Failed> {
+        let works = self.works();
+        self.files.truncate(self.me, file, works)
+    }
+
     fn sync(&mut self, file: usize) -> Result<(), Failed> {
         let works = self.works();
         self.files.sync(self.me, file, works)
@@ -160,7 +167,7 @@ impl System for MemSystem {
         self.files.unlink(self.me, path, works)
     }
 
-    fn sync_folder(&mut self, path: &[u8]) -> Result<(), Failed> {
+    fn sync_folder(&mut self, path: &[u8]) -> Result<(), FolderFault> {
         let works = self.works();
         self.files.sync_folder(self.me, path, works)
     }

@@ -1,6 +1,6 @@
 //! The calls on files that a command makes. Other processes make calls before and between them.
 
-ghost use Rattle.byte_system.specs.Disk.{Locks, Looks, Syncs, Compares, Renames, Unlinks, SyncsFolder};
+ghost use Rattle.byte_system.specs.Disk.{Locks, Looks, Truncates, Syncs, Compares, Renames, Unlinks, SyncsFolder};
 ghost use Rattle.byte_system.specs.System.{SystemState, Took, make_call, open_call, done_or_failed, told_or_failed, write_call};
 
 /// Why no new file was made.
@@ -8,6 +8,16 @@ ghost use Rattle.byte_system.specs.System.{SystemState, Took, make_call, open_ca
 pub enum MakeFault {
     Exists,
     NotMade,
+}
+
+/// Why a folder was not synced.
+#[derive(Clone, Copy, Debug, PartialEq, Eq)]
+pub enum FolderFault {
+    /// It may not be opened.
+    Forbidden,
+    /// It could not be opened for another reason.
+    NotOpened,
+    NotSynced,
 }
 
 /// A call failed.
@@ -39,6 +49,10 @@ pub trait System {
     fn write(&mut self, file: usize, bytes: &[u8]) -> usize
         ensures { Took (write_call file bytes.now result) (state self.old) (state self.new) };
 
+    /// Empties an open file. What is written after that is at its start.
+    fn truncate(&mut self, file: usize) -> Result<(), Failed>
+        ensures { Took (done_or_failed (Truncates file) result) (state self.old) (state self.new) };
+
     /// Syncs an open file.
     fn sync(&mut self, file: usize) -> Result<(), Failed>
         ensures { Took (done_or_failed (Syncs file) result) (state self.old) (state self.new) };
@@ -56,6 +70,6 @@ pub trait System {
         ensures { Took (done_or_failed (Unlinks path.now) result) (state self.old) (state self.new) };
 
     /// Syncs the folder of a name.
-    fn sync_folder(&mut self, path: &[u8]) -> Result<(), Failed>
+    fn sync_folder(&mut self, path: &[u8]) -> Result<(), FolderFault>
         ensures { Took (done_or_failed (SyncsFolder path.now) result) (state self.old) (state self.new) };
 }

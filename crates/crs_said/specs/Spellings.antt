@@ -19,7 +19,7 @@ authority_claim id = record {
 -- apart from letter case, the code of this authority is spelled so; the word begins with a C
 abbrev pub code_claim : Ident → Said
 code_claim id = record {
-  word = 67 ∷ (ended id.authority.bytes ++ folded (text_of id.code));
+  word = 67 ∷ (ended (folded (text_of id.code)) ++ id.authority.bytes);
   content = text_of id.code;
   said = concat (codes "the code \"" ∷ text_of id.code ∷ codes "\" is elsewhere" ∷ []);
 }

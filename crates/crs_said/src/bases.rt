@@ -6,7 +6,7 @@ ghost use Rattle.crs_said.specs.Parts.{id_claims, base_content, base_claims, mer
 
 use crate::claim::Claim;
 use crate::fields::push_name;
-use crate::identified::{CONTENT, push_id};
+use crate::identified::push_id;
 use crate::parts::HasParts;
 use crate::says::Says;
 use crs_part::{
@@ -15,6 +15,12 @@ use crs_part::{
 };
 use std::alloc::{AllocError, Global};
 
+/// Most systems have fewer claims than these.
+const CLAIMS: usize = 8;
+
+/// Most bases say fewer bytes than these.
+const BASE: usize = 192;
+
 /// For each part that has identifiers: the first one has this content, which is all that the part says but for identifiers,
 /// usages, anchors and remarks. A method or a parameter has its name as its content, without letter case. A base has its name, its
 /// datum and its prime meridian; a geodetic or geographic system counts as one. Members of ensembles, geoid models, axes and
@@ -22,7 +28,7 @@ use std::alloc::{AllocError, Global};
 pub fn part_claims(alloc: Global, crs: &CrsParts) -> Result<Vec<Claim>, AllocError>
     ensures { IfOk result (λ claims. map claim_seen claims.items ≡ part_claims crs.now) }
 {
-    let mut claims = Vec::new(alloc);
+    let mut claims = Vec::with_capacity(alloc, CLAIMS)?;
     match crs {
         CrsParts::Single(crs) => crs.claim(alloc, &mut claims)?,
         CrsParts::Compound(crs) => claim_both(
@@ -171,7 +177,7 @@ fn base_content(
 ) -> Result<Vec<u8>, AllocError>
     ensures { IfOk result (λ text. text.items ≡ base_content name.now frame.now prime.now) }
 {
-    let mut text = Vec::with_capacity(alloc, CONTENT)?;
+    let mut text = Vec::with_capacity(alloc, BASE)?;
     push_name(true, name, &mut text)?;
     frame.say(true, &mut text)?;
     prime.say(true, &mut text)?;

@@ -35,7 +35,7 @@ const DEGREE: Size = Size {
 pub fn datum_claims(alloc: Global, crs: &CrsParts) -> Result<Vec<Claim>, AllocError>
     ensures { IfOk result (λ claims. map claim_seen claims.items ≡ datum_claims crs.now) }
 {
-    let mut claims = Vec::new(alloc);
+    let mut claims = Vec::with_capacity(alloc, 1)?;
     match crs {
         CrsParts::Single(crs) => push_single(alloc, &mut claims, crs)?,
         CrsParts::Compound(crs) => push_both(

@@ -7,9 +7,9 @@ ghost use Rattle.crs_said.specs.Claims.{claim_seen};
 ghost use Rattle.crs_said.specs.Parts.{id_word, part_said, id_said, id_claim, id_claims};
 
 use crate::claim::{Claim, push_claim};
-use crate::fields::{push_field, push_name};
+use crate::fields::{push_end, push_field, push_name};
 use crate::says::Says;
-use crs_exact::{joined, number};
+use crs_exact::number;
 use crs_part::{Ident, NumberOrText, Text};
 use std::alloc::{AllocError, Global};
 
@@ -18,6 +18,9 @@ pub(crate) const WORD: usize = 24;
 
 /// Most parts say fewer bytes than these.
 pub(crate) const CONTENT: usize = 64;
+
+/// Most sentences have fewer bytes than these beside a name.
+const SENTENCE: usize = 88;
 
 /// Claims that the first identifier of a part has what the part says.
 pub(crate) fn push_part<T: Says>(
@@ -83,35 +86,36 @@ fn id_word(alloc: Global, kind: &[u8], id: &Ident) -> Result<Vec<u8>, AllocError
     ensures { IfOk result (λ text. text.items ≡ id_word kind.now id.now) }
 {
     let mut word = Vec::with_capacity(alloc, WORD)?;
-    push_field(&mut word, kind)?;
-    push_field(&mut word, id.authority.as_bytes())?;
     push_code_text(&mut word, &id.code)?;
+    push_end(&mut word)?;
+    push_field(&mut word, id.authority.as_bytes())?;
+    word.extend_from_slice(kind)?;
     Ok(word)
 }
 
+// The text is made in one piece of memory.
 fn id_said(alloc: Global, kind: &[u8], name: &Text, id: &Ident) -> Result<Vec<u8>, AllocError>
     ensures { IfOk result (λ text. text.items ≡ id_said kind.now name.now.bytes id.now) }
 {
-    let part = part_said(alloc, kind, name.as_bytes())?;
-    let code = code_said(alloc, &id.code)?;
-    joined(
-        alloc,
-        &[
-            &part,
-            b" has the identifier ",
-            id.authority.as_bytes(),
-            b":",
-            &code,
-            b" and another content than",
-        ],
-    )
+    let mut text = Vec::with_capacity(alloc, name.as_bytes().len().saturating_add(SENTENCE))?;
+    push_part_said(&mut text, kind, name.as_bytes())?;
+    text.extend_from_slice(b" has the identifier ")?;
+    text.extend_from_slice(id.authority.as_bytes())?;
+    text.push(b':')?;
+    push_code_text(&mut text, &id.code)?;
+    text.extend_from_slice(b" and another content than")?;
+    Ok(text)
 }
 
-#[tactic(auto, unfolding(crate::specs::Parts::part_said))]
-fn part_said(alloc: Global, kind: &[u8], name: &[u8]) -> Result<Vec<u8>, AllocError>
-    ensures { IfOk result (λ text. text.items ≡ part_said kind.now name.now) }
+fn push_part_said(out: &mut Vec<u8>, kind: &[u8], name: &[u8]) -> Result<(), AllocError>
+    ensures { OnOk result (out.new.items ≡ out.old.items ++ part_said kind.now name.now) }
 {
-    joined(alloc, &[b"the ", kind, b" \"", name, b"\""])
+    out.extend_from_slice(b"the ")?;
+    out.extend_from_slice(kind)?;
+    out.extend_from_slice(b" \"")?;
+    out.extend_from_slice(name)?;
+    out.push(b'"')?;
+    Ok(())
 }
 
 // Appends the text of a code.

@@ -5,7 +5,7 @@ ghost use Rattle.crs_said.specs.Claims.{claim_seen};
 ghost use Rattle.crs_said.specs.Spellings.{authority_claim, code_claim, case_claims};
 
 use crate::claim::{Claim, push_claim};
-use crate::fields::{push_field, push_folded};
+use crate::fields::{push_end, push_folded};
 use crate::identified::{WORD, code_said};
 use crs_exact::joined;
 use crs_part::{CrsParts, Ident};
@@ -16,7 +16,7 @@ use std::alloc::{AllocError, Global};
 pub fn case_claims(alloc: Global, crs: &CrsParts) -> Result<Vec<Claim>, AllocError>
     ensures { IfOk result (λ claims. map claim_seen claims.items ≡ case_claims crs.now) }
 {
-    let mut claims = Vec::new(alloc);
+    let mut claims = Vec::with_capacity(alloc, 2)?;
     let Some(id) = crs.ids().first() else {
         return Ok(claims);
     };
@@ -73,8 +73,9 @@ fn code_claim(alloc: Global, id: &Ident) -> Result<Claim, AllocError>
     let content = code_said(alloc, &id.code)?;
     let mut word = Vec::with_capacity(alloc, WORD)?;
     word.push(b'C')?;
-    push_field(&mut word, id.authority.as_bytes())?;
     push_folded(&mut word, &content)?;
+    push_end(&mut word)?;
+    word.extend_from_slice(id.authority.as_bytes())?;
     let said = joined(alloc, &[b"the code \"", &content, b"\" is elsewhere"])?;
     Ok(Claim {
         word,

@@ -1,6 +1,6 @@
 //! The answer of a call.
 
-use byte_system::{Failed, MakeFault, System};
+use byte_system::{Failed, FolderFault, MakeFault, System};
 use std::fmt;
 
 /// The answer of a call.
@@ -41,11 +41,12 @@ pub fn answer_to<S: System>(system: &mut S, line: &str) -> Answer {
         "lock" => is(system.lock(file(first))),
         "named" => is(system.is_named(first.as_bytes(), file(second))),
         "write" => Answer::Number(system.write(file(first), second.as_bytes())),
+        "empty" => done(system.truncate(file(first))),
         "sync" => done(system.sync(file(first))),
         "has" => is(system.has(first.as_bytes(), second.as_bytes())),
         "rename" => done(system.rename(first.as_bytes(), second.as_bytes())),
         "unlink" => done(system.unlink(first.as_bytes())),
-        "folder" => done(system.sync_folder(first.as_bytes())),
+        "folder" => synced(system.sync_folder(first.as_bytes())),
         _ => Answer::NoCall,
     }
 }
@@ -78,6 +79,13 @@ fn is(told: Result<bool, Failed>) -> Answer {
 }
 
 fn done(told: Result<(), Failed>) -> Answer {
+    match told {
+        Ok(()) => Answer::Done,
+        Err(_) => Answer::Failed,
+    }
+}
+
+fn synced(told: Result<(), FolderFault>) -> Answer {
     match told {
         Ok(()) => Answer::Done,
         Err(_) => Answer::Failed,

@@ -3,7 +3,7 @@
 //! - `make NAME`, `open NAME`: the number of the file; `exists` or `failed`
 //! - `lock FILE`, `named NAME FILE`, `has NAME TEXT`: `yes`, `no` or `failed`
 //! - `write FILE TEXT`: how many bytes were written
-//! - `sync FILE`, `rename FROM TO`, `unlink NAME`, `folder NAME`: `done` or `failed`
+//! - `empty FILE`, `sync FILE`, `rename FROM TO`, `unlink NAME`, `folder NAME`: `done` or `failed`
 #![tactic(auto)]
 
 mod answer;

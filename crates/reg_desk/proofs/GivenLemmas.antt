@@ -1,10 +1,18 @@
 -- Texts that are read up to one that is no definition are refused as all texts of the files are.
-use Rattle.std.proofs.Common.{◌≡◌, ◌⊎◌, ℕ, ◌+◌, true, false, List, [], ◌∷◌, ◌++◌, Some, append-nil, refl, sym, ap, ◌∙◌, subst, inl, inr, zero, suc}
+use Rattle.std.proofs.Common.{◌≡◌, ◌⊎◌, ℕ, ◌+◌, ◌^◌, ◌≤◌, Bool, true, false, cond, length, List, [], ◌∷◌, ◌++◌, Some, append-nil, refl, sym, ap, ◌∙◌, subst, inl, inr, zero, suc}
 use Rattle.std.specs.Prelude.{option_map, Option}
 use Rattle.std.specs.Option.{unwrap_or}
 use Rattle.std.specs.List.{list_any, slice_get}
 use Rattle.std.proofs.lemmas.List.{map-append}
-use Rattle.reg_op.specs.Contents.{Content}
+use Rattle.reg_op.specs.Contents.{Content, IsContent}
+use Rattle.reg_office.specs.Making.{greatest}
+use Rattle.reg_import.specs.declared.action.Differs.{Differs}
+use Rattle.reg_import.specs.declared.action.Problem.TheVariants as problem
+use Rattle.reg_import.specs.declared.action.TextAction.{TextAction}
+use Rattle.reg_import.specs.declared.reading.ReadText.TheVariants as reading
+use Rattle.reg_import.specs.Known.{At, by_key}
+use Rattle.reg_import.specs.Imports.{told_at, bodies_at, then_at, imports, tolds}
+use Rattle.reg_import.proofs.AtOnceLemmas.{ends_at_first}
 use Rattle.reg_import.specs.declared.reading.FileText.{FileText}
 use Rattle.reg_import.specs.declared.action.Problem.{Problem}
 use Rattle.reg_import.specs.declared.action.TextAction.TheVariants as told
@@ -22,7 +30,7 @@ use Rattle.reg_desk.specs.declared.import.fault.Unimported.{Unimported}
 use Rattle.reg_desk.specs.ImportTexts.{TextAt, AreRead, HaveTexts, AreGiven}
 use Rattle.reg_desk.specs.ImportLinks.{IsOnlyImported}
 use Rattle.reg_desk.specs.ImportNotes.{note_of}
-use Rattle.reg_desk.specs.Import.{names_of, IsAgainst, if_explained, note_at, IsRefusedAt, MakesOf, Makes, IsRefusedBy, IsUnmadeOf, IsUnmade, IsPlain}
+use Rattle.reg_desk.specs.Import.{names_of, IsAgainst, if_explained, note_at, IsRefusedAt, MakesOf, Makes, IsUncounted, TakesMemory, IsRefusedBy, IsUnmadeOf, IsFaultOf, EndsAtFirst, IsUnmade, IsPlain}
 use Rattle.reg_desk.proofs.SameTexts.{same_reading, one_cuts, one_read}
 
 -- ---- the first of all readings
@@ -76,6 +84,13 @@ text_of : (first : ℕ) (texts : List FileText) (i : ℕ) (p : Problem) (f : Imp
 text_of first texts i p (import.Cli f) h = absurd h
 text_of first texts i p (import.Refused q place file) h = (h.0, h.1)
 
+some_at : (d : Differs) (r : List ℕ) (n : ℕ) (at : At) (ts : List FileText) (i : ℕ) (t : TextAction) → slice_get (tolds (imports d r n at (readings ts))) i ≡ Some t → (q : FileText) × (slice_get ts i ≡ Some q)
+some_at d r n at [] i t h = absurd cc
+some_at d r n at (q ∷ ts) zero t h = (q, refl)
+some_at d r n at (q ∷ ts) (suc i) t h =
+    let a : TextAction = told_at d r n at q.reading in
+    some_at d r (n + length (bodies_at a at q.reading)) (then_at a at q.reading) ts i t h
+
 -- ---- the fault of the first texts, and of all
 
 module _ (o : ImportOptions) (first : ℕ) (x : Content) (files : List (List ℕ)) (cuts later : List TextAt) (texts whole : List FileText) (read : AreRead cuts texts) (all : AreRead (cuts ++ later) whole) where
@@ -101,21 +116,37 @@ module _ (o : ImportOptions) (first : ℕ) (x : Content) (files : List (List ℕ
       let t = text_of first texts i p u.fault h.0 in
       (against_on i p u.fault h.0, h.1 ∙ ap (if_explained o) (note_on i p t.0 t.1))
 
-  by_on : (r : ImportRefusal) (u : Unimported) → IsRefusedBy o first files cuts texts r u → IsRefusedBy o first files (cuts ++ later) whole r u
-  by_on refused.NoteTooLong u h = h
-  by_on (refused.Refused i p) u h = elim h [ inl at ↦ inl (refused_on i p u at) | inr memory ↦ inr memory ]
-  by_on refused.CountSpent u h = h
-  by_on refused.Memory u h = h
+  -- a text that is refused is there
+  refused_text : (i : ℕ) (p : Problem) → IsImportRefusal x o.replica o.note.now o.differs o.keep_going (readings texts) (refused.Refused i p) → (t : FileText) × (slice_get texts i ≡ Some t)
+  refused_text i p h =
+      some_at o.differs o.replica (greatest o.replica x.seen + 1) (by_key h.1.1.0) texts i (told.Refused p) (subst (λ l. slice_get (tolds l) i ≡ Some (told.Refused p)) h.1.1.2 h.1.2.1.refused)
+
+  takes_on : (i : ℕ) (t : FileText) → slice_get texts i ≡ Some t → TakesMemory o first (slice_get texts i) → TakesMemory o first (slice_get whole i)
+  takes_on i t e (inl explained) = inl explained
+  takes_on i t e (inr far) =
+      let m = again cuts texts s.front i t read s.read e in
+      let there : slice_get whole i ≡ Some m.other = subst (λ l. slice_get l i ≡ Some m.other) (sym s.is) (get_front s.front s.behind i m.other m.there) in
+      let here : 2 ^ 64 ≤ first + t.file = subst (IsUncounted first) e far in
+      inr (subst (IsUncounted first) (sym there) (subst (λ n. 2 ^ 64 ≤ first + n) (sym m.file) here))
+
+  by_on : (r : ImportRefusal) (u : Unimported) → IsImportRefusal x o.replica o.note.now o.differs o.keep_going (readings texts) r → IsRefusedBy o first files cuts texts r u → IsRefusedBy o first files (cuts ++ later) whole r u
+  by_on refused.NoteTooLong u is h = h
+  by_on (refused.Refused i p) u is h = elim h [
+    | inl at ↦ inl (refused_on i p u at)
+    | inr memory ↦ let t = refused_text i p is in inr (memory.0, takes_on i t.0 t.1 memory.1)
+  ]
+  by_on refused.CountSpent u is h = h
+  by_on refused.Memory u is h = h
 
   -- if no other text is there
   unmade_same : readings texts ≡ readings whole → (u : Unimported) → IsUnmadeOf o first x files cuts texts u → IsUnmadeOf o first x files (cuts ++ later) whole u
-  unmade_same e u (inl (r, h, by)) = inl (r, subst (λ rs. IsImportRefusal x o.replica o.note.now o.differs o.keep_going rs r) e h, by_on r u by)
+  unmade_same e u (inl (r, h, by)) = inl (r, subst (λ rs. IsImportRefusal x o.replica o.note.now o.differs o.keep_going rs r) e h, by_on r u h by)
   unmade_same e u (inr (f, only, plain)) = inr (f, subst (λ rs. IsOnlyImported o x rs f) e only, plain)
 
   -- if one is no definition
   unmade_on : o.keep_going ≡ false → list_any is_unread (readings texts) ≡ true → (u : Unimported) → IsUnmadeOf o first x files cuts texts u → IsUnmadeOf o first x files (cuts ++ later) whole u
   unmade_on ends unread u (inl (r, h, by)) =
-      inl (r, subst (λ rs. IsImportRefusal x o.replica o.note.now o.differs o.keep_going rs r) (sym whole_readings) (refusal_on x o.replica o.note.now o.differs o.keep_going (readings texts) ends unread (readings s.behind) r h), by_on r u by)
+      inl (r, subst (λ rs. IsImportRefusal x o.replica o.note.now o.differs o.keep_going rs r) (sym whole_readings) (refusal_on x o.replica o.note.now o.differs o.keep_going (readings texts) ends unread (readings s.behind) r h), by_on r u h by)
   unmade_on ends unread u (inr (f, only, plain)) = absurd (none_imported x o.replica o.note.now o.differs o.keep_going (readings texts) ends unread only.between only.told only.imports)
 
 -- the fault is that of all texts
@@ -131,9 +162,36 @@ as_all_are o first x files cuts all texts whole (inr (ends, b)) have u h =
     let read : AreRead (cuts ++ b.later) whole = subst (λ l. AreRead l whole) (sym same) have.read in
     subst (λ l. IsUnmadeOf o first x files l whole u) same (unmade_on o first x files cuts b.later texts whole b.read read ends b.unread u h)
 
+-- the first text is refused as it is among all
+refused_first : (o : ImportOptions) (first : ℕ) (x : Content) (files : List (List ℕ)) (text : TextAt) (later : List TextAt) (whole : List FileText) (u : Unimported) → AreRead (text ∷ later) whole → IsContent x
+    → length o.note.now ≤ 200 → o.keep_going ≡ false → o.explain ≡ false → IsFaultOf first text u.fault → u.notes.items ≡ [] → IsUnmadeOf o first x files (text ∷ later) whole u
+refused_first o first x files text later [] u read is short ends plain fault notes = absurd read
+refused_first o first x files text later (t ∷ ts) u read is short ends plain (f, reads, told) notes =
+    let r : t.reading ≡ reading.Unread f = same_reading t.reading (reading.Unread f) (one_reading text.bytes t.reading (reading.Unread f) read.0.reads reads) in
+    let rs : readings (t ∷ ts) ≡ reading.Unread f ∷ readings ts = ap (λ q. q ∷ readings ts) r in
+    inl (
+      refused.Refused 0 (problem.Unread f),
+      subst (λ qs. IsImportRefusal x o.replica o.note.now o.differs o.keep_going qs (refused.Refused 0 (problem.Unread f))) (sym rs)
+          (ends_at_first x o.replica o.note.now o.differs o.keep_going f (readings ts) is short ends),
+      inl (
+        subst (IsAgainst first (t ∷ ts) 0 (problem.Unread f)) (sym told)
+            (t, refl, refl, sym (read.0.told_at ∙ ap (λ q. text.place + place_in q) r), ap (λ n. first + n) (sym read.0.in_file)),
+        notes ∙ ap (λ (b : Bool). cond b (note_at o files (text ∷ later) 0 (problem.Unread f)) []) (sym plain),
+      ),
+    )
+
+pub first_as_all : (o : ImportOptions) (first : ℕ) (x : Content) (files : List (List ℕ)) (all : List TextAt) (whole : List FileText) (u : Unimported) → HaveTexts files all whole → IsContent x
+    → length o.note.now ≤ 200 → EndsAtFirst o first files u.fault → u.notes.items ≡ [] → IsUnmadeOf o first x files all whole u
+first_as_all o first x files all whole u have is short e notes =
+    let same : e.text ∷ e.later ≡ all = one_cuts 0 files (e.text ∷ e.later) all e.cut have.cut in
+    subst (λ l. IsUnmadeOf o first x files l whole u) same
+    (refused_first o first x files e.text e.later whole u (subst (λ l. AreRead l whole) (sym same) have.read) is short e.ends e.unexplained e.told notes)
+
 pub unmade_as_all : (o : ImportOptions) (first : ℕ) (x : Content) (files : List (List ℕ)) (all : List TextAt) (whole : List FileText) (u : Unimported) → HaveTexts files all whole → IsUnmade o first x files u
     → IsPlain (λ f. f ≡ cli.Memory) u ⊎ IsUnmadeOf o first x files all whole u
-unmade_as_all o first x files all whole u have (inl memory) = inl memory
+unmade_as_all o first x files all whole u have (inl (inl memory)) = inl memory.0
+unmade_as_all o first x files all whole u have (inl (inr (inl long))) = inr (inl (refused.NoteTooLong, long.1, long.0))
+unmade_as_all o first x files all whole u have (inl (inr (inr h))) = inr (first_as_all o first x files all whole u have h.0 h.1 h.2 h.3)
 unmade_as_all o first x files all whole u have (inr (cuts, texts, given, h)) = inr (as_all_are o first x files cuts all texts whole given have u h)
 
 -- ---- what is made

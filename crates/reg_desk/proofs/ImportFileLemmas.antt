@@ -2,13 +2,15 @@
 use Rattle.std.proofs.Common.{◌≡◌, ◌∷◌, ◌++◌, [], List, ℕ, ◌+◌, ◌<◌, ◌≤◌, zero, suc, length, map, take, drop, get_or, slice_set, refl, ap, sym, subst, arith, inl, inr, ◌∙◌}
 use Rattle.std.proofs.lemmas.List.{take_all, length-map}
 use Rattle.byte_io.specs.Device.{SourceState}
+use Rattle.byte_io.specs.Whole.{StopsEarly}
+use Rattle.reg_file.specs.Files.{most}
 use Rattle.reg_engine.specs.declared.fault.InputFault.{InputFault}
 use Rattle.reg_engine.specs.declared.fault.CliFault.{CliFault}
 use Rattle.reg_engine.specs.declared.fault.CliFault.TheVariants as cli
 use Rattle.reg_engine.specs.Inputs.{NeverFails, NoneFails}
 use Rattle.reg_engine.proofs.InputLemmas.{none_given}
-use Rattle.reg_engine.specs.WholeFile.{Gives, IsFileFault, IsUnread}
-use Rattle.reg_desk.specs.ImportFiles.{GiveAll, StopsAt, AreUnread}
+use Rattle.reg_engine.specs.WholeFile.{Gives, IsFileFault}
+use Rattle.reg_desk.specs.ImportFiles.{GiveAll, StopsAt, IsUnreadFile, RunsOutIn, AreUnread}
 
 abbrev head_of : {A : Type 0} → A → List A → A
 head_of d [] = d
@@ -28,6 +30,10 @@ all_gave [] (n ∷ ns) bs h = absurd h
 all_gave (o ∷ os) [] bs h = absurd h
 all_gave (o ∷ os) (n ∷ ns) [] h = absurd h
 all_gave (o ∷ os) (n ∷ ns) (b ∷ bs) h = (gave_some o n b h.0, all_gave os ns bs h.1)
+
+-- a source that is not read
+stops_at_once : (o : SourceState) → StopsEarly (most + 1) o o
+stops_at_once o = let g = (none_given (o ∷ [])).0 in (g.0, g.1, g.2, g.3, g.4, refl)
 
 next : (i : ℕ) → suc i ≡ i + 1
 next i = omega arith
@@ -79,16 +85,24 @@ module _ {F : Type 0} (st : F → SourceState) where
   stops_at (w ∷ ws) (n ∷ ns) number (suc i) k o s (c ∷ cs) f within size front back at fault =
       inr ((c, front.0), stops_at ws ns (number + 1) i k o s cs f (omega arith) (omega arith) front.1 back (omega (arith, at)) fault)
 
-  -- if the next file does not fail either, none has failed
-  pub none_fails_next : (was now : List F) (i : ℕ) (o s : F) (bs : List (List ℕ)) → i < length was → length now ≡ length was
-      → GiveAll (take i (map st was)) (take i (map st now)) bs → drop i (map st now) ≡ drop i (map st was) → NeverFails (st (get_or now i o)) (st s)
-      → NoneFails (map st was) (map st (slice_set now i s))
-  none_fails_next was [] i o s bs within size front back gives = absurd (omega arith)
-  none_fails_next [] (n ∷ ns) i o s bs within size front back gives = absurd (omega arith)
-  none_fails_next (w ∷ ws) (n ∷ ns) zero o s bs within size front back gives =
-      (subst (λ k. NeverFails k (st s)) (first w n ws ns back) gives, subst (λ k. NoneFails (map st ws) k) (sym (others w n ws ns back)) (none_given (map st ws)))
-  none_fails_next (w ∷ ws) (n ∷ ns) (suc i) o s [] within size front back gives = absurd front
-  none_fails_next (w ∷ ws) (n ∷ ns) (suc i) o s (c ∷ cs) within size front back gives = (gave_some _ _ c front.0, none_fails_next ws ns i o s cs (omega arith) (omega arith) front.1 back gives)
+  -- if memory runs out in the next file, it does in the files
+  pub runs_out_next : (was now : List F) (i : ℕ) (o s : F) (bs : List (List ℕ)) → i < length was → length now ≡ length was
+      → GiveAll (take i (map st was)) (take i (map st now)) bs → drop i (map st now) ≡ drop i (map st was) → StopsEarly (most + 1) (st (get_or now i o)) (st s)
+      → RunsOutIn (map st was) (map st (slice_set now i s))
+  runs_out_next was [] i o s bs within size front back stops = absurd (omega arith)
+  runs_out_next [] (n ∷ ns) i o s bs within size front back stops = absurd (omega arith)
+  runs_out_next (w ∷ ws) (n ∷ ns) zero o s bs within size front back stops = inl (subst (λ k. StopsEarly (most + 1) k (st s)) (first w n ws ns back) stops, others w n ws ns back)
+  runs_out_next (w ∷ ws) (n ∷ ns) (suc i) o s [] within size front back stops = absurd front
+  runs_out_next (w ∷ ws) (n ∷ ns) (suc i) o s (c ∷ cs) within size front back stops = inr ((c, front.0), runs_out_next ws ns i o s cs (omega arith) (omega arith) front.1 back stops)
+
+  -- or before it is read
+  pub runs_out_yet : (was now : List F) (i : ℕ) (bs : List (List ℕ)) → i < length was → length now ≡ length was
+      → GiveAll (take i (map st was)) (take i (map st now)) bs → drop i (map st now) ≡ drop i (map st was) → RunsOutIn (map st was) (map st now)
+  runs_out_yet was [] i bs within size front back = absurd (omega arith)
+  runs_out_yet [] (n ∷ ns) i bs within size front back = absurd (omega arith)
+  runs_out_yet (w ∷ ws) (n ∷ ns) zero bs within size front back = inl (subst (λ k. StopsEarly (most + 1) (st w) k) (sym (first w n ws ns back)) (stops_at_once (st w)), others w n ws ns back)
+  runs_out_yet (w ∷ ws) (n ∷ ns) (suc i) [] within size front back = absurd front
+  runs_out_yet (w ∷ ws) (n ∷ ns) (suc i) (c ∷ cs) within size front back = inr ((c, front.0), runs_out_yet ws ns i cs (omega arith) (omega arith) front.1 back)
 
   -- if the first i files gave their bytes and the others are unread, none has failed
   pub none_fails_yet : (was now : List F) (i : ℕ) (bs : List (List ℕ)) → length now ≡ length was
@@ -103,11 +117,11 @@ module _ {F : Type 0} (st : F → SourceState) where
   -- the fault of the next file is the fault of all files
   pub unread_next : (was now : List F) (number i k : ℕ) (o s : F) (bs : List (List ℕ)) → i < length was → length now ≡ length was
       → GiveAll (take i (map st was)) (take i (map st now)) bs → drop i (map st now) ≡ drop i (map st was) → k ≡ number + i
-      → (f : CliFault) → IsUnread k (st (get_or now i o)) (st s) f → AreUnread number (map st was) (map st (slice_set now i s)) f
+      → (f : CliFault) → IsUnreadFile k (st (get_or now i o)) (st s) f → AreUnread number (map st was) (map st (slice_set now i s)) f
   unread_next was now number i k o s bs within size front back at (cli.Refused r) h = absurd h
   unread_next was now number i k o s bs within size front back at (cli.File j f) (same, fault) = stops_at was now number i j o s bs f within size front back (same ∙ at) fault
   unread_next was now number i k o s bs within size front back at (cli.Out f) h = absurd h
-  unread_next was now number i k o s bs within size front back at cli.Memory h = none_fails_next was now i o s bs within size front back h
+  unread_next was now number i k o s bs within size front back at cli.Memory h = inl (runs_out_next was now i o s bs within size front back h)
   unread_next was now number i k o s bs within size front back at (cli.Shelf p) h = absurd h
   unread_next was now number i k o s bs within size front back at (cli.Office t) h = absurd h
 

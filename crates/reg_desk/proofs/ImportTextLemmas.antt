@@ -34,7 +34,7 @@ pub cuts_done : (files : List (List ℕ)) (file : ℕ) (rest : List (List ℕ)) 
 cuts_done files file rest cuts h done = subst (AreCuts 0 files) (append-nil cuts) (done [] (no_cuts file rest h))
 
 -- some texts are those of all files
-some_cuts : (file : ℕ) (files : List (List ℕ)) → (cuts : List TextAt) × AreCuts file files cuts
+pub some_cuts : (file : ℕ) (files : List (List ℕ)) → (cuts : List TextAt) × AreCuts file files cuts
 some_cuts file [] = ([], refl)
 some_cuts file (bytes ∷ others) =
     let these = each_cut bytes in

@@ -9,6 +9,7 @@ use Rattle.reg_op.specs.Contents.{Content, nothing, IsContent}
 use Rattle.reg_report.specs.Exports.{export}
 use Rattle.reg_import.specs.declared.reading.FileText.{FileText}
 use Rattle.reg_import.specs.declared.reading.ReadText.{ReadText}
+use Rattle.reg_import.specs.declared.reading.ReadText.TheVariants as reading
 use Rattle.reg_import.specs.declared.action.Differs.{Differs}
 use Rattle.reg_import.specs.declared.action.Differs.TheVariants.{Beside}
 use Rattle.reg_import.specs.declared.action.Problem.{Problem}
@@ -30,15 +31,16 @@ use Rattle.reg_engine.specs.declared.fault.Refusal.TheVariants as refusal
 use Rattle.reg_engine.specs.declared.fault.CliFault.{CliFault}
 use Rattle.reg_engine.specs.declared.fault.CliFault.TheVariants as cli
 use Rattle.reg_desk.specs.declared.import.options.ImportOptions.{ImportOptions}
+use Rattle.reg_desk.specs.declared.import.fault.ImportFault.{ImportFault}
 use Rattle.reg_desk.specs.declared.import.fault.Unimported.{Unimported}
 use Rattle.reg_desk.specs.ImportFiles.{GiveAll}
 use Rattle.reg_desk.specs.ImportTexts.{TextAt, in_file, HaveTexts, BeginWith}
-use Rattle.reg_desk.specs.Import.{IsPlain, Makes, Refuses, IsRefusedBy, IsUnmadeOf, IsUnmade, IsReady}
+use Rattle.reg_desk.specs.Import.{IsPlain, Makes, Refuses, IsRefusedBy, IsUnmadeOf, EndsAtFirst, IsUnmade, IsReady}
 use Rattle.reg_desk.specs.ImportLinks.{ImportsLinked, IsOnlyImported}
 use Rattle.reg_desk.proofs.ImportedLinks.{same_entries, nothing_passed, only_note, its_own, none_there}
 use Rattle.reg_desk.proofs.ImportEngineLemmas.{weaker}
 use Rattle.reg_desk.proofs.SameTexts.{one_given, same_readings, are_readings}
-use Rattle.reg_desk.proofs.GivenLemmas.{as_all_are}
+use Rattle.reg_desk.proofs.GivenLemmas.{as_all_are, first_as_all}
 
 -- ---- the same files again
 
@@ -105,7 +107,9 @@ module _ (o p : ImportOptions) (m n : ℕ) (x y : Content) (files : List (List �
       weaker (λ g. g ≡ office_fault f) IsNote u.fault u.notes.items (λ g e. inl (e ∙ ap office_fault long)) plain
 
   pub unmade_again : (u : Unimported) → IsUnmade p n y files u → IsPlain IsNote u
-  unmade_again u (inl memory) = weaker (λ f. f ≡ cli.Memory) IsNote u.fault u.notes.items (λ f is. inr is) memory
+  unmade_again u (inl (inl memory)) = weaker (λ f. f ≡ cli.Memory) IsNote u.fault u.notes.items (λ f is. inr is) memory.0
+  unmade_again u (inl (inr (inl long))) = weaker (λ f. f ≡ cli.Refused (refusal.Office office.NoteTooLong)) IsNote u.fault u.notes.items (λ f is. inl is) long.0
+  unmade_again u (inl (inr (inr h))) = unmade_of u (first_as_all p n y files made.0 made.1 u made.2 h.0 h.1 h.2 h.3)
   unmade_again u (inr (cuts, texts, given, h)) = unmade_of u (as_all_are p n y files cuts made.0 texts made.1 given made.2 u h)
 
 -- a result that is ready is made of the bytes that the sources gave
@@ -167,6 +171,12 @@ exported_begin x cuts texts is b =
     sym (same_bytes b.cut.0) ∙ ap (map (λ (c : TextAt). c.bytes)) (sym all) ∙ map-append (λ (c : TextAt). c.bytes) cuts b.later in
     exported_read x b.cut.0 (map (λ (c : TextAt). c.bytes) cuts) (map (λ (c : TextAt). c.bytes) b.later) (readings texts) is b.cut.2 bytes (are_readings cuts texts b.read) b.unread
 
+exported_first : (o : ImportOptions) (first : ℕ) (x : Content) (k : ImportFault) → IsContent x → EndsAtFirst o first (export x.ops ∷ []) k → ⊥
+exported_first o first x k is e =
+    let all : e.text ∷ e.later ≡ map (in_file 0) e.cut.0 = e.cut.4 ∙ ap (λ rest. map (in_file 0) e.cut.0 ++ rest) e.cut.3 ∙ append-nil (map (in_file 0) e.cut.0) in
+    let bytes : map (λ (p : Piece). p.bytes) e.cut.0 ≡ (e.text.bytes ∷ []) ++ map (λ (c : TextAt). c.bytes) e.later = sym (same_bytes e.cut.0) ∙ ap (map (λ (c : TextAt). c.bytes)) (sym all) in
+    exported_read x e.cut.0 (e.text.bytes ∷ []) (map (λ (c : TextAt). c.bytes) e.later) (reading.Unread e.told.0 ∷ []) is e.cut.2 bytes (reading.Unread e.told.0, [], e.told.1, refl, refl) refl
+
 -- a fault that no text has: the note is too long, the counts are spent, or memory ran out
 abbrev pub IsOther : CliFault → Type 0
 IsOther f = (f ≡ cli.Refused (refusal.Office office.NoteTooLong)) ⊎ ((f ≡ cli.Refused (refusal.Office office.CountSpent)) ⊎ (f ≡ cli.Memory))
@@ -181,7 +191,9 @@ exported_refusal o first x cuts texts refused.CountSpent u is beside have h by =
 exported_refusal o first x cuts texts refused.Memory u is beside have h by = weaker (λ f. f ≡ cli.Memory) IsOther u.fault u.notes.items (λ f e. inr (inr e)) by
 
 pub exported_unmade : (o : ImportOptions) (first : ℕ) (x : Content) (u : Unimported) → IsContent x → o.differs ≡ Beside → IsUnmade o first nothing (export x.ops ∷ []) u → IsPlain IsOther u
-exported_unmade o first x u is beside (inl memory) = weaker (λ f. f ≡ cli.Memory) IsOther u.fault u.notes.items (λ f e. inr (inr e)) memory
+exported_unmade o first x u is beside (inl (inl memory)) = weaker (λ f. f ≡ cli.Memory) IsOther u.fault u.notes.items (λ f e. inr (inr e)) memory.0
+exported_unmade o first x u is beside (inl (inr (inl long))) = weaker (λ f. f ≡ cli.Refused (refusal.Office office.NoteTooLong)) IsOther u.fault u.notes.items (λ f e. inl e) long.0
+exported_unmade o first x u is beside (inl (inr (inr h))) = absurd (exported_first o first x u.fault is h.2)
 exported_unmade o first x u is beside (inr (cuts, texts, inr (ends, begins), h)) = absurd (exported_begin x cuts texts is begins)
 exported_unmade o first x u is beside (inr (cuts, texts, inl have, inl (r, h, by))) = exported_refusal o first x cuts texts r u is beside have h by
 exported_unmade o first x u is beside (inr (cuts, texts, inl have, inr (f, only, plain))) =

@@ -6,6 +6,7 @@ pub mod StatusLemmas
 mod SettleLemmas
 pub mod ImportFileLemmas
 pub mod ImportTextLemmas
+mod FirstTextLemmas
 pub mod ImportEngineLemmas
 pub mod AfterRetiring
 pub mod AfterSettling

@@ -1,11 +1,13 @@
 -- The result of an import, before anything is written, or why there is none.
-use Rattle.std.specs.Prelude.{◌≡◌, ◌⊎◌, ◌+◌, ℕ, List, [], map, slice_get, Option, Some, None, option_map, if◌then◌else◌}
+use Rattle.std.specs.Prelude.{◌≡◌, ◌⊎◌, ◌+◌, ◌^◌, ◌<◌, ◌≤◌, ℕ, true, false, List, [], ◌∷◌, map, length, slice_get, Option, Some, None, option_map, if◌then◌else◌}
 use Rattle.std.specs.Option.{unwrap_or}
 use Rattle.std.specs.String.{string_bytes}
 use Rattle.byte_io.specs.Device.{SourceState}
+use Rattle.wkt_crs.specs.declared.definition.DefinitionFault.{DefinitionFault}
+use Rattle.wkt_crs.specs.Faults.{IsGrammatical}
 use Rattle.reg_op.specs.Ids.{Id}
 use Rattle.reg_op.specs.Operations.{Ops}
-use Rattle.reg_op.specs.Contents.{Content}
+use Rattle.reg_op.specs.Contents.{Content, IsContent}
 use Rattle.reg_op.specs.Rows.{Row, rows}
 use Rattle.reg_office.specs.declared.fault.OfficeFault.{OfficeFault}
 use Rattle.reg_office.specs.declared.fault.OfficeFault.TheVariants as office
@@ -16,7 +18,8 @@ use Rattle.reg_import.specs.declared.action.TextAction.{TextAction}
 use Rattle.reg_import.specs.declared.action.TextAction.TheVariants as told
 use Rattle.reg_import.specs.declared.import.ImportRefusal.{ImportRefusal}
 use Rattle.reg_import.specs.declared.import.ImportRefusal.TheVariants as refused
-use Rattle.reg_import.specs.Readings.{readings}
+use Rattle.reg_import.specs.declared.reading.ReadText.TheVariants as reading
+use Rattle.reg_import.specs.Readings.{IsReading, place_in, readings}
 use Rattle.reg_import.specs.Imports.{NoneRefused}
 use Rattle.reg_import.specs.Plans.{IsFirstRefused, IsImportRefusal}
 use Rattle.reg_import.specs.declared.listing.Listing.{Listing}
@@ -33,7 +36,7 @@ use Rattle.reg_desk.specs.declared.import.fault.ImportFault.{ImportFault}
 use Rattle.reg_desk.specs.declared.import.fault.ImportFault.TheVariants as import
 use Rattle.reg_desk.specs.declared.import.fault.Unimported.{Unimported}
 use Rattle.reg_desk.specs.ImportFiles.{GiveAll, AreUnread}
-use Rattle.reg_desk.specs.ImportTexts.{TextAt, HaveTexts, AreGiven}
+use Rattle.reg_desk.specs.ImportTexts.{TextAt, AreCuts, HaveTexts, AreGiven}
 use Rattle.reg_desk.specs.ImportLinks.{ImportsLinked, IsOnlyImported}
 use Rattle.reg_desk.specs.ImportNotes.{note_of, notes_of}
 
@@ -106,10 +109,20 @@ MakesOf o first x files cuts texts y lines passed = (ts : List TextAction) × (l
 abbrev pub Refuses : ImportOptions → Content → List FileText → ImportRefusal → Type 0
 Refuses o x texts r = IsImportRefusal x o.replica o.note.now o.differs o.keep_going (readings texts) r
 
+-- no number of 64 bits is that of the text's file
+abbrev pub IsUncounted : ℕ → Option FileText → Type 0
+IsUncounted first None = Unit {0}
+IsUncounted first (Some t) = 2 ^ 64 ≤ first + t.file
+
+-- the fault of a text that is refused takes memory: it is explained, or it cannot be told
+abbrev pub TakesMemory : ImportOptions → ℕ → Option FileText → Type 0
+TakesMemory o first t = (o.explain ≡ true) ⊎ IsUncounted first t
+
 -- the fault for this reason
 abbrev pub IsRefusedBy : ImportOptions → ℕ → List (List ℕ) → List TextAt → List FileText → ImportRefusal → Unimported → Type 0
 IsRefusedBy o first files cuts texts refused.NoteTooLong u = IsPlain (λ f. f ≡ cli.Refused (refusal.Office office.NoteTooLong)) u
-IsRefusedBy o first files cuts texts (refused.Refused at p) u = IsRefusedAt o first files cuts texts at p u ⊎ IsPlain (λ f. f ≡ cli.Memory) u
+IsRefusedBy o first files cuts texts (refused.Refused at p) u = IsRefusedAt o first files cuts texts at p u
+    ⊎ (IsPlain (λ f. f ≡ cli.Memory) u × TakesMemory o first (slice_get texts at))
 IsRefusedBy o first files cuts texts refused.CountSpent u = IsPlain (λ f. f ≡ cli.Refused (refusal.Office office.CountSpent)) u
 IsRefusedBy o first files cuts texts refused.Memory u = IsPlain (λ f. f ≡ cli.Memory) u
 
@@ -123,10 +136,42 @@ IsUnmadeOf o first x files cuts texts u = ((r : ImportRefusal) × Refuses o x te
 abbrev pub Makes : ImportOptions → ℕ → Content → List (List ℕ) → Content → List ℕ → Option Unimported → Type 0
 Makes o first x files y lines passed = (cuts : List TextAt) × (texts : List FileText) × HaveTexts files cuts texts × MakesOf o first x files cuts texts y lines passed
 
--- out of memory before they were read, or not imported; where the import ends at the first refused text, the texts after one that
+-- the fault of a text may take memory: its tokens and slots are right; or the number of its file, or the place of its fault, is none
+-- of 64 bits
+abbrev pub MayHide : ℕ → TextAt → Type 0
+MayHide first c = IsGrammatical c.bytes ⊎ ((2 ^ 64 ≤ first + c.file)
+    ⊎ ((f : DefinitionFault) × IsReading c.bytes (reading.Unread f) × (2 ^ 64 ≤ c.place + place_in (reading.Unread f))))
+
+-- refused texts are passed over, or explained; or there is no text, or the fault of the first may take memory
+abbrev pub MayHideFirst : ImportOptions → ℕ → List (List ℕ) → Type 0
+MayHideFirst o first files = (o.keep_going ≡ true) ⊎ ((o.explain ≡ true)
+    ⊎ (AreCuts 0 files [] ⊎ ((c : TextAt) × (later : List TextAt) × AreCuts 0 files (c ∷ later) × MayHide first c)))
+
+-- it is the fault of a text that is no definition, with its place and the number of its file
+abbrev pub IsFaultOf : ℕ → TextAt → ImportFault → Type 0
+IsFaultOf first c k = (f : DefinitionFault) × IsReading c.bytes (reading.Unread f)
+    × (k ≡ import.Refused (problem.Unread f) (c.place + place_in (reading.Unread f)) (first + c.file))
+
+-- the import ends at the first text of the files, which has this fault
+pub record EndsAtFirst (o : ImportOptions) (first : ℕ) (files : List (List ℕ)) (k : ImportFault) : Type 0 where
+  pub ends : o.keep_going ≡ false
+  pub unexplained : o.explain ≡ false
+  pub text : TextAt
+  pub later : List TextAt
+  pub cut : AreCuts 0 files (text ∷ later)
+  pub told : IsFaultOf first text k
+
+-- memory ran out while the texts were read. What takes no memory is told nevertheless: that the note is too long, and the fault of the
+-- first text, if the import ends there
+abbrev pub EndsEarly : ImportOptions → ℕ → Content → List (List ℕ) → Unimported → Type 0
+EndsEarly o first x files u = (IsPlain (λ f. f ≡ cli.Memory) u × (length o.note.now ≤ 200) × MayHideFirst o first files)
+    ⊎ ((IsPlain (λ f. f ≡ cli.Refused (refusal.Office office.NoteTooLong)) u × (200 < length o.note.now))
+    ⊎ (IsContent x × (length o.note.now ≤ 200) × EndsAtFirst o first files u.fault × (u.notes.items ≡ [])))
+
+-- the texts were not all read, or they are not imported; where the import ends at the first refused text, the texts after one that
 -- is no definition need not be read
 abbrev pub IsUnmade : ImportOptions → ℕ → Content → List (List ℕ) → Unimported → Type 0
-IsUnmade o first x files u = IsPlain (λ f. f ≡ cli.Memory) u
+IsUnmade o first x files u = EndsEarly o first x files u
     ⊎ ((cuts : List TextAt) × (texts : List FileText) × AreGiven o.keep_going files cuts texts × IsUnmadeOf o first x files cuts texts u)
 
 -- ---- files

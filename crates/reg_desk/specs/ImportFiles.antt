@@ -1,7 +1,9 @@
 -- Files of texts: the bytes that each gave, or why one gave none.
-use Rattle.std.specs.Prelude.{◌≡◌, ◌⊎◌, ◌+◌, ℕ, List, [], ◌∷◌, map}
+use Rattle.std.specs.Prelude.{◌≡◌, ◌⊎◌, ◌+◌, ◌^◌, ◌≤◌, ℕ, List, [], ◌∷◌, map, length}
 use Rattle.std.specs.declared.vec.Vec.{Vec}
 use Rattle.byte_io.specs.Device.{SourceState}
+use Rattle.byte_io.specs.Whole.{StopsEarly}
+use Rattle.reg_file.specs.Files.{most}
 use Rattle.reg_engine.specs.WholeFile.{Gives, IsFileFault}
 use Rattle.reg_engine.specs.declared.fault.InputFault.{InputFault}
 use Rattle.reg_engine.specs.declared.fault.CliFault.{CliFault}
@@ -28,11 +30,30 @@ StopsAt number k f (o ∷ os) [] = ⊥
 StopsAt number k f (o ∷ os) (n ∷ ns) = ((k ≡ number) × IsFileFault f o n × (ns ≡ os))
     ⊎ (((bytes : List ℕ) × Gives o n bytes) × StopsAt (number + 1) k f os ns)
 
+-- why the file with this number was not read; if memory ran out, it was not read to its end
+abbrev pub IsUnreadFile : ℕ → SourceState → SourceState → CliFault → Type 0
+IsUnreadFile number old new (cli.Refused r) = ⊥
+IsUnreadFile number old new (cli.File k f) = (k ≡ number) × IsFileFault f old new
+IsUnreadFile number old new (cli.Out f) = ⊥
+IsUnreadFile number old new cli.Memory = StopsEarly (most + 1) old new
+IsUnreadFile number old new (cli.Shelf p) = ⊥
+IsUnreadFile number old new (cli.Office t) = ⊥
+
+-- one file was not read to its end, since memory ran out: each before it gave its bytes, and those after it gave nothing
+abbrev pub RunsOutIn : List SourceState → List SourceState → Type 0
+RunsOutIn [] new = ⊥
+RunsOutIn (o ∷ os) [] = ⊥
+RunsOutIn (o ∷ os) (n ∷ ns) = (StopsEarly (most + 1) o n × (ns ≡ os)) ⊎ (((bytes : List ℕ) × Gives o n bytes) × RunsOutIn os ns)
+
+-- or their numbers have more than 64 bits, and none failed
+abbrev pub RunsOut : ℕ → List SourceState → List SourceState → Type 0
+RunsOut number old new = RunsOutIn old new ⊎ (NoneFails old new × (2 ^ 64 ≤ number + length old))
+
 -- the effect of a failed command on the files
 abbrev pub AreUnread : ℕ → List SourceState → List SourceState → CliFault → Type 0
 AreUnread number old new (cli.Refused r) = ⊥
 AreUnread number old new (cli.File k f) = StopsAt number k f old new
 AreUnread number old new (cli.Out f) = ⊥
-AreUnread number old new cli.Memory = NoneFails old new
+AreUnread number old new cli.Memory = RunsOut number old new
 AreUnread number old new (cli.Shelf p) = ⊥
 AreUnread number old new (cli.Office t) = ⊥

@@ -6,7 +6,7 @@ use Rattle.reg_office.specs.declared.fault.OfficeFault.{OfficeFault}
 use Rattle.reg_office.specs.declared.fault.OfficeFault.TheVariants as office
 use Rattle.reg_import.specs.declared.reading.ReadText.{ReadText}
 use Rattle.reg_import.specs.declared.action.TextAction.{TextAction}
-use Rattle.reg_import.specs.Plans.{Imports, IsImportRefusal}
+use Rattle.reg_import.specs.Plans.{MayRunOut, Imports, IsImportRefusal}
 use Rattle.reg_links.specs.declared.link.Link.{Link}
 use Rattle.reg_links.specs.Links.{links_in}
 use Rattle.reg_links.specs.Passing.{PassesOn, IsNotPassedOn}
@@ -28,7 +28,7 @@ pub record IsOnlyImported (o : ImportOptions) (x : Content) (readings : List Rea
   pub imports : Imports x o.replica o.note.now o.differs o.keep_going readings between told
   pub not_passed : IsNotPassedOn (links_in x.ops) between o.replica o.note.now f
 
--- why there is no result
+-- why there is no result. Memory may run out once it is known that the import does not end at its first text
 abbrev pub IsUnlinked : ImportOptions → Content → List ReadText → LinkRefusal → Type 0
 IsUnlinked o x readings (refusal.Import r) = IsImportRefusal x o.replica o.note.now o.differs o.keep_going readings r
-IsUnlinked o x readings (refusal.Office f) = IsOnlyImported o x readings f ⊎ (f ≡ office.Memory)
+IsUnlinked o x readings (refusal.Office f) = IsOnlyImported o x readings f ⊎ ((f ≡ office.Memory) × MayRunOut o.note.now o.keep_going readings)

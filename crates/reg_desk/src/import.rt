@@ -4,6 +4,7 @@ mod against;
 mod engine;
 mod fault;
 mod files;
+mod first;
 mod linked;
 mod notes;
 mod options;

@@ -1,5 +1,5 @@
 -- The first texts of an import, one of which is no definition: they are refused as all texts are.
-use Rattle.std.proofs.Common.{◌≡◌, ℕ, ◌+◌, Bool, true, false, List, [], ◌∷◌, ◌++◌, length, take, Some, refl, sym, ap, ◌∙◌, subst, zero, suc}
+use Rattle.std.proofs.Common.{◌≡◌, ℕ, ◌+◌, Bool, true, false, not, ◌&&◌, List, [], ◌∷◌, ◌++◌, length, take, Some, refl, sym, ap, ◌∙◌, subst, zero, suc}
 use Rattle.std.specs.List.{list_any, slice_get}
 use Rattle.std.proofs.lemmas.List.{map-append}
 use Rattle.std.proofs.lemmas.Bool.{true≢false, or_right}
@@ -17,7 +17,7 @@ use Rattle.reg_import.specs.declared.import.ImportRefusal.TheVariants as refusal
 use Rattle.reg_import.specs.Known.{At, by_key}
 use Rattle.reg_import.specs.Readings.{is_unread}
 use Rattle.reg_import.specs.Imports.{told_at, bodies_at, then_at, Step, imports, tolds, is_refused, NoneRefused}
-use Rattle.reg_import.specs.Plans.{AreSteps, IsFirstRefused, Imports, IsImportRefusal}
+use Rattle.reg_import.specs.Plans.{AreSteps, IsFirstRefused, begins_unread, Imports, IsImportRefusal}
 
 -- ---- lists
 
@@ -34,6 +34,10 @@ take_front (w ∷ xs) ys zero x h = refl
 take_front (w ∷ xs) ys (suc i) x h = ap (λ l. w ∷ l) (take_front xs ys i x h)
 
 -- ---- steps
+
+begins_front : (xs ys : List ReadText) → list_any is_unread xs ≡ true → begins_unread (xs ++ ys) ≡ begins_unread xs
+begins_front [] ys h = absurd cc
+begins_front (x ∷ xs) ys h = refl
 
 -- the steps of all texts begin with those of the first
 steps_on : (d : Differs) (r : List ℕ) (n : ℕ) (at : At) (xs ys : List ReadText) → (later : List Step) × (imports d r n at (xs ++ ys) ≡ imports d r n at xs ++ later)
@@ -74,7 +78,7 @@ module _ (x : Content) (r note : List ℕ) (d : Differs) (keep_going : Bool) (xs
   -- and the reason is that of all
   pub refusal_on : (ys : List ReadText) (f : ImportRefusal) → IsImportRefusal x r note d keep_going xs f → IsImportRefusal x r note d keep_going (xs ++ ys) f
   refusal_on ys refusal.NoteTooLong h = h
-  refusal_on ys refusal.Memory h = tt
+  refusal_on ys refusal.Memory h = (h.0, ap (λ b. not keep_going && b) (begins_front xs ys unread) ∙ h.1)
   refusal_on ys refusal.CountSpent h = absurd (unread_told x r d xs h.1.0 unread h.1.1 (h.1.2.0 ends))
   refusal_on ys (refusal.Refused i p) h =
       let es = h.1.1.0 in

@@ -175,7 +175,7 @@ lines_are (r ∷ rs) =
       | false ↦ ap (λ l. (r.definition ++ 10 ∷ []) ++ l) (lines_are rs)
     ]
 
-defined_rows : (x : Content) → IsContent x → (r : Row) → Contains (rows x.ops) r → IsDefinition r.definition
+pub defined_rows : (x : Content) → IsContent x → (r : Row) → Contains (rows x.ops) r → IsDefinition r.definition
 defined_rows x is r c = let p = row_is_entered x.ops r c in (is.are_operations (entering r.entry r.definition p.0) p.1).body
 
 all_canonical : (texts : List (List ℕ)) → ((text : List ℕ) → Contains texts text → IsDefinition text) → All IsCanonical texts

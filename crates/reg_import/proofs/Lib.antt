@@ -17,5 +17,6 @@ pub mod ReadingLemmas
 pub mod FrontLemmas
 pub mod LastLemmas
 pub mod LawLemmas
+pub mod AtOnceLemmas
 pub mod AheadLemmas
 pub mod ModeLemmas

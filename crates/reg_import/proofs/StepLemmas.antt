@@ -25,7 +25,7 @@ use Rattle.reg_op.specs.Ids.{Id}
 use Rattle.reg_import.specs.declared.summary.Found.{Found}
 use Rattle.reg_import.specs.Summary.{found, told_by}
 use Rattle.reg_import.specs.Imports.{least, any_entry, told_of, bodies_of, then_of, told_at, bodies_at, then_at, Step, imports, tolds, effects}
-use Rattle.reg_import.specs.Plans.{StepsOn, Lists}
+use Rattle.reg_import.specs.Plans.{StepsOn, StepTold, Lists}
 use Rattle.reg_import.proofs.NumberedLemmas.{numbered_append, length_numbered}
 use Rattle.reg_import.proofs.KnownLemmas.{put_again}
 use Rattle.reg_import.proofs.ToldLemmas.{told_has}
@@ -68,6 +68,23 @@ module _ (d : Differs) (r : List ℕ) (n : ℕ) (note text : List ℕ) (key : Ke
         made = ops ∙ ap (λ o. old ++ numbered r n note (bodies_of t text o.known)) found;
         index = λ q. index q ∙ put_again (key_bytes kt) (bytes_of key) (bucket_seen b') (then_of t key text (at (bytes_of key))) nothing_there at (key_bytes q) k (now ∙ ap (then_of t key text) found);
       }
+
+-- a text that is no definition is refused, and makes nothing
+pub step_unread : (d : Differs) (r : List ℕ) (n : ℕ) (note : List ℕ) (text : ReadText) (at : At) (m : BTreeMap KeyText EntriesOfKey) (ops : List Op) (before after : List TextAction) (f g : DefinitionFault)
+    → text ≡ reading.Unread f → g ≡ f → after ≡ before ++ told.Refused (problem.Unread g) ∷ [] → Indexes m at → StepTold d r n note text at m ops ops before after
+step_unread d r n note text at m ops before after f g is same pushed index =
+    subst (λ (t : ReadText). StepTold d r n note t at m ops ops before after) (sym is) (
+      told.Refused (problem.Unread f),
+      record { told = refl; made = sym (append-nil ops); index = index },
+      pushed ∙ ap (λ (h : DefinitionFault). before ++ told.Refused (problem.Unread h) ∷ []) same,
+    )
+
+-- a definition has its action, with a key that is the same
+pub step_defined_by : (d : Differs) (r : List ℕ) (n : ℕ) (note : List ℕ) (text : ReadText) (at : At) (m : BTreeMap KeyText EntriesOfKey) (old new : List Op) (before after : List TextAction) (t : TextAction) (definition : List ℕ) (key its : Key)
+    → text ≡ reading.Defined definition key → its ≡ key → after ≡ before ++ t ∷ [] → StepsOn d r n note (reading.Defined definition its) at m old new t → StepTold d r n note text at m old new before after
+step_defined_by d r n note text at m old new before after t definition key its is same pushed steps =
+    subst (λ (u : ReadText). StepTold d r n note u at m old new before after) (sym is)
+    (t, subst (λ (k : Key). StepsOn d r n note (reading.Defined definition k) at m old new t) same steps, pushed)
 
 -- ---- a loop over the texts
 

@@ -10,3 +10,5 @@ pub mod Gone
 pub mod Lines
 pub mod Listing
 pub mod Modes
+pub mod Packed
+pub mod PackedActions

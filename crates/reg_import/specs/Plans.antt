@@ -1,5 +1,5 @@
 -- The import of texts into a content, and why it is refused.
-use Rattle.std.specs.Prelude.{◌≡◌, ℕ, ◌+◌, ◌<◌, ◌≤◌, Bool, false, List, [], ◌∷◌, ◌++◌, map, length, take, slice_get, Some}
+use Rattle.std.specs.Prelude.{◌≡◌, ℕ, ◌+◌, ◌<◌, ◌≤◌, Bool, false, not, ◌&&◌, List, [], ◌∷◌, ◌++◌, map, length, take, slice_get, Some}
 use Rattle.std.specs.BTreeMap.{BTreeMap}
 use Rattle.reg_op.specs.Ids.{Id}
 use Rattle.reg_op.specs.Operations.{Op}
@@ -20,6 +20,7 @@ use Rattle.reg_import.specs.declared.index.KeyText.{KeyText}
 use Rattle.reg_import.specs.declared.entries_of_key.EntriesOfKey.{EntriesOfKey}
 use Rattle.reg_import.specs.Known.{At, AreStanding, by_key}
 use Rattle.reg_import.specs.Index.{Indexes}
+use Rattle.reg_import.specs.Readings.{is_unread}
 use Rattle.reg_import.specs.Imports.{told_at, bodies_at, then_at, Step, imports, tolds, effects, NoneRefused, NoneSpent}
 
 abbrev pub retired : List StandingEntry → List Body
@@ -83,11 +84,20 @@ pub record Imports (x : Content) (replica note : List ℕ) (differs : Differs) (
   pub ids : List Id
   pub does : Does x replica note (effects steps) new ids
 
--- why they are not: the note, then the first text that is refused and not passed over, then the numbers
+-- the first text is no definition
+abbrev pub begins_unread : List ReadText → Bool
+begins_unread [] = false
+begins_unread (r ∷ rs) = is_unread r
+
+-- memory may run out: the note is not too long, and the import does not end at its first text, whatever the register is
+abbrev pub MayRunOut : List ℕ → Bool → List ReadText → Type 0
+MayRunOut note keep_going readings = (length note ≤ 200) × ((not keep_going && begins_unread readings) ≡ false)
+
+-- why they are not: the note, then the first text that is refused and not passed over, then the numbers; or memory ran out
 abbrev pub IsImportRefusal : Content → List ℕ → List ℕ → Differs → Bool → List ReadText → ImportRefusal → Type 0
 IsImportRefusal x replica note differs keep_going readings refusal.NoteTooLong = 200 < length note
 IsImportRefusal x replica note differs keep_going readings (refusal.Refused at p) = (length note ≤ 200)
     × ((steps : List Step) × AreSteps x replica differs readings steps × IsRefusedPlan keep_going (tolds steps) (refusal.Refused at p))
 IsImportRefusal x replica note differs keep_going readings refusal.CountSpent = (length note ≤ 200)
     × ((steps : List Step) × AreSteps x replica differs readings steps × IsRefusedPlan keep_going (tolds steps) refusal.CountSpent)
-IsImportRefusal x replica note differs keep_going readings refusal.Memory = Unit {0}
+IsImportRefusal x replica note differs keep_going readings refusal.Memory = MayRunOut note keep_going readings

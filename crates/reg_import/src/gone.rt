@@ -26,7 +26,7 @@ fn put_key(
 {
     match reading {
         ReadText::Defined { definition: _, key } => {
-            let key = text_of(alloc, key)?;
+            let key = text_of(alloc, key.get())?;
             let _ = keys.insert(key)?;
             Ok(())
         }

@@ -1,18 +1,21 @@
 //! Importing many texts.
 
-ghost use Rattle.std.specs.Prelude.{◌≡◌, ◌+◌, ◌≤◌, length, IfOk, IfErr, IfSome, IfNone};
+ghost use Rattle.std.specs.Prelude.{◌≡◌, ◌+◌, ◌≤◌, ℕ, List, length, IfOk, IfErr, IfSome, IfNone};
 ghost use Rattle.std.specs.List.{list_any};
 ghost use Rattle.reg_op.specs.Set as set;
 ghost use Rattle.reg_op.specs.Lists.{ById};
+ghost use Rattle.reg_op.specs.Contents.{Content, IsContent};
 ghost use Rattle.reg_office.specs.Making.{greatest};
 ghost use Rattle.reg_import.specs.Readings.{readings};
 ghost use Rattle.reg_import.specs.Imports.{is_spent, NoneRefused};
-ghost use Rattle.reg_import.specs.Plans.{IsFirstRefused, IsRefusedPlan, IsPassedPlan, Plans, Imports, IsImportRefusal};
+ghost use Rattle.reg_import.specs.declared.action.Differs.{Differs};
+ghost use Rattle.reg_import.specs.Plans.{MayRunOut, IsFirstRefused, IsRefusedPlan, IsPassedPlan, Plans, Imports, IsImportRefusal};
 
 use crate::action::{Differs, Problem, TextAction};
 use crate::making::join_ops;
+use crate::packed_action::PackedAction;
 use crate::plan::{Plan, plan_of};
-use crate::reading::FileText;
+use crate::reading::{FileText, ReadText};
 use reg_office::note_of;
 use reg_op::Note;
 use reg_state::Register;
@@ -23,7 +26,7 @@ use uuid::Uuid;
 #[derive(Drop)]
 pub struct Imported {
     pub register: Register,
-    pub told: Vec<TextAction>,
+    pub told: Vec<PackedAction>,
 }
 
 /// Why an import is refused.
@@ -46,26 +49,32 @@ pub struct Refused {
 }
 
 /// The first text that is refused.
-pub fn first_refused(told: &[TextAction]) -> Option<Refused>
+pub fn first_refused(told: &[PackedAction]) -> Option<Refused>
     ensures some { IfSome result (λ f. IsFirstRefused told.now f.at f.problem) }
     ensures none { IfNone result (NoneRefused told.now) }
 {
     for (at, this) in told.iter().enumerate() {
-        if let TextAction::Refused(problem) = *this {
+        if let TextAction::Refused(problem) = this.get() {
             return Some(Refused { at, problem });
         }
     }
     None
 }
 
-fn some_spent(told: &[TextAction]) -> bool
+fn is_spent(told: &PackedAction) -> bool
+    ensures { result ≡ is_spent told.now }
+{
+    told.get().is_spent()
+}
+
+fn some_spent(told: &[PackedAction]) -> bool
     ensures { result ≡ list_any is_spent told.now }
 {
-    told.iter().any(|this| this.is_spent())
+    told.iter().any(|this| is_spent(this))
 }
 
 // Why the plan is refused.
-fn refusal_of(told: &[TextAction], keep_going: bool) -> Option<ImportRefusal>
+fn refusal_of(told: &[PackedAction], keep_going: bool) -> Option<ImportRefusal>
     ensures some { IfSome result (IsRefusedPlan keep_going told.now) }
     ensures none { IfNone result (IsPassedPlan keep_going told.now) }
 {
@@ -78,6 +87,33 @@ fn refusal_of(told: &[TextAction], keep_going: bool) -> Option<ImportRefusal>
         return Some(ImportRefusal::CountSpent);
     }
     None
+}
+
+/// Why an import is refused whatever its register is. No memory is needed to tell it.
+pub fn refused_at_once(note: &str, keep_going: bool, texts: &[FileText]) -> Option<ImportRefusal>
+    ensures some { (x : Content) (replica : List ℕ) (differs : Differs) → IsContent x
+        → IfSome result (IsImportRefusal x replica note.now differs keep_going (readings texts.now)) }
+    ensures none { IfNone result (MayRunOut note.now keep_going (readings texts.now)) }
+{
+    if note.len() > Note::MAX {
+        return Some(ImportRefusal::NoteTooLong);
+    }
+    if keep_going {
+        return None;
+    }
+    let Some((text, _)) = texts.split_first() else {
+        return None;
+    };
+    match &text.reading {
+        ReadText::Unread(fault) => Some(ImportRefusal::Refused {
+            at: 0,
+            problem: Problem::Unread(fault.get()),
+        }),
+        ReadText::Defined {
+            definition: _,
+            key: _,
+        } => None,
+    }
 }
 
 // The plan of a command with this note.
@@ -114,8 +150,9 @@ pub fn import_texts(
     ensures ok { IfOk result (λ made. Imports register replica note.now differs keep_going (readings texts.now) made.register made.told.items) }
     ensures fault { IfErr result (IsImportRefusal register replica note.now differs keep_going (readings texts.now)) }
 {
-    if note.len() > Note::MAX {
-        return Err(ImportRefusal::NoteTooLong);
+    let _content = register.seen();
+    if let Some(refusal) = refused_at_once(note, keep_going, texts) {
+        return Err(refusal);
     }
     let Ok(plan) = planned(alloc, &register, replica, note, differs, texts) else {
         return Err(ImportRefusal::Memory);

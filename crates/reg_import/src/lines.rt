@@ -4,6 +4,7 @@ ghost use Rattle.std.specs.Prelude.{◌≡◌, ◌++◌, [], ◌∷◌, ℕ, Lis
 ghost use Rattle.std.specs.String.{string_bytes};
 ghost use Rattle.reg_op.specs.Text.{printed};
 ghost use Rattle.reg_report.specs.Lines.{IsSheet, IsReady, WritesRow};
+ghost use Rattle.reg_import.specs.Readings.{name_bytes};
 ghost use Rattle.reg_import.specs.Lines.{Line, lines_of, action_word, entry_text, fault_words, problem_words, problem_text, fault_text, name_at, import_header, line_fields, IsImportLine};
 
 use crate::action::{Problem, TextAction};
@@ -210,6 +211,16 @@ fn write_named(
     Ok(())
 }
 
+// The first text in quotation marks, of a text that is no definition.
+fn quoted_name(text: &FileText) -> &[u8]
+    ensures { result.now ≡ name_bytes text.now.quoted }
+{
+    match &text.quoted {
+        Some(name) => name.get().as_slice(),
+        None => b"",
+    }
+}
+
 /// Writes the line of a text.
 pub fn write_line(
     alloc: Global,
@@ -223,6 +234,7 @@ pub fn write_line(
 {
     match &text.reading {
         ReadText::Defined { definition, key } => {
+            let key = key.get();
             let authority = key.authority.as_bytes();
             let code = key.code.as_bytes();
             let name = definition.name().as_bytes();
@@ -230,7 +242,8 @@ pub fn write_line(
             Ok(())
         }
         ReadText::Unread(_) => {
-            write_named(alloc, wtr, names, text, told, b"", b"", &text.quoted)?;
+            let name = quoted_name(text);
+            write_named(alloc, wtr, names, text, told, b"", b"", name)?;
             Ok(())
         }
     }

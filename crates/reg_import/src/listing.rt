@@ -12,6 +12,7 @@ ghost use Rattle.reg_import.specs.Listing.{AreGoneOf, WritesLines, WritesMade, I
 use crate::action::TextAction;
 use crate::gone::gone;
 use crate::lines::{write_header, write_line};
+use crate::packed_action::PackedAction;
 use crate::reading::FileText;
 use csv::Writer;
 use reg_report::{Row, printed, write_fields};
@@ -57,7 +58,7 @@ fn write_texts(
     wtr: &mut Writer<Vec<u8>>,
     listing: &Listing<'_>,
     texts: &[FileText],
-    told: &[TextAction],
+    told: &[PackedAction],
 ) -> Result<(), AllocError>
     requires { IsReady wtr.old }
     ensures { OnOk result (WritesLines (IsImportLine (map string_bytes listing.now.names.now)) (filter (is_shown listing.now.changes) (lines_of texts.now told.now)) wtr.old wtr.new) }
@@ -68,7 +69,7 @@ fn write_texts(
         texts.split_first(),
         told.split_first(),
     ) {
-        write_where_shown(alloc, wtr, listing, text, this)?;
+        write_where_shown(alloc, wtr, listing, text, &this.get())?;
         texts = others;
         told = later;
     }
@@ -143,7 +144,7 @@ fn write_made(
     wtr: &mut Writer<Vec<u8>>,
     listing: &Listing<'_>,
     texts: &[FileText],
-    told: &[TextAction],
+    told: &[PackedAction],
     linked: &[Row],
 ) -> Result<(), AllocError>
     requires { IsReady wtr.old }
@@ -161,7 +162,7 @@ pub fn lines_text(
     listing: &Listing<'_>,
     register: &Register,
     texts: &[FileText],
-    told: &[TextAction],
+    told: &[PackedAction],
     linked: &[Row],
 ) -> Result<Vec<u8>, AllocError>
     ensures { IfOk result (λ text. IsListing listing.now register.now.ops texts.now told.now (map row_seen linked.now) text.items) }

@@ -12,6 +12,7 @@ use crate::action::{Differs, Problem, TextAction, told_of};
 use crate::entries_of_key::EntriesOfKey;
 use crate::index::{KeyText, index_of, put, take, text_of};
 use crate::making::{count_of, push_ops};
+use crate::packed_action::PackedAction;
 use crate::reading::{FileText, ReadText};
 use crate::standing_entry::StandingEntry;
 use crs_part::TryClone;
@@ -27,7 +28,7 @@ use wkt_crs::Definition;
 /// The actions, and all operations.
 #[derive(Drop)]
 pub struct Plan {
-    pub told: Vec<TextAction>,
+    pub told: Vec<PackedAction>,
     pub ops: Vec<Op>,
 }
 
@@ -145,13 +146,21 @@ fn step_defined(
     Ok(told)
 }
 
+// Appends an action.
+fn push_action(told: &mut Vec<PackedAction>, action: TextAction) -> Result<(), AllocError>
+    ensures { OnOk result (told.new.items ≡ told.old.items ++ action ∷ []) }
+{
+    told.push(PackedAction::of(action))?;
+    Ok(())
+}
+
 // Imports a text, and appends its action.
 fn step(
     alloc: Global,
     rules: &Rules<'_>,
     made: &mut Made,
     reading: &ReadText,
-    told: &mut Vec<TextAction>,
+    told: &mut Vec<PackedAction>,
 ) -> Result<(), AllocError>
     requires positive { 0 < rules.now.first }
     requires fits { rules.now.first + length made.old.ops.items ≤ 4294967296 }
@@ -160,12 +169,13 @@ fn step(
 {
     match reading {
         ReadText::Unread(fault) => {
-            told.push(TextAction::Refused(Problem::Unread(*fault)))?;
+            let this = TextAction::Refused(Problem::Unread(fault.get()));
+            push_action(told, this)?;
             Ok(())
         }
         ReadText::Defined { definition, key } => {
-            let this = step_defined(alloc, rules, made, definition, key)?;
-            told.push(this)?;
+            let this = step_defined(alloc, rules, made, definition, key.get())?;
+            push_action(told, this)?;
             Ok(())
         }
     }

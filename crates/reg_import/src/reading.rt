@@ -1,10 +1,13 @@
 //! Readings of texts.
 
-ghost use Rattle.std.specs.Prelude.{◌≡◌, ◌+◌, IfOk, IfSome};
-ghost use Rattle.reg_import.specs.Readings.{IsReading, is_unread, place_in, quoted_in, IsFileText};
+ghost use Rattle.std.specs.Prelude.{◌≡◌, ◌+◌, ◌^◌, ◌≤◌, IfOk, IfSome, IfNone};
+ghost use Rattle.wkt_crs.specs.Definition.{IsKeyIn};
+ghost use Rattle.reg_import.specs.Quoted.{shown_quoted};
+ghost use Rattle.reg_import.specs.Readings.{IsReading, is_unread, place_in, name_bytes, quoted_in, IsFileText};
 
+use crate::packed::PackedFault;
 use crate::quoted::shown_quoted;
-use crs_part::TryClone;
+use crs_part::{Boxed, TryClone};
 use crs_value::Key;
 use std::alloc::{AllocError, Global};
 use wkt_crs::{Definition, DefinitionFault};
@@ -12,10 +15,13 @@ use wkt_crs::{Definition, DefinitionFault};
 /// The reading of a text.
 #[derive(Drop)]
 pub enum ReadText {
-    /// A definition, and its key.
-    Defined { definition: Definition, key: Key },
+    /// A definition, and its key, which is boxed so that a text without one takes little.
+    Defined {
+        definition: Definition,
+        key: Boxed<Key>,
+    },
     /// Not a definition, for this reason.
-    Unread(DefinitionFault),
+    Unread(PackedFault),
 }
 
 impl ReadText {
@@ -34,19 +40,20 @@ impl ReadText {
 }
 
 /// A text of a file: the index of the file, from 0; the offset of its first byte; the offset that is reported if it is
-/// rejected; its reading; and, if it is no definition, its first text in quotation marks.
+/// rejected; its reading; and, if it is no definition, its first text in quotation marks, unless that is empty.
 #[derive(Drop)]
 pub struct FileText {
     pub file: usize,
     pub place: usize,
     pub at: usize,
     pub reading: ReadText,
-    pub quoted: Vec<u8>,
+    pub quoted: Option<Boxed<Vec<u8>>>,
 }
 
-// The place of a text's fault, or its first byte, in the file. The text begins at this place.
-fn told_at(place: usize, reading: &ReadText) -> Option<usize>
-    ensures { IfSome result (λ at. at ≡ place + place_in reading.now) }
+/// The place of a text's fault, or its first byte, in the file, if it is a number of 64 bits. The text begins at this place.
+pub fn told_at(place: usize, reading: &ReadText) -> Option<usize>
+    ensures some { IfSome result (λ at. at ≡ place + place_in reading.now) }
+    ensures none { IfNone result (2 ^ 64 ≤ place + place_in reading.now) }
 {
     match reading {
         ReadText::Defined {
@@ -85,16 +92,42 @@ pub fn read_at(
 }
 
 // The first text in quotation marks as UTF-8, in a text that is no definition.
-fn quoted_in(alloc: Global, text: &[u8], reading: &ReadText) -> Result<Vec<u8>, AllocError>
-    ensures { IfOk result (λ quoted. quoted.items ≡ quoted_in text.now reading.now) }
+fn quoted_in(
+    alloc: Global,
+    text: &[u8],
+    reading: &ReadText,
+) -> Result<Option<Boxed<Vec<u8>>>, AllocError>
+    ensures { IfOk result (λ quoted. name_bytes quoted ≡ quoted_in text.now reading.now) }
 {
     match reading {
         ReadText::Defined {
             definition: _,
             key: _,
-        } => Ok(Vec::new(alloc)),
-        ReadText::Unread(_) => shown_quoted(alloc, text),
+        } => Ok(None),
+        ReadText::Unread(_) => some_quoted(alloc, text),
     }
+}
+
+// The first text in quotation marks as UTF-8, if there is one, and it is not empty.
+fn some_quoted(alloc: Global, text: &[u8]) -> Result<Option<Boxed<Vec<u8>>>, AllocError>
+    ensures { IfOk result (λ quoted. name_bytes quoted ≡ shown_quoted text.now) }
+{
+    let shown = shown_quoted(alloc, text)?;
+    let bytes = shown.as_slice();
+    if bytes.is_empty() {
+        return Ok(None);
+    }
+    let boxed = Boxed::new(alloc, shown)?;
+    Ok(Some(boxed))
+}
+
+// The key of a definition.
+fn boxed_key(alloc: Global, definition: &Definition) -> Result<Boxed<Key>, AllocError>
+    ensures { IfOk result (λ key. IsKeyIn key definition.now) }
+{
+    let key = definition.key().try_clone(alloc)?;
+    let boxed = Boxed::new(alloc, key)?;
+    Ok(boxed)
 }
 
 // Reads a text.
@@ -103,10 +136,10 @@ fn read_text(alloc: Global, text: &[u8]) -> Result<ReadText, AllocError>
 {
     match Definition::from_text(alloc, text) {
         Ok(definition) => {
-            let key = definition.key().try_clone(alloc)?;
+            let key = boxed_key(alloc, &definition)?;
             Ok(ReadText::Defined { definition, key })
         }
         Err(DefinitionFault::Memory) => Err(AllocError),
-        Err(fault) => Ok(ReadText::Unread(fault)),
+        Err(fault) => Ok(ReadText::Unread(PackedFault::of(fault))),
     }
 }

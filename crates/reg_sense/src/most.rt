@@ -223,7 +223,7 @@ fn each_told<'a>(
     requires most { HasMost (map voice claimants.now) best.now (all_claims (map voice claimants.now)) }
     ensures { IfOk result (λ made. map detail_seen made.items ≡ map (λ (c : Claimant). told_against (map voice claimants.now) (voice c)) claimants.now) }
 {
-    let mut made = Vec::new(alloc);
+    let mut made = Vec::with_capacity(alloc, claimants.len())?;
     for claimant in claimants {
         made.push(first_odd(alloc, tallies, best, claimant.claims.as_slice())?)?;
     }

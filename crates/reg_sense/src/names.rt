@@ -74,7 +74,7 @@ pub(crate) fn told_names(
     ensures { IfOk result (λ made. map detail_seen made.items ≡ map (λ (c : Claimant). told_names (map (λ (name : Vec ℕ). name.items) names.now) (voice c)) claimants.now) }
 {
     let set = set_of(alloc, names)?;
-    let mut made = Vec::new(alloc);
+    let mut made = Vec::with_capacity(alloc, claimants.len())?;
     for claimant in claimants {
         made.push(first_name(alloc, &set, claimant.claims.as_slice())?)?;
     }

@@ -116,7 +116,7 @@ fn named_claims(alloc: Global, crs: &CrsParts) -> Result<Vec<Claim>, AllocError>
 {
     let word = kind_and_name(alloc, crs)?;
     let content = without_names(alloc, crs)?;
-    let mut claims = Vec::new(alloc);
+    let mut claims = Vec::with_capacity(alloc, 1)?;
     claims.push(Claim {
         word,
         content,
@@ -129,7 +129,7 @@ fn whole_claims(alloc: Global, crs: &CrsParts) -> Result<Vec<Claim>, AllocError>
     ensures { IfOk result (λ claims. map claim_seen claims.items ≡ whole_claim crs.now ∷ []) }
 {
     let word = without_names(alloc, crs)?;
-    let mut claims = Vec::new(alloc);
+    let mut claims = Vec::with_capacity(alloc, 1)?;
     claims.push(Claim {
         word,
         content: Vec::new(alloc),

@@ -129,7 +129,7 @@ pub(crate) fn told_twins(
     ensures { IfOk result (λ made. map detail_seen made.items ≡ map (λ (c : Claimant). told_twin (map voice claimants.now) (voice c)) claimants.now) }
 {
     let firsts = firsts_of(alloc, claimants)?;
-    let mut made = Vec::new(alloc);
+    let mut made = Vec::with_capacity(alloc, claimants.len())?;
     for claimant in claimants {
         made.push(first_twin(alloc, &firsts, claimant)?)?;
     }

@@ -1,23 +1,28 @@
 //! The faults of refused texts.
 
-ghost use Rattle.std.specs.Prelude.{◌≡◌, map, IfOk, IfSome};
+ghost use Rattle.std.specs.Prelude.{◌≡◌, true, map, slice_get, IfOk, IfErr, IfSome, IfNone};
 ghost use Rattle.reg_desk.specs.ImportFiles.{bytes_of};
 ghost use Rattle.reg_desk.specs.ImportTexts.{text_at};
-ghost use Rattle.reg_desk.specs.Import.{IsAgainst, if_explained, note_at, all_notes, IsRefusedAt, IsPassed};
+ghost use Rattle.reg_desk.specs.Import.{IsAgainst, IsUncounted, TakesMemory, if_explained, note_at, all_notes, IsRefusedAt, IsPassed};
 
 use crate::import::fault::{ImportFault, Unimported};
 use crate::import::notes::{note_of, notes_of};
 use crate::import::options::ImportOptions;
 use crate::import::texts::FileCut;
-use reg_import::{FileText, Problem, Refused, TextAction, first_refused};
+use reg_import::{FileText, PackedAction, Problem, Refused, TextAction, first_refused};
 use std::alloc::{AllocError, Global};
 
 // Why a text is rejected. The file with index 0 has this number among the files that are read.
 fn fault_of(first: usize, texts: &[FileText], refused: &Refused) -> Option<ImportFault>
-    ensures { IfSome result (IsAgainst first texts.now refused.now.at refused.now.problem) }
+    ensures some { IfSome result (IsAgainst first texts.now refused.now.at refused.now.problem) }
+    ensures none { IfNone result (IsUncounted first (slice_get texts.now refused.now.at)) }
 {
-    let text = texts.get(refused.at)?;
-    let file = first.checked_add(text.file)?;
+    let Some(text) = texts.get(refused.at) else {
+        return None;
+    };
+    let Some(file) = first.checked_add(text.file) else {
+        return None;
+    };
     Some(ImportFault::Refused {
         problem: refused.problem,
         place: text.at,
@@ -33,19 +38,20 @@ fn note_at(
     cuts: &[FileCut<'_>],
     refused: &Refused,
 ) -> Result<Vec<u8>, AllocError>
-    ensures { IfOk result (λ note. note.items ≡ if_explained order.now (note_at order.now (bytes_of files.now) (map text_at cuts.now) refused.now.at refused.now.problem)) }
+    ensures note { IfOk result (λ note. note.items ≡ if_explained order.now (note_at order.now (bytes_of files.now) (map text_at cuts.now) refused.now.at refused.now.problem)) }
+    ensures memory { IfErr result (λ e. order.now.explain ≡ true) }
 {
     if !order.explain {
         return Ok(Vec::new(alloc));
     }
     match cuts.get(refused.at) {
-        Some(cut) => note_of(
-            alloc,
-            order.names,
-            files,
-            cut,
-            TextAction::Refused(refused.problem),
-        ),
+        Some(cut) => {
+            let told = TextAction::Refused(refused.problem);
+            match note_of(alloc, order.names, files, cut, told) {
+                Ok(note) => Ok(note),
+                Err(_) => Err(AllocError),
+            }
+        }
         None => Ok(Vec::new(alloc)),
     }
 }
@@ -60,7 +66,8 @@ pub fn refused_here(
     texts: &[FileText],
     refused: &Refused,
 ) -> Result<Unimported, AllocError>
-    ensures { IfOk result (λ u. IsRefusedAt order.now first (bytes_of files.now) (map text_at cuts.now) texts.now refused.now.at refused.now.problem u) }
+    ensures refused { IfOk result (λ u. IsRefusedAt order.now first (bytes_of files.now) (map text_at cuts.now) texts.now refused.now.at refused.now.problem u) }
+    ensures memory { IfErr result (λ e. TakesMemory order.now first (slice_get texts.now refused.now.at)) }
 {
     let Some(fault) = fault_of(first, texts, refused) else {
         return Err(AllocError);
@@ -77,7 +84,7 @@ fn all_notes(
     order: &ImportOptions<'_>,
     files: &[Vec<u8>],
     cuts: &[FileCut<'_>],
-    told: &[TextAction],
+    told: &[PackedAction],
 ) -> Result<Vec<u8>, AllocError>
     ensures { IfOk result (λ notes. notes.items ≡ if_explained order.now (all_notes order.now (bytes_of files.now) (map text_at cuts.now) told.now)) }
 {
@@ -95,7 +102,7 @@ pub fn passed_over(
     files: &[Vec<u8>],
     cuts: &[FileCut<'_>],
     texts: &[FileText],
-    told: &[TextAction],
+    told: &[PackedAction],
 ) -> Result<Option<Unimported>, AllocError>
     ensures { IfOk result (IsPassed order.now first (bytes_of files.now) (map text_at cuts.now) texts.now told.now) }
 {

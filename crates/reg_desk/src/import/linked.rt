@@ -5,7 +5,7 @@ ghost use Rattle.reg_import.specs.Readings.{readings};
 ghost use Rattle.reg_desk.specs.ImportLinks.{ImportsLinked, IsUnlinked};
 
 use crate::import::options::ImportOptions;
-use reg_import::{FileText, ImportRefusal, Imported, TextAction, import_texts};
+use reg_import::{FileText, ImportRefusal, Imported, PackedAction, import_texts, refused_at_once};
 use reg_links::{Link, Passed, links, pass_on};
 use reg_office::{Office, OfficeFault};
 use reg_state::Register;
@@ -15,7 +15,7 @@ use std::alloc::Global;
 #[derive(Drop)]
 pub struct Linked {
     pub register: Register,
-    pub told: Vec<TextAction>,
+    pub told: Vec<PackedAction>,
     pub links: Vec<Link>,
 }
 
@@ -36,6 +36,10 @@ pub fn import_linked(
     ensures ok { IfOk result (λ l. ImportsLinked order.now register (readings texts.now) l.register l.told.items l.links.items) }
     ensures fault { IfErr result (IsUnlinked order.now register (readings texts.now)) }
 {
+    let _content = register.seen();
+    if let Some(refusal) = refused_at_once(order.note, order.keep_going, texts) {
+        return Err(LinkRefusal::Import(refusal));
+    }
     let Ok(before) = links(alloc, &register) else {
         return Err(LinkRefusal::Import(ImportRefusal::Memory));
     };

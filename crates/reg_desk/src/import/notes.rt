@@ -7,7 +7,7 @@ ghost use Rattle.reg_desk.specs.ImportTexts.{text_at};
 ghost use Rattle.reg_desk.specs.ImportNotes.{name_of, content_of, note_in, note_of, notes_of};
 
 use crate::import::texts::FileCut;
-use reg_import::{Problem, TextAction};
+use reg_import::{PackedAction, Problem, TextAction};
 use std::alloc::{AllocError, Global};
 use wkt_crs::DefinitionFault;
 use wkt_explain::Explainer;
@@ -67,6 +67,20 @@ fn note_by(
     }
 }
 
+// The same for an action that is kept in few bytes.
+fn note_for(
+    alloc: Global,
+    name: &str,
+    explainer: &mut Explainer<'_>,
+    cut: &FileCut<'_>,
+    told: &PackedAction,
+) -> Result<Vec<u8>, AllocError>
+    ensures note { IfOk result (λ note. note.items ≡ note_in name.now explainer.old (text_at cut.now) told.now) }
+    ensures file { explainer.new ≡ explainer.old }
+{
+    note_by(alloc, name, explainer, cut, told.get())
+}
+
 /// The explanation for the outcome of a text.
 pub fn note_of(
     alloc: Global,
@@ -87,7 +101,7 @@ pub fn notes_of(
     names: &[String],
     files: &[Vec<u8>],
     cuts: &[FileCut<'_>],
-    told: &[TextAction],
+    told: &[PackedAction],
 ) -> Result<Vec<u8>, AllocError>
     ensures { IfOk result (λ notes. notes.items ≡ notes_of (map string_bytes names.now) (bytes_of files.now) (map text_at cuts.now) told.now) }
 {
@@ -100,7 +114,7 @@ pub fn notes_of(
             explainer = Explainer::new(content_of(files, file));
         }
         let name = name_of(names, file);
-        let note = note_by(alloc, name, &mut explainer, &cuts[i], told[i])?;
+        let note = note_for(alloc, name, &mut explainer, &cuts[i], &told[i])?;
         notes.extend_from_slice(&note)?;
     }
     Ok(notes)

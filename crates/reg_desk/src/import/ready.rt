@@ -11,6 +11,7 @@ ghost use Rattle.reg_desk.specs.Import.{AreLines, IsRefusedBy, MakesOf, IsUnmade
 use crate::import::against::{passed_over, refused_here};
 use crate::import::fault::Unimported;
 use crate::import::files::read_files;
+use crate::import::first::run_out;
 use crate::import::linked::{LinkRefusal, Linked, import_linked};
 use crate::import::options::ImportOptions;
 use crate::import::texts::{FileCut, read_texts};
@@ -154,8 +155,9 @@ fn made(
     ensures made { IfOk result (λ r. Makes order.now first register (bytes_of files.now) r.register r.lines.items r.passed) }
     ensures fault { IfErr result (IsUnmade order.now first register (bytes_of files.now)) }
 {
+    let _content = register.seen();
     let Ok(given) = read_texts(alloc, order.keep_going, files) else {
-        return Err(Unimported::plain(alloc, CliFault::Memory));
+        return Err(run_out(alloc, first, order, files));
     };
     match made_of(
         alloc,

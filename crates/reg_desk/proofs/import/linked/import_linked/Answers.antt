@@ -3,6 +3,9 @@ use Rattle.reg_import.specs.Readings.{readings}
 use Rattle.reg_desk.proofs.LinkedLemmas.{only_imported, linked_from}
 use Rattle.reg_desk.proofs.import.linked.import_linked.Goals as goal
 
+pub returns-in-Some-clause-fault : goal.returns-in-Some-clause-fault
+returns-in-Some-clause-fault c = c.in-Some.ensures.some c.args.register c.args.order.now.replica c.args.order.now.differs c.seen-content.ensures.content
+
 pub returns-in-Err-pass_on-clause-fault : goal.returns-in-Err-pass_on-clause-fault
 returns-in-Err-pass_on-clause-fault c =
     only_imported c.args.order.now c.args.register c.in-Ok-import_texts.imported.register c.new-office.result.register c.new-office.result.replica c.deref.result.now (readings c.args.texts.now) c.in-Ok-import_texts.imported.told.items

@@ -1,4 +1,4 @@
-use Rattle.std.proofs.Common.{List, map, subst}
+use Rattle.std.proofs.Common.{List, map, subst, inl}
 use Rattle.reg_import.specs.declared.reading.FileText.{FileText}
 use Rattle.reg_desk.specs.declared.import.texts.FileCut.{FileCut}
 use Rattle.reg_desk.specs.ImportFiles.{bytes_of}
@@ -6,6 +6,9 @@ use Rattle.reg_desk.specs.ImportTexts.{text_at}
 use Rattle.reg_desk.specs.Import.{MakesOf, IsUnmadeOf}
 use Rattle.reg_desk.proofs.GivenLemmas.{given_made, given_unmade}
 use Rattle.reg_desk.proofs.import.ready.made.Goals as goal
+
+pub returns-in_default-clause-fault : goal.returns-in_default-clause-fault
+returns-in_default-clause-fault c = inl (c.run_out.ensures c.args.register c.seen-content.ensures.content)
 
 pub returns-in-Ok-made_of-clause-made : goal.returns-in-Ok-made_of-clause-made
 returns-in-Ok-made_of-clause-made c =

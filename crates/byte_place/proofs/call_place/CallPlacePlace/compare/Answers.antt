@@ -1,0 +1,34 @@
+use Rattle.std.proofs.Common.{◌≡◌, ◌∷◌, true, false, refl, rules}
+use Rattle.std.proofs.Math.Logic.{∥∥₁_map}
+use Rattle.byte_system.specs.Disk.{Compares, Fails}
+use Rattle.byte_system.specs.System.{calls}
+use Rattle.byte_place.specs.declared.progress.At.TheVariants as at
+use Rattle.byte_place.proofs.Courses.{as_at, compared, changed}
+use Rattle.byte_place.proofs.call_place.CallPlacePlace.compare.Goals as goal
+
+pub invariant_of-self : goal.invariant_of-self
+invariant_of-self g c =
+    let p = c.args.self.now in
+    let i = c.in-Synced.file in
+    let old = calls (g.S.System.state p.system) in
+    let new = calls (g.S.System.state c.has.new.self) in
+    let e : new ≡ Compares p.out.now c.args.read.now true ∷ old = search rules in
+    record { course = ∥∥₁_map (as_at p.out.now p.beside.now p.taken.bytes p.unread p.at (at.Synced i) old c.in-Synced.is p.course) (λ k. compared p.out.now p.beside.now p.taken.bytes c.args.read.now p.unread i old new k e) }
+
+pub invariant_of-self-in-Ok-false : goal.invariant_of-self-in-Ok-false
+invariant_of-self-in-Ok-false g c =
+    let p = c.args.self.now in
+    let i = c.in-Synced.file in
+    let old = calls (g.S.System.state p.system) in
+    let new = calls (g.S.System.state c.has.new.self) in
+    let e : new ≡ Compares p.out.now c.args.read.now false ∷ old = search rules in
+    record { course = ∥∥₁_map (as_at p.out.now p.beside.now p.taken.bytes p.unread p.at (at.Synced i) old c.in-Synced.is p.course) (λ k. changed p.out.now p.beside.now p.taken.bytes p.unread i (Compares p.out.now c.args.read.now false) old new (λ d m. refl) k e) }
+
+pub invariant_of-self-in-Err : goal.invariant_of-self-in-Err
+invariant_of-self-in-Err g c =
+    let p = c.args.self.now in
+    let i = c.in-Synced.file in
+    let old = calls (g.S.System.state p.system) in
+    let new = calls (g.S.System.state c.has.new.self) in
+    let e : new ≡ Fails ∷ old = search rules in
+    record { course = ∥∥₁_map (as_at p.out.now p.beside.now p.taken.bytes p.unread p.at (at.Synced i) old c.in-Synced.is p.course) (λ k. changed p.out.now p.beside.now p.taken.bytes p.unread i Fails old new (λ d m. refl) k e) }

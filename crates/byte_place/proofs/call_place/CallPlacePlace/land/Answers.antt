@@ -1,0 +1,31 @@
+use Rattle.std.proofs.Common.{◌≡◌, ◌∷◌, refl, sym, rules}
+use Rattle.std.proofs.Math.Logic.{∥∥₁_map}
+use Rattle.byte_system.specs.Disk.{SyncsFolder, Fails}
+use Rattle.byte_system.specs.System.{calls}
+use Rattle.byte_place.specs.declared.progress.At.TheVariants as at
+use Rattle.byte_place.proofs.Courses.{as_at, landed}
+use Rattle.byte_place.proofs.call_place.CallPlacePlace.land.Goals as goal
+
+pub invariant_of-self-in-Ok : goal.invariant_of-self-in-Ok
+invariant_of-self-in-Ok g c =
+    let p = c.args.self.now in
+    let old = calls (g.S.System.state p.system) in
+    let new = calls (g.S.System.state c.sync_folder.new.self) in
+    let e : new ≡ SyncsFolder p.out.now ∷ old = search rules in
+    record { course = as_at p.out.now p.beside.now p.taken.bytes p.unread at.Put p.at new (sym c.in-Put.is) (∥∥₁_map (as_at p.out.now p.beside.now p.taken.bytes p.unread p.at at.Put old c.in-Put.is p.course) (λ k. landed p.out.now p.beside.now p.taken.bytes p.unread (SyncsFolder p.out.now) old new (λ d m. refl) k e)) }
+
+pub invariant_of-self-in-Err-Forbidden : goal.invariant_of-self-in-Err-Forbidden
+invariant_of-self-in-Err-Forbidden g c =
+    let p = c.args.self.now in
+    let old = calls (g.S.System.state p.system) in
+    let new = calls (g.S.System.state c.sync_folder.new.self) in
+    let e : new ≡ Fails ∷ old = search rules in
+    record { course = as_at p.out.now p.beside.now p.taken.bytes p.unread at.Put p.at new (sym c.in-Put.is) (∥∥₁_map (as_at p.out.now p.beside.now p.taken.bytes p.unread p.at at.Put old c.in-Put.is p.course) (λ k. landed p.out.now p.beside.now p.taken.bytes p.unread Fails old new (λ d m. refl) k e)) }
+
+pub invariant_of-self-in-Err : goal.invariant_of-self-in-Err
+invariant_of-self-in-Err g c =
+    let p = c.args.self.now in
+    let old = calls (g.S.System.state p.system) in
+    let new = calls (g.S.System.state c.sync_folder.new.self) in
+    let e : new ≡ Fails ∷ old = search rules in
+    record { course = as_at p.out.now p.beside.now p.taken.bytes p.unread at.Put p.at new (sym c.in-Put.is) (∥∥₁_map (as_at p.out.now p.beside.now p.taken.bytes p.unread p.at at.Put old c.in-Put.is p.course) (λ k. landed p.out.now p.beside.now p.taken.bytes p.unread Fails old new (λ d m. refl) k e)) }

@@ -1,0 +1,223 @@
+//! The place of a file that is replaced by a new one beside it.
+
+ghost use Rattle.std.specs.Prelude.{◌≡◌, [], None, IsSome, true, false};
+ghost use Rattle.byte_io.specs.Device.{target_of};
+ghost use Rattle.byte_out.specs.Place.{untold, PutsOnly};
+ghost use Rattle.byte_system.specs.System.{calls};
+ghost use Rattle.byte_place.specs.Course.{Comes};
+
+use crate::progress::At;
+use crate::steps::{make_fault, put_own, remove_own};
+use byte_io::{DeviceFault, Log, Tally, WriteFault};
+use byte_out::{CompareFault, MakeFault, Place, PutFault};
+use byte_protocol::reserve;
+use byte_system::{FolderFault, System};
+
+/// The place of a file that is replaced by a new one beside it. It makes no call that is not in turn: what comes too early or too
+/// late fails, or does nothing. So whatever is done with it, its calls are a path of the protocol.
+#[derive(Drop)]
+pub struct CallPlace<'a, S: System + Drop> {
+    pub(crate) system: S,
+    pub(crate) out: &'a [u8],
+    pub(crate) beside: &'a [u8],
+    at: At,
+    /// Whether a caller that had not read the old file was about to put the new one in its place.
+    pub(crate) unread: bool,
+    pub(crate) taken: Log,
+    failures: Tally,
+    openings: Tally,
+    ghost course: { ∥ Comes out.now beside.now taken.bytes unread at (calls (S.state system)) ∥₁ },
+}
+
+impl<'a, S: System + Drop> CallPlace<'a, S> {
+    /// The place of the file with the name `out`, whose new file has the name `beside`. No call is made yet.
+    pub fn new(system: S, out: &'a [u8], beside: &'a [u8]) -> CallPlace<'a, S>
+        requires { calls (S.state system) ≡ [] }
+        ensures system { result.system ≡ system }
+        ensures out { result.out ≡ out.entry }
+        ensures beside { result.beside ≡ beside.entry }
+        ensures unread { result.unread ≡ false }
+        ensures untold { ⟦<CallPlace<'a, S> as Place>⟧.state result ≡ untold (target_of None) }
+    {
+        CallPlace {
+            system,
+            out,
+            beside,
+            at: At::Start,
+            unread: false,
+            taken: Log::empty(),
+            failures: Tally::none(),
+            openings: Tally::none(),
+        }
+    }
+
+    // A file that was not read is not compared.
+    fn settles(&mut self, is_read: bool)
+        ensures same { ⟦<CallPlace<'a, S> as Place>⟧.state self.new ≡ ⟦<CallPlace<'a, S> as Place>⟧.state self.old }
+        ensures read { is_read ≡ true → self.new.unread ≡ self.old.unread }
+    {
+        let At::Synced(file) = self.at else {
+            return;
+        };
+        if !is_read {
+            self.at = At::Ready(file);
+            self.unread = true;
+        }
+    }
+
+    // Renames the new file to the old one, if it may be put in its place.
+    fn puts(&mut self, read: Option<&[u8]>, _bytes: &[u8]) -> Result<(), PutFault>
+        ensures calls { PutsOnly result _bytes.now (⟦<CallPlace<'a, S> as Place>⟧.state self.old).sink (⟦<CallPlace<'a, S> as Place>⟧.state self.new).sink }
+        ensures read { IsSome read.entry → self.new.unread ≡ self.old.unread }
+    {
+        self.settles(read.is_some());
+        let At::Ready(file) = self.at else {
+            self.failures = Tally::after(&self.failures);
+            return Err(PutFault::NotOpened);
+        };
+        match put_own(&mut self.system, file, self.out, self.beside) {
+            Ok(()) => {
+                self.at = At::Put;
+                Ok(())
+            }
+            Err(PutFault::Changed) => {
+                self.at = At::Over;
+                Err(PutFault::Changed)
+            }
+            Err(_) => {
+                self.at = At::Broken(file);
+                self.failures = Tally::after(&self.failures);
+                Err(PutFault::NotOpened)
+            }
+        }
+    }
+
+    // A new file that has not been put can only be removed from now on.
+    fn gives_up(&mut self)
+        ensures { ⟦<CallPlace<'a, S> as Place>⟧.state self.new ≡ ⟦<CallPlace<'a, S> as Place>⟧.state self.old }
+    {
+        match self.at {
+            At::Owned(file) => self.at = At::Broken(file),
+            At::Written(file) => self.at = At::Broken(file),
+            At::Synced(file) => self.at = At::Broken(file),
+            At::Ready(file) => self.at = At::Broken(file),
+            At::Start | At::Broken(_) | At::Put | At::Over => {}
+        }
+    }
+}
+
+impl<'a, S: System + Drop> Place for CallPlace<'a, S> {
+    ghost state = { λ s. record {
+      sink = record {
+        written = None;
+        taken = s.taken.bytes;
+        failures = s.failures.count;
+        stalls = 0;
+        openings = s.openings.count;
+      };
+      files = None;
+    } };
+
+    fn make(&mut self) -> Result<(), MakeFault> {
+        let At::Start = self.at else {
+            self.failures = Tally::after(&self.failures);
+            return Err(MakeFault::NotOpened);
+        };
+        match reserve(&mut self.system, self.beside) {
+            Ok(made) => {
+                self.at = At::Owned(made.file);
+                self.openings = Tally::after(&self.openings);
+                Ok(())
+            }
+            Err(fault) => {
+                self.at = At::Over;
+                self.failures = Tally::after(&self.failures);
+                Err(make_fault(fault))
+            }
+        }
+    }
+
+    fn write(&mut self, bytes: &[u8]) -> Result<(), WriteFault> {
+        let At::Owned(file) = self.at else {
+            if bytes.is_empty() {
+                return Ok(());
+            }
+            self.failures = Tally::after(&self.failures);
+            return Err(WriteFault { written: 0 });
+        };
+        let written = self.system.write(file, bytes);
+        if written < bytes.len() {
+            self.at = At::Broken(file);
+            self.taken.note(&bytes[..written]);
+            self.failures = Tally::after(&self.failures);
+            return Err(WriteFault { written });
+        }
+        self.at = At::Written(file);
+        self.taken.note(bytes);
+        Ok(())
+    }
+
+    fn sync(&mut self) -> Result<(), DeviceFault> {
+        let At::Written(file) = self.at else {
+            self.failures = Tally::after(&self.failures);
+            return Err(DeviceFault);
+        };
+        if self.system.sync(file).is_err() {
+            self.at = At::Broken(file);
+            self.failures = Tally::after(&self.failures);
+            return Err(DeviceFault);
+        }
+        self.at = At::Synced(file);
+        Ok(())
+    }
+
+    fn compare(&mut self, read: &[u8]) -> Result<(), CompareFault> {
+        let At::Synced(file) = self.at else {
+            return Err(CompareFault::Changed);
+        };
+        match self.system.has(self.out, read) {
+            Ok(true) => {
+                self.at = At::Ready(file);
+                Ok(())
+            }
+            Ok(false) => {
+                self.at = At::Broken(file);
+                Err(CompareFault::Changed)
+            }
+            Err(_) => {
+                self.at = At::Broken(file);
+                self.failures = Tally::after(&self.failures);
+                Err(CompareFault::NotOpened)
+            }
+        }
+    }
+
+    fn put(&mut self, read: Option<&[u8]>, bytes: &[u8]) -> Result<(), PutFault> {
+        self.puts(read, bytes)
+    }
+
+    fn land(&mut self) -> Result<(), DeviceFault> {
+        let At::Put = self.at else {
+            self.failures = Tally::after(&self.failures);
+            return Err(DeviceFault);
+        };
+        match self.system.sync_folder(self.out) {
+            Ok(()) => Ok(()),
+            // There is no way to sync a folder that may not be opened.
+            Err(FolderFault::Forbidden) => Ok(()),
+            Err(_) => {
+                self.failures = Tally::after(&self.failures);
+                Err(DeviceFault)
+            }
+        }
+    }
+
+    fn remove(&mut self) {
+        self.gives_up();
+        let At::Broken(file) = self.at else {
+            return;
+        };
+        remove_own(&mut self.system, file, self.beside);
+        self.at = At::Over;
+    }
+}

@@ -1,0 +1,92 @@
+//! Files that are replaced over a system in memory, beside a second process.
+
+use crate::call_place::CallPlace;
+use crate::new_place::NewPlace;
+use byte_out::{Place, ReplaceFault, replace};
+use byte_system::{Act, Does, MemSystem};
+use std::alloc::{AllocError, Global};
+use std::test::Fail;
+
+fn act(acts: &mut Vec<Act>, does: Does) -> Result<(), AllocError> {
+    let act = Act {
+        before: 0,
+        by: 2,
+        does,
+    };
+    if let Err(_) = acts.push(act) {
+        return Err(AllocError);
+    }
+    Ok(())
+}
+
+// Another process makes the file "out" with the bytes "old" before the first call.
+fn with_old(alloc: Global, acts: &mut Vec<Act>) -> Result<(), AllocError> {
+    act(acts, Does::Make(b"out".to_vec(alloc)?))?;
+    act(acts, Does::Write(0, b"old".to_vec(alloc)?))
+}
+
+// Whether replacing "old" by "mine" ends so, and leaves these bytes, where the calls of these numbers fail.
+fn ends(
+    alloc: Global,
+    fails: &[usize],
+    read: Option<&[u8]>,
+    want: Result<(), ReplaceFault>,
+    left: &[u8],
+) -> Result<bool, AllocError> {
+    let mut acts = Vec::new(alloc);
+    with_old(alloc, &mut acts)?;
+    let system = MemSystem::new(alloc, 1, acts, fails.to_vec(alloc)?);
+    let mut place = CallPlace::new(system, b"out", b"new");
+    let result = replace(&mut place, read, b"mine");
+    Ok(result == want && place.system.read(b"out") == Some(left))
+}
+
+#[test]
+fn replaces(rt: HostRuntime) -> Result<(), Fail> {
+    let alloc = rt.alloc();
+    assert!(rt; ends(alloc, &[], Some(b"old"), Ok(()), b"mine")?);
+    assert!(rt; ends(alloc, &[], None, Ok(()), b"mine")?);
+    let changed = Err(ReplaceFault::Changed);
+    assert!(rt; ends(alloc, &[], Some(b"new"), changed, b"old")?);
+    let not_made = Err(ReplaceFault::NotOpened);
+    assert!(rt; ends(alloc, &[0], Some(b"old"), not_made, b"old")?);
+    let cut = Err(ReplaceFault::WriteFailed(2));
+    assert!(rt; ends(alloc, &[3], Some(b"old"), cut, b"old")?);
+    let not_synced = Err(ReplaceFault::NotSynced);
+    assert!(rt; ends(alloc, &[8], Some(b"old"), not_synced, b"mine")?);
+    Ok(())
+}
+
+#[test]
+fn what_is_not_in_turn_fails(rt: HostRuntime) -> Result<(), Fail> {
+    let alloc = rt.alloc();
+    let mut acts = Vec::new(alloc);
+    with_old(alloc, &mut acts)?;
+    let system = MemSystem::new(alloc, 1, acts, Vec::new(alloc));
+    let mut place = CallPlace::new(system, b"out", b"new");
+    assert!(rt; place.make().is_ok());
+    assert!(rt; place.make().is_err());
+    assert!(rt; place.put(None, b"mine").is_err());
+    assert!(rt; place.write(b"mine").is_ok());
+    assert!(rt; place.write(b"more").is_err());
+    assert!(rt; place.put(None, b"mine").is_err());
+    assert!(rt; place.land().is_err());
+    place.remove();
+    assert!(rt; place.system.read(b"new").is_none());
+    assert!(rt; place.system.read(b"out") == Some(b"old"));
+    Ok(())
+}
+
+#[test]
+fn a_new_file_is_made_once(rt: HostRuntime) -> Result<(), Fail> {
+    let alloc = rt.alloc();
+    let mut acts = Vec::new(alloc);
+    with_old(alloc, &mut acts)?;
+    let system = MemSystem::new(alloc, 1, acts, Vec::new(alloc));
+    let mut place = NewPlace::new(system, b"out");
+    assert!(rt; replace(&mut place, None, b"mine") == Err(ReplaceFault::NotOpened));
+    let system = MemSystem::new(alloc, 1, Vec::new(alloc), Vec::new(alloc));
+    let mut place = NewPlace::new(system, b"out");
+    assert!(rt; replace(&mut place, None, b"mine") == Ok(()));
+    Ok(())
+}

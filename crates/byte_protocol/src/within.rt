@@ -1,0 +1,77 @@
+//! Writing a file in place, under its own lock. A stop in the middle leaves a part of the bytes.
+
+ghost use Rattle.std.specs.Prelude.{◌≡◌, ℕ, OnOk, IfErr};
+ghost use Rattle.byte_system.specs.System.{GoesOn, calls};
+ghost use Rattle.byte_protocol.specs.Replacing.{entered};
+ghost use Rattle.byte_protocol.specs.Overwriting.{Breaks, Falters, overwriting};
+
+use crate::replacing::enter;
+use byte_system::System;
+
+/// Why a file was not written in place, or not whole.
+#[derive(Clone, Copy, Debug, PartialEq, Eq)]
+pub enum WriteFault {
+    /// The file could not be opened, another process has its lock, or the name leads to another file.
+    NotOpened,
+    /// The file could not be read again.
+    NotRead,
+    /// The file is not the one that was read.
+    Changed,
+    /// The file could not be emptied, and is as it was.
+    NotEmptied,
+    /// The file has this many of the bytes, not all, and nothing else.
+    NotWritten(usize),
+    /// The file has the bytes, but a power cut may leave others.
+    NotSure,
+}
+
+/// Writes the bytes into the file with the name, if it has the bytes that were read. It is locked from before it is compared.
+pub fn write_within<S: System>(
+    system: &mut S,
+    out: &[u8],
+    read: &[u8],
+    bytes: &[u8],
+) -> Result<(), WriteFault>
+    ensures goes { GoesOn (S.state system.old) (S.state system.new) }
+    ensures ok { OnOk result ((i : ℕ) × (calls (S.state system.new) ≡ overwriting out.now i read.now bytes.now (entered out.now i (calls (S.state system.old))))) }
+    ensures fault { IfErr result (λ e. Falters e out.now read.now bytes.now (calls (S.state system.old)) (calls (S.state system.new))) }
+{
+    let file = match enter(system, out) {
+        Ok(file) => file,
+        Err(_) => return Err(WriteFault::NotOpened),
+    };
+    match overwrite(system, file, out, read, bytes) {
+        Ok(()) => Ok(()),
+        Err(fault) => Err(fault),
+    }
+}
+
+// Compares the file, which this process has locked, and writes the bytes in the place of its own.
+fn overwrite<S: System>(
+    system: &mut S,
+    file: usize,
+    out: &[u8],
+    read: &[u8],
+    bytes: &[u8],
+) -> Result<(), WriteFault>
+    ensures goes { GoesOn (S.state system.old) (S.state system.new) }
+    ensures ok { OnOk result (calls (S.state system.new) ≡ overwriting out.now file read.now bytes.now (calls (S.state system.old))) }
+    ensures fault { IfErr result (λ e. Breaks e out.now file read.now bytes.now (calls (S.state system.old)) (calls (S.state system.new))) }
+{
+    match system.has(out, read) {
+        Ok(true) => {}
+        Ok(false) => return Err(WriteFault::Changed),
+        Err(_) => return Err(WriteFault::NotRead),
+    }
+    if system.truncate(file).is_err() {
+        return Err(WriteFault::NotEmptied);
+    }
+    let n = system.write(file, bytes);
+    if n != bytes.len() {
+        return Err(WriteFault::NotWritten(n));
+    }
+    if system.sync(file).is_err() {
+        return Err(WriteFault::NotSure);
+    }
+    Ok(())
+}
