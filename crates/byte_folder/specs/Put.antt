@@ -1,5 +1,5 @@
 -- The effect of putting a folder with some files in place.
-use Rattle.std.specs.Prelude.{◌≡◌, ◌⊎◌, ◌<◌, ◌≤◌, ◌+◌, ◌++◌, ◌^◌, ℕ, false, List, length, take, Some, None, option_map, IsSome, IsTrue}
+use Rattle.std.specs.Prelude.{◌≡◌, ◌⊎◌, ◌<◌, ◌≤◌, ◌+◌, ◌++◌, ◌^◌, ℕ, false, List, length, take, Option, Some, None, option_map, IsSome, IsTrue}
 use Rattle.std.specs.List.{list_any}
 use Rattle.byte_io.specs.Device.{SinkState}
 use Rattle.byte_io.specs.Whole.{FailedOrTookNone}
@@ -76,6 +76,16 @@ Puts fs old new = (list_any is_long fs ≡ false) × WritesFiles fs old.sink new
 -- a name is too long, or the number of bytes does not fit 64 bits
 abbrev pub IsImpossible : List File → Type 0
 IsImpossible fs = IsTrue (list_any is_long fs) ⊎ (2 ^ 64 ≤ length (contents fs))
+
+-- the name is that of a folder with files, and there is no new folder, as the place reports
+abbrev pub IsTaken : Option Folders → Type 0
+IsTaken None = ⊥
+IsTaken (Some f) = (f.beside ≡ None) × ¬ (IsFree f.stands)
+
+-- there is a new folder, as the place reports
+abbrev pub HasNew : Option Folders → Type 0
+HasNew None = ⊥
+HasNew (Some f) = IsSome f.beside
 
 -- the outcome of each fault. In each case nothing is in place
 abbrev pub IsPutFault : List File → FolderState → FolderState → FolderFault → Type 0

@@ -1,9 +1,10 @@
 //! Putting a folder in place as a whole.
 
-ghost use Rattle.std.specs.Prelude.{◌≡◌, ◌<◌, ◌≤◌, ◌^◌, map, length, OnOk, IfErr, MatchOption};
+ghost use Rattle.std.specs.Prelude.{◌≡◌, ◌<◌, ◌≤◌, ◌^◌, map, length, Err, OnOk, IfErr, MatchOption};
 ghost use Rattle.std.specs.List.{list_any};
 ghost use Rattle.byte_folder.specs.Folder.{seen, is_long, contents};
-ghost use Rattle.byte_folder.specs.Put.{Puts, IsPutFault, Adds, IsAddFault};
+ghost use Rattle.byte_folder.specs.Put.{Puts, IsImpossible, IsTaken, HasNew, IsPutFault, Adds, IsAddFault};
+ghost use Rattle.byte_folder.specs.declared.fault.FolderFault.TheVariants as outcome;
 
 use crate::fault::{FolderFault, MakeFault};
 use crate::file::NamedFile;
@@ -73,6 +74,10 @@ fn add_files<P: FolderPlace>(place: &mut P, files: &[NamedFile]) -> Result<(), F
 pub fn put_folder<P: FolderPlace>(place: &mut P, files: &[NamedFile]) -> Result<(), FolderFault>
     ensures ok { OnOk result (Puts (map seen files.now) (P.state place.old) (P.state place.new)) }
     ensures fault { IfErr result (IsPutFault (map seen files.now) (P.state place.old) (P.state place.new)) }
+    // Where no folder can have the files, where the name is taken, and where there is a new folder, this is always said.
+    ensures impossible { IsImpossible (map seen files.now) → (result ≡ Err outcome.NotOpened) × (P.state place.new ≡ P.state place.old) }
+    ensures taken { IsTaken (P.state place.old).folders → result ≡ Err outcome.NotOpened }
+    ensures exists { ¬ (IsImpossible (map seen files.now)) → HasNew (P.state place.old).folders → result ≡ Err outcome.NewExists }
 {
     if has_long_name(files) {
         return Err(FolderFault::NotOpened);

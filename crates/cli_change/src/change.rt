@@ -1,4 +1,5 @@
 //! Commands that change a register.
+use crate::by_words::changed_by_words;
 use crate::changing::change_of;
 use crate::offices::{Desk, office_named, open_desk};
 use crate::once::changed_once;
@@ -9,7 +10,6 @@ use cli_open::{
     Outcome, entries, entry, files_before, is_twice, listed, open_target, open_text, push_listed,
     push_words, word,
 };
-use reg_again::EffectsOf;
 use reg_commands::{Retire, Supersede};
 use reg_keyed::{ByWords, RetireOf, SupersedeOf};
 use reg_supersede::{RefusedLine, SupersedeFrom, refused_line, refused_word};
@@ -64,8 +64,12 @@ fn supersede_named(rt: &HostRuntime, matches: &ArgMatches<'_>) -> Result<(), Cli
         push_words(&mut old, &[word(matches, "OLD")])?;
         let mut desk = open_desk(rt, rt.alloc(), named, word(matches, "office"))?;
         let replica = desk.replica;
-        let command = SupersedeOf { replica, note };
-        return change_by_words(rt, matches, &mut desk, &old, &given, &command);
+        let command = ByWords {
+            words: &old,
+            newer: &given,
+            command: &SupersedeOf { replica, note },
+        };
+        return changed_by_words(rt, matches, &mut desk, &command);
     }
     let old = entry(word(matches, "OLD"))?;
     push_listed(&mut given, matches.get_strs("BY").unwrap_or(&[]), &listed)?;
@@ -203,8 +207,12 @@ fn retired(rt: &HostRuntime, matches: &ArgMatches<'_>) -> Result<(), CliFault> {
     if matches.get_flag("keys") {
         let mut desk = open_desk(rt, rt.alloc(), named, word(matches, "office"))?;
         let replica = desk.replica;
-        let command = RetireOf { replica, note };
-        return change_by_words(rt, matches, &mut desk, &given, &[], &command);
+        let command = ByWords {
+            words: &given,
+            newer: &[],
+            command: &RetireOf { replica, note },
+        };
+        return changed_by_words(rt, matches, &mut desk, &command);
     }
     let entries = entries(rt.alloc(), &given)?;
     let mut desk = open_desk(rt, rt.alloc(), named, word(matches, "office"))?;
@@ -214,21 +222,4 @@ fn retired(rt: &HostRuntime, matches: &ArgMatches<'_>) -> Result<(), CliFault> {
         note,
     };
     changed_once(rt, matches, &mut desk, command)
-}
-
-// Changes the register by a command on the entries that the words name, and those that supersede them.
-fn change_by_words<Q: Place, C: EffectsOf>(
-    rt: &HostRuntime,
-    matches: &ArgMatches<'_>,
-    desk: &mut Desk<Q>,
-    words: &[&[u8]],
-    newer: &[&[u8]],
-    command: &C,
-) -> Result<(), CliFault> {
-    let command = ByWords {
-        words,
-        newer,
-        command,
-    };
-    changed_once(rt, matches, desk, command)
 }

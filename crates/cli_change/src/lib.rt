@@ -1,6 +1,7 @@
 //! Commands that change a register, and the office that does.
 #![tactic(auto)]
 
+mod by_words;
 mod change;
 mod changing;
 mod offices;

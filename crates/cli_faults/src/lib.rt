@@ -1,12 +1,14 @@
 //! Explains the fault of a command: its sentence, with the names of the files.
 #![tactic(auto)]
 
+mod heads;
 mod naming;
 mod paths;
 mod sentence;
 
 pub use cli_sentences as sentences;
 pub use cli_words::CommandName;
+pub use heads::Head;
 pub use naming::Second;
 pub use paths::Named;
 pub use sentence::{add, explain, explain_word, print_lines, say};

@@ -1,4 +1,5 @@
 //! What is found if the files of a command are read once more after its fault, for the sentence about it.
+use crate::heads::Head;
 use crate::paths::Named;
 use cli_open::engines::files::FileFault;
 use cli_open::engines::operations::OpId;
@@ -171,10 +172,18 @@ fn looks_at(rt: &HostRuntime, path: &str) -> Looks {
     if is_shelf(rt, path) {
         return Looks::Shelf;
     }
+    if is_office(rt, path).unwrap_or(false) {
+        return Looks::Office;
+    }
     if is_text(rt, path).unwrap_or(false) {
         return Looks::Text;
     }
     Looks::Unknown
+}
+
+fn is_office(rt: &HostRuntime, path: &str) -> Option<bool> {
+    let head = Head::at(rt, path)?;
+    Some(head.is_office())
 }
 
 // Whether the file begins like a text: with a keyword, and a delimiter after it.

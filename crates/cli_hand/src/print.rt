@@ -1,10 +1,12 @@
 //! Commands that print something of a register: an entry, a text, ids, a page.
 use clap::ArgMatches;
 use cli_open::engines::CliFault;
-use cli_open::{entry, names_again, print_of, word};
+use cli_open::engines::streams::Writing;
+use cli_open::{entry, names_again, open_register, print_of, word};
 use reg_commands::{Form, Ops, Show, Wkt};
 use reg_keyed::{ByWord, PrintOf, ShowOf, WktOf};
-use reg_page::{Page, RULES};
+use reg_page::{Page, RULES, run_page};
+use std::io;
 
 /// The title of a page without one.
 const NO_TITLE: &str = "The register";
@@ -80,5 +82,7 @@ pub fn page(rt: &HostRuntime, matches: &ArgMatches<'_>) -> Result<(), CliFault> 
             &[]
         },
     };
-    print_of(rt, matches, &page)
+    let mut sink = Writing::new(io::writer(rt));
+    let register = open_register(rt, rt.alloc(), matches, "REG", &None)?;
+    run_page(rt.alloc(), &mut register.reading(), &page, &mut sink)
 }

@@ -126,6 +126,7 @@ fn write_foreign<W: fmt::Write>(
                 "hint: crsreg unshelf writes its register to a file\n"
             })
         }
+        Looks::Office => f.write_str("is an office file, and no file of a register\n"),
         Looks::Text => {
             f.write_str("is not a file of crsreg\nhint: it has a text: crsreg import reads texts\n")
         }

@@ -132,6 +132,7 @@ fn write_argument<W: fmt::Write>(f: &mut fmt::Formatter<W>, path: &str, name: &s
 pub enum Looks {
     Unknown,
     Shelf,
+    Office,
     Text,
 }
 

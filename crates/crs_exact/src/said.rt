@@ -14,11 +14,20 @@ use std::alloc::{AllocError, Global};
 pub fn joined(alloc: Global, pieces: &[&[u8]]) -> Result<Vec<u8>, AllocError>
     ensures { IfOk result (λ text. text.items ≡ flat_map (λ piece. piece.now) pieces.now) }
 {
-    let mut text = Vec::new(alloc);
+    let mut text = Vec::with_capacity(alloc, room_for(pieces))?;
     for piece in pieces {
         text.extend_from_slice(piece)?;
     }
     Ok(text)
+}
+
+// How many bytes the pieces have. It is only asked for how much memory to take.
+fn room_for(pieces: &[&[u8]]) -> usize {
+    let mut bytes = 0usize;
+    for piece in pieces {
+        bytes = bytes.saturating_add(piece.len());
+    }
+    bytes
 }
 
 /// The canonical text of a number.

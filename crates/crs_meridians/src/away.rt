@@ -44,24 +44,34 @@ fn away_parameter(crs: &Projected) -> Option<&Parameter>
     }
 }
 
+// The name of the method is searched once for all parameters.
 fn first_away(crs: &Projected) -> Option<&Parameter>
+    ensures { option_map (λ p. p.now) result ≡ find (is_parameter_away crs.now) crs.now.conversion.parameters }
+{
+    let method = crs.conversion.method.name.as_bytes();
+    first_away_by(crs, reach_of(method), has_cone(method))
+}
+
+fn first_away_by(crs: &Projected, degrees: u32, cone: bool) -> Option<&Parameter>
+    requires degrees { degrees ≡ reach_of crs.now.conversion.method.name.bytes }
+    requires few { degrees ≤ 180 }
+    requires cone { cone ≡ has_cone crs.now.conversion.method.name.bytes }
     ensures { option_map (λ p. p.now) result ≡ find (is_parameter_away crs.now) crs.now.conversion.parameters }
 {
     crs.conversion
         .parameters
         .as_slice()
         .iter()
-        .find(|p| is_parameter_away(crs, p))
+        .find(|p| is_parameter_away(crs, degrees, cone, p))
 }
 
-fn is_parameter_away(crs: &Projected, parameter: &Parameter) -> bool
+fn is_parameter_away(crs: &Projected, degrees: u32, cone: bool, parameter: &Parameter) -> bool
+    requires degrees { degrees ≡ reach_of crs.now.conversion.method.name.bytes }
+    requires few { degrees ≤ 180 }
+    requires cone { cone ≡ has_cone crs.now.conversion.method.name.bytes }
     ensures { result ≡ is_parameter_away crs.now parameter.now }
 {
-    is_meridian_away(
-        crs,
-        reach_of(crs.conversion.method.name.as_bytes()),
-        parameter,
-    ) || is_parallel_away(crs, parameter)
+    is_meridian_away(crs, degrees, parameter) || is_parallel_away(crs, cone, parameter)
 }
 
 fn is_meridian_away(crs: &Projected, degrees: u32, parameter: &Parameter) -> bool
@@ -78,11 +88,11 @@ fn is_meridian_away(crs: &Projected, degrees: u32, parameter: &Parameter) -> boo
         )
 }
 
-fn is_parallel_away(crs: &Projected, parameter: &Parameter) -> bool
+fn is_parallel_away(crs: &Projected, cone: bool, parameter: &Parameter) -> bool
+    requires { cone ≡ has_cone crs.now.conversion.method.name.bytes }
     ensures { result ≡ is_parallel_away crs.now parameter.now }
 {
-    has_cone(crs.conversion.method.name.as_bytes())
-        && has_part(parameter.name.as_bytes(), b"parallel")
+    cone && has_part(parameter.name.as_bytes(), b"parallel")
         && all_far_north(
             place_of(parameter.value, angle_unit(&parameter.unit, &crs.base.unit)),
             35,

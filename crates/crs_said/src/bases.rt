@@ -6,7 +6,7 @@ ghost use Rattle.crs_said.specs.Parts.{id_claims, base_content, base_claims, mer
 
 use crate::claim::Claim;
 use crate::fields::push_name;
-use crate::identified::push_id;
+use crate::identified::{CONTENT, push_id};
 use crate::parts::HasParts;
 use crate::says::Says;
 use crs_part::{
@@ -171,7 +171,7 @@ fn base_content(
 ) -> Result<Vec<u8>, AllocError>
     ensures { IfOk result (λ text. text.items ≡ base_content name.now frame.now prime.now) }
 {
-    let mut text = Vec::new(alloc);
+    let mut text = Vec::with_capacity(alloc, CONTENT)?;
     push_name(true, name, &mut text)?;
     frame.say(true, &mut text)?;
     prime.say(true, &mut text)?;

@@ -8,6 +8,7 @@ ghost use Rattle.crs_said.specs.Datums.{metres, angle, flattening, longitude, me
 
 use crate::claim::{Claim, push_claim};
 use crate::fields::{folded, push_end};
+use crate::identified::CONTENT;
 use crate::rounded::{Size, push_product, push_rounded};
 use crate::says::Says;
 use crs_exact::{angle_of, digits_of, joined, length_of, number, places_of};
@@ -149,7 +150,7 @@ fn frame_content(
 ) -> Result<Vec<u8>, AllocError>
     ensures { IfOk result (λ text. text.items ≡ frame_content frame.now prime.now) }
 {
-    let mut text = Vec::new(alloc);
+    let mut text = Vec::with_capacity(alloc, CONTENT)?;
     let ellipsoid = frame.ellipsoid();
     push_metres(&mut text, ellipsoid.radius, &ellipsoid.unit)?;
     push_end(&mut text)?;

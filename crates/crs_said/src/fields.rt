@@ -70,7 +70,7 @@ pub(crate) fn push_folded(out: &mut Vec<u8>, name: &[u8]) -> Result<(), AllocErr
 pub(crate) fn folded(alloc: Global, name: &[u8]) -> Result<Vec<u8>, AllocError>
     ensures { IfOk result (λ text. text.items ≡ folded name.now) }
 {
-    let mut text = Vec::new(alloc);
+    let mut text = Vec::with_capacity(alloc, name.len())?;
     push_folded(&mut text, name)?;
     Ok(text)
 }

@@ -7,11 +7,17 @@ ghost use Rattle.crs_said.specs.Claims.{claim_seen};
 ghost use Rattle.crs_said.specs.Parts.{id_word, part_said, id_said, id_claim, id_claims};
 
 use crate::claim::{Claim, push_claim};
-use crate::fields::push_name;
+use crate::fields::{push_field, push_name};
 use crate::says::Says;
 use crs_exact::{joined, number};
 use crs_part::{Ident, NumberOrText, Text};
 use std::alloc::{AllocError, Global};
+
+/// Most words have fewer bytes than these.
+pub(crate) const WORD: usize = 24;
+
+/// Most parts say fewer bytes than these.
+pub(crate) const CONTENT: usize = 64;
 
 /// Claims that the first identifier of a part has what the part says.
 pub(crate) fn push_part<T: Says>(
@@ -27,7 +33,7 @@ pub(crate) fn push_part<T: Says>(
     let Some(id) = ids.first() else {
         return Ok(());
     };
-    let mut content = Vec::new(alloc);
+    let mut content = Vec::with_capacity(alloc, CONTENT)?;
     part.say(true, &mut content)?;
     push_id(alloc, claims, kind, name, content, id)
 }
@@ -45,7 +51,7 @@ pub(crate) fn push_named(
     let Some(id) = ids.first() else {
         return Ok(());
     };
-    let mut content = Vec::new(alloc);
+    let mut content = Vec::with_capacity(alloc, name.as_bytes().len().saturating_add(1))?;
     push_name(false, name, &mut content)?;
     push_id(alloc, claims, kind, name, content, id)
 }
@@ -76,11 +82,11 @@ pub(crate) fn push_id(
 fn id_word(alloc: Global, kind: &[u8], id: &Ident) -> Result<Vec<u8>, AllocError>
     ensures { IfOk result (λ text. text.items ≡ id_word kind.now id.now) }
 {
-    let code = code_said(alloc, &id.code)?;
-    joined(
-        alloc,
-        &[kind, &[255], id.authority.as_bytes(), &[255], &code],
-    )
+    let mut word = Vec::with_capacity(alloc, WORD)?;
+    push_field(&mut word, kind)?;
+    push_field(&mut word, id.authority.as_bytes())?;
+    push_code_text(&mut word, &id.code)?;
+    Ok(word)
 }
 
 fn id_said(alloc: Global, kind: &[u8], name: &Text, id: &Ident) -> Result<Vec<u8>, AllocError>
@@ -106,6 +112,16 @@ fn part_said(alloc: Global, kind: &[u8], name: &[u8]) -> Result<Vec<u8>, AllocEr
     ensures { IfOk result (λ text. text.items ≡ part_said kind.now name.now) }
 {
     joined(alloc, &[b"the ", kind, b" \"", name, b"\""])
+}
+
+// Appends the text of a code.
+fn push_code_text(out: &mut Vec<u8>, code: &NumberOrText) -> Result<(), AllocError>
+    ensures { OnOk result (out.new.items ≡ out.old.items ++ text_of code.now) }
+{
+    match code {
+        NumberOrText::Number(value) => value.write_to(out),
+        NumberOrText::Text(text) => out.extend_from_slice(text.as_bytes()),
+    }
 }
 
 /// The text of a code.

@@ -11,7 +11,7 @@ use std::alloc::{AllocError, Global};
 pub(crate) fn letters(alloc: Global, name: &[u8]) -> Result<Vec<u8>, AllocError>
     ensures { IfOk result (λ text. text.items ≡ letters name.now) }
 {
-    let mut text = Vec::new(alloc);
+    let mut text = Vec::with_capacity(alloc, name.len())?;
     for byte in name {
         push_kept(&mut text, *byte)?;
     }

@@ -6,7 +6,7 @@ ghost use Rattle.crs_said.specs.Spellings.{authority_claim, code_claim, case_cla
 
 use crate::claim::{Claim, push_claim};
 use crate::fields::{push_field, push_folded};
-use crate::identified::code_said;
+use crate::identified::{WORD, code_said};
 use crs_exact::joined;
 use crs_part::{CrsParts, Ident};
 use std::alloc::{AllocError, Global};
@@ -48,7 +48,7 @@ fn push_code(alloc: Global, claims: &mut Vec<Claim>, id: &Ident) -> Result<(), A
 fn authority_claim(alloc: Global, id: &Ident) -> Result<Claim, AllocError>
     ensures { IfOk result (λ claim. claim_seen claim ≡ authority_claim id.now) }
 {
-    let mut word = Vec::new(alloc);
+    let mut word = Vec::with_capacity(alloc, WORD)?;
     word.push(b'A')?;
     push_folded(&mut word, id.authority.as_bytes())?;
     let content = Vec::from_slice(alloc, id.authority.as_bytes())?;
@@ -71,7 +71,7 @@ fn code_claim(alloc: Global, id: &Ident) -> Result<Claim, AllocError>
     ensures { IfOk result (λ claim. claim_seen claim ≡ code_claim id.now) }
 {
     let content = code_said(alloc, &id.code)?;
-    let mut word = Vec::new(alloc);
+    let mut word = Vec::with_capacity(alloc, WORD)?;
     word.push(b'C')?;
     push_field(&mut word, id.authority.as_bytes())?;
     push_folded(&mut word, &content)?;

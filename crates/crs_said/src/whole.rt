@@ -4,6 +4,7 @@ ghost use Rattle.std.specs.Prelude.{◌≡◌, ◌++◌, IfOk, OnOk};
 ghost use Rattle.crs_said.specs.Content.{without_names, single_kind, kind_said, kind_and_name};
 
 use crate::fields::{push_field, push_folded};
+use crate::identified::CONTENT;
 use crate::says::Says;
 use crate::systems::single_word;
 use crs_part::{CrsParts, Single};
@@ -14,7 +15,7 @@ use std::alloc::{AllocError, Global};
 pub fn without_names(alloc: Global, crs: &CrsParts) -> Result<Vec<u8>, AllocError>
     ensures { IfOk result (λ text. text.items ≡ without_names crs.now) }
 {
-    let mut text = Vec::new(alloc);
+    let mut text = Vec::with_capacity(alloc, CONTENT)?;
     match crs {
         CrsParts::Single(crs) => crs.say(false, &mut text)?,
         CrsParts::Compound(crs) => crs.get().say(false, &mut text)?,
@@ -26,7 +27,7 @@ pub fn without_names(alloc: Global, crs: &CrsParts) -> Result<Vec<u8>, AllocErro
 pub fn kind_and_name(alloc: Global, crs: &CrsParts) -> Result<Vec<u8>, AllocError>
     ensures { IfOk result (λ text. text.items ≡ kind_and_name crs.now) }
 {
-    let mut text = Vec::new(alloc);
+    let mut text = Vec::with_capacity(alloc, CONTENT)?;
     push_kind(&mut text, crs)?;
     push_folded(&mut text, crs.name().as_bytes())?;
     Ok(text)

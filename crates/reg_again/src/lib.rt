@@ -7,4 +7,4 @@ mod words;
 
 pub use effects::Effects;
 pub use once::{Noted, Once};
-pub use words::EffectsOf;
+pub use words::{EffectsOf, OnceOf};

@@ -98,8 +98,8 @@ impl<C: Effects> Change for Once<'_, C> {
     }
 }
 
-// The register as it is, and the lines of the ids from this number on.
-fn made_before(
+/// The register as it is, and the lines of the ids from this number on.
+pub(crate) fn made_before(
     alloc: Global,
     register: Register,
     replica: Uuid,

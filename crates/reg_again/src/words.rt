@@ -1,12 +1,16 @@
-//! Commands on the entries that words name, whose effects are known before anything is made.
+//! Commands on the entries that words name, that have their effects once, also if they are run again after a stop.
 
 ghost use Rattle.std.specs.Prelude.{◌≡◌, ◌++◌, IfOk, OnOk};
 ghost use Rattle.reg_office.specs.Commands.{supersessions};
 ghost use Rattle.reg_keyed.specs.Keyed.{each_superseded};
 
-use crate::effects::{Effects, retirements};
-use reg_keyed::{ByWords, ChangeOf, Entries, RetireOf, SupersedeOf};
+use crate::effects::retirements;
+use crate::once::made_before;
+use reg_engine::{CliFault, Made};
+use reg_journal::OfficeFile;
+use reg_keyed::{ChangeOf, RetireOf, SupersedeOf};
 use reg_op::{OpBody, OpId};
+use reg_state::Register;
 use std::alloc::{AllocError, Global};
 
 /// A command on entries whose effects are known.
@@ -95,16 +99,47 @@ fn superseding(alloc: Global, entries: &[OpId], newer: &[OpId]) -> Result<Vec<Op
     Ok(made)
 }
 
-impl<C: EffectsOf> Effects for ByWords<'_, C> {
-    ghost effects = { λ c. λ r. C.effects c.command.now r.changed.items r.newer.items };
+/// A command on entries of the office with this office file. If the office made its effects on these entries before, and the register
+/// that was loaded has not got them, it makes nothing, as `Once`.
+#[derive(Drop)]
+pub struct OnceOf<'a, C> {
+    pub command: &'a C,
+    pub office: &'a OfficeFile,
+}
 
-    ghost note = { λ c. C.note c.command.now };
+impl<C: EffectsOf> ChangeOf for OnceOf<'_, C> {
+    ghost use Rattle.std.specs.Prelude.{◌≡◌, ◌⊎◌};
+    ghost use Rattle.reg_engine.specs.declared.fault.CliFault.TheVariants as cli;
+    ghost use Rattle.reg_again.specs.Once.{IsNew, MakesOnce};
 
-    fn effects(&self, alloc: Global, read: &Entries) -> Result<Vec<OpBody>, AllocError> {
-        self.command.effects_of(alloc, &read.changed, &read.newer)
-    }
+    ghost makes = { λ c. λ es. λ fs. λ x. λ z. λ y. λ lines. MakesOnce c.office.now (C.note c.command.now) (C.effects c.command.now es fs) (C.makes c.command.now es fs x) x z y lines };
 
-    fn note(&self) -> &str {
-        self.command.note_of()
+    ghost refuses = { λ c. λ es. λ fs. λ x. λ z. λ f. (f ≡ cli.Memory)
+        ⊎ (IsNew c.office.now (C.note c.command.now) (C.effects c.command.now es fs) x z × C.refuses c.command.now es fs x z f) };
+
+    fn make_of(
+        &self,
+        alloc: Global,
+        entries: &[OpId],
+        newer: &[OpId],
+        loaded: &Register,
+        register: Register,
+    ) -> Result<Made, CliFault> {
+        let Ok(effects) = self.command.effects_of(alloc, entries, newer) else {
+            return Err(CliFault::Memory);
+        };
+        let before = self
+            .office
+            .again(loaded.seen(), &register, self.command.note_of(), &effects);
+        if let Some(first) = before {
+            return made_before(alloc, register, self.office.replica(), first, effects.len());
+        }
+        match self
+            .command
+            .make_of(alloc, entries, newer, loaded, register)
+        {
+            Ok(made) => Ok(made),
+            Err(fault) => Err(fault),
+        }
     }
 }

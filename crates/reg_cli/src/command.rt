@@ -1,6 +1,7 @@
 //! Runs a command: from the command line to an engine, and from its result to the exit status.
 use crate::environment::Environment;
 use crate::outcome::{Ending, status};
+use crate::overwriting::overwritten;
 use crate::shells::completions;
 use clap::error::ErrorKind;
 use clap::{ArgMatches, Error};
@@ -132,6 +133,9 @@ fn perform(rt: &HostRuntime, name: CommandName, inner: &ArgMatches<'_>) -> Optio
         if let Some(ending) = mistaken(rt, inner) {
             return Some(ending);
         }
+    }
+    if let Some(line) = overwritten(rt, name, inner) {
+        return Some(Ending::Plain(Outcome::Misuse(line)));
     }
     let ending = match name {
         CommandName::Check => Ending::of_explained(check(rt, inner)),

@@ -4,6 +4,7 @@
 mod command;
 mod environment;
 mod outcome;
+mod overwriting;
 mod shells;
 
 pub use cli_look::desk::{

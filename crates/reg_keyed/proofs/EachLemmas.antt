@@ -1,6 +1,5 @@
 -- `supersede` for one old entry after the other.
-use Rattle.std.proofs.Common.{◌≡◌, ◌↔◌, ℕ, ◌+◌, ◌<◌, ◌≤◌, List, [], ◌∷◌, ◌++◌, append-nil, append_assoc, length, length-drop, drop, get_or, arith, refl, sym, ap, ◌∙◌, subst, inl, inr}
-use Rattle.std.proofs.lemmas.List.{drop_more}
+use Rattle.std.proofs.Common.{◌≡◌, ◌↔◌, ℕ, ◌≤◌, List, [], ◌∷◌, ◌++◌, append-nil, append_assoc, length, length-drop, drop, arith, refl, sym, ap, ◌∙◌, subst, inl, inr}
 use Rattle.reg_op.specs.Ids.{Id}
 use Rattle.reg_op.specs.Contents.{Content}
 use Rattle.reg_office.specs.Commands.{supersessions}

@@ -1,2 +1,3 @@
 mod KeyedLemmas
+mod MeaningLemmas
 mod EachLemmas

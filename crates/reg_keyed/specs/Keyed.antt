@@ -2,13 +2,13 @@
 use Rattle.std.specs.Prelude.{◌≡◌, ◌⊎◌, ◌++◌, ℕ, List, [], ◌∷◌}
 use Rattle.reg_op.specs.Ids.{Id}
 use Rattle.reg_op.specs.Contents.{Content}
-use Rattle.reg_op.specs.Rows.{Row, rows}
+use Rattle.reg_op.specs.Rows.{rows}
 use Rattle.reg_op.specs.declared.operation.OpBody.{OpBody as Body}
 use Rattle.reg_office.specs.Commands.{supersessions}
 use Rattle.reg_keys.specs.declared.fault.KeyFault.{KeyFault}
 use Rattle.reg_keys.specs.declared.fault.KeyFault.TheVariants as key
 use Rattle.reg_keys.specs.Named.{StandsFor, IsObjection}
-use Rattle.reg_keys.specs.Every.{StandForEvery, StandForEach, FailsAt}
+use Rattle.reg_keyed.specs.Meaning.{MeanBoth, AreMeaningless}
 use Rattle.reg_commands.specs.Change.{Makes, CannotMake}
 use Rattle.reg_engine.specs.declared.fault.Refusal.TheVariants as refusal
 use Rattle.reg_engine.specs.declared.fault.CliFault.{CliFault}
@@ -34,24 +34,16 @@ PrintsFor Prints word x text = (e : Id) × StandsFor (rows x.ops) word e × Prin
 abbrev pub RefusesFor : (Id → Content → CliFault → Type 0) → List ℕ → Content → CliFault → Type 0
 RefusesFor Refuses word x f = IsUnnamed (IsObjection (rows x.ops) word) f ⊎ ((e : Id) × StandsFor (rows x.ops) word e × Refuses e x f)
 
--- ---- a command that changes some entries, maybe by others
+-- ---- a command that changes some entries, maybe by others: the register x was read, and it works on the join z
 
--- all entries that the first words stand for, and the entry that each of the other words stands for
-abbrev pub StandForBoth : List Row → List (List ℕ) → List (List ℕ) → List Id → List Id → Type 0
-StandForBoth rs every each es fs = StandForEvery rs every es × StandForEach rs each fs
+-- the content and the lines are those that the command makes with the entries that the words mean
+abbrev pub MakesFor : (List Id → List Id → Content → Content → Content → List ℕ → Type 0) → List (List ℕ) → List (List ℕ) → Content → Content → Content → List ℕ → Type 0
+MakesFor Makes every each x z y lines = (es : List Id) × (fs : List Id) × MeanBoth (rows x.ops) (rows z.ops) every each es fs × Makes es fs x z y lines
 
--- a word stands for no entry: one of the first, or else one of the others
-abbrev pub FailForBoth : List Row → List (List ℕ) → List (List ℕ) → KeyFault → Type 0
-FailForBoth rs every each f = ((k : ℕ) × FailsAt rs 0 every k f) ⊎ ((es : List Id) × StandForEvery rs every es × ((k : ℕ) × FailsAt rs 0 each k f))
-
--- the content and the lines are those that the command makes with the entries that the words stand for
-abbrev pub MakesFor : (List Id → List Id → Content → Content → List ℕ → Type 0) → List (List ℕ) → List (List ℕ) → Content → Content → List ℕ → Type 0
-MakesFor Makes every each x y lines = (es : List Id) × (fs : List Id) × StandForBoth (rows x.ops) every each es fs × Makes es fs x y lines
-
--- a word stands for no entry; or the command makes nothing with those that they stand for
-abbrev pub CannotMakeFor : (List Id → List Id → Content → CliFault → Type 0) → List (List ℕ) → List (List ℕ) → Content → CliFault → Type 0
-CannotMakeFor Refuses every each x f = IsUnnamed (FailForBoth (rows x.ops) every each) f
-    ⊎ ((es : List Id) × (fs : List Id) × StandForBoth (rows x.ops) every each es fs × Refuses es fs x f)
+-- memory ran out; or a word means no entry; or the command makes nothing with those that they mean
+abbrev pub CannotMakeFor : (List Id → List Id → Content → Content → CliFault → Type 0) → List (List ℕ) → List (List ℕ) → Content → Content → CliFault → Type 0
+CannotMakeFor Refuses every each x z f = (f ≡ cli.Memory) ⊎ (IsUnnamed (AreMeaningless (rows x.ops) (rows z.ops) every each) f
+    ⊎ ((es : List Id) × (fs : List Id) × MeanBoth (rows x.ops) (rows z.ops) every each es fs × Refuses es fs x z f))
 
 -- ---- `supersede` for one old entry after the other
 

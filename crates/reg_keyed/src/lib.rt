@@ -4,10 +4,11 @@
 mod changing;
 mod keyed;
 pub mod laws;
+mod meaning;
 mod retiring;
 mod superseding;
 
-pub use changing::{ByWords, ChangeOf, Entries};
+pub use changing::{ByWords, ChangeOf};
 pub use keyed::{ByWord, PrintOf, ShowOf, WktOf, fault_of};
 pub use retiring::RetireOf;
 pub use superseding::SupersedeOf;

@@ -19,15 +19,16 @@ impl ChangeOf for RetireOf<'_> {
     ghost use Rattle.reg_office.specs.Commands.{retirements};
     ghost use Rattle.reg_commands.specs.Change.{Makes, CannotMake};
 
-    ghost makes = { λ c. λ es. λ fs. λ x. λ y. λ lines. Makes c.replica c.note.now (retirements es) x y lines };
+    ghost makes = { λ c. λ es. λ fs. λ x. λ z. λ y. λ lines. Makes c.replica c.note.now (retirements es) z y lines };
 
-    ghost refuses = { λ c. λ es. λ fs. λ x. λ f. CannotMake c.replica c.note.now (retirements es) x f };
+    ghost refuses = { λ c. λ es. λ fs. λ x. λ z. λ f. CannotMake c.replica c.note.now (retirements es) z f };
 
     fn make_of(
         &self,
         alloc: Global,
         entries: &[OpId],
         _newer: &[OpId],
+        _loaded: &Register,
         register: Register,
     ) -> Result<Made, CliFault> {
         match retired(alloc, register, self.replica, entries, self.note) {

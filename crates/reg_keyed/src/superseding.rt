@@ -23,15 +23,16 @@ pub struct SupersedeOf<'a> {
 impl ChangeOf for SupersedeOf<'_> {
     ghost use Rattle.reg_keyed.specs.Keyed.{SupersedesEach, CannotSupersedeEach};
 
-    ghost makes = { λ c. λ es. λ fs. λ x. λ y. λ lines. SupersedesEach c.replica c.note.now es fs x y lines };
+    ghost makes = { λ c. λ es. λ fs. λ x. λ z. λ y. λ lines. SupersedesEach c.replica c.note.now es fs z y lines };
 
-    ghost refuses = { λ c. λ es. λ fs. λ x. λ f. CannotSupersedeEach c.replica c.note.now es fs x f };
+    ghost refuses = { λ c. λ es. λ fs. λ x. λ z. λ f. CannotSupersedeEach c.replica c.note.now es fs z f };
 
     fn make_of(
         &self,
         alloc: Global,
         entries: &[OpId],
         newer: &[OpId],
+        _loaded: &Register,
         register: Register,
     ) -> Result<Made, CliFault> {
         match each_superseded(alloc, register, self.replica, entries, newer, self.note) {

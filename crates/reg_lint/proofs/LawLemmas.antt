@@ -1,9 +1,8 @@
 -- Rows, and the texts that they are of.
-use Rattle.std.proofs.Common.{◌≡◌, ◌↔◌, true, false, ℕ, Option, Some, None, List, [], ◌∷◌, refl, sym, ap, ◌∙◌, subst, inl, inr}
+use Rattle.std.proofs.Common.{◌≡◌, ◌↔◌, false, ℕ, Some, None, List, [], ◌∷◌, refl, sym, ap, ◌∙◌, subst, inl, inr}
 use Rattle.std.proofs.lemmas.Bool.{true≢false}
 use Rattle.std.specs.List.{Contains}
 use Rattle.crs_sense.specs.declared.rule.Rule.{Rule}
-use Rattle.crs_value.specs.declared.crs.Crs.{Crs}
 use Rattle.wkt_crs.specs.Spells.{Spells}
 use Rattle.wkt_crs.proofs.Texts.{one_value}
 use Rattle.reg_op.specs.Contents.{Content}

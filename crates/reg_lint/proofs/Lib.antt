@@ -6,3 +6,5 @@ mod StepLemmas
 mod TextLemmas
 mod VoiceLemmas
 mod ToldLemmas
+mod PermutedLemmas
+mod RuleLemmas

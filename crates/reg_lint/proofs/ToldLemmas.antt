@@ -1,7 +1,6 @@
--- What is said of reference systems depends on their values and their order alone.
-use Rattle.std.proofs.Common.{◌≡◌, ℕ, Bool, true, false, not, cond, Option, Some, None, List, [], ◌∷◌, ◌++◌, map, filter, if◌then◌else◌, refl, sym, ap, ◌∙◌, subst}
-use Rattle.std.proofs.lemmas.Bool.{true≢false}
-use Rattle.std.specs.List.{flat_map, cons_option}
+-- The sentences about reference systems depend on their values and their order alone.
+use Rattle.std.proofs.Common.{◌≡◌, ℕ, not, cond, Some, None, List, [], ◌∷◌, ◌++◌, map, filter, if◌then◌else◌, refl, sym, ap, ◌∙◌, subst}
+use Rattle.std.specs.List.{flat_map}
 use Rattle.crs_part.specs.Slots.{name_of, ids_of}
 use Rattle.crs_said.specs.References.{system_names}
 use Rattle.crs_sense.specs.Rules.{breaks}
@@ -17,7 +16,7 @@ use Rattle.reg_op.specs.Rows.{Row, rows}
 use Rattle.reg_lint.specs.declared.rule.AnyRule.{AnyRule}
 use Rattle.reg_lint.specs.declared.rule.AnyRule.TheVariants as any
 use Rattle.reg_lint.specs.declared.subject.Subject.{Subject}
-use Rattle.reg_lint.specs.Details.{told, voice_of, names_in, wide_details, details}
+use Rattle.reg_lint.specs.Details.{voice_of, names_in, wide_details, details}
 use Rattle.reg_lint.specs.Laws.{live_texts}
 use Rattle.reg_lint.specs.Subjects.{is_retired, authority_of, code_of, AreLive, AreLiveIn}
 use Rattle.reg_lint.proofs.VoiceLemmas.{map_twice}
@@ -49,14 +48,14 @@ module _ (ss ts : List Subject) (same : map (λ (s : Subject). s.crs) ss ≡ map
 
 -- ---- the same texts in the same order
 
-abbrev Spell : List (List ℕ) → List Subject → Type 0
+abbrev pub Spell : List (List ℕ) → List Subject → Type 0
 Spell [] ss = ss ≡ []
 Spell (t ∷ ts) ss = (s : Subject) × (rest : List Subject) × IsCrsOf s.crs t × Spell ts rest × (ss ≡ s ∷ rest)
 
 abbrev texts : List Row → List (List ℕ)
 texts rs = map (λ (r : Row). r.definition) (filter (λ (r : Row). not (is_retired r.status)) rs)
 
-spelled : (rs : List Row) (ss : List Subject) → AreLive rs ss → Spell (texts rs) ss
+pub spelled : (rs : List Row) (ss : List Subject) → AreLive rs ss → Spell (texts rs) ss
 spelled [] ss none = none
 spelled (r ∷ rs) ss (None, rest, is, more, e) =
     subst (λ b. Spell (map (λ (q : Row). q.definition) (cond (not b) (r ∷ filter (λ (q : Row). not (is_retired q.status)) rs) (filter (λ (q : Row). not (is_retired q.status)) rs))) ss) (sym is)
@@ -65,7 +64,7 @@ spelled (r ∷ rs) ss (Some s, rest, is, more, e) =
     subst (λ b. Spell (map (λ (q : Row). q.definition) (cond (not b) (r ∷ filter (λ (q : Row). not (is_retired q.status)) rs) (filter (λ (q : Row). not (is_retired q.status)) rs))) ss) (sym is.0)
     (s, rest, is.2, spelled rs rest more, e)
 
-one_list : (ts : List (List ℕ)) (ss us : List Subject) → Spell ts ss → Spell ts us → map (λ (s : Subject). s.crs) ss ≡ map (λ (s : Subject). s.crs) us
+pub one_list : (ts : List (List ℕ)) (ss us : List Subject) → Spell ts ss → Spell ts us → map (λ (s : Subject). s.crs) ss ≡ map (λ (s : Subject). s.crs) us
 one_list [] ss us e f = ap (map (λ (s : Subject). s.crs)) (e ∙ sym f)
 one_list (t ∷ ts) ss us (s, rest, is, more, e) (u, other, also, later, f) =
     ap (map (λ (s : Subject). s.crs)) e

@@ -1,5 +1,5 @@
--- What is said of each reference system that breaks a rule.
-use Rattle.std.specs.Prelude.{ℕ, List, map, Option, Some, None, if◌then◌else◌}
+-- The sentence about each reference system that breaks a rule.
+use Rattle.std.specs.Prelude.{ℕ, List, [], map, Option, Some, None, if◌then◌else◌}
 use Rattle.std.specs.List.{flat_map}
 use Rattle.crs_part.specs.Slots.{name_of, ids_of}
 use Rattle.crs_said.specs.References.{system_names}
@@ -7,6 +7,7 @@ use Rattle.crs_sense.specs.declared.rule.Rule.{Rule}
 use Rattle.crs_sense.specs.Rules.{breaks}
 use Rattle.crs_sense.specs.Sentences.{sentence}
 use Rattle.reg_sense.specs.declared.rule.WideRule.{WideRule}
+use Rattle.reg_sense.specs.declared.rule.WideRule.TheVariants as wide
 use Rattle.reg_sense.specs.Claimants.{Voice}
 use Rattle.reg_sense.specs.Rules.{claims_of, wide_told}
 use Rattle.reg_lint.specs.declared.rule.AnyRule.{AnyRule}
@@ -29,6 +30,15 @@ voice_of rule s = record { authority = authority_of (ids_of s.crs.parts); code =
 abbrev pub names_in : List Subject → List (List ℕ)
 names_in subjects = flat_map (λ (s : Subject). system_names s.crs.parts) subjects
 
+-- those that the rule looks at: none, unless it is about names
+abbrev pub names_for : WideRule → List Subject → List (List ℕ)
+names_for wide.Case subjects = []
+names_for wide.Datum subjects = []
+names_for wide.Parts subjects = []
+names_for wide.RefName subjects = names_in subjects
+names_for wide.SameName subjects = []
+names_for wide.Twin subjects = []
+
 -- the sentence of one that breaks the rule beside the others
 abbrev pub told_beside : WideRule → List Subject → Subject → Option (List ℕ)
 told_beside rule subjects s = wide_told rule (names_in subjects) (map (voice_of rule) subjects) (voice_of rule s)
@@ -36,6 +46,10 @@ told_beside rule subjects s = wide_told rule (names_in subjects) (map (voice_of 
 abbrev pub wide_details : WideRule → List Subject → List (Option (List ℕ))
 wide_details rule subjects = map (told_beside rule subjects) subjects
 
+-- the sentence of one that breaks the rule, which may look at the others
+abbrev pub detail_of : AnyRule → List Subject → Subject → Option (List ℕ)
+detail_of (any.Own rule) subjects = told rule
+detail_of (any.Wide rule) subjects = told_beside rule subjects
+
 abbrev pub details : AnyRule → List Subject → List (Option (List ℕ))
-details (any.Own rule) subjects = own_details rule subjects
-details (any.Wide rule) subjects = wide_details rule subjects
+details rule subjects = map (detail_of rule subjects) subjects

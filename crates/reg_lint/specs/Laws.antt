@@ -1,5 +1,5 @@
 -- What the rows of a content depend on: the texts of its entries that are not retired, and nothing else.
-use Rattle.std.specs.Prelude.{◌≡◌, ◌↔◌, Bool, true, false, not, ℕ, List, map, filter, Contains}
+use Rattle.std.specs.Prelude.{◌≡◌, ◌↔◌, true, false, not, ℕ, List, map, filter, Contains, IsPermutation, IsSome}
 use Rattle.crs_part.specs.Slots.{ids_of}
 use Rattle.crs_value.specs.declared.crs.Crs.{Crs}
 use Rattle.crs_sense.specs.declared.rule.Rule.{Rule}
@@ -8,6 +8,8 @@ use Rattle.wkt_crs.specs.Definition.{IsCrsOf}
 use Rattle.reg_op.specs.Contents.{Content}
 use Rattle.reg_op.specs.Rows.{Row, rows}
 use Rattle.reg_lint.specs.declared.subject.Subject.{Subject}
+use Rattle.reg_lint.specs.declared.rule.AnyRule.{AnyRule}
+use Rattle.reg_lint.specs.Details.{detail_of}
 use Rattle.reg_lint.specs.Subjects.{is_retired, authority_of, code_of}
 
 -- an entry that is not retired has the text
@@ -45,3 +47,17 @@ pub record HasRow (ss : List Subject) (rule : Rule) (authority code : List ℕ) 
 -- the texts of the entries that are not retired, by id
 abbrev pub live_texts : Content → List (List ℕ)
 live_texts x = map (λ (r : Row). r.definition) (filter (λ (r : Row). not (is_retired r.status)) (rows x.ops))
+
+-- ---- rules over several systems count those who say something
+
+-- the same texts, each as often, in any order
+abbrev pub HaveSameTextsAsOften : Content → Content → Type 0
+HaveSameTextsAsOften x y = IsPermutation (live_texts x) (live_texts y)
+
+-- one of what is looked at has the key, and a sentence by the rule, so that it has a row
+pub record HasRowBy (ss : List Subject) (rule : AnyRule) (authority code : List ℕ) : Type 0 where
+  pub subject : Subject
+  pub there : Contains ss subject
+  pub broken : IsSome (detail_of rule ss subject)
+  pub authority_is : authority_of (ids_of subject.crs.parts) ≡ authority
+  pub code_is : code_of (ids_of subject.crs.parts) ≡ code

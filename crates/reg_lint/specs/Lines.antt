@@ -22,12 +22,12 @@ fields_of rule s detail = any_name rule ∷ s.label.items ∷ authority_of (ids_
 abbrev pub row_of : (List ℕ → Bool) → List (List ℕ) → List ℕ
 row_of known fields = if known (mark_of fields) then [] else row_text default_writer fields
 
--- the row of a reference system of which something is said
+-- the row of a reference system with a sentence
 abbrev pub line_of : (List ℕ → Bool) → AnyRule → Subject → Option (List ℕ) → List ℕ
 line_of known rule s None = []
 line_of known rule s (Some detail) = row_of known (fields_of rule s detail)
 
--- those of some reference systems, each with what is said of it
+-- those of some reference systems, each with its sentence
 abbrev pub lines_of : (List ℕ → Bool) → AnyRule → List Subject → List (Option (List ℕ)) → List ℕ
 lines_of known rule [] ds = []
 lines_of known rule (s ∷ ss) [] = []

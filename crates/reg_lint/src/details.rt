@@ -1,4 +1,4 @@
-//! What is said of each reference system that breaks a rule.
+//! The sentence about each reference system that breaks a rule.
 
 ghost use Rattle.std.specs.Prelude.{◌≡◌, map, IfOk};
 ghost use Rattle.reg_sense.specs.Claimants.{detail_seen};
@@ -6,12 +6,12 @@ ghost use Rattle.reg_lint.specs.Details.{told, details, own_details, wide_detail
 
 use crate::rule::AnyRule;
 use crate::subject::Subject;
-use crate::voices::{claimants_of, names_of};
+use crate::voices::{claimants_of, names_for};
 use crs_sense::Rule;
 use reg_sense::WideRule;
 use std::alloc::{AllocError, Global};
 
-/// For each reference system what is said if it breaks the rule.
+/// For each reference system the sentence, if it breaks the rule.
 pub(crate) fn details(
     alloc: Global,
     rule: AnyRule,
@@ -56,7 +56,7 @@ fn wide_details(
 ) -> Result<Vec<Option<Vec<u8>>>, AllocError>
     ensures { IfOk result (λ made. map detail_seen made.items ≡ wide_details rule subjects.now) }
 {
-    let names = names_of(alloc, subjects)?;
+    let names = names_for(alloc, rule, subjects)?;
     let claimants = claimants_of(alloc, rule, subjects)?;
     let made = rule.told(alloc, &names, &claimants)?;
     Ok(made)

@@ -25,7 +25,6 @@ described_here rules s o i d written t there body id note h = record {
   entered = subst (λ (p : Op). set.contains s p ≡ true) (λ j. record { id = (sym (h.id ∙ id)) j; body = body j; note = (sym note) j }) there;
   described = record {
     id = refl;
-    prints = h.prints ∙ ap printed (sym h.id);
     key = h.key;
     keyed = h.keyed;
     authority = h.authority;

@@ -12,6 +12,8 @@ pub mod IdLemmas
 pub mod FindLemmas
 pub mod ActLemmas
 pub mod SameLemmas
+pub mod BlockLemmas
+pub mod WritingLemmas
 pub mod OneLemmas
 mod NeighbourLemmas
 mod TextLemmas

@@ -1,8 +1,7 @@
 -- The pairs of the page are those of the register's keys in conflict.
-use Rattle.std.proofs.Common.{◌≡◌, ◌≢◌, ◌⊎◌, ℕ, All, true, false, filter, List, [], ◌∷◌, ◌++◌, map, Option, Some, None, refl, sym, ap, ap₂, ◌∙◌, subst, inl, inr}
+use Rattle.std.proofs.Common.{◌≡◌, ◌≢◌, ◌⊎◌, ℕ, true, false, filter, List, [], ◌∷◌, ◌++◌, map, Option, Some, None, refl, sym, ap, ap₂, ◌∙◌, subst, inl, inr}
 use Rattle.std.proofs.lemmas.Bool.{true≢false}
 use Rattle.std.proofs.lemmas.List.{map-append}
-use Rattle.std.proofs.lemmas.List.Elements.{All-contains}
 use Rattle.std.proofs.lemmas.List.Sorted.{Contains-permutation}
 use Rattle.std.proofs.lemmas.Map.Views.{Contains-from_any}
 use Rattle.std.specs.List.{Contains}
@@ -24,11 +23,11 @@ use Rattle.reg_report.proofs.ConflictLemmas.{none_in, in_cons, in_head, in_tail,
 use Rattle.reg_report.proofs.EntryLemmas.{row_is_entered}
 use Rattle.crs_sense.specs.declared.rule.Rule.{Rule}
 use Rattle.reg_page.specs.declared.described.Described.{Described}
-use Rattle.reg_page.specs.Descriptions.{IsDescribed, entry_ids}
+use Rattle.reg_page.specs.Descriptions.{entry_ids}
 use Rattle.reg_page.specs.Page.{described_at, pairs_of, pairs_from, pairs_among, conflict_of, IsShown}
 use Rattle.reg_page.specs.Pairs.{Paired, neighbours_from, neighbours, sides, paired, contested, IsPaired}
 use Rattle.reg_page.proofs.FindLemmas.{ids_of, has_id, lacks}
-use Rattle.reg_page.proofs.SideLemmas.{found_in, filter_in}
+use Rattle.reg_page.proofs.SideLemmas.{filter_in}
 
 same_itself : (i : Id) → is_same i i ≡ true
 same_itself i = ap is_eq (tied_itself id_total i)
@@ -44,18 +43,16 @@ entered s r h =
     let o = entering r.entry r.definition there.0 in
     in_map (λ (p : Op). p.id) (filter (λ (p : Op). is_enter p.body) (set.items s)) o (filter_in (λ (p : Op). is_enter p.body) (set.items s) o (in_items s o there.1) refl)
 
-module _ (rules : List Rule) (s : Ops) (described : List Described) (each : All (IsDescribed rules s) described) (ids : IsPermutation (entry_ids s) (ids_of described)) where
+module _ (s : Ops) (described : List Described) (ids : IsPermutation (entry_ids s) (ids_of described)) where
   abbrev IsThere : Id → Type 0
-  IsThere i = (t : Described) × (described_at described i ≡ Some t) × (t.printed.items ≡ printed i)
+  IsThere i = (t : Described) × (described_at described i ≡ Some t) × (printed t.id ≡ printed i)
 
   there : (i : Id) → Contains (entry_ids s) i → IsThere i
   there i c =
       let m = from_map (λ (t : Described). t.id) described i (Contains-permutation (entry_ids s) (ids_of described) i ids c) in
       elim (described_at described i) as (λ (o : Option Described). described_at described i ≡ o → IsThere i) [
         | None ↦ λ e. absurd (true≢false (sym (subst (λ k. is_same k i ≡ true) m.2 (same_itself i)) ∙ lacks described i e m.0 m.1))
-        | Some t ↦ λ e.
-            let d = All-contains (IsDescribed rules s) described t each (found_in (λ (u : Described). is_same u.id i) described t e) in
-            (t, e, d.described.prints ∙ ap printed (is_same_exact t.id i (has_id described i t e)))
+        | Some t ↦ λ e. (t, e, ap printed (is_same_exact t.id i (has_id described i t e)))
       ] refl
 
   one_pair : (i k : Id) → IsThere i → IsThere k → map sides (pairs_of (described_at described i) (described_at described k)) ≡ (printed i, printed k) ∷ []
@@ -95,7 +92,7 @@ stands_in rs cs h c there i stands =
 pub are_paired : (rules : List Rule) (title : List ℕ) (x : Content) (s : shown.Shown) → IsShown rules title x s → (cs : List Contested) × AreConflicts (rows x.ops) cs × (map paired s.conflicts ≡ map contested cs)
 are_paired rules title x s h =
     let rs = rows x.ops in
-    let listed = all_paired rules x.ops h.described h.are_described.each h.are_described.ids h.conflicts (λ c there i has.
+    let listed = all_paired x.ops h.described h.are_described.ids h.conflicts (λ c there i has.
     let stands = stands_from rs h.conflicts h.are_conflicts c there i has in
     subst (Contains (entry_ids x.ops)) stands.is (entered x.ops stands.row stands.there)) in
     (h.conflicts, h.are_conflicts, (λ j. map paired (h.is j).conflicts) ∙ listed)

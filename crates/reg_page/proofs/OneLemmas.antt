@@ -91,7 +91,6 @@ same_of rules s one t u h k e =
     let other = b.system.shows in
     record {
       id = e;
-      printed = a.prints ∙ ap printed e ∙ sym b.prints;
       authority = a.authority ∙ key.0 ∙ sym b.authority;
       code = a.code ∙ key.1 ∙ sym b.code;
       name = one_system.name ∙ ap (λ (c : Crs). (name_of c.parts).bytes) crs ∙ sym other.name;
@@ -200,10 +199,10 @@ link_of_same : (i : Id) (o p : Option Described) → BothSame o p → link_as i 
 link_of_same i None None h = refl
 link_of_same i None (Some u) h = absurd h
 link_of_same i (Some t) None h = absurd h
-link_of_same i (Some t) (Some u) h = λ j. shown.Entered (h.printed j) (h.authority j) (h.code j)
+link_of_same i (Some t) (Some u) h = λ j. shown.Entered (printed (h.id j)) (h.authority j) (h.code j)
 
 side_of_same : (t u t' u' : Described) → Same t t' → Same u u' → side_of t u ≡ side_of t' u'
-side_of_same t u t' u' h k = λ j. record { id = h.printed j; note = h.note j; words = compared (h.text j) (k.text j) }
+side_of_same t u t' u' h k = λ j. record { id = printed (h.id j); note = h.note j; words = compared (h.text j) (k.text j) }
 
 pairs_of_same : (o p o' p' : Option Described) → BothSame o o' → BothSame p p' → pairs_of o p ≡ pairs_of o' p'
 pairs_of_same None p None p' h k = refl

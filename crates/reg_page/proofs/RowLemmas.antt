@@ -1,7 +1,6 @@
 -- Each entry of a content has one row of the page.
-use Rattle.std.proofs.Common.{◌≡◌, ℕ, Bool, true, false, not, All, List, [], ◌∷◌, ◌++◌, map, filter, refl, sym, ap₂, ◌∙◌, subst}
+use Rattle.std.proofs.Common.{◌≡◌, ℕ, Bool, true, false, not, List, ◌++◌, map, filter, refl, sym, ap₂, ◌∙◌, subst}
 use Rattle.std.proofs.lemmas.List.{map-append}
-use Rattle.std.proofs.lemmas.List.Elements.{All-head, All-tail}
 use Rattle.std.proofs.lemmas.List.Sorted.{IsPermutation-map, IsPermutation-trans, IsPermutation-filter_both}
 use Rattle.std.proofs.lemmas.Simd.{map-map}
 use Rattle.std.specs.List.Sorted.{IsPermutation}
@@ -12,22 +11,19 @@ use Rattle.reg_op.specs.Status.{status}
 use Rattle.reg_op.specs.Text.{printed}
 use Rattle.crs_sense.specs.declared.rule.Rule.{Rule}
 use Rattle.reg_page.specs.declared.described.Described.{Described}
-use Rattle.reg_page.specs.Descriptions.{IsDescribed, entry_ids}
+use Rattle.reg_page.specs.Descriptions.{entry_ids}
 use Rattle.reg_page.specs.Page.{standing_of, is_retired, is_among, entry_of, acts_in, rows_of, IsShown}
 
 abbrev id_of : Described → List ℕ
-id_of t = t.printed.items
+id_of t = printed t.id
 
 twice : (b : Bool) → b ≡ not (not b)
 twice true = refl
 twice false = refl
 
 -- the ids of the descriptions, as they are printed
-printed_ids : (rules : List Rule) (s : Ops) (ts : List Described) → All (IsDescribed rules s) ts → map printed (map (λ (t : Described). t.id) ts) ≡ map id_of ts
-printed_ids rules s [] all = refl
-printed_ids rules s (t ∷ ts) all =
-    let d = All-head (IsDescribed rules s) t ts all in
-    ap₂ (λ i is. i ∷ is) (sym d.described.prints) (printed_ids rules s ts (All-tail (IsDescribed rules s) t ts all))
+printed_ids : (ts : List Described) → map printed (map (λ (t : Described). t.id) ts) ≡ map id_of ts
+printed_ids ts = map-map printed (λ (t : Described). t.id) ts
 
 module _ (s : Ops) (described : List Described) (os : List Op) where
   ids_of_rows : (gone : Bool) → map (λ (e : shown.Entry). e.id) (rows_of gone s described os described) ≡ map id_of (filter (is_among gone s) described)
@@ -46,7 +42,7 @@ pub one_row : (rules : List Rule) (title : List ℕ) (x : Content) (s : shown.Sh
 one_row rules title x s h =
     let ts = h.described in
     let ids = IsPermutation-map printed (entry_ids x.ops) (map (λ (t : Described). t.id) ts) h.are_described.ids in
-    let as_printed = subst (λ l. IsPermutation (map printed (entry_ids x.ops)) l) (printed_ids rules x.ops ts h.are_described.each) ids in
+    let as_printed = subst (λ l. IsPermutation (map printed (entry_ids x.ops)) l) (printed_ids ts) ids in
     let rows = all_rows x.ops ts (acts_in x.ops) in
     subst (λ (z : shown.Shown). IsPermutation (map printed (entry_ids x.ops)) (map (λ (e : shown.Entry). e.id) (z.entries ++ z.retired))) (sym h.is)
     (IsPermutation-trans (map printed (entry_ids x.ops)) (map id_of ts) (map (λ (e : shown.Entry). e.id) (rows_of false x.ops ts (acts_in x.ops) ts ++ rows_of true x.ops ts (acts_in x.ops) ts)) as_printed rows)

@@ -26,7 +26,6 @@ use Rattle.reg_page.proofs.FindLemmas.{same_at}
 -- two descriptions show the same of an entry
 pub record Same (t u : Described) : Type 0 where
   pub id : t.id ≡ u.id
-  pub printed : t.printed.items ≡ u.printed.items
   pub authority : t.authority.items ≡ u.authority.items
   pub code : t.code.items ≡ u.code.items
   pub name : t.system.name.items ≡ u.system.name.items
@@ -38,7 +37,7 @@ pub record Same (t u : Described) : Type 0 where
   pub note : t.note.items ≡ u.note.items
 
 pub itself : (t : Described) → Same t t
-itself t = record { id = refl; printed = refl; authority = refl; code = refl; name = refl; boxes = refl; areas = refl; kind = refl; text = refl; questions = refl; note = refl }
+itself t = record { id = refl; authority = refl; code = refl; name = refl; boxes = refl; areas = refl; kind = refl; text = refl; questions = refl; note = refl }
 
 -- if both lists have the same links, descriptions that show the same give the same row
 module _ (ts us : List Described) (link : (i : Id) → link_to ts i ≡ link_to us i) where
@@ -59,7 +58,7 @@ module _ (ts us : List Described) (link : (i : Id) → link_to ts i ≡ link_to 
       let events : flat_map (events_in ts t.id) os ≡ flat_map (events_in us u.id) ps =
       (λ j. flat_map (λ (o : Op). events_same t.id (printed o.id) o.note o.body j) os) ∙ same_events us t.id os ps (on t.id) ∙ (λ j. flat_map (events_in us (same.id j)) ps) in
       λ j. record {
-        id = same.printed j;
+        id = printed (same.id j);
         authority = same.authority j;
         code = same.code j;
         name = same.name j;

@@ -32,7 +32,7 @@ module _ (rules : List Rule) (s : Ops) (described : List Described) (os : List O
         id = t.id;
         definition = h.definition;
         entered = subst (λ note. set.contains s (entering t.id h.definition note) ≡ true) (sym d.note) h.entered;
-        prints = d.prints;
+        prints = refl;
         key = d.key;
         keyed = d.keyed;
         authority = d.authority;

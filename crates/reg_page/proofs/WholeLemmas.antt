@@ -1,8 +1,9 @@
 -- The page is its three parts, appended in turn.
 use Rattle.std.proofs.Common.{◌≡◌, ℕ, true, false, List, [], ◌∷◌, ◌++◌, map, filter, append_assoc, refl, sym, ap, ◌∙◌}
 use Rattle.std.specs.List.{flat_map}
+use Rattle.std.specs.List.Sorted.{IsPermutation}
 use Rattle.html_text.specs.Pieces.{Piece, Markup, html, Appends}
-use Rattle.html_text.proofs.JoinLemmas.{next}
+use Rattle.html_text.proofs.JoinLemmas.{next, html-append}
 use Rattle.html_page.specs.declared.markup.TheConstants.{AFTER_FIGURES, CONFLICTS_START, CONFLICTS_END, AWAITED_START, AWAITED_END, GAPS_START, GAPS_END, ENTRIES_START, ENTRIES_END, RETIRED_START, RETIRED_END}
 use Rattle.html_page.specs.Templates.{head, figures, section, conflict, awaited as waiting, gap, entry, end, page}
 use Rattle.crs_sense.specs.declared.rule.Rule.{Rule}
@@ -16,12 +17,17 @@ use Rattle.reg_op.specs.Rows.{rows as entry_rows, awaited}
 use Rattle.reg_report.specs.declared.gap.Gap.{Gap}
 use Rattle.reg_report.specs.Gaps.{AreGaps}
 use Rattle.reg_report.specs.Conflicts.{Contested, AreConflicts}
+use Rattle.reg_report.specs.Contenders.{conflict_seen}
 use Rattle.reg_page.specs.declared.described.Described.{Described}
-use Rattle.reg_page.specs.Descriptions.{AreDescribed}
+use Rattle.reg_page.specs.declared.gathered.Gathered.{Gathered}
+use Rattle.reg_page.specs.Descriptions.{AscendById, AreDescribed, InOrder}
+use Rattle.reg_page.specs.Gathered.{IsGathered}
 use Rattle.reg_page.specs.Page.{is_on, acts_in, conflict_of, gap_of, is_among, rows_of, figures_of, shown_of, IsPage, named}
 use Rattle.reg_page.specs.Parts.{top, open_ends, table}
+use Rattle.reg_page.proofs.ActLemmas.{same_on}
+use Rattle.reg_page.proofs.DescribeLemmas.{in_order}
 use Rattle.reg_op.specs.Text.{printed}
-use Rattle.reg_page.proofs.SameLemmas.{itself, entry_same}
+use Rattle.reg_page.proofs.SameLemmas.{itself, entry_same, figures_moved, conflicts_moved, rows_moved}
 
 regrouped : (all s t u : List Piece) → all ++ (s ++ t ++ u) ≡ all ++ s ++ t ++ u
 regrouped all s t u = sym (append_assoc all (s ++ t) u) ∙ ap (λ ps. ps ++ u) (sym (append_assoc all s t))
@@ -68,3 +74,26 @@ is_page rules title names x rows cs gaps acts cs' is gaps' start last t c g on e
       are = record { described = rows; are_described = t; conflicts = cs; are_conflicts = c; gaps = gaps; are_gaps = g; is = refl };
       is = h.is ∙ (λ j. es j ++ html (page (named names) (shown_of x title rows acts (ec j) (ei j) (eg j)))) ∙ ap (λ s. html (page (named names) s)) shows;
     }
+
+-- the bytes before the blocks and those of the blocks are the page, of the descriptions in its order
+pub is_whole : (read : List ℕ → List ℕ) (x : Content) (title : List ℕ) (ts rows : List Described) (acts : List Op) (cs : List Contested) (is : List Id) (gaps : List Gap) (first later : List ℕ)
+    → AscendById ts → IsPermutation ts rows → first ≡ html (top title (figures_of x ts cs is gaps))
+    → later ≡ html (open_ends read (map (conflict_of ts) cs) (map printed is) (map gap_of gaps) ++ table read (rows_of false x.ops ts acts rows) (rows_of true x.ops ts acts rows))
+    → first ++ later ≡ html (page read (shown_of x title rows acts cs is gaps))
+is_whole read x title ts rows acts cs is gaps first later up same before after =
+    let ends : List Piece = open_ends read (map (conflict_of rows) cs) (map printed is) (map gap_of gaps) in
+    let entries : List Piece = table read (rows_of false x.ops rows acts rows) (rows_of true x.ops rows acts rows) in
+    let moved : later ≡ html (ends ++ entries) =
+    after ∙ (λ j. html (open_ends read (conflicts_moved ts rows up same cs j) (map printed is) (map gap_of gaps)
+    ++ table read (rows_moved ts rows up same false x.ops acts rows j) (rows_moved ts rows up same true x.ops acts rows j))) in
+    let whole : Appends [] (first ++ html ends ++ html entries) (page read (shown_of x title rows acts cs is gaps)) =
+    in_parts read x title rows acts cs is gaps {b = first} {c = first ++ html ends}
+    (record { is = before ∙ ap (λ f. html (top title f)) (figures_moved ts rows up same x cs is gaps) }) (record { is = refl }) (record { is = refl }) in
+    ap (λ l. first ++ l) (moved ∙ html-append ends entries) ∙ sym (append_assoc first (html ends) (html entries)) ∙ whole.is
+
+-- what is gathered of a register, with its entries in order, gives its page
+pub paged : (rules : List Rule) (title : List ℕ) (names : List Name) (x : Content) (g : Gathered) (rows : List Described) → IsGathered rules x g → InOrder g.described.items rows
+    → IsPage rules title names x (html (page (named names) (shown_of x title rows g.acts.items (map conflict_seen g.conflicts.items) g.awaited.items g.gaps.items)))
+paged rules title names x g rows h order =
+    is_page rules title names x rows (map conflict_seen g.conflicts.items) g.gaps.items g.acts.items (map conflict_seen g.conflicts.items) g.awaited.items g.gaps.items [] _
+    (in_order rules x.ops g.described.items rows h.described order) h.conflicts h.gaps (same_on (acts_in x.ops) g.acts.items h.same) refl h.awaited refl refl (record { is = refl })

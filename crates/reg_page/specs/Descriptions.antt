@@ -13,7 +13,6 @@ use Rattle.std.specs.Borrow.{Bor}
 use Rattle.reg_op.specs.Set as set
 use Rattle.reg_op.specs.Set.{Ascends}
 use Rattle.reg_op.specs.Ids.{Id, id_cmp}
-use Rattle.reg_op.specs.Text.{printed}
 use Rattle.reg_op.specs.Operations.{Op, Ops}
 use Rattle.reg_op.specs.Kept.{entering}
 use Rattle.reg_op.specs.Status.{is_enter}
@@ -46,7 +45,6 @@ pub record IsSystemIn (rules : List Rule) (definition : List ℕ) (d : System) :
 -- what the page shows of an entry with this definition and note
 pub record DescribesEntry (rules : List Rule) (entry : Id) (definition written : List ℕ) (t : Described) : Type 0 where
   pub id : t.id ≡ entry
-  pub prints : t.printed.items ≡ printed entry
   pub key : Key
   pub keyed : IsKeyIn key definition
   pub authority : t.authority.items ≡ key.authority.bytes

@@ -4,5 +4,8 @@ pub mod Codes
 pub mod Descriptions
 pub mod Page
 pub mod Parts
+pub mod Blocks
+pub mod Writing
 pub mod Pairs
 pub mod Rows
+pub mod Gathered

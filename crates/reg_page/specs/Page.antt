@@ -46,7 +46,7 @@ described_at described i = find (λ (t : Described). is_same t.id i) described
 
 abbrev pub link_as : Id → Option Described → shown.Link
 link_as i None = shown.Awaited (printed i)
-link_as i (Some t) = shown.Entered t.printed.items t.authority.items t.code.items
+link_as i (Some t) = shown.Entered (printed t.id) t.authority.items t.code.items
 
 abbrev pub link_to : List Described → Id → shown.Link
 link_to described i = link_as i (described_at described i)
@@ -88,7 +88,7 @@ events_in described e o = events_by described e (printed o.id) o.note o.body
 -- the row of an entry, with what the operations do to it
 abbrev pub entry_of : Ops → List Described → List Op → Described → shown.Entry
 entry_of s described os t = record {
-  id = t.printed.items;
+  id = printed t.id;
   authority = t.authority.items;
   code = t.code.items;
   name = t.system.name.items;
@@ -107,7 +107,7 @@ entry_of s described os t = record {
 
 -- an entry's text, with the words marked that another's text does not have
 abbrev pub side_of : Described → Described → shown.Side
-side_of t other = record { id = t.printed.items; note = t.note.items; words = compared t.system.text.items other.system.text.items }
+side_of t other = record { id = printed t.id; note = t.note.items; words = compared t.system.text.items other.system.text.items }
 
 abbrev pub pairs_of : Option Described → Option Described → List shown.Pair
 pairs_of None other = []

@@ -13,7 +13,6 @@ use crs_search::Kind;
 use crs_value::Crs;
 use reg_lint::{Rule, questions};
 use reg_op::{Op, OpBody, OpId};
-use reg_report::printed;
 use reg_state::Register;
 use std::alloc::{AllocError, Global};
 use std::cmp::Ordering;
@@ -36,8 +35,6 @@ pub struct System {
 #[derive(Drop)]
 pub struct Described {
     pub id: OpId,
-    /// The printed form of the id.
-    pub printed: Vec<u8>,
     pub authority: Vec<u8>,
     pub code: Vec<u8>,
     pub system: System,
@@ -50,7 +47,8 @@ fn system_of(alloc: Global, rules: &[Rule], crs: &Crs) -> Result<System, AllocEr
     let name = Vec::from_slice(alloc, crs.name().as_bytes())?;
     let boxes = boxes_of(alloc, crs.parts())?;
     let areas = areas_of(alloc, crs.parts())?;
-    let text = write_pretty(alloc, crs)?;
+    let mut text = write_pretty(alloc, crs)?;
+    text.shrink_to_fit();
     let questions = questions(alloc, rules, crs.parts())?;
     Ok(System {
         name,
@@ -84,10 +82,8 @@ fn describe_entry(
     let authority = Vec::from_slice(alloc, key.authority.as_bytes())?;
     let code = Vec::from_slice(alloc, key.code.as_bytes())?;
     let note = Vec::from_slice(alloc, note)?;
-    let printed = printed(alloc, id)?;
     Ok(Described {
         id,
-        printed,
         authority,
         code,
         system,

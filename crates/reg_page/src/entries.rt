@@ -11,7 +11,7 @@ ghost use Rattle.reg_op.specs.Text.{printed};
 ghost use Rattle.reg_op.specs.Status.{status};
 ghost use Rattle.reg_op.specs.Ids.{id_cmp};
 ghost use Rattle.reg_page.specs.Boxes.{box_seen};
-ghost use Rattle.reg_page.specs.Descriptions.{AscendById, at};
+ghost use Rattle.reg_page.specs.Descriptions.{AscendById};
 ghost use Rattle.reg_page.specs.Page.{standing_of, link_to, subject, links_in, events_in, entry_of, named};
 
 use crate::acts::acts_on;
@@ -19,7 +19,7 @@ use crate::boxes::Edges;
 use crate::described::Described;
 use crate::kind::kind_word;
 use crate::links::push_link_to;
-use crate::names::{read_for_entry, read_for_id};
+use crate::names::read_for_id;
 use html_page::markup::{AFTER_BY, AFTER_ENTRY, AFTER_HISTORY, BY, RETIRED_BY, SUPERSEDED_BY};
 use html_page::{
     Standing, push_area, push_entry_id, push_entry_start, push_entry_text, push_map, push_mark,
@@ -27,6 +27,7 @@ use html_page::{
 };
 use office_names::Name;
 use reg_op::{Op, OpBody, OpId, Status};
+use reg_report::printed;
 use reg_state::Register;
 use std::alloc::{AllocError, Global};
 
@@ -239,8 +240,8 @@ fn push_questions(page: &mut Vec<u8>, questions: &[Vec<u8>]) -> Result<(), Alloc
     Ok(())
 }
 
-// Appends the row of an entry.
-fn push_entry(
+/// Appends the row of an entry.
+pub fn push_entry(
     alloc: Global,
     page: &mut Vec<u8>,
     names: &[Name],
@@ -255,8 +256,9 @@ fn push_entry(
 {
     let system = &one.system;
     let mine = acts_on(acts, one.id);
-    let read = read_for_entry(alloc, names, one)?;
-    push_entry_start(page, &one.printed, &one.authority, &one.code, &system.name)?;
+    let id = printed(alloc, one.id)?;
+    let read = read_for_id(alloc, names, one.id)?;
+    push_entry_start(page, &id, &one.authority, &one.code, &system.name)?;
     push_maps(page, &system.boxes)?;
     push_entry_text(page, &system.text)?;
     push_questions(page, &system.questions)?;
@@ -267,25 +269,5 @@ fn push_entry(
     push_standing(page, kind_word(system.kind), standing_of(register, one.id))?;
     push_bys(alloc, page, names, described, one.id, mine)?;
     push_mark(page, AFTER_ENTRY)?;
-    Ok(())
-}
-
-/// Appends the rows of these entries.
-pub fn push_rows(
-    alloc: Global,
-    page: &mut Vec<u8>,
-    names: &[Name],
-    register: &Register,
-    described: &[Described],
-    acts: &[Op],
-    rows: &[&Described],
-) -> Result<(), AllocError>
-    requires ascend { AscendById described.now }
-    requires sorted { IsSortedByKey subject id_cmp acts.now }
-    ensures { OnOk result (Appends page.old.items page.new.items (flat_map (entry (named names.now)) (map (entry_of register.now.ops described.now acts.now) (at rows.now)))) }
-{
-    for i in 0..rows.len() {
-        push_entry(alloc, page, names, register, described, acts, rows[i])?;
-    }
     Ok(())
 }

@@ -2,12 +2,15 @@
 #![tactic(auto)]
 
 mod acts;
+mod block;
 mod boxes;
 mod conflicts;
+mod contested;
 mod described;
 mod engine;
 mod entries;
 mod figures;
+mod gathered;
 mod kind;
 pub mod laws;
 mod links;
@@ -16,7 +19,8 @@ mod names;
 mod order;
 mod page;
 mod table;
+mod writing;
 
 pub use crs_sense::{RULES, Rule};
-pub use engine::Page;
-pub use page::page_text;
+pub use engine::{Page, run_page};
+pub use page::print_page;

@@ -13,6 +13,7 @@ use crate::names::read_for_id;
 use html_page::{push_awaited_link, push_link};
 use office_names::Name;
 use reg_op::OpId;
+use reg_report::printed;
 use std::alloc::{AllocError, Global};
 
 /// What the page shows of an entry, if it was entered.
@@ -26,10 +27,16 @@ pub fn described_at<'a>(described: &'a [Described], id: OpId) -> Option<&'a Desc
     }
 }
 
-fn push_known(page: &mut Vec<u8>, names: &[Name], one: &Described) -> Result<(), AllocError>
-    ensures { OnOk result (Appends page.old.items page.new.items (link (named names.now) (Entered one.now.printed.items one.now.authority.items one.now.code.items))) }
+fn push_known(
+    alloc: Global,
+    page: &mut Vec<u8>,
+    names: &[Name],
+    one: &Described,
+) -> Result<(), AllocError>
+    ensures { OnOk result (Appends page.old.items page.new.items (link (named names.now) (Entered (printed one.now.id) one.now.authority.items one.now.code.items))) }
 {
-    push_link(page, &one.printed, &one.authority, &one.code)?;
+    let id = printed(alloc, one.id)?;
+    push_link(page, &id, &one.authority, &one.code)?;
     Ok(())
 }
 
@@ -59,7 +66,7 @@ pub fn push_link_to(
 {
     match described_at(described, id) {
         Some(one) => {
-            push_known(page, names, one)?;
+            push_known(alloc, page, names, one)?;
             Ok(())
         }
         None => {

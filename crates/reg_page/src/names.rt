@@ -5,7 +5,6 @@ ghost use Rattle.uuid.specs.Text.{hyphenated_text, lower};
 ghost use Rattle.reg_op.specs.Text.{printed};
 ghost use Rattle.reg_page.specs.Page.{named};
 
-use crate::described::Described;
 use office_names::{Name, named};
 use reg_op::OpId;
 use reg_report::printed;
@@ -18,14 +17,6 @@ pub fn read_for_id(alloc: Global, names: &[Name], id: OpId) -> Result<Vec<u8>, A
 {
     let text = printed(alloc, id)?;
     let read = named(alloc, false, names, &text)?;
-    Ok(read)
-}
-
-/// What is read in the place of the id of an entry.
-pub fn read_for_entry(alloc: Global, names: &[Name], one: &Described) -> Result<Vec<u8>, AllocError>
-    ensures { IfOk result (λ read. read.items ≡ named names.now one.now.printed.items) }
-{
-    let read = named(alloc, false, names, &one.printed)?;
     Ok(read)
 }
 

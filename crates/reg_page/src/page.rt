@@ -1,29 +1,36 @@
 //! The whole page.
 
-ghost use Rattle.std.specs.Prelude.{◌≡◌, List, map, IfOk, OnOk};
-ghost use Rattle.html_text.specs.Pieces.{Appends};
+ghost use Rattle.std.specs.Prelude.{◌≡◌, ◌++◌, ◌⊎◌, true, false, List, ℕ, map, IfOk, OnOk, IfErr};
+ghost use Rattle.std.specs.List.Sorted.{IsSortedByKey};
+ghost use Rattle.byte_io.specs.Whole.{WritesAll};
+ghost use Rattle.html_text.specs.Pieces.{html, Appends};
 ghost use Rattle.html_page.specs.Templates.{page as page_pieces};
 ghost use Rattle.reg_report.specs.Contenders.{conflict_seen};
-ghost use Rattle.reg_op.specs.Text.{printed};
-ghost use Rattle.std.specs.List.Sorted.{IsSortedByKey};
 ghost use Rattle.reg_op.specs.Ids.{id_cmp};
+ghost use Rattle.reg_op.specs.Text.{printed};
+ghost use Rattle.reg_engine.specs.declared.fault.CliFault.TheVariants.{Memory};
 ghost use Rattle.reg_page.specs.declared.described.Described.{Described as OneDescribed};
+ghost use Rattle.reg_page.specs.Blocks.{Setting, bytes_of, Lists, rows_with};
 ghost use Rattle.reg_page.specs.Descriptions.{AscendById, InOrder};
 ghost use Rattle.reg_page.specs.Page.{subject, conflict_of, gap_of, figures_of, shown_of, named, IsPage};
-ghost use Rattle.reg_page.specs.Parts.{top, open_ends};
+ghost use Rattle.reg_page.specs.Parts.{top, open_ends, table};
+ghost use Rattle.reg_page.specs.Writing.{IsStopped, IsUnwritten};
 
-use crate::acts::acts_by_entry;
-use crate::conflicts::push_conflicts;
-use crate::described::{Described, all_described};
+use crate::block::Block;
+use crate::contested::list_conflicts;
+use crate::described::Described;
 use crate::figures::{count_retired, count_superseded, count_valid};
-use crate::missing::{push_all_awaited, push_gaps};
-use crate::table::push_table;
+use crate::gathered::{Gathered, gather};
+use crate::table::list_table;
+use crate::writing::write_blocks;
+use byte_io::Sink;
 use html_page::markup::AFTER_FIGURES;
 use html_page::{Figures, push_figures, push_head, push_mark};
 use office_names::Name;
+use reg_engine::CliFault;
 use reg_lint::Rule;
 use reg_op::{Op, OpId};
-use reg_report::{Conflict, Gap, awaited, conflicts, gaps};
+use reg_report::{Conflict, Gap};
 use reg_state::Register;
 use std::alloc::{AllocError, Global};
 
@@ -62,29 +69,55 @@ fn push_top(
     Ok(())
 }
 
-// Appends the conflicts, the awaited ids and the gaps.
-fn push_open_ends(
-    alloc: Global,
-    page: &mut Vec<u8>,
-    names: &[Name],
-    described: &[Described],
-    conflicts: &[Conflict],
-    awaited: &[OpId],
-    gaps: &[Gap],
+// Lists the conflicts, the awaited ids and the gaps.
+fn list_open_ends<'a>(
+    blocks: &mut Vec<Block<'a>>,
+    described: &'a [Described],
+    conflicts: &'a [Conflict],
+    awaited: &'a [OpId],
+    gaps: &'a [Gap],
 ) -> Result<(), AllocError>
     requires { AscendById described.now }
-    ensures { OnOk result (Appends page.old.items page.new.items (open_ends (named names.now) (map (conflict_of described.now) (map conflict_seen conflicts.now)) (map printed awaited.now) (map gap_of gaps.now))) }
+    ensures { (m : Setting) → OnOk result (Lists m blocks.old.items blocks.new.items (open_ends m.named (map (conflict_of described.now) (map conflict_seen conflicts.now)) (map printed awaited.now) (map gap_of gaps.now))) }
 {
-    push_conflicts(alloc, page, names, described, conflicts)?;
-    push_all_awaited(alloc, page, names, awaited)?;
-    push_gaps(alloc, page, names, gaps)?;
+    list_conflicts(blocks, described, conflicts)?;
+    blocks.push(Block::Awaited(awaited))?;
+    blocks.push(Block::Gaps(gaps))?;
     Ok(())
 }
 
-// Appends the page of these parts.
-fn push_page(
+// The blocks after the figures.
+fn blocks_of<'a>(
     alloc: Global,
-    page: &mut Vec<u8>,
+    register: &Register,
+    described: &'a [Described],
+    conflicts: &'a [Conflict],
+    awaited: &'a [OpId],
+    gaps: &'a [Gap],
+) -> Result<Vec<Block<'a>>, AllocError>
+    requires { AscendById described.now }
+    ensures { IfOk result (λ made. (rows : List OneDescribed) × InOrder described.now rows × ((m : Setting) → bytes_of m made.items ≡ html
+        (open_ends m.named (map (conflict_of described.now) (map conflict_seen conflicts.now)) (map printed awaited.now) (map gap_of gaps.now)
+        ++ table m.named (rows_with m false register.now.ops rows) (rows_with m true register.now.ops rows)))) }
+{
+    let mut blocks = Vec::new(alloc);
+    list_open_ends(&mut blocks, described, conflicts, awaited, gaps)?;
+    list_table(alloc, &mut blocks, register, described)?;
+    Ok(blocks)
+}
+
+// What stands before the blocks.
+fn top_of(alloc: Global, title: &[u8], figures: &Figures) -> Result<Vec<u8>, AllocError>
+    ensures { IfOk result (λ made. made.items ≡ html (top title.now figures.now)) }
+{
+    let mut page = Vec::new(alloc);
+    push_top(alloc, &mut page, title, figures)?;
+    Ok(page)
+}
+
+// Writes the page of these parts.
+fn write_page<K: Sink>(
+    alloc: Global,
     names: &[Name],
     register: &Register,
     title: &[u8],
@@ -93,36 +126,66 @@ fn push_page(
     conflicts: &[Conflict],
     awaited: &[OpId],
     gaps: &[Gap],
-) -> Result<(), AllocError>
+    sink: &mut K,
+) -> Result<(), CliFault>
     requires ascend { AscendById described.now }
     requires sorted { IsSortedByKey subject id_cmp acts.now }
-    ensures { OnOk result ((rows : List OneDescribed) × InOrder described.now rows × Appends page.old.items page.new.items (page_pieces (named names.now) (shown_of register.now title.now rows acts.now (map conflict_seen conflicts.now) awaited.now gaps.now))) }
+    ensures written { OnOk result ((rows : List OneDescribed) × InOrder described.now rows
+        × WritesAll (html (page_pieces (named names.now) (shown_of register.now title.now rows acts.now (map conflict_seen conflicts.now) awaited.now gaps.now))) (K.state sink.old) (K.state sink.new)) }
+    ensures fault { IfErr result (λ f. ((f ≡ Memory) × (K.state sink.new ≡ K.state sink.old)) ⊎ ((rows : List OneDescribed) × InOrder described.now rows
+        × IsStopped (html (page_pieces (named names.now) (shown_of register.now title.now rows acts.now (map conflict_seen conflicts.now) awaited.now gaps.now))) (K.state sink.old) (K.state sink.new) f)) }
 {
     let figures = figures_of(register, described, conflicts, awaited, gaps);
-    push_top(alloc, page, title, &figures)?;
-    push_open_ends(alloc, page, names, described, conflicts, awaited, gaps)?;
-    push_table(alloc, page, names, register, described, acts)?;
-    Ok(())
+    let blocks = match blocks_of(alloc, register, described, conflicts, awaited, gaps) {
+        Ok(blocks) => blocks,
+        Err(_) => return Err(CliFault::Memory),
+    };
+    let mut waiting = match top_of(alloc, title, &figures) {
+        Ok(waiting) => waiting,
+        Err(_) => return Err(CliFault::Memory),
+    };
+    match write_blocks(
+        alloc,
+        &mut waiting,
+        names,
+        register,
+        described,
+        acts,
+        &blocks,
+        sink,
+    ) {
+        Ok(()) => Ok(()),
+        Err(fault) => Err(fault),
+    }
 }
 
-/// The page of a register, with what is asked by these rules. In the place of ids, names of offices are read.
-pub fn page_text(
+/// Writes the page of a register, with what is asked by these rules. In the place of ids, names of offices are read. What the page is
+/// made of is complete before its first byte is written; if memory runs out after that, the output stops.
+pub fn print_page<K: Sink>(
     alloc: Global,
     rules: &[Rule],
     register: &Register,
     title: &[u8],
     names: &[Name],
-) -> Result<Vec<u8>, AllocError>
-    ensures { IfOk result (λ text. IsPage rules.now title.now names.now register.now text.items) }
+    sink: &mut K,
+) -> Result<(), CliFault>
+    ensures printed { OnOk result ((text : List ℕ) × IsPage rules.now title.now names.now register.now text × WritesAll text (K.state sink.old) (K.state sink.new)) }
+    ensures fault { IfErr result (IsUnwritten (IsPage rules.now title.now names.now register.now) (K.state sink.old) (K.state sink.new)) }
 {
-    let described = all_described(alloc, rules, register)?;
-    let acts = acts_by_entry(alloc, register)?;
-    let conflicts = conflicts(alloc, register)?;
-    let awaited = awaited(alloc, register)?;
-    let gaps = gaps(alloc, register)?;
-    let mut page = Vec::new(alloc);
-    push_page(
-        alloc, &mut page, names, register, title, &described, &acts, &conflicts, &awaited, &gaps,
-    )?;
-    Ok(page)
+    let Gathered {
+        described,
+        acts,
+        conflicts,
+        awaited,
+        gaps,
+    } = match gather(alloc, rules, register) {
+        Ok(found) => found,
+        Err(_) => return Err(CliFault::Memory),
+    };
+    match write_page(
+        alloc, names, register, title, &described, &acts, &conflicts, &awaited, &gaps, sink,
+    ) {
+        Ok(()) => Ok(()),
+        Err(fault) => Err(fault),
+    }
 }

@@ -2,23 +2,18 @@
 
 ghost use Rattle.std.specs.Prelude.{◌≡◌, ◌++◌, ◌∷◌, [], true, false, List, filter, map, IfOk, OnOk};
 ghost use Rattle.std.specs.List.{flat_map};
-ghost use Rattle.std.specs.List.Sorted.{IsSortedByKey};
-ghost use Rattle.html_text.specs.Pieces.{Appends};
 ghost use Rattle.html_page.specs.Templates.{entry, section};
 ghost use Rattle.html_page.specs.declared.markup.TheConstants as markup;
-ghost use Rattle.reg_op.specs.Ids.{id_cmp};
 ghost use Rattle.reg_page.specs.declared.described.Described.{Described as OneDescribed};
-ghost use Rattle.reg_page.specs.Descriptions.{AscendById, at, InOrder};
-ghost use Rattle.reg_page.specs.Page.{subject, entry_of, is_among, rows_of, named};
+ghost use Rattle.reg_page.specs.Descriptions.{at, InOrder};
+ghost use Rattle.reg_page.specs.Page.{entry_of, is_among};
 ghost use Rattle.reg_page.specs.Parts.{table};
+ghost use Rattle.reg_page.specs.Blocks.{Setting, Lists, rows_with};
 
+use crate::block::Block;
 use crate::described::{Described, by_key};
-use crate::entries::push_rows;
 use crate::figures::is_retired;
 use html_page::markup::{ENTRIES_END, ENTRIES_START, RETIRED_END, RETIRED_START};
-use html_page::{push_end, push_mark};
-use office_names::Name;
-use reg_op::Op;
 use reg_state::Register;
 use std::alloc::{AllocError, Global};
 
@@ -64,101 +59,81 @@ fn part_of<'a>(
     Ok(made)
 }
 
-// Appends the rows of the entries that are not retired.
-fn push_live(
-    alloc: Global,
-    page: &mut Vec<u8>,
-    names: &[Name],
-    register: &Register,
-    described: &[Described],
-    acts: &[Op],
-    rows: &[&Described],
-) -> Result<(), AllocError>
-    requires ascend { AscendById described.now }
-    requires sorted { IsSortedByKey subject id_cmp acts.now }
-    ensures { OnOk result (Appends page.old.items page.new.items (flat_map (entry (named names.now)) (rows_of false register.now.ops described.now acts.now (at rows.now)))) }
+fn list_rows<'a>(blocks: &mut Vec<Block<'a>>, rows: &[&'a Described]) -> Result<(), AllocError>
+    ensures { (m : Setting) → OnOk result (Lists m blocks.old.items blocks.new.items (flat_map (entry m.named) (map (entry_of m.ops m.described m.acts) (at rows.now)))) }
 {
-    let live = part_of(alloc, false, register, rows)?;
-    push_rows(alloc, page, names, register, described, acts, &live)?;
+    for i in 0..rows.len() {
+        blocks.push(Block::Row(rows[i]))?;
+    }
     Ok(())
 }
 
-fn push_gone_rows(
+// Lists the rows of the entries that are not retired.
+fn list_live<'a>(
     alloc: Global,
-    page: &mut Vec<u8>,
-    names: &[Name],
+    blocks: &mut Vec<Block<'a>>,
     register: &Register,
-    described: &[Described],
-    acts: &[Op],
-    gone: &[&Described],
+    rows: &[&'a Described],
 ) -> Result<(), AllocError>
-    requires ascend { AscendById described.now }
-    requires sorted { IsSortedByKey subject id_cmp acts.now }
-    ensures { OnOk result (Appends page.old.items page.new.items (section markup.RETIRED_START.now (entry (named names.now)) markup.RETIRED_END.now (map (entry_of register.now.ops described.now acts.now) (at gone.now)))) }
+    ensures { (m : Setting) → OnOk result (Lists m blocks.old.items blocks.new.items (flat_map (entry m.named) (rows_with m false register.now.ops (at rows.now)))) }
+{
+    let live = part_of(alloc, false, register, rows)?;
+    list_rows(blocks, &live)?;
+    Ok(())
+}
+
+fn list_gone_rows<'a>(blocks: &mut Vec<Block<'a>>, gone: &[&'a Described]) -> Result<(), AllocError>
+    ensures { (m : Setting) → OnOk result (Lists m blocks.old.items blocks.new.items (section markup.RETIRED_START.now (entry m.named) markup.RETIRED_END.now (map (entry_of m.ops m.described m.acts) (at gone.now)))) }
 {
     if gone.is_empty() {
         return Ok(());
     }
-    push_mark(page, RETIRED_START)?;
-    push_rows(alloc, page, names, register, described, acts, gone)?;
-    push_mark(page, RETIRED_END)?;
+    blocks.push(Block::Mark(RETIRED_START))?;
+    list_rows(blocks, gone)?;
+    blocks.push(Block::Mark(RETIRED_END))?;
     Ok(())
 }
 
-// Appends the retired entries, if there are some.
-fn push_gone(
+// Lists the retired entries, if there are some.
+fn list_gone<'a>(
     alloc: Global,
-    page: &mut Vec<u8>,
-    names: &[Name],
+    blocks: &mut Vec<Block<'a>>,
     register: &Register,
-    described: &[Described],
-    acts: &[Op],
-    rows: &[&Described],
+    rows: &[&'a Described],
 ) -> Result<(), AllocError>
-    requires ascend { AscendById described.now }
-    requires sorted { IsSortedByKey subject id_cmp acts.now }
-    ensures { OnOk result (Appends page.old.items page.new.items (section markup.RETIRED_START.now (entry (named names.now)) markup.RETIRED_END.now (rows_of true register.now.ops described.now acts.now (at rows.now)))) }
+    ensures { (m : Setting) → OnOk result (Lists m blocks.old.items blocks.new.items (section markup.RETIRED_START.now (entry m.named) markup.RETIRED_END.now (rows_with m true register.now.ops (at rows.now)))) }
 {
     let gone = part_of(alloc, true, register, rows)?;
-    push_gone_rows(alloc, page, names, register, described, acts, &gone)?;
+    list_gone_rows(blocks, &gone)?;
     Ok(())
 }
 
-fn push_both(
+fn list_both<'a>(
     alloc: Global,
-    page: &mut Vec<u8>,
-    names: &[Name],
+    blocks: &mut Vec<Block<'a>>,
     register: &Register,
-    described: &[Described],
-    acts: &[Op],
-    rows: &[&Described],
+    rows: &[&'a Described],
 ) -> Result<(), AllocError>
-    requires ascend { AscendById described.now }
-    requires sorted { IsSortedByKey subject id_cmp acts.now }
-    ensures { OnOk result (Appends page.old.items page.new.items (table (named names.now) (rows_of false register.now.ops described.now acts.now (at rows.now)) (rows_of true register.now.ops described.now acts.now (at rows.now)))) }
+    ensures { (m : Setting) → OnOk result (Lists m blocks.old.items blocks.new.items (table m.named (rows_with m false register.now.ops (at rows.now)) (rows_with m true register.now.ops (at rows.now)))) }
 {
-    push_mark(page, ENTRIES_START)?;
-    push_live(alloc, page, names, register, described, acts, rows)?;
-    push_mark(page, ENTRIES_END)?;
-    push_gone(alloc, page, names, register, described, acts, rows)?;
-    push_end(page)?;
+    blocks.push(Block::Mark(ENTRIES_START))?;
+    list_live(alloc, blocks, register, rows)?;
+    blocks.push(Block::Mark(ENTRIES_END))?;
+    list_gone(alloc, blocks, register, rows)?;
+    blocks.push(Block::End)?;
     Ok(())
 }
 
-/// Appends a row for each entry, by key and then by id: those that are not retired, and then those that are.
-pub fn push_table(
+/// Lists a row for each entry, by key and then by id: those that are not retired, and then those that are.
+pub fn list_table<'a>(
     alloc: Global,
-    page: &mut Vec<u8>,
-    names: &[Name],
+    blocks: &mut Vec<Block<'a>>,
     register: &Register,
-    described: &[Described],
-    acts: &[Op],
+    described: &'a [Described],
 ) -> Result<(), AllocError>
-    requires ascend { AscendById described.now }
-    requires sorted { IsSortedByKey subject id_cmp acts.now }
-    ensures { OnOk result ((rows : List OneDescribed) × InOrder described.now rows × Appends page.old.items page.new.items (table (named names.now) (rows_of false register.now.ops described.now acts.now rows) (rows_of true register.now.ops described.now acts.now rows))) }
+    ensures { OnOk result ((rows : List OneDescribed) × InOrder described.now rows × ((m : Setting) → Lists m blocks.old.items blocks.new.items (table m.named (rows_with m false register.now.ops rows) (rows_with m true register.now.ops rows)))) }
 {
     let rows = by_key(alloc, described)?;
-    push_both(alloc, page, names, register, described, acts, &rows)?;
+    list_both(alloc, blocks, register, &rows)?;
     Ok(())
 }

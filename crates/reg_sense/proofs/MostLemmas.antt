@@ -1,5 +1,6 @@
 -- What most claim, one claim at a time.
-use Rattle.std.proofs.Common.{◌≡◌, ℕ, true, false, cond, Option, Some, None, List, [], ◌∷◌, ◌++◌, ◌-◌, length, map, filter, refl, sym, ap, ◌∙◌, append-nil, arith, codes}
+use Rattle.std.proofs.Common.{◌≡◌, ℕ, Bool, true, false, cond, Option, Some, None, List, [], ◌∷◌, ◌++◌, ◌-◌, length, map, filter, refl, sym, ap, ◌∙◌, arith}
+use Rattle.std.proofs.lemmas.Bool.{true≢false}
 use Rattle.std.proofs.lemmas.Cmp.{nat_cmp_total, nat_list_cmp_total, then_total, on_total}
 use Rattle.std.proofs.lemmas.List.MinMax.{ranks_by}
 use Rattle.std.proofs.lemmas.Slice.Eq.{bytes_eq-Decides}
@@ -13,15 +14,15 @@ use Rattle.std.specs.Str.{bytes_eq}
 use Rattle.crs_said.specs.Claims.{Said}
 use Rattle.reg_sense.specs.Claimants.{Voice, key_text, is_about}
 use Rattle.reg_sense.specs.Least.{least, lesser}
-use Rattle.reg_sense.specs.Most.{claiming, count, contents, most_cmp, is_more, more_told, those_told}
+use Rattle.reg_sense.specs.Most.{claiming, count, contents, most_cmp, is_more, is_content, more_told, those_told}
 use Rattle.reg_sense.specs.Tallies.{Counted, tally, bytes_cmp, seen_in, HasMost}
 use Rattle.reg_sense.proofs.LeastLemmas.{least_cons}
 use Rattle.reg_sense.proofs.TallyLemmas.{says, nobody_claims}
 
-most_total : (vs : List Voice) (w : List ℕ) → IsTotalOrder (most_cmp vs w)
+pub most_total : (vs : List Voice) (w : List ℕ) → IsTotalOrder (most_cmp vs w)
 most_total vs w = then_total (back_total (on_total (λ c. count w c vs) nat_cmp_total)) nat_list_cmp_total
 
-most_ranks : (vs : List Voice) (w : List ℕ) → IsStrictWeakOrder (is_more vs w)
+pub most_ranks : (vs : List Voice) (w : List ℕ) → IsStrictWeakOrder (is_more vs w)
 most_ranks vs w = ranks_by (most_total vs w) (λ c. c)
 
 -- one more content in front
@@ -43,19 +44,46 @@ most_step vs x xs own made q was old new w is before put had = elim (is_about q.
       ∙ (λ j. least (is_more vs q.now) (map (λ (z : Said). z.content) (cond (sym n j) (x ∷ filter (is_about q.now) xs) (filter (is_about q.now) xs))))
 ] refl
 
+lesser_same : {X : Type 0} (less : X → X → Bool) (x : X) → lesser less x (Some x) ≡ x
+lesser_same less x = elim (less x x) as (λ b. cond b x x ≡ x) [
+  | true ↦ refl
+  | false ↦ refl
+]
+
+pub content_is : (o : Option (List ℕ)) (c : List ℕ) → is_content o c ≡ true → o ≡ Some c
+content_is None c e = absurd (true≢false (sym e))
+content_is (Some m) c e = ap Some ((bytes_eq-Decides m c).0 e)
+
+-- one more content in front, which is the least already
+pub most_kept : (vs : List Voice) (x : Said) (xs : List Said) (q : List ℕ) (old : Option (List ℕ)) → least (is_more vs x.word) (contents x.word xs) ≡ Some x.content
+    → old ≡ least (is_more vs q) (contents q xs) → old ≡ least (is_more vs q) (contents q (x ∷ xs))
+most_kept vs x xs q old is had = elim (is_about q x) as (λ b. is_about q x ≡ b → old ≡ least (is_more vs q) (contents q (x ∷ xs))) [
+  | true ↦ λ y.
+      let here : x.word ≡ q = (bytes_eq-Decides x.word q).0 y in
+      had
+      ∙ (λ j. least (is_more vs (sym here j)) (contents (sym here j) xs))
+      ∙ is
+      ∙ ap Some (sym (lesser_same (is_more vs x.word) x.content))
+      ∙ ap (λ o. Some (lesser (is_more vs x.word) x.content o)) (sym is)
+      ∙ sym (least_cons (is_more vs x.word) (most_ranks vs x.word) x.content (contents x.word xs))
+      ∙ (λ j. least (is_more vs (here j)) (x.content ∷ contents (here j) xs))
+      ∙ (λ j. least (is_more vs q) (map (λ (z : Said). z.content) (cond (sym y j) (x ∷ filter (is_about q) xs) (filter (is_about q) xs))))
+  | false ↦ λ n.
+      had
+      ∙ (λ j. least (is_more vs q) (map (λ (z : Said). z.content) (cond (sym n j) (x ∷ filter (is_about q) xs) (filter (is_about q) xs))))
+] refl
+
 pub none_most : (vs : List Voice) (m : BTreeMap (Bor (List ℕ)) (Bor (List ℕ))) → m.entries ≡ [] → HasMost vs m []
 none_most vs m e q = ap (λ es. seen_in (lookup (λ k. is_eq (bytes_cmp q k)) es)) e
 
 -- ---- those who claim what most claim
 
-pub told_some : (w c said : List ℕ) (vs : List Voice) (t : Counted) → tally w c 0 vs ≡ Some t → said ++ (codes " in " ++ (key_text t.first ++ more_told (t.count - 1))) ≡ said ++ (codes " in " ++ those_told (claiming w c vs))
-told_some w c said vs t e =
+pub those_some : (w c : List ℕ) (vs : List Voice) (t : Counted) → tally w c 0 vs ≡ Some t → key_text t.first ++ more_told (t.count - 1) ≡ those_told (claiming w c vs)
+those_some w c vs t e =
     let s = says w c 0 vs t e in
     let n : t.count - 1 ≡ length s.others = let k = s.count in omega (arith, k) in
-    (λ j. said ++ (codes " in " ++ (key_text t.first ++ more_told (n j))))
-    ∙ (λ j. said ++ (codes " in " ++ those_told (sym s.are j)))
+    (λ j. key_text t.first ++ more_told (n j))
+    ∙ (λ j. those_told (sym s.are j))
 
-pub told_none : (w c said : List ℕ) (vs : List Voice) → tally w c 0 vs ≡ None → said ++ codes " in " ≡ said ++ (codes " in " ++ those_told (claiming w c vs))
-told_none w c said vs e =
-    (λ j. said ++ sym (append-nil (codes " in ")) j)
-    ∙ (λ j. said ++ (codes " in " ++ those_told (sym (nobody_claims w c 0 vs e) j)))
+pub those_none : (w c : List ℕ) (vs : List Voice) → tally w c 0 vs ≡ None → [] ≡ those_told (claiming w c vs)
+those_none w c vs e = (λ j. those_told (sym (nobody_claims w c 0 vs e) j))

@@ -22,10 +22,10 @@ use Rattle.reg_sense.proofs.LeastLemmas.{least_cons, lesser_twice}
 code_total : IsTotalOrder code_cmp
 code_total = then_total (on_total class_of nat_cmp_total) (then_total (on_total digits_of nat_cmp_total) nat_list_cmp_total)
 
-key_total : IsTotalOrder key_cmp
+pub key_total : IsTotalOrder key_cmp
 key_total = then_total (on_total (λ (v : Voice). v.authority) nat_list_cmp_total) (on_total (λ (v : Voice). v.code) code_total)
 
-key_ranks : IsStrictWeakOrder is_before
+pub key_ranks : IsStrictWeakOrder is_before
 key_ranks = ranks_by key_total (λ v. v)
 
 -- one who is in front, perhaps for the second time

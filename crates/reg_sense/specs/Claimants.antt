@@ -4,6 +4,7 @@ use Rattle.std.specs.Global.{Vec}
 use Rattle.std.specs.Option.{option_or}
 use Rattle.std.specs.Str.{bytes_eq}
 use Rattle.crs_said.specs.Claims.{Said, claim_seen}
+use Rattle.text_short.specs.Short.{short}
 use Rattle.reg_sense.specs.declared.claimant.Claimant.{Claimant}
 
 pub record Voice : Type 0 where
@@ -15,9 +16,9 @@ pub record Voice : Type 0 where
 abbrev pub voice : Claimant → Voice
 voice c = record { authority = c.authority.items; code = c.code.items; name = c.name.items; claims = map claim_seen c.claims.items }
 
--- the authority, a colon and the code
+-- the first characters of the authority, a colon, and those of the code
 abbrev pub key_text : Voice → List ℕ
-key_text v = v.authority ++ (58 ∷ v.code)
+key_text v = short v.authority ++ (58 ∷ short v.code)
 
 -- the claim is about this word
 abbrev pub is_about : List ℕ → Said → Bool
@@ -27,7 +28,7 @@ is_about w x = bytes_eq x.word w
 abbrev pub is_claim : List ℕ → List ℕ → Said → Bool
 is_claim w c x = is_about w x && bytes_eq x.content c
 
--- ---- what is said of each
+-- ---- sentences
 
 abbrev pub detail_seen : Option (Vec ℕ) → Option (List ℕ)
 detail_seen None = None

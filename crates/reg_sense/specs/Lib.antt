@@ -7,3 +7,4 @@ pub mod Keys
 pub mod Twins
 pub mod Others
 pub mod Rules
+pub mod Laws

@@ -1,5 +1,5 @@
 -- What most claim, and who claims otherwise.
-use Rattle.std.specs.Prelude.{ℕ, zero, suc, Bool, List, [], ◌∷◌, ◌++◌, length, map, filter, flat_map, Option, Some, None, codes, decimal, if◌then◌else◌}
+use Rattle.std.specs.Prelude.{ℕ, zero, suc, Bool, false, List, [], ◌∷◌, ◌++◌, length, map, filter, flat_map, Option, Some, None, codes, decimal, if◌then◌else◌}
 use Rattle.std.specs.List.{list_any}
 use Rattle.std.specs.Str.{bytes_eq}
 use Rattle.std.specs.Ordering.{nat_cmp, is_lt, ordering_then}
@@ -38,6 +38,11 @@ most vs w = least (is_more vs w) (contents w (all_claims vs))
 abbrev pub otherwise : Option (List ℕ) → List ℕ → Option (List ℕ)
 otherwise None c = None
 otherwise (Some m) c = if bytes_eq m c then None else Some m
+
+-- it is this content
+abbrev pub is_content : Option (List ℕ) → List ℕ → Bool
+is_content None c = false
+is_content (Some m) c = bytes_eq m c
 
 -- how many more than the first
 abbrev pub more_told : ℕ → List ℕ

@@ -1,4 +1,4 @@
--- The rules over several systems, and what is said of those that break one.
+-- The rules over several systems, and the sentence about one that breaks a rule.
 use Rattle.std.specs.Prelude.{ℕ, List, [], ◌∷◌, Option, codes}
 use Rattle.crs_part.specs.declared.crs.CrsParts.{CrsParts}
 use Rattle.crs_said.specs.Claims.{Said}

@@ -4,6 +4,7 @@ use Rattle.std.specs.Borrow.{Bor}
 use Rattle.std.specs.BTreeMap.{BTreeMap, get}
 use Rattle.std.specs.List.{list_any}
 use Rattle.crs_said.specs.Claims.{Said}
+use Rattle.text_short.specs.Short.{short}
 use Rattle.reg_sense.specs.declared.claimant.Claimant.{Claimant}
 use Rattle.reg_sense.specs.Claimants.{Voice, voice, key_text, is_about, first_told}
 use Rattle.reg_sense.specs.Keys.{is_before, has_same_key}
@@ -19,7 +20,7 @@ abbrev pub first_of : List Voice → List ℕ → Option Voice
 first_of vs w = least is_before (saying w vs)
 
 abbrev pub twin_text : Voice → List ℕ
-twin_text t = codes "says the same as " ++ key_text t ++ codes " \"" ++ t.name ++ codes "\" but for names"
+twin_text t = codes "says the same as " ++ key_text t ++ codes " \"" ++ short t.name ++ codes "\" but for names"
 
 abbrev pub twin_maybe : Voice → Option Voice → Option (List ℕ)
 twin_maybe v None = None

@@ -5,6 +5,7 @@ ghost use Rattle.reg_sense.specs.Claimants.{voice, key_text};
 
 use crs_said::Claim;
 use std::alloc::{AllocError, Global};
+use text_short::push_short;
 
 /// A reference system with its key, its name, and what it claims.
 #[derive(Drop)]
@@ -15,13 +16,13 @@ pub struct Claimant {
     pub claims: Vec<Claim>,
 }
 
-/// The authority, a colon and the code.
+/// The first characters of the authority, a colon, and those of the code.
 pub(crate) fn key_text(alloc: Global, claimant: &Claimant) -> Result<Vec<u8>, AllocError>
     ensures { IfOk result (λ text. text.items ≡ key_text (voice claimant.now)) }
 {
     let mut text = Vec::new(alloc);
-    text.extend_from_slice(&claimant.authority)?;
+    push_short(&mut text, &claimant.authority)?;
     text.push(b':')?;
-    text.extend_from_slice(&claimant.code)?;
+    push_short(&mut text, &claimant.code)?;
     Ok(text)
 }

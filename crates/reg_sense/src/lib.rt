@@ -3,6 +3,7 @@
 
 mod claimant;
 mod keys;
+pub mod laws;
 mod most;
 mod names;
 mod others;

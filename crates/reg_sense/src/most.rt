@@ -1,13 +1,13 @@
 //! What most claim for each word, and who claims otherwise.
 
-ghost use Rattle.std.specs.Prelude.{◌≡◌, ◌++◌, ◌∷◌, ℕ, List, map, codes, Some, IfOk, OnOk};
+ghost use Rattle.std.specs.Prelude.{◌≡◌, ◌++◌, ◌∷◌, ℕ, List, map, IfOk, OnOk};
 ghost use Rattle.std.specs.Option.{option_copied};
 ghost use Rattle.crs_said.specs.Claims.{Said, claim_seen};
-ghost use Rattle.reg_sense.specs.Claimants.{Voice, voice, key_text, detail_seen, first_told};
+ghost use Rattle.reg_sense.specs.Claimants.{Voice, voice, detail_seen, first_told};
 ghost use Rattle.reg_sense.specs.declared.claimant.Claimant.{Claimant};
-ghost use Rattle.reg_sense.specs.Least.{lesser};
-ghost use Rattle.reg_sense.specs.Most.{count, is_more, all_claims, most, otherwise, more_told, against, odd_told, told_against};
-ghost use Rattle.reg_sense.specs.Tallies.{HasTallies, HasMost, seen_in};
+ghost use Rattle.reg_sense.specs.Least.{least, lesser};
+ghost use Rattle.reg_sense.specs.Most.{claiming, count, contents, is_more, all_claims, most, otherwise, is_content, more_told, those_told, against, odd_told, told_against};
+ghost use Rattle.reg_sense.specs.Tallies.{counted, tally, HasTallies, HasMost, seen_in};
 
 use crate::claimant::{Claimant, key_text};
 use crate::tally::{Pair, Tally, tallies_of};
@@ -57,6 +57,18 @@ fn better<'a>(
     content
 }
 
+// Whether the map has the content of the claim for its word.
+fn has_content<'a>(best: &BTreeMap<&'a [u8], &'a [u8]>, claim: &'a Claim) -> bool
+    ensures { (vs : List Voice) (xs : List Said) → HasMost vs best.now xs → result ≡ is_content (least (is_more vs (claim_seen claim.now).word) (contents (claim_seen claim.now).word xs)) (claim_seen claim.now).content }
+{
+    let word = claim.word.as_slice();
+    let Some(content) = best.get(&word) else {
+        return false;
+    };
+    *content == claim.content.as_slice()
+}
+
+// Most claims say what most say, and change nothing.
 fn put_content<'a>(
     tallies: &BTreeMap<Pair<'a>, Tally<'a>>,
     best: &mut BTreeMap<&'a [u8], &'a [u8]>,
@@ -64,6 +76,9 @@ fn put_content<'a>(
 ) -> Result<(), AllocError>
     ensures { (vs : List Voice) (xs : List Said) → HasTallies tallies.now 0 vs → HasMost vs best.old xs → OnOk result (HasMost vs best.new (claim_seen claim.now ∷ xs)) }
 {
+    if has_content(best, claim) {
+        return Ok(());
+    }
     let word = claim.word.as_slice();
     let content = better(tallies, word, claim.content.as_slice(), best.get(&word));
     let _ = best.insert(word, content)?;
@@ -130,25 +145,20 @@ fn more_told(alloc: Global, more: usize) -> Result<Vec<u8>, AllocError>
     Ok(text)
 }
 
-fn sentence(
-    alloc: Global,
-    said: &[u8],
-    first: &Claimant,
-    more: usize,
-) -> Result<Vec<u8>, AllocError>
-    ensures { IfOk result (λ text. text.items ≡ said.now ++ (codes " in " ++ (key_text (voice first.now) ++ more_told more))) }
+// The first of those in a tally, and how many more; nothing without a tally.
+fn those_told<'a>(alloc: Global, found: Option<&Tally<'a>>) -> Result<Vec<u8>, AllocError>
+    ensures { (w c : List ℕ) (vs : List Voice) → counted (option_copied found.entry) ≡ tally w c 0 vs → IfOk result (λ text. text.items ≡ those_told (claiming w c vs)) }
 {
-    let key = key_text(alloc, first)?;
-    let others = more_told(alloc, more)?;
-    let mut text = Vec::new(alloc);
-    text.extend_from_slice(said)?;
-    text.extend_from_slice(b" in ")?;
-    text.extend_from_slice(&key)?;
+    let Some(tally) = found else {
+        return Ok(Vec::new(alloc));
+    };
+    let mut text = key_text(alloc, tally.first)?;
+    let others = more_told(alloc, tally.count.saturating_sub(1))?;
     text.extend_from_slice(&others)?;
     Ok(text)
 }
 
-fn told_of<'a>(
+fn against<'a>(
     alloc: Global,
     tallies: &BTreeMap<Pair<'a>, Tally<'a>>,
     claim: &'a Claim,
@@ -160,23 +170,11 @@ fn told_of<'a>(
         word: claim.word.as_slice(),
         content,
     };
-    match tallies.get(&pair) {
-        Some(tally) => sentence(
-            alloc,
-            &claim.said,
-            tally.first,
-            tally.count.saturating_sub(1),
-        ),
-        None => in_none(alloc, &claim.said),
-    }
-}
-
-fn in_none(alloc: Global, said: &[u8]) -> Result<Vec<u8>, AllocError>
-    ensures { IfOk result (λ text. text.items ≡ said.now ++ codes " in ") }
-{
+    let those = those_told(alloc, tallies.get(&pair))?;
     let mut text = Vec::new(alloc);
-    text.extend_from_slice(said)?;
+    text.extend_from_slice(&claim.said)?;
     text.extend_from_slice(b" in ")?;
+    text.extend_from_slice(&those)?;
     Ok(text)
 }
 
@@ -191,7 +189,7 @@ fn odd_told<'a>(
     let Some(content) = other_content(best, claim) else {
         return Ok(None);
     };
-    let text = told_of(alloc, tallies, claim, content)?;
+    let text = against(alloc, tallies, claim, content)?;
     Ok(Some(text))
 }
 
@@ -214,7 +212,7 @@ fn first_odd<'a>(
     Ok(None)
 }
 
-// What is said of each, by these tallies.
+// The sentence about each, by these tallies.
 fn each_told<'a>(
     alloc: Global,
     tallies: &BTreeMap<Pair<'a>, Tally<'a>>,
@@ -232,7 +230,7 @@ fn each_told<'a>(
     Ok(made)
 }
 
-/// Of each who claims something where most claim otherwise, what is said of the first such claim.
+/// The sentence about each who claims something where most claim otherwise, by the first such claim.
 pub(crate) fn told_against(
     alloc: Global,
     claimants: &[Claimant],

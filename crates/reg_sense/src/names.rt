@@ -65,7 +65,7 @@ fn first_name<'a>(
     Ok(None)
 }
 
-/// Of each who claims something about one of these names, what is said of the first such claim.
+/// The sentence about each who claims something about one of these names, by the first such claim.
 pub(crate) fn told_names(
     alloc: Global,
     names: &[Vec<u8>],

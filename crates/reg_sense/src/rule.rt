@@ -1,4 +1,4 @@
-//! The rules over several systems, and what is said of those that break one.
+//! The rules over several systems, and the sentence about one that breaks a rule.
 
 ghost use Rattle.std.specs.Prelude.{◌≡◌, ◌∷◌, [], ℕ, map, IfOk};
 ghost use Rattle.std.specs.Char.{to_ascii_lowercase};
@@ -91,7 +91,7 @@ impl WideRule {
         }
     }
 
-    /// Of each of these what is said if it breaks the rule, given the names of all of them.
+    /// The sentence about each of these that breaks the rule, given the names of all of them.
     pub fn told(
         self,
         alloc: Global,

@@ -14,6 +14,7 @@ use crate::keys::{has_same_key, is_before};
 use crs_said::Claim;
 use std::alloc::{AllocError, Global};
 use std::collections::BTreeMap;
+use text_short::push_short;
 
 fn lesser<'a>(claimant: &'a Claimant, before: Option<&&'a Claimant>) -> &'a Claimant
     ensures { voice result.now ≡ lesser is_before (voice claimant.now) (voice_in (option_copied before.entry)) }
@@ -78,7 +79,7 @@ fn twin_text(alloc: Global, twin: &Claimant) -> Result<Vec<u8>, AllocError>
     text.extend_from_slice(b"says the same as ")?;
     text.extend_from_slice(&key)?;
     text.extend_from_slice(b" \"")?;
-    text.extend_from_slice(&twin.name)?;
+    push_short(&mut text, &twin.name)?;
     text.extend_from_slice(b"\" but for names")?;
     Ok(text)
 }

@@ -23,7 +23,6 @@ use Rattle.wkt_crs.specs.declared.definition.DefinitionFault.TheVariants as faul
 use Rattle.wkt_crs.specs.Spells.{Spells, canon}
 use Rattle.wkt_crs.specs.Definition.{HasNone, HasKey, HasName, IsDefinedBy, IsDefinition, IsCrsOf, IsNameIn, IsKeyIn, IsCanonicalFault, of_read}
 use Rattle.wkt_crs.proofs.Texts.{one_value}
-use Rattle.wkt_crs.proofs.Verdicts.{value_or_fault}
 use Rattle.wkt_crs.proofs.Written.{canonical_spells}
 
 pub canonical_text : (crs : Crs) (bytes : List ℕ) → bytes ≡ canon crs → length bytes ≤ 65536 → Spells bytes crs
@@ -70,10 +69,6 @@ pub some_first : (ids : List Ident) (o : Option Key) → o ≡ None → ¬ (ids 
 some_first [] o e n h = n refl
 some_first (x ∷ xs) None e n h = absurd h
 some_first (x ∷ xs) (Some key) e n h = absurd cc
-
--- `Memory` is the only possible fault of a definition
-pub never_refused : (bytes : List ℕ) (f : ReadFault) → IsDefinition bytes → FirstFault bytes f → f ≡ read.Memory
-never_refused bytes f d h = value_or_fault bytes d.crs f (spelled_by_definition bytes d) h
 
 pub defines : (crs : Crs) (key : Key) (name : Text) (bytes : List ℕ) → (bytes ≡ canon crs) × (length bytes ≤ 65536) × ¬ (HasNone crs) → HasKey crs key → HasName crs name → IsDefinedBy key name bytes
 defines crs key name bytes h k n =

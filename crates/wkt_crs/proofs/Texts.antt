@@ -84,6 +84,11 @@ slot_told text outline f e o h = record { toks = cut 0 text; outline = o; first 
 pub clean_told : (text outline : List ℕ) (f : SlotFault) → outline ≡ text → IsOutline text (cut 0 text) → IsClean editions.Second (cut 0 outline) → FirstSlot text f → ⊥
 clean_told text outline f e o h s = not_clean text (cut 0 text) f o.cut (subst (λ b. IsClean editions.Second (cut 0 b)) e h) s
 
+-- a text that spells a value has no slot fault
+pub spelled_clean : (text outline : List ℕ) (v : Crs) → outline ≡ text → IsOutline text (cut 0 text) → Spells text v → IsClean editions.Second (cut 0 outline)
+spelled_clean text outline v e o s = λ k d q items c is f h.
+    denoted_clean text v.parts k d q items c (of_spells text v s) (subst (λ ts. Cut 0 text ts) (sym (ap (cut 0) e) ∙ is) o.cut) f h
+
 pub denoted : (text outline : List ℕ) (parts : CrsParts) → outline ≡ text → IsOutline text (cut 0 text) → IsClean editions.Second (cut 0 outline)
     → ((k : Piece) (d : Delimiter) (o : Piece) (items : Items) (c : Piece) → cut 0 outline ≡ tokens (node k d o items c) → IsClean editions.Second (cut 0 outline) → DenotesParts (bare (node k d o items c)) parts)
     → Denoted text parts

@@ -14,7 +14,7 @@ ghost use Rattle.wkt_crs.specs.Definition.{HasNone, IsCanonicalFault, IsSeenFaul
 ghost use Rattle.wkt_crs.specs.declared.definition.DefinitionFault.TheVariants as fault;
 
 use crate::fault::{ReadFault, Unspelled};
-use crate::reading::read_crs;
+use crate::reading::{read_crs, read_spelled};
 use crate::writing::write_crs;
 use crs_part::{Many, Text, TryClone};
 use crs_value::{Crs, Key};
@@ -195,13 +195,10 @@ impl Definition {
     pub fn crs(&self, alloc: Global) -> Result<Crs, AllocError>
         ensures { IfOk result (λ crs. IsCrsOf crs self.now) }
     {
-        match read_crs(alloc, self.as_bytes()) {
+        // The text of a definition spells its reference system.
+        match read_spelled(alloc, self.as_bytes()) {
             Ok(crs) => Ok(crs),
-            Err(ReadFault::Memory) => Err(AllocError),
-            // The text of a definition spells its reference system.
-            Err(ReadFault::Text(_)) => unreachable!(),
-            Err(ReadFault::Slot(_)) => unreachable!(),
-            Err(ReadFault::Broken { .. }) => unreachable!(),
+            Err(_) => Err(AllocError),
         }
     }
 

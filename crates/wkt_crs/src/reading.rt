@@ -12,7 +12,7 @@ ghost use Rattle.wkt_crs.specs.Faults.{FirstFault, FirstSlot};
 use crate::fault::ReadFault;
 use crate::places::keyword_place;
 use crs_value::Crs;
-use std::alloc::Global;
+use std::alloc::{AllocError, Global};
 use wkt_build::build_parts;
 use wkt_grammar::{Edition, check_slots};
 use wkt_tree::scan;
@@ -44,5 +44,26 @@ pub fn read_crs(alloc: Global, text: &[u8]) -> Result<Crs, ReadFault>
             condition: broken.condition,
             place: keyword_place(&outline, broken.whose),
         }),
+    }
+}
+
+/// The value of a text that spells one. Its slots are not checked, since such a text has no fault.
+pub(crate) fn read_spelled(alloc: Global, text: &[u8]) -> Result<Crs, AllocError>
+    requires { (v : Crs) × Spells text.now v }
+    ensures { IfOk result (Spells text.now) }
+{
+    let outline = match scan(text) {
+        Ok(outline) => outline,
+        // The text has the tokens of a tree.
+        Err(_) => unreachable!(),
+    };
+    let parts = match build_parts(alloc, &outline) {
+        Ok(parts) => parts,
+        Err(_) => return Err(AllocError),
+    };
+    match Crs::check(parts) {
+        Ok(crs) => Ok(crs),
+        // The value meets all conditions.
+        Err(_) => unreachable!(),
     }
 }

@@ -1,4 +1,4 @@
-use Rattle.std.proofs.Common.{◌≡◌, ◌∙◌, ap, map, ℕ}
+use Rattle.std.proofs.Common.{◌∙◌, ap, map, ℕ}
 use Rattle.std.specs.Global.{Vec}
 use Rattle.reg_sense.specs.Claimants.{voice}
 use Rattle.reg_lint.proofs.VoiceLemmas.{told_of_claimants}

@@ -4,7 +4,6 @@ use Rattle.reg_page.proofs.described.describe_entry.Goals as goal
 pub returns : goal.returns
 returns c = record {
   id = refl;
-  prints = c.in_ok-printed.ensures;
   key = c.key-key.result.now;
   keyed = c.key-key.ensures;
   authority = c.in_ok-authority.ensures.items ∙ c.as_bytes.ensures;

@@ -4,6 +4,7 @@ use Rattle.std.specs.List.{flat_map}
 use Rattle.html_text.proofs.JoinLemmas.{next}
 use Rattle.html_page.specs.Templates.{entry_start, entry_text, question, entry_id, event, by, map_of, area, kind_and_standing}
 use Rattle.reg_op.specs.Status.{status}
+use Rattle.reg_op.specs.Text.{printed}
 use Rattle.reg_page.specs.Kinds.{kind_word}
 use Rattle.reg_page.specs.Boxes.{box_seen}
 use Rattle.reg_page.specs.Page.{standing_of, links_in, events_in, named}
@@ -15,13 +16,13 @@ pub returns : goal.returns
 returns c =
     let t = c.args.one.now in
     let d = t.system in
-    let start = as_others _ (entry_start t.printed.items t.authority.items t.code.items d.name.items)
-    (λ j. entry_start (c.deref.ensures.value j) (c.deref-2.ensures.value j) (c.deref-3.ensures.value j) (c.deref-4.ensures.value j)) c.in_ok-push_entry_start.ensures in
+    let start = as_others _ (entry_start (printed t.id) t.authority.items t.code.items d.name.items)
+    (λ j. entry_start ((c.deref.ensures.value ∙ c.in_ok-id.ensures) j) (c.deref-2.ensures.value j) (c.deref-3.ensures.value j) (c.deref-4.ensures.value j)) c.in_ok-push_entry_start.ensures in
     let maps = as_others _ (flat_map map_of (map box_seen d.boxes.items)) (λ j. flat_map map_of (map box_seen (c.deref-5.ensures.value j))) c.in_ok-push_maps.ensures in
     let text = as_others _ (entry_text d.text.items) (ap entry_text c.deref-6.ensures.value) c.in_ok-push_entry_text.ensures in
     let questions = as_others _ (flat_map question (map (λ (q : Vec ℕ). q.items) d.questions.items))
     (λ j. flat_map question (map (λ (q : Vec ℕ). q.items) (c.deref-7.ensures.value j))) c.in_ok-push_questions.ensures in
-    let entered = as_others _ (entry_id (named c.args.names.now t.printed.items) t.note.items)
+    let entered = as_others _ (entry_id (named c.args.names.now (printed t.id)) t.note.items)
     (λ j. entry_id ((c.deref-8.ensures.value ∙ c.in_ok-read.ensures) j) (c.deref-9.ensures.value j)) c.in_ok-push_entry_id.ensures in
     let areas = as_others _ (flat_map area (map (λ (a : Vec ℕ). a.items) d.areas.items))
     (λ j. flat_map area (map (λ (a : Vec ℕ). a.items) (c.deref-10.ensures.value j))) c.in_ok-push_areas.ensures in

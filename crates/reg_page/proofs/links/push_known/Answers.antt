@@ -1,5 +1,7 @@
+use Rattle.std.proofs.Common.{◌∙◌}
 use Rattle.html_page.specs.Shown.{Entered}
 use Rattle.html_page.specs.Templates.{link}
+use Rattle.reg_op.specs.Text.{printed}
 use Rattle.reg_page.specs.Page.{named}
 use Rattle.reg_page.proofs.LoopLemmas.{as_others}
 use Rattle.reg_page.proofs.links.push_known.Goals as goal
@@ -7,4 +9,4 @@ use Rattle.reg_page.proofs.links.push_known.Goals as goal
 pub returns : goal.returns
 returns c =
     let t = c.args.one.now in
-    as_others _ (link (named c.args.names.now) (Entered t.printed.items t.authority.items t.code.items)) (λ j. link (named c.args.names.now) (Entered (c.deref.ensures.value j) (c.deref-2.ensures.value j) (c.deref-3.ensures.value j))) c.in_ok-push_link.ensures
+    as_others _ (link (named c.args.names.now) (Entered (printed t.id) t.authority.items t.code.items)) (λ j. link (named c.args.names.now) (Entered ((c.deref.ensures.value ∙ c.in_ok-id.ensures) j) (c.deref-2.ensures.value j) (c.deref-3.ensures.value j))) c.in_ok-push_link.ensures

@@ -1,11 +1,18 @@
-use Rattle.std.proofs.Common.{◌∙◌}
+use Rattle.std.proofs.Common.{sym, ◌∙◌}
 use Rattle.std.specs.BTreeMap.{get}
 use Rattle.crs_said.specs.Claims.{claim_seen}
 use Rattle.reg_sense.specs.Least.{least, lesser}
 use Rattle.reg_sense.specs.Most.{contents, is_more}
 use Rattle.reg_sense.specs.Tallies.{bytes_cmp, seen_in}
-use Rattle.reg_sense.proofs.MostLemmas.{most_step}
+use Rattle.reg_sense.proofs.MostLemmas.{content_is, most_kept, most_step}
 use Rattle.reg_sense.proofs.most.put_content.Goals as goal
+
+pub returns-then-has_content : goal.returns-then-has_content
+returns-then-has_content c = λ vs xs has had q.
+    let x = claim_seen c.args.claim.now in
+    most_kept vs x xs q.now (seen_in (get bytes_cmp c.args.best.now q))
+    (content_is (least (is_more vs x.word) (contents x.word xs)) x.content (sym (c.has_content.ensures vs xs had) ∙ c.if-has_content.true))
+    (had q)
 
 pub returns : goal.returns
 returns c = λ vs xs has had q.

@@ -1,0 +1,96 @@
+//! Changes a register by a command on the entries that words name, which has its effects once, also if it is run again after a stop.
+use crate::offices::Desk;
+use clap::ArgMatches;
+use cli_open::engines::places::Place;
+use cli_open::engines::streams::Writing;
+use cli_open::engines::{CliFault, run_change};
+use cli_open::{OpenOffice, Target, open_target, word};
+use reg_again::{EffectsOf, OnceOf};
+use reg_keyed::ByWords;
+use std::alloc::Global;
+use std::fs::File;
+use std::io::{self, Write};
+
+/// Opens the register and changes it as the office, whose new file is removed afterwards if it was not used.
+pub fn changed_by_words<Q: Place, C: EffectsOf>(
+    rt: &HostRuntime,
+    matches: &ArgMatches<'_>,
+    desk: &mut Desk<Q>,
+    command: &ByWords<'_, C>,
+) -> Result<(), CliFault> {
+    let answer = match open_target(rt, matches, word(matches, "out")) {
+        Ok(target) => change_in(rt, matches, desk, target, command),
+        Err(fault) => Err(fault),
+    };
+    desk.close();
+    answer
+}
+
+// Changes the register as the office, and prints the command's lines, unless `--quiet` is given.
+fn change_in<Q: Place, P: Place + Drop, C: EffectsOf>(
+    rt: &HostRuntime,
+    matches: &ArgMatches<'_>,
+    desk: &mut Desk<Q>,
+    target: Target<File, P>,
+    command: &ByWords<'_, C>,
+) -> Result<(), CliFault> {
+    if matches.get_flag("quiet") {
+        let mut sink = Writing::new(io::sink());
+        return change_to(rt.alloc(), desk, target, command, &mut sink);
+    }
+    let mut sink = Writing::new(io::writer(rt));
+    change_to(rt.alloc(), desk, target, command, &mut sink)
+}
+
+fn change_to<Q: Place, P: Place + Drop, C: EffectsOf, W: Write>(
+    alloc: Global,
+    desk: &mut Desk<Q>,
+    target: Target<File, P>,
+    command: &ByWords<'_, C>,
+    sink: &mut Writing<W>,
+) -> Result<(), CliFault> {
+    let mut target = target;
+    let answer = match &mut desk.file {
+        Some(office) => change_guarded(alloc, &mut target, office, command, sink),
+        None => change_plainly(alloc, &mut target, command, sink),
+    };
+    drop(target);
+    answer
+}
+
+// As an office with an office file. If the office has made this before, and it did not arrive, nothing is made.
+fn change_guarded<P: Place, Q: Place, C: EffectsOf, W: Write>(
+    alloc: Global,
+    target: &mut Target<File, P>,
+    office: &mut OpenOffice<Q>,
+    command: &ByWords<'_, C>,
+    sink: &mut Writing<W>,
+) -> Result<(), CliFault> {
+    let OpenOffice { file, place } = office;
+    let file = &*file;
+    let once = OnceOf {
+        command: command.command,
+        office: file,
+    };
+    let mut by_words = ByWords {
+        words: command.words,
+        newer: command.newer,
+        command: &once,
+    };
+    let mut store = target.guarded(file, place);
+    run_change(alloc, &mut store, &mut by_words, sink)
+}
+
+fn change_plainly<P: Place, C: EffectsOf, W: Write>(
+    alloc: Global,
+    target: &mut Target<File, P>,
+    command: &ByWords<'_, C>,
+    sink: &mut Writing<W>,
+) -> Result<(), CliFault> {
+    let mut by_words = ByWords {
+        words: command.words,
+        newer: command.newer,
+        command: command.command,
+    };
+    run_change(alloc, &mut target.plain(), &mut by_words, sink)
+}

@@ -1,0 +1,29 @@
+use Rattle.std.proofs.Common.{map, take, ap, ◌∙◌}
+use Rattle.std.specs.Borrow.{Bor}
+use Rattle.std.specs.List.{flat_map}
+use Rattle.std.proofs.lemmas.List.{take_all}
+use Rattle.html_text.proofs.JoinLemmas.{nothing}
+use Rattle.html_page.specs.Templates.{entry}
+use Rattle.reg_page.specs.declared.described.Described.{Described}
+use Rattle.reg_page.specs.Blocks.{bytes_of}
+use Rattle.reg_page.specs.Descriptions.{at}
+use Rattle.reg_page.specs.Page.{entry_of}
+use Rattle.reg_page.proofs.BlockLemmas.{listed}
+use Rattle.reg_page.proofs.LoopLemmas.{as_others, one_more, map_composed}
+use Rattle.reg_page.proofs.table.list_rows.Goals as goal
+
+pub loop-i-init : goal.loop-i-init
+loop-i-init c = λ m. nothing (bytes_of m c.args.blocks.now.items)
+
+pub loop-i-preserved : goal.loop-i-preserved
+loop-i-preserved c = λ m.
+    one_more (entry m.named) (λ (t : Bor Described). entry_of m.ops m.described m.acts t.now) c.args.rows.now c.loop-i.i c.index-rows-i.result c.loop-i-test.true c.index-rows-i.is
+    (c.loop-i.invariant m) (listed m c.loop-i.blocks.items c.push.new.self.items _ c.in_ok-push.ensures.items)
+
+pub returns : goal.returns
+returns c = λ m.
+    let row = entry_of m.ops m.described m.acts in
+    let rows = c.args.rows.now in
+    let each = λ (t : Bor Described). row t.now in
+    as_others (flat_map (entry m.named) (map each (take c.loop-i.i rows))) (flat_map (entry m.named) (map row (at rows)))
+    (ap (λ l. flat_map (entry m.named) (map each l)) (take_all c.loop-i.i rows c.loop-i-test.false) ∙ ap (flat_map (entry m.named)) (map_composed row (λ (t : Bor Described). t.now) rows)) (c.loop-i.invariant m)

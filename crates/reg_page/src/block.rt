@@ -1,0 +1,24 @@
+//! The blocks of a page.
+
+use crate::described::Described;
+use reg_op::OpId;
+use reg_report::{Conflict, Gap};
+
+/// A part of a page, which is made as a whole. It refers to what the page shows, and has no bytes yet.
+#[derive(Drop)]
+pub enum Block<'a> {
+    /// A constant of the program.
+    Mark(&'static [u8]),
+    /// The heading of a key in conflict.
+    Key(&'a Conflict),
+    /// Two entries of a key, side by side.
+    Pair(&'a Described, &'a Described),
+    /// The awaited ids, if there are some.
+    Awaited(&'a [OpId]),
+    /// The gaps, if there are some.
+    Gaps(&'a [Gap]),
+    /// The row of an entry.
+    Row(&'a Described),
+    /// Everything after the rows.
+    End,
+}

@@ -1,0 +1,154 @@
+//! The blocks of a page, made and written in turn.
+
+ghost use Rattle.std.specs.Prelude.{◌≡◌, ◌++◌, [], ℕ, List, IfOk, OnOk, IfErr};
+ghost use Rattle.std.specs.List.Sorted.{IsSortedByKey};
+ghost use Rattle.byte_io.specs.Device.{SinkState};
+ghost use Rattle.byte_io.specs.Whole.{WritesAll};
+ghost use Rattle.html_text.specs.Pieces.{html, Appends};
+ghost use Rattle.reg_op.specs.Ids.{id_cmp};
+ghost use Rattle.reg_page.specs.Blocks.{setting, pieces_of, bytes_of};
+ghost use Rattle.reg_page.specs.Descriptions.{AscendById};
+ghost use Rattle.reg_page.specs.Page.{subject};
+ghost use Rattle.reg_page.specs.Writing.{IsUnderWay, IsStopped};
+
+use crate::block::Block;
+use crate::conflicts::{push_key, push_sides};
+use crate::described::Described;
+use crate::entries::push_entry;
+use crate::missing::{push_all_awaited, push_gaps};
+use byte_io::{Sink, write_all};
+use html_page::{push_end, push_mark};
+use office_names::Name;
+use reg_engine::{CliFault, OutFault};
+use reg_op::Op;
+use reg_state::Register;
+use std::alloc::{AllocError, Global};
+
+/// So many bytes are written at once, or more. So a page with fewer bytes is complete before its first byte is written.
+const ENOUGH: usize = 1_048_576;
+
+// Appends the bytes of a block.
+fn push_block(
+    alloc: Global,
+    page: &mut Vec<u8>,
+    names: &[Name],
+    register: &Register,
+    described: &[Described],
+    acts: &[Op],
+    block: &Block<'_>,
+) -> Result<(), AllocError>
+    requires ascend { AscendById described.now }
+    requires sorted { IsSortedByKey subject id_cmp acts.now }
+    ensures { OnOk result (Appends page.old.items page.new.items (pieces_of (setting names.now register.now.ops described.now acts.now) block.now)) }
+{
+    match block {
+        Block::Mark(constant) => push_mark(page, *constant),
+        Block::Key(one) => push_key(page, one),
+        Block::Pair(one, other) => push_sides(alloc, page, names, one, other),
+        Block::Awaited(ids) => push_all_awaited(alloc, page, names, ids),
+        Block::Gaps(gaps) => push_gaps(alloc, page, names, gaps),
+        Block::Row(one) => push_entry(alloc, page, names, register, described, acts, one),
+        Block::End => push_end(page),
+    }
+}
+
+// Writes the bytes that wait. The answer is how many were written so far.
+fn pass_on<K: Sink>(waiting: &mut Vec<u8>, written: usize, sink: &mut K) -> Result<usize, CliFault>
+    ensures passed { (first : SinkState) (text rest : List ℕ) → IsUnderWay first text (K.state sink.old) waiting.old.items rest written
+        → IfOk result (IsUnderWay first text (K.state sink.new) [] rest) }
+    ensures fault { (first : SinkState) (text rest : List ℕ) → IsUnderWay first text (K.state sink.old) waiting.old.items rest written
+        → IfErr result (IsStopped text first (K.state sink.new)) }
+    ensures none { OnOk result (waiting.new.items ≡ []) }
+{
+    let Some(total) = written.checked_add(waiting.len()) else {
+        return Err(CliFault::Memory);
+    };
+    match write_all(sink, waiting) {
+        Ok(()) => {
+            waiting.clear();
+            Ok(total)
+        }
+        Err(fault) => Err(CliFault::Out(OutFault::WriteFailed(written + fault.written))),
+    }
+}
+
+// Writes the bytes that wait if they are enough. The answer is how many were written so far.
+fn pass_enough<K: Sink>(
+    waiting: &mut Vec<u8>,
+    written: usize,
+    sink: &mut K,
+) -> Result<usize, CliFault>
+    ensures passed { (first : SinkState) (text rest : List ℕ) → IsUnderWay first text (K.state sink.old) waiting.old.items rest written
+        → IfOk result (IsUnderWay first text (K.state sink.new) waiting.new.items rest) }
+    ensures fault { (first : SinkState) (text rest : List ℕ) → IsUnderWay first text (K.state sink.old) waiting.old.items rest written
+        → IfErr result (IsStopped text first (K.state sink.new)) }
+{
+    if waiting.len() < ENOUGH {
+        return Ok(written);
+    }
+    match pass_on(waiting, written, sink) {
+        Ok(total) => Ok(total),
+        Err(fault) => Err(fault),
+    }
+}
+
+// Makes the bytes of a block, and writes those that wait if they are enough. The answer is how many were written so far.
+fn write_block<K: Sink>(
+    alloc: Global,
+    waiting: &mut Vec<u8>,
+    names: &[Name],
+    register: &Register,
+    described: &[Described],
+    acts: &[Op],
+    block: &Block<'_>,
+    written: usize,
+    sink: &mut K,
+) -> Result<usize, CliFault>
+    requires ascend { AscendById described.now }
+    requires sorted { IsSortedByKey subject id_cmp acts.now }
+    ensures passed { (first : SinkState) (text rest : List ℕ)
+        → IsUnderWay first text (K.state sink.old) waiting.old.items (html (pieces_of (setting names.now register.now.ops described.now acts.now) block.now) ++ rest) written
+        → IfOk result (IsUnderWay first text (K.state sink.new) waiting.new.items rest) }
+    ensures fault { (first : SinkState) (text rest : List ℕ)
+        → IsUnderWay first text (K.state sink.old) waiting.old.items (html (pieces_of (setting names.now register.now.ops described.now acts.now) block.now) ++ rest) written
+        → IfErr result (IsStopped text first (K.state sink.new)) }
+{
+    if let Err(_) = push_block(alloc, waiting, names, register, described, acts, block) {
+        return Err(CliFault::Memory);
+    }
+    match pass_enough(waiting, written, sink) {
+        Ok(total) => Ok(total),
+        Err(fault) => Err(fault),
+    }
+}
+
+/// Writes the bytes that wait, and then those of the blocks, each of which is made when those before it are.
+pub fn write_blocks<K: Sink>(
+    alloc: Global,
+    waiting: &mut Vec<u8>,
+    names: &[Name],
+    register: &Register,
+    described: &[Described],
+    acts: &[Op],
+    blocks: &[Block<'_>],
+    sink: &mut K,
+) -> Result<(), CliFault>
+    requires ascend { AscendById described.now }
+    requires sorted { IsSortedByKey subject id_cmp acts.now }
+    ensures written { OnOk result (WritesAll (waiting.old.items ++ bytes_of (setting names.now register.now.ops described.now acts.now) blocks.now) (K.state sink.old) (K.state sink.new)) }
+    ensures fault { IfErr result (IsStopped (waiting.old.items ++ bytes_of (setting names.now register.now.ops described.now acts.now) blocks.now) (K.state sink.old) (K.state sink.new)) }
+{
+    let mut done = 0usize;
+    for i in 0..blocks.len() {
+        done = match write_block(
+            alloc, waiting, names, register, described, acts, &blocks[i], done, sink,
+        ) {
+            Ok(total) => total,
+            Err(fault) => return Err(fault),
+        };
+    }
+    match pass_on(waiting, done, sink) {
+        Ok(_) => Ok(()),
+        Err(fault) => Err(fault),
+    }
+}
