@@ -1,5 +1,5 @@
 -- The sentence about each reference system that breaks a rule.
-use Rattle.std.specs.Prelude.{ℕ, List, [], map, Option, Some, None, if◌then◌else◌}
+use Rattle.std.specs.Prelude.{ℕ, List, map, Option, Some, None, if◌then◌else◌}
 use Rattle.std.specs.List.{flat_map}
 use Rattle.crs_part.specs.Slots.{name_of, ids_of}
 use Rattle.crs_said.specs.References.{system_names}
@@ -7,7 +7,6 @@ use Rattle.crs_sense.specs.declared.rule.Rule.{Rule}
 use Rattle.crs_sense.specs.Rules.{breaks}
 use Rattle.crs_sense.specs.Sentences.{sentence}
 use Rattle.reg_sense.specs.declared.rule.WideRule.{WideRule}
-use Rattle.reg_sense.specs.declared.rule.WideRule.TheVariants as wide
 use Rattle.reg_sense.specs.Claimants.{Voice}
 use Rattle.reg_sense.specs.Rules.{claims_of, wide_told}
 use Rattle.reg_lint.specs.declared.rule.AnyRule.{AnyRule}
@@ -29,15 +28,6 @@ voice_of rule s = record { authority = authority_of (ids_of s.crs.parts); code =
 -- the names of some reference systems, and of their parts
 abbrev pub names_in : List Subject → List (List ℕ)
 names_in subjects = flat_map (λ (s : Subject). system_names s.crs.parts) subjects
-
--- those that the rule looks at: none, unless it is about names
-abbrev pub names_for : WideRule → List Subject → List (List ℕ)
-names_for wide.Case subjects = []
-names_for wide.Datum subjects = []
-names_for wide.Parts subjects = []
-names_for wide.RefName subjects = names_in subjects
-names_for wide.SameName subjects = []
-names_for wide.Twin subjects = []
 
 -- the sentence of one that breaks the rule beside the others
 abbrev pub told_beside : WideRule → List Subject → Subject → Option (List ℕ)

@@ -6,7 +6,7 @@ ghost use Rattle.reg_lint.specs.Details.{told, details, own_details, wide_detail
 
 use crate::rule::AnyRule;
 use crate::subject::Subject;
-use crate::voices::{claimants_of, names_for};
+use crate::voices::{claimants_of, names_of};
 use crs_sense::Rule;
 use reg_sense::WideRule;
 use std::alloc::{AllocError, Global};
@@ -56,7 +56,7 @@ fn wide_details(
 ) -> Result<Vec<Option<Vec<u8>>>, AllocError>
     ensures { IfOk result (λ made. map detail_seen made.items ≡ wide_details rule subjects.now) }
 {
-    let names = names_for(alloc, rule, subjects)?;
+    let names = names_of(alloc, subjects)?;
     let claimants = claimants_of(alloc, rule, subjects)?;
     let made = rule.told(alloc, &names, &claimants)?;
     Ok(made)

@@ -24,7 +24,7 @@ pub fn live_subjects(alloc: Global, register: &Register) -> Result<Vec<Subject>,
 pub(crate) fn live_of_rows(alloc: Global, rows: Vec<Row>) -> Result<Vec<Subject>, AllocError>
     ensures { IfOk result (λ subjects. AreLive (map row_seen rows.items) subjects.items) }
 {
-    let mut subjects = Vec::with_capacity(alloc, rows.len())?;
+    let mut subjects = Vec::new(alloc);
     for row in rows {
         let live = live_of(alloc, &row)?;
         push_some(&mut subjects, live)?;

@@ -3,7 +3,7 @@
 ghost use Rattle.std.specs.Prelude.{◌≡◌, ◌++◌, ℕ, map, IfOk, OnOk};
 ghost use Rattle.std.specs.Global.{Vec};
 ghost use Rattle.reg_sense.specs.Claimants.{voice};
-ghost use Rattle.reg_lint.specs.Details.{voice_of, names_in, names_for};
+ghost use Rattle.reg_lint.specs.Details.{voice_of, names_in};
 
 use crate::subject::{Subject, authority_of, code_of, copied};
 use crs_said::system_names;
@@ -49,26 +49,8 @@ fn push_names(names: &mut Vec<Vec<u8>>, more: Vec<Vec<u8>>) -> Result<(), AllocE
     Ok(())
 }
 
-/// The names that the rule looks at.
-pub(crate) fn names_for(
-    alloc: Global,
-    rule: WideRule,
-    subjects: &[Subject],
-) -> Result<Vec<Vec<u8>>, AllocError>
-    ensures { IfOk result (λ made. map (λ (name : Vec ℕ). name.items) made.items ≡ names_for rule subjects.now) }
-{
-    match rule {
-        WideRule::Case => Ok(Vec::new(alloc)),
-        WideRule::Datum => Ok(Vec::new(alloc)),
-        WideRule::Parts => Ok(Vec::new(alloc)),
-        WideRule::RefName => names_of(alloc, subjects),
-        WideRule::SameName => Ok(Vec::new(alloc)),
-        WideRule::Twin => Ok(Vec::new(alloc)),
-    }
-}
-
-// The names of all of these, and of their parts.
-fn names_of(alloc: Global, subjects: &[Subject]) -> Result<Vec<Vec<u8>>, AllocError>
+/// The names of all of these, and of their parts.
+pub(crate) fn names_of(alloc: Global, subjects: &[Subject]) -> Result<Vec<Vec<u8>>, AllocError>
     ensures { IfOk result (λ made. map (λ (name : Vec ℕ). name.items) made.items ≡ names_in subjects.now) }
 {
     let mut made = Vec::new(alloc);
