@@ -12,7 +12,8 @@ use Rattle.wkt_crs.specs.Definition.{HasNone, IsDefinition, IsTextFault}
 use Rattle.wkt_crs.specs.declared.definition.DefinitionFault.{DefinitionFault}
 use Rattle.wkt_crs.specs.declared.definition.DefinitionFault.TheVariants as fault
 use Rattle.wkt_crs.proofs.Texts.{one_value}
-use Rattle.wkt_crs.proofs.Defining.{spelled_by_definition, never_refused, not_memory}
+use Rattle.wkt_crs.proofs.Defining.{spelled_by_definition, not_memory}
+use Rattle.wkt_crs.proofs.Verdicts.{value_or_fault}
 use Rattle.wkt_texts.specs.Texts.{IsCutInto}
 use Rattle.wkt_texts.specs.Printed.{IsCanonical, printed, AreFound}
 use Rattle.wkt_texts.proofs.OneCut.{one_cut}
@@ -210,7 +211,7 @@ same_definition : (w text : List ℕ) (key : Key) → IsReading w (reading.Defin
 same_definition w text key h d = h.0.is ∙ ap canon (one_value w h.0.value d.crs h.0.spells (spelled_by_definition w d)) ∙ sym d.canonical
 
 no_fault : (w : List ℕ) (d : IsDefinition w) (f : DefinitionFault) → IsTextFault w f → (f ≡ fault.Memory → ⊥) → ⊥
-no_fault w d (fault.Read g) h n = not_memory g (never_refused w (as_read g) d h)
+no_fault w d (fault.Read g) h n = not_memory g (value_or_fault w d.crs (as_read g) (spelled_by_definition w d) h)
 no_fault w d fault.NoIdentifier h n = d.identified (subst HasNone (one_value w h.0 d.crs h.1 (spelled_by_definition w d)) h.2)
 no_fault w d fault.CanonicalTooLong h n =
     let same : h.0 ≡ d.crs = one_value w h.0 d.crs h.1 (spelled_by_definition w d) in
