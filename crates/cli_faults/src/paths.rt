@@ -130,6 +130,7 @@ fn command_of(name: CommandName, matches: &ArgMatches<'_>) -> Command {
     match name {
         CommandName::Export => Command::Export,
         CommandName::Import => Command::Import,
+        CommandName::Lint => Command::Lint,
         CommandName::Diff | CommandName::Merge => Command::Merge,
         CommandName::Office => Command::Office,
         CommandName::Settle => Command::Settle,

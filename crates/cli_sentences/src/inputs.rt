@@ -8,6 +8,9 @@ use std::fmt;
 /// The number of open files from which a command may have too many of them.
 const MANY: usize = 16;
 
+/// What is wrong with a file that is to have rows of `lint`.
+const NO_ROWS: &str = "does not begin as what crsreg lint prints, with rule,entry,authority,code,name,detail\nhint: crsreg lint makes such a file; other columns come behind these\n";
+
 /// Writes the sentence for a fault of the file with this number, which seems to be this.
 pub fn write<W: fmt::Write>(
     f: &mut fmt::Formatter<W>,
@@ -42,7 +45,10 @@ pub fn write<W: fmt::Write>(
         }
         InputFault::BadFile { fault, place } => {
             write!(f, "{path} (file {number}) ")?;
-            write_bad(f, fault, place, looks, could_be_shelf(number, paths))
+            if is_of_rows(number, paths) {
+                return f.write_str(NO_ROWS);
+            }
+            write_bad(f, number, fault, place, looks, paths)
         }
     }
 }
@@ -64,13 +70,14 @@ fn write_many<W: fmt::Write>(
 // Writes what is wrong with the bytes of a file.
 fn write_bad<W: fmt::Write>(
     f: &mut fmt::Formatter<W>,
+    number: usize,
     fault: FileFault,
     place: usize,
     looks: Looks,
-    could_be_shelf: bool,
+    paths: &Paths<'_>,
 ) -> fmt::Result {
     match fault {
-        FileFault::Magic => write_foreign(f, looks, could_be_shelf),
+        FileFault::Magic => write_foreign(f, number, looks, paths),
         FileFault::Version => f.write_str(
             "has a version that this program does not know\nhint: use the newest crsreg; crsreg downgrade writes version 1\n",
         ),
@@ -104,23 +111,37 @@ fn could_be_shelf(number: usize, paths: &Paths<'_>) -> bool {
     if !paths.shelf.is_empty() || paths.register.is_empty() {
         return false;
     }
+    is_register(number, paths)
+}
+
+// Whether the file with this number is the register of the command.
+fn is_register(number: usize, paths: &Paths<'_>) -> bool {
     match paths.file(number) {
         FileName::Path(path) => path == paths.register,
         FileName::StandardInput => false,
     }
 }
 
+// Whether the file with this number is to have rows of `lint`: it reads no other file that is not a text or its register.
+fn is_of_rows(number: usize, paths: &Paths<'_>) -> bool {
+    match paths.command {
+        Command::Lint => !is_register(number, paths),
+        _ => false,
+    }
+}
+
 // Writes that a file is no register, and what crsreg does with such a file.
 fn write_foreign<W: fmt::Write>(
     f: &mut fmt::Formatter<W>,
+    number: usize,
     looks: Looks,
-    could_be_shelf: bool,
+    paths: &Paths<'_>,
 ) -> fmt::Result {
     match looks {
         Looks::Unknown => f.write_str("is not a file of crsreg\n"),
         Looks::Shelf => {
             f.write_str("is a shelf, and no file of a register\n")?;
-            f.write_str(if could_be_shelf {
+            f.write_str(if could_be_shelf(number, paths) {
                 "hint: for a shelf give --shelf\n"
             } else {
                 "hint: crsreg unshelf writes its register to a file\n"
@@ -128,7 +149,11 @@ fn write_foreign<W: fmt::Write>(
         }
         Looks::Office => f.write_str("is an office file, and no file of a register\n"),
         Looks::Text => {
-            f.write_str("is not a file of crsreg\nhint: it has a text: crsreg import reads texts\n")
+            f.write_str("is not a file of crsreg\nhint: it has a text: ")?;
+            f.write_str(match paths.command {
+                Command::Lint => "crsreg lint --texts looks at texts\n",
+                _ => "crsreg import reads texts\n",
+            })
         }
     }
 }

@@ -45,6 +45,8 @@ pub enum Command {
     Export,
     /// `import`, which can leave out texts.
     Import,
+    /// `lint`, which looks at texts too, and reads a file of its rows.
+    Lint,
     /// `merge` and `diff`, which have all their files open at once.
     Merge,
     /// `office`, which makes a new file.

@@ -1,3 +1,4 @@
 pub mod Entered
 pub mod Lint
+pub mod Looked
 pub mod Texts

@@ -23,7 +23,7 @@ pub fn entered_text(
     Ok(if_rows(alloc, text))
 }
 
-// The rows, of which none was looked at before.
+// All rows, also those that were looked at before.
 fn all_rows(alloc: Global, rules: &[AnyRule], subjects: &[Subject]) -> Result<Vec<u8>, AllocError>
     ensures { IfOk result (λ text. text.items ≡ lint_sheet (λ mark. false) rules.now subjects.now) }
 {

@@ -3,6 +3,7 @@
 
 mod entered;
 mod lint;
+mod looked;
 mod rules;
 mod texts;
 

@@ -3,8 +3,9 @@
 ghost use Rattle.std.specs.Prelude.{◌≡◌, IfOk, IfErr};
 ghost use Rattle.desk_lint.specs.Lint.{IsLintOf, IsLinted, IsUnlinted, AreLinted, AreUnlinted};
 
+use crate::looked::read_looked;
 use byte_io::{Sink, Source, write_all};
-use reg_engine::{CliFault, OutFault, Store, read_whole};
+use reg_engine::{CliFault, OutFault, Store};
 use reg_lint::{AnyRule, Subject, has_rows, known_rows, lint_text, live_subjects};
 use std::alloc::{AllocError, Global};
 
@@ -48,7 +49,7 @@ pub fn run_lint_subjects<S: Source, K: Sink>(
     ensures printed { IfOk result (AreLinted rules.now subjects.now (S.state known.old) (S.state known.new) (K.state sink.old) (K.state sink.new)) }
     ensures fault { IfErr result (AreUnlinted rules.now subjects.now number (S.state known.old) (S.state known.new) (K.state sink.old) (K.state sink.new)) }
 {
-    let bytes = match read_whole(alloc, number, known) {
+    let bytes = match read_looked(alloc, number, known) {
         Ok(bytes) => bytes,
         Err(fault) => return Err(fault),
     };

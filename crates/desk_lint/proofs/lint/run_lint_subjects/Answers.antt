@@ -5,13 +5,14 @@ use Rattle.desk_lint.specs.Lint.{IsLintOf}
 use Rattle.desk_lint.proofs.lint.run_lint_subjects.Goals as goal
 
 pub returns-in-Err-lint_beside-clause-fault : goal.returns-in-Err-lint_beside-clause-fault
-returns-in-Err-lint_beside-clause-fault g c = inr (c.in-Ok.bytes.items, c.in-Ok.ensures.gives, inl (refl, refl))
+returns-in-Err-lint_beside-clause-fault g c = inr (c.in-Ok.bytes.items, c.in-Ok.ensures.gives, c.in-Ok.ensures.headed, inl (refl, refl))
 
 pub returns-in-Ok-write_all-clause-printed : goal.returns-in-Ok-write_all-clause-printed
 returns-in-Ok-write_all-clause-printed g c = (
   c.in-Ok.bytes.items,
   c.in-Ok-lint_beside.text.items,
   c.in-Ok.ensures.gives,
+  c.in-Ok.ensures.headed,
   subst (λ (b : List ℕ). IsLintOf c.args.rules.now b c.args.subjects.now c.in-Ok-lint_beside.text.items) c.deref.ensures.value c.in-Ok-lint_beside.ensures,
   c.has_rows.ensures ∙ ap has_rows c.deref-in-Ok-write_all.ensures.value,
   subst (λ (l : List ℕ). WritesAll l (g.K.Sink.state c.args.sink.now) (g.K.Sink.state c.write_all.new.sink)) c.deref-2.ensures.value c.in-Ok-write_all.ensures.ok,
@@ -22,6 +23,7 @@ returns-clause-fault g c =
     inr (
       c.in-Ok.bytes.items,
       c.in-Ok.ensures.gives,
+      c.in-Ok.ensures.headed,
       inr (
         c.in-Ok-lint_beside.text.items,
         subst (λ (b : List ℕ). IsLintOf c.args.rules.now b c.args.subjects.now c.in-Ok-lint_beside.text.items) c.deref.ensures.value c.in-Ok-lint_beside.ensures,
