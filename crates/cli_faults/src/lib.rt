@@ -2,6 +2,7 @@
 #![tactic(auto)]
 
 mod heads;
+mod namesakes;
 mod naming;
 mod paths;
 mod sentence;

@@ -1,8 +1,10 @@
 //! What is found if the files of a command are read once more after its fault, for the sentence about it.
 use crate::heads::Head;
+use crate::namesakes::has_namesake;
 use crate::paths::Named;
 use cli_open::engines::files::FileFault;
 use cli_open::engines::operations::OpId;
+use cli_open::engines::registers::Register;
 use cli_open::engines::streams::read_up_to;
 use cli_open::engines::{CliFault, InputFault, OfFile, OnShelf, OutFault, Print, Refusal, Store};
 use cli_open::{open, open_to_read};
@@ -17,6 +19,7 @@ const START: usize = 256;
 #[derive(Drop)]
 pub struct Second {
     head: Option<Vec<u8>>,
+    has_namesake: bool,
     looks: Looks,
     is_written: bool,
 }
@@ -29,6 +32,7 @@ impl Second {
                 Some(entry) => heading(rt, named, entry),
                 None => None,
             },
+            has_namesake: is_of_several_keys(rt, named, fault).unwrap_or(false),
             looks: looks_of(rt, named, fault),
             is_written: match fault {
                 CliFault::Out(OutFault::WriteFailed(_)) => named.is_written(rt),
@@ -41,6 +45,7 @@ impl Second {
     pub fn entry(rt: &HostRuntime, named: &Named<'_>, entry: OpId) -> Second {
         Second {
             head: heading(rt, named, entry),
+            has_namesake: false,
             looks: Looks::Unknown,
             is_written: false,
         }
@@ -59,6 +64,7 @@ impl Second {
                 None => None,
             },
             word,
+            has_namesake: self.has_namesake,
             looks: self.looks,
             is_written: self.is_written,
         }
@@ -92,19 +98,35 @@ fn taken_by(fault: &CliFault) -> Option<OpId> {
     }
 }
 
-// The key, the id and the status of an entry of the register that the command read. None if the register cannot be read again, as
-// from a pipe, or if it has no such entry.
+// Whether a word was refused since it is several keys, and not since one key has several texts.
+fn is_of_several_keys(rt: &HostRuntime, named: &Named<'_>, fault: &CliFault) -> Option<bool> {
+    match fault {
+        CliFault::Refused(Refusal::Several(entry)) => {
+            let register = read_again(rt, named)?;
+            has_namesake(rt.alloc(), &register, *entry)
+        }
+        _ => None,
+    }
+}
+
+// The key, the id and the status of an entry of the register that the command read, if it has this entry and can be read again.
 fn heading(rt: &HostRuntime, named: &Named<'_>, entry: OpId) -> Option<Vec<u8>> {
+    let register = read_again(rt, named)?;
     let command = Heading { entry };
+    command.text(rt.alloc(), &register).ok()
+}
+
+// The register that the command read. None if it cannot be read again, as from a pipe.
+fn read_again(rt: &HostRuntime, named: &Named<'_>) -> Option<Register> {
     if named.shelf.is_empty() {
-        in_file(rt, named.register, &command)
+        in_file(rt, named.register)
     } else {
-        on_shelf(rt, named.shelf, &command)
+        on_shelf(rt, named.shelf)
     }
 }
 
 // A pipe is not opened again, since that could block forever.
-fn in_file<C: Print>(rt: &HostRuntime, path: &str, command: &C) -> Option<Vec<u8>> {
+fn in_file(rt: &HostRuntime, path: &str) -> Option<Register> {
     if !fs::metadata(rt, path).ok()?.is_file() {
         return None;
     }
@@ -112,18 +134,13 @@ fn in_file<C: Print>(rt: &HostRuntime, path: &str, command: &C) -> Option<Vec<u8
     let mut store = OfFile {
         source: &mut source,
     };
-    text_of(rt, &mut store, command)
+    store.load(rt.alloc()).ok()
 }
 
-fn on_shelf<C: Print>(rt: &HostRuntime, path: &str, command: &C) -> Option<Vec<u8>> {
+fn on_shelf(rt: &HostRuntime, path: &str) -> Option<Register> {
     let mut disk = open_to_read(rt, path).ok()?;
     let mut store = OnShelf { disk: &mut disk };
-    text_of(rt, &mut store, command)
-}
-
-fn text_of<T: Store, C: Print>(rt: &HostRuntime, store: &mut T, command: &C) -> Option<Vec<u8>> {
-    let register = store.load(rt.alloc()).ok()?;
-    command.text(rt.alloc(), &register).ok()
+    store.load(rt.alloc()).ok()
 }
 
 // Whether there is a shelf with a register. A pipe is none.

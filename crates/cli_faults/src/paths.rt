@@ -129,7 +129,10 @@ fn names_if_read(rt: &HostRuntime, matches: &ArgMatches<'_>) -> Result<Vec<Name>
 fn command_of(name: CommandName, matches: &ArgMatches<'_>) -> Command {
     match name {
         CommandName::Export => Command::Export,
-        CommandName::Import => Command::Import,
+        CommandName::Find | CommandName::Log => Command::Find,
+        CommandName::Import => Command::Import {
+            revises: word(matches, "differs") == "revise",
+        },
         CommandName::Lint => Command::Lint,
         CommandName::Diff | CommandName::Merge => Command::Merge,
         CommandName::Office => Command::Office,

@@ -1,5 +1,5 @@
 //! The sentence for a refused import.
-use crate::paths::{FileName, Paths, Register};
+use crate::paths::{Command, FileName, Paths, Register};
 use crate::shown::Head;
 use reg_guard::engine::operations::OpId;
 use std::fmt;
@@ -39,8 +39,11 @@ impl fmt::Display for KeyTaken<'_> {
         let register = Register::of(&self.paths);
         write!(f, "hint: crsreg compare {register} --with ")?;
         file.write_argument(f)?;
-        f.write_str(
-            " shows what differs; --differs beside enters it as well; --differs revise also retires the other entries\n",
-        )
+        f.write_str(match self.paths.command {
+            Command::Import { revises: true } =>
+                " shows what differs; --differs revise keeps what this command enters or finds, so leave out one of the two texts; --differs beside enters it as well\n",
+            _ =>
+                " shows what differs; --differs beside enters it as well; --differs revise also retires the other entries\n",
+        })
     }
 }

@@ -9,7 +9,8 @@ use std::fmt;
 const MANY: usize = 16;
 
 /// What is wrong with a file that is to have rows of `lint`.
-const NO_ROWS: &str = "does not begin as what crsreg lint prints, with rule,entry,authority,code,name,detail\nhint: crsreg lint makes such a file; other columns come behind these\n";
+const NO_ROWS: &str =
+    "does not begin as what crsreg lint prints, with rule,entry,authority,code,name,detail\nhint: crsreg lint makes such a file; other columns come behind these\n";
 
 /// Writes the sentence for a fault of the file with this number, which seems to be this.
 pub fn write<W: fmt::Write>(

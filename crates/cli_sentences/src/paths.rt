@@ -43,8 +43,10 @@ impl fmt::Display for FileName<'_> {
 pub enum Command {
     /// `export`, which can leave out keys.
     Export,
-    /// `import`, which can leave out texts.
-    Import,
+    /// `find` and `log`, which look at retired entries too.
+    Find,
+    /// `import`, which can leave out texts, and with `--differs revise` retires entries.
+    Import { revises: bool },
     /// `lint`, which looks at texts too, and reads a file of its rows.
     Lint,
     /// `merge` and `diff`, which have all their files open at once.
@@ -143,6 +145,8 @@ pub enum Looks {
 pub struct Found<'a> {
     /// The key, the id and the status of the entry that the fault names, where they are known.
     pub head: Option<&'a str>,
+    /// Whether the word that the fault is about is several keys.
+    pub has_namesake: bool,
     /// The word of a list that the fault is about; empty if it is about none.
     pub word: &'a str,
     /// What the file that the fault is about seems to be.

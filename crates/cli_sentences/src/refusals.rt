@@ -40,7 +40,7 @@ pub fn write<W: fmt::Write>(
         Refusal::Office(fault) => write_office(f, fault, paths),
         Refusal::Behind(id) => guard::write_behind(f, id, paths),
         Refusal::Forged(id) => guard::write_forged(f, id, paths),
-        refusal => write_word(f, refusal, found.word, paths),
+        refusal => write_word(f, refusal, found, paths),
     }
 }
 
@@ -124,35 +124,71 @@ fn write_office<W: fmt::Write>(
 fn write_word<W: fmt::Write>(
     f: &mut fmt::Formatter<W>,
     refusal: Refusal,
-    word: &str,
+    found: &Found<'_>,
     paths: &Paths<'_>,
 ) -> fmt::Result {
     match refusal {
-        Refusal::BadId => write_bad_id(f, word, paths.command),
+        Refusal::BadId => write_bad_id(f, found.word, paths.command),
         Refusal::BadReplica => f.write_str(
             "--as (or CRSREG_AS) is not a UUID\nhint: uuidgen makes one, once for each office; crsreg office makes an office file with one\n",
         ),
         Refusal::BadSize => f.write_str("a shelf has from 14 to 67,108,864 bytes\n"),
-        Refusal::NoEntry => write_no_entry(f, word, paths),
-        Refusal::Several(id) => {
-            match word {
-                "" => writeln!(f, "this key has several texts, that of {id} among them")?,
-                word => {
-                    let word = Shown(word);
-                    writeln!(f, "{word} has several texts, that of {id} among them")?;
-                }
-            }
-            let register = Register::of(paths);
-            writeln!(
-                f,
-                "hint: crsreg compare {register} KEY shows what differs; crsreg settle keeps one of them, settle --equal one of each text"
-            )
-        }
+        Refusal::NoEntry => write_no_entry(f, found.word, paths),
+        Refusal::Several(id) => write_several(f, id, found, paths),
         Refusal::Unsettled => f.write_str(
             "a register has a conflict, an awaited id, a gap, a key with equal texts or a superseded entry without a valid heir\nhint: crsreg report lists them; crsreg settle ends a conflict, and settle --equal equal texts\n",
         ),
         _ => Ok(()),
     }
+}
+
+// A word with several texts.
+fn write_several<W: fmt::Write>(
+    f: &mut fmt::Formatter<W>,
+    id: OpId,
+    found: &Found<'_>,
+    paths: &Paths<'_>,
+) -> fmt::Result {
+    if found.has_namesake {
+        return write_namesakes(f, id, found.word, paths);
+    }
+    match found.word {
+        "" => writeln!(f, "this key has several texts, that of {id} among them")?,
+        word => {
+            let word = Shown(word);
+            writeln!(f, "{word} has several texts, that of {id} among them")?;
+        }
+    }
+    let register = Register::of(paths);
+    writeln!(
+        f,
+        "hint: crsreg compare {register} KEY shows what differs; crsreg settle keeps one of them, settle --equal one of each text"
+    )
+}
+
+// The same of a word that is several keys: `settle` looks at each by itself.
+fn write_namesakes<W: fmt::Write>(
+    f: &mut fmt::Formatter<W>,
+    id: OpId,
+    word: &str,
+    paths: &Paths<'_>,
+) -> fmt::Result {
+    match word {
+        "" => f.write_str("this word")?,
+        word => {
+            let word = Shown(word);
+            write!(f, "{word}")?;
+        }
+    }
+    writeln!(
+        f,
+        " is several keys, that of {id} among them: they differ in letter case, or in the colon behind the authority"
+    )?;
+    let register = Register::of(paths);
+    writeln!(
+        f,
+        "hint: name the entry by its id: crsreg find {register} KEY --status live prints the entries of these keys"
+    )
 }
 
 // A word that names no entry.
@@ -162,14 +198,24 @@ fn write_no_entry<W: fmt::Write>(
     paths: &Paths<'_>,
 ) -> fmt::Result {
     let register = Shown(paths.register);
+    if let Command::Find = paths.command {
+        return writeln!(
+            f,
+            "{register} has no such entry\nhint: crsreg find prints its entries"
+        );
+    }
     match word {
-        "" => writeln!(f, "{register} has no such entry")?,
+        "" => writeln!(f, "{register} has no such entry that is not retired")?,
         word => {
             let word = Shown(word);
             writeln!(f, "{register} has no entry {word} that is not retired")?;
         }
     }
-    f.write_str("hint: crsreg find prints its entries\n")
+    let register = Register::of(paths);
+    writeln!(
+        f,
+        "hint: crsreg find prints its entries; crsreg log -k {register} KEY says what became of those of a key"
+    )
 }
 
 // A word that should be an id, or a line of a list with only one word.

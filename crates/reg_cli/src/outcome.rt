@@ -134,7 +134,7 @@ fn advise(rt: &HostRuntime, fault: &ImportFault, named: &Option<Named<'_>>) {
         return;
     };
     if let ImportFault::Refused { .. } = fault {
-        if let Command::Import = named.command {
+        if let Command::Import { .. } = named.command {
             if !named.keeps_going {
                 let _ = eprintln!(rt; "{LEAVES_OUT}");
             }
