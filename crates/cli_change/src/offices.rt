@@ -20,6 +20,9 @@ const REG_IS_OFFICE: &str = "error: REG is the office file, or its new one";
 const AS_IS_OFFICE: &str =
     "error: --as is the office of the file in CRSREG_OFFICE, which would not know what it makes: leave --as out";
 
+// The most bytes of the name of an office file: the name of the new file beside it has eight more, of which 255 are the most.
+const LONGEST_NAME: usize = 247;
+
 // How many links a path may lead through.
 const MOST_LINKS: usize = 40;
 
@@ -194,11 +197,16 @@ fn is_same<R: Files>(rt: &R, a: &str, b: &str) -> bool {
 
 /// `office`.
 pub fn office(rt: &HostRuntime, matches: &ArgMatches<'_>) -> Result<(), CliFault> {
+    let path = word(matches, "NEW");
+    let (_, name) = parts(path);
+    if name.len() > LONGEST_NAME {
+        return Err(CliFault::Out(OutFault::NotOpened));
+    }
     let mut random = [0; 16];
     if rt.fill_bytes(&mut random).is_err() {
         return Err(CliFault::Out(OutFault::NotOpened));
     }
-    let mut place = NewPlace::new(rt, word(matches, "NEW"));
+    let mut place = NewPlace::new(rt, path);
     let mut sink = Writing::new(io::writer(rt));
     let answer = run_office(rt.alloc(), random, &mut place, &mut sink);
     drop(place);

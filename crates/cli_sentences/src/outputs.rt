@@ -40,7 +40,7 @@ fn write_not_opened<W: fmt::Write>(f: &mut fmt::Formatter<W>, paths: &Paths<'_>)
     match paths.command {
         Command::Office => writeln!(
             f,
-            "{out} cannot be made: it exists already, its folder is not there, or you may not write there"
+            "{out} cannot be made: it exists already, its folder is not there, you may not write there, or its name has more than 247 bytes"
         ),
         Command::Export => writeln!(
             f,
