@@ -5,8 +5,7 @@ use Rattle.crs_part.specs.declared.text.Text.{Text}
 use Rattle.crs_part.specs.declared.datums.Ellipsoid.{Ellipsoid}
 use Rattle.crs_part.specs.declared.identifiers.Ident.{Ident}
 use Rattle.crs_value.specs.Keys.{text_of}
-use Rattle.crs_said.specs.Datums.{sizes_said, ellipsoid_said}
-use Rattle.crs_said.specs.Parts.{part_said, id_said}
+use Rattle.crs_said.specs.Openings.{sizes_said, ellipsoid_said, part_said, id_said}
 
 abbrev of_datum : List ℕ → List ℕ → List ℕ → List ℕ
 of_datum name ellipsoid sizes = concat (codes "the datum \"" ∷ name ∷ codes "\" has the ellipsoid \"" ∷ ellipsoid ∷ codes "\" (" ∷ sizes ∷ codes ") here, and another of these" ∷ [])

@@ -35,7 +35,7 @@ use Rattle.crs_part.specs.declared.crs.Compound.{Compound}
 use Rattle.crs_part.specs.declared.crs.CrsParts.{CrsParts}
 use Rattle.crs_part.specs.declared.crs.CrsParts.TheVariants as whole
 use Rattle.crs_exact.specs.Parts.{unit_of, length_of, angle_of}
-use Rattle.crs_said.specs.Fields.{ended, folded, name_field, label_field, number_field, count_field, maybe_field, each_field}
+use Rattle.crs_said.specs.Fields.{ended, name_field, label_field, number_field, count_field, maybe_field, each_field}
 
 abbrev pub named_said : Bool → Named → List ℕ
 named_said exact x = name_field exact x.name.bytes
@@ -140,6 +140,6 @@ abbrev pub kind_said : CrsParts → List ℕ
 kind_said (whole.Single x) = single_kind x
 kind_said (whole.Compound x) = ended (codes "compound")
 
--- the same with its name, folded
+-- the same behind its name, folded; names mostly differ, so that a comparison ends soon
 abbrev pub kind_and_name : CrsParts → List ℕ
-kind_and_name crs = kind_said crs ++ folded (name_of crs).bytes
+kind_and_name crs = name_field false (name_of crs).bytes ++ kind_said crs

@@ -1,14 +1,11 @@
 -- What systems claim about the names of datums and ensembles.
 use Rattle.std.specs.Prelude.{ℕ, false, List, [], ◌∷◌, ◌++◌, Option, Some, None, unsigned_abs, codes}
-use Rattle.std.specs.List.{concat}
-use Rattle.crs_number.specs.Canonical.{canonical, minus_of}
+use Rattle.crs_number.specs.Canonical.{minus_of}
 use Rattle.crs_number.specs.Value.{places}
 use Rattle.crs_number.specs.declared.decimals.Decimal.{Decimal}
 use Rattle.crs_part.specs.Slots.{items_of, ellipsoid_of}
-use Rattle.crs_part.specs.declared.text.Text.{Text}
 use Rattle.crs_part.specs.declared.units.LengthUnit.{LengthUnit}
 use Rattle.crs_part.specs.declared.units.AngleUnit.{AngleUnit}
-use Rattle.crs_part.specs.declared.datums.Ellipsoid.{Ellipsoid}
 use Rattle.crs_part.specs.declared.datums.PrimeMeridian.{PrimeMeridian}
 use Rattle.crs_part.specs.declared.datums.GeodeticFrame.{GeodeticFrame}
 use Rattle.crs_part.specs.declared.datums.GeodeticFrame.TheVariants.{Datum, Ensemble}
@@ -20,6 +17,7 @@ use Rattle.crs_exact.specs.Parts.{length_of, angle_of}
 use Rattle.crs_said.specs.Fields.{ended, folded, each_field}
 use Rattle.crs_said.specs.Content.{named_said}
 use Rattle.crs_said.specs.Claims.{Said}
+use Rattle.crs_said.specs.Openings.{frame_name, frame_said}
 use Rattle.crs_said.specs.Rounded.{rounded, product_rounded}
 
 -- a length in units of 10^-80 metres
@@ -46,37 +44,12 @@ abbrev pub members : GeodeticFrame → List ℕ
 members (Datum x) = []
 members (Ensemble x) = each_field (named_said false) (items_of x.members)
 
-abbrev pub frame_name : GeodeticFrame → Text
-frame_name (Datum x) = x.name
-frame_name (Ensemble x) = x.name
-
 abbrev pub frame_content : GeodeticFrame → Option PrimeMeridian → List ℕ
 frame_content frame prime =
     ended (metres (ellipsoid_of frame).radius (ellipsoid_of frame).unit)
     ++ ended (flattening (ellipsoid_of frame).flattening)
     ++ ended (longitude prime)
     ++ members frame
-
-abbrev pub number_said : Decimal → List ℕ
-number_said d = canonical d.coefficient d.exponent
-
-unfoldable pub sizes_said : Ellipsoid → List ℕ
-sizes_said ellipsoid = concat (number_said ellipsoid.radius ∷ codes ", " ∷ number_said ellipsoid.flattening ∷ [])
-
-abbrev pub ellipsoid_said : Text → Ellipsoid → List ℕ
-ellipsoid_said name ellipsoid =
-    concat
-    (codes "the datum \""
-    ∷ name.bytes
-    ∷ codes "\" has the ellipsoid \""
-    ∷ ellipsoid.name.bytes
-    ∷ codes "\" ("
-    ∷ sizes_said ellipsoid
-    ∷ codes ") here, and another of these"
-    ∷ [])
-
-abbrev pub frame_said : GeodeticFrame → List ℕ
-frame_said frame = ellipsoid_said (frame_name frame) (ellipsoid_of frame)
 
 -- the name of a datum has this ellipsoid, this prime meridian and these members
 abbrev pub frame_claim : GeodeticFrame → Option PrimeMeridian → Said

@@ -1,5 +1,6 @@
 pub mod Fields
 pub mod Content
+pub mod Openings
 pub mod Claims
 pub mod Rounded
 pub mod Datums

@@ -1,6 +1,6 @@
 -- What systems claim about the identifiers of parts.
 use Rattle.std.specs.Prelude.{ℕ, true, false, List, [], ◌∷◌, ◌++◌, Option, codes}
-use Rattle.std.specs.List.{concat, flat_map}
+use Rattle.std.specs.List.{flat_map}
 use Rattle.std.specs.Option.{option_map_or}
 use Rattle.crs_part.specs.Slots.{items_of}
 use Rattle.crs_part.specs.declared.text.Text.{Text}
@@ -37,23 +37,11 @@ use Rattle.crs_exact.specs.Parts.{unit_of, length_of, angle_of}
 use Rattle.crs_said.specs.Fields.{ended, name_field, maybe_field}
 use Rattle.crs_said.specs.Content.{unit_definition_said, ellipsoid_said, prime_meridian_said, datum_said, geodetic_ensemble_said, geodetic_frame_said, vertical_datum_said, vertical_ensemble_said, conversion_said}
 use Rattle.crs_said.specs.Claims.{Said}
+use Rattle.crs_said.specs.Openings.{id_said}
 
+-- the code comes first: two words mostly differ there, so that a comparison ends soon
 abbrev pub id_word : List ℕ → Ident → List ℕ
-id_word kind id = ended kind ++ ended id.authority.bytes ++ text_of id.code
-
-unfoldable pub part_said : List ℕ → List ℕ → List ℕ
-part_said kind name = concat (codes "the " ∷ kind ∷ codes " \"" ∷ name ∷ codes "\"" ∷ [])
-
-abbrev pub id_said : List ℕ → List ℕ → Ident → List ℕ
-id_said kind name id =
-    concat
-    (part_said kind name
-    ∷ codes " has the identifier "
-    ∷ id.authority.bytes
-    ∷ codes ":"
-    ∷ text_of id.code
-    ∷ codes " and another content than"
-    ∷ [])
+id_word kind id = ended (text_of id.code) ++ ended id.authority.bytes ++ kind
 
 -- an identifier of a part has this content
 abbrev pub id_claim : List ℕ → List ℕ → List ℕ → Ident → Said

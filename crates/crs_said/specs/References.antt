@@ -1,6 +1,5 @@
 -- The names by which names of systems refer to others, and what they say by these.
 use Rattle.std.specs.Prelude.{ℕ, Bool, ◌&&◌, ◌||◌, List, [], ◌∷◌, ◌++◌, length, take, drop, Option, Some, None, not, codes, if◌then◌else◌}
-use Rattle.std.specs.List.{concat}
 use Rattle.std.specs.Str.{bytes_eq}
 use Rattle.crs_part.specs.declared.text.Text.{Text}
 use Rattle.crs_part.specs.declared.crs.Single.{Single}
@@ -10,6 +9,7 @@ use Rattle.crs_part.specs.declared.crs.CrsParts.{CrsParts}
 use Rattle.crs_part.specs.declared.crs.CrsParts.TheVariants as whole
 use Rattle.crs_exact.specs.Names.{begins, has_part}
 use Rattle.crs_said.specs.Claims.{Said}
+use Rattle.crs_said.specs.Openings.{name_opening}
 use Rattle.crs_said.specs.Letters.{letters, place, behind_last}
 
 -- of a geodetic system
@@ -49,7 +49,7 @@ other_said mark said what there =
     else record {
       word = mark ∷ letters said;
       content = letters there;
-      said = concat (codes "the name says \"" ∷ said ∷ codes "\", and the " ∷ what ∷ codes " is \"" ∷ there ∷ codes "\"" ∷ []);
+      said = name_opening said what there;
     } ∷ []
 
 -- a name `X / ..` of a projected system says that its base is X

@@ -1,27 +1,27 @@
 -- What systems claim about the spelling of authorities and codes.
-use Rattle.std.specs.Prelude.{List, [], ◌∷◌, ◌++◌, codes}
-use Rattle.std.specs.List.{concat}
+use Rattle.std.specs.Prelude.{List, [], ◌∷◌, ◌++◌}
 use Rattle.crs_part.specs.Slots.{ids_of}
 use Rattle.crs_part.specs.declared.identifiers.Ident.{Ident}
 use Rattle.crs_part.specs.declared.crs.CrsParts.{CrsParts}
 use Rattle.crs_value.specs.Keys.{text_of}
 use Rattle.crs_said.specs.Fields.{ended, folded}
 use Rattle.crs_said.specs.Claims.{Said}
+use Rattle.crs_said.specs.Openings.{authority_said, code_opening}
 
 -- apart from letter case, the authority is spelled so; the word begins with an A
 abbrev pub authority_claim : Ident → Said
 authority_claim id = record {
   word = 65 ∷ folded id.authority.bytes;
   content = id.authority.bytes;
-  said = concat (codes "the authority \"" ∷ id.authority.bytes ∷ codes "\" is elsewhere" ∷ []);
+  said = authority_said id;
 }
 
 -- apart from letter case, the code of this authority is spelled so; the word begins with a C
 abbrev pub code_claim : Ident → Said
 code_claim id = record {
-  word = 67 ∷ (ended id.authority.bytes ++ folded (text_of id.code));
+  word = 67 ∷ (ended (folded (text_of id.code)) ++ id.authority.bytes);
   content = text_of id.code;
-  said = concat (codes "the code \"" ∷ text_of id.code ∷ codes "\" is elsewhere" ∷ []);
+  said = code_opening id;
 }
 
 abbrev pub first_claims : List Ident → List Said

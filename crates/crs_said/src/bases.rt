@@ -6,7 +6,7 @@ ghost use Rattle.crs_said.specs.Parts.{id_claims, base_content, base_claims, mer
 
 use crate::claim::Claim;
 use crate::fields::push_name;
-use crate::identified::{CONTENT, push_id};
+use crate::identified::push_id;
 use crate::parts::HasParts;
 use crate::says::Says;
 use crs_part::{
@@ -15,14 +15,20 @@ use crs_part::{
 };
 use std::alloc::{AllocError, Global};
 
+/// Most systems have fewer claims than these.
+const CLAIMS: usize = 8;
+
+/// Most bases say fewer bytes than these.
+const BASE: usize = 192;
+
 /// For each part that has identifiers: the first one has this content, which is all that the part says but for identifiers,
 /// usages, anchors and remarks. A method or a parameter has its name as its content, without letter case. A base has its name, its
 /// datum and its prime meridian; a geodetic or geographic system counts as one. Members of ensembles, geoid models, axes and
 /// coordinate systems are passed over.
-pub fn part_claims(alloc: Global, crs: &CrsParts) -> Result<Vec<Claim>, AllocError>
+pub fn part_claims<'a>(alloc: Global, crs: &'a CrsParts) -> Result<Vec<Claim<'a>>, AllocError>
     ensures { IfOk result (λ claims. map claim_seen claims.items ≡ part_claims crs.now) }
 {
-    let mut claims = Vec::new(alloc);
+    let mut claims = Vec::with_capacity(alloc, CLAIMS)?;
     match crs {
         CrsParts::Single(crs) => crs.claim(alloc, &mut claims)?,
         CrsParts::Compound(crs) => claim_both(
@@ -35,11 +41,11 @@ pub fn part_claims(alloc: Global, crs: &CrsParts) -> Result<Vec<Claim>, AllocErr
     Ok(claims)
 }
 
-fn claim_both(
+fn claim_both<'a>(
     alloc: Global,
-    claims: &mut Vec<Claim>,
-    first: &Single,
-    second: &Single,
+    claims: &mut Vec<Claim<'a>>,
+    first: &'a Single,
+    second: &'a Single,
 ) -> Result<(), AllocError>
     ensures { OnOk result (map claim_seen claims.new.items ≡ map claim_seen claims.old.items ++ (single_claims first.now ++ single_claims second.now)) }
 {
@@ -50,7 +56,7 @@ fn claim_both(
 impl HasParts for Single {
     ghost claimed = { single_claims };
 
-    fn claim(&self, alloc: Global, claims: &mut Vec<Claim>) -> Result<(), AllocError> {
+    fn claim<'a>(&'a self, alloc: Global, claims: &mut Vec<Claim<'a>>) -> Result<(), AllocError> {
         match self {
             Single::Geodetic(crs) => crs.claim(alloc, claims),
             Single::Projected(crs) => crs.claim(alloc, claims),
@@ -62,7 +68,7 @@ impl HasParts for Single {
 impl HasParts for Geodetic {
     ghost claimed = { geodetic_claims };
 
-    fn claim(&self, alloc: Global, claims: &mut Vec<Claim>) -> Result<(), AllocError> {
+    fn claim<'a>(&'a self, alloc: Global, claims: &mut Vec<Claim<'a>>) -> Result<(), AllocError> {
         claim_base(
             alloc,
             claims,
@@ -79,7 +85,7 @@ impl HasParts for Geodetic {
 impl HasParts for Projected {
     ghost claimed = { projected_claims };
 
-    fn claim(&self, alloc: Global, claims: &mut Vec<Claim>) -> Result<(), AllocError> {
+    fn claim<'a>(&'a self, alloc: Global, claims: &mut Vec<Claim<'a>>) -> Result<(), AllocError> {
         self.base.claim(alloc, claims)?;
         self.conversion.claim(alloc, claims)?;
         self.axes.claim(alloc, claims)?;
@@ -90,7 +96,7 @@ impl HasParts for Projected {
 impl HasParts for Vertical {
     ghost claimed = { vertical_claims };
 
-    fn claim(&self, alloc: Global, claims: &mut Vec<Claim>) -> Result<(), AllocError> {
+    fn claim<'a>(&'a self, alloc: Global, claims: &mut Vec<Claim<'a>>) -> Result<(), AllocError> {
         self.datum.claim(alloc, claims)?;
         self.axes.claim(alloc, claims)?;
         self.unit.claim(alloc, claims)
@@ -100,7 +106,7 @@ impl HasParts for Vertical {
 impl HasParts for BaseCrs {
     ghost claimed = { base_crs_claims };
 
-    fn claim(&self, alloc: Global, claims: &mut Vec<Claim>) -> Result<(), AllocError> {
+    fn claim<'a>(&'a self, alloc: Global, claims: &mut Vec<Claim<'a>>) -> Result<(), AllocError> {
         claim_base(
             alloc,
             claims,
@@ -116,7 +122,7 @@ impl HasParts for BaseCrs {
 impl HasParts for Meridian {
     ghost claimed = { meridian_claims };
 
-    fn claim(&self, alloc: Global, claims: &mut Vec<Claim>) -> Result<(), AllocError> {
+    fn claim<'a>(&'a self, alloc: Global, claims: &mut Vec<Claim<'a>>) -> Result<(), AllocError> {
         self.unit.claim(alloc, claims)
     }
 }
@@ -124,19 +130,19 @@ impl HasParts for Meridian {
 impl HasParts for Axis {
     ghost claimed = { axis_claims };
 
-    fn claim(&self, alloc: Global, claims: &mut Vec<Claim>) -> Result<(), AllocError> {
+    fn claim<'a>(&'a self, alloc: Global, claims: &mut Vec<Claim<'a>>) -> Result<(), AllocError> {
         self.meridian.claim(alloc, claims)?;
         self.unit.claim(alloc, claims)
     }
 }
 
-fn claim_base(
+fn claim_base<'a>(
     alloc: Global,
-    claims: &mut Vec<Claim>,
-    name: &Text,
-    frame: &GeodeticFrame,
-    prime: &Option<PrimeMeridian>,
-    ids: &[Ident],
+    claims: &mut Vec<Claim<'a>>,
+    name: &'a Text,
+    frame: &'a GeodeticFrame,
+    prime: &'a Option<PrimeMeridian>,
+    ids: &'a [Ident],
 ) -> Result<(), AllocError>
     ensures { OnOk result (map claim_seen claims.new.items ≡ map claim_seen claims.old.items ++ base_claims name.now frame.now prime.now ids.now) }
 {
@@ -146,13 +152,13 @@ fn claim_base(
 }
 
 // The base itself.
-fn push_base(
+fn push_base<'a>(
     alloc: Global,
-    claims: &mut Vec<Claim>,
-    name: &Text,
-    frame: &GeodeticFrame,
-    prime: &Option<PrimeMeridian>,
-    ids: &[Ident],
+    claims: &mut Vec<Claim<'a>>,
+    name: &'a Text,
+    frame: &'a GeodeticFrame,
+    prime: &'a Option<PrimeMeridian>,
+    ids: &'a [Ident],
 ) -> Result<(), AllocError>
     ensures { OnOk result (map claim_seen claims.new.items ≡ map claim_seen claims.old.items ++ id_claims (codes "base") name.now.bytes (base_content name.now frame.now prime.now) ids.now) }
 {
@@ -171,7 +177,7 @@ fn base_content(
 ) -> Result<Vec<u8>, AllocError>
     ensures { IfOk result (λ text. text.items ≡ base_content name.now frame.now prime.now) }
 {
-    let mut text = Vec::with_capacity(alloc, CONTENT)?;
+    let mut text = Vec::with_capacity(alloc, BASE)?;
     push_name(true, name, &mut text)?;
     frame.say(true, &mut text)?;
     prime.say(true, &mut text)?;

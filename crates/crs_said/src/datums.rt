@@ -4,17 +4,18 @@ ghost use Rattle.std.specs.Prelude.{◌≡◌, ◌++◌, ◌∷◌, [], map, uns
 ghost use Rattle.crs_number.specs.Canonical.{minus_of};
 ghost use Rattle.crs_number.specs.Value.{places};
 ghost use Rattle.crs_said.specs.Claims.{claim_seen};
-ghost use Rattle.crs_said.specs.Datums.{metres, angle, flattening, longitude, members, frame_name, frame_content, sizes_said, ellipsoid_said, frame_said, frame_claim, single_datums, datum_claims};
+ghost use Rattle.crs_said.specs.Datums.{metres, angle, flattening, longitude, members, frame_content, frame_claim, single_datums, datum_claims};
 
 use crate::claim::{Claim, push_claim};
 use crate::fields::{folded, push_end};
 use crate::identified::CONTENT;
+use crate::opening::{Opening, frame_name};
 use crate::rounded::{Size, push_product, push_rounded};
 use crate::says::Says;
-use crs_exact::{angle_of, digits_of, joined, length_of, number, places_of};
+use crs_exact::{angle_of, digits_of, length_of, places_of};
 use crs_number::Decimal;
 use crs_part::{
-    AngleUnit, CrsParts, Ellipsoid, GeodeticFrame, LengthUnit, PrimeMeridian, Single, Text,
+    AngleUnit, CrsParts, GeodeticFrame, LengthUnit, PrimeMeridian, Single,
 };
 use std::alloc::{AllocError, Global};
 
@@ -32,10 +33,10 @@ const DEGREE: Size = Size {
 
 /// For each geodetic datum or ensemble of a system, of its base or of its components: its name has this ellipsoid, this prime
 /// meridian and these members. Lengths are compared in metres, inverse flattenings to 10^-6, and longitudes to 10^-8 radians.
-pub fn datum_claims(alloc: Global, crs: &CrsParts) -> Result<Vec<Claim>, AllocError>
+pub fn datum_claims<'a>(alloc: Global, crs: &'a CrsParts) -> Result<Vec<Claim<'a>>, AllocError>
     ensures { IfOk result (λ claims. map claim_seen claims.items ≡ datum_claims crs.now) }
 {
-    let mut claims = Vec::new(alloc);
+    let mut claims = Vec::with_capacity(alloc, 1)?;
     match crs {
         CrsParts::Single(crs) => push_single(alloc, &mut claims, crs)?,
         CrsParts::Compound(crs) => push_both(
@@ -48,11 +49,11 @@ pub fn datum_claims(alloc: Global, crs: &CrsParts) -> Result<Vec<Claim>, AllocEr
     Ok(claims)
 }
 
-fn push_both(
+fn push_both<'a>(
     alloc: Global,
-    claims: &mut Vec<Claim>,
-    first: &Single,
-    second: &Single,
+    claims: &mut Vec<Claim<'a>>,
+    first: &'a Single,
+    second: &'a Single,
 ) -> Result<(), AllocError>
     ensures { OnOk result (map claim_seen claims.new.items ≡ map claim_seen claims.old.items ++ (single_datums first.now ++ single_datums second.now)) }
 {
@@ -60,7 +61,7 @@ fn push_both(
     push_single(alloc, claims, second)
 }
 
-fn push_single(alloc: Global, claims: &mut Vec<Claim>, crs: &Single) -> Result<(), AllocError>
+fn push_single<'a>(alloc: Global, claims: &mut Vec<Claim<'a>>, crs: &'a Single) -> Result<(), AllocError>
     ensures { OnOk result (map claim_seen claims.new.items ≡ map claim_seen claims.old.items ++ single_datums crs.now) }
 {
     match crs {
@@ -72,10 +73,10 @@ fn push_single(alloc: Global, claims: &mut Vec<Claim>, crs: &Single) -> Result<(
     }
 }
 
-fn push_frame(
+fn push_frame<'a>(
     alloc: Global,
-    claims: &mut Vec<Claim>,
-    frame: &GeodeticFrame,
+    claims: &mut Vec<Claim<'a>>,
+    frame: &'a GeodeticFrame,
     prime: &Option<PrimeMeridian>,
 ) -> Result<(), AllocError>
     ensures { OnOk result (map claim_seen claims.new.items ≡ map claim_seen claims.old.items ++ frame_claim frame.now prime.now ∷ []) }
@@ -84,63 +85,20 @@ fn push_frame(
     push_claim(claims, claim)
 }
 
-fn frame_claim(
+fn frame_claim<'a>(
     alloc: Global,
-    frame: &GeodeticFrame,
+    frame: &'a GeodeticFrame,
     prime: &Option<PrimeMeridian>,
-) -> Result<Claim, AllocError>
+) -> Result<Claim<'a>, AllocError>
     ensures { IfOk result (λ claim. claim_seen claim ≡ frame_claim frame.now prime.now) }
 {
     let word = folded(alloc, frame_name(frame).as_bytes())?;
     let content = frame_content(alloc, frame, prime)?;
-    let said = frame_said(alloc, frame)?;
     Ok(Claim {
         word,
         content,
-        said,
+        opening: Opening::Frame(frame),
     })
-}
-
-fn frame_name(frame: &GeodeticFrame) -> &Text
-    ensures { result.now ≡ frame_name frame.now }
-{
-    match frame {
-        GeodeticFrame::Datum(frame) => &frame.name,
-        GeodeticFrame::Ensemble(frame) => &frame.name,
-    }
-}
-
-fn frame_said(alloc: Global, frame: &GeodeticFrame) -> Result<Vec<u8>, AllocError>
-    ensures { IfOk result (λ text. text.items ≡ frame_said frame.now) }
-{
-    ellipsoid_said(alloc, frame_name(frame), frame.ellipsoid())
-}
-
-fn ellipsoid_said(alloc: Global, name: &Text, ellipsoid: &Ellipsoid) -> Result<Vec<u8>, AllocError>
-    ensures { IfOk result (λ text. text.items ≡ ellipsoid_said name.now ellipsoid.now) }
-{
-    let sizes = sizes_said(alloc, ellipsoid)?;
-    joined(
-        alloc,
-        &[
-            b"the datum \"",
-            name.as_bytes(),
-            b"\" has the ellipsoid \"",
-            ellipsoid.name.as_bytes(),
-            b"\" (",
-            &sizes,
-            b") here, and another of these",
-        ],
-    )
-}
-
-#[tactic(auto, unfolding(crate::specs::Datums::sizes_said))]
-fn sizes_said(alloc: Global, ellipsoid: &Ellipsoid) -> Result<Vec<u8>, AllocError>
-    ensures { IfOk result (λ text. text.items ≡ sizes_said ellipsoid.now) }
-{
-    let radius = number(alloc, ellipsoid.radius)?;
-    let flattening = number(alloc, ellipsoid.flattening)?;
-    joined(alloc, &[&radius, b", ", &flattening])
 }
 
 fn frame_content(

@@ -3,8 +3,10 @@
 ghost use Rattle.std.specs.Prelude.{◌≡◌, ◌++◌, [], IfOk, OnOk};
 ghost use Rattle.crs_said.specs.Fields.{ended, folded, name_field, label_field, count_field};
 ghost use Rattle.crs_exact.specs.Names.{plain};
+ghost use Rattle.crs_value.specs.Keys.{text_of};
 
-use crs_part::Text;
+use crs_exact::number;
+use crs_part::{NumberOrText, Text};
 use itoa::Buffer;
 use std::alloc::{AllocError, Global};
 
@@ -83,5 +85,15 @@ fn plain(byte: u8) -> u8
         b' '
     } else {
         byte.to_ascii_lowercase()
+    }
+}
+
+/// The text of a code.
+pub(crate) fn code_said(alloc: Global, code: &NumberOrText) -> Result<Vec<u8>, AllocError>
+    ensures { IfOk result (λ text. text.items ≡ text_of code.now) }
+{
+    match code {
+        NumberOrText::Number(value) => number(alloc, *value),
+        NumberOrText::Text(text) => Vec::from_slice(alloc, text.as_bytes()),
     }
 }

@@ -4,12 +4,12 @@ ghost use Rattle.std.specs.Prelude.{◌≡◌, ◌++◌, ◌∷◌, [], true, fa
 ghost use Rattle.crs_value.specs.Keys.{text_of};
 ghost use Rattle.crs_said.specs.Fields.{name_field};
 ghost use Rattle.crs_said.specs.Claims.{claim_seen};
-ghost use Rattle.crs_said.specs.Parts.{id_word, part_said, id_said, id_claim, id_claims};
+ghost use Rattle.crs_said.specs.Parts.{id_word, id_claim, id_claims};
 
 use crate::claim::{Claim, push_claim};
-use crate::fields::{push_field, push_name};
+use crate::fields::{push_end, push_field, push_name};
+use crate::opening::Opening;
 use crate::says::Says;
-use crs_exact::{joined, number};
 use crs_part::{Ident, NumberOrText, Text};
 use std::alloc::{AllocError, Global};
 
@@ -20,12 +20,12 @@ pub(crate) const WORD: usize = 24;
 pub(crate) const CONTENT: usize = 64;
 
 /// Claims that the first identifier of a part has what the part says.
-pub(crate) fn push_part<T: Says>(
+pub(crate) fn push_part<'a, T: Says>(
     alloc: Global,
-    claims: &mut Vec<Claim>,
-    kind: &[u8],
-    name: &Text,
-    ids: &[Ident],
+    claims: &mut Vec<Claim<'a>>,
+    kind: &'a [u8],
+    name: &'a Text,
+    ids: &'a [Ident],
     part: &T,
 ) -> Result<(), AllocError>
     ensures { OnOk result (map claim_seen claims.new.items ≡ map claim_seen claims.old.items ++ id_claims kind.now name.now.bytes (T.said true part.now) ids.now) }
@@ -39,12 +39,12 @@ pub(crate) fn push_part<T: Says>(
 }
 
 /// Claims that the first identifier of a part has its name.
-pub(crate) fn push_named(
+pub(crate) fn push_named<'a>(
     alloc: Global,
-    claims: &mut Vec<Claim>,
-    kind: &[u8],
-    name: &Text,
-    ids: &[Ident],
+    claims: &mut Vec<Claim<'a>>,
+    kind: &'a [u8],
+    name: &'a Text,
+    ids: &'a [Ident],
 ) -> Result<(), AllocError>
     ensures { OnOk result (map claim_seen claims.new.items ≡ map claim_seen claims.old.items ++ id_claims kind.now name.now.bytes (name_field false name.now.bytes) ids.now) }
 {
@@ -57,24 +57,23 @@ pub(crate) fn push_named(
 }
 
 /// Claims that an identifier has this content.
-pub(crate) fn push_id(
+pub(crate) fn push_id<'a>(
     alloc: Global,
-    claims: &mut Vec<Claim>,
-    kind: &[u8],
-    name: &Text,
+    claims: &mut Vec<Claim<'a>>,
+    kind: &'a [u8],
+    name: &'a Text,
     content: Vec<u8>,
-    id: &Ident,
+    id: &'a Ident,
 ) -> Result<(), AllocError>
     ensures { OnOk result (map claim_seen claims.new.items ≡ map claim_seen claims.old.items ++ id_claim kind.now name.now.bytes content.items id.now ∷ []) }
 {
     let word = id_word(alloc, kind, id)?;
-    let said = id_said(alloc, kind, name, id)?;
     push_claim(
         claims,
         Claim {
             word,
             content,
-            said,
+            opening: Opening::Part { kind, name, id },
         },
     )
 }
@@ -83,35 +82,11 @@ fn id_word(alloc: Global, kind: &[u8], id: &Ident) -> Result<Vec<u8>, AllocError
     ensures { IfOk result (λ text. text.items ≡ id_word kind.now id.now) }
 {
     let mut word = Vec::with_capacity(alloc, WORD)?;
-    push_field(&mut word, kind)?;
-    push_field(&mut word, id.authority.as_bytes())?;
     push_code_text(&mut word, &id.code)?;
+    push_end(&mut word)?;
+    push_field(&mut word, id.authority.as_bytes())?;
+    word.extend_from_slice(kind)?;
     Ok(word)
-}
-
-fn id_said(alloc: Global, kind: &[u8], name: &Text, id: &Ident) -> Result<Vec<u8>, AllocError>
-    ensures { IfOk result (λ text. text.items ≡ id_said kind.now name.now.bytes id.now) }
-{
-    let part = part_said(alloc, kind, name.as_bytes())?;
-    let code = code_said(alloc, &id.code)?;
-    joined(
-        alloc,
-        &[
-            &part,
-            b" has the identifier ",
-            id.authority.as_bytes(),
-            b":",
-            &code,
-            b" and another content than",
-        ],
-    )
-}
-
-#[tactic(auto, unfolding(crate::specs::Parts::part_said))]
-fn part_said(alloc: Global, kind: &[u8], name: &[u8]) -> Result<Vec<u8>, AllocError>
-    ensures { IfOk result (λ text. text.items ≡ part_said kind.now name.now) }
-{
-    joined(alloc, &[b"the ", kind, b" \"", name, b"\""])
 }
 
 // Appends the text of a code.
@@ -121,15 +96,5 @@ fn push_code_text(out: &mut Vec<u8>, code: &NumberOrText) -> Result<(), AllocErr
     match code {
         NumberOrText::Number(value) => value.write_to(out),
         NumberOrText::Text(text) => out.extend_from_slice(text.as_bytes()),
-    }
-}
-
-/// The text of a code.
-pub(crate) fn code_said(alloc: Global, code: &NumberOrText) -> Result<Vec<u8>, AllocError>
-    ensures { IfOk result (λ text. text.items ≡ text_of code.now) }
-{
-    match code {
-        NumberOrText::Number(value) => number(alloc, *value),
-        NumberOrText::Text(text) => Vec::from_slice(alloc, text.as_bytes()),
     }
 }

@@ -22,14 +22,14 @@ pub(crate) trait HasParts {
     ghost claimed: { Self → List Said };
 
     /// Appends the claims about them.
-    fn claim(&self, alloc: Global, claims: &mut Vec<Claim>) -> Result<(), AllocError>
+    fn claim<'a>(&'a self, alloc: Global, claims: &mut Vec<Claim<'a>>) -> Result<(), AllocError>
         ensures { OnOk result (map claim_seen claims.new.items ≡ map claim_seen claims.old.items ++ claimed self.now) };
 }
 
 impl<T: HasParts> HasParts for Option<T> {
     ghost claimed = { λ part. option_map_or T.claimed part [] };
 
-    fn claim(&self, alloc: Global, claims: &mut Vec<Claim>) -> Result<(), AllocError> {
+    fn claim<'a>(&'a self, alloc: Global, claims: &mut Vec<Claim<'a>>) -> Result<(), AllocError> {
         match self {
             Some(part) => part.claim(alloc, claims),
             None => Ok(()),
@@ -37,10 +37,10 @@ impl<T: HasParts> HasParts for Option<T> {
     }
 }
 
-fn claim_all<T: HasParts>(
+fn claim_all<'a, T: HasParts>(
     alloc: Global,
-    parts: &[T],
-    claims: &mut Vec<Claim>,
+    parts: &'a [T],
+    claims: &mut Vec<Claim<'a>>,
 ) -> Result<(), AllocError>
     ensures { OnOk result (map claim_seen claims.new.items ≡ map claim_seen claims.old.items ++ flat_map T.claimed parts.now) }
 {
@@ -53,7 +53,7 @@ fn claim_all<T: HasParts>(
 impl<T: HasParts> HasParts for Many<T> {
     ghost claimed = { flat_map T.claimed };
 
-    fn claim(&self, alloc: Global, claims: &mut Vec<Claim>) -> Result<(), AllocError> {
+    fn claim<'a>(&'a self, alloc: Global, claims: &mut Vec<Claim<'a>>) -> Result<(), AllocError> {
         claim_all(alloc, self.as_slice(), claims)
     }
 }
@@ -61,7 +61,7 @@ impl<T: HasParts> HasParts for Many<T> {
 impl<T: HasParts> HasParts for NonEmpty<T> {
     ghost claimed = { λ some. flat_map T.claimed (items_of some) };
 
-    fn claim(&self, alloc: Global, claims: &mut Vec<Claim>) -> Result<(), AllocError> {
+    fn claim<'a>(&'a self, alloc: Global, claims: &mut Vec<Claim<'a>>) -> Result<(), AllocError> {
         self.first.claim(alloc, claims)?;
         self.others.claim(alloc, claims)
     }
@@ -70,7 +70,7 @@ impl<T: HasParts> HasParts for NonEmpty<T> {
 impl HasParts for UnitDefinition {
     ghost claimed = { unit_definition_claims };
 
-    fn claim(&self, alloc: Global, claims: &mut Vec<Claim>) -> Result<(), AllocError> {
+    fn claim<'a>(&'a self, alloc: Global, claims: &mut Vec<Claim<'a>>) -> Result<(), AllocError> {
         push_part(
             alloc,
             claims,
@@ -85,7 +85,7 @@ impl HasParts for UnitDefinition {
 impl HasParts for LengthUnit {
     ghost claimed = { length_unit_claims };
 
-    fn claim(&self, alloc: Global, claims: &mut Vec<Claim>) -> Result<(), AllocError> {
+    fn claim<'a>(&'a self, alloc: Global, claims: &mut Vec<Claim<'a>>) -> Result<(), AllocError> {
         length_of(self).claim(alloc, claims)
     }
 }
@@ -93,7 +93,7 @@ impl HasParts for LengthUnit {
 impl HasParts for AngleUnit {
     ghost claimed = { angle_unit_claims };
 
-    fn claim(&self, alloc: Global, claims: &mut Vec<Claim>) -> Result<(), AllocError> {
+    fn claim<'a>(&'a self, alloc: Global, claims: &mut Vec<Claim<'a>>) -> Result<(), AllocError> {
         angle_of(self).claim(alloc, claims)
     }
 }
@@ -101,7 +101,7 @@ impl HasParts for AngleUnit {
 impl HasParts for Unit {
     ghost claimed = { unit_claims };
 
-    fn claim(&self, alloc: Global, claims: &mut Vec<Claim>) -> Result<(), AllocError> {
+    fn claim<'a>(&'a self, alloc: Global, claims: &mut Vec<Claim<'a>>) -> Result<(), AllocError> {
         unit_of(self).claim(alloc, claims)
     }
 }
@@ -109,7 +109,7 @@ impl HasParts for Unit {
 impl HasParts for Ellipsoid {
     ghost claimed = { ellipsoid_claims };
 
-    fn claim(&self, alloc: Global, claims: &mut Vec<Claim>) -> Result<(), AllocError> {
+    fn claim<'a>(&'a self, alloc: Global, claims: &mut Vec<Claim<'a>>) -> Result<(), AllocError> {
         push_part(
             alloc,
             claims,
@@ -125,7 +125,7 @@ impl HasParts for Ellipsoid {
 impl HasParts for PrimeMeridian {
     ghost claimed = { prime_meridian_claims };
 
-    fn claim(&self, alloc: Global, claims: &mut Vec<Claim>) -> Result<(), AllocError> {
+    fn claim<'a>(&'a self, alloc: Global, claims: &mut Vec<Claim<'a>>) -> Result<(), AllocError> {
         push_part(
             alloc,
             claims,
@@ -141,7 +141,7 @@ impl HasParts for PrimeMeridian {
 impl HasParts for Datum {
     ghost claimed = { geodetic_datum_claims };
 
-    fn claim(&self, alloc: Global, claims: &mut Vec<Claim>) -> Result<(), AllocError> {
+    fn claim<'a>(&'a self, alloc: Global, claims: &mut Vec<Claim<'a>>) -> Result<(), AllocError> {
         push_part(
             alloc,
             claims,
@@ -157,7 +157,7 @@ impl HasParts for Datum {
 impl HasParts for GeodeticEnsemble {
     ghost claimed = { geodetic_ensemble_claims };
 
-    fn claim(&self, alloc: Global, claims: &mut Vec<Claim>) -> Result<(), AllocError> {
+    fn claim<'a>(&'a self, alloc: Global, claims: &mut Vec<Claim<'a>>) -> Result<(), AllocError> {
         push_part(
             alloc,
             claims,
@@ -173,7 +173,7 @@ impl HasParts for GeodeticEnsemble {
 impl HasParts for GeodeticFrame {
     ghost claimed = { geodetic_frame_claims };
 
-    fn claim(&self, alloc: Global, claims: &mut Vec<Claim>) -> Result<(), AllocError> {
+    fn claim<'a>(&'a self, alloc: Global, claims: &mut Vec<Claim<'a>>) -> Result<(), AllocError> {
         match self {
             GeodeticFrame::Datum(part) => part.claim(alloc, claims),
             GeodeticFrame::Ensemble(part) => part.claim(alloc, claims),
@@ -184,7 +184,7 @@ impl HasParts for GeodeticFrame {
 impl HasParts for VerticalDatum {
     ghost claimed = { vertical_datum_claims };
 
-    fn claim(&self, alloc: Global, claims: &mut Vec<Claim>) -> Result<(), AllocError> {
+    fn claim<'a>(&'a self, alloc: Global, claims: &mut Vec<Claim<'a>>) -> Result<(), AllocError> {
         push_part(
             alloc,
             claims,
@@ -199,7 +199,7 @@ impl HasParts for VerticalDatum {
 impl HasParts for VerticalEnsemble {
     ghost claimed = { vertical_ensemble_claims };
 
-    fn claim(&self, alloc: Global, claims: &mut Vec<Claim>) -> Result<(), AllocError> {
+    fn claim<'a>(&'a self, alloc: Global, claims: &mut Vec<Claim<'a>>) -> Result<(), AllocError> {
         push_part(
             alloc,
             claims,
@@ -214,7 +214,7 @@ impl HasParts for VerticalEnsemble {
 impl HasParts for VerticalFrame {
     ghost claimed = { vertical_frame_claims };
 
-    fn claim(&self, alloc: Global, claims: &mut Vec<Claim>) -> Result<(), AllocError> {
+    fn claim<'a>(&'a self, alloc: Global, claims: &mut Vec<Claim<'a>>) -> Result<(), AllocError> {
         match self {
             VerticalFrame::Datum(part) => part.claim(alloc, claims),
             VerticalFrame::Ensemble(part) => part.claim(alloc, claims),
@@ -225,7 +225,7 @@ impl HasParts for VerticalFrame {
 impl HasParts for Parameter {
     ghost claimed = { parameter_claims };
 
-    fn claim(&self, alloc: Global, claims: &mut Vec<Claim>) -> Result<(), AllocError> {
+    fn claim<'a>(&'a self, alloc: Global, claims: &mut Vec<Claim<'a>>) -> Result<(), AllocError> {
         push_named(alloc, claims, b"parameter", &self.name, self.ids.as_slice())?;
         self.unit.claim(alloc, claims)
     }
@@ -234,7 +234,7 @@ impl HasParts for Parameter {
 impl HasParts for Conversion {
     ghost claimed = { conversion_claims };
 
-    fn claim(&self, alloc: Global, claims: &mut Vec<Claim>) -> Result<(), AllocError> {
+    fn claim<'a>(&'a self, alloc: Global, claims: &mut Vec<Claim<'a>>) -> Result<(), AllocError> {
         push_part(
             alloc,
             claims,

@@ -9,6 +9,7 @@ ghost use Rattle.crs_said.specs.References.{single_name, system_names, name_of_s
 
 use crate::claim::{Claim, push_claim};
 use crate::letters::{behind_last, letters, place};
+use crate::opening::Opening;
 use crs_exact::{after, begins, has_part, joined};
 use crs_part::{Compound, CrsParts, Single, Text};
 use std::alloc::{AllocError, Global};
@@ -54,7 +55,7 @@ fn marked(alloc: Global, mark: u8, name: &[u8]) -> Result<Vec<u8>, AllocError>
 
 /// Where the name of a projected system says another base than there is, or that of a compound another vertical part: that it
 /// says so.
-pub fn said_names(alloc: Global, crs: &CrsParts) -> Result<Vec<Claim>, AllocError>
+pub fn said_names<'a>(alloc: Global, crs: &'a CrsParts) -> Result<Vec<Claim<'a>>, AllocError>
     ensures { IfOk result (λ claims. map claim_seen claims.items ≡ said_names crs.now) }
 {
     let mut claims = Vec::new(alloc);
@@ -65,7 +66,7 @@ pub fn said_names(alloc: Global, crs: &CrsParts) -> Result<Vec<Claim>, AllocErro
     Ok(claims)
 }
 
-fn push_compound(alloc: Global, claims: &mut Vec<Claim>, crs: &Compound) -> Result<(), AllocError>
+fn push_compound<'a>(alloc: Global, claims: &mut Vec<Claim<'a>>, crs: &'a Compound) -> Result<(), AllocError>
     ensures { OnOk result (map claim_seen claims.new.items ≡ map claim_seen claims.old.items ++ both_said_names crs.now) }
 {
     push_single(alloc, claims, &crs.first)?;
@@ -88,7 +89,7 @@ fn name_of_single(crs: &Single) -> &Text
     }
 }
 
-fn push_single(alloc: Global, claims: &mut Vec<Claim>, crs: &Single) -> Result<(), AllocError>
+fn push_single<'a>(alloc: Global, claims: &mut Vec<Claim<'a>>, crs: &'a Single) -> Result<(), AllocError>
     ensures { OnOk result (map claim_seen claims.new.items ≡ map claim_seen claims.old.items ++ single_said_names crs.now) }
 {
     match crs {
@@ -101,11 +102,11 @@ fn push_single(alloc: Global, claims: &mut Vec<Claim>, crs: &Single) -> Result<(
 }
 
 // A name `X / ..` says that the base is X.
-fn push_base(
+fn push_base<'a>(
     alloc: Global,
-    claims: &mut Vec<Claim>,
-    name: &[u8],
-    base: &[u8],
+    claims: &mut Vec<Claim<'a>>,
+    name: &'a [u8],
+    base: &'a [u8],
 ) -> Result<(), AllocError>
     ensures { OnOk result (map claim_seen claims.new.items ≡ map claim_seen claims.old.items ++ base_said name.now base.now) }
 {
@@ -123,11 +124,11 @@ fn has_base(name: &[u8], base: &[u8]) -> bool
     begins(name, base) && begins(after(name, base.len()), b" / ")
 }
 
-fn push_part(
+fn push_part<'a>(
     alloc: Global,
-    claims: &mut Vec<Claim>,
-    said: Option<&[u8]>,
-    there: &[u8],
+    claims: &mut Vec<Claim<'a>>,
+    said: Option<&'a [u8]>,
+    there: &'a [u8],
 ) -> Result<(), AllocError>
     ensures { OnOk result (map claim_seen claims.new.items ≡ map claim_seen claims.old.items ++ part_said (option_map (λ said. said.now) said.entry) there.now) }
 {
@@ -137,13 +138,13 @@ fn push_part(
     }
 }
 
-fn push_other(
+fn push_other<'a>(
     alloc: Global,
-    claims: &mut Vec<Claim>,
+    claims: &mut Vec<Claim<'a>>,
     mark: u8,
-    said: &[u8],
-    what: &[u8],
-    there: &[u8],
+    said: &'a [u8],
+    what: &'a [u8],
+    there: &'a [u8],
 ) -> Result<(), AllocError>
     ensures { OnOk result (map claim_seen claims.new.items ≡ map claim_seen claims.old.items ++ other_said mark said.now what.now there.now) }
 {
@@ -153,24 +154,12 @@ fn push_other(
         return Ok(());
     }
     let word = joined(alloc, &[&[mark], &letters])?;
-    let said = joined(
-        alloc,
-        &[
-            b"the name says \"",
-            said,
-            b"\", and the ",
-            what,
-            b" is \"",
-            there,
-            b"\"",
-        ],
-    )?;
     push_claim(
         claims,
         Claim {
             word,
             content,
-            said,
+            opening: Opening::Name { said, what, there },
         },
     )
 }

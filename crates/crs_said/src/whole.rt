@@ -3,19 +3,22 @@
 ghost use Rattle.std.specs.Prelude.{◌≡◌, ◌++◌, IfOk, OnOk};
 ghost use Rattle.crs_said.specs.Content.{without_names, single_kind, kind_said, kind_and_name};
 
-use crate::fields::{push_field, push_folded};
+use crate::fields::{push_field, push_name};
 use crate::identified::CONTENT;
 use crate::says::Says;
 use crate::systems::single_word;
 use crs_part::{CrsParts, Single};
 use std::alloc::{AllocError, Global};
 
+/// Most systems say fewer bytes than these.
+const WHOLE: usize = 512;
+
 /// All that a system says, but for names of systems, conversions, units and axes, identifiers, usages, anchors, remarks and the
 /// order of axes. Other names are without letter case, and with underscores as blanks.
 pub fn without_names(alloc: Global, crs: &CrsParts) -> Result<Vec<u8>, AllocError>
     ensures { IfOk result (λ text. text.items ≡ without_names crs.now) }
 {
-    let mut text = Vec::with_capacity(alloc, CONTENT)?;
+    let mut text = Vec::with_capacity(alloc, WHOLE)?;
     match crs {
         CrsParts::Single(crs) => crs.say(false, &mut text)?,
         CrsParts::Compound(crs) => crs.get().say(false, &mut text)?,
@@ -23,13 +26,13 @@ pub fn without_names(alloc: Global, crs: &CrsParts) -> Result<Vec<u8>, AllocErro
     Ok(text)
 }
 
-/// The kind of a system, the kind of its coordinate system, how many axes it has, and its name without letter case.
+/// The name of a system without letter case, its kind, the kind of its coordinate system, and how many axes it has.
 pub fn kind_and_name(alloc: Global, crs: &CrsParts) -> Result<Vec<u8>, AllocError>
     ensures { IfOk result (λ text. text.items ≡ kind_and_name crs.now) }
 {
     let mut text = Vec::with_capacity(alloc, CONTENT)?;
+    push_name(false, crs.name(), &mut text)?;
     push_kind(&mut text, crs)?;
-    push_folded(&mut text, crs.name().as_bytes())?;
     Ok(text)
 }
 

@@ -32,7 +32,7 @@ fn own_details(
 ) -> Result<Vec<Option<Vec<u8>>>, AllocError>
     ensures { IfOk result (λ made. map detail_seen made.items ≡ own_details rule subjects.now) }
 {
-    let mut made = Vec::new(alloc);
+    let mut made = Vec::with_capacity(alloc, subjects.len())?;
     for subject in subjects {
         made.push(told(alloc, rule, subject)?)?;
     }

@@ -5,35 +5,37 @@ ghost use Rattle.std.specs.Global.{Vec};
 ghost use Rattle.reg_sense.specs.Claimants.{voice};
 ghost use Rattle.reg_lint.specs.Details.{voice_of, names_in, names_for};
 
-use crate::subject::{Subject, authority_of, code_of, copied};
+use crate::subject::{Subject, authority_of, code_of};
 use crs_said::system_names;
 use reg_sense::{Claimant, WideRule};
 use std::alloc::{AllocError, Global};
 
-fn claimant_of(alloc: Global, rule: WideRule, subject: &Subject) -> Result<Claimant, AllocError>
+fn claimant_of<'a>(
+    alloc: Global,
+    rule: WideRule,
+    subject: &'a Subject,
+) -> Result<Claimant<'a>, AllocError>
     ensures { IfOk result (λ made. voice made ≡ voice_of rule subject.now) }
 {
-    let authority = copied(alloc, authority_of(&subject.crs))?;
     let code = code_of(alloc, &subject.crs)?;
-    let name = copied(alloc, subject.crs.parts().name().as_bytes())?;
     let claims = rule.claims(alloc, subject.crs.parts())?;
     Ok(Claimant {
-        authority,
+        authority: authority_of(&subject.crs),
         code,
-        name,
+        name: subject.crs.parts().name().as_bytes(),
         claims,
     })
 }
 
 /// What each of these claims, as far as the rule asks.
-pub(crate) fn claimants_of(
+pub(crate) fn claimants_of<'a>(
     alloc: Global,
     rule: WideRule,
-    subjects: &[Subject],
-) -> Result<Vec<Claimant>, AllocError>
+    subjects: &'a [Subject],
+) -> Result<Vec<Claimant<'a>>, AllocError>
     ensures { IfOk result (λ made. map voice made.items ≡ map (voice_of rule) subjects.now) }
 {
-    let mut made = Vec::new(alloc);
+    let mut made = Vec::with_capacity(alloc, subjects.len())?;
     for subject in subjects {
         made.push(claimant_of(alloc, rule, subject)?)?;
     }
@@ -71,7 +73,7 @@ pub(crate) fn names_for(
 fn names_of(alloc: Global, subjects: &[Subject]) -> Result<Vec<Vec<u8>>, AllocError>
     ensures { IfOk result (λ made. map (λ (name : Vec ℕ). name.items) made.items ≡ names_in subjects.now) }
 {
-    let mut made = Vec::new(alloc);
+    let mut made = Vec::with_capacity(alloc, subjects.len())?;
     for subject in subjects {
         let names = system_names(alloc, subject.crs.parts())?;
         push_names(&mut made, names)?;

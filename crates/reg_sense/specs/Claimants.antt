@@ -14,7 +14,7 @@ pub record Voice : Type 0 where
   pub claims : List Said
 
 abbrev pub voice : Claimant → Voice
-voice c = record { authority = c.authority.items; code = c.code.items; name = c.name.items; claims = map claim_seen c.claims.items }
+voice c = record { authority = c.authority.now; code = c.code.items; name = c.name.now; claims = map claim_seen c.claims.items }
 
 -- the first characters of the authority, a colon, and those of the code
 abbrev pub key_text : Voice → List ℕ

@@ -9,19 +9,19 @@ use text_short::push_short;
 
 /// A reference system with its key, its name, and what it claims.
 #[derive(Drop)]
-pub struct Claimant {
-    pub authority: Vec<u8>,
+pub struct Claimant<'a> {
+    pub authority: &'a [u8],
     pub code: Vec<u8>,
-    pub name: Vec<u8>,
-    pub claims: Vec<Claim>,
+    pub name: &'a [u8],
+    pub claims: Vec<Claim<'a>>,
 }
 
 /// The first characters of the authority, a colon, and those of the code.
-pub(crate) fn key_text(alloc: Global, claimant: &Claimant) -> Result<Vec<u8>, AllocError>
+pub(crate) fn key_text(alloc: Global, claimant: &Claimant<'_>) -> Result<Vec<u8>, AllocError>
     ensures { IfOk result (λ text. text.items ≡ key_text (voice claimant.now)) }
 {
     let mut text = Vec::new(alloc);
-    push_short(&mut text, &claimant.authority)?;
+    push_short(&mut text, claimant.authority)?;
     text.push(b':')?;
     push_short(&mut text, &claimant.code)?;
     Ok(text)

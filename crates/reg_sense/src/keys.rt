@@ -47,20 +47,19 @@ fn compare_codes(left: &[u8], right: &[u8]) -> Ordering
 }
 
 /// Whether the key on the left is the lesser.
-pub(crate) fn is_before(left: &Claimant, right: &Claimant) -> bool
+pub(crate) fn is_before(left: &Claimant<'_>, right: &Claimant<'_>) -> bool
     ensures { result ≡ is_before (voice left.now) (voice right.now) }
 {
     left.authority
-        .as_slice()
-        .cmp(right.authority.as_slice())
+        .cmp(right.authority)
         .then(compare_codes(left.code.as_slice(), right.code.as_slice()))
         .is_lt()
 }
 
 /// Whether both have one key.
-pub(crate) fn has_same_key(left: &Claimant, right: &Claimant) -> bool
+pub(crate) fn has_same_key(left: &Claimant<'_>, right: &Claimant<'_>) -> bool
     ensures { result ≡ has_same_key (voice left.now) (voice right.now) }
 {
-    left.authority.as_slice() == right.authority.as_slice()
+    left.authority == right.authority
         && left.code.as_slice() == right.code.as_slice()
 }

@@ -58,7 +58,7 @@ fn better<'a>(
 }
 
 // Whether the map has the content of the claim for its word.
-fn has_content<'a>(best: &BTreeMap<&'a [u8], &'a [u8]>, claim: &'a Claim) -> bool
+fn has_content<'a>(best: &BTreeMap<&'a [u8], &'a [u8]>, claim: &'a Claim<'a>) -> bool
     ensures { (vs : List Voice) (xs : List Said) → HasMost vs best.now xs → result ≡ is_content (least (is_more vs (claim_seen claim.now).word) (contents (claim_seen claim.now).word xs)) (claim_seen claim.now).content }
 {
     let word = claim.word.as_slice();
@@ -72,7 +72,7 @@ fn has_content<'a>(best: &BTreeMap<&'a [u8], &'a [u8]>, claim: &'a Claim) -> boo
 fn put_content<'a>(
     tallies: &BTreeMap<Pair<'a>, Tally<'a>>,
     best: &mut BTreeMap<&'a [u8], &'a [u8]>,
-    claim: &'a Claim,
+    claim: &'a Claim<'a>,
 ) -> Result<(), AllocError>
     ensures { (vs : List Voice) (xs : List Said) → HasTallies tallies.now 0 vs → HasMost vs best.old xs → OnOk result (HasMost vs best.new (claim_seen claim.now ∷ xs)) }
 {
@@ -88,7 +88,7 @@ fn put_content<'a>(
 fn put_contents<'a>(
     tallies: &BTreeMap<Pair<'a>, Tally<'a>>,
     best: &mut BTreeMap<&'a [u8], &'a [u8]>,
-    claims: &'a [Claim],
+    claims: &'a [Claim<'a>],
 ) -> Result<(), AllocError>
     ensures { (vs : List Voice) (xs : List Said) → HasTallies tallies.now 0 vs → HasMost vs best.old xs → OnOk result (HasMost vs best.new (map claim_seen claims.now ++ xs)) }
 {
@@ -104,7 +104,7 @@ fn put_contents<'a>(
 fn most_of<'a>(
     alloc: Global,
     tallies: &BTreeMap<Pair<'a>, Tally<'a>>,
-    claimants: &'a [Claimant],
+    claimants: &'a [Claimant<'a>],
 ) -> Result<BTreeMap<&'a [u8], &'a [u8]>, AllocError>
     ensures { (vs : List Voice) → HasTallies tallies.now 0 vs → IfOk result (λ best. HasMost vs best (all_claims (map voice claimants.now))) }
 {
@@ -118,7 +118,7 @@ fn most_of<'a>(
 }
 
 // The content that most claim for the word, if it is another.
-fn other_content<'a>(best: &BTreeMap<&'a [u8], &'a [u8]>, claim: &'a Claim) -> Option<&'a [u8]>
+fn other_content<'a>(best: &BTreeMap<&'a [u8], &'a [u8]>, claim: &'a Claim<'a>) -> Option<&'a [u8]>
     ensures { (vs : List Voice) → HasMost vs best.now (all_claims vs) → seen_in result ≡ otherwise (most vs (claim_seen claim.now).word) (claim_seen claim.now).content }
 {
     let word = claim.word.as_slice();
@@ -161,7 +161,7 @@ fn those_told<'a>(alloc: Global, found: Option<&Tally<'a>>) -> Result<Vec<u8>, A
 fn against<'a>(
     alloc: Global,
     tallies: &BTreeMap<Pair<'a>, Tally<'a>>,
-    claim: &'a Claim,
+    claim: &'a Claim<'a>,
     content: &'a [u8],
 ) -> Result<Vec<u8>, AllocError>
     ensures { (vs : List Voice) → HasTallies tallies.now 0 vs → IfOk result (λ text. text.items ≡ against vs (claim_seen claim.now) content.now) }
@@ -171,8 +171,7 @@ fn against<'a>(
         content,
     };
     let those = those_told(alloc, tallies.get(&pair))?;
-    let mut text = Vec::new(alloc);
-    text.extend_from_slice(&claim.said)?;
+    let mut text = claim.opening.text(alloc)?;
     text.extend_from_slice(b" in ")?;
     text.extend_from_slice(&those)?;
     Ok(text)
@@ -182,7 +181,7 @@ fn odd_told<'a>(
     alloc: Global,
     tallies: &BTreeMap<Pair<'a>, Tally<'a>>,
     best: &BTreeMap<&'a [u8], &'a [u8]>,
-    claim: &'a Claim,
+    claim: &'a Claim<'a>,
 ) -> Result<Option<Vec<u8>>, AllocError>
     ensures { (vs : List Voice) → HasTallies tallies.now 0 vs → HasMost vs best.now (all_claims vs) → IfOk result (λ told. detail_seen told ≡ odd_told vs (claim_seen claim.now)) }
 {
@@ -197,7 +196,7 @@ fn first_odd<'a>(
     alloc: Global,
     tallies: &BTreeMap<Pair<'a>, Tally<'a>>,
     best: &BTreeMap<&'a [u8], &'a [u8]>,
-    claims: &'a [Claim],
+    claims: &'a [Claim<'a>],
 ) -> Result<Option<Vec<u8>>, AllocError>
     ensures { (vs : List Voice) → HasTallies tallies.now 0 vs → HasMost vs best.now (all_claims vs) → IfOk result (λ told. detail_seen told ≡ first_told (odd_told vs) (map claim_seen claims.now)) }
 {
@@ -217,13 +216,13 @@ fn each_told<'a>(
     alloc: Global,
     tallies: &BTreeMap<Pair<'a>, Tally<'a>>,
     best: &BTreeMap<&'a [u8], &'a [u8]>,
-    claimants: &'a [Claimant],
+    claimants: &'a [Claimant<'a>],
 ) -> Result<Vec<Option<Vec<u8>>>, AllocError>
     requires tallies { HasTallies tallies.now 0 (map voice claimants.now) }
     requires most { HasMost (map voice claimants.now) best.now (all_claims (map voice claimants.now)) }
     ensures { IfOk result (λ made. map detail_seen made.items ≡ map (λ (c : Claimant). told_against (map voice claimants.now) (voice c)) claimants.now) }
 {
-    let mut made = Vec::new(alloc);
+    let mut made = Vec::with_capacity(alloc, claimants.len())?;
     for claimant in claimants {
         made.push(first_odd(alloc, tallies, best, claimant.claims.as_slice())?)?;
     }
@@ -231,9 +230,9 @@ fn each_told<'a>(
 }
 
 /// The sentence about each who claims something where most claim otherwise, by the first such claim.
-pub(crate) fn told_against(
+pub(crate) fn told_against<'a>(
     alloc: Global,
-    claimants: &[Claimant],
+    claimants: &'a [Claimant<'a>],
 ) -> Result<Vec<Option<Vec<u8>>>, AllocError>
     ensures { IfOk result (λ made. map detail_seen made.items ≡ map (λ (c : Claimant). told_against (map voice claimants.now) (voice c)) claimants.now) }
 {

@@ -34,7 +34,7 @@ fn set_of<'a>(alloc: Global, names: &'a [Vec<u8>]) -> Result<BTreeSet<&'a [u8]>,
 fn name_told<'a>(
     alloc: Global,
     set: &BTreeSet<&'a [u8]>,
-    claim: &'a Claim,
+    claim: &'a Claim<'a>,
 ) -> Result<Option<Vec<u8>>, AllocError>
     ensures { (names : List (List ℕ)) → HasNames set.now names → IfOk result (λ told. detail_seen told ≡ name_told names (claim_seen claim.now)) }
 {
@@ -42,15 +42,14 @@ fn name_told<'a>(
     if !set.contains(&word) {
         return Ok(None);
     }
-    let mut text = Vec::new(alloc);
-    text.extend_from_slice(&claim.said)?;
+    let text = claim.opening.text(alloc)?;
     Ok(Some(text))
 }
 
 fn first_name<'a>(
     alloc: Global,
     set: &BTreeSet<&'a [u8]>,
-    claims: &'a [Claim],
+    claims: &'a [Claim<'a>],
 ) -> Result<Option<Vec<u8>>, AllocError>
     ensures { (names : List (List ℕ)) → HasNames set.now names → IfOk result (λ told. detail_seen told ≡ first_told (name_told names) (map claim_seen claims.now)) }
 {
@@ -66,15 +65,15 @@ fn first_name<'a>(
 }
 
 /// The sentence about each who claims something about one of these names, by the first such claim.
-pub(crate) fn told_names(
+pub(crate) fn told_names<'a>(
     alloc: Global,
-    names: &[Vec<u8>],
-    claimants: &[Claimant],
+    names: &'a [Vec<u8>],
+    claimants: &'a [Claimant<'a>],
 ) -> Result<Vec<Option<Vec<u8>>>, AllocError>
     ensures { IfOk result (λ made. map detail_seen made.items ≡ map (λ (c : Claimant). told_names (map (λ (name : Vec ℕ). name.items) names.now) (voice c)) claimants.now) }
 {
     let set = set_of(alloc, names)?;
-    let mut made = Vec::new(alloc);
+    let mut made = Vec::with_capacity(alloc, claimants.len())?;
     for claimant in claimants {
         made.push(first_name(alloc, &set, claimant.claims.as_slice())?)?;
     }

@@ -17,12 +17,12 @@ use std::collections::BTreeMap;
 #[derive(Clone, Copy)]
 pub struct Sides<'a> {
     pub content: &'a [u8],
-    pub first: &'a Claimant,
-    pub other: Option<&'a Claimant>,
+    pub first: &'a Claimant<'a>,
+    pub other: Option<&'a Claimant<'a>>,
 }
 
 // The first who claims another content than this one.
-fn apart<'a>(sides: Option<&Sides<'a>>, content: &[u8]) -> Option<&'a Claimant>
+fn apart<'a>(sides: Option<&Sides<'a>>, content: &[u8]) -> Option<&'a Claimant<'a>>
     ensures { voice_in result ≡ apart content.now (option_copied sides.entry) }
 {
     let Some(sides) = sides else {
@@ -36,8 +36,8 @@ fn apart<'a>(sides: Option<&Sides<'a>>, content: &[u8]) -> Option<&'a Claimant>
 
 fn put_claim<'a>(
     sides: &mut BTreeMap<&'a [u8], Sides<'a>>,
-    claimant: &'a Claimant,
-    claim: &'a Claim,
+    claimant: &'a Claimant<'a>,
+    claim: &'a Claim<'a>,
 ) -> Result<(), AllocError>
     ensures { (done : List Said) (vs : List Voice) → HasPart sides.old (voice claimant.now) done vs → OnOk result (HasPart sides.new (voice claimant.now) (claim_seen claim.now ∷ done) vs) }
 {
@@ -55,7 +55,7 @@ fn put_claim<'a>(
 
 fn put_claims<'a>(
     sides: &mut BTreeMap<&'a [u8], Sides<'a>>,
-    claimant: &'a Claimant,
+    claimant: &'a Claimant<'a>,
 ) -> Result<(), AllocError>
     ensures { (vs : List Voice) → HasSides sides.old vs → OnOk result (HasSides sides.new (voice claimant.now ∷ vs)) }
 {
@@ -70,7 +70,7 @@ fn put_claims<'a>(
 // For each word the first who claims it, and the first who claims another content.
 fn sides_of<'a>(
     alloc: Global,
-    claimants: &'a [Claimant],
+    claimants: &'a [Claimant<'a>],
 ) -> Result<BTreeMap<&'a [u8], Sides<'a>>, AllocError>
     ensures { IfOk result (λ made. HasSides made (map voice claimants.now)) }
 {
@@ -83,7 +83,7 @@ fn sides_of<'a>(
     Ok(made)
 }
 
-fn other_text(alloc: Global, other: &Claimant) -> Result<Vec<u8>, AllocError>
+fn other_text(alloc: Global, other: &Claimant<'_>) -> Result<Vec<u8>, AllocError>
     ensures { IfOk result (λ text. text.items ≡ other_text (voice other.now)) }
 {
     let key = key_text(alloc, other)?;
@@ -97,7 +97,7 @@ fn other_text(alloc: Global, other: &Claimant) -> Result<Vec<u8>, AllocError>
 fn other_told<'a>(
     alloc: Global,
     sides: &BTreeMap<&'a [u8], Sides<'a>>,
-    claim: &'a Claim,
+    claim: &'a Claim<'a>,
 ) -> Result<Option<Vec<u8>>, AllocError>
     ensures { (vs : List Voice) → HasSides sides.now vs → IfOk result (λ told. detail_seen told ≡ other_told vs (claim_seen claim.now)) }
 {
@@ -112,7 +112,7 @@ fn other_told<'a>(
 fn first_other<'a>(
     alloc: Global,
     sides: &BTreeMap<&'a [u8], Sides<'a>>,
-    claimant: &'a Claimant,
+    claimant: &'a Claimant<'a>,
 ) -> Result<Option<Vec<u8>>, AllocError>
     ensures { (vs : List Voice) → HasSides sides.now vs → IfOk result (λ told. detail_seen told ≡ told_other vs (voice claimant.now)) }
 {
@@ -128,14 +128,14 @@ fn first_other<'a>(
 }
 
 /// Of each who claims a word for which another content is claimed, who the first is that claims it.
-pub(crate) fn told_others(
+pub(crate) fn told_others<'a>(
     alloc: Global,
-    claimants: &[Claimant],
+    claimants: &'a [Claimant<'a>],
 ) -> Result<Vec<Option<Vec<u8>>>, AllocError>
     ensures { IfOk result (λ made. map detail_seen made.items ≡ map (λ (c : Claimant). told_other (map voice claimants.now) (voice c)) claimants.now) }
 {
     let sides = sides_of(alloc, claimants)?;
-    let mut made = Vec::new(alloc);
+    let mut made = Vec::with_capacity(alloc, claimants.len())?;
     for claimant in claimants {
         made.push(first_other(alloc, &sides, claimant)?)?;
     }

@@ -16,7 +16,7 @@ use crate::others::told_others;
 use crate::twins::told_twins;
 use crs_part::{CrsParts, Word, first_of};
 use crs_said::{
-    Claim, case_claims, datum_claims, kind_and_name, part_claims, said_names, without_names,
+    Claim, Opening, case_claims, datum_claims, kind_and_name, part_claims, said_names, without_names,
 };
 use std::alloc::{AllocError, Global};
 
@@ -78,7 +78,7 @@ impl WideRule {
     }
 
     /// What a system claims, as far as the rule asks.
-    pub fn claims(self, alloc: Global, crs: &CrsParts) -> Result<Vec<Claim>, AllocError>
+    pub fn claims<'a>(self, alloc: Global, crs: &'a CrsParts) -> Result<Vec<Claim<'a>>, AllocError>
         ensures { IfOk result (λ claims. map claim_seen claims.items ≡ claims_of self crs.now) }
     {
         match self {
@@ -92,11 +92,11 @@ impl WideRule {
     }
 
     /// The sentence about each of these that breaks the rule, given the names of all of them.
-    pub fn told(
+    pub fn told<'a>(
         self,
         alloc: Global,
-        names: &[Vec<u8>],
-        claimants: &[Claimant],
+        names: &'a [Vec<u8>],
+        claimants: &'a [Claimant<'a>],
     ) -> Result<Vec<Option<Vec<u8>>>, AllocError>
         ensures { IfOk result (λ made. map detail_seen made.items ≡ map (λ (c : Claimant). wide_told self (map (λ (name : Vec ℕ). name.items) names.now) (map voice claimants.now) (voice c)) claimants.now) }
     {
@@ -111,29 +111,29 @@ impl WideRule {
     }
 }
 
-fn named_claims(alloc: Global, crs: &CrsParts) -> Result<Vec<Claim>, AllocError>
+fn named_claims<'a>(alloc: Global, crs: &'a CrsParts) -> Result<Vec<Claim<'a>>, AllocError>
     ensures { IfOk result (λ claims. map claim_seen claims.items ≡ named_claim crs.now ∷ []) }
 {
     let word = kind_and_name(alloc, crs)?;
     let content = without_names(alloc, crs)?;
-    let mut claims = Vec::new(alloc);
+    let mut claims = Vec::with_capacity(alloc, 1)?;
     claims.push(Claim {
         word,
         content,
-        said: Vec::new(alloc),
+        opening: Opening::Nothing,
     })?;
     Ok(claims)
 }
 
-fn whole_claims(alloc: Global, crs: &CrsParts) -> Result<Vec<Claim>, AllocError>
+fn whole_claims<'a>(alloc: Global, crs: &'a CrsParts) -> Result<Vec<Claim<'a>>, AllocError>
     ensures { IfOk result (λ claims. map claim_seen claims.items ≡ whole_claim crs.now ∷ []) }
 {
     let word = without_names(alloc, crs)?;
-    let mut claims = Vec::new(alloc);
+    let mut claims = Vec::with_capacity(alloc, 1)?;
     claims.push(Claim {
         word,
         content: Vec::new(alloc),
-        said: Vec::new(alloc),
+        opening: Opening::Nothing,
     })?;
     Ok(claims)
 }

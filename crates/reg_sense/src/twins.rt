@@ -16,7 +16,7 @@ use std::alloc::{AllocError, Global};
 use std::collections::BTreeMap;
 use text_short::push_short;
 
-fn lesser<'a>(claimant: &'a Claimant, before: Option<&&'a Claimant>) -> &'a Claimant
+fn lesser<'a>(claimant: &'a Claimant<'a>, before: Option<&&'a Claimant<'a>>) -> &'a Claimant<'a>
     ensures { voice result.now ≡ lesser is_before (voice claimant.now) (voice_in (option_copied before.entry)) }
 {
     let Some(other) = before else {
@@ -29,9 +29,9 @@ fn lesser<'a>(claimant: &'a Claimant, before: Option<&&'a Claimant>) -> &'a Clai
 }
 
 fn put_word<'a>(
-    firsts: &mut BTreeMap<&'a [u8], &'a Claimant>,
-    claimant: &'a Claimant,
-    claim: &'a Claim,
+    firsts: &mut BTreeMap<&'a [u8], &'a Claimant<'a>>,
+    claimant: &'a Claimant<'a>,
+    claim: &'a Claim<'a>,
 ) -> Result<(), AllocError>
     ensures { (done : List Said) (vs : List Voice) → HasPart firsts.old (voice claimant.now) done vs → OnOk result (HasPart firsts.new (voice claimant.now) (claim_seen claim.now ∷ done) vs) }
 {
@@ -42,8 +42,8 @@ fn put_word<'a>(
 }
 
 fn put_words<'a>(
-    firsts: &mut BTreeMap<&'a [u8], &'a Claimant>,
-    claimant: &'a Claimant,
+    firsts: &mut BTreeMap<&'a [u8], &'a Claimant<'a>>,
+    claimant: &'a Claimant<'a>,
 ) -> Result<(), AllocError>
     ensures { (vs : List Voice) → HasFirsts firsts.old vs → OnOk result (HasFirsts firsts.new (voice claimant.now ∷ vs)) }
 {
@@ -58,8 +58,8 @@ fn put_words<'a>(
 // For each word the one of the least key that claims it.
 fn firsts_of<'a>(
     alloc: Global,
-    claimants: &'a [Claimant],
-) -> Result<BTreeMap<&'a [u8], &'a Claimant>, AllocError>
+    claimants: &'a [Claimant<'a>],
+) -> Result<BTreeMap<&'a [u8], &'a Claimant<'a>>, AllocError>
     ensures { IfOk result (λ made. HasFirsts made (map voice claimants.now)) }
 {
     let mut made = BTreeMap::new(alloc);
@@ -71,7 +71,7 @@ fn firsts_of<'a>(
     Ok(made)
 }
 
-fn twin_text(alloc: Global, twin: &Claimant) -> Result<Vec<u8>, AllocError>
+fn twin_text(alloc: Global, twin: &Claimant<'_>) -> Result<Vec<u8>, AllocError>
     ensures { IfOk result (λ text. text.items ≡ twin_text (voice twin.now)) }
 {
     let key = key_text(alloc, twin)?;
@@ -79,16 +79,16 @@ fn twin_text(alloc: Global, twin: &Claimant) -> Result<Vec<u8>, AllocError>
     text.extend_from_slice(b"says the same as ")?;
     text.extend_from_slice(&key)?;
     text.extend_from_slice(b" \"")?;
-    push_short(&mut text, &twin.name)?;
+    push_short(&mut text, twin.name)?;
     text.extend_from_slice(b"\" but for names")?;
     Ok(text)
 }
 
 fn twin_told<'a>(
     alloc: Global,
-    firsts: &BTreeMap<&'a [u8], &'a Claimant>,
-    claimant: &'a Claimant,
-    claim: &'a Claim,
+    firsts: &BTreeMap<&'a [u8], &'a Claimant<'a>>,
+    claimant: &'a Claimant<'a>,
+    claim: &'a Claim<'a>,
 ) -> Result<Option<Vec<u8>>, AllocError>
     ensures { (vs : List Voice) → HasFirsts firsts.now vs → IfOk result (λ told. detail_seen told ≡ twin_told vs (voice claimant.now) (claim_seen claim.now)) }
 {
@@ -105,8 +105,8 @@ fn twin_told<'a>(
 
 fn first_twin<'a>(
     alloc: Global,
-    firsts: &BTreeMap<&'a [u8], &'a Claimant>,
-    claimant: &'a Claimant,
+    firsts: &BTreeMap<&'a [u8], &'a Claimant<'a>>,
+    claimant: &'a Claimant<'a>,
 ) -> Result<Option<Vec<u8>>, AllocError>
     ensures { (vs : List Voice) → HasFirsts firsts.now vs → IfOk result (λ told. detail_seen told ≡ told_twin vs (voice claimant.now)) }
 {
@@ -122,14 +122,14 @@ fn first_twin<'a>(
 }
 
 /// Of each who says the same as another of a lesser key, who that is.
-pub(crate) fn told_twins(
+pub(crate) fn told_twins<'a>(
     alloc: Global,
-    claimants: &[Claimant],
+    claimants: &'a [Claimant<'a>],
 ) -> Result<Vec<Option<Vec<u8>>>, AllocError>
     ensures { IfOk result (λ made. map detail_seen made.items ≡ map (λ (c : Claimant). told_twin (map voice claimants.now) (voice c)) claimants.now) }
 {
     let firsts = firsts_of(alloc, claimants)?;
-    let mut made = Vec::new(alloc);
+    let mut made = Vec::with_capacity(alloc, claimants.len())?;
     for claimant in claimants {
         made.push(first_twin(alloc, &firsts, claimant)?)?;
     }
