@@ -8,3 +8,4 @@ mod VoiceLemmas
 mod ToldLemmas
 mod PermutedLemmas
 mod RuleLemmas
+mod ScreenLemmas

@@ -2,6 +2,7 @@ pub mod Subjects
 pub mod AnyRules
 pub mod Entered
 pub mod Details
+pub mod Screening
 pub mod Questions
 pub mod Known
 pub mod Lines

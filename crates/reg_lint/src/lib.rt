@@ -10,6 +10,8 @@ mod lines;
 mod live;
 mod marks;
 mod rule;
+mod screened;
+mod screening;
 mod subject;
 mod texts;
 mod voices;

@@ -4,12 +4,15 @@ ghost use Rattle.std.specs.Prelude.{◌≡◌, map, IfOk, OnOk};
 ghost use Rattle.reg_report.specs.Lines.{IsReady, WritesRow};
 ghost use Rattle.reg_sense.specs.Claimants.{detail_seen};
 ghost use Rattle.reg_lint.specs.Known.{has_mark};
+ghost use Rattle.reg_lint.specs.Screening.{AreScreened};
 ghost use Rattle.reg_lint.specs.Lines.{lint_header, row_of, line_of, lines_of, all_lines, lint_sheet, has_rows, fields_of, Writes};
 
 use crate::details::details;
 use crate::known::Known;
 use crate::marks::mark_of;
 use crate::rule::AnyRule;
+use crate::screened::Screened;
+use crate::screening::looked_at;
 use crate::subject::{Subject, authority_of, code_of, copied};
 use csv::Writer;
 use reg_report::write_fields;
@@ -27,9 +30,10 @@ pub fn lint_text(
 ) -> Result<Vec<u8>, AllocError>
     ensures { IfOk result (λ text. text.items ≡ lint_sheet (has_mark known.now) rules.now subjects.now) }
 {
+    let screened = looked_at(alloc, rules.len(), subjects)?;
     let mut wtr = Writer::from_writer(Vec::new(alloc));
     write_header(&mut wtr)?;
-    write_all_lines(alloc, &mut wtr, known, rules, subjects)?;
+    write_all_lines(alloc, &mut wtr, known, rules, subjects, &screened)?;
     match wtr.into_inner() {
         Ok(text) => Ok(text),
         Err(_) => Err(AllocError),
@@ -60,13 +64,15 @@ fn write_all_lines(
     known: &Known,
     rules: &[AnyRule],
     subjects: &[Subject],
+    screened: &[Screened<'_>],
 ) -> Result<(), AllocError>
-    requires { IsReady wtr.old }
+    requires ready { IsReady wtr.old }
+    requires looked { AreScreened subjects.now screened.now }
     ensures { OnOk result (Writes wtr.old wtr.new (all_lines (has_mark known.now) rules.now subjects.now)) }
 {
     let mut rest = rules;
     while let Some((rule, others)) = rest.split_first() {
-        let found = details(alloc, *rule, subjects)?;
+        let found = details(alloc, *rule, subjects, screened)?;
         write_lines(alloc, wtr, known, *rule, subjects, &found)?;
         rest = others;
     }
