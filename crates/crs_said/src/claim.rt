@@ -18,7 +18,10 @@ pub struct Claim<'a> {
 }
 
 /// Appends a claim.
-pub(crate) fn push_claim<'a>(claims: &mut Vec<Claim<'a>>, claim: Claim<'a>) -> Result<(), AllocError>
+pub(crate) fn push_claim<'a>(
+    claims: &mut Vec<Claim<'a>>,
+    claim: Claim<'a>,
+) -> Result<(), AllocError>
     ensures { OnOk result (map claim_seen claims.new.items ≡ map claim_seen claims.old.items ++ claim_seen claim.entry ∷ []) }
 {
     claims.push(claim)?;

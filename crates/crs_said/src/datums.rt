@@ -14,9 +14,7 @@ use crate::rounded::{Size, push_product, push_rounded};
 use crate::says::Says;
 use crs_exact::{angle_of, digits_of, length_of, places_of};
 use crs_number::Decimal;
-use crs_part::{
-    AngleUnit, CrsParts, GeodeticFrame, LengthUnit, PrimeMeridian, Single,
-};
+use crs_part::{AngleUnit, CrsParts, GeodeticFrame, LengthUnit, PrimeMeridian, Single};
 use std::alloc::{AllocError, Global};
 
 /// One metre in metres.
@@ -61,7 +59,11 @@ fn push_both<'a>(
     push_single(alloc, claims, second)
 }
 
-fn push_single<'a>(alloc: Global, claims: &mut Vec<Claim<'a>>, crs: &'a Single) -> Result<(), AllocError>
+fn push_single<'a>(
+    alloc: Global,
+    claims: &mut Vec<Claim<'a>>,
+    crs: &'a Single,
+) -> Result<(), AllocError>
     ensures { OnOk result (map claim_seen claims.new.items ≡ map claim_seen claims.old.items ++ single_datums crs.now) }
 {
     match crs {

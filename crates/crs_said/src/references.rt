@@ -66,7 +66,11 @@ pub fn said_names<'a>(alloc: Global, crs: &'a CrsParts) -> Result<Vec<Claim<'a>>
     Ok(claims)
 }
 
-fn push_compound<'a>(alloc: Global, claims: &mut Vec<Claim<'a>>, crs: &'a Compound) -> Result<(), AllocError>
+fn push_compound<'a>(
+    alloc: Global,
+    claims: &mut Vec<Claim<'a>>,
+    crs: &'a Compound,
+) -> Result<(), AllocError>
     ensures { OnOk result (map claim_seen claims.new.items ≡ map claim_seen claims.old.items ++ both_said_names crs.now) }
 {
     push_single(alloc, claims, &crs.first)?;
@@ -89,7 +93,11 @@ fn name_of_single(crs: &Single) -> &Text
     }
 }
 
-fn push_single<'a>(alloc: Global, claims: &mut Vec<Claim<'a>>, crs: &'a Single) -> Result<(), AllocError>
+fn push_single<'a>(
+    alloc: Global,
+    claims: &mut Vec<Claim<'a>>,
+    crs: &'a Single,
+) -> Result<(), AllocError>
     ensures { OnOk result (map claim_seen claims.new.items ≡ map claim_seen claims.old.items ++ single_said_names crs.now) }
 {
     match crs {

@@ -24,21 +24,33 @@ pub fn case_claims<'a>(alloc: Global, crs: &'a CrsParts) -> Result<Vec<Claim<'a>
     Ok(claims)
 }
 
-fn push_both<'a>(alloc: Global, claims: &mut Vec<Claim<'a>>, id: &'a Ident) -> Result<(), AllocError>
+fn push_both<'a>(
+    alloc: Global,
+    claims: &mut Vec<Claim<'a>>,
+    id: &'a Ident,
+) -> Result<(), AllocError>
     ensures { OnOk result (map claim_seen claims.new.items ≡ map claim_seen claims.old.items ++ (authority_claim id.now ∷ code_claim id.now ∷ [])) }
 {
     push_authority(alloc, claims, id)?;
     push_code(alloc, claims, id)
 }
 
-fn push_authority<'a>(alloc: Global, claims: &mut Vec<Claim<'a>>, id: &'a Ident) -> Result<(), AllocError>
+fn push_authority<'a>(
+    alloc: Global,
+    claims: &mut Vec<Claim<'a>>,
+    id: &'a Ident,
+) -> Result<(), AllocError>
     ensures { OnOk result (map claim_seen claims.new.items ≡ map claim_seen claims.old.items ++ authority_claim id.now ∷ []) }
 {
     let claim = authority_claim(alloc, id)?;
     push_claim(claims, claim)
 }
 
-fn push_code<'a>(alloc: Global, claims: &mut Vec<Claim<'a>>, id: &'a Ident) -> Result<(), AllocError>
+fn push_code<'a>(
+    alloc: Global,
+    claims: &mut Vec<Claim<'a>>,
+    id: &'a Ident,
+) -> Result<(), AllocError>
     ensures { OnOk result (map claim_seen claims.new.items ≡ map claim_seen claims.old.items ++ code_claim id.now ∷ []) }
 {
     let claim = code_claim(alloc, id)?;
