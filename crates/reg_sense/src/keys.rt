@@ -60,6 +60,5 @@ pub(crate) fn is_before(left: &Claimant<'_>, right: &Claimant<'_>) -> bool
 pub(crate) fn has_same_key(left: &Claimant<'_>, right: &Claimant<'_>) -> bool
     ensures { result ≡ has_same_key (voice left.now) (voice right.now) }
 {
-    left.authority == right.authority
-        && left.code.as_slice() == right.code.as_slice()
+    left.authority == right.authority && left.code.as_slice() == right.code.as_slice()
 }

@@ -16,7 +16,8 @@ use crate::others::told_others;
 use crate::twins::told_twins;
 use crs_part::{CrsParts, Word, first_of};
 use crs_said::{
-    Claim, Opening, case_claims, datum_claims, kind_and_name, part_claims, said_names, without_names,
+    Claim, Opening, case_claims, datum_claims, kind_and_name, part_claims, said_names,
+    without_names,
 };
 use std::alloc::{AllocError, Global};
 

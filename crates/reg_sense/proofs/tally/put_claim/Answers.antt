@@ -43,8 +43,8 @@ returns-in-None c = λ done vs few had.
     ∙ had own
     ∙ (λ j. cond (list_any (is_claim (c.deref.ensures.value j) (c.deref-2.ensures.value j)) done) (Some (with_first (c.deref.ensures.value j) (c.deref-2.ensures.value j) i v vs)) (tally (c.deref.ensures.value j) (c.deref-2.ensures.value j) (suc i) vs)) in
     on_ok_weaker c.put_tally.result (λ put q.
-      put_step i v x done vs own q first (get pair_cmp c.args.tallies.now q) (get pair_cmp c.put_tally.new.tallies q)
-      c.deref.ensures.value c.deref-2.ensures.value
-      (ap Some (one_made x.word x.content i v vs b None was))
-      (put q ∙ (λ j. cond (is_eq (pair_cmp own q)) (Some first) (get pair_cmp (c.get_mut.follows.holds-at-none j) q)))
-      (had q)) c.put_tally.ensures
+    put_step i v x done vs own q first (get pair_cmp c.args.tallies.now q) (get pair_cmp c.put_tally.new.tallies q)
+    c.deref.ensures.value c.deref-2.ensures.value
+    (ap Some (one_made x.word x.content i v vs b None was))
+    (put q ∙ (λ j. cond (is_eq (pair_cmp own q)) (Some first) (get pair_cmp (c.get_mut.follows.holds-at-none j) q)))
+    (had q)) c.put_tally.ensures
