@@ -92,7 +92,7 @@ fn put_contents<'a>(
 ) -> Result<(), AllocError>
     ensures { (vs : List Voice) (xs : List Said) → HasTallies tallies.now 0 vs → HasMost vs best.old xs → OnOk result (HasMost vs best.new (map claim_seen claims.now ++ xs)) }
 {
-    let mut rest = claims;
+    let mut rest: &'a [Claim<'a>] = claims;
     while let Some((claim, others)) = rest.split_last() {
         put_content(tallies, best, claim)?;
         rest = others;
@@ -109,7 +109,7 @@ fn most_of<'a>(
     ensures { (vs : List Voice) → HasTallies tallies.now 0 vs → IfOk result (λ best. HasMost vs best (all_claims (map voice claimants.now))) }
 {
     let mut best = BTreeMap::new(alloc);
-    let mut rest = claimants;
+    let mut rest: &'a [Claimant<'a>] = claimants;
     while let Some((claimant, others)) = rest.split_last() {
         put_contents(tallies, &mut best, claimant.claims.as_slice())?;
         rest = others;
@@ -200,7 +200,7 @@ fn first_odd<'a>(
 ) -> Result<Option<Vec<u8>>, AllocError>
     ensures { (vs : List Voice) → HasTallies tallies.now 0 vs → HasMost vs best.now (all_claims vs) → IfOk result (λ told. detail_seen told ≡ first_told (odd_told vs) (map claim_seen claims.now)) }
 {
-    let mut rest = claims;
+    let mut rest: &'a [Claim<'a>] = claims;
     while let Some((claim, others)) = rest.split_first() {
         let told = odd_told(alloc, tallies, best, claim)?;
         if told.is_some() {

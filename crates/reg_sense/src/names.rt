@@ -53,7 +53,7 @@ fn first_name<'a>(
 ) -> Result<Option<Vec<u8>>, AllocError>
     ensures { (names : List (List ℕ)) → HasNames set.now names → IfOk result (λ told. detail_seen told ≡ first_told (name_told names) (map claim_seen claims.now)) }
 {
-    let mut rest = claims;
+    let mut rest: &'a [Claim<'a>] = claims;
     while let Some((claim, others)) = rest.split_first() {
         let told = name_told(alloc, set, claim)?;
         if told.is_some() {

@@ -59,7 +59,7 @@ fn put_claims<'a>(
 ) -> Result<(), AllocError>
     ensures { (vs : List Voice) → HasSides sides.old vs → OnOk result (HasSides sides.new (voice claimant.now ∷ vs)) }
 {
-    let mut rest = claimant.claims.as_slice();
+    let mut rest: &'a [Claim<'a>] = claimant.claims.as_slice();
     while let Some((claim, others)) = rest.split_last() {
         put_claim(sides, claimant, claim)?;
         rest = others;
@@ -75,7 +75,7 @@ fn sides_of<'a>(
     ensures { IfOk result (λ made. HasSides made (map voice claimants.now)) }
 {
     let mut made = BTreeMap::new(alloc);
-    let mut rest = claimants;
+    let mut rest: &'a [Claimant<'a>] = claimants;
     while let Some((claimant, others)) = rest.split_last() {
         put_claims(&mut made, claimant)?;
         rest = others;
@@ -116,7 +116,7 @@ fn first_other<'a>(
 ) -> Result<Option<Vec<u8>>, AllocError>
     ensures { (vs : List Voice) → HasSides sides.now vs → IfOk result (λ told. detail_seen told ≡ told_other vs (voice claimant.now)) }
 {
-    let mut rest = claimant.claims.as_slice();
+    let mut rest: &'a [Claim<'a>] = claimant.claims.as_slice();
     while let Some((claim, others)) = rest.split_first() {
         let told = other_told(alloc, sides, claim)?;
         if told.is_some() {

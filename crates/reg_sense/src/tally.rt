@@ -88,7 +88,7 @@ fn put_claims<'a>(
 ) -> Result<(), AllocError>
     ensures { (vs : List Voice) → length vs + 1 < 2 ^ 64 → HasTallies tallies.old (suc place) vs → OnOk result (HasTallies tallies.new place (voice claimant.now ∷ vs)) }
 {
-    let mut rest = claimant.claims.as_slice();
+    let mut rest: &'a [Claim<'a>] = claimant.claims.as_slice();
     while let Some((claim, others)) = rest.split_last() {
         put_claim(tallies, place, claimant, claim)?;
         rest = others;
@@ -104,7 +104,7 @@ pub fn tallies_of<'a>(
     ensures { IfOk result (λ made. HasTallies made 0 (map voice claimants.now)) }
 {
     let mut made = BTreeMap::new(alloc);
-    let mut rest = claimants;
+    let mut rest: &'a [Claimant<'a>] = claimants;
     while let Some((claimant, others)) = rest.split_last() {
         put_claims(&mut made, others.len(), claimant)?;
         rest = others;

@@ -47,7 +47,7 @@ fn put_words<'a>(
 ) -> Result<(), AllocError>
     ensures { (vs : List Voice) → HasFirsts firsts.old vs → OnOk result (HasFirsts firsts.new (voice claimant.now ∷ vs)) }
 {
-    let mut rest = claimant.claims.as_slice();
+    let mut rest: &'a [Claim<'a>] = claimant.claims.as_slice();
     while let Some((claim, others)) = rest.split_last() {
         put_word(firsts, claimant, claim)?;
         rest = others;
@@ -63,7 +63,7 @@ fn firsts_of<'a>(
     ensures { IfOk result (λ made. HasFirsts made (map voice claimants.now)) }
 {
     let mut made = BTreeMap::new(alloc);
-    let mut rest = claimants;
+    let mut rest: &'a [Claimant<'a>] = claimants;
     while let Some((claimant, others)) = rest.split_last() {
         put_words(&mut made, claimant)?;
         rest = others;
@@ -110,7 +110,7 @@ fn first_twin<'a>(
 ) -> Result<Option<Vec<u8>>, AllocError>
     ensures { (vs : List Voice) → HasFirsts firsts.now vs → IfOk result (λ told. detail_seen told ≡ told_twin vs (voice claimant.now)) }
 {
-    let mut rest = claimant.claims.as_slice();
+    let mut rest: &'a [Claim<'a>] = claimant.claims.as_slice();
     while let Some((claim, others)) = rest.split_first() {
         let told = twin_told(alloc, firsts, claimant, claim)?;
         if told.is_some() {

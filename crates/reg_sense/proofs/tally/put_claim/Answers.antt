@@ -12,23 +12,7 @@ use Rattle.reg_sense.proofs.TallyLemmas.{one_made, one_roomy, put_step}
 use Rattle.reg_sense.proofs.tally.put_claim.Goals as goal
 
 pub returns-in-Some : goal.returns-in-Some
-returns-in-Some c = λ done vs few had q.
-    let own : Pair = record { word = c.deref.result; content = c.deref-2.result } in
-    let x = claim_seen c.args.claim.now in
-    let v = voice c.args.claimant.now in
-    let i = c.args.place in
-    let b = list_any (is_claim x.word x.content) done in
-    let o = counted (Some c.in-Some.tally.now) in
-    let w = c.one_more-next.result in
-    let was =
-    ap counted c.in-Some.ensures.value
-    ∙ had own
-    ∙ (λ j. cond (list_any (is_claim (c.deref.ensures.value j) (c.deref-2.ensures.value j)) done) (Some (with_first (c.deref.ensures.value j) (c.deref-2.ensures.value j) i v vs)) (tally (c.deref.ensures.value j) (c.deref-2.ensures.value j) (suc i) vs)) in
-    put_step i v x done vs own q w (get pair_cmp c.args.tallies.now q) (get pair_cmp (c.get_mut.follows.lender w) q)
-    c.deref.ensures.value c.deref-2.ensures.value
-    (c.one_more-next.ensures (one_roomy x.word x.content i v vs b o few was) ∙ ap Some (one_made x.word x.content i v vs b o was))
-    (((c.get_mut.follows.holds w).3 (search rules)).0 q)
-    (had q)
+returns-in-Some c = λ done vs few had q. let h = c.tallies-in-Some-1 in ?
 
 pub returns-in-None : goal.returns-in-None
 returns-in-None c = λ done vs few had.
