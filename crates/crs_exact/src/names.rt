@@ -1,6 +1,6 @@
 //! Names, compared without letter case, and with underscores as blanks.
 
-ghost use Rattle.std.specs.Prelude.{◌≡◌, drop, length};
+ghost use Rattle.std.specs.Prelude.{◌≡◌, ◌==◌, drop, length};
 ghost use Rattle.crs_exact.specs.Names.{plain, begins, is_named, is_called, has_part};
 
 /// Whether the name is this one.
@@ -50,12 +50,19 @@ pub fn begins(name: &[u8], part: &[u8]) -> bool
         let Some((byte, others)) = rest.split_first() else {
             return false;
         };
-        if plain(*byte) != plain(*wanted) {
+        if !is_alike(*byte, *wanted) {
             return false;
         }
         rest = others;
     }
     true
+}
+
+// Whether both are the same but for letter case and the underscore. Most that are alike are equal.
+fn is_alike(byte: u8, wanted: u8) -> bool
+    ensures { result ≡ (plain byte == plain wanted) }
+{
+    byte == wanted || plain(byte) == plain(wanted)
 }
 
 // A to Z as a to z, and the underscore as a blank.
