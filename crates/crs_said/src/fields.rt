@@ -1,6 +1,6 @@
 //! Fields of a text.
 
-ghost use Rattle.std.specs.Prelude.{◌≡◌, ◌++◌, [], IfOk, OnOk};
+ghost use Rattle.std.specs.Prelude.{◌≡◌, ◌≤◌, ◌++◌, [], length, take, drop, IfOk, OnOk};
 ghost use Rattle.crs_said.specs.Fields.{ended, folded, name_field, label_field, count_field};
 ghost use Rattle.crs_exact.specs.Names.{plain};
 
@@ -60,10 +60,20 @@ pub(crate) fn push_count(out: &mut Vec<u8>, count: u32) -> Result<(), AllocError
 pub(crate) fn push_folded(out: &mut Vec<u8>, name: &[u8]) -> Result<(), AllocError>
     ensures { OnOk result (out.new.items ≡ out.old.items ++ folded name.now) }
 {
-    for byte in name {
-        out.push(plain(*byte))?;
-    }
+    let start = out.len();
+    out.extend_from_slice(name)?;
+    fold_from(out.as_mut_slice(), start);
     Ok(())
+}
+
+// Folds the bytes from this place on.
+fn fold_from(bytes: &mut [u8], start: usize)
+    requires { start ≤ length bytes.old }
+    ensures { bytes.new ≡ take start bytes.old ++ folded (drop start bytes.old) }
+{
+    for i in start..bytes.len() {
+        bytes[i] = plain(bytes[i]);
+    }
 }
 
 /// The name, folded.

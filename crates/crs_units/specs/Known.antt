@@ -189,4 +189,4 @@ places the.MeterGermanUnderscore = 10
 places the.GermanLegalMeter = 10
 
 abbrev pub units_listed : List KnownUnit
-units_listed = the.Millimetre ∷ the.Centimetre ∷ the.Metre ∷ the.Foot ∷ the.USSurveyFoot ∷ the.ClarkeFoot ∷ the.Fathom ∷ the.NauticalMile ∷ the.GermanLegalMetre ∷ the.USSurveyChain ∷ the.USSurveyLink ∷ the.USSurveyMile ∷ the.Kilometre ∷ the.ClarkeYard ∷ the.ClarkeChain ∷ the.ClarkeLink ∷ the.BritishYardSears1922 ∷ the.BritishFootSears1922 ∷ the.BritishChainSears1922 ∷ the.BritishChainBenoit1895B ∷ the.IndianFoot ∷ the.IndianYard ∷ the.IndianYard1937 ∷ the.StatuteMile ∷ the.GoldCoastFoot ∷ the.BritishFoot1936 ∷ the.Yard ∷ the.Chain ∷ the.Link ∷ the.BritishChainSears1922Truncated ∷ the.Radian ∷ the.Degree ∷ the.ArcMinute ∷ the.ArcSecond ∷ the.Grad ∷ the.Microradian ∷ the.Unity ∷ the.PartsPerMillion ∷ the.Inch ∷ the.Decimetre ∷ the.Meter ∷ the.LetterM ∷ the.Kilometer ∷ the.Km ∷ the.Millimeter ∷ the.Centimeter ∷ the.Decimeter ∷ the.Ft ∷ the.Feet ∷ the.FootUs ∷ the.UsFoot ∷ the.Ftus ∷ the.DegreeMinuteSecondHemisphere ∷ the.Deg ∷ the.Gon ∷ the.Rad ∷ the.FootUsUnderscore ∷ the.MeterGermanUnderscore ∷ the.GermanLegalMeter ∷ []
+units_listed = the.Metre ∷ the.Degree ∷ the.Unity ∷ the.Millimetre ∷ the.Centimetre ∷ the.Foot ∷ the.USSurveyFoot ∷ the.ClarkeFoot ∷ the.Fathom ∷ the.NauticalMile ∷ the.GermanLegalMetre ∷ the.USSurveyChain ∷ the.USSurveyLink ∷ the.USSurveyMile ∷ the.Kilometre ∷ the.ClarkeYard ∷ the.ClarkeChain ∷ the.ClarkeLink ∷ the.BritishYardSears1922 ∷ the.BritishFootSears1922 ∷ the.BritishChainSears1922 ∷ the.BritishChainBenoit1895B ∷ the.IndianFoot ∷ the.IndianYard ∷ the.IndianYard1937 ∷ the.StatuteMile ∷ the.GoldCoastFoot ∷ the.BritishFoot1936 ∷ the.Yard ∷ the.Chain ∷ the.Link ∷ the.BritishChainSears1922Truncated ∷ the.Radian ∷ the.ArcMinute ∷ the.ArcSecond ∷ the.Grad ∷ the.Microradian ∷ the.PartsPerMillion ∷ the.Inch ∷ the.Decimetre ∷ the.Meter ∷ the.LetterM ∷ the.Kilometer ∷ the.Km ∷ the.Millimeter ∷ the.Centimeter ∷ the.Decimeter ∷ the.Ft ∷ the.Feet ∷ the.FootUs ∷ the.UsFoot ∷ the.Ftus ∷ the.DegreeMinuteSecondHemisphere ∷ the.Deg ∷ the.Gon ∷ the.Rad ∷ the.FootUsUnderscore ∷ the.MeterGermanUnderscore ∷ the.GermanLegalMeter ∷ []

@@ -131,10 +131,13 @@ pub enum KnownUnit {
     GermanLegalMeter,
 }
 
+// The units of most texts come first.
 static UNITS: [KnownUnit; 59] = [
+    KnownUnit::Metre,
+    KnownUnit::Degree,
+    KnownUnit::Unity,
     KnownUnit::Millimetre,
     KnownUnit::Centimetre,
-    KnownUnit::Metre,
     KnownUnit::Foot,
     KnownUnit::USSurveyFoot,
     KnownUnit::ClarkeFoot,
@@ -163,12 +166,10 @@ static UNITS: [KnownUnit; 59] = [
     KnownUnit::Link,
     KnownUnit::BritishChainSears1922Truncated,
     KnownUnit::Radian,
-    KnownUnit::Degree,
     KnownUnit::ArcMinute,
     KnownUnit::ArcSecond,
     KnownUnit::Grad,
     KnownUnit::Microradian,
-    KnownUnit::Unity,
     KnownUnit::PartsPerMillion,
     KnownUnit::Inch,
     KnownUnit::Decimetre,

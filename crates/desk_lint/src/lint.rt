@@ -8,9 +8,11 @@ use byte_io::{Sink, Source, write_all};
 use reg_engine::{CliFault, OutFault, Store};
 use reg_lint::{AnyRule, Subject, has_rows, known_rows, lint_text, live_subjects};
 use std::alloc::{AllocError, Global};
+use std::mem::forget;
 
 /// Loads the register, reads the rows that were looked at before from the file after it, and writes the other rows of the entries
-/// that are not retired and break one of the rules. Returns whether there are any.
+/// that are not retired and break one of the rules. Returns whether there are any. The memory of what it has read is not freed, since
+/// the process ends behind it.
 pub fn run_lint<T: Store, S: Source, K: Sink>(
     alloc: Global,
     store: &mut T,
@@ -32,7 +34,11 @@ pub fn run_lint<T: Store, S: Source, K: Sink>(
         Err(_) => return Err(CliFault::Memory),
     };
     match run_lint_subjects(alloc, &subjects, rules, next, known, sink) {
-        Ok(any) => Ok(any),
+        Ok(any) => {
+            forget(subjects);
+            forget(register);
+            Ok(any)
+        }
         Err(fault) => Err(fault),
     }
 }

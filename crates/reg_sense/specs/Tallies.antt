@@ -3,7 +3,7 @@ use Rattle.std.specs.Prelude.{◌≡◌, ◌+◌, ◌<◌, ◌^◌, ◌==◌, �
 use Rattle.std.specs.List.{list_any}
 use Rattle.std.specs.Borrow.{Bor}
 use Rattle.std.specs.BTreeMap.{BTreeMap, get}
-use Rattle.std.specs.Ordering.{nat_cmp, ordering_then}
+use Rattle.std.specs.Ordering.{nat_cmp, ordering_then, is_eq}
 use Rattle.std.specs.Cmp.Lexicographic.{slice_cmp}
 use Rattle.std.specs.declared.cmp.Ordering.{Ordering}
 use Rattle.crs_said.specs.Claims.{Said}
@@ -47,6 +47,10 @@ pair_cmp a b = ordering_then (slice_cmp nat_cmp a.word.now b.word.now) (slice_cm
 
 abbrev pub Tallies : Type 0
 Tallies = BTreeMap Pair Tally
+
+-- the new map has the tally at the pair, and what the old one has elsewhere
+abbrev pub HasPut : Pair → Tally → Tallies → Tallies → Type 0
+HasPut own made old new = (q : Pair) → get pair_cmp new q ≡ (if is_eq (pair_cmp own q) then Some made else get pair_cmp old q)
 
 -- the map has these tallies
 abbrev pub HasTallies : Tallies → ℕ → List Voice → Type 0

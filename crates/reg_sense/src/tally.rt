@@ -1,10 +1,9 @@
 //! How many claim each content, and who is the first.
 
 ghost use Rattle.std.specs.Prelude.{◌≡◌, ◌<◌, ◌+◌, ◌^◌, ◌∷◌, ℕ, suc, List, length, map, Some, IfOk, OnOk};
-ghost use Rattle.std.specs.Option.{option_copied};
 ghost use Rattle.crs_said.specs.Claims.{Said, claim_seen};
 ghost use Rattle.reg_sense.specs.Claimants.{Voice, voice};
-ghost use Rattle.reg_sense.specs.Tallies.{IsRoomy, counted, with_one, HasTallies, HasPart};
+ghost use Rattle.reg_sense.specs.Tallies.{IsRoomy, counted, with_one, HasPut, HasTallies, HasPart};
 
 use crate::claimant::Claimant;
 use crs_said::Claim;
@@ -27,18 +26,11 @@ pub struct Tally<'a> {
 }
 
 // The tally after one before the others, at this place, has claimed it too, perhaps again.
-fn with_one<'a>(before: Option<&Tally<'a>>, place: usize, claimant: &'a Claimant) -> Tally<'a>
-    ensures { IsRoomy place (counted (option_copied before.entry)) → counted (Some result) ≡ Some (with_one place (voice claimant.now) (counted (option_copied before.entry))) }
+fn one_more<'a>(tally: Tally<'a>, place: usize, claimant: &'a Claimant) -> Tally<'a>
+    ensures { IsRoomy place (counted (Some tally.entry)) → counted (Some result) ≡ Some (with_one place (voice claimant.now) (counted (Some tally.entry))) }
 {
-    let Some(tally) = before else {
-        return Tally {
-            first: claimant,
-            place,
-            count: 1,
-        };
-    };
     if tally.place == place {
-        return *tally;
+        return tally;
     }
     Tally {
         first: claimant,
@@ -47,6 +39,18 @@ fn with_one<'a>(before: Option<&Tally<'a>>, place: usize, claimant: &'a Claimant
     }
 }
 
+fn put_tally<'a>(
+    tallies: &mut BTreeMap<Pair<'a>, Tally<'a>>,
+    pair: Pair<'a>,
+    tally: Tally<'a>,
+) -> Result<(), AllocError>
+    ensures { OnOk result (HasPut pair.entry tally.entry tallies.old tallies.new) }
+{
+    let _ = tallies.insert(pair, tally)?;
+    Ok(())
+}
+
+// Most claims have a tally already, which is looked for once.
 fn put_claim<'a>(
     tallies: &mut BTreeMap<Pair<'a>, Tally<'a>>,
     place: usize,
@@ -59,9 +63,21 @@ fn put_claim<'a>(
         word: &claim.word,
         content: &claim.content,
     };
-    let made = with_one(tallies.get(&pair), place, claimant);
-    let _ = tallies.insert(pair, made)?;
-    Ok(())
+    match tallies.get_mut(&pair) {
+        Some(tally) => {
+            let next = one_more(*tally, place, claimant);
+            *tally = next;
+            Ok(())
+        }
+        None => {
+            let first = Tally {
+                first: claimant,
+                place,
+                count: 1,
+            };
+            put_tally(tallies, pair, first)
+        }
+    }
 }
 
 // Counts the claims of one who stands at this place, before the others.

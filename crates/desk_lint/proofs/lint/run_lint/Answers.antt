@@ -16,8 +16,8 @@ returns-in-Ok-run_lint_subjects-clause-printed g c = (
       c.deref.ensures.value c.in-Ok-run_lint_subjects.ensures.printed,
 )
 
-pub returns-clause-fault : goal.returns-clause-fault
-returns-clause-fault g c =
+pub returns-in-Err-run_lint_subjects-clause-fault : goal.returns-in-Err-run_lint_subjects-clause-fault
+returns-in-Err-run_lint_subjects-clause-fault g c =
     inr (
       c.in-Ok.register,
       c.in-Ok.ensures.came,
